@@ -1,0 +1,52 @@
+-- What the entries of one container mean together, whichever wire they came from.
+use Rattle.std.specs.Prelude.{◌&&◌, ℕ, List, [], ◌∷◌, ◌++◌, Bool, Option, Some, None, option_map, option_and_then, if◌then◌else◌}
+use Rattle.smithy_schema.specs.Table.{Kind, scalar, structure_of, list_of, nothing}
+use Rattle.smithy_schema.specs.Value.{Value, list, structure, null_element, values_of, MemberValues, no_member_values, put_member}
+
+-- one child of a container, as its wire has it
+pub record Entry : Type 0 where
+  -- the text of the key: none in a list, and none where the key is no text
+  pub key : Option (List ℕ)
+  -- the position of the member that the key names, if it names one
+  pub position : Option ℕ
+  -- what the child means at its place, if it means anything
+  pub meaning : Option Value
+  pub is_absent : Bool
+  pub is_skippable : Bool
+  pub is_null : Bool
+
+-- an entry that names a member sets it, so that the last one counts, and any other has to be skippable
+abbrev pub set_by : Entry → Option ℕ → MemberValues → Option MemberValues
+set_by e None members = if e.is_skippable then Some members else None
+set_by e (Some n) members = option_map (λ v. put_member n v members) e.meaning
+
+-- each key of a structure has to be a text
+abbrev pub where_text : Option (List ℕ) → Option MemberValues → Option MemberValues
+where_text None members = None
+where_text (Some key) members = members
+
+-- the members after one more entry: one that is absent changes nothing
+abbrev pub after_entry : Entry → MemberValues → Option MemberValues
+after_entry e members = where_text e.key (if e.is_absent then Some members else set_by e e.position members)
+
+abbrev pub members_from : MemberValues → List Entry → Option MemberValues
+members_from members [] = Some members
+members_from members (e ∷ es) = option_and_then (λ more. members_from more es) (after_entry e members)
+
+-- an element is what the entry means, or a null where the list is sparse
+abbrev pub element_of : Bool → Bool → Option Value → Option Value
+element_of is_sparse is_null (Some v) = Some v
+element_of is_sparse is_null None = if is_sparse && is_null then Some null_element else None
+
+abbrev pub elements_from : Bool → List Value → List Entry → Option (List Value)
+elements_from is_sparse vs [] = Some vs
+elements_from is_sparse vs (e ∷ es) =
+    option_and_then (λ v. elements_from is_sparse (vs ++ v ∷ []) es)
+    (element_of is_sparse e.is_null e.meaning)
+
+-- the value of a container of this kind by its entries
+abbrev pub container_of : Kind → List Entry → Option Value
+container_of (scalar s) es = None
+container_of (structure_of members) es = option_map structure (members_from no_member_values es)
+container_of (list_of l) es = option_map (λ vs. list (values_of vs)) (elements_from l.is_sparse [] es)
+container_of nothing es = None

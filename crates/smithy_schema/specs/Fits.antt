@@ -1,0 +1,37 @@
+-- Which values are values of a place.
+use Rattle.std.specs.Prelude.{◌≡◌, ◌<◌, ◌^◌, ℕ, ℤ, pos, neg_ℤ, ◌≤ℤ◌, ◌<ℤ◌, List, length, Bool, true, false, Some, None, slice_get}
+use Rattle.smithy_schema.specs.declared.place.Place.{Place}
+use Rattle.smithy_schema.specs.declared.shape_type.Scalar.TheVariants as scalars
+use Rattle.smithy_schema.specs.Table.{Table, Member, Kind, scalar, kind_of, place_in, members_of, is_sparse, IsList, IsStructure}
+use Rattle.smithy_schema.specs.Value.{Value, whole, text, list, structure, null_element, Values, no_values, value, MemberValues, no_member_values, member_value}
+
+-- from -2^63 to 2^63-1
+abbrev pub IsLong : ℤ → Type 0
+IsLong n = (neg_ℤ (pos (2 ^ 63)) ≤ℤ n) × (n <ℤ pos (2 ^ 63))
+
+-- The value is one of the place, or a null element where one may stand.
+abbrev mutual
+  pub FitsOr : Table → Place → Bool → Value → Type 0
+  FitsOr table place nulls (whole n) = (kind_of table place ≡ scalar scalars.Long) × IsLong n
+  FitsOr table place nulls (text s) = kind_of table place ≡ scalar scalars.String
+  FitsOr table place nulls (list vs) = IsList (kind_of table place) × ElementsFit table (kind_of table place) vs
+  FitsOr table place nulls (structure ms) =
+      IsStructure (kind_of table place) × MembersFit table (kind_of table place) ms
+  FitsOr table place nulls null_element = nulls ≡ true
+
+  -- the elements of a list: a null stands only where it is sparse
+  pub ElementsFit : Table → Kind → Values → Type 0
+  ElementsFit table kind no_values = Unit {0}
+  ElementsFit table kind (value v vs) =
+      ((place : Place) × (place_in kind None ≡ Some place) × FitsOr table place (is_sparse kind) v)
+      × ElementsFit table kind vs
+
+  -- the members of a structure: each is one that it has
+  pub MembersFit : Table → Kind → MemberValues → Type 0
+  MembersFit table kind no_member_values = Unit {0}
+  MembersFit table kind (member_value n v ms) =
+      ((place : Place) × (place_in kind (Some n) ≡ Some place) × FitsOr table place false v)
+      × MembersFit table kind ms
+
+abbrev pub Fits : Table → Place → Value → Type 0
+Fits table place v = FitsOr table place false v

@@ -1,0 +1,9 @@
+-- to be believed, in this order
+pub mod Table
+pub mod Value
+pub mod Fits
+pub mod Container
+-- for contracts
+pub mod Site
+-- what the types of the program stand for
+pub mod Views

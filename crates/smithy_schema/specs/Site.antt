@@ -1,0 +1,110 @@
+-- What a schema tells: its place, and the names and marks under which the value stands there.
+use Rattle.std.specs.Prelude.{ℕ, List, Bool, false, Option, Some, None, map, option_map, option_and_then, slice_get, codes, if◌then◌else◌}
+use Rattle.std.specs.List.{enumerate_from}
+use Rattle.std.specs.Option.{option_map_or}
+use Rattle.smithy_schema.specs.declared.place.Place.{Place}
+use Rattle.smithy_schema.specs.declared.schema.Schema.{Schema}
+use Rattle.smithy_schema.specs.declared.schema.Origin.{Origin}
+use Rattle.smithy_schema.specs.declared.schema.Origin.TheVariants.{Whole, MemberOf, ElementOf}
+use Rattle.smithy_schema.specs.Table.{Table, Member, ListShape, Kind, kind_of, shape_place, members_of, list_shape_of, position_named}
+
+-- the names and marks of a member, of an element, or of a shape as a whole, which has none
+pub record View : Type 0 where
+  pub name : Option (List ℕ)
+  -- the position of a member, from 0
+  pub index : Option ℕ
+  -- as they are given
+  pub json_name : Option (List ℕ)
+  pub xml_name : Option (List ℕ)
+  pub is_flat : Bool
+
+abbrev pub whole_view : View
+whole_view = record { name = None; index = None; json_name = None; xml_name = None; is_flat = false }
+
+-- the same without a member name, a position and the flat mark
+abbrev pub nameless : View → View
+nameless view = record view { name = None; index = None; is_flat = false }
+
+abbrev pub member_view : ℕ → Member → View
+member_view n m = record {
+  name = Some m.name;
+  index = Some n;
+  json_name = m.json_name;
+  xml_name = m.xml_name;
+  is_flat = m.is_flat;
+}
+
+-- the elements of a list stand under the name `member`
+abbrev pub element_view : ListShape → View
+element_view l = record {
+  name = Some (codes "member");
+  index = None;
+  json_name = None;
+  xml_name = l.xml_name;
+  is_flat = false;
+}
+
+abbrev pub view_of_member : Kind → ℕ → View
+view_of_member kind n = option_map_or (member_view n) (slice_get (members_of kind) n) whole_view
+
+abbrev pub view_of_element : Kind → View
+view_of_element kind = option_map_or element_view (list_shape_of kind) whole_view
+
+-- the view of a declaration as a whole, of a member of one by its position, of the elements of a list
+abbrev pub view_at : Table → Origin → View
+view_at table Whole = whole_view
+view_at table (MemberOf n position) = view_of_member (kind_of table (shape_place n)) position
+view_at table (ElementOf n) = view_of_element (kind_of table (shape_place n))
+
+-- a table, a place of it, and the view under which the place is seen
+pub record Site : Type 0 where
+  pub table : Table
+  pub place : Place
+  pub view : View
+
+-- what stands at the site
+abbrev pub kind_at : Site → Kind
+kind_at site = kind_of site.table site.place
+
+-- the site of a declaration as a whole
+abbrev pub shape_site : Table → ℕ → Site
+shape_site table n = record { table = table; place = shape_place n; view = whole_view }
+
+abbrev pub site_of_member : Table → ℕ → Member → Site
+site_of_member table n m = record { table = table; place = m.place; view = member_view n m }
+
+-- the site of the member at a position
+abbrev pub member_site : Site → ℕ → Option Site
+member_site outer n = option_map (site_of_member outer.table n) (slice_get (members_of (kind_at outer)) n)
+
+-- the site of the member of this name, by one of its names
+abbrev pub member_named : (Member → List ℕ) → Site → List ℕ → Option Site
+member_named name_of outer name =
+    option_and_then (member_site outer) (position_named name_of (members_of (kind_at outer)) name)
+
+-- the sites of the members in order
+abbrev pub member_sites : Site → List Site
+member_sites outer =
+    map (λ (m : ℕ × Member). site_of_member outer.table m.0 m.1) (enumerate_from 0 (members_of (kind_at outer)))
+
+abbrev pub site_of_element : Table → ListShape → Site
+site_of_element table l = record { table = table; place = l.place; view = element_view l }
+
+-- the site of the elements of a list
+abbrev pub element_site : Site → Option Site
+element_site outer = option_map (site_of_element outer.table) (list_shape_of (kind_at outer))
+
+-- the same site without a name
+abbrev pub nameless_site : Site → Site
+nameless_site site = record site { view = nameless site.view }
+
+abbrev pub view_under : Bool → View → View
+view_under is_nameless view = if is_nameless then nameless view else view
+
+-- what a schema of the program tells
+abbrev pub site_of : Schema → Site
+site_of s = record {
+  table = s.shapes.now;
+  place = s.place;
+  view = view_under s.is_nameless (view_at s.shapes.now s.origin);
+}

@@ -1,0 +1,31 @@
+-- What the types of the program stand for.
+use Rattle.std.specs.Prelude.{map, string_bytes, option_map}
+use Rattle.smithy_schema.specs.declared.shapes.MemberShape as kept_member
+use Rattle.smithy_schema.specs.declared.shapes.ListShape as kept_list
+use Rattle.smithy_schema.specs.declared.shapes.Declaration as kept_declaration
+use Rattle.smithy_schema.specs.declared.shapes.Shape as kept_shape
+use Rattle.smithy_schema.specs.declared.shapes.Shape.TheVariants as kept_shapes
+use Rattle.smithy_schema.specs.Table.{Member, ListShape, Shape, structure, list, Declaration}
+
+abbrev pub member_of : kept_member.MemberShape → Member
+member_of m = record {
+  name = string_bytes m.name;
+  json_name = option_map string_bytes m.json_name;
+  xml_name = option_map string_bytes m.xml_name;
+  is_flat = m.flat;
+  place = m.place;
+}
+
+abbrev pub list_shape_of : kept_list.ListShape → ListShape
+list_shape_of l = record {
+  place = l.place;
+  is_sparse = l.sparse;
+  xml_name = option_map string_bytes l.xml_name;
+}
+
+abbrev pub shape_of : kept_shape.Shape → Shape
+shape_of (kept_shapes.Structure members) = structure (map member_of members.items)
+shape_of (kept_shapes.List l) = list (list_shape_of l)
+
+abbrev pub declaration_of : kept_declaration.Declaration → Declaration
+declaration_of d = record { name = string_bytes d.name; shape = shape_of d.shape }

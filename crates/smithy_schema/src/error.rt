@@ -1,0 +1,42 @@
+//! Why a read or a write is refused.
+ghost use Rattle.std.specs.Prelude.{◌≡◌};
+ghost use Rattle.smithy_schema.specs.declared.error.SerdeError.TheVariants.{NoMemory};
+
+use std::alloc::{AllocError, AllocFailed};
+use thiserror::Error;
+
+/// Why a read or a write was refused. `Display` writes the variant's name.
+#[derive(Clone, Copy, Debug, Drop, PartialEq, Eq, Error)]
+pub enum SerdeError {
+    /// No value of the wanted kind stands here, no value is due, or one was left unread.
+    #[error("InvalidInput")]
+    InvalidInput,
+    /// The call opens one container more than the codec's depth allows.
+    #[error("TooDeep")]
+    TooDeep,
+    /// The value or the state of the writer is one that the wire can't write.
+    #[error("Unwritable")]
+    Unwritable,
+    /// An earlier call was refused, or was `fail`.
+    #[error("Failed")]
+    Failed,
+    /// An allocation was refused.
+    #[error("NoMemory")]
+    NoMemory,
+}
+
+impl From<AllocError> for SerdeError {
+    ghost from_gives = { λ _ e. e ≡ NoMemory };
+
+    fn from(_error: AllocError) -> SerdeError {
+        SerdeError::NoMemory
+    }
+}
+
+impl<T: Drop> From<AllocFailed<T>> for SerdeError {
+    ghost from_gives = { λ _ e. e ≡ NoMemory };
+
+    fn from(_error: AllocFailed<T>) -> SerdeError {
+        SerdeError::NoMemory
+    }
+}

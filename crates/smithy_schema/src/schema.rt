@@ -1,0 +1,170 @@
+//! The view of one place of a table.
+ghost use Rattle.std.specs.Prelude.{◌≢◌};
+ghost use Rattle.smithy_schema.specs.Table.{kind_of, nothing};
+
+use crate::place::{Place, Target};
+use crate::shape_type::{Scalar, ShapeRef, ShapeType};
+use crate::shapes::{Shape, Shapes};
+
+/// Where a view comes from.
+#[derive(Clone, Copy, Debug, PartialEq, Eq)]
+pub enum Origin {
+    /// A shape as a whole.
+    Whole,
+    /// A member, by the number of its declaration and its position.
+    MemberOf(u32, u32),
+    /// The elements of a list, by the number of its declaration.
+    ElementOf(u32),
+}
+
+/// A view of one place of a table: of a whole shape, a member or the elements of a list.
+#[derive(Clone, Copy)]
+pub struct Schema<'a> {
+    pub shapes: &'a Shapes,
+    pub place: Place,
+    pub origin: Origin,
+    /// The view has no member name, no position and no flat mark.
+    pub is_nameless: bool,
+    pub ghost is_known: { kind_of shapes.now place ≢ nothing },
+}
+
+impl<'a> Schema<'a> {
+    ghost use Rattle.std.specs.Prelude.{◌≡◌, ◌↔◌, Some, IsTrue, option_map};
+    ghost use Rattle.smithy_schema.specs.Table.{type_of, IsSparse};
+    ghost use Rattle.smithy_schema.specs.Site.{site_of, kind_at, member_site, element_site, nameless_site};
+
+    /// The kind of the shape, of a member the kind of its target.
+    pub fn shape_type(&self) -> ShapeType
+        ensures { Some result ≡ type_of (kind_at (site_of self.now)) }
+    {
+        let shapes = self.shapes;
+        match self.place.target {
+            Target::Simple(Scalar::Long) => ShapeType::Long,
+            Target::Simple(Scalar::String) => ShapeType::String,
+            Target::Declared(shape) => match shapes.shape_at(shape) {
+                Some(Shape::Structure(_)) => ShapeType::Structure,
+                Some(Shape::List(_)) => ShapeType::List,
+                None => unreachable!(),
+            },
+        }
+    }
+
+    /// The name of a member, or `member` at the elements of a list.
+    pub fn member_name(&self) -> Option<&'a str>
+        ensures { option_map (λ s. s.now) result ≡ (site_of self.now).view.name }
+    {
+        let shapes = self.shapes;
+        if self.is_nameless {
+            return None;
+        }
+        match self.origin {
+            Origin::Whole => None,
+            Origin::MemberOf(shape, position) => match shapes.member_at(ShapeRef(shape), position) {
+                Some(member) => Some(member.name.as_str()),
+                None => None,
+            },
+            Origin::ElementOf(shape) => match shapes.list_at(ShapeRef(shape)) {
+                Some(_) => Some("member"),
+                None => None,
+            },
+        }
+    }
+
+    /// The position of a member, from 0.
+    pub fn member_index(&self) -> Option<u32>
+        ensures { result ≡ (site_of self.now).view.index }
+    {
+        let shapes = self.shapes;
+        if self.is_nameless {
+            return None;
+        }
+        match self.origin {
+            Origin::MemberOf(shape, position) => match shapes.member_at(ShapeRef(shape), position) {
+                Some(_) => Some(position),
+                None => None,
+            },
+            _ => None,
+        }
+    }
+
+    /// The name of a member in JSON, where one is given.
+    pub fn json_name(&self) -> Option<&'a str>
+        ensures { option_map (λ s. s.now) result ≡ (site_of self.now).view.json_name }
+    {
+        let shapes = self.shapes;
+        match self.origin {
+            Origin::MemberOf(shape, position) => match shapes.member_at(ShapeRef(shape), position) {
+                Some(member) => match &member.json_name {
+                    Some(name) => Some(name.as_str()),
+                    None => None,
+                },
+                None => None,
+            },
+            _ => None,
+        }
+    }
+
+    /// The elements of a list.
+    pub fn member(&self) -> Option<Schema<'a>>
+        ensures { option_map site_of result ≡ element_site (site_of self.now) }
+    {
+        let shapes = self.shapes;
+        match self.place.target {
+            Target::Simple(_) => None,
+            Target::Declared(shape) => match shapes.list_at(shape) {
+                Some(list) => Some(Schema {
+                    shapes,
+                    place: list.place,
+                    origin: Origin::ElementOf(shape.0),
+                    is_nameless: false,
+                }),
+                None => None,
+            },
+        }
+    }
+
+    /// The member at a position, from 0.
+    pub fn member_at(&self, position: u32) -> Option<Schema<'a>>
+        ensures { option_map site_of result ≡ member_site (site_of self.now) position }
+    {
+        let shapes = self.shapes;
+        match self.place.target {
+            Target::Simple(_) => None,
+            Target::Declared(shape) => match shapes.member_at(shape, position) {
+                Some(member) => Some(Schema {
+                    shapes,
+                    place: member.place,
+                    origin: Origin::MemberOf(shape.0, position),
+                    is_nameless: false,
+                }),
+                None => None,
+            },
+        }
+    }
+
+    /// The list is sparse.
+    pub fn is_sparse(&self) -> bool
+        ensures { IsTrue result ↔ IsSparse (kind_at (site_of self.now)) }
+    {
+        let shapes = self.shapes;
+        match self.place.target {
+            Target::Simple(_) => false,
+            Target::Declared(shape) => match shapes.list_at(shape) {
+                Some(list) => list.sparse,
+                None => false,
+            },
+        }
+    }
+
+    /// The same view without a member name, a position and the flat mark.
+    pub fn nameless(&self) -> Schema<'a>
+        ensures { site_of result ≡ nameless_site (site_of self.now) }
+    {
+        Schema {
+            shapes: self.shapes,
+            place: self.place,
+            origin: self.origin,
+            is_nameless: true,
+        }
+    }
+}
