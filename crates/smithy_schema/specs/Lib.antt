@@ -5,5 +5,7 @@ pub mod Fits
 pub mod Container
 -- for contracts
 pub mod Site
+pub mod Reading
+pub mod Writing
 -- what the types of the program stand for
 pub mod Views

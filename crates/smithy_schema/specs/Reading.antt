@@ -1,0 +1,320 @@
+-- What a reader tells, the relations of a wire, the laws that they obey, and what a call does.
+use Rattle.std.specs.Prelude.{◌≡◌, ◌⊎◌, ◌↔◌, ◌<◌, ◌≤◌, ◌&&◌, ℕ, suc, length, List, [], ◌∷◌, map, Option, Some, None, Bool, true, false, option_and_then, Result, Ok, Err, IsErrOf, OnErr}
+use Rattle.smithy_schema.specs.declared.place.Place.{Place}
+use Rattle.smithy_schema.specs.declared.read.Step.{Step}
+use Rattle.smithy_schema.specs.declared.read.Step.TheVariants.{Member as ToMember, Unknown, End}
+use Rattle.smithy_schema.specs.declared.error.SerdeError.{SerdeError}
+use Rattle.smithy_schema.specs.declared.error.SerdeError.TheVariants.{InvalidInput, TooDeep, Unwritable, Failed, NoMemory}
+use Rattle.smithy_schema.specs.Table.{Table, Kind, scalar, structure_of, list_of, nothing, kind_of, place_in, IsStructure, IsSparse}
+use Rattle.smithy_schema.specs.Value.{Value}
+use Rattle.smithy_schema.specs.Fits.{Fits}
+use Rattle.smithy_schema.specs.Container.{Entry, container_of}
+use Rattle.smithy_schema.specs.Site.{Site, site_of, member_site}
+
+-- ---- what a reader tells
+
+-- what a reader keeps of an open container
+pub record Mark : Type 0 where
+  -- an entry has come
+  pub entered : Bool
+  -- the container was opened at the end of the input
+  pub at_end : Bool
+  -- how many entries are still due, where that was declared
+  pub due : Option ℕ
+
+pub data Within : Type 0 where
+  outside : Within
+  in_structure : Within
+  in_list : Within
+
+pub record Frame : Type 0 where
+  pub within : Within
+  pub mark : Mark
+
+-- `inner` is the innermost open container, and outside of all a frame that is `outside`
+pub record Cursor : Type 0 where
+  pub input : List ℕ
+  pub at : ℕ
+  pub inner : Frame
+  pub outer : List Frame
+  -- a value is due
+  pub due : Bool
+  pub failed : Bool
+
+-- how many containers are open
+abbrev pub depth : Cursor → ℕ
+depth c = length c.outer
+
+-- ---- the relations of a wire, under some settings
+
+-- A place goes with its table. Numbers are depths (of open containers) and positions in the input.
+pub record Relations : Type 1 where
+  -- a container may open inside so many others
+  pub allows : ℕ → Type 0
+  -- the position of the member that a key names
+  pub position : Table → Place → List ℕ → Option ℕ
+  -- from a to e stands a value of the place, a null, something that is skipped
+  pub stands : List ℕ → Table → Place → ℕ → ℕ → Value → ℕ → Type 0
+  pub nulls : List ℕ → ℕ → ℕ → Type 0
+  pub skips : List ℕ → ℕ → ℕ → ℕ → Type 0
+  -- a container of the place begins at a, and its inside at b with a mark
+  pub opens : List ℕ → Table → Place → ℕ → ℕ → ℕ → Mark → Type 0
+  -- from b on with a mark the next entry that isn't dropped has a key, or none in a list, and its
+  -- value is due at c, with another mark
+  pub steps : List ℕ → Table → Place → ℕ → ℕ → Mark → Option (List ℕ) → ℕ → Mark → Type 0
+  -- from b on with a mark only dropped entries are left, and the container ends at e
+  pub closes : List ℕ → Table → Place → ℕ → ℕ → Mark → ℕ → Type 0
+  -- how much is left to read in a container
+  pub left : List ℕ → ℕ → Mark → ℕ
+  -- the value that begins here is a null, if it is anything
+  pub begins_null : List ℕ → ℕ → Bool
+
+-- what a reader meets behind a step, with the step's key
+pub data Child : Type 0 where
+  child_value : Option (List ℕ) → Option ℕ → Value → Child
+  child_null : Option (List ℕ) → Child
+  child_unknown : Option (List ℕ) → Child
+
+abbrev pub entry_of : Child → Entry
+entry_of (child_value key n v) = record {
+  key = key;
+  position = n;
+  meaning = Some v;
+  is_absent = false;
+  is_skippable = false;
+  is_null = false;
+}
+entry_of (child_null key) = record {
+  key = key;
+  position = None;
+  meaning = None;
+  is_absent = false;
+  is_skippable = false;
+  is_null = true;
+}
+entry_of (child_unknown key) = record {
+  key = key;
+  position = None;
+  meaning = None;
+  is_absent = false;
+  is_skippable = true;
+  is_null = false;
+}
+
+-- the position that a key names, if there is a key
+abbrev pub named : Relations → Table → Place → Option (List ℕ) → Option ℕ
+named w t p key = option_and_then (w.position t p) key
+
+-- from c to f is this child, behind a step with the key
+abbrev pub IsChild : Relations → List ℕ → Table → Place → ℕ → Option (List ℕ) → Child → ℕ → ℕ → Type 0
+IsChild w i t p d key (child_value k n v) c f =
+    (k ≡ key) × (n ≡ named w t p key)
+    × ((q : Place) × (place_in (kind_of t p) n ≡ Some q) × w.stands i t q d c v f)
+IsChild w i t p d key (child_null k) c f = (k ≡ key) × IsSparse (kind_of t p) × w.nulls i c f
+IsChild w i t p d key (child_unknown k) c f =
+    (k ≡ key) × IsStructure (kind_of t p) × (named w t p key ≡ None) × w.skips i d c f
+
+-- from b on with a mark these children come, and then the container ends at e
+abbrev pub Chain : Relations → List ℕ → Table → Place → ℕ → ℕ → Mark → List Child → ℕ → Type 0
+Chain w i t p d b m [] e = w.closes i t p d b m e
+Chain w i t p d b m (x ∷ xs) e =
+    (key : Option (List ℕ)) × (c : ℕ) × (n : Mark) × (f : ℕ) × w.steps i t p d b m key c n
+    × IsChild w i t p d key x c f × Chain w i t p d f n xs e
+
+-- from a to e is a container whose entries mean v together
+pub record Contains (w : Relations) (i : List ℕ) (t : Table) (p : Place) (d a : ℕ) (v : Value) (e : ℕ) : Type 0 where
+  pub inside : ℕ
+  pub mark : Mark
+  pub children : List Child
+  pub allowed : w.allows d
+  pub opens : w.opens i t p d a inside mark
+  pub chain : Chain w i t p (suc d) inside mark children e
+  pub means : container_of (kind_of t p) (map entry_of children) ≡ Some v
+
+abbrev pub IsContainer : Kind → Type 0
+IsContainer (scalar s) = ⊥
+IsContainer (structure_of members) = Unit {0}
+IsContainer (list_of l) = Unit {0}
+IsContainer nothing = ⊥
+
+-- ---- laws
+
+-- what each wire proves of its relations
+pub record IsLawful (w : Relations) : Type 0 where
+  -- a container stands for v exactly where its entries mean v together
+  pub folded : (i : List ℕ) (t : Table) (p : Place) (d a : ℕ) (v : Value) (e : ℕ) → IsContainer (kind_of t p)
+      → Contains w i t p d a v e → w.stands i t p d a v e
+  pub unfolded : (i : List ℕ) (t : Table) (p : Place) (d a : ℕ) (v : Value) (e : ℕ) → IsContainer (kind_of t p)
+      → w.stands i t p d a v e → Contains w i t p d a v e
+  -- a value and its end are determined
+  pub same_value : (i : List ℕ) (t : Table) (p : Place) (d a : ℕ) (v u : Value) (e f : ℕ)
+      → w.stands i t p d a v e → w.stands i t p d a u f → v ≡ u
+  pub same_end : (i : List ℕ) (t : Table) (p : Place) (d a : ℕ) (v u : Value) (e f : ℕ)
+      → w.stands i t p d a v e → w.stands i t p d a u f → e ≡ f
+  -- it is one of the place
+  pub fits : (i : List ℕ) (t : Table) (p : Place) (d a : ℕ) (v : Value) (e : ℕ)
+      → w.stands i t p d a v e → Fits t p v
+  -- an end is past its start, but for a structure that is read at the end of the input, and in the input
+  pub stands_ahead : (i : List ℕ) (t : Table) (p : Place) (d a : ℕ) (v : Value) (e : ℕ)
+      → w.stands i t p d a v e → (a < e) ⊎ ((a ≡ e) × (e ≡ length i) × IsStructure (kind_of t p))
+  pub stands_within : (i : List ℕ) (t : Table) (p : Place) (d a : ℕ) (v : Value) (e : ℕ)
+      → w.stands i t p d a v e → (a ≤ e) × (e ≤ length i)
+  pub nulls_within : (i : List ℕ) (a e : ℕ) → w.nulls i a e → (a < e) × (e ≤ length i)
+  pub skips_within : (i : List ℕ) (d a e : ℕ) → w.skips i d a e → (a < e) × (e ≤ length i)
+  -- a step with its child leaves less to read
+  pub nearer : (i : List ℕ) (t : Table) (p : Place) (d b : ℕ) (m : Mark) (key : Option (List ℕ)) (c : ℕ) (n : Mark) (x : Child) (f : ℕ)
+      → w.steps i t p d b m key c n → IsChild w i t p d key x c f → w.left i f n < w.left i b m
+  -- the smaller relations are determined, and a step and a close exclude one another
+  pub same_opening : (i : List ℕ) (t : Table) (p : Place) (d a b c : ℕ) (m n : Mark)
+      → w.opens i t p d a b m → w.opens i t p d a c n → (b ≡ c) × (m ≡ n)
+  pub same_step : (i : List ℕ) (t : Table) (p : Place) (d b : ℕ) (m : Mark) (key key' : Option (List ℕ)) (c c' : ℕ) (n n' : Mark)
+      → w.steps i t p d b m key c n → w.steps i t p d b m key' c' n' → (key ≡ key') × (c ≡ c') × (n ≡ n')
+  pub same_close : (i : List ℕ) (t : Table) (p : Place) (d b : ℕ) (m : Mark) (e f : ℕ)
+      → w.closes i t p d b m e → w.closes i t p d b m f → e ≡ f
+  pub step_or_close : (i : List ℕ) (t : Table) (p : Place) (d b : ℕ) (m : Mark) (key : Option (List ℕ)) (c : ℕ) (n : Mark) (e : ℕ)
+      → w.steps i t p d b m key c n → w.closes i t p d b m e → ⊥
+  pub same_null : (i : List ℕ) (a e f : ℕ) → w.nulls i a e → w.nulls i a f → e ≡ f
+  pub same_skip : (i : List ℕ) (d a e f : ℕ) → w.skips i d a e → w.skips i d a f → e ≡ f
+  -- a null can be told from a value by how it begins
+  pub null_begins : (i : List ℕ) (a e : ℕ) → w.nulls i a e → w.begins_null i a ≡ true
+  pub value_begins : (i : List ℕ) (t : Table) (p : Place) (d a : ℕ) (v : Value) (e : ℕ)
+      → w.stands i t p d a v e → w.begins_null i a ≡ false
+
+-- what holds of one reading holds of another: with its limits kept, and with them lifted
+pub record IsBelow (w u : Relations) : Type 0 where
+  pub position : (t : Table) (p : Place) (key : List ℕ) → w.position t p key ≡ u.position t p key
+  pub begins_null : (i : List ℕ) (a : ℕ) → w.begins_null i a ≡ u.begins_null i a
+  pub allows : (d : ℕ) → w.allows d → u.allows d
+  pub stands : (i : List ℕ) (t : Table) (p : Place) (d a : ℕ) (v : Value) (e : ℕ)
+      → w.stands i t p d a v e → u.stands i t p d a v e
+  pub nulls : (i : List ℕ) (a e : ℕ) → w.nulls i a e → u.nulls i a e
+  pub skips : (i : List ℕ) (d a e : ℕ) → w.skips i d a e → u.skips i d a e
+  pub opens : (i : List ℕ) (t : Table) (p : Place) (d a b : ℕ) (m : Mark)
+      → w.opens i t p d a b m → u.opens i t p d a b m
+  pub steps : (i : List ℕ) (t : Table) (p : Place) (d b : ℕ) (m : Mark) (key : Option (List ℕ)) (c : ℕ) (n : Mark)
+      → w.steps i t p d b m key c n → u.steps i t p d b m key c n
+  pub closes : (i : List ℕ) (t : Table) (p : Place) (d b : ℕ) (m : Mark) (e : ℕ)
+      → w.closes i t p d b m e → u.closes i t p d b m e
+
+-- ---- what a call does
+
+-- an answer that finds fault with the input: neither an earlier failure nor want of memory
+abbrev pub IsFault : SerdeError → Type 0
+IsFault InvalidInput = Unit {0}
+IsFault TooDeep = Unit {0}
+IsFault Unwritable = Unit {0}
+IsFault Failed = ⊥
+IsFault NoMemory = ⊥
+
+abbrev pub IsRefused : {A : Type 0} → Result A SerdeError → Type 0
+IsRefused (Ok x) = ⊥
+IsRefused (Err e) = IsFault e
+
+-- the input is no such value at all, whatever the limits
+abbrev pub IsInvalid : {A : Type 0} → Result A SerdeError → Type 0
+IsInvalid (Ok x) = ⊥
+IsInvalid (Err InvalidInput) = Unit {0}
+IsInvalid (Err TooDeep) = ⊥
+IsInvalid (Err Unwritable) = ⊥
+IsInvalid (Err Failed) = ⊥
+IsInvalid (Err NoMemory) = ⊥
+
+-- neither a value nor a fault other than `InvalidInput`
+abbrev pub IsNoAnswer : {A : Type 0} → Result A SerdeError → Type 0
+IsNoAnswer (Ok x) = ⊥
+IsNoAnswer (Err InvalidInput) = Unit {0}
+IsNoAnswer (Err TooDeep) = ⊥
+IsNoAnswer (Err Unwritable) = ⊥
+IsNoAnswer (Err Failed) = Unit {0}
+IsNoAnswer (Err NoMemory) = Unit {0}
+
+-- the cursor after a refusal: it stays where it is, and has failed
+abbrev pub failed_at : Cursor → Cursor
+failed_at c = record c { failed = true }
+
+-- What every call keeps to, whatever it answers.
+pub record Conducts {A : Type 0} (old new : Cursor) (result : Result A SerdeError) : Type 0 where
+  -- `Failed` comes exactly after a failure
+  pub failed : IsErrOf result Failed ↔ (old.failed ≡ true)
+  pub stays : OnErr result (new ≡ failed_at old)
+  -- positions never fall, and never pass the end
+  pub ahead : old.at ≤ new.at
+  pub within : new.at ≤ length new.input
+
+-- a value was read whole, or skipped: the containers are as before, and nothing is due
+pub record Passes (old new : Cursor) : Type 0 where
+  pub input : new.input ≡ old.input
+  pub inner : new.inner ≡ old.inner
+  pub outer : new.outer ≡ old.outer
+  pub due : new.due ≡ false
+  pub failed : new.failed ≡ false
+
+-- a value of the place was read
+pub record Reads (w : Relations) (old new : Cursor) (t : Table) (p : Place) (v : Value) : Type 0 where
+  pub stands : w.stands old.input t p (depth old) old.at v new.at
+  pub passes : Passes old new
+
+-- no value of the place stands where the reader is
+abbrev pub StandsNot : Relations → Cursor → Table → Place → Type 0
+StandsNot w c t p = (v : Value) (e : ℕ) → w.stands c.input t p (depth c) c.at v e → ⊥
+
+abbrev pub OpensNot : Relations → Cursor → Table → Place → Type 0
+OpensNot w c t p = (b : ℕ) (m : Mark) → w.opens c.input t p (depth c) c.at b m → ⊥
+
+abbrev pub SkipsNot : Relations → Cursor → Type 0
+SkipsNot w c = (e : ℕ) → w.skips c.input (depth c) c.at e → ⊥
+
+abbrev pub NullsNot : Relations → Cursor → Type 0
+NullsNot w c = (e : ℕ) → w.nulls c.input c.at e → ⊥
+
+-- a value is due that begins as a null
+abbrev pub null_is_due : Relations → Cursor → Bool
+null_is_due w c = c.due && w.begins_null c.input c.at
+
+-- a container was entered
+pub record Enters (w : Relations) (max : ℕ) (old new : Cursor) (t : Table) (p : Place) (k : Within) : Type 0 where
+  pub shallow : depth old < max
+  pub allowed : w.allows (depth old)
+  pub opens : w.opens old.input t p (depth old) old.at new.at new.inner.mark
+  pub input : new.input ≡ old.input
+  pub within : new.inner.within ≡ k
+  pub outer : new.outer ≡ old.inner ∷ old.outer
+  pub due : new.due ≡ false
+  pub failed : new.failed ≡ false
+
+-- the innermost container went on to an entry with this key
+pub record Steps (w : Relations) (old new : Cursor) (t : Table) (p : Place) (key : Option (List ℕ)) : Type 0 where
+  pub steps : w.steps old.input t p (depth old) old.at old.inner.mark key new.at new.inner.mark
+  pub input : new.input ≡ old.input
+  pub within : new.inner.within ≡ old.inner.within
+  pub outer : new.outer ≡ old.outer
+  pub due : new.due ≡ true
+  pub failed : new.failed ≡ false
+
+-- the innermost container was left
+pub record Leaves (w : Relations) (old new : Cursor) (t : Table) (p : Place) : Type 0 where
+  pub closes : w.closes old.input t p (depth old) old.at old.inner.mark new.at
+  pub input : new.input ≡ old.input
+  pub outer : old.outer ≡ new.inner ∷ new.outer
+  pub due : new.due ≡ false
+  pub failed : new.failed ≡ false
+
+-- neither another entry nor the end comes
+abbrev pub CannotGoOn : Relations → Cursor → Table → Place → Type 0
+CannotGoOn w c t p =
+    ((key : Option (List ℕ)) (b : ℕ) (n : Mark) → w.steps c.input t p (depth c) c.at c.inner.mark key b n → ⊥)
+    × ((e : ℕ) → w.closes c.input t p (depth c) c.at c.inner.mark e → ⊥)
+
+-- the step goes on to a member, whose schema it has, or to an unknown entry, or leaves the structure
+abbrev pub MatchStep : Step → Relations → Cursor → Cursor → Site → Type 0
+MatchStep (ToMember s) w old new outer =
+    (key : List ℕ) × (n : ℕ) × Steps w old new outer.table outer.place (Some key)
+    × (w.position outer.table outer.place key ≡ Some n) × (member_site outer n ≡ Some (site_of s))
+MatchStep Unknown w old new outer =
+    (key : List ℕ) × Steps w old new outer.table outer.place (Some key)
+    × (w.position outer.table outer.place key ≡ None)
+MatchStep End w old new outer = Leaves w old new outer.table outer.place
+
+-- the cursor behind a value that was due and is passed
+abbrev pub passed_to : Cursor → ℕ → Cursor
+passed_to c e = record c { at = e; due = false }

@@ -1,0 +1,170 @@
+//! Reading a value as a schema directs.
+ghost use Rattle.std.specs.Prelude.{◌≡◌, ◌≤◌, ℕ, length, Option, Some, None, Bool, true, false, ◌&&◌, IfOk, IsOk, OnOk, IsErrOf, IsErr, MatchBool, string_bytes};
+ghost use Rattle.smithy_schema.specs.declared.place.Place.{Place};
+ghost use Rattle.smithy_schema.specs.declared.shape_type.Scalar.TheVariants as scalars;
+ghost use Rattle.smithy_schema.specs.Table.{Table, kind_of, IsStructure, IsList, scalar_place};
+ghost use Rattle.smithy_schema.specs.Value.{Value, whole, text};
+ghost use Rattle.smithy_schema.specs.Site.{site_of, kind_at};
+ghost use Rattle.smithy_schema.specs.Reading.{Cursor, depth, Relations, Mark, IsLawful, IsBelow, Conducts, Passes, Reads, Enters, Steps, Leaves, MatchStep, CannotGoOn, StandsNot, OpensNot, SkipsNot, NullsNot, null_is_due, IsRefused, IsInvalid, IsNoAnswer, failed_at, passed_to, in_structure, in_list};
+ghost use Rattle.smithy_schema.specs.declared.error.SerdeError.TheVariants.{TooDeep};
+
+use crate::error::SerdeError;
+use crate::schema::Schema;
+
+/// Where a structure goes on: to a member that the table knows, to another entry, or to its end.
+#[derive(Clone, Copy)]
+pub enum Step<'s> {
+    /// The value of this member is due.
+    Member(Schema<'s>),
+    /// The value of an entry is due whose key names no member.
+    Unknown,
+    /// The structure has ended.
+    End,
+}
+
+/// A reader of one input, which a schema directs call by call.
+///
+/// It has a stack of open containers. A value is due on a fresh reader, and after a step that gave a
+/// member, an unknown entry or an element, until it is read, opened or skipped. Positions are byte
+/// offsets from 0. After an answered error a reader has failed: it stays where it is, and answers
+/// `Failed` from then on.
+pub trait ShapeDeserializer {
+    ghost Settings: { Type 0 };
+
+    ghost settings: { Self → Settings };
+
+    ghost state: { Self → Cursor };
+
+    // How many containers may be open.
+    ghost max_depth: { Settings → ℕ };
+
+    // The relations of the wire.
+    ghost wire: { Settings → Relations };
+
+    // The same with the limits lifted on depth and on the size of numbers.
+    ghost lifted: { Settings → Relations };
+
+    // The settings are among those for which a refusal by `InvalidInput` speaks of the lifted relations.
+    ghost is_strict: { Settings → Type 0 };
+
+    /// The position.
+    fn position(&self) -> usize
+        ensures at { result ≡ (state self.now).at }
+        ensures within { result ≤ length (state self.now).input };
+
+    /// Makes the reader fail.
+    fn fail(&mut self)
+        ensures same { settings self.new ≡ settings self.old }
+        ensures fails { state self.new ≡ failed_at (state self.old) };
+
+    /// Enters the structure that is due. Where its kind begins here, it is `TooDeep` exactly at the
+    /// greatest depth.
+    fn open_struct(&mut self, schema: &Schema<'_>) -> Result<(), SerdeError>
+        requires place { IsStructure (kind_at (site_of schema.now)) }
+        ensures same { settings self.new ≡ settings self.old }
+        ensures conduct { Conducts (state self.old) (state self.new) result }
+        ensures undue { (state self.old).due ≡ false → IsNoAnswer result }
+        ensures ok { OnOk result (Enters (wire (settings self.old)) (max_depth (settings self.old)) (state self.old) (state self.new) schema.now.shapes.now schema.now.place in_structure) }
+        ensures refused { IsRefused result → (state self.old).due ≡ true → (wire (settings self.old)).allows (depth (state self.old))
+            → OpensNot (wire (settings self.old)) (state self.old) schema.now.shapes.now schema.now.place }
+        ensures would { is_strict (settings self.old) → IsInvalid result → (state self.old).due ≡ true
+            → OpensNot (lifted (settings self.old)) (state self.old) schema.now.shapes.now schema.now.place }
+        ensures deepest { IsErrOf result TooDeep → depth (state self.old) ≡ max_depth (settings self.old) }
+        ensures deep { IsErrOf result TooDeep → OpensNot (wire (settings self.old)) (state self.old) schema.now.shapes.now schema.now.place → ⊥ };
+
+    /// Goes on in the structure, which is the one of this schema. A value that is still due is skipped first.
+    fn next_member<'s>(&mut self, schema: &Schema<'s>) -> Result<Step<'s>, SerdeError>
+        requires within { (state self.old).inner.within ≡ in_structure }
+        requires place { IsStructure (kind_at (site_of schema.now)) }
+        ensures same { settings self.new ≡ settings self.old }
+        ensures conduct { Conducts (state self.old) (state self.new) result }
+        ensures ok { (state self.old).due ≡ false → IfOk result (λ step. MatchStep step (wire (settings self.old)) (state self.old) (state self.new) (site_of schema.now)) }
+        ensures refused { IsRefused result → (state self.old).due ≡ false
+            → CannotGoOn (wire (settings self.old)) (state self.old) schema.now.shapes.now schema.now.place }
+        ensures would { is_strict (settings self.old) → IsInvalid result → (state self.old).due ≡ false
+            → CannotGoOn (lifted (settings self.old)) (state self.old) schema.now.shapes.now schema.now.place }
+        ensures unread { (state self.old).due ≡ true → (e : ℕ) → (wire (settings self.old)).skips (state self.old).input (depth (state self.old)) (state self.old).at e
+            → IfOk result (λ step. MatchStep step (wire (settings self.old)) (passed_to (state self.old) e) (state self.new) (site_of schema.now)) }
+        ensures unskipped { (state self.old).due ≡ true → SkipsNot (wire (settings self.old)) (state self.old) → IsErr result };
+
+    /// Enters the list that is due. Where a list begins here, it is `TooDeep` exactly at the greatest depth.
+    fn open_list(&mut self, schema: &Schema<'_>) -> Result<(), SerdeError>
+        requires place { IsList (kind_at (site_of schema.now)) }
+        ensures same { settings self.new ≡ settings self.old }
+        ensures conduct { Conducts (state self.old) (state self.new) result }
+        ensures undue { (state self.old).due ≡ false → IsNoAnswer result }
+        ensures ok { OnOk result (Enters (wire (settings self.old)) (max_depth (settings self.old)) (state self.old) (state self.new) schema.now.shapes.now schema.now.place in_list) }
+        ensures refused { IsRefused result → (state self.old).due ≡ true → (wire (settings self.old)).allows (depth (state self.old))
+            → OpensNot (wire (settings self.old)) (state self.old) schema.now.shapes.now schema.now.place }
+        ensures would { is_strict (settings self.old) → IsInvalid result → (state self.old).due ≡ true
+            → OpensNot (lifted (settings self.old)) (state self.old) schema.now.shapes.now schema.now.place }
+        ensures deepest { IsErrOf result TooDeep → depth (state self.old) ≡ max_depth (settings self.old) }
+        ensures deep { IsErrOf result TooDeep → OpensNot (wire (settings self.old)) (state self.old) schema.now.shapes.now schema.now.place → ⊥ };
+
+    /// Goes on in the list: whether another element is due, or the list has ended. An element that was
+    /// left unread is refused.
+    fn next_element(&mut self) -> Result<bool, SerdeError>
+        requires within { (state self.old).inner.within ≡ in_list }
+        ensures same { settings self.new ≡ settings self.old }
+        ensures conduct { Conducts (state self.old) (state self.new) result }
+        ensures unread { (state self.old).due ≡ true → IsNoAnswer result }
+        ensures ok { (state self.old).due ≡ false → (t : Table) (p : Place) → IsList (kind_of t p)
+            → IfOk result (λ b. MatchBool b (Steps (wire (settings self.old)) (state self.old) (state self.new) t p None) (Leaves (wire (settings self.old)) (state self.old) (state self.new) t p)) }
+        ensures refused { IsRefused result → (state self.old).due ≡ false → (t : Table) (p : Place) → IsList (kind_of t p)
+            → CannotGoOn (wire (settings self.old)) (state self.old) t p }
+        ensures would { is_strict (settings self.old) → IsInvalid result → (state self.old).due ≡ false → (t : Table) (p : Place) → IsList (kind_of t p)
+            → CannotGoOn (lifted (settings self.old)) (state self.old) t p };
+
+    /// Whether the value that is due is a null.
+    fn is_null(&self) -> bool
+        ensures { result ≡ null_is_due (wire (settings self.now)) (state self.now) };
+
+    /// Reads the null that is due. Where none is due, a wire may do nothing or refuse.
+    fn read_null(&mut self) -> Result<(), SerdeError>
+        ensures same { settings self.new ≡ settings self.old }
+        ensures conduct { Conducts (state self.old) (state self.new) result }
+        ensures ok { null_is_due (wire (settings self.old)) (state self.old) ≡ true → OnOk result ((wire (settings self.old)).nulls (state self.old).input (state self.old).at (state self.new).at) }
+        ensures passes { null_is_due (wire (settings self.old)) (state self.old) ≡ true → OnOk result (Passes (state self.old) (state self.new)) }
+        ensures refused { null_is_due (wire (settings self.old)) (state self.old) ≡ true → IsRefused result → NullsNot (wire (settings self.old)) (state self.old) }
+        ensures would { is_strict (settings self.old) → null_is_due (wire (settings self.old)) (state self.old) ≡ true → IsInvalid result → NullsNot (lifted (settings self.old)) (state self.old) }
+        ensures nothing { null_is_due (wire (settings self.old)) (state self.old) ≡ false → OnOk result (state self.new ≡ state self.old) };
+
+    /// Skips the value that is due, whatever it is. It takes no memory.
+    fn skip_value(&mut self) -> Result<(), SerdeError>
+        ensures same { settings self.new ≡ settings self.old }
+        ensures conduct { Conducts (state self.old) (state self.new) result }
+        ensures undue { (state self.old).due ≡ false → IsNoAnswer result }
+        ensures ok { OnOk result ((wire (settings self.old)).skips (state self.old).input (depth (state self.old)) (state self.old).at (state self.new).at) }
+        ensures passes { OnOk result (Passes (state self.old) (state self.new)) }
+        ensures refused { IsRefused result → (state self.old).due ≡ true → SkipsNot (wire (settings self.old)) (state self.old) }
+        ensures would { is_strict (settings self.old) → IsInvalid result → (state self.old).due ≡ true → SkipsNot (lifted (settings self.old)) (state self.old) };
+
+    /// Reads a whole number from -2^63 to 2^63-1. It takes no memory.
+    fn read_long(&mut self, schema: &Schema<'_>) -> Result<i64, SerdeError>
+        ensures same { settings self.new ≡ settings self.old }
+        ensures conduct { Conducts (state self.old) (state self.new) result }
+        ensures undue { (state self.old).due ≡ false → IsNoAnswer result }
+        ensures ok { IfOk result (λ n. Reads (wire (settings self.old)) (state self.old) (state self.new) schema.now.shapes.now (scalar_place scalars.Long schema.now.place.time) (whole n)) }
+        ensures refused { IsRefused result → (state self.old).due ≡ true
+            → StandsNot (wire (settings self.old)) (state self.old) schema.now.shapes.now (scalar_place scalars.Long schema.now.place.time) }
+        ensures would { is_strict (settings self.old) → IsInvalid result → (state self.old).due ≡ true
+            → StandsNot (lifted (settings self.old)) (state self.old) schema.now.shapes.now (scalar_place scalars.Long schema.now.place.time) };
+
+    /// Reads a text.
+    fn read_string(&mut self, schema: &Schema<'_>) -> Result<String, SerdeError>
+        ensures same { settings self.new ≡ settings self.old }
+        ensures conduct { Conducts (state self.old) (state self.new) result }
+        ensures undue { (state self.old).due ≡ false → IsNoAnswer result }
+        ensures ok { IfOk result (λ s. Reads (wire (settings self.old)) (state self.old) (state self.new) schema.now.shapes.now (scalar_place scalars.String schema.now.place.time) (text (string_bytes s))) }
+        ensures refused { IsRefused result → (state self.old).due ≡ true
+            → StandsNot (wire (settings self.old)) (state self.old) schema.now.shapes.now (scalar_place scalars.String schema.now.place.time) }
+        ensures would { is_strict (settings self.old) → IsInvalid result → (state self.old).due ≡ true
+            → StandsNot (lifted (settings self.old)) (state self.old) schema.now.shapes.now (scalar_place scalars.String schema.now.place.time) };
+
+    // Each wire obeys the laws of reading, with its limits and with them lifted.
+    ghost lawful: { (c : Settings) → IsLawful (wire c) };
+
+    ghost lifted_lawful: { (c : Settings) → IsLawful (lifted c) };
+
+    ghost above: { (c : Settings) → IsBelow (wire c) (lifted c) };
+}

@@ -1,0 +1,98 @@
+//! Writing a value as a schema directs.
+ghost use Rattle.std.specs.Prelude.{◌≡◌, ◌≢◌, ◌↔◌, ℕ, List, [], Option, Bool, true, IfOk, IfErr, OnOk, IsErr, IsErrOf, Result, Ok, Err};
+ghost use Rattle.smithy_schema.specs.declared.error.SerdeError.{SerdeError};
+ghost use Rattle.smithy_schema.specs.declared.error.SerdeError.TheVariants.{Failed, NoMemory, Unwritable};
+ghost use Rattle.smithy_schema.specs.Site.{site_of};
+ghost use Rattle.smithy_schema.specs.Reading.{IsFault};
+ghost use Rattle.smithy_schema.specs.Writing.{Event, Writer, Open, IsNested, long, string, begin_structure, end_structure, begin_list as list_begins, end_list as list_ends, null_of, scalar_of};
+
+use crate::error::SerdeError;
+use crate::schema::Schema;
+
+/// A writer of one output, which is told of a value call by call, each with the schema of its place.
+///
+/// It has a stack of open containers. After an answered error a serializer has failed, and answers
+/// `Failed` from then on.
+pub trait ShapeSerializer {
+    // What the calls depend on: the bytes so far, the open containers, the settings.
+    ghost State: { Type 0 };
+
+    ghost state: { Self → State };
+
+    ghost failed: { Self → Bool };
+
+    // The bytes so far.
+    ghost out: { State → List ℕ };
+
+    // The open containers, innermost first.
+    ghost open_in: { State → List Open };
+
+    // What a call makes of a state, or why it can't be written there.
+    ghost after: { Writer State };
+
+    /// Makes the serializer fail.
+    fn fail(&mut self)
+        ensures { failed self.new ≡ true };
+
+    /// Begins a structure.
+    fn begin_struct(&mut self, schema: &Schema<'_>) -> Result<(), SerdeError>
+        ensures failed { IsErrOf result Failed ↔ (failed self.old ≡ true) }
+        ensures broken { IsErr result ↔ (failed self.new ≡ true) }
+        ensures ok { OnOk result (after (begin_structure (site_of schema.now)) (state self.old) ≡ Ok (state self.new)) }
+        ensures refused { IfErr result (λ e. IsFault e → after (begin_structure (site_of schema.now)) (state self.old) ≡ Err e) };
+
+    /// Ends the structure that is open.
+    fn end_struct(&mut self) -> Result<(), SerdeError>
+        ensures failed { IsErrOf result Failed ↔ (failed self.old ≡ true) }
+        ensures broken { IsErr result ↔ (failed self.new ≡ true) }
+        ensures ok { OnOk result (after end_structure (state self.old) ≡ Ok (state self.new)) }
+        ensures refused { IfErr result (λ e. IsFault e → after end_structure (state self.old) ≡ Err e) };
+
+    /// Begins a list, of a number of elements where that is told.
+    fn begin_list(&mut self, schema: &Schema<'_>, length: Option<usize>) -> Result<(), SerdeError>
+        ensures failed { IsErrOf result Failed ↔ (failed self.old ≡ true) }
+        ensures broken { IsErr result ↔ (failed self.new ≡ true) }
+        ensures ok { OnOk result (after (list_begins (site_of schema.now) length) (state self.old) ≡ Ok (state self.new)) }
+        ensures refused { IfErr result (λ e. IsFault e → after (list_begins (site_of schema.now) length) (state self.old) ≡ Err e) };
+
+    /// Ends the list that is open.
+    fn end_list(&mut self) -> Result<(), SerdeError>
+        ensures failed { IsErrOf result Failed ↔ (failed self.old ≡ true) }
+        ensures broken { IsErr result ↔ (failed self.new ≡ true) }
+        ensures ok { OnOk result (after list_ends (state self.old) ≡ Ok (state self.new)) }
+        ensures refused { IfErr result (λ e. IsFault e → after list_ends (state self.old) ≡ Err e) };
+
+    /// Writes a null element.
+    fn write_null(&mut self, schema: &Schema<'_>) -> Result<(), SerdeError>
+        ensures failed { IsErrOf result Failed ↔ (failed self.old ≡ true) }
+        ensures broken { IsErr result ↔ (failed self.new ≡ true) }
+        ensures ok { OnOk result (after (null_of (site_of schema.now)) (state self.old) ≡ Ok (state self.new)) }
+        ensures refused { IfErr result (λ e. IsFault e → after (null_of (site_of schema.now)) (state self.old) ≡ Err e) };
+
+    /// Writes a whole number.
+    fn write_long(&mut self, schema: &Schema<'_>, value: i64) -> Result<(), SerdeError>
+        ensures failed { IsErrOf result Failed ↔ (failed self.old ≡ true) }
+        ensures broken { IsErr result ↔ (failed self.new ≡ true) }
+        ensures ok { OnOk result (after (scalar_of (site_of schema.now) (long value)) (state self.old) ≡ Ok (state self.new)) }
+        ensures refused { IfErr result (λ e. IsFault e → after (scalar_of (site_of schema.now) (long value)) (state self.old) ≡ Err e) };
+
+    /// Writes a text.
+    fn write_string(&mut self, schema: &Schema<'_>, value: &str) -> Result<(), SerdeError>
+        ensures failed { IsErrOf result Failed ↔ (failed self.old ≡ true) }
+        ensures broken { IsErr result ↔ (failed self.new ≡ true) }
+        ensures ok { OnOk result (after (scalar_of (site_of schema.now) (string value.now)) (state self.old) ≡ Ok (state self.new)) }
+        ensures refused { IfErr result (λ e. IsFault e → after (scalar_of (site_of schema.now) (string value.now)) (state self.old) ≡ Err e) };
+
+    // Calls nest.
+    ghost nested: { IsNested after open_in };
+}
+
+/// A serializer that hands out what it wrote.
+pub trait FinishSerializer: ShapeSerializer {
+    /// The bytes, where no container is open; `Unwritable` where one is. It takes no memory.
+    fn finish(self) -> Result<Vec<u8>, SerdeError>
+        ensures failed { IsErrOf result Failed ↔ (Self.failed self ≡ true) }
+        ensures ok { IfOk result (λ v. (v.items ≡ Self.out (Self.state self)) × (Self.open_in (Self.state self) ≡ [])) }
+        ensures refused { IfErr result (λ e. IsFault e → (e ≡ Unwritable) × (Self.open_in (Self.state self) ≢ [])) }
+        ensures memory { IsErrOf result NoMemory → ⊥ };
+}
