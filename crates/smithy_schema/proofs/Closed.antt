@@ -1,5 +1,6 @@
 -- What stands at the places of a closed table.
-use Rattle.std.proofs.Common.{◌≡◌, ◌≢◌, ℕ, List, Option, Some, None, option_map, refl, sym, ◌∙◌, [], arith}
+use Rattle.std.proofs.Common.{◌≡◌, ◌≢◌, ℕ, List, Option, Some, None, option_map, refl, sym, ◌∙◌, [], arith, map, length, ◌≤◌}
+use Rattle.std.proofs.lemmas.List.{length-map}
 use Rattle.std.specs.List.{slice_get}
 use Rattle.std.specs.Option.{option_map_or, IfSome}
 use Rattle.std.proofs.lemmas.Option.{slice_get_past}
@@ -21,3 +22,9 @@ pub member_if_known : {X : Type 0} (f : X → Member) (t : Table) (n k : ℕ) (o
     → IfSome o (λ x. kind_of t (f x).place ≢ nothing)
 member_if_known f t n k None closed found = tt
 member_if_known f t n k (Some x) closed found = closed (shape_place n) (f x).place (Some k) (member_place _ k (f x) found)
+
+-- as many as the structure that is declared has
+pub few_if_declared : {X : Type 0} (f : X → Member) (xs : List X) (o : Option Shape) (n : ℕ) → Some (structure (map f xs)) ≡ o
+    → length (members_of (option_map_or kind_of_shape o nothing)) ≤ n → length xs ≤ n
+few_if_declared f xs o n declared few =
+    let e : length (members_of (option_map_or kind_of_shape o nothing)) ≡ length xs = rw (← declared) (length-map xs f) in omega arith

@@ -1,1 +1,12 @@
+mod StandardFacts
+mod OnLiterals
 mod Closed
+mod Positions
+mod MeaningFacts
+pub mod WritingLemmas
+mod TableTextLemmas
+mod OrderLemmas
+mod AcceptanceLemmas
+mod BuildLemmas
+mod AcceptedLemmas
+mod MembersLemmas

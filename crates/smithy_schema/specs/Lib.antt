@@ -3,9 +3,18 @@ pub mod Table
 pub mod Value
 pub mod Fits
 pub mod Container
+pub mod Names
+pub mod Decl
+pub mod TableText
+pub mod Acceptance
+pub mod Accepted
 -- for contracts
 pub mod Site
 pub mod Reading
 pub mod Writing
 -- what the types of the program stand for
 pub mod Views
+pub mod DeclViews
+pub mod MembersLeft
+-- for private clauses
+pub mod Private

@@ -1,5 +1,5 @@
 -- What a reader tells, the relations of a wire, the laws that they obey, and what a call does.
-use Rattle.std.specs.Prelude.{◌≡◌, ◌⊎◌, ◌↔◌, ◌<◌, ◌≤◌, ◌&&◌, ℕ, suc, length, List, [], ◌∷◌, map, Option, Some, None, Bool, true, false, option_and_then, Result, Ok, Err, IsErrOf, OnErr}
+use Rattle.std.specs.Prelude.{◌≡◌, ◌⊎◌, ◌↔◌, ◌<◌, ◌≤◌, ◌&&◌, ℕ, suc, ◌+◌, length, drop, List, [], ◌∷◌, map, Option, Some, None, Bool, true, false, option_and_then, Result, Ok, Err, IsErrOf, OnErr}
 use Rattle.smithy_schema.specs.declared.place.Place.{Place}
 use Rattle.smithy_schema.specs.declared.read.Step.{Step}
 use Rattle.smithy_schema.specs.declared.read.Step.TheVariants.{Member as ToMember, Unknown, End}
@@ -68,6 +68,8 @@ pub record Relations : Type 1 where
   pub left : List ℕ → ℕ → Mark → ℕ
   -- the value that begins here is a null, if it is anything
   pub begins_null : List ℕ → ℕ → Bool
+  -- how many containers are open at once, at most, by these bytes alone
+  pub openers : List ℕ → ℕ
 
 -- what a reader meets behind a step, with the step's key
 pub data Child : Type 0 where
@@ -179,6 +181,19 @@ pub record IsLawful (w : Relations) : Type 0 where
   pub null_begins : (i : List ℕ) (a e : ℕ) → w.nulls i a e → w.begins_null i a ≡ true
   pub value_begins : (i : List ℕ) (t : Table) (p : Place) (d a : ℕ) (v : Value) (e : ℕ)
       → w.stands i t p d a v e → w.begins_null i a ≡ false
+  -- a container that opens adds one to those that are open at most from there on
+  pub opening_adds : (i : List ℕ) (t : Table) (p : Place) (d a b : ℕ) (m : Mark) → 0 < length i
+      → w.opens i t p d a b m → suc (w.openers (drop b i)) ≤ w.openers (drop a i)
+  -- one that ends takes at most one away
+  pub close_takes_one : (i : List ℕ) (t : Table) (p : Place) (d b : ℕ) (m : Mark) (e : ℕ)
+      → w.closes i t p d b m e → w.openers (drop e i) ≤ suc (w.openers (drop b i))
+  -- a step takes none away, nor does a value, a null or what is skipped
+  pub step_takes_none : (i : List ℕ) (t : Table) (p : Place) (d b : ℕ) (m : Mark) (key : Option (List ℕ)) (c : ℕ) (n : Mark)
+      → w.steps i t p d b m key c n → w.openers (drop c i) ≤ w.openers (drop b i)
+  pub value_takes_none : (i : List ℕ) (t : Table) (p : Place) (d a : ℕ) (v : Value) (e : ℕ)
+      → w.stands i t p d a v e → w.openers (drop e i) ≤ w.openers (drop a i)
+  pub null_takes_none : (i : List ℕ) (a e : ℕ) → w.nulls i a e → w.openers (drop e i) ≤ w.openers (drop a i)
+  pub skip_takes_none : (i : List ℕ) (d a e : ℕ) → w.skips i d a e → w.openers (drop e i) ≤ w.openers (drop a i)
 
 -- what holds of one reading holds of another: with its limits kept, and with them lifted
 pub record IsBelow (w u : Relations) : Type 0 where
@@ -237,6 +252,8 @@ pub record Conducts {A : Type 0} (old new : Cursor) (result : Result A SerdeErro
   -- `Failed` comes exactly after a failure
   pub failed : IsErrOf result Failed ↔ (old.failed ≡ true)
   pub stays : OnErr result (new ≡ failed_at old)
+  -- reading has no fault of writing
+  pub readable : IsErrOf result Unwritable → ⊥
   -- positions never fall, and never pass the end
   pub ahead : old.at ≤ new.at
   pub within : new.at ≤ length new.input
@@ -266,6 +283,10 @@ SkipsNot w c = (e : ℕ) → w.skips c.input (depth c) c.at e → ⊥
 
 abbrev pub NullsNot : Relations → Cursor → Type 0
 NullsNot w c = (e : ℕ) → w.nulls c.input c.at e → ⊥
+
+-- so many containers are open at once from here on, by the bytes alone
+abbrev pub ReachesDepth : Relations → ℕ → Cursor → Type 0
+ReachesDepth w max c = max ≤ depth c + w.openers (drop c.at c.input)
 
 -- a value is due that begins as a null
 abbrev pub null_is_due : Relations → Cursor → Bool

@@ -1,6 +1,6 @@
 -- What the types of the program stand for.
 use Rattle.std.specs.Prelude.{map, string_bytes, option_map}
-use Rattle.smithy_schema.specs.declared.shapes.MemberShape as kept_member
+use Rattle.smithy_schema.specs.declared.members.MemberShape as kept_member
 use Rattle.smithy_schema.specs.declared.shapes.ListShape as kept_list
 use Rattle.smithy_schema.specs.declared.shapes.Declaration as kept_declaration
 use Rattle.smithy_schema.specs.declared.shapes.Shape as kept_shape
@@ -24,7 +24,7 @@ list_shape_of l = record {
 }
 
 abbrev pub shape_of : kept_shape.Shape → Shape
-shape_of (kept_shapes.Structure members) = structure (map member_of members.items)
+shape_of (kept_shapes.Structure members) = structure (map member_of members.items.items)
 shape_of (kept_shapes.List l) = list (list_shape_of l)
 
 abbrev pub declaration_of : kept_declaration.Declaration → Declaration

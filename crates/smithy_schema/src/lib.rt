@@ -1,18 +1,32 @@
 //! Tables of shapes, and the traits by which values are read and written as a table directs.
 #![tactic(auto)]
 
+mod acceptance;
+mod build;
+mod decl;
 mod error;
+mod fault;
+mod members;
+mod members_iter;
+mod names;
 mod place;
 mod read;
 mod schema;
 mod shape_type;
 mod shapes;
+mod table_text;
+#[cfg(test)]
+mod tests;
 mod write;
 
+pub use decl::{Decl, MemberDecl};
 pub use error::SerdeError;
+pub use fault::TableFault;
+pub use members_iter::Members;
 pub use place::{Place, Target};
 pub use read::{ShapeDeserializer, Step};
 pub use schema::{Origin, Schema};
 pub use shape_type::{Scalar, ShapeRef, ShapeType, TimestampFormat};
 pub use shapes::Shapes;
+pub use table_text::TableText;
 pub use write::{FinishSerializer, ShapeSerializer};

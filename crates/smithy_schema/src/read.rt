@@ -5,8 +5,8 @@ ghost use Rattle.smithy_schema.specs.declared.shape_type.Scalar.TheVariants as s
 ghost use Rattle.smithy_schema.specs.Table.{Table, kind_of, IsStructure, IsList, scalar_place};
 ghost use Rattle.smithy_schema.specs.Value.{Value, whole, text};
 ghost use Rattle.smithy_schema.specs.Site.{site_of, kind_at};
-ghost use Rattle.smithy_schema.specs.Reading.{Cursor, depth, Relations, Mark, IsLawful, IsBelow, Conducts, Passes, Reads, Enters, Steps, Leaves, MatchStep, CannotGoOn, StandsNot, OpensNot, SkipsNot, NullsNot, null_is_due, IsRefused, IsInvalid, IsNoAnswer, failed_at, passed_to, in_structure, in_list};
-ghost use Rattle.smithy_schema.specs.declared.error.SerdeError.TheVariants.{TooDeep};
+ghost use Rattle.smithy_schema.specs.Reading.{Cursor, depth, Relations, Mark, IsLawful, IsBelow, Conducts, Passes, Reads, Enters, Steps, Leaves, MatchStep, CannotGoOn, StandsNot, OpensNot, SkipsNot, NullsNot, ReachesDepth, null_is_due, IsRefused, IsInvalid, IsNoAnswer, failed_at, passed_to, in_structure, in_list};
+ghost use Rattle.smithy_schema.specs.declared.error.SerdeError.TheVariants.{TooDeep, NoMemory};
 
 use crate::error::SerdeError;
 use crate::schema::Schema;
@@ -69,6 +69,8 @@ pub trait ShapeDeserializer {
             → OpensNot (wire (settings self.old)) (state self.old) schema.now.shapes.now schema.now.place }
         ensures would { is_strict (settings self.old) → IsInvalid result → (state self.old).due ≡ true
             → OpensNot (lifted (settings self.old)) (state self.old) schema.now.shapes.now schema.now.place }
+        ensures invalid { IsInvalid result → (state self.old).due ≡ true
+            → OpensNot (wire (settings self.old)) (state self.old) schema.now.shapes.now schema.now.place }
         ensures deepest { IsErrOf result TooDeep → depth (state self.old) ≡ max_depth (settings self.old) }
         ensures deep { IsErrOf result TooDeep → OpensNot (wire (settings self.old)) (state self.old) schema.now.shapes.now schema.now.place → ⊥ };
 
@@ -85,7 +87,12 @@ pub trait ShapeDeserializer {
             → CannotGoOn (lifted (settings self.old)) (state self.old) schema.now.shapes.now schema.now.place }
         ensures unread { (state self.old).due ≡ true → (e : ℕ) → (wire (settings self.old)).skips (state self.old).input (depth (state self.old)) (state self.old).at e
             → IfOk result (λ step. MatchStep step (wire (settings self.old)) (passed_to (state self.old) e) (state self.new) (site_of schema.now)) }
-        ensures unskipped { (state self.old).due ≡ true → SkipsNot (wire (settings self.old)) (state self.old) → IsErr result };
+        ensures unread_refused { IsRefused result → (state self.old).due ≡ true → (e : ℕ) → (wire (settings self.old)).skips (state self.old).input (depth (state self.old)) (state self.old).at e
+            → CannotGoOn (wire (settings self.old)) (passed_to (state self.old) e) schema.now.shapes.now schema.now.place }
+        ensures unread_would { is_strict (settings self.old) → IsInvalid result → (state self.old).due ≡ true → (e : ℕ) → (lifted (settings self.old)).skips (state self.old).input (depth (state self.old)) (state self.old).at e
+            → CannotGoOn (lifted (settings self.old)) (passed_to (state self.old) e) schema.now.shapes.now schema.now.place }
+        ensures unskipped { (state self.old).due ≡ true → SkipsNot (wire (settings self.old)) (state self.old) → IsErr result }
+        ensures deep { IsErrOf result TooDeep → ReachesDepth (wire (settings self.old)) (max_depth (settings self.old)) (state self.old) };
 
     /// Enters the list that is due. Where a list begins here, it is `TooDeep` exactly at the greatest depth.
     fn open_list(&mut self, schema: &Schema<'_>) -> Result<(), SerdeError>
@@ -98,15 +105,19 @@ pub trait ShapeDeserializer {
             → OpensNot (wire (settings self.old)) (state self.old) schema.now.shapes.now schema.now.place }
         ensures would { is_strict (settings self.old) → IsInvalid result → (state self.old).due ≡ true
             → OpensNot (lifted (settings self.old)) (state self.old) schema.now.shapes.now schema.now.place }
+        ensures invalid { IsInvalid result → (state self.old).due ≡ true
+            → OpensNot (wire (settings self.old)) (state self.old) schema.now.shapes.now schema.now.place }
         ensures deepest { IsErrOf result TooDeep → depth (state self.old) ≡ max_depth (settings self.old) }
         ensures deep { IsErrOf result TooDeep → OpensNot (wire (settings self.old)) (state self.old) schema.now.shapes.now schema.now.place → ⊥ };
 
     /// Goes on in the list: whether another element is due, or the list has ended. An element that was
-    /// left unread is refused.
+    /// left unread is refused. It takes no memory.
     fn next_element(&mut self) -> Result<bool, SerdeError>
         requires within { (state self.old).inner.within ≡ in_list }
         ensures same { settings self.new ≡ settings self.old }
         ensures conduct { Conducts (state self.old) (state self.new) result }
+        ensures memory { IsErrOf result NoMemory → ⊥ }
+        ensures shallow { IsErrOf result TooDeep → ⊥ }
         ensures unread { (state self.old).due ≡ true → IsNoAnswer result }
         ensures ok { (state self.old).due ≡ false → (t : Table) (p : Place) → IsList (kind_of t p)
             → IfOk result (λ b. MatchBool b (Steps (wire (settings self.old)) (state self.old) (state self.new) t p None) (Leaves (wire (settings self.old)) (state self.old) (state self.new) t p)) }
@@ -119,17 +130,19 @@ pub trait ShapeDeserializer {
     fn is_null(&self) -> bool
         ensures { result ≡ null_is_due (wire (settings self.now)) (state self.now) };
 
-    /// Reads the null that is due. Where none is due, a wire may do nothing or refuse.
+    /// Reads the null that is due. Where none is due, a wire may do nothing or refuse. It takes no memory.
     fn read_null(&mut self) -> Result<(), SerdeError>
         ensures same { settings self.new ≡ settings self.old }
         ensures conduct { Conducts (state self.old) (state self.new) result }
+        ensures memory { IsErrOf result NoMemory → ⊥ }
+        ensures shallow { IsErrOf result TooDeep → ⊥ }
         ensures ok { null_is_due (wire (settings self.old)) (state self.old) ≡ true → OnOk result ((wire (settings self.old)).nulls (state self.old).input (state self.old).at (state self.new).at) }
         ensures passes { null_is_due (wire (settings self.old)) (state self.old) ≡ true → OnOk result (Passes (state self.old) (state self.new)) }
         ensures refused { null_is_due (wire (settings self.old)) (state self.old) ≡ true → IsRefused result → NullsNot (wire (settings self.old)) (state self.old) }
         ensures would { is_strict (settings self.old) → null_is_due (wire (settings self.old)) (state self.old) ≡ true → IsInvalid result → NullsNot (lifted (settings self.old)) (state self.old) }
         ensures nothing { null_is_due (wire (settings self.old)) (state self.old) ≡ false → OnOk result (state self.new ≡ state self.old) };
 
-    /// Skips the value that is due, whatever it is. It takes no memory.
+    /// Skips the value that is due, whatever it is.
     fn skip_value(&mut self) -> Result<(), SerdeError>
         ensures same { settings self.new ≡ settings self.old }
         ensures conduct { Conducts (state self.old) (state self.new) result }
@@ -137,12 +150,15 @@ pub trait ShapeDeserializer {
         ensures ok { OnOk result ((wire (settings self.old)).skips (state self.old).input (depth (state self.old)) (state self.old).at (state self.new).at) }
         ensures passes { OnOk result (Passes (state self.old) (state self.new)) }
         ensures refused { IsRefused result → (state self.old).due ≡ true → SkipsNot (wire (settings self.old)) (state self.old) }
-        ensures would { is_strict (settings self.old) → IsInvalid result → (state self.old).due ≡ true → SkipsNot (lifted (settings self.old)) (state self.old) };
+        ensures would { is_strict (settings self.old) → IsInvalid result → (state self.old).due ≡ true → SkipsNot (lifted (settings self.old)) (state self.old) }
+        ensures deep { IsErrOf result TooDeep → ReachesDepth (wire (settings self.old)) (max_depth (settings self.old)) (state self.old) };
 
     /// Reads a whole number from -2^63 to 2^63-1. It takes no memory.
     fn read_long(&mut self, schema: &Schema<'_>) -> Result<i64, SerdeError>
         ensures same { settings self.new ≡ settings self.old }
         ensures conduct { Conducts (state self.old) (state self.new) result }
+        ensures memory { IsErrOf result NoMemory → ⊥ }
+        ensures shallow { IsErrOf result TooDeep → ⊥ }
         ensures undue { (state self.old).due ≡ false → IsNoAnswer result }
         ensures ok { IfOk result (λ n. Reads (wire (settings self.old)) (state self.old) (state self.new) schema.now.shapes.now (scalar_place scalars.Long schema.now.place.time) (whole n)) }
         ensures refused { IsRefused result → (state self.old).due ≡ true
@@ -154,6 +170,7 @@ pub trait ShapeDeserializer {
     fn read_string(&mut self, schema: &Schema<'_>) -> Result<String, SerdeError>
         ensures same { settings self.new ≡ settings self.old }
         ensures conduct { Conducts (state self.old) (state self.new) result }
+        ensures shallow { IsErrOf result TooDeep → ⊥ }
         ensures undue { (state self.old).due ≡ false → IsNoAnswer result }
         ensures ok { IfOk result (λ s. Reads (wire (settings self.old)) (state self.old) (state self.new) schema.now.shapes.now (scalar_place scalars.String schema.now.place.time) (text (string_bytes s))) }
         ensures refused { IsRefused result → (state self.old).due ≡ true

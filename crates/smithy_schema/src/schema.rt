@@ -2,6 +2,7 @@
 ghost use Rattle.std.specs.Prelude.{◌≢◌};
 ghost use Rattle.smithy_schema.specs.Table.{kind_of, nothing};
 
+use crate::members::MemberList;
 use crate::place::{Place, Target};
 use crate::shape_type::{Scalar, ShapeRef, ShapeType};
 use crate::shapes::{Shape, Shapes};
@@ -29,9 +30,11 @@ pub struct Schema<'a> {
 }
 
 impl<'a> Schema<'a> {
-    ghost use Rattle.std.specs.Prelude.{◌≡◌, ◌↔◌, Some, IsTrue, option_map};
-    ghost use Rattle.smithy_schema.specs.Table.{type_of, IsSparse};
-    ghost use Rattle.smithy_schema.specs.Site.{site_of, kind_at, member_site, element_site, nameless_site};
+    ghost use Rattle.std.specs.Prelude.{◌≡◌, ◌↔◌, ◌≤◌, [], Some, IsTrue, IfSome, length, map, option_map};
+    ghost use Rattle.std.specs.Option.{option_map_or};
+    ghost use Rattle.smithy_schema.specs.Table.{Member, type_of, members_of, IsSparse, json_name_of};
+    ghost use Rattle.smithy_schema.specs.Views.{member_of};
+    ghost use Rattle.smithy_schema.specs.Site.{site_of, kind_at, member_site, member_named, element_site, nameless_site};
 
     /// The kind of the shape, of a member the kind of its target.
     pub fn shape_type(&self) -> ShapeType
@@ -139,6 +142,34 @@ impl<'a> Schema<'a> {
                 }),
                 None => None,
             },
+        }
+    }
+
+    /// The member of a name.
+    pub fn member_schema(&self, name: &str) -> Option<Schema<'a>>
+        ensures { option_map site_of result ≡ member_named (λ (m : Member). m.name) (site_of self.now) name.now }
+    {
+        let position = self.members_at_place()?.position_of_name(name)?;
+        self.member_at(position as u32)
+    }
+
+    /// The member of a name in JSON: of the one that is given, or of its own where none is.
+    pub fn member_of_json_name(&self, name: &str) -> Option<Schema<'a>>
+        ensures { option_map site_of result ≡ member_named json_name_of (site_of self.now) name.now }
+    {
+        let position = self.members_at_place()?.position_of_json_name(name)?;
+        self.member_at(position as u32)
+    }
+
+    // The members of the structure that stands at the place, if one does.
+    pub(crate) fn members_at_place(&self) -> Option<&'a MemberList>
+        ensures few { IfSome result (λ m. length m.now.items.items ≤ 65535) }
+        ensures members { option_map_or (λ m. map member_of m.now.items.items) result [] ≡ members_of (kind_at (site_of self.now)) }
+    {
+        let shapes = self.shapes;
+        match self.place.target {
+            Target::Simple(_) => None,
+            Target::Declared(shape) => shapes.members_at(shape),
         }
     }
 

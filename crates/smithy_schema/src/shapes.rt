@@ -1,16 +1,10 @@
 //! The table of shapes.
-use crate::place::Place;
+use crate::members::{MemberList, MemberShape};
+use crate::names::{Named, position_of};
+use crate::place::{Place, Target};
+use crate::schema::{Origin, Schema};
 use crate::shape_type::ShapeRef;
 use std::marker::Model;
-
-#[derive(Drop)]
-pub(crate) struct MemberShape {
-    pub(crate) name: String,
-    pub(crate) json_name: Option<String>,
-    pub(crate) xml_name: Option<String>,
-    pub(crate) flat: bool,
-    pub(crate) place: Place,
-}
 
 #[derive(Drop)]
 pub(crate) struct ListShape {
@@ -21,7 +15,7 @@ pub(crate) struct ListShape {
 
 #[derive(Drop)]
 pub(crate) enum Shape {
-    Structure(Vec<MemberShape>),
+    Structure(MemberList),
     List(ListShape),
 }
 
@@ -31,33 +25,99 @@ pub(crate) struct Declaration {
     pub(crate) shape: Shape,
 }
 
+// The names of the declarations, in order.
+#[derive(Clone, Copy)]
+struct DeclaredNames<'a>(&'a [Declaration]);
+
+impl Named for DeclaredNames<'_> {
+    ghost use Rattle.std.specs.Prelude.{map, string_bytes};
+    ghost use Rattle.smithy_schema.specs.declared.shapes.Declaration.{Declaration};
+
+    ghost names = { λ s. map (λ (d : Declaration). string_bytes d.name) s.0.now };
+
+    fn count(&self) -> usize {
+        self.0.len()
+    }
+
+    fn name_at(&self, position: usize) -> &str {
+        self.0[position].name.as_str()
+    }
+}
+
 /// A table of shapes that was accepted.
 #[derive(Drop)]
 pub struct Shapes {
     pub(crate) declarations: Vec<Declaration>,
+    pub(crate) by_name: Vec<usize>,
 }
 
 impl Model for Shapes {
-    ghost use Rattle.std.specs.Prelude.{map};
-    ghost use Rattle.smithy_schema.specs.Table.{Table, IsClosed};
+    ghost use Rattle.std.specs.Prelude.{map, string_bytes};
+    ghost use Rattle.smithy_schema.specs.Table.{Table};
+    ghost use Rattle.smithy_schema.specs.Accepted.{IsAccepted};
+    ghost use Rattle.smithy_schema.specs.Private.Order.{IsOrderOf};
     ghost use Rattle.smithy_schema.specs.Views.{declaration_of};
+    ghost use Rattle.smithy_schema.specs.declared.shapes.Declaration.{Declaration};
 
     ghost Value = { Table };
 
     ghost view = { λ s. map declaration_of s.declarations.items };
 
-    ghost invariant = { λ s. IsClosed (map declaration_of s.declarations.items) };
+    ghost invariant = { λ s. IsAccepted (map declaration_of s.declarations.items)
+        × IsOrderOf (map (λ (d : Declaration). string_bytes d.name) s.declarations.items) s.by_name.items };
 }
 
 impl Shapes {
-    ghost use Rattle.std.specs.Prelude.{◌≡◌, ◌≢◌, option_map, slice_get, IfSome};
-    ghost use Rattle.smithy_schema.specs.Table.{kind_of, shape_place, IsClosed, list_shape_of as list_at_kind, members_of, nothing, shape_declared};
+    ghost use Rattle.std.specs.Prelude.{◌≡◌, ◌≢◌, ◌<◌, ◌≤◌, [], length, map, option_map, slice_get, IfSome};
+    ghost use Rattle.std.specs.Option.{option_map_or};
+    ghost use Rattle.smithy_schema.specs.declared.shape_type.ShapeRef.{ShapeRef};
+    ghost use Rattle.smithy_schema.specs.Table.{kind_of, shape_place, IsClosed, list_shape_of as list_at_kind, members_of, nothing, shape_declared, declared_as};
+    ghost use Rattle.smithy_schema.specs.Accepted.{IsAccepted};
+    ghost use Rattle.smithy_schema.specs.Site.{site_of, shape_site};
     ghost use Rattle.smithy_schema.specs.Views.{shape_of, member_of, list_shape_of};
+
+    /// The number of declarations.
+    pub fn len(&self) -> usize
+        ensures length { result ≡ length self.now }
+        ensures accepted { IsAccepted self.now }
+    {
+        self.declarations.len()
+    }
+
+    /// The declaration of a name, by its number.
+    pub fn find(&self, name: &str) -> Option<ShapeRef>
+        ensures { option_map (λ (r : ShapeRef). r.0) result ≡ declared_as self.now name.now }
+    {
+        match position_of(
+            &DeclaredNames(self.declarations.as_slice()),
+            self.by_name.as_slice(),
+            name,
+        ) {
+            Some(number) => Some(ShapeRef(number as u32)),
+            None => None,
+        }
+    }
+
+    /// The view of a declaration as a whole.
+    pub fn schema(&self, at: ShapeRef) -> Schema<'_>
+        requires { at.0 < length self.now }
+        ensures { site_of result ≡ shape_site self.now at.0 }
+    {
+        Schema {
+            shapes: self,
+            place: Place {
+                target: Target::Declared(at),
+                time: None,
+            },
+            origin: Origin::Whole,
+            is_nameless: false,
+        }
+    }
 
     // The shape of the declaration of that number, if there is one.
     pub(crate) fn shape_at(&self, at: ShapeRef) -> Option<&Shape>
         ensures found { option_map (λ s. shape_of s.now) result ≡ shape_declared self.now at.0 }
-        ensures closed { IsClosed self.now }
+        ensures accepted { IsAccepted self.now }
     {
         match self.declarations.get(at.0 as usize) {
             Some(declaration) => Some(&declaration.shape),
@@ -81,7 +141,18 @@ impl Shapes {
         ensures closed { IsClosed self.now }
     {
         match self.shape_at(at) {
-            Some(Shape::Structure(members)) => members.get(position as usize),
+            Some(Shape::Structure(members)) => members.items.get(position as usize),
+            _ => None,
+        }
+    }
+
+    // The members of that declaration, if it is a structure.
+    pub(crate) fn members_at(&self, at: ShapeRef) -> Option<&MemberList>
+        ensures few { IfSome result (λ m. length m.now.items.items ≤ 65535) }
+        ensures members { option_map_or (λ m. map member_of m.now.items.items) result [] ≡ members_of (kind_of self.now (shape_place at.0)) }
+    {
+        match self.shape_at(at) {
+            Some(Shape::Structure(members)) => Some(members),
             _ => None,
         }
     }

@@ -1,5 +1,5 @@
 //! Writing a value as a schema directs.
-ghost use Rattle.std.specs.Prelude.{◌≡◌, ◌≢◌, ◌↔◌, ℕ, List, [], Option, Bool, true, IfOk, IfErr, OnOk, IsErr, IsErrOf, Result, Ok, Err};
+ghost use Rattle.std.specs.Prelude.{◌++◌, ◌≡◌, ◌≢◌, ◌↔◌, ℕ, List, [], Option, Bool, true, IfOk, IfErr, OnOk, IsErr, IsErrOf, Result, Ok, Err};
 ghost use Rattle.smithy_schema.specs.declared.error.SerdeError.{SerdeError};
 ghost use Rattle.smithy_schema.specs.declared.error.SerdeError.TheVariants.{Failed, NoMemory, Unwritable};
 ghost use Rattle.smithy_schema.specs.Site.{site_of};
@@ -82,6 +82,9 @@ pub trait ShapeSerializer {
         ensures broken { IsErr result ↔ (failed self.new ≡ true) }
         ensures ok { OnOk result (after (scalar_of (site_of schema.now) (string value.now)) (state self.old) ≡ Ok (state self.new)) }
         ensures refused { IfErr result (λ e. IsFault e → after (scalar_of (site_of schema.now) (string value.now)) (state self.old) ≡ Err e) };
+
+    // No call takes back a byte.
+    ghost grows: { (e : Event) (s t : State) → after e s ≡ Ok t → (more : List ℕ) × (out t ≡ out s ++ more) };
 
     // Calls nest.
     ghost nested: { IsNested after open_in };

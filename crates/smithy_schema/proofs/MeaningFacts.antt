@@ -1,0 +1,200 @@
+-- Examples of what entries mean together, and of tables and views, by computing.
+use Rattle.std.proofs.Common.{◌≡◌, ℕ, List, [], ◌∷◌, map, Bool, true, false, Option, Some, None, option_map, refl, pos, codes}
+use Rattle.smithy_schema.specs.declared.shape_type.Scalar.TheVariants as scalars
+use Rattle.smithy_schema.specs.Table as table
+use Rattle.smithy_schema.specs.Table.{Table, Member, ListShape, Kind, scalar, structure_of, list_of, nothing, kind_of, place_in, members_of, position_named, json_name_of, query_name_of, element_name_of, declared_as, scalar_place, shape_place}
+use Rattle.smithy_schema.specs.Value.{Value, whole, text, list, structure, null_element, no_values, value, no_member_values, member_value}
+use Rattle.smithy_schema.specs.Container.{Entry, container_of}
+use Rattle.smithy_schema.specs.Site.{shape_site, member_site, element_site, nameless_site, member_named}
+use Rattle.smithy_schema.specs.Writing.{string, begin_structure, end_structure, begin_list, end_list, null_of, scalar_of, events, element_of, member_of}
+
+-- ---- entries and kinds
+
+-- an entry of a structure that isn't absent: its key's text, the position that the key names, what the
+-- child means there, and whether it can be skipped
+abbrev present : Option (List ℕ) → Option ℕ → Option Value → Bool → Entry
+present key position meaning is_skippable = record {
+  key = key;
+  position = position;
+  meaning = meaning;
+  is_absent = false;
+  is_skippable = is_skippable;
+  is_null = false;
+}
+
+-- an entry that is absent
+abbrev absent : Option (List ℕ) → Option ℕ → Entry
+absent key position = record {
+  key = key;
+  position = position;
+  meaning = None;
+  is_absent = true;
+  is_skippable = true;
+  is_null = true;
+}
+
+-- an entry that names the member at a position, and means a number there
+abbrev sets : ℕ → ℕ → Entry
+sets position n = present (Some (codes "a")) (Some position) (Some (whole (pos n))) true
+
+-- an element that means something or nothing, and whether it is a null
+abbrev child : Option Value → Bool → Entry
+child meaning is_null = record {
+  key = None;
+  position = None;
+  meaning = meaning;
+  is_absent = false;
+  is_skippable = true;
+  is_null = is_null;
+}
+
+abbrev of_list : Bool → Kind
+of_list is_sparse = list_of (record { place = scalar_place scalars.Long None; is_sparse = is_sparse; xml_name = None })
+
+-- what the entries of a structure mean, and those of a list
+abbrev folded : List Entry → Option Value
+folded = container_of (structure_of [])
+
+-- ---- structures
+
+pub no_entries : (folded [] ≡ Some (structure no_member_values)) × (container_of (of_list false) [] ≡ Some (list no_values))
+no_entries = (refl, refl)
+
+-- the last of the entries that name one member counts, in either order
+pub last_counts : (folded (sets 0 1 ∷ sets 0 2 ∷ []) ≡ Some (structure (member_value 0 (whole (pos 2)) no_member_values)))
+    × (folded (sets 0 2 ∷ sets 0 1 ∷ []) ≡ Some (structure (member_value 0 (whole (pos 1)) no_member_values)))
+last_counts = (refl, refl)
+
+-- one that is absent clears nothing, before it or behind it
+pub absent_clears_nothing : (folded (sets 0 1 ∷ absent (Some (codes "a")) (Some 0) ∷ []) ≡ Some (structure (member_value 0 (whole (pos 1)) no_member_values)))
+    × (folded (absent (Some (codes "a")) (Some 0) ∷ sets 0 1 ∷ []) ≡ Some (structure (member_value 0 (whole (pos 1)) no_member_values)))
+    × (folded (absent (Some (codes "a")) (Some 0) ∷ []) ≡ Some (structure no_member_values))
+absent_clears_nothing = (refl, refl, refl)
+
+-- each entry that names a member and isn't absent has to mean something, whichever of equal ones it is
+pub each_has_a_meaning : map folded ((present (Some (codes "a")) (Some 0) None true ∷ sets 0 1 ∷ []) ∷ (sets 0 1 ∷ present (Some (codes "a")) (Some 0) None true ∷ []) ∷ [])
+    ≡ None ∷ None ∷ []
+each_has_a_meaning = refl
+
+-- an entry that names no member is passed where it can be skipped, or is absent, and only there
+pub unknown_entries : map folded ((present (Some (codes "z")) None None true ∷ []) ∷ (absent (Some (codes "z")) None ∷ []) ∷ (present (Some (codes "z")) None None false ∷ []) ∷ (sets 0 1 ∷ present (Some (codes "z")) None None false ∷ []) ∷ [])
+    ≡ Some (structure no_member_values) ∷ Some (structure no_member_values) ∷ None ∷ None ∷ []
+unknown_entries = refl
+
+-- one that names a member needn't be one that could be skipped
+pub known_and_deep : folded (present (Some (codes "a")) (Some 0) (Some (whole (pos 1))) false ∷ []) ≡ Some (structure (member_value 0 (whole (pos 1)) no_member_values))
+known_and_deep = refl
+
+-- a key without a text refuses, known or not, absent or not
+pub key_without_text : map folded ((present None None None true ∷ []) ∷ (absent None None ∷ []) ∷ (sets 0 1 ∷ absent None None ∷ []) ∷ (present None (Some 0) (Some (whole (pos 1))) true ∷ []) ∷ [])
+    ≡ None ∷ None ∷ None ∷ None ∷ []
+key_without_text = refl
+
+-- members stand by position, each once, in whatever order their entries come
+pub by_position : folded (sets 2 20 ∷ sets 0 1 ∷ sets 1 10 ∷ sets 2 21 ∷ sets 0 2 ∷ [])
+    ≡ Some (structure (member_value 0 (whole (pos 2)) (member_value 1 (whole (pos 10)) (member_value 2 (whole (pos 21)) no_member_values))))
+by_position = refl
+
+-- ---- lists
+
+-- elements stay in order, and equal ones stay
+pub elements : container_of (of_list false) (child (Some (whole (pos 2))) false ∷ child (Some (whole (pos 1))) false ∷ child (Some (whole (pos 2))) false ∷ [])
+    ≡ Some (list (value (whole (pos 2)) (value (whole (pos 1)) (value (whole (pos 2)) no_values))))
+elements = refl
+
+-- a null is an element of a sparse list alone
+pub null_elements : map (λ is_sparse. container_of (of_list is_sparse) (child None true ∷ child (Some (whole (pos 1))) false ∷ [])) (true ∷ false ∷ [])
+    ≡ Some (list (value null_element (value (whole (pos 1)) no_values))) ∷ None ∷ []
+null_elements = refl
+
+-- what means nothing and is no null is an element of no list, though it could be skipped; nor does an
+-- element count as absent
+pub no_elements : map (λ is_sparse. container_of (of_list is_sparse) (child None false ∷ [])) (true ∷ false ∷ []) ≡ None ∷ None ∷ []
+no_elements = refl
+
+pub no_absent_elements : container_of (of_list false) (absent None None ∷ []) ≡ None
+no_absent_elements = refl
+
+-- scalars have no entries
+pub no_containers : map (λ kind. container_of kind []) (scalar scalars.Long ∷ scalar scalars.String ∷ nothing ∷ []) ≡ None ∷ None ∷ None ∷ []
+no_containers = refl
+
+-- ---- tables
+
+-- structure S / member a long xml=x / member ab string json=a flat / list L S sparse xml=e / list P string
+abbrev first : Member
+first = record { name = codes "a"; json_name = None; xml_name = Some (codes "x"); is_flat = false; place = scalar_place scalars.Long None }
+
+abbrev second : Member
+second = record { name = codes "ab"; json_name = Some (codes "a"); xml_name = None; is_flat = true; place = scalar_place scalars.String None }
+
+abbrev items : ListShape
+items = record { place = shape_place 0; is_sparse = true; xml_name = Some (codes "e") }
+
+abbrev plain : ListShape
+plain = record { place = scalar_place scalars.String None; is_sparse = false; xml_name = None }
+
+abbrev shapes : Table
+shapes = record { name = codes "S"; shape = table.structure (first ∷ second ∷ []) }
+    ∷ record { name = codes "L"; shape = table.list items }
+    ∷ record { name = codes "P"; shape = table.list plain } ∷ []
+
+pub kinds : map (kind_of shapes) (shape_place 0 ∷ shape_place 1 ∷ shape_place 2 ∷ shape_place 3 ∷ scalar_place scalars.Long None ∷ [])
+    ≡ structure_of (first ∷ second ∷ []) ∷ list_of items ∷ list_of plain ∷ nothing ∷ scalar scalars.Long ∷ []
+kinds = refl
+
+pub places : map (λ n. place_in (kind_of shapes (shape_place 0)) n) (Some 0 ∷ Some 1 ∷ Some 2 ∷ None ∷ [])
+    ≡ Some (scalar_place scalars.Long None) ∷ Some (scalar_place scalars.String None) ∷ None ∷ None ∷ []
+places = refl
+
+-- a name is met whole: `a`, `ab`, `abc`, the empty one, `A`
+pub positions : map (position_named (λ (m : Member). m.name) (first ∷ second ∷ [])) (codes "a" ∷ codes "ab" ∷ codes "abc" ∷ [] ∷ codes "A" ∷ [])
+    ≡ Some 0 ∷ Some 1 ∷ None ∷ None ∷ None ∷ []
+positions = refl
+
+-- the names under `json-name` and in a form, and what stands in place of one that isn't given
+pub other_names : (map json_name_of (first ∷ second ∷ []) ≡ codes "a" ∷ codes "a" ∷ [])
+    × (map query_name_of (first ∷ second ∷ []) ≡ codes "x" ∷ codes "ab" ∷ [])
+    × (map element_name_of (items ∷ plain ∷ []) ≡ codes "e" ∷ codes "member" ∷ [])
+other_names = (refl, refl, refl)
+
+pub declarations : map (declared_as shapes) (codes "S" ∷ codes "L" ∷ codes "P" ∷ codes "s" ∷ codes "SL" ∷ [])
+    ≡ Some 0 ∷ Some 1 ∷ Some 2 ∷ None ∷ None ∷ []
+declarations = refl
+
+-- ---- views
+
+-- a member's site, one beyond the members, and one of a list
+pub member_sites : (member_site (shape_site shapes 0) 1 ≡ Some (record { table = shapes; place = scalar_place scalars.String None; view = record { name = Some (codes "ab"); index = Some 1; json_name = Some (codes "a"); xml_name = None; is_flat = true } }))
+    × (member_site (shape_site shapes 0) 2 ≡ None) × (member_site (shape_site shapes 1) 0 ≡ None)
+member_sites = (refl, refl, refl)
+
+-- the elements of a list stand under the name `member`, those of a structure don't stand at all
+pub element_sites : (element_site (shape_site shapes 1) ≡ Some (record { table = shapes; place = shape_place 0; view = record { name = Some (codes "member"); index = None; json_name = None; xml_name = Some (codes "e"); is_flat = false } }))
+    × (element_site (shape_site shapes 0) ≡ None)
+element_sites = (refl, refl)
+
+-- a view without a name keeps its other names and its place
+pub without_name : option_map nameless_site (member_site (shape_site shapes 0) 1)
+    ≡ Some (record { table = shapes; place = scalar_place scalars.String None; view = record { name = None; index = None; json_name = Some (codes "a"); xml_name = None; is_flat = false } })
+without_name = refl
+
+-- `a` is the name of the first member, and the JSON name of both: the first counts
+pub sites_by_name : map (λ (name : List ℕ). member_named json_name_of (shape_site shapes 0) name) (codes "a" ∷ codes "ab" ∷ [])
+    ≡ member_site (shape_site shapes 0) 0 ∷ None ∷ []
+sites_by_name = refl
+
+-- ---- the calls that write a value
+
+-- a structure with its second member: its begin, the member by its own site, its end
+pub events_of_structure : events (shape_site shapes 0) (structure (member_value 1 (text (codes "x")) no_member_values))
+    ≡ begin_structure (shape_site shapes 0) ∷ scalar_of (member_of (shape_site shapes 0) 1) (string (codes "x")) ∷ end_structure ∷ []
+events_of_structure = refl
+
+-- a list with its count, elements without a name, a null among them and a list inside
+pub events_of_list : events (shape_site shapes 1) (list (value null_element (value (list no_values) no_values)))
+    ≡ begin_list (shape_site shapes 1) (Some 2) ∷ null_of (element_of (shape_site shapes 1)) ∷ begin_list (element_of (shape_site shapes 1)) (Some 0) ∷ end_list ∷ end_list ∷ []
+events_of_list = refl
+
+pub site_of_elements : Some (element_of (shape_site shapes 1)) ≡ option_map nameless_site (element_site (shape_site shapes 1))
+site_of_elements = refl

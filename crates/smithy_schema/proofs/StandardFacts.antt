@@ -1,0 +1,209 @@
+-- Table texts and what they are.
+use Rattle.std.proofs.Common.{◌≡◌, ℕ, List, [], ◌∷◌, ◌++◌, Some, None, true, false, refl, codes, map as list_map}
+use Prim.Native.String.{String}
+use Rattle.std.specs.List.{join_with_byte}
+use Rattle.smithy_schema.specs.declared.place.Place.{Place}
+use Rattle.smithy_schema.specs.declared.place.Target.{Target}
+use Rattle.smithy_schema.specs.declared.place.Target.TheVariants.{Simple, Declared}
+use Rattle.smithy_schema.specs.declared.shape_type.Scalar.TheVariants as scalars
+use Rattle.smithy_schema.specs.Table.{Table, Member, ListShape, structure, list, declared_as}
+use Rattle.smithy_schema.specs.Decl.{Form}
+use Rattle.smithy_schema.specs.TableText.{line_feed, declarations_of, declarations}
+use Rattle.smithy_schema.specs.Acceptance.{Fault, accepted, refused, table_of, build_of, is_too_many}
+use Rattle.smithy_schema.proofs.OnLiterals.{smithy_schema_on_literals}
+
+abbrev lines : List String → List ℕ
+lines ls = join_with_byte line_feed (list_map codes ls)
+
+abbrev place : Target → Place
+place target = record { target = target; time = None }
+
+abbrev declared : ℕ → Place
+declared n = place (Declared (record { 0 = n }))
+
+abbrev a_member : List ℕ → Place → Member
+a_member name place = record { name = name; json_name = None; xml_name = None; is_flat = false; place = place }
+
+abbrev a_list : Place → ListShape
+a_list place = record { place = place; is_sparse = false; xml_name = None }
+
+abbrev empty_structure : Table
+empty_structure = record { name = codes "S"; shape = structure [] } ∷ []
+
+-- ---- accepted
+
+-- a structure with one member
+pub one_long : table_of (lines ("structure S" ∷ "member a long" ∷ [])) ≡ accepted (record { name = codes "S"; shape = structure (a_member (codes "a") (place (Simple scalars.Long)) ∷ []) } ∷ [])
+unfolding smithy_schema_on_literals
+one_long = refl
+
+-- declarations may refer to one another in cycles
+pub list_of_itself : table_of (lines ("list L L" ∷ [])) ≡ accepted (record { name = codes "L"; shape = list (a_list (declared 0)) } ∷ [])
+unfolding smithy_schema_on_literals
+list_of_itself = refl
+
+-- a target may be declared later
+pub a_later_name : table_of (lines ("structure S" ∷ "member m L" ∷ "list L string" ∷ [])) ≡ accepted (record { name = codes "S"; shape = structure (a_member (codes "m") (declared 1) ∷ []) } ∷ record { name = codes "L"; shape = list (a_list (place (Simple scalars.String))) } ∷ [])
+unfolding smithy_schema_on_literals
+a_later_name = refl
+
+-- an empty line and a comment say nothing
+pub passed_over : table_of (lines ("" ∷ "# a  b" ∷ "structure S" ∷ "" ∷ [])) ≡ accepted empty_structure
+unfolding smithy_schema_on_literals
+passed_over = refl
+
+-- one carriage return at a line's end is dropped, and only one
+pub one_return : table_of (codes "structure S" ++ 0x0d ∷ line_feed ∷ 0x0d ∷ []) ≡ accepted empty_structure
+unfolding smithy_schema_on_literals
+one_return = refl
+
+pub two_returns : table_of (0x0d ∷ 0x0d ∷ []) ≡ refused Fault.bad_line 1
+unfolding smithy_schema_on_literals
+two_returns = refl
+
+-- a comment may be anything, and any other line is in UTF-8
+pub not_utf8 : table_of (codes "#" ++ 0xff ∷ line_feed ∷ codes "structure " ++ 0xff ∷ []) ≡ refused Fault.bad_line 2
+unfolding smithy_schema_on_literals
+not_utf8 = refl
+
+-- ---- bad lines
+
+-- a member with no declaration before it
+pub member_alone : table_of (lines ("member a long" ∷ [])) ≡ refused Fault.bad_line 1
+unfolding smithy_schema_on_literals
+member_alone = refl
+
+-- a member of a list
+pub member_of_a_list : table_of (lines ("structure S" ∷ "list L long" ∷ "member a long" ∷ [])) ≡ refused Fault.bad_line 3
+unfolding smithy_schema_on_literals
+member_of_a_list = refl
+
+-- two spaces
+pub two_spaces : table_of (lines ("structure  S" ∷ [])) ≡ refused Fault.bad_line 1
+unfolding smithy_schema_on_literals
+two_spaces = refl
+
+-- a space at the end
+pub space_at_the_end : table_of (lines ("structure S" ∷ "member a long " ∷ [])) ≡ refused Fault.bad_line 2
+unfolding smithy_schema_on_literals
+space_at_the_end = refl
+
+-- a space before `#`
+pub space_and_sign : table_of (lines (" # a" ∷ [])) ≡ refused Fault.bad_line 1
+unfolding smithy_schema_on_literals
+space_and_sign = refl
+
+-- an option without a text
+pub empty_option : table_of (lines ("structure S" ∷ "member a long json=" ∷ [])) ≡ refused Fault.bad_line 2
+unfolding smithy_schema_on_literals
+empty_option = refl
+
+-- an option twice
+pub option_twice : table_of (lines ("structure S" ∷ "member a long json=x json=y" ∷ [])) ≡ refused Fault.bad_line 2
+unfolding smithy_schema_on_literals
+option_twice = refl
+
+-- a flag twice
+pub flag_twice : table_of (lines ("list L long sparse sparse" ∷ [])) ≡ refused Fault.bad_line 1
+unfolding smithy_schema_on_literals
+flag_twice = refl
+
+-- an option of another kind of line
+pub option_of_another_line : table_of (lines ("list L long json=x" ∷ [])) ≡ refused Fault.bad_line 1
+unfolding smithy_schema_on_literals
+option_of_another_line = refl
+
+-- a structure with a second word
+pub too_many_words : table_of (lines ("structure S T" ∷ [])) ≡ refused Fault.bad_line 1
+unfolding smithy_schema_on_literals
+too_many_words = refl
+
+-- no such line
+pub unknown_keyword : table_of (lines ("struct S" ∷ [])) ≡ refused Fault.bad_line 1
+unfolding smithy_schema_on_literals
+unknown_keyword = refl
+
+-- a bad line comes before a fault above it
+pub bad_line_comes_first : table_of (lines ("list L float" ∷ "list" ∷ [])) ≡ refused Fault.bad_line 2
+unfolding smithy_schema_on_literals
+bad_line_comes_first = refl
+
+-- an option's text begins after the first `=`
+pub equals_in_a_text : declarations_of (lines ("structure S" ∷ "member a long json=a=b flat" ∷ []))
+    ≡ declarations (record { name = codes "S"; form = Form.structure (record { name = codes "a"; target = codes "long"; json = Some (codes "a=b"); xml = None; is_flat = true; time = None } ∷ []) } ∷ [])
+unfolding smithy_schema_on_literals
+equals_in_a_text = refl
+
+-- ---- refused declarations
+
+-- a target that no table can have yet
+pub no_boolean_yet : table_of (lines ("structure S" ∷ "member a boolean" ∷ [])) ≡ refused Fault.not_built 1
+unfolding smithy_schema_on_literals
+no_boolean_yet = refl
+
+-- nor a union
+pub no_union_yet : table_of (lines ("union U" ∷ [])) ≡ refused Fault.not_built 1
+unfolding smithy_schema_on_literals
+no_union_yet = refl
+
+-- nor a map
+pub no_map_yet : table_of (lines ("structure S" ∷ "map M long" ∷ [])) ≡ refused Fault.not_built 2
+unfolding smithy_schema_on_literals
+no_map_yet = refl
+
+-- nor an option
+pub no_option_yet : table_of (lines ("structure S" ∷ "member a long xml=x" ∷ [])) ≡ refused Fault.not_built 1
+unfolding smithy_schema_on_literals
+no_option_yet = refl
+
+-- a target that is neither a scalar nor declared
+pub no_such_target : table_of (lines ("structure S" ∷ "member a b" ∷ [])) ≡ refused Fault.unknown_target 1
+unfolding smithy_schema_on_literals
+no_such_target = refl
+
+-- the test that is made first decides, not the first declaration
+pub first_test_first : table_of (lines ("list L b" ∷ "list M float" ∷ [])) ≡ refused Fault.not_built 2
+unfolding smithy_schema_on_literals
+first_test_first = refl
+
+-- the later of two equal names
+pub declared_twice : table_of (lines ("structure S" ∷ "list S long" ∷ [])) ≡ refused Fault.duplicate_shape 2
+unfolding smithy_schema_on_literals
+declared_twice = refl
+
+-- the name of a scalar
+pub named_as_a_scalar : table_of (lines ("structure long" ∷ [])) ≡ refused Fault.duplicate_shape 1
+unfolding smithy_schema_on_literals
+named_as_a_scalar = refl
+
+-- also of one that no table can have yet
+pub named_as_an_unbuilt_scalar : table_of (lines ("structure float" ∷ [])) ≡ refused Fault.duplicate_shape 1
+unfolding smithy_schema_on_literals
+named_as_an_unbuilt_scalar = refl
+
+-- equal member names
+pub equal_member_names : table_of (lines ("structure S" ∷ "member a long" ∷ "member a string" ∷ [])) ≡ refused Fault.name_clash 1
+unfolding smithy_schema_on_literals
+equal_member_names = refl
+
+-- a name that can't stand in the path of a form
+pub unfit_query_name : table_of (lines ("structure S" ∷ "member a.b long" ∷ [])) ≡ refused Fault.query_name 1
+unfolding smithy_schema_on_literals
+unfit_query_name = refl
+
+-- an empty name, which no text gives
+pub empty_query_name : build_of (record {
+  name = codes "S";
+  form = Form.structure (record { name = []; target = codes "long"; json = None; xml = None; is_flat = false; time = None } ∷ []);
+} ∷ [])
+    ≡ refused Fault.query_name 1
+empty_query_name = refl
+
+-- declaration number 65,536 is one too many
+pub declarations_at_most : list_map (λ n. is_too_many [] n (record { name = codes "S"; form = Form.structure [] })) (65535 ∷ 65536 ∷ []) ≡ false ∷ true ∷ []
+declarations_at_most = refl
+
+-- a declared name, and not a scalar's
+pub roots : list_map (declared_as empty_structure) (codes "S" ∷ codes "Q" ∷ codes "long" ∷ []) ≡ Some 0 ∷ None ∷ None ∷ []
+unfolding smithy_schema_on_literals
+roots = refl

@@ -1,0 +1,24 @@
+-- What holds of each table that was accepted.
+use Rattle.std.specs.Prelude.{◌≡◌, ◌≤◌, List, map, length, true, false, Some}
+use Rattle.std.specs.List.{list_all, list_any}
+use Rattle.smithy_schema.specs.declared.place.Place.{Place}
+use Rattle.smithy_schema.specs.Table.{Table, Declaration, Member, ListShape, kind_of, members_of, list_shape_of, json_name_of, query_name_of, element_name_of, IsClosed}
+use Rattle.smithy_schema.specs.Names.{has_equal_texts, is_query_name, is_reserved}
+
+-- the members of a structure: no two have one name, one JSON name or one name in a form
+pub record AreAcceptedMembers (members : List Member) : Type 0 where
+  pub are_few : length members ≤ 65535
+  pub names_differ : has_equal_texts (map (λ (m : Member). m.name) members) ≡ false
+  pub json_names_differ : has_equal_texts (map json_name_of members) ≡ false
+  pub query_names_differ : has_equal_texts (map query_name_of members) ≡ false
+  pub query_names_fit : list_all is_query_name (map query_name_of members) ≡ true
+
+-- the whole table
+pub record IsAccepted (table : Table) : Type 0 where
+  pub is_closed : IsClosed table
+  pub are_few : length table ≤ 65535
+  pub names_differ : has_equal_texts (map (λ (d : Declaration). d.name) table) ≡ false
+  pub names_are_free : list_any is_reserved (map (λ (d : Declaration). d.name) table) ≡ false
+  pub members_are_accepted : (at : Place) → AreAcceptedMembers (members_of (kind_of table at))
+  pub element_names_fit : (at : Place) (l : ListShape) → list_shape_of (kind_of table at) ≡ Some l
+      → is_query_name (element_name_of l) ≡ true

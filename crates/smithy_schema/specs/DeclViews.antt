@@ -1,0 +1,66 @@
+-- What declarations of the program stand for, and what an answer of it says.
+use Rattle.std.specs.Prelude.{◌≡◌, map as list_map, string_bytes, option_map}
+use Rattle.smithy_schema.specs.declared.decl.MemberDecl as kept_member
+use Rattle.smithy_schema.specs.declared.decl.Decl as kept
+use Rattle.smithy_schema.specs.declared.decl.Decl.TheVariants.{Structure, Union, List, Map}
+use Rattle.smithy_schema.specs.declared.fault.TableFault.{TableFault}
+use Rattle.smithy_schema.specs.declared.fault.TableFault.TheVariants.{BadLine, NotBuilt, UnknownTarget, DuplicateShape, NameClash, QueryName, TooMany, NoMemory}
+use Rattle.smithy_schema.specs.Decl.{MemberDecl, structure, union, list, map, Decl}
+use Rattle.smithy_schema.specs.TableText.{Lines}
+use Rattle.smithy_schema.specs.Acceptance.{TableAnswer, refused, bad_line, not_built, unknown_target, duplicate_shape, name_clash, query_name, too_many}
+
+abbrev pub member_decl_of : kept_member.MemberDecl → MemberDecl
+member_decl_of m = record {
+  name = string_bytes m.name;
+  target = string_bytes m.target;
+  json = option_map string_bytes m.json;
+  xml = option_map string_bytes m.xml;
+  is_flat = m.flat;
+  time = option_map string_bytes m.time;
+}
+
+abbrev pub decl_of : kept.Decl → Decl
+decl_of (Structure name members) = record {
+  name = string_bytes name;
+  form = structure (list_map member_decl_of members.items);
+}
+decl_of (Union name members) = record {
+  name = string_bytes name;
+  form = union (list_map member_decl_of members.items);
+}
+decl_of (List name target sparse xml time) = record {
+  name = string_bytes name;
+  form = list (record {
+    target = string_bytes target;
+    is_sparse = sparse;
+    xml = option_map string_bytes xml;
+    time = option_map string_bytes time;
+  });
+}
+decl_of (Map name target sparse key value time) = record {
+  name = string_bytes name;
+  form = map (record {
+    target = string_bytes target;
+    is_sparse = sparse;
+    key = option_map string_bytes key;
+    value = option_map string_bytes value;
+    time = option_map string_bytes time;
+  });
+}
+
+-- the fault is the answer, or memory ran out, which no clause can rule out
+abbrev pub IsRefusedBy : TableAnswer → TableFault → Type 0
+IsRefusedBy answer (BadLine n) = answer ≡ refused bad_line n
+IsRefusedBy answer (NotBuilt n) = answer ≡ refused not_built n
+IsRefusedBy answer (UnknownTarget n) = answer ≡ refused unknown_target n
+IsRefusedBy answer (DuplicateShape n) = answer ≡ refused duplicate_shape n
+IsRefusedBy answer (NameClash n) = answer ≡ refused name_clash n
+IsRefusedBy answer (QueryName n) = answer ≡ refused query_name n
+IsRefusedBy answer (TooMany n) = answer ≡ refused too_many n
+IsRefusedBy answer NoMemory = Unit {0}
+
+-- the same of the lines of a text
+abbrev pub IsLineFault : Lines → TableFault → Type 0
+IsLineFault lines (BadLine n) = lines ≡ Lines.bad_line n
+IsLineFault lines NoMemory = Unit {0}
+IsLineFault lines _ = ⊥

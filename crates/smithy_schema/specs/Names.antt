@@ -1,0 +1,43 @@
+-- The names in a table: which are reserved, which can stand in a form, and whether two are equal.
+use Rattle.std.specs.Prelude.{◌==◌, ◌||◌, ◌&&◌, ℕ, List, [], ◌∷◌, length, find, Bool, false, not, Option, option_map, is_some, codes, bytes_eq}
+use Rattle.std.specs.List.{list_all, list_any}
+use Rattle.std.specs.Char.{is_ascii_alphanumeric}
+use Rattle.smithy_schema.specs.declared.shape_type.Scalar.{Scalar}
+use Rattle.smithy_schema.specs.declared.shape_type.Scalar.TheVariants as scalars
+
+-- the scalars by their names
+abbrev pub scalar_names : List (List ℕ × Scalar)
+scalar_names = (codes "long", scalars.Long) ∷ (codes "string", scalars.String) ∷ []
+
+-- the names of the scalars that a table can't have yet, and of the two that it can never have
+abbrev pub unbuilt_names : List (List ℕ)
+unbuilt_names =
+    codes "boolean" ∷ codes "byte" ∷ codes "short" ∷ codes "integer" ∷ codes "blob" ∷ codes "timestamp"
+    ∷ codes "bigInteger" ∷ codes "bigDecimal" ∷ codes "document" ∷ codes "float" ∷ codes "double" ∷ []
+
+-- what the name means in the list of names
+abbrev pub named : {X : Type 0} → List (List ℕ × X) → List ℕ → Option X
+named names name = option_map (λ p. p.1) (find (λ p. bytes_eq name p.0) names)
+
+abbrev pub is_scalar_name : List ℕ → Bool
+is_scalar_name name = is_some (named scalar_names name)
+
+abbrev pub is_unbuilt_name : List ℕ → Bool
+is_unbuilt_name name = list_any (bytes_eq name) unbuilt_names
+
+-- no declaration may have the name
+abbrev pub is_reserved : List ℕ → Bool
+is_reserved name = is_scalar_name name || is_unbuilt_name name
+
+-- two of the texts are equal
+abbrev pub has_equal_texts : List (List ℕ) → Bool
+has_equal_texts [] = false
+has_equal_texts (t ∷ ts) = list_any (bytes_eq t) ts || has_equal_texts ts
+
+-- an ASCII letter or digit, `_`, `-` or `:`
+abbrev pub is_name_byte : ℕ → Bool
+is_name_byte b = is_ascii_alphanumeric b || list_any (λ c. b == c) (codes "_-:")
+
+-- the name can stand in the path of a form
+abbrev pub is_query_name : List ℕ → Bool
+is_query_name name = list_all is_name_byte name && not (length name == 0)

@@ -1,0 +1,6 @@
+pub mod Words
+pub mod Order
+pub mod MemberNames
+pub mod DeclNames
+pub mod Tests
+pub mod Placed

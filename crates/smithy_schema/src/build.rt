@@ -1,0 +1,185 @@
+//! Builds a table of declarations that pass every test.
+ghost use Rattle.std.specs.Prelude.{◌≡◌, ◌≤◌, length, map, unwrap_or, bytes_eq, string_bytes, position as first_position, IfOk};
+ghost use Rattle.smithy_schema.specs.Decl.{Decl as SpecDecl};
+ghost use Rattle.smithy_schema.specs.Table.{structure};
+ghost use Rattle.smithy_schema.specs.Acceptance.{targets_of, place_of};
+ghost use Rattle.smithy_schema.specs.DeclViews.{decl_of, member_decl_of};
+ghost use Rattle.smithy_schema.specs.Views.{member_of, declaration_of};
+ghost use Rattle.smithy_schema.specs.Private.DeclNames.{declared_name};
+ghost use Rattle.smithy_schema.specs.Private.Order.{IsOrderOf};
+ghost use Rattle.smithy_schema.specs.Private.Placed.{members_with, declaration_with, table_with};
+
+use crate::acceptance::check;
+use crate::acceptance::names::{DeclaredNames, Targets};
+use crate::acceptance::words::scalar_of;
+use crate::decl::{Decl, MemberDecl};
+use crate::fault::TableFault;
+use crate::members::{MemberList, MemberShape};
+use crate::names::{Named, order_of, position_of};
+use crate::place::{Place, Target};
+use crate::shape_type::ShapeRef;
+use crate::shapes::{Declaration, ListShape, Shape, Shapes};
+use std::alloc::{AllocError, Global};
+
+impl Shapes {
+    ghost use Rattle.std.specs.Prelude.{IfErr};
+    ghost use Rattle.smithy_schema.specs.Acceptance.{build_of, accepted};
+    ghost use Rattle.smithy_schema.specs.DeclViews.{IsRefusedBy};
+
+    /// The table of these declarations, or the first of the tests that some declaration fails, with the
+    /// number of the first declaration that fails it, from 1.
+    pub fn build(alloc: Global, decls: Vec<Decl>) -> Result<Shapes, TableFault>
+        ensures built { IfOk result (λ shapes. build_of (map decl_of decls.items) ≡ accepted shapes) }
+        ensures refused { IfErr result (IsRefusedBy (build_of (map decl_of decls.items))) }
+    {
+        let by_name = order_of(alloc, &DeclaredNames(decls.as_slice()))?;
+        check(alloc, decls.as_slice(), by_name.as_slice())?;
+        let places = all_places(alloc, decls.as_slice(), by_name.as_slice())?;
+        let declarations = declarations_with(alloc, decls, places.as_slice())?;
+        Ok(Shapes {
+            declarations,
+            by_name,
+        })
+    }
+}
+
+// The places of the targets of each declaration.
+fn all_places(alloc: Global, decls: &[Decl], order: &[usize]) -> Result<Vec<Vec<Place>>, AllocError>
+    requires few { length decls.now ≤ 65535 }
+    requires in_order { IsOrderOf (map declared_name decls.now) order.now }
+    ensures { IfOk result (λ all. map (λ p. p.items) all.items
+        ≡ map (λ d. map (place_of (map decl_of decls.now)) (targets_of (decl_of d).form)) decls.now) }
+{
+    let mut all = Vec::with_capacity(alloc, decls.len())?;
+    for decl in decls {
+        all.push(places_of(alloc, decls, order, decl)?)?;
+    }
+    Ok(all)
+}
+
+// The places of the targets of a declaration.
+fn places_of(
+    alloc: Global,
+    decls: &[Decl],
+    order: &[usize],
+    decl: &Decl,
+) -> Result<Vec<Place>, AllocError>
+    requires few { length decls.now ≤ 65535 }
+    requires in_order { IsOrderOf (map declared_name decls.now) order.now }
+    ensures { IfOk result (λ places. places.items ≡ map (place_of (map decl_of decls.now)) (targets_of (decl_of decl.now).form)) }
+{
+    let targets = Targets(decl);
+    let mut places = Vec::with_capacity(alloc, targets.count())?;
+    for position in 0..targets.count() {
+        places.push(place_of(decls, order, targets.name_at(position)))?;
+    }
+    Ok(places)
+}
+
+// The place of a target.
+fn place_of(decls: &[Decl], order: &[usize], target: &str) -> Place
+    requires few { length decls.now ≤ 65535 }
+    requires in_order { IsOrderOf (map declared_name decls.now) order.now }
+    ensures { result ≡ place_of (map decl_of decls.now) target.now }
+{
+    let target = match scalar_of(target) {
+        Some(scalar) => Target::Simple(scalar),
+        None => Target::Declared(ShapeRef(number_of(decls, order, target))),
+    };
+    Place { target, time: None }
+}
+
+// The number of the first declaration of that name, or 0.
+fn number_of(decls: &[Decl], order: &[usize], name: &str) -> u32
+    requires few { length decls.now ≤ 65535 }
+    requires in_order { IsOrderOf (map declared_name decls.now) order.now }
+    ensures { result ≡ unwrap_or (first_position (λ (d : SpecDecl). bytes_eq d.name name.now) (map decl_of decls.now)) 0 }
+{
+    match position_of(&DeclaredNames(decls), order, name) {
+        Some(number) => number as u32,
+        None => 0,
+    }
+}
+
+// The declarations with the places of their targets.
+fn declarations_with(
+    alloc: Global,
+    decls: Vec<Decl>,
+    all: &[Vec<Place>],
+) -> Result<Vec<Declaration>, AllocError>
+    requires { map (λ p. length p.items) all.now ≡ map (λ d. length (targets_of (decl_of d).form)) decls.items }
+    ensures { IfOk result (λ v. map declaration_of v.items ≡ table_with (map decl_of decls.items) (map (λ p. p.items) all.now)) }
+{
+    let mut declarations = Vec::with_capacity(alloc, decls.len())?;
+    for decl in decls {
+        let places = &all[declarations.len()];
+        declarations.push(declaration_with(alloc, decl, places.as_slice())?)?;
+    }
+    Ok(declarations)
+}
+
+// A declaration with the places of its targets. No union and no map passes the tests yet.
+fn declaration_with(alloc: Global, decl: Decl, places: &[Place]) -> Result<Declaration, AllocError>
+    requires { length (targets_of (decl_of decl).form) ≤ length places.now }
+    ensures { IfOk result (λ v. declaration_of v ≡ declaration_with (decl_of decl) places.now) }
+{
+    match decl {
+        Decl::Structure { name, members } => structure_with(alloc, name, members, places),
+        Decl::Union { name, members } => structure_with(alloc, name, members, places),
+        Decl::List {
+            name,
+            sparse,
+            xml,
+            ..
+        } => Ok(Declaration {
+            name,
+            shape: Shape::List(ListShape {
+                place: places[0],
+                sparse,
+                xml_name: xml,
+            }),
+        }),
+        Decl::Map { name, .. } => structure_with(alloc, name, Vec::new(alloc), places),
+    }
+}
+
+fn structure_with(
+    alloc: Global,
+    name: String,
+    members: Vec<MemberDecl>,
+    places: &[Place],
+) -> Result<Declaration, AllocError>
+    requires { length members.items ≤ length places.now }
+    ensures { IfOk result (λ v. declaration_of v
+        ≡ record { name = string_bytes name; shape = structure (members_with (map member_decl_of members.items) places.now) }) }
+{
+    let items = members_with(alloc, members, places)?;
+    let members = MemberList::new(alloc, items)?;
+    Ok(Declaration {
+        name,
+        shape: Shape::Structure(members),
+    })
+}
+
+// The members with their places.
+fn members_with(
+    alloc: Global,
+    members: Vec<MemberDecl>,
+    places: &[Place],
+) -> Result<Vec<MemberShape>, AllocError>
+    requires { length members.items ≤ length places.now }
+    ensures { IfOk result (λ v. map member_of v.items ≡ members_with (map member_decl_of members.items) places.now) }
+{
+    let mut shapes: Vec<MemberShape> = Vec::with_capacity(alloc, members.len())?;
+    for member in members {
+        let place = places[shapes.len()];
+        shapes.push(MemberShape {
+            name: member.name,
+            json_name: member.json,
+            xml_name: member.xml,
+            flat: member.flat,
+            place,
+        })?;
+    }
+    Ok(shapes)
+}

@@ -1,0 +1,52 @@
+//! Why a table is refused.
+ghost use Rattle.std.specs.Prelude.{◌≡◌};
+ghost use Rattle.smithy_schema.specs.declared.fault.TableFault.TheVariants.{NoMemory};
+
+use std::alloc::{AllocError, AllocFailed};
+use thiserror::Error;
+
+/// Why a table is refused, with the number of the line or the declaration, from 1.
+/// `Display` writes the variant's name.
+#[derive(Clone, Copy, Debug, Drop, PartialEq, Eq, Error)]
+pub enum TableFault {
+    /// The line is of no form, or a `member` line without a structure or a union before it.
+    #[error("BadLine")]
+    BadLine(u64),
+    /// The declaration uses an item that no table can have yet.
+    #[error("NotBuilt")]
+    NotBuilt(u64),
+    /// A target is neither a scalar nor a declared name.
+    #[error("UnknownTarget")]
+    UnknownTarget(u64),
+    /// The name is that of an earlier declaration or of a scalar.
+    #[error("DuplicateShape")]
+    DuplicateShape(u64),
+    /// Two members have equal names, equal JSON names or equal names in a form.
+    #[error("NameClash")]
+    NameClash(u64),
+    /// A name can't stand in the path of a form.
+    #[error("QueryName")]
+    QueryName(u64),
+    /// The declaration has more than 65,535 members, or is number 65,536.
+    #[error("TooMany")]
+    TooMany(u64),
+    /// An allocation was refused.
+    #[error("NoMemory")]
+    NoMemory,
+}
+
+impl From<AllocError> for TableFault {
+    ghost from_gives = { λ _ e. e ≡ NoMemory };
+
+    fn from(_error: AllocError) -> TableFault {
+        TableFault::NoMemory
+    }
+}
+
+impl<T: Drop> From<AllocFailed<T>> for TableFault {
+    ghost from_gives = { λ _ e. e ≡ NoMemory };
+
+    fn from(_error: AllocFailed<T>) -> TableFault {
+        TableFault::NoMemory
+    }
+}
