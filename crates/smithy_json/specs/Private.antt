@@ -1,0 +1,4 @@
+pub mod Literal
+pub mod Chars
+pub mod Numeral
+pub mod Unescaping

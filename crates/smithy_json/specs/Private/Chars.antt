@@ -1,0 +1,48 @@
+-- Where the text of a string ends, computed from the bytes that follow its opening quotation mark.
+use Rattle.std.specs.Prelude.{◌≡◌, ◌<◌, ◌≤◌, ℕ, suc, ◌+◌, List, [], ◌∷◌, length, drop, Bool, false, not, ◌&&◌, ◌||◌, ◌==◌, nat_le, nat_lt, Option, Some, None, option_map, MatchOption, if◌then◌else◌}
+use Rattle.std.specs.Char.{is_ascii_hexdigit}
+use Rattle.smithy_json.specs.Ascii.{quotation_mark, escape, letter_u, space, is_short_escape}
+
+-- a byte that stands for itself in a string
+abbrev pub is_plain : ℕ → Bool
+is_plain b = nat_le space b && not (b == quotation_mark) && not (b == escape)
+
+-- and one that doesn't
+abbrev pub is_stop : ℕ → Bool
+is_stop b = (b == quotation_mark) || (b == escape) || nat_lt b space
+
+-- four hexadecimal digits come first
+abbrev pub begins_with_four_hex_digits : List ℕ → Bool
+begins_with_four_hex_digits (a ∷ b ∷ c ∷ d ∷ _) =
+    is_ascii_hexdigit a && is_ascii_hexdigit b && is_ascii_hexdigit c && is_ascii_hexdigit d
+begins_with_four_hex_digits _ = false
+
+-- a letter that the byte `escape` may precede, and what comes after the letter
+abbrev pub is_escape : ℕ → List ℕ → Bool
+is_escape letter rest =
+    is_short_escape letter || ((letter == letter_u) && begins_with_four_hex_digits rest)
+
+abbrev mutual
+  -- how many bytes of *char come before the closing quotation mark
+  pub chars_length : List ℕ → Option ℕ
+  chars_length [] = None
+  chars_length (b ∷ rest) =
+      if b == quotation_mark then Some 0
+      else (if b == escape then escape_length rest
+      else (if nat_le space b then option_map suc (chars_length rest) else None))
+
+  -- the same from the byte `escape` on, which came just before
+  pub escape_length : List ℕ → Option ℕ
+  escape_length [] = None
+  escape_length (letter ∷ rest) =
+      if is_escape letter rest then option_map (λ n. suc (suc n)) (chars_length rest) else None
+
+-- where the closing quotation mark of a string stands whose text goes on at the offset
+abbrev pub closing_from : List ℕ → ℕ → Option ℕ
+closing_from input at = option_map (λ n. at + n) (chars_length (drop at input))
+
+-- the text goes on at the end that is answered, as from the offset, and else it has no closing mark
+abbrev pub GoesOnAt : List ℕ → ℕ → Option ℕ → Type 0
+GoesOnAt input at result =
+    MatchOption result (closing_from input at ≡ None)
+    (λ end. (closing_from input at ≡ closing_from input end) × (at < end) × (end ≤ length input))

@@ -1,0 +1,42 @@
+-- A JSON value as it is written: raw texts of numbers and strings, and members in order, those of
+-- equal names kept.
+use Rattle.std.specs.Prelude.{ℕ, suc, max, List, Bool}
+
+mutual
+  pub data Json : Type 0 where
+    null : Json
+    boolean : Bool → Json
+    -- its text
+    number : List ℕ → Json
+    -- what stands between the quotation marks
+    string : List ℕ → Json
+    array : Elements → Json
+    object : Members → Json
+
+  pub data Elements : Type 0 where
+    no_elements : Elements
+    element : Json → Elements → Elements
+
+  pub data Members : Type 0 where
+    no_members : Members
+    -- what stands between the quotation marks of the name, and the value
+    member : List ℕ → Json → Members → Members
+
+abbrev mutual
+  -- how deep arrays and objects nest: 0 for a scalar, else one more than the deepest child
+  pub nesting : Json → ℕ
+  nesting null = 0
+  nesting (boolean b) = 0
+  nesting (number raw) = 0
+  nesting (string raw) = 0
+  nesting (array es) = suc (elements_nesting es)
+  nesting (object ms) = suc (members_nesting ms)
+
+  -- the greatest of the children
+  pub elements_nesting : Elements → ℕ
+  elements_nesting no_elements = 0
+  elements_nesting (element j es) = max (nesting j) (elements_nesting es)
+
+  pub members_nesting : Members → ℕ
+  members_nesting no_members = 0
+  members_nesting (member name j ms) = max (nesting j) (members_nesting ms)

@@ -1,0 +1,73 @@
+//! Where blanks and literals end, and where a value may end.
+
+ghost use Rattle.std.specs.Prelude.{◌≡◌, ◌≤◌, ◌↔◌, ℕ, Bool, IsTrue, length, drop, true, false, codes, IfSome, IfNone};
+ghost use Rattle.smithy_json.specs.Ascii.{is_ws};
+ghost use Rattle.smithy_json.specs.Grammar.{IsBoundary, IsValue};
+ghost use Rattle.smithy_json.specs.Private.Literal.{EndsLiteral};
+ghost use Rattle.smithy_json.specs.Standing.{IsRunAt, StandsAt};
+ghost use Rattle.smithy_json.specs.Tree.{null, boolean};
+
+// RFC 8259 calls these bytes `ws`.
+#[inline(always)]
+fn is_blank(byte: u8) -> bool
+    ensures { result ≡ is_ws byte }
+{
+    matches!(byte, b' ' | b'\t' | b'\n' | b'\r')
+}
+
+/// The offset of the first byte from `at` on that is no blank, or the input's length.
+pub fn skip_blanks(input: &[u8], at: usize) -> usize
+    requires { at ≤ length input.now }
+    ensures { IsRunAt is_ws input.now at result }
+{
+    let mut end = at;
+    while end < input.len() && is_blank(input[end]) {
+        end += 1;
+    }
+    end
+}
+
+/// Whether a value may end at the offset: the input ends there, or a blank, a comma or a closing
+/// bracket stands there.
+pub fn is_boundary(input: &[u8], at: usize) -> bool
+    requires { at ≤ length input.now }
+    ensures { IsTrue result ↔ IsBoundary (drop at input.now) }
+{
+    at == input.len() || is_blank(input[at]) || matches!(input[at], b',' | b']' | b'}')
+}
+
+// The end of the literal that stands at the offset, where a value may end behind it.
+#[inline(always)]
+fn literal_end(input: &[u8], at: usize, literal: &[u8]) -> Option<usize>
+    requires { at ≤ length input.now }
+    ensures { EndsLiteral literal.now input.now at result }
+{
+    if !input[at..].starts_with(literal) {
+        return None;
+    }
+    let end = at + literal.len();
+    is_boundary(input, end).then_some(end)
+}
+
+/// The end of the literal `null` that stands at the offset, where a value may end behind it.
+pub fn read_null(input: &[u8], at: usize) -> Option<usize>
+    requires { at ≤ length input.now }
+    ensures found { IfSome result (λ end. StandsAt (IsValue null) input.now at end) }
+    ensures none { IfNone result ((end : ℕ) → StandsAt (IsValue null) input.now at end → ⊥) }
+{
+    literal_end(input, at, b"null")
+}
+
+/// The literal `true` or `false` that stands at the offset, with its end, where a value may end behind
+/// it.
+pub fn read_boolean(input: &[u8], at: usize) -> Option<(bool, usize)>
+    requires { at ≤ length input.now }
+    ensures found { IfSome result (λ r. StandsAt (IsValue (boolean r.0)) input.now at r.1) }
+    ensures none { IfNone result ((value : Bool) (end : ℕ) → StandsAt (IsValue (boolean value)) input.now at end → ⊥) }
+{
+    if let Some(end) = literal_end(input, at, b"true") {
+        return Some((true, end));
+    }
+    let end = literal_end(input, at, b"false")?;
+    Some((false, end))
+}

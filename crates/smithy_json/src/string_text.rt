@@ -1,0 +1,140 @@
+//! Where the text of a string ends (RFC 8259, section 7).
+
+ghost use Rattle.std.specs.Prelude.{◌≡◌, ◌<◌, ◌≤◌, ◌+◌, ℕ, length, drop, slice_index, slice_range, IfSome, IfNone, map};
+ghost use Rattle.std.specs.Simd.Lanes.{mask_l};
+ghost use Rattle.std.specs.List.{prefix_len};
+ghost use Rattle.std.specs.Char.{is_ascii_hexdigit};
+ghost use Rattle.smithy_json.specs.Ascii.{escape, is_short_escape};
+ghost use Rattle.smithy_json.specs.Private.Chars.{is_plain, is_stop, begins_with_four_hex_digits, GoesOnAt, closing_from};
+ghost use Rattle.smithy_json.specs.Standing.{IsStringAt};
+ghost use Rattle.smithy_json.specs.Unescape.{has_escape};
+
+use std::simd::prelude::*;
+use std::str;
+
+/// A string that stands in an input.
+#[derive(Clone, Copy, Debug)]
+pub struct ScannedString<'a> {
+    /// What stands between the quotation marks.
+    pub text: &'a str,
+    /// The offset of the closing quotation mark.
+    pub closing: usize,
+    /// Whether the text holds a backslash, so that it stands for another text.
+    pub has_escape: bool,
+}
+
+// Where the bytes end that stand for themselves in a string.
+pub(crate) fn plain_end(input: &[u8], at: usize) -> usize
+    requires { at ≤ length input.now }
+    ensures value { result ≡ at + prefix_len is_plain (drop at input.now) }
+    ensures bound { result ≤ length input.now }
+{
+    let mut end = at;
+    while input.len() - end >= 16 {
+        let found = stops(u8x16::from_slice(&input[end..]));
+        if found != 0 {
+            return end + found.trailing_zeros() as usize;
+        }
+        end += 16;
+    }
+    plain_end_by_byte(input, end)
+}
+
+// A bit for each of 16 bytes that doesn't stand for itself, the first byte's lowest.
+#[inline(always)]
+fn stops(bytes: u8x16) -> u64
+    ensures { result ≡ mask_l (map is_stop bytes) }
+{
+    (bytes.simd_eq(u8x16::splat(b'"'))
+        | bytes.simd_eq(u8x16::splat(b'\\'))
+        | bytes.simd_lt(u8x16::splat(0x20))).to_bitmask()
+}
+
+// The same, a byte at a time.
+fn plain_end_by_byte(input: &[u8], at: usize) -> usize
+    requires { at ≤ length input.now }
+    ensures { result ≡ at + prefix_len is_plain (drop at input.now) }
+{
+    let mut end = at;
+    while end < input.len() && input[end] >= 0x20 && input[end] != b'"' && input[end] != b'\\' {
+        end += 1;
+    }
+    end
+}
+
+fn begins_with_four_hex_digits(input: &[u8]) -> bool
+    ensures { result ≡ begins_with_four_hex_digits input.now }
+{
+    match input {
+        [a, b, c, d, ..] => {
+            a.is_ascii_hexdigit()
+                && b.is_ascii_hexdigit()
+                && c.is_ascii_hexdigit()
+                && d.is_ascii_hexdigit()
+        }
+        _ => false,
+    }
+}
+
+pub(crate) fn is_short_escape(letter: u8) -> bool
+    ensures { result ≡ is_short_escape letter }
+{
+    matches!(
+        letter,
+        b'"' | b'\\' | b'/' | b'b' | b'f' | b'n' | b'r' | b't'
+    )
+}
+
+// The end of the escape whose backslash stands at the offset.
+fn escape_end(input: &[u8], at: usize) -> Option<usize>
+    requires within { at < length input.now }
+    requires backslash { slice_index input.now at ≡ escape }
+    ensures { GoesOnAt input.now at result }
+{
+    let letter = *input.get(at + 1)?;
+    if is_short_escape(letter) {
+        return Some(at + 2);
+    }
+    if letter != b'u' {
+        return None;
+    }
+    begins_with_four_hex_digits(&input[at + 2..]).then_some(at + 6)
+}
+
+// The closing quotation mark of a string whose text goes on at the offset.
+fn closing_mark(input: &[u8], at: usize) -> Option<usize>
+    requires { at ≤ length input.now }
+    ensures value { result ≡ closing_from input.now at }
+    ensures within { IfSome result (λ closing. (at ≤ closing) × (closing < length input.now)) }
+{
+    let mut end = plain_end(input, at);
+    while end < input.len() && input[end] == b'\\' {
+        end = plain_end(input, escape_end(input, end)?);
+    }
+    (end < input.len() && input[end] == b'"').then_some(end)
+}
+
+/// The string whose opening quotation mark stands at the offset.
+///
+/// Its bytes are looked at once for the closing mark, and once more for UTF-8.
+pub fn scan_string<'a>(input: &'a [u8], at: usize) -> Option<ScannedString<'a>>
+    requires { at ≤ length input.now }
+    ensures found { IfSome result (λ s. IsStringAt input.now at s.closing) }
+    ensures text { IfSome result (λ s. s.text.now ≡ slice_range input.now (at + 1) s.closing) }
+    ensures has_escape { IfSome result (λ s. s.has_escape ≡ has_escape s.text.now) }
+    ensures none { IfNone result ((closing : ℕ) → IsStringAt input.now at closing → ⊥) }
+{
+    if at == input.len() || input[at] != b'"' {
+        return None;
+    }
+    let first_stop = plain_end(input, at + 1);
+    let closing = closing_mark(input, first_stop)?;
+    let Ok(text) = str::from_utf8(&input[at + 1..closing]) else {
+        return None;
+    };
+    Some(ScannedString {
+        text,
+        closing,
+        has_escape: first_stop < closing,
+    })
+}
