@@ -1,0 +1,184 @@
+-- What a reader finds at a place, as the contract of reading says it.
+use Rattle.std.proofs.Common.{◌≡◌, ◌≢◌, ◌≤◌, ◌+◌, ◌⊎◌, inl, inr, ℕ, ℤ, length, List, [], ◌∷◌, Bool, true, false, Some, None, Option, Result, Ok, Err, refl, sym, ap, subst, ◌∙◌, arith}
+use Rattle.std.proofs.lemmas.Bool.Decides.{nat_tests}
+use Rattle.std.specs.Prelude.{reverse, option_and_then, if◌then◌else◌, nat_le}
+use Rattle.std.proofs.lemmas.List.{length-map, length-reverse}
+use Rattle.std.specs.Result.{IsErrOf}
+use Rattle.smithy_json_codec.specs.declared.deserializer.JsonDeserializer.{JsonDeserializer}
+use Rattle.smithy_schema.specs.declared.error.SerdeError.{SerdeError}
+use Rattle.smithy_schema.specs.declared.error.SerdeError.TheVariants.{InvalidInput, Unwritable, Failed, NoMemory}
+use Rattle.smithy_schema.specs.declared.place.Place.{Place}
+use Rattle.smithy_schema.specs.declared.shape_type.TimestampFormat.{TimestampFormat}
+use Rattle.smithy_schema.specs.declared.shape_type.Scalar.TheVariants as scalars
+use Rattle.smithy_schema.specs.Table.{Table, kind_of, scalar_place, IsList, IsStructure}
+use Rattle.smithy_schema.specs.Value.{Value, whole, text}
+use Rattle.smithy_schema.specs.Reading.{Cursor, depth, Frame, Passes, Reads, Steps, Conducts, StandsNot, OpensNot, SkipsNot, IsFault, passed_to, failed_at, in_list}
+use Rattle.smithy_json.specs.Tree.{string, nesting}
+use Rattle.smithy_json.specs.Number.{whole_number, is_long}
+use Rattle.smithy_json.specs.Unescape.{unescaped}
+use Rattle.smithy_json_codec.specs.declared.deserializer.Frame.{Frame as Held}
+use Rattle.smithy_json_codec.specs.declared.deserializer.Frame.TheVariants as held
+use Rattle.smithy_json_codec.specs.Cursor.{cursor_of, frame_of, gone_on_to, has_entered}
+use Rattle.smithy_json_codec.specs.Settings.{Settings, without_limits, is_shallow, kept}
+use Rattle.smithy_json_codec.specs.Standing.{json_relations, TreeLies, IsSeparated, end_mark}
+use Rattle.smithy_json_codec.specs.Private.GoingOn.{LongLies, ElementBegins}
+use Rattle.smithy_json_codec.specs.Private.Skipping.{SkipsTo}
+use Rattle.smithy_json_codec.proofs.ReaderLemmas.{long_stands, stands_long, text_stands, stands_text, steps_in_list, one_tree}
+
+-- the value that is due was passed
+pub passes : (old new : Cursor) (e : ℕ) → old.failed ≡ false → new ≡ passed_to old e → Passes old new
+passes old new e sound is = rw is (record { input = refl; inner = refl; outer = refl; due = refl; failed = sound })
+
+-- ---- numbers and texts
+
+-- what a number means is a whole number
+long_at : (z : ℤ) (fits : Bool) (v : Value) → (if fits then Some (whole z) else None) ≡ Some v → v ≡ whole z
+long_at z true v h = let same : whole z ≡ v = cc in sym same
+long_at z false v h = absurd (let no : None ≡ Some v = h in cc)
+
+long_from : (z : Option ℤ) (v : Value) → option_and_then (λ (z : ℤ). if is_long z then Some (whole z) else None) z ≡ Some v → (n : ℤ) × (v ≡ whole n)
+long_from None v h = absurd (let no : None ≡ Some v = h in cc)
+long_from (Some z) v h = (z, long_at z (is_long z) v h)
+
+module _ (o : Settings) (old new : Cursor) (t : Table) (time : Option TimestampFormat) (e : ℕ) (sound : old.failed ≡ false) (is : new ≡ passed_to old e) where
+  pub long_reads : (n m : ℤ) → m ≡ n → LongLies old.input old.at n e → Reads (json_relations o) old new t (scalar_place scalars.Long time) (whole m)
+  long_reads n m same lies = record {
+    stands = rw (is, same) (long_stands o old.input t (scalar_place scalars.Long time) (depth old) old.at (whole n) e refl (lies.raw, lies.lies, lies.means));
+    passes = passes old new e sound is;
+  }
+
+  pub text_reads : (raw s : List ℕ) → unescaped raw ≡ Some s → TreeLies 1 (string raw) old.input old.at e → Reads (json_relations o) old new t (scalar_place scalars.String time) (text s)
+  text_reads raw s has lies = record {
+    stands = rw is (text_stands o old.input t (scalar_place scalars.String time) (depth old) old.at (text s) e refl (raw, s, lies, has, refl));
+    passes = passes old new e sound is;
+  }
+
+module _ (o : Settings) (c : Cursor) (t : Table) (time : Option TimestampFormat) where
+  -- no number of the kind lies there
+  pub no_long : ((n : ℤ) (e : ℕ) → LongLies c.input c.at n e → ⊥) → StandsNot (json_relations o) c t (scalar_place scalars.Long time)
+  no_long none v e stands =
+      let found = stands_long o c.input t (scalar_place scalars.Long time) (depth c) c.at v e refl stands in
+      let number = long_from (whole_number found.0) v found.2 in
+      none number.0 e (record { raw = found.0; lies = found.1; means = found.2 ∙ ap Some number.1 })
+
+  -- no string lies there
+  pub no_string : ((raw : List ℕ) (e : ℕ) → TreeLies 1 (string raw) c.input c.at e → ⊥) → StandsNot (json_relations o) c t (scalar_place scalars.String time)
+  no_string none v e stands =
+      let found = stands_text o c.input t (scalar_place scalars.String time) (depth c) c.at v e refl stands in
+      none found.0 e found.2
+
+  -- the string there has no text
+  pub no_text : (raw : List ℕ) (f : ℕ) → TreeLies 1 (string raw) c.input c.at f → unescaped raw ≡ None → StandsNot (json_relations o) c t (scalar_place scalars.String time)
+  no_text raw f lies wordless v e stands =
+      let found = stands_text o c.input t (scalar_place scalars.String time) (depth c) c.at v e refl stands in
+      let same : string found.0 ≡ string raw = (one_tree 1 1 (string found.0) (string raw) c.input c.at e f found.2 lies).0 in
+      let raws : found.0 ≡ raw = cc in
+      let both : Some found.1 ≡ None = sym found.3 ∙ ap unescaped raws ∙ wordless in cc
+
+-- a refusal by a text that isn't want of memory
+pub text_fault : (error : SerdeError) → (error ≡ InvalidInput) ⊎ (error ≡ NoMemory) → IsFault error → error ≡ InvalidInput
+text_fault error (inl is) fault = is
+text_fault error (inr is) fault = absurd (rw is at fault)
+
+-- ---- containers
+
+no_bytes : (bytes : List ℕ) → length bytes ≡ 0 → bytes ≡ []
+no_bytes [] h = refl
+no_bytes (b ∷ bytes) h = absurd (omega (arith, h))
+
+-- an empty input opens a structure
+pub empty_opens : (o : Settings) (c : Cursor) (t : Table) (p : Place) → IsStructure (kind_of t p) → length c.input ≡ 0 → c.at ≤ length c.input → OpensNot (json_relations o) c t p → ⊥
+empty_opens o c t p kind empty within none =
+    let here : c.at ≡ 0 = omega (arith, empty, within) in
+    let nothing : c.input ≡ [] = no_bytes c.input empty in
+    none 0 end_mark (inr (inr (refl, kind, nothing, here, refl)))
+
+pub not_empty : (input : List ℕ) → (length input ≡ 0 → ⊥) → input ≡ [] → ⊥
+not_empty input full is = full (ap length is)
+
+entered_is : (f : Held) → (frame_of f).mark.entered ≡ has_entered f
+entered_is held.Outside = refl
+entered_is (held.Structure entered) = refl
+entered_is (held.List entered) = refl
+entered_is held.EmptyInput = refl
+
+pub mark_is : (old : Cursor) (f : Held) → old.inner ≡ frame_of f → old.inner.mark.entered ≡ has_entered f
+mark_is old f inner = ap (λ (x : Frame). x.mark.entered) inner ∙ entered_is f
+
+-- the list went on to an element
+pub element_steps : (o : Settings) (old new : Cursor) (f : Held) (t : Table) (p : Place) (b : ℕ) → IsList (kind_of t p) → old.inner ≡ frame_of f → old.inner.within ≡ in_list → old.failed ≡ false
+    → new ≡ gone_on_to old b (frame_of (held.List true)) → ElementBegins old.input old.at (has_entered f) b → Steps (json_relations o) old new t p None
+element_steps o old new f t p b kind inner within sound is begins =
+    let entered : old.inner.mark.entered ≡ has_entered f = mark_is old f inner in
+    rw is (record {
+      steps = steps_in_list o old.input t p kind (depth old) old.at old.inner.mark b (subst (λ x. IsSeparated x old.input old.at b) (sym entered) begins.0) begins.1;
+      input = refl;
+      within = sym within;
+      outer = refl;
+      due = refl;
+      failed = sound;
+    })
+
+-- how many containers are open
+pub held_depth : (d : JsonDeserializer) → length d.outer.items ≡ depth (cursor_of d)
+held_depth d = sym (length-map (reverse d.outer.items) frame_of ∙ length-reverse d.outer.items)
+
+-- ---- skipped values
+
+kept_shallow : (o : Settings) (d : ℕ) → o.limits ≡ kept → is_shallow o d ≡ true → d ≤ o.max_depth
+kept_shallow o d limits shallow = let test : nat_le d o.max_depth ≡ true = rw limits at shallow in grind (arith, nat_tests, test)
+
+shallow_kept : (o : Settings) (d : ℕ) → o.limits ≡ kept → d ≤ o.max_depth → is_shallow o d ≡ true
+shallow_kept o d limits shallow = let test : nat_le d o.max_depth ≡ true = grind (arith, nat_tests, shallow) in rw limits test
+
+module _ (o : Settings) (c : Cursor) where
+  -- nothing can be skipped, under limits that are kept
+  pub skips_not : (held : ℕ) → held ≡ depth c → o.limits ≡ kept → ((e : ℕ) → SkipsTo o.max_depth held c.input c.at e → ⊥) → SkipsNot (json_relations o) c
+  skips_not held same limits none e skips =
+      none e (rw same (record { tree = skips.0; lies = skips.1; shallow = kept_shallow o (depth c + nesting skips.0) limits skips.2 }))
+
+  -- nor with the limits lifted
+  pub skips_never : (held : ℕ) → held ≡ depth c → ((greatest e : ℕ) → SkipsTo greatest held c.input c.at e → ⊥) → SkipsNot (json_relations (without_limits o)) c
+  skips_never held same none e skips =
+      none (depth c + nesting skips.0) e (rw same (record { tree = skips.0; lies = skips.1; shallow = omega arith }))
+
+  -- what was skipped is skipped there
+  pub skips_here : (held : ℕ) → held ≡ depth c → o.limits ≡ kept → (e : ℕ) → SkipsTo o.max_depth held c.input c.at e
+      → (json_relations o).skips c.input (depth c) c.at e
+  skips_here held same limits e h =
+      let s : SkipsTo o.max_depth (depth c) c.input c.at e = rw same at h in
+      (s.tree, s.lies, shallow_kept o (depth c + nesting s.tree) limits s.shallow)
+
+  -- what is skipped ends at one place
+  pub skips_same : (held greatest : ℕ) → held ≡ depth c → (end e : ℕ) → SkipsTo greatest held c.input c.at end
+      → (json_relations o).skips c.input (depth c) c.at e → end ≡ e
+  skips_same held greatest same end e h skips =
+      (one_tree held (depth c) h.tree skips.0 c.input c.at end e h.lies skips.1).1
+
+-- ---- refusals
+
+-- which error an answer holds
+pub error_of : {A : Type 0} (e f : SerdeError) → IsErrOf {T = A} (Err e) f → e ≡ f
+error_of {A} e f h = let same : ◌≡◌ {A = Result A SerdeError} (Err e) (Err f) = h in cc
+
+-- a refusal of the input by a reader that hadn't failed
+pub refusal_conducts : {A : Type 0} (old new : Cursor) (error given : SerdeError) → error ≡ given → old.failed ≡ false → given ≢ Failed → given ≢ Unwritable → old.at ≤ length old.input
+    → new ≡ failed_at old → Conducts {A = A} old new (Err error)
+refusal_conducts {A} old new error given same sound other readable within is = rw (is, same) (record {
+  failed = (λ h. absurd (other (error_of {A = A} given Failed h)), λ h. absurd (let both : true ≡ false = sym h ∙ sound in cc));
+  stays = refl;
+  readable = λ h. readable (error_of {A = A} given Unwritable h);
+  ahead = omega arith;
+  within = within;
+})
+
+-- an answer of a reader that hadn't failed, and went on
+pub goes_ahead : (A : Type 0) (old new : Cursor) (x : A) (at : ℕ) → old.failed ≡ false → new.at ≡ at → new.input ≡ old.input → old.at ≤ at → at ≤ length old.input
+    → Conducts {A = A} old new (Ok x)
+goes_ahead A old new x at sound place input ahead within = record {
+  failed = (λ h. let no : ◌≡◌ {A = Result A SerdeError} (Ok x) (Err Failed) = h in cc, λ h. absurd (let both : true ≡ false = sym h ∙ sound in cc));
+  stays = tt;
+  readable = λ h. let no : ◌≡◌ {A = Result A SerdeError} (Ok x) (Err Unwritable) = h in cc;
+  ahead = rw place ahead;
+  within = rw (place, input) within;
+}

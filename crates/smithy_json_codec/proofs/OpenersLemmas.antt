@@ -1,0 +1,55 @@
+-- How many brackets are open while a value is skipped that begins at `start`. By the bytes alone at least
+-- so many are open at once from there on as the skipper has open, together with those that open from
+-- where it is on. Each of its moves keeps that. So where a bracket comes too deep for it, the bytes go
+-- as deep.
+use Rattle.std.proofs.Common.{◌≤◌, ◌<◌, ◌+◌, ◌-◌, ℕ, List, drop, Bool, arith}
+use Rattle.smithy_json.specs.Ascii.{begin_array, end_array, begin_object, end_object}
+use Rattle.smithy_json.specs.Tree.{Json}
+use Rattle.smithy_json.specs.Grammar.{IsValue}
+use Rattle.smithy_json_codec.specs.Standing.{Lies, IsByte, IsSeparated, Names}
+use Rattle.smithy_json_codec.specs.Openers.{json_openers}
+use Rattle.smithy_json_codec.specs.Private.OpenPlaces.{across_begin_array, across_begin_object, across_value, across_separator, across_name, across_end_array, across_end_object}
+
+module _ (i : List ℕ) (start : ℕ) where
+  -- the loop invariant, for a skipper that has come to `here` and has `count` containers open
+  abbrev pub OpensInAll : ℕ → ℕ → Type 0
+  OpensInAll count here = count + json_openers (drop here i) ≤ json_openers (drop start i)
+
+  -- nothing is open at the start
+  pub nothing_opened : OpensInAll 0 start
+  nothing_opened = omega arith
+
+  -- where a bracket comes at the greatest depth, the bytes reach that depth
+  pub reaches_depth : (max depth count here : ℕ) → OpensInAll count here → max ≤ depth + count → max ≤ depth + json_openers (drop start i)
+  reaches_depth max depth count here h full = omega (arith, h, full)
+
+  -- ---- moves from `here` to `next`
+
+  module _ (count here next : ℕ) (h : OpensInAll count here) where
+    -- past white space and an opening bracket
+    pub past_begin_array : Lies (IsByte begin_array) i here next → OpensInAll (count + 1) next
+    past_begin_array lies = let adds = across_begin_array i here next lies in omega (arith, h, adds)
+
+    pub past_begin_object : Lies (IsByte begin_object) i here next → OpensInAll (count + 1) next
+    past_begin_object lies = let adds = across_begin_object i here next lies in omega (arith, h, adds)
+
+    -- past white space and a value, as a scalar is
+    pub past_value : (x : Json) → Lies (IsValue x) i here next → OpensInAll count next
+    past_value x lies = let takes = across_value i x here next lies in omega (arith, h, takes)
+
+    -- to an element: past white space and a comma, unless it is the first
+    pub past_separator : (entered : Bool) → IsSeparated entered i here next → OpensInAll count next
+    past_separator entered separated =
+        let same = across_separator i entered here next separated in omega (arith, h, same)
+
+    -- to a member's value: past the comma, unless it is the first, the name and its colon
+    pub past_name : (entered : Bool) (raw : List ℕ) → Names entered i here raw next → OpensInAll count next
+    past_name entered raw names =
+        let same = across_name i entered here raw next names in omega (arith, h, same)
+
+    -- past white space and the closing bracket of a container that is open
+    pub past_end_array : 0 < count → Lies (IsByte end_array) i here next → OpensInAll (count - 1) next
+    past_end_array some lies = let takes = across_end_array i here next lies in omega (arith, h, takes, some)
+
+    pub past_end_object : 0 < count → Lies (IsByte end_object) i here next → OpensInAll (count - 1) next
+    past_end_object some lies = let takes = across_end_object i here next lies in omega (arith, h, takes, some)

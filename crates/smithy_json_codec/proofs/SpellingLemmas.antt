@@ -1,0 +1,90 @@
+-- Whole inputs: what spells a value is what stands at their start, with nothing but white space behind it.
+use Rattle.std.proofs.Common.{◌≡◌, ◌↔◌, ℕ, zero, suc, List, drop, Some, refl, arith, inl, inr}
+use Rattle.smithy_schema.specs.declared.place.Place.{Place}
+use Rattle.smithy_schema.specs.Table.{Table, Kind, scalar, structure_of, list_of, nothing, kind_of, IsStructure}
+use Rattle.smithy_schema.specs.Value.{Value}
+use Rattle.smithy_schema.specs.Reading.{IsContainer}
+use Rattle.smithy_json.specs.Tree.{Json, null, boolean, number, string, array, object}
+use Rattle.smithy_json.specs.Grammar.{IsWs, IsValue, IsJsonText}
+use Rattle.smithy_json_codec.specs.Settings.{Settings}
+use Rattle.smithy_json_codec.specs.Meaning.{json_meaning}
+use Rattle.smithy_json_codec.specs.Spelling.{json_spells}
+use Rattle.smithy_json_codec.specs.Laws.{lawful}
+use Rattle.smithy_json_codec.specs.Standing.{Follows, TreeLies, json_relations}
+use Rattle.smithy_json_codec.specs.Private.Lexical.{ws_is_boundary}
+use Rattle.smithy_json_codec.specs.Private.Fronts.{settle, one_tree}
+use Rattle.smithy_json_codec.specs.Private.Lawful.{not_number, not_string}
+
+-- ---- texts
+
+-- only white space may follow any value, and may follow it at each depth
+ws_follows : (d : ℕ) (x : Json) (s : List ℕ) → IsWs s → Follows d x s
+ws_follows d null s h = ws_is_boundary s h
+ws_follows d (boolean b) s h = ws_is_boundary s h
+ws_follows d (number raw) s h = ws_is_boundary s h
+ws_follows d (string raw) s h = ws_is_boundary s h
+ws_follows zero (array es) s h = h
+ws_follows zero (object ms) s h = h
+ws_follows (suc d) (array es) s h = ws_is_boundary s h
+ws_follows (suc d) (object ms) s h = ws_is_boundary s h
+
+-- a whole text lies at the start, with white space behind it
+pub text_lies : (i : List ℕ) (x : Json) → IsJsonText x i → (e : ℕ) × TreeLies 0 x i 0 e × IsWs (drop e i)
+text_lies i x h =
+    let s = settle (IsValue x) i 0 h.0 h.1 h.2 (omega arith) h.3 h.4 h.5 in
+    (s.at, (s.lies, rw s.rest (ws_follows 0 x h.2 h.6)), rw s.rest h.6)
+
+-- and back
+pub lies_text : (i : List ℕ) (x : Json) (e : ℕ) → TreeLies 0 x i 0 e → IsWs (drop e i) → IsJsonText x i
+lies_text i x e h ws = let l = h.0.2 in (l.0, l.1, drop e i, l.2, l.3, l.4, ws)
+
+-- bytes are the text of one tree
+pub one_text : (i : List ℕ) (x y : Json) → IsJsonText x i → IsJsonText y i → x ≡ y
+one_text i x y h k =
+    let a = text_lies i x h in
+    let b = text_lies i y k in
+    (one_tree 0 0 x y i 0 a.0 b.0 a.1 b.1).0
+
+-- ---- values
+
+-- what the input spells stands at its start
+pub spells_stands : (c : Settings) (t : Table) (p : Place) (i : List ℕ) (v : Value) → json_spells c t p i v
+    → (e : ℕ) × (json_relations c).stands i t p 0 0 v e
+spells_stands c t p i v (inl h) = let l = text_lies i h.0 h.1 in (l.0, inl (h.0, l.1, h.2))
+spells_stands c t p i v (inr h) = (0, inr (h.0, refl, refl, h.1, h.2, h.3))
+
+-- behind a container outside of all others comes only white space
+tree_text : (c : Settings) (t : Table) (p : Place) (i : List ℕ) (v : Value) (e : ℕ) (x : Json) → IsContainer (kind_of t p)
+    → TreeLies 0 x i 0 e → json_meaning c t p 0 x ≡ Some v → IsJsonText x i
+tree_text c t p i v e null box lies means = cc
+tree_text c t p i v e (boolean b) box lies means = cc
+tree_text c t p i v e (number raw) box lies means = absurd (not_number (kind_of t p) raw v box means)
+tree_text c t p i v e (string raw) box lies means = absurd (not_string (kind_of t p) raw v box means)
+tree_text c t p i v e (array es) box lies means = lies_text i (array es) e lies lies.1
+tree_text c t p i v e (object ms) box lies means = lies_text i (object ms) e lies lies.1
+
+-- what stands at the start of the input is spelled by it, at a place of a container
+pub stands_spells : (c : Settings) (t : Table) (p : Place) (i : List ℕ) (v : Value) (e : ℕ) → IsContainer (kind_of t p)
+    → (json_relations c).stands i t p 0 0 v e → json_spells c t p i v
+stands_spells c t p i v e box (inl h) = inl (h.0, tree_text c t p i v e h.0 box h.1 h.2, h.2)
+stands_spells c t p i v e box (inr h) = inr (h.0, h.3, h.4, h.5)
+
+-- a structure is a container
+pub structure_is_container : (k : Kind) → IsStructure k → IsContainer k
+structure_is_container (scalar s) h = h
+structure_is_container (structure_of members) h = h
+structure_is_container (list_of l) h = tt
+structure_is_container nothing h = h
+
+-- so what an input spells at the place of a structure is what stands at its start
+pub spells_is_stands : (c : Settings) (t : Table) (p : Place) (i : List ℕ) (v : Value) → IsStructure (kind_of t p)
+    → json_spells c t p i v ↔ ((e : ℕ) × (json_relations c).stands i t p 0 0 v e)
+spells_is_stands c t p i v kind =
+    (spells_stands c t p i v, λ h. stands_spells c t p i v h.0 (structure_is_container (kind_of t p) kind) h.1)
+
+-- at most one value is spelled
+pub one_spelled : (c : Settings) (t : Table) (p : Place) (i : List ℕ) (v u : Value) → json_spells c t p i v → json_spells c t p i u → v ≡ u
+one_spelled c t p i v u h k =
+    let a = spells_stands c t p i v h in
+    let b = spells_stands c t p i u k in
+    (lawful c).same_value i t p 0 0 v u a.0 b.0 a.1 b.1

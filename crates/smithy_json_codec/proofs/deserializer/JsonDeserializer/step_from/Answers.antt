@@ -1,0 +1,37 @@
+use Rattle.std.proofs.Common.{◌≡◌, false, true, length, refl, rules, arith, sym, ap, ◌∙◌}
+use Rattle.smithy_schema.specs.declared.error.SerdeError.TheVariants.{InvalidInput}
+use Rattle.smithy_schema.specs.Site.{site_of}
+use Rattle.smithy_json_codec.specs.Cursor.{cursor_of, reading_settings_of}
+use Rattle.smithy_json_codec.specs.Private.Steering.{StepsTo}
+use Rattle.smithy_json_codec.proofs.DeserializerLemmas.{held_depth, goes_ahead, mark_is, text_fault}
+use Rattle.smithy_json_codec.proofs.SteeringLemmas.{value_place, end_place, steps_to, cannot_step}
+use Rattle.smithy_json_codec.proofs.deserializer.JsonDeserializer.step_from.Goals as goal
+
+pub returns-in-Ok-Member-clause-conduct : goal.returns-in-Ok-Member-clause-conduct
+returns-in-Ok-Member-clause-conduct c =
+    let next = rw c.in-Ok-Member.field-0-is at c.in-Ok-Member.ensures.ok in
+    let place = value_place c.args.self.now.input.now c.args.at c.entered.result next.0 c.in-Ok-Member.value next.2 in
+    goes_ahead _ (cursor_of c.args.self.now) (cursor_of c.go_on.new.self) c.step_to-step.result c.in-Ok-Member.value c.requires.sound (ap (λ x. x.at) c.go_on.ensures.gone) (ap (λ x. x.input) c.go_on.ensures.gone) (omega (arith, c.requires.ahead, place.0)) place.1
+
+pub returns-in-Ok-Member-clause-ok : goal.returns-in-Ok-Member-clause-ok
+returns-in-Ok-Member-clause-ok c =
+    let next = rw c.in-Ok-Member.field-0-is at c.in-Ok-Member.ensures.ok in
+    let mark = mark_is (cursor_of c.args.self.now) c.args.self.now.inner refl ∙ sym c.entered.ensures in
+    let leads : StepsTo c.step_to-step.result (reading_settings_of c.args.self.now) (site_of c.args.schema.now) c.as_str.result.now = c.step_to-step.ensures in
+    steps_to (reading_settings_of c.args.self.now) (cursor_of c.args.self.now) (cursor_of c.go_on.new.self) c.args.at (site_of c.args.schema.now) c.requires.place c.entered.result mark
+    c.in-Ok-Member.value next.0 c.as_str.result.now c.step_to-step.result c.requires.inside c.requires.sound c.go_on.ensures.gone (rw c.as_str.ensures.value next.1) next.2 leads
+
+pub returns-in-Ok-End-clause-conduct : goal.returns-in-Ok-End-clause-conduct
+returns-in-Ok-End-clause-conduct c =
+    let next = rw c.in-Ok-End.field-0-is at c.in-Ok-End.ensures.ok in
+    let place = end_place c.args.self.now.input.now c.args.at c.entered.result c.in-Ok-End.end next.0 in
+    goes_ahead _ (cursor_of c.args.self.now) (cursor_of c.leave.new.self) _ c.in-Ok-End.end c.requires.sound c.leave.ensures.at c.leave.ensures.input (omega (arith, c.requires.ahead, place.0)) place.1
+
+pub returns-else-ends_empty-clause-refused : goal.returns-else-ends_empty-clause-refused
+returns-else-ends_empty-clause-refused c =
+    let open_now : c.len.result ≡ length c.args.self.now.outer.items = search rules in
+    let mark = mark_is (cursor_of c.args.self.now) c.args.self.now.inner refl ∙ sym c.entered.ensures in
+    λ fault o.
+    let same : c.in-Err.error ≡ InvalidInput = text_fault c.in-Err.error c.in-Err.ensures.kind (rw c.refuse.ensures.error at fault) in
+    cannot_step o (cursor_of c.args.self.now) (cursor_of c.refuse.new.self) c.args.at (site_of c.args.schema.now) c.requires.place c.entered.result mark
+    c.len.result (open_now ∙ held_depth c.args.self.now) (c.in-Err.ensures.none (rw same tt)) (λ empty. let ended = c.ends_empty.ensures.1 empty in let both : true ≡ false = sym ended ∙ c.if-ends_empty.false in cc)

@@ -1,0 +1,18 @@
+use Rattle.std.proofs.Common.{◌+◌, subst, sym}
+use Rattle.smithy_json_codec.specs.Standing.{Lies, IsByte}
+use Rattle.smithy_json_codec.proofs.ByteLemmas.{first_lies, not_first, nothing_first}
+use Rattle.smithy_json_codec.proofs.places.byte_end.Goals as goal
+
+pub returns-in-Some-clause-found : goal.returns-in-Some-clause-found
+returns-in-Some-clause-found c =
+    subst (λ b. Lies (IsByte b) c.args.input.now c.args.at (c.in-Some.start + 1)) c.if-first-byte.true
+    (first_lies c.args.input.now c.args.at c.in-Some.first c.in-Some.start c.in-Some.ensures.found)
+
+pub returns-in_default-clause-none : goal.returns-in_default-clause-none
+returns-in_default-clause-none c =
+    not_first c.args.input.now c.args.at c.in-Some.first c.in-Some.start c.in-Some.ensures.found c.args.byte c.requires.plain
+    (λ same. c.if-first-byte.false (sym same))
+
+pub returns-in_default-2-clause-none : goal.returns-in_default-2-clause-none
+returns-in_default-2-clause-none c =
+    nothing_first c.args.input.now c.args.at c.args.byte (rw c.in_default.is at c.first_byte.ensures.none) c.requires.plain

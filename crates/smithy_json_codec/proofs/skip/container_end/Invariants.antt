@@ -1,0 +1,19 @@
+use Rattle.std.proofs.Common.{◌≡◌, ◌+◌, ◌-◌, ◌*◌, ◌≤◌, length, cond}
+use Rattle.smithy_json_codec.proofs.OpenContainers.{IsOnTheWay, stack_of}
+use Rattle.smithy_json_codec.proofs.OpenersLemmas.{OpensInAll}
+use Rattle.smithy_json_codec.proofs.skip.container_end.Given as goal
+
+-- the value ends where what is left ends: the open containers, and a value first where one is due;
+-- and its bytes open as many brackets at once as are open here, together with those to come
+abbrev pub invariant-loop-due : goal.invariant-loop-due
+invariant-loop-due l = record {
+  within : l.at ≤ length l.input;
+  room : length l.is_object ≡ 512;
+  shallow : l.depth + l.open ≤ l.max_depth;
+  way : IsOnTheWay l.max_depth l.depth (stack_of l.is_object l.open) l.due l.entered l.input l.fn.at l.at;
+  opens : OpensInAll l.input l.fn.at l.open l.at;
+}
+
+-- each step goes ahead, but that to the first element of a list, where a value is due then
+abbrev pub decreases-loop-due : goal.decreases-loop-due
+decreases-loop-due l = 2 * (length l.input - l.at) + cond l.due 0 1

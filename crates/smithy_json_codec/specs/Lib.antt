@@ -1,0 +1,17 @@
+-- to be believed, in this order
+pub mod Settings
+pub mod Meaning
+pub mod Spelling
+pub mod Canonical
+pub mod Openers
+-- for contracts
+pub mod Codec
+pub mod Cursor
+pub mod Standing
+pub mod Writing
+pub mod Serializing
+-- the laws of reading, and that the calls of writing nest
+pub mod Laws
+pub mod Nesting
+-- for private clauses, and for the laws
+pub mod Private

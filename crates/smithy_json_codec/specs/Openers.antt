@@ -1,0 +1,35 @@
+-- How many arrays and objects are open at once, by the bytes alone, which needn't be a JSON text.
+use Rattle.std.specs.Prelude.{ℕ, suc, ◌-◌, List, [], ◌∷◌, ◌==◌, ◌||◌, if◌then◌else◌}
+use Rattle.smithy_json.specs.Ascii.{quotation_mark, escape, begin_array, end_array, begin_object, end_object}
+
+-- where a byte stands: outside a string, inside one, or inside one behind a backslash
+pub data Where : Type 0 where
+  outside : Where
+  inside : Where
+  after_escape : Where
+
+-- where the byte behind this one stands
+abbrev pub where_next : Where → ℕ → Where
+where_next outside b = if b == quotation_mark then inside else outside
+where_next inside b =
+    if b == quotation_mark then outside else (if b == escape then after_escape else inside)
+where_next after_escape b = inside
+
+-- How far the count of open brackets rises from before this byte on, where it rises so far from behind
+-- the byte on. Outside a string the byte may add one or take one away. A rise is never below 0, since
+-- the count that it starts from is among those that it is the greatest of.
+abbrev pub rise_with : Where → ℕ → ℕ → ℕ
+rise_with outside b rise =
+    if b == begin_object || b == begin_array then suc rise
+    else (if b == end_object || b == end_array then rise - 1 else rise)
+rise_with inside b rise = rise
+rise_with after_escape b rise = rise
+
+-- how far the count of open brackets rises in these bytes above what it is before them
+abbrev pub greatest_rise : Where → List ℕ → ℕ
+greatest_rise at [] = 0
+greatest_rise at (b ∷ bytes) = rise_with at b (greatest_rise (where_next at b) bytes)
+
+-- the greatest count that is reached, from 0 and outside a string on; it may fall below 0 in between
+abbrev pub json_openers : List ℕ → ℕ
+json_openers bytes = greatest_rise outside bytes

@@ -1,0 +1,52 @@
+-- A value that is skipped, and what is open on the way through it.
+use Rattle.std.specs.Prelude.{◌≡◌, ◌≤◌, ◌+◌, ℕ, List, Bool, true, false, Option, Some, None}
+use Rattle.smithy_json.specs.Ascii.{begin_array, begin_object, end_array, end_object}
+use Rattle.smithy_json.specs.Tree.{Json, nesting}
+use Rattle.smithy_json_codec.specs.declared.places.InList.{InList}
+use Rattle.smithy_json_codec.specs.declared.places.InList.TheVariants.{Element, End}
+use Rattle.smithy_json_codec.specs.declared.skip.Front.{Front}
+use Rattle.smithy_json_codec.specs.declared.skip.Front.TheVariants.{Container, Scalar}
+use Rattle.smithy_json_codec.specs.Standing.{Lies, IsByte, Names, TreeLies}
+use Rattle.smithy_json_codec.specs.Private.GoingOn.{ElementBegins, ClosesBy}
+
+-- from at to e lies a value inside so many containers, and it goes no deeper than the greatest depth
+pub record SkipsTo (greatest depth : ℕ) (input : List ℕ) (at e : ℕ) : Type 0 where
+  pub tree : Json
+  pub lies : TreeLies depth tree input at e
+  pub shallow : depth + nesting tree ≤ greatest
+
+-- the value there is no container
+pub record ScalarLies (input : List ℕ) (at e : ℕ) : Type 0 where
+  pub tree : Json
+  pub lies : TreeLies 1 tree input at e
+  pub flat : nesting tree ≡ 0
+
+abbrev pub NoValueLies : List ℕ → ℕ → Type 0
+NoValueLies input at = (depth : ℕ) (tree : Json) (e : ℕ) → TreeLies depth tree input at e → ⊥
+
+-- the brackets of an object or of an array
+abbrev pub opening : Bool → ℕ
+opening true = begin_object
+opening false = begin_array
+
+abbrev pub closing : Bool → ℕ
+closing true = end_object
+closing false = end_array
+
+-- how the value begins that lies there
+abbrev pub Fronts : List ℕ → ℕ → Option Front → Type 0
+Fronts input at (Some (Container is_object inside)) = Lies (IsByte (opening is_object)) input at inside
+Fronts input at (Some (Scalar e)) = ScalarLies input at e
+Fronts input at None = NoValueLies input at
+
+-- another value is due at c
+abbrev pub ValueBegins : List ℕ → ℕ → Bool → Bool → ℕ → Type 0
+ValueBegins input at true entered c = (raw : List ℕ) × Names entered input at raw c
+ValueBegins input at false entered c = ElementBegins input at entered c
+
+-- how an object or an array goes on, exactly
+abbrev pub GoesOnInside : List ℕ → ℕ → Bool → Bool → ℕ → Option InList → Type 0
+GoesOnInside input at is_object entered depth (Some (Element c)) = ValueBegins input at is_object entered c
+GoesOnInside input at is_object entered depth (Some (End e)) = ClosesBy (closing is_object) input at depth e
+GoesOnInside input at is_object entered depth None =
+    ((c : ℕ) → ValueBegins input at is_object entered c → ⊥) × ((e : ℕ) → ClosesBy (closing is_object) input at depth e → ⊥)

@@ -1,0 +1,32 @@
+-- What the meaning of a tree depends on beside its table and place.
+use Rattle.std.specs.Prelude.{ℕ, nat_le, List, Bool, true, if◌then◌else◌}
+use Rattle.smithy_schema.specs.declared.shape_type.TimestampFormat.{TimestampFormat}
+use Rattle.smithy_schema.specs.Table.{Member, json_name_of}
+
+-- the limits on depth and on the size of numbers are kept, or lifted
+pub data Limits : Type 0 where
+  kept : Limits
+  lifted : Limits
+
+pub record Settings : Type 0 where
+  -- members go by their JSON names, where they have one
+  pub use_json_name : Bool
+  pub max_depth : ℕ
+  -- of instants at a place without one
+  pub default_timestamp_format : TimestampFormat
+  pub limits : Limits
+
+abbrev pub without_limits : Settings → Settings
+without_limits c = record c { limits = lifted }
+
+abbrev pub is_within : Limits → ℕ → ℕ → Bool
+is_within kept greatest depth = nat_le depth greatest
+is_within lifted greatest depth = true
+
+-- what counts may stand at this depth
+abbrev pub is_shallow : Settings → ℕ → Bool
+is_shallow c depth = is_within c.limits c.max_depth depth
+
+-- the name by which a member goes
+abbrev pub name_of : Settings → Member → List ℕ
+name_of c m = if c.use_json_name then json_name_of m else m.name

@@ -1,0 +1,62 @@
+//! The settings under which bodies are read and written.
+ghost use Rattle.std.specs.Prelude.{◌≤◌};
+
+use crate::deserializer::JsonDeserializer;
+use crate::serializer::JsonSerializer;
+use smithy_schema::TimestampFormat;
+use std::alloc::Global;
+
+/// The greatest depth of containers of the codecs that are made here.
+const MAX_DEPTH: u32 = 128;
+
+/// Reads and writes bodies under its settings.
+#[derive(Debug, Drop)]
+pub struct JsonCodec {
+    pub(crate) use_json_name: bool,
+    pub(crate) max_depth: u32,
+    pub(crate) default_timestamp_format: TimestampFormat,
+    ghost greatest: { max_depth ≤ 512 },
+}
+
+impl JsonCodec {
+    ghost use Rattle.std.specs.Prelude.{◌≡◌, false};
+    ghost use Rattle.smithy_json_codec.specs.Codec.{settings_of, strict_settings};
+    ghost use Rattle.smithy_json_codec.specs.Cursor.{cursor_of, reading_settings_of, fresh_cursor};
+    ghost use Rattle.smithy_json_codec.specs.Serializing.{state_of, has_failed};
+    ghost use Rattle.smithy_json_codec.specs.Writing.{fresh_state};
+
+    /// A codec that reads RFC 8259 to the letter, to a depth of 128 containers. Members go by their JSON
+    /// names where `use_json_name` is set and a name is given, and instants without a form are epoch
+    /// seconds.
+    pub fn strict(use_json_name: bool) -> JsonCodec
+        ensures { settings_of result ≡ strict_settings use_json_name }
+    {
+        JsonCodec {
+            use_json_name,
+            max_depth: MAX_DEPTH,
+            default_timestamp_format: TimestampFormat::EpochSeconds,
+        }
+    }
+
+    /// A serializer that has written nothing yet. It takes no memory.
+    pub fn create_serializer(&self, alloc: Global) -> JsonSerializer<'_>
+        ensures state { state_of result ≡ fresh_state (settings_of self.now).use_json_name }
+        ensures sound { has_failed result ≡ false }
+    {
+        JsonSerializer::new(self, alloc)
+    }
+
+    /// A reader of one input, of which nothing is read yet. It takes no memory.
+    pub fn create_deserializer<'a>(&self, alloc: Global, input: &'a [u8]) -> JsonDeserializer<'a>
+        ensures settings { reading_settings_of result ≡ settings_of self.now }
+        ensures fresh { cursor_of result ≡ fresh_cursor input.now }
+    {
+        JsonDeserializer::new(
+            input,
+            alloc,
+            self.use_json_name,
+            self.max_depth as usize,
+            self.default_timestamp_format,
+        )
+    }
+}

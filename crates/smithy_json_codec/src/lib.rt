@@ -1,0 +1,15 @@
+//! The JSON wire: a reader and a serializer that a schema directs (RFC 8259).
+#![tactic(auto)]
+
+mod codec;
+mod deserializer;
+mod members;
+mod places;
+mod serializer;
+mod skip;
+mod texts;
+mod values;
+
+pub use codec::JsonCodec;
+pub use deserializer::JsonDeserializer;
+pub use serializer::JsonSerializer;

@@ -1,0 +1,146 @@
+//! Bodies that are written call by call.
+
+use crate::JsonCodec;
+use smithy_schema::{FinishSerializer, Schema, SerdeError, ShapeSerializer, Shapes, TableText};
+use std::alloc::Global;
+use std::test::Fail;
+
+const TABLE: &[u8] = b"structure S
+member a long
+member b long
+";
+
+// Where a call's schema comes from: the structure, or a member of it.
+#[derive(Clone, Copy)]
+enum At {
+    Whole,
+    Member(u32),
+}
+
+#[derive(Clone, Copy)]
+enum Call {
+    BeginStruct(At),
+    EndStruct,
+    BeginList(At),
+    EndList,
+    Null(At),
+    Long(At, i64),
+    Text(At, &'static str),
+    Fail,
+}
+
+use At::{Member, Whole};
+use Call::{BeginList, BeginStruct, EndList, EndStruct, Long, Null, Text};
+
+#[derive(Clone, Copy)]
+struct Row {
+    name: &'static str,
+    calls: &'static [Call],
+    answer: Result<&'static str, SerdeError>,
+}
+
+const ROWS: [Row; 8] = [
+    Row {
+        name: "a structure without members",
+        calls: &[BeginStruct(Whole), EndStruct],
+        answer: Ok("{}"),
+    },
+    Row {
+        name: "members by their names, with a comma between two",
+        calls: &[
+            BeginStruct(Whole),
+            Long(Member(0), -9223372036854775808),
+            Null(Member(1)),
+            EndStruct,
+        ],
+        answer: Ok("{\"a\":-9223372036854775808,\"b\":null}"),
+    },
+    Row {
+        name: "a list of a text and a structure, without names",
+        calls: &[
+            BeginList(Whole),
+            Text(Whole, "\"\u{1f}"),
+            BeginStruct(Whole),
+            EndStruct,
+            EndList,
+        ],
+        answer: Ok("[\"\\\"\\u001f\",{}]"),
+    },
+    Row {
+        name: "nothing at all",
+        calls: &[],
+        answer: Ok(""),
+    },
+    Row {
+        name: "the end of a list where a structure is open",
+        calls: &[BeginStruct(Whole), EndList],
+        answer: Err(SerdeError::Unwritable),
+    },
+    Row {
+        name: "an end where nothing is open",
+        calls: &[EndStruct],
+        answer: Err(SerdeError::Unwritable),
+    },
+    Row {
+        name: "the body is asked for while a structure is open",
+        calls: &[BeginStruct(Whole)],
+        answer: Err(SerdeError::Unwritable),
+    },
+    Row {
+        name: "any call of a serializer that failed",
+        calls: &[Call::Fail, BeginStruct(Whole)],
+        answer: Err(SerdeError::Failed),
+    },
+];
+
+fn schema(shapes: &Shapes, at: At) -> Result<Schema<'_>, SerdeError> {
+    let root = shapes.find("S").ok_or(SerdeError::InvalidInput)?;
+    let whole = shapes.schema(root);
+    match at {
+        Whole => Ok(whole),
+        Member(position) => whole.member_at(position).ok_or(SerdeError::InvalidInput),
+    }
+}
+
+fn make<S: ShapeSerializer>(sink: &mut S, shapes: &Shapes, call: Call) -> Result<(), SerdeError> {
+    match call {
+        BeginStruct(at) => sink.begin_struct(&schema(shapes, at)?),
+        EndStruct => sink.end_struct(),
+        BeginList(at) => sink.begin_list(&schema(shapes, at)?, None),
+        EndList => sink.end_list(),
+        Null(at) => sink.write_null(&schema(shapes, at)?),
+        Long(at, number) => sink.write_long(&schema(shapes, at)?, number),
+        Text(at, text) => sink.write_string(&schema(shapes, at)?, text),
+        Call::Fail => {
+            sink.fail();
+            Ok(())
+        }
+    }
+}
+
+fn written(alloc: Global, shapes: &Shapes, row: &Row) -> Result<Vec<u8>, SerdeError> {
+    let codec = JsonCodec::strict(false);
+    let mut sink = codec.create_serializer(alloc);
+    for call in row.calls {
+        make(&mut sink, shapes, *call)?;
+    }
+    sink.finish()
+}
+
+#[test]
+fn bodies_are_written_as_the_calls_say(rt: HostRuntime) -> Result<(), Fail> {
+    let shapes = Shapes::build(rt.alloc(), TableText::read(rt.alloc(), TABLE)?)?;
+    for row in &ROWS {
+        match (written(rt.alloc(), &shapes, row), row.answer) {
+            (Ok(body), Ok(text)) => assert_eq!(rt;
+                body.as_slice(),
+                text.as_bytes(),
+                "{}",
+                row.name
+            ),
+            (Err(error), Err(expected)) => assert_eq!(rt; error, expected, "{}", row.name),
+            _ => assert!(rt; false, "{}", row.name),
+        }
+    }
+    Ok(())
+}
