@@ -1,0 +1,3 @@
+mod StandardFacts
+pub mod HeadFacts
+pub mod Types

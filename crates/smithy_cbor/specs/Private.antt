@@ -1,0 +1,2 @@
+-- Words that private clauses cite.
+pub mod Number
