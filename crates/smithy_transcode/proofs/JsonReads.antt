@@ -1,0 +1,60 @@
+-- What a fresh JSON reader reads at the start of an input, as what the whole input spells.
+use Rattle.std.proofs.Common.{◌≡◌, ℕ, List, Bool, [], ◌∷◌, ◌<◌, ◌≤◌, ◌+◌, length, Result, Ok, Err, inr, refl, arith, subst}
+use Rattle.std.specs.Result.{IfOk, IfErr, IsErrOf}
+use Rattle.smithy_schema.specs.declared.place.Place.{Place}
+use Rattle.smithy_schema.specs.Table.{Table, kind_of, IsStructure}
+use Rattle.smithy_schema.specs.Value.{Value, structure, no_member_values}
+use Rattle.smithy_schema.specs.Fits.{Fits}
+use Rattle.smithy_schema.specs.Reading.{Cursor, Reads, StandsNot, ReachesDepth}
+use Rattle.smithy_json_codec.specs.Codec.{strict_settings}
+use Rattle.smithy_json_codec.specs.Openers.{json_openers}
+use Rattle.smithy_json_codec.specs.Cursor.{fresh_cursor}
+use Rattle.smithy_json_codec.specs.Laws.{lawful}
+use Rattle.smithy_json_codec.specs.Settings.{Settings}
+use Rattle.smithy_json_codec.specs.Spelling.{json_spells}
+use Rattle.smithy_json_codec.specs.Standing.{json_relations}
+use Rattle.smithy_transcode.specs.declared.wire.TranscodeError.{TranscodeError}
+use Rattle.smithy_transcode.specs.declared.wire.TranscodeError.TheVariants.{TooDeep, NoMemory}
+use Rattle.smithy_json_codec.proofs.SpellingLemmas.{stands_spells, spells_stands, structure_is_container}
+
+pub mapped_ok : {A E : Type 0} (r : Result A E) (P Q : A → Type 0) → ((x : A) → P x → Q x) → IfOk r P → IfOk r Q
+mapped_ok (Ok x) P Q f h = f x h
+mapped_ok (Err e) P Q f h = tt
+
+pub mapped_err : {A E : Type 0} (r : Result A E) (P Q : E → Type 0) → ((x : E) → P x → Q x) → IfErr r P → IfErr r Q
+mapped_err (Ok x) P Q f h = tt
+mapped_err (Err e) P Q f h = f e h
+
+module _ (o c : Settings) (same : o ≡ c) (input : List ℕ) (old : Cursor) (fresh : old ≡ fresh_cursor input) (t : Table) (p : Place) (kind : IsStructure (kind_of t p)) where
+  read_stands : (new : Cursor) (v : Value) → Reads (json_relations o) old new t p v → (json_relations c).stands input t p 0 0 v new.at
+  read_stands new v h =
+      let r : Reads (json_relations c) (fresh_cursor input) new t p v = rw (same, fresh) at h in r.stands
+
+  -- what was read is what the input spells
+  pub read_spells : (new : Cursor) (v : Value) → Reads (json_relations o) old new t p v → json_spells c t p input v
+  read_spells new v h = stands_spells c t p input v new.at (structure_is_container (kind_of t p) kind) (read_stands new v h)
+
+  -- and it is one of the place
+  pub read_fits : (new : Cursor) (v : Value) → Reads (json_relations o) old new t p v → Fits t p v
+  read_fits new v h = (lawful c).fits input t p 0 0 v new.at (read_stands new v h)
+
+  -- where nothing stands, the input spells nothing
+  pub unread_spells : StandsNot (json_relations o) old t p → (v : Value) → json_spells c t p input v → ⊥
+  unread_spells none v spells =
+      let r : StandsNot (json_relations c) (fresh_cursor input) t p = rw (same, fresh) at none in
+      let s = spells_stands c t p input v spells in
+      r v s.0 s.1
+
+-- a body that is too deep opens 128 brackets at once: an empty one spells the structure without members
+pub deep_openers : {A : Type 0} (use_json_name : Bool) (o : Settings) → o ≡ strict_settings use_json_name → (input : List ℕ) (old : Cursor) → old ≡ fresh_cursor input
+    → (t : Table) (p : Place) → IsStructure (kind_of t p) → (r : Result A TranscodeError)
+    → IfErr r (λ e. (e ≡ NoMemory → ⊥) → (v : Value) → json_spells (strict_settings use_json_name) t p input v → ⊥)
+    → (IsErrOf r TooDeep → 0 < length old.input → ReachesDepth (json_relations o) o.max_depth old) → IsErrOf r TooDeep → 128 ≤ json_openers input
+deep_openers use_json_name o same [] old fresh t p kind r refused reaches deep =
+    let why = subst (λ r. IfErr r (λ e. (e ≡ NoMemory → ⊥) → (v : Value) → json_spells (strict_settings use_json_name) t p [] v → ⊥)) deep refused in
+    absurd (why (λ memory. cc) (structure no_member_values) (inr (refl, kind, refl, refl)))
+deep_openers use_json_name o same (b ∷ bytes) old fresh t p kind r refused reaches deep =
+    let some : 0 < length old.input = rw fresh (omega arith) in
+    let far : ReachesDepth (json_relations (strict_settings use_json_name)) 128 (fresh_cursor (b ∷ bytes)) = rw (same, fresh) at (reaches deep some) in
+    let opened : 128 ≤ 0 + json_openers (b ∷ bytes) = far in
+    omega (arith, opened)

@@ -1,0 +1,83 @@
+-- A list that is written in part.
+use denote.Param.Weighed.{most, at_most}
+use Rattle.std.proofs.Common.{◌≡◌, ◌<◌, ◌≤◌, ◌+◌, ℕ, suc, List, [], ◌∷◌, ◌++◌, Some, None, option_map, Ok, Err, Bool, true, length, drop, get_or, refl, sym, ◌∙◌, ap, append_assoc, subst, add-one, drop-cons}
+use Rattle.std.specs.Option.{option_map_or}
+use Rattle.smithy_schema.specs.declared.error.SerdeError.{SerdeError}
+use Rattle.smithy_schema.specs.declared.place.Place.{Place}
+use Rattle.smithy_schema.specs.Table.{Table, Kind, scalar, structure_of, list_of, nothing, list_shape_of, place_in}
+use Rattle.smithy_schema.specs.Site.{Site, kind_at, element_site, nameless_site, site_of_element}
+use Rattle.smithy_schema.specs.Fits.{FitsOr, ElementsFit}
+use Rattle.smithy_schema.specs.Value.{Value, whole, text, list, structure, null_element, values_of}
+use Rattle.smithy_schema.specs.Writing.{Event, Writer, write, run, count_of, element_of, element_events, begin_list, end_list}
+use Rattle.smithy_transcode.specs.declared.value.Value as kept
+use Rattle.smithy_transcode.specs.View.{view, view_elements}
+use Rattle.smithy_schema.proofs.WritingLemmas.{call_made, call_refused, child_written, child_refused}
+
+-- the calls for what is left of a list
+abbrev pub list_rest : Site → List kept.Value → List Event
+list_rest site vs = element_events (element_of site) (values_of (view_elements vs)) ++ end_list ∷ []
+
+count-elements : (vs : List kept.Value) → count_of (values_of (view_elements vs)) ≡ length vs
+count-elements [] = refl
+count-elements (v ∷ vs) = ap suc (count-elements vs)
+
+pub list_begun : {S : Type 0} (after : Writer S) (site : Site) (vs : List kept.Value) (n : ℕ) (s t : S)
+    → n ≡ length vs → after (begin_list site (Some n)) s ≡ Ok t
+    → write after site (list (values_of (view_elements vs))) s ≡ run after (list_rest site vs) t
+list_begun after site vs n s t told begun = call_made after _ _ s t (rw (count-elements vs, ← told) begun)
+
+pub list_refused : {S : Type 0} (after : Writer S) (site : Site) (vs : List kept.Value) (n : ℕ) (s : S) (e : SerdeError)
+    → n ≡ length vs → after (begin_list site (Some n)) s ≡ Err e
+    → write after site (list (values_of (view_elements vs))) s ≡ Err e
+list_refused after site vs n s e told refused = call_refused after _ _ s e (rw (count-elements vs, ← told) refused)
+
+pub next_element : (vs : List kept.Value) (i : ℕ) (v : kept.Value) → i < length vs → v ≡ get_or vs i v → drop i vs ≡ v ∷ drop (i + 1) vs
+next_element vs i v within is = rw (drop-cons vs i v within, ← is, add-one) refl
+
+-- the schema of the elements, which is handed to each
+pub element_site_is : (site : Site) (member : Site) (child : Site) → Some member ≡ element_site site → child ≡ nameless_site member → child ≡ element_of site
+element_site_is site member child found is = is ∙ ap (λ m. option_map_or nameless_site m site) found
+
+pub element_written : {S : Type 0} (after : Writer S) (site : Site) (v : kept.Value) (vs ws : List kept.Value) (s t : S)
+    → vs ≡ v ∷ ws → write after (element_of site) (view v) s ≡ Ok t → run after (list_rest site vs) s ≡ run after (list_rest site ws) t
+element_written after site v vs ws s t is written = rw (is, append_assoc) (child_written after _ _ s t written)
+
+pub element_refused : {S : Type 0} (after : Writer S) (site : Site) (v : kept.Value) (vs ws : List kept.Value) (s : S) (e : SerdeError)
+    → vs ≡ v ∷ ws → write after (element_of site) (view v) s ≡ Err e → run after (list_rest site vs) s ≡ Err e
+element_refused after site v vs ws s e is refused = rw (is, append_assoc) (child_refused after _ _ s e refused)
+
+-- the place of the elements
+element_place : (table : Table) (kind : Kind) (member : Site) (place : Place) → Some member ≡ option_map (site_of_element table) (list_shape_of kind) → place_in kind None ≡ Some place
+    → (member.table ≡ table) × (member.place ≡ place)
+element_place table (scalar s) member place found is = absurd (let none : Some member ≡ None = found in cc)
+element_place table (structure_of ms) member place found is = absurd (let none : Some member ≡ None = found in cc)
+element_place table (list_of l) member place found is =
+    let same : member ≡ site_of_element table l = cc in
+    let there : l.place ≡ place = cc in
+    (ap (λ (s : Site). s.table) same, ap (λ (s : Site). s.place) same ∙ there)
+element_place table nothing member place found is = absurd (let none : Some member ≡ None = found in cc)
+
+-- a value of the place stands also where a null may stand
+pub fits_or_null : (table : Table) (place : Place) (nulls : Bool) (v : Value) → FitsOr table place nulls v → FitsOr table place true v
+fits_or_null table place nulls (whole n) fits = fits
+fits_or_null table place nulls (text s) fits = fits
+fits_or_null table place nulls (list vs) fits = fits
+fits_or_null table place nulls (structure ms) fits = fits
+fits_or_null table place nulls null_element fits = refl
+
+pub element_fits : (site member child : Site) (v : kept.Value) (vs ws : List kept.Value) → Some member ≡ element_site site → child ≡ nameless_site member → vs ≡ v ∷ ws
+    → ElementsFit site.table (kind_at site) (values_of (view_elements vs)) → FitsOr child.table child.place true (view v)
+element_fits site member child v vs ws found is next fits =
+    let (place, there, fit) = (rw next at fits).0 in
+    let same = element_place site.table (kind_at site) member place found there in
+    rw (is, same.0, same.1) (fits_or_null _ _ _ _ fit)
+
+pub rest_fits : (site : Site) (v : kept.Value) (vs ws : List kept.Value) → vs ≡ v ∷ ws
+    → ElementsFit site.table (kind_at site) (values_of (view_elements vs)) → ElementsFit site.table (kind_at site) (values_of (view_elements ws))
+rest_fits site v vs ws next fits = (rw next at fits).1
+
+-- no element is larger than the largest
+pub element_size : (size : kept.Value → ℕ) (vs : List kept.Value) (i : ℕ) (v : kept.Value) → i < length vs → v ≡ get_or vs i v → size v ≤ most size vs
+element_size size vs i v within is =
+    let IsSmall : kept.Value → Type 0 = λ w. size w ≤ most size vs in
+    subst IsSmall (sym is) (at_most size vs i v within)

@@ -1,0 +1,36 @@
+-- A structure that is written in part.
+use Rattle.std.proofs.Common.{◌≡◌, ℕ, List, [], ◌∷◌, ◌++◌, Some, Ok, Err, ap, append_assoc}
+use Rattle.std.specs.Prelude.{unwrap_or}
+use Rattle.smithy_schema.specs.declared.error.SerdeError.{SerdeError}
+use Rattle.smithy_schema.specs.Site.{Site, kind_at, member_site}
+use Rattle.smithy_schema.specs.Fits.{MembersFit}
+use Rattle.smithy_schema.specs.Value.{structure}
+use Rattle.smithy_schema.specs.Writing.{Event, Writer, write, run, member_of, member_events, begin_structure, end_structure}
+use Rattle.smithy_transcode.specs.declared.value.Value as kept
+use Rattle.smithy_transcode.specs.View.{view, view_members}
+use Rattle.smithy_schema.proofs.WritingLemmas.{call_made, child_written, child_refused}
+
+-- the calls for what is left of a structure
+abbrev pub structure_rest : Site → List (ℕ × kept.Value) → List Event
+structure_rest site ms = member_events site (view_members ms) ++ end_structure ∷ []
+
+pub structure_begun : {S : Type 0} (after : Writer S) (site : Site) (ms : List (ℕ × kept.Value)) (s t : S)
+    → after (begin_structure site) s ≡ Ok t
+    → write after site (structure (view_members ms)) s ≡ run after (structure_rest site ms) t
+structure_begun after site ms s t begun = call_made after _ _ s t begun
+
+-- the schema that is handed to a member
+pub member_site_is : (site : Site) (n : ℕ) (member : Site) → Some member ≡ member_site site n → member ≡ member_of site n
+member_site_is site n member found = ap (λ m. unwrap_or m site) found
+
+pub member_written : {S : Type 0} (after : Writer S) (site : Site) (n : ℕ) (v : kept.Value) (ms rest : List (ℕ × kept.Value)) (s t : S)
+    → ms ≡ (n, v) ∷ rest → write after (member_of site n) (view v) s ≡ Ok t → run after (structure_rest site ms) s ≡ run after (structure_rest site rest) t
+member_written after site n v ms rest s t is written = rw (is, append_assoc) (child_written after _ _ s t written)
+
+pub member_refused : {S : Type 0} (after : Writer S) (site : Site) (n : ℕ) (v : kept.Value) (ms rest : List (ℕ × kept.Value)) (s : S) (e : SerdeError)
+    → ms ≡ (n, v) ∷ rest → write after (member_of site n) (view v) s ≡ Err e → run after (structure_rest site ms) s ≡ Err e
+member_refused after site n v ms rest s e is refused = rw (is, append_assoc) (child_refused after _ _ s e refused)
+
+pub rest_fits : (site : Site) (n : ℕ) (v : kept.Value) (ms rest : List (ℕ × kept.Value)) → ms ≡ (n, v) ∷ rest
+    → MembersFit site.table (kind_at site) (view_members ms) → MembersFit site.table (kind_at site) (view_members rest)
+rest_fits site n v ms rest is fits = (rw is at fits).1

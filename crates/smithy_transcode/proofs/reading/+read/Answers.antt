@@ -1,0 +1,420 @@
+use Rattle.std.proofs.Common.{None, Some, false, refl, rules, sym, true, ◌∙◌, ◌≡◌}
+use Rattle.std.proofs.lemmas.Result.{err_from_is_err_and}
+use Rattle.smithy_schema.specs.Site.{site_of}
+use Rattle.smithy_schema.specs.Reading.{child_value, child_null, child_unknown}
+use Rattle.smithy_transcode.specs.View.{view}
+use Rattle.smithy_transcode.specs.declared.value.Value.TheViews.{made-Null}
+use Rattle.smithy_transcode.proofs.ReadContainers.{itself, left_falls, end, stuck}
+use Rattle.smithy_transcode.proofs.ReadStructures.{member_child, member_read, unknown_skipped, member_refused, unknown_refused}
+use Rattle.smithy_transcode.proofs.ReadLists.{begin_list, element_read, null_read, element_refused, null_refused, element_place}
+use Rattle.smithy_transcode.proofs.ReadViews.{view_elements-push}
+use Rattle.smithy_transcode.proofs.Views.{view-Structure, view-List, view-Null}
+use Rattle.smithy_transcode.proofs.reading.+read.Goals as goal
+use Rattle.smithy_transcode.proofs.reading.+read.Goals.{read_list-else-sparse-via-then-sparse+else-is_null, read_list-else-sparse-via-else-sparse}
+
+-- a member was read
+pub read_structure-loop-members-preserved-in-Continue-branch-5 : goal.read_structure-loop-members-preserved-in-Continue-branch-5
+read_structure-loop-members-preserved-in-Continue-branch-5 g t c =
+    let d = g.met.D.ShapeDeserializer in
+    let s0 = g.D.ShapeDeserializer.settings c.args.source.now in
+    let laws = d.lawful s0 in
+    let over = d.lifted_lawful s0 in
+    let above = d.above s0 in
+    let same = itself (g.D.ShapeDeserializer.wire s0) in
+    let outer = site_of c.args.schema.now in
+    let inside = c.loop-members.invariant.inside in
+    let would = c.loop-members.invariant.would in
+    let step = rw (c.in-Member.is, c.loop-members.invariant.same) at (c.in_ok-member.ensures.ok inside.due) in
+    let reads = rw (c.next_member.ensures.same, c.loop-members.invariant.same) at c.in_ok-value-in-Member.ensures.ok in
+    record {
+      same = search rules;
+      inside = rw c.in_ok-set_member-in-Member.ensures.ok (member_read _ _ _ laws laws same _ _ _ _ outer c.in-Member.member _ c.in-Some.index _ inside step (sym c.in-Some.ensures) reads);
+      would = rw c.in_ok-set_member-in-Member.ensures.ok (member_read _ _ _ laws over above _ _ _ _ outer c.in-Member.member _ c.in-Some.index _ would step (sym c.in-Some.ensures) reads);
+    }
+
+-- an unknown entry was skipped
+pub read_structure-loop-members-preserved : goal.read_structure-loop-members-preserved
+read_structure-loop-members-preserved g t c =
+    let d = g.met.D.ShapeDeserializer in
+    let s0 = g.D.ShapeDeserializer.settings c.args.source.now in
+    let laws = d.lawful s0 in
+    let over = d.lifted_lawful s0 in
+    let above = d.above s0 in
+    let same = itself (g.D.ShapeDeserializer.wire s0) in
+    let outer = site_of c.args.schema.now in
+    let inside = c.loop-members.invariant.inside in
+    let would = c.loop-members.invariant.would in
+    let step = rw (c.in-Unknown.is, c.loop-members.invariant.same) at (c.in_ok-member.ensures.ok inside.due) in
+    let skips = rw (c.next_member.ensures.same, c.loop-members.invariant.same) at c.in_ok-skip_value-in-Unknown.ensures.ok in
+    record {
+      same = search rules;
+      inside = unknown_skipped _ _ _ laws laws same _ _ _ _ outer _ c.requires.place inside step skips c.in_ok-skip_value-in-Unknown.ensures.passes;
+      would = unknown_skipped _ _ _ laws over above _ _ _ _ outer _ c.requires.place would step skips c.in_ok-skip_value-in-Unknown.ensures.passes;
+    }
+
+-- the structure ended
+pub read_structure-returns-in-End-clause-ok : goal.read_structure-returns-in-End-clause-ok
+read_structure-returns-in-End-clause-ok g t c =
+    let d = g.met.D.ShapeDeserializer in
+    let s0 = g.D.ShapeDeserializer.settings c.args.source.now in
+    let laws = d.lawful s0 in
+    let over = d.lifted_lawful s0 in
+    let above = d.above s0 in
+    let same = itself (g.D.ShapeDeserializer.wire s0) in
+    let outer = site_of c.args.schema.now in
+    let inside = c.loop-members.invariant.inside in
+    let would = c.loop-members.invariant.would in
+    rw (view-Structure c.loop-members.members)
+    (end _ _ _ _ _ _ _ _ _ _ _ inside (rw (c.in-End.is, c.loop-members.invariant.same) at (c.in_ok-member.ensures.ok inside.due)) refl)
+
+-- the structure can not go on
+pub read_structure-returns-in_err-member-clause-refused : goal.read_structure-returns-in_err-member-clause-refused
+read_structure-returns-in_err-member-clause-refused g t c =
+    let d = g.met.D.ShapeDeserializer in
+    let s0 = g.D.ShapeDeserializer.settings c.args.source.now in
+    let laws = d.lawful s0 in
+    let over = d.lifted_lawful s0 in
+    let above = d.above s0 in
+    let same = itself (g.D.ShapeDeserializer.wire s0) in
+    let outer = site_of c.args.schema.now in
+    let inside = c.loop-members.invariant.inside in
+    let would = c.loop-members.invariant.would in
+    let p = err_from_is_err_and c.from_residual-in_err-member.result c.from_residual-in_err-member.ensures.1 in
+    rw (p.1, p.2)
+    (λ refused. stuck _ _ _ _ _ _ _ _ _ inside (rw c.loop-members.invariant.same at (c.in_err-member.ensures.refused refused inside.due)))
+
+pub read_structure-returns-in_err-member-clause-would : goal.read_structure-returns-in_err-member-clause-would
+read_structure-returns-in_err-member-clause-would g t c =
+    let d = g.met.D.ShapeDeserializer in
+    let s0 = g.D.ShapeDeserializer.settings c.args.source.now in
+    let laws = d.lawful s0 in
+    let over = d.lifted_lawful s0 in
+    let above = d.above s0 in
+    let same = itself (g.D.ShapeDeserializer.wire s0) in
+    let outer = site_of c.args.schema.now in
+    let inside = c.loop-members.invariant.inside in
+    let would = c.loop-members.invariant.would in
+    let p = err_from_is_err_and c.from_residual-in_err-member.result c.from_residual-in_err-member.ensures.1 in
+    rw (p.1, p.2)
+    (λ strict refused. stuck _ _ _ _ _ _ _ _ _ would (rw c.loop-members.invariant.same at (c.in_err-member.ensures.would (rw c.loop-members.invariant.same strict) refused inside.due)))
+
+-- the value of a member was refused
+pub read_structure-returns-in_err-value-in-Member-clause-refused : goal.read_structure-returns-in_err-value-in-Member-clause-refused
+read_structure-returns-in_err-value-in-Member-clause-refused g t c =
+    let d = g.met.D.ShapeDeserializer in
+    let s0 = g.D.ShapeDeserializer.settings c.args.source.now in
+    let laws = d.lawful s0 in
+    let over = d.lifted_lawful s0 in
+    let above = d.above s0 in
+    let same = itself (g.D.ShapeDeserializer.wire s0) in
+    let outer = site_of c.args.schema.now in
+    let inside = c.loop-members.invariant.inside in
+    let would = c.loop-members.invariant.would in
+    let step = rw (c.in-Member.is, c.loop-members.invariant.same) at (c.in_ok-member.ensures.ok inside.due) in
+    let p = err_from_is_err_and c.from_residual-in_err-value-in-Member.result c.from_residual-in_err-value-in-Member.ensures.1 in
+    rw (p.1, p.2)
+    (λ refused. member_refused _ _ _ laws same _ _ _ outer c.in-Member.member _ c.requires.place inside step
+    (rw (c.next_member.ensures.same, c.loop-members.invariant.same) at (c.in_err-value-in-Member.ensures.refused refused)))
+
+pub read_structure-returns-in_err-value-in-Member-clause-would : goal.read_structure-returns-in_err-value-in-Member-clause-would
+read_structure-returns-in_err-value-in-Member-clause-would g t c =
+    let d = g.met.D.ShapeDeserializer in
+    let s0 = g.D.ShapeDeserializer.settings c.args.source.now in
+    let laws = d.lawful s0 in
+    let over = d.lifted_lawful s0 in
+    let above = d.above s0 in
+    let same = itself (g.D.ShapeDeserializer.wire s0) in
+    let outer = site_of c.args.schema.now in
+    let inside = c.loop-members.invariant.inside in
+    let would = c.loop-members.invariant.would in
+    let step = rw (c.in-Member.is, c.loop-members.invariant.same) at (c.in_ok-member.ensures.ok inside.due) in
+    let p = err_from_is_err_and c.from_residual-in_err-value-in-Member.result c.from_residual-in_err-value-in-Member.ensures.1 in
+    rw (p.1, p.2)
+    (λ strict refused. member_refused _ _ _ over above _ _ _ outer c.in-Member.member _ c.requires.place would step
+    (rw (c.next_member.ensures.same, c.loop-members.invariant.same) at (c.in_err-value-in-Member.ensures.would (rw (c.next_member.ensures.same, c.loop-members.invariant.same) strict) refused)))
+
+-- an unknown entry can not be skipped
+pub read_structure-returns-in_err-skip_value-in-Unknown-clause-refused : goal.read_structure-returns-in_err-skip_value-in-Unknown-clause-refused
+read_structure-returns-in_err-skip_value-in-Unknown-clause-refused g t c =
+    let d = g.met.D.ShapeDeserializer in
+    let s0 = g.D.ShapeDeserializer.settings c.args.source.now in
+    let laws = d.lawful s0 in
+    let over = d.lifted_lawful s0 in
+    let above = d.above s0 in
+    let same = itself (g.D.ShapeDeserializer.wire s0) in
+    let outer = site_of c.args.schema.now in
+    let inside = c.loop-members.invariant.inside in
+    let would = c.loop-members.invariant.would in
+    let step = rw (c.in-Unknown.is, c.loop-members.invariant.same) at (c.in_ok-member.ensures.ok inside.due) in
+    let p = err_from_is_err_and c.from_residual-in_err-skip_value-in-Unknown.result c.from_residual-in_err-skip_value-in-Unknown.ensures.1 in
+    rw (p.1, p.2)
+    (λ refused. unknown_refused _ _ _ laws same _ _ _ outer _ c.requires.place inside step
+    (rw (c.next_member.ensures.same, c.loop-members.invariant.same) at (c.in_err-skip_value-in-Unknown.ensures.refused refused step.1.due)))
+
+pub read_structure-returns-in_err-skip_value-in-Unknown-clause-would : goal.read_structure-returns-in_err-skip_value-in-Unknown-clause-would
+read_structure-returns-in_err-skip_value-in-Unknown-clause-would g t c =
+    let d = g.met.D.ShapeDeserializer in
+    let s0 = g.D.ShapeDeserializer.settings c.args.source.now in
+    let laws = d.lawful s0 in
+    let over = d.lifted_lawful s0 in
+    let above = d.above s0 in
+    let same = itself (g.D.ShapeDeserializer.wire s0) in
+    let outer = site_of c.args.schema.now in
+    let inside = c.loop-members.invariant.inside in
+    let would = c.loop-members.invariant.would in
+    let step = rw (c.in-Unknown.is, c.loop-members.invariant.same) at (c.in_ok-member.ensures.ok inside.due) in
+    let p = err_from_is_err_and c.from_residual-in_err-skip_value-in-Unknown.result c.from_residual-in_err-skip_value-in-Unknown.ensures.1 in
+    rw (p.1, p.2)
+    (λ strict refused. unknown_refused _ _ _ over above _ _ _ outer _ c.requires.place would step
+    (rw (c.next_member.ensures.same, c.loop-members.invariant.same) at (c.in_err-skip_value-in-Unknown.ensures.would (rw (c.next_member.ensures.same, c.loop-members.invariant.same) strict) refused step.1.due)))
+
+-- less is left to read
+pub read_structure-loop-members-smaller-in-Continue-branch-5 : goal.read_structure-loop-members-smaller-in-Continue-branch-5
+read_structure-loop-members-smaller-in-Continue-branch-5 g t c =
+    let d = g.met.D.ShapeDeserializer in
+    let s0 = g.D.ShapeDeserializer.settings c.args.source.now in
+    let laws = d.lawful s0 in
+    let over = d.lifted_lawful s0 in
+    let above = d.above s0 in
+    let same = itself (g.D.ShapeDeserializer.wire s0) in
+    let outer = site_of c.args.schema.now in
+    let inside = c.loop-members.invariant.inside in
+    let would = c.loop-members.invariant.would in
+    let step = rw (c.in-Member.is, c.loop-members.invariant.same) at (c.in_ok-member.ensures.ok inside.due) in
+    let reads = rw (c.next_member.ensures.same, c.loop-members.invariant.same) at c.in_ok-value-in-Member.ensures.ok in
+    rw (c.read_value.ensures.same, c.next_member.ensures.same, c.loop-members.invariant.same)
+    (left_falls _ _ _ laws _ _ _ _ _ _ _ _ _ (child_value (Some step.0) (Some c.in-Some.index) (view c.in_ok-value-in-Member.value)) inside step.2
+    (member_child _ _ _ outer c.in-Member.member c.in-Some.index _ _ step (sym c.in-Some.ensures) reads.stands) reads.passes)
+
+pub read_structure-loop-members-smaller : goal.read_structure-loop-members-smaller
+read_structure-loop-members-smaller g t c =
+    let d = g.met.D.ShapeDeserializer in
+    let s0 = g.D.ShapeDeserializer.settings c.args.source.now in
+    let laws = d.lawful s0 in
+    let over = d.lifted_lawful s0 in
+    let above = d.above s0 in
+    let same = itself (g.D.ShapeDeserializer.wire s0) in
+    let outer = site_of c.args.schema.now in
+    let inside = c.loop-members.invariant.inside in
+    let would = c.loop-members.invariant.would in
+    let step = rw (c.in-Unknown.is, c.loop-members.invariant.same) at (c.in_ok-member.ensures.ok inside.due) in
+    let skips = rw (c.next_member.ensures.same, c.loop-members.invariant.same) at c.in_ok-skip_value-in-Unknown.ensures.ok in
+    rw (c.skip_value.ensures.same, c.next_member.ensures.same, c.loop-members.invariant.same)
+    (left_falls _ _ _ laws _ _ _ _ _ _ _ _ _ (child_unknown (Some step.0)) inside step.1 (refl, c.requires.place, step.2, skips) c.in_ok-skip_value-in-Unknown.ensures.passes)
+
+-- the list was entered
+pub read_list-loop-elements-init : goal.read_list-loop-elements-init
+read_list-loop-elements-init g t c =
+    let d = g.met.D.ShapeDeserializer in
+    let s0 = g.D.ShapeDeserializer.settings c.args.source.now in
+    let laws = d.lawful s0 in
+    let over = d.lifted_lawful s0 in
+    let above = d.above s0 in
+    let same = itself (g.D.ShapeDeserializer.wire s0) in
+    record {
+      same = c.open_list.ensures.same;
+      inside = rw c.new-elements.ensures.items (begin_list _ _ _ laws laws same _ _ _ _ c.requires.place c.in_ok-open_list.ensures.ok);
+      would = rw c.new-elements.ensures.items (begin_list _ _ _ laws over above _ _ _ _ c.requires.place c.in_ok-open_list.ensures.ok);
+    }
+
+-- the list can not go on
+pub read_list-returns-in_err-next_element-clause-refused : goal.read_list-returns-in_err-next_element-clause-refused
+read_list-returns-in_err-next_element-clause-refused g t c =
+    let d = g.met.D.ShapeDeserializer in
+    let s0 = g.D.ShapeDeserializer.settings c.args.source.now in
+    let laws = d.lawful s0 in
+    let over = d.lifted_lawful s0 in
+    let above = d.above s0 in
+    let same = itself (g.D.ShapeDeserializer.wire s0) in
+    let inside = c.loop-elements.invariant.inside in
+    let would = c.loop-elements.invariant.would in
+    let p = err_from_is_err_and c.from_residual-in_err-next_element.result c.from_residual-in_err-next_element.ensures.1 in
+    rw (p.1, p.2)
+    (λ refused. stuck _ _ _ _ _ _ _ _ _ inside (rw c.loop-elements.invariant.same at (c.in_err-next_element.ensures.refused refused inside.due c.args.schema.now.shapes.now c.args.schema.now.place c.requires.place)))
+
+pub read_list-returns-in_err-next_element-clause-would : goal.read_list-returns-in_err-next_element-clause-would
+read_list-returns-in_err-next_element-clause-would g t c =
+    let d = g.met.D.ShapeDeserializer in
+    let s0 = g.D.ShapeDeserializer.settings c.args.source.now in
+    let laws = d.lawful s0 in
+    let over = d.lifted_lawful s0 in
+    let above = d.above s0 in
+    let same = itself (g.D.ShapeDeserializer.wire s0) in
+    let inside = c.loop-elements.invariant.inside in
+    let would = c.loop-elements.invariant.would in
+    let p = err_from_is_err_and c.from_residual-in_err-next_element.result c.from_residual-in_err-next_element.ensures.1 in
+    rw (p.1, p.2)
+    (λ strict refused. stuck _ _ _ _ _ _ _ _ _ would (rw c.loop-elements.invariant.same at (c.in_err-next_element.ensures.would (rw c.loop-elements.invariant.same strict) refused inside.due c.args.schema.now.shapes.now c.args.schema.now.place c.requires.place)))
+
+-- a null element was refused
+pub read_list-returns-in_err-read_null-clause-refused : goal.read_list-returns-in_err-read_null-clause-refused
+read_list-returns-in_err-read_null-clause-refused g t c =
+    let d = g.met.D.ShapeDeserializer in
+    let s0 = g.D.ShapeDeserializer.settings c.args.source.now in
+    let laws = d.lawful s0 in
+    let over = d.lifted_lawful s0 in
+    let above = d.above s0 in
+    let same = itself (g.D.ShapeDeserializer.wire s0) in
+    let inside = c.loop-elements.invariant.inside in
+    let would = c.loop-elements.invariant.would in
+    let step = rw (c.if-branch.true, c.loop-elements.invariant.same) at (c.in_ok-next_element.ensures.ok inside.due c.args.schema.now.shapes.now c.args.schema.now.place c.requires.place) in
+    let place = element_place c.args.schema.now c.in-Some.element c.requires.place c.in-Some.ensures in
+    let begins = rw (c.next_element.ensures.same, c.loop-elements.invariant.same) at (sym c.is_null.ensures ∙ c.if-is_null.true) in
+    let p = err_from_is_err_and c.from_residual-in_err-read_null.result c.from_residual-in_err-read_null.ensures.1 in
+    rw (p.1, p.2)
+    (λ refused. null_refused _ _ _ laws same _ _ _ _ _ _ _ c.requires.place inside step place.1 begins
+    (rw (c.next_element.ensures.same, c.loop-elements.invariant.same) at (c.in_err-read_null.ensures.refused (sym c.is_null.ensures ∙ c.if-is_null.true) refused)))
+
+pub read_list-returns-in_err-read_null-clause-would : goal.read_list-returns-in_err-read_null-clause-would
+read_list-returns-in_err-read_null-clause-would g t c =
+    let d = g.met.D.ShapeDeserializer in
+    let s0 = g.D.ShapeDeserializer.settings c.args.source.now in
+    let laws = d.lawful s0 in
+    let over = d.lifted_lawful s0 in
+    let above = d.above s0 in
+    let same = itself (g.D.ShapeDeserializer.wire s0) in
+    let inside = c.loop-elements.invariant.inside in
+    let would = c.loop-elements.invariant.would in
+    let step = rw (c.if-branch.true, c.loop-elements.invariant.same) at (c.in_ok-next_element.ensures.ok inside.due c.args.schema.now.shapes.now c.args.schema.now.place c.requires.place) in
+    let place = element_place c.args.schema.now c.in-Some.element c.requires.place c.in-Some.ensures in
+    let begins = rw (c.next_element.ensures.same, c.loop-elements.invariant.same) at (sym c.is_null.ensures ∙ c.if-is_null.true) in
+    let p = err_from_is_err_and c.from_residual-in_err-read_null.result c.from_residual-in_err-read_null.ensures.1 in
+    rw (p.1, p.2)
+    (λ strict refused. null_refused _ _ _ over above _ _ _ _ _ _ _ c.requires.place would step place.1 begins
+    (rw (c.next_element.ensures.same, c.loop-elements.invariant.same) at (c.in_err-read_null.ensures.would (rw (c.next_element.ensures.same, c.loop-elements.invariant.same) strict) (sym c.is_null.ensures ∙ c.if-is_null.true) refused)))
+
+-- a null element was read
+pub read_list-loop-elements-preserved-then-is_null : goal.read_list-loop-elements-preserved-then-is_null
+read_list-loop-elements-preserved-then-is_null g t c =
+    let d = g.met.D.ShapeDeserializer in
+    let s0 = g.D.ShapeDeserializer.settings c.args.source.now in
+    let laws = d.lawful s0 in
+    let over = d.lifted_lawful s0 in
+    let above = d.above s0 in
+    let same = itself (g.D.ShapeDeserializer.wire s0) in
+    let inside = c.loop-elements.invariant.inside in
+    let would = c.loop-elements.invariant.would in
+    let step = rw (c.if-branch.true, c.loop-elements.invariant.same) at (c.in_ok-next_element.ensures.ok inside.due c.args.schema.now.shapes.now c.args.schema.now.place c.requires.place) in
+    let nulls = rw (c.next_element.ensures.same, c.loop-elements.invariant.same) at (c.in_ok-read_null.ensures.ok (sym c.is_null.ensures ∙ c.if-is_null.true)) in
+    let passes = c.in_ok-read_null.ensures.passes (sym c.is_null.ensures ∙ c.if-is_null.true) in
+    record {
+      same = search rules;
+      inside = rw (c.in_ok-push.ensures.items, view_elements-push c.loop-elements.elements.items made-Null, view-Null)
+          (null_read _ _ _ laws laws same _ _ _ _ _ _ _ inside step (c.is_sparse-sparse.ensures.0 c.if-sparse.true) nulls passes);
+      would = rw (c.in_ok-push.ensures.items, view_elements-push c.loop-elements.elements.items made-Null, view-Null)
+          (null_read _ _ _ laws over above _ _ _ _ _ _ _ would step (c.is_sparse-sparse.ensures.0 c.if-sparse.true) nulls passes);
+    }
+
+-- an element was refused
+pub read_list-returns-in_err-item-clause-refused : goal.read_list-returns-in_err-item-clause-refused
+read_list-returns-in_err-item-clause-refused g t c =
+    let d = g.met.D.ShapeDeserializer in
+    let s0 = g.D.ShapeDeserializer.settings c.args.source.now in
+    let laws = d.lawful s0 in
+    let over = d.lifted_lawful s0 in
+    let above = d.above s0 in
+    let same = itself (g.D.ShapeDeserializer.wire s0) in
+    let inside = c.loop-elements.invariant.inside in
+    let would = c.loop-elements.invariant.would in
+    let step = rw (c.if-branch.true, c.loop-elements.invariant.same) at (c.in_ok-next_element.ensures.ok inside.due c.args.schema.now.shapes.now c.args.schema.now.place c.requires.place) in
+    let place = element_place c.args.schema.now c.in-Some.element c.requires.place c.in-Some.ensures in
+    let p = err_from_is_err_and c.from_residual-in_err-item.result c.from_residual-in_err-item.ensures.1 in
+    rw (p.1, p.2)
+    (λ refused. element_refused _ _ _ laws same _ _ _ _ _ _ _ c.requires.place inside step place.1
+    (rw (c.next_element.ensures.same, c.loop-elements.invariant.same, place.0) at (c.in_err-item.ensures.refused refused))
+    (λ sparse. elim c.else-sparse.branch [
+      | read_list-else-sparse-via-then-sparse+else-is_null w ↦
+          rw (c.next_element.ensures.same, c.loop-elements.invariant.same) at (sym w.is_null.ensures ∙ w.if-is_null.false)
+      | read_list-else-sparse-via-else-sparse w ↦ absurd (let found : true ≡ false = sym (c.is_sparse-sparse.ensures.1 sparse) ∙ w.if-sparse.false in cc)
+    ]))
+
+pub read_list-returns-in_err-item-clause-would : goal.read_list-returns-in_err-item-clause-would
+read_list-returns-in_err-item-clause-would g t c =
+    let d = g.met.D.ShapeDeserializer in
+    let s0 = g.D.ShapeDeserializer.settings c.args.source.now in
+    let laws = d.lawful s0 in
+    let over = d.lifted_lawful s0 in
+    let above = d.above s0 in
+    let same = itself (g.D.ShapeDeserializer.wire s0) in
+    let inside = c.loop-elements.invariant.inside in
+    let would = c.loop-elements.invariant.would in
+    let step = rw (c.if-branch.true, c.loop-elements.invariant.same) at (c.in_ok-next_element.ensures.ok inside.due c.args.schema.now.shapes.now c.args.schema.now.place c.requires.place) in
+    let place = element_place c.args.schema.now c.in-Some.element c.requires.place c.in-Some.ensures in
+    let p = err_from_is_err_and c.from_residual-in_err-item.result c.from_residual-in_err-item.ensures.1 in
+    rw (p.1, p.2)
+    (λ strict refused. element_refused _ _ _ over above _ _ _ _ _ _ _ c.requires.place would step place.1
+    (rw (c.next_element.ensures.same, c.loop-elements.invariant.same, place.0) at (c.in_err-item.ensures.would (rw (c.next_element.ensures.same, c.loop-elements.invariant.same) strict) refused))
+    (λ sparse. elim c.else-sparse.branch [
+      | read_list-else-sparse-via-then-sparse+else-is_null w ↦
+          rw (c.next_element.ensures.same, c.loop-elements.invariant.same) at (sym w.is_null.ensures ∙ w.if-is_null.false)
+      | read_list-else-sparse-via-else-sparse w ↦ absurd (let found : true ≡ false = sym (c.is_sparse-sparse.ensures.1 sparse) ∙ w.if-sparse.false in cc)
+    ]))
+
+-- an element was read
+pub read_list-loop-elements-preserved : goal.read_list-loop-elements-preserved
+read_list-loop-elements-preserved g t c =
+    let d = g.met.D.ShapeDeserializer in
+    let s0 = g.D.ShapeDeserializer.settings c.args.source.now in
+    let laws = d.lawful s0 in
+    let over = d.lifted_lawful s0 in
+    let above = d.above s0 in
+    let same = itself (g.D.ShapeDeserializer.wire s0) in
+    let inside = c.loop-elements.invariant.inside in
+    let would = c.loop-elements.invariant.would in
+    let step = rw (c.if-branch.true, c.loop-elements.invariant.same) at (c.in_ok-next_element.ensures.ok inside.due c.args.schema.now.shapes.now c.args.schema.now.place c.requires.place) in
+    let place = element_place c.args.schema.now c.in-Some.element c.requires.place c.in-Some.ensures in
+    let reads = rw (c.next_element.ensures.same, c.loop-elements.invariant.same, place.0) at c.in_ok-item.ensures.ok in
+    record {
+      same = search rules;
+      inside = rw (c.in_ok-push-2.ensures.items, view_elements-push c.loop-elements.elements.items c.in_ok-item.item)
+          (element_read _ _ _ laws laws same _ _ _ _ _ _ c.in-Some.element.place _ _ _ inside step place.1 reads);
+      would = rw (c.in_ok-push-2.ensures.items, view_elements-push c.loop-elements.elements.items c.in_ok-item.item)
+          (element_read _ _ _ laws over above _ _ _ _ _ _ c.in-Some.element.place _ _ _ would step place.1 reads);
+    }
+
+-- the list ended
+pub read_list-returns-clause-ok : goal.read_list-returns-clause-ok
+read_list-returns-clause-ok g t c =
+    let d = g.met.D.ShapeDeserializer in
+    let s0 = g.D.ShapeDeserializer.settings c.args.source.now in
+    let laws = d.lawful s0 in
+    let over = d.lifted_lawful s0 in
+    let above = d.above s0 in
+    let same = itself (g.D.ShapeDeserializer.wire s0) in
+    let inside = c.loop-elements.invariant.inside in
+    let would = c.loop-elements.invariant.would in
+    rw (view-List c.loop-elements.elements)
+    (end _ _ _ _ _ _ _ _ _ _ _ inside (rw (c.if-branch.false, c.loop-elements.invariant.same) at (c.in_ok-next_element.ensures.ok inside.due c.args.schema.now.shapes.now c.args.schema.now.place c.requires.place)) refl)
+
+-- less is left to read
+pub read_list-loop-elements-smaller-then-is_null : goal.read_list-loop-elements-smaller-then-is_null
+read_list-loop-elements-smaller-then-is_null g t c =
+    let d = g.met.D.ShapeDeserializer in
+    let s0 = g.D.ShapeDeserializer.settings c.args.source.now in
+    let laws = d.lawful s0 in
+    let over = d.lifted_lawful s0 in
+    let above = d.above s0 in
+    let same = itself (g.D.ShapeDeserializer.wire s0) in
+    let inside = c.loop-elements.invariant.inside in
+    let would = c.loop-elements.invariant.would in
+    let step = rw (c.if-branch.true, c.loop-elements.invariant.same) at (c.in_ok-next_element.ensures.ok inside.due c.args.schema.now.shapes.now c.args.schema.now.place c.requires.place) in
+    let nulls = rw (c.next_element.ensures.same, c.loop-elements.invariant.same) at (c.in_ok-read_null.ensures.ok (sym c.is_null.ensures ∙ c.if-is_null.true)) in
+    let passes = c.in_ok-read_null.ensures.passes (sym c.is_null.ensures ∙ c.if-is_null.true) in
+    rw (c.read_null.ensures.same, c.next_element.ensures.same, c.loop-elements.invariant.same)
+    (left_falls _ _ _ laws _ _ _ _ _ _ _ _ None (child_null None) inside step (refl, c.is_sparse-sparse.ensures.0 c.if-sparse.true, nulls) passes)
+
+pub read_list-loop-elements-smaller : goal.read_list-loop-elements-smaller
+read_list-loop-elements-smaller g t c =
+    let d = g.met.D.ShapeDeserializer in
+    let s0 = g.D.ShapeDeserializer.settings c.args.source.now in
+    let laws = d.lawful s0 in
+    let over = d.lifted_lawful s0 in
+    let above = d.above s0 in
+    let same = itself (g.D.ShapeDeserializer.wire s0) in
+    let inside = c.loop-elements.invariant.inside in
+    let would = c.loop-elements.invariant.would in
+    let step = rw (c.if-branch.true, c.loop-elements.invariant.same) at (c.in_ok-next_element.ensures.ok inside.due c.args.schema.now.shapes.now c.args.schema.now.place c.requires.place) in
+    let place = element_place c.args.schema.now c.in-Some.element c.requires.place c.in-Some.ensures in
+    let reads = rw (c.next_element.ensures.same, c.loop-elements.invariant.same, place.0) at c.in_ok-item.ensures.ok in
+    rw (c.read_value.ensures.same, c.next_element.ensures.same, c.loop-elements.invariant.same)
+    (left_falls _ _ _ laws _ _ _ _ _ _ _ _ None (child_value None None (view c.in_ok-item.item)) inside step (refl, refl, (c.in-Some.element.place, place.1, reads.stands)) reads.passes)

@@ -1,0 +1,58 @@
+use Rattle.std.proofs.Common.{◌≡◌, ◌+◌, ◌*◌, ◌-◌}
+use Rattle.smithy_schema.specs.Reading.{depth, in_structure, in_list}
+use Rattle.smithy_schema.specs.Table.{kind_of, is_sparse}
+use Rattle.smithy_transcode.proofs.ReadStructures.{structure_value}
+use Rattle.smithy_transcode.proofs.ReadLists.{list_value}
+use Rattle.smithy_transcode.specs.View.{view_members, view_elements}
+use Rattle.smithy_transcode.proofs.ReadContainers.{InContainer}
+use Rattle.smithy_transcode.proofs.reading.+read.Given as goal
+
+-- twice the containers that may still be opened
+abbrev pub decreases-read_value : goal.decreases-read_value
+decreases-read_value g l =
+    let d = g.D.ShapeDeserializer in
+    2 * (d.max_depth (d.settings l.source.now) - depth (d.state l.source.now)) + 1
+
+abbrev pub decreases-read_structure : goal.decreases-read_structure
+decreases-read_structure g l =
+    let d = g.D.ShapeDeserializer in
+    2 * (d.max_depth (d.settings l.source.now) - depth (d.state l.source.now))
+
+-- the members that were read, in both readings
+abbrev pub invariant-read_structure-loop-members : goal.invariant-read_structure-loop-members
+invariant-read_structure-loop-members g l =
+    let d = g.D.ShapeDeserializer in
+    let c = d.settings l.fn.source in
+    record {
+      same : d.settings l.source ≡ d.settings l.fn.source;
+      inside : InContainer (d.wire c) (d.wire c) (d.max_depth c) (d.state l.fn.source) (d.state l.source) l.schema.shapes.now l.schema.place in_structure (structure_value (view_members l.members.entries));
+      would : InContainer (d.wire c) (d.lifted c) (d.max_depth c) (d.state l.fn.source) (d.state l.source) l.schema.shapes.now l.schema.place in_structure (structure_value (view_members l.members.entries));
+    }
+
+abbrev pub decreases-read_structure-loop-members : goal.decreases-read_structure-loop-members
+decreases-read_structure-loop-members g l =
+    let d = g.D.ShapeDeserializer in
+    let s = d.state l.source in
+    (d.wire (d.settings l.source)).left s.input s.at s.inner.mark
+
+abbrev pub decreases-read_list : goal.decreases-read_list
+decreases-read_list g l =
+    let d = g.D.ShapeDeserializer in
+    2 * (d.max_depth (d.settings l.source.now) - depth (d.state l.source.now))
+
+-- the elements that were read, in both readings
+abbrev pub invariant-read_list-loop-elements : goal.invariant-read_list-loop-elements
+invariant-read_list-loop-elements g l =
+    let d = g.D.ShapeDeserializer in
+    let c = d.settings l.fn.source in
+    record {
+      same : d.settings l.source ≡ d.settings l.fn.source;
+      inside : InContainer (d.wire c) (d.wire c) (d.max_depth c) (d.state l.fn.source) (d.state l.source) l.schema.shapes.now l.schema.place in_list (list_value (is_sparse (kind_of l.schema.shapes.now l.schema.place)) (view_elements l.elements.items));
+      would : InContainer (d.wire c) (d.lifted c) (d.max_depth c) (d.state l.fn.source) (d.state l.source) l.schema.shapes.now l.schema.place in_list (list_value (is_sparse (kind_of l.schema.shapes.now l.schema.place)) (view_elements l.elements.items));
+    }
+
+abbrev pub decreases-read_list-loop-elements : goal.decreases-read_list-loop-elements
+decreases-read_list-loop-elements g l =
+    let d = g.D.ShapeDeserializer in
+    let s = d.state l.source in
+    (d.wire (d.settings l.source)).left s.input s.at s.inner.mark

@@ -1,0 +1,6 @@
+-- to be believed, in this order
+pub mod Spelling
+pub mod Causes
+pub mod Transcoding
+-- what the types of the program stand for
+pub mod View

@@ -1,0 +1,19 @@
+-- Which bytes spell which value, and the body that is written for a value, wire by wire.
+use Rattle.std.specs.Prelude.{ℕ, List}
+use Rattle.smithy_schema.specs.Table.{Table, shape_place}
+use Rattle.smithy_schema.specs.Site.{shape_site}
+use Rattle.smithy_schema.specs.Value.{Value}
+use Rattle.smithy_json_codec.specs.Canonical.{canonical_json}
+use Rattle.smithy_json_codec.specs.Codec.{strict_settings}
+use Rattle.smithy_json_codec.specs.Spelling.{json_spells}
+use Rattle.smithy_transcode.specs.declared.wire.Wire.{Wire}
+use Rattle.smithy_transcode.specs.declared.wire.Wire.TheVariants.{Json}
+
+-- the whole bytes spell the value of the root, which is a declaration of the table
+abbrev pub Spells : Wire → Table → ℕ → List ℕ → Value → Type 0
+Spells (Json use_json_name) table root bytes v =
+    json_spells (strict_settings use_json_name) table (shape_place root) bytes v
+
+-- the one body of a value of the root
+abbrev pub body : Wire → Table → ℕ → Value → List ℕ
+body (Json use_json_name) table root v = canonical_json use_json_name (shape_site table root) v

@@ -1,0 +1,123 @@
+//! Reading a value tree from any wire.
+ghost use Rattle.std.specs.Prelude.{◌≡◌, ◌↔◌, ◌<◌, length, true, IfOk, IfErr, OnOk, IsErrOf};
+ghost use Rattle.smithy_schema.specs.Table.{IsStructure, IsList};
+ghost use Rattle.smithy_schema.specs.Site.{site_of, kind_at};
+ghost use Rattle.smithy_schema.specs.Value.{put_member};
+ghost use Rattle.smithy_schema.specs.Reading.{Reads, StandsNot, IsRefused, IsInvalid, ReachesDepth};
+ghost use Rattle.smithy_schema.specs.declared.error.SerdeError.TheVariants.{NoMemory};
+ghost use Rattle.smithy_transcode.specs.View.{view, view_members};
+
+use crate::value::Value;
+use smithy_schema::{Schema, SerdeError, ShapeDeserializer, ShapeType, Step};
+use std::alloc::Global;
+use std::collections::BTreeMap;
+
+/// Reads the value of the schema that is due, whatever the wire.
+#[cycle(read)]
+pub fn read_value<D: ShapeDeserializer>(
+    alloc: Global,
+    source: &mut D,
+    schema: &Schema<'_>,
+) -> Result<Value, SerdeError>
+    requires due { (D.state source.old).due ≡ true }
+    ensures same { D.settings source.new ≡ D.settings source.old }
+
+    // Ok: a value of the place stands here, and the reader is past it.
+    ensures ok { IfOk result (λ v. Reads (D.wire (D.settings source.old)) (D.state source.old) (D.state source.new) schema.now.shapes.now schema.now.place (view v)) }
+
+    // A refusal: no value of the place stands here; and none would, were the limits lifted.
+    ensures refused { IsRefused result → StandsNot (D.wire (D.settings source.old)) (D.state source.old) schema.now.shapes.now schema.now.place }
+    ensures would { D.is_strict (D.settings source.old) → IsInvalid result → StandsNot (D.lifted (D.settings source.old)) (D.state source.old) schema.now.shapes.now schema.now.place }
+    ensures failed { IsErrOf result SerdeError.Failed ↔ ((D.state source.old).failed ≡ true) }
+    ensures readable { IsErrOf result SerdeError.Unwritable → ⊥ }
+
+    // `TooDeep`: the bytes from here on reach the greatest depth.
+    ensures deep { IsErrOf result SerdeError.TooDeep → 0 < length (D.state source.old).input → ReachesDepth (D.wire (D.settings source.old)) (D.max_depth (D.settings source.old)) (D.state source.old) }
+{
+    match schema.shape_type() {
+        ShapeType::Long => Ok(Value::Whole(i128::from(source.read_long(schema)?))),
+        ShapeType::String => Ok(Value::Text(source.read_string(schema)?)),
+        ShapeType::Structure => read_structure(alloc, source, schema),
+        ShapeType::List => read_list(alloc, source, schema),
+    }
+}
+
+#[cycle(read)]
+fn read_structure<D: ShapeDeserializer>(
+    alloc: Global,
+    source: &mut D,
+    schema: &Schema<'_>,
+) -> Result<Value, SerdeError>
+    requires due { (D.state source.old).due ≡ true }
+    requires place { IsStructure (kind_at (site_of schema.now)) }
+    ensures same { D.settings source.new ≡ D.settings source.old }
+    ensures ok { IfOk result (λ v. Reads (D.wire (D.settings source.old)) (D.state source.old) (D.state source.new) schema.now.shapes.now schema.now.place (view v)) }
+    ensures refused { IsRefused result → StandsNot (D.wire (D.settings source.old)) (D.state source.old) schema.now.shapes.now schema.now.place }
+    ensures would { D.is_strict (D.settings source.old) → IsInvalid result → StandsNot (D.lifted (D.settings source.old)) (D.state source.old) schema.now.shapes.now schema.now.place }
+    ensures failed { IsErrOf result SerdeError.Failed ↔ ((D.state source.old).failed ≡ true) }
+    ensures readable { IsErrOf result SerdeError.Unwritable → ⊥ }
+    ensures deep { IsErrOf result SerdeError.TooDeep → 0 < length (D.state source.old).input → ReachesDepth (D.wire (D.settings source.old)) (D.max_depth (D.settings source.old)) (D.state source.old) }
+{
+    source.open_struct(schema)?;
+    let mut members = BTreeMap::new(alloc);
+    loop {
+        match source.next_member(schema)? {
+            Step::Member(member) => {
+                let Some(index) = member.member_index() else {
+                    unreachable!()
+                };
+                let value = read_value(alloc, source, &member)?;
+                set_member(&mut members, index, value)?;
+            }
+            Step::Unknown => source.skip_value()?,
+            Step::End => return Ok(Value::Structure(members)),
+        }
+    }
+}
+
+#[cycle(read)]
+fn read_list<D: ShapeDeserializer>(
+    alloc: Global,
+    source: &mut D,
+    schema: &Schema<'_>,
+) -> Result<Value, SerdeError>
+    requires due { (D.state source.old).due ≡ true }
+    requires place { IsList (kind_at (site_of schema.now)) }
+    ensures same { D.settings source.new ≡ D.settings source.old }
+    ensures ok { IfOk result (λ v. Reads (D.wire (D.settings source.old)) (D.state source.old) (D.state source.new) schema.now.shapes.now schema.now.place (view v)) }
+    ensures refused { IsRefused result → StandsNot (D.wire (D.settings source.old)) (D.state source.old) schema.now.shapes.now schema.now.place }
+    ensures would { D.is_strict (D.settings source.old) → IsInvalid result → StandsNot (D.lifted (D.settings source.old)) (D.state source.old) schema.now.shapes.now schema.now.place }
+    ensures failed { IsErrOf result SerdeError.Failed ↔ ((D.state source.old).failed ≡ true) }
+    ensures readable { IsErrOf result SerdeError.Unwritable → ⊥ }
+    ensures deep { IsErrOf result SerdeError.TooDeep → 0 < length (D.state source.old).input → ReachesDepth (D.wire (D.settings source.old)) (D.max_depth (D.settings source.old)) (D.state source.old) }
+{
+    source.open_list(schema)?;
+    let sparse = schema.is_sparse();
+    let Some(element) = schema.member() else {
+        unreachable!()
+    };
+    let mut elements = Vec::new(alloc);
+    while source.next_element()? {
+        if sparse && source.is_null() {
+            source.read_null()?;
+            elements.push(Value::Null)?;
+        } else {
+            let item = read_value(alloc, source, &element)?;
+            elements.push(item)?;
+        }
+    }
+    Ok(Value::List(elements))
+}
+
+// The last value of a member counts.
+fn set_member(
+    members: &mut BTreeMap<u32, Value>,
+    index: u32,
+    value: Value,
+) -> Result<(), SerdeError>
+    ensures ok { OnOk result (view_members members.new.entries ≡ put_member index (view value) (view_members members.old.entries)) }
+    ensures err { IfErr result (λ e. e ≡ NoMemory) }
+{
+    members.insert(index, value)?;
+    Ok(())
+}

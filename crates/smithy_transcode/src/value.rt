@@ -1,0 +1,15 @@
+//! The value that a body stands for, whichever wire carries it.
+
+use std::collections::BTreeMap;
+
+/// A value.
+#[derive(Debug, Drop)]
+pub enum Value {
+    Whole(i128),
+    Text(String),
+    List(Vec<Value>),
+    /// The members that are present, by their positions in the table, from 0.
+    Structure(BTreeMap<u32, Value>),
+    /// A null among the elements of a sparse list.
+    Null,
+}

@@ -1,0 +1,40 @@
+//! The wires, and why a transcoding is refused.
+
+use thiserror::Error;
+
+/// A form in which a value is carried.
+#[derive(Clone, Copy, Debug, PartialEq, Eq)]
+pub enum Wire {
+    /// JSON (RFC 8259).
+    Json {
+        /// Members go by their JSON names, where they have one.
+        use_json_name: bool,
+    },
+}
+
+impl Wire {
+    ghost use Rattle.std.specs.Prelude.{◌≡◌};
+
+    // Whether members go by their JSON names, in the one wire that there is.
+    pub(crate) fn use_json_name(&self) -> bool
+        ensures { self.now ≡ Wire.Json result }
+    {
+        match self {
+            Wire::Json { use_json_name } => *use_json_name,
+        }
+    }
+}
+
+/// Why a body was refused. `Display` writes the variant's name.
+#[derive(Clone, Copy, Debug, PartialEq, Eq, Error)]
+pub enum TranscodeError {
+    /// The input spells no value of the root.
+    #[error("InvalidInput")]
+    InvalidInput,
+    /// The input spells no value of the root, and has 128 containers or more open at once.
+    #[error("TooDeep")]
+    TooDeep,
+    /// An allocation was refused.
+    #[error("NoMemory")]
+    NoMemory,
+}

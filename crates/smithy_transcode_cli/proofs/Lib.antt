@@ -1,0 +1,5 @@
+pub mod Moved
+pub mod Refusals
+pub mod Complete
+pub mod RunLemmas
+pub mod After

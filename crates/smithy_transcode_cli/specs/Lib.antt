@@ -1,0 +1,12 @@
+-- to be believed, in this order
+pub mod Command
+pub mod Task
+pub mod Status
+pub mod Outside
+pub mod RunAnswer
+-- what the types of the program stand for
+pub mod Words
+pub mod Counted
+pub mod Memory
+-- for private clauses
+pub mod Private

@@ -1,0 +1,2 @@
+-- what the status of each step says
+pub mod Stages

@@ -1,0 +1,149 @@
+-- What the number that a run ends with says of the outside.
+use Rattle.std.specs.Prelude.{◌≡◌, ◌≢◌, ◌⊎◌, ◌↔◌, ◌≤◌, ◌+◌, ℕ, List, [], length, Some, None, false}
+use Rattle.smithy_schema.specs.Table.{Table, IsStructure, kind_of, shape_place, declared_as}
+use Rattle.smithy_schema.specs.Acceptance.{Fault, not_built, TableAnswer, accepted, refused, table_of}
+use Rattle.smithy_schema.specs.Value.{Value}
+use Rattle.smithy_transcode.specs.Spelling.{Spells, body}
+use Rattle.smithy_transcode.specs.Causes.{openers}
+use Rattle.smithy_transcode.specs.Transcoding.{SpellNothing}
+use Rattle.smithy_transcode_cli.specs.declared.status.Status.{Status}
+use Rattle.smithy_transcode_cli.specs.declared.status.Status.TheVariants.{Done, Usage, ReadFailed, WriteFailed, OutOfMemory, InvalidInput, TooDeep, TableRefused, NoSuchShape, NotAStructure, TooLong, NotBuilt}
+use Rattle.smithy_transcode_cli.specs.Command.{Transcode, command_of}
+use Rattle.smithy_transcode_cli.specs.Task.{Task, task_of, task_asked}
+use Rattle.smithy_transcode_cli.specs.Status.{status_code}
+use Rattle.smithy_transcode_cli.specs.Outside.{Told, Outside, missing, HasFailed, Tells, IsWhole, IsLonger, Gave, IsAtEnd, Took, TookPrefix}
+
+-- in bytes
+abbrev pub longest_table : ℕ
+longest_table = 1_048_576
+
+-- in bytes
+abbrev pub longest_input : ℕ
+longest_input = 16_777_216
+
+-- what a task reads
+pub record Sources : Type 0 where
+  pub table : Told
+  pub input : Told
+
+-- what it reads of the outside
+abbrev pub sources_of : Task → Outside → Sources
+sources_of task o = record { table = o.files task.table_path; input = o.input }
+
+-- a file that isn't told to be missing was loaded whole, and is within the limit of a table
+pub record IsLoaded (text : List ℕ) (file : Told) : Type 0 where
+  pub whole : IsWhole text file
+  pub there : file.content ≢ missing
+  pub within : length text ≤ longest_table
+
+-- a source was read whole, to its end, and is within the limit of an input
+pub record IsRead (bytes : List ℕ) (old new : Told) : Type 0 where
+  pub whole : IsWhole bytes old
+  pub to_the_end : IsAtEnd new
+  pub within : length bytes ≤ longest_input
+
+-- the declaration of that number has the name of the root, and is a structure
+pub record IsRoot (task : Task) (table : Table) (root : ℕ) : Type 0 where
+  pub named : declared_as table task.root_name ≡ Some root
+  pub structure : IsStructure (kind_of table (shape_place root))
+
+-- ---- the checks, each where those before it passed
+
+-- a text was loaded, and P holds of the table or the fault that it is
+abbrev pub AfterLoad : Sources → (TableAnswer → Type 0) → Type 0
+AfterLoad old P = (text : List ℕ) × IsLoaded text old.table × P (table_of text)
+
+-- the text is a table, of which P holds
+abbrev pub AfterTable : Sources → (Table → Type 0) → Type 0
+AfterTable old P = AfterLoad old (λ answer. (table : Table) × (answer ≡ accepted table) × P table)
+
+-- the root is there, and P holds of the table and the root
+abbrev pub AfterRoot : Task → Sources → (Table → ℕ → Type 0) → Type 0
+AfterRoot task old P = AfterTable old (λ table. (root : ℕ) × IsRoot task table root × P table root)
+
+-- the input was read, and P holds of the table, the root and the input
+abbrev pub AfterInput : Task → Sources → Sources → (Table → ℕ → List ℕ → Type 0) → Type 0
+AfterInput task old new P =
+    AfterRoot task old (λ table root. (input : List ℕ) × IsRead input old.input new.input × P table root input)
+
+-- the input spells a value, and P holds of its body
+abbrev pub AfterTranscoding : Task → Sources → Sources → (List ℕ → Type 0) → Type 0
+AfterTranscoding task old new P =
+    AfterInput task old new
+    (λ table root input. (v : Value) × Spells task.from table root input v × P (body task.to table root v))
+
+-- ---- the statuses
+
+-- why nothing was written
+abbrev pub Refuses : Task → Sources → Sources → Status → Type 0
+Refuses task old new Done = ⊥
+Refuses task old new Usage = ⊥
+Refuses task old new ReadFailed =
+    HasFailed old.table new.table ⊎ AfterRoot task old (λ table root. HasFailed old.input new.input)
+Refuses task old new WriteFailed = ⊥
+Refuses task old new OutOfMemory = Unit {0}
+Refuses task old new InvalidInput = AfterInput task old new (SpellNothing task.from)
+Refuses task old new TooDeep =
+    AfterInput task old new
+    (λ table root input. SpellNothing task.from table root input × (128 ≤ openers task.from input))
+Refuses task old new TableRefused =
+    AfterLoad old (λ answer. (fault : Fault) × (n : ℕ) × (answer ≡ refused fault n) × (fault ≢ not_built))
+Refuses task old new NoSuchShape = AfterTable old (λ table. declared_as table task.root_name ≡ None)
+Refuses task old new NotAStructure =
+    AfterTable old (λ table. (root : ℕ) × (declared_as table task.root_name ≡ Some root)
+    × ¬ IsStructure (kind_of table (shape_place root)))
+Refuses task old new TooLong =
+    ((old.table.content ≢ missing) × IsLonger longest_table old.table)
+    ⊎ AfterRoot task old (λ table root. IsLonger longest_input old.input)
+Refuses task old new NotBuilt = AfterLoad old (λ answer. (n : ℕ) × (answer ≡ refused not_built n))
+
+-- what a status says
+abbrev pub Says : Task → Outside → Outside → Status → Type 0
+Says task old new Done =
+    AfterTranscoding task (sources_of task old) (sources_of task new) (λ bytes. Took bytes old.out new.out)
+Says task old new WriteFailed =
+    AfterTranscoding task (sources_of task old) (sources_of task new)
+    (λ bytes. HasFailed old.out new.out × TookPrefix bytes old.out new.out)
+Says task old new status = Refuses task (sources_of task old) (sources_of task new) status
+
+-- all is told and in order, and no count rose
+pub record IsInOrder (task : Task) (old new : Outside) (text input : List ℕ)
+    (table : Table) (root : ℕ) (v : Value) : Type 0 where
+  pub file : Tells (old.files task.table_path) text
+  pub file_is_within : length text ≤ longest_table
+  pub accepted_as : table_of text ≡ accepted table
+  pub is_root : IsRoot task table root
+  pub source : Tells old.input input
+  pub input_is_within : length input ≤ longest_input
+  pub spells : Spells task.from table root input v
+  pub file_is_well : ¬ (HasFailed (old.files task.table_path) (new.files task.table_path))
+  pub input_is_well : ¬ (HasFailed old.input new.input)
+  pub out_is_well : ¬ (HasFailed old.out new.out)
+
+-- What a status says where the words ask for a task.
+pub record TaskAnswer (task : Task) (old new : Outside) (status : Status) : Type 0 where
+  -- a status comes only where the checks before it passed: load, table, root, input, transcoding, write
+  pub says : Says task old new status
+  -- the input is read no further than one byte past the limit
+  pub reads_no_further : (bytes : List ℕ) × Gave bytes old.input new.input × (length bytes ≤ longest_input + 1)
+  -- a file that is told to be missing can't be loaded
+  pub missing_is_a_fault : (old.files task.table_path).content ≡ missing
+      → (status ≡ ReadFailed) ⊎ (status ≡ OutOfMemory)
+  -- where all is told and in order and no count rose, the program is done, want of memory aside
+  pub complete : (text input : List ℕ) (table : Table) (root : ℕ) (v : Value)
+      → IsInOrder task old new text input table root v → (status ≡ Done) ⊎ (status ≡ OutOfMemory)
+
+-- What the number says that `run` answers: it is that of a status.
+pub record RunAnswer (words : List (List ℕ)) (old new : Outside) (code : ℕ) : Type 0 where
+  pub status : Status
+  pub has_code : code ≡ status_code status
+  pub is_usage : (status ≡ Usage) ↔ (command_of words ≡ None)
+  pub is_not_built : (c : Transcode) → command_of words ≡ Some c → task_of c ≡ None → status ≡ NotBuilt
+  pub answers : (c : Transcode) (task : Task) → command_of words ≡ Some c → task_of c ≡ Some task
+      → TaskAnswer task old new status
+  -- where the words ask for no task, nothing is touched
+  pub only_for_a_task : task_asked words ≡ None → new ≡ old
+  pub nothing_is_held_back : status ≡ Done → new.out_holds_back ≡ false
+  pub out_is_untouched : status ≢ Done → status ≢ WriteFailed → Took [] old.out new.out
+  pub err_is_untouched : Took [] old.err new.err
+  pub files_are_kept : (path : List ℕ) → (new.files path).content ≡ (old.files path).content

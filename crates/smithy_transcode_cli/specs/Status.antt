@@ -1,0 +1,48 @@
+-- The numbers that the program ends with, and the status of each refusal.
+use Rattle.std.specs.Prelude.{ℕ}
+use Rattle.smithy_schema.specs.declared.fault.TableFault.{TableFault}
+use Rattle.smithy_schema.specs.declared.fault.TableFault.TheVariants as table_faults
+use Rattle.smithy_transcode.specs.declared.wire.TranscodeError.{TranscodeError}
+use Rattle.smithy_transcode.specs.declared.wire.TranscodeError.TheVariants as errors
+use Rattle.smithy_transcode_cli.specs.declared.outside.LoadFault.{LoadFault}
+use Rattle.smithy_transcode_cli.specs.declared.outside.LoadFault.TheVariants as load_faults
+use Rattle.smithy_transcode_cli.specs.declared.status.Status.{Status}
+use Rattle.smithy_transcode_cli.specs.declared.status.Status.TheVariants.{Done, Usage, ReadFailed, WriteFailed, OutOfMemory, InvalidInput, TooDeep, TableRefused, NoSuchShape, NotAStructure, TooLong, NotBuilt}
+
+-- the number that the program ends with
+abbrev pub status_code : Status → ℕ
+status_code Done = 0
+status_code Usage = 2
+status_code ReadFailed = 6
+status_code WriteFailed = 7
+status_code OutOfMemory = 8
+status_code InvalidInput = 10
+status_code TooDeep = 11
+status_code TableRefused = 20
+status_code NoSuchShape = 21
+status_code NotAStructure = 22
+status_code TooLong = 23
+status_code NotBuilt = 30
+
+-- where a file or the input wasn't read
+abbrev pub status_of_load_fault : LoadFault → Status
+status_of_load_fault load_faults.Failed = ReadFailed
+status_of_load_fault load_faults.TooLong = TooLong
+status_of_load_fault load_faults.NoMemory = OutOfMemory
+
+-- where a table was refused
+abbrev pub status_of_table_fault : TableFault → Status
+status_of_table_fault (table_faults.BadLine n) = TableRefused
+status_of_table_fault (table_faults.NotBuilt n) = NotBuilt
+status_of_table_fault (table_faults.UnknownTarget n) = TableRefused
+status_of_table_fault (table_faults.DuplicateShape n) = TableRefused
+status_of_table_fault (table_faults.NameClash n) = TableRefused
+status_of_table_fault (table_faults.QueryName n) = TableRefused
+status_of_table_fault (table_faults.TooMany n) = TableRefused
+status_of_table_fault table_faults.NoMemory = OutOfMemory
+
+-- where the input was refused
+abbrev pub status_of_error : TranscodeError → Status
+status_of_error errors.InvalidInput = InvalidInput
+status_of_error errors.TooDeep = TooDeep
+status_of_error errors.NoMemory = OutOfMemory

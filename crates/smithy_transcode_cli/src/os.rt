@@ -1,0 +1,131 @@
+//! The real files, standard input, output and error. They tell no content, and count each error.
+ghost use Rattle.std.specs.Prelude.{◌≡◌, false};
+
+use crate::outside::{Failed, Files, LoadFault, Sink, Source};
+use crate::streams::read_to_end;
+use std::alloc::Global;
+use std::io::{Read, Write};
+use std::{fs, rt};
+
+/// The files that a runtime reaches.
+#[derive(Drop)]
+pub struct OsFiles<R: rt::Files> {
+    runtime: R,
+    /// How many calls failed.
+    pub faults: u64,
+}
+
+impl<R: rt::Files> OsFiles<R> {
+    /// Files that met no fault.
+    pub fn new(runtime: R) -> OsFiles<R>
+        ensures { result.faults ≡ 0 }
+    {
+        OsFiles { runtime, faults: 0 }
+    }
+}
+
+impl<R: rt::Files> Files for OsFiles<R> {
+    ghost use Rattle.smithy_transcode_cli.specs.Outside.{untold};
+
+    ghost told = { λ s _. record { faults = s.faults; content = untold } };
+
+    fn load(&mut self, alloc: Global, path: &str, limit: usize) -> Result<Vec<u8>, LoadFault> {
+        let Ok(input) = fs::open(&self.runtime, path) else {
+            self.faults = self.faults.saturating_add(1);
+            return Err(LoadFault::Failed);
+        };
+        let mut source = OsSource {
+            input,
+            faults: self.faults,
+        };
+        let loaded = read_to_end(alloc, &mut source, limit);
+        self.faults = source.faults;
+        loaded
+    }
+}
+
+/// A source over a reader, as over standard input.
+#[derive(Drop)]
+pub struct OsSource<R: Read> {
+    input: R,
+    /// How many calls failed.
+    pub faults: u64,
+}
+
+impl<R: Read> OsSource<R> {
+    /// A source that met no fault.
+    pub fn new(input: R) -> OsSource<R>
+        ensures { result.faults ≡ 0 }
+    {
+        OsSource { input, faults: 0 }
+    }
+}
+
+impl<R: Read> Source for OsSource<R> {
+    ghost use Rattle.smithy_transcode_cli.specs.Outside.{untold};
+
+    ghost told = { λ s. record { faults = s.faults; content = untold } };
+
+    fn read(&mut self, into: &mut [u8]) -> Result<usize, Failed> {
+        match self.input.read(into) {
+            Ok(count) => Ok(count),
+            Err(_) => {
+                self.faults = self.faults.saturating_add(1);
+                Err(Failed)
+            }
+        }
+    }
+}
+
+/// A sink over a writer, as over standard output. It may hold back what it took until it is finished.
+#[derive(Drop)]
+pub struct OsSink<W: Write> {
+    output: W,
+    /// Whether something was written since it was last finished.
+    pub is_unfinished: bool,
+    /// How many calls failed.
+    pub faults: u64,
+}
+
+impl<W: Write> OsSink<W> {
+    /// A sink that took nothing and met no fault.
+    pub fn new(output: W) -> OsSink<W>
+        ensures faults { result.faults ≡ 0 }
+        ensures finished { result.is_unfinished ≡ false }
+    {
+        OsSink {
+            output,
+            is_unfinished: false,
+            faults: 0,
+        }
+    }
+}
+
+impl<W: Write> Sink for OsSink<W> {
+    ghost use Rattle.smithy_transcode_cli.specs.Outside.{untold};
+
+    ghost told = { λ s. record { faults = s.faults; content = untold } };
+
+    ghost holds_back = { λ s. s.is_unfinished };
+
+    fn write(&mut self, piece: &[u8]) -> Result<usize, Failed> {
+        self.is_unfinished = true;
+        match self.output.write(piece) {
+            Ok(count) if count > 0 || piece.is_empty() => Ok(count),
+            // A writer that takes nothing of a piece fails.
+            _ => {
+                self.faults = self.faults.saturating_add(1);
+                Err(Failed)
+            }
+        }
+    }
+
+    fn finish(&mut self) -> Result<(), Failed> {
+        if self.output.flush().is_err() {
+            self.faults = self.faults.saturating_add(1);
+            return Err(Failed);
+        }
+        self.is_unfinished = false;
+        Ok(())
+    }
+}

@@ -1,0 +1,77 @@
+//! Reading a source to its end, and writing all of some bytes.
+ghost use Rattle.std.specs.Prelude.{◌≡◌, ◌<◌, ◌≤◌, ◌+◌, ◌++◌, List, ℕ, false, length, IfOk, OnOk, OnErr, IsErrOf};
+ghost use Rattle.smithy_transcode_cli.specs.Outside.{HasCause, HasFailed, IsLonger, Gave, IsAtEnd, Took, TookPrefix};
+
+use crate::outside::{Failed, LoadFault, Sink, Source};
+use std::alloc::{AllocError, Global};
+
+// The most bytes that one call asks for.
+const PIECE: usize = 65_536;
+
+// A buffer of so many bytes.
+fn zeros(alloc: Global, len: usize) -> Result<Vec<u8>, AllocError>
+    ensures { IfOk result (λ buffer. length buffer.items ≡ len) }
+{
+    vec![in alloc; 0; len]
+}
+
+// Reads one piece behind the bytes, through the buffer, and answers its length.
+fn read_piece<S: Source>(
+    source: &mut S,
+    buffer: &mut [u8],
+    bytes: &mut Vec<u8>,
+) -> Result<usize, LoadFault>
+    ensures piece { (piece : List ℕ) × Gave piece (S.told source.old) (S.told source.new) × (length piece ≤ length buffer.old)
+        × IfOk result (λ count. (length piece ≡ count) × (bytes.new.items ≡ bytes.old.items ++ piece)) }
+    ensures end { result ≡ Ok 0 → 0 < length buffer.old → IsAtEnd (S.told source.new) }
+    ensures failed_only_by_a_fault { IsErrOf result LoadFault.Failed → HasFailed (S.told source.old) (S.told source.new) }
+    ensures never_too_long { IsErrOf result LoadFault.TooLong → ⊥ }
+    ensures later { (S.told source.old).faults ≤ (S.told source.new).faults }
+{
+    let count = source.read(buffer)?;
+    bytes.extend_from_slice(&buffer[..count])?;
+    Ok(count)
+}
+
+/// Reads a source to its end, but no further than one byte past the limit, in bytes.
+pub fn read_to_end<S: Source>(
+    alloc: Global,
+    source: &mut S,
+    limit: usize,
+) -> Result<Vec<u8>, LoadFault>
+    // All that was left.
+    ensures all { IfOk result (λ bytes. Gave bytes.items (S.told source.old) (S.told source.new)) }
+    ensures end { OnOk result (IsAtEnd (S.told source.new)) }
+    ensures within { IfOk result (λ bytes. length bytes.items ≤ limit) }
+
+    ensures too_long_only_past_the_limit { IsErrOf result LoadFault.TooLong → IsLonger limit (S.told source.old) }
+    ensures failed_only_by_a_fault { IsErrOf result LoadFault.Failed → HasFailed (S.told source.old) (S.told source.new) }
+    ensures no_further { (bytes : List ℕ) × Gave bytes (S.told source.old) (S.told source.new) × (length bytes ≤ limit + 1) }
+    ensures later { (S.told source.old).faults ≤ (S.told source.new).faults }
+{
+    let mut buffer = zeros(alloc, PIECE)?;
+    let buffer = buffer.as_mut_slice();
+    let mut bytes = Vec::new(alloc);
+    while bytes.len() <= limit {
+        let room = (limit - bytes.len()).min(PIECE - 1) + 1;
+        if read_piece(source, &mut buffer[..room], &mut bytes)? == 0 {
+            return Ok(bytes);
+        }
+    }
+    Err(LoadFault::TooLong)
+}
+
+/// Writes all of the bytes, and then what the sink holds back.
+pub fn write_all<K: Sink>(sink: &mut K, bytes: &[u8]) -> Result<(), Failed>
+    ensures all { OnOk result (Took bytes.now (K.told sink.old) (K.told sink.new)) }
+    ensures passed_on { OnOk result (K.holds_back sink.new ≡ false) }
+    ensures front { TookPrefix bytes.now (K.told sink.old) (K.told sink.new) }
+    ensures cause { HasCause (K.told sink.old) (K.told sink.new) result }
+{
+    let mut rest = bytes;
+    while !rest.is_empty() {
+        let count = sink.write(rest)?;
+        rest = &rest[count..];
+    }
+    sink.finish()
+}

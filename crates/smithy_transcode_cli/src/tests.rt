@@ -1,0 +1,185 @@
+//! Runs over objects in memory, and the adapters of the system.
+mod rows;
+
+use crate::memory::{MemoryFiles, MemorySink, MemorySource};
+use crate::os::{OsFiles, OsSink, OsSource};
+use crate::outside::{Files, LoadFault, Sink, Source};
+use crate::run::run;
+use crate::streams::{read_to_end, write_all};
+use rows::{LONGS, ROWS, Row};
+use std::alloc::{AllocError, Global};
+use std::collections::BTreeMap;
+use std::process::Abort;
+use std::test::Fail;
+
+// The words of a row.
+fn words_of(alloc: Global, words: &str) -> Result<Vec<String>, AllocError> {
+    let mut all = Vec::new(alloc);
+    for word in words.split(' ') {
+        all.push(String::from_str(alloc, word)?)?;
+    }
+    Ok(all)
+}
+
+// A table at the path `t`.
+fn files_with(alloc: Global, table: Vec<u8>, fail: u64) -> Result<MemoryFiles, AllocError> {
+    let mut entries = BTreeMap::new(alloc);
+    entries.insert(String::from_str(alloc, "t")?, table)?;
+    Ok(MemoryFiles::new(entries, [fail].to_vec(alloc)?))
+}
+
+// Checks one row: the status, what was written, and that nothing stands on standard error.
+fn check(rt: &impl Abort, alloc: Global, row: &Row) -> Result<(), Fail> {
+    let words = words_of(alloc, row.words)?;
+    let piece = row.piece.max(1);
+    let mut files = files_with(alloc, row.table.as_bytes().to_vec(alloc)?, row.files_fail)?;
+    let bytes = row.input.as_bytes().to_vec(alloc)?;
+    let mut input = MemorySource::new(bytes, piece, [row.input_fail].to_vec(alloc)?);
+    let mut out = MemorySink::new(alloc, piece, 4096, [row.out_fail].to_vec(alloc)?)?;
+    let mut err = MemorySink::new(alloc, piece, 4096, Vec::new(alloc))?;
+    let status = run(alloc, &words, &mut files, &mut input, &mut out, &mut err);
+    assert_eq!(rt; status, row.status, "{}", row.name);
+    assert_eq!(rt; out.bytes.as_slice(), row.output.as_bytes(), "{}", row.name);
+    assert!(rt; err.bytes.is_empty(), "{}", row.name);
+    Ok(())
+}
+
+#[test]
+fn rows_are_answered_as_written(rt: HostRuntime) -> Result<(), Fail> {
+    for row in &ROWS {
+        check(&rt, rt.alloc(), row)?;
+    }
+    Ok(())
+}
+
+/// A table and an input of so many bytes, filled up with empty lines and blanks.
+#[derive(Clone, Copy)]
+struct Length {
+    name: &'static str,
+    table: usize,
+    input: usize,
+    status: u8,
+}
+
+const LENGTHS: [Length; 4] = [
+    Length {
+        name: "a table at its limit",
+        table: 1_048_576,
+        input: 0,
+        status: 0,
+    },
+    Length {
+        name: "a table past its limit",
+        table: 1_048_577,
+        input: 0,
+        status: 23,
+    },
+    Length {
+        name: "an input at its limit",
+        table: 100,
+        input: 16_777_216,
+        status: 10,
+    },
+    Length {
+        name: "an input past its limit",
+        table: 100,
+        input: 16_777_217,
+        status: 23,
+    },
+];
+
+// So many bytes: these, and then the byte again and again.
+fn filled(alloc: Global, front: &str, byte: u8, len: usize) -> Result<Vec<u8>, AllocError> {
+    let mut bytes = front.as_bytes().to_vec(alloc)?;
+    bytes.resize(len, byte)?;
+    Ok(bytes)
+}
+
+#[test]
+fn limits_are_exact(rt: HostRuntime) -> Result<(), Fail> {
+    let alloc = rt.alloc();
+    for row in &LENGTHS {
+        let words = words_of(alloc, "transcode t S json json")?;
+        let mut files = files_with(alloc, filled(alloc, LONGS, b'\n', row.table)?, 0)?;
+        let bytes = filled(alloc, "", b' ', row.input)?;
+        let mut input = MemorySource::new(bytes, usize::MAX, Vec::new(alloc));
+        let mut out = MemorySink::new(alloc, usize::MAX, 16, Vec::new(alloc))?;
+        let mut err = MemorySink::new(alloc, usize::MAX, 16, Vec::new(alloc))?;
+        let status = run(alloc, &words, &mut files, &mut input, &mut out, &mut err);
+        assert_eq!(rt; status, row.status, "{}", row.name);
+    }
+    Ok(())
+}
+
+// A member `l` of so many lists, one in the other.
+fn nested(alloc: Global, depth: usize) -> Result<Vec<u8>, AllocError> {
+    let mut bytes = b"{\"l\":".to_vec(alloc)?;
+    for _ in 0..depth {
+        bytes.push(b'[')?;
+    }
+    for _ in 0..depth {
+        bytes.push(b']')?;
+    }
+    bytes.push(b'}')?;
+    Ok(bytes)
+}
+
+#[test]
+fn nesting_is_limited(rt: HostRuntime) -> Result<(), Fail> {
+    let alloc = rt.alloc();
+    for (depth, status) in [(127, 0), (128, 11)] {
+        let words = words_of(alloc, "transcode t S json json")?;
+        let table = "list L L\nstructure S\nmember l L\n";
+        let mut files = files_with(alloc, table.as_bytes().to_vec(alloc)?, 0)?;
+        let bytes = nested(alloc, depth)?;
+        let mut input = MemorySource::new(bytes, 4096, Vec::new(alloc));
+        let mut out = MemorySink::new(alloc, 4096, 4096, Vec::new(alloc))?;
+        let mut err = MemorySink::new(alloc, 4096, 4096, Vec::new(alloc))?;
+        let ended = run(alloc, &words, &mut files, &mut input, &mut out, &mut err);
+        assert_eq!(rt; ended, status, "{depth} lists");
+    }
+    Ok(())
+}
+
+#[test]
+fn a_source_is_read_to_its_end(rt: HostRuntime) -> Result<(), Fail> {
+    let alloc = rt.alloc();
+    let mut source = MemorySource::new(b"abc".to_vec(alloc)?, 2, Vec::new(alloc));
+    let bytes = read_to_end(alloc, &mut source, 3).ok().ok_or("not read")?;
+    assert_eq!(rt; bytes.as_slice(), b"abc".as_slice());
+    let mut source = MemorySource::new(b"abc".to_vec(alloc)?, 2, Vec::new(alloc));
+    let refused = read_to_end(alloc, &mut source, 2).err();
+    assert_eq!(rt; refused, Some(LoadFault::TooLong));
+    Ok(())
+}
+
+#[test]
+fn real_files_are_loaded(rt: HostRuntime) {
+    let alloc = rt.alloc();
+    let mut files = OsFiles::new(&rt);
+    let empty = files.load(alloc, "/dev/null", 0);
+    assert!(rt; empty.is_ok_and(|bytes| bytes.is_empty()));
+    assert_eq!(rt;
+        files.load(alloc, "/dev/zero", 9).err(),
+        Some(LoadFault::TooLong)
+    );
+    assert_eq!(rt;
+        files.load(alloc, "absent", 9).err(),
+        Some(LoadFault::Failed)
+    );
+    assert_eq!(rt; files.load(alloc, ".", 9).err(), Some(LoadFault::Failed));
+}
+
+#[test]
+fn a_reader_is_a_source(rt: HostRuntime) {
+    let alloc = rt.alloc();
+    let mut source = OsSource::new(b"abc".as_slice());
+    let bytes = read_to_end(alloc, &mut source, 3);
+    assert!(rt; bytes.is_ok_and(|bytes| bytes.len() == 3));
+}
+
+#[test]
+fn a_writer_is_a_sink(rt: HostRuntime) {
+    let mut sink = OsSink::new(Vec::new(rt.alloc()));
+    assert!(rt; write_all(&mut sink, b"abc").is_ok());
+}
