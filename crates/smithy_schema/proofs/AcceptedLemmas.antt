@@ -17,7 +17,7 @@ use Rattle.smithy_schema.specs.Table.{Kind, scalar, structure_of, list_of, nothi
 use Rattle.smithy_schema.specs.Names.{scalar_names, named, is_scalar_name, is_unbuilt_name, is_reserved, has_equal_texts, is_query_name}
 use Rattle.smithy_schema.specs.Decl.{MemberDecl, Form, structure, union, list, map as map_form, Decl}
 use Rattle.smithy_schema.specs.Acceptance.{Fault, Test, tests, members_of, targets_of, is_declared, place_of, member_of, shape_of, table_from, json_name_of, query_name_of, is_unbuilt_form, has_unbuilt_item, has_unknown_target, is_duplicate, has_clash, has_unfit_name, is_too_many, first_failing, first_fault}
-use Rattle.smithy_schema.specs.Accepted.{AreAcceptedMembers, IsAccepted}
+use Rattle.smithy_schema.specs.Accepted.{AreAcceptedMembers, HaveTextNames, IsAccepted}
 use Rattle.smithy_schema.proofs.OrderLemmas.{first_of, false_if, not_both, no_equal_texts, le_or_lt}
 
 -- ---- each declaration passes each test
@@ -269,14 +269,16 @@ closed ds p outer inner n = of_place ds (λ kind. place_in kind n ≡ Some inner
     (λ k d within is found. place_known ds d.form
     (ap (λ d. has_unknown_target ds (1 + k) d) (sym is) ∙ p.known k d within) inner n found) outer
 
-pub accepted_table : (ds : List Decl) → first_fault ds tests ≡ None → IsAccepted (table_from ds)
-accepted_table ds none =
+pub accepted_table : (ds : List Decl) → first_fault ds tests ≡ None
+    → ((at : Place) → HaveTextNames (table.members_of (kind_of (table_from ds) at))) → IsAccepted (table_from ds)
+accepted_table ds none texts =
     let p = passes ds none in
     record {
       is_closed = closed ds p;
       are_few = omega (arith, few_declarations ds p, length-map ds (to_declaration ds));
       names_differ = ap has_equal_texts (map-map (λ (d : table.Declaration). d.name) (to_declaration ds) ds) ∙ names_differ ds p;
       names_are_free = ap (list_any is_reserved) (map-map (λ (d : table.Declaration). d.name) (to_declaration ds) ds) ∙ names_are_free ds p;
+      names_are_texts = texts;
       members_are_accepted = members_in_table ds p;
       element_names_fit = elements_in_table ds p;
     }

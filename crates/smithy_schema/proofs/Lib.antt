@@ -9,4 +9,10 @@ mod OrderLemmas
 mod AcceptanceLemmas
 mod BuildLemmas
 mod AcceptedLemmas
+mod NameLemmas
+pub mod ChildSites
+pub mod ChildLemmas
+pub mod NestingLemmas
+pub mod NamedLemmas
+pub mod SiteLemmas
 mod MembersLemmas

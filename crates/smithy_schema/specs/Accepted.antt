@@ -1,6 +1,6 @@
 -- What holds of each table that was accepted.
-use Rattle.std.specs.Prelude.{◌≡◌, ◌≤◌, List, map, length, true, false, Some}
-use Rattle.std.specs.List.{list_all, list_any}
+use Rattle.std.specs.Prelude.{◌≡◌, ◌≤◌, List, map, length, true, false, Some, IsUtf8}
+use Rattle.std.specs.List.{AllByRecursion, list_all, list_any}
 use Rattle.smithy_schema.specs.declared.place.Place.{Place}
 use Rattle.smithy_schema.specs.Table.{Table, Declaration, Member, ListShape, kind_of, members_of, list_shape_of, json_name_of, query_name_of, element_name_of, IsClosed}
 use Rattle.smithy_schema.specs.Names.{has_equal_texts, is_query_name, is_reserved}
@@ -13,12 +13,17 @@ pub record AreAcceptedMembers (members : List Member) : Type 0 where
   pub query_names_differ : has_equal_texts (map query_name_of members) ≡ false
   pub query_names_fit : list_all is_query_name (map query_name_of members) ≡ true
 
+-- the name and the JSON name of each are in UTF-8
+abbrev pub HaveTextNames : List Member → Type 0
+HaveTextNames members = AllByRecursion (λ (m : Member). IsUtf8 m.name × IsUtf8 (json_name_of m)) members
+
 -- the whole table
 pub record IsAccepted (table : Table) : Type 0 where
   pub is_closed : IsClosed table
   pub are_few : length table ≤ 65535
   pub names_differ : has_equal_texts (map (λ (d : Declaration). d.name) table) ≡ false
   pub names_are_free : list_any is_reserved (map (λ (d : Declaration). d.name) table) ≡ false
+  pub names_are_texts : (at : Place) → HaveTextNames (members_of (kind_of table at))
   pub members_are_accepted : (at : Place) → AreAcceptedMembers (members_of (kind_of table at))
   pub element_names_fit : (at : Place) (l : ListShape) → list_shape_of (kind_of table at) ≡ Some l
       → is_query_name (element_name_of l) ≡ true

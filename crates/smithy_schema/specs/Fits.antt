@@ -1,22 +1,27 @@
 -- Which values are values of a place.
-use Rattle.std.specs.Prelude.{◌≡◌, ◌<◌, ◌^◌, ℕ, ℤ, pos, neg_ℤ, ◌≤ℤ◌, ◌<ℤ◌, List, length, Bool, true, false, Some, None, slice_get}
+use Rattle.std.specs.Prelude.{◌≡◌, ◌≤◌, ◌^◌, ℕ, suc, ℤ, pos, neg_ℤ, ◌≤ℤ◌, ◌<ℤ◌, Bool, true, false, Some, None, IsUtf8}
 use Rattle.smithy_schema.specs.declared.place.Place.{Place}
 use Rattle.smithy_schema.specs.declared.shape_type.Scalar.TheVariants as scalars
-use Rattle.smithy_schema.specs.Table.{Table, Member, Kind, scalar, kind_of, place_in, members_of, is_sparse, IsList, IsStructure}
+use Rattle.smithy_schema.specs.Table.{Table, Kind, scalar, kind_of, place_in, is_sparse, IsList, IsStructure}
 use Rattle.smithy_schema.specs.Value.{Value, whole, text, list, structure, null_element, Values, no_values, value, MemberValues, no_member_values, member_value}
 
 -- from -2^63 to 2^63-1
 abbrev pub IsLong : ℤ → Type 0
 IsLong n = (neg_ℤ (pos (2 ^ 63)) ≤ℤ n) × (n <ℤ pos (2 ^ 63))
 
--- The value is one of the place, or a null element where one may stand.
+-- the positions ascend from this one on, each once
+abbrev pub AscendFrom : ℕ → MemberValues → Type 0
+AscendFrom least no_member_values = Unit {0}
+AscendFrom least (member_value n v ms) = (least ≤ n) × AscendFrom (suc n) ms
+
+-- The value is one of the place, or a null element where one may stand. A text is in UTF-8.
 abbrev mutual
   pub FitsOr : Table → Place → Bool → Value → Type 0
   FitsOr table place nulls (whole n) = (kind_of table place ≡ scalar scalars.Long) × IsLong n
-  FitsOr table place nulls (text s) = kind_of table place ≡ scalar scalars.String
+  FitsOr table place nulls (text s) = (kind_of table place ≡ scalar scalars.String) × IsUtf8 s
   FitsOr table place nulls (list vs) = IsList (kind_of table place) × ElementsFit table (kind_of table place) vs
   FitsOr table place nulls (structure ms) =
-      IsStructure (kind_of table place) × MembersFit table (kind_of table place) ms
+      IsStructure (kind_of table place) × MembersFit table (kind_of table place) ms × AscendFrom 0 ms
   FitsOr table place nulls null_element = nulls ≡ true
 
   -- the elements of a list: a null stands only where it is sparse

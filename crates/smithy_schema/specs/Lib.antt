@@ -9,6 +9,7 @@ pub mod TableText
 pub mod Acceptance
 pub mod Accepted
 -- for contracts
+pub mod Limits
 pub mod Site
 pub mod Reading
 pub mod Writing

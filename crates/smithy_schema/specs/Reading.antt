@@ -15,7 +15,7 @@ use Rattle.smithy_schema.specs.Site.{Site, site_of, member_site}
 
 -- what a reader keeps of an open container
 pub record Mark : Type 0 where
-  -- an entry has come
+  -- an entry has come, where the bytes that follow depend on that
   pub entered : Bool
   -- the container was opened at the end of the input
   pub at_end : Bool
@@ -55,7 +55,7 @@ pub record Relations : Type 1 where
   pub position : Table → Place → List ℕ → Option ℕ
   -- from a to e stands a value of the place, a null, something that is skipped
   pub stands : List ℕ → Table → Place → ℕ → ℕ → Value → ℕ → Type 0
-  pub nulls : List ℕ → ℕ → ℕ → Type 0
+  pub nulls : List ℕ → ℕ → ℕ → ℕ → Type 0
   pub skips : List ℕ → ℕ → ℕ → ℕ → Type 0
   -- a container of the place begins at a, and its inside at b with a mark
   pub opens : List ℕ → Table → Place → ℕ → ℕ → ℕ → Mark → Type 0
@@ -112,7 +112,7 @@ abbrev pub IsChild : Relations → List ℕ → Table → Place → ℕ → Opti
 IsChild w i t p d key (child_value k n v) c f =
     (k ≡ key) × (n ≡ named w t p key)
     × ((q : Place) × (place_in (kind_of t p) n ≡ Some q) × w.stands i t q d c v f)
-IsChild w i t p d key (child_null k) c f = (k ≡ key) × IsSparse (kind_of t p) × w.nulls i c f
+IsChild w i t p d key (child_null k) c f = (k ≡ key) × IsSparse (kind_of t p) × w.nulls i d c f
 IsChild w i t p d key (child_unknown k) c f =
     (k ≡ key) × IsStructure (kind_of t p) × (named w t p key ≡ None) × w.skips i d c f
 
@@ -161,7 +161,7 @@ pub record IsLawful (w : Relations) : Type 0 where
       → w.stands i t p d a v e → (a < e) ⊎ ((a ≡ e) × (e ≡ length i) × IsStructure (kind_of t p))
   pub stands_within : (i : List ℕ) (t : Table) (p : Place) (d a : ℕ) (v : Value) (e : ℕ)
       → w.stands i t p d a v e → (a ≤ e) × (e ≤ length i)
-  pub nulls_within : (i : List ℕ) (a e : ℕ) → w.nulls i a e → (a < e) × (e ≤ length i)
+  pub nulls_within : (i : List ℕ) (d a e : ℕ) → w.nulls i d a e → (a < e) × (e ≤ length i)
   pub skips_within : (i : List ℕ) (d a e : ℕ) → w.skips i d a e → (a < e) × (e ≤ length i)
   -- a step with its child leaves less to read
   pub nearer : (i : List ℕ) (t : Table) (p : Place) (d b : ℕ) (m : Mark) (key : Option (List ℕ)) (c : ℕ) (n : Mark) (x : Child) (f : ℕ)
@@ -175,10 +175,10 @@ pub record IsLawful (w : Relations) : Type 0 where
       → w.closes i t p d b m e → w.closes i t p d b m f → e ≡ f
   pub step_or_close : (i : List ℕ) (t : Table) (p : Place) (d b : ℕ) (m : Mark) (key : Option (List ℕ)) (c : ℕ) (n : Mark) (e : ℕ)
       → w.steps i t p d b m key c n → w.closes i t p d b m e → ⊥
-  pub same_null : (i : List ℕ) (a e f : ℕ) → w.nulls i a e → w.nulls i a f → e ≡ f
+  pub same_null : (i : List ℕ) (d a e f : ℕ) → w.nulls i d a e → w.nulls i d a f → e ≡ f
   pub same_skip : (i : List ℕ) (d a e f : ℕ) → w.skips i d a e → w.skips i d a f → e ≡ f
   -- a null can be told from a value by how it begins
-  pub null_begins : (i : List ℕ) (a e : ℕ) → w.nulls i a e → w.begins_null i a ≡ true
+  pub null_begins : (i : List ℕ) (d a e : ℕ) → w.nulls i d a e → w.begins_null i a ≡ true
   pub value_begins : (i : List ℕ) (t : Table) (p : Place) (d a : ℕ) (v : Value) (e : ℕ)
       → w.stands i t p d a v e → w.begins_null i a ≡ false
   -- a container that opens adds one to those that are open at most from there on
@@ -192,7 +192,7 @@ pub record IsLawful (w : Relations) : Type 0 where
       → w.steps i t p d b m key c n → w.openers (drop c i) ≤ w.openers (drop b i)
   pub value_takes_none : (i : List ℕ) (t : Table) (p : Place) (d a : ℕ) (v : Value) (e : ℕ)
       → w.stands i t p d a v e → w.openers (drop e i) ≤ w.openers (drop a i)
-  pub null_takes_none : (i : List ℕ) (a e : ℕ) → w.nulls i a e → w.openers (drop e i) ≤ w.openers (drop a i)
+  pub null_takes_none : (i : List ℕ) (d a e : ℕ) → w.nulls i d a e → w.openers (drop e i) ≤ w.openers (drop a i)
   pub skip_takes_none : (i : List ℕ) (d a e : ℕ) → w.skips i d a e → w.openers (drop e i) ≤ w.openers (drop a i)
 
 -- what holds of one reading holds of another: with its limits kept, and with them lifted
@@ -202,7 +202,7 @@ pub record IsBelow (w u : Relations) : Type 0 where
   pub allows : (d : ℕ) → w.allows d → u.allows d
   pub stands : (i : List ℕ) (t : Table) (p : Place) (d a : ℕ) (v : Value) (e : ℕ)
       → w.stands i t p d a v e → u.stands i t p d a v e
-  pub nulls : (i : List ℕ) (a e : ℕ) → w.nulls i a e → u.nulls i a e
+  pub nulls : (i : List ℕ) (d a e : ℕ) → w.nulls i d a e → u.nulls i d a e
   pub skips : (i : List ℕ) (d a e : ℕ) → w.skips i d a e → u.skips i d a e
   pub opens : (i : List ℕ) (t : Table) (p : Place) (d a b : ℕ) (m : Mark)
       → w.opens i t p d a b m → u.opens i t p d a b m
@@ -282,7 +282,7 @@ abbrev pub SkipsNot : Relations → Cursor → Type 0
 SkipsNot w c = (e : ℕ) → w.skips c.input (depth c) c.at e → ⊥
 
 abbrev pub NullsNot : Relations → Cursor → Type 0
-NullsNot w c = (e : ℕ) → w.nulls c.input c.at e → ⊥
+NullsNot w c = (e : ℕ) → w.nulls c.input (depth c) c.at e → ⊥
 
 -- so many containers are open at once from here on, by the bytes alone
 abbrev pub ReachesDepth : Relations → ℕ → Cursor → Type 0

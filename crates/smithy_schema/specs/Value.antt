@@ -1,5 +1,5 @@
 -- The value that a body stands for, whichever wire carries it.
-use Rattle.std.specs.Prelude.{ℕ, ℤ, List, [], ◌∷◌}
+use Rattle.std.specs.Prelude.{ℕ, suc, max, ℤ, List, [], ◌∷◌}
 use Rattle.std.specs.Ordering.{nat_cmp, match_ordering}
 
 mutual
@@ -31,3 +31,21 @@ put_member position v no_member_values = member_value position v no_member_value
 put_member position v (member_value at w rest) =
     match_ordering (nat_cmp position at) (member_value position v (member_value at w rest))
     (member_value at v rest) (member_value at w (put_member position v rest))
+
+abbrev mutual
+  -- how deep lists and structures nest: 0 for a scalar and a null, else one more than the deepest child
+  pub nesting : Value → ℕ
+  nesting (whole n) = 0
+  nesting (text s) = 0
+  nesting (list vs) = suc (elements_nesting vs)
+  nesting (structure ms) = suc (members_nesting ms)
+  nesting null_element = 0
+
+  -- the greatest of the children
+  pub elements_nesting : Values → ℕ
+  elements_nesting no_values = 0
+  elements_nesting (value v vs) = max (nesting v) (elements_nesting vs)
+
+  pub members_nesting : MemberValues → ℕ
+  members_nesting no_member_values = 0
+  members_nesting (member_value n v ms) = max (nesting v) (members_nesting ms)

@@ -136,7 +136,7 @@ pub trait ShapeDeserializer {
         ensures conduct { Conducts (state self.old) (state self.new) result }
         ensures memory { IsErrOf result NoMemory → ⊥ }
         ensures shallow { IsErrOf result TooDeep → ⊥ }
-        ensures ok { null_is_due (wire (settings self.old)) (state self.old) ≡ true → OnOk result ((wire (settings self.old)).nulls (state self.old).input (state self.old).at (state self.new).at) }
+        ensures ok { null_is_due (wire (settings self.old)) (state self.old) ≡ true → OnOk result ((wire (settings self.old)).nulls (state self.old).input (depth (state self.old)) (state self.old).at (state self.new).at) }
         ensures passes { null_is_due (wire (settings self.old)) (state self.old) ≡ true → OnOk result (Passes (state self.old) (state self.new)) }
         ensures refused { null_is_due (wire (settings self.old)) (state self.old) ≡ true → IsRefused result → NullsNot (wire (settings self.old)) (state self.old) }
         ensures would { is_strict (settings self.old) → null_is_due (wire (settings self.old)) (state self.old) ≡ true → IsInvalid result → NullsNot (lifted (settings self.old)) (state self.old) }

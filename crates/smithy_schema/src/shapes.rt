@@ -101,8 +101,11 @@ impl Shapes {
     /// The view of a declaration as a whole.
     pub fn schema(&self, at: ShapeRef) -> Schema<'_>
         requires { at.0 < length self.now }
-        ensures { site_of result ≡ shape_site self.now at.0 }
+        ensures site { site_of result ≡ shape_site self.now at.0 }
+        ensures accepted { IsAccepted self.now }
     {
+        let count = self.len();
+        prove!((at.0 as usize) < count);
         Schema {
             shapes: self,
             place: Place {

@@ -4,12 +4,15 @@ use Rattle.std.proofs.lemmas.List.{length-map}
 use Rattle.std.proofs.lemmas.Simd.{map-map}
 use Rattle.smithy_schema.specs.declared.place.Place.{Place}
 use Rattle.smithy_schema.specs.Acceptance.{Fault, refused, accepted, table_from}
+use Rattle.smithy_schema.specs.Accepted.{HaveTextNames}
 use Rattle.smithy_schema.specs.DeclViews.{decl_of}
+use Rattle.smithy_schema.specs.Table.{Table, kind_of, members_of}
 use Rattle.smithy_schema.specs.Views.{declaration_of}
 use Rattle.smithy_schema.specs.Private.Order.{IsOrderOf}
 use Rattle.smithy_schema.specs.Private.Placed.{table_with}
 use Rattle.smithy_schema.proofs.BuildLemmas.{table_placed, lengths_of_places, names_kept}
 use Rattle.smithy_schema.proofs.AcceptedLemmas.{passes, few_declarations, accepted_table}
+use Rattle.smithy_schema.proofs.NameLemmas.{names_are_texts}
 use Rattle.smithy_schema.proofs.shapes.Shapes.build.Goals as goal
 
 pub all_places-requires-clause-few : goal.all_places-requires-clause-few
@@ -34,7 +37,9 @@ invariant_of-result c =
     ∙ table_placed ds decl_of c.args.decls.items in
     let in_order = rw c.as_slice.ensures.value at c.in_ok-by_name.ensures in
     let P : List (List ℕ) → Type 0 = λ names. IsOrderOf names c.in_ok-by_name.by_name.items in
-    (rw kept (accepted_table ds ok), subst P (sym (names_kept ds decl_of c.args.decls.items declaration_of c.in_ok-declarations.declarations.items kept)) in_order)
+    let Q : Table → Type 0 = λ t. (at : Place) → HaveTextNames (members_of (kind_of t at)) in
+    let texts = subst Q kept (names_are_texts c.in_ok-declarations.declarations.items) in
+    (rw kept (accepted_table ds ok texts), subst P (sym (names_kept ds decl_of c.args.decls.items declaration_of c.in_ok-declarations.declarations.items kept)) in_order)
 
 pub returns-clause-built : goal.returns-clause-built
 returns-clause-built c =

@@ -1,0 +1,11 @@
+-- The limits on depth and on the size of numbers, under which a wire is read.
+use Rattle.std.specs.Prelude.{ℕ, nat_le, Bool, true}
+
+-- the limits are kept, or lifted
+pub data Limits : Type 0 where
+  kept : Limits
+  lifted : Limits
+
+abbrev pub is_within : Limits → ℕ → ℕ → Bool
+is_within kept greatest depth = nat_le depth greatest
+is_within lifted greatest depth = true

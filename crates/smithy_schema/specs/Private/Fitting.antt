@@ -1,0 +1,82 @@
+-- What entries mean together fits a place, where what each means fits its own.
+use Rattle.std.specs.Prelude.{◌≡◌, ℕ, ◌<◌, List, [], ◌∷◌, ◌++◌, Option, Some, None, Bool, true, false, refl, option_and_then}
+use Rattle.std.specs.declared.cmp.Ordering.{Ordering}
+use Rattle.std.specs.declared.cmp.Ordering.TheVariants.{Less, Equal, Greater}
+use Rattle.std.specs.Ordering.{MatchOrdering, nat_cmp, match_ordering}
+use Rattle.std.proofs.Common.{sym, ◌∙◌, ap, subst}
+use Rattle.std.proofs.lemmas.Cmp.{ranked}
+use Rattle.smithy_schema.specs.declared.place.Place.{Place}
+use Rattle.smithy_schema.specs.Table.{Table, ListShape, Kind, list_of, place_in, is_sparse}
+use Rattle.smithy_schema.specs.Value.{Value, whole, text, list, structure, null_element, values_of, MemberValues, no_member_values, member_value, put_member}
+use Rattle.smithy_schema.specs.Container.{Entry, element_of, members_from}
+use Rattle.smithy_schema.specs.Fits.{FitsOr, ElementsFit, MembersFit, Fits}
+use Rattle.smithy_schema.specs.Private.Options.{same_some, step_apart}
+use Rattle.smithy_schema.specs.Private.ElementFolds.{null_apart}
+use Rattle.smithy_schema.specs.Private.MemberFolds.{entry_with}
+
+-- ---- lists
+
+-- a value of a place fits it where nulls may stand, too
+fits_or : (t : Table) (q : Place) (b : Bool) (v : Value) → FitsOr t q false v → FitsOr t q b v
+fits_or t q b (whole n) h = h
+fits_or t q b (text s) h = h
+fits_or t q b (list vs) h = h
+fits_or t q b (structure ms) h = h
+fits_or t q b null_element h = cc
+
+abbrev pub ElementFits : Table → Kind → Value → Type 0
+ElementFits t k v = (q : Place) × (place_in k None ≡ Some q) × FitsOr t q (is_sparse k) v
+
+pub one_more_fits : (t : Table) (k : Kind) (vs : List Value) (v : Value) → ElementsFit t k (values_of vs) → ElementFits t k v
+    → ElementsFit t k (values_of (vs ++ v ∷ []))
+one_more_fits t k [] v h w = (w, tt)
+one_more_fits t k (u ∷ vs) v h w = (h.0, one_more_fits t k vs v h.1 w)
+
+pub element_fits : (t : Table) (k : Kind) (l : ListShape) → k ≡ list_of l → (nil : Bool) (mean : Option Value) (v : Value)
+    → ((w : Value) → mean ≡ Some w → Fits t l.place w) → element_of l.is_sparse nil mean ≡ Some v → ElementFits t k v
+element_fits t k l kind nil (Some w) v fits h =
+    (l.place, rw kind refl, fits_or t l.place (is_sparse k) v (subst (Fits t l.place) (same_some w v h) (fits w refl)))
+element_fits t k l kind nil None v fits h =
+    let n = null_apart l.is_sparse nil v h in
+    (l.place, rw kind refl, subst (FitsOr t l.place (is_sparse k)) (sym n.2) (rw kind n.0))
+
+-- ---- structures
+
+abbrev pub MemberFits : Table → Kind → ℕ → Value → Type 0
+MemberFits t k n v = (q : Place) × (place_in k (Some n) ≡ Some q) × FitsOr t q false v
+
+placed_fits : (t : Table) (k : Kind) (n at : ℕ) (v w : Value) (rest more : MemberValues) (order : Ordering)
+    → MatchOrdering order (n < at) (n ≡ at) (at < n)
+    → MemberFits t k n v → MemberFits t k at w → MembersFit t k rest → MembersFit t k more
+    → MembersFit t k (match_ordering order (member_value n v (member_value at w rest)) (member_value at v rest) (member_value at w more))
+placed_fits t k n at v w rest more Less is one other all next = (one, (other, all))
+placed_fits t k n at v w rest more Equal is one other all next = (subst (λ m. MemberFits t k m v) is one, all)
+placed_fits t k n at v w rest more Greater is one other all next = (other, next)
+
+-- one more member that fits
+put_fits : (t : Table) (k : Kind) (n : ℕ) (v : Value) (fs : MemberValues) → MemberFits t k n v → MembersFit t k fs
+    → MembersFit t k (put_member n v fs)
+put_fits t k n v no_member_values one h = (one, tt)
+put_fits t k n v (member_value at w rest) one h =
+    placed_fits t k n at v w rest (put_member n v rest) (nat_cmp n at) (ranked n at (nat_cmp n at) refl) one h.0 h.1 (put_fits t k n v rest one h.1)
+
+-- what an entry adds fits, where what it means does
+pub entry_fits : (t : Table) (k : Kind) (key : Option (List ℕ)) (named : Option ℕ) (mean : Option Value) (absent skippable nil : Bool) (fs us : MemberValues) (xs : List Entry)
+    → ((n : ℕ) (v : Value) → named ≡ Some n → mean ≡ Some v → MemberFits t k n v) → MembersFit t k fs
+    → ((gs : MemberValues) → MembersFit t k gs → members_from gs xs ≡ Some us → MembersFit t k us)
+    → members_from fs (entry_with key named mean absent skippable nil ∷ xs) ≡ Some us
+    → MembersFit t k us
+entry_fits t k None named mean absent skippable nil fs us xs fit h next folds = cc
+entry_fits t k (Some key) named mean true skippable nil fs us xs fit h next folds = next fs h folds
+entry_fits t k (Some key) None mean false true nil fs us xs fit h next folds = next fs h folds
+entry_fits t k (Some key) None mean false false nil fs us xs fit h next folds = cc
+entry_fits t k (Some key) (Some n) None false skippable nil fs us xs fit h next folds = cc
+entry_fits t k (Some key) (Some n) (Some v) false skippable nil fs us xs fit h next folds =
+    next (put_member n v fs) (put_fits t k n v fs (fit n v refl refl) h) folds
+
+-- what stands at the place of a member fits it, by what it means at each place
+pub member_fits : (t : Table) (k : Kind) (meaning : Place → Option Value) → ((q : Place) (w : Value) → meaning q ≡ Some w → Fits t q w)
+    → (named : Option ℕ) (n : ℕ) (v : Value) → named ≡ Some n → option_and_then meaning (place_in k named) ≡ Some v → MemberFits t k n v
+member_fits t k meaning fits named n v is h =
+    let q = step_apart (place_in k named) meaning v h in
+    (q.0, sym (ap (place_in k) is) ∙ q.1, fits q.0 v q.2)
