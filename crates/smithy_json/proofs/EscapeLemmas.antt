@@ -1,7 +1,7 @@
 -- How a text is escaped, and that it unescapes to itself.
 use Rattle.std.proofs.Common.{◌≡◌, ◌≢◌, ◌+◌, ◌≤◌, ◌<◌, ℕ, suc, List, [], ◌∷◌, ◌++◌, map, length, take, drop, get_or, Bool, true, false, ◌==◌, Ok, Err, nat_lt, refl, sym, ap, ◌∙◌, arith, cond, subst, inl, inr, ◌⊎◌, nat_le, slice_range, ◌-◌}
 use Rattle.std.proofs.lemmas.Bool.Decides.{nat_tests}
-use Rattle.std.proofs.lemmas.List.{append-nil, drop_all, take_all, length-append, drop-drop, drop_more, length-drop}
+use Rattle.std.proofs.lemmas.List.{append-nil, drop_all, take_all, length-append, drop-drop, length-drop}
 use Rattle.std.proofs.lemmas.List.Sums.{prefix_len-le-length}
 use Rattle.std.proofs.lemmas.List.FromFn.{get_or-map-range_with_len}
 use Rattle.std.proofs.lemmas.Str.{encode_ascii, IsCharBoundary-after_ascii, IsCharBoundary-before_ascii, IsCharBoundary-end}
@@ -63,7 +63,7 @@ other_is_ascii b other = go (other_bytes b other)
     go (inr (inr is)) = omega arith
 
 -- a fact of each byte below 0x20, by computing
-each_control : {X : Type 0} (f g : ℕ → X) (d : X) → map f (range_with_len 0 32) ≡ map g (range_with_len 0 32) → (b : ℕ) → b < 32 → f b ≡ g b
+pub each_control : {X : Type 0} (f g : ℕ → X) (d : X) → map f (range_with_len 0 32) ≡ map g (range_with_len 0 32) → (b : ℕ) → b < 32 → f b ≡ g b
 each_control f g d same b below =
     sym (get_or-map-range_with_len f 0 32 b b d below (omega arith))
     ∙ (ap (λ l. get_or l b d) same ∙ get_or-map-range_with_len g 0 32 b b d below (omega arith))
@@ -203,12 +203,6 @@ module _ (value : List ℕ) (at stop : ℕ) (run : stop ≡ at + prefix_len is_p
 
   pub stop_is_other : at ≤ length value → stop < length value → is_plain (get_or value stop 0) ≡ false
   stop_is_other within before = run_stops value at stop run before
-
-pub escaped_at : (value : List ℕ) (stop : ℕ) → stop < length value → escaped (drop stop value) ≡ escaped_byte (get_or value stop 0) ++ escaped (drop (stop + 1) value)
-escaped_at value stop before = ap escaped (drop_more value stop 0 before)
-
-pub escaped_end : (value : List ℕ) (stop : ℕ) → stop ≡ length value → escaped (drop stop value) ≡ []
-escaped_end value stop end = ap escaped (drop_all stop value (omega arith))
 
 pub boundary_at_stop : (value : List ℕ) (at stop : ℕ) → IsUtf8 value → stop ≡ at + prefix_len is_plain (drop at value) → at ≤ length value → IsCharBoundary value stop
 boundary_at_stop value at stop utf8 run within = go (nat_lt stop (length value)) refl

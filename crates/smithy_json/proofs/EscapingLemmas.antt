@@ -1,48 +1,20 @@
 -- A text with its escapes, run by run.
-use Rattle.std.proofs.Common.{◌≡◌, ◌+◌, ◌-◌, ◌<◌, ℕ, suc, List, [], ◌∷◌, ◌++◌, length, take, drop, slice_range, Bool, true, false, cond, refl, sym, ap, ◌∙◌, arith, append_assoc}
-use Rattle.std.proofs.lemmas.Bool.Decides.{nat_tests}
-use Rattle.std.proofs.lemmas.List.{drop-drop, drop_more, drop_all, append-nil}
+use Rattle.std.proofs.Common.{◌≡◌, ◌+◌, ◌-◌, ◌<◌, ◌≤◌, ℕ, List, [], ◌++◌, length, take, drop, slice_range, sym, ap, ◌∙◌, arith, append_assoc, Result, Ok, Err, OnErr}
+use Rattle.std.proofs.lemmas.List.{drop_more, drop_all, append-nil}
+use Rattle.std.proofs.Math.Seq.{take-append_seam, take-append-add}
 use Rattle.std.specs.List.{prefix_len, slice_index}
+use Rattle.smithy_json.specs.Appending.{AddsFront}
 use Rattle.smithy_json.specs.Escape.{escaped, escaped_byte}
 use Rattle.smithy_json.specs.Private.Chars.{is_plain}
-
--- a byte that stands for itself needs no escape
-escaped_byte-plain : (b : ℕ) → is_plain b ≡ true → escaped_byte b ≡ b ∷ []
-escaped_byte-plain b plain = grind (arith, nat_tests)
-
--- the run of bytes that stand for themselves, and then the rest
-abbrev split_at : List ℕ → ℕ → List ℕ
-split_at text n = take n text ++ escaped (drop n text)
-
-split-cons : (b : ℕ) (text : List ℕ) (n : ℕ) → split_at (b ∷ text) (1 + n) ≡ b ∷ split_at text n
-split-cons b text n = let e : 1 + n ≡ suc n = omega arith in ap (split_at (b ∷ text)) e
-
-escaped-run_at : (b : ℕ) (text : List ℕ) (plain : Bool) → is_plain b ≡ plain → escaped text ≡ split_at text (prefix_len is_plain text)
-    → escaped (b ∷ text) ≡ split_at (b ∷ text) (cond plain (1 + prefix_len is_plain text) 0)
-escaped-run_at b text true plain rest =
-    ap (λ bytes. bytes ++ escaped text) (escaped_byte-plain b plain)
-    ∙ ap (λ bytes. b ∷ bytes) rest ∙ sym (split-cons b text (prefix_len is_plain text))
-escaped-run_at b text false plain rest = refl
-
-escaped-run : (text : List ℕ) → escaped text ≡ split_at text (prefix_len is_plain text)
-escaped-run [] = refl
-escaped-run (b ∷ text) = escaped-run_at b text (is_plain b) refl (escaped-run text)
+use Rattle.smithy_json.proofs.EscapeLemmas.{escaped_to_stop}
 
 module _ (text : List ℕ) (at stop : ℕ) (run : stop ≡ at + prefix_len is_plain (drop at text)) where
-  escaped-drop : escaped (drop at text) ≡ slice_range text at stop ++ escaped (drop stop text)
-  escaped-drop =
-      let n = prefix_len is_plain (drop at text) in
-      let size : n ≡ stop - at = omega (arith, run) in
-      let end : at + (stop - at) ≡ stop = omega (arith, run) in
-      escaped-run (drop at text) ∙ ap (split_at (drop at text)) size
-      ∙ ap (λ rest. slice_range text at stop ++ escaped rest) (drop-drop (stop - at) at text ∙ ap (λ k. drop k text) end)
-
   module _ (out more all : List ℕ) (added : more ≡ out ++ slice_range text at stop) (whole : out ++ escaped (drop at text) ≡ all) where
     -- what is left behind a run
     pub run_written : more ++ escaped (drop stop text) ≡ all
     run_written =
         ap (λ bytes. bytes ++ escaped (drop stop text)) added ∙ append_assoc out _ _
-        ∙ ap (λ bytes. out ++ bytes) (sym escaped-drop) ∙ whole
+        ∙ ap (λ bytes. out ++ bytes) (sym (escaped_to_stop text at stop run)) ∙ whole
 
     -- a run to the end is the last
     pub last_run_written : stop ≡ length text → more ≡ all
@@ -55,3 +27,15 @@ module _ (text : List ℕ) (at stop : ℕ) (run : stop ≡ at + prefix_len is_pl
     byte_written most within byte =
         ap (λ bytes. bytes ++ escaped (drop (stop + 1) text)) byte ∙ append_assoc more _ _
         ∙ ap (λ rest. more ++ escaped rest) (sym (drop_more text stop 0 within)) ∙ run_written
+
+-- what was written is a front, where the rest makes it the whole
+pub front_written : (old out rest more : List ℕ) → out ++ rest ≡ old ++ more → length old ≤ length out → AddsFront old more out
+front_written old out rest more whole longer =
+    let n = length out - length old in
+    let size : length old + n ≡ length out = omega (arith, longer) in
+    (n, sym (take-append_seam out rest) ∙ ap (take (length out)) whole ∙ ap (λ k. take k (old ++ more)) (sym size) ∙ take-append-add old more n)
+
+-- a refused call adds nothing to that front
+pub front_kept : {T E : Type 0} (result : Result T E) (old more out new : List ℕ) → new ≡ out → AddsFront old more out → OnErr result (AddsFront old more new)
+front_kept (Ok x) old more out new same front = tt
+front_kept (Err e) old more out new same front = (front.0, same ∙ front.1)

@@ -13,4 +13,8 @@ pub mod UnescapeLemmas
 pub mod UnescapingLemmas
 pub mod EscapeLemmas
 pub mod EscapingLemmas
+pub mod TextLemmas
+pub mod DecimalLemmas
+pub mod QuotedLemmas
+pub mod PlaceLemmas
 mod StandardFacts

@@ -2,7 +2,7 @@
 use Rattle.std.proofs.Common.{◌≡◌, ◌+◌, ◌-◌, ◌≤◌, ℕ, List, ◌++◌, length, take, drop, slice_range, sym, ap, ◌∙◌, arith, refl, subst, IsUtf8}
 use Rattle.std.proofs.lemmas.Str.{IsCharBoundary-from_take}
 use Rattle.std.specs.Str.{IsCharBoundary}
-use Rattle.std.proofs.lemmas.List.{take-append-drop, drop-drop, length-drop, length-take-le, length-append, take_at, drop_at, length-take, take-take}
+use Rattle.std.proofs.lemmas.List.{take-append-drop, drop-drop, length-drop, length-take-le, length-append, take_at, drop_at, length-take}
 
 pub length-slice : (input : List ℕ) (at end : ℕ) → at ≤ end → end ≤ length input → length (slice_range input at end) ≡ end - at
 length-slice input at end ordered within = length-take-le (end - at) (drop at input) (omega (arith, length-drop at input))
@@ -38,12 +38,6 @@ pub slice_between : (input : List ℕ) (at end : ℕ) (text : List ℕ) → at �
 slice_between input at end text ordered within here =
     let size : at + length text ≡ end = omega (arith, length-drop at input, length-drop end input, ap length here, length-append text (drop end input)) in
     ap (slice_range input at) (sym size) ∙ slice_is_text input at text (drop end input) here (omega arith)
-
--- a front of a front is a front
-pub front_further : (a b c : List ℕ) → take (length a) b ≡ a → take (length b) c ≡ b → take (length a) c ≡ a
-front_further a b c first second =
-    let short : length a ≤ length b = omega (arith, ap length first, length-take (length a) b) in
-    sym (take-take (length a) (length b) c short) ∙ ap (take (length a)) second ∙ first
 
 -- a text may be cut behind a front that is a text
 pub can_cut : (old new : List ℕ) (n : ℕ) → IsUtf8 old → IsUtf8 new → n ≡ length old → take (length old) new ≡ old → IsCharBoundary new n

@@ -8,6 +8,7 @@ pub mod Escape
 pub mod Standing
 -- what contracts see of a type
 pub mod EscapedText
+pub mod Appending
 pub mod Writer
 -- for private clauses
 pub mod Private

@@ -2,3 +2,4 @@ pub mod Literal
 pub mod Chars
 pub mod Numeral
 pub mod Unescaping
+pub mod Place

@@ -1,6 +1,6 @@
 -- What the writers add to a text, and what they lend.
-use Rattle.std.specs.Prelude.{◌≡◌, ℕ, List, [], ◌∷◌, ◌++◌, length, nat_lt, if◌then◌else◌, codes, Bool, true, false, Result, String, string_bytes}
-use Rattle.std.specs.Borrow.{RattleType, RestsIfErr, MutBor, Fml, follows, GName}
+use Rattle.std.specs.Prelude.{◌≡◌, ℕ, List, [], ◌∷◌, ◌++◌, length, nat_lt, if◌then◌else◌, codes, Bool, true, false, Result, OnOk, OnErr, String, string_bytes}
+use Rattle.std.specs.Borrow.{RattleType, RestsIfErr, MutBor, Fml, follows, follows_so, name_if_ok, GName}
 use Rattle.std.specs.declared.alloc.AllocError.{AllocError}
 use Rattle.std.specs.declared.alloc.Global.{Global}
 use Rattle.std.specs.contracts.string.String as text
@@ -84,18 +84,48 @@ ValueRestsWithoutObject value result = RestsWithoutObject value.output result
 abbrev pub with_array_text : JsonArrayWriter → String Global → JsonArrayWriter
 with_array_text w text = record w { json = record w.json { now = text } }
 
+abbrev pub array_row : RattleType
+array_row = array.the_row (record { mir = named 1; lft = [] })
+
 -- what is written through the borrow is the array's text
 abbrev pub LendsArrayText : MutBor JsonArrayWriter → GName → Fml
-LendsArrayText w borrow =
-    follows (array.the_row (record { mir = named 1; lft = [] })) string_row w.ghost_name borrow
-    (with_array_text w.now)
+LendsArrayText w borrow = follows array_row string_row w.ghost_name borrow (with_array_text w.now)
+
+-- the writer of an array with the same text, start and borrow
+abbrev pub IsSameArray : JsonArrayWriter → JsonArrayWriter → Type 0
+IsSameArray old new =
+    (array_text new ≡ array_text old) × (array_start new ≡ array_start old)
+    × (array_borrow new ≡ array_borrow old)
+
+-- what is written through the result's borrow is the array's text, and without a result the array
+-- stays as it was
+abbrev pub LendsElement : {A : Type 0} → MutBor JsonArrayWriter → (A → GName) → Result A AllocError → Fml
+LendsElement w borrow result =
+    follows_so array_row string_row w.ghost_name (name_if_ok borrow result)
+    (λ text end. OnOk result (end ≡ with_array_text w.now text))
+    (λ end. OnErr result (IsSameArray w.now end))
 
 -- the object with another text
 abbrev pub with_object_text : JsonObjectWriter → String Global → JsonObjectWriter
 with_object_text w text = record w { json = record w.json { now = text } }
 
+abbrev pub object_row : RattleType
+object_row = object.the_row (record { mir = named 1; lft = [] })
+
 -- what is written through the borrow is the object's text
 abbrev pub LendsObjectText : MutBor JsonObjectWriter → GName → Fml
-LendsObjectText w borrow =
-    follows (object.the_row (record { mir = named 1; lft = [] })) string_row w.ghost_name borrow
-    (with_object_text w.now)
+LendsObjectText w borrow = follows object_row string_row w.ghost_name borrow (with_object_text w.now)
+
+-- the writer of an object with the same text, start and borrow
+abbrev pub IsSameObject : JsonObjectWriter → JsonObjectWriter → Type 0
+IsSameObject old new =
+    (object_text new ≡ object_text old) × (object_start new ≡ object_start old)
+    × (object_borrow new ≡ object_borrow old)
+
+-- what is written through the result's borrow is the object's text, and without a result the object
+-- stays as it was
+abbrev pub LendsMember : {A : Type 0} → MutBor JsonObjectWriter → (A → GName) → Result A AllocError → Fml
+LendsMember w borrow result =
+    follows_so object_row string_row w.ghost_name (name_if_ok borrow result)
+    (λ text end. OnOk result (end ≡ with_object_text w.now text))
+    (λ end. OnErr result (IsSameObject w.now end))

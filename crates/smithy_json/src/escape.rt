@@ -1,12 +1,13 @@
 //! How a text is written between quotation marks (RFC 8259, section 7).
 
-ghost use Rattle.std.specs.Prelude.{◌≡◌, ◌<◌, ◌↔◌, ◌++◌, length, take, string_bytes, IfOk, IsOk, OnOk, Ok, false};
-ghost use Rattle.std.specs.Char.{digit_char};
+ghost use Rattle.std.specs.Prelude.{◌≡◌, ◌<◌, ◌↔◌, ◌++◌, IfOk, IsOk, OnOk, OnErr, Ok, false};
 ghost use Rattle.std.specs.Cow.{cow_str_bytes, IsBorrowedStr};
 ghost use Rattle.smithy_json.specs.Escape.{escaped_byte, escaped, hex_escape};
+ghost use Rattle.smithy_json.specs.Appending.{AddsFront};
 ghost use Rattle.smithy_json.specs.Private.Chars.{is_plain};
 ghost use Rattle.smithy_json.specs.Unescape.{unescape};
 
+use crate::append_text::AppendText;
 use crate::string_text::plain_end;
 use std::alloc::{AllocError, Global};
 use std::borrow::CowStr;
@@ -22,69 +23,92 @@ pub fn escape_string(alloc: Global, value: &str) -> Result<CowStr<'_, Global>, A
     // What is written stands for the text.
     ensures unescapes { unescape (escaped value.now) ≡ Ok value.now }
 {
-    if plain_end(value.as_bytes(), 0) == value.len() {
+    let first_stop = plain_end(value.as_bytes(), 0);
+    if first_stop == value.len() {
         return Ok(CowStr::Borrowed(value));
     }
-    let mut text = String::with_capacity(alloc, value.len())?;
-    push_escaped(&mut text, value)?;
+    // With its escapes the text is longer, mostly by a few bytes.
+    let mut text = String::with_capacity(alloc, value.len().saturating_add(16))?;
+    text.push_str(&value[..first_stop])?;
+    push_escaped(&mut text, &value[first_stop..])?;
     Ok(CowStr::Owned(text))
 }
 
-/// Adds the text with its escapes. After a refusal some of it may stand behind what was there.
-pub(crate) fn push_escaped(out: &mut String, value: &str) -> Result<(), AllocError>
-    ensures ok { OnOk result (string_bytes out.new ≡ string_bytes out.old ++ escaped value.now) }
-    ensures front { take (length (string_bytes out.old)) (string_bytes out.new) ≡ string_bytes out.old }
+/// Adds the text with its escapes. Runs of bytes that need no escape are copied as a whole. After a
+/// refusal a front of it stands behind what was there.
+pub fn push_escaped<T: AppendText>(out: &mut T, text: &str) -> Result<(), AllocError>
+    ensures ok { OnOk result (T.bytes out.new ≡ T.bytes out.old ++ escaped text.now) }
+    ensures err { OnErr result (AddsFront (T.bytes out.old) (escaped text.now) (T.bytes out.new)) }
 {
-    let bytes = value.as_bytes();
-    let mut at = 0;
+    let bytes = text.as_bytes();
+    let mut written = 0;
     loop {
-        let stop = plain_end(bytes, at);
-        out.push_str(&value[at..stop])?;
+        let stop = plain_end(bytes, written);
+        out.append_text(&text[written..stop])?;
         if stop == bytes.len() {
             return Ok(());
         }
         push_escape(out, bytes[stop])?;
-        at = stop + 1;
+        written = stop + 1;
     }
 }
 
-// Adds the escape of a byte that doesn't stand for itself.
-fn push_escape(out: &mut String, byte: u8) -> Result<(), AllocError>
+// Adds the escape of a byte that doesn't stand for itself. It stays a call, so that the loop over runs is
+// short.
+#[inline(never)]
+fn push_escape<T: AppendText>(out: &mut T, byte: u8) -> Result<(), AllocError>
     requires { is_plain byte ≡ false }
-    ensures ok { OnOk result (string_bytes out.new ≡ string_bytes out.old ++ escaped_byte byte) }
-    ensures front { take (length (string_bytes out.old)) (string_bytes out.new) ≡ string_bytes out.old }
+    ensures ok { OnOk result (T.bytes out.new ≡ T.bytes out.old ++ escaped_byte byte) }
+    ensures err { OnErr result (T.bytes out.new ≡ T.bytes out.old) }
 {
     match byte {
-        b'"' => out.push_str("\\\""),
-        b'\\' => out.push_str("\\\\"),
-        0x08 => out.push_str("\\b"),
-        0x0c => out.push_str("\\f"),
-        b'\n' => out.push_str("\\n"),
-        b'\r' => out.push_str("\\r"),
-        b'\t' => out.push_str("\\t"),
-        _ => push_hex_escape(out, byte),
+        b'"' => out.append_text("\\\""),
+        b'\\' => out.append_text("\\\\"),
+        0x08 => out.append_text("\\b"),
+        0x0c => out.append_text("\\f"),
+        b'\n' => out.append_text("\\n"),
+        b'\r' => out.append_text("\\r"),
+        b'\t' => out.append_text("\\t"),
+        _ => out.append_text(hex_escape(byte)),
     }
 }
 
-// Adds `\u` and the digits of a byte below 0x20.
-fn push_hex_escape(out: &mut String, byte: u8) -> Result<(), AllocError>
+fn hex_escape(byte: u8) -> &'static str
     requires { byte < 0x20 }
-    ensures ok { OnOk result (string_bytes out.new ≡ string_bytes out.old ++ hex_escape byte) }
-    ensures front { take (length (string_bytes out.old)) (string_bytes out.new) ≡ string_bytes out.old }
+    ensures { result.now ≡ hex_escape byte }
 {
-    out.push_str(if byte < 0x10 { "\\u000" } else { "\\u001" })?;
-    out.push(hex_digit(byte % 0x10))
-}
-
-fn hex_digit(digit: u8) -> char
-    requires { digit < 16 }
-    ensures value { result ≡ digit_char digit }
-    ensures ascii { result < 128 }
-{
-    let byte = if digit < 10 {
-        b'0' + digit
-    } else {
-        b'a' - 10 + digit
-    };
-    byte as char
+    match byte {
+        0x00 => "\\u0000",
+        0x01 => "\\u0001",
+        0x02 => "\\u0002",
+        0x03 => "\\u0003",
+        0x04 => "\\u0004",
+        0x05 => "\\u0005",
+        0x06 => "\\u0006",
+        0x07 => "\\u0007",
+        0x08 => "\\u0008",
+        0x09 => "\\u0009",
+        0x0a => "\\u000a",
+        0x0b => "\\u000b",
+        0x0c => "\\u000c",
+        0x0d => "\\u000d",
+        0x0e => "\\u000e",
+        0x0f => "\\u000f",
+        0x10 => "\\u0010",
+        0x11 => "\\u0011",
+        0x12 => "\\u0012",
+        0x13 => "\\u0013",
+        0x14 => "\\u0014",
+        0x15 => "\\u0015",
+        0x16 => "\\u0016",
+        0x17 => "\\u0017",
+        0x18 => "\\u0018",
+        0x19 => "\\u0019",
+        0x1a => "\\u001a",
+        0x1b => "\\u001b",
+        0x1c => "\\u001c",
+        0x1d => "\\u001d",
+        0x1e => "\\u001e",
+        _ => "\\u001f",
+    }
 }

@@ -1,6 +1,6 @@
 //! Single calls, as rows of a table.
 
-use crate::escape::escape_string;
+use crate::escape::{escape_string, push_escaped};
 use crate::escape_error::EscapeError;
 use crate::number_text::{read_long, scan_number};
 use crate::scan::{is_boundary, read_boolean, read_null, skip_blanks};
@@ -401,17 +401,23 @@ struct EscapeRow {
     is_borrowed: bool,
 }
 
-const ESCAPES: [EscapeRow; 6] = [
+const ESCAPES: [EscapeRow; 9] = [
     EscapeRow {
-        name: "the solidus, DEL and a longer character stay",
-        text: "a/b\u{7f}\u{e9}",
-        escaped: "a/b\u{7f}\u{e9}",
+        name: "the solidus, DEL and longer characters stay",
+        text: "a/b\u{7f}\u{e9}\u{2028}\u{1f600}",
+        escaped: "a/b\u{7f}\u{e9}\u{2028}\u{1f600}",
         is_borrowed: true,
     },
     EscapeRow {
         name: "each short escape",
         text: "\"\\\u{8}\u{c}\n\r\t",
         escaped: "\\\"\\\\\\b\\f\\n\\r\\t",
+        is_borrowed: false,
+    },
+    EscapeRow {
+        name: "a quotation mark and a line feed behind a letter",
+        text: "a\"\n",
+        escaped: "a\\\"\\n",
         is_borrowed: false,
     },
     EscapeRow {
@@ -427,9 +433,21 @@ const ESCAPES: [EscapeRow; 6] = [
         is_borrowed: false,
     },
     EscapeRow {
+        name: "the other control characters",
+        text: "\u{1}\u{7}\u{b}\u{e}\u{f}\u{10}\u{1b}",
+        escaped: "\\u0001\\u0007\\u000b\\u000e\\u000f\\u0010\\u001b",
+        is_borrowed: false,
+    },
+    EscapeRow {
         name: "runs around an escape",
         text: "before\nafter",
         escaped: "before\\nafter",
+        is_borrowed: false,
+    },
+    EscapeRow {
+        name: "escapes around a run",
+        text: "\"\"a\"\"",
+        escaped: "\\\"\\\"a\\\"\\\"",
         is_borrowed: false,
     },
     EscapeRow {
@@ -445,6 +463,9 @@ fn texts_are_escaped(rt: HostRuntime) -> Result<(), Fail> {
     for row in &ESCAPES {
         let escaped = escape_string(rt.alloc(), row.text)?;
         assert_eq!(rt; escaped.as_str(), row.escaped, "{}", row.name);
+        let mut bytes = Vec::new(rt.alloc());
+        push_escaped(&mut bytes, row.text)?;
+        assert_eq!(rt; bytes.as_slice(), row.escaped.as_bytes(), "{}", row.name);
         assert_eq!(rt;
             matches!(escaped, CowStr::Borrowed(_)),
             row.is_borrowed,
@@ -466,6 +487,16 @@ fn an_object_is_written(rt: HostRuntime) -> Result<(), Fail> {
     array.finish()?;
     object.finish()?;
     assert_eq!(rt; text.as_str(), "{\"a\":1,\"b\":[true,null]}");
+    Ok(())
+}
+
+#[test]
+fn a_backslash_is_written_in_an_object(rt: HostRuntime) -> Result<(), Fail> {
+    let mut text = String::new(rt.alloc());
+    let mut object = JsonObjectWriter::new(&mut text)?;
+    object.key("a")?.string("\\")?;
+    object.finish()?;
+    assert_eq!(rt; text.as_str(), "{\"a\":\"\\\\\"}");
     Ok(())
 }
 

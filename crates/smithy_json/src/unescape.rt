@@ -29,6 +29,7 @@ impl<'a> EscapedStr<'a> {
         EscapedStr { value }
     }
 
+    /// What stands between the quotation marks, with its escapes.
     pub fn as_escaped_str(&self) -> &'a str
         ensures { result.now ≡ escaped_text self.now }
     {

@@ -5,7 +5,8 @@ ghost use Rattle.std.specs.Borrow.{sem};
 ghost use Rattle.smithy_json.specs.Ascii.{quotation_mark};
 ghost use Rattle.smithy_json.specs.Escape.{escaped, quoted};
 ghost use Rattle.smithy_json.specs.Unescape.{unescape};
-ghost use Rattle.smithy_json.specs.Writer.{boolean_text, separator, name_text, value_text, value_borrow, array_text, array_start, array_borrow, object_text, object_start, object_borrow, RestsWithoutArray, RestsWithoutObject, ValueRestsWithoutArray, ValueRestsWithoutObject, LendsArrayText, LendsObjectText};
+ghost use Rattle.smithy_json.specs.Writer.{boolean_text, separator, name_text, value_text, value_borrow, array_text, array_start, array_borrow, object_text, object_start, object_borrow, RestsWithoutArray, RestsWithoutObject, ValueRestsWithoutArray, ValueRestsWithoutObject, LendsArrayText, LendsObjectText, LendsElement, LendsMember};
+ghost use Rattle.smithy_json.specs.Private.Place.{text_borrow, writer_of};
 
 use crate::escape::push_escaped;
 use std::alloc::AllocError;
@@ -17,6 +18,7 @@ pub struct JsonValueWriter<'a> {
 }
 
 impl<'a> JsonValueWriter<'a> {
+    /// A place at the end of the text.
     pub fn new(output: &'a mut String) -> JsonValueWriter<'a>
         ensures same_borrow { value_borrow result ≡ output.entry.ghost_name }
         ensures value { value_text result ≡ string_bytes output.old }
@@ -24,6 +26,7 @@ impl<'a> JsonValueWriter<'a> {
         JsonValueWriter { output }
     }
 
+    /// Writes `null`.
     pub fn null(self) -> Result<(), AllocError>
         ensures ok { OnOk result (string_bytes self.exit.0.now ≡ value_text self.entry ++ codes "null") }
         ensures err { OnErr result (string_bytes self.exit.0.now ≡ value_text self.entry) }
@@ -31,6 +34,7 @@ impl<'a> JsonValueWriter<'a> {
         self.output.push_str("null")
     }
 
+    /// Writes `true` or `false`.
     pub fn boolean(self, value: bool) -> Result<(), AllocError>
         ensures ok { OnOk result (string_bytes self.exit.0.now ≡ value_text self.entry ++ boolean_text value) }
         ensures err { OnErr result (string_bytes self.exit.0.now ≡ value_text self.entry) }
@@ -65,6 +69,7 @@ impl<'a> JsonValueWriter<'a> {
         self.output.push_str(value)
     }
 
+    /// Begins an array.
     pub fn start_array(self) -> Result<JsonArrayWriter<'a>, AllocError>
         ensures same_borrow { IfOk result (λ w. array_borrow w ≡ value_borrow self.entry) }
         ensures* rests { sem 𝓛 (ValueRestsWithoutArray self.entry result) }
@@ -75,6 +80,7 @@ impl<'a> JsonValueWriter<'a> {
         JsonArrayWriter::new(output)
     }
 
+    /// Begins an object.
     pub fn start_object(self) -> Result<JsonObjectWriter<'a>, AllocError>
         ensures same_borrow { IfOk result (λ w. object_borrow w ≡ value_borrow self.entry) }
         ensures* rests { sem 𝓛 (ValueRestsWithoutObject self.entry result) }
@@ -83,6 +89,16 @@ impl<'a> JsonValueWriter<'a> {
     {
         let JsonValueWriter { output } = self;
         JsonObjectWriter::new(output)
+    }
+}
+
+// A place at the end of the text, where there is one.
+fn value_writer(text: Result<&mut String, AllocError>) -> Result<JsonValueWriter<'_>, AllocError>
+    ensures { result ≡ writer_of text.entry }
+{
+    match text {
+        Ok(output) => Ok(JsonValueWriter { output }),
+        Err(error) => Err(error),
     }
 }
 
@@ -95,6 +111,7 @@ pub struct JsonArrayWriter<'a> {
 }
 
 impl<'a> JsonArrayWriter<'a> {
+    /// Begins an array at the end of the text.
     pub fn new(output: &'a mut String) -> Result<JsonArrayWriter<'a>, AllocError>
         ensures same_borrow { IfOk result (λ w. array_borrow w ≡ output.entry.ghost_name) }
         ensures* rests { sem 𝓛 (RestsWithoutArray output.entry result) }
@@ -109,14 +126,24 @@ impl<'a> JsonArrayWriter<'a> {
         })
     }
 
-    /// A place for the next element, behind a comma unless it is the first: `begin_value` and then
-    /// `place`, whose clauses say what is left in each case.
+    /// A place for the next element, behind a comma unless it is the first. The array's text goes on
+    /// with what is written there. It is `begin_value` and then `place`.
     pub fn value(&mut self) -> Result<JsonValueWriter<'_>, AllocError>
-        ensures { IfOk result (λ w. value_text w
+        ensures* lends { sem 𝓛 (LendsElement self.entry value_borrow result) }
+        ensures value { IfOk result (λ w. value_text w
             ≡ array_text self.old ++ separator (array_start self.old) (array_text self.old)) }
     {
-        self.begin_value()?;
-        Ok(self.place())
+        value_writer(self.element_text())
+    }
+
+    // The text, behind the comma before the next element.
+    fn element_text(&mut self) -> Result<&mut String, AllocError>
+        ensures* lends { sem 𝓛 (LendsElement self.entry text_borrow result) }
+        ensures value { IfOk result (λ text. string_bytes text.now
+            ≡ array_text self.old ++ separator (array_start self.old) (array_text self.old)) }
+    {
+        push_separator(self.json, self.start)?;
+        Ok(self.json)
     }
 
     /// Adds the comma before the next element, unless it is the first.
@@ -145,6 +172,7 @@ impl<'a> JsonArrayWriter<'a> {
         self.json
     }
 
+    /// Ends the array.
     pub fn finish(self) -> Result<(), AllocError>
         ensures ok { OnOk result (string_bytes self.exit.0.now ≡ array_text self.entry ++ codes "]") }
         ensures err { OnErr result (string_bytes self.exit.0.now ≡ array_text self.entry) }
@@ -162,6 +190,7 @@ pub struct JsonObjectWriter<'a> {
 }
 
 impl<'a> JsonObjectWriter<'a> {
+    /// Begins an object at the end of the text.
     pub fn new(output: &'a mut String) -> Result<JsonObjectWriter<'a>, AllocError>
         ensures same_borrow { IfOk result (λ w. object_borrow w ≡ output.entry.ghost_name) }
         ensures* rests { sem 𝓛 (RestsWithoutObject output.entry result) }
@@ -176,14 +205,24 @@ impl<'a> JsonObjectWriter<'a> {
         })
     }
 
-    /// A place for the value of the next member, behind its name and a comma unless it is the first:
-    /// `begin_member` and then `place`, whose clauses say what is left in each case.
+    /// A place for the value of the next member, behind its name and a comma unless it is the first.
+    /// The object's text goes on with what is written there. It is `begin_member` and then `place`.
     pub fn key(&mut self, key: &str) -> Result<JsonValueWriter<'_>, AllocError>
-        ensures { IfOk result (λ w. value_text w ≡ object_text self.old
+        ensures* lends { sem 𝓛 (LendsMember self.entry value_borrow result) }
+        ensures value { IfOk result (λ w. value_text w ≡ object_text self.old
             ++ (separator (object_start self.old) (object_text self.old) ++ name_text key.now)) }
     {
-        self.begin_member(key)?;
-        Ok(self.place())
+        value_writer(self.member_text(key))
+    }
+
+    // The text, behind what stands before the next member's value.
+    fn member_text(&mut self, key: &str) -> Result<&mut String, AllocError>
+        ensures* lends { sem 𝓛 (LendsMember self.entry text_borrow result) }
+        ensures value { IfOk result (λ text. string_bytes text.now ≡ object_text self.old
+            ++ (separator (object_start self.old) (object_text self.old) ++ name_text key.now)) }
+    {
+        push_name(self.json, self.start, key)?;
+        Ok(self.json)
     }
 
     /// Adds what stands before the next member's value: a comma unless it is the first, its name and a
@@ -213,6 +252,7 @@ impl<'a> JsonObjectWriter<'a> {
         self.json
     }
 
+    /// Ends the object.
     pub fn finish(self) -> Result<(), AllocError>
         ensures ok { OnOk result (string_bytes self.exit.0.now ≡ object_text self.entry ++ codes "}") }
         ensures err { OnErr result (string_bytes self.exit.0.now ≡ object_text self.entry) }
@@ -221,8 +261,8 @@ impl<'a> JsonObjectWriter<'a> {
     }
 }
 
-/// Adds the comma before a member or an element, unless it is the first behind the start.
-pub fn push_separator(out: &mut String, start: usize) -> Result<(), AllocError>
+// Adds the comma before a member or an element, unless it is the first behind the start.
+fn push_separator(out: &mut String, start: usize) -> Result<(), AllocError>
     ensures ok { OnOk result (string_bytes out.new ≡ string_bytes out.old ++ separator start (string_bytes out.old)) }
     ensures err { OnErr result (string_bytes out.new ≡ string_bytes out.old) }
 {
@@ -233,9 +273,9 @@ pub fn push_separator(out: &mut String, start: usize) -> Result<(), AllocError>
     }
 }
 
-/// Adds a text as a string, with the escapes that it needs.
+// Adds a text as a string, with the escapes that it needs.
 #[tactic(auto, using(crate::proofs::EscapeLemmas::unescape_of_escaped))]
-pub fn push_quoted(out: &mut String, value: &str) -> Result<(), AllocError>
+fn push_quoted(out: &mut String, value: &str) -> Result<(), AllocError>
     ensures ok { OnOk result (string_bytes out.new ≡ string_bytes out.old ++ quoted value.now) }
     ensures err { OnErr result (string_bytes out.new ≡ string_bytes out.old) }
     // What stands between the quotation marks stands for the text.
@@ -280,9 +320,9 @@ fn append_between_marks(out: &mut String, value: &str) -> Result<(), AllocError>
     out.push_str("\"")
 }
 
-/// Adds what stands before a member's value: the comma, unless it is the first behind the start, the
-/// name and a colon.
-pub fn push_name(out: &mut String, start: usize, name: &str) -> Result<(), AllocError>
+// Adds what stands before a member's value: the comma, unless it is the first behind the start, the
+// name and a colon.
+fn push_name(out: &mut String, start: usize, name: &str) -> Result<(), AllocError>
     ensures ok { OnOk result (string_bytes out.new ≡ string_bytes out.old ++ (separator start (string_bytes out.old) ++ name_text name.now)) }
     ensures err { OnErr result (string_bytes out.new ≡ string_bytes out.old) }
 {

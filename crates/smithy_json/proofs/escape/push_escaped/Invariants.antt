@@ -1,16 +1,16 @@
-use Rattle.std.proofs.Common.{◌≡◌, ◌-◌, ◌≤◌, ◌++◌, length, take, drop, string_bytes}
+use Rattle.std.proofs.Common.{◌≡◌, ◌-◌, ◌≤◌, ◌++◌, length, drop}
 use Rattle.std.specs.Str.{IsCharBoundary}
 use Rattle.smithy_json.specs.Escape.{escaped}
 use Rattle.smithy_json.proofs.escape.push_escaped.Given as goal
 
--- what is written and the rest make the whole
+-- with what is left of the text, what was written is all that is to be written
 abbrev pub invariant-loop-out : goal.invariant-loop-out
-invariant-loop-out l = record {
-  within : l.at ≤ length l.value;
-  boundary : IsCharBoundary l.value l.at;
-  so_far : string_bytes l.out ++ escaped (drop l.at l.value) ≡ string_bytes l.fn.out ++ escaped l.value;
-  front : take (length (string_bytes l.fn.out)) (string_bytes l.out) ≡ string_bytes l.fn.out;
+invariant-loop-out g l = record {
+  within : l.written ≤ length l.text;
+  boundary : IsCharBoundary l.text l.written;
+  all : g.T.AppendText.bytes l.out ++ escaped (drop l.written l.text) ≡ g.T.AppendText.bytes l.fn.out ++ escaped l.text;
+  longer : length (g.T.AppendText.bytes l.fn.out) ≤ length (g.T.AppendText.bytes l.out);
 }
 
 abbrev pub decreases-loop-out : goal.decreases-loop-out
-decreases-loop-out l = length l.value - l.at
+decreases-loop-out g l = length l.text - l.written
