@@ -81,8 +81,8 @@ module _ (o : Settings) (i : List ℕ) (t : Table) (p : Place) (d a : ℕ) (v : 
   no_text_stands kind wrong h = let l = stands_text o i t p d a v e kind h in no_string_led 1 i a e l.0 wrong l.2
 
 -- no null
-pub no_null_stands : (o : Settings) (i : List ℕ) (a e : ℕ) → first (without_ws (drop a i)) ≢ 0x6e → (json_relations o).nulls i a e → ⊥
-no_null_stands o i a e wrong h = no_null_led 1 i a e wrong h
+pub no_null_stands : (o : Settings) (i : List ℕ) (d a e : ℕ) → first (without_ws (drop a i)) ≢ 0x6e → (json_relations o).nulls i d a e → ⊥
+no_null_stands o i d a e wrong h = no_null_led 1 i a e wrong h
 
 -- nothing that can be skipped
 pub nothing_skips : (o : Settings) (i : List ℕ) (d a e : ℕ) → begins_value (first (without_ws (drop a i))) ≡ false

@@ -18,6 +18,10 @@ pub mod DeserializerLemmas
 pub mod SteeringLemmas
 pub mod PresentLemmas
 pub mod WritingLemmas
+pub mod NestedMeaning
+pub mod WrittenTree
+pub mod WrittenMeaning
+pub mod WrittenSpelling
 mod OpenersFacts
 pub mod OpenersLemmas
 pub mod OpenWalkLemmas

@@ -12,8 +12,9 @@ use Rattle.smithy_json.specs.Unescape.{unescaped}
 use Rattle.smithy_json_codec.specs.Settings.{Settings, is_shallow}
 use Rattle.smithy_json_codec.specs.Meaning.{json_meaning, long_of, number_meaning, string_meaning, array_meaning, object_meaning, element_entries, member_entries}
 use Rattle.smithy_json_codec.specs.Standing.{Lies, FollowsInside, TreeLies, IsByte, IsSeparated, Names, Drops, fresh_mark, end_mark, entry_mark, json_relations}
-use Rattle.smithy_json_codec.specs.Private.Lists.{made, chosen}
-use Rattle.smithy_json_codec.specs.Private.Steps.{not_both, drops_on, names_back, end_back, no_drop}
+use Rattle.smithy_schema.specs.Private.Options.{made, chosen}
+use Rattle.smithy_schema.specs.Private.Kinds.{no_list_and_structure}
+use Rattle.smithy_json_codec.specs.Private.Steps.{drops_on, names_back, end_back, no_drop}
 use Rattle.smithy_json_codec.specs.Private.Lawful.{array_kind, object_kind}
 -- what stands behind white space, in Private: a byte, a name and a value are determined, with their ends
 pub use Rattle.smithy_json_codec.specs.Private.Lexical.{past_ws, ws_boundary, value_begins}
@@ -83,8 +84,8 @@ module _ (o : Settings) (i : List ℕ) (t : Table) (p : Place) (kind : IsList (k
   -- without its bracket no list opens
   pub opens_no_list : (d a : ℕ) → ((b : ℕ) → Lies (IsByte begin_array) i a b → ⊥) → (b : ℕ) (m : Mark) → (json_relations o).opens i t p d a b m → ⊥
   opens_no_list d a none b m (inl h) = none b h.2
-  opens_no_list d a none b m (inr (inl h)) = not_both (kind_of t p) kind h.1
-  opens_no_list d a none b m (inr (inr h)) = not_both (kind_of t p) kind h.1
+  opens_no_list d a none b m (inr (inl h)) = no_list_and_structure (kind_of t p) kind h.1
+  opens_no_list d a none b m (inr (inr h)) = no_list_and_structure (kind_of t p) kind h.1
 
   -- an element that is due is a step
   pub steps_in_list : (d b : ℕ) (m : Mark) (c : ℕ) → IsSeparated m.entered i b c → ((e : ℕ) → Lies (IsByte end_array) i c e → ⊥)
@@ -95,7 +96,7 @@ module _ (o : Settings) (i : List ℕ) (t : Table) (p : Place) (kind : IsList (k
   pub no_list_step : (d b : ℕ) (m : Mark) → ((c : ℕ) → IsSeparated m.entered i b c → ((e : ℕ) → Lies (IsByte end_array) i c e → ⊥) → ⊥)
       → (key : Option (List ℕ)) (c : ℕ) (n : Mark) → (json_relations o).steps i t p d b m key c n → ⊥
   no_list_step d b m none key c n (inl h) = none c h.1.2 h.1.3
-  no_list_step d b m none key c n (inr h) = not_both (kind_of t p) kind h.0
+  no_list_step d b m none key c n (inr h) = no_list_and_structure (kind_of t p) kind h.0
 
   -- a closing bracket closes it, where so deep a list may end
   pub closes_list : (d b : ℕ) (m : Mark) (e : ℕ) → Lies (IsByte end_array) i b e → FollowsInside d (drop e i)
@@ -106,8 +107,8 @@ module _ (o : Settings) (i : List ℕ) (t : Table) (p : Place) (kind : IsList (k
   pub no_list_close : (d b : ℕ) (m : Mark) → ((e : ℕ) → Lies (IsByte end_array) i b e → FollowsInside d (drop e i) → ⊥)
       → (e : ℕ) → (json_relations o).closes i t p d b m e → ⊥
   no_list_close d b m none e (inl h, follows) = none e h.1 follows
-  no_list_close d b m none e (inr (inl h), follows) = not_both (kind_of t p) kind h.0
-  no_list_close d b m none e (inr (inr h), follows) = not_both (kind_of t p) kind h.0
+  no_list_close d b m none e (inr (inl h), follows) = no_list_and_structure (kind_of t p) kind h.0
+  no_list_close d b m none e (inr (inr h), follows) = no_list_and_structure (kind_of t p) kind h.0
 
 -- ---- a structure at a place
 
@@ -123,7 +124,7 @@ module _ (o : Settings) (i : List ℕ) (t : Table) (p : Place) (kind : IsStructu
   -- without its bracket, and where the input isn't empty, no structure opens
   pub opens_no_structure : (d a : ℕ) → ((b : ℕ) → Lies (IsByte begin_object) i a b → ⊥) → (i ≡ [] → a ≡ 0 → ⊥)
       → (b : ℕ) (m : Mark) → (json_relations o).opens i t p d a b m → ⊥
-  opens_no_structure d a none full b m (inl h) = not_both (kind_of t p) h.1 kind
+  opens_no_structure d a none full b m (inl h) = no_list_and_structure (kind_of t p) h.1 kind
   opens_no_structure d a none full b m (inr (inl h)) = none b h.2
   opens_no_structure d a none full b m (inr (inr h)) = full h.2 h.3
 
@@ -147,7 +148,7 @@ module _ (o : Settings) (i : List ℕ) (t : Table) (p : Place) (kind : IsStructu
   pub no_structure_step : (d k b : ℕ) (m : Mark) (at : ℕ) (after : Bool) → Drops k i b m.entered at after
       → ((raw : List ℕ) (f : ℕ) → Names after i at raw f → ⊥)
       → (key : Option (List ℕ)) (c : ℕ) (n : Mark) → (json_relations o).steps i t p d b m key c n → ⊥
-  no_structure_step d k b m at after drops none key c n (inl h) = not_both (kind_of t p) h.0 kind
+  no_structure_step d k b m at after drops none key c n (inl h) = no_list_and_structure (kind_of t p) h.0 kind
   no_structure_step d k b m at after drops none key c n (inr h) =
       let s = h.2.4 in no_step i k s.0 b m.entered at after h.2.0 c s.1 s.2 drops none s.3 s.4 s.5
 
@@ -155,7 +156,7 @@ module _ (o : Settings) (i : List ℕ) (t : Table) (p : Place) (kind : IsStructu
   pub no_structure_close : (d k b : ℕ) (m : Mark) (at : ℕ) (after : Bool) → Drops k i b m.entered at after
       → ((raw : List ℕ) (f : ℕ) → Names after i at raw f → ⊥) → ((f : ℕ) → Lies (IsByte end_object) i at f → FollowsInside d (drop f i) → ⊥)
       → (m ≡ end_mark → i ≡ [] → FollowsInside d (drop 0 i) → ⊥) → (e : ℕ) → (json_relations o).closes i t p d b m e → ⊥
-  no_structure_close d k b m at after drops none shut full e (inl h, follows) = not_both (kind_of t p) h.0 kind
+  no_structure_close d k b m at after drops none shut full e (inl h, follows) = no_list_and_structure (kind_of t p) h.0 kind
   no_structure_close d k b m at after drops none shut full e (inr (inl h), follows) =
       let s = h.1 in no_close i (λ f. FollowsInside d (drop f i)) k s.0 b m.entered at after e s.1 s.2 drops none shut s.3 s.4 follows
   no_structure_close d k b m at after drops none shut full e (inr (inr h), follows) = full h.1 h.2 (rw h.4 at follows)
@@ -164,14 +165,14 @@ module _ (o : Settings) (i : List ℕ) (t : Table) (p : Place) (kind : IsStructu
   pub no_text_no_step : (d k b : ℕ) (m : Mark) (at : ℕ) (after : Bool) (raw : List ℕ) (f : ℕ) → Drops k i b m.entered at after
       → Names after i at raw f → unescaped raw ≡ None
       → (key : Option (List ℕ)) (c : ℕ) (n : Mark) → (json_relations o).steps i t p d b m key c n → ⊥
-  no_text_no_step d k b m at after raw f drops name none key c n (inl h) = not_both (kind_of t p) h.0 kind
+  no_text_no_step d k b m at after raw f drops name none key c n (inl h) = no_list_and_structure (kind_of t p) h.0 kind
   no_text_no_step d k b m at after raw f drops name none key c n (inr h) =
       let s = h.2.4 in no_text_step i k s.0 b m.entered at after raw f h.2.0 c s.1 s.2 h.2.1 drops name none s.3 s.4 h.2.3 s.5
 
   -- nor an end
   pub no_text_no_close : (d k b : ℕ) (m : Mark) (at : ℕ) (after : Bool) (raw : List ℕ) (f : ℕ) → Drops k i b m.entered at after
       → Names after i at raw f → unescaped raw ≡ None → (m ≡ end_mark → i ≡ [] → FollowsInside d (drop 0 i) → ⊥) → (e : ℕ) → (json_relations o).closes i t p d b m e → ⊥
-  no_text_no_close d k b m at after raw f drops name none full e (inl h, follows) = not_both (kind_of t p) h.0 kind
+  no_text_no_close d k b m at after raw f drops name none full e (inl h, follows) = no_list_and_structure (kind_of t p) h.0 kind
   no_text_no_close d k b m at after raw f drops name none full e (inr (inl h), follows) =
       let s = h.1 in no_text_close i k s.0 b m.entered at after raw f e s.1 s.2 drops name none s.3 s.4
   no_text_no_close d k b m at after raw f drops name none full e (inr (inr h), follows) = full h.1 h.2 (rw h.4 at follows)

@@ -1,11 +1,11 @@
 -- to be believed, in this order
 pub mod Settings
+pub mod Codec
 pub mod Meaning
 pub mod Spelling
 pub mod Canonical
 pub mod Openers
 -- for contracts
-pub mod Codec
 pub mod Cursor
 pub mod Standing
 pub mod Writing

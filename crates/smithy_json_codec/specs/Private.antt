@@ -6,14 +6,16 @@ pub mod Steps
 pub mod ArrayPlaces
 pub mod ObjectPlaces
 pub mod Lists
-pub mod MemberFolds
 pub mod Structures
+pub mod Texts
 pub mod Fits
 pub mod NullBegins
 pub mod Rises
 pub mod OpenPlaces
 pub mod Limits
 pub mod Lawful
+-- for the laws of writing
+pub mod Calls
 -- for the clauses of private functions
 pub mod GoingOn
 pub mod Skipping

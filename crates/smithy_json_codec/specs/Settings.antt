@@ -1,12 +1,8 @@
 -- What the meaning of a tree depends on beside its table and place.
-use Rattle.std.specs.Prelude.{ℕ, nat_le, List, Bool, true, if◌then◌else◌}
+use Rattle.std.specs.Prelude.{ℕ, List, Bool, if◌then◌else◌}
 use Rattle.smithy_schema.specs.declared.shape_type.TimestampFormat.{TimestampFormat}
 use Rattle.smithy_schema.specs.Table.{Member, json_name_of}
-
--- the limits on depth and on the size of numbers are kept, or lifted
-pub data Limits : Type 0 where
-  kept : Limits
-  lifted : Limits
+pub use Rattle.smithy_schema.specs.Limits.{Limits, kept, lifted, is_within}
 
 pub record Settings : Type 0 where
   -- members go by their JSON names, where they have one
@@ -18,10 +14,6 @@ pub record Settings : Type 0 where
 
 abbrev pub without_limits : Settings → Settings
 without_limits c = record c { limits = lifted }
-
-abbrev pub is_within : Limits → ℕ → ℕ → Bool
-is_within kept greatest depth = nat_le depth greatest
-is_within lifted greatest depth = true
 
 -- what counts may stand at this depth
 abbrev pub is_shallow : Settings → ℕ → Bool

@@ -131,7 +131,7 @@ json_relations c = record {
   stands = λ input table place depth a v e.
       ((x : Json) × TreeLies depth x input a e × (json_meaning c table place depth x ≡ Some v))
       ⊎ IsEmptyStructure c input table place depth a v e;
-  nulls = λ input a e. TreeLies 1 null input a e;
+  nulls = λ input depth a e. TreeLies 1 null input a e;
   skips = λ input depth a e.
       (x : Json) × TreeLies depth x input a e × (is_shallow c (depth + nesting x) ≡ true);
   opens = λ input table place depth a b m.

@@ -41,7 +41,7 @@ pub struct JsonDeserializer<'a> {
 }
 
 impl<'a> JsonDeserializer<'a> {
-    ghost use Rattle.std.specs.Prelude.{◌≡◌, ◌≢◌, ◌≤◌, ◌<◌, ◌∷◌, ◌↔◌, [], length, IsTrue, IfOk, IfErr, OnOk, OnErr, IsErrOf, Option, Some, None, true, false, if◌then◌else◌, vec_len};
+    ghost use Rattle.std.specs.Prelude.{◌≡◌, ◌≢◌, ◌≤◌, ◌<◌, ◌∷◌, ◌↔◌, [], length, Ok, Err, IsTrue, IfOk, IfErr, OnOk, OnErr, IsErrOf, Option, Some, None, true, false, if◌then◌else◌, vec_len};
     ghost use Rattle.smithy_schema.specs.Reading.{depth, failed_at, passed_to, in_structure, Conducts, MatchStep, CannotGoOn, IsRefused};
     ghost use Rattle.smithy_schema.specs.Table.{IsStructure};
     ghost use Rattle.smithy_schema.specs.Site.{site_of, kind_at};
@@ -79,19 +79,6 @@ impl<'a> JsonDeserializer<'a> {
         }
     }
 
-    // Why no value can be read here: an earlier failure, or none is due.
-    fn unready(&self) -> Option<SerdeError>
-        ensures { result ≡ (if self.now.failed then Some Failed else (if self.now.due then None else Some InvalidInput)) }
-    {
-        if self.failed {
-            Some(SerdeError::Failed)
-        } else if self.due {
-            None
-        } else {
-            Some(SerdeError::InvalidInput)
-        }
-    }
-
     // Whether an entry of the innermost container has come.
     fn entered(&self) -> bool
         ensures { result ≡ has_entered self.now.inner }
@@ -111,6 +98,22 @@ impl<'a> JsonDeserializer<'a> {
     {
         self.failed = true;
         error
+    }
+
+    // Refuses where no value can be read: after a failure, or where none is due.
+    fn ready(&mut self) -> Result<(), SerdeError>
+        ensures answer { result ≡ (if self.old.failed then Err Failed else (if self.old.due then Ok tt else Err InvalidInput)) }
+        ensures ok { OnOk result (self.new ≡ self.old) }
+        ensures same { reading_settings_of self.new ≡ reading_settings_of self.old }
+        ensures err { OnErr result (cursor_of self.new ≡ failed_at (cursor_of self.old)) }
+    {
+        if self.failed {
+            Err(self.refuse(SerdeError::Failed))
+        } else if self.due {
+            Ok(())
+        } else {
+            Err(self.refuse(SerdeError::InvalidInput))
+        }
     }
 
     // Goes on behind the value that was due.
@@ -217,6 +220,10 @@ impl<'a> JsonDeserializer<'a> {
         ensures refused { IsRefused result → (o : Settings) → CannotGoOn (json_relations o) (passed_to (cursor_of self.old) at) schema.now.shapes.now schema.now.place }
         ensures shallow { IsErrOf result TooDeep → ⊥ }
     {
+        if self.ends_empty() {
+            self.leave(0);
+            return Ok(Step::End);
+        }
         match next_present(self.alloc, self.input, at, self.entered(), self.outer.len()) {
             Ok(Next::Member(name, value)) => {
                 let step = self.step_to(schema, name.as_str());
@@ -227,18 +234,15 @@ impl<'a> JsonDeserializer<'a> {
                 self.leave(end);
                 Ok(Step::End)
             }
-            Err(error) => {
-                if self.ends_empty() {
-                    self.leave(0);
-                    return Ok(Step::End);
-                }
-                Err(self.refuse(error))
-            }
+            Err(error) => Err(self.refuse(error)),
         }
     }
 }
 
 impl ShapeDeserializer for JsonDeserializer<'_> {
+    ghost use Rattle.std.specs.Prelude.{◌≡◌, true, false, IsOk, OnOk, IsErrOf};
+    ghost use Rattle.smithy_schema.specs.Reading.{depth, Conducts, Passes, SkipsNot, NullsNot, ReachesDepth, null_is_due, IsRefused, IsInvalid, IsNoAnswer};
+    ghost use Rattle.smithy_schema.specs.declared.error.SerdeError.TheVariants.{NoMemory, TooDeep};
     ghost use Rattle.smithy_json_codec.specs.Cursor.{cursor_of, reading_settings_of};
     ghost use Rattle.smithy_json_codec.specs.Settings.{Settings, without_limits};
     ghost use Rattle.smithy_json_codec.specs.Standing.{json_relations};
@@ -274,9 +278,7 @@ impl ShapeDeserializer for JsonDeserializer<'_> {
     }
 
     fn open_struct(&mut self, _schema: &Schema<'_>) -> Result<(), SerdeError> {
-        if let Some(error) = self.unready() {
-            return Err(self.refuse(error));
-        }
+        self.ready()?;
         if self.input.is_empty() {
             return self.enter(0, Frame::EmptyInput);
         }
@@ -290,20 +292,18 @@ impl ShapeDeserializer for JsonDeserializer<'_> {
         if self.failed {
             return Err(self.refuse(SerdeError::Failed));
         }
+        let at = self.position;
         if !self.due {
-            let at = self.position;
             return self.step_from(at, schema);
         }
-        match skipped_end(self.input, self.position, self.outer.len(), self.max_depth) {
+        match skipped_end(self.input, at, self.outer.len(), self.max_depth) {
             Ok(end) => self.step_from(end, schema),
             Err(error) => Err(self.refuse(error)),
         }
     }
 
     fn open_list(&mut self, _schema: &Schema<'_>) -> Result<(), SerdeError> {
-        if let Some(error) = self.unready() {
-            return Err(self.refuse(error));
-        }
+        self.ready()?;
         match byte_end(self.input, self.position, b'[') {
             Some(inside) => self.enter(inside, Frame::List(false)),
             None => Err(self.refuse(SerdeError::InvalidInput)),
@@ -334,7 +334,19 @@ impl ShapeDeserializer for JsonDeserializer<'_> {
         self.due && begins_null(self.input, self.position)
     }
 
-    fn read_null(&mut self) -> Result<(), SerdeError> {
+    // Where no null is due it does nothing.
+    fn read_null(&mut self) -> Result<(), SerdeError>
+        ensures same { reading_settings_of self.new ≡ reading_settings_of self.old }
+        ensures conduct { Conducts (cursor_of self.old) (cursor_of self.new) result }
+        ensures memory { IsErrOf result NoMemory → ⊥ }
+        ensures shallow { IsErrOf result TooDeep → ⊥ }
+        ensures ok { null_is_due (json_relations (reading_settings_of self.old)) (cursor_of self.old) ≡ true → OnOk result ((json_relations (reading_settings_of self.old)).nulls (cursor_of self.old).input (depth (cursor_of self.old)) (cursor_of self.old).at (cursor_of self.new).at) }
+        ensures passes { null_is_due (json_relations (reading_settings_of self.old)) (cursor_of self.old) ≡ true → OnOk result (Passes (cursor_of self.old) (cursor_of self.new)) }
+        ensures refused { null_is_due (json_relations (reading_settings_of self.old)) (cursor_of self.old) ≡ true → IsRefused result → NullsNot (json_relations (reading_settings_of self.old)) (cursor_of self.old) }
+        ensures would { null_is_due (json_relations (reading_settings_of self.old)) (cursor_of self.old) ≡ true → IsInvalid result → NullsNot (json_relations (without_limits (reading_settings_of self.old))) (cursor_of self.old) }
+        ensures nothing { null_is_due (json_relations (reading_settings_of self.old)) (cursor_of self.old) ≡ false → OnOk result (cursor_of self.new ≡ cursor_of self.old) }
+        ensures unasked { null_is_due (json_relations (reading_settings_of self.old)) (cursor_of self.old) ≡ false → (cursor_of self.old).failed ≡ false → IsOk result }
+    {
         if self.failed {
             return Err(self.refuse(SerdeError::Failed));
         }
@@ -350,10 +362,19 @@ impl ShapeDeserializer for JsonDeserializer<'_> {
         }
     }
 
-    fn skip_value(&mut self) -> Result<(), SerdeError> {
-        if let Some(error) = self.unready() {
-            return Err(self.refuse(error));
-        }
+    // It takes no memory.
+    fn skip_value(&mut self) -> Result<(), SerdeError>
+        ensures same { reading_settings_of self.new ≡ reading_settings_of self.old }
+        ensures conduct { Conducts (cursor_of self.old) (cursor_of self.new) result }
+        ensures memory { IsErrOf result NoMemory → ⊥ }
+        ensures undue { (cursor_of self.old).due ≡ false → IsNoAnswer result }
+        ensures ok { OnOk result ((json_relations (reading_settings_of self.old)).skips (cursor_of self.old).input (depth (cursor_of self.old)) (cursor_of self.old).at (cursor_of self.new).at) }
+        ensures passes { OnOk result (Passes (cursor_of self.old) (cursor_of self.new)) }
+        ensures refused { IsRefused result → (cursor_of self.old).due ≡ true → SkipsNot (json_relations (reading_settings_of self.old)) (cursor_of self.old) }
+        ensures would { IsInvalid result → (cursor_of self.old).due ≡ true → SkipsNot (json_relations (without_limits (reading_settings_of self.old))) (cursor_of self.old) }
+        ensures deep { IsErrOf result TooDeep → ReachesDepth (json_relations (reading_settings_of self.old)) (reading_settings_of self.old).max_depth (cursor_of self.old) }
+    {
+        self.ready()?;
         match skipped_end(self.input, self.position, self.outer.len(), self.max_depth) {
             Ok(end) => {
                 self.pass(end);
@@ -364,9 +385,7 @@ impl ShapeDeserializer for JsonDeserializer<'_> {
     }
 
     fn read_long(&mut self, _schema: &Schema<'_>) -> Result<i64, SerdeError> {
-        if let Some(error) = self.unready() {
-            return Err(self.refuse(error));
-        }
+        self.ready()?;
         match long_at(self.input, self.position) {
             Some((n, end)) => {
                 self.pass(end);
@@ -377,9 +396,7 @@ impl ShapeDeserializer for JsonDeserializer<'_> {
     }
 
     fn read_string(&mut self, _schema: &Schema<'_>) -> Result<String, SerdeError> {
-        if let Some(error) = self.unready() {
-            return Err(self.refuse(error));
-        }
+        self.ready()?;
         let Some(string) = string_at(self.input, self.position) else {
             return Err(self.refuse(SerdeError::InvalidInput));
         };

@@ -6,13 +6,15 @@ use Rattle.smithy_schema.specs.Table.{Table, Member, ListShape, Kind, scalar, st
 use Rattle.smithy_schema.specs.Value.{Value}
 use Rattle.smithy_schema.specs.Container.{Entry}
 use Rattle.smithy_schema.specs.Reading.{Contains, IsContainer, IsLawful}
+use Rattle.smithy_schema.specs.Private.Options.{same_some, chosen}
+use Rattle.smithy_schema.specs.Private.Kinds.{structure_kind}
 use Rattle.smithy_json.specs.Tree.{Json, null, boolean, number, string, array, object}
 use Rattle.smithy_json_codec.specs.Settings.{Settings, is_shallow}
 use Rattle.smithy_json_codec.specs.Meaning.{json_meaning, element_entries, member_entries, number_meaning, string_meaning, array_meaning, object_meaning}
 use Rattle.smithy_json_codec.specs.Standing.{TreeLies, json_relations}
 use Rattle.smithy_json_codec.specs.Private.Fronts.{one_tree, tree_ahead}
 use Rattle.smithy_json_codec.specs.Private.Steps.{same_opening, same_step, same_close, step_or_close, stands_within, nearer}
-use Rattle.smithy_json_codec.specs.Private.Lists.{same_some, chosen, list_folded, list_unfolded}
+use Rattle.smithy_json_codec.specs.Private.Lists.{list_folded, list_unfolded}
 use Rattle.smithy_json_codec.specs.Private.Structures.{structure_folded, structure_unfolded, empty_unfolded}
 use Rattle.smithy_json_codec.specs.Private.Fits.{stands_fits}
 use Rattle.smithy_json_codec.specs.Private.OpenPlaces.{across_value, opening_adds, close_takes_one, step_takes_none, value_takes_none}
@@ -52,13 +54,6 @@ object_kind (scalar s) xs v h = cc
 object_kind (structure_of members) xs v h = (members, refl)
 object_kind (list_of l) xs v h = cc
 object_kind nothing xs v h = cc
-
--- the members of a kind of structures
-pub structure_kind : (k : Kind) → IsStructure k → (ss : List Member) × (k ≡ structure_of ss)
-structure_kind (scalar s) h = absurd h
-structure_kind (structure_of members) h = (members, refl)
-structure_kind (list_of l) h = absurd h
-structure_kind nothing h = absurd h
 
 tree_unfolded : (o : Settings) (i : List ℕ) (t : Table) (p : Place) (d a : ℕ) (v : Value) (e : ℕ) (x : Json) → IsContainer (kind_of t p)
     → TreeLies d x i a e → json_meaning o t p d x ≡ Some v → Contains (json_relations o) i t p d a v e
@@ -117,14 +112,14 @@ json_is_lawful c = record {
   fits = stands_fits c;
   stands_ahead = stands_ahead c;
   stands_within = stands_within c;
-  nulls_within = λ i a e h. (tree_ahead 1 null i a e h, h.0.1);
+  nulls_within = λ i d a e h. (tree_ahead 1 null i a e h, h.0.1);
   skips_within = λ i d a e h. (tree_ahead d h.0 i a e h.1, h.1.0.1);
   nearer = nearer c;
   same_opening = same_opening c;
   same_step = same_step c;
   same_close = same_close c;
   step_or_close = step_or_close c;
-  same_null = λ i a e f h k. (one_tree 1 1 null null i a e f h k).1;
+  same_null = λ i d a e f h k. (one_tree 1 1 null null i a e f h k).1;
   same_skip = λ i d a e f h k. (one_tree d d h.0 k.0 i a e f h.1 k.1).1;
   null_begins = null_begins c;
   value_begins = value_begins_otherwise c;
@@ -132,6 +127,6 @@ json_is_lawful c = record {
   close_takes_one = close_takes_one c;
   step_takes_none = step_takes_none c;
   value_takes_none = value_takes_none c;
-  null_takes_none = λ i a e h. across_value i null a e h.0;
+  null_takes_none = λ i d a e h. across_value i null a e h.0;
   skip_takes_none = λ i d a e h. across_value i h.0 a e h.1.0;
 }

@@ -1,36 +1,20 @@
 -- What holds within the limits holds without them.
-use Rattle.std.specs.Prelude.{◌≡◌, ℕ, suc, ◌+◌, List, [], ◌∷◌, ◌++◌, Option, Some, None, Bool, true, false, refl, option_and_then}
+use Rattle.std.specs.Prelude.{◌≡◌, ℕ, suc, ◌+◌, List, [], ◌∷◌, ◌++◌, Option, Some, None, refl, option_and_then}
 use Rattle.std.proofs.Common.{ap, inl, inr}
 use Rattle.smithy_schema.specs.declared.place.Place.{Place}
 use Rattle.smithy_schema.specs.Table.{Table, ListShape, Kind, scalar, structure_of, list_of, nothing, kind_of, place_in}
-use Rattle.smithy_schema.specs.Value.{Value, list, structure, values_of, MemberValues, no_member_values, put_member}
-use Rattle.smithy_schema.specs.Container.{Entry, elements_from, element_of, members_from}
+use Rattle.smithy_schema.specs.Value.{Value, list, structure, values_of, MemberValues, no_member_values}
+use Rattle.smithy_schema.specs.Container.{elements_from, element_of, members_from}
 use Rattle.smithy_schema.specs.Reading.{IsBelow}
+use Rattle.smithy_schema.specs.Private.Options.{step_apart, chosen, made}
+use Rattle.smithy_schema.specs.Private.ElementFolds.{lift_element}
+use Rattle.smithy_schema.specs.Private.MemberFolds.{lift_entry}
 use Rattle.smithy_json.specs.Tree.{Json, null, boolean, number, string, array, object, Elements, no_elements, element, Members, no_members, member, nesting}
 use Rattle.smithy_json.specs.Unescape.{unescaped}
 use Rattle.smithy_json_codec.specs.Settings.{Settings, is_shallow, without_limits}
 use Rattle.smithy_json_codec.specs.Meaning.{json_meaning, element_entries, member_entries, is_null, array_meaning, object_meaning, position_in}
 use Rattle.smithy_json_codec.specs.Standing.{json_relations}
-use Rattle.smithy_json_codec.specs.Private.Lists.{step_apart, chosen, made, null_is, null_apart}
-use Rattle.smithy_json_codec.specs.Private.MemberFolds.{entry_with}
-
--- ---- elements and members, by what each means
-
-lift_element : (s b : Bool) (mean lifted : Option Value) (v : Value) → ((w : Value) → mean ≡ Some w → lifted ≡ Some w)
-    → (mean ≡ None → b ≡ true → lifted ≡ None) → element_of s b mean ≡ Some v → element_of s b lifted ≡ Some v
-lift_element s b (Some w) lifted v up none h = rw (up w refl) h
-lift_element s b None lifted v up none h = let n = null_apart s b v h in rw (none refl n.1) h
-
-lift_entry : (key : Option (List ℕ)) (pos : Option ℕ) (mean lifted : Option Value) (absent skippable nil : Bool) (fs us : MemberValues) (xs ys : List Entry)
-    → ((w : Value) → mean ≡ Some w → lifted ≡ Some w) → ((gs : MemberValues) → members_from gs xs ≡ Some us → members_from gs ys ≡ Some us)
-    → members_from fs (entry_with key pos mean absent skippable nil ∷ xs) ≡ Some us
-    → members_from fs (entry_with key pos lifted absent true nil ∷ ys) ≡ Some us
-lift_entry None pos mean lifted absent skippable nil fs us xs ys up next h = cc
-lift_entry (Some raw) pos mean lifted true skippable nil fs us xs ys up next h = next fs h
-lift_entry (Some raw) None mean lifted false true nil fs us xs ys up next h = next fs h
-lift_entry (Some raw) None mean lifted false false nil fs us xs ys up next h = cc
-lift_entry (Some raw) (Some n) None lifted false skippable nil fs us xs ys up next h = cc
-lift_entry (Some raw) (Some n) (Some v) lifted false skippable nil fs us xs ys up next h = rw (up v refl) (next (put_member n v fs) h)
+use Rattle.smithy_json_codec.specs.Private.Lists.{null_is}
 
 module _ (o : Settings) (t : Table) where
   lift_array : (p : Place) (d : ℕ) (k : Kind) → kind_of t p ≡ k → (es : Elements)
@@ -110,7 +94,7 @@ lifting_keeps c = record {
   begins_null = λ i a. refl;
   allows = λ d h. refl;
   stands = lift_stands c;
-  nulls = λ i a e h. h;
+  nulls = λ i d a e h. h;
   skips = λ i d a e h. (h.0, h.1, refl);
   opens = λ i t p d a b n h. h;
   steps = λ i t p d b n key f k h. h;

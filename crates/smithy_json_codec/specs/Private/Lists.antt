@@ -1,11 +1,14 @@
 -- A list stands for what its elements mean together: its chain is the elements of an array.
-use Rattle.std.specs.Prelude.{◌≡◌, ℕ, suc, drop, map, List, [], ◌∷◌, ◌++◌, Option, Some, None, Bool, true, false, cond, refl, option_and_then, option_map}
+use Rattle.std.specs.Prelude.{◌≡◌, ℕ, suc, drop, map, List, [], ◌∷◌, ◌++◌, Option, Some, None, true, refl, option_map}
 use Rattle.std.proofs.Common.{sym, ◌∙◌, ap, arith, subst, inl, inr}
 use Rattle.smithy_schema.specs.declared.place.Place.{Place}
-use Rattle.smithy_schema.specs.Table.{Table, Kind, list_of, ListShape, kind_of, place_in, IsList, IsStructure}
-use Rattle.smithy_schema.specs.Value.{Value, list, null_element, values_of}
-use Rattle.smithy_schema.specs.Container.{Entry, container_of, elements_from, element_of}
+use Rattle.smithy_schema.specs.Table.{Table, list_of, ListShape, kind_of, place_in}
+use Rattle.smithy_schema.specs.Value.{Value, list, values_of}
+use Rattle.smithy_schema.specs.Container.{elements_from, element_of}
 use Rattle.smithy_schema.specs.Reading.{Mark, Child, child_value, child_null, child_unknown, entry_of, named, IsChild, Chain, Contains}
+use Rattle.smithy_schema.specs.Private.Options.{same_some, step_apart, chosen, made}
+use Rattle.smithy_schema.specs.Private.Kinds.{is_list, list_is_no_structure}
+use Rattle.smithy_schema.specs.Private.ElementFolds.{null_apart, null_folds, null_step, list_means}
 use Rattle.smithy_json.specs.Ascii.{begin_array, end_array}
 use Rattle.smithy_json.specs.Tree.{Json, null, boolean, number, string, array, object, Elements, no_elements, element}
 use Rattle.smithy_json_codec.specs.Settings.{Settings, is_shallow}
@@ -16,35 +19,7 @@ use Rattle.smithy_json_codec.specs.Private.Fronts.{past_byte, value_first}
 use Rattle.smithy_json_codec.specs.Private.Steps.{no_byte}
 use Rattle.smithy_json_codec.specs.Private.ArrayPlaces.{ChildLies, child_lies, lies_inside, ElementsLie, elements_text, text_elements}
 
--- ---- options
-
--- `Some` is injective
-pub same_some : {A : Type 0} (a b : A) → Some a ≡ Some b → a ≡ b
-same_some a b h = cc
-
--- two steps that give something, taken apart
-pub step_apart : {A B : Type 0} (o : Option A) (f : A → Option B) (us : B) → option_and_then f o ≡ Some us
-    → (v : A) × (o ≡ Some v) × (f v ≡ Some us)
-step_apart (Some v) f us h = (v, refl, h)
-step_apart None f us h = cc
-
--- a choice that gives something
-pub chosen : {A : Type 0} (b : Bool) (x : Option A) (v : A) → cond b x None ≡ Some v → (b ≡ true) × (x ≡ Some v)
-chosen true x v h = (refl, h)
-chosen false x v h = cc
-
--- a map that gives something
-pub made : {A B : Type 0} (f : A → B) (o : Option A) (v : B) → option_map f o ≡ Some v → (u : A) × (o ≡ Some u) × (f u ≡ v)
-made f (Some u) v h = (u, refl, same_some _ _ h)
-made f None v h = cc
-
 -- ---- nulls
-
--- an element without a meaning is a null of a sparse list
-pub null_apart : (s b : Bool) (v : Value) → element_of s b None ≡ Some v → (s ≡ true) × (b ≡ true) × (v ≡ null_element)
-null_apart true true v h = (refl, refl, cc)
-null_apart true false v h = cc
-null_apart false b v h = cc
 
 -- only null is null
 pub null_is : (x : Json) → is_null x ≡ true → x ≡ null
@@ -54,29 +29,6 @@ null_is (number raw) h = cc
 null_is (string raw) h = cc
 null_is (array es) h = cc
 null_is (object ms) h = cc
-
-null_folds : (s : Bool) → s ≡ true → (vs : List Value) (xs ys : List Entry) (key : Option (List ℕ))
-    → ((us : List Value) → elements_from s us xs ≡ elements_from s us ys)
-    → elements_from s vs (entry_of (child_null key) ∷ xs) ≡ option_and_then (λ v. elements_from s (vs ++ v ∷ []) ys) (element_of s true None)
-null_folds true h vs xs ys key k = k (vs ++ null_element ∷ [])
-null_folds false h vs xs ys key k = cc
-
-null_step : (s : Bool) → s ≡ true → (v : Value) → v ≡ null_element → (vs : List Value) (xs : List Entry)
-    → elements_from s vs (entry_of (child_null None) ∷ xs) ≡ elements_from s (vs ++ v ∷ []) xs
-null_step true h v k vs xs = ap (λ u. elements_from true (vs ++ u ∷ []) xs) (sym k)
-null_step false h v k vs xs = cc
-
--- ---- the kind of a list
-
-list_only : (k : Kind) (l : ListShape) → k ≡ list_of l → IsStructure k → ⊥
-list_only k l kind h = rw kind at h
-
-is_list : (k : Kind) (l : ListShape) → k ≡ list_of l → IsList k
-is_list k l kind = rw kind tt
-
-list_means : (k : Kind) (l : ListShape) (xs : List Entry) (us : List Value) (v : Value) → k ≡ list_of l → elements_from l.is_sparse [] xs ≡ Some us
-    → list (values_of us) ≡ v → container_of k xs ≡ Some v
-list_means k l xs us v kind folds is = rw (kind, folds) (ap Some is)
 
 -- no value begins as an array ends
 pub no_end : (i : List ℕ) (x : Json) (c f : ℕ) → ChildLies x i c f → (e : ℕ) → Lies (IsByte end_array) i c e → ⊥
@@ -98,18 +50,18 @@ module _ (o : Settings) (i : List ℕ) (t : Table) (p : Place) (l : ListShape) (
   list_steps : (b : ℕ) (m : Mark) (key : Option (List ℕ)) (c : ℕ) (n : Mark) → (json_relations o).steps i t p (suc d) b m key c n
       → StepsInList i b m key c n
   list_steps b m key c n (inl h) = h.1
-  list_steps b m key c n (inr h) = absurd (list_only (kind_of t p) l kind h.0)
+  list_steps b m key c n (inr h) = absurd (list_is_no_structure (kind_of t p) l kind h.0)
 
   list_closes : (b : ℕ) (m : Mark) (e : ℕ) → (json_relations o).closes i t p (suc d) b m e
       → Lies (IsByte end_array) i b e × FollowsInside (suc d) (drop e i)
   list_closes b m e (inl h, follows) = (h.1, follows)
-  list_closes b m e (inr (inl h), follows) = absurd (list_only (kind_of t p) l kind h.0)
-  list_closes b m e (inr (inr h), follows) = absurd (list_only (kind_of t p) l kind h.0)
+  list_closes b m e (inr (inl h), follows) = absurd (list_is_no_structure (kind_of t p) l kind h.0)
+  list_closes b m e (inr (inr h), follows) = absurd (list_is_no_structure (kind_of t p) l kind h.0)
 
   list_opens : (a b : ℕ) (m : Mark) → (json_relations o).opens i t p d a b m → (m ≡ fresh_mark) × Lies (IsByte begin_array) i a b
   list_opens a b m (inl h) = (h.0, h.2)
-  list_opens a b m (inr (inl h)) = absurd (list_only (kind_of t p) l kind h.1)
-  list_opens a b m (inr (inr h)) = absurd (list_only (kind_of t p) l kind h.1)
+  list_opens a b m (inr (inl h)) = absurd (list_is_no_structure (kind_of t p) l kind h.1)
+  list_opens a b m (inr (inr h)) = absurd (list_is_no_structure (kind_of t p) l kind h.1)
 
   unnamed : (key : Option (List ℕ)) (k : Option ℕ) → key ≡ None → k ≡ named (json_relations o) t p key → k ≡ None
   unnamed key k h e = rw h at e
@@ -144,7 +96,7 @@ module _ (o : Settings) (i : List ℕ) (t : Table) (p : Place) (l : ListShape) (
         rest.2,
         λ vs. rw kind (null_folds l.is_sparse (rw kind at chain.5.1) vs (map entry_of xs) (element_entries o t p (suc d) rest.0) a rest.3),
       )
-  child_elements b m (child_unknown a ∷ xs) e full chain = absurd (list_only (kind_of t p) l kind chain.5.1)
+  child_elements b m (child_unknown a ∷ xs) e full chain = absurd (list_is_no_structure (kind_of t p) l kind chain.5.1)
 
   -- the child that a tree is
   tree_child : (c f : ℕ) (x : Json) (u : Option Value) (v : Value) → json_meaning o t l.place (suc d) x ≡ u → ChildLies x i c f

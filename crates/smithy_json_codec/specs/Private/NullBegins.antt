@@ -22,8 +22,8 @@ boundary_ends (b ∷ s) (inr (inr (inl h))) = rw h refl
 boundary_ends (b ∷ s) (inr (inr (inr h))) = rw h refl
 
 -- a law of reading
-pub null_begins : (o : Settings) (i : List ℕ) (a e : ℕ) → (json_relations o).nulls i a e → (json_relations o).begins_null i a ≡ true
-null_begins o i a e h = rw (past_value null (drop a i) (drop e i) h.0.2, h.0.2.4, boundary_ends (drop e i) h.1) refl
+pub null_begins : (o : Settings) (i : List ℕ) (d a e : ℕ) → (json_relations o).nulls i d a e → (json_relations o).begins_null i a ≡ true
+null_begins o i d a e h = rw (past_value null (drop a i) (drop e i) h.0.2, h.0.2.4, boundary_ends (drop e i) h.1) refl
 
 -- what doesn't begin with the letter n doesn't begin with null
 no_n : (s : List ℕ) → (first s == 0x6e) ≡ false → begins_with_null s ≡ false

@@ -2,9 +2,10 @@
 use Rattle.std.specs.Prelude.{◌≡◌, ℕ, zero, suc, ◌+◌, ◌-◌, ◌<◌, ◌≤◌, length, List, [], Option, Bool, true, false, refl, ◌⊎◌, if◌then◌else◌}
 use Rattle.std.proofs.Common.{sym, ◌∙◌, ap, arith, subst, inl, inr}
 use Rattle.smithy_schema.specs.declared.place.Place.{Place}
-use Rattle.smithy_schema.specs.Table.{Table, Kind, scalar, structure_of, list_of, nothing, kind_of, IsList, IsStructure}
+use Rattle.smithy_schema.specs.Table.{Table, Kind, kind_of, IsList, IsStructure}
 use Rattle.smithy_schema.specs.Value.{Value}
 use Rattle.smithy_schema.specs.Reading.{Mark, Child, child_value, child_null, child_unknown, IsChild}
+use Rattle.smithy_schema.specs.Private.Kinds.{no_list_and_structure}
 use Rattle.smithy_json.specs.Ascii.{value_separator, begin_array, end_array, begin_object, end_object}
 use Rattle.smithy_json.specs.Tree.{null}
 use Rattle.smithy_json.specs.Unescape.{unescaped}
@@ -12,14 +13,7 @@ use Rattle.smithy_json_codec.specs.Settings.{Settings}
 use Rattle.smithy_json_codec.specs.Standing.{Lies, TreeLies, IsByte, IsSeparated, Names, Drops, StepsInList, ClosesStructure, fresh_mark, end_mark, json_relations}
 use Rattle.smithy_json_codec.specs.Private.Fronts.{same_byte, byte_ahead, same_separated, same_names, names_or_end, names_ahead, one_tree}
 
--- ---- the kinds of containers, and an empty input
-
--- no list is a structure
-pub not_both : (k : Kind) → IsList k → IsStructure k → ⊥
-not_both (scalar s) h l = l
-not_both (structure_of members) h l = h
-not_both (list_of shape) h l = l
-not_both nothing h l = l
+-- ---- an empty input
 
 -- no byte and no name stands in an empty input
 pub no_byte : (x : ℕ) (i : List ℕ) (a e : ℕ) → i ≡ [] → Lies (IsByte x) i a e → ⊥
@@ -40,12 +34,12 @@ Opens i k a b m =
 
 same_opens : (i : List ℕ) (k : Kind) (a b c : ℕ) (m n : Mark) → Opens i k a b m → Opens i k a c n → (b ≡ c) × (m ≡ n)
 same_opens i k a b c m n (inl h) (inl j) = ((same_byte i a b c begin_array begin_array refl refl h.2 j.2).1, h.0 ∙ sym j.0)
-same_opens i k a b c m n (inl h) (inr (inl j)) = absurd (not_both k h.1 j.1)
-same_opens i k a b c m n (inl h) (inr (inr j)) = absurd (not_both k h.1 j.1)
-same_opens i k a b c m n (inr (inl h)) (inl j) = absurd (not_both k j.1 h.1)
+same_opens i k a b c m n (inl h) (inr (inl j)) = absurd (no_list_and_structure k h.1 j.1)
+same_opens i k a b c m n (inl h) (inr (inr j)) = absurd (no_list_and_structure k h.1 j.1)
+same_opens i k a b c m n (inr (inl h)) (inl j) = absurd (no_list_and_structure k j.1 h.1)
 same_opens i k a b c m n (inr (inl h)) (inr (inl j)) = ((same_byte i a b c begin_object begin_object refl refl h.2 j.2).1, h.0 ∙ sym j.0)
 same_opens i k a b c m n (inr (inl h)) (inr (inr j)) = absurd (no_byte begin_object i a b j.2 h.2)
-same_opens i k a b c m n (inr (inr h)) (inl j) = absurd (not_both k j.1 h.1)
+same_opens i k a b c m n (inr (inr h)) (inl j) = absurd (no_list_and_structure k j.1 h.1)
 same_opens i k a b c m n (inr (inr h)) (inr (inl j)) = absurd (no_byte begin_object i a c h.2 j.2)
 same_opens i k a b c m n (inr (inr h)) (inr (inr j)) = (h.4 ∙ sym j.4, h.0 ∙ sym j.0)
 
@@ -138,8 +132,8 @@ member_or_end (suc k) (suc l) i b m raw c e d d' n n' h s none j t =
 pub same_step : (o : Settings) (i : List ℕ) (t : Table) (p : Place) (d b : ℕ) (m : Mark) (key key' : Option (List ℕ)) (c c' : ℕ) (n n' : Mark)
     → (json_relations o).steps i t p d b m key c n → (json_relations o).steps i t p d b m key' c' n' → (key ≡ key') × (c ≡ c') × (n ≡ n')
 same_step o i t p d b m key key' c c' n n' (inl h) (inl j) = same_list_step i b m key key' c c' n n' h.1 j.1
-same_step o i t p d b m key key' c c' n n' (inl h) (inr j) = absurd (not_both (kind_of t p) h.0 j.0)
-same_step o i t p d b m key key' c c' n n' (inr h) (inl j) = absurd (not_both (kind_of t p) j.0 h.0)
+same_step o i t p d b m key key' c c' n n' (inl h) (inr j) = absurd (no_list_and_structure (kind_of t p) h.0 j.0)
+same_step o i t p d b m key key' c c' n n' (inr h) (inl j) = absurd (no_list_and_structure (kind_of t p) j.0 h.0)
 same_step o i t p d b m key key' c c' n n' (inr h) (inr j) =
     let s = h.2.4 in
     let u = j.2.4 in
@@ -159,13 +153,13 @@ no_object_end k i b m e d n empty h s = no_byte end_object i d e empty s
 
 same_closes : (i : List ℕ) (k : Kind) (b : ℕ) (m : Mark) (e f : ℕ) → Closes i k b m e → Closes i k b m f → e ≡ f
 same_closes i k b m e f (inl h) (inl j) = (same_byte i b e f end_array end_array refl refl h.1 j.1).1
-same_closes i k b m e f (inl h) (inr (inl j)) = absurd (not_both k h.0 j.0)
-same_closes i k b m e f (inl h) (inr (inr j)) = absurd (not_both k h.0 j.0)
-same_closes i k b m e f (inr (inl h)) (inl j) = absurd (not_both k j.0 h.0)
+same_closes i k b m e f (inl h) (inr (inl j)) = absurd (no_list_and_structure k h.0 j.0)
+same_closes i k b m e f (inl h) (inr (inr j)) = absurd (no_list_and_structure k h.0 j.0)
+same_closes i k b m e f (inr (inl h)) (inl j) = absurd (no_list_and_structure k j.0 h.0)
 same_closes i k b m e f (inr (inl h)) (inr (inl j)) =
     let s = h.1 in let u = j.1 in closes_agree s.0 u.0 i b m.entered e f s.1 u.1 s.2 u.2 s.3 s.4 u.3 u.4
 same_closes i k b m e f (inr (inl h)) (inr (inr j)) = let s = h.1 in absurd (no_byte end_object i s.1 e j.2 s.4)
-same_closes i k b m e f (inr (inr h)) (inl j) = absurd (not_both k j.0 h.0)
+same_closes i k b m e f (inr (inr h)) (inl j) = absurd (no_list_and_structure k j.0 h.0)
 same_closes i k b m e f (inr (inr h)) (inr (inl j)) = let s = j.1 in absurd (no_byte end_object i s.1 f h.2 s.4)
 same_closes i k b m e f (inr (inr h)) (inr (inr j)) = h.4 ∙ sym j.4
 
@@ -177,9 +171,9 @@ same_close o i t p d b m e f h j = same_closes i (kind_of t p) b m e f h.0 j.0
 goes_on_or_closes : (o : Settings) (i : List ℕ) (t : Table) (p : Place) (d b : ℕ) (m : Mark) (key : Option (List ℕ)) (c : ℕ) (n : Mark) (e : ℕ)
     → (json_relations o).steps i t p d b m key c n → Closes i (kind_of t p) b m e → ⊥
 goes_on_or_closes o i t p d b m key c n e (inl h) (inl j) = element_or_end i m.entered b c e h.1.2 h.1.3 j.1
-goes_on_or_closes o i t p d b m key c n e (inl h) (inr (inl j)) = not_both (kind_of t p) h.0 j.0
-goes_on_or_closes o i t p d b m key c n e (inl h) (inr (inr j)) = not_both (kind_of t p) h.0 j.0
-goes_on_or_closes o i t p d b m key c n e (inr h) (inl j) = not_both (kind_of t p) j.0 h.0
+goes_on_or_closes o i t p d b m key c n e (inl h) (inr (inl j)) = no_list_and_structure (kind_of t p) h.0 j.0
+goes_on_or_closes o i t p d b m key c n e (inl h) (inr (inr j)) = no_list_and_structure (kind_of t p) h.0 j.0
+goes_on_or_closes o i t p d b m key c n e (inr h) (inl j) = no_list_and_structure (kind_of t p) j.0 h.0
 goes_on_or_closes o i t p d b m key c n e (inr h) (inr (inl j)) =
     let s = h.2.4 in let u = j.1 in member_or_end s.0 u.0 i b m.entered h.2.0 c e s.1 u.1 s.2 u.2 s.3 s.4 s.5 u.3 u.4
 goes_on_or_closes o i t p d b m key c n e (inr h) (inr (inr j)) = let s = h.2.4 in no_names i s.2 s.1 h.2.0 c j.2 s.4

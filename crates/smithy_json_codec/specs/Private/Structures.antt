@@ -3,10 +3,13 @@
 use Rattle.std.specs.Prelude.{◌≡◌, ℕ, zero, suc, ◌+◌, drop, map, List, [], ◌∷◌, Option, Some, None, Bool, true, false, refl, option_and_then, option_map}
 use Rattle.std.proofs.Common.{sym, ◌∙◌, ap, arith, subst, inl, inr}
 use Rattle.smithy_schema.specs.declared.place.Place.{Place}
-use Rattle.smithy_schema.specs.Table.{Table, Member, Kind, structure_of, kind_of, place_in, IsList, IsStructure, IsSparse}
+use Rattle.smithy_schema.specs.Table.{Table, Member, structure_of, kind_of, place_in}
 use Rattle.smithy_schema.specs.Value.{Value, structure, MemberValues, no_member_values, put_member}
 use Rattle.smithy_schema.specs.Container.{Entry, container_of, members_from}
 use Rattle.smithy_schema.specs.Reading.{Mark, Child, child_value, child_null, child_unknown, entry_of, named, Chain, Contains}
+use Rattle.smithy_schema.specs.Private.Options.{same_some, step_apart, chosen, made}
+use Rattle.smithy_schema.specs.Private.Kinds.{is_structure, structure_is_no_list, structure_is_not_sparse, has_position}
+use Rattle.smithy_schema.specs.Private.MemberFolds.{set_folds, skip_folds, drop_folds, fold_key, fold_set, fold_skip, structure_means}
 use Rattle.smithy_json.specs.Ascii.{begin_object, end_object}
 use Rattle.smithy_json.specs.Tree.{Json, null, boolean, number, string, array, object, Members, no_members, member, nesting}
 use Rattle.smithy_json.specs.Unescape.{unescaped}
@@ -17,28 +20,7 @@ use Rattle.smithy_json_codec.specs.Private.Fronts.{one_tree}
 use Rattle.smithy_json_codec.specs.Private.Steps.{no_byte, no_names}
 use Rattle.smithy_json_codec.specs.Private.ArrayPlaces.{ChildLies, child_lies, lies_inside}
 use Rattle.smithy_json_codec.specs.Private.ObjectPlaces.{MembersLie, members_text, text_members}
-use Rattle.smithy_json_codec.specs.Private.Lists.{same_some, step_apart, chosen, made, value_tree}
-use Rattle.smithy_json_codec.specs.Private.MemberFolds.{set_folds, skip_folds, drop_folds, fold_key, fold_set, fold_skip}
-
--- ---- the kind of a structure
-
-structure_only : (k : Kind) (ss : List Member) → k ≡ structure_of ss → IsList k → ⊥
-structure_only k ss kind h = rw kind at h
-
-not_sparse : (k : Kind) (ss : List Member) → k ≡ structure_of ss → IsSparse k → ⊥
-not_sparse k ss kind h = rw kind at h
-
-is_structure : (k : Kind) (ss : List Member) → k ≡ structure_of ss → IsStructure k
-is_structure k ss kind = rw kind tt
-
-structure_means : (k : Kind) (ss : List Member) (xs : List Entry) (us : MemberValues) (v : Value) → k ≡ structure_of ss
-    → members_from no_member_values xs ≡ Some us → structure us ≡ v → container_of k xs ≡ Some v
-structure_means k ss xs us v kind folds is = rw (kind, folds) (ap Some is)
-
--- what stands at a place of a structure has a position
-has_position : (k : Kind) (ss : List Member) (pos : Option ℕ) (q : Place) → k ≡ structure_of ss → place_in k pos ≡ Some q → (n : ℕ) × (pos ≡ Some n)
-has_position k ss None q kind h = let no : place_in (structure_of ss) None ≡ Some q = rw kind at h in cc
-has_position k ss (Some n) q kind h = (n, refl)
+use Rattle.smithy_json_codec.specs.Private.Lists.{value_tree}
 
 -- ---- nulls
 
@@ -88,12 +70,12 @@ module _ (o : Settings) (i : List ℕ) (t : Table) (p : Place) (ss : List Member
 
   structure_steps : (b : ℕ) (m : Mark) (key : Option (List ℕ)) (c : ℕ) (n : Mark) → (json_relations o).steps i t p (suc d) b m key c n
       → (n ≡ entry_mark) × ((raw text : List ℕ) × (key ≡ Some text) × (unescaped raw ≡ Some text) × StepsInStructure i b m.entered raw c)
-  structure_steps b m key c n (inl h) = absurd (structure_only (kind_of t p) ss kind h.0)
+  structure_steps b m key c n (inl h) = absurd (structure_is_no_list (kind_of t p) ss kind h.0)
   structure_steps b m key c n (inr h) = (h.1, h.2)
 
   structure_closes : (b : ℕ) (m : Mark) (e : ℕ) → (i ≡ [] → ⊥) → (json_relations o).closes i t p (suc d) b m e
       → ClosesStructure i b m.entered e × FollowsInside (suc d) (drop e i)
-  structure_closes b m e full (inl h, follows) = absurd (structure_only (kind_of t p) ss kind h.0)
+  structure_closes b m e full (inl h, follows) = absurd (structure_is_no_list (kind_of t p) ss kind h.0)
   structure_closes b m e full (inr (inl h), follows) = (h.1, follows)
   structure_closes b m e full (inr (inr h), follows) = absurd (full h.2)
 
@@ -151,7 +133,7 @@ module _ (o : Settings) (i : List ℕ) (t : Table) (p : Place) (ss : List Member
             ∙ (rest.3 (put_member some.0 v fs)
             ∙ (sym (set_folds (entry raw x) text some.0 v step.1.3 there (sym pos ∙ some.1) mean fs (entries rest.0)) ∙ sym (all.2 fs))),
       )
-  child_members b m (child_null a ∷ xs) e full chain = absurd (not_sparse (kind_of t p) ss kind chain.5.1)
+  child_members b m (child_null a ∷ xs) e full chain = absurd (structure_is_not_sparse (kind_of t p) ss kind chain.5.1)
   child_members b m (child_unknown a ∷ xs) e full chain =
       let f = chain.3 in
       let step = structure_steps b m chain.0 chain.1 chain.2 chain.4 in
@@ -254,7 +236,7 @@ module _ (o : Settings) (i : List ℕ) (t : Table) (p : Place) (ss : List Member
   -- ---- an empty input
 
   empty_chain : (b : ℕ) (m : Mark) (xs : List Child) (e : ℕ) → i ≡ [] → Chain (json_relations o) i t p (suc d) b m xs e → (xs ≡ []) × (e ≡ 0)
-  empty_chain b m [] e empty (inl h, follows) = absurd (structure_only (kind_of t p) ss kind h.0)
+  empty_chain b m [] e empty (inl h, follows) = absurd (structure_is_no_list (kind_of t p) ss kind h.0)
   empty_chain b m [] e empty (inr (inl h), follows) = let s = h.1 in absurd (no_byte end_object i s.1 e empty s.4)
   empty_chain b m [] e empty (inr (inr h), follows) = (refl, h.4)
   empty_chain b m (x ∷ xs) e empty chain =
@@ -283,7 +265,7 @@ module _ (o : Settings) (i : List ℕ) (t : Table) (p : Place) (ss : List Member
   folded_at : (a : ℕ) (v : Value) (b : ℕ) (m : Mark) (xs : List Child) (e : ℕ) → is_shallow o (suc d) ≡ true
       → (json_relations o).opens i t p d a b m → Chain (json_relations o) i t p (suc d) b m xs e
       → container_of (kind_of t p) (map entry_of xs) ≡ Some v → (json_relations o).stands i t p d a v e
-  folded_at a v b m xs e deep (inl h) chain means = absurd (structure_only (kind_of t p) ss kind h.1)
+  folded_at a v b m xs e deep (inl h) chain means = absurd (structure_is_no_list (kind_of t p) ss kind h.1)
   folded_at a v b m xs e deep (inr (inl h)) chain means =
       let ms = child_members b m xs e (λ empty. no_byte begin_object i a b empty h.2) chain in
       let folds : option_map structure (members_from no_member_values (map entry_of xs)) ≡ Some v = rw kind at means in

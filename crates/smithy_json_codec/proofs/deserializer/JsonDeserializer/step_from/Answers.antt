@@ -25,10 +25,10 @@ pub returns-in-Ok-End-clause-conduct : goal.returns-in-Ok-End-clause-conduct
 returns-in-Ok-End-clause-conduct c =
     let next = rw c.in-Ok-End.field-0-is at c.in-Ok-End.ensures.ok in
     let place = end_place c.args.self.now.input.now c.args.at c.entered.result c.in-Ok-End.end next.0 in
-    goes_ahead _ (cursor_of c.args.self.now) (cursor_of c.leave.new.self) _ c.in-Ok-End.end c.requires.sound c.leave.ensures.at c.leave.ensures.input (omega (arith, c.requires.ahead, place.0)) place.1
+    goes_ahead _ (cursor_of c.args.self.now) (cursor_of c.leave-in-Ok-End.new.self) _ c.in-Ok-End.end c.requires.sound c.leave-in-Ok-End.ensures.at c.leave-in-Ok-End.ensures.input (omega (arith, c.requires.ahead, place.0)) place.1
 
-pub returns-else-ends_empty-clause-refused : goal.returns-else-ends_empty-clause-refused
-returns-else-ends_empty-clause-refused c =
+pub returns-in-Err-clause-refused : goal.returns-in-Err-clause-refused
+returns-in-Err-clause-refused c =
     let open_now : c.len.result ≡ length c.args.self.now.outer.items = search rules in
     let mark = mark_is (cursor_of c.args.self.now) c.args.self.now.inner refl ∙ sym c.entered.ensures in
     λ fault o.

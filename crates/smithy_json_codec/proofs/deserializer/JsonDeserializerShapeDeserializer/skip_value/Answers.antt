@@ -1,27 +1,39 @@
 use Rattle.std.proofs.Common.{◌≡◌, false, length, refl, rules, sym, ap, ◌∙◌, Err}
 use Rattle.smithy_schema.specs.declared.error.SerdeError.TheVariants.{TooDeep}
 use Rattle.smithy_json_codec.specs.Cursor.{cursor_of, reading_settings_of}
-use Rattle.smithy_json_codec.proofs.DeserializerLemmas.{held_depth, error_of, skips_not, skips_never, refusal_conducts}
+use Rattle.smithy_json_codec.proofs.DeserializerLemmas.{held_depth, error_of, skips_here, skips_not, skips_never, refusal_conducts}
 use Rattle.smithy_json_codec.proofs.OpenWalkLemmas.{reader_reaches}
 use Rattle.smithy_json_codec.proofs.deserializer.JsonDeserializerShapeDeserializer.skip_value.Goals as goal
 
+pub returns-in-Ok-clause-ok : goal.returns-in-Ok-clause-ok
+returns-in-Ok-clause-ok c =
+    let same : c.ready.new.self ≡ c.args.self.now = c.in_ok-ready.ensures.ok in
+    let open_now : c.len.result ≡ length c.args.self.now.outer.items = search rules in
+    let at : c.pass.new.self.position ≡ c.in-Ok.end = ap (λ x. x.at) c.pass.ensures.passed in
+    rw at (skips_here (reading_settings_of c.args.self.now) (cursor_of c.args.self.now) c.len.result (open_now ∙ held_depth c.args.self.now) refl c.in-Ok.end (rw same at c.in-Ok.ensures.ok))
+
 pub returns-in-Err-clause-conduct : goal.returns-in-Err-clause-conduct
 returns-in-Err-clause-conduct c =
+    let same : c.ready.new.self ≡ c.args.self.now = c.in_ok-ready.ensures.ok in
     let sound : c.args.self.now.failed ≡ false = search rules in
-    refusal_conducts (cursor_of c.args.self.now) (cursor_of c.refuse-in-Err.new.self) c.refuse-in-Err.result c.in-Err.error c.refuse-in-Err.ensures.error sound (search rules) (search rules) (search rules) c.refuse-in-Err.ensures.stays
+    refusal_conducts (cursor_of c.args.self.now) (cursor_of c.refuse.new.self) c.refuse.result c.in-Err.error c.refuse.ensures.error sound (search rules) (search rules) (search rules) (rw same at c.refuse.ensures.stays)
 
 pub returns-in-Err-clause-refused : goal.returns-in-Err-clause-refused
 returns-in-Err-clause-refused c =
+    let same : c.ready.new.self ≡ c.args.self.now = c.in_ok-ready.ensures.ok in
     let open_now : c.len.result ≡ length c.args.self.now.outer.items = search rules in
-    λ fault due. skips_not (reading_settings_of c.args.self.now) (cursor_of c.args.self.now) c.len.result (open_now ∙ held_depth c.args.self.now) refl c.in-Err.ensures.refused
+    λ fault due. skips_not (reading_settings_of c.args.self.now) (cursor_of c.args.self.now) c.len.result (open_now ∙ held_depth c.args.self.now) refl (rw same at c.in-Err.ensures.refused)
 
 pub returns-in-Err-clause-would : goal.returns-in-Err-clause-would
 returns-in-Err-clause-would c =
+    let same : c.ready.new.self ≡ c.args.self.now = c.in_ok-ready.ensures.ok in
     let open_now : c.len.result ≡ length c.args.self.now.outer.items = search rules in
-    λ strict invalid due. skips_never (reading_settings_of c.args.self.now) (cursor_of c.args.self.now) c.len.result (open_now ∙ held_depth c.args.self.now) (c.in-Err.ensures.would (rw c.refuse-in-Err.ensures.error at invalid))
+    λ invalid due. skips_never (reading_settings_of c.args.self.now) (cursor_of c.args.self.now) c.len.result (open_now ∙ held_depth c.args.self.now)
+    (rw same at (c.in-Err.ensures.would (rw c.refuse.ensures.error at invalid)))
 
 pub returns-in-Err-clause-deep : goal.returns-in-Err-clause-deep
 returns-in-Err-clause-deep c = λ deep.
+    let same : c.ready.new.self ≡ c.args.self.now = c.in_ok-ready.ensures.ok in
     let open_now : c.len.result ≡ length c.args.self.now.outer.items = search rules in
     reader_reaches (reading_settings_of c.args.self.now) (cursor_of c.args.self.now) c.len.result c.args.self.now.max_depth (open_now ∙ held_depth c.args.self.now)
-    (c.in-Err.ensures.deep (ap Err (sym c.refuse-in-Err.ensures.error ∙ error_of c.refuse-in-Err.result TooDeep deep)))
+    (rw same at (c.in-Err.ensures.deep (ap Err (sym c.refuse.ensures.error ∙ error_of c.refuse.result TooDeep deep))))
