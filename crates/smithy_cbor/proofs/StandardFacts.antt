@@ -1,5 +1,5 @@
 -- Examples of RFC 8949, appendix A, so that a wrong rule in the specs does not check.
-use Rattle.std.proofs.Common.{◌≡◌, List, [], ◌∷◌, map, refl, true, false}
+use Rattle.std.proofs.Common.{◌≡◌, [], ◌∷◌, map, refl, true, false}
 use Rattle.std.specs.Prelude.{pos, negsuc}
 use Rattle.cbor_item.specs.Head.{shortest_head}
 use Rattle.smithy_cbor.specs.Scalar.{null_value}

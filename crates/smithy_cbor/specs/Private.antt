@@ -1,2 +1,22 @@
--- Words that private clauses cite.
+-- Words that private clauses cite, and the proofs of the laws.
 pub mod Number
+pub mod AtPlace
+pub mod Present
+pub mod Steering
+pub mod Slices
+pub mod ItemPlaces
+pub mod ItemBegins
+pub mod Entries
+pub mod Steps
+pub mod Within
+pub mod OpenPlaces
+pub mod Meanings
+pub mod Fits
+pub mod Framing
+pub mod ArrayPlaces
+pub mod MapPlaces
+pub mod Lists
+pub mod Structures
+pub mod Lawful
+pub mod Limits
+pub mod Nested

@@ -1,4 +1,5 @@
--- The bytes of the values that are written: shortest heads (RFC 8949, section 4.1).
+-- The bytes of the values that are written: shortest heads (RFC 8949, section 4.1), and containers of
+-- indefinite length (section 3.2.2).
 use Rattle.std.specs.Prelude.{ℕ, List, [], ◌∷◌, ◌++◌, length, Bool, true, false, ℤ, pos, negsuc}
 use Rattle.cbor_item.specs.Head.{initial_byte, shortest_head}
 use Rattle.smithy_cbor.specs.Scalar.{false_value, true_value}
@@ -13,7 +14,7 @@ abbrev pub boolean_bytes : Bool → List ℕ
 boolean_bytes false = shortest_head 7 false_value
 boolean_bytes true = shortest_head 7 true_value
 
--- a definite text
+-- a text string of definite length
 abbrev pub text_bytes : List ℕ → List ℕ
 text_bytes t = shortest_head 3 (length t) ++ t
 

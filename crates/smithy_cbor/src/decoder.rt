@@ -80,7 +80,7 @@ impl<'b> Decoder<'b> {
         }
     }
 
-    /// A refusal of the read that begins here.
+    // A refusal of the read that begins here.
     fn refused(&self, e: ItemError) -> DeserializeError
         ensures kind { result.kind ≡ kind_of_item_error e }
         ensures place { result.at ≡ Some (position_of self.now) }

@@ -6,6 +6,10 @@ ghost use Rattle.cbor_item.specs.WellFormed.{break};
 ghost use Rattle.smithy_cbor.specs.Scalar.{null_value};
 ghost use Rattle.smithy_cbor.specs.Written.{integer_bytes, boolean_bytes, text_bytes, opening_bytes};
 
+use crate::initial::{
+    ARRAY, BEGIN_ARRAY, BEGIN_MAP, BREAK, FALSE_BYTE, MAP, NEGATIVE, NULL_BYTE, TEXT, TRUE_BYTE,
+    UNSIGNED,
+};
 use cbor_item::write_head;
 use std::alloc::AllocError;
 use std::marker::Model;
@@ -45,7 +49,7 @@ impl Encoder {
         ensures ok { OnOk result (self.new ≡ self.old ++ opening_bytes 5) }
         ensures err { OnErr result (self.new ≡ self.old) }
     {
-        Ok(self.writer.push(0xbf)?)
+        Ok(self.writer.push(BEGIN_MAP)?)
     }
 
     /// Begins an array of indefinite length.
@@ -53,7 +57,7 @@ impl Encoder {
         ensures ok { OnOk result (self.new ≡ self.old ++ opening_bytes 4) }
         ensures err { OnErr result (self.new ≡ self.old) }
     {
-        Ok(self.writer.push(0x9f)?)
+        Ok(self.writer.push(BEGIN_ARRAY)?)
     }
 
     /// Ends an array or a map of indefinite length.
@@ -61,7 +65,7 @@ impl Encoder {
         ensures ok { OnOk result (self.new ≡ self.old ++ break ∷ []) }
         ensures err { OnErr result (self.new ≡ self.old) }
     {
-        Ok(self.writer.push(0xff)?)
+        Ok(self.writer.push(BREAK)?)
     }
 
     /// Begins a map of so many keys, each with its value.
@@ -69,7 +73,7 @@ impl Encoder {
         ensures ok { OnOk result (self.new ≡ self.old ++ shortest_head 5 len) }
         ensures err { OnErr result (self.new ≡ self.old) }
     {
-        write_head(&mut self.writer, 5, len as u64)
+        write_head(&mut self.writer, MAP, len as u64)
     }
 
     /// Begins an array of so many items.
@@ -77,7 +81,7 @@ impl Encoder {
         ensures ok { OnOk result (self.new ≡ self.old ++ shortest_head 4 len) }
         ensures err { OnErr result (self.new ≡ self.old) }
     {
-        write_head(&mut self.writer, 4, len as u64)
+        write_head(&mut self.writer, ARRAY, len as u64)
     }
 
     /// Writes a null.
@@ -85,7 +89,7 @@ impl Encoder {
         ensures ok { OnOk result (self.new ≡ self.old ++ shortest_head 7 null_value) }
         ensures err { OnErr result (self.new ≡ self.old) }
     {
-        Ok(self.writer.push(0xf6)?)
+        Ok(self.writer.push(NULL_BYTE)?)
     }
 
     /// Writes false or true.
@@ -94,9 +98,9 @@ impl Encoder {
         ensures err { OnErr result (self.new ≡ self.old) }
     {
         if x {
-            Ok(self.writer.push(0xf5)?)
+            Ok(self.writer.push(TRUE_BYTE)?)
         } else {
-            Ok(self.writer.push(0xf4)?)
+            Ok(self.writer.push(FALSE_BYTE)?)
         }
     }
 
@@ -130,9 +134,9 @@ impl Encoder {
         ensures err { OnErr result (self.new ≡ self.old) }
     {
         if x >= 0 {
-            write_head(&mut self.writer, 0, x as u64)
+            write_head(&mut self.writer, UNSIGNED, x as u64)
         } else {
-            write_head(&mut self.writer, 1, x.unsigned_abs() - 1)
+            write_head(&mut self.writer, NEGATIVE, x.unsigned_abs() - 1)
         }
     }
 
@@ -142,7 +146,7 @@ impl Encoder {
         ensures err { OnErr result (self.new ≡ self.old) }
     {
         let start = self.writer.len();
-        write_head(&mut self.writer, 3, x.len() as u64)?;
+        write_head(&mut self.writer, TEXT, x.len() as u64)?;
         match self.writer.extend_from_slice(x.as_bytes()) {
             Ok(()) => Ok(()),
             Err(e) => {

@@ -72,7 +72,9 @@ impl From<ItemError> for DecodeKind {
 #[derive(Debug, Drop, Error)]
 #[error("{kind}")]
 pub struct DeserializeError {
+    /// The cause.
     pub kind: DecodeKind,
+    /// Where the refused call began, where that is known.
     pub at: Option<usize>,
 }
 

@@ -8,9 +8,10 @@ ghost use Rattle.std.specs.Int.{w8, w16, w32, w64};
 
 use super::Decoder;
 use crate::error::{DecodeKind, DeserializeError};
+use crate::initial::{NEGATIVE, UNSIGNED};
 use cbor_item::{ItemError, read_head};
 
-/// An integer and where its item ends.
+// An integer and where its item ends.
 #[derive(Clone, Copy)]
 struct Integer {
     value: i64,
@@ -89,7 +90,7 @@ impl Decoder<'_> {
         Ok(value)
     }
 
-    /// The integer that stands here, within 64 bits.
+    // The integer that stands here, within 64 bits.
     fn integer_here(&self) -> Result<Integer, DeserializeError>
         ensures found { IfOk result (λ i. IsIntegerAt i.value (input_of self.now) (position_of self.now) i.end) }
         ensures refused { IfErr result (IsRefusal (IsIntegerFault w64) self.now) }
@@ -99,13 +100,13 @@ impl Decoder<'_> {
             Err(e) => return Err(self.refused(e)),
         };
         match (head.major, head.argument) {
-            (0, Some(argument)) => self.integer_of(0, argument, head.length),
-            (1, Some(argument)) => self.integer_of(1, argument, head.length),
+            (UNSIGNED, Some(argument)) => self.integer_of(UNSIGNED, argument, head.length),
+            (NEGATIVE, Some(argument)) => self.integer_of(NEGATIVE, argument, head.length),
             _ => Err(self.refused(ItemError::WrongType)),
         }
     }
 
-    /// The integer of this head, within 64 bits.
+    // The integer of this head, within 64 bits.
     fn integer_of(&self, major: u8, argument: u64, length: u8) -> Result<Integer, DeserializeError>
         requires integer_type { major ≤ 1 }
         requires head { BeginsWithHead (drop (position_of self.now) (input_of self.now)) (record { major = major; argument = Some argument; length = length }) }
@@ -118,6 +119,7 @@ impl Decoder<'_> {
         }
     }
 
+    // A refusal of a number that its type cannot hold.
     fn out_of_range(&self) -> DeserializeError
         ensures { result ≡ record { kind = OutOfRange; at = Some (position_of self.now) } }
     {
@@ -125,7 +127,7 @@ impl Decoder<'_> {
     }
 }
 
-/// The number of an integer's head.
+// The number of an integer's head.
 fn signed(major: u8, argument: u64) -> Option<i64>
     requires { major ≤ 1 }
     ensures some { IfSome result (λ z. z ≡ number_of major argument) }
@@ -136,5 +138,5 @@ fn signed(major: u8, argument: u64) -> Option<i64>
         return None;
     }
     let value = argument as i64;
-    Some(if major == 0 { value } else { -1 - value })
+    Some(if major == UNSIGNED { value } else { -1 - value })
 }

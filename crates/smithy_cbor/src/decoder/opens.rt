@@ -10,19 +10,8 @@ ghost use Rattle.smithy_cbor.specs.Scalar.{boolean_item, false_value, true_value
 
 use super::Decoder;
 use crate::error::DeserializeError;
+use crate::initial::{ARRAY, FALSE, MAP, NULL, SIMPLE, TRUE};
 use cbor_item::{Head, ItemError, read_head};
-
-const ARRAY: u8 = 4;
-
-const MAP: u8 = 5;
-
-const SIMPLE: u8 = 7;
-
-const FALSE: u64 = 20;
-
-const TRUE: u64 = 21;
-
-const NULL: u64 = 22;
 
 impl Decoder<'_> {
     ghost use Rattle.smithy_cbor.specs.DecoderView.{input_of, position_of, Reads, IsRefusal};
@@ -33,13 +22,9 @@ impl Decoder<'_> {
         ensures refused { IfErr result (IsRefusal (λ input at. IsKindOf (IsHeadFault (IsOfType 4) input at)) self.old) }
         ensures stays { OnErr result (self.new ≡ self.old) }
     {
-        match self.head_of_type(ARRAY) {
-            Ok(head) => {
-                self.position += usize::from(head.length);
-                Ok(head.argument)
-            }
-            Err(e) => Err(e),
-        }
+        let head = self.head_of_type(ARRAY)?;
+        self.position += usize::from(head.length);
+        Ok(head.argument)
     }
 
     /// Begins a map: how many keys its head announces, or `None` where a break ends it.
@@ -48,13 +33,9 @@ impl Decoder<'_> {
         ensures refused { IfErr result (IsRefusal (λ input at. IsKindOf (IsHeadFault (IsOfType 5) input at)) self.old) }
         ensures stays { OnErr result (self.new ≡ self.old) }
     {
-        match self.head_of_type(MAP) {
-            Ok(head) => {
-                self.position += usize::from(head.length);
-                Ok(head.argument)
-            }
-            Err(e) => Err(e),
-        }
+        let head = self.head_of_type(MAP)?;
+        self.position += usize::from(head.length);
+        Ok(head.argument)
     }
 
     /// Goes past a null.
@@ -79,16 +60,12 @@ impl Decoder<'_> {
         ensures refused { IfErr result (IsRefusal (λ input at. IsKindOf (IsHeadFault (λ h. IsSimpleHead false_value h ⊎ IsSimpleHead true_value h) input at)) self.old) }
         ensures stays { OnErr result (self.new ≡ self.old) }
     {
-        match self.boolean_here() {
-            Ok(b) => {
-                self.position += 1;
-                Ok(b)
-            }
-            Err(e) => Err(e),
-        }
+        let value = self.boolean_here()?;
+        self.position += 1;
+        Ok(value)
     }
 
-    /// The boolean that stands here.
+    // The boolean that stands here.
     fn boolean_here(&self) -> Result<bool, DeserializeError>
         ensures found { IfOk result (λ b. IsItemAt (boolean_item b) (input_of self.now) (position_of self.now) (position_of self.now + 1)) }
         ensures refused { IfErr result (IsRefusal (λ input at. IsKindOf (IsHeadFault (λ h. IsSimpleHead false_value h ⊎ IsSimpleHead true_value h) input at)) self.now) }
@@ -117,7 +94,7 @@ impl Decoder<'_> {
         }
     }
 
-    /// The head that begins here, of the major type.
+    // The head that begins here, of the major type.
     fn head_of_type(&self, major: u8) -> Result<Head, DeserializeError>
         ensures found { IfOk result (λ head. BeginsWithHead (drop (position_of self.now) (input_of self.now)) (head_read head) × (head.major ≡ major)) }
         ensures refused { IfErr result (IsRefusal (λ input at. IsKindOf (IsHeadFault (IsOfType major) input at)) self.now) }
@@ -130,14 +107,14 @@ impl Decoder<'_> {
     }
 }
 
-/// Whether the head is that of a simple value in the initial byte.
+// Whether the head is that of a simple value in the initial byte.
 fn is_simple(head: Head, value: u64) -> bool
     ensures { IsTrue result ↔ IsSimpleHead value (head_read head) }
 {
     head.major == SIMPLE && head.argument == Some(value) && head.length == 1
 }
 
-/// Whether the head is a break.
+// Whether the head is a break.
 fn is_break(head: Head) -> bool
     ensures { IsTrue result ↔ IsBreakHead (head_read head) }
 {

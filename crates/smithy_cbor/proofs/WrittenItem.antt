@@ -1,0 +1,32 @@
+-- The item of a value's canonical encoding.
+use Rattle.std.proofs.Common.{[], ◌∷◌}
+use Rattle.std.specs.Prelude.{ℤ, pos, negsuc, unwrap_or}
+use Rattle.smithy_schema.specs.Site.{Site, View}
+use Rattle.smithy_schema.specs.Value.{Value, whole, text, list, structure, null_element, Values, no_values, value, MemberValues, no_member_values, member_value}
+use Rattle.smithy_schema.specs.Writing.{element_of, member_of}
+use Rattle.cbor_item.specs.Item.{definite, indefinite, Item, unsigned, negative, text_string, array, map, simple, Items, no_items, item, Pairs, no_pairs, pair}
+use Rattle.smithy_cbor.specs.Scalar.{null_value}
+
+abbrev pub integer_item : ℤ → Item
+integer_item (pos n) = unsigned n
+integer_item (negsuc n) = negative n
+
+abbrev pub key_item : View → Item
+key_item view = text_string definite (unwrap_or view.name [] ∷ [])
+
+abbrev mutual
+  pub item_of : Site → Value → Item
+  item_of site (whole n) = integer_item n
+  item_of site (text s) = text_string definite (s ∷ [])
+  item_of site (list vs) = array indefinite (items_of (element_of site) vs)
+  item_of site (structure ms) = map indefinite (pairs_of site ms)
+  item_of site null_element = simple null_value
+
+  pub items_of : Site → Values → Items
+  items_of site no_values = no_items
+  items_of site (value v vs) = item (item_of site v) (items_of site vs)
+
+  pub pairs_of : Site → MemberValues → Pairs
+  pairs_of site no_member_values = no_pairs
+  pairs_of site (member_value n v ms) =
+      pair (key_item (member_of site n).view) (item_of (member_of site n) v) (pairs_of site ms)

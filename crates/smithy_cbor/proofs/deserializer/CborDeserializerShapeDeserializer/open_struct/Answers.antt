@@ -1,0 +1,18 @@
+use Rattle.std.proofs.Common.{◌≡◌, rules}
+use Rattle.smithy_schema.specs.Reading.{depth}
+use Rattle.smithy_cbor.specs.Cursor.{cursor_of, reading_settings_of}
+use Rattle.smithy_cbor.specs.Standing.{mark_with}
+use Rattle.smithy_cbor.proofs.ReaderLemmas.{opens_structure}
+use Rattle.smithy_cbor.proofs.DeserializerLemmas.{empty_opens}
+use Rattle.smithy_cbor.proofs.deserializer.CborDeserializerShapeDeserializer.open_struct.Goals as goal
+
+pub returns-then-is_empty-clause-deep : goal.returns-then-is_empty-clause-deep
+returns-then-is_empty-clause-deep c =
+    λ deep none. empty_opens (reading_settings_of c.args.self.now) (cursor_of c.args.self.now) c.args._schema.now.shapes.now c.args._schema.now.place c.requires.place (search rules) (search rules) none
+
+pub returns-in-Some-clause-deep : goal.returns-in-Some-clause-deep
+returns-in-Some-clause-deep c =
+    let same : c.ready.new.self ≡ c.args.self.now = c.in_ok-ready.ensures.ok in
+    rw (← same) (λ deep none. none c.in-Some.opening.inside (mark_with c.in-Some.opening.due)
+    (opens_structure (reading_settings_of c.ready.new.self) c.ready.new.self.input.now c.args._schema.now.shapes.now c.args._schema.now.place c.requires.place (depth (cursor_of c.ready.new.self)) c.ready.new.self.position
+    c.in-Some.opening.inside c.in-Some.opening.due c.in-Some.ensures.found))

@@ -1,0 +1,48 @@
+-- What stands at a place, as private functions answer it.
+use Rattle.std.specs.Prelude.{◌≡◌, ℕ, ℤ, List, Option, Some, None, true}
+use Rattle.cbor_item.specs.declared.error.ItemError.{ItemError}
+use Rattle.cbor_item.specs.declared.error.ItemError.TheVariants as item
+use Rattle.cbor_item.specs.Item.{Item}
+use Rattle.cbor_item.specs.WellFormed.{IsItemAt}
+use Rattle.smithy_schema.specs.declared.error.SerdeError.{SerdeError}
+use Rattle.smithy_schema.specs.declared.error.SerdeError.TheVariants.{InvalidInput, NoMemory}
+use Rattle.smithy_schema.specs.Reading.{Mark}
+use Rattle.smithy_cbor.specs.declared.places.EntryOrEnd.{EntryOrEnd}
+use Rattle.smithy_cbor.specs.declared.places.EntryOrEnd.TheVariants.{Entry, End}
+use Rattle.smithy_cbor.specs.Scalar.{is_long, integer_of, text_of}
+use Rattle.smithy_cbor.specs.Standing.{Follows, HasEntry, IsOver, mark_with}
+
+-- in a container with so many entries due comes this, exactly
+abbrev pub IsEntryOrEnd : List ℕ → ℕ → Option ℕ → Option EntryOrEnd → Type 0
+IsEntryOrEnd input at due (Some (Entry n)) = HasEntry input at (mark_with due) (mark_with n)
+IsEntryOrEnd input at due (Some (End e)) = IsOver input at (mark_with due) e
+IsEntryOrEnd input at due None =
+    ((n : Mark) → HasEntry input at (mark_with due) n → ⊥) × ((e : ℕ) → IsOver input at (mark_with due) e → ⊥)
+
+-- the refusal of what isn't read for the item's fault
+abbrev pub refusal_of : ItemError → SerdeError
+refusal_of item.NoMemory = NoMemory
+refusal_of item.Truncated = InvalidInput
+refusal_of item.NotWellFormed = InvalidInput
+refusal_of item.WrongType = InvalidInput
+refusal_of item.InvalidUtf8 = InvalidInput
+
+-- an integer of 64 bits stands there, where a value may end behind it
+pub record IsLongAt (n : ℤ) (input : List ℕ) (at depth e : ℕ) : Type 0 where
+  pub found : Item
+  pub stands : IsItemAt found input at e
+  pub is : integer_of found ≡ Some n
+  pub fits : is_long n ≡ true
+  pub follows : Follows depth input e
+
+-- a text stands there
+pub record HasTextAt (text : List ℕ) (input : List ℕ) (at e : ℕ) : Type 0 where
+  pub found : Item
+  pub stands : IsItemAt found input at e
+  pub is : text_of found ≡ Some text
+
+-- an item stands there, where a value may end behind it
+pub record SkipsTo (input : List ℕ) (at depth e : ℕ) : Type 0 where
+  pub found : Item
+  pub stands : IsItemAt found input at e
+  pub follows : Follows depth input e

@@ -1,0 +1,14 @@
+-- What the meaning of an item depends on beside its table and place.
+use Rattle.std.specs.Prelude.{ℕ, Bool}
+pub use Rattle.smithy_schema.specs.Limits.{Limits, kept, lifted, is_within}
+
+pub record Settings : Type 0 where
+  pub max_depth : ℕ
+  pub limits : Limits
+
+abbrev pub without_limits : Settings → Settings
+without_limits c = record c { limits = lifted }
+
+-- a container may stand at this depth
+abbrev pub is_shallow : Settings → ℕ → Bool
+is_shallow c depth = is_within c.limits c.max_depth depth

@@ -1,0 +1,291 @@
+//! Inputs that are read call by call, row by row.
+
+ghost use Rattle.smithy_schema.specs.Table.{IsStructure, IsList};
+ghost use Rattle.smithy_schema.specs.Site.{site_of, kind_at};
+
+use crate::CborCodec;
+use smithy_schema::{Schema, SerdeError, ShapeDeserializer, ShapeType, Shapes, Step, TableText};
+use std::alloc::Global;
+use std::test::Fail;
+
+const TABLE: &[u8] = b"structure S\nmember a long\nmember s S\nlist L long\n";
+
+/// More entries than any of the inputs has.
+const MANY: usize = 9;
+
+#[derive(Clone, Copy)]
+struct Row {
+    name: &'static str,
+    input: &'static [u8],
+    answer: Result<Option<i64>, SerdeError>,
+}
+
+const INVALID: Result<Option<i64>, SerdeError> = Err(SerdeError::InvalidInput);
+
+const STRUCTURES: [Row; 16] = [
+    Row {
+        name: "a member by its name",
+        input: b"\xbf\x61a\x07\xff",
+        answer: Ok(Some(7)),
+    },
+    Row {
+        name: "heads that are wider than need be, in a definite map",
+        input: b"\xba\x00\x00\x00\x01\x78\x01a\x18\x07",
+        answer: Ok(Some(7)),
+    },
+    Row {
+        name: "a key in chunks",
+        input: b"\xbf\x7f\x60\x61a\xff\x07\xff",
+        answer: Ok(Some(7)),
+    },
+    Row {
+        name: "an unknown member whose text is not UTF-8",
+        input: b"\xa2\x61z\x61\xff\x61a\x07",
+        answer: Ok(Some(7)),
+    },
+    Row {
+        name: "nulls are dropped",
+        input: b"\xbf\x61z\xf6\x61a\xf6\xff",
+        answer: Ok(None),
+    },
+    Row {
+        name: "undefined is no null",
+        input: b"\xbf\x61a\xf7\xff",
+        answer: INVALID,
+    },
+    Row {
+        name: "the least number",
+        input: b"\xa1\x61a\x3b\x7f\xff\xff\xff\xff\xff\xff\xff",
+        answer: Ok(Some(i64::MIN)),
+    },
+    Row {
+        name: "one less",
+        input: b"\xa1\x61a\x3b\x80\x00\x00\x00\x00\x00\x00\x00",
+        answer: INVALID,
+    },
+    Row {
+        name: "a tagged number",
+        input: b"\xa1\x61a\xc1\x07",
+        answer: INVALID,
+    },
+    Row {
+        name: "a definite map without its last value",
+        input: b"\xa2\x61a\x07\x61z",
+        answer: INVALID,
+    },
+    Row {
+        name: "a definite map without its last entry",
+        input: b"\xa2\x61a\x07",
+        answer: INVALID,
+    },
+    Row {
+        name: "a map without its break",
+        input: b"\xbf\x61a\x07",
+        answer: INVALID,
+    },
+    Row {
+        name: "a key that is no text",
+        input: b"\xa1\x00\x07",
+        answer: INVALID,
+    },
+    Row {
+        name: "a byte behind the item",
+        input: b"\xa1\x61a\x07\x00",
+        answer: INVALID,
+    },
+    Row {
+        name: "an empty input",
+        input: b"",
+        answer: Ok(None),
+    },
+    Row {
+        name: "an array",
+        input: b"\x80",
+        answer: INVALID,
+    },
+];
+
+const LISTS: [Row; 6] = [
+    Row {
+        name: "a definite list",
+        input: b"\x82\x01\x20",
+        answer: Ok(Some(-1)),
+    },
+    Row {
+        name: "a list with a break",
+        input: b"\x9f\x01\x02\xff",
+        answer: Ok(Some(2)),
+    },
+    Row {
+        name: "a list without elements",
+        input: b"\x80",
+        answer: Ok(None),
+    },
+    Row {
+        name: "a definite list without its last element",
+        input: b"\x82\x01",
+        answer: INVALID,
+    },
+    Row {
+        name: "a byte behind the list",
+        input: b"\x81\x01\xff",
+        answer: INVALID,
+    },
+    Row {
+        name: "an empty input is no list",
+        input: b"",
+        answer: INVALID,
+    },
+];
+
+// The number of the last member that the table knows.
+fn last_member(alloc: Global, schema: &Schema<'_>, input: &[u8]) -> Result<Option<i64>, SerdeError>
+    requires { IsStructure (kind_at (site_of schema.now)) }
+{
+    let mut source = CborCodec::strict().create_deserializer(alloc, input);
+    source.open_struct(schema)?;
+    let mut last = None;
+    'members: for _ in 0..MANY {
+        match source.next_member(schema)? {
+            Step::Member(member) => last = Some(source.read_long(&member)?),
+            Step::Unknown => source.skip_value()?,
+            Step::End => return Ok(last),
+        }
+    }
+    Ok(last)
+}
+
+// The number of the last element.
+fn last_element(alloc: Global, schema: &Schema<'_>, input: &[u8]) -> Result<Option<i64>, SerdeError>
+    requires { IsList (kind_at (site_of schema.now)) }
+{
+    let mut source = CborCodec::strict().create_deserializer(alloc, input);
+    source.open_list(schema)?;
+    let mut last = None;
+    'elements: for _ in 0..MANY {
+        if !source.next_element()? {
+            return Ok(last);
+        }
+        last = Some(source.read_long(schema)?);
+    }
+    Ok(last)
+}
+
+#[test]
+fn structures_are_read_as_written(rt: HostRuntime) -> Result<(), Fail> {
+    let shapes = Shapes::build(rt.alloc(), TableText::read(rt.alloc(), TABLE)?)?;
+    let Some(root) = shapes.find("S") else {
+        return Ok(());
+    };
+    let schema = shapes.schema(root);
+    assert!(rt; schema.shape_type() == ShapeType::Structure);
+    for row in &STRUCTURES {
+        let answer = last_member(rt.alloc(), &schema, row.input);
+        assert_eq!(rt; answer, row.answer, "{}", row.name);
+    }
+    let mut source = CborCodec::strict().create_deserializer(rt.alloc(), b"\xbf\x61z\x61\xff\xff");
+    source.open_struct(&schema)?;
+    match source.next_member(&schema)? {
+        Step::Unknown => {
+            let step = source.next_member(&schema)?;
+            assert!(rt; matches!(step, Step::End), "its value is skipped");
+        }
+        _ => assert!(rt; false, "a name that the table doesn't know"),
+    }
+    Ok(())
+}
+
+#[test]
+fn lists_are_read_as_written(rt: HostRuntime) -> Result<(), Fail> {
+    let shapes = Shapes::build(rt.alloc(), TableText::read(rt.alloc(), TABLE)?)?;
+    let Some(root) = shapes.find("L") else {
+        return Ok(());
+    };
+    let schema = shapes.schema(root);
+    assert!(rt; schema.shape_type() == ShapeType::List);
+    for row in &LISTS {
+        let answer = last_element(rt.alloc(), &schema, row.input);
+        assert_eq!(rt; answer, row.answer, "{}", row.name);
+    }
+    let mut source = CborCodec::strict().create_deserializer(rt.alloc(), b"\x82\x01\x02");
+    source.open_list(&schema)?;
+    assert!(rt; source.next_element()?, "an element is due");
+    assert_eq!(rt;
+        source.next_element(),
+        Err(SerdeError::InvalidInput),
+        "it was left unread"
+    );
+    assert_eq!(rt;
+        source.skip_value(),
+        Err(SerdeError::Failed),
+        "any later call"
+    );
+    Ok(())
+}
+
+#[test]
+fn texts_are_utf8_chunk_by_chunk(rt: HostRuntime) -> Result<(), Fail> {
+    let shapes = Shapes::build(rt.alloc(), TableText::read(rt.alloc(), TABLE)?)?;
+    let Some(root) = shapes.find("S") else {
+        return Ok(());
+    };
+    let schema = shapes.schema(root);
+    let codec = CborCodec::strict();
+    let mut whole = codec.create_deserializer(rt.alloc(), b"\x63h\xc3\xa9");
+    assert_eq!(rt; whole.read_string(&schema)?.as_str(), "hé", "in one piece");
+    let mut chunks = codec.create_deserializer(rt.alloc(), b"\x7f\x61h\x62\xc3\xa9\xff");
+    assert_eq!(rt; chunks.read_string(&schema)?.as_str(), "hé", "in chunks");
+    let mut split = codec.create_deserializer(rt.alloc(), b"\x7f\x62h\xc3\x61\xa9\xff");
+    assert!(rt;
+        matches!(split.read_string(&schema), Err(SerdeError::InvalidInput)),
+        "a character in two chunks"
+    );
+    let mut bytes = codec.create_deserializer(rt.alloc(), b"\x41h");
+    assert!(rt;
+        matches!(bytes.read_string(&schema), Err(SerdeError::InvalidInput)),
+        "a byte string"
+    );
+    Ok(())
+}
+
+// So many structures, each in the last one's member.
+fn nested(alloc: Global, depth: usize) -> Result<Vec<u8>, Fail> {
+    let mut input = Vec::new(alloc);
+    for _ in 0..depth {
+        input.extend_from_slice(b"\xa1\x61s")?;
+    }
+    Ok(input)
+}
+
+// Opens so many structures, each in the last one's member.
+fn open_all(
+    alloc: Global,
+    schema: &Schema<'_>,
+    input: &[u8],
+    depth: usize,
+) -> Result<(), SerdeError>
+    requires { IsStructure (kind_at (site_of schema.now)) }
+{
+    let mut source = CborCodec::strict().create_deserializer(alloc, input);
+    for _ in 0..depth {
+        source.open_struct(schema)?;
+        source.next_member(schema)?;
+    }
+    Ok(())
+}
+
+#[test]
+fn at_most_128_containers_are_open_at_once(rt: HostRuntime) -> Result<(), Fail> {
+    let shapes = Shapes::build(rt.alloc(), TableText::read(rt.alloc(), TABLE)?)?;
+    let Some(root) = shapes.find("S") else {
+        return Ok(());
+    };
+    let schema = shapes.schema(root);
+    assert!(rt; schema.shape_type() == ShapeType::Structure);
+    let input = nested(rt.alloc(), 129)?;
+    let answer = open_all(rt.alloc(), &schema, &input, 128);
+    assert_eq!(rt; answer, Ok(()), "as deep as may be");
+    let answer = open_all(rt.alloc(), &schema, &input, 129);
+    assert_eq!(rt; answer, Err(SerdeError::TooDeep), "one deeper");
+    Ok(())
+}

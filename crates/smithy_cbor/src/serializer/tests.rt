@@ -1,0 +1,155 @@
+//! Bodies that are written call by call.
+
+use crate::CborCodec;
+use smithy_schema::{FinishSerializer, Schema, SerdeError, ShapeSerializer, Shapes, TableText};
+use std::alloc::Global;
+use std::test::Fail;
+
+const TABLE: &[u8] = b"structure S
+member a long
+member b string
+";
+
+// Where a call's schema comes from: the structure, or a member of it.
+#[derive(Clone, Copy)]
+enum At {
+    Whole,
+    Member(u32),
+}
+
+#[derive(Clone, Copy)]
+enum Call {
+    BeginStruct(At),
+    EndStruct,
+    BeginList(At),
+    EndList,
+    Null(At),
+    Long(At, i64),
+    Text(At, &'static str),
+    Fail,
+}
+
+use At::{Member, Whole};
+use Call::{BeginList, BeginStruct, EndList, EndStruct, Long, Null, Text};
+
+#[derive(Clone, Copy)]
+struct Row {
+    name: &'static str,
+    calls: &'static [Call],
+    answer: Result<&'static [u8], SerdeError>,
+}
+
+const ROWS: [Row; 8] = [
+    Row {
+        name: "a structure without members",
+        calls: &[BeginStruct(Whole), EndStruct],
+        answer: Ok(b"\xbf\xff"),
+    },
+    Row {
+        name: "members by their names, and elements without one: {_ \"a\": 1, \"b\": [_ 2, 3]}",
+        calls: &[
+            BeginStruct(Whole),
+            Long(Member(0), 1),
+            BeginList(Member(1)),
+            Long(Member(0), 2),
+            Long(Member(0), 3),
+            EndList,
+            EndStruct,
+        ],
+        answer: Ok(b"\xbf\x61a\x01\x61b\x9f\x02\x03\xff\xff"),
+    },
+    Row {
+        name: "a list in a list, a null, a text and a number below 0: [_ [_ ], null, \"IETF\", -100]",
+        calls: &[
+            BeginList(Whole),
+            BeginList(Whole),
+            EndList,
+            Null(Whole),
+            Text(Whole, "IETF"),
+            Long(Whole, -100),
+            EndList,
+        ],
+        answer: Ok(b"\x9f\x9f\xff\xf6\x64IETF\x38\x63\xff"),
+    },
+    Row {
+        name: "nothing at all",
+        calls: &[],
+        answer: Ok(b""),
+    },
+    Row {
+        name: "the end of a list where a structure is open",
+        calls: &[BeginStruct(Whole), EndList],
+        answer: Err(SerdeError::Unwritable),
+    },
+    Row {
+        name: "an end where nothing is open",
+        calls: &[EndStruct],
+        answer: Err(SerdeError::Unwritable),
+    },
+    Row {
+        name: "the body is asked for while a list is open",
+        calls: &[BeginList(Whole)],
+        answer: Err(SerdeError::Unwritable),
+    },
+    Row {
+        name: "any call of a serializer that failed",
+        calls: &[Call::Fail, BeginStruct(Whole)],
+        answer: Err(SerdeError::Failed),
+    },
+];
+
+fn schema(shapes: &Shapes, at: At) -> Result<Schema<'_>, SerdeError> {
+    let root = shapes.find("S").ok_or(SerdeError::InvalidInput)?;
+    let whole = shapes.schema(root);
+    match at {
+        Whole => Ok(whole),
+        Member(position) => whole.member_at(position).ok_or(SerdeError::InvalidInput),
+    }
+}
+
+fn make<S: ShapeSerializer>(sink: &mut S, shapes: &Shapes, call: Call) -> Result<(), SerdeError> {
+    match call {
+        BeginStruct(at) => sink.begin_struct(&schema(shapes, at)?),
+        EndStruct => sink.end_struct(),
+        BeginList(at) => sink.begin_list(&schema(shapes, at)?, None),
+        EndList => sink.end_list(),
+        Null(at) => sink.write_null(&schema(shapes, at)?),
+        Long(at, number) => sink.write_long(&schema(shapes, at)?, number),
+        Text(at, text) => sink.write_string(&schema(shapes, at)?, text),
+        Call::Fail => {
+            sink.fail();
+            Ok(())
+        }
+    }
+}
+
+fn written(alloc: Global, shapes: &Shapes, row: &Row) -> Result<Vec<u8>, SerdeError> {
+    let codec = CborCodec::strict();
+    let mut sink = codec.create_serializer(alloc);
+    for call in row.calls {
+        make(&mut sink, shapes, *call)?;
+    }
+    sink.finish()
+}
+
+#[test]
+fn bodies_are_written_as_the_calls_say(rt: HostRuntime) -> Result<(), Fail> {
+    let shapes = Shapes::build(rt.alloc(), TableText::read(rt.alloc(), TABLE)?)?;
+    for row in &ROWS {
+        match (written(rt.alloc(), &shapes, row), row.answer) {
+            (Ok(body), Ok(bytes)) => assert_eq!(rt; body.as_slice(), bytes, "{}", row.name),
+            (Err(error), Err(expected)) => assert_eq!(rt; error, expected, "{}", row.name),
+            _ => assert!(rt; false, "{}", row.name),
+        }
+    }
+    Ok(())
+}
+
+#[test]
+fn after_a_refused_call_each_other_is_refused(rt: HostRuntime) {
+    let codec = CborCodec::strict();
+    let mut sink = codec.create_serializer(rt.alloc());
+    assert_eq!(rt; sink.end_struct(), Err(SerdeError::Unwritable));
+    assert_eq!(rt; sink.end_struct(), Err(SerdeError::Failed));
+    assert!(rt; matches!(sink.finish(), Err(SerdeError::Failed)));
+}
