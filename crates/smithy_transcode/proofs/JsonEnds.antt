@@ -1,22 +1,15 @@
 -- What the answer of a whole JSON body can be.
 use Rattle.std.proofs.Common.{◌≡◌, ◌≢◌, ℕ, List, [], ◌++◌, Bool, true, false, None, Result, Ok, Err, refl, sym, ◌∙◌, ap}
-use Rattle.std.specs.Prelude.{IsErrOf, IfErr}
 use Rattle.smithy_schema.specs.declared.error.SerdeError.{SerdeError}
-use Rattle.smithy_schema.specs.declared.error.SerdeError.TheVariants.{InvalidInput, TooDeep, Unwritable, Failed, NoMemory}
+use Rattle.smithy_schema.specs.declared.error.SerdeError.TheVariants.{Failed, NoMemory}
 use Rattle.smithy_schema.specs.Reading.{IsFault}
 use Rattle.smithy_schema.specs.Site.{Site, View}
 use Rattle.smithy_schema.specs.Value.{Value}
-use Rattle.smithy_schema.specs.Writing.{write, Open}
+use Rattle.smithy_schema.specs.Writing.{write}
 use Rattle.smithy_json_codec.specs.Canonical.{canonical_json, key_text}
 use Rattle.smithy_json_codec.specs.Writing.{JsonState, json_after, fresh_state}
 use Rattle.smithy_json_codec.proofs.WritingLemmas.{state, value_adds}
-
-only_memory : (e : SerdeError) → (IsFault e → ⊥) → e ≢ Failed → e ≡ NoMemory
-only_memory InvalidInput fault failed = absurd (fault tt)
-only_memory TooDeep fault failed = absurd (fault tt)
-only_memory Unwritable fault failed = absurd (fault tt)
-only_memory Failed fault failed = absurd (failed refl)
-only_memory NoMemory fault failed = refl
+use Rattle.smithy_transcode.proofs.Ends.{only_memory}
 
 no_key : (b : Bool) (view : View) → view.name ≡ None → key_text b view ≡ []
 no_key b view nameless = rw nameless refl
@@ -40,9 +33,3 @@ module _ (b : Bool) (site : Site) (v : Value) (nameless : site.view.name ≡ Non
     -- and has then its canonical text
     pub written : (t : JsonState) → write json_after site v s ≡ Ok t → t ≡ state b body true []
     written t ok = let both : Ok t ≡ Ok (state b body true []) = sym ok ∙ adds in cc
-
-pub finish_refused_for_memory : {A : Type 0} (r : Result A SerdeError) (frames : List Open) → frames ≡ [] → (IsErrOf r Failed → ⊥)
-    → IfErr r (λ e. IsFault e → (e ≡ Unwritable) × (frames ≢ [])) → IfErr r (λ e. e ≡ NoMemory)
-finish_refused_for_memory (Ok x) frames closed failed refused = refused
-finish_refused_for_memory (Err e) frames closed failed refused =
-    only_memory e (λ fault. (refused fault).1 closed) (λ is. failed (ap Err is))

@@ -17,14 +17,6 @@ use Rattle.smithy_transcode.specs.declared.wire.TranscodeError.{TranscodeError}
 use Rattle.smithy_transcode.specs.declared.wire.TranscodeError.TheVariants.{TooDeep, NoMemory}
 use Rattle.smithy_json_codec.proofs.SpellingLemmas.{stands_spells, spells_stands, structure_is_container}
 
-pub mapped_ok : {A E : Type 0} (r : Result A E) (P Q : A → Type 0) → ((x : A) → P x → Q x) → IfOk r P → IfOk r Q
-mapped_ok (Ok x) P Q f h = f x h
-mapped_ok (Err e) P Q f h = tt
-
-pub mapped_err : {A E : Type 0} (r : Result A E) (P Q : E → Type 0) → ((x : E) → P x → Q x) → IfErr r P → IfErr r Q
-mapped_err (Ok x) P Q f h = tt
-mapped_err (Err e) P Q f h = f e h
-
 module _ (o c : Settings) (same : o ≡ c) (input : List ℕ) (old : Cursor) (fresh : old ≡ fresh_cursor input) (t : Table) (p : Place) (kind : IsStructure (kind_of t p)) where
   read_stands : (new : Cursor) (v : Value) → Reads (json_relations o) old new t p v → (json_relations c).stands input t p 0 0 v new.at
   read_stands new v h =

@@ -1,5 +1,9 @@
+pub mod CborEnds
+pub mod CborReads
+pub mod Ends
 pub mod JsonEnds
 mod Lists
+pub mod Mapped
 mod ReadContainers
 mod ReadLists
 mod ReadStructures

@@ -42,7 +42,7 @@ itself w = record {
   begins_null = λ i a. refl;
   allows = λ d h. h;
   stands = λ i t p d a v e h. h;
-  nulls = λ i a e h. h;
+  nulls = λ i d a e h. h;
   skips = λ i d a e h. h;
   opens = λ i t p d a b m h. h;
   steps = λ i t p d b m key c n h. h;
@@ -95,8 +95,8 @@ not_both (list_of e) h l = h
 not_both nothing h l = l
 
 -- a null is no value
-null_or_value : (w : Relations) → IsLawful w → (i : List ℕ) (t : Table) (p : Place) (d a : ℕ) (v : Value) (e f : ℕ) → w.stands i t p d a v e → w.nulls i a f → ⊥
-null_or_value w laws i t p d a v e f stands nulls = let both : true ≡ false = sym (laws.null_begins i a f nulls) ∙ laws.value_begins i t p d a v e stands in cc
+null_or_value : (w : Relations) → IsLawful w → (i : List ℕ) (t : Table) (p : Place) (d a : ℕ) (v : Value) (e f : ℕ) → w.stands i t p d a v e → w.nulls i d a f → ⊥
+null_or_value w laws i t p d a v e f stands nulls = let both : true ≡ false = sym (laws.null_begins i d a f nulls) ∙ laws.value_begins i t p d a v e stands in cc
 
 pub same_child : (w : Relations) → IsLawful w → (i : List ℕ) (t : Table) (p : Place) (d : ℕ) (key : Option (List ℕ)) (x y : Child) (c f g : ℕ)
     → IsChild w i t p d key x c f → IsChild w i t p d key y c g → (x ≡ y) × (f ≡ g)
@@ -109,7 +109,7 @@ same_child w laws i t p d key (child_value a m v) (child_value b n u) c f g h k 
 same_child w laws i t p d key (child_value a m v) (child_null b) c f g h k = absurd (null_or_value w laws i t h.2.0 d c v f g h.2.2 k.2)
 same_child w laws i t p d key (child_value a m v) (child_unknown b) c f g h k = absurd (no_place _ k.1 h.2.0 (ap (place_in (kind_of t p)) (sym (h.1 ∙ k.2)) ∙ h.2.1))
 same_child w laws i t p d key (child_null a) (child_value b n u) c f g h k = absurd (null_or_value w laws i t k.2.0 d c u g f k.2.2 h.2)
-same_child w laws i t p d key (child_null a) (child_null b) c f g h k = (ap child_null (h.0 ∙ sym k.0), laws.same_null i c f g h.2 k.2)
+same_child w laws i t p d key (child_null a) (child_null b) c f g h k = (ap child_null (h.0 ∙ sym k.0), laws.same_null i d c f g h.2 k.2)
 same_child w laws i t p d key (child_null a) (child_unknown b) c f g h k = absurd (not_both _ k.1 h.1)
 same_child w laws i t p d key (child_unknown a) (child_value b n u) c f g h k = absurd (no_place _ h.1 k.2.0 (ap (place_in (kind_of t p)) (sym (k.1 ∙ h.2)) ∙ k.2.1))
 same_child w laws i t p d key (child_unknown a) (child_null b) c f g h k = absurd (not_both _ h.1 k.1)
@@ -137,7 +137,7 @@ named_above w u below t p (Some key) = below.position t p key
 -- a child on one wire is a child on the other
 child_above : (w u : Relations) → IsBelow w u → (i : List ℕ) (t : Table) (p : Place) (d : ℕ) (key : Option (List ℕ)) (x : Child) (c f : ℕ) → IsChild w i t p d key x c f → IsChild u i t p d key x c f
 child_above w u below i t p d key (child_value k n v) c f h = (h.0, h.1 ∙ named_above w u below t p key, (h.2.0, h.2.1, below.stands i t h.2.0 d c v f h.2.2))
-child_above w u below i t p d key (child_null k) c f h = (h.0, h.1, below.nulls i c f h.2)
+child_above w u below i t p d key (child_null k) c f h = (h.0, h.1, below.nulls i d c f h.2)
 child_above w u below i t p d key (child_unknown k) c f h = (h.0, h.1, sym (named_above w u below t p key) ∙ h.2, below.skips i d c f h.3)
 
 -- the step and the child, as they stand in the container that began at s0
@@ -148,7 +148,7 @@ stepped w u max s0 s s1 t p k worth key inside steps = rw (inside.input, inside.
 -- a child takes none of the open containers away
 child_takes_none : (w : Relations) → IsLawful w → (i : List ℕ) (t : Table) (p : Place) (d : ℕ) (key : Option (List ℕ)) (x : Child) (c f : ℕ) → IsChild w i t p d key x c f → w.openers (drop f i) ≤ w.openers (drop c i)
 child_takes_none w laws i t p d key (child_value k n v) c f h = laws.value_takes_none i t h.2.0 d c v f h.2.2
-child_takes_none w laws i t p d key (child_null k) c f h = laws.null_takes_none i c f h.2
+child_takes_none w laws i t p d key (child_null k) c f h = laws.null_takes_none i d c f h.2
 child_takes_none w laws i t p d key (child_unknown k) c f h = laws.skip_takes_none i d c f h.3
 
 pub child_read : (w u : Relations) (max : ℕ) → IsLawful w → IsLawful u → IsBelow w u → (s0 s s1 s2 : Cursor) (t : Table) (p : Place) (k : Within) (worth : List Child → Option Value) (key : Option (List ℕ)) (x : Child)

@@ -51,7 +51,7 @@ element_read w u max laws over below s0 s s1 s2 t p q sparse vs v inside steps p
     child_read w u max laws over below s0 s s1 s2 t p in_list (list_value sparse vs) None (child_value None None v) inside steps (refl, refl, (q, place, reads.stands)) reads.passes
 
 pub null_read : (w u : Relations) (max : ℕ) → IsLawful w → IsLawful u → IsBelow w u → (s0 s s1 s2 : Cursor) (t : Table) (p : Place) (vs : List Value)
-    → InContainer w u max s0 s t p in_list (list_value (is_sparse (kind_of t p)) vs) → Steps w s s1 t p None → IsSparse (kind_of t p) → w.nulls s1.input s1.at s2.at → Passes s1 s2
+    → InContainer w u max s0 s t p in_list (list_value (is_sparse (kind_of t p)) vs) → Steps w s s1 t p None → IsSparse (kind_of t p) → w.nulls s1.input (depth s1) s1.at s2.at → Passes s1 s2
     → InContainer w u max s0 s2 t p in_list (list_value (is_sparse (kind_of t p)) (vs ++ null_element ∷ []))
 null_read w u max laws over below s0 s s1 s2 t p vs inside steps sparse nulls passes =
     worth_as w u max s0 s2 t p in_list _ _ (null_folds _ (sparse_is _ sparse) vs)
@@ -68,7 +68,7 @@ pub element_place : (o e : Schema) → IsList (kind_at (site_of o)) → Some (si
 element_place o e h is = list_place (kind_at (site_of o)) o.shapes.now (site_of e) h is
 
 element_only : (w : Relations) (s1 : Cursor) (t : Table) (p q : Place) → IsList (kind_of t p) → place_in (kind_of t p) None ≡ Some q
-    → StandsNot w s1 t q → (IsSparse (kind_of t p) → (f : ℕ) → w.nulls s1.input s1.at f → ⊥)
+    → StandsNot w s1 t q → (IsSparse (kind_of t p) → (f : ℕ) → w.nulls s1.input (depth s1) s1.at f → ⊥)
     → (x : Child) (f : ℕ) → IsChild w s1.input t p (depth s1) None x s1.at f → ⊥
 element_only w s1 t p q kind place none no_null (child_value k n v) f child =
     let same : Some child.2.0 ≡ Some q = sym child.2.1 ∙ ap (place_in (kind_of t p)) child.1 ∙ place in
@@ -91,7 +91,7 @@ element_refused w u max over below s0 s s1 t p q worth kind inside steps place n
     (element_only u s1 t p q kind place none
     (λ sparse f nulls.
     let begins = sym (below.begins_null s1.input s1.at) ∙ due_begins s1.due (w.begins_null s1.input s1.at) steps.due (no_null sparse) in
-    let both : true ≡ false = sym (over.null_begins s1.input s1.at f nulls) ∙ begins in cc))
+    let both : true ≡ false = sym (over.null_begins s1.input (depth s1) s1.at f nulls) ∙ begins in cc))
 
 and_true : (d b : Bool) → (d && b) ≡ true → b ≡ true
 and_true true b h = h

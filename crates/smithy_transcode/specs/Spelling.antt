@@ -6,14 +6,19 @@ use Rattle.smithy_schema.specs.Value.{Value}
 use Rattle.smithy_json_codec.specs.Canonical.{canonical_json}
 use Rattle.smithy_json_codec.specs.Codec.{strict_settings}
 use Rattle.smithy_json_codec.specs.Spelling.{json_spells}
+use Rattle.smithy_cbor.specs.Canonical.{canonical_cbor}
+use Rattle.smithy_cbor.specs.Codec.{strict_settings as strict_cbor}
+use Rattle.smithy_cbor.specs.Spelling.{cbor_spells}
 use Rattle.smithy_transcode.specs.declared.wire.Wire.{Wire}
-use Rattle.smithy_transcode.specs.declared.wire.Wire.TheVariants.{Json}
+use Rattle.smithy_transcode.specs.declared.wire.Wire.TheVariants.{Json, Cbor}
 
 -- the whole bytes spell the value of the root, which is a declaration of the table
 abbrev pub Spells : Wire → Table → ℕ → List ℕ → Value → Type 0
 Spells (Json use_json_name) table root bytes v =
     json_spells (strict_settings use_json_name) table (shape_place root) bytes v
+Spells Cbor table root bytes v = cbor_spells strict_cbor table (shape_place root) bytes v
 
 -- the one body of a value of the root
 abbrev pub body : Wire → Table → ℕ → Value → List ℕ
 body (Json use_json_name) table root v = canonical_json use_json_name (shape_site table root) v
+body Cbor table root v = canonical_cbor (shape_site table root) v

@@ -14,6 +14,11 @@ use Rattle.smithy_transcode.specs.Causes.{openers}
 abbrev pub SpellNothing : Wire → Table → ℕ → List ℕ → Type 0
 SpellNothing wire table root bytes = (v : Value) → Spells wire table root bytes v → ⊥
 
+-- the bytes spell the value of the root, and no other
+abbrev pub SpellsAlone : Wire → Table → ℕ → List ℕ → Value → Type 0
+SpellsAlone wire table root bytes v =
+    Spells wire table root bytes v × ((u : Value) → Spells wire table root bytes u → u ≡ v)
+
 -- an answer: the bytes, or why there are none
 abbrev pub Answer : Type 0
 Answer = Result (Vec ℕ Global) TranscodeError
@@ -27,9 +32,11 @@ GivesOrNoMemory bytes (Err NoMemory) = Unit {0}
 
 -- What an answer says, where the root is a structure of the table.
 pub record Transcodes (table : Table) (root : ℕ) (from : Wire) (input : List ℕ) (to : Wire) (answer : Answer) : Type 0 where
-  -- Ok comes only where the whole input spells a value, and the output is its body
+  -- Ok comes only where the whole input spells a value, and the output is its body, which spells that
+  -- value alone
   pub answers_ok : IfOk answer
-      (λ out. (v : Value) × Spells from table root input v × (out.items ≡ body to table root v))
+      (λ out. (v : Value) × Spells from table root input v × (out.items ≡ body to table root v)
+      × SpellsAlone to table root out.items v)
   -- where the input spells a value, its body is the answer, want of memory aside
   pub spelled_is_ok : (v : Value) → Spells from table root input v → GivesOrNoMemory (body to table root v) answer
   -- each refusal of an input comes only where it spells nothing

@@ -1,6 +1,5 @@
 //! Bodies of the wire JSON.
-ghost use Rattle.std.specs.Prelude.{◌≡◌, ◌<◌, ◌≤◌, length, None, true, false, IfOk, IfErr, IsErrOf};
-ghost use Rattle.smithy_schema.specs.Reading.{Reads, StandsNot, ReachesDepth};
+ghost use Rattle.std.specs.Prelude.{◌≡◌, ◌≤◌, None, IfOk, IfErr, IsErrOf};
 ghost use Rattle.smithy_schema.specs.declared.error.SerdeError.TheVariants.{NoMemory};
 ghost use Rattle.smithy_schema.specs.Fits.{Fits};
 ghost use Rattle.smithy_schema.specs.Site.{site_of, kind_at};
@@ -12,34 +11,13 @@ ghost use Rattle.smithy_json_codec.specs.Spelling.{json_spells};
 ghost use Rattle.smithy_json_codec.specs.Canonical.{canonical_json};
 ghost use Rattle.smithy_transcode.specs.View.{view};
 
-use crate::reading::read_value;
+use crate::due::read_due;
 use crate::value::Value;
 use crate::wire::TranscodeError;
 use crate::writing::write_value;
 use smithy_json_codec::JsonCodec;
-use smithy_schema::{FinishSerializer, Schema, SerdeError, ShapeDeserializer};
+use smithy_schema::{FinishSerializer, Schema, SerdeError};
 use std::alloc::Global;
-
-// Reads the value that is due, and says why it is refused.
-fn read_due<D: ShapeDeserializer>(
-    alloc: Global,
-    source: &mut D,
-    schema: &Schema<'_>,
-) -> Result<Value, TranscodeError>
-    requires due { (D.state source.old).due ≡ true }
-    requires sound { (D.state source.old).failed ≡ false }
-    ensures ok { IfOk result (λ v. Reads (D.wire (D.settings source.old)) (D.state source.old) (D.state source.new) schema.now.shapes.now schema.now.place (view v)) }
-    ensures refused { IfErr result (λ e. (e ≡ TranscodeError.NoMemory → ⊥) → StandsNot (D.wire (D.settings source.old)) (D.state source.old) schema.now.shapes.now schema.now.place) }
-    ensures deep { IsErrOf result TranscodeError.TooDeep → 0 < length (D.state source.old).input → ReachesDepth (D.wire (D.settings source.old)) (D.max_depth (D.settings source.old)) (D.state source.old) }
-{
-    match read_value(alloc, source, schema) {
-        Ok(value) => Ok(value),
-        Err(SerdeError::InvalidInput) => Err(TranscodeError::InvalidInput),
-        Err(SerdeError::TooDeep) => Err(TranscodeError::TooDeep),
-        Err(SerdeError::NoMemory) => Err(TranscodeError::NoMemory),
-        Err(SerdeError::Failed | SerdeError::Unwritable) => unreachable!(),
-    }
-}
 
 // Reads the value of a structure that the whole input spells.
 pub(crate) fn read_json(
@@ -59,7 +37,7 @@ pub(crate) fn read_json(
     read_due(alloc, &mut source, schema)
 }
 
-/// The canonical JSON text of a value, whose schema has no name.
+// The canonical JSON text of a value, whose schema has no name.
 pub(crate) fn write_json(
     alloc: Global,
     use_json_name: bool,

@@ -1,6 +1,8 @@
 //! Values of any wire, their reading and writing, and the transcoding of one body.
 #![tactic(auto)]
 
+mod cbor;
+mod due;
 mod json;
 mod reading;
 #[cfg(test)]

@@ -5,7 +5,9 @@ use smithy_schema::{Shapes, TableText};
 use std::alloc::Global;
 use std::test::Fail;
 
-const TABLE: &[u8] = b"structure S\nmember a long\nmember b long\n";
+mod cbor;
+
+const TABLE: &[u8] = b"structure S\nmember a long\nmember b long\nmember s string\n";
 
 const WIRE: Wire = Wire::Json {
     use_json_name: true,
@@ -20,7 +22,7 @@ struct Row {
 
 const INVALID: Result<&'static str, TranscodeError> = Err(TranscodeError::InvalidInput);
 
-const ROWS: [Row; 21] = [
+const ROWS: [Row; 25] = [
     Row {
         name: "an unknown member",
         input: "{\"z\":[1], \"a\" : 7}",
@@ -65,6 +67,26 @@ const ROWS: [Row; 21] = [
         name: "a name without a text",
         input: "{\"\\ud800\":1}",
         answer: INVALID,
+    },
+    Row {
+        name: "a skipped text may hold a lone surrogate",
+        input: "{\"z\":[\"\\ud800\",1.5],\"a\":1,\"a\":null,\"\\u0061\":2}",
+        answer: Ok("{\"a\":2}"),
+    },
+    Row {
+        name: "a text that is read may not",
+        input: "{\"s\":\"\\ud800\"}",
+        answer: INVALID,
+    },
+    Row {
+        name: "a pair of surrogates is one character",
+        input: "{\"s\":\"\\ud83d\\ude00\"}",
+        answer: Ok("{\"s\":\"\u{1f600}\"}"),
+    },
+    Row {
+        name: "each character has one spelling",
+        input: "{\"s\":\"\\/\\u001F\"}",
+        answer: Ok("{\"s\":\"/\\u001f\"}"),
     },
     Row {
         name: "the least number",

@@ -1,5 +1,6 @@
 //! One body from wire to wire.
-ghost use Rattle.std.specs.Prelude.{◌≡◌, ◌≤◌, IfOk, IfErr, IsErrOf};
+ghost use Rattle.std.specs.Prelude.{◌≡◌, ◌≤◌, ◌<◌, ◌^◌, length, IfOk, IfErr, IsErrOf};
+ghost use Rattle.smithy_schema.specs.Accepted.{IsAccepted};
 ghost use Rattle.smithy_schema.specs.Fits.{Fits};
 ghost use Rattle.smithy_schema.specs.Table.{IsStructure, kind_of, shape_place};
 ghost use Rattle.smithy_transcode.specs.Causes.{openers};
@@ -7,6 +8,7 @@ ghost use Rattle.smithy_transcode.specs.Spelling.{Spells, body};
 ghost use Rattle.smithy_transcode.specs.Transcoding.{Transcodes, SpellNothing};
 ghost use Rattle.smithy_transcode.specs.View.{view};
 
+use crate::cbor::{read_cbor, write_cbor};
 use crate::json::{read_json, write_json};
 use crate::value::Value;
 use crate::wire::{TranscodeError, Wire};
@@ -39,13 +41,17 @@ fn read_body(
     input: &[u8],
 ) -> Result<Value, TranscodeError>
     requires root { IsStructure (kind_of shapes.now (shape_place root.0)) }
+    ensures accepted { IsAccepted shapes.now }
     ensures ok { IfOk result (λ v. Spells from.now shapes.now root.0 input.now (view v)) }
     ensures fits { IfOk result (λ v. Fits shapes.now (shape_place root.0) (view v)) }
     ensures refused { IfErr result (λ e. (e ≡ TranscodeError.NoMemory → ⊥) → SpellNothing from.now shapes.now root.0 input.now) }
     ensures deep { IsErrOf result TranscodeError.TooDeep → 128 ≤ openers from.now input.now }
 {
     let schema = shapes.schema(root);
-    read_json(alloc, from.use_json_name(), &schema, input)
+    match from {
+        Wire::Json { use_json_name } => read_json(alloc, *use_json_name, &schema, input),
+        Wire::Cbor => read_cbor(alloc, &schema, input),
+    }
 }
 
 // The canonical body of a value of the root.
@@ -59,8 +65,12 @@ fn write_body(
     requires root { IsStructure (kind_of shapes.now (shape_place root.0)) }
     requires fits { Fits shapes.now (shape_place root.0) (view value.now) }
     ensures ok { IfOk result (λ out. out.items ≡ body to.now shapes.now root.0 (view value.now)) }
+    ensures short { IfOk result (λ out. length out.items < 2 ^ 64) }
     ensures err { IfErr result (λ e. e ≡ TranscodeError.NoMemory) }
 {
     let schema = shapes.schema(root);
-    write_json(alloc, to.use_json_name(), &schema, value)
+    match to {
+        Wire::Json { use_json_name } => write_json(alloc, *use_json_name, &schema, value),
+        Wire::Cbor => write_cbor(alloc, &schema, value),
+    }
 }

@@ -5,8 +5,11 @@ use std::collections::BTreeMap;
 /// A value.
 #[derive(Debug, Drop)]
 pub enum Value {
+    /// A whole number.
     Whole(i128),
+    /// A text.
     Text(String),
+    /// The elements of a list, in their order.
     List(Vec<Value>),
     /// The members that are present, by their positions in the table, from 0.
     Structure(BTreeMap<u32, Value>),

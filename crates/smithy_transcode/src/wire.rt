@@ -10,19 +10,8 @@ pub enum Wire {
         /// Members go by their JSON names, where they have one.
         use_json_name: bool,
     },
-}
-
-impl Wire {
-    ghost use Rattle.std.specs.Prelude.{◌≡◌};
-
-    // Whether members go by their JSON names, in the one wire that there is.
-    pub(crate) fn use_json_name(&self) -> bool
-        ensures { self.now ≡ Wire.Json result }
-    {
-        match self {
-            Wire::Json { use_json_name } => *use_json_name,
-        }
-    }
+    /// CBOR (RFC 8949).
+    Cbor,
 }
 
 /// Why a body was refused. `Display` writes the variant's name.
@@ -31,7 +20,8 @@ pub enum TranscodeError {
     /// The input spells no value of the root.
     #[error("InvalidInput")]
     InvalidInput,
-    /// The input spells no value of the root, and has 128 containers or more open at once.
+    /// The input spells no value of the root, and by its bytes alone may open 128 containers or more at
+    /// once.
     #[error("TooDeep")]
     TooDeep,
     /// An allocation was refused.

@@ -39,7 +39,6 @@ pub fn write_value<S: ShapeSerializer>(
 }
 
 #[cycle(write)]
-#[inline(never)]
 fn write_list<S: ShapeSerializer>(
     alloc: Global,
     sink: &mut S,
@@ -64,7 +63,6 @@ fn write_list<S: ShapeSerializer>(
 }
 
 #[cycle(write)]
-#[inline(never)]
 fn write_structure<S: ShapeSerializer>(
     alloc: Global,
     sink: &mut S,

@@ -1,7 +1,8 @@
 use Rattle.std.proofs.Common.{◌∙◌}
 use Rattle.smithy_json_codec.specs.Cursor.{cursor_of, reading_settings_of}
 use Rattle.smithy_json_codec.specs.Codec.{strict_settings}
-use Rattle.smithy_transcode.proofs.JsonReads.{mapped_ok, mapped_err, read_spells, read_fits, unread_spells, deep_openers}
+use Rattle.smithy_transcode.proofs.Mapped.{mapped_ok, mapped_err}
+use Rattle.smithy_transcode.proofs.JsonReads.{read_spells, read_fits, unread_spells, deep_openers}
 use Rattle.smithy_transcode.specs.View.{view}
 use Rattle.smithy_transcode.proofs.json.read_json.Goals as goal
 

@@ -6,7 +6,8 @@ use Rattle.smithy_json_codec.specs.Serializing.{state_of}
 use Rattle.smithy_json_codec.specs.Settings.{Settings}
 use Rattle.smithy_json_codec.specs.Writing.{JsonState, fresh_state}
 use Rattle.smithy_transcode.specs.View.{view}
-use Rattle.smithy_transcode.proofs.JsonEnds.{refused_for_memory, written, finish_refused_for_memory}
+use Rattle.smithy_transcode.proofs.JsonEnds.{refused_for_memory, written}
+use Rattle.smithy_transcode.proofs.Ends.{finish_refused_for_memory}
 use Rattle.smithy_transcode.proofs.json.written_json.Goals as goal
 
 pub returns-in_err-write_value-clause-err : goal.returns-in_err-write_value-clause-err

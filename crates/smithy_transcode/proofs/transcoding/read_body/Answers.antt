@@ -1,6 +1,10 @@
-use Rattle.smithy_transcode.proofs.Transcodings.{refused_at}
+use Rattle.smithy_transcode.proofs.Transcodings.{refused_at, refused_at_cbor}
 use Rattle.smithy_transcode.proofs.transcoding.read_body.Goals as goal
 
-pub returns-clause-refused : goal.returns-clause-refused
-returns-clause-refused c =
-    refused_at c.args.from.now c.use_json_name.result c.schema-schema.result _ _ _ c.read_json.result c.use_json_name.ensures c.schema-schema.ensures c.read_json.ensures.refused
+pub returns-in-Json-clause-refused : goal.returns-in-Json-clause-refused
+returns-in-Json-clause-refused c =
+    refused_at c.args.from.now c.in-Json.use_json_name c.schema-schema.result _ _ _ c.read_json.result c.in-Json.is c.schema-schema.ensures.site c.read_json.ensures.refused
+
+pub returns-in-Cbor-clause-refused : goal.returns-in-Cbor-clause-refused
+returns-in-Cbor-clause-refused c =
+    refused_at_cbor c.args.from.now c.schema-schema.result _ _ _ c.read_cbor.result c.in-Cbor.is c.schema-schema.ensures.site c.read_cbor.ensures.refused
