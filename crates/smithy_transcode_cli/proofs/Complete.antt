@@ -1,5 +1,5 @@
 -- What follows from what a status says: a run that is all in order is done, and one over a missing file isn't.
-use Rattle.std.proofs.Common.{◌≡◌, ◌⊎◌, inl, inr, ℕ, List, Some, refl, sym, subst, arith}
+use Rattle.std.proofs.Common.{◌≡◌, ◌<◌, ◌⊎◌, inl, inr, ℕ, length, List, Some, refl, sym, subst, arith}
 use Rattle.smithy_schema.specs.Table.{Table, IsStructure, kind_of, shape_place, declared_as}
 use Rattle.smithy_schema.specs.Acceptance.{accepted, table_of}
 use Rattle.smithy_schema.specs.Value.{Value}
@@ -7,8 +7,14 @@ use Rattle.smithy_transcode.specs.Spelling.{Spells}
 use Rattle.smithy_transcode_cli.specs.declared.status.Status.{Status}
 use Rattle.smithy_transcode_cli.specs.declared.status.Status.TheVariants.{Done, Usage, ReadFailed, WriteFailed, OutOfMemory, InvalidInput, TooDeep, TableRefused, NoSuchShape, NotAStructure, TooLong, NotBuilt}
 use Rattle.smithy_transcode_cli.specs.Task.{Task}
-use Rattle.smithy_transcode_cli.specs.Outside.{Outside, missing}
-use Rattle.smithy_transcode_cli.specs.RunAnswer.{sources_of, IsLoaded, IsRead, AfterInput, IsInOrder, Says}
+use Rattle.smithy_transcode_cli.specs.Outside.{Told, Outside, missing, Tells, GavePast}
+use Rattle.smithy_transcode_cli.specs.RunAnswer.{sources_of, IsLoaded, IsRead, AfterInput, IsInOrder, Says, longest_input}
+use Rattle.smithy_transcode_cli.proofs.Faults.{has_failed}
+use Rattle.smithy_transcode_cli.proofs.Moved.{gave_longer}
+
+-- what gave more than the limit had more
+past_limit : (limit : ℕ) (a b : Told) (was : List ℕ) → GavePast limit a b → Tells a was → limit < length was
+past_limit limit a b was past told = gave_longer limit past.0 a b past.1 (omega (arith, past.2)) was told
 
 module _ (task : Task) (old new : Outside) (text input : List ℕ) (table : Table) (root : ℕ) (v : Value) (o : IsInOrder task old new text input table root v) where
   -- what was loaded is the table
@@ -44,26 +50,31 @@ module _ (task : Task) (old new : Outside) (text input : List ℕ) (table : Tabl
   pub complete_of : (status : Status) → Says task old new status → (status ≡ Done) ⊎ (status ≡ OutOfMemory)
   complete_of Done says = inl refl
   complete_of Usage says = absurd says
-  complete_of ReadFailed (inl failed) = absurd (o.file_is_well failed)
-  complete_of ReadFailed (inr after) = absurd (o.input_is_well after.2.2.2)
-  complete_of WriteFailed says = absurd (o.out_is_well says.2.2.2.2.2.0)
+  complete_of ReadFailed (inl first) = absurd (o.file_is_well (has_failed (old.files task.table_path) (new.files task.table_path) first.1))
+  complete_of ReadFailed (inr after) = absurd (o.input_is_well (has_failed old.input new.input after.2.2.2.1))
+  complete_of WriteFailed says = absurd (o.out_is_well (has_failed old.out new.out says.2.2.2.2.3.0))
   complete_of OutOfMemory says = inr refl
   complete_of InvalidInput says = absurd (not_nothing says)
   complete_of TooDeep says =
       let found = says.2.2 in
       let read = found.2 in
       absurd (not_nothing (says.0, says.1, (says.2.0, says.2.1, (found.0, found.1, (read.0, read.1, read.2.0)))))
-  complete_of TableRefused says = let same = accepted_there says.0 says.1 in let told = says.2.2 in absurd (cc (same, told))
+  complete_of TableRefused says =
+      let after = says.1 in let same = accepted_there after.0 after.1 in let told = after.2.2 in absurd (cc (same, told))
   complete_of NoSuchShape says =
-      let there = named_there says.2.0 (same_table says.0 says.1 says.2.0 says.2.1) in let none = says.2.2 in absurd (cc (there, none))
+      let after = says.1 in
+      let there = named_there after.2.0 (same_table after.0 after.1 after.2.0 after.2.1) in let none = after.2.2 in absurd (cc (there, none))
   complete_of NotAStructure says =
-      let other = says.2.0 in
-      let t = same_table says.0 says.1 other says.2.1 in
-      let n = says.2.2.0 in
-      absurd (says.2.2.2 (subst (λ (m : ℕ). IsStructure (kind_of other (shape_place m))) (same_root other t n says.2.2.1) (structure_there other t)))
-  complete_of TooLong (inl long) = let more = long.1 text o.file in absurd (omega (arith, more, o.file_is_within))
-  complete_of TooLong (inr after) = let more = after.2.2.2 input o.source in absurd (omega (arith, more, o.input_is_within))
-  complete_of NotBuilt says = let same = accepted_there says.0 says.1 in let told = says.2.1 in absurd (cc (same, told))
+      let after = says.1 in
+      let other = after.2.0 in
+      let t = same_table after.0 after.1 other after.2.1 in
+      let n = after.2.2.0 in
+      absurd (after.2.2.2 (subst (λ (m : ℕ). IsStructure (kind_of other (shape_place m))) (same_root other t n after.2.2.1) (structure_there other t)))
+  complete_of TooLong (inl first) = let more = first.1.1 text o.file in absurd (omega (arith, more, o.file_is_within))
+  complete_of TooLong (inr after) =
+      let more = past_limit longest_input old.input new.input input after.2.2.2 o.source in absurd (omega (arith, more, o.input_is_within))
+  complete_of NotBuilt says =
+      let after = says.1 in let same = accepted_there after.0 after.1 in let told = after.2.1 in absurd (cc (same, told))
 
 pub fault_of_missing : (task : Task) (old new : Outside) → (old.files task.table_path).content ≡ missing → (status : Status) → Says task old new status
     → (status ≡ ReadFailed) ⊎ (status ≡ OutOfMemory)
@@ -74,9 +85,9 @@ fault_of_missing task old new gone WriteFailed says = absurd (says.1.there gone)
 fault_of_missing task old new gone OutOfMemory says = inr refl
 fault_of_missing task old new gone InvalidInput says = absurd (says.1.there gone)
 fault_of_missing task old new gone TooDeep says = absurd (says.1.there gone)
-fault_of_missing task old new gone TableRefused says = absurd (says.1.there gone)
-fault_of_missing task old new gone NoSuchShape says = absurd (says.1.there gone)
-fault_of_missing task old new gone NotAStructure says = absurd (says.1.there gone)
-fault_of_missing task old new gone TooLong (inl long) = absurd (long.0 gone)
+fault_of_missing task old new gone TableRefused says = absurd (says.1.1.there gone)
+fault_of_missing task old new gone NoSuchShape says = absurd (says.1.1.there gone)
+fault_of_missing task old new gone NotAStructure says = absurd (says.1.1.there gone)
+fault_of_missing task old new gone TooLong (inl first) = absurd (first.1.0 gone)
 fault_of_missing task old new gone TooLong (inr after) = absurd (after.1.there gone)
-fault_of_missing task old new gone NotBuilt says = absurd (says.1.there gone)
+fault_of_missing task old new gone NotBuilt says = absurd (says.1.1.there gone)

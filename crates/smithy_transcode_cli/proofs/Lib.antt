@@ -1,4 +1,5 @@
 pub mod Moved
+pub mod Faults
 pub mod Refusals
 pub mod Complete
 pub mod RunLemmas

@@ -6,7 +6,6 @@ pub mod Outside
 pub mod RunAnswer
 -- what the types of the program stand for
 pub mod Words
-pub mod Counted
 pub mod Memory
 -- for private clauses
 pub mod Private

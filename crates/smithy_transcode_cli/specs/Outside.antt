@@ -1,5 +1,7 @@
 -- What the objects of the outside tell of themselves: what they hold, and how often they failed.
-use Rattle.std.specs.Prelude.{◌≡◌, ◌⊎◌, ◌<◌, ◌≤◌, ◌-◌, ◌^◌, ℕ, List, [], ◌++◌, length, Bool, Result, OnErr}
+use Rattle.std.specs.Prelude.{◌≡◌, ◌⊎◌, ◌<◌, ◌+◌, ◌-◌, ◌^◌, ℕ, min, List, [], ◌++◌, length, Bool, Result, Ok, Err}
+use Rattle.smithy_transcode_cli.specs.declared.outside.LoadFault.{LoadFault}
+use Rattle.smithy_transcode_cli.specs.declared.outside.LoadFault.TheVariants as load_faults
 
 -- What a file holds, a source has left or a sink took: not told, told that there is no such file, or
 -- these bytes.
@@ -32,14 +34,37 @@ outside files input out err out_holds_back =
 abbrev pub last_count : ℕ
 last_count = 2 ^ 64 - 1
 
+-- one more, up to the last count
+abbrev pub counted : ℕ → ℕ
+counted n = min (n + 1) last_count
+
 -- the count rose between the two moments, or stands at its last value
 abbrev pub HasFailed : Told → Told → Type 0
 HasFailed old new = (old.faults < new.faults) ⊎ (new.faults ≡ last_count)
 
--- the count doesn't fall, and an error is answered only where the object has failed
-pub record HasCause {T E : Type 0} (old new : Told) (result : Result T E) : Type 0 where
-  pub later : old.faults ≤ new.faults
-  pub failed : OnErr result (HasFailed old new)
+-- the object met one fault, and counted it
+abbrev pub MetOneFault : Told → Told → Type 0
+MetOneFault old new = new.faults ≡ counted old.faults
+
+-- the object met no fault
+abbrev pub MetNoFault : Told → Told → Type 0
+MetNoFault old new = new.faults ≡ old.faults
+
+-- a call that fails meets one fault, and any other meets none
+abbrev pub IsCounted : {T E : Type 0} → Result T E → Told → Told → Type 0
+IsCounted (Ok x) old new = MetNoFault old new
+IsCounted (Err e) old new = MetOneFault old new
+
+-- the faults of a load that ended with this
+abbrev pub IsCountedFault : LoadFault → Told → Told → Type 0
+IsCountedFault load_faults.Failed old new = MetOneFault old new
+IsCountedFault load_faults.TooLong old new = MetNoFault old new
+IsCountedFault load_faults.NoMemory old new = MetNoFault old new
+
+-- a load that fails meets one fault, and any other meets none
+abbrev pub IsCountedLoad : {T : Type 0} → Result T LoadFault → Told → Told → Type 0
+IsCountedLoad (Ok x) old new = MetNoFault old new
+IsCountedLoad (Err fault) old new = IsCountedFault fault old new
 
 -- the object tells that it holds these bytes
 abbrev pub Tells : Told → List ℕ → Type 0
@@ -57,6 +82,10 @@ IsLonger limit told = (all : List ℕ) → Tells told all → limit < length all
 abbrev pub Gave : List ℕ → Told → Told → Type 0
 Gave bytes old new =
     (was : List ℕ) → Tells old was → (left : List ℕ) × Tells new left × (was ≡ bytes ++ left)
+
+-- a source gave one byte more than the limit
+abbrev pub GavePast : ℕ → Told → Told → Type 0
+GavePast limit old new = (bytes : List ℕ) × Gave bytes old new × (length bytes ≡ limit + 1)
 
 -- nothing is left
 abbrev pub IsAtEnd : Told → Type 0

@@ -1,17 +1,17 @@
 -- What the number that a run ends with says of the outside.
-use Rattle.std.specs.Prelude.{◌≡◌, ◌≢◌, ◌⊎◌, ◌↔◌, ◌≤◌, ◌+◌, ℕ, List, [], length, Some, None, false}
+use Rattle.std.specs.Prelude.{◌≡◌, ◌≢◌, ◌⊎◌, ◌↔◌, ◌≤◌, ◌+◌, ℕ, List, length, Some, None, false}
 use Rattle.smithy_schema.specs.Table.{Table, IsStructure, kind_of, shape_place, declared_as}
 use Rattle.smithy_schema.specs.Acceptance.{Fault, not_built, TableAnswer, accepted, refused, table_of}
 use Rattle.smithy_schema.specs.Value.{Value}
 use Rattle.smithy_transcode.specs.Spelling.{Spells, body}
 use Rattle.smithy_transcode.specs.Causes.{openers}
-use Rattle.smithy_transcode.specs.Transcoding.{SpellNothing}
+use Rattle.smithy_transcode.specs.Transcoding.{SpellNothing, SpellsAlone}
 use Rattle.smithy_transcode_cli.specs.declared.status.Status.{Status}
 use Rattle.smithy_transcode_cli.specs.declared.status.Status.TheVariants.{Done, Usage, ReadFailed, WriteFailed, OutOfMemory, InvalidInput, TooDeep, TableRefused, NoSuchShape, NotAStructure, TooLong, NotBuilt}
 use Rattle.smithy_transcode_cli.specs.Command.{Transcode, command_of}
 use Rattle.smithy_transcode_cli.specs.Task.{Task, task_of, task_asked}
 use Rattle.smithy_transcode_cli.specs.Status.{status_code}
-use Rattle.smithy_transcode_cli.specs.Outside.{Told, Outside, missing, HasFailed, Tells, IsWhole, IsLonger, Gave, IsAtEnd, Took, TookPrefix}
+use Rattle.smithy_transcode_cli.specs.Outside.{Told, Outside, missing, HasFailed, MetOneFault, MetNoFault, Tells, IsWhole, IsLonger, Gave, GavePast, IsAtEnd, Took, TookPrefix}
 
 -- in bytes
 abbrev pub longest_table : ℕ
@@ -66,20 +66,26 @@ abbrev pub AfterInput : Task → Sources → Sources → (Table → ℕ → List
 AfterInput task old new P =
     AfterRoot task old (λ table root. (input : List ℕ) × IsRead input old.input new.input × P table root input)
 
--- the input spells a value, and P holds of its body
+-- the input spells a value, whose body spells that value alone, and P holds of the body
 abbrev pub AfterTranscoding : Task → Sources → Sources → (List ℕ → Type 0) → Type 0
 AfterTranscoding task old new P =
     AfterInput task old new
-    (λ table root input. (v : Value) × Spells task.from table root input v × P (body task.to table root v))
+    (λ table root input. (v : Value) × Spells task.from table root input v
+    × SpellsAlone task.to table root (body task.to table root v) v × P (body task.to table root v))
 
 -- ---- the statuses
+
+-- P holds, and the input isn't touched
+abbrev pub BeforeInput : Sources → Sources → Type 0 → Type 0
+BeforeInput old new P = (new.input ≡ old.input) × P
 
 -- why nothing was written
 abbrev pub Refuses : Task → Sources → Sources → Status → Type 0
 Refuses task old new Done = ⊥
 Refuses task old new Usage = ⊥
 Refuses task old new ReadFailed =
-    HasFailed old.table new.table ⊎ AfterRoot task old (λ table root. HasFailed old.input new.input)
+    BeforeInput old new (MetOneFault old.table new.table)
+    ⊎ AfterRoot task old (λ table root. MetNoFault old.table new.table × MetOneFault old.input new.input)
 Refuses task old new WriteFailed = ⊥
 Refuses task old new OutOfMemory = Unit {0}
 Refuses task old new InvalidInput = AfterInput task old new (SpellNothing task.from)
@@ -87,15 +93,18 @@ Refuses task old new TooDeep =
     AfterInput task old new
     (λ table root input. SpellNothing task.from table root input × (128 ≤ openers task.from input))
 Refuses task old new TableRefused =
-    AfterLoad old (λ answer. (fault : Fault) × (n : ℕ) × (answer ≡ refused fault n) × (fault ≢ not_built))
-Refuses task old new NoSuchShape = AfterTable old (λ table. declared_as table task.root_name ≡ None)
+    BeforeInput old new (AfterLoad old
+    (λ answer. (fault : Fault) × (n : ℕ) × (answer ≡ refused fault n) × (fault ≢ not_built)))
+Refuses task old new NoSuchShape =
+    BeforeInput old new (AfterTable old (λ table. declared_as table task.root_name ≡ None))
 Refuses task old new NotAStructure =
-    AfterTable old (λ table. (root : ℕ) × (declared_as table task.root_name ≡ Some root)
-    × ¬ IsStructure (kind_of table (shape_place root)))
+    BeforeInput old new (AfterTable old (λ table. (root : ℕ) × (declared_as table task.root_name ≡ Some root)
+    × ¬ IsStructure (kind_of table (shape_place root))))
 Refuses task old new TooLong =
-    ((old.table.content ≢ missing) × IsLonger longest_table old.table)
-    ⊎ AfterRoot task old (λ table root. IsLonger longest_input old.input)
-Refuses task old new NotBuilt = AfterLoad old (λ answer. (n : ℕ) × (answer ≡ refused not_built n))
+    BeforeInput old new ((old.table.content ≢ missing) × IsLonger longest_table old.table)
+    ⊎ AfterRoot task old (λ table root. GavePast longest_input old.input new.input)
+Refuses task old new NotBuilt =
+    BeforeInput old new (AfterLoad old (λ answer. (n : ℕ) × (answer ≡ refused not_built n)))
 
 -- what a status says
 abbrev pub Says : Task → Outside → Outside → Status → Type 0
@@ -103,7 +112,7 @@ Says task old new Done =
     AfterTranscoding task (sources_of task old) (sources_of task new) (λ bytes. Took bytes old.out new.out)
 Says task old new WriteFailed =
     AfterTranscoding task (sources_of task old) (sources_of task new)
-    (λ bytes. HasFailed old.out new.out × TookPrefix bytes old.out new.out)
+    (λ bytes. MetOneFault old.out new.out × TookPrefix bytes old.out new.out)
 Says task old new status = Refuses task (sources_of task old) (sources_of task new) status
 
 -- all is told and in order, and no count rose
@@ -126,6 +135,9 @@ pub record TaskAnswer (task : Task) (old new : Outside) (status : Status) : Type
   pub says : Says task old new status
   -- the input is read no further than one byte past the limit
   pub reads_no_further : (bytes : List ℕ) × Gave bytes old.input new.input × (length bytes ≤ longest_input + 1)
+  -- a fault of the file or the input ends the run with 6
+  pub table_met_no_fault : status ≢ ReadFailed → MetNoFault (old.files task.table_path) (new.files task.table_path)
+  pub input_met_no_fault : status ≢ ReadFailed → MetNoFault old.input new.input
   -- a file that is told to be missing can't be loaded
   pub missing_is_a_fault : (old.files task.table_path).content ≡ missing
       → (status ≡ ReadFailed) ⊎ (status ≡ OutOfMemory)
@@ -144,6 +156,9 @@ pub record RunAnswer (words : List (List ℕ)) (old new : Outside) (code : ℕ) 
   -- where the words ask for no task, nothing is touched
   pub only_for_a_task : task_asked words ≡ None → new ≡ old
   pub nothing_is_held_back : status ≡ Done → new.out_holds_back ≡ false
-  pub out_is_untouched : status ≢ Done → status ≢ WriteFailed → Took [] old.out new.out
-  pub err_is_untouched : Took [] old.err new.err
+  -- a fault of the output ends the run with 7
+  pub out_met_no_fault : status ≢ WriteFailed → MetNoFault old.out new.out
+  pub out_is_untouched : status ≢ Done → status ≢ WriteFailed
+      → (new.out ≡ old.out) × (new.out_holds_back ≡ old.out_holds_back)
+  pub err_is_untouched : new.err ≡ old.err
   pub files_are_kept : (path : List ℕ) → (new.files path).content ≡ (old.files path).content

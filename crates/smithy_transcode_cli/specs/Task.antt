@@ -1,7 +1,7 @@
 -- What a command asks for, where its wires are built.
 use Rattle.std.specs.Prelude.{ℕ, List, Option, Some, None, option_and_then, option_map, false}
 use Rattle.smithy_transcode.specs.declared.wire.Wire.{Wire}
-use Rattle.smithy_transcode.specs.declared.wire.Wire.TheVariants.{Json}
+use Rattle.smithy_transcode.specs.declared.wire.Wire.TheVariants.{Json, Cbor}
 use Rattle.smithy_transcode_cli.specs.Command.{NamedWire, json, json_name, cbor, query, Transcode, command_of}
 
 -- the body of this root, from wire to wire
@@ -15,7 +15,7 @@ pub record Task : Type 0 where
 abbrev pub built_wire : NamedWire → Option Wire
 built_wire json = Some (Json false)
 built_wire json_name = None
-built_wire cbor = None
+built_wire cbor = Some Cbor
 built_wire (query action version) = None
 
 -- the task of a command, where both wires are built

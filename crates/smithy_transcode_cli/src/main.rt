@@ -5,6 +5,9 @@
 //! wire TO. The process ends with the number of the `Status`.
 #![tactic(auto)]
 
+ghost use Rattle.std.specs.Prelude.{◌≡◌, ◌≢◌};
+ghost use Rattle.std.specs.IoError.{error_kind};
+
 mod memory;
 mod os;
 mod outside;
@@ -20,13 +23,25 @@ use crate::os::{OsFiles, OsSink, OsSource};
 use crate::run::run;
 use crate::status::Status;
 use std::env;
+use std::io::{Error, ErrorKind};
 use std::process::ExitCode;
+
+// The status where the arguments weren't read. Those that are no text are no command.
+fn unread(error: &Error) -> Status
+    ensures memory { error_kind error.now ≡ ErrorKind.OutOfMemory → result ≡ Status.OutOfMemory }
+    ensures usage { error_kind error.now ≢ ErrorKind.OutOfMemory → result ≡ Status.Usage }
+{
+    match error.kind() {
+        ErrorKind::OutOfMemory => Status::OutOfMemory,
+        _ => Status::Usage,
+    }
+}
 
 fn main(rt: HostRuntime) -> ExitCode {
     let alloc = rt.alloc();
-    // Arguments that are no text are no command.
-    let Ok(arguments) = env::args(&rt) else {
-        return ExitCode::from(Status::Usage.code());
+    let arguments = match env::args(&rt) {
+        Ok(arguments) => arguments,
+        Err(error) => return ExitCode::from(unread(&error).code()),
     };
     let Ok(words) = arguments.skip(1).collect::<Vec<String>>(alloc) else {
         return ExitCode::from(Status::OutOfMemory.code());

@@ -1,7 +1,7 @@
 //! Files, a source and a sink in memory, for tests: they tell what they hold, and fail at the calls
 //! that they are told to fail at.
 ghost use Rattle.std.specs.Prelude.{◌≡◌, ◌↔◌, Contains, IsTrue};
-ghost use Rattle.smithy_transcode_cli.specs.Counted.{counted};
+ghost use Rattle.smithy_transcode_cli.specs.Outside.{counted};
 
 mod files;
 mod sink;

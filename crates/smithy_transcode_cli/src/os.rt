@@ -34,12 +34,9 @@ impl<R: rt::Files> Files for OsFiles<R> {
             self.faults = self.faults.saturating_add(1);
             return Err(LoadFault::Failed);
         };
-        let mut source = OsSource {
-            input,
-            faults: self.faults,
-        };
+        let mut source = OsSource::new(input);
         let loaded = read_to_end(alloc, &mut source, limit);
-        self.faults = source.faults;
+        self.faults = self.faults.saturating_add(source.faults);
         loaded
     }
 }

@@ -2,9 +2,9 @@
 //!
 //! Each object counts its faults, and may tell what it holds. The clauses on content hold where it
 //! is told.
-ghost use Rattle.std.specs.Prelude.{◌≡◌, ◌≢◌, ◌⊎◌, ◌<◌, ◌≤◌, [], List, Bool, ℕ, false, length, take, IfOk, OnOk, OnErr, IsErrOf, MatchResult};
+ghost use Rattle.std.specs.Prelude.{◌≡◌, ◌≢◌, ◌⊎◌, ◌<◌, ◌≤◌, [], List, Bool, ℕ, false, length, take, IfOk, OnOk, IsErrOf, MatchResult};
 ghost use Rattle.smithy_transcode_cli.specs.declared.outside.LoadFault.TheVariants as faults;
-ghost use Rattle.smithy_transcode_cli.specs.Outside.{Told, missing, HasFailed, HasCause, IsWhole, IsLonger, Gave, IsAtEnd, Took};
+ghost use Rattle.smithy_transcode_cli.specs.Outside.{Told, missing, IsCounted, IsCountedLoad, IsWhole, IsLonger, Gave, IsAtEnd, Took};
 
 use std::alloc::{AllocError, AllocFailed, Global};
 
@@ -50,7 +50,7 @@ pub trait Files {
         ensures within { IfOk result (λ bytes. length bytes.items ≤ limit) }
         ensures too_long_only_past_the_limit { IsErrOf result LoadFault.TooLong → IsLonger limit (told self.old path.now) }
         ensures missing_is_a_fault { (told self.old path.now).content ≡ missing → IsErrOf result LoadFault.Failed ⊎ IsErrOf result LoadFault.NoMemory }
-        ensures failed_only_by_a_fault { IsErrOf result LoadFault.Failed → HasFailed (told self.old path.now) (told self.new path.now) }
+        ensures counts { IsCountedLoad result (told self.old path.now) (told self.new path.now) }
 
         // No path changes what it holds, and no count falls.
         ensures kept { (at : List ℕ) → (told self.new at).content ≡ (told self.old at).content }
@@ -67,7 +67,7 @@ pub trait Source {
         ensures bound { IfOk result (λ count. count ≤ length into.new) }
         ensures gave { MatchResult result (λ count. Gave (take count into.new) (told self.old) (told self.new)) (λ _. Gave [] (told self.old) (told self.new)) }
         ensures end { result ≡ Ok 0 → 0 < length into.new → IsAtEnd (told self.new) }
-        ensures cause { HasCause (told self.old) (told self.new) result };
+        ensures counts { IsCounted result (told self.old) (told self.new) };
 }
 
 /// A sink for bytes. It may hold some of them back until it is finished.
@@ -83,11 +83,11 @@ pub trait Sink {
         ensures bound { IfOk result (λ count. count ≤ length piece.now) }
         ensures took { MatchResult result (λ count. Took (take count piece.now) (told self.old) (told self.new)) (λ _. Took [] (told self.old) (told self.new)) }
         ensures some { 0 < length piece.now → result ≢ Ok 0 }
-        ensures cause { HasCause (told self.old) (told self.new) result };
+        ensures counts { IsCounted result (told self.old) (told self.new) };
 
     /// Passes on what is held back.
     fn finish(&mut self) -> Result<(), Failed>
         ensures took { Took [] (told self.old) (told self.new) }
         ensures passed_on { OnOk result (holds_back self.new ≡ false) }
-        ensures cause { HasCause (told self.old) (told self.new) result };
+        ensures counts { IsCounted result (told self.old) (told self.new) };
 }

@@ -1,8 +1,8 @@
 //! One run of the program.
-ghost use Rattle.std.specs.Prelude.{◌≡◌, ◌≢◌, ◌⊎◌, ◌↔◌, ◌≤◌, ◌+◌, ◌<◌, ℕ, List, [], Some, None, false, length, map, string_bytes, IfOk, IfErr, OnErr};
+ghost use Rattle.std.specs.Prelude.{◌≡◌, ◌≢◌, ◌⊎◌, ◌↔◌, ◌≤◌, ◌+◌, ◌<◌, ℕ, List, Some, None, false, length, map, string_bytes, IfOk, IfErr, OnErr};
 ghost use Rattle.smithy_schema.specs.Table.{Table, IsStructure, kind_of, shape_place, declared_as};
 ghost use Rattle.smithy_schema.specs.Acceptance.{accepted, table_of};
-ghost use Rattle.smithy_transcode_cli.specs.Outside.{Told, Gave, Took, outside};
+ghost use Rattle.smithy_transcode_cli.specs.Outside.{Told, MetNoFault, Gave, outside};
 ghost use Rattle.smithy_transcode_cli.specs.Command.{command_of};
 ghost use Rattle.smithy_transcode_cli.specs.Task.{task_asked};
 ghost use Rattle.smithy_transcode_cli.specs.Words.{task_view};
@@ -28,6 +28,7 @@ const MAX_INPUT_LEN: usize = 16_777_216;
 fn load_table<F: Files>(alloc: Global, files: &mut F, path: &str) -> Result<Shapes, Status>
     ensures table { IfOk result (λ table. (text : List ℕ) × IsLoaded text (F.told files.old path.now) × (table_of text ≡ accepted table)) }
     ensures refused { IfErr result (FailsToLoad (F.told files.old path.now) (F.told files.new path.now)) }
+    ensures no_fault { result ≢ Err Status.ReadFailed → MetNoFault (F.told files.old path.now) (F.told files.new path.now) }
     ensures kept { (at : List ℕ) → (F.told files.new at).content ≡ (F.told files.old at).content }
 {
     let text = files.load(alloc, path, MAX_TABLE_LEN)?;
@@ -63,6 +64,8 @@ fn body_of<F: Files, S: Source>(
     ensures refused { IfErr result (Refuses (task_view task.now)
         (record { table = F.told files.old task.now.table.now; input = S.told input.old })
         (record { table = F.told files.new task.now.table.now; input = S.told input.new })) }
+    ensures table_met_no_fault { result ≢ Err Status.ReadFailed → MetNoFault (F.told files.old task.now.table.now) (F.told files.new task.now.table.now) }
+    ensures input_met_no_fault { result ≢ Err Status.ReadFailed → MetNoFault (S.told input.old) (S.told input.new) }
     ensures kept { (at : List ℕ) → (F.told files.new at).content ≡ (F.told files.old at).content }
     ensures no_further { (bytes : List ℕ) × Gave bytes (S.told input.old) (S.told input.new) × (length bytes ≤ longest_input + 1) }
 {
@@ -86,7 +89,11 @@ fn perform<F: Files, S: Source, K: Sink>(
     ensures kept { (at : List ℕ) → (F.told files.new at).content ≡ (F.told files.old at).content }
     ensures no_further { (bytes : List ℕ) × Gave bytes (S.told input.old) (S.told input.new) × (length bytes ≤ longest_input + 1) }
     ensures finished { result ≡ Status.Done → K.holds_back out.new ≡ false }
-    ensures untouched { result ≢ Status.Done → result ≢ Status.WriteFailed → Took [] (K.told out.old) (K.told out.new) }
+    ensures table_met_no_fault { result ≢ Status.ReadFailed → MetNoFault (F.told files.old task.now.table.now) (F.told files.new task.now.table.now) }
+    ensures input_met_no_fault { result ≢ Status.ReadFailed → MetNoFault (S.told input.old) (S.told input.new) }
+    ensures out_met_no_fault { result ≢ Status.WriteFailed → MetNoFault (K.told out.old) (K.told out.new) }
+    ensures untouched { result ≢ Status.Done → result ≢ Status.WriteFailed
+        → (K.told out.new ≡ K.told out.old) × (K.holds_back out.new ≡ K.holds_back out.old) }
 {
     let body = match body_of(alloc, task, files, input) {
         Ok(body) => body,

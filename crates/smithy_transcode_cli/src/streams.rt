@@ -1,6 +1,6 @@
 //! Reading a source to its end, and writing all of some bytes.
-ghost use Rattle.std.specs.Prelude.{◌≡◌, ◌<◌, ◌≤◌, ◌+◌, ◌++◌, List, ℕ, false, length, IfOk, OnOk, OnErr, IsErrOf};
-ghost use Rattle.smithy_transcode_cli.specs.Outside.{HasCause, HasFailed, IsLonger, Gave, IsAtEnd, Took, TookPrefix};
+ghost use Rattle.std.specs.Prelude.{◌≡◌, ◌<◌, ◌≤◌, ◌+◌, ◌++◌, List, ℕ, false, length, IfOk, OnOk, IsErrOf};
+ghost use Rattle.smithy_transcode_cli.specs.Outside.{IsCounted, IsCountedLoad, Gave, GavePast, IsAtEnd, Took, TookPrefix};
 
 use crate::outside::{Failed, LoadFault, Sink, Source};
 use std::alloc::{AllocError, Global};
@@ -24,9 +24,8 @@ fn read_piece<S: Source>(
     ensures piece { (piece : List ℕ) × Gave piece (S.told source.old) (S.told source.new) × (length piece ≤ length buffer.old)
         × IfOk result (λ count. (length piece ≡ count) × (bytes.new.items ≡ bytes.old.items ++ piece)) }
     ensures end { result ≡ Ok 0 → 0 < length buffer.old → IsAtEnd (S.told source.new) }
-    ensures failed_only_by_a_fault { IsErrOf result LoadFault.Failed → HasFailed (S.told source.old) (S.told source.new) }
+    ensures counts { IsCountedLoad result (S.told source.old) (S.told source.new) }
     ensures never_too_long { IsErrOf result LoadFault.TooLong → ⊥ }
-    ensures later { (S.told source.old).faults ≤ (S.told source.new).faults }
 {
     let count = source.read(buffer)?;
     bytes.extend_from_slice(&buffer[..count])?;
@@ -44,10 +43,11 @@ pub fn read_to_end<S: Source>(
     ensures end { OnOk result (IsAtEnd (S.told source.new)) }
     ensures within { IfOk result (λ bytes. length bytes.items ≤ limit) }
 
-    ensures too_long_only_past_the_limit { IsErrOf result LoadFault.TooLong → IsLonger limit (S.told source.old) }
-    ensures failed_only_by_a_fault { IsErrOf result LoadFault.Failed → HasFailed (S.told source.old) (S.told source.new) }
+    // The first fault ends it.
+    ensures counts { IsCountedLoad result (S.told source.old) (S.told source.new) }
+
+    ensures too_long { IsErrOf result LoadFault.TooLong → GavePast limit (S.told source.old) (S.told source.new) }
     ensures no_further { (bytes : List ℕ) × Gave bytes (S.told source.old) (S.told source.new) × (length bytes ≤ limit + 1) }
-    ensures later { (S.told source.old).faults ≤ (S.told source.new).faults }
 {
     let mut buffer = zeros(alloc, PIECE)?;
     let buffer = buffer.as_mut_slice();
@@ -66,7 +66,7 @@ pub fn write_all<K: Sink>(sink: &mut K, bytes: &[u8]) -> Result<(), Failed>
     ensures all { OnOk result (Took bytes.now (K.told sink.old) (K.told sink.new)) }
     ensures passed_on { OnOk result (K.holds_back sink.new ≡ false) }
     ensures front { TookPrefix bytes.now (K.told sink.old) (K.told sink.new) }
-    ensures cause { HasCause (K.told sink.old) (K.told sink.new) result }
+    ensures counts { IsCounted result (K.told sink.old) (K.told sink.new) }
 {
     let mut rest = bytes;
     while !rest.is_empty() {

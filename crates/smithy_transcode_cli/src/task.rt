@@ -27,7 +27,8 @@ fn built(words: WireWords<'_>) -> Option<Wire>
         WireWords::Json => Some(Wire::Json {
             use_json_name: false,
         }),
-        _ => None,
+        WireWords::Cbor => Some(Wire::Cbor),
+        WireWords::JsonName | WireWords::Query(_, _) => None,
     }
 }
 

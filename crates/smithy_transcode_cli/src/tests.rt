@@ -33,13 +33,13 @@ fn check(rt: &impl Abort, alloc: Global, row: &Row) -> Result<(), Fail> {
     let words = words_of(alloc, row.words)?;
     let piece = row.piece.max(1);
     let mut files = files_with(alloc, row.table.as_bytes().to_vec(alloc)?, row.files_fail)?;
-    let bytes = row.input.as_bytes().to_vec(alloc)?;
+    let bytes = row.input.to_vec(alloc)?;
     let mut input = MemorySource::new(bytes, piece, [row.input_fail].to_vec(alloc)?);
     let mut out = MemorySink::new(alloc, piece, 4096, [row.out_fail].to_vec(alloc)?)?;
     let mut err = MemorySink::new(alloc, piece, 4096, Vec::new(alloc))?;
     let status = run(alloc, &words, &mut files, &mut input, &mut out, &mut err);
     assert_eq!(rt; status, row.status, "{}", row.name);
-    assert_eq!(rt; out.bytes.as_slice(), row.output.as_bytes(), "{}", row.name);
+    assert_eq!(rt; out.bytes.as_slice(), row.output, "{}", row.name);
     assert!(rt; err.bytes.is_empty(), "{}", row.name);
     Ok(())
 }
@@ -50,6 +50,43 @@ fn rows_are_answered_as_written(rt: HostRuntime) -> Result<(), Fail> {
         check(&rt, rt.alloc(), row)?;
     }
     Ok(())
+}
+
+const BODY: &[u8] = b"{\"a\":1}";
+
+// Checks a run that moves one byte a call, and of which the calls of these numbers fail; 0 is none.
+fn check_faults(
+    rt: &impl Abort,
+    alloc: Global,
+    input_fail: u64,
+    out_fail: u64,
+    status: u8,
+    output: &[u8],
+) -> Result<(), Fail> {
+    let words = words_of(alloc, "transcode t S json json")?;
+    let mut files = files_with(alloc, LONGS.as_bytes().to_vec(alloc)?, 0)?;
+    let mut input = MemorySource::new(BODY.to_vec(alloc)?, 1, [input_fail].to_vec(alloc)?);
+    let mut out = MemorySink::new(alloc, 1, 4096, [out_fail].to_vec(alloc)?)?;
+    let mut err = MemorySink::new(alloc, 1, 4096, Vec::new(alloc))?;
+    let ended = run(alloc, &words, &mut files, &mut input, &mut out, &mut err);
+    assert_eq!(rt; ended, status, "calls {input_fail} and {out_fail}");
+    assert_eq!(rt;
+        out.bytes.as_slice(),
+        output,
+        "calls {input_fail} and {out_fail}"
+    );
+    Ok(())
+}
+
+#[test]
+fn any_call_may_fail(rt: HostRuntime) -> Result<(), Fail> {
+    let alloc = rt.alloc();
+    // Each byte is a call, and the end or `finish` one more.
+    for (moved, call) in (1..=8).enumerate() {
+        check_faults(&rt, alloc, call, 0, 6, b"")?;
+        check_faults(&rt, alloc, 0, call, 7, BODY.get(..moved).unwrap_or(BODY))?;
+    }
+    check_faults(&rt, alloc, 9, 9, 0, BODY)
 }
 
 /// A table and an input of so many bytes, filled up with empty lines and blanks.

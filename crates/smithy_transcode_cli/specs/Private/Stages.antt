@@ -4,12 +4,12 @@ use Rattle.smithy_schema.specs.Table.{Table, IsStructure, kind_of, shape_place, 
 use Rattle.smithy_schema.specs.Acceptance.{Fault, not_built, refused, table_of}
 use Rattle.smithy_transcode_cli.specs.declared.status.Status.{Status}
 use Rattle.smithy_transcode_cli.specs.declared.status.Status.TheVariants.{ReadFailed, OutOfMemory, TableRefused, NoSuchShape, NotAStructure, TooLong, NotBuilt}
-use Rattle.smithy_transcode_cli.specs.Outside.{Told, missing, HasFailed, IsLonger}
+use Rattle.smithy_transcode_cli.specs.Outside.{Told, missing, MetOneFault, IsLonger}
 use Rattle.smithy_transcode_cli.specs.RunAnswer.{IsLoaded, longest_table}
 
 -- why no table was loaded from a file
 abbrev pub FailsToLoad : Told → Told → Status → Type 0
-FailsToLoad old new ReadFailed = HasFailed old new
+FailsToLoad old new ReadFailed = MetOneFault old new
 FailsToLoad old new OutOfMemory = Unit {0}
 FailsToLoad old new TooLong = (old.content ≢ missing) × IsLonger longest_table old
 FailsToLoad old new TableRefused =

@@ -37,10 +37,9 @@ impl MemoryFiles {
 }
 
 impl Files for MemoryFiles {
-    ghost use Rattle.smithy_transcode_cli.specs.Memory.{files_told};
-    ghost use Rattle.smithy_transcode_cli.specs.Counted.{counted};
+    ghost use Rattle.smithy_transcode_cli.specs.Memory.{files_told, IsCountedIf};
     ghost use Rattle.std.specs.BTreeMap.{get_by_text};
-    ghost use Rattle.smithy_transcode_cli.specs.Outside.{missing, HasFailed, IsWhole, IsLonger};
+    ghost use Rattle.smithy_transcode_cli.specs.Outside.{missing, counted, IsCountedLoad, IsWhole, IsLonger};
 
     ghost told = { files_told };
 
@@ -49,7 +48,7 @@ impl Files for MemoryFiles {
         ensures within { IfOk result (λ bytes. length bytes.items ≤ limit) }
         ensures too_long_only_past_the_limit { IsErrOf result LoadFault.TooLong → IsLonger limit (files_told self.old path.now) }
         ensures missing_is_a_fault { (files_told self.old path.now).content ≡ missing → IsErrOf result LoadFault.Failed ⊎ IsErrOf result LoadFault.NoMemory }
-        ensures failed_only_by_a_fault { IsErrOf result LoadFault.Failed → HasFailed (files_told self.old path.now) (files_told self.new path.now) }
+        ensures counts { IsCountedLoad result (files_told self.old path.now) (files_told self.new path.now) }
         ensures kept { (at : List ℕ) → (files_told self.new at).content ≡ (files_told self.old at).content }
         ensures later { (at : List ℕ) → (files_told self.old at).faults ≤ (files_told self.new at).faults }
 
@@ -57,6 +56,14 @@ impl Files for MemoryFiles {
         ensures calls { self.new.calls ≡ counted self.old.calls }
         ensures fails { Contains self.old.fail.items self.new.calls → IsErrOf result LoadFault.Failed }
         ensures fails_only { IsErrOf result LoadFault.Failed → Contains self.old.fail.items self.new.calls ⊎ IsNone (get_by_text self.old.entries path.now) }
+
+        // `faults` is the count of each path that is held, `misses` that of any other.
+        ensures faults { IsCountedIf (Contains self.old.fail.items self.new.calls) self.old.faults self.new.faults }
+        ensures misses { IsCountedIf (Contains self.old.fail.items self.new.calls ⊎ IsNone (get_by_text self.old.entries path.now)) self.old.misses self.new.misses }
+
+        // What is held stays, and which calls fail.
+        ensures entries { self.new.entries ≡ self.old.entries }
+        ensures fail { self.new.fail ≡ self.old.fail }
     {
         if is_failing_call(&mut self.calls, &self.fail) {
             self.faults = self.faults.saturating_add(1);

@@ -55,8 +55,7 @@ impl MemorySink {
 
 impl Sink for MemorySink {
     ghost use Rattle.smithy_transcode_cli.specs.Memory.{sink_told};
-    ghost use Rattle.smithy_transcode_cli.specs.Counted.{counted};
-    ghost use Rattle.smithy_transcode_cli.specs.Outside.{HasCause, Took};
+    ghost use Rattle.smithy_transcode_cli.specs.Outside.{counted, IsCounted, Took};
 
     ghost told = { sink_told };
 
@@ -66,13 +65,18 @@ impl Sink for MemorySink {
         ensures bound { IfOk result (λ count. count ≤ length piece.now) }
         ensures took { MatchResult result (λ count. Took (take count piece.now) (sink_told self.old) (sink_told self.new)) (λ _. Took [] (sink_told self.old) (sink_told self.new)) }
         ensures some { 0 < length piece.now → result ≢ Ok 0 }
-        ensures cause { HasCause (sink_told self.old) (sink_told self.new) result }
+        ensures counts { IsCounted result (sink_told self.old) (sink_told self.new) }
 
         // The calls that are to fail do, and those that find no room; the others take as much as they may.
         ensures calls { self.new.calls ≡ counted self.old.calls }
         ensures fails { Contains self.old.fail.items self.new.calls → IsErr result }
         ensures fails_only { IsErr result → Contains self.old.fail.items self.new.calls ⊎ (self.old.room ≡ length self.old.bytes.items) }
         ensures as_much { IfOk result (λ count. count ≡ min (min (self.old.room - length self.old.bytes.items) self.old.piece) (length piece.now)) }
+
+        // All else stays.
+        ensures piece { self.new.piece ≡ self.old.piece }
+        ensures room { self.new.room ≡ self.old.room }
+        ensures fail { self.new.fail ≡ self.old.fail }
     {
         let fails = is_failing_call(&mut self.calls, &self.fail);
         let count = (self.room - self.bytes.len())
@@ -88,11 +92,16 @@ impl Sink for MemorySink {
 
     fn finish(&mut self) -> Result<(), Failed>
         ensures took { Took [] (sink_told self.old) (sink_told self.new) }
-        ensures cause { HasCause (sink_told self.old) (sink_told self.new) result }
+        ensures counts { IsCounted result (sink_told self.old) (sink_told self.new) }
 
         // The calls that are to fail do, and no others.
         ensures calls { self.new.calls ≡ counted self.old.calls }
         ensures fails { IsErr result ↔ Contains self.old.fail.items self.new.calls }
+
+        // All else stays.
+        ensures piece { self.new.piece ≡ self.old.piece }
+        ensures room { self.new.room ≡ self.old.room }
+        ensures fail { self.new.fail ≡ self.old.fail }
     {
         if is_failing_call(&mut self.calls, &self.fail) {
             self.faults = self.faults.saturating_add(1);

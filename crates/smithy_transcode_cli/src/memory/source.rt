@@ -48,8 +48,7 @@ impl MemorySource {
 
 impl Source for MemorySource {
     ghost use Rattle.smithy_transcode_cli.specs.Memory.{source_told};
-    ghost use Rattle.smithy_transcode_cli.specs.Counted.{counted};
-    ghost use Rattle.smithy_transcode_cli.specs.Outside.{HasCause, Gave, IsAtEnd};
+    ghost use Rattle.smithy_transcode_cli.specs.Outside.{counted, IsCounted, Gave, IsAtEnd};
 
     ghost told = { source_told };
 
@@ -57,12 +56,17 @@ impl Source for MemorySource {
         ensures bound { IfOk result (λ count. count ≤ length into.new) }
         ensures gave { MatchResult result (λ count. Gave (take count into.new) (source_told self.old) (source_told self.new)) (λ _. Gave [] (source_told self.old) (source_told self.new)) }
         ensures end { result ≡ Ok 0 → 0 < length into.new → IsAtEnd (source_told self.new) }
-        ensures cause { HasCause (source_told self.old) (source_told self.new) result }
+        ensures counts { IsCounted result (source_told self.old) (source_told self.new) }
 
         // The calls that are to fail do, and no others; the others give as much as they may.
         ensures calls { self.new.calls ≡ counted self.old.calls }
         ensures fails { IsErr result ↔ Contains self.old.fail.items self.new.calls }
         ensures as_much { IfOk result (λ count. count ≡ min (min (length self.old.bytes.items - self.old.at) self.old.piece) (length into.new)) }
+
+        // All else stays.
+        ensures bytes { self.new.bytes ≡ self.old.bytes }
+        ensures piece { self.new.piece ≡ self.old.piece }
+        ensures fail { self.new.fail ≡ self.old.fail }
     {
         if is_failing_call(&mut self.calls, &self.fail) {
             self.faults = self.faults.saturating_add(1);

@@ -1,11 +1,11 @@
 use Rattle.std.proofs.Common.{◌≤◌, ◌+◌, ◌-◌, length}
-use Rattle.smithy_transcode_cli.specs.Outside.{Gave}
+use Rattle.smithy_transcode_cli.specs.Outside.{MetNoFault, Gave}
 use Rattle.smithy_transcode_cli.proofs.streams.read_to_end.Given as goal
 
 abbrev pub invariant-loop-buffer : goal.invariant-loop-buffer
 invariant-loop-buffer g l = record {
   gave : Gave l.bytes.items (g.S.Source.told l.fn.source) (g.S.Source.told l.source);
-  later : (g.S.Source.told l.fn.source).faults ≤ (g.S.Source.told l.source).faults;
+  no_fault : MetNoFault (g.S.Source.told l.fn.source) (g.S.Source.told l.source);
   within : length l.bytes.items ≤ l.limit + 1;
 }
 

@@ -1,11 +1,11 @@
-use Rattle.std.proofs.Common.{◌≡◌, ◌≤◌, List, ℕ, ◌++◌, length}
-use Rattle.smithy_transcode_cli.specs.Outside.{Took}
+use Rattle.std.proofs.Common.{◌≡◌, List, ℕ, ◌++◌, length}
+use Rattle.smithy_transcode_cli.specs.Outside.{MetNoFault, Took}
 use Rattle.smithy_transcode_cli.proofs.streams.write_all.Given as goal
 
 abbrev pub invariant-loop-rest : goal.invariant-loop-rest
 invariant-loop-rest g l = record {
   took : (front : List ℕ) × (l.bytes ≡ front ++ l.rest) × Took front (g.K.Sink.told l.fn.sink) (g.K.Sink.told l.sink);
-  later : (g.K.Sink.told l.fn.sink).faults ≤ (g.K.Sink.told l.sink).faults;
+  no_fault : MetNoFault (g.K.Sink.told l.fn.sink) (g.K.Sink.told l.sink);
 }
 
 abbrev pub decreases-loop-rest : goal.decreases-loop-rest
