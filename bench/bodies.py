@@ -34,3 +34,32 @@ write("integers.json", '{"l":[' + ",".join(numbers) + "]}")
 
 strings = ['"string number %d"' % n for n in range(380_000)]
 write("strings.json", '{"s":[' + ",".join(strings) + "]}")
+
+# long strings with few escapes, and short ones of which every third character has one
+line = "The quick brown fox jumps over the lazy dog. " * 20
+long_strings = ['"%s\\n%s"' % (line, line) for _ in range(4_400)]
+write("long_strings.json", '{"s":[' + ",".join(long_strings) + "]}")
+escapes = ['"\\"a%d\\\\b\\u00e9\\n"' % (n % 10) for n in range(420_000)]
+write("escapes.json", '{"s":[' + ",".join(escapes) + "]}")
+
+
+def head(major, argument):
+    """The shortest head of CBOR."""
+    for width, info in ((1, 24), (2, 25), (4, 26), (8, 27)):
+        if argument < 24:
+            return bytes([major << 5 | argument])
+        if argument < 1 << (8 * width):
+            return bytes([major << 5 | info]) + argument.to_bytes(width, "big")
+
+
+def member(name, elements):
+    """A structure with one member, a list of indefinite length."""
+    return b"\xbf" + head(3, len(name)) + name.encode() + b"\x9f" + b"".join(elements) + b"\xff\xff"
+
+
+# lists of some 8 MB, and of 16 MiB
+longs = [head(0, count * 37 % 1000) for count in range(3_200_000)]
+(folder / "integers.cbor").write_bytes(member("l", longs))
+texts = [b"string number %d" % n for n in range(400_000)]
+(folder / "strings.cbor").write_bytes(member("s", [head(3, len(text)) + text for text in texts]))
+(folder / "small.cbor").write_bytes(member("l", [bytes([n % 24]) for n in range(16_777_216 - 6)]))
