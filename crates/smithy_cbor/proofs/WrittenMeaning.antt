@@ -65,14 +65,19 @@ structure_means (structure_of members) ms es is ascend said = structure_said mem
 structure_means (list_of l) ms es is ascend said = absurd is
 structure_means nothing ms es is ascend said = absurd is
 
--- what says an element is a value, or a null where one may stand
-said_by : (is_sparse nil : Bool) (v : Value) (o : Option Value) → o ≡ Some v → element_from is_sparse nil o ≡ Some v
-said_by is_sparse nil v o h = rw h refl
+-- no integer is a null
+integer_is_no_null : (n : ℤ) → is_null (integer_item n) ≡ false
+integer_is_no_null (pos n) = refl
+integer_is_no_null (negsuc n) = refl
+
+-- what is no null says the value that it means
+said_by : (is_sparse nil : Bool) (v : Value) (o : Option Value) → nil ≡ false → o ≡ Some v → element_from is_sparse nil o ≡ Some v
+said_by is_sparse nil v o there h = rw (there, h) refl
 
 -- where no null may stand it is a value
 value_said : (nil : Bool) (v : Value) (o : Option Value) → element_from false nil o ≡ Some v → o ≡ Some v
-value_said nil v (Some w) h = h
-value_said nil v None h = absurd (let no : None ≡ Some v = h in cc)
+value_said true v o h = h
+value_said false v o h = h
 
 -- a value that is no null element isn't written as null
 not_null : (site : Site) (v : Value) → FitsOr site.table site.place false v → is_null (item_of site v) ≡ false
@@ -123,15 +128,15 @@ mutual
   said : (c : Settings) (site : Site) (v : Value) (nulls : Bool) (d : ℕ) → IsAccepted site.table → FitsOr site.table site.place nulls v
       → d + nesting v ≤ c.max_depth → Said c site d nulls v
   said c site (whole n) nulls d accepted fits deep =
-      said_by nulls (is_null (integer_item n)) (whole n) _ (integer_means c site d n fits.0 fits.1)
+      said_by nulls (is_null (integer_item n)) (whole n) _ (integer_is_no_null n) (integer_means c site d n fits.0 fits.1)
   said c site (text s) nulls d accepted fits deep =
-      said_by nulls false (text s) _ (text_means (kind_at site) s fits.0 fits.1)
+      said_by nulls false (text s) _ refl (text_means (kind_at site) s fits.0 fits.1)
   said c site (list vs) nulls d accepted fits deep =
-      said_by nulls false (list vs) _
+      said_by nulls false (list vs) _ refl
       (stands_at c (suc d) _ (omega arith)
       ∙ list_means (kind_at site) vs _ fits.0 (elements_said c site vs (suc d) accepted fits.0 fits.1 (omega arith)))
   said c site (structure ms) nulls d accepted fits deep =
-      said_by nulls false (structure ms) _
+      said_by nulls false (structure ms) _ refl
       (stands_at c (suc d) _ (omega arith)
       ∙ structure_means (kind_at site) ms _ fits.0 fits.2 (members_said c site ms (suc d) accepted fits.0 fits.1 (omega arith)))
   said c site null_element nulls d accepted fits deep = rw fits refl

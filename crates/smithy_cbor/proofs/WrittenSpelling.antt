@@ -8,7 +8,7 @@ use Rattle.smithy_schema.specs.Site.{Site, shape_site}
 use Rattle.smithy_schema.specs.Value.{Value, nesting}
 use Rattle.smithy_cbor.specs.Canonical.{canonical_cbor}
 use Rattle.smithy_cbor.specs.Codec.{strict_settings}
-use Rattle.smithy_cbor.specs.Laws.{lawful}
+use Rattle.smithy_cbor.specs.Laws.{fit}
 use Rattle.smithy_cbor.specs.Settings.{Settings}
 use Rattle.smithy_cbor.specs.Spelling.{cbor_spells}
 use Rattle.smithy_cbor.proofs.NestedMeaning.{shallow}
@@ -30,7 +30,7 @@ canonical_spells t root v accepted fits deep short = value_spells strict_setting
 
 -- what is spelled is a value of the place
 pub spelled_fits : (c : Settings) (t : Table) (p : Place) (bytes : List ℕ) (v : Value) → cbor_spells c t p bytes v → Fits t p v
-spelled_fits c t p bytes v h = let s = spells_stands c t p bytes v h in (lawful c).fits bytes t p 0 0 v s.0 s.1
+spelled_fits c t p bytes v h = let s = spells_stands c t p bytes v h in (fit c).fits bytes t p 0 0 v s.0 s.1
 
 -- which nests no deeper than strict settings allow
 pub spelled_is_shallow : (t : Table) (p : Place) (bytes : List ℕ) (v : Value) → cbor_spells strict_settings t p bytes v → (nesting v ≤ 128) × Fits t p v

@@ -234,7 +234,7 @@ impl ShapeDeserializer for CborDeserializer<'_> {
     ghost use Rattle.smithy_cbor.specs.Cursor.{cursor_of, reading_settings_of};
     ghost use Rattle.smithy_cbor.specs.Settings.{Settings, without_limits};
     ghost use Rattle.smithy_cbor.specs.Standing.{cbor_relations};
-    ghost use Rattle.smithy_cbor.specs.Laws.{lawful as cbor_is_lawful, above as limits_are_above};
+    ghost use Rattle.smithy_cbor.specs.Laws.{lawful as cbor_is_lawful, fit as cbor_fits, counts as cbor_counts, above as limits_are_above};
 
     ghost Settings = { Settings };
 
@@ -254,6 +254,10 @@ impl ShapeDeserializer for CborDeserializer<'_> {
     ghost lawful = { cbor_is_lawful };
 
     ghost lifted_lawful = { λ c. cbor_is_lawful (without_limits c) };
+
+    ghost fit = { cbor_fits };
+
+    ghost counts = { λ c _. cbor_counts c };
 
     ghost above = { limits_are_above };
 

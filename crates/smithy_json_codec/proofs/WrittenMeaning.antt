@@ -31,8 +31,8 @@ present_tree b site t p null_element fits = cc
 
 -- where no null may stand, an element is what it means
 pub meaning_alone : (nil : Bool) (mean : Option Value) (v : Value) → element_meaning false nil mean ≡ Some v → mean ≡ Some v
-meaning_alone nil (Some w) v h = h
-meaning_alone nil None v h = cc
+meaning_alone true mean v h = h
+meaning_alone false mean v h = h
 
 module _ (b : Bool) (t : Table) (accepted : IsAccepted t) where
   abbrev c : Settings

@@ -10,7 +10,7 @@ use Rattle.smithy_schema.specs.Fits.{Fits}
 use Rattle.smithy_schema.proofs.SiteLemmas.{site_at}
 use Rattle.smithy_json_codec.specs.Canonical.{canonical_json}
 use Rattle.smithy_json_codec.specs.Codec.{strict_settings}
-use Rattle.smithy_json_codec.specs.Laws.{lawful}
+use Rattle.smithy_json_codec.specs.Laws.{fit}
 use Rattle.smithy_json_codec.specs.Meaning.{json_meaning, is_null}
 use Rattle.smithy_json_codec.specs.Settings.{Settings}
 use Rattle.smithy_json_codec.specs.Spelling.{json_spells}
@@ -20,7 +20,7 @@ use Rattle.smithy_json_codec.proofs.WrittenMeaning.{meaning_alone, value_means}
 
 -- what is spelled is a value of the place
 pub spelled_fits : (c : Settings) (t : Table) (p : Place) (bytes : List ℕ) (v : Value) → json_spells c t p bytes v → Fits t p v
-spelled_fits c t p bytes v h = let s = spells_stands c t p bytes v h in (lawful c).fits bytes t p 0 0 v s.0 s.1
+spelled_fits c t p bytes v h = let s = spells_stands c t p bytes v h in (fit c).fits bytes t p 0 0 v s.0 s.1
 
 -- of an accepted table, where the value nests no deeper than may be read
 pub canonical_spells : (b : Bool) (t : Table) (p : Place) (view : View) (v : Value) → IsAccepted t → Fits t p v → nesting v ≤ 128

@@ -246,7 +246,7 @@ impl ShapeDeserializer for JsonDeserializer<'_> {
     ghost use Rattle.smithy_json_codec.specs.Cursor.{cursor_of, reading_settings_of};
     ghost use Rattle.smithy_json_codec.specs.Settings.{Settings, without_limits};
     ghost use Rattle.smithy_json_codec.specs.Standing.{json_relations};
-    ghost use Rattle.smithy_json_codec.specs.Laws.{lawful as json_is_lawful, above as limits_are_above};
+    ghost use Rattle.smithy_json_codec.specs.Laws.{lawful as json_is_lawful, fit as json_fits, counts as json_counts, above as limits_are_above};
 
     ghost Settings = { Settings };
 
@@ -266,6 +266,10 @@ impl ShapeDeserializer for JsonDeserializer<'_> {
     ghost lawful = { json_is_lawful };
 
     ghost lifted_lawful = { λ c. json_is_lawful (without_limits c) };
+
+    ghost fit = { json_fits };
+
+    ghost counts = { λ c _. json_counts c };
 
     ghost above = { limits_are_above };
 

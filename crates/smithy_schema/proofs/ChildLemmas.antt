@@ -7,8 +7,9 @@ use Rattle.std.proofs.lemmas.Cmp.{ranked}
 use Rattle.std.proofs.lemmas.List.{append-nil}
 use Rattle.smithy_schema.specs.Table.{Member, ListShape, structure_of, list_of}
 use Rattle.smithy_schema.specs.Value.{Value, list, structure, Values, no_values, value, values_of, MemberValues, no_member_values, member_value, put_member}
-use Rattle.smithy_schema.specs.Container.{Entry, element_of, elements_from, after_entry, members_from, container_of}
+use Rattle.smithy_schema.specs.Container.{Entry, element_of, elements_from, member_step, members_from, container_of}
 use Rattle.smithy_schema.specs.Fits.{AscendFrom}
+use Rattle.smithy_schema.specs.Private.ElementFolds.{element_adds}
 
 -- ---- lists
 
@@ -33,7 +34,8 @@ elements_said is_sparse us no_values [] said = ap Some (sym (append-nil us))
 elements_said is_sparse us no_values (e ∷ es) said = absurd said
 elements_said is_sparse us (value v vs) [] said = absurd said
 elements_said is_sparse us (value v vs) (e ∷ es) said =
-    rw said.0 (elements_said is_sparse (us ++ v ∷ []) vs es said.1 ∙ ap Some (append_assoc us (v ∷ []) (list_from vs)))
+    element_adds is_sparse e v said.0 us es
+    ∙ (elements_said is_sparse (us ++ v ∷ []) vs es said.1 ∙ ap Some (append_assoc us (v ∷ []) (list_from vs)))
 
 -- so they mean the list together
 pub list_said : (l : ListShape) (vs : Values) (es : List Entry) → SayElements l.is_sparse vs es → container_of (list_of l) es ≡ Some (list vs)
@@ -91,7 +93,7 @@ put_last least n v (member_value at w fs) up below =
     placed_behind n at v w fs (put_member n v fs) (nat_cmp n at) (ranked n at (nat_cmp n at) refl) (omega (arith, first, up))
     ∙ ap (member_value at w) (put_last least n v fs up below.1)
 
-entry_sets : (n : ℕ) (v : Value) (e : Entry) (fs : MemberValues) → Sets n v e → after_entry e fs ≡ Some (put_member n v fs)
+entry_sets : (n : ℕ) (v : Value) (e : Entry) (fs : MemberValues) → Sets n v e → member_step e fs ≡ Some (put_member n v fs)
 entry_sets n v e fs is = rw (is.has_key, is.there, is.position, is.meaning) refl
 
 members_said : (least : ℕ) (fs ms : MemberValues) (es : List Entry) → AllBelow least fs → AscendFrom least ms → SayMembers ms es

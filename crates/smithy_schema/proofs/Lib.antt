@@ -13,6 +13,7 @@ mod NameLemmas
 pub mod ChildSites
 pub mod ChildLemmas
 pub mod NestingLemmas
+pub mod CountLemmas
 pub mod NamedLemmas
 pub mod SiteLemmas
 mod MembersLemmas

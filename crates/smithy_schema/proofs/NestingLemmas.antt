@@ -1,23 +1,18 @@
 -- A container nests one deeper than what its entries mean.
-use Rattle.std.proofs.Common.{◌≡◌, ◌≤◌, ℕ, suc, List, [], ◌∷◌, ◌++◌, Bool, true, false, Option, Some, None, option_map, option_and_then, refl, arith, subst}
+use Rattle.std.proofs.Common.{◌≡◌, ◌⊎◌, ◌≤◌, ℕ, suc, List, [], ◌∷◌, ◌++◌, Bool, true, false, Option, Some, None, refl, sym, arith, subst, inl, inr}
 use Rattle.std.specs.List.{AllByRecursion}
 use Rattle.std.specs.declared.cmp.Ordering.{Ordering}
 use Rattle.std.specs.declared.cmp.Ordering.TheVariants.{Less, Equal, Greater}
 use Rattle.std.specs.Ordering.{nat_cmp, match_ordering}
 use Rattle.smithy_schema.specs.Table.{Kind, scalar, structure_of, list_of, nothing}
 use Rattle.smithy_schema.specs.Value.{Value, list, structure, null_element, values_of, MemberValues, no_member_values, member_value, put_member, nesting, elements_nesting, members_nesting}
-use Rattle.smithy_schema.specs.Container.{Entry, element_of, elements_from, after_entry, members_from, container_of}
+use Rattle.smithy_schema.specs.Container.{Entry, elements_from, member_step, members_from, container_of}
+use Rattle.smithy_schema.specs.Private.ElementFolds.{element_apart, elements_apart}
+use Rattle.smithy_schema.specs.Private.Options.{made, same_some, step_apart}
 
 -- each entry means a value that nests no deeper, if it means anything
 abbrev pub NestWithin : ℕ → List Entry → Type 0
 NestWithin most es = AllByRecursion (λ (e : Entry). (v : Value) → e.meaning ≡ Some v → nesting v ≤ most) es
-
-same_some : {A : Type 0} (a b : A) → Some a ≡ Some b → a ≡ b
-same_some a b h = cc
-
-step_apart : {A B : Type 0} (o : Option A) (f : A → Option B) (us : B) → option_and_then f o ≡ Some us → (v : A) × (o ≡ Some v) × (f v ≡ Some us)
-step_apart (Some v) f us h = (v, refl, h)
-step_apart None f us h = cc
 
 -- ---- lists
 
@@ -25,20 +20,18 @@ nests_more : (most : ℕ) (us : List Value) (v : Value) → elements_nesting (va
 nests_more most [] v all one = omega arith
 nests_more most (u ∷ us) v all one = omega (arith, nests_more most us v (omega arith) one)
 
-element_nests : (is_sparse nil : Bool) (mean : Option Value) (most : ℕ) (v : Value) → ((w : Value) → mean ≡ Some w → nesting w ≤ most)
-    → element_of is_sparse nil mean ≡ Some v → nesting v ≤ most
-element_nests is_sparse nil (Some w) most v each h = subst (λ u. nesting u ≤ most) (same_some w v h) (each w refl)
-element_nests true true None most v each h = subst (λ u. nesting u ≤ most) (same_some null_element v h) (omega arith)
-element_nests true false None most v each h = cc
-element_nests false nil None most v each h = cc
+element_nests : (is_sparse : Bool) (e : Entry) (most : ℕ) (v : Value) → ((w : Value) → e.meaning ≡ Some w → nesting w ≤ most)
+    → ((is_sparse ≡ true) × (e.is_null ≡ true) × (v ≡ null_element)) ⊎ (e.meaning ≡ Some v) → nesting v ≤ most
+element_nests is_sparse e most v each (inl null) = subst (λ u. nesting u ≤ most) (sym null.2) (omega arith)
+element_nests is_sparse e most v each (inr means) = each v means
 
 elements_nest : (is_sparse : Bool) (most : ℕ) (us : List Value) (es : List Entry) (ws : List Value) → NestWithin most es → elements_nesting (values_of us) ≤ most
     → elements_from is_sparse us es ≡ Some ws → elements_nesting (values_of ws) ≤ most
 elements_nest is_sparse most us [] ws each all h = subst (λ vs. elements_nesting (values_of vs) ≤ most) (same_some us ws h) all
 elements_nest is_sparse most us (e ∷ es) ws each all h =
-    let apart = step_apart (element_of is_sparse e.is_null e.meaning) (λ v. elements_from is_sparse (us ++ v ∷ []) es) ws h in
+    let apart = elements_apart is_sparse e.is_null e.meaning us ws es h in
     elements_nest is_sparse most (us ++ apart.0 ∷ []) es ws each.1
-    (nests_more most us apart.0 all (element_nests is_sparse e.is_null e.meaning most apart.0 each.0 apart.1)) apart.2
+    (nests_more most us apart.0 all (element_nests is_sparse e most apart.0 each.0 (element_apart is_sparse e.is_null e.meaning apart.0 apart.1))) apart.2
 
 -- ---- structures
 
@@ -57,7 +50,7 @@ put_nests most n v (member_value at w rest) all one =
 -- an entry by its fields
 entry_nests : (key : Option (List ℕ)) (named : Option ℕ) (mean : Option Value) (absent skippable nil : Bool) (most : ℕ) (fs us : MemberValues)
     → ((w : Value) → mean ≡ Some w → nesting w ≤ most) → members_nesting fs ≤ most
-    → after_entry (record { key = key; position = named; meaning = mean; is_absent = absent; is_skippable = skippable; is_null = nil }) fs ≡ Some us
+    → member_step (record { key = key; position = named; meaning = mean; is_absent = absent; is_skippable = skippable; is_null = nil }) fs ≡ Some us
     → members_nesting us ≤ most
 entry_nests None named mean absent skippable nil most fs us each all h = cc
 entry_nests (Some key) named mean true skippable nil most fs us each all h = subst (λ ms. members_nesting ms ≤ most) (same_some fs us h) all
@@ -71,15 +64,11 @@ members_nest : (most : ℕ) (fs us : MemberValues) (es : List Entry) → NestWit
     → members_from fs es ≡ Some us → members_nesting us ≤ most
 members_nest most fs us [] each all h = subst (λ ms. members_nesting ms ≤ most) (same_some fs us h) all
 members_nest most fs us (e ∷ es) each all h =
-    let apart = step_apart (after_entry e fs) (λ more. members_from more es) us h in
+    let apart = step_apart (member_step e fs) (λ more. members_from more es) us h in
     members_nest most apart.0 us es each.1
     (entry_nests e.key e.position e.meaning e.is_absent e.is_skippable e.is_null most fs apart.0 each.0 all apart.1) apart.2
 
 -- ---- a container
-
-made : {A B : Type 0} (f : A → B) (o : Option A) (v : B) → option_map f o ≡ Some v → (u : A) × (o ≡ Some u) × (f u ≡ v)
-made f (Some u) v h = (u, refl, same_some (f u) v h)
-made f None v h = cc
 
 pub container_nests : (k : Kind) (es : List Entry) (most : ℕ) (v : Value) → NestWithin most es → container_of k es ≡ Some v → nesting v ≤ suc most
 container_nests (scalar s) es most v each h = cc

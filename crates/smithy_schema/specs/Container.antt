@@ -15,34 +15,39 @@ pub record Entry : Type 0 where
   pub is_skippable : Bool
   pub is_null : Bool
 
+-- what is left after all entries, each of which takes one step
+abbrev pub folded : {S : Type 0} → (Entry → S → Option S) → S → List Entry → Option S
+folded step s [] = Some s
+folded step s (e ∷ es) = option_and_then (λ after. folded step after es) (step e s)
+
+-- ---- structures
+
 -- an entry that names a member sets it, so that the last one counts, and any other has to be skippable
 abbrev pub set_by : Entry → Option ℕ → MemberValues → Option MemberValues
 set_by e None members = if e.is_skippable then Some members else None
 set_by e (Some n) members = option_map (λ v. put_member n v members) e.meaning
 
--- each key of a structure has to be a text
-abbrev pub where_text : Option (List ℕ) → Option MemberValues → Option MemberValues
-where_text None members = None
-where_text (Some key) members = members
+-- each key has to be a text, and an entry that is absent changes nothing
+abbrev pub member_step : Entry → MemberValues → Option MemberValues
+member_step e members =
+    option_and_then (λ key. if e.is_absent then Some members else set_by e e.position members) e.key
 
--- the members after one more entry: one that is absent changes nothing
-abbrev pub after_entry : Entry → MemberValues → Option MemberValues
-after_entry e members = where_text e.key (if e.is_absent then Some members else set_by e e.position members)
-
+-- the members after these entries
 abbrev pub members_from : MemberValues → List Entry → Option MemberValues
-members_from members [] = Some members
-members_from members (e ∷ es) = option_and_then (λ more. members_from more es) (after_entry e members)
+members_from = folded member_step
 
--- an element is what the entry means, or a null where the list is sparse
+-- ---- lists
+
+-- a null stands for itself where the list is sparse, and any other child for what it means
 abbrev pub element_of : Bool → Bool → Option Value → Option Value
-element_of is_sparse is_null (Some v) = Some v
-element_of is_sparse is_null None = if is_sparse && is_null then Some null_element else None
+element_of is_sparse is_null meaning = if is_null && is_sparse then Some null_element else meaning
 
+abbrev pub element_step : Bool → Entry → List Value → Option (List Value)
+element_step is_sparse e vs = option_map (λ v. vs ++ v ∷ []) (element_of is_sparse e.is_null e.meaning)
+
+-- the elements after these entries
 abbrev pub elements_from : Bool → List Value → List Entry → Option (List Value)
-elements_from is_sparse vs [] = Some vs
-elements_from is_sparse vs (e ∷ es) =
-    option_and_then (λ v. elements_from is_sparse (vs ++ v ∷ []) es)
-    (element_of is_sparse e.is_null e.meaning)
+elements_from is_sparse = folded (element_step is_sparse)
 
 -- the value of a container of this kind by its entries
 abbrev pub container_of : Kind → List Entry → Option Value

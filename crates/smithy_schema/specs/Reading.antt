@@ -141,7 +141,7 @@ IsContainer nothing = ⊥
 
 -- ---- laws
 
--- what each wire proves of its relations
+-- what each wire proves of its relations, under all settings, with the limits kept and lifted
 pub record IsLawful (w : Relations) : Type 0 where
   -- a container stands for v exactly where its entries mean v together
   pub folded : (i : List ℕ) (t : Table) (p : Place) (d a : ℕ) (v : Value) (e : ℕ) → IsContainer (kind_of t p)
@@ -153,9 +153,6 @@ pub record IsLawful (w : Relations) : Type 0 where
       → w.stands i t p d a v e → w.stands i t p d a u f → v ≡ u
   pub same_end : (i : List ℕ) (t : Table) (p : Place) (d a : ℕ) (v u : Value) (e f : ℕ)
       → w.stands i t p d a v e → w.stands i t p d a u f → e ≡ f
-  -- it is one of the place
-  pub fits : (i : List ℕ) (t : Table) (p : Place) (d a : ℕ) (v : Value) (e : ℕ)
-      → w.stands i t p d a v e → Fits t p v
   -- an end is past its start, but for a structure that is read at the end of the input, and in the input
   pub stands_ahead : (i : List ℕ) (t : Table) (p : Place) (d a : ℕ) (v : Value) (e : ℕ)
       → w.stands i t p d a v e → (a < e) ⊎ ((a ≡ e) × (e ≡ length i) × IsStructure (kind_of t p))
@@ -181,6 +178,13 @@ pub record IsLawful (w : Relations) : Type 0 where
   pub null_begins : (i : List ℕ) (d a e : ℕ) → w.nulls i d a e → w.begins_null i a ≡ true
   pub value_begins : (i : List ℕ) (t : Table) (p : Place) (d a : ℕ) (v : Value) (e : ℕ)
       → w.stands i t p d a v e → w.begins_null i a ≡ false
+
+-- with the limits kept: what stands is a value of its place
+pub record StandsFit (w : Relations) : Type 0 where
+  pub fits : (i : List ℕ) (t : Table) (p : Place) (d a : ℕ) (v : Value) (e : ℕ) → w.stands i t p d a v e → Fits t p v
+
+-- under the settings of bodies that are read whole: how many containers are open at once
+pub record CountsOpeners (w : Relations) : Type 0 where
   -- a container that opens adds one to those that are open at most from there on
   pub opening_adds : (i : List ℕ) (t : Table) (p : Place) (d a b : ℕ) (m : Mark) → 0 < length i
       → w.opens i t p d a b m → suc (w.openers (drop b i)) ≤ w.openers (drop a i)
@@ -287,6 +291,11 @@ NullsNot w c = (e : ℕ) → w.nulls c.input (depth c) c.at e → ⊥
 -- so many containers are open at once from here on, by the bytes alone
 abbrev pub ReachesDepth : Relations → ℕ → Cursor → Type 0
 ReachesDepth w max c = max ≤ depth c + w.openers (drop c.at c.input)
+
+-- of an input that isn't empty: with those that the bytes from here on open at most, no more containers
+-- are open at once than the whole input opens
+abbrev pub IsCounted : Relations → Cursor → Type 0
+IsCounted w c = 0 < length c.input → depth c + w.openers (drop c.at c.input) ≤ w.openers c.input
 
 -- a value is due that begins as a null
 abbrev pub null_is_due : Relations → Cursor → Bool

@@ -5,7 +5,7 @@ ghost use Rattle.smithy_schema.specs.declared.shape_type.Scalar.TheVariants as s
 ghost use Rattle.smithy_schema.specs.Table.{Table, kind_of, IsStructure, IsList, scalar_place};
 ghost use Rattle.smithy_schema.specs.Value.{Value, whole, text};
 ghost use Rattle.smithy_schema.specs.Site.{site_of, kind_at};
-ghost use Rattle.smithy_schema.specs.Reading.{Cursor, depth, Relations, Mark, IsLawful, IsBelow, Conducts, Passes, Reads, Enters, Steps, Leaves, MatchStep, CannotGoOn, StandsNot, OpensNot, SkipsNot, NullsNot, ReachesDepth, null_is_due, IsRefused, IsInvalid, IsNoAnswer, failed_at, passed_to, in_structure, in_list};
+ghost use Rattle.smithy_schema.specs.Reading.{Cursor, depth, Relations, Mark, IsLawful, StandsFit, CountsOpeners, IsBelow, Conducts, Passes, Reads, Enters, Steps, Leaves, MatchStep, CannotGoOn, StandsNot, OpensNot, SkipsNot, NullsNot, ReachesDepth, null_is_due, IsRefused, IsInvalid, IsNoAnswer, failed_at, passed_to, in_structure, in_list};
 ghost use Rattle.smithy_schema.specs.declared.error.SerdeError.TheVariants.{TooDeep, NoMemory};
 
 use crate::error::SerdeError;
@@ -182,6 +182,11 @@ pub trait ShapeDeserializer {
     ghost lawful: { (c : Settings) → IsLawful (wire c) };
 
     ghost lifted_lawful: { (c : Settings) → IsLawful (lifted c) };
+
+    // What stands within the limits is a value of its place.
+    ghost fit: { (c : Settings) → StandsFit (wire c) };
+
+    ghost counts: { (c : Settings) → is_strict c → CountsOpeners (wire c) };
 
     ghost above: { (c : Settings) → IsBelow (wire c) (lifted c) };
 }

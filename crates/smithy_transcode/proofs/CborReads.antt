@@ -1,15 +1,16 @@
 -- What a fresh CBOR reader reads at the start of an input, as what the whole input spells.
-use Rattle.std.proofs.Common.{◌≡◌, ℕ, List, Bool, [], ◌∷◌, ◌<◌, ◌≤◌, ◌+◌, length, Result, Ok, Err, inr, refl, arith, subst}
+use Rattle.std.proofs.Common.{◌≡◌, ℕ, List, Bool, [], ◌∷◌, ◌<◌, ◌≤◌, length, Result, Ok, Err, inr, refl, ap, ◌∙◌, arith, subst}
 use Rattle.std.specs.Result.{IfOk, IfErr, IsErrOf}
 use Rattle.smithy_schema.specs.declared.place.Place.{Place}
 use Rattle.smithy_schema.specs.Table.{Table, kind_of, IsStructure}
 use Rattle.smithy_schema.specs.Value.{Value, structure, no_member_values}
 use Rattle.smithy_schema.specs.Fits.{Fits}
-use Rattle.smithy_schema.specs.Reading.{Cursor, Reads, StandsNot, ReachesDepth}
+use Rattle.smithy_schema.specs.Reading.{Cursor, Reads, StandsNot, ReachesDepth, IsCounted}
+use Rattle.smithy_schema.proofs.CountLemmas.{starts_counted, reaches_openers}
 use Rattle.smithy_cbor.specs.Codec.{strict_settings}
 use Rattle.smithy_cbor.specs.Openers.{cbor_openers}
 use Rattle.smithy_cbor.specs.Cursor.{fresh_cursor}
-use Rattle.smithy_cbor.specs.Laws.{lawful}
+use Rattle.smithy_cbor.specs.Laws.{fit}
 use Rattle.smithy_cbor.specs.Settings.{Settings}
 use Rattle.smithy_cbor.specs.Spelling.{cbor_spells}
 use Rattle.smithy_cbor.specs.Standing.{cbor_relations}
@@ -28,7 +29,7 @@ module _ (o c : Settings) (same : o ≡ c) (input : List ℕ) (old : Cursor) (fr
 
   -- and it is one of the place
   pub read_fits : (new : Cursor) (v : Value) → Reads (cbor_relations o) old new t p v → Fits t p v
-  read_fits new v h = (lawful c).fits input t p 0 0 v new.at (read_stands new v h)
+  read_fits new v h = (fit c).fits input t p 0 0 v new.at (read_stands new v h)
 
   -- where nothing stands, the input spells nothing
   pub unread_spells : StandsNot (cbor_relations o) old t p → (v : Value) → cbor_spells c t p input v → ⊥
@@ -38,15 +39,19 @@ module _ (o c : Settings) (same : o ≡ c) (input : List ℕ) (old : Cursor) (fr
       r v s.0 s.1
 
 -- a body that is too deep holds 128 heads of arrays and maps: an empty one spells the structure without members
-pub deep_openers : {A : Type 0} (o : Settings) → o ≡ strict_settings → (input : List ℕ) (old : Cursor) → old ≡ fresh_cursor input
+pub deep_openers : {A : Type 0} (o : Settings) → o ≡ strict_settings → (input : List ℕ) (old new : Cursor) → old ≡ fresh_cursor input
     → (t : Table) (p : Place) → IsStructure (kind_of t p) → (r : Result A TranscodeError)
     → IfErr r (λ e. (e ≡ NoMemory → ⊥) → (v : Value) → cbor_spells strict_settings t p input v → ⊥)
-    → (IsErrOf r TooDeep → 0 < length old.input → ReachesDepth (cbor_relations o) o.max_depth old) → IsErrOf r TooDeep → 128 ≤ cbor_openers input
-deep_openers o same [] old fresh t p kind r refused reaches deep =
+    → new.input ≡ old.input → (IsCounted (cbor_relations o) old → IsCounted (cbor_relations o) new)
+    → (IsErrOf r TooDeep → ReachesDepth (cbor_relations o) o.max_depth new) → IsErrOf r TooDeep → 128 ≤ cbor_openers input
+deep_openers o same [] old new fresh t p kind r refused unmoved counted reaches deep =
     let why = subst (λ r. IfErr r (λ e. (e ≡ NoMemory → ⊥) → (v : Value) → cbor_spells strict_settings t p [] v → ⊥)) deep refused in
     absurd (why (λ memory. cc) (structure no_member_values) (inr (refl, kind, refl, refl)))
-deep_openers o same (b ∷ bytes) old fresh t p kind r refused reaches deep =
-    let some : 0 < length old.input = rw fresh (omega arith) in
-    let far : ReachesDepth (cbor_relations strict_settings) 128 (fresh_cursor (b ∷ bytes)) = rw (same, fresh) at (reaches deep some) in
-    let opened : 128 ≤ 0 + cbor_openers (b ∷ bytes) = far in
-    omega (arith, opened)
+deep_openers o same (b ∷ bytes) old new fresh t p kind r refused unmoved counted reaches deep =
+    let whole : new.input ≡ b ∷ bytes = unmoved ∙ ap (λ (c : Cursor). c.input) fresh in
+    let start : IsCounted (cbor_relations o) old = starts_counted (cbor_relations o) old (rw fresh refl) (rw fresh refl) in
+    let some : 0 < length new.input = rw whole (omega arith) in
+    let greatest : o.max_depth ≡ 128 = rw same refl in
+    let opened : o.max_depth ≤ cbor_openers new.input = reaches_openers (cbor_relations o) o.max_depth new some (counted start) (reaches deep) in
+    let here : o.max_depth ≤ cbor_openers (b ∷ bytes) = subst (λ i. o.max_depth ≤ cbor_openers i) whole opened in
+    omega (arith, greatest, here)

@@ -1,5 +1,5 @@
 -- A container that is half read, of any kind and on any wire.
-use Rattle.std.proofs.Common.{◌≡◌, ℕ, suc, ◌<◌, ◌≤◌, length, drop, List, [], ◌∷◌, map, Option, Some, None, true, false, refl, sym, ◌∙◌, ap, subst, arith}
+use Rattle.std.proofs.Common.{◌≡◌, ℕ, suc, ◌<◌, List, [], ◌∷◌, map, Option, Some, None, true, false, refl, sym, ◌∙◌, ap, subst, arith}
 use Rattle.smithy_schema.specs.declared.place.Place.{Place}
 use Rattle.smithy_schema.specs.Table.{Table, Kind, scalar, structure_of, list_of, nothing, kind_of, place_in, IsStructure, IsSparse}
 use Rattle.smithy_schema.specs.Value.{Value}
@@ -15,8 +15,6 @@ pub record InContainer (w u : Relations) (max : ℕ) (s0 s : Cursor) (t : Table)
   pub due : s.due ≡ false
   pub failed : s.failed ≡ false
   pub shallow : depth s0 < max
-  -- of an input that isn't empty, fewer containers are open at most from s on
-  pub openers : 0 < length s0.input → suc (w.openers (drop s.at s0.input)) ≤ w.openers (drop s0.at s0.input)
   -- what follows completes a child_value
   pub rest : (xs : List Child) (e : ℕ) (v : Value) → Chain w s0.input t p (suc (depth s0)) s.at s.inner.mark xs e → worth xs ≡ Some v → w.stands s0.input t p (depth s0) s0.at v e
   -- each child_value of the other wire goes on here
@@ -31,7 +29,6 @@ worth_as w u max s0 s t p k f g same inside = record {
   due = inside.due;
   failed = inside.failed;
   shallow = inside.shallow;
-  openers = inside.openers;
   rest = λ xs e v chain folds. inside.rest xs e v chain (same xs ∙ folds);
   only = λ e v stands. let found = inside.only e v stands in (found.0, found.1, sym (same found.0) ∙ found.2);
 }
@@ -62,7 +59,6 @@ begin w u max laws over below s0 s t p k kind enters = record {
   due = enters.due;
   failed = enters.failed;
   shallow = enters.shallow;
-  openers = λ full. laws.opening_adds s0.input t p (depth s0) s0.at s.at s.inner.mark full enters.opens;
   rest = λ xs e v chain folds. laws.folded s0.input t p (depth s0) s0.at v e kind (record {
     inside = s.at;
     mark = s.inner.mark;
@@ -145,16 +141,10 @@ abbrev stepped : (w u : Relations) (max : ℕ) (s0 s s1 : Cursor) (t : Table) (p
     → w.steps s0.input t p (suc (depth s0)) s.at s.inner.mark key s1.at s1.inner.mark
 stepped w u max s0 s s1 t p k worth key inside steps = rw (inside.input, inside.outer) at steps.steps
 
--- a child takes none of the open containers away
-child_takes_none : (w : Relations) → IsLawful w → (i : List ℕ) (t : Table) (p : Place) (d : ℕ) (key : Option (List ℕ)) (x : Child) (c f : ℕ) → IsChild w i t p d key x c f → w.openers (drop f i) ≤ w.openers (drop c i)
-child_takes_none w laws i t p d key (child_value k n v) c f h = laws.value_takes_none i t h.2.0 d c v f h.2.2
-child_takes_none w laws i t p d key (child_null k) c f h = laws.null_takes_none i d c f h.2
-child_takes_none w laws i t p d key (child_unknown k) c f h = laws.skip_takes_none i d c f h.3
-
-pub child_read : (w u : Relations) (max : ℕ) → IsLawful w → IsLawful u → IsBelow w u → (s0 s s1 s2 : Cursor) (t : Table) (p : Place) (k : Within) (worth : List Child → Option Value) (key : Option (List ℕ)) (x : Child)
+pub child_read : (w u : Relations) (max : ℕ) → IsLawful u → IsBelow w u → (s0 s s1 s2 : Cursor) (t : Table) (p : Place) (k : Within) (worth : List Child → Option Value) (key : Option (List ℕ)) (x : Child)
     → InContainer w u max s0 s t p k worth → Steps w s s1 t p key → IsChild w s1.input t p (depth s1) key x s1.at s2.at → Passes s1 s2
     → InContainer w u max s0 s2 t p k (λ xs. worth (x ∷ xs))
-child_read w u max laws over below s0 s s1 s2 t p k worth key x inside steps child passes =
+child_read w u max over below s0 s s1 s2 t p k worth key x inside steps child passes =
     let here : IsChild w s0.input t p (suc (depth s0)) key x s1.at s2.at = rw (steps.input, inside.input, steps.outer, inside.outer) at child in
     let step = stepped w u max s0 s s1 t p k worth key inside steps in
     record {
@@ -164,11 +154,6 @@ child_read w u max laws over below s0 s s1 s2 t p k worth key x inside steps chi
       due = passes.due;
       failed = passes.failed;
       shallow = inside.shallow;
-      openers = λ full.
-          let before = inside.openers full in
-          let stepped = laws.step_takes_none s0.input t p (suc (depth s0)) s.at s.inner.mark key s1.at s1.inner.mark step in
-          let read = child_takes_none w laws s0.input t p (suc (depth s0)) key x s1.at s2.at here in
-          omega (arith, before, stepped, read);
       rest = λ xs e u chain folds. inside.rest (x ∷ xs) e u (key, s1.at, s1.inner.mark, s2.at, step, here, rw passes.inner at chain) folds;
       only = λ e v stands.
           let found = inside.only e v stands in

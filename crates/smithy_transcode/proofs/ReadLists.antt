@@ -44,18 +44,18 @@ null_folds false h vs xs = cc
 pub begin_list : (w u : Relations) (max : ℕ) → IsLawful w → IsLawful u → IsBelow w u → (s0 s : Cursor) (t : Table) (p : Place) → IsList (kind_of t p) → Enters w max s0 s t p in_list → InContainer w u max s0 s t p in_list (list_value (is_sparse (kind_of t p)) [])
 begin_list w u max laws over below s0 s t p kind enters = worth_as w u max s0 s t p in_list _ _ (list_folds _ kind) (begin w u max laws over below s0 s t p in_list (list_contains _ kind) enters)
 
-pub element_read : (w u : Relations) (max : ℕ) → IsLawful w → IsLawful u → IsBelow w u → (s0 s s1 s2 : Cursor) (t : Table) (p q : Place) (sparse : Bool) (vs : List Value) (v : Value)
+pub element_read : (w u : Relations) (max : ℕ) → IsLawful u → IsBelow w u → (s0 s s1 s2 : Cursor) (t : Table) (p q : Place) (sparse : Bool) (vs : List Value) (v : Value)
     → InContainer w u max s0 s t p in_list (list_value sparse vs) → Steps w s s1 t p None → place_in (kind_of t p) None ≡ Some q → Reads w s1 s2 t q v
     → InContainer w u max s0 s2 t p in_list (list_value sparse (vs ++ v ∷ []))
-element_read w u max laws over below s0 s s1 s2 t p q sparse vs v inside steps place reads =
-    child_read w u max laws over below s0 s s1 s2 t p in_list (list_value sparse vs) None (child_value None None v) inside steps (refl, refl, (q, place, reads.stands)) reads.passes
+element_read w u max over below s0 s s1 s2 t p q sparse vs v inside steps place reads =
+    child_read w u max over below s0 s s1 s2 t p in_list (list_value sparse vs) None (child_value None None v) inside steps (refl, refl, (q, place, reads.stands)) reads.passes
 
-pub null_read : (w u : Relations) (max : ℕ) → IsLawful w → IsLawful u → IsBelow w u → (s0 s s1 s2 : Cursor) (t : Table) (p : Place) (vs : List Value)
+pub null_read : (w u : Relations) (max : ℕ) → IsLawful u → IsBelow w u → (s0 s s1 s2 : Cursor) (t : Table) (p : Place) (vs : List Value)
     → InContainer w u max s0 s t p in_list (list_value (is_sparse (kind_of t p)) vs) → Steps w s s1 t p None → IsSparse (kind_of t p) → w.nulls s1.input (depth s1) s1.at s2.at → Passes s1 s2
     → InContainer w u max s0 s2 t p in_list (list_value (is_sparse (kind_of t p)) (vs ++ null_element ∷ []))
-null_read w u max laws over below s0 s s1 s2 t p vs inside steps sparse nulls passes =
+null_read w u max over below s0 s s1 s2 t p vs inside steps sparse nulls passes =
     worth_as w u max s0 s2 t p in_list _ _ (null_folds _ (sparse_is _ sparse) vs)
-    (child_read w u max laws over below s0 s s1 s2 t p in_list (list_value (is_sparse (kind_of t p)) vs) None (child_null None) inside steps (refl, sparse, nulls) passes)
+    (child_read w u max over below s0 s s1 s2 t p in_list (list_value (is_sparse (kind_of t p)) vs) None (child_null None) inside steps (refl, sparse, nulls) passes)
 
 -- the place of the elements, as a schema of them tells it
 list_place : (k : Kind) (t : Table) (e : Site) → IsList k → Some e ≡ option_map (site_of_element t) (list_shape_of k) → (e.table ≡ t) × (place_in k None ≡ Some e.place)

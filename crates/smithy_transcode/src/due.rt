@@ -1,6 +1,6 @@
 //! The value that is due in a reader, with the refusals of a transcoding.
-ghost use Rattle.std.specs.Prelude.{◌≡◌, ◌<◌, length, true, false, IfOk, IfErr, IsErrOf};
-ghost use Rattle.smithy_schema.specs.Reading.{Reads, StandsNot, ReachesDepth};
+ghost use Rattle.std.specs.Prelude.{◌≡◌, true, false, IfOk, IfErr, IsErrOf};
+ghost use Rattle.smithy_schema.specs.Reading.{Reads, StandsNot, ReachesDepth, IsCounted};
 ghost use Rattle.smithy_transcode.specs.View.{view};
 
 use crate::reading::read_value;
@@ -19,7 +19,9 @@ pub(crate) fn read_due<D: ShapeDeserializer>(
     requires sound { (D.state source.old).failed ≡ false }
     ensures ok { IfOk result (λ v. Reads (D.wire (D.settings source.old)) (D.state source.old) (D.state source.new) schema.now.shapes.now schema.now.place (view v)) }
     ensures refused { IfErr result (λ e. (e ≡ TranscodeError.NoMemory → ⊥) → StandsNot (D.wire (D.settings source.old)) (D.state source.old) schema.now.shapes.now schema.now.place) }
-    ensures deep { IsErrOf result TranscodeError.TooDeep → 0 < length (D.state source.old).input → ReachesDepth (D.wire (D.settings source.old)) (D.max_depth (D.settings source.old)) (D.state source.old) }
+    ensures deep { IsErrOf result TranscodeError.TooDeep → ReachesDepth (D.wire (D.settings source.old)) (D.max_depth (D.settings source.old)) (D.state source.new) }
+    ensures input { (D.state source.new).input ≡ (D.state source.old).input }
+    ensures counted { D.is_strict (D.settings source.old) → IsCounted (D.wire (D.settings source.old)) (D.state source.old) → IsCounted (D.wire (D.settings source.old)) (D.state source.new) }
 {
     match read_value(alloc, source, schema) {
         Ok(value) => Ok(value),

@@ -1,9 +1,9 @@
 //! Reading a value tree from any wire.
-ghost use Rattle.std.specs.Prelude.{◌≡◌, ◌↔◌, ◌<◌, length, true, IfOk, IfErr, OnOk, IsErrOf};
+ghost use Rattle.std.specs.Prelude.{◌≡◌, ◌↔◌, true, IfOk, IfErr, OnOk, IsErrOf};
 ghost use Rattle.smithy_schema.specs.Table.{IsStructure, IsList};
 ghost use Rattle.smithy_schema.specs.Site.{site_of, kind_at};
 ghost use Rattle.smithy_schema.specs.Value.{put_member};
-ghost use Rattle.smithy_schema.specs.Reading.{Reads, StandsNot, IsRefused, IsInvalid, ReachesDepth};
+ghost use Rattle.smithy_schema.specs.Reading.{Reads, StandsNot, IsRefused, IsInvalid, ReachesDepth, IsCounted};
 ghost use Rattle.smithy_schema.specs.declared.error.SerdeError.TheVariants.{NoMemory};
 ghost use Rattle.smithy_transcode.specs.View.{view, view_members};
 
@@ -31,8 +31,12 @@ pub fn read_value<D: ShapeDeserializer>(
     ensures failed { IsErrOf result SerdeError.Failed ↔ ((D.state source.old).failed ≡ true) }
     ensures readable { IsErrOf result SerdeError.Unwritable → ⊥ }
 
-    // `TooDeep`: the bytes from here on reach the greatest depth.
-    ensures deep { IsErrOf result SerdeError.TooDeep → 0 < length (D.state source.old).input → ReachesDepth (D.wire (D.settings source.old)) (D.max_depth (D.settings source.old)) (D.state source.old) }
+    // `TooDeep`: where the reader failed, the bytes from there on reach the greatest depth.
+    ensures deep { IsErrOf result SerdeError.TooDeep → ReachesDepth (D.wire (D.settings source.old)) (D.max_depth (D.settings source.old)) (D.state source.new) }
+
+    // Whatever it answers.
+    ensures input { (D.state source.new).input ≡ (D.state source.old).input }
+    ensures counted { D.is_strict (D.settings source.old) → IsCounted (D.wire (D.settings source.old)) (D.state source.old) → IsCounted (D.wire (D.settings source.old)) (D.state source.new) }
 {
     match schema.shape_type() {
         ShapeType::Long => Ok(Value::Whole(i128::from(source.read_long(schema)?))),
@@ -56,7 +60,9 @@ fn read_structure<D: ShapeDeserializer>(
     ensures would { D.is_strict (D.settings source.old) → IsInvalid result → StandsNot (D.lifted (D.settings source.old)) (D.state source.old) schema.now.shapes.now schema.now.place }
     ensures failed { IsErrOf result SerdeError.Failed ↔ ((D.state source.old).failed ≡ true) }
     ensures readable { IsErrOf result SerdeError.Unwritable → ⊥ }
-    ensures deep { IsErrOf result SerdeError.TooDeep → 0 < length (D.state source.old).input → ReachesDepth (D.wire (D.settings source.old)) (D.max_depth (D.settings source.old)) (D.state source.old) }
+    ensures deep { IsErrOf result SerdeError.TooDeep → ReachesDepth (D.wire (D.settings source.old)) (D.max_depth (D.settings source.old)) (D.state source.new) }
+    ensures input { (D.state source.new).input ≡ (D.state source.old).input }
+    ensures counted { D.is_strict (D.settings source.old) → IsCounted (D.wire (D.settings source.old)) (D.state source.old) → IsCounted (D.wire (D.settings source.old)) (D.state source.new) }
 {
     source.open_struct(schema)?;
     let mut members = BTreeMap::new(alloc);
@@ -89,7 +95,9 @@ fn read_list<D: ShapeDeserializer>(
     ensures would { D.is_strict (D.settings source.old) → IsInvalid result → StandsNot (D.lifted (D.settings source.old)) (D.state source.old) schema.now.shapes.now schema.now.place }
     ensures failed { IsErrOf result SerdeError.Failed ↔ ((D.state source.old).failed ≡ true) }
     ensures readable { IsErrOf result SerdeError.Unwritable → ⊥ }
-    ensures deep { IsErrOf result SerdeError.TooDeep → 0 < length (D.state source.old).input → ReachesDepth (D.wire (D.settings source.old)) (D.max_depth (D.settings source.old)) (D.state source.old) }
+    ensures deep { IsErrOf result SerdeError.TooDeep → ReachesDepth (D.wire (D.settings source.old)) (D.max_depth (D.settings source.old)) (D.state source.new) }
+    ensures input { (D.state source.new).input ≡ (D.state source.old).input }
+    ensures counted { D.is_strict (D.settings source.old) → IsCounted (D.wire (D.settings source.old)) (D.state source.old) → IsCounted (D.wire (D.settings source.old)) (D.state source.new) }
 {
     source.open_list(schema)?;
     let sparse = schema.is_sparse();

@@ -4,7 +4,7 @@ use Rattle.std.proofs.Common.{sym, ◌∙◌, ap, arith, inl, inr}
 use Rattle.smithy_schema.specs.declared.place.Place.{Place}
 use Rattle.smithy_schema.specs.Table.{Table, Kind, scalar, structure_of, list_of, nothing, kind_of}
 use Rattle.smithy_schema.specs.Value.{Value}
-use Rattle.smithy_schema.specs.Reading.{Contains, IsContainer, IsLawful}
+use Rattle.smithy_schema.specs.Reading.{Contains, IsContainer, IsLawful, CountsOpeners}
 use Rattle.smithy_schema.specs.Private.Options.{same_some, chosen}
 use Rattle.smithy_schema.specs.Private.Kinds.{structure_kind}
 use Rattle.cbor_item.specs.Item.{Item, unsigned, negative, byte_string, text_string, array, map as map_item, tag, simple, float}
@@ -20,7 +20,6 @@ use Rattle.smithy_cbor.specs.Private.Within.{stands_within, stands_ahead, nulls_
 use Rattle.smithy_cbor.specs.Private.Meanings.{not_integer, not_text, array_kind, map_kind, value_begins}
 use Rattle.smithy_cbor.specs.Private.Lists.{list_folded, list_unfolded}
 use Rattle.smithy_cbor.specs.Private.Structures.{structure_folded, structure_unfolded, empty_unfolded}
-use Rattle.smithy_cbor.specs.Private.Fits.{stands_fits}
 
 -- ---- a container stands for what its entries mean together
 
@@ -77,7 +76,6 @@ cbor_is_lawful c = record {
   unfolded = unfolded c;
   same_value = λ i t p d a v u e f h k. (same_standing c i t p d a v u e f h k).0;
   same_end = λ i t p d a v u e f h k. (same_standing c i t p d a v u e f h k).1;
-  fits = stands_fits c;
   stands_ahead = stands_ahead c;
   stands_within = stands_within c;
   nulls_within = nulls_within c;
@@ -91,6 +89,10 @@ cbor_is_lawful c = record {
   same_skip = λ i d a e f h k. (one_item h.0 k.0 i a e f h.1 k.1).1;
   null_begins = λ i d a e h. h.0;
   value_begins = value_begins c;
+}
+
+pub cbor_counts_openers : (c : Settings) → CountsOpeners (cbor_relations c)
+cbor_counts_openers c = record {
   opening_adds = opening_adds c;
   close_takes_one = close_takes_one c;
   step_takes_none = step_takes_none c;

@@ -4,17 +4,16 @@ use Rattle.std.proofs.Common.{ap, inl, inr}
 use Rattle.smithy_schema.specs.declared.place.Place.{Place}
 use Rattle.smithy_schema.specs.Table.{Table, ListShape, Kind, scalar, structure_of, list_of, nothing, kind_of, place_in}
 use Rattle.smithy_schema.specs.Value.{Value, list, structure, values_of, MemberValues, no_member_values}
-use Rattle.smithy_schema.specs.Container.{elements_from, element_of, members_from}
+use Rattle.smithy_schema.specs.Container.{elements_from, members_from}
 use Rattle.smithy_schema.specs.Reading.{IsBelow}
-use Rattle.smithy_schema.specs.Private.Options.{step_apart, chosen, made}
-use Rattle.smithy_schema.specs.Private.ElementFolds.{lift_element}
+use Rattle.smithy_schema.specs.Private.Options.{chosen, made}
+use Rattle.smithy_schema.specs.Private.ElementFolds.{elements_apart, lift_element}
 use Rattle.smithy_schema.specs.Private.MemberFolds.{lift_entry}
 use Rattle.cbor_item.specs.Item.{Item, unsigned, negative, byte_string, text_string, array, map as map_item, tag, simple, float, Items, no_items, item, Pairs, no_pairs, pair}
 use Rattle.smithy_cbor.specs.Settings.{Settings, is_shallow, without_limits}
 use Rattle.smithy_cbor.specs.Scalar.{is_null, text_of}
 use Rattle.smithy_cbor.specs.Meaning.{cbor_meaning, item_entries, pair_entries, array_meaning, map_meaning, position_in}
 use Rattle.smithy_cbor.specs.Standing.{cbor_relations}
-use Rattle.smithy_cbor.specs.Private.Meanings.{null_is}
 
 module _ (o : Settings) (t : Table) where
   lift_array : (p : Place) (d : ℕ) (k : Kind) → kind_of t p ≡ k → (is : Items)
@@ -67,10 +66,9 @@ module _ (o : Settings) (t : Table) where
         → elements_from l.is_sparse vs (item_entries (without_limits o) t p d is) ≡ Some us
     lift_items p d no_items l kind vs us h = h
     lift_items p d (item x is) l kind vs us h =
-        let apart = step_apart (element_of l.is_sparse (is_null x) (cbor_meaning o t l.place d x))
-        (λ v. elements_from l.is_sparse (vs ++ v ∷ []) (item_entries o t p d is)) us (rw kind at h) in
+        let apart = elements_apart l.is_sparse (is_null x) (cbor_meaning o t l.place d x) vs us (item_entries o t p d is) (rw kind at h) in
         let up = lift_element l.is_sparse (is_null x) (cbor_meaning o t l.place d x) (cbor_meaning (without_limits o) t l.place d x) apart.0
-        (λ w e. lift l.place d x w e) (λ e b. ap (cbor_meaning (without_limits o) t l.place d) (null_is x b)) apart.1 in
+        (λ w e. lift l.place d x w e) apart.1 in
         rw (kind, up) (lift_items p d is l kind (vs ++ apart.0 ∷ []) us apart.2)
 
     lift_pairs : (p : Place) (d : ℕ) (ps : Pairs) (fs us : MemberValues) → members_from fs (pair_entries o t p d ps) ≡ Some us

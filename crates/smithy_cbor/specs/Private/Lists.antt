@@ -1,14 +1,14 @@
 -- A list stands for what its elements mean together: its chain is the items of an array.
-use Rattle.std.specs.Prelude.{◌≡◌, ℕ, suc, map, List, [], ◌∷◌, ◌++◌, Option, Some, None, true, refl, option_map}
+use Rattle.std.specs.Prelude.{◌≡◌, ◌⊎◌, ℕ, suc, map, List, [], ◌∷◌, ◌++◌, Option, Some, None, true, refl, option_map}
 use Rattle.std.proofs.Common.{sym, ◌∙◌, ap, subst, inl, inr}
 use Rattle.smithy_schema.specs.declared.place.Place.{Place}
 use Rattle.smithy_schema.specs.Table.{Table, list_of, ListShape, kind_of, place_in}
-use Rattle.smithy_schema.specs.Value.{Value, list, values_of}
-use Rattle.smithy_schema.specs.Container.{elements_from, element_of}
+use Rattle.smithy_schema.specs.Value.{Value, list, null_element, values_of}
+use Rattle.smithy_schema.specs.Container.{elements_from}
 use Rattle.smithy_schema.specs.Reading.{Mark, Child, child_value, child_null, child_unknown, entry_of, named, IsChild, Chain, Contains}
-use Rattle.smithy_schema.specs.Private.Options.{same_some, step_apart, chosen, made}
+use Rattle.smithy_schema.specs.Private.Options.{same_some, chosen, made}
 use Rattle.smithy_schema.specs.Private.Kinds.{is_list, list_is_no_structure}
-use Rattle.smithy_schema.specs.Private.ElementFolds.{null_apart, null_folds, null_step, list_means}
+use Rattle.smithy_schema.specs.Private.ElementFolds.{element_apart, elements_apart, null_folds, null_step, list_means}
 use Rattle.cbor_item.specs.Item.{Item, array, simple, Extent, Items, no_items, item}
 use Rattle.cbor_item.specs.WellFormed.{IsItemAt}
 use Rattle.smithy_cbor.specs.Settings.{Settings, is_shallow}
@@ -17,7 +17,7 @@ use Rattle.smithy_cbor.specs.Meaning.{cbor_meaning, item_entries, array_meaning}
 use Rattle.smithy_cbor.specs.Reading.{OpensAt}
 use Rattle.smithy_cbor.specs.Standing.{mark_with, HasEntry, IsOver, FollowsInside, cbor_relations}
 use Rattle.smithy_cbor.specs.Private.ItemBegins.{null_begins_item, null_there, null_ends}
-use Rattle.smithy_cbor.specs.Private.Meanings.{value_item}
+use Rattle.smithy_cbor.specs.Private.Meanings.{means_no_null, value_item}
 use Rattle.smithy_cbor.specs.Private.Steps.{no_opening}
 use Rattle.smithy_cbor.specs.Private.ArrayPlaces.{ItemsLie, items_array, array_items}
 
@@ -58,11 +58,12 @@ module _ (o : Settings) (i : List ℕ) (t : Table) (p : Place) (l : ListShape) (
       let place : child.2.0 ≡ l.place = sym (same_some l.place child.2.0 same) in
       let stands = subst (λ y. (x : Item) × IsItemAt x i chain.1 chain.3 × (cbor_meaning o t y (suc d) x ≡ Some v)) place
       (value_item o i t d child.2.0 chain.1 chain.3 v full child.2.2) in
+      let there = means_no_null o t l.place (suc d) stands.0 v stands.2 in
       let at = subst (λ (c : ℕ). IsItemAt stands.0 i c chain.3) step.1 stands.1 in (
         item stands.0 rest.0,
         (chain.2, chain.3, step.2, at, rest.1),
         rest.2,
-        λ vs. rw (kind, stands.2) (rest.3 (vs ++ v ∷ [])),
+        λ vs. rw (kind, there, stands.2) (rest.3 (vs ++ v ∷ [])),
       )
   child_items b m (child_null a ∷ xs) e full chain =
       let step = list_steps b m chain.0 chain.1 chain.2 chain.4 in
@@ -73,21 +74,20 @@ module _ (o : Settings) (i : List ℕ) (t : Table) (p : Place) (l : ListShape) (
         item (simple null_value) rest.0,
         (chain.2, chain.3, step.2, at, rest.1),
         rest.2,
-        λ vs. rw kind (null_folds l.is_sparse (rw kind at child.1) vs (map entry_of xs) (item_entries o t p (suc d) rest.0) a rest.3),
+        λ vs. rw kind (null_folds l.is_sparse (rw kind at child.1) vs (map entry_of xs) (item_entries o t p (suc d) rest.0) a None rest.3),
       )
   child_items b m (child_unknown a ∷ xs) e full chain = absurd (list_is_no_structure (kind_of t p) l kind chain.5.1)
 
   -- ---- from items to a chain
 
   -- the child that an item is
-  item_child : (c f : ℕ) (x : Item) (u : Option Value) (v : Value) → cbor_meaning o t l.place (suc d) x ≡ u → IsItemAt x i c f
-      → element_of l.is_sparse (is_null x) u ≡ Some v
+  item_child : (c f : ℕ) (x : Item) (v : Value) → IsItemAt x i c f
+      → ((l.is_sparse ≡ true) × (is_null x ≡ true) × (v ≡ null_element)) ⊎ (cbor_meaning o t l.place (suc d) x ≡ Some v)
       → (y : Child) × IsChild (cbor_relations o) i t p (suc d) None y c f
       × ((vs : List Value) (ys : List Child) → elements_from l.is_sparse vs (map entry_of (y ∷ ys)) ≡ elements_from l.is_sparse (vs ++ v ∷ []) (map entry_of ys))
-  item_child c f x (Some u) v is at h =
-      (child_value None None v, (refl, refl, (l.place, rw kind refl, inl (x, at, tt, is ∙ h))), λ vs ys. refl)
-  item_child c f x None v is at h =
-      let n = null_apart l.is_sparse (is_null x) v h in
+  item_child c f x v at (inr means) =
+      (child_value None None v, (refl, refl, (l.place, rw kind refl, inl (x, at, tt, means))), λ vs ys. refl)
+  item_child c f x v at (inl n) =
       let null = null_ends x i c f at n.1 in (
         child_null None,
         (refl, rw kind n.0, (null_begins_item x i c f at ∙ n.1, null.1, tt)),
@@ -100,9 +100,9 @@ module _ (o : Settings) (i : List ℕ) (t : Table) (p : Place) (l : ListShape) (
       → (xs : List Child) × Chain (cbor_relations o) i t p (suc d) b m xs e × (elements_from l.is_sparse vs (map entry_of xs) ≡ Some us)
   item_children b m no_items e vs us follows lie folds = ([], (inl (is_list (kind_of t p) l kind, lie), follows), folds)
   item_children b m (item x is) e vs us follows (n, f, entry, at, lie) folds =
-      let apart = step_apart (element_of l.is_sparse (is_null x) (cbor_meaning o t l.place (suc d) x))
-      (λ v. elements_from l.is_sparse (vs ++ v ∷ []) (item_entries o t p (suc d) is)) us (rw kind at folds) in
-      let child = item_child b f x (cbor_meaning o t l.place (suc d) x) apart.0 refl at apart.1 in
+      let mean = cbor_meaning o t l.place (suc d) x in
+      let apart = elements_apart l.is_sparse (is_null x) mean vs us (item_entries o t p (suc d) is) (rw kind at folds) in
+      let child = item_child b f x apart.0 at (element_apart l.is_sparse (is_null x) mean apart.0 apart.1) in
       let rest = item_children f n is e (vs ++ apart.0 ∷ []) us follows lie apart.2 in
       let step = inl (is_list (kind_of t p) l kind, refl, refl, entry) in
       (child.0 ∷ rest.0, (None, b, n, f, step, child.1, rest.1), child.2 vs rest.0 ∙ rest.2)

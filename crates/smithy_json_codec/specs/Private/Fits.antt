@@ -6,10 +6,11 @@ use Rattle.smithy_schema.specs.declared.place.Place.{Place}
 use Rattle.smithy_schema.specs.declared.shape_type.Scalar.TheVariants as scalars
 use Rattle.smithy_schema.specs.Table.{Table, ListShape, Kind, scalar, structure_of, list_of, nothing, kind_of, place_in}
 use Rattle.smithy_schema.specs.Value.{Value, whole, text, list, structure, values_of, MemberValues, no_member_values}
-use Rattle.smithy_schema.specs.Container.{Entry, element_of, elements_from, members_from}
+use Rattle.smithy_schema.specs.Container.{Entry, elements_from, members_from}
 use Rattle.smithy_schema.specs.Fits.{IsLong, AscendFrom, ElementsFit, MembersFit, Fits}
 use Rattle.smithy_schema.specs.Private.Ascending.{folded_ascend}
 use Rattle.smithy_schema.specs.Private.Options.{same_some, step_apart, chosen, made}
+use Rattle.smithy_schema.specs.Private.ElementFolds.{elements_apart}
 use Rattle.smithy_schema.specs.Private.Fitting.{one_more_fits, element_fits, entry_fits, member_fits}
 use Rattle.smithy_json.specs.Tree.{Json, null, boolean, number, string, array, object, Elements, no_elements, element, Members, no_members, member, nesting}
 use Rattle.smithy_json.specs.Number.{whole_number, is_long}
@@ -105,8 +106,7 @@ mutual
       → ElementsFit t (kind_of t p) (values_of us)
   elements_fit o t p d no_elements texts l kind vs us fit h = subst (λ ws. ElementsFit t (kind_of t p) (values_of ws)) (same_some vs us h) fit
   elements_fit o t p d (element x es) texts l kind vs us fit h =
-      let apart = step_apart (element_of l.is_sparse (is_null x) (json_meaning o t l.place d x))
-      (λ v. elements_from l.is_sparse (vs ++ v ∷ []) (element_entries o t p d es)) us (rw kind at h) in
+      let apart = elements_apart l.is_sparse (is_null x) (json_meaning o t l.place d x) vs us (element_entries o t p d es) (rw kind at h) in
       let one = element_fits t (kind_of t p) l kind (is_null x) (json_meaning o t l.place d x) apart.0
       (λ w is. meaning_fits o t l.place d x texts.0 w is) apart.1 in
       elements_fit o t p d es texts.1 l kind (vs ++ apart.0 ∷ []) us (one_more_fits t (kind_of t p) vs apart.0 fit one) apart.2

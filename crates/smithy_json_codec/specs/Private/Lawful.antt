@@ -5,7 +5,7 @@ use Rattle.smithy_schema.specs.declared.place.Place.{Place}
 use Rattle.smithy_schema.specs.Table.{Table, Member, ListShape, Kind, scalar, structure_of, list_of, nothing, kind_of, IsStructure}
 use Rattle.smithy_schema.specs.Value.{Value}
 use Rattle.smithy_schema.specs.Container.{Entry}
-use Rattle.smithy_schema.specs.Reading.{Contains, IsContainer, IsLawful}
+use Rattle.smithy_schema.specs.Reading.{Contains, IsContainer, IsLawful, CountsOpeners}
 use Rattle.smithy_schema.specs.Private.Options.{same_some, chosen}
 use Rattle.smithy_schema.specs.Private.Kinds.{structure_kind}
 use Rattle.smithy_json.specs.Tree.{Json, null, boolean, number, string, array, object}
@@ -16,7 +16,6 @@ use Rattle.smithy_json_codec.specs.Private.Fronts.{one_tree, tree_ahead}
 use Rattle.smithy_json_codec.specs.Private.Steps.{same_opening, same_step, same_close, step_or_close, stands_within, nearer}
 use Rattle.smithy_json_codec.specs.Private.Lists.{list_folded, list_unfolded}
 use Rattle.smithy_json_codec.specs.Private.Structures.{structure_folded, structure_unfolded, empty_unfolded}
-use Rattle.smithy_json_codec.specs.Private.Fits.{stands_fits}
 use Rattle.smithy_json_codec.specs.Private.OpenPlaces.{across_value, opening_adds, close_takes_one, step_takes_none, value_takes_none}
 use Rattle.smithy_json_codec.specs.Private.NullBegins.{null_begins, value_begins_otherwise}
 
@@ -109,7 +108,6 @@ json_is_lawful c = record {
   unfolded = unfolded c;
   same_value = λ i t p d a v u e f h k. (same_standing c i t p d a v u e f h k).0;
   same_end = λ i t p d a v u e f h k. (same_standing c i t p d a v u e f h k).1;
-  fits = stands_fits c;
   stands_ahead = stands_ahead c;
   stands_within = stands_within c;
   nulls_within = λ i d a e h. (tree_ahead 1 null i a e h, h.0.1);
@@ -123,6 +121,10 @@ json_is_lawful c = record {
   same_skip = λ i d a e f h k. (one_tree d d h.0 k.0 i a e f h.1 k.1).1;
   null_begins = null_begins c;
   value_begins = value_begins_otherwise c;
+}
+
+pub json_counts_openers : (c : Settings) → CountsOpeners (json_relations c)
+json_counts_openers c = record {
   opening_adds = opening_adds c;
   close_takes_one = close_takes_one c;
   step_takes_none = step_takes_none c;

@@ -4,17 +4,16 @@ use Rattle.std.proofs.Common.{ap, inl, inr}
 use Rattle.smithy_schema.specs.declared.place.Place.{Place}
 use Rattle.smithy_schema.specs.Table.{Table, ListShape, Kind, scalar, structure_of, list_of, nothing, kind_of, place_in}
 use Rattle.smithy_schema.specs.Value.{Value, list, structure, values_of, MemberValues, no_member_values}
-use Rattle.smithy_schema.specs.Container.{elements_from, element_of, members_from}
+use Rattle.smithy_schema.specs.Container.{elements_from, members_from}
 use Rattle.smithy_schema.specs.Reading.{IsBelow}
-use Rattle.smithy_schema.specs.Private.Options.{step_apart, chosen, made}
-use Rattle.smithy_schema.specs.Private.ElementFolds.{lift_element}
+use Rattle.smithy_schema.specs.Private.Options.{chosen, made}
+use Rattle.smithy_schema.specs.Private.ElementFolds.{elements_apart, lift_element}
 use Rattle.smithy_schema.specs.Private.MemberFolds.{lift_entry}
 use Rattle.smithy_json.specs.Tree.{Json, null, boolean, number, string, array, object, Elements, no_elements, element, Members, no_members, member, nesting}
 use Rattle.smithy_json.specs.Unescape.{unescaped}
 use Rattle.smithy_json_codec.specs.Settings.{Settings, is_shallow, without_limits}
 use Rattle.smithy_json_codec.specs.Meaning.{json_meaning, element_entries, member_entries, is_null, array_meaning, object_meaning, position_in}
 use Rattle.smithy_json_codec.specs.Standing.{json_relations}
-use Rattle.smithy_json_codec.specs.Private.Lists.{null_is}
 
 module _ (o : Settings) (t : Table) where
   lift_array : (p : Place) (d : ℕ) (k : Kind) → kind_of t p ≡ k → (es : Elements)
@@ -64,10 +63,9 @@ module _ (o : Settings) (t : Table) where
         → elements_from l.is_sparse vs (element_entries (without_limits o) t p d es) ≡ Some us
     lift_elements p d no_elements l kind vs us h = h
     lift_elements p d (element x es) l kind vs us h =
-        let apart = step_apart (element_of l.is_sparse (is_null x) (json_meaning o t l.place d x))
-        (λ v. elements_from l.is_sparse (vs ++ v ∷ []) (element_entries o t p d es)) us (rw kind at h) in
+        let apart = elements_apart l.is_sparse (is_null x) (json_meaning o t l.place d x) vs us (element_entries o t p d es) (rw kind at h) in
         let up = lift_element l.is_sparse (is_null x) (json_meaning o t l.place d x) (json_meaning (without_limits o) t l.place d x) apart.0
-        (λ w e. lift l.place d x w e) (λ e b. ap (json_meaning (without_limits o) t l.place d) (null_is x b)) apart.1 in
+        (λ w e. lift l.place d x w e) apart.1 in
         rw (kind, up) (lift_elements p d es l kind (vs ++ apart.0 ∷ []) us apart.2)
 
     lift_members : (p : Place) (d : ℕ) (ms : Members) (fs us : MemberValues) → members_from fs (member_entries o t p d ms) ≡ Some us

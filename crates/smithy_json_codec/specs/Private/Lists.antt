@@ -1,14 +1,14 @@
 -- A list stands for what its elements mean together: its chain is the elements of an array.
-use Rattle.std.specs.Prelude.{◌≡◌, ℕ, suc, drop, map, List, [], ◌∷◌, ◌++◌, Option, Some, None, true, refl, option_map}
+use Rattle.std.specs.Prelude.{◌≡◌, ◌⊎◌, ℕ, suc, drop, map, List, [], ◌∷◌, ◌++◌, Option, Some, None, true, refl, option_map}
 use Rattle.std.proofs.Common.{sym, ◌∙◌, ap, arith, subst, inl, inr}
 use Rattle.smithy_schema.specs.declared.place.Place.{Place}
 use Rattle.smithy_schema.specs.Table.{Table, list_of, ListShape, kind_of, place_in}
-use Rattle.smithy_schema.specs.Value.{Value, list, values_of}
-use Rattle.smithy_schema.specs.Container.{elements_from, element_of}
+use Rattle.smithy_schema.specs.Value.{Value, list, null_element, values_of}
+use Rattle.smithy_schema.specs.Container.{elements_from}
 use Rattle.smithy_schema.specs.Reading.{Mark, Child, child_value, child_null, child_unknown, entry_of, named, IsChild, Chain, Contains}
-use Rattle.smithy_schema.specs.Private.Options.{same_some, step_apart, chosen, made}
+use Rattle.smithy_schema.specs.Private.Options.{same_some, chosen, made}
 use Rattle.smithy_schema.specs.Private.Kinds.{is_list, list_is_no_structure}
-use Rattle.smithy_schema.specs.Private.ElementFolds.{null_apart, null_folds, null_step, list_means}
+use Rattle.smithy_schema.specs.Private.ElementFolds.{element_apart, elements_apart, null_folds, null_step, list_means}
 use Rattle.smithy_json.specs.Ascii.{begin_array, end_array}
 use Rattle.smithy_json.specs.Tree.{Json, null, boolean, number, string, array, object, Elements, no_elements, element}
 use Rattle.smithy_json_codec.specs.Settings.{Settings, is_shallow}
@@ -16,6 +16,7 @@ use Rattle.smithy_json_codec.specs.Meaning.{json_meaning, element_entries, is_nu
 use Rattle.smithy_json_codec.specs.Standing.{Lies, TreeLies, IsByte, StepsInList, FollowsInside, fresh_mark, entry_mark, json_relations}
 use Rattle.smithy_json_codec.specs.Private.Lexical.{begins_value, first}
 use Rattle.smithy_json_codec.specs.Private.Fronts.{past_byte, value_first}
+use Rattle.smithy_json_codec.specs.Private.NullBegins.{means_no_null}
 use Rattle.smithy_json_codec.specs.Private.Steps.{no_byte}
 use Rattle.smithy_json_codec.specs.Private.ArrayPlaces.{ChildLies, child_lies, lies_inside, ElementsLie, elements_text, text_elements}
 
@@ -82,11 +83,12 @@ module _ (o : Settings) (i : List ℕ) (t : Table) (p : Place) (l : ListShape) (
       let same : Some l.place ≡ Some child.2.0 = sym (ap (λ y. place_in y None) kind) ∙ ap (place_in (kind_of t p)) (sym none) ∙ child.2.1 in
       let place : child.2.0 ≡ l.place = sym (same_some l.place child.2.0 same) in
       let stands = subst (λ y. (x : Json) × ChildLies x i chain.1 chain.3 × (json_meaning o t y (suc d) x ≡ Some v)) place
-      (value_tree o i t d child.2.0 chain.1 chain.3 v full child.2.2) in (
+      (value_tree o i t d child.2.0 chain.1 chain.3 v full child.2.2) in
+      let there = means_no_null o t l.place (suc d) stands.0 v stands.2 in (
         element stands.0 rest.0,
         (chain.1, chain.3, step.2, stands.1, entered_elements rest.0 chain.2 chain.3 e step.1 rest.1),
         rest.2,
-        λ vs. rw (kind, stands.2) (rest.3 (vs ++ v ∷ [])),
+        λ vs. rw (kind, there, stands.2) (rest.3 (vs ++ v ∷ [])),
       )
   child_elements b m (child_null a ∷ xs) e full chain =
       let step = list_steps b m chain.0 chain.1 chain.2 chain.4 in
@@ -94,19 +96,18 @@ module _ (o : Settings) (i : List ℕ) (t : Table) (p : Place) (l : ListShape) (
         element null rest.0,
         (chain.1, chain.3, step.2, chain.5.2, entered_elements rest.0 chain.2 chain.3 e step.1 rest.1),
         rest.2,
-        λ vs. rw kind (null_folds l.is_sparse (rw kind at chain.5.1) vs (map entry_of xs) (element_entries o t p (suc d) rest.0) a rest.3),
+        λ vs. rw kind (null_folds l.is_sparse (rw kind at chain.5.1) vs (map entry_of xs) (element_entries o t p (suc d) rest.0) a None rest.3),
       )
   child_elements b m (child_unknown a ∷ xs) e full chain = absurd (list_is_no_structure (kind_of t p) l kind chain.5.1)
 
   -- the child that a tree is
-  tree_child : (c f : ℕ) (x : Json) (u : Option Value) (v : Value) → json_meaning o t l.place (suc d) x ≡ u → ChildLies x i c f
-      → element_of l.is_sparse (is_null x) u ≡ Some v
+  tree_child : (c f : ℕ) (x : Json) (v : Value) → ChildLies x i c f
+      → ((l.is_sparse ≡ true) × (is_null x ≡ true) × (v ≡ null_element)) ⊎ (json_meaning o t l.place (suc d) x ≡ Some v)
       → (y : Child) × IsChild (json_relations o) i t p (suc d) None y c f
       × ((vs : List Value) (ys : List Child) → elements_from l.is_sparse vs (map entry_of (y ∷ ys)) ≡ elements_from l.is_sparse (vs ++ v ∷ []) (map entry_of ys))
-  tree_child c f x (Some u) v is lies h =
-      (child_value None None v, (refl, refl, (l.place, rw kind refl, inl (x, lies_inside d x i c f lies, is ∙ h))), λ vs ys. refl)
-  tree_child c f x None v is lies h =
-      let n = null_apart l.is_sparse (is_null x) v h in
+  tree_child c f x v lies (inr means) =
+      (child_value None None v, (refl, refl, (l.place, rw kind refl, inl (x, lies_inside d x i c f lies, means))), λ vs ys. refl)
+  tree_child c f x v lies (inl n) =
       (child_null None, (refl, rw kind n.0, subst (λ y. ChildLies y i c f) (null_is x n.1) lies), λ vs ys. null_step l.is_sparse n.0 v n.2 vs (map entry_of ys))
 
   -- the children of a chain that elements are
@@ -115,9 +116,9 @@ module _ (o : Settings) (i : List ℕ) (t : Table) (p : Place) (l : ListShape) (
       → (xs : List Child) × Chain (json_relations o) i t p (suc d) b m xs e × (elements_from l.is_sparse vs (map entry_of xs) ≡ Some us)
   element_children b m no_elements e vs us follows lies folds = ([], (inl (is_list (kind_of t p) l kind, lies), follows), folds)
   element_children b m (element x es) e vs us follows lies folds =
-      let apart = step_apart (element_of l.is_sparse (is_null x) (json_meaning o t l.place (suc d) x))
-      (λ v. elements_from l.is_sparse (vs ++ v ∷ []) (element_entries o t p (suc d) es)) us (rw kind at folds) in
-      let child = tree_child lies.0 lies.1 x (json_meaning o t l.place (suc d) x) apart.0 refl lies.3 apart.1 in
+      let mean = json_meaning o t l.place (suc d) x in
+      let apart = elements_apart l.is_sparse (is_null x) mean vs us (element_entries o t p (suc d) es) (rw kind at folds) in
+      let child = tree_child lies.0 lies.1 x apart.0 lies.3 (element_apart l.is_sparse (is_null x) mean apart.0 apart.1) in
       let rest = element_children lies.1 entry_mark es e (vs ++ apart.0 ∷ []) us follows lies.4 apart.2 in
       let step = inl (is_list (kind_of t p) l kind, (refl, refl, lies.2, no_end i x lies.0 lies.1 lies.3)) in
       (child.0 ∷ rest.0, (None, lies.0, entry_mark, lies.1, step, child.1, rest.1), child.2 vs rest.0 ∙ rest.2)

@@ -53,7 +53,7 @@ value_no_n (object no_members) s r h n = rw h.1 refl
 value_no_n (object (member name x ms)) s r h n = rw h.1 refl
 
 -- and null means nothing
-means_no_null : (o : Settings) (t : Table) (p : Place) (d : ℕ) (x : Json) (v : Value) → json_meaning o t p d x ≡ Some v → is_null x ≡ false
+pub means_no_null : (o : Settings) (t : Table) (p : Place) (d : ℕ) (x : Json) (v : Value) → json_meaning o t p d x ≡ Some v → is_null x ≡ false
 means_no_null o t p d null v h = cc
 means_no_null o t p d (boolean b) v h = refl
 means_no_null o t p d (number raw) v h = refl

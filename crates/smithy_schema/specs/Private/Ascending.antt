@@ -6,7 +6,7 @@ use Rattle.std.specs.Ordering.{MatchOrdering, nat_cmp, match_ordering}
 use Rattle.std.proofs.Common.{arith, subst}
 use Rattle.std.proofs.lemmas.Cmp.{ranked}
 use Rattle.smithy_schema.specs.Value.{Value, MemberValues, no_member_values, member_value, put_member}
-use Rattle.smithy_schema.specs.Container.{Entry, after_entry, members_from}
+use Rattle.smithy_schema.specs.Container.{Entry, member_step, members_from}
 use Rattle.smithy_schema.specs.Fits.{AscendFrom}
 
 -- members that ascend from one position ascend from each smaller one
@@ -31,7 +31,7 @@ put_ascends n v least (member_value at w rest) low h =
 -- an entry by its fields
 set_ascends : (key : Option (List ℕ)) (named : Option ℕ) (mean : Option Value) (absent skippable nil : Bool) (fs us : MemberValues)
     → AscendFrom 0 fs
-    → after_entry (record { key = key; position = named; meaning = mean; is_absent = absent; is_skippable = skippable; is_null = nil }) fs ≡ Some us
+    → member_step (record { key = key; position = named; meaning = mean; is_absent = absent; is_skippable = skippable; is_null = nil }) fs ≡ Some us
     → AscendFrom 0 us
 set_ascends None named mean absent skippable nil fs us h set = absurd (let e : None ≡ Some us = set in cc)
 set_ascends (Some key) named mean true skippable nil fs us h set = let same : fs ≡ us = cc in subst (AscendFrom 0) same h
@@ -51,6 +51,6 @@ step_ascends (Some gs) xs us each next folds = next gs (each gs refl) folds
 pub folded_ascend : (xs : List Entry) (fs us : MemberValues) → AscendFrom 0 fs → members_from fs xs ≡ Some us → AscendFrom 0 us
 folded_ascend [] fs us h folds = let same : fs ≡ us = cc in subst (AscendFrom 0) same h
 folded_ascend (e ∷ xs) fs us h folds =
-    step_ascends (after_entry e fs) xs us
+    step_ascends (member_step e fs) xs us
     (λ gs set. set_ascends e.key e.position e.meaning e.is_absent e.is_skippable e.is_null fs gs h set)
     (λ gs from more. folded_ascend xs gs us from more) folds

@@ -1,17 +1,17 @@
 -- What entries mean together fits a place, where what each means fits its own.
-use Rattle.std.specs.Prelude.{◌≡◌, ℕ, ◌<◌, List, [], ◌∷◌, ◌++◌, Option, Some, None, Bool, true, false, refl, option_and_then}
+use Rattle.std.specs.Prelude.{◌≡◌, ◌⊎◌, ℕ, ◌<◌, List, [], ◌∷◌, ◌++◌, Option, Some, None, Bool, true, false, refl, option_and_then}
 use Rattle.std.specs.declared.cmp.Ordering.{Ordering}
 use Rattle.std.specs.declared.cmp.Ordering.TheVariants.{Less, Equal, Greater}
 use Rattle.std.specs.Ordering.{MatchOrdering, nat_cmp, match_ordering}
-use Rattle.std.proofs.Common.{sym, ◌∙◌, ap, subst}
+use Rattle.std.proofs.Common.{sym, ◌∙◌, ap, subst, inl, inr}
 use Rattle.std.proofs.lemmas.Cmp.{ranked}
 use Rattle.smithy_schema.specs.declared.place.Place.{Place}
 use Rattle.smithy_schema.specs.Table.{Table, ListShape, Kind, list_of, place_in, is_sparse}
 use Rattle.smithy_schema.specs.Value.{Value, whole, text, list, structure, null_element, values_of, MemberValues, no_member_values, member_value, put_member}
 use Rattle.smithy_schema.specs.Container.{Entry, element_of, members_from}
 use Rattle.smithy_schema.specs.Fits.{FitsOr, ElementsFit, MembersFit, Fits}
-use Rattle.smithy_schema.specs.Private.Options.{same_some, step_apart}
-use Rattle.smithy_schema.specs.Private.ElementFolds.{null_apart}
+use Rattle.smithy_schema.specs.Private.Options.{step_apart}
+use Rattle.smithy_schema.specs.Private.ElementFolds.{element_apart}
 use Rattle.smithy_schema.specs.Private.MemberFolds.{entry_with}
 
 -- ---- lists
@@ -34,11 +34,11 @@ one_more_fits t k (u ∷ vs) v h w = (h.0, one_more_fits t k vs v h.1 w)
 
 pub element_fits : (t : Table) (k : Kind) (l : ListShape) → k ≡ list_of l → (nil : Bool) (mean : Option Value) (v : Value)
     → ((w : Value) → mean ≡ Some w → Fits t l.place w) → element_of l.is_sparse nil mean ≡ Some v → ElementFits t k v
-element_fits t k l kind nil (Some w) v fits h =
-    (l.place, rw kind refl, fits_or t l.place (is_sparse k) v (subst (Fits t l.place) (same_some w v h) (fits w refl)))
-element_fits t k l kind nil None v fits h =
-    let n = null_apart l.is_sparse nil v h in
-    (l.place, rw kind refl, subst (FitsOr t l.place (is_sparse k)) (sym n.2) (rw kind n.0))
+element_fits t k l kind nil mean v fits h = fits_apart (element_apart l.is_sparse nil mean v h)
+  where
+    fits_apart : ((l.is_sparse ≡ true) × (nil ≡ true) × (v ≡ null_element)) ⊎ (mean ≡ Some v) → ElementFits t k v
+    fits_apart (inl null) = (l.place, rw kind refl, subst (FitsOr t l.place (is_sparse k)) (sym null.2) (rw kind null.0))
+    fits_apart (inr means) = (l.place, rw kind refl, fits_or t l.place (is_sparse k) v (fits v means))
 
 -- ---- structures
 

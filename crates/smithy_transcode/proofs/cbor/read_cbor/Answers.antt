@@ -34,9 +34,9 @@ pub returns-clause-deep : goal.returns-clause-deep
 returns-clause-deep c =
     let source = c.create_deserializer-source.result in
     deep_openers (reading_settings_of source) (c.create_deserializer-source.ensures.settings ∙ c.strict-codec.ensures)
-    c.args.input.now (cursor_of source) c.create_deserializer-source.ensures.fresh c.args.schema.now.shapes.now c.args.schema.now.place c.requires c.read_due.result
+    c.args.input.now (cursor_of source) (cursor_of c.read_due.new.source) c.create_deserializer-source.ensures.fresh c.args.schema.now.shapes.now c.args.schema.now.place c.requires c.read_due.result
     (mapped_err c.read_due.result _ _
     (λ e none memory. unread_spells (reading_settings_of source) strict_settings (c.create_deserializer-source.ensures.settings ∙ c.strict-codec.ensures)
     c.args.input.now (cursor_of source) c.create_deserializer-source.ensures.fresh c.args.schema.now.shapes.now c.args.schema.now.place c.requires (none memory))
     c.read_due.ensures.refused)
-    c.read_due.ensures.deep
+    c.read_due.ensures.input (c.read_due.ensures.counted tt) c.read_due.ensures.deep

@@ -4,6 +4,7 @@ use Rattle.smithy_schema.specs.Site.{site_of}
 use Rattle.smithy_schema.specs.Reading.{child_value, child_null, child_unknown}
 use Rattle.smithy_transcode.specs.View.{view}
 use Rattle.smithy_transcode.specs.declared.value.Value.TheViews.{made-Null}
+use Rattle.smithy_schema.proofs.CountLemmas.{value_counted, null_counted, skip_counted, entry_counted, step_counted}
 use Rattle.smithy_transcode.proofs.ReadContainers.{itself, left_falls, end, stuck}
 use Rattle.smithy_transcode.proofs.ReadStructures.{member_child, member_read, unknown_skipped, member_refused, unknown_refused}
 use Rattle.smithy_transcode.proofs.ReadLists.{begin_list, element_read, null_read, element_refused, null_refused, element_place}
@@ -19,6 +20,7 @@ read_structure-loop-members-preserved-in-Continue-branch-5 g t c =
     let s0 = g.D.ShapeDeserializer.settings c.args.source.now in
     let laws = d.lawful s0 in
     let over = d.lifted_lawful s0 in
+    let counts = d.counts s0 in
     let above = d.above s0 in
     let same = itself (g.D.ShapeDeserializer.wire s0) in
     let outer = site_of c.args.schema.now in
@@ -28,8 +30,9 @@ read_structure-loop-members-preserved-in-Continue-branch-5 g t c =
     let reads = rw (c.next_member.ensures.same, c.loop-members.invariant.same) at c.in_ok-value-in-Member.ensures.ok in
     record {
       same = search rules;
-      inside = rw c.in_ok-set_member-in-Member.ensures.ok (member_read _ _ _ laws laws same _ _ _ _ outer c.in-Member.member _ c.in-Some.index _ inside step (sym c.in-Some.ensures) reads);
-      would = rw c.in_ok-set_member-in-Member.ensures.ok (member_read _ _ _ laws over above _ _ _ _ outer c.in-Member.member _ c.in-Some.index _ would step (sym c.in-Some.ensures) reads);
+      inside = rw c.in_ok-set_member-in-Member.ensures.ok (member_read _ _ _ laws same _ _ _ _ outer c.in-Member.member _ c.in-Some.index _ inside step (sym c.in-Some.ensures) reads);
+      would = rw c.in_ok-set_member-in-Member.ensures.ok (member_read _ _ _ over above _ _ _ _ outer c.in-Member.member _ c.in-Some.index _ would step (sym c.in-Some.ensures) reads);
+      counted = λ strict before. value_counted _ (counts strict) _ _ _ _ _ reads (step_counted _ (counts strict) _ _ _ _ _ step.2 (c.loop-members.invariant.counted strict before));
     }
 
 -- an unknown entry was skipped
@@ -39,6 +42,7 @@ read_structure-loop-members-preserved g t c =
     let s0 = g.D.ShapeDeserializer.settings c.args.source.now in
     let laws = d.lawful s0 in
     let over = d.lifted_lawful s0 in
+    let counts = d.counts s0 in
     let above = d.above s0 in
     let same = itself (g.D.ShapeDeserializer.wire s0) in
     let outer = site_of c.args.schema.now in
@@ -48,8 +52,9 @@ read_structure-loop-members-preserved g t c =
     let skips = rw (c.next_member.ensures.same, c.loop-members.invariant.same) at c.in_ok-skip_value-in-Unknown.ensures.ok in
     record {
       same = search rules;
-      inside = unknown_skipped _ _ _ laws laws same _ _ _ _ outer _ c.requires.place inside step skips c.in_ok-skip_value-in-Unknown.ensures.passes;
-      would = unknown_skipped _ _ _ laws over above _ _ _ _ outer _ c.requires.place would step skips c.in_ok-skip_value-in-Unknown.ensures.passes;
+      inside = unknown_skipped _ _ _ laws same _ _ _ _ outer _ c.requires.place inside step skips c.in_ok-skip_value-in-Unknown.ensures.passes;
+      would = unknown_skipped _ _ _ over above _ _ _ _ outer _ c.requires.place would step skips c.in_ok-skip_value-in-Unknown.ensures.passes;
+      counted = λ strict before. skip_counted _ (counts strict) _ _ skips c.in_ok-skip_value-in-Unknown.ensures.passes (step_counted _ (counts strict) _ _ _ _ _ step.1 (c.loop-members.invariant.counted strict before));
     }
 
 -- the structure ended
@@ -209,12 +214,14 @@ read_list-loop-elements-init g t c =
     let s0 = g.D.ShapeDeserializer.settings c.args.source.now in
     let laws = d.lawful s0 in
     let over = d.lifted_lawful s0 in
+    let counts = d.counts s0 in
     let above = d.above s0 in
     let same = itself (g.D.ShapeDeserializer.wire s0) in
     record {
       same = c.open_list.ensures.same;
       inside = rw c.new-elements.ensures.items (begin_list _ _ _ laws laws same _ _ _ _ c.requires.place c.in_ok-open_list.ensures.ok);
       would = rw c.new-elements.ensures.items (begin_list _ _ _ laws over above _ _ _ _ c.requires.place c.in_ok-open_list.ensures.ok);
+      counted = λ strict before. entry_counted _ (counts strict) _ _ _ _ _ _ c.in_ok-open_list.ensures.ok before;
     }
 
 -- the list can not go on
@@ -290,6 +297,7 @@ read_list-loop-elements-preserved-then-is_null g t c =
     let s0 = g.D.ShapeDeserializer.settings c.args.source.now in
     let laws = d.lawful s0 in
     let over = d.lifted_lawful s0 in
+    let counts = d.counts s0 in
     let above = d.above s0 in
     let same = itself (g.D.ShapeDeserializer.wire s0) in
     let inside = c.loop-elements.invariant.inside in
@@ -300,9 +308,10 @@ read_list-loop-elements-preserved-then-is_null g t c =
     record {
       same = search rules;
       inside = rw (c.in_ok-push.ensures.items, view_elements-push c.loop-elements.elements.items made-Null, view-Null)
-          (null_read _ _ _ laws laws same _ _ _ _ _ _ _ inside step (c.is_sparse-sparse.ensures.0 c.if-sparse.true) nulls passes);
+          (null_read _ _ _ laws same _ _ _ _ _ _ _ inside step (c.is_sparse-sparse.ensures.0 c.if-sparse.true) nulls passes);
       would = rw (c.in_ok-push.ensures.items, view_elements-push c.loop-elements.elements.items made-Null, view-Null)
-          (null_read _ _ _ laws over above _ _ _ _ _ _ _ would step (c.is_sparse-sparse.ensures.0 c.if-sparse.true) nulls passes);
+          (null_read _ _ _ over above _ _ _ _ _ _ _ would step (c.is_sparse-sparse.ensures.0 c.if-sparse.true) nulls passes);
+      counted = λ strict before. null_counted _ (counts strict) _ _ nulls passes (step_counted _ (counts strict) _ _ _ _ _ step (c.loop-elements.invariant.counted strict before));
     }
 
 -- an element was refused
@@ -357,6 +366,7 @@ read_list-loop-elements-preserved g t c =
     let s0 = g.D.ShapeDeserializer.settings c.args.source.now in
     let laws = d.lawful s0 in
     let over = d.lifted_lawful s0 in
+    let counts = d.counts s0 in
     let above = d.above s0 in
     let same = itself (g.D.ShapeDeserializer.wire s0) in
     let inside = c.loop-elements.invariant.inside in
@@ -367,9 +377,10 @@ read_list-loop-elements-preserved g t c =
     record {
       same = search rules;
       inside = rw (c.in_ok-push-2.ensures.items, view_elements-push c.loop-elements.elements.items c.in_ok-item.item)
-          (element_read _ _ _ laws laws same _ _ _ _ _ _ c.in-Some.element.place _ _ _ inside step place.1 reads);
+          (element_read _ _ _ laws same _ _ _ _ _ _ c.in-Some.element.place _ _ _ inside step place.1 reads);
       would = rw (c.in_ok-push-2.ensures.items, view_elements-push c.loop-elements.elements.items c.in_ok-item.item)
-          (element_read _ _ _ laws over above _ _ _ _ _ _ c.in-Some.element.place _ _ _ would step place.1 reads);
+          (element_read _ _ _ over above _ _ _ _ _ _ c.in-Some.element.place _ _ _ would step place.1 reads);
+      counted = λ strict before. value_counted _ (counts strict) _ _ _ _ _ reads (step_counted _ (counts strict) _ _ _ _ _ step (c.loop-elements.invariant.counted strict before));
     }
 
 -- the list ended

@@ -1,5 +1,5 @@
 use Rattle.std.proofs.Common.{◌≡◌, ◌+◌, ◌*◌, ◌-◌}
-use Rattle.smithy_schema.specs.Reading.{depth, in_structure, in_list}
+use Rattle.smithy_schema.specs.Reading.{depth, in_structure, in_list, IsCounted}
 use Rattle.smithy_schema.specs.Table.{kind_of, is_sparse}
 use Rattle.smithy_transcode.proofs.ReadStructures.{structure_value}
 use Rattle.smithy_transcode.proofs.ReadLists.{list_value}
@@ -27,6 +27,7 @@ invariant-read_structure-loop-members g l =
       same : d.settings l.source ≡ d.settings l.fn.source;
       inside : InContainer (d.wire c) (d.wire c) (d.max_depth c) (d.state l.fn.source) (d.state l.source) l.schema.shapes.now l.schema.place in_structure (structure_value (view_members l.members.entries));
       would : InContainer (d.wire c) (d.lifted c) (d.max_depth c) (d.state l.fn.source) (d.state l.source) l.schema.shapes.now l.schema.place in_structure (structure_value (view_members l.members.entries));
+      counted : d.is_strict c → IsCounted (d.wire c) (d.state l.fn.source) → IsCounted (d.wire c) (d.state l.source);
     }
 
 abbrev pub decreases-read_structure-loop-members : goal.decreases-read_structure-loop-members
@@ -49,6 +50,7 @@ invariant-read_list-loop-elements g l =
       same : d.settings l.source ≡ d.settings l.fn.source;
       inside : InContainer (d.wire c) (d.wire c) (d.max_depth c) (d.state l.fn.source) (d.state l.source) l.schema.shapes.now l.schema.place in_list (list_value (is_sparse (kind_of l.schema.shapes.now l.schema.place)) (view_elements l.elements.items));
       would : InContainer (d.wire c) (d.lifted c) (d.max_depth c) (d.state l.fn.source) (d.state l.source) l.schema.shapes.now l.schema.place in_list (list_value (is_sparse (kind_of l.schema.shapes.now l.schema.place)) (view_elements l.elements.items));
+      counted : d.is_strict c → IsCounted (d.wire c) (d.state l.fn.source) → IsCounted (d.wire c) (d.state l.source);
     }
 
 abbrev pub decreases-read_list-loop-elements : goal.decreases-read_list-loop-elements
