@@ -25,7 +25,7 @@ pub use fault::TableFault;
 pub use members_iter::Members;
 pub use place::{Place, Target};
 pub use read::{ShapeDeserializer, Step};
-pub use schema::{Origin, Schema};
+pub use schema::Schema;
 pub use shape_type::{Scalar, ShapeRef, ShapeType, TimestampFormat};
 pub use shapes::Shapes;
 pub use table_text::TableText;

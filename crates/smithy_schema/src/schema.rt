@@ -8,8 +8,8 @@ use crate::shape_type::{Scalar, ShapeRef, ShapeType};
 use crate::shapes::{Shape, Shapes};
 
 /// Where a view comes from.
-#[derive(Clone, Copy, Debug, PartialEq, Eq)]
-pub enum Origin {
+#[derive(Clone, Copy)]
+pub(crate) enum Origin {
     /// A shape as a whole.
     Whole,
     /// A member, by the number of its declaration and its position.
@@ -21,12 +21,12 @@ pub enum Origin {
 /// A view of one place of a table: of a whole shape, a member or the elements of a list.
 #[derive(Clone, Copy)]
 pub struct Schema<'a> {
-    pub shapes: &'a Shapes,
-    pub place: Place,
-    pub origin: Origin,
+    pub(crate) shapes: &'a Shapes,
+    pub(crate) place: Place,
+    pub(crate) origin: Origin,
     /// The view has no member name, no position and no flat mark.
-    pub is_nameless: bool,
-    pub ghost is_known: { kind_of shapes.now place ≢ nothing },
+    pub(crate) is_nameless: bool,
+    ghost is_known: { kind_of shapes.now place ≢ nothing },
 }
 
 impl<'a> Schema<'a> {

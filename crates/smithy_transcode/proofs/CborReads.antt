@@ -11,7 +11,7 @@ use Rattle.smithy_cbor.specs.Codec.{strict_settings}
 use Rattle.smithy_cbor.specs.Openers.{cbor_openers}
 use Rattle.smithy_cbor.specs.Cursor.{fresh_cursor}
 use Rattle.smithy_cbor.specs.Laws.{fit}
-use Rattle.smithy_cbor.specs.Settings.{Settings}
+use Rattle.smithy_cbor.specs.Settings.{Settings, without_limits}
 use Rattle.smithy_cbor.specs.Spelling.{cbor_spells}
 use Rattle.smithy_cbor.specs.Standing.{cbor_relations}
 use Rattle.smithy_transcode.specs.declared.wire.TranscodeError.{TranscodeError}
@@ -36,6 +36,13 @@ module _ (o c : Settings) (same : o ≡ c) (input : List ℕ) (old : Cursor) (fr
   unread_spells none v spells =
       let r : StandsNot (cbor_relations c) (fresh_cursor input) t p = rw (same, fresh) at none in
       let s = spells_stands c t p input v spells in
+      r v s.0 s.1
+
+  -- nor any of any depth, where none stands with the limits lifted
+  pub unread_at_any_depth : StandsNot (cbor_relations (without_limits o)) old t p → (v : Value) → cbor_spells (without_limits c) t p input v → ⊥
+  unread_at_any_depth none v spells =
+      let r : StandsNot (cbor_relations (without_limits c)) (fresh_cursor input) t p = rw (same, fresh) at none in
+      let s = spells_stands (without_limits c) t p input v spells in
       r v s.0 s.1
 
 -- a body that is too deep holds 128 heads of arrays and maps: an empty one spells the structure without members

@@ -11,7 +11,7 @@ use Rattle.smithy_json_codec.specs.Codec.{strict_settings}
 use Rattle.smithy_json_codec.specs.Openers.{json_openers}
 use Rattle.smithy_json_codec.specs.Cursor.{fresh_cursor}
 use Rattle.smithy_json_codec.specs.Laws.{fit}
-use Rattle.smithy_json_codec.specs.Settings.{Settings}
+use Rattle.smithy_json_codec.specs.Settings.{Settings, without_limits}
 use Rattle.smithy_json_codec.specs.Spelling.{json_spells}
 use Rattle.smithy_json_codec.specs.Standing.{json_relations}
 use Rattle.smithy_transcode.specs.declared.wire.TranscodeError.{TranscodeError}
@@ -36,6 +36,13 @@ module _ (o c : Settings) (same : o ≡ c) (input : List ℕ) (old : Cursor) (fr
   unread_spells none v spells =
       let r : StandsNot (json_relations c) (fresh_cursor input) t p = rw (same, fresh) at none in
       let s = spells_stands c t p input v spells in
+      r v s.0 s.1
+
+  -- nor any of any depth, where none stands with the limits lifted
+  pub unread_at_any_depth : StandsNot (json_relations (without_limits o)) old t p → (v : Value) → json_spells (without_limits c) t p input v → ⊥
+  unread_at_any_depth none v spells =
+      let r : StandsNot (json_relations (without_limits c)) (fresh_cursor input) t p = rw (same, fresh) at none in
+      let s = spells_stands (without_limits c) t p input v spells in
       r v s.0 s.1
 
 -- a body that is too deep opens 128 brackets at once: an empty one spells the structure without members

@@ -1,5 +1,5 @@
 -- What the reading and the writing of one body say together.
-use Rattle.std.proofs.Common.{◌≡◌, ◌≤◌, ◌<◌, ◌^◌, length, ℕ, List, Bool, Result, Ok, Err, IfOk, IfErr, refl, sym, ◌∙◌, ap, subst}
+use Rattle.std.proofs.Common.{◌≡◌, ◌≤◌, ◌<◌, ◌^◌, length, ℕ, List, Bool, Result, Ok, Err, IfOk, IfErr, IsErrOf, refl, sym, ◌∙◌, ap, subst}
 use Rattle.smithy_schema.specs.Accepted.{IsAccepted}
 use Rattle.smithy_schema.specs.Fits.{Fits}
 use Rattle.smithy_schema.specs.Table.{Table, shape_place}
@@ -7,11 +7,13 @@ use Rattle.smithy_schema.specs.Value.{Value, nesting}
 use Rattle.smithy_schema.specs.declared.schema.Schema.{Schema}
 use Rattle.smithy_schema.specs.Site.{Site, site_of, shape_site, whole_view}
 use Rattle.smithy_json_codec.specs.Codec.{strict_settings}
+use Rattle.smithy_json_codec.specs.Settings.{without_limits}
 use Rattle.smithy_json_codec.specs.Spelling.{json_spells}
 use Rattle.smithy_json_codec.proofs.NestedMeaning.{shallow}
 use Rattle.smithy_json_codec.proofs.SpellingLemmas.{one_spelled}
 use Rattle.smithy_json_codec.proofs.WrittenSpelling.{spelled_fits, canonical_spells}
 use Rattle.smithy_cbor.specs.Codec.{strict_settings as strict_cbor}
+use Rattle.smithy_cbor.specs.Settings.{without_limits as without_cbor_limits}
 use Rattle.smithy_cbor.specs.Spelling.{cbor_spells}
 use Rattle.smithy_cbor.proofs.NestedMeaning.{shallow as cbor_shallow}
 use Rattle.smithy_cbor.proofs.SpellingLemmas.{one_spelled as one_cbor_spelled}
@@ -21,7 +23,7 @@ use Rattle.smithy_transcode.specs.declared.wire.Wire.TheVariants.{Json, Cbor}
 use Rattle.smithy_transcode.specs.declared.wire.TranscodeError.{TranscodeError}
 use Rattle.smithy_transcode.specs.declared.wire.TranscodeError.TheVariants.{InvalidInput, TooDeep, NoMemory}
 use Rattle.smithy_transcode.specs.Spelling.{Spells, body}
-use Rattle.smithy_transcode.specs.Transcoding.{Answer, Transcodes, SpellNothing, SpellsAlone}
+use Rattle.smithy_transcode.specs.Transcoding.{Answer, Transcodes, SpellNothing, SpellNothingAtAnyDepth, SpellsAlone}
 
 -- at most one value is spelled
 one_value : (w : Wire) (t : Table) (root : ℕ) (i : List ℕ) (v u : Value) → Spells w t root i v → Spells w t root i u → v ≡ u
@@ -62,12 +64,14 @@ written t root from i to v (Ok out) accepted spelled ok short err = record {
   );
   spelled_is_ok = λ u h. ok ∙ ap (body to t root) (one_value from t root i v u spelled h);
   answers_invalid_input = λ h. absurd (let e : Ok out ≡ Err InvalidInput = h in cc);
+  answers_invalid_at_any_depth = λ h. absurd (let e : Ok out ≡ Err InvalidInput = h in cc);
   answers_too_deep = λ h. absurd (let e : Ok out ≡ Err TooDeep = h in cc);
 }
 written t root from i to v (Err e) accepted spelled ok short err = record {
   answers_ok = tt;
   spelled_is_ok = λ u h. rw err tt;
   answers_invalid_input = λ h. absurd (let x : Err NoMemory ≡ Err InvalidInput = ap Err (sym err) ∙ h in cc);
+  answers_invalid_at_any_depth = λ h. absurd (let x : Err NoMemory ≡ Err InvalidInput = ap Err (sym err) ∙ h in cc);
   answers_too_deep = λ h. absurd (let x : Err NoMemory ≡ Err TooDeep = ap Err (sym err) ∙ h in cc);
 }
 
@@ -80,6 +84,23 @@ refused_at w b s t root i (Err e) wire site refused =
     let tables : s.shapes.now ≡ t = ap (λ (x : Site). x.table) site in
     let places : s.place ≡ shape_place root = ap (λ (x : Site). x.place) site in
     rw wire (rw (tables, places) at refused)
+
+-- and of any depth
+pub refused_at_any_depth : {X : Type 0} (w : Wire) (b : Bool) (s : Schema) (t : Table) (root : ℕ) (i : List ℕ) (r : Result X TranscodeError) → w ≡ Json b → site_of s ≡ shape_site t root
+    → (IsErrOf r InvalidInput → (v : Value) → json_spells (without_limits (strict_settings b)) s.shapes.now s.place i v → ⊥)
+    → IsErrOf r InvalidInput → SpellNothingAtAnyDepth w t root i
+refused_at_any_depth w b s t root i r wire site would invalid =
+    let tables : s.shapes.now ≡ t = ap (λ (x : Site). x.table) site in
+    let places : s.place ≡ shape_place root = ap (λ (x : Site). x.place) site in
+    rw wire (rw (tables, places) at (would invalid))
+
+pub refused_at_any_depth_cbor : {X : Type 0} (w : Wire) (s : Schema) (t : Table) (root : ℕ) (i : List ℕ) (r : Result X TranscodeError) → w ≡ Cbor → site_of s ≡ shape_site t root
+    → (IsErrOf r InvalidInput → (v : Value) → cbor_spells (without_cbor_limits strict_cbor) s.shapes.now s.place i v → ⊥)
+    → IsErrOf r InvalidInput → SpellNothingAtAnyDepth w t root i
+refused_at_any_depth_cbor w s t root i r wire site would invalid =
+    let tables : s.shapes.now ≡ t = ap (λ (x : Site). x.table) site in
+    let places : s.place ≡ shape_place root = ap (λ (x : Site). x.place) site in
+    rw wire (rw (tables, places) at (would invalid))
 
 pub refused_at_cbor : {X : Type 0} (w : Wire) (s : Schema) (t : Table) (root : ℕ) (i : List ℕ) (r : Result X TranscodeError) → w ≡ Cbor → site_of s ≡ shape_site t root
     → IfErr r (λ e. (e ≡ NoMemory → ⊥) → (v : Value) → cbor_spells strict_cbor s.shapes.now s.place i v → ⊥)

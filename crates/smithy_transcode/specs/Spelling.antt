@@ -5,9 +5,11 @@ use Rattle.smithy_schema.specs.Site.{shape_site}
 use Rattle.smithy_schema.specs.Value.{Value}
 use Rattle.smithy_json_codec.specs.Canonical.{canonical_json}
 use Rattle.smithy_json_codec.specs.Codec.{strict_settings}
+use Rattle.smithy_json_codec.specs.Settings.{without_limits}
 use Rattle.smithy_json_codec.specs.Spelling.{json_spells}
 use Rattle.smithy_cbor.specs.Canonical.{canonical_cbor}
 use Rattle.smithy_cbor.specs.Codec.{strict_settings as strict_cbor}
+use Rattle.smithy_cbor.specs.Settings.{without_limits as without_cbor_limits}
 use Rattle.smithy_cbor.specs.Spelling.{cbor_spells}
 use Rattle.smithy_transcode.specs.declared.wire.Wire.{Wire}
 use Rattle.smithy_transcode.specs.declared.wire.Wire.TheVariants.{Json, Cbor}
@@ -17,6 +19,13 @@ abbrev pub Spells : Wire → Table → ℕ → List ℕ → Value → Type 0
 Spells (Json use_json_name) table root bytes v =
     json_spells (strict_settings use_json_name) table (shape_place root) bytes v
 Spells Cbor table root bytes v = cbor_spells strict_cbor table (shape_place root) bytes v
+
+-- the same for bodies of any depth
+abbrev pub SpellsAtAnyDepth : Wire → Table → ℕ → List ℕ → Value → Type 0
+SpellsAtAnyDepth (Json use_json_name) table root bytes v =
+    json_spells (without_limits (strict_settings use_json_name)) table (shape_place root) bytes v
+SpellsAtAnyDepth Cbor table root bytes v =
+    cbor_spells (without_cbor_limits strict_cbor) table (shape_place root) bytes v
 
 -- the one body of a value of the root
 abbrev pub body : Wire → Table → ℕ → Value → List ℕ

@@ -7,12 +7,16 @@ use Rattle.smithy_schema.specs.Value.{Value}
 use Rattle.smithy_transcode.specs.declared.wire.Wire.{Wire}
 use Rattle.smithy_transcode.specs.declared.wire.TranscodeError.{TranscodeError}
 use Rattle.smithy_transcode.specs.declared.wire.TranscodeError.TheVariants.{InvalidInput, TooDeep, NoMemory}
-use Rattle.smithy_transcode.specs.Spelling.{Spells, body}
+use Rattle.smithy_transcode.specs.Spelling.{Spells, SpellsAtAnyDepth, body}
 use Rattle.smithy_transcode.specs.Causes.{openers}
 
 -- the bytes spell no value of the root
 abbrev pub SpellNothing : Wire → Table → ℕ → List ℕ → Type 0
 SpellNothing wire table root bytes = (v : Value) → Spells wire table root bytes v → ⊥
+
+-- they spell none of any depth
+abbrev pub SpellNothingAtAnyDepth : Wire → Table → ℕ → List ℕ → Type 0
+SpellNothingAtAnyDepth wire table root bytes = (v : Value) → SpellsAtAnyDepth wire table root bytes v → ⊥
 
 -- the bytes spell the value of the root, and no other
 abbrev pub SpellsAlone : Wire → Table → ℕ → List ℕ → Value → Type 0
@@ -41,6 +45,8 @@ pub record Transcodes (table : Table) (root : ℕ) (from : Wire) (input : List �
   pub spelled_is_ok : (v : Value) → Spells from table root input v → GivesOrNoMemory (body to table root v) answer
   -- each refusal of an input comes only where it spells nothing
   pub answers_invalid_input : IsErrOf answer InvalidInput → SpellNothing from table root input
+  -- `InvalidInput` also only where no greater depth would help
+  pub answers_invalid_at_any_depth : IsErrOf answer InvalidInput → SpellNothingAtAnyDepth from table root input
   -- and `TooDeep` only where 128 containers are open at once, or more
   pub answers_too_deep : IsErrOf answer TooDeep
       → SpellNothing from table root input × (128 ≤ openers from input)

@@ -6,6 +6,7 @@ ghost use Rattle.smithy_schema.specs.Site.{site_of, kind_at};
 ghost use Rattle.smithy_schema.specs.Table.{IsStructure};
 ghost use Rattle.smithy_schema.specs.Value.{Value as Plain};
 ghost use Rattle.smithy_cbor.specs.Codec.{strict_settings};
+ghost use Rattle.smithy_cbor.specs.Settings.{without_limits};
 ghost use Rattle.smithy_cbor.specs.Openers.{cbor_openers};
 ghost use Rattle.smithy_cbor.specs.Spelling.{cbor_spells};
 ghost use Rattle.smithy_cbor.specs.Canonical.{canonical_cbor};
@@ -29,6 +30,7 @@ pub(crate) fn read_cbor(
     ensures ok { IfOk result (λ v. cbor_spells strict_settings schema.now.shapes.now schema.now.place input.now (view v)) }
     ensures fits { IfOk result (λ v. Fits schema.now.shapes.now schema.now.place (view v)) }
     ensures refused { IfErr result (λ e. (e ≡ TranscodeError.NoMemory → ⊥) → (v : Plain) → cbor_spells strict_settings schema.now.shapes.now schema.now.place input.now v → ⊥) }
+    ensures would { IsErrOf result TranscodeError.InvalidInput → (v : Plain) → cbor_spells (without_limits strict_settings) schema.now.shapes.now schema.now.place input.now v → ⊥ }
     ensures deep { IsErrOf result TranscodeError.TooDeep → 128 ≤ cbor_openers input.now }
 {
     let codec = CborCodec::strict();

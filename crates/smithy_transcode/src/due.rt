@@ -19,6 +19,7 @@ pub(crate) fn read_due<D: ShapeDeserializer>(
     requires sound { (D.state source.old).failed ≡ false }
     ensures ok { IfOk result (λ v. Reads (D.wire (D.settings source.old)) (D.state source.old) (D.state source.new) schema.now.shapes.now schema.now.place (view v)) }
     ensures refused { IfErr result (λ e. (e ≡ TranscodeError.NoMemory → ⊥) → StandsNot (D.wire (D.settings source.old)) (D.state source.old) schema.now.shapes.now schema.now.place) }
+    ensures would { D.is_strict (D.settings source.old) → IsErrOf result TranscodeError.InvalidInput → StandsNot (D.lifted (D.settings source.old)) (D.state source.old) schema.now.shapes.now schema.now.place }
     ensures deep { IsErrOf result TranscodeError.TooDeep → ReachesDepth (D.wire (D.settings source.old)) (D.max_depth (D.settings source.old)) (D.state source.new) }
     ensures input { (D.state source.new).input ≡ (D.state source.old).input }
     ensures counted { D.is_strict (D.settings source.old) → IsCounted (D.wire (D.settings source.old)) (D.state source.old) → IsCounted (D.wire (D.settings source.old)) (D.state source.new) }

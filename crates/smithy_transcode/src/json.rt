@@ -6,6 +6,7 @@ ghost use Rattle.smithy_schema.specs.Site.{site_of, kind_at};
 ghost use Rattle.smithy_schema.specs.Table.{IsStructure};
 ghost use Rattle.smithy_schema.specs.Value.{Value as Plain};
 ghost use Rattle.smithy_json_codec.specs.Codec.{strict_settings};
+ghost use Rattle.smithy_json_codec.specs.Settings.{without_limits};
 ghost use Rattle.smithy_json_codec.specs.Openers.{json_openers};
 ghost use Rattle.smithy_json_codec.specs.Spelling.{json_spells};
 ghost use Rattle.smithy_json_codec.specs.Canonical.{canonical_json};
@@ -30,6 +31,7 @@ pub(crate) fn read_json(
     ensures ok { IfOk result (λ v. json_spells (strict_settings use_json_name) schema.now.shapes.now schema.now.place input.now (view v)) }
     ensures fits { IfOk result (λ v. Fits schema.now.shapes.now schema.now.place (view v)) }
     ensures refused { IfErr result (λ e. (e ≡ TranscodeError.NoMemory → ⊥) → (v : Plain) → json_spells (strict_settings use_json_name) schema.now.shapes.now schema.now.place input.now v → ⊥) }
+    ensures would { IsErrOf result TranscodeError.InvalidInput → (v : Plain) → json_spells (without_limits (strict_settings use_json_name)) schema.now.shapes.now schema.now.place input.now v → ⊥ }
     ensures deep { IsErrOf result TranscodeError.TooDeep → 128 ≤ json_openers input.now }
 {
     let codec = JsonCodec::strict(use_json_name);

@@ -5,7 +5,7 @@ ghost use Rattle.smithy_schema.specs.Fits.{Fits};
 ghost use Rattle.smithy_schema.specs.Table.{IsStructure, kind_of, shape_place};
 ghost use Rattle.smithy_transcode.specs.Causes.{openers};
 ghost use Rattle.smithy_transcode.specs.Spelling.{Spells, body};
-ghost use Rattle.smithy_transcode.specs.Transcoding.{Transcodes, SpellNothing};
+ghost use Rattle.smithy_transcode.specs.Transcoding.{Transcodes, SpellNothing, SpellNothingAtAnyDepth};
 ghost use Rattle.smithy_transcode.specs.View.{view};
 
 use crate::cbor::{read_cbor, write_cbor};
@@ -45,6 +45,7 @@ fn read_body(
     ensures ok { IfOk result (λ v. Spells from.now shapes.now root.0 input.now (view v)) }
     ensures fits { IfOk result (λ v. Fits shapes.now (shape_place root.0) (view v)) }
     ensures refused { IfErr result (λ e. (e ≡ TranscodeError.NoMemory → ⊥) → SpellNothing from.now shapes.now root.0 input.now) }
+    ensures would { IsErrOf result TranscodeError.InvalidInput → SpellNothingAtAnyDepth from.now shapes.now root.0 input.now }
     ensures deep { IsErrOf result TranscodeError.TooDeep → 128 ≤ openers from.now input.now }
 {
     let schema = shapes.schema(root);

@@ -2,7 +2,7 @@ use Rattle.std.proofs.Common.{◌∙◌}
 use Rattle.smithy_json_codec.specs.Cursor.{cursor_of, reading_settings_of}
 use Rattle.smithy_json_codec.specs.Codec.{strict_settings}
 use Rattle.smithy_transcode.proofs.Mapped.{mapped_ok, mapped_err}
-use Rattle.smithy_transcode.proofs.JsonReads.{read_spells, read_fits, unread_spells, deep_openers}
+use Rattle.smithy_transcode.proofs.JsonReads.{read_spells, read_fits, unread_spells, unread_at_any_depth, deep_openers}
 use Rattle.smithy_transcode.specs.View.{view}
 use Rattle.smithy_transcode.proofs.json.read_json.Goals as goal
 
@@ -29,6 +29,13 @@ returns-clause-refused c =
     (λ e none memory. unread_spells (reading_settings_of source) (strict_settings c.args.use_json_name) (c.create_deserializer-source.ensures.settings ∙ c.strict-codec.ensures)
     c.args.input.now (cursor_of source) c.create_deserializer-source.ensures.fresh c.args.schema.now.shapes.now c.args.schema.now.place c.requires (none memory))
     c.read_due.ensures.refused
+
+pub returns-clause-would : goal.returns-clause-would
+returns-clause-would c =
+    let source = c.create_deserializer-source.result in
+    λ invalid. unread_at_any_depth (reading_settings_of source) (strict_settings c.args.use_json_name) (c.create_deserializer-source.ensures.settings ∙ c.strict-codec.ensures)
+    c.args.input.now (cursor_of source) c.create_deserializer-source.ensures.fresh c.args.schema.now.shapes.now c.args.schema.now.place c.requires
+    (c.read_due.ensures.would tt invalid)
 
 pub returns-clause-deep : goal.returns-clause-deep
 returns-clause-deep c =
