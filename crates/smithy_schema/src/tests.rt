@@ -1,5 +1,5 @@
 //! Table texts with their answers, and the look-ups in a table.
-use crate::{Schema, ShapeRef, ShapeType, Shapes, TableFault, TableText};
+use crate::{Schema, SerdeError, ShapeRef, ShapeType, Shapes, TableFault, TableText};
 use std::alloc::Global;
 use std::test::Fail;
 
@@ -68,9 +68,110 @@ fn refuses(rt: HostRuntime) -> Result<(), Fail> {
 }
 
 #[test]
-fn writes_the_name_of_a_fault(rt: HostRuntime) -> Result<(), Fail> {
-    let written = format!(in rt.alloc(); "{}", TableFault::NameClash(3))?;
-    assert_eq!(rt; written.as_str(), "NameClash");
+fn refuses_a_line_that_is_no_utf8(rt: HostRuntime) -> Result<(), Fail> {
+    match TableText::read(rt.alloc(), b"structure S\nstructure \xff") {
+        Ok(_) => assert!(rt; false, "accepted"),
+        Err(found) => assert_eq!(rt; found, TableFault::BadLine(2)),
+    }
+    Ok(())
+}
+
+// So many lines behind a head, each with its number.
+fn numbered(
+    alloc: Global,
+    head: &str,
+    before: &str,
+    after: &str,
+    count: u32,
+) -> Result<String, Fail> {
+    let mut text = String::new(alloc);
+    text.push_str(head)?;
+    for number in 0..count {
+        text.push_str(before)?;
+        text.push_str(format!(in alloc; "{number}")?.as_str())?;
+        text.push_str(after)?;
+    }
+    Ok(text)
+}
+
+#[test]
+fn refuses_65536_members(rt: HostRuntime) -> Result<(), Fail> {
+    let text = numbered(
+        rt.alloc(),
+        "list L long\nstructure S\n",
+        "member m",
+        " long\n",
+        65_536,
+    )?;
+    match table_of(rt.alloc(), text.as_str()) {
+        Ok(_) => assert!(rt; false, "accepted"),
+        Err(found) => assert_eq!(rt; found, TableFault::TooMany(2)),
+    }
+    Ok(())
+}
+
+#[test]
+fn refuses_65536_declarations(rt: HostRuntime) -> Result<(), Fail> {
+    let text = numbered(rt.alloc(), "", "structure S", "\n", 65_536)?;
+    match table_of(rt.alloc(), text.as_str()) {
+        Ok(_) => assert!(rt; false, "accepted"),
+        Err(found) => assert_eq!(rt; found, TableFault::TooMany(65_536)),
+    }
+    Ok(())
+}
+
+// A fault, its name, and another fault: the same of another number, where it has one.
+const FAULTS: [(TableFault, &str, TableFault); 8] = [
+    (TableFault::BadLine(3), "BadLine", TableFault::BadLine(4)),
+    (TableFault::NotBuilt(3), "NotBuilt", TableFault::NotBuilt(4)),
+    (
+        TableFault::UnknownTarget(3),
+        "UnknownTarget",
+        TableFault::UnknownTarget(4),
+    ),
+    (
+        TableFault::DuplicateShape(3),
+        "DuplicateShape",
+        TableFault::DuplicateShape(4),
+    ),
+    (
+        TableFault::NameClash(3),
+        "NameClash",
+        TableFault::NameClash(4),
+    ),
+    (
+        TableFault::QueryName(3),
+        "QueryName",
+        TableFault::QueryName(4),
+    ),
+    (TableFault::TooMany(3), "TooMany", TableFault::TooMany(4)),
+    (TableFault::NoMemory, "NoMemory", TableFault::TooMany(3)),
+];
+
+#[test]
+fn a_fault_is_known_by_its_name_and_number(rt: HostRuntime) -> Result<(), Fail> {
+    for (fault, name, other) in FAULTS {
+        let written = format!(in rt.alloc(); "{fault}")?;
+        assert_eq!(rt; written.as_str(), name);
+        assert!(rt; fault != other);
+    }
+    Ok(())
+}
+
+const ERRORS: [(SerdeError, &str); 5] = [
+    (SerdeError::InvalidInput, "InvalidInput"),
+    (SerdeError::TooDeep, "TooDeep"),
+    (SerdeError::Unwritable, "Unwritable"),
+    (SerdeError::Failed, "Failed"),
+    (SerdeError::NoMemory, "NoMemory"),
+];
+
+#[test]
+fn writes_the_name_of_an_error(rt: HostRuntime) -> Result<(), Fail> {
+    for (error, name) in ERRORS {
+        let written = format!(in rt.alloc(); "{error}")?;
+        assert_eq!(rt; written.as_str(), name);
+    }
     Ok(())
 }
 
@@ -95,6 +196,44 @@ fn looks_up(rt: HostRuntime) -> Result<(), Fail> {
         expected = 1;
     }
     assert_eq!(rt; expected, 1);
+    Ok(())
+}
+
+#[test]
+fn tells_of_members_and_elements(rt: HostRuntime) -> Result<(), Fail> {
+    let shapes = table_of(
+        rt.alloc(),
+        "list Items string\nstructure S\nmember b long\nmember a Items",
+    )?;
+    assert_eq!(rt; shapes.len(), 2);
+    let root = shapes.schema(ShapeRef(1));
+    assert!(rt;
+        matches!(root.member_name(), None),
+        "a structure has no name"
+    );
+    assert!(rt; matches!(root.member(), None), "and no elements");
+    assert!(rt; matches!(root.member_at(2), None), "nor a third member");
+    let Some(member) = root.member_at(1) else {
+        assert!(rt; false, "a second member");
+        return Ok(());
+    };
+    assert_eq!(rt; member.member_name(), Some("a"));
+    assert!(rt;
+        matches!(member.json_name(), None),
+        "no name in JSON is given"
+    );
+    assert_eq!(rt; member.shape_type(), ShapeType::List);
+    assert!(rt; !member.is_sparse(), "not sparse");
+    let nameless = member.nameless();
+    assert!(rt; matches!(nameless.member_name(), None), "without a name");
+    assert!(rt; matches!(nameless.member_index(), None), "and a position");
+    assert_eq!(rt; nameless.shape_type(), ShapeType::List);
+    let Some(element) = member.member() else {
+        assert!(rt; false, "the elements");
+        return Ok(());
+    };
+    assert_eq!(rt; element.member_name(), Some("member"));
+    assert_eq!(rt; element.shape_type(), ShapeType::String);
     Ok(())
 }
 
