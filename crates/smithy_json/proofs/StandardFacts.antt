@@ -105,7 +105,7 @@ longs = refl
 pub a_number : IsJsonText (number (codes "42")) (codes "42\n")
 a_number = ([], codes "42", codes "\n", refl, tt, (refl, forty_two), (refl, tt))
 
--- [1 ,null]: the blank belongs to the number
+-- [true ,null]: the blank belongs to the element `true`
 pub an_array : IsValue (array (element (boolean true) (element null no_elements))) (codes "[true ,null]")
 an_array = (
   codes "true ,null",

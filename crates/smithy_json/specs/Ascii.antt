@@ -1,4 +1,4 @@
--- The bytes that RFC 8259 names, under its names.
+-- The bytes that RFC 8259 names, under its names (sections 2, 6 and 7).
 use Rattle.std.specs.Prelude.{ℕ, Bool, ◌||◌, ◌==◌}
 
 -- "

@@ -1,4 +1,4 @@
--- How a text is written between quotation marks.
+-- How a text is written between quotation marks (RFC 8259, section 7).
 use Rattle.std.specs.Prelude.{ℕ, List, [], ◌∷◌, ◌++◌, nat_lt, ◌==◌, ◌||◌, if◌then◌else◌, codes}
 use Rattle.std.specs.List.{flat_map}
 use Rattle.std.specs.Char.Escape.{hex_digit_at}

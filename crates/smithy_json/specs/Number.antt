@@ -1,4 +1,4 @@
--- The whole number that a number's text writes.
+-- The whole number that a number's text writes (RFC 8259, section 6).
 use Rattle.std.specs.Prelude.{ℕ, ◌^◌, List, [], ◌∷◌, Bool, ◌&&◌, ◌==◌, ℤ, pos, neg_ℤ, int_le, int_lt, Option, Some, None, option_map, if◌then◌else◌}
 use Rattle.std.specs.Str.{all_ascii_digits}
 use Rattle.std.specs.Str.Parse.{digits_value}

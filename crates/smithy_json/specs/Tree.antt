@@ -1,5 +1,5 @@
--- A JSON value as it is written: raw texts of numbers and strings, and members in order, those of
--- equal names kept.
+-- A JSON value as it is written (RFC 8259, sections 3 to 7): raw texts of numbers and strings, and members
+-- in order, those of equal names kept.
 use Rattle.std.specs.Prelude.{ℕ, suc, max, List, Bool}
 
 mutual

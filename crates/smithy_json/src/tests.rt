@@ -382,6 +382,50 @@ const FAULTS: [FaultRow; 16] = [
     },
 ];
 
+#[derive(Clone, Copy)]
+struct FaultName(EscapeError, &'static str);
+
+const FAULT_NAMES: [FaultName; 7] = [
+    FaultName(EscapeError::UnexpectedEndOfString, "UnexpectedEndOfString"),
+    FaultName(
+        EscapeError::InvalidEscapeCharacter('z'),
+        "InvalidEscapeCharacter",
+    ),
+    FaultName(EscapeError::InvalidUtf8, "InvalidUtf8"),
+    FaultName(EscapeError::InvalidUnicodeEscape, "InvalidUnicodeEscape"),
+    FaultName(EscapeError::ExpectedSurrogatePair, "ExpectedSurrogatePair"),
+    FaultName(
+        EscapeError::InvalidSurrogatePair(0xd801, 0xc501),
+        "InvalidSurrogatePair",
+    ),
+    FaultName(EscapeError::NoMemory, "NoMemory"),
+];
+
+#[test]
+fn a_fault_writes_its_name(rt: HostRuntime) -> Result<(), Fail> {
+    for FaultName(fault, name) in &FAULT_NAMES {
+        assert_eq!(rt; format!(in rt.alloc(); "{fault}")?.as_str(), *name);
+        assert_eq!(rt; fault.clone()?, *fault, "{name}");
+    }
+    Ok(())
+}
+
+#[test]
+fn a_copy_is_equal(rt: HostRuntime) -> Result<(), Fail> {
+    let text = EscapedStr::new("a\\n");
+    assert!(rt; text.clone()? == text);
+    assert!(rt; text != EscapedStr::new("a"));
+    assert_eq!(rt; text.as_escaped_str(), "a\\n");
+    let number = scan_number(b"x-10 ", 1).ok_or(EscapeError::InvalidUtf8)?;
+    assert_eq!(rt; number.clone()?, number);
+    assert!(rt; number.is_whole && number.end == 4);
+    let string = scan_string(b"x\"\\n\"", 1).ok_or(EscapeError::InvalidUtf8)?;
+    let copy = string.clone()?;
+    assert_eq!(rt; copy.text, "\\n");
+    assert!(rt; copy.has_escape && copy.closing == 4);
+    Ok(())
+}
+
 #[test]
 fn faulty_texts_are_refused(rt: HostRuntime) {
     for row in &FAULTS {
@@ -511,5 +555,24 @@ fn strings_are_written(rt: HostRuntime) -> Result<(), Fail> {
     array.finish()?;
     JsonValueWriter::new(&mut text).write_raw_value(" ")?;
     assert_eq!(rt; text.as_str(), "[\"a\\n\",false,{}] ");
+    Ok(())
+}
+
+#[test]
+fn a_place_is_begun_and_then_taken(rt: HostRuntime) -> Result<(), Fail> {
+    let mut text = String::new(rt.alloc());
+    let mut array = JsonArrayWriter::new(&mut text)?;
+    array.begin_value()?;
+    array.place().string_unchecked("a")?;
+    array.begin_value()?;
+    array.place().null()?;
+    let mut object = array.value()?.start_object()?;
+    object.begin_member("b")?;
+    object.place().boolean(true)?;
+    object.begin_member("\"")?;
+    object.place().string("c")?;
+    object.finish()?;
+    array.finish()?;
+    assert_eq!(rt; text.as_str(), "[\"a\",null,{\"b\":true,\"\\\"\":\"c\"}]");
     Ok(())
 }

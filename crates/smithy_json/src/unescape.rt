@@ -16,7 +16,7 @@ use std::borrow::CowStr;
 use std::str;
 
 /// What stands between the quotation marks of a string, with its escapes.
-#[derive(Clone, Copy, Debug)]
+#[derive(Clone, Copy, Debug, PartialEq, Eq)]
 pub struct EscapedStr<'a> {
     value: &'a str,
 }
