@@ -43,8 +43,7 @@ enum Part {
 }
 
 /// The end of the well-formed item that begins at the offset. It takes no recursion: what is open
-/// stands in a list, which takes memory only where the item is a tag, an array, a map or a string in
-/// chunks.
+/// stands in a list.
 pub fn skip_item(alloc: Global, input: &[u8], at: usize) -> Result<usize, ItemError>
     requires { at ≤ length input.now }
     ensures found { IfOk result (λ end. HoldsOneItem input.now at end) }

@@ -1,7 +1,8 @@
 //! The examples of RFC 8949, appendix A, and bytes that are no item.
 
 use crate::{
-    ItemError, ItemType, byte_chunks, item_type, read_head, skip_item, text_chunks, write_head,
+    Head, ItemError, ItemType, byte_chunks, item_type, read_head, skip_item, text_chunks,
+    write_head,
 };
 use std::borrow::{CowSlice, CowStr};
 use std::test::Fail;
@@ -386,7 +387,10 @@ fn chunks_are_joined(rt: HostRuntime) -> Result<(), Fail> {
     Ok(())
 }
 
-const REFUSED_TEXTS: [Refused; 6] = [
+const REFUSED_TEXTS: [Refused; 9] = [
+    Refused("nothing at all", b"", ItemError::Truncated),
+    Refused("reserved information", b"\x7c", ItemError::NotWellFormed),
+    Refused("no break", b"\x7f\x61\x61", ItemError::Truncated),
     Refused("an integer", b"\x00", ItemError::WrongType),
     Refused("a byte string", b"\x41\x61", ItemError::WrongType),
     Refused(
@@ -421,6 +425,39 @@ fn what_is_no_text_is_refused(rt: HostRuntime) {
     }
 }
 
+const REFUSED_BYTES: [Refused; 8] = [
+    Refused("nothing at all", b"", ItemError::Truncated),
+    Refused("an integer", b"\x00", ItemError::WrongType),
+    Refused("a text", b"\x61\x61", ItemError::WrongType),
+    Refused("reserved information", b"\x5c", ItemError::NotWellFormed),
+    Refused(
+        "a string that the end cuts off",
+        b"\x42\x01",
+        ItemError::Truncated,
+    ),
+    Refused("no break", b"\x5f\x41\x01", ItemError::Truncated),
+    Refused(
+        "a text as a chunk",
+        b"\x5f\x61\x61\xff",
+        ItemError::NotWellFormed,
+    ),
+    Refused(
+        "chunks as a chunk",
+        b"\x5f\x5f\xff\xff",
+        ItemError::NotWellFormed,
+    ),
+];
+
+#[test]
+fn what_is_no_byte_string_is_refused(rt: HostRuntime) {
+    for Refused(name, input, wanted) in &REFUSED_BYTES {
+        match byte_chunks(rt.alloc(), input, 0) {
+            Ok(_) => assert!(rt; false, "{name}"),
+            Err(error) => assert_eq!(rt; error, *wanted, "{name}"),
+        }
+    }
+}
+
 #[test]
 fn a_head_is_shortest(rt: HostRuntime) -> Result<(), Fail> {
     let mut out = Vec::new(rt.alloc());
@@ -429,5 +466,105 @@ fn a_head_is_shortest(rt: HostRuntime) -> Result<(), Fail> {
     let head = read_head(out.as_slice(), 0)?;
     assert_eq!(rt; head.argument, Some(24));
     assert_eq!(rt; head.length, 2);
+    Ok(())
+}
+
+/// Heads of which not all bytes are there, and those that no item has.
+const REFUSED_HEADS: [Refused; 6] = [
+    Refused("nothing at all", b"", ItemError::Truncated),
+    Refused("half an argument", b"\x19\x00", ItemError::Truncated),
+    Refused(
+        "a simple value without its byte",
+        b"\xf8",
+        ItemError::Truncated,
+    ),
+    Refused("reserved information", b"\x1e", ItemError::NotWellFormed),
+    Refused(
+        "an integer of indefinite length",
+        b"\x3f",
+        ItemError::NotWellFormed,
+    ),
+    Refused(
+        "a simple value below 32 in two bytes",
+        b"\xf8\x1f",
+        ItemError::NotWellFormed,
+    ),
+];
+
+#[test]
+fn what_is_no_head_is_refused(rt: HostRuntime) {
+    for Refused(name, input, wanted) in &REFUSED_HEADS {
+        assert_eq!(rt; read_head(input, 0), Err(*wanted), "{name}");
+    }
+    assert_eq!(rt; item_type(b"", 0), Err(ItemError::Truncated));
+    assert_eq!(rt; item_type(b"\x38", 0), Err(ItemError::Truncated));
+}
+
+#[derive(Clone, Copy)]
+struct ErrorName(ItemError, &'static str);
+
+const ERROR_NAMES: [ErrorName; 5] = [
+    ErrorName(ItemError::Truncated, "Truncated"),
+    ErrorName(ItemError::NotWellFormed, "NotWellFormed"),
+    ErrorName(ItemError::WrongType, "WrongType"),
+    ErrorName(ItemError::InvalidUtf8, "InvalidUtf8"),
+    ErrorName(ItemError::NoMemory, "NoMemory"),
+];
+
+#[test]
+fn an_error_writes_its_name(rt: HostRuntime) -> Result<(), Fail> {
+    for ErrorName(error, name) in &ERROR_NAMES {
+        assert_eq!(rt; format!(in rt.alloc(); "{error}")?.as_str(), *name);
+        assert_eq!(rt; error.clone()?, *error, "{name}");
+    }
+    Ok(())
+}
+
+/// Each type, in order; one that is unknown by its byte.
+const TYPES: [ItemType; 28] = [
+    ItemType::Bool,
+    ItemType::Null,
+    ItemType::Undefined,
+    ItemType::U8,
+    ItemType::U16,
+    ItemType::U32,
+    ItemType::U64,
+    ItemType::I8,
+    ItemType::I16,
+    ItemType::I32,
+    ItemType::I64,
+    ItemType::Int,
+    ItemType::F16,
+    ItemType::F32,
+    ItemType::F64,
+    ItemType::Simple,
+    ItemType::Bytes,
+    ItemType::BytesIndef,
+    ItemType::String,
+    ItemType::StringIndef,
+    ItemType::Array,
+    ItemType::ArrayIndef,
+    ItemType::Map,
+    ItemType::MapIndef,
+    ItemType::Tag,
+    ItemType::Break,
+    ItemType::Unknown(0x1c),
+    ItemType::Unknown(0xfc),
+];
+
+#[test]
+fn types_are_in_order(rt: HostRuntime) -> Result<(), Fail> {
+    for pair in TYPES.windows(2) {
+        assert!(rt; pair[0] < pair[1], "{:?} and {:?}", pair[0], pair[1]);
+    }
+    for item_type in &TYPES {
+        assert_eq!(rt; item_type.clone()?, *item_type);
+    }
+    let head = Head {
+        major: 0,
+        argument: Some(24),
+        length: 2,
+    };
+    assert_eq!(rt; head.clone()?, head);
     Ok(())
 }
