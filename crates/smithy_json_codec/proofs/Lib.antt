@@ -25,3 +25,4 @@ pub mod WrittenSpelling
 mod OpenersFacts
 pub mod OpenersLemmas
 pub mod OpenWalkLemmas
+pub mod DeepestLemmas

@@ -198,8 +198,8 @@ scalar_only : (k : Kind) (s : Scalar) → k ≡ scalar s → IsStructure k → �
 scalar_only k s kind h = rw kind at h
 
 -- a number that is one of 64 bits lies there
-abbrev pub LongLies : List ℕ → ℕ → Value → ℕ → Type 0
-LongLies i a v e = (raw : List ℕ) × TreeLies 1 (number raw) i a e × (long_of raw ≡ Some v)
+abbrev pub LongTextLies : List ℕ → ℕ → Value → ℕ → Type 0
+LongTextLies i a v e = (raw : List ℕ) × TreeLies 1 (number raw) i a e × (long_of raw ≡ Some v)
 
 -- a string that has a text lies there
 abbrev pub TextLies : List ℕ → ℕ → Value → ℕ → Type 0
@@ -207,10 +207,10 @@ TextLies i a v e = (raw s : List ℕ) × TreeLies 1 (string raw) i a e × (unesc
 
 module _ (o : Settings) (i : List ℕ) (t : Table) (p : Place) (d a : ℕ) (v : Value) (e : ℕ) where
   -- at the place of a long exactly such a number stands
-  pub long_stands : kind_of t p ≡ scalar scalars.Long → LongLies i a v e → (json_relations o).stands i t p d a v e
+  pub long_stands : kind_of t p ≡ scalar scalars.Long → LongTextLies i a v e → (json_relations o).stands i t p d a v e
   long_stands kind h = inl (number h.0, h.1, rw kind h.2)
 
-  long_tree : (x : Json) → kind_of t p ≡ scalar scalars.Long → TreeLies d x i a e → json_meaning o t p d x ≡ Some v → LongLies i a v e
+  long_tree : (x : Json) → kind_of t p ≡ scalar scalars.Long → TreeLies d x i a e → json_meaning o t p d x ≡ Some v → LongTextLies i a v e
   long_tree null kind lies means = cc
   long_tree (boolean b) kind lies means = cc
   long_tree (number raw) kind lies means = (raw, lies, rw kind at means)
@@ -219,7 +219,7 @@ module _ (o : Settings) (i : List ℕ) (t : Table) (p : Place) (d a : ℕ) (v : 
   long_tree (object ms) kind lies means = absurd (no_object_means o t p d scalars.Long ms v kind means)
 
   -- and back
-  pub stands_long : kind_of t p ≡ scalar scalars.Long → (json_relations o).stands i t p d a v e → LongLies i a v e
+  pub stands_long : kind_of t p ≡ scalar scalars.Long → (json_relations o).stands i t p d a v e → LongTextLies i a v e
   stands_long kind (inl h) = long_tree h.0 kind h.1 h.2
   stands_long kind (inr h) = absurd (scalar_only (kind_of t p) scalars.Long kind h.3)
 

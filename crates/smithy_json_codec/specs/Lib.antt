@@ -10,6 +10,7 @@ pub mod Cursor
 pub mod Standing
 pub mod Writing
 pub mod Serializing
+pub mod Deepest
 -- the laws of reading, and that the calls of writing nest
 pub mod Laws
 pub mod Nesting

@@ -240,12 +240,15 @@ impl<'a> JsonDeserializer<'a> {
 }
 
 impl ShapeDeserializer for JsonDeserializer<'_> {
-    ghost use Rattle.std.specs.Prelude.{◌≡◌, true, false, IsOk, OnOk, IsErrOf};
-    ghost use Rattle.smithy_schema.specs.Reading.{depth, Conducts, Passes, SkipsNot, NullsNot, ReachesDepth, null_is_due, IsRefused, IsInvalid, IsNoAnswer};
+    ghost use Rattle.std.specs.Prelude.{◌≡◌, ℕ, true, false, IfOk, IsOk, OnOk, IsErr, IsErrOf};
+    ghost use Rattle.smithy_schema.specs.Reading.{depth, in_structure, passed_to, Conducts, Passes, MatchStep, CannotGoOn, SkipsNot, NullsNot, ReachesDepth, null_is_due, IsRefused, IsInvalid, IsNoAnswer};
+    ghost use Rattle.smithy_schema.specs.Table.{IsStructure};
+    ghost use Rattle.smithy_schema.specs.Site.{site_of, kind_at};
     ghost use Rattle.smithy_schema.specs.declared.error.SerdeError.TheVariants.{NoMemory, TooDeep};
     ghost use Rattle.smithy_json_codec.specs.Cursor.{cursor_of, reading_settings_of};
     ghost use Rattle.smithy_json_codec.specs.Settings.{Settings, without_limits};
     ghost use Rattle.smithy_json_codec.specs.Standing.{json_relations};
+    ghost use Rattle.smithy_json_codec.specs.Deepest.{OpensTooDeep};
     ghost use Rattle.smithy_json_codec.specs.Laws.{lawful as json_is_lawful, fit as json_fits, counts as json_counts, above as limits_are_above};
 
     ghost Settings = { Settings };
@@ -292,7 +295,29 @@ impl ShapeDeserializer for JsonDeserializer<'_> {
         }
     }
 
-    fn next_member<'s>(&mut self, schema: &Schema<'s>) -> Result<Step<'s>, SerdeError> {
+    fn next_member<'s>(&mut self, schema: &Schema<'s>) -> Result<Step<'s>, SerdeError>
+        requires within { (cursor_of self.old).inner.within ≡ in_structure }
+        requires place { IsStructure (kind_at (site_of schema.now)) }
+        ensures same { reading_settings_of self.new ≡ reading_settings_of self.old }
+        ensures conduct { Conducts (cursor_of self.old) (cursor_of self.new) result }
+        ensures ok { (cursor_of self.old).due ≡ false → IfOk result (λ step. MatchStep step (json_relations (reading_settings_of self.old)) (cursor_of self.old) (cursor_of self.new) (site_of schema.now)) }
+        ensures refused { IsRefused result → (cursor_of self.old).due ≡ false
+            → CannotGoOn (json_relations (reading_settings_of self.old)) (cursor_of self.old) schema.now.shapes.now schema.now.place }
+        ensures would { Unit {0} → IsInvalid result → (cursor_of self.old).due ≡ false
+            → CannotGoOn (json_relations (without_limits (reading_settings_of self.old))) (cursor_of self.old) schema.now.shapes.now schema.now.place }
+        ensures unread { (cursor_of self.old).due ≡ true → (e : ℕ) → (json_relations (reading_settings_of self.old)).skips (cursor_of self.old).input (depth (cursor_of self.old)) (cursor_of self.old).at e
+            → IfOk result (λ step. MatchStep step (json_relations (reading_settings_of self.old)) (passed_to (cursor_of self.old) e) (cursor_of self.new) (site_of schema.now)) }
+        ensures unread_refused { IsRefused result → (cursor_of self.old).due ≡ true → (e : ℕ) → (json_relations (reading_settings_of self.old)).skips (cursor_of self.old).input (depth (cursor_of self.old)) (cursor_of self.old).at e
+            → CannotGoOn (json_relations (reading_settings_of self.old)) (passed_to (cursor_of self.old) e) schema.now.shapes.now schema.now.place }
+        ensures unread_would { Unit {0} → IsInvalid result → (cursor_of self.old).due ≡ true → (e : ℕ) → (json_relations (without_limits (reading_settings_of self.old))).skips (cursor_of self.old).input (depth (cursor_of self.old)) (cursor_of self.old).at e
+            → CannotGoOn (json_relations (without_limits (reading_settings_of self.old))) (passed_to (cursor_of self.old) e) schema.now.shapes.now schema.now.place }
+        ensures unskipped { (cursor_of self.old).due ≡ true → SkipsNot (json_relations (reading_settings_of self.old)) (cursor_of self.old) → IsErr result }
+        ensures deep { IsErrOf result TooDeep → ReachesDepth (json_relations (reading_settings_of self.old)) (reading_settings_of self.old).max_depth (cursor_of self.old) }
+
+        // It is too deep only by a value that was left unread, as `skip_value` is.
+        ensures due { IsErrOf result TooDeep → (cursor_of self.old).due ≡ true }
+        ensures too_deep { IsErrOf result TooDeep → OpensTooDeep (reading_settings_of self.old).max_depth (depth (cursor_of self.old)) (cursor_of self.old).input (cursor_of self.old).at }
+    {
         if self.failed {
             return Err(self.refuse(SerdeError::Failed));
         }
@@ -377,6 +402,9 @@ impl ShapeDeserializer for JsonDeserializer<'_> {
         ensures refused { IsRefused result → (cursor_of self.old).due ≡ true → SkipsNot (json_relations (reading_settings_of self.old)) (cursor_of self.old) }
         ensures would { IsInvalid result → (cursor_of self.old).due ≡ true → SkipsNot (json_relations (without_limits (reading_settings_of self.old))) (cursor_of self.old) }
         ensures deep { IsErrOf result TooDeep → ReachesDepth (json_relations (reading_settings_of self.old)) (reading_settings_of self.old).max_depth (cursor_of self.old) }
+
+        // It is too deep only by a container that begins at the greatest depth, behind what is sound.
+        ensures too_deep { IsErrOf result TooDeep → OpensTooDeep (reading_settings_of self.old).max_depth (depth (cursor_of self.old)) (cursor_of self.old).input (cursor_of self.old).at }
     {
         self.ready()?;
         match skipped_end(self.input, self.position, self.outer.len(), self.max_depth) {

@@ -4,6 +4,7 @@ ghost use Rattle.std.specs.Prelude.{◌≡◌, ◌≢◌, ◌<◌, ◌≤◌, �
 ghost use Rattle.smithy_schema.specs.declared.error.SerdeError.TheVariants.{TooDeep, Unwritable};
 ghost use Rattle.smithy_schema.specs.Reading.{IsFault, IsInvalid};
 ghost use Rattle.smithy_json.specs.Ascii.{begin_array, begin_object};
+ghost use Rattle.smithy_json_codec.specs.Deepest.{OpensTooDeep};
 ghost use Rattle.smithy_json_codec.specs.Openers.{json_openers};
 ghost use Rattle.smithy_json_codec.specs.Private.GoingOn.{IsFirstByte};
 ghost use Rattle.smithy_json_codec.specs.Private.Skipping.{SkipsTo, ScalarLies, NoValueLies, Fronts, GoesOnInside};
@@ -99,6 +100,7 @@ pub(crate) fn skipped_end(
     ensures refused { OnErr result ((e : ℕ) → SkipsTo max_depth depth input.now at e → ⊥) }
     ensures would { IsInvalid result → (greatest e : ℕ) → SkipsTo greatest depth input.now at e → ⊥ }
     ensures deep { IsErrOf result TooDeep → max_depth ≤ depth + json_openers (drop at input.now) }
+    ensures too_deep { IsErrOf result TooDeep → OpensTooDeep max_depth depth input.now at }
 {
     match front_of(input, at) {
         Some(Front::Scalar(end)) => Ok(end),
@@ -122,6 +124,7 @@ fn container_end(
     ensures refused { OnErr result ((e : ℕ) → SkipsTo max_depth depth input.now at e → ⊥) }
     ensures would { IsInvalid result → (greatest e : ℕ) → SkipsTo greatest depth input.now at e → ⊥ }
     ensures deep { IsErrOf result TooDeep → max_depth ≤ depth + json_openers (drop at input.now) }
+    ensures too_deep { IsErrOf result TooDeep → OpensTooDeep max_depth depth input.now at }
 {
     let mut at = at;
     let mut due = true;

@@ -1,6 +1,7 @@
 -- What a tree means at a place is a value of the place.
 use Rattle.std.specs.Prelude.{◌≡◌, ℕ, suc, ◌+◌, ◌^◌, ◌&&◌, ℤ, pos, neg_ℤ, int_le, int_lt, List, [], ◌∷◌, ◌++◌, Some, None, Bool, true, false, IsUtf8, refl, option_and_then, if◌then◌else◌}
 use Rattle.std.proofs.Common.{sym, arith, subst, inl, inr}
+use Rattle.std.proofs.lemmas.Bool.{and_parts}
 use Rattle.std.proofs.lemmas.Int.{ints}
 use Rattle.smithy_schema.specs.declared.place.Place.{Place}
 use Rattle.smithy_schema.specs.declared.shape_type.Scalar.TheVariants as scalars
@@ -23,13 +24,9 @@ use Rattle.smithy_json_codec.specs.Private.Texts.{HasTexts, ElementsHaveTexts, M
 
 -- ---- scalars
 
-both_true : (a b : Bool) → (a && b) ≡ true → (a ≡ true) × (b ≡ true)
-both_true true b h = (refl, h)
-both_true false b h = cc
-
 is_long_fits : (z : ℤ) → is_long z ≡ true → IsLong z
 is_long_fits z h =
-    let both = both_true (int_le (neg_ℤ (pos (2 ^ 63))) z) (int_lt z (pos (2 ^ 63))) h in
+    let both = and_parts (int_le (neg_ℤ (pos (2 ^ 63))) z) (int_lt z (pos (2 ^ 63))) h in
     let low = both.0 in
     let high = both.1 in
     (grind (arith, ints), grind (arith, ints))

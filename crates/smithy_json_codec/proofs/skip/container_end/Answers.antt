@@ -4,6 +4,7 @@ use Rattle.smithy_json_codec.specs.Private.Fronts.{byte_ahead}
 use Rattle.smithy_json_codec.specs.Private.Skipping.{opening, closing}
 use Rattle.smithy_json_codec.proofs.WalkLemmas.{scalar_passed, container_opened, opens_too_deep, value_missing, value_begun, container_closed, cannot_continue, scalar_ahead, value_place, falls_ahead, falls_on}
 use Rattle.smithy_json_codec.proofs.OpenersLemmas.{reaches_depth}
+use Rattle.smithy_json_codec.proofs.DeepestLemmas.{comes_past_scalar, comes_into_container, comes_too_deep, comes_to_value, comes_out_of_container}
 use Rattle.smithy_json_codec.proofs.OpenWalkLemmas.{opens_past_scalar, opens_into_container, opens_to_value, opens_out_of_container}
 use Rattle.smithy_json_codec.proofs.skip.container_end.Goals as goal
 use Rattle.smithy_json_codec.proofs.skip.container_end.Goals.{then-due, else-due+then-open-gt0}
@@ -20,6 +21,12 @@ returns-then-depth-open-clause-refused c =
 pub returns-then-depth-open-clause-deep : goal.returns-then-depth-open-clause-deep
 returns-then-depth-open-clause-deep c = λ deep.
     reaches_depth c.args.input.now c.args.at c.args.max_depth c.args.depth c.loop-due.open c.loop-due.at c.loop-due.invariant.opens c.if-depth-open.true
+
+pub returns-then-depth-open-clause-too_deep : goal.returns-then-depth-open-clause-too_deep
+returns-then-depth-open-clause-too_deep c = λ deep.
+    let bracket = rw c.in-Some-Container.field-0-is at c.in-Some-Container.ensures in
+    comes_too_deep c.args.depth c.loop-due.is_object c.loop-due.open c.loop-due.due c.loop-due.entered c.args.input.now c.args.at c.loop-due.at
+    c.loop-due.invariant.come c.if-due-2.true c.in-Some-Container.kind c.in-Some-Container.inside c.args.max_depth bracket c.loop-due.invariant.shallow c.if-depth-open.true
 
 pub returns-in-None-clause-refused : goal.returns-in-None-clause-refused
 returns-in-None-clause-refused c =
@@ -47,6 +54,8 @@ loop-due-preserved-in-Some-Scalar c =
       way = scalar_passed c.args.max_depth c.args.depth c.loop-due.is_object c.loop-due.open c.loop-due.due c.loop-due.entered c.args.input.now c.args.at c.loop-due.at
           c.loop-due.invariant.way c.loop-due.invariant.within c.loop-due.invariant.shallow c.if-due-2.true c.in-Some-Scalar.end scalar;
       opens = opens_past_scalar c.args.input.now c.args.at c.loop-due.open c.loop-due.at c.in-Some-Scalar.end c.loop-due.invariant.opens scalar;
+      come = comes_past_scalar c.args.depth c.loop-due.is_object c.loop-due.open c.loop-due.due c.loop-due.entered c.args.input.now c.args.at c.loop-due.at
+          c.loop-due.invariant.come c.if-due-2.true c.in-Some-Scalar.end scalar;
     }
 
 pub loop-due-smaller-else-depth-open : goal.loop-due-smaller-else-depth-open
@@ -65,6 +74,8 @@ loop-due-preserved-else-depth-open c =
       way = container_opened c.args.max_depth c.args.depth c.loop-due.is_object c.loop-due.open c.loop-due.due c.loop-due.entered c.args.input.now c.args.at c.loop-due.at
           c.loop-due.invariant.way c.loop-due.invariant.within c.loop-due.invariant.shallow c.if-due-2.true c.in-Some-Container.kind c.in-Some-Container.inside bracket (omega arith);
       opens = opens_into_container c.args.input.now c.args.at c.loop-due.open c.loop-due.at c.in-Some-Container.inside c.loop-due.invariant.opens c.in-Some-Container.kind bracket;
+      come = comes_into_container c.args.depth c.loop-due.is_object c.loop-due.open c.loop-due.due c.loop-due.entered c.args.input.now c.args.at c.loop-due.at
+          c.loop-due.invariant.come c.if-due-2.true c.in-Some-Container.kind c.in-Some-Container.inside bracket (omega arith);
     }
 
 pub loop-due-preserved-in-Element : goal.loop-due-preserved-in-Element
@@ -82,6 +93,8 @@ loop-due-preserved-in-Element c =
       way = value_begun c.args.max_depth c.args.depth c.loop-due.is_object c.loop-due.open c.loop-due.due c.loop-due.entered c.args.input.now c.args.at c.loop-due.at
           c.loop-due.invariant.way c.loop-due.invariant.within c.loop-due.invariant.shallow c.if-due-2.false some c.in-Element.start begins;
       opens = opens_to_value c.args.input.now c.args.at c.loop-due.open c.loop-due.at c.in-Element.start c.loop-due.invariant.opens _ c.loop-due.entered begins;
+      come = comes_to_value c.args.depth c.loop-due.is_object c.loop-due.open c.loop-due.due c.loop-due.entered c.args.input.now c.args.at c.loop-due.at
+          c.loop-due.invariant.come c.if-due-2.false some c.in-Element.start begins;
     }
 
 pub loop-due-smaller : goal.loop-due-smaller
@@ -104,6 +117,8 @@ loop-due-preserved c =
       way = container_closed c.args.max_depth c.args.depth c.loop-due.is_object c.loop-due.open c.loop-due.due c.loop-due.entered c.args.input.now c.args.at c.loop-due.at
           c.loop-due.invariant.way c.loop-due.invariant.within c.loop-due.invariant.shallow c.if-due-2.false some c.in-End.end closes;
       opens = opens_out_of_container c.args.input.now c.args.at c.loop-due.open c.loop-due.at c.in-End.end c.loop-due.invariant.opens _ _ some closes;
+      come = comes_out_of_container c.args.depth c.loop-due.is_object c.loop-due.open c.loop-due.due c.loop-due.entered c.args.input.now c.args.at c.loop-due.at
+          c.loop-due.invariant.come c.if-due-2.false some c.in-End.end closes;
     }
 
 pub returns-in_default-clause-refused : goal.returns-in_default-clause-refused

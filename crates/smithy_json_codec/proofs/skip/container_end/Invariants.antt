@@ -1,10 +1,12 @@
 use Rattle.std.proofs.Common.{◌≡◌, ◌+◌, ◌-◌, ◌*◌, ◌≤◌, length, cond}
 use Rattle.smithy_json_codec.proofs.OpenContainers.{IsOnTheWay, stack_of}
 use Rattle.smithy_json_codec.proofs.OpenersLemmas.{OpensInAll}
+use Rattle.smithy_json_codec.proofs.DeepestLemmas.{HasCome}
 use Rattle.smithy_json_codec.proofs.skip.container_end.Given as goal
 
 -- the value ends where what is left ends: the open containers, and a value first where one is due;
--- and its bytes open as many brackets at once as are open here, together with those to come
+-- its bytes open as many brackets at once as are open here, together with those to come; and what has
+-- come in each open container is whole
 abbrev pub invariant-loop-due : goal.invariant-loop-due
 invariant-loop-due l = record {
   within : l.at ≤ length l.input;
@@ -12,6 +14,7 @@ invariant-loop-due l = record {
   shallow : l.depth + l.open ≤ l.max_depth;
   way : IsOnTheWay l.max_depth l.depth (stack_of l.is_object l.open) l.due l.entered l.input l.fn.at l.at;
   opens : OpensInAll l.input l.fn.at l.open l.at;
+  come : HasCome (stack_of l.is_object l.open) l.due l.entered l.input l.fn.at l.at;
 }
 
 -- each step goes ahead, but that to the first element of a list, where a value is due then

@@ -8,6 +8,7 @@ use Rattle.smithy_json_codec.specs.Settings.{without_limits}
 use Rattle.smithy_json_codec.specs.Standing.{json_relations}
 use Rattle.smithy_json_codec.proofs.DeserializerLemmas.{held_depth, error_of, skips_not, skips_never, skips_same, skips_here}
 use Rattle.smithy_json_codec.proofs.SteeringLemmas.{stays_undue, invalid_refused}
+use Rattle.smithy_json_codec.specs.Deepest.{OpensTooDeep}
 use Rattle.smithy_json_codec.proofs.OpenWalkLemmas.{reader_reaches}
 use Rattle.smithy_json_codec.proofs.deserializer.JsonDeserializerShapeDeserializer.next_member.Goals as goal
 
@@ -63,3 +64,9 @@ returns-in-Err-clause-deep c = λ deep.
     let open_now : c.len.result ≡ length c.args.self.now.outer.items = search rules in
     reader_reaches (reading_settings_of c.args.self.now) (cursor_of c.args.self.now) c.len.result c.args.self.now.max_depth (open_now ∙ held_depth c.args.self.now)
     (c.in-Err.ensures.deep (ap Err (sym c.refuse-in-Err.ensures.error ∙ error_of c.refuse-in-Err.result TooDeep deep)))
+
+pub returns-in-Err-clause-too_deep : goal.returns-in-Err-clause-too_deep
+returns-in-Err-clause-too_deep c = λ deep.
+    let open_now : c.len.result ≡ length c.args.self.now.outer.items = search rules in
+    subst (λ n. OpensTooDeep c.args.self.now.max_depth n c.args.self.now.input.now c.args.self.now.position) (open_now ∙ held_depth c.args.self.now)
+    (c.in-Err.ensures.too_deep (ap Err (sym c.refuse-in-Err.ensures.error ∙ error_of c.refuse-in-Err.result TooDeep deep)))

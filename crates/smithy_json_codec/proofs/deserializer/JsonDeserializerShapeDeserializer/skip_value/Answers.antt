@@ -1,7 +1,8 @@
-use Rattle.std.proofs.Common.{◌≡◌, false, length, refl, rules, sym, ap, ◌∙◌, Err}
+use Rattle.std.proofs.Common.{◌≡◌, false, length, refl, rules, sym, ap, subst, ◌∙◌, Err}
 use Rattle.smithy_schema.specs.declared.error.SerdeError.TheVariants.{TooDeep}
 use Rattle.smithy_json_codec.specs.Cursor.{cursor_of, reading_settings_of}
 use Rattle.smithy_json_codec.proofs.DeserializerLemmas.{held_depth, error_of, skips_here, skips_not, skips_never, refusal_conducts}
+use Rattle.smithy_json_codec.specs.Deepest.{OpensTooDeep}
 use Rattle.smithy_json_codec.proofs.OpenWalkLemmas.{reader_reaches}
 use Rattle.smithy_json_codec.proofs.deserializer.JsonDeserializerShapeDeserializer.skip_value.Goals as goal
 
@@ -37,3 +38,10 @@ returns-in-Err-clause-deep c = λ deep.
     let open_now : c.len.result ≡ length c.args.self.now.outer.items = search rules in
     reader_reaches (reading_settings_of c.args.self.now) (cursor_of c.args.self.now) c.len.result c.args.self.now.max_depth (open_now ∙ held_depth c.args.self.now)
     (rw same at (c.in-Err.ensures.deep (ap Err (sym c.refuse.ensures.error ∙ error_of c.refuse.result TooDeep deep))))
+
+pub returns-in-Err-clause-too_deep : goal.returns-in-Err-clause-too_deep
+returns-in-Err-clause-too_deep c = λ deep.
+    let same : c.ready.new.self ≡ c.args.self.now = c.in_ok-ready.ensures.ok in
+    let open_now : c.len.result ≡ length c.args.self.now.outer.items = search rules in
+    subst (λ n. OpensTooDeep c.args.self.now.max_depth n c.args.self.now.input.now c.args.self.now.position) (open_now ∙ held_depth c.args.self.now)
+    (rw same at (c.in-Err.ensures.too_deep (ap Err (sym c.refuse.ensures.error ∙ error_of c.refuse.result TooDeep deep))))
