@@ -7,5 +7,6 @@ pub mod RunAnswer
 -- what the types of the program stand for
 pub mod Words
 pub mod Memory
+pub mod Os
 -- for private clauses
 pub mod Private

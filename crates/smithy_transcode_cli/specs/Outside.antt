@@ -46,7 +46,7 @@ HasFailed old new = (old.faults < new.faults) ⊎ (new.faults ≡ last_count)
 abbrev pub MetOneFault : Told → Told → Type 0
 MetOneFault old new = new.faults ≡ counted old.faults
 
--- the object met no fault
+-- the object met no fault that shows: at the last count none does
 abbrev pub MetNoFault : Told → Told → Type 0
 MetNoFault old new = new.faults ≡ old.faults
 

@@ -75,7 +75,7 @@ AfterTranscoding task old new P =
 
 -- ---- the statuses
 
--- P holds, and the input isn't touched
+-- P holds, and the input tells and counts what it did before
 abbrev pub BeforeInput : Sources → Sources → Type 0 → Type 0
 BeforeInput old new P = (new.input ≡ old.input) × P
 
@@ -135,7 +135,7 @@ pub record TaskAnswer (task : Task) (old new : Outside) (status : Status) : Type
   pub says : Says task old new status
   -- the input is read no further than one byte past the limit
   pub reads_no_further : (bytes : List ℕ) × Gave bytes old.input new.input × (length bytes ≤ longest_input + 1)
-  -- a fault of the file or the input ends the run with 6
+  -- a fault that shows in the count of the file or the input ends the run with 6
   pub table_met_no_fault : status ≢ ReadFailed → MetNoFault (old.files task.table_path) (new.files task.table_path)
   pub input_met_no_fault : status ≢ ReadFailed → MetNoFault old.input new.input
   -- a file that is told to be missing can't be loaded
@@ -153,11 +153,12 @@ pub record RunAnswer (words : List (List ℕ)) (old new : Outside) (code : ℕ) 
   pub is_not_built : (c : Transcode) → command_of words ≡ Some c → task_of c ≡ None → status ≡ NotBuilt
   pub answers : (c : Transcode) (task : Task) → command_of words ≡ Some c → task_of c ≡ Some task
       → TaskAnswer task old new status
-  -- where the words ask for no task, nothing is touched
+  -- where the words ask for no task, each object tells and counts what it did before
   pub only_for_a_task : task_asked words ≡ None → new ≡ old
   pub nothing_is_held_back : status ≡ Done → new.out_holds_back ≡ false
-  -- a fault of the output ends the run with 7
+  -- a fault that shows in the count of the output ends the run with 7
   pub out_met_no_fault : status ≢ WriteFailed → MetNoFault old.out new.out
+  -- what the output and standard error tell and count stays
   pub out_is_untouched : status ≢ Done → status ≢ WriteFailed
       → (new.out ≡ old.out) × (new.out_holds_back ≡ old.out_holds_back)
   pub err_is_untouched : new.err ≡ old.err

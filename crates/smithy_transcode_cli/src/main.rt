@@ -5,9 +5,10 @@
 //! wire TO. The process ends with the number of the `Status`.
 #![tactic(auto)]
 
-ghost use Rattle.std.specs.Prelude.{◌≡◌, ◌≢◌};
-ghost use Rattle.std.specs.IoError.{error_kind};
+ghost use Rattle.std.specs.Process.{exit_status};
+ghost use Rattle.smithy_transcode_cli.specs.Os.{EndsAsRun};
 
+mod arguments;
 mod memory;
 mod os;
 mod outside;
@@ -19,36 +20,42 @@ mod task;
 mod tests;
 mod words;
 
+use crate::arguments::read_words;
 use crate::os::{OsFiles, OsSink, OsSource};
-use crate::run::run;
-use crate::status::Status;
-use std::env;
-use std::io::{Error, ErrorKind};
+use crate::run::exit_code;
+use std::env::Env;
+use std::io::{Read, Write};
 use std::process::ExitCode;
+use std::rt;
 
-// The status where the arguments weren't read. Those that are no text are no command.
-fn unread(error: &Error) -> Status
-    ensures memory { error_kind error.now ≡ ErrorKind.OutOfMemory → result ≡ Status.OutOfMemory }
-    ensures usage { error_kind error.now ≢ ErrorKind.OutOfMemory → result ≡ Status.Usage }
+// Runs the program over the arguments, files and streams of a system.
+fn run_on_system<
+    A: Env + AllocGlobal,
+    F: rt::Files + Drop,
+    R: Read + Drop,
+    W: Write + Drop,
+    E: Write + Drop,
+>(arguments: &A, files: F, input: R, out: W, err: E) -> ExitCode
+    ensures { EndsAsRun (exit_status result) }
 {
-    match error.kind() {
-        ErrorKind::OutOfMemory => Status::OutOfMemory,
-        _ => Status::Usage,
-    }
+    let words = match read_words(arguments) {
+        Ok(words) => words,
+        Err(status) => return ExitCode::from(status.code()),
+    };
+    let mut files = OsFiles::new(files);
+    let mut input = OsSource::new(input);
+    let mut out = OsSink::new(out);
+    let mut err = OsSink::new(err);
+    exit_code(
+        arguments.alloc(),
+        &words,
+        &mut files,
+        &mut input,
+        &mut out,
+        &mut err,
+    )
 }
 
 fn main(rt: HostRuntime) -> ExitCode {
-    let alloc = rt.alloc();
-    let arguments = match env::args(&rt) {
-        Ok(arguments) => arguments,
-        Err(error) => return ExitCode::from(unread(&error).code()),
-    };
-    let Ok(words) = arguments.skip(1).collect::<Vec<String>>(alloc) else {
-        return ExitCode::from(Status::OutOfMemory.code());
-    };
-    let mut input = OsSource::new(rt.stdin());
-    let mut out = OsSink::new(rt.stdout());
-    let mut err = OsSink::new(rt.stderr());
-    let mut files = OsFiles::new(rt);
-    ExitCode::from(run(alloc, &words, &mut files, &mut input, &mut out, &mut err))
+    run_on_system(&rt, &rt, rt.stdin(), rt.stdout(), rt.stderr())
 }

@@ -1,25 +1,30 @@
 //! What the program asks of the outside: files, a source of bytes and sinks for them.
 //!
 //! Each object counts its faults, and may tell what it holds. The clauses on content hold where it
-//! is told.
+//! is told, and a count that stands at its last value shows no further fault.
 ghost use Rattle.std.specs.Prelude.{◌≡◌, ◌≢◌, ◌⊎◌, ◌<◌, ◌≤◌, [], List, Bool, ℕ, false, length, take, IfOk, OnOk, IsErrOf, MatchResult};
 ghost use Rattle.smithy_transcode_cli.specs.declared.outside.LoadFault.TheVariants as faults;
 ghost use Rattle.smithy_transcode_cli.specs.Outside.{Told, missing, IsCounted, IsCountedLoad, IsWhole, IsLonger, Gave, IsAtEnd, Took};
 
-use std::alloc::{AllocError, AllocFailed, Global};
+use std::alloc::{AllocError, Global};
+use thiserror::Error;
 
-/// A call that moved nothing, and was counted as a fault.
-#[derive(Clone, Copy, Debug, PartialEq, Eq)]
+/// A call that moved nothing, and was counted as a fault. `Display` writes its name.
+#[derive(Clone, Copy, Debug, PartialEq, Eq, Error)]
+#[error("Failed")]
 pub struct Failed;
 
-/// Why bytes were not loaded.
-#[derive(Clone, Copy, Debug, PartialEq, Eq)]
+/// Why bytes were not loaded. `Display` writes the variant's name.
+#[derive(Clone, Copy, Debug, PartialEq, Eq, Error)]
 pub enum LoadFault {
     /// A fault, which was counted.
+    #[error("Failed")]
     Failed,
     /// There are more bytes than the limit.
+    #[error("TooLong")]
     TooLong,
     /// Want of memory.
+    #[error("NoMemory")]
     NoMemory,
 }
 
@@ -67,7 +72,8 @@ pub trait Source {
         ensures bound { IfOk result (λ count. count ≤ length into.new) }
         ensures gave { MatchResult result (λ count. Gave (take count into.new) (told self.old) (told self.new)) (λ _. Gave [] (told self.old) (told self.new)) }
         ensures end { result ≡ Ok 0 → 0 < length into.new → IsAtEnd (told self.new) }
-        ensures counts { IsCounted result (told self.old) (told self.new) };
+        ensures counts { IsCounted result (told self.old) (told self.new) }
+        ensures later { (told self.old).faults ≤ (told self.new).faults };
 }
 
 /// A sink for bytes. It may hold some of them back until it is finished.
@@ -83,11 +89,13 @@ pub trait Sink {
         ensures bound { IfOk result (λ count. count ≤ length piece.now) }
         ensures took { MatchResult result (λ count. Took (take count piece.now) (told self.old) (told self.new)) (λ _. Took [] (told self.old) (told self.new)) }
         ensures some { 0 < length piece.now → result ≢ Ok 0 }
-        ensures counts { IsCounted result (told self.old) (told self.new) };
+        ensures counts { IsCounted result (told self.old) (told self.new) }
+        ensures later { (told self.old).faults ≤ (told self.new).faults };
 
     /// Passes on what is held back.
     fn finish(&mut self) -> Result<(), Failed>
         ensures took { Took [] (told self.old) (told self.new) }
         ensures passed_on { OnOk result (holds_back self.new ≡ false) }
-        ensures counts { IsCounted result (told self.old) (told self.new) };
+        ensures counts { IsCounted result (told self.old) (told self.new) }
+        ensures later { (told self.old).faults ≤ (told self.new).faults };
 }

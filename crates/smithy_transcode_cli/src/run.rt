@@ -1,5 +1,6 @@
 //! One run of the program.
 ghost use Rattle.std.specs.Prelude.{◌≡◌, ◌≢◌, ◌⊎◌, ◌↔◌, ◌≤◌, ◌+◌, ◌<◌, ℕ, List, Some, None, false, length, map, string_bytes, IfOk, IfErr, OnErr};
+ghost use Rattle.std.specs.Process.{exit_status};
 ghost use Rattle.smithy_schema.specs.Table.{Table, IsStructure, kind_of, shape_place, declared_as};
 ghost use Rattle.smithy_schema.specs.Acceptance.{accepted, table_of};
 ghost use Rattle.smithy_transcode_cli.specs.Outside.{Told, MetNoFault, Gave, outside};
@@ -17,6 +18,7 @@ use crate::words::Command;
 use smithy_schema::{ShapeRef, ShapeType, Shapes, TableText};
 use smithy_transcode::transcode;
 use std::alloc::Global;
+use std::process::ExitCode;
 
 // The most bytes of a table's text.
 const MAX_TABLE_LEN: usize = 1_048_576;
@@ -137,4 +139,20 @@ pub fn run<F: Files, S: Source, K: Sink, E: Sink>(
         Err(status) => return status.code(),
     };
     perform(alloc, &task, files, input, out).code()
+}
+
+/// Runs the program, and answers what its process ends with.
+pub fn exit_code<F: Files, S: Source, K: Sink, E: Sink>(
+    alloc: Global,
+    words: &[String],
+    files: &mut F,
+    input: &mut S,
+    out: &mut K,
+    err: &mut E,
+) -> ExitCode
+    ensures { RunAnswer (map string_bytes words.now)
+        (outside (F.told files.old) (S.told input.old) (K.told out.old) (E.told err.old) (K.holds_back out.old))
+        (outside (F.told files.new) (S.told input.new) (K.told out.new) (E.told err.new) (K.holds_back out.new)) (exit_status result) }
+{
+    ExitCode::from(run(alloc, words, files, input, out, err))
 }

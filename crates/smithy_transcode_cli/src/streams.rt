@@ -43,7 +43,7 @@ pub fn read_to_end<S: Source>(
     ensures end { OnOk result (IsAtEnd (S.told source.new)) }
     ensures within { IfOk result (λ bytes. length bytes.items ≤ limit) }
 
-    // The first fault ends it.
+    // The first fault that shows in the count ends it.
     ensures counts { IsCountedLoad result (S.told source.old) (S.told source.new) }
 
     ensures too_long { IsErrOf result LoadFault.TooLong → GavePast limit (S.told source.old) (S.told source.new) }

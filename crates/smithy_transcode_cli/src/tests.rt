@@ -1,15 +1,16 @@
-//! Runs over objects in memory, and the adapters of the system.
+//! Runs over objects in memory.
+mod adapters;
+mod process;
 mod rows;
 
 use crate::memory::{MemoryFiles, MemorySink, MemorySource};
-use crate::os::{OsFiles, OsSink, OsSource};
-use crate::outside::{Files, LoadFault, Sink, Source};
-use crate::run::run;
+use crate::outside::{Failed, LoadFault};
+use crate::run::{exit_code, run};
 use crate::streams::{read_to_end, write_all};
 use rows::{LONGS, ROWS, Row};
 use std::alloc::{AllocError, Global};
 use std::collections::BTreeMap;
-use std::process::Abort;
+use std::process::{Abort, ExitCode};
 use std::test::Fail;
 
 // The words of a row.
@@ -28,7 +29,7 @@ fn files_with(alloc: Global, table: Vec<u8>, fail: u64) -> Result<MemoryFiles, A
     Ok(MemoryFiles::new(entries, [fail].to_vec(alloc)?))
 }
 
-// Checks one row: the status, what was written, and that nothing stands on standard error.
+// Checks one row: what the process ends with, what was written, and that nothing stands on standard error.
 fn check(rt: &impl Abort, alloc: Global, row: &Row) -> Result<(), Fail> {
     let words = words_of(alloc, row.words)?;
     let piece = row.piece.max(1);
@@ -37,8 +38,8 @@ fn check(rt: &impl Abort, alloc: Global, row: &Row) -> Result<(), Fail> {
     let mut input = MemorySource::new(bytes, piece, [row.input_fail].to_vec(alloc)?);
     let mut out = MemorySink::new(alloc, piece, 4096, [row.out_fail].to_vec(alloc)?)?;
     let mut err = MemorySink::new(alloc, piece, 4096, Vec::new(alloc))?;
-    let status = run(alloc, &words, &mut files, &mut input, &mut out, &mut err);
-    assert_eq!(rt; status, row.status, "{}", row.name);
+    let code = exit_code(alloc, &words, &mut files, &mut input, &mut out, &mut err);
+    assert_eq!(rt; code, ExitCode::from(row.status), "{}", row.name);
     assert_eq!(rt; out.bytes.as_slice(), row.output, "{}", row.name);
     assert!(rt; err.bytes.is_empty(), "{}", row.name);
     Ok(())
@@ -191,32 +192,24 @@ fn a_source_is_read_to_its_end(rt: HostRuntime) -> Result<(), Fail> {
 }
 
 #[test]
-fn real_files_are_loaded(rt: HostRuntime) {
+fn a_full_sink_takes_no_more(rt: HostRuntime) -> Result<(), Fail> {
     let alloc = rt.alloc();
-    let mut files = OsFiles::new(&rt);
-    let empty = files.load(alloc, "/dev/null", 0);
-    assert!(rt; empty.is_ok_and(|bytes| bytes.is_empty()));
-    assert_eq!(rt;
-        files.load(alloc, "/dev/zero", 9).err(),
-        Some(LoadFault::TooLong)
-    );
-    assert_eq!(rt;
-        files.load(alloc, "absent", 9).err(),
-        Some(LoadFault::Failed)
-    );
-    assert_eq!(rt; files.load(alloc, ".", 9).err(), Some(LoadFault::Failed));
+    let mut sink = MemorySink::new(alloc, 4096, 2, Vec::new(alloc))?;
+    assert_eq!(rt; write_all(&mut sink, b"abc"), Err(Failed));
+    assert_eq!(rt; sink.bytes.as_slice(), b"ab".as_slice());
+    Ok(())
 }
 
 #[test]
-fn a_reader_is_a_source(rt: HostRuntime) {
-    let alloc = rt.alloc();
-    let mut source = OsSource::new(b"abc".as_slice());
-    let bytes = read_to_end(alloc, &mut source, 3);
-    assert!(rt; bytes.is_ok_and(|bytes| bytes.len() == 3));
-}
-
-#[test]
-fn a_writer_is_a_sink(rt: HostRuntime) {
-    let mut sink = OsSink::new(Vec::new(rt.alloc()));
-    assert!(rt; write_all(&mut sink, b"abc").is_ok());
+fn faults_show_their_names(rt: HostRuntime) -> Result<(), Fail> {
+    let rows = [
+        (LoadFault::Failed, "Failed"),
+        (LoadFault::TooLong, "TooLong"),
+        (LoadFault::NoMemory, "NoMemory"),
+    ];
+    for (fault, text) in rows {
+        assert_eq!(rt; format!(in rt.alloc(); "{fault}")?.as_str(), text);
+    }
+    assert_eq!(rt; format!(in rt.alloc(); "{Failed}")?.as_str(), "Failed");
+    Ok(())
 }

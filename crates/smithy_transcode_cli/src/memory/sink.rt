@@ -66,6 +66,7 @@ impl Sink for MemorySink {
         ensures took { MatchResult result (λ count. Took (take count piece.now) (sink_told self.old) (sink_told self.new)) (λ _. Took [] (sink_told self.old) (sink_told self.new)) }
         ensures some { 0 < length piece.now → result ≢ Ok 0 }
         ensures counts { IsCounted result (sink_told self.old) (sink_told self.new) }
+        ensures later { (sink_told self.old).faults ≤ (sink_told self.new).faults }
 
         // The calls that are to fail do, and those that find no room; the others take as much as they may.
         ensures calls { self.new.calls ≡ counted self.old.calls }
@@ -93,6 +94,7 @@ impl Sink for MemorySink {
     fn finish(&mut self) -> Result<(), Failed>
         ensures took { Took [] (sink_told self.old) (sink_told self.new) }
         ensures counts { IsCounted result (sink_told self.old) (sink_told self.new) }
+        ensures later { (sink_told self.old).faults ≤ (sink_told self.new).faults }
 
         // The calls that are to fail do, and no others.
         ensures calls { self.new.calls ≡ counted self.old.calls }

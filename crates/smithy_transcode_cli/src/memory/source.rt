@@ -1,5 +1,5 @@
 //! A source in memory.
-ghost use Rattle.std.specs.Prelude.{◌≡◌, ◌↔◌, ◌<◌, ◌≤◌, ◌-◌, [], min, length, take, Contains, IsErr, IfOk, MatchResult};
+ghost use Rattle.std.specs.Prelude.{◌≡◌, ◌↔◌, ◌<◌, ◌≤◌, ◌-◌, [], min, length, take, Contains, IsErr, IfOk, OnErr, MatchResult};
 
 use super::is_failing_call;
 use crate::outside::{Failed, Source};
@@ -57,13 +57,15 @@ impl Source for MemorySource {
         ensures gave { MatchResult result (λ count. Gave (take count into.new) (source_told self.old) (source_told self.new)) (λ _. Gave [] (source_told self.old) (source_told self.new)) }
         ensures end { result ≡ Ok 0 → 0 < length into.new → IsAtEnd (source_told self.new) }
         ensures counts { IsCounted result (source_told self.old) (source_told self.new) }
+        ensures later { (source_told self.old).faults ≤ (source_told self.new).faults }
 
         // The calls that are to fail do, and no others; the others give as much as they may.
         ensures calls { self.new.calls ≡ counted self.old.calls }
         ensures fails { IsErr result ↔ Contains self.old.fail.items self.new.calls }
         ensures as_much { IfOk result (λ count. count ≡ min (min (length self.old.bytes.items - self.old.at) self.old.piece) (length into.new)) }
 
-        // All else stays.
+        // All else stays, the buffer too where the call fails.
+        ensures unmoved { OnErr result (into.new ≡ into.old) }
         ensures bytes { self.new.bytes ≡ self.old.bytes }
         ensures piece { self.new.piece ≡ self.old.piece }
         ensures fail { self.new.fail ≡ self.old.fail }

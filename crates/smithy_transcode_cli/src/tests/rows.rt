@@ -22,7 +22,7 @@ pub struct Row {
     pub output: &'static [u8],
 }
 
-pub const ROWS: [Row; 37] = [
+pub const ROWS: [Row; 39] = [
     // What is written for a body, and which are refused.
     Row {
         name: "an unknown member is left out",
@@ -196,6 +196,30 @@ pub const ROWS: [Row; 37] = [
     Row {
         name: "another command",
         words: "gen 1 1",
+        table: LONGS,
+        input: b"{\"z\":[1], \"a\" : 7}",
+        files_fail: 0,
+        input_fail: 0,
+        out_fail: 0,
+        piece: 4096,
+        status: 2,
+        output: b"",
+    },
+    Row {
+        name: "a word for help",
+        words: "--help",
+        table: LONGS,
+        input: b"{\"z\":[1], \"a\" : 7}",
+        files_fail: 0,
+        input_fail: 0,
+        out_fail: 0,
+        piece: 4096,
+        status: 2,
+        output: b"",
+    },
+    Row {
+        name: "a word for the version",
+        words: "--version",
         table: LONGS,
         input: b"{\"z\":[1], \"a\" : 7}",
         files_fail: 0,

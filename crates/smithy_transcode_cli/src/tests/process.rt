@@ -1,0 +1,104 @@
+//! What the process ends with, over arguments and streams in memory and a real file.
+use crate::run_on_system;
+use std::env::{Env, FillError};
+use std::fs;
+use std::process::{Abort, ExitCode};
+use std::test::Fail;
+
+/// Arguments that are held in memory.
+#[derive(Clone, Copy)]
+struct Arguments {
+    all: &'static [&'static [u8]],
+}
+
+impl Env for Arguments {
+    fn arg(&self, i: usize, buf: &mut [u8]) -> Result<usize, FillError> {
+        let Some(argument) = self.all.get(i) else {
+            return Err(FillError::NotPresent);
+        };
+        if argument.len() > buf.len() {
+            return Err(FillError::TooLong);
+        }
+        buf[..argument.len()].copy_from_slice(argument);
+        Ok(argument.len())
+    }
+
+    fn var(&self, _name: &str, _buf: &mut [u8]) -> Result<usize, FillError> {
+        Err(FillError::NotPresent)
+    }
+
+    fn var_at(&self, _i: usize, _buf: &mut [u8]) -> Result<usize, FillError> {
+        Err(FillError::NotPresent)
+    }
+}
+
+/// A run of the process.
+#[derive(Clone, Copy)]
+struct Process {
+    name: &'static str,
+    arguments: &'static [&'static [u8]],
+    input: &'static [u8],
+    status: u8,
+    output: &'static [u8],
+}
+
+const PROCESSES: [Process; 6] = [
+    Process {
+        name: "a body is written",
+        arguments: &[b"cli", b"transcode", b"shapes", b"S", b"json", b"json"],
+        input: b"{\"z\":[1], \"a\" : 7}",
+        status: 0,
+        output: b"{\"a\":7}",
+    },
+    Process {
+        name: "no arguments",
+        arguments: &[],
+        input: b"{}",
+        status: 2,
+        output: b"",
+    },
+    Process {
+        name: "an argument that is no text is no command",
+        arguments: &[b"cli", b"transcode", b"shapes", b"\xff", b"json", b"json"],
+        input: b"{}",
+        status: 2,
+        output: b"",
+    },
+    Process {
+        name: "no such file",
+        arguments: &[b"cli", b"transcode", b"absent", b"S", b"json", b"json"],
+        input: b"{}",
+        status: 6,
+        output: b"",
+    },
+    Process {
+        name: "a body that spells nothing",
+        arguments: &[b"cli", b"transcode", b"shapes", b"S", b"json", b"json"],
+        input: b"{",
+        status: 10,
+        output: b"",
+    },
+    Process {
+        name: "a wire that isn't built",
+        arguments: &[b"cli", b"transcode", b"shapes", b"S", b"json-name", b"json"],
+        input: b"{}",
+        status: 30,
+        output: b"",
+    },
+];
+
+#[test]
+fn the_process_ends_with_the_status(rt: HostRuntime) -> Result<(), Fail> {
+    fs::write(&rt, "shapes", "structure S\nmember a long\n")?;
+    for row in &PROCESSES {
+        let arguments = Arguments { all: row.arguments };
+        let mut out = Vec::new(rt.alloc());
+        let mut err = Vec::new(rt.alloc());
+        let code = run_on_system(&(arguments, rt.alloc()), &rt, row.input, &mut out, &mut err);
+        assert_eq!(rt; code, ExitCode::from(row.status), "{}", row.name);
+        assert_eq!(rt; out.as_slice(), row.output, "{}", row.name);
+        assert!(rt; err.is_empty(), "{}", row.name);
+    }
+    fs::remove_file(&rt, "shapes")?;
+    Ok(())
+}
