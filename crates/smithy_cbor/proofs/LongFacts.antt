@@ -5,7 +5,7 @@ use Rattle.std.specs.Option.{IfNone}
 use Rattle.std.specs.Bool.{then_some}
 use Rattle.std.specs.Int.{w64}
 use Rattle.std.proofs.lemmas.Int.{ints}
-use Rattle.std.proofs.lemmas.Bool.{ltb-true}
+use Rattle.std.proofs.lemmas.Bool.{and_parts, ltb-true}
 use Rattle.cbor_item.specs.Head.{HeadRead, BeginsWithHead}
 use Rattle.cbor_item.specs.Item.{Item, unsigned, negative, byte_string, text_string, array, map, tag, simple, float}
 use Rattle.cbor_item.specs.WellFormed.{IsItemAt}
@@ -17,16 +17,12 @@ use Rattle.smithy_cbor.specs.Private.AtPlace.{IsLongAt}
 use Rattle.smithy_cbor.specs.Private.ItemPlaces.{item_front, one_item}
 use Rattle.smithy_cbor.proofs.HeadFaults.{no_wanted_head}
 
-both_true : (a b : Bool) → (a && b) ≡ true → (a ≡ true) × (b ≡ true)
-both_true true b h = (refl, h)
-both_true false b h = absurd (cc)
-
 -- what is a long fits 64 bits
 long_fits : (z : ℤ) → is_long z ≡ true → FitsSigned w64 z
 long_fits (pos n) h =
-    record { sfits = ltb-true _ _ (both_true (int_le (neg_ℤ (pos (2 ^ 63))) (pos n)) (int_lt (pos n) (pos (2 ^ 63))) h).1 }
+    record { sfits = ltb-true _ _ (and_parts (int_le (neg_ℤ (pos (2 ^ 63))) (pos n)) (int_lt (pos n) (pos (2 ^ 63))) h).1 }
 long_fits (negsuc n) h =
-    let low = (both_true (int_le (neg_ℤ (pos (2 ^ 63))) (negsuc n)) (int_lt (negsuc n) (pos (2 ^ 63))) h).0 in
+    let low = (and_parts (int_le (neg_ℤ (pos (2 ^ 63))) (negsuc n)) (int_lt (negsuc n) (pos (2 ^ 63))) h).0 in
     record { sfits = grind (arith, ints) }
 
 -- the head of an integer

@@ -7,6 +7,7 @@ use Rattle.smithy_schema.specs.declared.shape_type.Scalar.TheVariants as scalars
 use Rattle.smithy_schema.specs.Table.{Table, Kind, scalar, structure_of, list_of, nothing, kind_of, place_in}
 use Rattle.smithy_schema.specs.Value.{Value, whole, text, nesting}
 use Rattle.smithy_schema.specs.Container.{Entry, container_of}
+use Rattle.smithy_schema.specs.Private.Options.{same_some}
 use Rattle.smithy_schema.proofs.NestingLemmas.{NestWithin, container_nests}
 use Rattle.cbor_item.specs.Item.{Item, unsigned, negative, byte_string, text_string, array, map, tag, simple, float, Items, no_items, item, Pairs, no_pairs, pair}
 use Rattle.smithy_cbor.specs.Settings.{Settings, Limits, kept, lifted, is_within, is_shallow}
@@ -15,9 +16,6 @@ use Rattle.smithy_cbor.specs.Meaning.{position_in, integer_meaning, text_meaning
 use Rattle.smithy_cbor.specs.Spelling.{cbor_spells}
 
 -- ---- by the kind of the place
-
-same_some : {A : Type 0} (a b : A) → Some a ≡ Some b → a ≡ b
-same_some a b h = cc
 
 long_nests : (b : Bool) (z : ℤ) (v : Value) (most : ℕ) → (if b then Some (whole z) else None) ≡ Some v → nesting v ≤ most
 long_nests true z v most h = subst (λ u. nesting u ≤ most) (same_some (whole z) v h) (omega arith)

@@ -3,6 +3,7 @@ use Rattle.std.proofs.Common.{◌≡◌, ℕ, suc, zero, List, [], ◌∷◌, �
 use Rattle.std.specs.Prelude.{slice_range, All, IsUtf8, if◌then◌else◌, ◌&&◌}
 use Rattle.std.specs.List.{concat, list_all}
 use Rattle.std.specs.Str.{is_utf8}
+use Rattle.std.proofs.lemmas.Bool.{and_parts}
 use Rattle.std.proofs.lemmas.Str.{IsUtf8-from_is_utf8, is_utf8-from_IsUtf8}
 use Rattle.cbor_item.specs.declared.error.ItemError.{ItemError}
 use Rattle.cbor_item.specs.declared.error.ItemError.TheVariants as item
@@ -24,14 +25,10 @@ all_pass : (chunks : List (List ℕ)) → All IsUtf8 chunks → list_all is_utf8
 all_pass [] h = refl
 all_pass (c ∷ cs) h = rw (is_utf8-from_IsUtf8 c (h 0 [] (omega arith)), all_pass cs (λ k d inside. h (suc k) d (omega arith))) refl
 
-both_true : (a b : Bool) → (a && b) ≡ true → (a ≡ true) × (b ≡ true)
-both_true true b h = (refl, h)
-both_true false b h = absurd (cc)
-
 all_utf8 : (chunks : List (List ℕ)) → list_all is_utf8 chunks ≡ true → All IsUtf8 chunks
 all_utf8 [] h k d inside = absurd (omega arith)
-all_utf8 (c ∷ cs) h zero d inside = IsUtf8-from_is_utf8 c (both_true (is_utf8 c) (list_all is_utf8 cs) h).0
-all_utf8 (c ∷ cs) h (suc k) d inside = all_utf8 cs (both_true (is_utf8 c) (list_all is_utf8 cs) h).1 k d (omega arith)
+all_utf8 (c ∷ cs) h zero d inside = IsUtf8-from_is_utf8 c (and_parts (is_utf8 c) (list_all is_utf8 cs) h).0
+all_utf8 (c ∷ cs) h (suc k) d inside = all_utf8 cs (and_parts (is_utf8 c) (list_all is_utf8 cs) h).1 k d (omega arith)
 
 -- the text of chunks that are UTF-8
 pub joined_is : (chunks : List (List ℕ)) → All IsUtf8 chunks → joined_text chunks ≡ Some (concat chunks)

@@ -228,8 +228,10 @@ impl<'a> CborDeserializer<'a> {
 }
 
 impl ShapeDeserializer for CborDeserializer<'_> {
-    ghost use Rattle.std.specs.Prelude.{◌≡◌, OnOk, IsErr, IsErrOf, true, false};
-    ghost use Rattle.smithy_schema.specs.Reading.{depth, null_is_due, Conducts, Passes, IsRefused, IsInvalid, NullsNot};
+    ghost use Rattle.std.specs.Prelude.{◌≡◌, ℕ, OnOk, IfOk, IsErr, IsErrOf, true, false};
+    ghost use Rattle.smithy_schema.specs.Reading.{depth, in_structure, passed_to, null_is_due, Conducts, Passes, MatchStep, CannotGoOn, IsRefused, IsInvalid, IsNoAnswer, NullsNot, SkipsNot, ReachesDepth};
+    ghost use Rattle.smithy_schema.specs.Table.{IsStructure};
+    ghost use Rattle.smithy_schema.specs.Site.{site_of, kind_at};
     ghost use Rattle.smithy_schema.specs.declared.error.SerdeError.TheVariants.{NoMemory, TooDeep};
     ghost use Rattle.smithy_cbor.specs.Cursor.{cursor_of, reading_settings_of};
     ghost use Rattle.smithy_cbor.specs.Settings.{Settings, without_limits};
@@ -280,7 +282,28 @@ impl ShapeDeserializer for CborDeserializer<'_> {
         }
     }
 
-    fn next_member<'s>(&mut self, schema: &Schema<'s>) -> Result<Step<'s>, SerdeError> {
+    fn next_member<'s>(&mut self, schema: &Schema<'s>) -> Result<Step<'s>, SerdeError>
+        requires within { (cursor_of self.old).inner.within ≡ in_structure }
+        requires place { IsStructure (kind_at (site_of schema.now)) }
+        ensures same { reading_settings_of self.new ≡ reading_settings_of self.old }
+        ensures conduct { Conducts (cursor_of self.old) (cursor_of self.new) result }
+        ensures ok { (cursor_of self.old).due ≡ false → IfOk result (λ step. MatchStep step (cbor_relations (reading_settings_of self.old)) (cursor_of self.old) (cursor_of self.new) (site_of schema.now)) }
+        ensures refused { IsRefused result → (cursor_of self.old).due ≡ false
+            → CannotGoOn (cbor_relations (reading_settings_of self.old)) (cursor_of self.old) schema.now.shapes.now schema.now.place }
+        ensures would { Unit {0} → IsInvalid result → (cursor_of self.old).due ≡ false
+            → CannotGoOn (cbor_relations (without_limits (reading_settings_of self.old))) (cursor_of self.old) schema.now.shapes.now schema.now.place }
+        ensures unread { (cursor_of self.old).due ≡ true → (e : ℕ) → (cbor_relations (reading_settings_of self.old)).skips (cursor_of self.old).input (depth (cursor_of self.old)) (cursor_of self.old).at e
+            → IfOk result (λ step. MatchStep step (cbor_relations (reading_settings_of self.old)) (passed_to (cursor_of self.old) e) (cursor_of self.new) (site_of schema.now)) }
+        ensures unread_refused { IsRefused result → (cursor_of self.old).due ≡ true → (e : ℕ) → (cbor_relations (reading_settings_of self.old)).skips (cursor_of self.old).input (depth (cursor_of self.old)) (cursor_of self.old).at e
+            → CannotGoOn (cbor_relations (reading_settings_of self.old)) (passed_to (cursor_of self.old) e) schema.now.shapes.now schema.now.place }
+        ensures unread_would { Unit {0} → IsInvalid result → (cursor_of self.old).due ≡ true → (e : ℕ) → (cbor_relations (without_limits (reading_settings_of self.old))).skips (cursor_of self.old).input (depth (cursor_of self.old)) (cursor_of self.old).at e
+            → CannotGoOn (cbor_relations (without_limits (reading_settings_of self.old))) (passed_to (cursor_of self.old) e) schema.now.shapes.now schema.now.place }
+        ensures unskipped { (cursor_of self.old).due ≡ true → SkipsNot (cbor_relations (reading_settings_of self.old)) (cursor_of self.old) → IsErr result }
+        ensures deep { IsErrOf result TooDeep → ReachesDepth (cbor_relations (reading_settings_of self.old)) (reading_settings_of self.old).max_depth (cursor_of self.old) }
+
+        // An unread member may nest to any depth.
+        ensures shallow { IsErrOf result TooDeep → ⊥ }
+    {
         if self.failed {
             return Err(self.refuse(SerdeError::Failed));
         }
@@ -358,14 +381,26 @@ impl ShapeDeserializer for CborDeserializer<'_> {
         Ok(())
     }
 
-    fn skip_value(&mut self) -> Result<(), SerdeError> {
+    fn skip_value(&mut self) -> Result<(), SerdeError>
+        ensures same { reading_settings_of self.new ≡ reading_settings_of self.old }
+        ensures conduct { Conducts (cursor_of self.old) (cursor_of self.new) result }
+        ensures undue { (cursor_of self.old).due ≡ false → IsNoAnswer result }
+        ensures ok { OnOk result ((cbor_relations (reading_settings_of self.old)).skips (cursor_of self.old).input (depth (cursor_of self.old)) (cursor_of self.old).at (cursor_of self.new).at) }
+        ensures passes { OnOk result (Passes (cursor_of self.old) (cursor_of self.new)) }
+        ensures refused { IsRefused result → (cursor_of self.old).due ≡ true → SkipsNot (cbor_relations (reading_settings_of self.old)) (cursor_of self.old) }
+        ensures would { Unit {0} → IsInvalid result → (cursor_of self.old).due ≡ true → SkipsNot (cbor_relations (without_limits (reading_settings_of self.old))) (cursor_of self.old) }
+        ensures deep { IsErrOf result TooDeep → ReachesDepth (cbor_relations (reading_settings_of self.old)) (reading_settings_of self.old).max_depth (cursor_of self.old) }
+
+        // What is skipped may nest to any depth.
+        ensures shallow { IsErrOf result TooDeep → ⊥ }
+    {
         self.ready()?;
         match skipped_end(self.alloc, self.input, self.position, self.outer.len()) {
             Ok(end) => {
                 self.pass(end);
                 Ok(())
             }
-            Err(error) => Err(self.refuse(error)),
+            Err(fault) => Err(self.refuse(fault)),
         }
     }
 

@@ -18,13 +18,13 @@ returns-in-Err-clause-refused c = λ fault due.
     let same : c.ready.new.self ≡ c.args.self.now = c.in_ok-ready.ensures.ok in
     let open_now : c.len.result ≡ length c.ready.new.self.outer.items = search rules in
     rw (← same) (skips_not (reading_settings_of c.ready.new.self) (cursor_of c.ready.new.self) c.len.result (open_now ∙ held_depth c.ready.new.self)
-    (c.in-Err.ensures.none (input_fault c.in-Err.error c.in-Err.ensures.kind (rw c.refuse.ensures.error at fault))))
+    (c.in-Err.ensures.none (input_fault c.in-Err.fault c.in-Err.ensures.kind (rw c.refuse.ensures.error at fault))))
 
 pub returns-in-Err-clause-would : goal.returns-in-Err-clause-would
 returns-in-Err-clause-would c = λ strict invalid due.
     let same : c.ready.new.self ≡ c.args.self.now = c.in_ok-ready.ensures.ok in
     let open_now : c.len.result ≡ length c.ready.new.self.outer.items = search rules in
-    let is : c.in-Err.error ≡ InvalidInput = elim c.in-Err.ensures.kind [
+    let is : c.in-Err.fault ≡ InvalidInput = elim c.in-Err.ensures.kind [
       | inl input ↦ input
       | inr memory ↦ absurd (rw (c.refuse.ensures.error, memory) at invalid)
     ] in
