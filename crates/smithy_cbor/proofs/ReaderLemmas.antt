@@ -7,8 +7,8 @@ use Rattle.smithy_schema.specs.declared.shape_type.Scalar.TheVariants as scalars
 use Rattle.smithy_schema.specs.Table.{Table, Kind, scalar, kind_of, IsList, IsStructure}
 use Rattle.smithy_schema.specs.Value.{Value, whole, text}
 use Rattle.smithy_schema.specs.Container.{Entry}
-use Rattle.smithy_schema.specs.Private.Kinds.{no_list_and_structure}
-use Rattle.smithy_schema.specs.Private.Options.{chosen, made}
+use Rattle.smithy_schema.specs.Lemmas.Kinds.{no_list_and_structure}
+use Rattle.smithy_schema.specs.Lemmas.Options.{chosen, made}
 use Rattle.smithy_schema.specs.Reading.{Mark}
 use Rattle.cbor_item.specs.Item.{Item, unsigned, negative, byte_string, text_string, array, map, tag, simple, float}
 use Rattle.smithy_cbor.specs.Settings.{Settings, is_shallow}

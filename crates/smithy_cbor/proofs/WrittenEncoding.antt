@@ -5,10 +5,9 @@ use Rattle.std.proofs.lemmas.Bool.Decides.{nat_tests}
 use Rattle.std.proofs.lemmas.Int.{ints}
 use Rattle.std.proofs.lemmas.List.{append-nil}
 use Rattle.smithy_schema.specs.Table.{is_sparse, IsList, IsStructure}
-use Rattle.smithy_schema.specs.Site.{Site, View, kind_at}
+use Rattle.smithy_schema.specs.Site.{Site, View, kind_at, element_of, member_of}
 use Rattle.smithy_schema.specs.Value.{Value, whole, text, list, structure, null_element, Values, no_values, value, MemberValues, no_member_values, member_value}
 use Rattle.smithy_schema.specs.Fits.{IsLong, FitsOr, ElementsFit, MembersFit}
-use Rattle.smithy_schema.specs.Writing.{element_of, member_of}
 use Rattle.cbor_item.specs.Head.{width_limit, IsHead, narrowest, shortest_head}
 use Rattle.cbor_item.specs.Item.{definite}
 use Rattle.cbor_item.specs.WellFormed.{break, IsString, IsEncodingOf, AreEncodingsOf, ArePairEncodingsOf}

@@ -1,9 +1,8 @@
 -- The item of a value's canonical encoding.
 use Rattle.std.proofs.Common.{[], ◌∷◌}
 use Rattle.std.specs.Prelude.{ℤ, pos, negsuc, unwrap_or}
-use Rattle.smithy_schema.specs.Site.{Site, View}
+use Rattle.smithy_schema.specs.Site.{Site, View, element_of, member_of}
 use Rattle.smithy_schema.specs.Value.{Value, whole, text, list, structure, null_element, Values, no_values, value, MemberValues, no_member_values, member_value}
-use Rattle.smithy_schema.specs.Writing.{element_of, member_of}
 use Rattle.cbor_item.specs.Item.{definite, indefinite, Item, unsigned, negative, text_string, array, map, simple, Items, no_items, item, Pairs, no_pairs, pair}
 use Rattle.smithy_cbor.specs.Scalar.{null_value}
 

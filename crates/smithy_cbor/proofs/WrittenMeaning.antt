@@ -10,11 +10,10 @@ use Rattle.smithy_schema.specs.declared.place.Place.{Place}
 use Rattle.smithy_schema.specs.declared.shape_type.Scalar.TheVariants as scalars
 use Rattle.smithy_schema.specs.Table.{Member, Kind, scalar, structure_of, list_of, nothing, members_of, is_sparse, IsList, IsStructure}
 use Rattle.smithy_schema.specs.Accepted.{HaveTextNames, IsAccepted}
-use Rattle.smithy_schema.specs.Site.{Site, kind_at}
+use Rattle.smithy_schema.specs.Site.{Site, kind_at, element_of, member_of}
 use Rattle.smithy_schema.specs.Value.{Value, whole, text, list, structure, null_element, Values, no_values, value, MemberValues, no_member_values, member_value, nesting, elements_nesting, members_nesting}
 use Rattle.smithy_schema.specs.Fits.{IsLong, AscendFrom, FitsOr, ElementsFit, MembersFit}
 use Rattle.smithy_schema.specs.Container.{Entry, element_of as element_from}
-use Rattle.smithy_schema.specs.Writing.{element_of, member_of}
 use Rattle.smithy_schema.proofs.NamedLemmas.{named_itself}
 use Rattle.smithy_schema.proofs.ChildLemmas.{SayElements, list_said, SayMembers, structure_said}
 use Rattle.smithy_cbor.specs.Settings.{Settings, Limits, kept, lifted, is_within}

@@ -1,8 +1,8 @@
 -- The one encoding in which a value is written.
 use Rattle.std.specs.Prelude.{ℕ, List, [], ◌∷◌, ◌++◌, Some, None}
-use Rattle.smithy_schema.specs.Site.{Site, View}
+use Rattle.smithy_schema.specs.Site.{Site, View, element_of, member_of}
 use Rattle.smithy_schema.specs.Value.{Value, whole, text, list, structure, null_element, Values, no_values, value, MemberValues, no_member_values, member_value}
-use Rattle.smithy_schema.specs.Writing.{Scalar, long, string, element_of, member_of}
+use Rattle.smithy_schema.specs.Writing.{Scalar, long, string}
 use Rattle.cbor_item.specs.Head.{shortest_head}
 use Rattle.cbor_item.specs.WellFormed.{break}
 use Rattle.smithy_cbor.specs.Scalar.{null_value}

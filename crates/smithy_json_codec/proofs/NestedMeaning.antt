@@ -12,7 +12,7 @@ use Rattle.smithy_json.specs.Unescape.{unescaped}
 use Rattle.smithy_json_codec.specs.Settings.{Settings, Limits, kept, lifted, is_within, is_shallow}
 use Rattle.smithy_json_codec.specs.Meaning.{json_meaning, element_entries, member_entries, number_meaning, string_meaning, array_meaning, object_meaning, position_in}
 use Rattle.smithy_json_codec.specs.Spelling.{json_spells}
-use Rattle.smithy_schema.specs.Private.Options.{chosen, made}
+use Rattle.smithy_schema.specs.Lemmas.Options.{chosen, made}
 use Rattle.smithy_json_codec.specs.Private.Fits.{long_is}
 
 -- ---- by the kind of the place

@@ -12,8 +12,8 @@ use Rattle.smithy_json.specs.Unescape.{unescaped}
 use Rattle.smithy_json_codec.specs.Settings.{Settings, is_shallow}
 use Rattle.smithy_json_codec.specs.Meaning.{json_meaning, long_of, number_meaning, string_meaning, array_meaning, object_meaning, element_entries, member_entries}
 use Rattle.smithy_json_codec.specs.Standing.{Lies, FollowsInside, TreeLies, IsByte, IsSeparated, Names, Drops, fresh_mark, end_mark, entry_mark, json_relations}
-use Rattle.smithy_schema.specs.Private.Options.{made, chosen}
-use Rattle.smithy_schema.specs.Private.Kinds.{no_list_and_structure}
+use Rattle.smithy_schema.specs.Lemmas.Options.{made, chosen}
+use Rattle.smithy_schema.specs.Lemmas.Kinds.{no_list_and_structure}
 use Rattle.smithy_json_codec.specs.Private.Steps.{drops_on, names_back, end_back, no_drop}
 use Rattle.smithy_json_codec.specs.Private.Lawful.{array_kind, object_kind}
 -- what stands behind white space, in Private: a byte, a name and a value are determined, with their ends

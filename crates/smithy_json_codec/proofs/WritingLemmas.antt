@@ -2,9 +2,9 @@
 use Rattle.std.proofs.Common.{◌≡◌, ℕ, List, [], ◌∷◌, ◌++◌, Bool, true, false, Result, Ok, refl, sym, ◌∙◌, append_assoc}
 use Rattle.std.proofs.lemmas.List.{append-nil}
 use Rattle.smithy_schema.specs.declared.error.SerdeError.{SerdeError}
-use Rattle.smithy_schema.specs.Site.{Site}
+use Rattle.smithy_schema.specs.Site.{Site, element_of, member_of}
 use Rattle.smithy_schema.specs.Value.{Value, whole, text, list, structure, null_element, Values, no_values, value, MemberValues, no_member_values, member_value}
-use Rattle.smithy_schema.specs.Writing.{Event, run, write, events, element_events, member_events, element_of, member_of, end_list, end_structure, Open, open_structure, open_list}
+use Rattle.smithy_schema.specs.Writing.{Event, run, write, events, element_events, member_events, end_list, end_structure, Open, open_structure, open_list}
 use Rattle.smithy_schema.proofs.WritingLemmas.{child_written}
 use Rattle.smithy_json.specs.Ascii.{value_separator, begin_array, end_array, begin_object, end_object}
 use Rattle.smithy_json_codec.specs.Canonical.{key_text, canonical_json, more_elements, more_members}

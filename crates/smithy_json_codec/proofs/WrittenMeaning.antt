@@ -4,11 +4,10 @@ use Rattle.std.proofs.lemmas.Bool.Decides.{nat_tests}
 use Rattle.smithy_schema.specs.declared.place.Place.{Place}
 use Rattle.smithy_schema.specs.Table.{Table, Member, ListShape, structure_of, list_of, kind_of, place_in, position_named}
 use Rattle.smithy_schema.specs.Accepted.{IsAccepted}
-use Rattle.smithy_schema.specs.Site.{Site, View, member_view, element_view, nameless}
+use Rattle.smithy_schema.specs.Site.{Site, View, member_view, element_view, nameless, element_of, member_of}
 use Rattle.smithy_schema.specs.Value.{Value, whole, text, list, structure, null_element, Values, no_values, value, MemberValues, no_member_values, member_value, nesting, elements_nesting, members_nesting}
 use Rattle.smithy_schema.specs.Container.{Entry, element_of as element_meaning}
 use Rattle.smithy_schema.specs.Fits.{AscendFrom, FitsOr, ElementsFit, MembersFit}
-use Rattle.smithy_schema.specs.Writing.{element_of, member_of}
 use Rattle.smithy_schema.proofs.ChildLemmas.{SayElements, list_said, Sets, SayMembers, structure_said}
 use Rattle.smithy_schema.proofs.SiteLemmas.{site_at, list_of_kind, structure_of_kind, element_site_at, member_site_at, element_fit, member_fit, named_by_name, named_by_json_name}
 use Rattle.smithy_json.specs.Tree.{nesting as tree_nesting}

@@ -7,10 +7,9 @@ use Rattle.std.proofs.lemmas.Int.{ints}
 use Rattle.smithy_schema.specs.declared.place.Place.{Place}
 use Rattle.smithy_schema.specs.Table.{Table, Member, ListShape, structure_of, list_of, kind_of}
 use Rattle.smithy_schema.specs.Accepted.{IsAccepted}
-use Rattle.smithy_schema.specs.Site.{Site, View, member_view, element_view, nameless}
+use Rattle.smithy_schema.specs.Site.{Site, View, member_view, element_view, nameless, element_of, member_of}
 use Rattle.smithy_schema.specs.Value.{Value, whole, text, list, structure, null_element, Values, no_values, value, MemberValues, no_member_values, member_value}
 use Rattle.smithy_schema.specs.Fits.{IsLong, FitsOr, ElementsFit, MembersFit}
-use Rattle.smithy_schema.specs.Writing.{element_of, member_of}
 use Rattle.smithy_schema.proofs.SiteLemmas.{site_at, list_of_kind, structure_of_kind, element_site_at, member_site_at, element_fit, member_fit, names_are_utf8}
 use Rattle.smithy_json.specs.Ascii.{quotation_mark, name_separator}
 use Rattle.smithy_json.specs.Escape.{escaped}

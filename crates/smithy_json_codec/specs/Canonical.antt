@@ -1,9 +1,9 @@
 -- The one spelling in which a value is written.
 use Rattle.std.specs.Prelude.{ℕ, List, [], ◌∷◌, ◌++◌, Bool, Some, None, unwrap_or, codes, if◌then◌else◌}
 use Rattle.std.specs.Fmt.{signed_decimal}
-use Rattle.smithy_schema.specs.Site.{Site, View}
+use Rattle.smithy_schema.specs.Site.{Site, View, element_of, member_of}
 use Rattle.smithy_schema.specs.Value.{Value, whole, text, list, structure, null_element, Values, no_values, value, MemberValues, no_member_values, member_value}
-use Rattle.smithy_schema.specs.Writing.{Scalar, long, string, element_of, member_of}
+use Rattle.smithy_schema.specs.Writing.{Scalar, long, string}
 use Rattle.smithy_json.specs.Ascii.{value_separator, name_separator, begin_array, end_array, begin_object, end_object}
 use Rattle.smithy_json.specs.Escape.{quoted}
 

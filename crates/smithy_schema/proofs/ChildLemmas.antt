@@ -9,7 +9,7 @@ use Rattle.smithy_schema.specs.Table.{Member, ListShape, structure_of, list_of}
 use Rattle.smithy_schema.specs.Value.{Value, list, structure, Values, no_values, value, values_of, MemberValues, no_member_values, member_value, put_member}
 use Rattle.smithy_schema.specs.Container.{Entry, element_of, elements_from, member_step, members_from, container_of}
 use Rattle.smithy_schema.specs.Fits.{AscendFrom}
-use Rattle.smithy_schema.specs.Private.ElementFolds.{element_adds}
+use Rattle.smithy_schema.specs.Lemmas.ElementFolds.{element_adds}
 
 -- ---- lists
 

@@ -4,9 +4,8 @@ use Rattle.std.specs.List.{slice_get}
 use Rattle.std.specs.Option.{option_map_or, unwrap_or}
 use Rattle.smithy_schema.specs.declared.place.Place.{Place}
 use Rattle.smithy_schema.specs.Table.{Member, Kind, scalar, structure_of, list_of, nothing, place_in, members_of, list_shape_of, IsStructure, IsList}
-use Rattle.smithy_schema.specs.Site.{Site, kind_at, site_of_member, site_of_element, nameless_site}
+use Rattle.smithy_schema.specs.Site.{Site, kind_at, site_of_member, site_of_element, nameless_site, element_of, member_of}
 use Rattle.smithy_schema.specs.Value.{Value}
-use Rattle.smithy_schema.specs.Writing.{element_of, member_of}
 use Rattle.smithy_schema.specs.Fits.{FitsOr}
 
 -- a site of this place, of the same table as the other one

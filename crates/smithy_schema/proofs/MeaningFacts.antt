@@ -5,8 +5,8 @@ use Rattle.smithy_schema.specs.Table as table
 use Rattle.smithy_schema.specs.Table.{Table, Member, ListShape, Kind, scalar, structure_of, list_of, nothing, kind_of, place_in, members_of, position_named, json_name_of, query_name_of, element_name_of, declared_as, scalar_place, shape_place}
 use Rattle.smithy_schema.specs.Value.{Value, whole, text, list, structure, null_element, no_values, value, no_member_values, member_value}
 use Rattle.smithy_schema.specs.Container.{Entry, container_of}
-use Rattle.smithy_schema.specs.Site.{shape_site, member_site, element_site, nameless_site, member_named}
-use Rattle.smithy_schema.specs.Writing.{string, begin_structure, end_structure, begin_list, end_list, null_of, scalar_of, events, element_of, member_of}
+use Rattle.smithy_schema.specs.Site.{shape_site, member_site, element_site, nameless_site, member_named, element_of, member_of}
+use Rattle.smithy_schema.specs.Writing.{string, begin_structure, end_structure, begin_list, end_list, null_of, scalar_of, events}
 
 -- ---- entries and kinds
 

@@ -7,8 +7,8 @@ use Rattle.std.specs.Ordering.{nat_cmp, match_ordering}
 use Rattle.smithy_schema.specs.Table.{Kind, scalar, structure_of, list_of, nothing}
 use Rattle.smithy_schema.specs.Value.{Value, list, structure, null_element, values_of, MemberValues, no_member_values, member_value, put_member, nesting, elements_nesting, members_nesting}
 use Rattle.smithy_schema.specs.Container.{Entry, elements_from, member_step, members_from, container_of}
-use Rattle.smithy_schema.specs.Private.ElementFolds.{element_apart, elements_apart}
-use Rattle.smithy_schema.specs.Private.Options.{made, same_some, step_apart}
+use Rattle.smithy_schema.specs.Lemmas.ElementFolds.{element_apart, elements_apart}
+use Rattle.smithy_schema.specs.Lemmas.Options.{made, same_some, step_apart}
 
 -- each entry means a value that nests no deeper, if it means anything
 abbrev pub NestWithin : ℕ → List Entry → Type 0

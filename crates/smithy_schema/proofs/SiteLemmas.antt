@@ -4,10 +4,9 @@ use Rattle.std.specs.List.{AllByRecursion}
 use Rattle.smithy_schema.specs.declared.place.Place.{Place}
 use Rattle.smithy_schema.specs.Table.{Table, Member, ListShape, Kind, scalar, structure_of, list_of, nothing, kind_of, members_of, IsList, IsStructure, json_name_of, position_named}
 use Rattle.smithy_schema.specs.Accepted.{AreAcceptedMembers, HaveTextNames, IsAccepted}
-use Rattle.smithy_schema.specs.Site.{Site, View, member_view, element_view, nameless}
+use Rattle.smithy_schema.specs.Site.{Site, View, member_view, element_view, nameless, element_of, member_of}
 use Rattle.smithy_schema.specs.Value.{Value, Values, value, MemberValues, member_value}
 use Rattle.smithy_schema.specs.Fits.{FitsOr, ElementsFit, MembersFit}
-use Rattle.smithy_schema.specs.Writing.{element_of, member_of}
 use Rattle.smithy_schema.proofs.NamedLemmas.{named_itself}
 
 same_some : {A : Type 0} (a b : A) → Some a ≡ Some b → a ≡ b

@@ -12,14 +12,17 @@ use Rattle.smithy_schema.specs.TableText.{Lines, declarations, declarations_of}
 
 -- ---- what a declaration names
 
+-- some declaration has the name
 abbrev pub is_declared : List Decl → List ℕ → Bool
 is_declared decls name = list_any (λ (d : Decl). bytes_eq d.name name) decls
 
+-- the members of a structure or a union
 abbrev pub members_of : Form → List MemberDecl
 members_of (structure ms) = ms
 members_of (union ms) = ms
 members_of _ = []
 
+-- the names of all targets, in order
 abbrev pub targets_of : Form → List (List ℕ)
 targets_of (list l) = l.target ∷ []
 targets_of (map m) = m.target ∷ []
@@ -33,9 +36,11 @@ target_of decls name =
     unwrap_or (option_map Simple (named scalar_names name))
     (Declared (record { 0 = unwrap_or (position (λ (d : Decl). bytes_eq d.name name) decls) 0 }))
 
+-- the place of a target, which has no time form yet
 abbrev pub place_of : List Decl → List ℕ → Place
 place_of decls target = record { target = target_of decls target; time = None }
 
+-- a member of the table
 abbrev pub member_of : List Decl → MemberDecl → Member
 member_of decls m = record {
   name = m.name;
@@ -45,6 +50,7 @@ member_of decls m = record {
   place = place_of decls m.target;
 }
 
+-- a list of the table
 abbrev pub list_shape_of : List Decl → ListDecl → ListShape
 list_shape_of decls l = record {
   place = place_of decls l.target;
@@ -63,9 +69,11 @@ table_from decls = list_map (λ (d : Decl). record { name = d.name; shape = shap
 
 -- ---- the tests, of a declaration and its number among all of them, from 1
 
+-- a test of one declaration, which may look at all of them and at its own number
 abbrev pub Test : Type 0
 Test = List Decl → ℕ → Decl → Bool
 
+-- the member has some option
 abbrev pub has_option : MemberDecl → Bool
 has_option m = is_some m.json || is_some m.xml || m.is_flat || is_some m.time
 
@@ -75,9 +83,11 @@ is_unbuilt_form (structure ms) = list_any has_option ms
 is_unbuilt_form (list l) = l.is_sparse || is_some l.xml || is_some l.time
 is_unbuilt_form _ = true
 
+-- a form, an option or a target that no table can have yet
 abbrev pub has_unbuilt_item : Test
 has_unbuilt_item decls n d = is_unbuilt_form d.form || list_any is_unbuilt_name (targets_of d.form)
 
+-- a target that is neither a scalar nor declared
 abbrev pub has_unknown_target : Test
 has_unknown_target decls n d =
     list_any (λ target. not (is_scalar_name target) && not (is_declared decls target)) (targets_of d.form)
@@ -86,9 +96,11 @@ has_unknown_target decls n d =
 abbrev pub is_duplicate : Test
 is_duplicate decls n d = is_reserved d.name || is_declared (take (n - 1) decls) d.name
 
+-- the name in JSON under `json-name`
 abbrev pub json_name_of : MemberDecl → List ℕ
 json_name_of m = unwrap_or m.json m.name
 
+-- the name in a form
 abbrev pub query_name_of : MemberDecl → List ℕ
 query_name_of m = unwrap_or m.xml m.name
 
@@ -109,6 +121,7 @@ is_too_many decls n d = nat_lt 65535 (length (members_of d.form)) || n == 65536
 
 -- ---- the answer
 
+-- why declarations, or a line, are no table
 pub data Fault : Type 0 where
   bad_line not_built unknown_target duplicate_shape name_clash query_name too_many : Fault
 
@@ -134,6 +147,7 @@ first_fault decls [] = None
 first_fault decls (t ∷ ts) =
     option_or (option_map (λ n. (t.0, n)) (first_failing decls t.1)) (first_fault decls ts)
 
+-- the table that declarations are, or their first fault
 abbrev pub build_of : List Decl → TableAnswer
 build_of decls =
     option_map_or (λ fault. refused fault.0 fault.1) (first_fault decls tests) (accepted (table_from decls))

@@ -42,6 +42,7 @@ members_from = folded member_step
 abbrev pub element_of : Bool → Bool → Option Value → Option Value
 element_of is_sparse is_null meaning = if is_null && is_sparse then Some null_element else meaning
 
+-- one more element: each entry has to be one
 abbrev pub element_step : Bool → Entry → List Value → Option (List Value)
 element_step is_sparse e vs = option_map (λ v. vs ++ v ∷ []) (element_of is_sparse e.is_null e.meaning)
 

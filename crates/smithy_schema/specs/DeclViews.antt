@@ -9,6 +9,7 @@ use Rattle.smithy_schema.specs.Decl.{MemberDecl, structure, union, list, map, De
 use Rattle.smithy_schema.specs.TableText.{Lines}
 use Rattle.smithy_schema.specs.Acceptance.{TableAnswer, refused, bad_line, not_built, unknown_target, duplicate_shape, name_clash, query_name, too_many}
 
+-- the member that the program's declaration of one is
 abbrev pub member_decl_of : kept_member.MemberDecl → MemberDecl
 member_decl_of m = record {
   name = string_bytes m.name;
@@ -19,6 +20,7 @@ member_decl_of m = record {
   time = option_map string_bytes m.time;
 }
 
+-- the declaration that the program's is
 abbrev pub decl_of : kept.Decl → Decl
 decl_of (Structure name members) = record {
   name = string_bytes name;

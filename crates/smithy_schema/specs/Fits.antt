@@ -38,5 +38,6 @@ abbrev mutual
       ((place : Place) × (place_in kind (Some n) ≡ Some place) × FitsOr table place false v)
       × MembersFit table kind ms
 
+-- the value is one of the place
 abbrev pub Fits : Table → Place → Value → Type 0
 Fits table place v = FitsOr table place false v

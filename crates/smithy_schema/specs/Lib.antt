@@ -17,5 +17,7 @@ pub mod Writing
 pub mod Views
 pub mod DeclViews
 pub mod MembersLeft
+-- for the laws of each wire
+pub mod Lemmas
 -- for private clauses
 pub mod Private

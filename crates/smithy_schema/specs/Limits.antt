@@ -6,6 +6,7 @@ pub data Limits : Type 0 where
   kept : Limits
   lifted : Limits
 
+-- a depth of at most the greatest, where limits are kept, and any where they are lifted
 abbrev pub is_within : Limits → ℕ → ℕ → Bool
 is_within kept greatest depth = nat_le depth greatest
 is_within lifted greatest depth = true

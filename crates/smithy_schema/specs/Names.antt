@@ -19,9 +19,11 @@ unbuilt_names =
 abbrev pub named : {X : Type 0} → List (List ℕ × X) → List ℕ → Option X
 named names name = option_map (λ p. p.1) (find (λ p. bytes_eq name p.0) names)
 
+-- the name is that of a scalar
 abbrev pub is_scalar_name : List ℕ → Bool
 is_scalar_name name = is_some (named scalar_names name)
 
+-- the name is one that no target can have yet, or ever
 abbrev pub is_unbuilt_name : List ℕ → Bool
 is_unbuilt_name name = list_any (bytes_eq name) unbuilt_names
 

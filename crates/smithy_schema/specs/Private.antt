@@ -4,9 +4,3 @@ pub mod MemberNames
 pub mod DeclNames
 pub mod Tests
 pub mod Placed
-pub mod Ascending
-pub mod Options
-pub mod Kinds
-pub mod ElementFolds
-pub mod MemberFolds
-pub mod Fitting

@@ -1,5 +1,5 @@
 -- What a schema tells: its place, and the names and marks under which the value stands there.
-use Rattle.std.specs.Prelude.{ℕ, List, Bool, false, Option, Some, None, map, option_map, option_and_then, slice_get, codes, if◌then◌else◌}
+use Rattle.std.specs.Prelude.{ℕ, List, Bool, false, Option, Some, None, map, option_map, option_and_then, slice_get, unwrap_or, codes, if◌then◌else◌}
 use Rattle.std.specs.List.{enumerate_from}
 use Rattle.std.specs.Option.{option_map_or}
 use Rattle.smithy_schema.specs.declared.place.Place.{Place}
@@ -18,6 +18,7 @@ pub record View : Type 0 where
   pub xml_name : Option (List ℕ)
   pub is_flat : Bool
 
+-- the view of a shape as a whole
 abbrev pub whole_view : View
 whole_view = record { name = None; index = None; json_name = None; xml_name = None; is_flat = false }
 
@@ -25,6 +26,7 @@ whole_view = record { name = None; index = None; json_name = None; xml_name = No
 abbrev pub nameless : View → View
 nameless view = record view { name = None; index = None; is_flat = false }
 
+-- the view of the member at a position
 abbrev pub member_view : ℕ → Member → View
 member_view n m = record {
   name = Some m.name;
@@ -44,9 +46,11 @@ element_view l = record {
   is_flat = false;
 }
 
+-- the view of a member by its position, where there is one
 abbrev pub view_of_member : Kind → ℕ → View
 view_of_member kind n = option_map_or (member_view n) (slice_get (members_of kind) n) whole_view
 
+-- the view of a list's elements, where there is a list
 abbrev pub view_of_element : Kind → View
 view_of_element kind = option_map_or element_view (list_shape_of kind) whole_view
 
@@ -70,6 +74,7 @@ kind_at site = kind_of site.table site.place
 abbrev pub shape_site : Table → ℕ → Site
 shape_site table n = record { table = table; place = shape_place n; view = whole_view }
 
+-- the site of a member at a position
 abbrev pub site_of_member : Table → ℕ → Member → Site
 site_of_member table n m = record { table = table; place = m.place; view = member_view n m }
 
@@ -87,6 +92,7 @@ abbrev pub member_sites : Site → List Site
 member_sites outer =
     map (λ (m : ℕ × Member). site_of_member outer.table m.0 m.1) (enumerate_from 0 (members_of (kind_at outer)))
 
+-- the site of a list's elements
 abbrev pub site_of_element : Table → ListShape → Site
 site_of_element table l = record { table = table; place = l.place; view = element_view l }
 
@@ -98,6 +104,15 @@ element_site outer = option_map (site_of_element outer.table) (list_shape_of (ki
 abbrev pub nameless_site : Site → Site
 nameless_site site = record site { view = nameless site.view }
 
+-- the site at which a list's elements are written: they have no name there
+abbrev pub element_of : Site → Site
+element_of site = option_map_or nameless_site (element_site site) site
+
+-- the site at which the member at a position is written
+abbrev pub member_of : Site → ℕ → Site
+member_of site n = unwrap_or (member_site site n) site
+
+-- the view, or the same without a name
 abbrev pub view_under : Bool → View → View
 view_under is_nameless view = if is_nameless then nameless view else view
 

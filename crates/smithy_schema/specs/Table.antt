@@ -24,10 +24,12 @@ pub record ListShape : Type 0 where
   pub is_sparse : Bool
   pub xml_name : Option (List ℕ)
 
+-- what a declaration declares
 pub data Shape : Type 0 where
   structure : List Member → Shape
   list : ListShape → Shape
 
+-- a shape under its name
 pub record Declaration : Type 0 where
   pub name : List ℕ
   pub shape : Shape
@@ -59,6 +61,7 @@ pub data Kind : Type 0 where
   list_of : ListShape → Kind
   nothing : Kind
 
+-- what stands where a shape is the target
 abbrev pub kind_of_shape : Shape → Kind
 kind_of_shape (structure members) = structure_of members
 kind_of_shape (list l) = list_of l
@@ -67,10 +70,12 @@ kind_of_shape (list l) = list_of l
 abbrev pub shape_declared : Table → ℕ → Option Shape
 shape_declared table n = option_map (λ (d : Declaration). d.shape) (slice_get table n)
 
+-- what stands where this is the target: nothing where no declaration has the number
 abbrev pub kind_of_target : Table → Target → Kind
 kind_of_target table (Simple s) = scalar s
 kind_of_target table (Declared r) = option_map_or kind_of_shape (shape_declared table r.0) nothing
 
+-- what stands at a place of the table
 abbrev pub kind_of : Table → Place → Kind
 kind_of table place = kind_of_target table place.target
 
@@ -82,6 +87,7 @@ scalar_place s time = record { target = Simple s; time = time }
 abbrev pub shape_place : ℕ → Place
 shape_place n = record { target = Declared (record { 0 = n }); time = None }
 
+-- the type of a scalar
 abbrev pub scalar_type : Scalar → ShapeType
 scalar_type scalars.Long = types.Long
 scalar_type scalars.String = types.String
@@ -115,24 +121,28 @@ place_in (structure_of members) (Some n) = option_map (λ (m : Member). m.place)
 place_in (list_of l) n = Some l.place
 place_in nothing n = None
 
+-- a structure stands there
 abbrev pub IsStructure : Kind → Type 0
 IsStructure (scalar s) = ⊥
 IsStructure (structure_of members) = Unit {0}
 IsStructure (list_of l) = ⊥
 IsStructure nothing = ⊥
 
+-- a list stands there
 abbrev pub IsList : Kind → Type 0
 IsList (scalar s) = ⊥
 IsList (structure_of members) = ⊥
 IsList (list_of l) = Unit {0}
 IsList nothing = ⊥
 
+-- a list stands there whose elements may be null
 abbrev pub is_sparse : Kind → Bool
 is_sparse (scalar s) = false
 is_sparse (structure_of members) = false
 is_sparse (list_of l) = l.is_sparse
 is_sparse nothing = false
 
+-- the same, as a fact
 abbrev pub IsSparse : Kind → Type 0
 IsSparse (scalar s) = ⊥
 IsSparse (structure_of members) = ⊥

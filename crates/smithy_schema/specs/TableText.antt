@@ -6,15 +6,19 @@ use Rattle.std.specs.Str.{is_utf8}
 use Rattle.std.specs.Str.Lines.{strip_carriage_return}
 use Rattle.smithy_schema.specs.Decl.{MemberDecl, Form, structure, union, list, map, Decl}
 
+-- the byte that ends a line
 abbrev pub line_feed : ℕ
 line_feed = 0x0a
 
+-- the byte that parts words
 abbrev pub space : ℕ
 space = 0x20
 
+-- the byte with which a remark begins
 abbrev pub number_sign : ℕ
 number_sign = 0x23
 
+-- the text has no bytes
 abbrev pub is_empty : List ℕ → Bool
 is_empty text = length text == 0
 
@@ -113,6 +117,7 @@ map_line (name ∷ target ∷ words) =
     else None
 map_line _ = None
 
+-- what the words of a line say, by the first of them
 abbrev pub line_of : List (List ℕ) → Option Line
 line_of [] = None
 line_of (keyword ∷ words) =
@@ -134,6 +139,7 @@ with_member m (structure ms) = Some (structure (ms ++ m ∷ []))
 with_member m (union ms) = Some (union (ms ++ m ∷ []))
 with_member m _ = None
 
+-- the declaration with another form
 abbrev pub with_form : Decl → Form → Decl
 with_form d form = record { name = d.name; form = form }
 
@@ -163,6 +169,7 @@ pub data Lines : Type 0 where
   declarations : List Decl → Lines
   bad_line : ℕ → Lines
 
+-- one more line and its number: behind the first bad line nothing counts
 abbrev pub after_numbered_line : Lines → ℕ × List ℕ → Lines
 after_numbered_line (bad_line n) line = bad_line n
 after_numbered_line (declarations decls) line =

@@ -3,6 +3,7 @@ use Rattle.std.specs.Prelude.{ℕ, suc, max, ℤ, List, [], ◌∷◌}
 use Rattle.std.specs.Ordering.{nat_cmp, match_ordering}
 
 mutual
+  -- a value, which names no wire
   pub data Value : Type 0 where
     whole : ℤ → Value
     -- in UTF-8
@@ -12,6 +13,7 @@ mutual
     -- a null among the elements of a sparse list
     null_element : Value
 
+  -- the elements of a list, in order
   pub data Values : Type 0 where
     no_values : Values
     value : Value → Values → Values
@@ -21,6 +23,7 @@ mutual
     no_member_values : MemberValues
     member_value : ℕ → Value → MemberValues → MemberValues
 
+-- the elements that a list of values is
 abbrev pub values_of : List Value → Values
 values_of [] = no_values
 values_of (v ∷ vs) = value v (values_of vs)
@@ -46,6 +49,7 @@ abbrev mutual
   elements_nesting no_values = 0
   elements_nesting (value v vs) = max (nesting v) (elements_nesting vs)
 
+  -- the greatest of the members
   pub members_nesting : MemberValues → ℕ
   members_nesting no_member_values = 0
   members_nesting (member_value n v ms) = max (nesting v) (members_nesting ms)

@@ -7,6 +7,7 @@ use Rattle.smithy_schema.specs.declared.shapes.Shape as kept_shape
 use Rattle.smithy_schema.specs.declared.shapes.Shape.TheVariants as kept_shapes
 use Rattle.smithy_schema.specs.Table.{Member, ListShape, Shape, structure, list, Declaration}
 
+-- the member of a table that the program's member is
 abbrev pub member_of : kept_member.MemberShape → Member
 member_of m = record {
   name = string_bytes m.name;
@@ -16,6 +17,7 @@ member_of m = record {
   place = m.place;
 }
 
+-- the list that the program's list is
 abbrev pub list_shape_of : kept_list.ListShape → ListShape
 list_shape_of l = record {
   place = l.place;
@@ -23,9 +25,11 @@ list_shape_of l = record {
   xml_name = option_map string_bytes l.xml_name;
 }
 
+-- the shape that the program's shape is
 abbrev pub shape_of : kept_shape.Shape → Shape
 shape_of (kept_shapes.Structure members) = structure (map member_of members.items.items)
 shape_of (kept_shapes.List l) = list (list_shape_of l)
 
+-- the declaration that the program's declaration is
 abbrev pub declaration_of : kept_declaration.Declaration → Declaration
 declaration_of d = record { name = string_bytes d.name; shape = shape_of d.shape }

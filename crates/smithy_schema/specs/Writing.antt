@@ -1,9 +1,8 @@
 -- What is written, call by call, and what a value adds.
-use Rattle.std.specs.Prelude.{◌≡◌, ℕ, ℤ, suc, List, [], ◌∷◌, ◌++◌, Option, Some, None, unwrap_or, Result, Ok, Err}
-use Rattle.std.specs.Option.{option_map_or}
+use Rattle.std.specs.Prelude.{◌≡◌, ℕ, ℤ, suc, List, [], ◌∷◌, ◌++◌, Option, Some, None, Result, Ok, Err}
 use Rattle.smithy_schema.specs.declared.error.SerdeError.{SerdeError}
 use Rattle.smithy_schema.specs.declared.error.SerdeError.TheVariants.{Unwritable}
-use Rattle.smithy_schema.specs.Site.{Site, member_site, element_site, nameless_site}
+use Rattle.smithy_schema.specs.Site.{Site, element_of, member_of}
 use Rattle.smithy_schema.specs.Value.{Value, whole, text, list, structure, null_element, Values, no_values, value, MemberValues, no_member_values, member_value}
 
 -- what a write of a scalar is given
@@ -26,6 +25,7 @@ pub data Event : Type 0 where
 abbrev pub Writer : Type 0 → Type 0
 Writer S = Event → S → Result S SerdeError
 
+-- what follows is done where nothing was refused
 abbrev pub and_run : {S : Type 0} → (S → Result S SerdeError) → Result S SerdeError → Result S SerdeError
 and_run f (Ok s) = f s
 and_run f (Err e) = Err e
@@ -35,20 +35,14 @@ abbrev pub run : {S : Type 0} → Writer S → List Event → S → Result S Ser
 run after [] s = Ok s
 run after (e ∷ es) s = and_run (run after es) (after e s)
 
+-- the number of elements
 abbrev pub count_of : Values → ℕ
 count_of no_values = 0
 count_of (value v vs) = suc (count_of vs)
 
--- the site of a list's elements, which are written without a name
-abbrev pub element_of : Site → Site
-element_of site = option_map_or nameless_site (element_site site) site
-
--- the site of the member at a position
-abbrev pub member_of : Site → ℕ → Site
-member_of site n = unwrap_or (member_site site n) site
-
 -- the calls that write a value: a container is what it begins with, its children, and its end
 abbrev mutual
+  -- a scalar is one call
   pub events : Site → Value → List Event
   events site (whole n) = scalar_of site (long n) ∷ []
   events site (text s) = scalar_of site (string s) ∷ []
@@ -57,10 +51,12 @@ abbrev mutual
   events site (structure ms) = begin_structure site ∷ (member_events site ms ++ end_structure ∷ [])
   events site null_element = null_of site ∷ []
 
+  -- the elements in order, each at the same site
   pub element_events : Site → Values → List Event
   element_events site no_values = []
   element_events site (value v vs) = events site v ++ element_events site vs
 
+  -- the members in order, each at its own site
   pub member_events : Site → MemberValues → List Event
   member_events site no_member_values = []
   member_events site (member_value n v ms) = events (member_of site n) v ++ member_events site ms

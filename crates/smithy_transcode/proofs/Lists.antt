@@ -5,10 +5,10 @@ use Rattle.std.specs.Option.{option_map_or}
 use Rattle.smithy_schema.specs.declared.error.SerdeError.{SerdeError}
 use Rattle.smithy_schema.specs.declared.place.Place.{Place}
 use Rattle.smithy_schema.specs.Table.{Table, Kind, scalar, structure_of, list_of, nothing, list_shape_of, place_in}
-use Rattle.smithy_schema.specs.Site.{Site, kind_at, element_site, nameless_site, site_of_element}
+use Rattle.smithy_schema.specs.Site.{Site, kind_at, element_site, nameless_site, site_of_element, element_of}
 use Rattle.smithy_schema.specs.Fits.{FitsOr, ElementsFit}
 use Rattle.smithy_schema.specs.Value.{Value, whole, text, list, structure, null_element, values_of}
-use Rattle.smithy_schema.specs.Writing.{Event, Writer, write, run, count_of, element_of, element_events, begin_list, end_list}
+use Rattle.smithy_schema.specs.Writing.{Event, Writer, write, run, count_of, element_events, begin_list, end_list}
 use Rattle.smithy_transcode.specs.declared.value.Value as kept
 use Rattle.smithy_transcode.specs.View.{view, view_elements}
 use Rattle.smithy_schema.proofs.WritingLemmas.{call_made, call_refused, child_written, child_refused}

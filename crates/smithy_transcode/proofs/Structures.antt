@@ -2,10 +2,10 @@
 use Rattle.std.proofs.Common.{◌≡◌, ℕ, List, [], ◌∷◌, ◌++◌, Some, Ok, Err, ap, append_assoc}
 use Rattle.std.specs.Prelude.{unwrap_or}
 use Rattle.smithy_schema.specs.declared.error.SerdeError.{SerdeError}
-use Rattle.smithy_schema.specs.Site.{Site, kind_at, member_site}
+use Rattle.smithy_schema.specs.Site.{Site, kind_at, member_site, member_of}
 use Rattle.smithy_schema.specs.Fits.{MembersFit}
 use Rattle.smithy_schema.specs.Value.{structure}
-use Rattle.smithy_schema.specs.Writing.{Event, Writer, write, run, member_of, member_events, begin_structure, end_structure}
+use Rattle.smithy_schema.specs.Writing.{Event, Writer, write, run, member_events, begin_structure, end_structure}
 use Rattle.smithy_transcode.specs.declared.value.Value as kept
 use Rattle.smithy_transcode.specs.View.{view, view_members}
 use Rattle.smithy_schema.proofs.WritingLemmas.{call_made, child_written, child_refused}

@@ -2,7 +2,7 @@
 use Rattle.std.specs.Prelude.{◌≡◌, ◌<◌, ◌≤◌, ◌⊎◌, ℕ, zero, suc, length, drop, List, [], Option, Some, None, Bool, true, false, unwrap_or}
 use Rattle.std.proofs.Common.{sym, ◌∙◌, ap, arith, subst, inl, inr}
 use Rattle.smithy_schema.specs.Reading.{Mark}
-use Rattle.smithy_schema.specs.Private.Options.{same_some}
+use Rattle.smithy_schema.specs.Lemmas.Options.{same_some}
 use Rattle.cbor_item.specs.WellFormed.{break}
 use Rattle.smithy_cbor.specs.Scalar.{text_of}
 use Rattle.smithy_cbor.specs.Standing.{begins_with, null_byte, mark_with, end_mark, HasEntry, IsOver, HasKey, Drops}

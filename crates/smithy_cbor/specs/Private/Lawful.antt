@@ -5,8 +5,8 @@ use Rattle.smithy_schema.specs.declared.place.Place.{Place}
 use Rattle.smithy_schema.specs.Table.{Table, Kind, scalar, structure_of, list_of, nothing, kind_of}
 use Rattle.smithy_schema.specs.Value.{Value}
 use Rattle.smithy_schema.specs.Reading.{Contains, IsContainer, IsLawful, CountsOpeners}
-use Rattle.smithy_schema.specs.Private.Options.{same_some, chosen}
-use Rattle.smithy_schema.specs.Private.Kinds.{structure_kind}
+use Rattle.smithy_schema.specs.Lemmas.Options.{same_some, chosen}
+use Rattle.smithy_schema.specs.Lemmas.Kinds.{structure_kind}
 use Rattle.cbor_item.specs.Item.{Item, unsigned, negative, byte_string, text_string, array, map as map_item, tag, simple, float}
 use Rattle.cbor_item.specs.WellFormed.{IsItemAt}
 use Rattle.smithy_cbor.specs.Settings.{Settings, is_shallow}

@@ -6,9 +6,9 @@ use Rattle.smithy_schema.specs.Table.{Table, list_of, ListShape, kind_of, place_
 use Rattle.smithy_schema.specs.Value.{Value, list, null_element, values_of}
 use Rattle.smithy_schema.specs.Container.{elements_from}
 use Rattle.smithy_schema.specs.Reading.{Mark, Child, child_value, child_null, child_unknown, entry_of, named, IsChild, Chain, Contains}
-use Rattle.smithy_schema.specs.Private.Options.{same_some, chosen, made}
-use Rattle.smithy_schema.specs.Private.Kinds.{is_list, list_is_no_structure}
-use Rattle.smithy_schema.specs.Private.ElementFolds.{element_apart, elements_apart, null_folds, null_step, list_means}
+use Rattle.smithy_schema.specs.Lemmas.Options.{same_some, chosen, made}
+use Rattle.smithy_schema.specs.Lemmas.Kinds.{is_list, list_is_no_structure}
+use Rattle.smithy_schema.specs.Lemmas.ElementFolds.{element_apart, elements_apart, null_folds, null_step, list_means}
 use Rattle.cbor_item.specs.Item.{Item, array, simple, Extent, Items, no_items, item}
 use Rattle.cbor_item.specs.WellFormed.{IsItemAt}
 use Rattle.smithy_cbor.specs.Settings.{Settings, is_shallow}

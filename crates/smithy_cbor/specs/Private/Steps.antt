@@ -4,7 +4,7 @@ use Rattle.std.proofs.Common.{sym, ◌∙◌, ap, arith, inl, inr}
 use Rattle.smithy_schema.specs.declared.place.Place.{Place}
 use Rattle.smithy_schema.specs.Table.{Table, Kind, kind_of, IsList, IsStructure}
 use Rattle.smithy_schema.specs.Reading.{Mark}
-use Rattle.smithy_schema.specs.Private.Kinds.{no_list_and_structure}
+use Rattle.smithy_schema.specs.Lemmas.Kinds.{no_list_and_structure}
 use Rattle.cbor_item.specs.Head.{HeadRead, BeginsWithHead}
 use Rattle.cbor_item.proofs.HeadLemmas.{head_is_only}
 use Rattle.smithy_cbor.specs.Settings.{Settings}

@@ -7,9 +7,9 @@ use Rattle.smithy_schema.specs.Table.{Table, Member, structure_of, kind_of, plac
 use Rattle.smithy_schema.specs.Value.{Value, structure, MemberValues, no_member_values, put_member}
 use Rattle.smithy_schema.specs.Container.{Entry, container_of, members_from}
 use Rattle.smithy_schema.specs.Reading.{Mark, Child, child_value, child_null, child_unknown, entry_of, named, Chain, Contains}
-use Rattle.smithy_schema.specs.Private.Options.{same_some, step_apart, chosen, made}
-use Rattle.smithy_schema.specs.Private.Kinds.{is_structure, structure_is_no_list, structure_is_not_sparse, has_position}
-use Rattle.smithy_schema.specs.Private.MemberFolds.{set_folds, skip_folds, drop_folds, fold_key, fold_set, fold_skip, structure_means}
+use Rattle.smithy_schema.specs.Lemmas.Options.{same_some, step_apart, chosen, made}
+use Rattle.smithy_schema.specs.Lemmas.Kinds.{is_structure, structure_is_no_list, structure_is_not_sparse, has_position}
+use Rattle.smithy_schema.specs.Lemmas.MemberFolds.{set_folds, skip_folds, drop_folds, fold_key, fold_set, fold_skip, structure_means}
 use Rattle.cbor_item.specs.Item.{Item, map as map_item, simple, Extent, Pairs, no_pairs, pair}
 use Rattle.cbor_item.specs.WellFormed.{IsItemAt}
 use Rattle.smithy_cbor.specs.Settings.{Settings, is_shallow}

@@ -9,10 +9,10 @@ use Rattle.smithy_schema.specs.Table.{Table, ListShape, Kind, scalar, structure_
 use Rattle.smithy_schema.specs.Value.{Value, whole, text, list, structure, values_of, MemberValues, no_member_values}
 use Rattle.smithy_schema.specs.Container.{Entry, elements_from, members_from}
 use Rattle.smithy_schema.specs.Fits.{IsLong, AscendFrom, ElementsFit, MembersFit, Fits}
-use Rattle.smithy_schema.specs.Private.Ascending.{folded_ascend}
-use Rattle.smithy_schema.specs.Private.Options.{same_some, step_apart, chosen, made}
-use Rattle.smithy_schema.specs.Private.ElementFolds.{elements_apart}
-use Rattle.smithy_schema.specs.Private.Fitting.{one_more_fits, element_fits, entry_fits, member_fits}
+use Rattle.smithy_schema.specs.Lemmas.Ascending.{folded_ascend}
+use Rattle.smithy_schema.specs.Lemmas.Options.{same_some, step_apart, chosen, made}
+use Rattle.smithy_schema.specs.Lemmas.ElementFolds.{elements_apart}
+use Rattle.smithy_schema.specs.Lemmas.Fitting.{one_more_fits, element_fits, entry_fits, member_fits}
 use Rattle.smithy_json.specs.Tree.{Json, null, boolean, number, string, array, object, Elements, no_elements, element, Members, no_members, member, nesting}
 use Rattle.smithy_json.specs.Number.{whole_number, is_long}
 use Rattle.smithy_json.specs.Unescape.{unescaped}

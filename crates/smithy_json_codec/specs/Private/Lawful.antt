@@ -6,8 +6,8 @@ use Rattle.smithy_schema.specs.Table.{Table, Member, ListShape, Kind, scalar, st
 use Rattle.smithy_schema.specs.Value.{Value}
 use Rattle.smithy_schema.specs.Container.{Entry}
 use Rattle.smithy_schema.specs.Reading.{Contains, IsContainer, IsLawful, CountsOpeners}
-use Rattle.smithy_schema.specs.Private.Options.{same_some, chosen}
-use Rattle.smithy_schema.specs.Private.Kinds.{structure_kind}
+use Rattle.smithy_schema.specs.Lemmas.Options.{same_some, chosen}
+use Rattle.smithy_schema.specs.Lemmas.Kinds.{structure_kind}
 use Rattle.smithy_json.specs.Tree.{Json, null, boolean, number, string, array, object}
 use Rattle.smithy_json_codec.specs.Settings.{Settings, is_shallow}
 use Rattle.smithy_json_codec.specs.Meaning.{json_meaning, element_entries, member_entries, number_meaning, string_meaning, array_meaning, object_meaning}

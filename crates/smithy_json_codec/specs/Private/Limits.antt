@@ -6,9 +6,9 @@ use Rattle.smithy_schema.specs.Table.{Table, ListShape, Kind, scalar, structure_
 use Rattle.smithy_schema.specs.Value.{Value, list, structure, values_of, MemberValues, no_member_values}
 use Rattle.smithy_schema.specs.Container.{elements_from, members_from}
 use Rattle.smithy_schema.specs.Reading.{IsBelow}
-use Rattle.smithy_schema.specs.Private.Options.{chosen, made}
-use Rattle.smithy_schema.specs.Private.ElementFolds.{elements_apart, lift_element}
-use Rattle.smithy_schema.specs.Private.MemberFolds.{lift_entry}
+use Rattle.smithy_schema.specs.Lemmas.Options.{chosen, made}
+use Rattle.smithy_schema.specs.Lemmas.ElementFolds.{elements_apart, lift_element}
+use Rattle.smithy_schema.specs.Lemmas.MemberFolds.{lift_entry}
 use Rattle.smithy_json.specs.Tree.{Json, null, boolean, number, string, array, object, Elements, no_elements, element, Members, no_members, member, nesting}
 use Rattle.smithy_json.specs.Unescape.{unescaped}
 use Rattle.smithy_json_codec.specs.Settings.{Settings, is_shallow, without_limits}

@@ -4,7 +4,7 @@ use Rattle.std.proofs.Common.{ap}
 use Rattle.smithy_schema.specs.Table.{Kind, structure_of, Member}
 use Rattle.smithy_schema.specs.Value.{Value, structure, MemberValues, no_member_values, put_member}
 use Rattle.smithy_schema.specs.Container.{Entry, container_of, members_from}
-use Rattle.smithy_schema.specs.Private.Options.{same_some}
+use Rattle.smithy_schema.specs.Lemmas.Options.{same_some}
 
 -- an entry by its fields
 abbrev pub entry_with : Option (List ℕ) → Option ℕ → Option Value → Bool → Bool → Bool → Entry

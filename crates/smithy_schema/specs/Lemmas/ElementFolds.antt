@@ -5,7 +5,7 @@ use Rattle.smithy_schema.specs.Table.{Kind, list_of, ListShape}
 use Rattle.smithy_schema.specs.Value.{Value, list, null_element, values_of}
 use Rattle.smithy_schema.specs.Container.{Entry, container_of, elements_from, element_of}
 use Rattle.smithy_schema.specs.Reading.{child_null, entry_of}
-use Rattle.smithy_schema.specs.Private.Options.{same_some}
+use Rattle.smithy_schema.specs.Lemmas.Options.{same_some}
 
 -- an element is a null of a sparse list, or what its entry means
 pub element_apart : (s b : Bool) (mean : Option Value) (v : Value) → element_of s b mean ≡ Some v

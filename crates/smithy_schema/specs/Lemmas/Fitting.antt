@@ -10,9 +10,9 @@ use Rattle.smithy_schema.specs.Table.{Table, ListShape, Kind, list_of, place_in,
 use Rattle.smithy_schema.specs.Value.{Value, whole, text, list, structure, null_element, values_of, MemberValues, no_member_values, member_value, put_member}
 use Rattle.smithy_schema.specs.Container.{Entry, element_of, members_from}
 use Rattle.smithy_schema.specs.Fits.{FitsOr, ElementsFit, MembersFit, Fits}
-use Rattle.smithy_schema.specs.Private.Options.{step_apart}
-use Rattle.smithy_schema.specs.Private.ElementFolds.{element_apart}
-use Rattle.smithy_schema.specs.Private.MemberFolds.{entry_with}
+use Rattle.smithy_schema.specs.Lemmas.Options.{step_apart}
+use Rattle.smithy_schema.specs.Lemmas.ElementFolds.{element_apart}
+use Rattle.smithy_schema.specs.Lemmas.MemberFolds.{entry_with}
 
 -- ---- lists
 
