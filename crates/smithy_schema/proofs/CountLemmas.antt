@@ -1,15 +1,12 @@
 -- That no more containers are open than the bytes of the input open stays so, call by call.
-use Rattle.std.proofs.Common.{◌≡◌, ◌≤◌, ◌<◌, ◌+◌, ℕ, suc, length, drop, List, ◌∷◌, Option, Some, Bool, true, false, Result, Err, refl, ap, arith, subst, sym}
-use Rattle.std.specs.Result.{IsErr}
-use Rattle.std.specs.Bool.{MatchBool}
-use Rattle.smithy_schema.specs.declared.error.SerdeError.{SerdeError}
+use Rattle.std.proofs.Common.{◌≡◌, ◌≤◌, ◌<◌, ◌+◌, ℕ, suc, length, drop, List, Option, Some, ap, arith, subst, sym}
 use Rattle.smithy_schema.specs.declared.place.Place.{Place}
 use Rattle.smithy_schema.specs.declared.read.Step.{Step}
 use Rattle.smithy_schema.specs.declared.read.Step.TheVariants.{Member as ToMember, Unknown, End}
 use Rattle.smithy_schema.specs.Table.{Table}
 use Rattle.smithy_schema.specs.Value.{Value}
 use Rattle.smithy_schema.specs.Site.{Site}
-use Rattle.smithy_schema.specs.Reading.{Cursor, depth, Relations, Within, CountsOpeners, Passes, Reads, Enters, Steps, Leaves, MatchStep, IsCounted, ReachesDepth, failed_at}
+use Rattle.smithy_schema.specs.Reading.{Cursor, depth, Relations, Within, CountsOpeners, Passes, Reads, Enters, Steps, Leaves, MatchStep, IsCounted, ReachesDepth, failed_at, passed_to}
 
 -- a fresh reader
 pub starts_counted : (w : Relations) (c : Cursor) → c.at ≡ 0 → depth c ≡ 0 → IsCounted w c
@@ -48,6 +45,13 @@ module _ (w : Relations) (counts : CountsOpeners w) where
 
   pub skip_counted : (old new : Cursor) → w.skips old.input (depth old) old.at new.at → Passes old new → IsCounted w old → IsCounted w new
   skip_counted old new skips passes = passed w old new passes (counts.skip_takes_none old.input (depth old) old.at new.at skips)
+
+  -- behind a value that is left unread and skipped
+  pub unread_counted : (old : Cursor) (e : ℕ) → w.skips old.input (depth old) old.at e → IsCounted w old → IsCounted w (passed_to old e)
+  unread_counted old e skips counted full =
+      let before = counted full in
+      let less = counts.skip_takes_none old.input (depth old) old.at e skips in
+      omega (arith, before, less)
 
   pub entry_counted : (max : ℕ) (old new : Cursor) (t : Table) (p : Place) (k : Within) → Enters w max old new t p k → IsCounted w old → IsCounted w new
   entry_counted max old new t p k enters =
