@@ -1,0 +1,13 @@
+pub mod OnLiterals
+pub mod PowerLemmas
+pub mod CalendarLemmas
+pub mod EpochLemmas
+pub mod FractionLemmas
+pub mod LayoutLemmas
+pub mod WrittenFractions
+mod StandardFacts
+pub mod FractionTexts
+pub mod DateRoundTrip
+pub mod EpochRoundTrip
+pub mod HttpRoundTrip
+pub mod EpochTextForm
