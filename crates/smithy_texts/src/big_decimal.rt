@@ -4,16 +4,23 @@ ghost use Rattle.std.specs.Prelude.{◌≡◌, true, false, List, ℕ, IfOk, IfE
 ghost use Rattle.std.specs.String.{string_bytes};
 ghost use Rattle.smithy_texts.specs.Decimal.{is_decimal, exponents_fit, exponent_text};
 ghost use Rattle.smithy_texts.specs.declared.big_integer.BigNumberError.TheVariants.{InvalidFormat, ExponentOutOfRange};
+ghost use Rattle.std.specs.Hash as fed;
+ghost use Rattle.std.specs.Cmp.Lexicographic.{pointwise, nat_list_eq_equiv};
+ghost use Rattle.std.specs.Cmp.{partial_equiv_from_equiv};
+ghost use Rattle.std.specs.Cmp.Rules.{hashing};
+ghost use Rattle.std.proofs.Common.{rules};
+ghost use Rattle.std.specs.Prelude.{nat_eq};
 
 use crate::decimal_text::{coefficient, is_decimal, net_exponent};
 use crate::numeral::number;
 use crate::{BigNumberError, TooWide};
 use itoa::Buffer;
 use std::alloc::{AllocError, Global};
+use std::hash::{Hash, Hasher};
 use std::marker::Model;
 
 /// A decimal number of any size, as its text. Contracts see the text.
-#[derive(Drop)]
+#[derive(Debug, Drop)]
 pub struct BigDecimal {
     text: String,
 }
@@ -98,6 +105,30 @@ impl BigDecimal {
     {
         let text = String::from_str(alloc, self.text.as_str())?;
         Ok(BigDecimal { text })
+    }
+}
+
+impl PartialEq for BigDecimal {
+    ghost eq = { pointwise nat_eq };
+
+    ghost laws = { partial_equiv_from_equiv nat_list_eq_equiv };
+
+    fn eq(&self, other: &BigDecimal) -> bool {
+        self.as_ref() == other.as_ref()
+    }
+}
+
+impl Eq for BigDecimal {
+    ghost laws = { nat_list_eq_equiv };
+}
+
+impl Hash for BigDecimal {
+    ghost hash_input = { fed.str };
+
+    ghost respects_eq = { Prim.search (hashing, rules) };
+
+    fn hash<H: Hasher>(&self, state: &mut H) {
+        self.as_ref().hash(state);
     }
 }
 

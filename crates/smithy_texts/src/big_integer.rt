@@ -4,10 +4,17 @@ ghost use Rattle.std.specs.Prelude.{◌≡◌, ℤ, true, List, ℕ, IfOk, IfErr
 ghost use Rattle.std.specs.String.{string_bytes};
 ghost use Rattle.smithy_texts.specs.Decimal.{integer_form};
 ghost use Rattle.smithy_texts.specs.declared.big_integer.BigNumberError.TheVariants.{InvalidFormat, ExponentOutOfRange};
+ghost use Rattle.std.specs.Hash as fed;
+ghost use Rattle.std.specs.Cmp.Lexicographic.{pointwise, nat_list_eq_equiv};
+ghost use Rattle.std.specs.Cmp.{partial_equiv_from_equiv};
+ghost use Rattle.std.specs.Cmp.Rules.{hashing};
+ghost use Rattle.std.proofs.Common.{rules};
+ghost use Rattle.std.specs.Prelude.{nat_eq};
 
 use crate::numeral::{are_digits, number, without_minus};
 use itoa::Buffer;
 use std::alloc::{AllocError, Global};
+use std::hash::{Hash, Hasher};
 use std::marker::Model;
 
 /// Why a text isn't taken as a big number.
@@ -30,7 +37,7 @@ pub enum BigNumberError {
 pub struct TooWide;
 
 /// A whole number of any size, as its text. Contracts see the text.
-#[derive(Drop)]
+#[derive(Debug, Drop)]
 pub struct BigInteger {
     text: String,
 }
@@ -101,5 +108,29 @@ impl BigInteger {
     {
         let text = String::from_str(alloc, self.text.as_str())?;
         Ok(BigInteger { text })
+    }
+}
+
+impl PartialEq for BigInteger {
+    ghost eq = { pointwise nat_eq };
+
+    ghost laws = { partial_equiv_from_equiv nat_list_eq_equiv };
+
+    fn eq(&self, other: &BigInteger) -> bool {
+        self.as_ref() == other.as_ref()
+    }
+}
+
+impl Eq for BigInteger {
+    ghost laws = { nat_list_eq_equiv };
+}
+
+impl Hash for BigInteger {
+    ghost hash_input = { fed.str };
+
+    ghost respects_eq = { Prim.search (hashing, rules) };
+
+    fn hash<H: Hasher>(&self, state: &mut H) {
+        self.as_ref().hash(state);
     }
 }
