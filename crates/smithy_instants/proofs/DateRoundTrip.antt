@@ -11,7 +11,7 @@ use Rattle.std.specs.Str.{byte, all_ascii_digits}
 use Rattle.smithy_texts.specs.Numeral.{are_digits, magnitude}
 use Rattle.smithy_instants.specs.Instant.{nanos_per_second, subsecond_of}
 use Rattle.smithy_instants.specs.Calendar.{CivilDate, day_number, civil_date}
-use Rattle.smithy_instants.specs.DateText.{begins_date_time, clock_seconds, fraction_length, fraction_nanos, offset_of, instant_of, date_time_nanos, date_of}
+use Rattle.smithy_instants.specs.DateText.{begins_date_time, clock_seconds, fraction_length, fraction_nanos, offset_of, instant_of, date_time_nanos}
 use Rattle.smithy_instants.specs.declared.format.Format.TheVariants.{DateTime}
 use Rattle.jiff_core.proofs.SignedLemmas.{signed_arith}
 use Rattle.smithy_instants.specs.WrittenDate.{fraction_digits, fraction_text, day_text, clock_text, date_time_text, day_of, second_of_day, written_date_time, holds}
@@ -119,27 +119,27 @@ clock_is s h =
 pub month_short : (y : ℤ) (m d : ℕ) → IsCivilDate y m d → (m < 100) × (d < 100)
 month_short y m d h = (let month = h.1 in omega arith, let last = h.2 in omega (arith, (days_in_month_bounds y m).0))
 
-pub date_time_reads : (day : ℤ) (c : CivilDate) (s nanos : ℕ) → IsDateOf day c → s < 86_400 → nanos < nanos_per_second → nanos % 1000 ≡ 0
-    → date_time_nanos (offset_of false) (date_time_text c s nanos) ≡ Some ((day *ℤ pos 86_400 +ℤ pos s -ℤ pos 0) *ℤ pos nanos_per_second +ℤ pos nanos)
-date_time_reads day c s nanos d small below whole =
+pub date_time_reads : (others : Bool) → offset_of others (codes "Z") ≡ Some (pos 0) → (day : ℤ) (c : CivilDate) (s nanos : ℕ) → IsDateOf day c → s < 86_400 → nanos < nanos_per_second → nanos % 1000 ≡ 0
+    → date_time_nanos (offset_of others) (date_time_text c s nanos) ≡ Some ((day *ℤ pos 86_400 +ℤ pos s -ℤ pos 0) *ℤ pos nanos_per_second +ℤ pos nanos)
+date_time_reads others zone day c s nanos d small below whole =
     let rest = fraction_text 6 (nanos / 1000) ++ codes "Z" in
     let text = date_front (c.year / 10 / 10 / 10) (c.year / 10 / 10) (c.year / 10) c.year (c.month / 10) c.month (c.day / 10) c.day
     (s / 3600 / 10) (s / 3600) (s / 60 % 60 / 10) (s / 60 % 60) (s % 60 / 10) (s % 60) rest in
     let size = fraction_length rest in
     let front : IsFractionFront rest (codes "Z") (nanos / 1000 * 1000) = fraction_front (nanos / 1000) 90 [] (omega arith) refl refl in
     let short = month_short (pos c.year) c.month c.day d.date in
-    let reads = date_time_is false text c.year c.month c.day (s / 3600) (s / 60 % 60) (s % 60) size
-    (day_number c.year c.month c.day) (clock_seconds (s / 3600) (s / 60 % 60) (s % 60)) (fraction_nanos (take size rest)) (offset_of false (drop size rest))
+    let reads = date_time_is others text c.year c.month c.day (s / 3600) (s / 60 % 60) (s % 60) size
+    (day_number c.year c.month c.day) (clock_seconds (s / 3600) (s / 60 % 60) (s % 60)) (fraction_nanos (take size rest)) (offset_of others (drop size rest))
     (front_begins (c.year / 10 / 10 / 10) (c.year / 10 / 10) (c.year / 10) c.year (c.month / 10) c.month (c.day / 10) c.day
     (s / 3600 / 10) (s / 3600) (s / 60 % 60 / 10) (s / 60 % 60) (s % 60 / 10) (s % 60) rest) (four c.year d.year) (two c.month short.0) (two c.day short.1)
     (two (s / 3600) (omega arith)) (two (s / 60 % 60) (omega arith)) (two (s % 60) (omega arith)) refl refl refl refl refl in
     let n : nanos / 1000 * 1000 ≡ nanos = omega arith in
     let nanos_is : fraction_nanos (take size rest) ≡ Some nanos = front.value ∙ ap Some n in
-    let offset_is : offset_of false (drop size rest) ≡ Some (pos 0) = ap (offset_of false) front.behind in
-    ap (date_time_nanos (offset_of false)) (shape c s nanos) ∙ sym reads
-    ∙ ap (λ x. instant_of x (clock_seconds (s / 3600) (s / 60 % 60) (s % 60)) (fraction_nanos (take size rest)) (offset_of false (drop size rest))) (day_number_of day c d)
-    ∙ ap (λ x. instant_of (Some day) x (fraction_nanos (take size rest)) (offset_of false (drop size rest))) (clock_is s small)
-    ∙ ap (λ x. instant_of (Some day) (Some s) x (offset_of false (drop size rest))) nanos_is
+    let offset_is : offset_of others (drop size rest) ≡ Some (pos 0) = ap (offset_of others) front.behind ∙ zone in
+    ap (date_time_nanos (offset_of others)) (shape c s nanos) ∙ sym reads
+    ∙ ap (λ x. instant_of x (clock_seconds (s / 3600) (s / 60 % 60) (s % 60)) (fraction_nanos (take size rest)) (offset_of others (drop size rest))) (day_number_of day c d)
+    ∙ ap (λ x. instant_of (Some day) x (fraction_nanos (take size rest)) (offset_of others (drop size rest))) (clock_is s small)
+    ∙ ap (λ x. instant_of (Some day) (Some s) x (offset_of others (drop size rest))) nanos_is
     ∙ ap (λ x. instant_of (Some day) (Some s) (Some nanos) x) offset_is
 
 -- an instant is its day, the seconds of this day and the nanoseconds of this second
@@ -157,17 +157,17 @@ text_or d None = d
 text_or d (Some t) = t
 
 -- the written date-time of an instant that it holds is read as this instant
-pub written_date_time_reads : (n : ℤ) (text : List ℕ) → holds DateTime n ≡ true → written_date_time n ≡ Some text → date_of DateTime text ≡ Some n
-written_date_time_reads n text h written = by (civil_date (day_of n)) refl written
+pub written_date_time_reads : (others : Bool) → offset_of others (codes "Z") ≡ Some (pos 0) → (n : ℤ) (text : List ℕ) → holds DateTime n ≡ true → written_date_time n ≡ Some text → date_time_nanos (offset_of others) text ≡ Some n
+written_date_time_reads others zone n text h written = by (civil_date (day_of n)) refl written
   where
     micros : (t u : Bool) → (t && u) ≡ true → t ≡ true
     micros true u e = refl
     micros false u e = e
 
-    by : (o : Option CivilDate) → civil_date (day_of n) ≡ o → option_map (λ d. date_time_text d (second_of_day n) (subsecond_of n)) o ≡ Some text → date_of DateTime text ≡ Some n
+    by : (o : Option CivilDate) → civil_date (day_of n) ≡ o → option_map (λ d. date_time_text d (second_of_day n) (subsecond_of n)) o ≡ Some text → date_time_nanos (offset_of others) text ≡ Some n
     by None e w = let same : None ≡ Some text = w in absurd (cc)
     by (Some c) e w =
         let same : date_time_text c (second_of_day n) (subsecond_of n) ≡ text = ap (text_or []) w in
         let whole : subsecond_of n % 1000 ≡ 0 = eqb-true _ 0 (micros (nat_eq (subsecond_of n % 1000) 0) (is_some (civil_date (day_of n))) h) in
-        let reads = date_time_reads (day_of n) c (second_of_day n) (subsecond_of n) (date_holds (day_of n) c e) (second_below n) (nanos_below n) whole in
-        ap (date_time_nanos (offset_of false)) (sym same) ∙ reads ∙ ap Some (instant_parts n)
+        let reads = date_time_reads others zone (day_of n) c (second_of_day n) (subsecond_of n) (date_holds (day_of n) c e) (second_below n) (nanos_below n) whole in
+        ap (date_time_nanos (offset_of others)) (sym same) ∙ reads ∙ ap Some (instant_parts n)

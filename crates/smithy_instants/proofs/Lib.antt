@@ -11,3 +11,4 @@ pub mod DateRoundTrip
 pub mod EpochRoundTrip
 pub mod HttpRoundTrip
 pub mod EpochTextForm
+pub mod ReadBack

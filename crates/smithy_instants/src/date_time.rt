@@ -19,7 +19,7 @@ const NANOS_PER_MILLI: i128 = 1_000_000;
 pub struct ConversionError;
 
 /// An instant. Contracts see its nanoseconds.
-#[derive(Debug, Clone, Copy, PartialEq, Eq, PartialOrd, Ord)]
+#[derive(Debug, Clone, Copy, PartialEq, Eq, PartialOrd, Ord, Hash)]
 pub struct DateTime {
     nanos: i128,
 }
@@ -123,9 +123,20 @@ impl DateTime {
         self
     }
 
+    /// Sets the nanoseconds past the second, and keeps the seconds.
+    pub fn set_subsec_nanos(&mut self, n: u32) -> &mut Self
+        requires { n < nanos_per_second }
+        ensures value { result.now ≡ seconds_of self.old *ℤ pos nanos_per_second +ℤ pos n }
+        ensures same { result.ghost_name ≡ self.entry.ghost_name }
+    {
+        *self = DateTime::from_secs_and_nanos(self.secs(), n);
+        self
+    }
+
     /// The day number of the instant, from 1 January 1970 on.
     pub(crate) fn day(&self) -> i64
         ensures value { result ≡ day_of self.now }
+        ensures instant { is_instant self.now ≡ true }
         ensures low { neg_ℤ (pos (2 ^ 62)) ≤ℤ result }
         ensures high { result ≤ℤ pos (2 ^ 62) }
     {

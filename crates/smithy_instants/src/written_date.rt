@@ -1,12 +1,14 @@
 //! How instants are written.
 
-ghost use Rattle.std.specs.Prelude.{◌≡◌, ◌<◌, ◌≤◌, ◌^◌, ◌++◌, ◌-◌, [], ◌∷◌, neg_ℤ, pos, ◌≤ℤ◌, slice_index_or, OnOk, OnErr, Some, None, IfOk, IfErr};
+ghost use Rattle.std.specs.Prelude.{◌≡◌, ◌<◌, ◌≤◌, ◌^◌, ◌++◌, ◌-◌, [], ◌∷◌, neg_ℤ, pos, ◌≤ℤ◌, true, slice_index_or, OnOk, OnErr, Some, None, IfOk, IfErr};
 ghost use Rattle.std.specs.String.{string_bytes};
 ghost use Rattle.smithy_instants.specs.WrittenDate.{padded_digits, fraction_digits, fraction_text, clock_text, day_text, date_time_text, http_date_text, epoch_text, day_of, second_of_day, weekday_names, month_names, date_text, written_date_time, written_http_date, holds};
 ghost use Rattle.smithy_instants.specs.declared.written_date.DateTimeFormatError.TheVariants.{NoMemory, OutOfRange};
+ghost use Rattle.smithy_instants.specs.declared.format.Format.TheVariants.{EpochSeconds};
 ghost use Rattle.std.specs.Prelude.{IsOk};
-ghost use Rattle.smithy_instants.specs.Instant.{nanos_per_second, subsecond_of};
+ghost use Rattle.smithy_instants.specs.Instant.{nanos_per_second, subsecond_of, is_instant};
 ghost use Rattle.smithy_instants.specs.Calendar.{civil_date};
+ghost use Rattle.smithy_instants.specs.DateText.{date_of};
 ghost use Rattle.std.specs.Prelude.{is_some, ◌%◌, ◌==◌, ◌&&◌};
 ghost use Rattle.std.specs.Int.{IsInRange};
 ghost use Rattle.jiff_core.specs.Calendar.{weekday_number};
@@ -214,6 +216,7 @@ fn grown(text: String, pushed: Result<(), AllocError>) -> Result<String, DateTim
 fn date_time_text(alloc: Global, instant: DateTime) -> Result<String, DateTimeFormatError>
     ensures ok { IfOk result (λ t. written_date_time instant ≡ Some (string_bytes t)) }
     ensures err { IfErr result (λ e. e ≡ OutOfRange → written_date_time instant ≡ None) }
+    ensures instant { is_instant instant ≡ true }
 {
     let Some(date) = civil_date(instant.day()) else {
         return Err(DateTimeFormatError::OutOfRange);
@@ -231,6 +234,7 @@ fn date_time_text(alloc: Global, instant: DateTime) -> Result<String, DateTimeFo
 fn http_date_text(alloc: Global, instant: DateTime) -> Result<String, DateTimeFormatError>
     ensures ok { IfOk result (λ t. written_http_date instant ≡ Some (string_bytes t)) }
     ensures err { IfErr result (λ e. e ≡ OutOfRange → written_http_date instant ≡ None) }
+    ensures instant { is_instant instant ≡ true }
 {
     let day = instant.day();
     let Some(date) = civil_date(day) else {
@@ -254,8 +258,9 @@ fn push_epoch(text: &mut String, nanos: i128) -> Result<(), AllocError>
 }
 
 fn epoch_text(alloc: Global, instant: DateTime) -> Result<String, DateTimeFormatError>
-    ensures ok { IfOk result (λ t. string_bytes t ≡ epoch_text instant) }
+    ensures ok { IfOk result (λ t. date_text EpochSeconds instant ≡ Some (string_bytes t)) }
     ensures err { IfErr result (λ e. e ≡ NoMemory) }
+    ensures instant { is_instant instant ≡ true }
 {
     let mut text = String::new(alloc);
     let pushed = push_epoch(&mut text, instant.as_nanos());
@@ -280,6 +285,8 @@ impl DateTime {
     pub fn fmt(&self, alloc: Global, format: Format) -> Result<String, DateTimeFormatError>
         ensures ok { IfOk result (λ t. date_text format self.now ≡ Some (string_bytes t)) }
         ensures err { IfErr result (λ e. e ≡ OutOfRange → date_text format self.now ≡ None) }
+        ensures reads_back { IfOk result (λ t. holds format self.now ≡ true
+            → date_of format (string_bytes t) ≡ Some self.now) }
     {
         match format {
             Format::DateTime => date_time_text(alloc, *self),
