@@ -4,6 +4,7 @@
 mod calendar;
 mod date_text;
 mod date_time;
+mod display;
 mod epoch;
 mod format;
 mod written_date;
