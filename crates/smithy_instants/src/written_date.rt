@@ -1,15 +1,13 @@
 //! How instants are written.
 
-ghost use Rattle.std.specs.Prelude.{◌≡◌, ◌<◌, ◌≤◌, ◌^◌, ◌++◌, ◌-◌, [], ◌∷◌, neg_ℤ, pos, ◌≤ℤ◌, true, slice_index_or, OnOk, OnErr, Some, None, IfOk, IfErr};
+ghost use Rattle.std.specs.Prelude.{◌≡◌, ◌<◌, ◌≤◌, ◌^◌, ◌++◌, ◌-◌, [], ◌∷◌, neg_ℤ, pos, ◌≤ℤ◌, true, slice_index_or, OnOk, OnErr, Some, None, IfOk, IfErr, IsOk, is_some, ◌%◌, ◌==◌, ◌&&◌};
 ghost use Rattle.std.specs.String.{string_bytes};
 ghost use Rattle.smithy_instants.specs.WrittenDate.{padded_digits, fraction_digits, fraction_text, clock_text, day_text, date_time_text, http_date_text, epoch_text, day_of, second_of_day, weekday_names, month_names, date_text, written_date_time, written_http_date, holds};
 ghost use Rattle.smithy_instants.specs.declared.written_date.DateTimeFormatError.TheVariants.{NoMemory, OutOfRange};
 ghost use Rattle.smithy_instants.specs.declared.format.Format.TheVariants.{EpochSeconds};
-ghost use Rattle.std.specs.Prelude.{IsOk};
 ghost use Rattle.smithy_instants.specs.Instant.{nanos_per_second, subsecond_of, is_instant};
 ghost use Rattle.smithy_instants.specs.Calendar.{civil_date};
 ghost use Rattle.smithy_instants.specs.DateText.{date_of};
-ghost use Rattle.std.specs.Prelude.{is_some, ◌%◌, ◌==◌, ◌&&◌};
 ghost use Rattle.std.specs.Int.{IsInRange};
 ghost use Rattle.jiff_core.specs.Calendar.{weekday_number};
 

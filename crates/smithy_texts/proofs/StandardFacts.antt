@@ -1,5 +1,5 @@
 -- Values that the standards give, so that a wrong rule in the specs does not check.
-use Rattle.std.proofs.Common.{◌≡◌, ℕ, ◌-◌, ◌^◌, List, [], ◌∷◌, map, true, false, Some, None, refl, pos, negsuc, neg_ℤ, codes}
+use Rattle.std.proofs.Common.{◌≡◌, ℕ, ◌-◌, ◌^◌, List, [], ◌∷◌, map, Some, None, refl, pos, negsuc, neg_ℤ, codes}
 use Rattle.smithy_texts.specs.Decimal.{integer_form, decimal_form, decimal_of, decimal_text}
 use Rattle.std.specs.Fmt.{signed_decimal}
 use Rattle.smithy_texts.specs.Base64Text.{blob_text, blob_of, blob_text_length}

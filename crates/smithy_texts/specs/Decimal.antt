@@ -78,6 +78,7 @@ abbrev pub exponent_text : ℤ → List ℕ
 exponent_text (pos n) = if n == 0 then [] else byte "e" ∷ signed_decimal (pos n)
 exponent_text (negsuc n) = byte "e" ∷ signed_decimal (negsuc n)
 
--- the mantissa, then `e` and the exponent where it isn't zero
+-- the mantissa, then `e` and the exponent where it isn't zero; of a mantissa below 10 ^ 64, since
+-- `signed_decimal` writes so many digits at most
 abbrev pub decimal_text : ℤ → ℤ → List ℕ
 decimal_text m e = signed_decimal m ++ exponent_text e

@@ -1,6 +1,6 @@
 //! Decimal numbers of any size, kept as their text.
 
-ghost use Rattle.std.specs.Prelude.{◌≡◌, true, false, List, ℕ, IfOk, IfErr, OnOk, ◌++◌};
+ghost use Rattle.std.specs.Prelude.{◌≡◌, nat_eq, true, false, List, ℕ, IfOk, IfErr, OnOk, ◌++◌};
 ghost use Rattle.std.specs.String.{string_bytes};
 ghost use Rattle.smithy_texts.specs.Decimal.{is_decimal, exponents_fit, exponent_text};
 ghost use Rattle.smithy_texts.specs.declared.big_integer.BigNumberError.TheVariants.{InvalidFormat, ExponentOutOfRange};
@@ -9,7 +9,6 @@ ghost use Rattle.std.specs.Cmp.Lexicographic.{pointwise, nat_list_eq_equiv};
 ghost use Rattle.std.specs.Cmp.{partial_equiv_from_equiv};
 ghost use Rattle.std.specs.Cmp.Rules.{hashing};
 ghost use Rattle.std.proofs.Common.{rules};
-ghost use Rattle.std.specs.Prelude.{nat_eq};
 
 use crate::decimal_text::{coefficient, is_decimal, net_exponent};
 use crate::numeral::number;

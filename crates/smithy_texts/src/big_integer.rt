@@ -1,6 +1,6 @@
 //! Whole numbers of any size, kept as their text.
 
-ghost use Rattle.std.specs.Prelude.{◌≡◌, ℤ, true, List, ℕ, IfOk, IfErr, OnErr, Some, None, is_some};
+ghost use Rattle.std.specs.Prelude.{◌≡◌, nat_eq, ℤ, true, List, ℕ, IfOk, IfErr, OnErr, Some, None, is_some};
 ghost use Rattle.std.specs.String.{string_bytes};
 ghost use Rattle.smithy_texts.specs.Decimal.{integer_form};
 ghost use Rattle.smithy_texts.specs.declared.big_integer.BigNumberError.TheVariants.{InvalidFormat, ExponentOutOfRange};
@@ -9,7 +9,6 @@ ghost use Rattle.std.specs.Cmp.Lexicographic.{pointwise, nat_list_eq_equiv};
 ghost use Rattle.std.specs.Cmp.{partial_equiv_from_equiv};
 ghost use Rattle.std.specs.Cmp.Rules.{hashing};
 ghost use Rattle.std.proofs.Common.{rules};
-ghost use Rattle.std.specs.Prelude.{nat_eq};
 
 use crate::numeral::{are_digits, number, without_minus};
 use itoa::Buffer;

@@ -1,8 +1,7 @@
 //! Signs and digits, and the number that they write.
 
-ghost use Rattle.std.specs.Prelude.{◌≡◌, ◌<◌, ◌^◌};
+ghost use Rattle.std.specs.Prelude.{◌≡◌, ◌<◌, ◌^◌, FitsSigned};
 ghost use Rattle.std.specs.Option.{SomeIff};
-ghost use Rattle.std.specs.Prelude.{FitsSigned};
 ghost use Rattle.std.specs.Int.{w128};
 ghost use Rattle.std.specs.Str.{byte, all_ascii_digits};
 ghost use Rattle.smithy_texts.specs.Numeral.{are_digits, begins_with, without_minus, without_sign, magnitude, signed, number};
