@@ -12,3 +12,5 @@ pub mod EpochRoundTrip
 pub mod HttpRoundTrip
 pub mod EpochTextForm
 pub mod ReadBack
+pub mod DateFrontLemmas
+pub mod DelimiterLemmas

@@ -6,3 +6,5 @@ pub mod Epoch
 pub mod Calendar
 pub mod DateText
 pub mod WrittenDate
+pub mod DateFront
+pub mod Private

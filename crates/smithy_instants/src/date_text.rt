@@ -73,7 +73,7 @@ fn clock_seconds(hour: u16, minute: u16, second: u16) -> Option<u32>
 }
 
 // How many bytes of the front are a point and the digits behind it.
-fn fraction_length(text: &[u8]) -> usize
+pub(crate) fn fraction_length(text: &[u8]) -> usize
     ensures value { result ≡ fraction_length text.now }
     ensures within { result ≤ length text.now }
 {
@@ -88,7 +88,7 @@ fn fraction_length(text: &[u8]) -> usize
 }
 
 // The text from this place on.
-fn after(text: &[u8], at: usize) -> &[u8]
+pub(crate) fn after(text: &[u8], at: usize) -> &[u8]
     requires { at ≤ length text.now }
     ensures { result.now ≡ drop at text.now }
 {

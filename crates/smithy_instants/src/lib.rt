@@ -2,6 +2,7 @@
 #![tactic(auto)]
 
 mod calendar;
+mod date_front;
 mod date_text;
 mod date_time;
 mod display;
