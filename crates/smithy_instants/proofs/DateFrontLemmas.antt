@@ -1,5 +1,5 @@
 -- Where a date ends at the front of a text.
-use Rattle.std.proofs.Common.{◌≡◌, ◌+◌, ◌-◌, ◌<◌, ◌≤◌, ◌&&◌, ◌||◌, ◌⊎◌, ℕ, suc, List, [], ◌∷◌, ◌++◌, length, take, drop, slice_range, Bool, cond, true, false, nat_eq, refl, sym, ap, subst, ◌∙◌, arith, Option, Some, None, option_map, ℤ, pos, codes, inl, inr, eqb-true}
+use Rattle.std.proofs.Common.{◌≡◌, ◌+◌, ◌<◌, ◌≤◌, ◌&&◌, ◌||◌, ◌⊎◌, ℕ, suc, List, [], ◌∷◌, ◌++◌, length, take, drop, slice_range, Bool, cond, true, false, nat_eq, refl, sym, ap, ◌∙◌, arith, Option, Some, None, option_map, ℤ, pos, codes, inl, inr, eqb-true}
 use Rattle.std.proofs.lemmas.List.{length-drop, drop-append-le}
 use Rattle.std.proofs.lemmas.Slice.Eq.{bytes_eq-Decides}
 use Rattle.std.specs.Char.{is_ascii_digit}
@@ -9,7 +9,7 @@ use Rattle.std.specs.Str.{byte, bytes_eq}
 use Rattle.smithy_texts.specs.Numeral.{signed}
 use Rattle.smithy_texts.specs.Decimal.{is_point}
 use Rattle.smithy_instants.specs.Calendar.{day_number}
-use Rattle.smithy_instants.specs.DateText.{begins_with_layout, fits_layout, begins_date_time, begins_http_date, two_digits, four_digits, month_named, clock_seconds, fraction_length, fraction_nanos, utc_offset, any_offset, is_short_clock, offset_of, gmt_offset, instant_of, date_time_nanos, http_date_nanos}
+use Rattle.smithy_instants.specs.DateText.{begins_with_layout, fits_layout, begins_date_time, begins_http_date, two_digits, four_digits, month_named, clock_seconds, fraction_length, fraction_nanos, utc_offset, is_short_clock, offset_of, gmt_offset, instant_of, date_time_nanos, http_date_nanos}
 use Rattle.smithy_instants.specs.Private.FrontLength.{zone_length, date_time_length, http_date_length}
 
 first_of : (t u : Bool) → (t && u) ≡ true → t ≡ true

@@ -1,10 +1,9 @@
 -- A written text of seconds has the form of one, and is read as its instant.
-use Rattle.std.proofs.Common.{◌≡◌, ◌+◌, ◌-◌, ◌*◌, ◌/◌, ◌%◌, ◌^◌, ◌<◌, ◌≤◌, ◌&&◌, ℕ, zero, suc, List, [], ◌∷◌, ◌++◌, length, take, drop, Bool, cond, true, false, nat_eq, nat_le, nat_lt, refl, sym, ap, subst, ◌∙◌, arith, Option, Some, None, option_and_then, ℤ, pos, negsuc, eqb-true}
+use Rattle.std.proofs.Common.{◌≡◌, ◌-◌, ◌*◌, ◌/◌, ◌%◌, ◌^◌, ◌<◌, ◌&&◌, ℕ, suc, List, [], ◌∷◌, ◌++◌, length, take, drop, Bool, cond, true, false, nat_eq, nat_le, refl, sym, ap, subst, ◌∙◌, arith, Some, None, option_and_then, ℤ, pos, negsuc}
 use Rattle.std.specs.Prelude.{is_some}
 use Rattle.std.proofs.Math.Seq.{take-append_seam, drop-append_seam, take-length, drop-length}
 use Rattle.std.proofs.lemmas.Bool.Decides.{nat_tests}
 use Rattle.std.proofs.lemmas.List.{append-nil}
-use Rattle.std.specs.Char.{is_ascii_digit}
 use Rattle.std.specs.Fmt.{decimal, sign_text}
 use Rattle.std.specs.List.{position_or_len, before_first}
 use Rattle.std.specs.Str.{byte, all_ascii_digits}
@@ -17,9 +16,9 @@ use Rattle.smithy_instants.specs.WrittenDate.{epoch_text, fraction_text, fractio
 use Rattle.smithy_instants.specs.declared.format.Format.TheVariants.{EpochSeconds}
 use Rattle.smithy_instants.proofs.DateRoundTrip.{nonzero}
 use Rattle.smithy_instants.proofs.EpochRoundTrip.{epoch_text_reads, not_negative, wide_seconds}
-use Rattle.smithy_instants.proofs.FractionTexts.{IsFraction, fraction_is}
+use Rattle.smithy_instants.proofs.FractionTexts.{fraction_is}
 use Rattle.smithy_instants.proofs.WrittenFractions.{fraction_step}
-use Rattle.smithy_texts.proofs.WrittenNumerals.{written_digits, IsWrittenDigits, none_in_digits, point_is_no_digit, position-append}
+use Rattle.smithy_texts.proofs.WrittenNumerals.{written_digits, none_in_digits, point_is_no_digit, position-append}
 
 -- digits and an optional fraction, without a sign
 record IsSeconds (t : List ℕ) : Type 0 where

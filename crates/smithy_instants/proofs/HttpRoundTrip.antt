@@ -1,11 +1,11 @@
 -- A written http-date is read as its instant.
-use Rattle.std.proofs.Common.{◌≡◌, ◌+◌, ◌-◌, ◌*◌, ◌/◌, ◌%◌, ◌<◌, ◌≤◌, ◌&&◌, ℕ, zero, suc, List, [], ◌∷◌, ◌++◌, take, drop, slice_range, Bool, cond, true, false, nat_eq, refl, sym, ap, subst, ◌∙◌, arith, Option, Some, None, codes, ℤ, pos, ◌*ℤ◌, ◌+ℤ◌, ◌-ℤ◌, eqb-true, option_map, slice_index_or}
+use Rattle.std.proofs.Common.{◌≡◌, ◌+◌, ◌-◌, ◌/◌, ◌%◌, ◌<◌, ◌&&◌, ℕ, zero, suc, List, [], ◌∷◌, ◌++◌, Bool, true, false, nat_eq, refl, sym, ap, ◌∙◌, arith, Option, Some, None, codes, ℤ, pos, ◌*ℤ◌, ◌+ℤ◌, ◌-ℤ◌, eqb-true, option_map, slice_index_or}
 use Rattle.std.specs.Prelude.{is_some}
 use Rattle.jiff_core.specs.Calendar.{weekday_number}
 use Rattle.jiff_core.proofs.CalendarLemmas.{weekday_number_bound}
 use Rattle.smithy_instants.specs.Instant.{nanos_per_second, subsecond_of}
 use Rattle.smithy_instants.specs.Calendar.{CivilDate, day_number, civil_date}
-use Rattle.smithy_instants.specs.DateText.{begins_http_date, two_digits, four_digits, clock_seconds, fraction_length, fraction_nanos, gmt_offset, is_weekday, month_named, instant_of, http_date_nanos, date_of}
+use Rattle.smithy_instants.specs.DateText.{begins_http_date, clock_seconds, is_weekday, month_named, instant_of, http_date_nanos, date_of}
 use Rattle.smithy_instants.specs.WrittenDate.{padded_digits, clock_text, http_date_text, weekday_names, month_names, day_of, second_of_day, written_http_date, holds}
 use Rattle.smithy_instants.specs.declared.format.Format.TheVariants.{HttpDate}
 use Rattle.smithy_instants.proofs.CalendarLemmas.{IsDateOf, day_number_of, date_holds}

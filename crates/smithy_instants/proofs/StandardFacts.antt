@@ -1,10 +1,10 @@
 -- Values that the standards and the calendar give, so that a wrong rule in the specs does not check.
-use Rattle.std.proofs.Common.{◌≡◌, ℕ, ◌-◌, ◌^◌, List, [], ◌∷◌, map, true, false, Some, None, option_map, option_and_then, refl, pos, negsuc, neg_ℤ, codes}
+use Rattle.std.proofs.Common.{◌≡◌, [], ◌∷◌, map, true, false, Some, None, option_map, option_and_then, refl, pos, negsuc, neg_ℤ, codes}
 use Rattle.smithy_instants.specs.Epoch.{epoch_nanos}
-use Rattle.smithy_instants.specs.Instant.{is_instant}
-use Rattle.smithy_instants.specs.Calendar.{day_number}
+use Rattle.smithy_instants.specs.Instant.{is_instant, subsecond_of}
+use Rattle.smithy_instants.specs.Calendar.{day_number, civil_date}
 use Rattle.smithy_instants.specs.DateText.{date_of}
-use Rattle.smithy_instants.specs.WrittenDate.{date_text, holds, epoch_text}
+use Rattle.smithy_instants.specs.WrittenDate.{date_text, holds, epoch_text, day_of, second_of_day}
 use Rattle.smithy_instants.specs.declared.format.Format.TheVariants.{DateTime, DateTimeWithOffset, HttpDate, EpochSeconds}
 use Rattle.smithy_instants.proofs.OnLiterals.{smithy_instants_on_literals}
 
@@ -32,11 +32,24 @@ pub no_epoch_texts : map (date_of EpochSeconds) (codes "" ∷ codes "1." ∷ cod
     ≡ None ∷ None ∷ None ∷ None ∷ None ∷ None ∷ None ∷ None ∷ []
 no_epoch_texts = refl
 
--- 1970-01-01 and the day before it, 2000-02-29, 2015-10-21, and the first and the last day
-pub days : (day_number 1970 1 1 ≡ Some (pos 0)) × (day_number 1969 12 31 ≡ Some (negsuc 0)) × (day_number 2000 2 29 ≡ Some (pos 11_016))
-    × (day_number 2015 10 21 ≡ Some (pos 16_729)) × (day_number 0 1 1 ≡ Some (neg_ℤ (pos 719_528))) × (day_number 9999 12 31 ≡ Some (pos 2_932_896))
+-- 1970-01-01 and the day before it, and the first and the last day
+pub days : (day_number 1970 1 1 ≡ Some (pos 0)) × (day_number 1969 12 31 ≡ Some (negsuc 0)) × (day_number 2015 10 21 ≡ Some (pos 16_729))
+    × (day_number 0 1 1 ≡ Some (neg_ℤ (pos 719_528))) × (day_number 9999 12 31 ≡ Some (pos 2_932_896)) × (day_number 10_000 1 1 ≡ None)
 unfolding smithy_instants_on_literals
 days = (refl, refl, refl, refl, refl, refl)
+
+-- 1900 has no leap day, 2000 and 2024 have one
+pub leap_days : (day_number 1900 2 28 ≡ Some (neg_ℤ (pos 25_509))) × (day_number 1900 2 29 ≡ None) × (day_number 1900 3 1 ≡ Some (neg_ℤ (pos 25_508)))
+    × (day_number 2000 2 29 ≡ Some (pos 11_016)) × (day_number 2000 3 1 ≡ Some (pos 11_017))
+    × (day_number 2024 2 29 ≡ Some (pos 19_782)) × (day_number 2023 2 29 ≡ None)
+unfolding smithy_instants_on_literals
+leap_days = (refl, refl, refl, refl, refl, refl, refl)
+
+-- a nanosecond before the epoch is the last one of the day before
+pub before_epoch : (day_of (negsuc 0) ≡ negsuc 0) × (second_of_day (negsuc 0) ≡ 86_399) × (subsecond_of (negsuc 0) ≡ 999_999_999)
+    × (civil_date (negsuc 0) ≡ Some (record { year = 1969; month = 12; day = 31 }))
+unfolding smithy_instants_on_literals
+before_epoch = (refl, refl, refl, refl)
 
 pub date_times : map (date_of DateTime) (codes "1970-01-01T00:00:00Z" ∷ codes "1969-12-31T23:59:59.999999999Z" ∷ codes "2000-02-29t12:00:00.5z" ∷ codes "1985-04-12T23:20:50.52Z" ∷ codes "0000-01-01T00:00:00Z" ∷ codes "9999-12-31T23:59:59.999999999Z" ∷ codes "0000-02-29T00:00:00Z" ∷ [])
     ≡ Some (pos 0) ∷ Some (negsuc 0) ∷ Some (pos 951_825_600_500_000_000) ∷ Some (pos 482_196_050_520_000_000)

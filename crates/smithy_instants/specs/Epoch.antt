@@ -14,7 +14,8 @@ scaled n (negsuc e) = if n % 10 ^ suc e == 0 then Some (n / 10 ^ suc e) else Non
 abbrev pub is_epoch : List ℕ → Bool
 is_epoch text = is_decimal text && fits_signed 64 (written_exponent text)
 
--- the nanoseconds of a decimal text in seconds, where these are whole
+-- the nanoseconds of a decimal text in seconds, where these are whole; a grammar that has fewer
+-- decimals, as that of JSON, is asked for beside it
 abbrev pub epoch_nanos : List ℕ → Option ℤ
 epoch_nanos text =
     if is_epoch text

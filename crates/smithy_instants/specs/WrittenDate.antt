@@ -24,7 +24,8 @@ fraction_digits (suc width) n =
 unfoldable pub fraction_text : ℕ → ℕ → List ℕ
 fraction_text width n = if n == 0 then [] else byte "." ∷ fraction_digits width n
 
--- the seconds of these nanoseconds, exactly
+-- the seconds of these nanoseconds, exactly, where they are below 10 ^ 64, since `decimal` writes so many
+-- digits at most
 abbrev pub epoch_text : ℤ → List ℕ
 epoch_text nanos =
     sign_text (is_negative nanos) ++ decimal (unsigned_abs nanos / nanos_per_second)

@@ -1,4 +1,4 @@
-use Rattle.std.proofs.Common.{◌≡◌, ◌≤◌, ◌+◌, ℕ, length, drop, ap, ◌∙◌, arith}
+use Rattle.std.proofs.Common.{◌≡◌, drop, ap, ◌∙◌, arith}
 use Rattle.smithy_instants.specs.DateText.{fraction_length}
 use Rattle.smithy_instants.proofs.DateFrontLemmas.{zone_at, some_iff_same}
 use Rattle.smithy_instants.proofs.date_front.http_date_length.Goals as goal

@@ -1,4 +1,4 @@
-use Rattle.std.proofs.Common.{◌≡◌, ◌<◌, ◌++◌, List, ℕ, length, take, drop, sym, ap, subst, ◌∙◌, encode_utf8, nat_eq, false, arith}
+use Rattle.std.proofs.Common.{◌≡◌, ◌<◌, length, take, drop, sym, ap, subst, ◌∙◌, nat_eq, false, arith}
 use Rattle.std.proofs.lemmas.Bool.Decides.{nat_tests}
 use Rattle.std.specs.Str.{IsCharBoundary}
 use Rattle.smithy_instants.proofs.DelimiterLemmas.{front_within, rest_is}

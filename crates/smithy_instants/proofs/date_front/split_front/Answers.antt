@@ -1,5 +1,4 @@
-use Rattle.std.proofs.Common.{◌≡◌, ◌≤◌, List, ℕ, length, true, false, sym, ap, subst, ◌∙◌}
-use Rattle.smithy_instants.specs.declared.format.Format.TheVariants.{DateTime, DateTimeWithOffset, HttpDate, EpochSeconds}
+use Rattle.std.proofs.Common.{◌≤◌, length, true, false, sym, ap, subst, ◌∙◌}
 use Rattle.smithy_instants.specs.Private.FrontLength.{date_time_length, http_date_length}
 use Rattle.smithy_instants.proofs.DelimiterLemmas.{front_within, date_time_front, http_date_front}
 use Rattle.smithy_instants.proofs.date_front.split_front.Goals as goal

@@ -1,4 +1,4 @@
-use Rattle.std.proofs.Common.{◌≡◌, ◌-◌, ◌^◌, ◌<◌, arith}
+use Rattle.std.proofs.Common.{◌≡◌, ◌-◌, ◌^◌, arith}
 use Rattle.smithy_instants.proofs.PowerLemmas.{power_positive}
 use Rattle.smithy_instants.proofs.display.write_fraction.Goals as goal
 

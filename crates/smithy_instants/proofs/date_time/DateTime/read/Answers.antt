@@ -1,4 +1,4 @@
-use Rattle.std.proofs.Common.{◌≡◌, Some, None, Result, Ok, Err, IfErr, List, ℕ, ℤ, sym, ap, ◌∙◌}
+use Rattle.std.proofs.Common.{◌≡◌, Some, None, Result, Ok, Err, IfErr, List, ℕ, ℤ, ap, ◌∙◌}
 use Rattle.smithy_instants.specs.DateText.{date_of}
 use Rattle.smithy_instants.specs.DateFront.{ReadsFront}
 use Rattle.smithy_instants.proofs.date_time.DateTime.read.Goals as goal
