@@ -23,8 +23,8 @@ pub struct ScannedString<'a> {
     pub has_escape: bool,
 }
 
-// Where the bytes end that stand for themselves in a string.
-pub(crate) fn plain_end(input: &[u8], at: usize) -> usize
+/// Where the bytes end that stand for themselves in a string, from the offset on.
+pub fn plain_end(input: &[u8], at: usize) -> usize
     requires { at ≤ length input.now }
     ensures value { result ≡ at + prefix_len is_plain (drop at input.now) }
     ensures bound { result ≤ length input.now }

@@ -1,0 +1,10 @@
+pub mod ScalarScans
+pub mod TreeTokens
+pub mod ScanLemmas
+pub mod NumberLemmas
+pub mod RunLemmas
+pub mod EpochNumbers
+pub mod TurnLemmas
+pub mod DecimalLemmas
+pub mod SkipLemmas
+pub mod SkipLaws

@@ -1,0 +1,34 @@
+use Rattle.std.proofs.Common.{sym, subst, [], ◌∷◌, Some, None, Ok, Err, refl}
+use Rattle.smithy_json_tokens.proofs.SkipLemmas.{stays_within, ends_done, ends_wrong}
+use Rattle.smithy_json_tokens.proofs.skip.skip_from.Goals as goal
+
+pub returns-in-Err : goal.returns-in-Err
+returns-in-Err g c =
+    let step = subst (λ item. g.I.Iterator.next_gives c.loop-item.tokens (Some item) c.next.new.self) c.in-Err.is c.in-Some.ensures.steps in
+    c.loop-item.invariant.3 [] (Err c.in-Err.error) c.next.new.self (Some (Err c.in-Err.error), step, refl)
+
+pub loop-item-preserved : goal.loop-item-preserved
+loop-item-preserved g c =
+    let inv = c.loop-item.invariant in
+    let step = subst (λ item. g.I.Iterator.next_gives c.loop-item.tokens (Some item) c.next.new.self) c.in-Ok.is c.in-Some.ensures.steps in
+    let further = c.in-Some.ensures.goes.on inv.1 in (
+      further.0,
+      further.1,
+      stays_within c.args.limit (g.T.IsToken.view c.in-Ok.token) c.loop-item.depth c.in-On.more inv.2 c.in-On.ensures,
+      λ passed result t h. inv.3 (c.in-Ok.token ∷ passed) result t (c.in-On.more, sym c.in-On.ensures, (c.next.new.self, step, h)),
+    )
+
+pub returns-in-Done : goal.returns-in-Done
+returns-in-Done g c =
+    let step = subst (λ item. g.I.Iterator.next_gives c.loop-item.tokens (Some item) c.next.new.self) c.in-Ok.is c.in-Some.ensures.steps in
+    c.loop-item.invariant.3 [] (Ok tt) c.next.new.self (Some (Ok c.in-Ok.token), step, ends_done _ (g.T.IsToken.place c.in-Ok.token) c.in-Done.ensures)
+
+pub returns-in-Wrong : goal.returns-in-Wrong
+returns-in-Wrong g c =
+    let step = subst (λ item. g.I.Iterator.next_gives c.loop-item.tokens (Some item) c.next.new.self) c.in-Ok.is c.in-Some.ensures.steps in
+    c.loop-item.invariant.3 [] (Err c.wrong.result) c.next.new.self
+    (Some (Ok c.in-Ok.token), step, ends_wrong _ (g.T.IsToken.place c.in-Ok.token) c.place.result c.wrong.result c.in-Wrong.ensures c.place.ensures c.wrong.ensures.offset c.wrong.ensures.kind)
+
+pub returns : goal.returns
+returns g c =
+    c.loop-item.invariant.3 [] (Err c.wrong-2.result) c.next.new.self (None, c.in_default.ensures.steps, (c.wrong-2.ensures.offset, c.wrong-2.ensures.kind))

@@ -1,0 +1,14 @@
+-- to be believed, in this order
+pub mod Number
+pub mod Tokens
+pub mod TokenRules
+pub mod TokenRuns
+-- what contracts see of a type
+pub mod TokenView
+pub mod IteratorView
+pub mod Faults
+pub mod Skipping
+pub mod Expecting
+pub mod ExpectingTexts
+-- for private clauses
+pub mod Private

@@ -1,0 +1,28 @@
+//! The tokens of a JSON text (RFC 8259), one at a time, and calls that take them.
+#![tactic(auto)]
+
+mod error;
+mod expect;
+mod expect_number_text;
+mod expect_text;
+mod run_token;
+mod skip;
+#[cfg(test)]
+mod tests;
+mod token;
+mod token_iter;
+mod token_scan;
+mod token_turn;
+mod tokens_of;
+
+pub use error::{DeserializeError, DeserializeErrorKind};
+pub use expect::{
+    expect_bool_or_null, expect_number_or_null, expect_start_array, expect_start_object,
+    expect_string_or_null,
+};
+pub use expect_number_text::expect_number_as_string_or_null;
+pub use expect_text::expect_timestamp_or_null;
+pub use skip::{skip_to_end, skip_value};
+pub use token::{Offset, Token};
+pub use token_iter::JsonTokenIterator;
+pub use tokens_of::json_token_iter;

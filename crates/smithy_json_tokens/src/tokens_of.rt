@@ -1,0 +1,24 @@
+//! The tokens of an input.
+
+ghost use Rattle.std.specs.Prelude.{◌≡◌, IfOk};
+ghost use Rattle.smithy_json.specs.Grammar.{IsJsonText};
+ghost use Rattle.smithy_json.specs.Tree.{Json};
+ghost use Rattle.smithy_json_tokens.specs.Tokens.{tokens};
+ghost use Rattle.smithy_json_tokens.specs.TokenRuns.{start, GivesOnly};
+ghost use Rattle.smithy_json_tokens.specs.IteratorView.{input_of, cursor_of};
+
+use crate::token_iter::JsonTokenIterator;
+use std::alloc::{AllocError, Global};
+
+/// The tokens of an input, from its first byte on.
+pub fn json_token_iter<'a>(
+    alloc: Global,
+    input: &'a [u8],
+) -> Result<JsonTokenIterator<'a>, AllocError>
+    ensures input { IfOk result (λ it. input_of it ≡ input.now) }
+    ensures cursor { IfOk result (λ it. cursor_of it ≡ start input.now) }
+    // A text of a tree gives the tree's tokens and then None.
+    ensures tokens { IfOk result (λ it. (tree : Json) → IsJsonText tree input.now → GivesOnly (cursor_of it) (tokens tree)) }
+{
+    Ok(JsonTokenIterator::new(alloc, input))
+}
