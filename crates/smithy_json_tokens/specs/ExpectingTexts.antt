@@ -4,6 +4,7 @@ use Rattle.smithy_json.specs.Grammar.{IsNumber}
 use Rattle.smithy_json.specs.EscapedText.{escaped_text}
 use Rattle.smithy_json.specs.Unescape.{unescape}
 use Rattle.smithy_json.specs.declared.escape_error.EscapeError.{EscapeError}
+use Rattle.smithy_types.specs.Base64Text.{blob_of}
 use Rattle.smithy_types.specs.Ranges.{fits_signed}
 use Rattle.smithy_types.specs.Number.{whole_number}
 use Rattle.smithy_types.specs.Instant.{nanos_per_second}
@@ -32,6 +33,13 @@ IsTextMeaning meaning seen at (Err fault) result = result ≡ Err (error_at (Une
 abbrev pub IsStringMeaning : {A V : Type 0} → (List ℕ → Option V) → (A → V) → ℕ → List ℕ → Result (Option A) DeserializeError → Type 0
 IsStringMeaning meaning seen at raw result =
     IsTextMeaning meaning seen at (unescape raw) result ⊎ (result ≡ Err (error_at NoMemory at))
+
+-- the bytes of a string in base64, or nothing for a null
+abbrev pub BlobAnswers : Token → Result (Option (List ℕ)) DeserializeError → Type 0
+BlobAnswers (ValueNull at) result = result ≡ Ok None
+BlobAnswers (ValueString at value) result =
+    IsStringMeaning blob_of (λ blob. blob) at.0 (escaped_text value) result
+BlobAnswers token result = IsCustomAt (Some (token_offset token)) result
 
 -- the instant of so many seconds, where they are a number of 64 bits
 abbrev pub instant_of_seconds : ℤ → Option ℤ

@@ -19,7 +19,7 @@ use std::alloc::Global;
 use std::borrow::CowStr;
 
 // The text that the raw text stands for which is at the offset.
-fn unescaped_at<'a>(
+pub(crate) fn unescaped_at<'a>(
     alloc: Global,
     value: EscapedStr<'a>,
     at: usize,

@@ -3,6 +3,7 @@
 
 mod error;
 mod expect;
+mod expect_blob;
 mod expect_number_text;
 mod expect_text;
 mod run_token;
@@ -20,6 +21,7 @@ pub use expect::{
     expect_bool_or_null, expect_number_or_null, expect_start_array, expect_start_object,
     expect_string_or_null,
 };
+pub use expect_blob::expect_blob_or_null;
 pub use expect_number_text::expect_number_as_string_or_null;
 pub use expect_text::expect_timestamp_or_null;
 pub use skip::{skip_to_end, skip_value};

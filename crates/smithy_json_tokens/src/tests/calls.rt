@@ -2,10 +2,10 @@
 
 use super::letter_of;
 use crate::{
-    DeserializeError, DeserializeErrorKind, Offset, Token, expect_bool_or_null,
-    expect_number_as_string_or_null, expect_number_or_null, expect_start_array,
-    expect_start_object, expect_string_or_null, expect_timestamp_or_null, json_token_iter,
-    skip_to_end, skip_value,
+    DeserializeError, DeserializeErrorKind, Offset, Token, expect_blob_or_null,
+    expect_bool_or_null, expect_number_as_string_or_null, expect_number_or_null,
+    expect_start_array, expect_start_object, expect_string_or_null, expect_timestamp_or_null,
+    json_token_iter, skip_to_end, skip_value,
 };
 use smithy_json::EscapeError;
 use smithy_types::{DateTime, Format, Number};
@@ -239,6 +239,28 @@ fn instants(rt: HostRuntime) {
             (b'c', 7)
         );
     }
+}
+
+#[test]
+fn blobs(rt: HostRuntime) -> Result<(), Fail> {
+    let a = rt.alloc();
+    let Ok(Some(blob)) = expect_blob_or_null(a, first(a, b"\"+\\/8=\"")) else {
+        return Err(Fail::from("no blob"));
+    };
+    assert_eq!(rt; blob.as_ref(), [0xfb, 0xff].as_slice());
+    assert!(rt; matches!(expect_blob_or_null(a, first(a, b"null")), Ok(None)));
+    assert_eq!(rt;
+        fault(expect_blob_or_null(a, first(a, b" \"+/9=\""))),
+        (b'c', 1)
+    );
+    assert_eq!(rt;
+        fault(expect_blob_or_null(a, first(a, b" \"\\u\""))),
+        (b'f', 1)
+    );
+    assert_eq!(rt; fault(expect_blob_or_null(a, first(a, b" 1"))), (b'c', 1));
+    assert_eq!(rt; fault(expect_blob_or_null(a, None)), (b'c', 999));
+    assert_eq!(rt; fault(expect_blob_or_null(a, handed())), (b'c', 7));
+    Ok(())
 }
 
 // What is left behind a value that is passed, by the offset of the next item; or the fault.
