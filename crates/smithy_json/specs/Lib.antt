@@ -10,5 +10,6 @@ pub mod Standing
 pub mod EscapedText
 pub mod Appending
 pub mod Writer
+pub mod ValueTexts
 -- for private clauses
 pub mod Private

@@ -5,6 +5,7 @@ mod append_text;
 mod escape;
 mod escape_error;
 pub mod number_text;
+mod scalar_writer;
 pub mod scan;
 pub mod string_text;
 #[cfg(test)]

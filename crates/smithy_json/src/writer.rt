@@ -9,7 +9,7 @@ ghost use Rattle.smithy_json.specs.Writer.{boolean_text, separator, name_text, v
 ghost use Rattle.smithy_json.specs.Private.Place.{text_borrow, writer_of};
 
 use crate::escape::push_escaped;
-use std::alloc::AllocError;
+use std::alloc::{AllocError, Global};
 
 /// A place for one value.
 #[derive(Drop)]
@@ -24,6 +24,11 @@ impl<'a> JsonValueWriter<'a> {
         ensures value { value_text result ≡ string_bytes output.old }
     {
         JsonValueWriter { output }
+    }
+
+    // Where the text takes memory from.
+    pub(crate) fn allocator(&self) -> Global {
+        *self.output.allocator()
     }
 
     /// Writes `null`.

@@ -26,33 +26,42 @@ impl Offset {
 /// A part of a JSON text, with the offset of its first byte.
 #[derive(Clone, Copy, Debug, PartialEq)]
 pub enum Token<'a> {
+    /// The bracket that begins an array.
     StartArray {
         offset: Offset,
     },
+    /// The bracket that ends one.
     EndArray {
         offset: Offset,
     },
+    /// The brace that begins an object.
     StartObject {
         offset: Offset,
     },
+    /// The brace that ends one.
     EndObject {
         offset: Offset,
     },
+    /// `null`.
     ValueNull {
         offset: Offset,
     },
+    /// The name of a member, as it stands between its quotation marks.
     ObjectKey {
         offset: Offset,
         key: EscapedStr<'a>,
     },
+    /// `true` or `false`.
     ValueBool {
         offset: Offset,
         value: bool,
     },
+    /// A whole number of 64 bits.
     ValueNumber {
         offset: Offset,
         value: Number,
     },
+    /// A string, as it stands between its quotation marks.
     ValueString {
         offset: Offset,
         value: EscapedStr<'a>,

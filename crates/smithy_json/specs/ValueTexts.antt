@@ -1,0 +1,20 @@
+-- Numbers and instants as values of JSON.
+use Rattle.std.specs.Prelude.{ℕ, List}
+use Rattle.std.specs.Fmt.{decimal, signed_decimal}
+use Rattle.smithy_json.specs.Escape.{quoted}
+use Rattle.smithy_types.specs.declared.number.Number.{Number}
+use Rattle.smithy_types.specs.declared.number.Number.TheVariants.{PosInt, NegInt}
+use Rattle.smithy_instants.specs.declared.format.Format.{Format}
+use Rattle.smithy_instants.specs.declared.format.Format.TheVariants.{DateTime, DateTimeWithOffset, HttpDate, EpochSeconds}
+
+-- a whole number in decimal
+abbrev pub number_text : Number → List ℕ
+number_text (PosInt n) = decimal n
+number_text (NegInt z) = signed_decimal z
+
+-- the text of an instant of this form: a number where it counts seconds, else a string
+abbrev pub instant_text : Format → List ℕ → List ℕ
+instant_text EpochSeconds text = text
+instant_text DateTime text = quoted text
+instant_text DateTimeWithOffset text = quoted text
+instant_text HttpDate text = quoted text
