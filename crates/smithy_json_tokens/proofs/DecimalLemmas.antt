@@ -1,11 +1,11 @@
 -- Every number of the grammar has the form of a decimal number.
-use Rattle.std.proofs.Common.{◌≡◌, ◌+◌, ◌<◌, ℕ, suc, List, [], ◌∷◌, ◌++◌, length, take, drop, Bool, true, false, cond, not, ◌==◌, ◌||◌, ◌&&◌, ◌⊎◌, nat_lt, inl, inr, refl, sym, ap, ◌∙◌, arith, subst, append_assoc, append-nil, take_at, drop_at}
+use Rattle.std.proofs.Common.{◌≡◌, ◌+◌, ℕ, suc, List, [], ◌∷◌, ◌++◌, length, take, drop, Bool, true, false, cond, not, ◌==◌, ◌||◌, ◌&&◌, ◌⊎◌, nat_lt, inl, inr, refl, sym, ap, ◌∙◌, arith, subst, append_assoc, append-nil, take_at, drop_at}
 use Rattle.std.proofs.lemmas.Bool.Decides.{nat_tests}
 use Rattle.std.proofs.lemmas.List.{drop-drop}
 use Rattle.std.specs.Char.{is_ascii_digit, IsAsciiDigit}
 use Rattle.std.specs.List.{AllByRecursion, prefix_len, position_or_len}
 use Rattle.std.specs.Str.{byte, all_ascii_digits}
-use Rattle.smithy_json.specs.Ascii.{minus_sign, decimal_point}
+use Rattle.smithy_json.specs.Ascii.{minus_sign}
 use Rattle.smithy_json.specs.Grammar.{AreDigits, IsInt, IsFrac, IsSign, IsExp, IsNumber}
 use Rattle.smithy_types.specs.Numeral.{are_digits, without_sign}
 use Rattle.smithy_types.specs.Decimal.{is_point, is_exponent_mark, are_digits_with_point, is_exponent_part, is_decimal}

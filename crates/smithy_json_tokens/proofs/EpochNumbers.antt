@@ -1,5 +1,5 @@
 -- A text that is a number of the grammar from its start to its end.
-use Rattle.std.proofs.Common.{◌≡◌, ◌-◌, ◌≤◌, ℕ, List, [], length, take, drop, slice_range, Some, refl, sym, ap, ◌∙◌, arith, subst}
+use Rattle.std.proofs.Common.{◌≡◌, ◌-◌, ℕ, List, length, take, drop, slice_range, Some, sym, ap, ◌∙◌, arith, subst}
 use Rattle.std.proofs.Math.Seq.{take-length, drop-length}
 use Rattle.std.proofs.lemmas.List.{length-drop}
 use Rattle.smithy_json.specs.Grammar.{IsNumber, IsBoundary}
