@@ -1,0 +1,3 @@
+pub mod PercentLemmas
+pub mod SliceLemmas
+pub mod PlaceLemmas

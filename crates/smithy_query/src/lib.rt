@@ -1,0 +1,7 @@
+//! Forms of AWS Query: texts that are percent-encoded, and writers of forms.
+#![tactic(auto)]
+
+mod percent;
+mod writer;
+
+pub use writer::{QueryListWriter, QueryMapWriter, QueryValueWriter, QueryWriter};
