@@ -1,3 +1,4 @@
 pub mod PercentLemmas
 pub mod SliceLemmas
 pub mod PlaceLemmas
+pub mod SplitLemmas

@@ -1,5 +1,5 @@
 -- What the writers add to a text, and what they lend.
-use Rattle.std.specs.Prelude.{◌≡◌, ◌==◌, Result, Ok, Err, OnOk, OnErr, ℕ, suc, List, [], ◌∷◌, ◌++◌, Bool, true, false, if◌then◌else◌, String, string_bytes, codes, decimal}
+use Rattle.std.specs.Prelude.{◌≡◌, ◌==◌, Result, Ok, Err, OnOk, OnErr, ℕ, suc, List, [], ◌∷◌, ◌++◌, Bool, if◌then◌else◌, String, string_bytes, codes, decimal}
 use Rattle.std.specs.Str.{byte}
 use Rattle.std.specs.Borrow.{RattleType, RestsIfErr, MutBor, GName, Fml, follows, follows_so, name_if_ok}
 use Rattle.std.specs.declared.alloc.AllocError.{AllocError}
@@ -17,10 +17,6 @@ use Rattle.smithy_query.specs.contracts.writer.QueryValueWriter as value
 use Rattle.smithy_query.specs.contracts.writer.QueryListWriter as list
 use Rattle.smithy_query.specs.contracts.writer.QueryMapWriter as map
 use mir.Syntax.{named}
-
-abbrev pub boolean_text : Bool → List ℕ
-boolean_text true = codes "true"
-boolean_text false = codes "false"
 
 -- segments of a path, outermost first
 abbrev pub Path : Type 0
@@ -91,7 +87,7 @@ list_prefix w = w.base.now ++ string_bytes w.rest
 abbrev pub map_prefix : MapWriter → List ℕ
 map_prefix w = w.base.now ++ string_bytes w.rest
 
--- ---- the number of the next part, from 1 on, and its segments
+-- ---- the number of the next part, from 1 on; what a writer was begun with; and the next part's segments
 
 abbrev pub list_index : ListWriter → ℕ
 list_index w = w.next_index
@@ -99,14 +95,29 @@ list_index w = w.next_index
 abbrev pub map_index : MapWriter → ℕ
 map_index w = w.next_index
 
+abbrev pub list_is_flat : ListWriter → Bool
+list_is_flat w = w.is_flat
+
+abbrev pub list_member : ListWriter → List ℕ
+list_member w = w.member.now
+
+abbrev pub map_is_flat : MapWriter → Bool
+map_is_flat w = w.is_flat
+
+abbrev pub map_key_name : MapWriter → List ℕ
+map_key_name w = w.key_name.now
+
+abbrev pub map_value_name : MapWriter → List ℕ
+map_value_name w = w.value_name.now
+
 abbrev pub next_element : ListWriter → Path
-next_element w = element_path w.is_flat w.member.now w.next_index
+next_element w = element_path (list_is_flat w) (list_member w) (list_index w)
 
 abbrev pub next_key : MapWriter → Path
-next_key w = entry_path w.is_flat w.next_index w.key_name.now
+next_key w = entry_path (map_is_flat w) (map_index w) (map_key_name w)
 
 abbrev pub next_value : MapWriter → Path
-next_value w = entry_path w.is_flat w.next_index w.value_name.now
+next_value w = entry_path (map_is_flat w) (map_index w) (map_value_name w)
 
 -- ---- what is left once a borrow has ended
 

@@ -2,6 +2,8 @@
 #![tactic(auto)]
 
 mod percent;
+#[cfg(test)]
+mod tests;
 mod writer;
 
 pub use writer::{QueryListWriter, QueryMapWriter, QueryValueWriter, QueryWriter};

@@ -1,16 +1,24 @@
 //! Writers of forms. Each call adds its bytes to the end of a text.
 
-ghost use Rattle.std.specs.Prelude.{◌≡◌, ◌<◌, ◌++◌, ◌∷◌, [], ℕ, List, Option, Some, None, suc, length, take, codes, string_bytes, option_map, unwrap_or, if◌then◌else◌, OnOk, OnErr, IfOk, IsOk, Ok};
+ghost use Rattle.std.specs.Prelude.{◌≡◌, ◌<◌, ◌++◌, ◌∷◌, [], ℕ, List, Option, Some, None, suc, length, take, codes, string_bytes, option_map, unwrap_or, if◌then◌else◌, OnOk, OnErr, IfOk, IfErr, IsOk, Ok};
 ghost use Rattle.std.specs.Borrow.{sem};
 ghost use Rattle.std.specs.Cow.{cow_str_bytes};
-ghost use Rattle.std.specs.Fmt.{signed_decimal};
+ghost use Rattle.std.specs.Fmt.{decimal, signed_decimal};
+ghost use Rattle.smithy_types.specs.Number.{whole_number};
+ghost use Rattle.smithy_types.specs.PrimitiveText.{boolean_text};
+ghost use Rattle.smithy_types.specs.WrittenDate.{date_text};
+ghost use Rattle.smithy_instants.specs.declared.written_date.DateTimeFormatError.TheVariants.{OutOfRange};
+ghost use Rattle.percent_encoding.specs.Percent.{percent_decode};
+ghost use Rattle.smithy_query.specs.Percent.{encoded};
+ghost use Rattle.smithy_query.specs.Split.{pairs_of};
 ghost use Rattle.smithy_query.specs.Form.{pair_text, form_head};
-ghost use Rattle.smithy_query.specs.Writer.{boolean_text, further, entry_path, empty_text, form_text, form_borrow, value_text, value_borrow, value_prefix, list_text, list_prefix, list_index, next_element, map_text, map_borrow, map_prefix, map_index, next_key, next_value, RestsWithoutForm, LendsFormText, LendsValueText, LendsElement, LendsEntry};
+ghost use Rattle.smithy_query.specs.Writer.{further, entry_path, empty_text, form_text, form_borrow, value_text, value_borrow, value_prefix, list_text, list_borrow, list_prefix, list_index, list_is_flat, list_member, next_element, map_text, map_borrow, map_prefix, map_index, map_is_flat, map_key_name, map_value_name, next_key, next_value, RestsWithoutForm, LendsFormText, LendsValueText, LendsElement, LendsEntry};
 ghost use Rattle.smithy_query.specs.Private.Place.{IsWriterOf, counted, RestsWithoutValue, LendsFurther, LendsNextElement, LendsNextEntry};
 
 use crate::percent::append_encoded;
 use itoa::Buffer;
-use std::alloc::AllocError;
+use smithy_types::{DateTime, DateTimeFormatError, Format, Number};
+use std::alloc::{AllocError, Global};
 use std::borrow::CowStr;
 
 /// A form that has begun with its action and version.
@@ -29,6 +37,8 @@ impl<'a> QueryWriter<'a> {
         ensures same_borrow { IfOk result (λ w. form_borrow w ≡ output.entry.ghost_name) }
         ensures* rests { sem 𝓛 (RestsWithoutForm output.entry result) }
         ensures value { IfOk result (λ w. form_text w ≡ string_bytes output.old ++ form_head action.now version.now) }
+        // What is written is read as the two pairs.
+        ensures reads { pairs_of (form_head action.now version.now) ≡ (codes "Action", action.now) ∷ (codes "Version", version.now) ∷ [] }
     {
         push_head(output, action, version)?;
         Ok(QueryWriter { output })
@@ -109,11 +119,8 @@ impl<'a> QueryValueWriter<'a, String> {
     fn further_path(&self, segment: &str) -> Result<String, AllocError>
         ensures { IfOk result (λ p. string_bytes p ≡ further (value_prefix self.now) (segment.now ∷ [])) }
     {
-        let mut path = String::new(*self.output.allocator());
-        path.push_str(self.base)?;
-        path.push_str(self.rest.as_str())?;
-        path.push_str(".")?;
-        path.push_str(segment)?;
+        let mut path = joined(*self.output.allocator(), self.base, self.rest.as_str())?;
+        push_segment(&mut path, segment)?;
         Ok(path)
     }
 
@@ -135,29 +142,49 @@ impl<'a> QueryValueWriter<'a, String> {
     pub fn string(self, value: &str) -> Result<(), AllocError>
         ensures ok { OnOk result (string_bytes self.exit.0.now ≡ value_text self.entry ++ pair_text (value_prefix self.entry) value.now) }
         ensures err { OnErr result (string_bytes self.exit.0.now ≡ value_text self.entry) }
+        // What stands behind the `=` is read as the text.
+        ensures decodes { percent_decode (encoded value.now) ≡ value.now }
     {
         let QueryValueWriter { output, base, rest } = self;
         push_pair(output, base, rest.as_str(), value)
     }
 
-    /// Writes a whole number.
-    pub fn number(self, value: i64) -> Result<(), AllocError>
-        ensures ok { OnOk result (string_bytes self.exit.0.now ≡ value_text self.entry ++ pair_text (value_prefix self.entry) (signed_decimal value)) }
+    /// Writes a whole number, in decimal digits.
+    pub fn number(self, value: Number) -> Result<(), AllocError>
+        ensures ok { OnOk result (string_bytes self.exit.0.now ≡ value_text self.entry ++ pair_text (value_prefix self.entry) (signed_decimal (whole_number value))) }
         ensures err { OnErr result (string_bytes self.exit.0.now ≡ value_text self.entry) }
     {
         let QueryValueWriter { output, base, rest } = self;
         let mut buffer = Buffer::new();
-        push_pair(output, base, rest.as_str(), buffer.format(value))
+        match value {
+            Number::PosInt(n) => push_pair(output, base, rest.as_str(), buffer.format(n)),
+            Number::NegInt(n) => push_pair(output, base, rest.as_str(), buffer.format(n)),
+        }
+    }
+
+    /// Writes an instant in this form, with what the form has no room for cut off.
+    pub fn date_time(self, date_time: &DateTime, format: Format) -> Result<(), DateTimeFormatError>
+        ensures ok { OnOk result (option_map (λ t. value_text self.entry ++ pair_text (value_prefix self.entry) t) (date_text format date_time.now)
+            ≡ Some (string_bytes self.exit.0.now)) }
+        ensures err { OnErr result (string_bytes self.exit.0.now ≡ value_text self.entry) }
+        ensures cause { IfErr result (λ e. e ≡ OutOfRange → date_text format date_time.now ≡ None) }
+    {
+        let QueryValueWriter { output, base, rest } = self;
+        let text = date_time.fmt(*output.allocator(), format)?;
+        match push_pair(output, base, rest.as_str(), text.as_str()) {
+            Ok(()) => Ok(()),
+            Err(_) => Err(DateTimeFormatError::NoMemory),
+        }
     }
 
     /// Begins a list. Its elements stand under `member` or the given name, those of a flat one under its own path.
     pub fn start_list(self, flat: bool, member_override: Option<&'a str>) -> QueryListWriter<'a>
-        ensures same_borrow { result.output.ghost_name ≡ self.entry.output.ghost_name }
+        ensures same_borrow { list_borrow result ≡ value_borrow self.entry }
         ensures value { list_text result ≡ value_text self.entry }
         ensures prefix { list_prefix result ≡ value_prefix self.entry }
         ensures index { list_index result ≡ 1 }
-        ensures flat { result.is_flat ≡ flat }
-        ensures member { result.member.now ≡ unwrap_or (option_map (λ s. s.now) member_override.entry) (codes "member") }
+        ensures flat { list_is_flat result ≡ flat }
+        ensures member { list_member result ≡ unwrap_or (option_map (λ s. s.now) member_override.entry) (codes "member") }
     {
         let QueryValueWriter { output, base, rest } = self;
         let member = match member_override {
@@ -181,12 +208,12 @@ impl<'a> QueryValueWriter<'a, String> {
         key_name: &'a str,
         value_name: &'a str,
     ) -> QueryMapWriter<'a>
-        ensures same_borrow { result.output.ghost_name ≡ self.entry.output.ghost_name }
+        ensures same_borrow { map_borrow result ≡ value_borrow self.entry }
         ensures value { map_text result ≡ value_text self.entry }
         ensures prefix { map_prefix result ≡ value_prefix self.entry }
         ensures index { map_index result ≡ 1 }
-        ensures flat { result.is_flat ≡ flat }
-        ensures names { (result.key_name.now ≡ key_name.now) × (result.value_name.now ≡ value_name.now) }
+        ensures flat { map_is_flat result ≡ flat }
+        ensures names { (map_key_name result ≡ key_name.now) × (map_value_name result ≡ value_name.now) }
     {
         let QueryValueWriter { output, base, rest } = self;
         QueryMapWriter {
@@ -246,16 +273,9 @@ impl<'a> QueryListWriter<'a, String> {
     fn next_path(&self) -> Result<String, AllocError>
         ensures { IfOk result (λ s. string_bytes s ≡ further (list_prefix self.now) (next_element self.now)) }
     {
-        let mut path = String::new(*self.output.allocator());
-        path.push_str(self.base)?;
-        path.push_str(self.rest.as_str())?;
-        if !self.is_flat {
-            path.push_str(".")?;
-            path.push_str(self.member)?;
-        }
-        let mut buffer = Buffer::new();
-        path.push_str(".")?;
-        path.push_str(buffer.format(self.next_index))?;
+        let mut path = joined(*self.output.allocator(), self.base, self.rest.as_str())?;
+        push_group(&mut path, self.is_flat, self.member)?;
+        push_number(&mut path, self.next_index)?;
         Ok(path)
     }
 
@@ -327,17 +347,10 @@ impl<'a> QueryMapWriter<'a, String> {
     fn next_path(&self, name: &str) -> Result<String, AllocError>
         ensures { IfOk result (λ s. string_bytes s ≡ further (map_prefix self.now) (entry_path self.now.is_flat self.now.next_index name.now)) }
     {
-        let mut path = String::new(*self.output.allocator());
-        path.push_str(self.base)?;
-        path.push_str(self.rest.as_str())?;
-        if !self.is_flat {
-            path.push_str(".entry")?;
-        }
-        let mut buffer = Buffer::new();
-        path.push_str(".")?;
-        path.push_str(buffer.format(self.next_index))?;
-        path.push_str(".")?;
-        path.push_str(name)?;
+        let mut path = joined(*self.output.allocator(), self.base, self.rest.as_str())?;
+        push_group(&mut path, self.is_flat, "entry")?;
+        push_number(&mut path, self.next_index)?;
+        push_segment(&mut path, name)?;
         Ok(path)
     }
 
@@ -368,6 +381,40 @@ fn value_writer(place: NextPlace<'_>) -> Result<QueryValueWriter<'_>, AllocError
         }),
         Err(error) => Err(error),
     }
+}
+
+// The path of a writer, as a text of its own.
+fn joined(alloc: Global, base: &str, rest: &str) -> Result<String, AllocError>
+    ensures { IfOk result (λ p. string_bytes p ≡ base.now ++ rest.now) }
+{
+    let mut path = String::new(alloc);
+    path.push_str(base)?;
+    path.push_str(rest)?;
+    Ok(path)
+}
+
+fn push_segment(path: &mut String, segment: &str) -> Result<(), AllocError>
+    ensures { OnOk result (string_bytes path.new ≡ further (string_bytes path.old) (segment.now ∷ [])) }
+{
+    path.push_str(".")?;
+    path.push_str(segment)
+}
+
+// Adds the segment between a list or a map and the numbers of its parts, which a flat one lacks.
+fn push_group(path: &mut String, is_flat: bool, name: &str) -> Result<(), AllocError>
+    ensures { OnOk result (string_bytes path.new ≡ further (string_bytes path.old) (if is_flat then [] else name.now ∷ [])) }
+{
+    if is_flat {
+        return Ok(());
+    }
+    push_segment(path, name)
+}
+
+fn push_number(path: &mut String, n: u64) -> Result<(), AllocError>
+    ensures { OnOk result (string_bytes path.new ≡ further (string_bytes path.old) (decimal n ∷ [])) }
+{
+    let mut buffer = Buffer::new();
+    push_segment(path, buffer.format(n))
 }
 
 // Adds the key of an entry where it and its value have paths, and gives the path of the value.
@@ -427,6 +474,7 @@ fn add_pair(out: &mut String, base: &str, rest: &str, value: &str) -> Result<(),
 fn push_head(out: &mut String, action: &str, version: &str) -> Result<(), AllocError>
     ensures ok { OnOk result (string_bytes out.new ≡ string_bytes out.old ++ form_head action.now version.now) }
     ensures err { OnErr result (string_bytes out.new ≡ string_bytes out.old) }
+    ensures reads { pairs_of (form_head action.now version.now) ≡ (codes "Action", action.now) ∷ (codes "Version", version.now) ∷ [] }
 {
     let length = out.len();
     let done = add_head(out, action, version);
