@@ -1,8 +1,7 @@
 -- A place for a value, from the text that it is written to: who follows the text follows the place.
-use Rattle.std.proofs.Common.{◌≡◌, ℕ, suc, List, [], ◌∷◌, refl, sym, ap, subst, ◌∙◌, MutBor, String, Global, Result, Ok, Err, IfOk, OnOk, OnErr, string_bytes}
-use base.Fml.{Lft, GName, fres, fex}
-use base.Logic.{SProp, ent, sep, via, fst∗, ex_i}
-use types.Follow
+use Rattle.std.proofs.Common.{◌≡◌, ℕ, List, [], ◌∷◌, refl, sym, ap, subst, ◌∙◌, MutBor, String, Global, Result, Ok, Err, IfOk, OnOk, OnErr, string_bytes}
+use base.Fml.{Lft, GName, fres}
+use base.Logic.{ent, sep, via, fst∗, ex_i}
 use types.Kit.{‵, ◌$◌, ◌∵◌, !, qed, done, move, use2, fpick, fpack}
 use types.Logic.{Logic, sem}
 use seplogic.Ra.Ura.{Ura}

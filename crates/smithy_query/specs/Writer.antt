@@ -1,5 +1,5 @@
 -- What the writers add to a text, and what they lend.
-use Rattle.std.specs.Prelude.{◌≡◌, ◌==◌, Result, Ok, Err, OnOk, OnErr, ℕ, suc, List, [], ◌∷◌, ◌++◌, Bool, if◌then◌else◌, String, string_bytes, codes, decimal}
+use Rattle.std.specs.Prelude.{◌≡◌, ◌==◌, Result, OnOk, OnErr, ℕ, suc, List, [], ◌∷◌, ◌++◌, Bool, if◌then◌else◌, String, string_bytes, codes, decimal}
 use Rattle.std.specs.Str.{byte}
 use Rattle.std.specs.Borrow.{RattleType, RestsIfErr, MutBor, GName, Fml, follows, follows_so, name_if_ok}
 use Rattle.std.specs.declared.alloc.AllocError.{AllocError}

@@ -40,8 +40,9 @@ fn writes_values(rt: HostRuntime) -> Result<(), Fail> {
     let mut text = String::new(rt.alloc());
     QueryValueWriter::new(&mut text, CowStr::Borrowed("a")).boolean(true)?;
     QueryValueWriter::new(&mut text, CowStr::Borrowed("a")).number(Number::PosInt(5))?;
-    QueryValueWriter::new(&mut text, CowStr::Borrowed("a"))
-        .number(Number::NegInt(-9_223_372_036_854_775_808))?;
+    QueryValueWriter::new(&mut text, CowStr::Borrowed("a")).number(Number::NegInt(
+        -9_223_372_036_854_775_808,
+    ))?;
     QueryValueWriter::new(&mut text, CowStr::Borrowed("a")).boolean(false)?;
     assert_eq!(rt; text.as_str(), "&a=true&a=5&a=-9223372036854775808&a=false");
     Ok(())
@@ -52,11 +53,15 @@ fn writes_values(rt: HostRuntime) -> Result<(), Fail> {
 fn writes_instants(rt: HostRuntime) -> Result<(), Fail> {
     let mut text = String::new(rt.alloc());
     let instant = DateTime::from_millis(1_621_870_490_123);
-    QueryValueWriter::new(&mut text, CowStr::Borrowed("date_time"))
-        .date_time(&instant, Format::DateTime)?;
+    QueryValueWriter::new(&mut text, CowStr::Borrowed("date_time")).date_time(
+        &instant,
+        Format::DateTime,
+    )?;
     let far = DateTime::from_secs(253_402_300_800);
-    let refused =
-        QueryValueWriter::new(&mut text, CowStr::Borrowed("b")).date_time(&far, Format::HttpDate);
+    let refused = QueryValueWriter::new(&mut text, CowStr::Borrowed("b")).date_time(
+        &far,
+        Format::HttpDate,
+    );
     assert_eq!(rt; refused, Err(DateTimeFormatError::OutOfRange));
     QueryValueWriter::new(&mut text, CowStr::Borrowed("c")).date_time(&far, Format::EpochSeconds)?;
     assert_eq!(rt;
@@ -99,8 +104,10 @@ fn writes_under_longer_paths(rt: HostRuntime) -> Result<(), Fail> {
 #[test]
 fn writes_empty_lists_and_maps(rt: HostRuntime) -> Result<(), Fail> {
     let mut text = String::new(rt.alloc());
-    let mut list =
-        QueryValueWriter::new(&mut text, CowStr::Borrowed("l")).start_list(true, Some("item"));
+    let mut list = QueryValueWriter::new(&mut text, CowStr::Borrowed("l")).start_list(
+        true,
+        Some("item"),
+    );
     list.entry()?.start_map(false, "K", "V").finish();
     list.finish()?;
     QueryValueWriter::new(&mut text, CowStr::Borrowed("m"))

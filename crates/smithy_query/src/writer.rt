@@ -113,7 +113,10 @@ impl<'a> QueryValueWriter<'a, String> {
         ensures path { IfOk result.path (λ p. string_bytes p ≡ further (value_prefix self.old) (segment.now ∷ [])) }
     {
         let path = self.further_path(segment);
-        NextPlace { output: self.output, path }
+        NextPlace {
+            output: self.output,
+            path,
+        }
     }
 
     fn further_path(&self, segment: &str) -> Result<String, AllocError>
@@ -202,12 +205,7 @@ impl<'a> QueryValueWriter<'a, String> {
     }
 
     /// Begins a map.
-    pub fn start_map(
-        self,
-        flat: bool,
-        key_name: &'a str,
-        value_name: &'a str,
-    ) -> QueryMapWriter<'a>
+    pub fn start_map(self, flat: bool, key_name: &'a str, value_name: &'a str) -> QueryMapWriter<'a>
         ensures same_borrow { map_borrow result ≡ value_borrow self.entry }
         ensures value { map_text result ≡ value_text self.entry }
         ensures prefix { map_prefix result ≡ value_prefix self.entry }
@@ -267,7 +265,10 @@ impl<'a> QueryListWriter<'a, String> {
     {
         let path = self.next_path();
         self.next_index = counted(self.next_index, &path);
-        NextPlace { output: self.output, path }
+        NextPlace {
+            output: self.output,
+            path,
+        }
     }
 
     fn next_path(&self) -> Result<String, AllocError>
@@ -341,7 +342,10 @@ impl<'a> QueryMapWriter<'a, String> {
         let value_path = self.next_path(self.value_name);
         let path = push_key(self.output, key_path, key, value_path);
         self.next_index = counted(self.next_index, &path);
-        NextPlace { output: self.output, path }
+        NextPlace {
+            output: self.output,
+            path,
+        }
     }
 
     fn next_path(&self, name: &str) -> Result<String, AllocError>

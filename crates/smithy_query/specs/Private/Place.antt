@@ -4,7 +4,7 @@ use Rattle.std.specs.Borrow.{RestsIfErr, MutBor, Fml, follows}
 use Rattle.std.specs.declared.alloc.AllocError.{AllocError}
 use Rattle.std.specs.declared.alloc.Global.{Global}
 use Rattle.smithy_query.specs.declared.writer.NextPlace.{NextPlace}
-use Rattle.smithy_query.specs.Writer.{ValueWriter, ListWriter, MapWriter, string_row, value_row, list_row, map_row, value_borrow, value_prefix, with_value_text, with_list_text, with_map_text}
+use Rattle.smithy_query.specs.Writer.{ValueWriter, ListWriter, MapWriter, string_row, value_row, list_row, map_row, value_borrow, value_prefix, with_value_text}
 
 abbrev pub Place : Type 0
 Place = NextPlace (Result (String Global) AllocError)

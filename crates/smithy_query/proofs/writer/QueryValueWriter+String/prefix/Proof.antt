@@ -1,11 +1,11 @@
 -- The borrow checker hands on no `&mut` in a struct in a `Result`, so this proof follows the two calls by hand.
-use Rattle.std.proofs.Common.{◌≡◌, ◌++◌, ◌<◌, [], ◌∷◌, ℕ, refl, IfOk, OnOk, OnErr, string_bytes}
+use Rattle.std.proofs.Common.{◌≡◌, [], ◌∷◌, refl, IfOk, OnOk, OnErr, string_bytes}
 use mir.Syntax.{named}
-use base.Fml.{Fml, ftrue, flft}
+use base.Fml.{ftrue, flft}
 use base.Logic.{id⊢, emp}
 use contract.Monad.{fact, fact_i}
 use contract.Running.{tables}
-use types.Kit.{‵, raw, ◌⊛◌, some, later, ◌$◌, ◌∵◌, !, qed, done, move, keep, drop, use0, use1, use2, split, join, fjoin, pick, await, suffices, frame}
+use types.Kit.{‵, raw, ◌⊛◌, some, later, ◌$◌, ◌∵◌, !, qed, done, move, keep, drop, use0, use1, use2, split, join, fjoin, pick, await, suffices}
 use types.Run.{enter, addr, stop, no_more, and_then, returns}
 use types.ByLocal.{alloc_all, pass_all, free_all, look_at, get, through, sets, lands_as}
 use denote.Exit.{yes, no}
@@ -19,7 +19,7 @@ use denote.Triple.Call.{calls_at}
 use denote.Triple.Clauses.{Lasts, lasts}
 use denote.Triple.Spec.{triple_of}
 use denote.Triple.Table.{framed}
-use denote.Triple.Walked.{Stays, stay_dropped, Goes-dropped, Goes-spent_ref, ends_at, says}
+use denote.Triple.Walked.{Stays, stay_dropped, Goes-dropped, Goes-spent_ref, ends_at}
 use Rattle.std.proofs.raw_atomic.Walks.{proved}
 use Rattle.smithy_query.specs.Writer.{string_row, value_row, further, value_borrow, value_text, value_prefix, with_value_text, IsSameValue, LendsValueText}
 use Rattle.smithy_query.specs.Private.Place.{IsWriterOf, RestsWithoutValue, LendsFurther}
