@@ -66,10 +66,14 @@ impl<'a> QueryWriter<'a> {
     {}
 }
 
-/// A place for the texts of one value, under its path: `base` and then `rest`.
+/// A place for the texts of one value, under its path.
+///
+/// What it owns of the path is always a `String`. It stands as a type parameter since only so do contracts see
+/// what a call by value leaves behind the borrow.
 #[derive(Drop)]
 pub struct QueryValueWriter<'a, S: Drop = String> {
     output: &'a mut String,
+    // the path is `base` and then `rest`
     base: &'a str,
     rest: S,
 }
@@ -95,9 +99,7 @@ impl<'a> QueryValueWriter<'a, String> {
             },
         }
     }
-}
 
-impl<'a> QueryValueWriter<'a, String> {
     /// A place for the texts under a further segment. What is written there goes to the text.
     pub fn prefix(&mut self, prefix: &str) -> Result<QueryValueWriter<'_>, AllocError>
         ensures* lends { sem 𝓛 (LendsValueText self.entry value_borrow result) }
@@ -180,7 +182,7 @@ impl<'a> QueryValueWriter<'a, String> {
         }
     }
 
-    /// Begins a list. Its elements stand under `member` or the given name, those of a flat one under its own path.
+    /// Begins a list, which adds nothing. Its elements stand under `member` or the given name, those of a flat one under its own path.
     pub fn start_list(self, flat: bool, member_override: Option<&'a str>) -> QueryListWriter<'a>
         ensures same_borrow { list_borrow result ≡ value_borrow self.entry }
         ensures value { list_text result ≡ value_text self.entry }
@@ -204,7 +206,7 @@ impl<'a> QueryValueWriter<'a, String> {
         }
     }
 
-    /// Begins a map.
+    /// Begins a map, which adds nothing. Its entries stand under `entry`, those of a flat one under its own path.
     pub fn start_map(self, flat: bool, key_name: &'a str, value_name: &'a str) -> QueryMapWriter<'a>
         ensures same_borrow { map_borrow result ≡ value_borrow self.entry }
         ensures value { map_text result ≡ value_text self.entry }
@@ -226,7 +228,7 @@ impl<'a> QueryValueWriter<'a, String> {
     }
 }
 
-/// A list that has begun.
+/// A list that has begun. One that is dropped without `finish` adds nothing where it has no elements.
 #[derive(Drop)]
 pub struct QueryListWriter<'a, S: Drop = String> {
     output: &'a mut String,
@@ -246,8 +248,8 @@ impl<'a> QueryListWriter<'a, String> {
         self.next_index
     }
 
-    /// A place for the next element, under its path. The caller's condition is that its number is no more than
-    /// a `u64` has room for. What is written there goes to the list's text.
+    /// A place for the next element, under its path. What is written there goes to the list's text, and the
+    /// element counts even if nothing is. The caller's condition is that `next_index` is below `u64::MAX`.
     pub fn entry(&mut self) -> Result<QueryValueWriter<'_>, AllocError>
         requires room { list_index self.old < 18446744073709551615 }
         ensures* lends { sem 𝓛 (LendsElement self.entry value_borrow result) }
@@ -320,8 +322,8 @@ impl<'a> QueryMapWriter<'a, String> {
         self.next_index
     }
 
-    /// Adds the next key, and gives a place for its value, under its path. The caller's condition is that the
-    /// entry's number is no more than a `u64` has room for. What is written there goes to the map's text.
+    /// Adds the next key, and gives a place for its value, under its path. What is written there goes to the
+    /// map's text. The caller's condition is that `next_index` is below `u64::MAX`.
     pub fn entry(&mut self, key: &str) -> Result<QueryValueWriter<'_>, AllocError>
         requires room { map_index self.old < 18446744073709551615 }
         ensures* lends { sem 𝓛 (LendsEntry self.entry value_borrow result) }
