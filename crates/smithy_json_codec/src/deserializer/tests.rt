@@ -1,7 +1,11 @@
 //! Values that are read call by call.
 
+ghost use Rattle.smithy_schema.specs.Table.{IsStructure, IsList};
+ghost use Rattle.smithy_schema.specs.Site.{site_of, kind_at};
+
 use crate::JsonCodec;
-use smithy_schema::{SerdeError, ShapeDeserializer, Shapes, TableText};
+use smithy_schema::{Schema, SerdeError, ShapeDeserializer, ShapeType, Shapes, Step, TableText};
+use std::alloc::Global;
 use std::test::Fail;
 
 const TABLE: &[u8] = b"structure S\nmember a long\n";
@@ -57,6 +61,238 @@ fn a_reader_that_refused_answers_failed(rt: HostRuntime) -> Result<(), Fail> {
     assert!(rt;
         matches!(other.read_long(&schema), Err(SerdeError::Failed)),
         "a reader made to fail"
+    );
+    Ok(())
+}
+
+const NESTED: &[u8] = b"structure S\nmember a long\nmember s S\nlist L L\n";
+
+// What is asked of a reader that has read nothing yet, or where nothing is due.
+#[derive(Clone, Copy)]
+enum Call {
+    Structure,
+    List,
+    Null,
+    Skip,
+    Long,
+    Text,
+}
+
+use Call::{List, Long, Null, Skip, Structure, Text};
+
+#[derive(Clone, Copy)]
+struct Refused(&'static str, Call, &'static [u8]);
+
+const REFUSED: [Refused; 15] = [
+    Refused("a list is no structure", Structure, b"[]"),
+    Refused("blanks are no structure", Structure, b" "),
+    Refused("a structure is no list", List, b"{}"),
+    Refused("nothing is no list", List, b""),
+    Refused("a null before another byte", Null, b"null!"),
+    Refused("nothing is skipped", Skip, b""),
+    Refused("a bad byte", Skip, b"[1,?]"),
+    Refused("a comma too many", Skip, b"[1,]"),
+    Refused("a list without its end", Skip, b"[{}"),
+    Refused("a member without its value", Skip, b"{\"a\":}"),
+    Refused("a fraction", Long, b"1.0"),
+    Refused("one more than 64 bits hold", Long, b"9223372036854775808"),
+    Refused("a number is no text", Text, b"1"),
+    Refused("a text without its end", Text, b"\"a"),
+    Refused("a lone surrogate is no text", Text, b"\"\\ud800\""),
+];
+
+fn make<R: ShapeDeserializer>(
+    source: &mut R,
+    structure: &Schema<'_>,
+    list: &Schema<'_>,
+    call: Call,
+) -> Result<(), SerdeError>
+    requires structure { IsStructure (kind_at (site_of structure.now)) }
+    requires list { IsList (kind_at (site_of list.now)) }
+{
+    match call {
+        Structure => source.open_struct(structure),
+        List => source.open_list(list),
+        Null => source.read_null(),
+        Skip => source.skip_value(),
+        Long => {
+            source.read_long(structure)?;
+            Ok(())
+        }
+        Text => {
+            source.read_string(structure)?;
+            Ok(())
+        }
+    }
+}
+
+#[test]
+fn what_stands_otherwise_is_refused(rt: HostRuntime) -> Result<(), Fail> {
+    let shapes = Shapes::build(rt.alloc(), TableText::read(rt.alloc(), NESTED)?)?;
+    let (Some(structure), Some(list)) = (shapes.find("S"), shapes.find("L")) else {
+        return Ok(());
+    };
+    let (structure, list) = (shapes.schema(structure), shapes.schema(list));
+    assert!(rt; structure.shape_type() == ShapeType::Structure);
+    assert!(rt; list.shape_type() == ShapeType::List);
+    let codec = JsonCodec::strict(false);
+    for Refused(name, call, input) in &REFUSED {
+        let mut source = codec.create_deserializer(rt.alloc(), input);
+        let answer = make(&mut source, &structure, &list, *call);
+        assert_eq!(rt; answer, Err(SerdeError::InvalidInput), "{name}");
+        let after = make(&mut source, &structure, &list, *call);
+        assert_eq!(rt; after, Err(SerdeError::Failed), "{name}");
+    }
+    for call in &[Structure, List, Skip, Long, Text] {
+        let mut source = codec.create_deserializer(rt.alloc(), b"1");
+        source.read_long(&structure)?;
+        let answer = make(&mut source, &structure, &list, *call);
+        assert_eq!(rt; answer, Err(SerdeError::InvalidInput), "nothing is due");
+    }
+    Ok(())
+}
+
+// The answer behind the first member, whose value is left unread.
+fn after_unread(alloc: Global, schema: &Schema<'_>, input: &[u8]) -> Result<(), SerdeError>
+    requires { IsStructure (kind_at (site_of schema.now)) }
+{
+    let mut source = JsonCodec::strict(false).create_deserializer(alloc, input);
+    source.open_struct(schema)?;
+    match source.next_member(schema)? {
+        Step::Member(_) => {
+            source.next_member(schema)?;
+            Ok(())
+        }
+        Step::Unknown => Ok(()),
+        Step::End => Ok(()),
+    }
+}
+
+// The answer behind so many elements, each opened as a list.
+fn in_lists(
+    alloc: Global,
+    schema: &Schema<'_>,
+    input: &[u8],
+    depth: usize,
+) -> Result<(), SerdeError>
+    requires { IsList (kind_at (site_of schema.now)) }
+{
+    let mut source = JsonCodec::strict(false).create_deserializer(alloc, input);
+    for _ in 0..depth {
+        source.open_list(schema)?;
+        source.next_element()?;
+    }
+    Ok(())
+}
+
+// The same of structures, each in the last one's first member.
+fn in_structures(
+    alloc: Global,
+    schema: &Schema<'_>,
+    input: &[u8],
+    depth: usize,
+) -> Result<(), SerdeError>
+    requires { IsStructure (kind_at (site_of schema.now)) }
+{
+    let mut source = JsonCodec::strict(false).create_deserializer(alloc, input);
+    for _ in 0..depth {
+        source.open_struct(schema)?;
+        source.next_member(schema)?;
+    }
+    Ok(())
+}
+
+// The text, so many times one after another.
+fn repeated(alloc: Global, front: &[u8], part: &[u8], count: usize) -> Result<Vec<u8>, Fail> {
+    let mut input = Vec::new(alloc);
+    input.extend_from_slice(front)?;
+    for _ in 0..count {
+        input.extend_from_slice(part)?;
+    }
+    Ok(input)
+}
+
+#[test]
+fn what_comes_next_is_refused(rt: HostRuntime) -> Result<(), Fail> {
+    let shapes = Shapes::build(rt.alloc(), TableText::read(rt.alloc(), NESTED)?)?;
+    let (Some(structure), Some(list)) = (shapes.find("S"), shapes.find("L")) else {
+        return Ok(());
+    };
+    let (structure, list) = (shapes.schema(structure), shapes.schema(list));
+    assert!(rt; structure.shape_type() == ShapeType::Structure);
+    assert!(rt; list.shape_type() == ShapeType::List);
+    let invalid: Result<(), SerdeError> = Err(SerdeError::InvalidInput);
+    let sound = after_unread(rt.alloc(), &structure, b"{\"a\":[],\"a\":?");
+    assert_eq!(rt; sound, Ok(()), "a sound member is passed over");
+    let unread = after_unread(rt.alloc(), &structure, b"{\"a\":?,\"a\":1}");
+    assert_eq!(rt; unread, invalid, "an unread member with a bad byte");
+    let blank = after_unread(rt.alloc(), &structure, b"{\"a\":1 \"a\":1}");
+    assert_eq!(rt; blank, invalid, "no comma behind a member");
+    let key = after_unread(rt.alloc(), &structure, b"{\"a\":1,\"\\udc00\":1}");
+    assert_eq!(rt; key, invalid, "a key that is no text");
+    let mut source = JsonCodec::strict(false).create_deserializer(rt.alloc(), b"[1 2]");
+    source.open_list(&list)?;
+    assert!(rt; source.next_element()?, "an element is due");
+    source.skip_value()?;
+    assert_eq!(rt;
+        source.next_element(),
+        Err(SerdeError::InvalidInput),
+        "no comma"
+    );
+    let mut source = JsonCodec::strict(false).create_deserializer(rt.alloc(), b"[1]");
+    source.open_list(&list)?;
+    assert!(rt; source.next_element()?, "an element is due");
+    assert_eq!(rt;
+        source.next_element(),
+        Err(SerdeError::InvalidInput),
+        "it is unread"
+    );
+    Ok(())
+}
+
+#[test]
+fn at_most_128_containers_are_open_at_once(rt: HostRuntime) -> Result<(), Fail> {
+    let shapes = Shapes::build(rt.alloc(), TableText::read(rt.alloc(), NESTED)?)?;
+    let (Some(structure), Some(list)) = (shapes.find("S"), shapes.find("L")) else {
+        return Ok(());
+    };
+    let (structure, list) = (shapes.schema(structure), shapes.schema(list));
+    assert!(rt; structure.shape_type() == ShapeType::Structure);
+    assert!(rt; list.shape_type() == ShapeType::List);
+    let deep: Result<(), SerdeError> = Err(SerdeError::TooDeep);
+    let lists = repeated(rt.alloc(), b"", b"[", 129)?;
+    assert_eq!(rt;
+        in_lists(rt.alloc(), &list, &lists, 128),
+        Ok(()),
+        "as deep as may be"
+    );
+    assert_eq!(rt;
+        in_lists(rt.alloc(), &list, &lists, 129),
+        deep,
+        "one deeper"
+    );
+    let structures = repeated(rt.alloc(), b"", b"{\"s\":", 129)?;
+    assert_eq!(rt;
+        in_structures(rt.alloc(), &structure, &structures, 129),
+        deep
+    );
+    let unread = repeated(rt.alloc(), b"{\"a\":", b"[", 128)?;
+    assert_eq!(rt;
+        after_unread(rt.alloc(), &structure, &unread),
+        deep,
+        "unread"
+    );
+    let codec = JsonCodec::strict(false);
+    assert_eq!(rt;
+        codec.create_deserializer(rt.alloc(), &lists).skip_value(),
+        deep
+    );
+    let cut = repeated(rt.alloc(), b"", b"[", 128)?;
+    let ended = codec.create_deserializer(rt.alloc(), &cut).skip_value();
+    assert_eq!(rt;
+        ended,
+        Err(SerdeError::InvalidInput),
+        "the end at the greatest depth"
     );
     Ok(())
 }
