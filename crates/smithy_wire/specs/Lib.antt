@@ -1,0 +1,14 @@
+-- to be believed, in this order: what a body means, whichever wire carries it
+pub mod Node
+pub mod Rules
+pub mod Meaning
+-- how a wire frames its nodes, and the relations of reading that follow
+pub mod Frames
+-- what a wire proves of its framing, and the laws of reading that follow
+pub mod Wire
+pub mod Laws
+pub mod Readers
+-- where a reader stands
+pub mod Walking
+-- what the laws are proved by
+pub mod Lemmas

@@ -1,0 +1,139 @@
+-- What a reader finds, as the relations of reading, and what it doesn't find: once for all wires.
+use Rattle.std.specs.Prelude.{◌≡◌, ℕ, zero, suc, List, Option, Some, None, true, false, if◌then◌else◌}
+use Rattle.std.proofs.Common.{sym, ◌∙◌, ap, subst, inl, inr}
+use Rattle.smithy_schema.specs.declared.place.Place.{Place}
+use Rattle.smithy_schema.specs.declared.shape_type.Scalar.{Scalar}
+use Rattle.smithy_schema.specs.declared.shape_type.TimestampFormat.{TimestampFormat}
+use Rattle.smithy_schema.specs.Table.{Table, scalar, kind_of}
+use Rattle.smithy_schema.specs.Value.{Value, null_element}
+use Rattle.smithy_schema.specs.Container.{container_of}
+use Rattle.smithy_schema.specs.Reading.{Mark}
+use Rattle.smithy_schema.specs.Private.Options.{chosen}
+use Rattle.smithy_wire.specs.Node.{Form, Node, null_node, leaf, container, missing}
+use Rattle.smithy_wire.specs.Rules.{settled, Rules, is_shallow, at_depth, key_text, position_in, drops_null, is_absent}
+use Rattle.smithy_wire.specs.Meaning.{leaf_meaning, is_in, missing_meaning, meaning, entries}
+use Rattle.smithy_wire.specs.Frames.{Frames, Lies, IsTold, Drops, DropsAll, StepsIn, EndsIn, relations}
+use Rattle.smithy_wire.specs.Wire.{IsWire}
+use Rattle.smithy_wire.specs.Lemmas.Nodes.{one_node}
+use Rattle.smithy_wire.specs.Lemmas.Determined.{one_form, handed_on}
+
+-- from a to e is a scalar that says v as a kind
+abbrev pub Says : {L : Type 0} → Frames L → Rules L → Scalar → Option TimestampFormat → List ℕ → ℕ → ℕ → Value → ℕ → Type 0
+Says {L = L} w r s time i d a v e = (x : L) × w.scalar i d x a e × (settled r.limits null_element (r.says s time x) ≡ Some v)
+
+module _ {L : Type 0} (w : Frames L) (r : Rules L) (i : List ℕ) (t : Table) (p : Place) where
+  -- ---- scalars
+
+  module _ (s : Scalar) (kind : kind_of t p ≡ scalar s) (d : ℕ) where
+    -- what a scalar of the body says stands there
+    pub scalar_stands : (a : ℕ) (v : Value) (e : ℕ) → Says w r s p.time i d a v e → (relations w r).stands i t p d a v e
+    scalar_stands a v e (x, lies, says) = (leaf x, lies, ap (λ k. leaf_meaning r k p.time x) kind ∙ says)
+
+    no_container : (f : Form) (v : Value) (o : Option Value) → at_depth r (suc d) (if is_in (scalar s) f then o else None) ≡ Some v → ⊥
+    no_container f v o h = let none = (chosen (is_shallow r (suc d)) None v h).1 in cc
+
+    -- and nothing else does
+    pub stands_scalar : (a : ℕ) (v : Value) (e : ℕ) → (relations w r).stands i t p d a v e → Says w r s p.time i d a v e
+    stands_scalar a v e (x, lies, means) = of x lies means
+      where
+        of : (x : Node L) → Lies w i d x a e → meaning r t p d x ≡ Some v → Says w r s p.time i d a v e
+        of null_node lies means = absurd (let none : None ≡ Some v = means in cc)
+        of (leaf x) lies means = (x, lies, ap (λ k. leaf_meaning r k p.time x) (sym kind) ∙ means)
+        of (container f xs) lies means =
+            let es = entries r t p f (suc d) xs in
+            absurd (no_container f v (container_of (kind_of t p) es)
+            (ap (λ k. at_depth r (suc d) (if is_in k f then container_of (kind_of t p) es else None)) (sym kind) ∙ means))
+        of missing lies means =
+            let none : at_depth r (suc d) (missing_meaning (scalar s)) ≡ Some v = ap (λ k. at_depth r (suc d) (missing_meaning k)) (sym kind) ∙ means in
+            absurd (let no' = (chosen (is_shallow r (suc d)) None v none).1 in cc)
+
+  -- ---- containers
+
+  module _ (wire : IsWire w) (f : Form) (within : is_in (kind_of t p) f ≡ true) (d : ℕ) where
+    -- nothing opens where the wire opens nothing of this form, and no structure is missing
+    pub opens_not : (a : ℕ) → ((b : ℕ) (m : Mark) → w.opens f i a b m → ⊥) → (w.is_over i a → ⊥)
+        → (b : ℕ) (m : Mark) → (relations w r).opens i t p d a b m → ⊥
+    opens_not a none over b m (inl (g, is, opens)) = none b m (subst (λ z. w.opens z i a b m) (one_form (kind_of t p) g f is within) opens)
+    opens_not a none over b m (inr h) = over h.1
+
+    entry_back : (b at : ℕ) (m j : Mark) (key : Option L) (c : ℕ) (n : Mark) → (b ≡ at) × (m ≡ j) → w.entry f i b m key c n → w.entry f i at j key c n
+    entry_back b at m j key c n h entry = subst (λ z. w.entry f i z j key c n) h.0 (subst (λ z. w.entry f i b z key c n) h.1 entry)
+
+    end_back : (b at : ℕ) (m j : Mark) (e : ℕ) → (b ≡ at) × (m ≡ j) → w.ends f i b m e → w.ends f i at j e
+    end_back b at m j e h ends = subst (λ z. w.ends f i z j e) h.0 (subst (λ z. w.ends f i b z e) h.1 ends)
+
+    -- behind a key comes no null that is dropped
+    abbrev pub NullStays : Option (List ℕ) → ℕ → Type 0
+    NullStays text c = (e : ℕ) → w.null i d c e → drops_null r (kind_of t p) (position_in r (kind_of t p) text) ≡ false
+
+    -- no entry that is told and handed on comes there
+    abbrev pub NoEntry : ℕ → Mark → Type 0
+    NoEntry at j = (key : Option L) (c : ℕ) (n : Mark) → w.entry f i at j key c n → IsTold f (key_text r f key)
+        → NullStays (key_text r f key) c → ⊥
+
+    -- nor is one dropped
+    abbrev pub NoDrop : ℕ → Mark → Type 0
+    NoDrop at j = (c : ℕ) (n : Mark) → Drops w r (kind_of t p) f i d at j c n → ⊥
+
+    same_drop : (b : ℕ) (m : Mark) (c e : ℕ) (n o : Mark) → Drops w r (kind_of t p) f i d b m c n → Drops w r (kind_of t p) f i d b m e o → (c ≡ e) × (n ≡ o)
+    same_drop b m c e n o h j =
+        let entry = wire.same_entry f i b m h.key j.key h.at j.at n o h.entry j.entry in
+        ((one_node w wire i d h.child j.child h.at c e h.lies (rw entry.1 j.lies)).1, entry.2)
+
+    drops_back : (b at : ℕ) (m j : Mark) (c : ℕ) (n : Mark) → (b ≡ at) × (m ≡ j) → Drops w r (kind_of t p) f i d b m c n → Drops w r (kind_of t p) f i d at j c n
+    drops_back b at m j c n h one =
+        subst (λ z. Drops w r (kind_of t p) f i d z j c n) h.0 (subst (λ z. Drops w r (kind_of t p) f i d b z c n) h.1 one)
+
+    no_drop_here : (b : ℕ) (m : Mark) (text : Option (List ℕ)) (c : ℕ) (n : Mark) (e : ℕ) (o : Mark) (key : Option L) → w.entry f i b m key c n
+        → key_text r f key ≡ text → NullStays text c
+        → Drops w r (kind_of t p) f i d b m e o → ⊥
+    no_drop_here b m text c n e o key entry names stays h =
+        let same = wire.same_entry f i b m key h.key c h.at n o entry h.entry in
+        let kept = handed_on w r i (kind_of t p) d text c e h.child stays (rw same.1 h.lies) in
+        let other : is_absent r (kind_of t p) text h.child ≡ true = rw (← names, same.0) h.absent in
+        let clash = sym kept ∙ other in cc
+
+    -- behind entries that are dropped, where no entry comes there is no step
+    pub no_step : (x y b : ℕ) (m : Mark) (at to : ℕ) (j o : Mark) (text : Option (List ℕ)) (c : ℕ) (n : Mark) → DropsAll w r (kind_of t p) f x i d b m at j → NoEntry at j → NoDrop at j
+        → DropsAll w r (kind_of t p) f y i d b m to o → (key : Option L) → w.entry f i to o key c n → IsTold f text → key_text r f key ≡ text
+        → NullStays text c → ⊥
+    no_step zero zero b m at to j o text c n p none fixed q key entry told names stays =
+        let here : (to ≡ at) × (o ≡ j) = (sym q.0 ∙ p.0, sym q.1 ∙ p.1) in
+        none key c n (entry_back to at o j key c n here entry) (subst (IsTold f) (sym names) told) (rw names stays)
+    no_step zero (suc y) b m at to j o text c n p none fixed q key entry told names stays = fixed q.0 q.1 (drops_back b at m j q.0 q.1 p q.2)
+    no_step (suc x) zero b m at to j o text c n p none fixed q key entry told names stays =
+        no_drop_here b m text c n p.0 p.1 key (entry_back to b o m key c n (sym q.0, sym q.1) entry) names stays p.2
+    no_step (suc x) (suc y) b m at to j o text c n p none fixed q key entry told names stays =
+        let one = same_drop b m q.0 p.0 q.1 p.1 q.2 p.2 in
+        no_step x y p.0 p.1 at to j o text c n p.3 none fixed (rw (← one.0, ← one.1) q.3) key entry told names stays
+
+    -- and where no end comes it doesn't end
+    pub no_close : (x y b : ℕ) (m : Mark) (at to : ℕ) (j o : Mark) (e : ℕ) → DropsAll w r (kind_of t p) f x i d b m at j → NoDrop at j
+        → ((e : ℕ) → w.ends f i at j e → w.follows i d e → ⊥) → DropsAll w r (kind_of t p) f y i d b m to o → w.ends f i to o e → w.follows i d e → ⊥
+    no_close zero zero b m at to j o e p fixed shut q ends follows = shut e (end_back to at o j e (sym q.0 ∙ p.0, sym q.1 ∙ p.1) ends) follows
+    no_close zero (suc y) b m at to j o e p fixed shut q ends follows = fixed q.0 q.1 (drops_back b at m j q.0 q.1 p q.2)
+    no_close (suc x) zero b m at to j o e p fixed shut q ends follows =
+        wire.entry_or_end f i b m p.2.key p.2.at e p.1 p.2.entry (end_back to b o m e (sym q.0, sym q.1) ends)
+    no_close (suc x) (suc y) b m at to j o e p fixed shut q ends follows =
+        let one = same_drop b m q.0 p.0 q.1 p.1 q.2 p.2 in
+        no_close x y p.0 p.1 at to j o e p.3 fixed shut (rw (← one.0, ← one.1) q.3) ends follows
+
+    -- a reader that passed all that is dropped, and met neither an entry nor the end, can't go on
+    pub cannot_go_on : (count b : ℕ) (m : Mark) (at : ℕ) (j : Mark) → DropsAll w r (kind_of t p) f count i d b m at j → NoEntry at j → NoDrop at j
+        → ((e : ℕ) → w.ends f i at j e → w.follows i d e → ⊥) → (m ≡ w.over_mark → w.is_over i b → ⊥)
+        → ((key : Option (List ℕ)) (c : ℕ) (n : Mark) → (relations w r).steps i t p d b m key c n → ⊥)
+        × ((e : ℕ) → (relations w r).closes i t p d b m e → ⊥)
+    cannot_go_on count b m at j drops none fixed shut over = (steps, closes)
+      where
+        steps : (key : Option (List ℕ)) (c : ℕ) (n : Mark) → (relations w r).steps i t p d b m key c n → ⊥
+        steps key c n (g, is, step) = here (subst (λ z. StepsIn w r (kind_of t p) z i d b m key c n) (one_form (kind_of t p) g f is within) step)
+          where
+            here : StepsIn w r (kind_of t p) f i d b m key c n → ⊥
+            here s = no_step count s.count b m at s.at j s.mark key c n drops none fixed s.drops s.key s.entry s.told s.names s.stays
+
+        closes : (e : ℕ) → (relations w r).closes i t p d b m e → ⊥
+        closes e (inl (g, is, ends, follows)) = here (subst (λ z. EndsIn w r (kind_of t p) z i d b m e) (one_form (kind_of t p) g f is within) ends)
+          where
+            here : EndsIn w r (kind_of t p) f i d b m e → ⊥
+            here h = no_close count h.0 b m at h.1 j h.2 e drops fixed shut h.3 h.4 follows
+        closes e (inr h) = over h.3 h.1
