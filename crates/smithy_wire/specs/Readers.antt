@@ -1,16 +1,17 @@
 -- What a reader finds, as the relations of reading, and what it doesn't find: once for all wires.
-use Rattle.std.specs.Prelude.{◌≡◌, ℕ, zero, suc, List, Option, Some, None, true, false, if◌then◌else◌}
+use Rattle.std.specs.Prelude.{◌≡◌, ℕ, zero, suc, List, Option, Some, None, true, false, refl, if◌then◌else◌}
 use Rattle.std.proofs.Common.{sym, ◌∙◌, ap, subst, inl, inr}
 use Rattle.smithy_schema.specs.declared.place.Place.{Place}
 use Rattle.smithy_schema.specs.declared.shape_type.Scalar.{Scalar}
 use Rattle.smithy_schema.specs.declared.shape_type.TimestampFormat.{TimestampFormat}
+use Rattle.smithy_schema.specs.Limits.{Limits}
 use Rattle.smithy_schema.specs.Table.{Table, scalar, kind_of}
 use Rattle.smithy_schema.specs.Value.{Value, null_element}
 use Rattle.smithy_schema.specs.Container.{container_of}
 use Rattle.smithy_schema.specs.Reading.{Mark}
 use Rattle.smithy_schema.specs.Private.Options.{chosen}
 use Rattle.smithy_wire.specs.Node.{Form, Node, null_node, leaf, container, missing}
-use Rattle.smithy_wire.specs.Rules.{settled, Rules, is_shallow, at_depth, key_text, position_in, drops_null, is_absent}
+use Rattle.smithy_wire.specs.Rules.{settled, answer_of, Rules, is_shallow, at_depth, key_text, position_in, drops_null, is_absent}
 use Rattle.smithy_wire.specs.Meaning.{leaf_meaning, is_in, missing_meaning, meaning, entries}
 use Rattle.smithy_wire.specs.Frames.{Frames, Lies, IsTold, Drops, DropsAll, StepsIn, EndsIn, relations}
 use Rattle.smithy_wire.specs.Wire.{IsWire}
@@ -20,6 +21,11 @@ use Rattle.smithy_wire.specs.Lemmas.Determined.{one_form, handed_on}
 -- from a to e is a scalar that says v as a kind
 abbrev pub Says : {L : Type 0} → Frames L → Rules L → Scalar → Option TimestampFormat → List ℕ → ℕ → ℕ → Value → ℕ → Type 0
 Says {L = L} w r s time i d a v e = (x : L) × w.scalar i d x a e × (settled r.limits null_element (r.says s time x) ≡ Some v)
+
+-- what means something or nothing isn't asked of the limits
+pub settled_answer : {A : Type 0} (limits : Limits) (null : A) (o : Option A) → settled limits null (answer_of o) ≡ o
+settled_answer limits null None = refl
+settled_answer limits null (Some v) = refl
 
 module _ {L : Type 0} (w : Frames L) (r : Rules L) (i : List ℕ) (t : Table) (p : Place) where
   -- ---- scalars

@@ -1,13 +1,13 @@
 -- What a wire proves of its framing: none of it speaks of tables, kinds or values but the last record.
-use Rattle.std.specs.Prelude.{◌≡◌, ◌⊎◌, ◌<◌, ◌≤◌, ℕ, suc, length, drop, List, Option, true, false}
+use Rattle.std.specs.Prelude.{◌≡◌, ◌⊎◌, ◌<◌, ◌≤◌, ℕ, suc, length, drop, List, Option, Some, true, false}
 use Rattle.smithy_schema.specs.declared.place.Place.{Place}
 use Rattle.smithy_schema.specs.declared.shape_type.Scalar.{Scalar}
 use Rattle.smithy_schema.specs.Table.{Table, scalar, kind_of}
-use Rattle.smithy_schema.specs.Value.{Value}
+use Rattle.smithy_schema.specs.Value.{Value, null_element}
 use Rattle.smithy_schema.specs.Fits.{Fits}
 use Rattle.smithy_schema.specs.Reading.{Mark}
 use Rattle.smithy_wire.specs.Node.{Form, as_object}
-use Rattle.smithy_wire.specs.Rules.{Rules, means}
+use Rattle.smithy_wire.specs.Rules.{settled, Rules}
 use Rattle.smithy_wire.specs.Frames.{Frames}
 
 -- what a value can be by how it begins
@@ -64,7 +64,9 @@ pub record BoundsOpeners {L : Type 0} (w : Frames L) : Type 0 where
       → w.openers (drop c i) ≤ w.openers (drop b i)
   pub end_takes_one : (s : Form) (i : List ℕ) (b : ℕ) (m : Mark) (e : ℕ) → w.ends s i b m e → w.openers (drop e i) ≤ suc (w.openers (drop b i))
 
--- what a scalar that lies somewhere means as a kind is a value of it
+-- What a scalar that lies somewhere means as a kind is a value of it. Where the limits are lifted that may be
+-- false: what is too wide then means a null.
 pub record RulesFit {L : Type 0} (w : Frames L) (r : Rules L) : Type 0 where
   pub says_fits : (i : List ℕ) (d : ℕ) (x : L) (a e : ℕ) → w.scalar i d x a e
-      → (t : Table) (p : Place) (s : Scalar) (v : Value) → kind_of t p ≡ scalar s → r.says s p.time x ≡ means v → Fits t p v
+      → (t : Table) (p : Place) (s : Scalar) (v : Value) → kind_of t p ≡ scalar s
+      → settled r.limits null_element (r.says s p.time x) ≡ Some v → Fits t p v

@@ -1,10 +1,9 @@
--- What a node means at a place is a value of the place, where what its scalars mean is, and the limits are kept.
+-- What a node means at a place is a value of the place, where what its scalars mean is.
 use Rattle.std.specs.Prelude.{◌≡◌, ℕ, suc, List, [], ◌∷◌, ◌++◌, Option, Some, None, Bool, true, refl, option_and_then, option_map, if◌then◌else◌}
 use Rattle.std.proofs.Common.{sym, ◌∙◌, ap, subst}
 use Rattle.smithy_schema.specs.declared.place.Place.{Place}
-use Rattle.smithy_schema.specs.Limits.{Limits, kept, lifted}
 use Rattle.smithy_schema.specs.Table.{Table, ListShape, Kind, scalar, structure_of, list_of, nothing, kind_of, place_in}
-use Rattle.smithy_schema.specs.Value.{Value, list, structure, null_element, values_of, MemberValues, no_member_values}
+use Rattle.smithy_schema.specs.Value.{Value, list, structure, values_of, MemberValues, no_member_values}
 use Rattle.smithy_schema.specs.Container.{folded, element_of, member_step, members_from, container_of}
 use Rattle.smithy_schema.specs.Fits.{AscendFrom, ElementsFit, MembersFit, Fits}
 use Rattle.smithy_schema.specs.Reading.{Mark}
@@ -13,7 +12,7 @@ use Rattle.smithy_schema.specs.Private.MemberFolds.{entry_with}
 use Rattle.smithy_schema.specs.Private.Fitting.{one_more_fits, element_fits, entry_fits}
 use Rattle.smithy_schema.specs.Private.Ascending.{folded_ascend}
 use Rattle.smithy_wire.specs.Node.{Form, Node, null_node, leaf, container, missing, Nodes, no_nodes, node, is_null}
-use Rattle.smithy_wire.specs.Rules.{Answer, means, no_meaning, wide, uncarried, settled, Rules, is_shallow, may_skip, key_text, position_in, is_absent}
+use Rattle.smithy_wire.specs.Rules.{Rules, is_shallow, may_skip, key_text, position_in, is_absent}
 use Rattle.smithy_wire.specs.Meaning.{leaf_meaning, is_in, missing_meaning, entry_at, meaning, entries}
 use Rattle.smithy_wire.specs.Frames.{Frames, Lies, NodesLie}
 use Rattle.smithy_wire.specs.Wire.{RulesFit}
@@ -71,17 +70,9 @@ holding t p nothing f within kind = cc
 
 -- ---- a node
 
-settled_kept : {A : Type 0} (limits : Limits) (z v : A) (answer : Answer A) → limits ≡ kept → settled limits z answer ≡ Some v → answer ≡ means v
-settled_kept limits z v (means u) is h = ap means (same_some u v h)
-settled_kept limits z v no_meaning is h = cc
-settled_kept kept z v wide is h = cc
-settled_kept lifted z v wide is h = cc
-settled_kept kept z v uncarried is h = cc
-settled_kept lifted z v uncarried is h = cc
-
-module _ {L : Type 0} (w : Frames L) (r : Rules L) (kept' : r.limits ≡ kept) (fits : RulesFit w r) (i : List ℕ) (t : Table) where
+module _ {L : Type 0} (w : Frames L) (r : Rules L) (fits : RulesFit w r) (i : List ℕ) (t : Table) where
   leaf_fits : (p : Place) (k : Kind) (d : ℕ) (x : L) (a e : ℕ) (v : Value) → w.scalar i d x a e → kind_of t p ≡ k → leaf_meaning r k p.time x ≡ Some v → Fits t p v
-  leaf_fits p (scalar s) d x a e v lies kind h = fits.says_fits i d x a e lies t p s v kind (settled_kept r.limits null_element v (r.says s p.time x) kept' h)
+  leaf_fits p (scalar s) d x a e v lies kind h = fits.says_fits i d x a e lies t p s v kind h
   leaf_fits p (structure_of members) d x a e v lies kind h = cc
   leaf_fits p (list_of l) d x a e v lies kind h = cc
   leaf_fits p nothing d x a e v lies kind h = cc
