@@ -8,6 +8,7 @@ pub mod Frames
 pub mod Wire
 pub mod Laws
 pub mod Readers
+pub mod Entries
 -- where a reader stands
 pub mod Walking
 -- what the laws are proved by

@@ -13,7 +13,7 @@ use Rattle.smithy_wire.specs.Meaning.{is_in, missing_meaning, entry_at, meaning,
 use Rattle.smithy_wire.specs.Frames.{Frames, Lies, NodesLie, IsTold, Drops, DropsAll, StepsIn, EndsIn, relations}
 use Rattle.smithy_wire.specs.Wire.{IsWire}
 use Rattle.smithy_wire.specs.Lemmas.Nodes.{one_node}
-use Rattle.smithy_wire.specs.Lemmas.Determined.{one_form, step_hands_on, no_step_over, no_end_over}
+use Rattle.smithy_wire.specs.Lemmas.Determined.{one_form, drops_one_more, step_hands_on, no_step_over, no_end_over}
 use Rattle.smithy_wire.specs.Lemmas.EntrySteps.{IsOneOf, FoldsBy}
 use Rattle.smithy_wire.specs.Lemmas.Places.{structure_is_object, sparse_is, is_sparse_list, null_means_nothing, leaf_means_nothing}
 use Rattle.smithy_wire.specs.Lemmas.Folds.{Fold, fold_of, folds_by}
@@ -126,11 +126,6 @@ module _ {L : Type 0} (w : Frames L) (r : Rules L) (wire : IsWire w) (i : List �
 
   -- ---- from nodes to a reader's children
 
-  drops_one : (count b : ℕ) (m : Mark) (c : ℕ) (n : Mark) (e : ℕ) (j : Mark) → DropsAll w r k f count i (suc d) b m c n → Drops w r k f i (suc d) c n e j
-      → DropsAll w r k f (suc count) i (suc d) b m e j
-  drops_one zero b m c n e j h one = (e, j, rw (h.0, h.1) one, (refl, refl))
-  drops_one (suc count) b m c n e j h one = (h.0, h.1, h.2, drops_one count h.0 h.1 c n e j h.3 one)
-
   abbrev Children : ℕ → Mark → ℕ → S → S → Type 0
   Children b m e s after = (xs : List Child) × Chain (relations w r) i t p (suc d) b m xs e × (folded fold.step s (map entry_of xs) ≡ Some after)
 
@@ -172,7 +167,7 @@ module _ {L : Type 0} (w : Frames L) (r : Rules L) (wire : IsWire w) (i : List �
       (λ may.
       let same : apart.0 ≡ s = same_some apart.0 s (sym apart.1 ∙ by.absent key x (means_at x) s told may) in
       let one : Drops w r k f i (suc d) at j g n = record { key = key; at = c; child = x; entry = there; told = told; lies = lies; absent = may } in
-      node_children (suc count) b m g n xs e s after follows (drops_one count b m at j g n drops one) lie
+      node_children (suc count) b m g n xs e s after follows (drops_one_more w r i k (suc d) f count b m at j g n drops one) lie
       (subst (λ next. folded fold.step next (all xs) ≡ Some after) same apart.2))
       (λ kept.
       let child = node_child key x c g s told kept lies (by.children key x (means_at x) s apart.0 apart.1 kept) in

@@ -30,6 +30,12 @@ module _ {L : Type 0} (w : Frames L) (r : Rules L) (i : List ℕ) (k : Kind) (d 
   handed_on text c e (container f xs) stays lies = refl
   handed_on text c e missing stays lies = refl
 
+  -- dropped entries and one more
+  pub drops_one_more : (f : Form) (count b : ℕ) (m : Mark) (c : ℕ) (n : Mark) (e : ℕ) (j : Mark) → DropsAll w r k f count i d b m c n
+      → Drops w r k f i d c n e j → DropsAll w r k f (suc count) i d b m e j
+  drops_one_more f zero b m c n e j h one = (e, j, rw (h.0, h.1) one, (refl, refl))
+  drops_one_more f (suc count) b m c n e j h one = (h.0, h.1, h.2, drops_one_more f count h.0 h.1 c n e j h.3 one)
+
   pub step_hands_on : (f : Form) (b : ℕ) (m : Mark) (text : Option (List ℕ)) (c : ℕ) (n : Mark) (step : StepsIn w r k f i d b m text c n)
       → (x : Node L) (e : ℕ) → Lies w i d x c e → is_absent r k (key_text r f step.key) x ≡ false
   step_hands_on f b m text c n step x e lies = rw step.names (handed_on text c e x step.stays lies)

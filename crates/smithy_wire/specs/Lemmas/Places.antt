@@ -2,18 +2,12 @@
 use Rattle.std.specs.Prelude.{◌≡◌, ℕ, Option, Some, true, refl}
 use Rattle.smithy_schema.specs.declared.place.Place.{Place}
 use Rattle.smithy_schema.specs.declared.shape_type.TimestampFormat.{TimestampFormat}
-use Rattle.smithy_schema.specs.Table.{Table, Kind, scalar, structure_of, list_of, nothing, kind_of, is_sparse, IsSparse, IsStructure}
+use Rattle.smithy_schema.specs.Table.{Table, Kind, scalar, structure_of, list_of, nothing, kind_of, is_sparse, IsSparse, IsList, IsStructure}
 use Rattle.smithy_schema.specs.Value.{Value}
 use Rattle.smithy_schema.specs.Reading.{IsContainer}
-use Rattle.smithy_wire.specs.Node.{Form, as_object, Node, null_node, leaf, container, missing, is_null}
+use Rattle.smithy_wire.specs.Node.{as_array, as_object, Node, null_node, leaf, container, missing, is_null}
 use Rattle.smithy_wire.specs.Rules.{Rules}
 use Rattle.smithy_wire.specs.Meaning.{is_in, leaf_meaning, meaning}
-
-pub form_contains : (k : Kind) (f : Form) → is_in k f ≡ true → IsContainer k
-form_contains (scalar s) f h = cc
-form_contains (structure_of members) f h = tt
-form_contains (list_of l) f h = tt
-form_contains nothing f h = cc
 
 -- a structure is an object
 pub structure_is_object : (k : Kind) → IsStructure k → is_in k as_object ≡ true
@@ -22,11 +16,12 @@ structure_is_object (structure_of members) h = refl
 structure_is_object (list_of l) h = absurd h
 structure_is_object nothing h = absurd h
 
-pub structure_contains : (k : Kind) → IsStructure k → IsContainer k
-structure_contains (scalar s) h = absurd h
-structure_contains (structure_of members) h = tt
-structure_contains (list_of l) h = absurd h
-structure_contains nothing h = absurd h
+-- and a list an array
+pub list_is_array : (k : Kind) → IsList k → is_in k as_array ≡ true
+list_is_array (scalar s) h = absurd h
+list_is_array (structure_of members) h = absurd h
+list_is_array (list_of l) h = refl
+list_is_array nothing h = absurd h
 
 -- a list is sparse, or isn't
 pub sparse_is : (k : Kind) → IsSparse k → is_sparse k ≡ true
