@@ -1,6 +1,6 @@
 -- How a wire frames its nodes: where arrays and objects open, go on and end. It knows no table and no value, and
 -- the relations of reading follow from it. Numbers are depths (of open containers) and positions in the input i.
-use Rattle.std.specs.Prelude.{◌≡◌, ◌⊎◌, ℕ, zero, suc, List, Option, Some, None, Bool, true, false}
+use Rattle.std.specs.Prelude.{◌≡◌, ◌⊎◌, ◌<◌, ℕ, zero, suc, List, Option, Some, None, Bool, true, false}
 use Rattle.smithy_schema.specs.Table.{Kind, kind_of, IsStructure}
 use Rattle.smithy_schema.specs.Reading.{Mark, Relations}
 use Rattle.smithy_wire.specs.Node.{Form, as_array, as_object, Node, null_node, leaf, container, missing, Nodes, no_nodes, node}
@@ -100,7 +100,7 @@ relations {L = L} w r = record {
   steps = λ i t p d b m key c n. (f : Form) × (is_in (kind_of t p) f ≡ true) × StepsIn w r (kind_of t p) f i d b m key c n;
   closes = λ i t p d b m e.
       ((f : Form) × (is_in (kind_of t p) f ≡ true) × EndsIn w r (kind_of t p) f i d b m e × w.follows i d e)
-      ⊎ (IsStructure (kind_of t p) × w.is_over i b × (e ≡ b) × (m ≡ w.over_mark));
+      ⊎ (IsStructure (kind_of t p) × w.is_over i b × (e ≡ b) × (m ≡ w.over_mark) × (0 < d));
   left = w.left;
   begins_null = w.begins_null;
   openers = w.openers;

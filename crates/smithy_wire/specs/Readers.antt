@@ -1,5 +1,5 @@
 -- What a reader finds, as the relations of reading, and what it doesn't find: once for all wires.
-use Rattle.std.specs.Prelude.{◌≡◌, ℕ, zero, suc, List, Option, Some, None, true, false, refl, if◌then◌else◌}
+use Rattle.std.specs.Prelude.{◌≡◌, ◌<◌, ℕ, zero, suc, List, Option, Some, None, true, false, refl, if◌then◌else◌}
 use Rattle.std.proofs.Common.{sym, ◌∙◌, ap, subst, inl, inr}
 use Rattle.smithy_schema.specs.declared.place.Place.{Place}
 use Rattle.smithy_schema.specs.declared.shape_type.Scalar.{Scalar}
@@ -126,7 +126,7 @@ module _ {L : Type 0} (w : Frames L) (r : Rules L) (i : List ℕ) (t : Table) (p
 
     -- a reader that passed all that is dropped, and met neither an entry nor the end, can't go on
     pub cannot_go_on : (count b : ℕ) (m : Mark) (at : ℕ) (j : Mark) → DropsAll w r (kind_of t p) f count i d b m at j → NoEntry at j → NoDrop at j
-        → ((e : ℕ) → w.ends f i at j e → w.follows i d e → ⊥) → (m ≡ w.over_mark → w.is_over i b → ⊥)
+        → ((e : ℕ) → w.ends f i at j e → w.follows i d e → ⊥) → (m ≡ w.over_mark → w.is_over i b → 0 < d → ⊥)
         → ((key : Option (List ℕ)) (c : ℕ) (n : Mark) → (relations w r).steps i t p d b m key c n → ⊥)
         × ((e : ℕ) → (relations w r).closes i t p d b m e → ⊥)
     cannot_go_on count b m at j drops none fixed shut over = (steps, closes)
@@ -142,4 +142,4 @@ module _ {L : Type 0} (w : Frames L) (r : Rules L) (i : List ℕ) (t : Table) (p
           where
             here : EndsIn w r (kind_of t p) f i d b m e → ⊥
             here h = no_close count h.0 b m at h.1 j h.2 e drops fixed shut h.3 h.4 follows
-        closes e (inr h) = over h.3 h.1
+        closes e (inr h) = over h.3 h.1 h.4

@@ -1,6 +1,6 @@
 -- A container stands for what its entries mean together: one proof for all kinds.
 use Rattle.std.specs.Prelude.{◌≡◌, ℕ, zero, suc, map, List, [], ◌∷◌, Option, Some, None, Bool, true, false, refl, option_and_then, if◌then◌else◌}
-use Rattle.std.proofs.Common.{sym, ◌∙◌, ap, subst, inl, inr}
+use Rattle.std.proofs.Common.{sym, ◌∙◌, ap, arith, subst, inl, inr}
 use Rattle.smithy_schema.specs.declared.place.Place.{Place}
 use Rattle.smithy_schema.specs.Table.{Table, Kind, scalar, structure_of, list_of, nothing, kind_of, place_in, IsStructure}
 use Rattle.smithy_schema.specs.Value.{Value, structure, no_member_values}
@@ -286,6 +286,6 @@ module _ {L : Type 0} (w : Frames L) (r : Rules L) (wire : IsWire w) (i : List �
             children = [];
             allowed = deep.0;
             opens = inr (structure', lies.0, refl, refl);
-            chain = inr (structure', lies.0, lies.1, refl);
+            chain = inr (structure', lies.0, lies.1, refl, omega arith);
             means = both.1 ∙ (sym both.0 ∙ deep.1);
           }
