@@ -140,6 +140,27 @@ impl<'a> Walk<'a> {
         }
     }
 
+    /// The same of what took memory to find: its error is handed on.
+    pub fn take_result<T: Drop>(
+        &mut self,
+        found: Result<(T, usize), SerdeError>,
+    ) -> Result<T, SerdeError>
+        requires { IfOk found (λ r. r.1 ≤ length self.old.input.now) }
+        ensures same { self.new.max_depth ≡ self.old.max_depth }
+        ensures ok { IfOk result (λ v. IfOk found (λ r. (r.0 ≡ v) × (cursor_of self.new ≡ passed_to (cursor_of self.old) r.1))) }
+        ensures some { IsOk result → IsOk found }
+        ensures err { OnErr result (cursor_of self.new ≡ failed_at (cursor_of self.old)) }
+        ensures error { IfErr result (λ e. found ≡ Err e) }
+    {
+        match found {
+            Ok((value, end)) => {
+                self.pass(end);
+                Ok(value)
+            }
+            Err(error) => Err(self.refuse(error)),
+        }
+    }
+
     /// Goes on to an entry of the innermost container, whose value is due.
     pub fn go_on(&mut self, at: usize, frame: Frame)
         requires { at ≤ length self.old.input.now }
