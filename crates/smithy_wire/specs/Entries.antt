@@ -40,7 +40,7 @@ module _ {L : Type 0} (w : Frames L) (r : Rules L) (i : List ℕ) (t : Table) (p
   pub drop_is_null : (f : Form) (b : ℕ) (m : Mark) (e : ℕ) (n : Mark) (h : Drops w r (kind_of t p) f i d b m e n) → w.null i d h.at e
   drop_is_null f b m e n h = null_lies (key_text r f h.key) h.child h.at e h.lies h.absent
 
-  module _ (none : (q : Place) → r.keeps_null q ≡ false) (structure' : IsStructure (kind_of t p)) where
+  module _ (none : (q : Place) → r.keeps_null q ≡ false) (is_structure : IsStructure (kind_of t p)) where
     -- a null under a key that is a text is dropped
     pub null_is_dropped : (b : ℕ) (m : Mark) (key : Option L) (at : ℕ) (n : Mark) (e : ℕ) → w.entry as_object i b m key at n
         → IsTold as_object (key_text r as_object key) → w.null i d at e → Drops w r (kind_of t p) as_object i d b m e n
@@ -51,7 +51,7 @@ module _ {L : Type 0} (w : Frames L) (r : Rules L) (i : List ℕ) (t : Table) (p
       entry = entry;
       told = told;
       lies = null;
-      absent = drops_each r none (kind_of t p) structure' (position_in r (kind_of t p) (key_text r as_object key));
+      absent = drops_each r none (kind_of t p) is_structure (position_in r (kind_of t p) (key_text r as_object key));
     }
 
     -- an entry behind dropped ones, with no null, is a step
@@ -60,7 +60,7 @@ module _ {L : Type 0} (w : Frames L) (r : Rules L) (i : List ℕ) (t : Table) (p
         → ((e : ℕ) → w.null i d c e → ⊥) → (relations w r).steps i t p d b m text c n
     step_to_entry count b m at j key text c n drops entry names told real = (
       as_object,
-      structure_is_object (kind_of t p) structure',
+      structure_is_object (kind_of t p) is_structure,
       record {
         count = count;
         at = at;
@@ -78,15 +78,15 @@ module _ {L : Type 0} (w : Frames L) (r : Rules L) (i : List ℕ) (t : Table) (p
     pub no_null_behind : (b : ℕ) (m : Mark) (text : Option (List ℕ)) (c : ℕ) (n : Mark) → StepsIn w r (kind_of t p) as_object i d b m text c n
         → (e : ℕ) → w.null i d c e → ⊥
     no_null_behind b m text c n step e null =
-        let clash = sym (step.stays e null) ∙ drops_each r none (kind_of t p) structure' (position_in r (kind_of t p) text) in cc
+        let clash = sym (step.stays e null) ∙ drops_each r none (kind_of t p) is_structure (position_in r (kind_of t p) text) in cc
 
     -- the end behind dropped entries closes it
     pub close_at_end : (count b : ℕ) (m : Mark) (at : ℕ) (j : Mark) (e : ℕ) → DropsAll w r (kind_of t p) as_object count i d b m at j
         → w.ends as_object i at j e → w.follows i d e → (relations w r).closes i t p d b m e
     close_at_end count b m at j e drops ends follows =
-        inl (as_object, structure_is_object (kind_of t p) structure', (count, at, j, drops, ends), follows)
+        inl (as_object, structure_is_object (kind_of t p) is_structure, (count, at, j, drops, ends), follows)
 
-  module _ (list' : IsList (kind_of t p)) where
+  module _ (is_list : IsList (kind_of t p)) where
     -- nothing is dropped in a list
     pub list_drops_nothing : (f : Form) (b : ℕ) (m : Mark) (e : ℕ) (n : Mark) → Drops w r (kind_of t p) f i d b m e n → ⊥
     list_drops_nothing f b m e n h =
@@ -94,7 +94,7 @@ module _ {L : Type 0} (w : Frames L) (r : Rules L) (i : List ℕ) (t : Table) (p
       where
         absent_not : (x : Node L) → is_absent r (kind_of t p) (key_text r f h.key) x ≡ true → ⊥
         absent_not null_node is =
-            let clash = sym (list_drops_none r (kind_of t p) list' (position_in r (kind_of t p) (key_text r f h.key))) ∙ is in cc
+            let clash = sym (list_drops_none r (kind_of t p) is_list (position_in r (kind_of t p) (key_text r f h.key))) ∙ is in cc
         absent_not (leaf x) is = cc
         absent_not (container g xs) is = cc
         absent_not missing is = cc
@@ -103,7 +103,7 @@ module _ {L : Type 0} (w : Frames L) (r : Rules L) (i : List ℕ) (t : Table) (p
     pub step_to_element : (b : ℕ) (m : Mark) (key : Option L) (c : ℕ) (n : Mark) → w.entry as_array i b m key c n → (relations w r).steps i t p d b m None c n
     step_to_element b m key c n entry = (
       as_array,
-      list_is_array (kind_of t p) list',
+      list_is_array (kind_of t p) is_list,
       record {
         count = 0;
         at = b;
@@ -113,10 +113,10 @@ module _ {L : Type 0} (w : Frames L) (r : Rules L) (i : List ℕ) (t : Table) (p
         entry = entry;
         told = tt;
         names = refl;
-        stays = λ e null. list_drops_none r (kind_of t p) list' None;
+        stays = λ e null. list_drops_none r (kind_of t p) is_list None;
       },
     )
 
     -- and the end closes it
     pub close_list : (b : ℕ) (m : Mark) (e : ℕ) → w.ends as_array i b m e → w.follows i d e → (relations w r).closes i t p d b m e
-    close_list b m e ends follows = inl (as_array, list_is_array (kind_of t p) list', (0, b, m, (refl, refl), ends), follows)
+    close_list b m e ends follows = inl (as_array, list_is_array (kind_of t p) is_list, (0, b, m, (refl, refl), ends), follows)
