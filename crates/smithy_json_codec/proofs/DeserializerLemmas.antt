@@ -1,10 +1,8 @@
 -- What a reader finds at a place, as the contract of reading says it.
 use Rattle.std.proofs.Common.{◌≡◌, ◌≢◌, ◌≤◌, ◌+◌, ◌⊎◌, inl, inr, ℕ, ℤ, length, List, [], ◌∷◌, Bool, true, false, Some, None, Option, Result, Ok, Err, refl, sym, ap, subst, ◌∙◌, arith}
 use Rattle.std.proofs.lemmas.Bool.Decides.{nat_tests}
-use Rattle.std.specs.Prelude.{reverse, option_and_then, if◌then◌else◌, nat_le}
-use Rattle.std.proofs.lemmas.List.{length-map, length-reverse}
+use Rattle.std.specs.Prelude.{option_and_then, if◌then◌else◌, nat_le}
 use Rattle.std.specs.Result.{IsErrOf}
-use Rattle.smithy_json_codec.specs.declared.deserializer.JsonDeserializer.{JsonDeserializer}
 use Rattle.smithy_schema.specs.declared.error.SerdeError.{SerdeError}
 use Rattle.smithy_schema.specs.declared.error.SerdeError.TheVariants.{InvalidInput, Unwritable, Failed, NoMemory}
 use Rattle.smithy_schema.specs.declared.place.Place.{Place}
@@ -12,18 +10,19 @@ use Rattle.smithy_schema.specs.declared.shape_type.TimestampFormat.{TimestampFor
 use Rattle.smithy_schema.specs.declared.shape_type.Scalar.TheVariants as scalars
 use Rattle.smithy_schema.specs.Table.{Table, kind_of, scalar_place, IsList, IsStructure}
 use Rattle.smithy_schema.specs.Value.{Value, whole, text}
-use Rattle.smithy_schema.specs.Reading.{Cursor, depth, Frame, Passes, Reads, Steps, Conducts, StandsNot, OpensNot, SkipsNot, IsFault, passed_to, failed_at, in_list}
+use Rattle.smithy_schema.specs.Reading.{Cursor, depth, Passes, Reads, Steps, Conducts, StandsNot, OpensNot, SkipsNot, CannotGoOn, IsFault, passed_to, failed_at, in_list}
+use Rattle.smithy_json.specs.Ascii.{end_array}
 use Rattle.smithy_json.specs.Tree.{string, nesting}
 use Rattle.smithy_json.specs.Number.{whole_number, is_long}
 use Rattle.smithy_json.specs.Unescape.{unescaped}
-use Rattle.smithy_json_codec.specs.declared.deserializer.Frame.{Frame as Held}
-use Rattle.smithy_json_codec.specs.declared.deserializer.Frame.TheVariants as held
-use Rattle.smithy_json_codec.specs.Cursor.{cursor_of, frame_of, gone_on_to, has_entered}
+use Rattle.smithy_json_codec.specs.Cursor.{inside_of}
+use Rattle.smithy_wire.specs.Walking.{gone_on_to}
 use Rattle.smithy_json_codec.specs.Settings.{Settings, without_limits, is_shallow, kept}
-use Rattle.smithy_json_codec.specs.Standing.{json_relations, TreeLies, IsSeparated, end_mark}
-use Rattle.smithy_json_codec.specs.Private.GoingOn.{LongLies, ElementBegins}
+use Rattle.smithy_json_codec.specs.Standing.{json_relations, TreeLies, end_mark}
+use Rattle.smithy_json_codec.specs.Private.GoingOn.{LongLies, ElementBegins, ClosesBy, GoesOnInList}
 use Rattle.smithy_json_codec.specs.Private.Skipping.{SkipsTo}
-use Rattle.smithy_json_codec.proofs.ReaderLemmas.{long_stands, stands_long, text_stands, stands_text, steps_in_list, one_tree}
+use Rattle.smithy_json_codec.proofs.ReaderLemmas.{long_stands, stands_long, text_stands, stands_text, steps_in_list, list_is_stuck, one_tree}
+use Rattle.smithy_json_codec.proofs.SkippedTrees.{skips_are}
 
 -- the value that is due was passed
 pub passes : (old new : Cursor) (e : ℕ) → old.failed ≡ false → new ≡ passed_to old e → Passes old new
@@ -91,37 +90,29 @@ pub empty_opens : (o : Settings) (c : Cursor) (t : Table) (p : Place) → IsStru
 empty_opens o c t p kind empty within none =
     let here : c.at ≡ 0 = omega (arith, empty, within) in
     let nothing : c.input ≡ [] = no_bytes c.input empty in
-    none 0 end_mark (inr (inr (refl, kind, nothing, here, refl)))
+    none 0 end_mark (inr (kind, (nothing, here), sym here, refl))
 
 pub not_empty : (input : List ℕ) → (length input ≡ 0 → ⊥) → input ≡ [] → ⊥
 not_empty input full is = full (ap length is)
 
-entered_is : (f : Held) → (frame_of f).mark.entered ≡ has_entered f
-entered_is held.Outside = refl
-entered_is (held.Structure entered) = refl
-entered_is (held.List entered) = refl
-entered_is held.EmptyInput = refl
-
-pub mark_is : (old : Cursor) (f : Held) → old.inner ≡ frame_of f → old.inner.mark.entered ≡ has_entered f
-mark_is old f inner = ap (λ (x : Frame). x.mark.entered) inner ∙ entered_is f
-
 -- the list went on to an element
-pub element_steps : (o : Settings) (old new : Cursor) (f : Held) (t : Table) (p : Place) (b : ℕ) → IsList (kind_of t p) → old.inner ≡ frame_of f → old.inner.within ≡ in_list → old.failed ≡ false
-    → new ≡ gone_on_to old b (frame_of (held.List true)) → ElementBegins old.input old.at (has_entered f) b → Steps (json_relations o) old new t p None
-element_steps o old new f t p b kind inner within sound is begins =
-    let entered : old.inner.mark.entered ≡ has_entered f = mark_is old f inner in
-    rw is (record {
-      steps = steps_in_list o old.input t p kind (depth old) old.at old.inner.mark b (subst (λ x. IsSeparated x old.input old.at b) (sym entered) begins.0) begins.1;
-      input = refl;
-      within = sym within;
-      outer = refl;
-      due = refl;
-      failed = sound;
-    })
+pub element_steps : (o : Settings) (old new : Cursor) (t : Table) (p : Place) (b : ℕ) → IsList (kind_of t p) → old.inner.within ≡ in_list → old.failed ≡ false
+    → new ≡ gone_on_to old b (inside_of in_list true) → ElementBegins old.input old.at old.inner.mark.entered b → Steps (json_relations o) old new t p None
+element_steps o old new t p b kind within sound is begins = rw is (record {
+  steps = steps_in_list o old.input t p kind (depth old) old.at old.inner.mark b begins.0 begins.1;
+  input = refl;
+  within = sym within;
+  outer = refl;
+  due = refl;
+  failed = sound;
+})
 
--- how many containers are open
-pub held_depth : (d : JsonDeserializer) → length d.outer.items ≡ depth (cursor_of d)
-held_depth d = sym (length-map (reverse d.outer.items) frame_of ∙ length-reverse d.outer.items)
+-- the list goes on neither to an element nor to its end
+pub list_stuck : (o : Settings) (c : Cursor) (t : Table) (p : Place) → IsList (kind_of t p) → (held : ℕ) → held ≡ depth c
+    → GoesOnInList c.input c.at c.inner.mark.entered held None → CannotGoOn (json_relations o) c t p
+list_stuck o c t p kind held same h =
+    let shut = subst (λ d. (e : ℕ) → ClosesBy end_array c.input c.at d e → ⊥) same h.1 in
+    list_is_stuck o c.input t p kind (depth c) c.at c.inner.mark (λ b separated goes. h.0 b (separated, goes)) (λ e lies follows. shut e (lies, follows))
 
 -- ---- skipped values
 
@@ -135,25 +126,28 @@ module _ (o : Settings) (c : Cursor) where
   -- nothing can be skipped, under limits that are kept
   pub skips_not : (held : ℕ) → held ≡ depth c → o.limits ≡ kept → ((e : ℕ) → SkipsTo o.max_depth held c.input c.at e → ⊥) → SkipsNot (json_relations o) c
   skips_not held same limits none e skips =
-      none e (rw same (record { tree = skips.0; lies = skips.1; shallow = kept_shallow o (depth c + nesting skips.0) limits skips.2 }))
+      let s = (skips_are o c.input (depth c) c.at e).1 skips in
+      none e (rw same (record { tree = s.0; lies = s.1; shallow = kept_shallow o (depth c + nesting s.0) limits s.2 }))
 
   -- nor with the limits lifted
   pub skips_never : (held : ℕ) → held ≡ depth c → ((greatest e : ℕ) → SkipsTo greatest held c.input c.at e → ⊥) → SkipsNot (json_relations (without_limits o)) c
   skips_never held same none e skips =
-      none (depth c + nesting skips.0) e (rw same (record { tree = skips.0; lies = skips.1; shallow = omega arith }))
+      let s = (skips_are (without_limits o) c.input (depth c) c.at e).1 skips in
+      none (depth c + nesting s.0) e (rw same (record { tree = s.0; lies = s.1; shallow = omega arith }))
 
   -- what was skipped is skipped there
   pub skips_here : (held : ℕ) → held ≡ depth c → o.limits ≡ kept → (e : ℕ) → SkipsTo o.max_depth held c.input c.at e
       → (json_relations o).skips c.input (depth c) c.at e
   skips_here held same limits e h =
       let s : SkipsTo o.max_depth (depth c) c.input c.at e = rw same at h in
-      (s.tree, s.lies, shallow_kept o (depth c + nesting s.tree) limits s.shallow)
+      (skips_are o c.input (depth c) c.at e).0 (s.tree, s.lies, shallow_kept o (depth c + nesting s.tree) limits s.shallow)
 
   -- what is skipped ends at one place
   pub skips_same : (held greatest : ℕ) → held ≡ depth c → (end e : ℕ) → SkipsTo greatest held c.input c.at end
       → (json_relations o).skips c.input (depth c) c.at e → end ≡ e
   skips_same held greatest same end e h skips =
-      (one_tree held (depth c) h.tree skips.0 c.input c.at end e h.lies skips.1).1
+      let s = (skips_are o c.input (depth c) c.at e).1 skips in
+      (one_tree held (depth c) h.tree s.0 c.input c.at end e h.lies s.1).1
 
 -- ---- refusals
 

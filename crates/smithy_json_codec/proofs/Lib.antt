@@ -3,6 +3,7 @@ mod StandardFacts
 pub mod SpellingLemmas
 pub mod ReaderLemmas
 pub mod FirstByteLemmas
+pub mod SkippedTrees
 pub mod SkipLemmas
 pub mod SkipStates
 pub mod FrontLemmas

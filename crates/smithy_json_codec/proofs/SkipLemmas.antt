@@ -4,14 +4,13 @@ use Rattle.std.proofs.lemmas.Bool.Decides.{nat_tests}
 use Rattle.smithy_json.specs.Ascii.{begin_array, end_array, begin_object, end_object}
 use Rattle.smithy_json.specs.Tree.{Json, array, object, Elements, no_elements, element, elements_nesting, Members, no_members, member, members_nesting, nesting}
 use Rattle.smithy_json_codec.specs.Settings.{Settings, Limits, kept, lifted, is_within, is_shallow}
-use Rattle.smithy_json_codec.specs.Standing.{Lies, FollowsInside, TreeLies, IsByte, IsSeparated, Names, without_ws, json_relations}
+use Rattle.smithy_json_codec.specs.Standing.{Lies, FollowsInside, TreeLies, IsByte, IsSeparated, Names, without_ws}
 use Rattle.smithy_json_codec.specs.Private.Lexical.{first}
-use Rattle.smithy_json_codec.specs.Private.Fronts.{same_byte, same_separated, same_names, names_or_end, past_byte, one_tree}
-use Rattle.smithy_json_codec.specs.Private.Steps.{element_or_end}
+use Rattle.smithy_json_codec.specs.Private.Fronts.{same_byte, same_separated, same_names, names_or_end, past_byte, one_tree, element_or_end, no_end}
 use Rattle.smithy_json_codec.specs.Private.ArrayPlaces.{ChildLies, child_lies, lies_inside, ElementsLie, elements_text, text_elements}
 use Rattle.smithy_json_codec.specs.Private.ObjectPlaces.{MembersLie, members_text, text_members}
-use Rattle.smithy_json_codec.specs.Private.Lists.{no_end}
 use Rattle.smithy_json_codec.proofs.FirstByteLemmas.{IsLedBy, tree_led, array_only, object_only}
+use Rattle.smithy_json_codec.proofs.SkippedTrees.{Skips}
 
 -- ---- depths
 
@@ -36,7 +35,7 @@ shallow_same c m n h k = rw h k
 module _ (c : Settings) (i : List ℕ) where
   -- a value that may stand inside k containers lies from at to f
   abbrev pub ValueLeft : ℕ → ℕ → ℕ → Type 0
-  ValueLeft k at f = (json_relations c).skips i k at f
+  ValueLeft k at f = Skips c i k at f
 
   -- the rest of an array, whose inside has depth k, lies from at to f
   pub record ArrayLeft (k : ℕ) (entered : Bool) (at f : ℕ) : Type 0 where
@@ -151,7 +150,7 @@ module _ (c : Settings) (i : List ℕ) where
   last_element : (at f e : ℕ) (entered : Bool) (es : Elements) → Lies (IsByte end_array) i at e → ElementsLie es entered i at f → e ≡ f
   last_element at f e entered no_elements h lie = (same_byte i at e f end_array end_array refl refl h lie).1
   last_element at f e entered (element x es) h lie =
-      absurd (element_or_end i entered at lie.0 e lie.2 (no_end i x lie.0 lie.1 lie.3) h)
+      absurd (element_or_end i entered at lie.0 e lie.2 (no_end i x lie.0 lie.1 lie.3.0) h)
 
   -- where its bracket comes, nothing is left but that
   pub array_ends : (k at f e : ℕ) (entered : Bool) → Lies (IsByte end_array) i at e → FollowsInside (suc k) (drop e i) → is_shallow c (suc k) ≡ true
@@ -171,7 +170,7 @@ module _ (c : Settings) (i : List ℕ) where
       → ((e : ℕ) → Lies (IsByte end_array) i at e → FollowsInside (suc k) (drop e i) → ⊥)
       → ElementsLie es entered i at f → FollowsInside (suc k) (drop f i) → ⊥
   no_element k at f entered no_elements none shut lie follows = shut f lie follows
-  no_element k at f entered (element x es) none shut lie follows = none lie.0 lie.2 (no_end i x lie.0 lie.1 lie.3)
+  no_element k at f entered (element x es) none shut lie follows = none lie.0 lie.2 (no_end i x lie.0 lie.1 lie.3.0)
 
   -- where neither comes, no array is left
   pub array_is_stuck : (k at f : ℕ) (entered : Bool) → ((b : ℕ) → IsSeparated entered i at b → ((e : ℕ) → Lies (IsByte end_array) i b e → ⊥) → ⊥)

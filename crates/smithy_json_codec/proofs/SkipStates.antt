@@ -4,7 +4,8 @@ use Rattle.std.proofs.Common.{◌≡◌, ◌↔◌, ◌+◌, ◌<◌, ℕ, zero,
 use Rattle.smithy_json.specs.Ascii.{begin_array, end_array, begin_object, end_object}
 use Rattle.smithy_json.specs.Tree.{Json, nesting}
 use Rattle.smithy_json_codec.specs.Settings.{Settings, is_shallow}
-use Rattle.smithy_json_codec.specs.Standing.{Lies, FollowsInside, TreeLies, IsByte, IsSeparated, Names, json_relations}
+use Rattle.smithy_json_codec.specs.Standing.{Lies, FollowsInside, TreeLies, IsByte, IsSeparated, Names}
+use Rattle.smithy_json_codec.proofs.SkippedTrees.{Skips}
 use Rattle.smithy_json_codec.proofs.SkipLemmas.{ValueLeft, ArrayLeft, ObjectLeft, value_is_array, value_is_object, value_is_scalar, array_goes_on, array_ends, array_is_stuck, object_goes_on, object_ends, object_is_stuck}
 
 module _ (c : Settings) (i : List ℕ) (d : ℕ) where
@@ -38,7 +39,7 @@ module _ (c : Settings) (i : List ℕ) (d : ℕ) where
   -- ---- the start
 
   -- a value is due, and nothing is open
-  pub skip_begins : (is_object : ℕ → Bool) (entered : Bool) (at e : ℕ) → SkipLeft true is_object 0 entered at e ↔ (json_relations c).skips i d at e
+  pub skip_begins : (is_object : ℕ → Bool) (entered : Bool) (at e : ℕ) → SkipLeft true is_object 0 entered at e ↔ Skips c i d at e
   skip_begins is_object entered at e =
       let depth : d + 0 ≡ d = omega arith in (
         λ h. subst (λ k. ValueLeft c i k at e) depth (subst (ValueLeft c i (d + 0) at) h.2 h.1),

@@ -1,19 +1,27 @@
 -- Whole inputs: what spells a value is what stands at their start, with nothing but white space behind it.
-use Rattle.std.proofs.Common.{◌≡◌, ◌↔◌, ℕ, zero, suc, List, drop, Some, refl, arith, inl, inr}
+use Rattle.std.proofs.Common.{◌≡◌, ◌↔◌, ℕ, zero, suc, List, drop, Some, refl, sym, ◌∙◌, ap, arith, inl, inr}
 use Rattle.smithy_schema.specs.declared.place.Place.{Place}
 use Rattle.smithy_schema.specs.Table.{Table, Kind, scalar, structure_of, list_of, nothing, kind_of, IsStructure}
-use Rattle.smithy_schema.specs.Value.{Value}
+use Rattle.smithy_schema.specs.Value.{Value, structure, no_member_values}
 use Rattle.smithy_schema.specs.Reading.{IsContainer}
+use Rattle.smithy_schema.specs.Lemmas.Options.{same_some, chosen}
 use Rattle.smithy_json.specs.Tree.{Json, null, boolean, number, string, array, object}
 use Rattle.smithy_json.specs.Grammar.{IsWs, IsValue, IsJsonText}
-use Rattle.smithy_json_codec.specs.Settings.{Settings}
-use Rattle.smithy_json_codec.specs.Meaning.{json_meaning}
+use Rattle.smithy_json_codec.specs.Settings.{Settings, is_shallow}
+use Rattle.smithy_json_codec.specs.Scalar.{JsonScalar, a_boolean, a_number, a_string}
+use Rattle.smithy_json_codec.specs.Meaning.{node_of, rules_of, json_meaning}
 use Rattle.smithy_json_codec.specs.Spelling.{json_spells}
 use Rattle.smithy_json_codec.specs.Laws.{lawful}
-use Rattle.smithy_json_codec.specs.Standing.{Follows, TreeLies, json_relations}
+use Rattle.smithy_json_codec.specs.Standing.{Follows, TreeLies, json_frames, json_relations}
 use Rattle.smithy_json_codec.specs.Private.Lexical.{ws_is_boundary}
 use Rattle.smithy_json_codec.specs.Private.Fronts.{settle, one_tree}
-use Rattle.smithy_json_codec.specs.Private.Lawful.{not_number, not_string}
+use Rattle.smithy_json_codec.specs.Private.Trees.{tree_lies, lies_tree, lies_full}
+use Rattle.smithy_wire.specs.Node.{Node, null_node, leaf, container, missing}
+use Rattle.smithy_wire.specs.Meaning.{missing_meaning, meaning}
+use Rattle.smithy_wire.specs.Frames.{Lies}
+use Rattle.smithy_wire.specs.Wire.{no_value}
+use Rattle.smithy_wire.specs.Lemmas.Nodes.{sort_of}
+use Rattle.smithy_wire.specs.Lemmas.Places.{leaf_means_nothing}
 
 -- ---- texts
 
@@ -47,27 +55,55 @@ one_text i x y h k =
 
 -- ---- values
 
+-- what is missing is a structure without members
+missing_says : (k : Kind) → IsStructure k → missing_meaning k ≡ Some (structure no_member_values)
+missing_says (scalar s) h = absurd h
+missing_says (structure_of members) h = refl
+missing_says (list_of l) h = absurd h
+missing_says nothing h = absurd h
+
+missing_is : (k : Kind) (v : Value) → missing_meaning k ≡ Some v → IsStructure k × (v ≡ structure no_member_values)
+missing_is (scalar s) v h = cc
+missing_is (structure_of members) v h = (tt, sym (same_some (structure no_member_values) v h))
+missing_is (list_of l) v h = cc
+missing_is nothing v h = cc
+
 -- what the input spells stands at its start
 pub spells_stands : (c : Settings) (t : Table) (p : Place) (i : List ℕ) (v : Value) → json_spells c t p i v
     → (e : ℕ) × (json_relations c).stands i t p 0 0 v e
-spells_stands c t p i v (inl h) = let l = text_lies i h.0 h.1 in (l.0, inl (h.0, l.1, h.2))
-spells_stands c t p i v (inr h) = (0, inr (h.0, refl, refl, h.1, h.2, h.3))
+spells_stands c t p i v (inl h) = let l = text_lies i h.0 h.1 in (l.0, (node_of h.0, tree_lies 0 h.0 i 0 l.0 l.1, h.2))
+spells_stands c t p i v (inr h) =
+    (0, (missing, ((h.0, refl), refl), rw h.2 (missing_says (kind_of t p) h.1 ∙ ap Some (sym h.3))))
 
 -- behind a container outside of all others comes only white space
 tree_text : (c : Settings) (t : Table) (p : Place) (i : List ℕ) (v : Value) (e : ℕ) (x : Json) → IsContainer (kind_of t p)
     → TreeLies 0 x i 0 e → json_meaning c t p 0 x ≡ Some v → IsJsonText x i
 tree_text c t p i v e null box lies means = cc
-tree_text c t p i v e (boolean b) box lies means = cc
-tree_text c t p i v e (number raw) box lies means = absurd (not_number (kind_of t p) raw v box means)
-tree_text c t p i v e (string raw) box lies means = absurd (not_string (kind_of t p) raw v box means)
+tree_text c t p i v e (boolean b) box lies means = absurd (leaf_means_nothing (rules_of c) t p 0 (a_boolean b) v box means)
+tree_text c t p i v e (number raw) box lies means = absurd (leaf_means_nothing (rules_of c) t p 0 (a_number raw) v box means)
+tree_text c t p i v e (string raw) box lies means = absurd (leaf_means_nothing (rules_of c) t p 0 (a_string raw) v box means)
 tree_text c t p i v e (array es) box lies means = lies_text i (array es) e lies lies.1
 tree_text c t p i v e (object ms) box lies means = lies_text i (object ms) e lies lies.1
 
 -- what stands at the start of the input is spelled by it, at a place of a container
 pub stands_spells : (c : Settings) (t : Table) (p : Place) (i : List ℕ) (v : Value) (e : ℕ) → IsContainer (kind_of t p)
     → (json_relations c).stands i t p 0 0 v e → json_spells c t p i v
-stands_spells c t p i v e box (inl h) = inl (h.0, tree_text c t p i v e h.0 box h.1 h.2, h.2)
-stands_spells c t p i v e box (inr h) = inr (h.0, h.3, h.4, h.5)
+stands_spells c t p i v e box (y, lies, means) = of y lies means
+  where
+    there : (y : Node JsonScalar) → (sort_of y ≡ no_value → ⊥) → Lies json_frames i 0 y 0 e → meaning (rules_of c) t p 0 y ≡ Some v → json_spells c t p i v
+    there y is lies means =
+        let x = lies_tree 0 y i 0 e (lies_full 0 y i 0 e lies is) lies in
+        let says : json_meaning c t p 0 x.0 ≡ Some v = ap (meaning (rules_of c) t p 0) x.2 ∙ means in
+        inl (x.0, tree_text c t p i v e x.0 box x.1 says, says)
+
+    of : (y : Node JsonScalar) → Lies json_frames i 0 y 0 e → meaning (rules_of c) t p 0 y ≡ Some v → json_spells c t p i v
+    of null_node lies means = there null_node (λ h. cc) lies means
+    of (leaf x) lies means = there (leaf x) (λ h. cc) lies means
+    of (container f xs) lies means = there (container f xs) (λ h. cc) lies means
+    of missing lies means =
+        let deep = chosen (is_shallow c 1) (missing_meaning (kind_of t p)) v means in
+        let is = missing_is (kind_of t p) v deep.1 in
+        inr (lies.0.0, is.0, deep.0, is.1)
 
 -- a structure is a container
 pub structure_is_container : (k : Kind) → IsStructure k → IsContainer k

@@ -1,5 +1,5 @@
 -- Where a structure goes on to, as the contract of reading says it.
-use Rattle.std.proofs.Common.{◌≡◌, ◌≤◌, ◌<◌, inl, inr, ℕ, zero, suc, length, drop, List, [], ◌∷◌, Bool, true, false, Some, None, Result, Ok, Err, refl, sym, ap, subst, ◌∙◌, arith}
+use Rattle.std.proofs.Common.{◌≡◌, ◌≤◌, ◌<◌, ℕ, zero, suc, length, drop, List, [], ◌∷◌, Bool, true, false, Some, None, Result, Ok, Err, refl, sym, ap, subst, ◌∙◌, arith}
 use Rattle.std.proofs.lemmas.Bool.Decides.{nat_tests}
 use Rattle.std.specs.Prelude.{Option, option_and_then, option_map, slice_get, cond, nat_lt}
 use Rattle.std.specs.List.{position_or_len}
@@ -13,18 +13,23 @@ use Rattle.smithy_schema.specs.Table.{Table, members_of, IsStructure}
 use Rattle.smithy_schema.specs.Site.{Site, site_of, member_site, kind_at, site_of_member}
 use Rattle.smithy_schema.specs.Reading.{Cursor, depth, Steps, Leaves, MatchStep, CannotGoOn, passed_to, in_structure, IsInvalid, IsRefused}
 use Rattle.smithy_json.specs.Unescape.{unescaped}
-use Rattle.smithy_json_codec.specs.declared.deserializer.Frame.TheVariants as held
-use Rattle.smithy_json_codec.specs.Cursor.{frame_of, gone_on_to}
+use Rattle.smithy_json_codec.specs.Cursor.{inside_of}
+use Rattle.smithy_wire.specs.Walking.{gone_on_to}
 use Rattle.smithy_json_codec.specs.Settings.{Settings}
-use Rattle.smithy_json_codec.specs.Meaning.{position_in}
-use Rattle.smithy_json_codec.specs.Standing.{json_relations, Drops, StepsInStructure, ClosesStructure, FollowsInside}
+use Rattle.smithy_json_codec.specs.Meaning.{rules_of}
+use Rattle.smithy_json_codec.specs.Standing.{json_relations, FollowsInside}
 use Rattle.smithy_json_codec.specs.Private.Fronts.{names_ahead}
-use Rattle.smithy_json_codec.specs.Private.Steps.{drops_ahead}
-use Rattle.smithy_json_codec.specs.Private.Present.{NothingComes, EntryMissing}
+use Rattle.smithy_json_codec.specs.Private.Present.{Drops, StepsInStructure, ClosesStructure, NothingComes, EntryMissing}
 use Rattle.smithy_json_codec.specs.Private.Steering.{EndsEmpty, StepsTo}
-use Rattle.smithy_json_codec.proofs.ReaderLemmas.{steps_in_structure, closes_structure, closes_empty, no_structure_step, no_structure_close, no_text_no_step, no_text_no_close}
+use Rattle.smithy_json_codec.proofs.ReaderLemmas.{steps_in_structure, closes_structure, closes_empty, structure_is_stuck}
+use Rattle.smithy_wire.specs.Rules.{position_in}
 
 -- ---- the place of a member's value, and of an end
+
+drops_ahead : (k : ℕ) (i : List ℕ) (b : ℕ) (m : Bool) (c : ℕ) (n : Bool) → Drops k i b m c n → b ≤ c
+drops_ahead zero i b m c n h = omega (arith, h.0)
+drops_ahead (suc k) i b m c n h =
+    let r = drops_ahead k i h.2 true c n h.5 in omega (arith, names_ahead i m b h.0 h.1 h.3, h.4.0.0, r)
 
 pub value_place : (i : List ℕ) (b : ℕ) (m : Bool) (raw : List ℕ) (c : ℕ) → StepsInStructure i b m raw c → (b ≤ c) × (c ≤ length i)
 value_place i b m raw c s =
@@ -68,7 +73,7 @@ no_site f None h = refl
 no_site f (Some x) h = absurd (let none : Some (f x) ≡ None = h in cc)
 
 -- the position of a member is one of the members
-pub named_site : (o : Settings) (outer : Site) (name : List ℕ) (found : Option ℕ) → position_in o (kind_at outer) name ≡ found
+pub named_site : (o : Settings) (outer : Site) (name : List ℕ) (found : Option ℕ) → position_in (rules_of o) (kind_at outer) (Some name) ≡ found
     → option_and_then (member_site outer) found ≡ None → found ≡ None
 named_site o outer name None is h = refl
 named_site o outer name (Some n) is h =
@@ -82,13 +87,13 @@ site_found o outer (Some n) s h = (n, refl, h)
 
 -- ---- steps and ends
 
-module _ (o : Settings) (c new : Cursor) (at : ℕ) (outer : Site) (kind : IsStructure (kind_at outer)) (entered : Bool) (mark : c.inner.mark.entered ≡ entered) where
+module _ (o : Settings) (c new : Cursor) (at : ℕ) (outer : Site) (kind : IsStructure (kind_at outer)) where
   member_comes : (value : ℕ) (raw name : List ℕ) → c.inner.within ≡ in_structure → c.failed ≡ false
-      → new ≡ gone_on_to c value (frame_of (held.Structure true)) → unescaped raw ≡ Some name
-      → StepsInStructure c.input at entered raw value → Steps (json_relations o) (passed_to c at) new outer.table outer.place (Some name)
+      → new ≡ gone_on_to c value (inside_of in_structure true) → unescaped raw ≡ Some name
+      → StepsInStructure c.input at c.inner.mark.entered raw value → Steps (json_relations o) (passed_to c at) new outer.table outer.place (Some name)
   member_comes value raw name within sound is some s = rw is (record {
     steps = steps_in_structure o c.input outer.table outer.place kind (depth c) s.0 at c.inner.mark s.1 s.2 raw name value
-        (subst (λ x. Drops s.0 c.input at x s.1 s.2) (sym mark) s.3) s.4 some s.5;
+        s.3 s.4 some s.5;
     input = refl;
     within = sym within;
     outer = refl;
@@ -98,8 +103,8 @@ module _ (o : Settings) (c new : Cursor) (at : ℕ) (outer : Site) (kind : IsStr
 
   -- the step to a member, or to an unknown entry
   pub steps_to : (value : ℕ) (raw name : List ℕ) (step : Step) → c.inner.within ≡ in_structure → c.failed ≡ false
-      → new ≡ gone_on_to c value (frame_of (held.Structure true)) → unescaped raw ≡ Some name
-      → StepsInStructure c.input at entered raw value → StepsTo step o outer name → MatchStep step (json_relations o) (passed_to c at) new outer
+      → new ≡ gone_on_to c value (inside_of in_structure true) → unescaped raw ≡ Some name
+      → StepsInStructure c.input at c.inner.mark.entered raw value → StepsTo step o outer name → MatchStep step (json_relations o) (passed_to c at) new outer
   steps_to value raw name (ToMember s) within sound is some steps leads =
       (name, leads.0, member_comes value raw name within sound is some steps, leads.1, leads.2)
   steps_to value raw name Unknown within sound is some steps leads =
@@ -118,36 +123,23 @@ module _ (o : Settings) (c new : Cursor) (at : ℕ) (outer : Site) (kind : IsStr
     failed = failed ∙ sound;
   }
 
-  pub bracket_closes : (e held : ℕ) → held ≡ depth c → ClosesStructure c.input at entered e × FollowsInside held (drop e c.input)
+  pub bracket_closes : (e held : ℕ) → held ≡ depth c → ClosesStructure c.input at c.inner.mark.entered e × FollowsInside held (drop e c.input)
       → (json_relations o).closes c.input outer.table outer.place (depth c) at c.inner.mark e
   bracket_closes e held same h =
       let s = h.0 in
       closes_structure o c.input outer.table outer.place kind (depth c) s.0 at c.inner.mark s.1 s.2 e
-      (subst (λ x. Drops s.0 c.input at x s.1 s.2) (sym mark) s.3) s.4 (subst (λ d. FollowsInside d (drop e c.input)) same h.1)
+      s.3 s.4 (subst (λ d. FollowsInside d (drop e c.input)) same h.1)
 
   pub input_closes : EndsEmpty c → at ≤ length c.input → (json_relations o).closes c.input outer.table outer.place (depth c) at c.inner.mark 0
   input_closes h within =
       closes_empty o c.input outer.table outer.place kind (depth c) at c.inner.mark h.0 h.1 (empty_input c.input at within h.1) h.2
 
-  missing : (count place : ℕ) (after : Bool) → Drops count c.input at c.inner.mark.entered place after → EntryMissing c.input place after (depth c)
-      → (EndsEmpty c → ⊥) → CannotGoOn (json_relations o) (passed_to c at) outer.table outer.place
-  missing count place after drops (inl (nameless, open_ended)) full = (
-    no_structure_step o c.input outer.table outer.place kind (depth c) count at c.inner.mark place after drops nameless,
-    no_structure_close o c.input outer.table outer.place kind (depth c) count at c.inner.mark place after drops nameless
-        (λ f lies follows. open_ended f (lies, follows)) (λ at_end empty follows. full (at_end, empty, follows)),
-  )
-  missing count place after drops (inr (raw, value, names, wordless)) full = (
-    no_text_no_step o c.input outer.table outer.place kind (depth c) count at c.inner.mark place after raw value drops names wordless,
-    no_text_no_close o c.input outer.table outer.place kind (depth c) count at c.inner.mark place after raw value drops names wordless
-        (λ at_end empty follows. full (at_end, empty, follows)),
-  )
-
   -- neither a member nor the end comes
-  pub cannot_step : (held : ℕ) → held ≡ depth c → NothingComes c.input at entered held → (EndsEmpty c → ⊥)
+  pub cannot_step : (held : ℕ) → held ≡ depth c → NothingComes c.input at c.inner.mark.entered held → (EndsEmpty c → ⊥)
       → CannotGoOn (json_relations o) (passed_to c at) outer.table outer.place
   cannot_step held same h full =
-      missing h.count h.place h.after (subst (λ x. Drops h.count c.input at x h.place h.after) (sym mark) h.drops)
-      (subst (λ d. EntryMissing c.input h.place h.after d) same h.missing) full
+      structure_is_stuck o c.input outer.table outer.place kind (depth c) h.count at c.inner.mark h.place h.after h.drops
+      (subst (λ d. EntryMissing c.input h.place h.after d) same h.missing) (λ at_end empty inside. full (at_end, empty, inside))
 
 -- where nothing was due
 pub stays_undue : (o : Settings) (c : Cursor) (t : Table) (p : Place) → c.due ≡ false

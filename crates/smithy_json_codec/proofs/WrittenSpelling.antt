@@ -11,7 +11,8 @@ use Rattle.smithy_schema.proofs.SiteLemmas.{site_at}
 use Rattle.smithy_json_codec.specs.Canonical.{canonical_json}
 use Rattle.smithy_json_codec.specs.Codec.{strict_settings}
 use Rattle.smithy_json_codec.specs.Laws.{fit}
-use Rattle.smithy_json_codec.specs.Meaning.{json_meaning, is_null}
+use Rattle.smithy_json_codec.specs.Meaning.{json_meaning, node_of}
+use Rattle.smithy_wire.specs.Node.{is_null}
 use Rattle.smithy_json_codec.specs.Settings.{Settings}
 use Rattle.smithy_json_codec.specs.Spelling.{json_spells}
 use Rattle.smithy_json_codec.proofs.SpellingLemmas.{spells_stands}
@@ -31,5 +32,5 @@ canonical_spells b t p view v accepted fits deep =
     inl (
       x,
       ([], bytes, [], sym (append-nil bytes), tt, value_written b t accepted v p view false fits, tt),
-      meaning_alone (is_null x) (json_meaning (strict_settings b) t p 0 x) v (value_means b t accepted v p view false 0 fits (omega (arith, deep))),
+      meaning_alone (is_null (node_of x)) (json_meaning (strict_settings b) t p 0 x) v (value_means b t accepted v p view false 0 fits (omega (arith, deep))),
     )

@@ -1,23 +1,24 @@
 -- The laws of reading, for JSON.
 use Rattle.smithy_schema.specs.Reading.{IsLawful, StandsFit, CountsOpeners, IsBelow}
 use Rattle.smithy_json_codec.specs.Settings.{Settings, without_limits}
-use Rattle.smithy_json_codec.specs.Standing.{json_relations}
-use Rattle.smithy_json_codec.specs.Private.Fits.{stands_fits}
-use Rattle.smithy_json_codec.specs.Private.Lawful.{json_is_lawful, json_counts_openers}
-use Rattle.smithy_json_codec.specs.Private.Limits.{lifting_keeps}
+use Rattle.smithy_json_codec.specs.Meaning.{rules_of}
+use Rattle.smithy_json_codec.specs.Standing.{json_frames, json_relations}
+use Rattle.smithy_json_codec.specs.Private.Wire.{json_is_wire, json_bounds_openers}
+use Rattle.smithy_json_codec.specs.Private.Fits.{says_fits}
+use Rattle.smithy_wire.specs.Laws as wire
 
 -- the relations obey their laws, whatever the settings
 pub lawful : (c : Settings) → IsLawful (json_relations c)
-lawful c = json_is_lawful c
+lawful c = wire.lawful json_frames (rules_of c) json_is_wire
 
 -- what stands is a value of its place
 pub fit : (c : Settings) → StandsFit (json_relations c)
-fit c = record { fits = stands_fits c }
+fit c = wire.stands_fit json_frames (rules_of c) (record { says_fits = says_fits c })
 
 -- brackets are counted
 pub counts : (c : Settings) → CountsOpeners (json_relations c)
-counts c = json_counts_openers c
+counts c = wire.counts_openers json_frames (rules_of c) json_bounds_openers
 
 -- what holds within the limits holds without them
 pub above : (c : Settings) → IsBelow (json_relations c) (json_relations (without_limits c))
-above c = lifting_keeps c
+above c = wire.lifted_is_above json_frames (rules_of c)

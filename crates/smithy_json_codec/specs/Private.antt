@@ -2,18 +2,14 @@
 pub mod Lexical
 pub mod PlainReader
 pub mod Fronts
-pub mod Steps
+pub mod Sorts
 pub mod ArrayPlaces
 pub mod ObjectPlaces
-pub mod Lists
-pub mod Structures
-pub mod Texts
-pub mod Fits
-pub mod NullBegins
 pub mod Rises
 pub mod OpenPlaces
-pub mod Limits
-pub mod Lawful
+pub mod Wire
+pub mod Trees
+pub mod Fits
 -- for the laws of writing
 pub mod Calls
 -- for the clauses of private functions

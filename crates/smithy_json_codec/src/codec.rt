@@ -21,7 +21,8 @@ pub struct JsonCodec {
 impl JsonCodec {
     ghost use Rattle.std.specs.Prelude.{◌≡◌, false};
     ghost use Rattle.smithy_json_codec.specs.Codec.{settings_of, strict_settings};
-    ghost use Rattle.smithy_json_codec.specs.Cursor.{cursor_of, reading_settings_of, fresh_cursor};
+    ghost use Rattle.smithy_json_codec.specs.Cursor.{cursor_of, reading_settings_of};
+    ghost use Rattle.smithy_wire.specs.Walking.{fresh_cursor};
     ghost use Rattle.smithy_json_codec.specs.Serializing.{state_of, has_failed};
     ghost use Rattle.smithy_json_codec.specs.Writing.{fresh_state};
 

@@ -1,55 +1,66 @@
 //! The reader of JSON values that a schema directs.
-ghost use Rattle.std.specs.Prelude.{◌≤◌, length, vec_len};
-
 use crate::members::{Next, next_present};
-use crate::places::{InList, byte_end, may_end, next_in_list, null_end};
+use crate::places::{InList, byte_end, next_in_list, null_end};
 use crate::skip::skipped_end;
 use crate::texts::owned_text;
 use crate::values::{begins_null, long_at, string_at};
 use smithy_schema::{Schema, SerdeError, ShapeDeserializer, Step, TimestampFormat};
+use smithy_wire::{Frame, Mark, Walk, Within};
 use std::alloc::Global;
-
-/// What the reader keeps of an open container, and outside of all.
-#[derive(Clone, Copy)]
-pub(crate) enum Frame {
-    Outside,
-    /// Whether a member has come.
-    Structure(bool),
-    /// Whether an element has come.
-    List(bool),
-    /// The structure without members that an empty input is.
-    EmptyInput,
-}
 
 /// A strict reader of one JSON text.
 #[derive(Drop)]
 pub struct JsonDeserializer<'a> {
-    pub(crate) input: &'a [u8],
-    pub(crate) position: usize,
-    pub(crate) inner: Frame,
-    pub(crate) outer: Vec<Frame>,
+    pub(crate) walk: Walk<'a>,
     pub(crate) alloc: Global,
-    pub(crate) max_depth: usize,
     pub(crate) use_json_name: bool,
     pub(crate) default_timestamp_format: TimestampFormat,
-    pub(crate) due: bool,
-    pub(crate) failed: bool,
-    // The offset is within the input, and no more containers are open than may be.
-    ghost in_input: { position ≤ length input.now },
-    ghost shallow: { vec_len outer ≤ max_depth },
-    ghost greatest: { max_depth ≤ 512 },
+}
+
+ghost use Rattle.std.specs.Prelude.{◌≡◌};
+ghost use Rattle.smithy_json_codec.specs.Cursor.{inside_of, missing_frame};
+ghost use Rattle.smithy_wire.specs.Walking.{within_of, frame_of};
+
+// What is kept of an open container, in which an entry has come or not.
+#[inline]
+fn frame(within: Within, entered: bool) -> Frame
+    ensures { frame_of result ≡ inside_of (within_of within) entered }
+{
+    Frame {
+        within,
+        mark: Mark {
+            entered,
+            at_end: false,
+            due: None,
+        },
+    }
+}
+
+// What is kept of the structure without members that an empty input is.
+fn missing() -> Frame
+    ensures { frame_of result ≡ missing_frame }
+{
+    Frame {
+        within: Within::Structure,
+        mark: Mark {
+            entered: false,
+            at_end: true,
+            due: None,
+        },
+    }
 }
 
 impl<'a> JsonDeserializer<'a> {
-    ghost use Rattle.std.specs.Prelude.{◌≡◌, ◌≢◌, ◌≤◌, ◌<◌, ◌∷◌, ◌↔◌, [], length, Ok, Err, IsTrue, IfOk, IfErr, OnOk, OnErr, IsErrOf, Option, Some, None, true, false, if◌then◌else◌, vec_len};
-    ghost use Rattle.smithy_schema.specs.Reading.{depth, failed_at, passed_to, in_structure, Conducts, MatchStep, CannotGoOn, IsRefused};
+    ghost use Rattle.std.specs.Prelude.{◌≡◌, ◌≤◌, ◌↔◌, length, IsTrue, IfOk, IsErrOf, false};
+    ghost use Rattle.smithy_schema.specs.Reading.{passed_to, in_structure, Conducts, MatchStep, CannotGoOn, IsRefused};
     ghost use Rattle.smithy_schema.specs.Table.{IsStructure};
     ghost use Rattle.smithy_schema.specs.Site.{site_of, kind_at};
-    ghost use Rattle.smithy_schema.specs.declared.error.SerdeError.TheVariants.{Failed, InvalidInput, NoMemory, TooDeep, Unwritable};
-    ghost use Rattle.smithy_json_codec.specs.Cursor.{cursor_of, reading_settings_of, fresh_cursor, entered_into, gone_on_to, has_entered, frame_of};
+    ghost use Rattle.smithy_schema.specs.declared.error.SerdeError.TheVariants.{TooDeep};
+    ghost use Rattle.smithy_json_codec.specs.Cursor.{cursor_of, reading_settings_of};
     ghost use Rattle.smithy_json_codec.specs.Settings.{Settings};
     ghost use Rattle.smithy_json_codec.specs.Standing.{json_relations};
     ghost use Rattle.smithy_json_codec.specs.Private.Steering.{EndsEmpty, StepsTo};
+    ghost use Rattle.smithy_wire.specs.Walking.{fresh_cursor};
 
     // A fresh reader.
     pub(crate) fn new(
@@ -62,134 +73,27 @@ impl<'a> JsonDeserializer<'a> {
         requires { max_depth ≤ 512 }
         ensures state { cursor_of result ≡ fresh_cursor input.now }
         ensures use_json_name { result.use_json_name ≡ use_json_name }
-        ensures max_depth { result.max_depth ≡ max_depth }
+        ensures max_depth { result.walk.max_depth ≡ max_depth }
         ensures default_timestamp_format { result.default_timestamp_format ≡ default_timestamp_format }
     {
         JsonDeserializer {
-            input,
-            position: 0,
-            inner: Frame::Outside,
-            outer: Vec::new(alloc),
+            walk: Walk::new(input, alloc, max_depth),
             alloc,
-            max_depth,
             use_json_name,
             default_timestamp_format,
-            due: true,
-            failed: false,
         }
     }
 
-    // Whether an entry of the innermost container has come.
-    fn entered(&self) -> bool
-        ensures { result ≡ has_entered self.now.inner }
-    {
-        match self.inner {
-            Frame::Structure(entered) => entered,
-            Frame::List(entered) => entered,
-            _ => false,
-        }
-    }
-
-    // Fails, and stays where it is.
-    fn refuse(&mut self, error: SerdeError) -> SerdeError
-        ensures same { reading_settings_of self.new ≡ reading_settings_of self.old }
-        ensures stays { cursor_of self.new ≡ failed_at (cursor_of self.old) }
-        ensures error { result ≡ error }
-    {
-        self.failed = true;
-        error
-    }
-
-    // Refuses where no value can be read: after a failure, or where none is due.
-    fn ready(&mut self) -> Result<(), SerdeError>
-        ensures answer { result ≡ (if self.old.failed then Err Failed else (if self.old.due then Ok tt else Err InvalidInput)) }
-        ensures ok { OnOk result (self.new ≡ self.old) }
-        ensures same { reading_settings_of self.new ≡ reading_settings_of self.old }
-        ensures err { OnErr result (cursor_of self.new ≡ failed_at (cursor_of self.old)) }
-    {
-        if self.failed {
-            Err(self.refuse(SerdeError::Failed))
-        } else if self.due {
-            Ok(())
-        } else {
-            Err(self.refuse(SerdeError::InvalidInput))
-        }
-    }
-
-    // Goes on behind the value that was due.
-    fn pass(&mut self, end: usize)
-        requires { end ≤ length self.old.input.now }
-        ensures same { reading_settings_of self.new ≡ reading_settings_of self.old }
-        ensures passed { cursor_of self.new ≡ passed_to (cursor_of self.old) end }
-    {
-        self.position = end;
-        self.due = false;
-    }
-
-    // Goes on to an entry of the innermost container, whose value is due.
-    fn go_on(&mut self, at: usize, frame: Frame)
-        requires { at ≤ length self.old.input.now }
-        ensures same { reading_settings_of self.new ≡ reading_settings_of self.old }
-        ensures gone { cursor_of self.new ≡ gone_on_to (cursor_of self.old) at (frame_of frame) }
-    {
-        self.position = at;
-        self.inner = frame;
-        self.due = true;
-    }
-
-    // Enters the container that was due.
-    fn enter(&mut self, inside: usize, frame: Frame) -> Result<(), SerdeError>
-        requires { inside ≤ length self.old.input.now }
-        ensures same { reading_settings_of self.new ≡ reading_settings_of self.old }
-        ensures ok { OnOk result (cursor_of self.new ≡ entered_into (cursor_of self.old) inside (frame_of frame)) }
-        ensures shallow { OnOk result (depth (cursor_of self.old) < self.old.max_depth) }
-        ensures err { OnErr result (cursor_of self.new ≡ failed_at (cursor_of self.old)) }
-        ensures deepest { IsErrOf result TooDeep → depth (cursor_of self.old) ≡ self.old.max_depth }
-        ensures no_failed { IsErrOf result Failed → ⊥ }
-        ensures no_invalid { IsErrOf result InvalidInput → ⊥ }
-        ensures no_unwritable { IsErrOf result Unwritable → ⊥ }
-    {
-        if self.outer.len() == self.max_depth {
-            return Err(self.refuse(SerdeError::TooDeep));
-        }
-        match self.outer.push(self.inner) {
-            Ok(()) => {
-                self.inner = frame;
-                self.pass(inside);
-                Ok(())
-            }
-            Err(_) => Err(self.refuse(SerdeError::NoMemory)),
-        }
-    }
-
-    // Leaves the innermost container.
-    fn leave(&mut self, end: usize)
-        requires within { end ≤ length self.old.input.now }
-        requires inside { 0 < depth (cursor_of self.old) }
-        ensures same { reading_settings_of self.new ≡ reading_settings_of self.old }
-        ensures input { (cursor_of self.new).input ≡ (cursor_of self.old).input }
-        ensures at { (cursor_of self.new).at ≡ end }
-        ensures outer { (cursor_of self.old).outer ≡ (cursor_of self.new).inner ∷ (cursor_of self.new).outer }
-        ensures due { (cursor_of self.new).due ≡ false }
-        ensures failed { (cursor_of self.new).failed ≡ (cursor_of self.old).failed }
-    {
-        match self.outer.pop() {
-            Some(frame) => {
-                self.inner = frame;
-                self.pass(end);
-            }
-            None => unreachable!(),
-        }
-    }
-
-    // Whether the innermost container was opened at the end of an empty input, and may end there.
+    // Whether the innermost container was opened at the end of an empty input, and ends there.
     fn ends_empty(&self) -> bool
         ensures { IsTrue result ↔ EndsEmpty (cursor_of self.now) }
     {
-        match self.inner {
-            Frame::EmptyInput => self.input.is_empty() && may_end(self.input, 0, self.outer.len()),
-            _ => false,
-        }
+        let mark = self.walk.inner.mark;
+        mark.at_end
+            && !mark.entered
+            && mark.due.is_none()
+            && self.walk.input.is_empty()
+            && self.walk.depth() > 0
     }
 
     // The step to a member of this name.
@@ -209,9 +113,9 @@ impl<'a> JsonDeserializer<'a> {
 
     // Goes on in the structure from the offset on, where nothing is due any more.
     fn step_from<'s>(&mut self, at: usize, schema: &Schema<'s>) -> Result<Step<'s>, SerdeError>
-        requires ahead { self.old.position ≤ at }
-        requires within { at ≤ length self.old.input.now }
-        requires sound { self.old.failed ≡ false }
+        requires ahead { self.old.walk.position ≤ at }
+        requires within { at ≤ length self.old.walk.input.now }
+        requires sound { self.old.walk.failed ≡ false }
         requires inside { (cursor_of self.old).inner.within ≡ in_structure }
         requires place { IsStructure (kind_at (site_of schema.now)) }
         ensures same { reading_settings_of self.new ≡ reading_settings_of self.old }
@@ -221,20 +125,26 @@ impl<'a> JsonDeserializer<'a> {
         ensures shallow { IsErrOf result TooDeep → ⊥ }
     {
         if self.ends_empty() {
-            self.leave(0);
+            self.walk.leave(0);
             return Ok(Step::End);
         }
-        match next_present(self.alloc, self.input, at, self.entered(), self.outer.len()) {
+        match next_present(
+            self.alloc,
+            self.walk.input,
+            at,
+            self.walk.inner.mark.entered,
+            self.walk.depth(),
+        ) {
             Ok(Next::Member(name, value)) => {
                 let step = self.step_to(schema, name.as_str());
-                self.go_on(value, Frame::Structure(true));
+                self.walk.go_on(value, frame(Within::Structure, true));
                 Ok(step)
             }
             Ok(Next::End(end)) => {
-                self.leave(end);
+                self.walk.leave(end);
                 Ok(Step::End)
             }
-            Err(error) => Err(self.refuse(error)),
+            Err(error) => Err(self.walk.refuse(error)),
         }
     }
 }
@@ -277,21 +187,21 @@ impl ShapeDeserializer for JsonDeserializer<'_> {
     ghost above = { limits_are_above };
 
     fn position(&self) -> usize {
-        self.position
+        self.walk.position
     }
 
     fn fail(&mut self) {
-        self.failed = true;
+        self.walk.failed = true;
     }
 
     fn open_struct(&mut self, _schema: &Schema<'_>) -> Result<(), SerdeError> {
-        self.ready()?;
-        if self.input.is_empty() {
-            return self.enter(0, Frame::EmptyInput);
+        self.walk.ready()?;
+        if self.walk.input.is_empty() {
+            return self.walk.enter(0, missing());
         }
-        match byte_end(self.input, self.position, b'{') {
-            Some(inside) => self.enter(inside, Frame::Structure(false)),
-            None => Err(self.refuse(SerdeError::InvalidInput)),
+        match byte_end(self.walk.input, self.walk.position, b'{') {
+            Some(inside) => self.walk.enter(inside, frame(Within::Structure, false)),
+            None => Err(self.walk.refuse(SerdeError::InvalidInput)),
         }
     }
 
@@ -318,49 +228,54 @@ impl ShapeDeserializer for JsonDeserializer<'_> {
         ensures due { IsErrOf result TooDeep → (cursor_of self.old).due ≡ true }
         ensures too_deep { IsErrOf result TooDeep → OpensTooDeep (reading_settings_of self.old).max_depth (depth (cursor_of self.old)) (cursor_of self.old).input (cursor_of self.old).at }
     {
-        if self.failed {
-            return Err(self.refuse(SerdeError::Failed));
+        if self.walk.failed {
+            return Err(self.walk.refuse(SerdeError::Failed));
         }
-        let at = self.position;
-        if !self.due {
+        let at = self.walk.position;
+        if !self.walk.due {
             return self.step_from(at, schema);
         }
-        match skipped_end(self.input, at, self.outer.len(), self.max_depth) {
+        match skipped_end(self.walk.input, at, self.walk.depth(), self.walk.max_depth) {
             Ok(end) => self.step_from(end, schema),
-            Err(error) => Err(self.refuse(error)),
+            Err(error) => Err(self.walk.refuse(error)),
         }
     }
 
     fn open_list(&mut self, _schema: &Schema<'_>) -> Result<(), SerdeError> {
-        self.ready()?;
-        match byte_end(self.input, self.position, b'[') {
-            Some(inside) => self.enter(inside, Frame::List(false)),
-            None => Err(self.refuse(SerdeError::InvalidInput)),
+        self.walk.ready()?;
+        match byte_end(self.walk.input, self.walk.position, b'[') {
+            Some(inside) => self.walk.enter(inside, frame(Within::List, false)),
+            None => Err(self.walk.refuse(SerdeError::InvalidInput)),
         }
     }
 
     fn next_element(&mut self) -> Result<bool, SerdeError> {
-        if self.failed {
-            return Err(self.refuse(SerdeError::Failed));
+        if self.walk.failed {
+            return Err(self.walk.refuse(SerdeError::Failed));
         }
-        if self.due {
-            return Err(self.refuse(SerdeError::InvalidInput));
+        if self.walk.due {
+            return Err(self.walk.refuse(SerdeError::InvalidInput));
         }
-        match next_in_list(self.input, self.position, self.entered(), self.outer.len()) {
+        match next_in_list(
+            self.walk.input,
+            self.walk.position,
+            self.walk.inner.mark.entered,
+            self.walk.depth(),
+        ) {
             Some(InList::Element(at)) => {
-                self.go_on(at, Frame::List(true));
+                self.walk.go_on(at, frame(Within::List, true));
                 Ok(true)
             }
             Some(InList::End(end)) => {
-                self.leave(end);
+                self.walk.leave(end);
                 Ok(false)
             }
-            None => Err(self.refuse(SerdeError::InvalidInput)),
+            None => Err(self.walk.refuse(SerdeError::InvalidInput)),
         }
     }
 
     fn is_null(&self) -> bool {
-        self.due && begins_null(self.input, self.position)
+        self.walk.due && begins_null(self.walk.input, self.walk.position)
     }
 
     // Where no null is due it does nothing.
@@ -376,18 +291,18 @@ impl ShapeDeserializer for JsonDeserializer<'_> {
         ensures nothing { null_is_due (json_relations (reading_settings_of self.old)) (cursor_of self.old) ≡ false → OnOk result (cursor_of self.new ≡ cursor_of self.old) }
         ensures unasked { null_is_due (json_relations (reading_settings_of self.old)) (cursor_of self.old) ≡ false → (cursor_of self.old).failed ≡ false → IsOk result }
     {
-        if self.failed {
-            return Err(self.refuse(SerdeError::Failed));
+        if self.walk.failed {
+            return Err(self.walk.refuse(SerdeError::Failed));
         }
         if !self.is_null() {
             return Ok(());
         }
-        match null_end(self.input, self.position) {
+        match null_end(self.walk.input, self.walk.position) {
             Some(end) => {
-                self.pass(end);
+                self.walk.pass(end);
                 Ok(())
             }
-            None => Err(self.refuse(SerdeError::InvalidInput)),
+            None => Err(self.walk.refuse(SerdeError::InvalidInput)),
         }
     }
 
@@ -406,38 +321,43 @@ impl ShapeDeserializer for JsonDeserializer<'_> {
         // It is too deep only by a container that begins at the greatest depth, behind what is sound.
         ensures too_deep { IsErrOf result TooDeep → OpensTooDeep (reading_settings_of self.old).max_depth (depth (cursor_of self.old)) (cursor_of self.old).input (cursor_of self.old).at }
     {
-        self.ready()?;
-        match skipped_end(self.input, self.position, self.outer.len(), self.max_depth) {
+        self.walk.ready()?;
+        match skipped_end(
+            self.walk.input,
+            self.walk.position,
+            self.walk.depth(),
+            self.walk.max_depth,
+        ) {
             Ok(end) => {
-                self.pass(end);
+                self.walk.pass(end);
                 Ok(())
             }
-            Err(error) => Err(self.refuse(error)),
+            Err(error) => Err(self.walk.refuse(error)),
         }
     }
 
     fn read_long(&mut self, _schema: &Schema<'_>) -> Result<i64, SerdeError> {
-        self.ready()?;
-        match long_at(self.input, self.position) {
+        self.walk.ready()?;
+        match long_at(self.walk.input, self.walk.position) {
             Some((n, end)) => {
-                self.pass(end);
+                self.walk.pass(end);
                 Ok(n)
             }
-            None => Err(self.refuse(SerdeError::InvalidInput)),
+            None => Err(self.walk.refuse(SerdeError::InvalidInput)),
         }
     }
 
     fn read_string(&mut self, _schema: &Schema<'_>) -> Result<String, SerdeError> {
-        self.ready()?;
-        let Some(string) = string_at(self.input, self.position) else {
-            return Err(self.refuse(SerdeError::InvalidInput));
+        self.walk.ready()?;
+        let Some(string) = string_at(self.walk.input, self.walk.position) else {
+            return Err(self.walk.refuse(SerdeError::InvalidInput));
         };
         match owned_text(self.alloc, string.text) {
             Ok(text) => {
-                self.pass(string.closing + 1);
+                self.walk.pass(string.closing + 1);
                 Ok(text)
             }
-            Err(error) => Err(self.refuse(error)),
+            Err(error) => Err(self.walk.refuse(error)),
         }
     }
 }

@@ -5,7 +5,7 @@ use Rattle.smithy_schema.specs.declared.place.Place.{Place}
 use Rattle.smithy_schema.specs.Table.{Table, Kind, kind_of, IsStructure}
 use Rattle.smithy_schema.specs.Value.{Value}
 use Rattle.smithy_schema.specs.Reading.{Mark, Child, child_value, child_null, child_unknown, IsChild, IsLawful, StandsFit, CountsOpeners, IsBelow}
-use Rattle.smithy_schema.specs.Private.Options.{same_some, chosen}
+use Rattle.smithy_schema.specs.Lemmas.Options.{same_some, chosen}
 use Rattle.smithy_wire.specs.Node.{Form, Node, null_node, leaf, container, missing}
 use Rattle.smithy_wire.specs.Rules.{Rules, lift, is_shallow, may_skip}
 use Rattle.smithy_wire.specs.Meaning.{missing_meaning, meaning}

@@ -9,7 +9,7 @@ use Rattle.smithy_schema.specs.Table.{Table, scalar, kind_of, IsStructure}
 use Rattle.smithy_schema.specs.Value.{Value, null_element}
 use Rattle.smithy_schema.specs.Container.{container_of}
 use Rattle.smithy_schema.specs.Reading.{Mark}
-use Rattle.smithy_schema.specs.Private.Options.{chosen}
+use Rattle.smithy_schema.specs.Lemmas.Options.{chosen}
 use Rattle.smithy_wire.specs.Node.{Form, Node, null_node, leaf, container, missing}
 use Rattle.smithy_wire.specs.Rules.{settled, answer_of, Rules, is_shallow, at_depth, key_text, position_in, drops_null, is_absent}
 use Rattle.smithy_wire.specs.Meaning.{leaf_meaning, is_in, missing_meaning, meaning, entries}

@@ -4,7 +4,7 @@ use Rattle.std.specs.Prelude.{◌≡◌, ℕ, ◌+◌, ◌<◌, ◌≤◌, lengt
 use Rattle.std.proofs.Common.{sym, ◌∙◌, ap, arith, subst, length-drop, length-append, append_assoc}
 use Rattle.std.proofs.Math.Seq.{drop-append_seam}
 use Rattle.std.proofs.lemmas.List.{drop-drop}
-use Rattle.smithy_json.specs.Ascii.{quotation_mark, value_separator, name_separator, end_object, is_ws}
+use Rattle.smithy_json.specs.Ascii.{quotation_mark, value_separator, name_separator, end_array, end_object, is_ws}
 use Rattle.smithy_json.specs.Tree.{Json}
 use Rattle.smithy_json.specs.Grammar.{IsWs, IsValue}
 use Rattle.smithy_json_codec.specs.Standing.{IsFront, Lies, TreeLies, IsByte, IsSeparated, IsName, Names, without_ws}
@@ -156,3 +156,28 @@ fills s h = rw h.is (omega arith)
 -- a value ends past its start
 pub tree_ahead : (d : ℕ) (x : Json) (i : List ℕ) (a e : ℕ) → TreeLies d x i a e → a < e
 tree_ahead d x i a e h = ends_ahead (IsValue x) i a e h.0 (fills h.0.2.1 (value_begins x h.0.2.1 h.0.2.4))
+
+-- ---- an empty input, and an element or an end
+
+-- no byte stands in an empty input
+pub no_byte : (x : ℕ) (i : List ℕ) (a e : ℕ) → i ≡ [] → Lies (IsByte x) i a e → ⊥
+no_byte x i a e empty h = omega (arith, ap length empty, byte_ahead x i a e h, h.1)
+
+-- and no name
+pub no_names : (i : List ℕ) (m : Bool) (b : ℕ) (raw : List ℕ) (c : ℕ) → i ≡ [] → Names m i b raw c → ⊥
+no_names i m b raw c empty h = omega (arith, ap length empty, names_ahead i m b raw c h, h.2.1)
+
+-- where another element is due, no array ends
+pub element_or_end : (i : List ℕ) (entered : Bool) (b c e : ℕ) → IsSeparated entered i b c → ((f : ℕ) → Lies (IsByte end_array) i c f → ⊥)
+    → Lies (IsByte end_array) i b e → ⊥
+element_or_end i false b c e h none close = none e (subst (λ x. Lies (IsByte end_array) i x e) (sym h) close)
+element_or_end i true b c e h none close =
+    let same : ◌≡◌ {A = ℕ} value_separator end_array = (same_byte i b c e value_separator end_array refl refl h close).0 in omega arith
+
+-- no value begins as an array ends
+pub no_end : (i : List ℕ) (x : Json) (c f : ℕ) → Lies (IsValue x) i c f → (e : ℕ) → Lies (IsByte end_array) i c e → ⊥
+no_end i x c f h e k =
+    let begin = value_first x (drop c i) (drop f i) h.2 in
+    let no : begins_value (first (end_array ∷ drop e i)) ≡ true =
+    sym (ap (λ t. begins_value (first t)) (past_byte end_array (drop c i) (drop e i) refl k.2)) ∙ begin in
+    cc

@@ -10,7 +10,7 @@ use Rattle.smithy_json_codec.specs.declared.places.InList.TheVariants.{Element, 
 use Rattle.smithy_json_codec.specs.declared.places.InObject.{InObject}
 use Rattle.smithy_json_codec.specs.declared.places.InObject.TheVariants.{Member, End as EndOfObject}
 use Rattle.smithy_json_codec.specs.declared.places.Name.{Name}
-use Rattle.smithy_json_codec.specs.Meaning.{long_of}
+use Rattle.smithy_json_codec.specs.Scalar.{a_number, long_of}
 use Rattle.smithy_json_codec.specs.Standing.{Lies, IsByte, IsSeparated, Names, TreeLies, FollowsInside}
 
 -- at `start` stands the first byte from `at` on that is no white space
@@ -56,4 +56,4 @@ GoesOnInObject input at entered depth None =
 pub record LongLies (input : List ℕ) (at : ℕ) (n : ℤ) (e : ℕ) : Type 0 where
   pub raw : List ℕ
   pub lies : TreeLies 1 (number raw) input at e
-  pub means : long_of raw ≡ Some (whole n)
+  pub means : long_of (a_number raw) ≡ Some (whole n)

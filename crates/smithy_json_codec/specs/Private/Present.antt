@@ -1,5 +1,5 @@
 -- What comes in an object behind the members that are null, as private functions answer it.
-use Rattle.std.specs.Prelude.{◌≡◌, ◌⊎◌, ℕ, List, drop, Bool, Some, None}
+use Rattle.std.specs.Prelude.{◌≡◌, ◌⊎◌, ℕ, zero, suc, List, drop, Bool, true, Some, None}
 use Rattle.std.specs.Cow.{cow_str_bytes}
 use Rattle.smithy_json.specs.Ascii.{end_object}
 use Rattle.smithy_json.specs.Tree.{null}
@@ -8,8 +8,30 @@ use Rattle.smithy_json_codec.specs.declared.members.Next.{Next}
 use Rattle.smithy_json_codec.specs.declared.members.Next.TheVariants.{Member, End}
 use Rattle.smithy_json_codec.specs.declared.members.Entry.{Entry}
 use Rattle.smithy_json_codec.specs.declared.members.Entry.TheVariants.{Dropped, Kept}
-use Rattle.smithy_json_codec.specs.Standing.{Names, Drops, TreeLies, StepsInStructure, ClosesStructure, HasText, FollowsInside}
+use Rattle.smithy_json_codec.specs.Standing.{Lies, IsByte, Names, TreeLies, FollowsInside}
 use Rattle.smithy_json_codec.specs.Private.GoingOn.{ClosesBy}
+
+-- the raw text has a text
+abbrev pub HasText : List ℕ → Type 0
+HasText raw = (text : List ℕ) × (unescaped raw ≡ Some text)
+
+-- from b to c so many members come that are null, and are dropped
+abbrev pub Drops : ℕ → List ℕ → ℕ → Bool → ℕ → Bool → Type 0
+Drops zero input b entered c after = (b ≡ c) × (entered ≡ after)
+Drops (suc count) input b entered c after =
+    (raw : List ℕ) × (d e : ℕ) × Names entered input b raw d × TreeLies 1 null input d e
+    × Drops count input e true c after × HasText raw
+
+-- members that are null, and then one with this name whose value isn't null
+abbrev pub StepsInStructure : List ℕ → ℕ → Bool → List ℕ → ℕ → Type 0
+StepsInStructure input b entered raw c =
+    (count : ℕ) × (d : ℕ) × (after : Bool) × Drops count input b entered d after × Names after input d raw c
+    × ((e : ℕ) → TreeLies 1 null input c e → ⊥)
+
+-- members that are null, and then the closing bracket
+abbrev pub ClosesStructure : List ℕ → ℕ → Bool → ℕ → Type 0
+ClosesStructure input b entered e =
+    (count : ℕ) × (d : ℕ) × (after : Bool) × Drops count input b entered d after × Lies (IsByte end_object) input d e
 
 -- from at to e lies a member that is null
 pub record DropsTo (input : List ℕ) (at : ℕ) (entered : Bool) (e : ℕ) : Type 0 where

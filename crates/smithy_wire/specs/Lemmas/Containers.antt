@@ -6,7 +6,7 @@ use Rattle.smithy_schema.specs.Table.{Table, Kind, scalar, structure_of, list_of
 use Rattle.smithy_schema.specs.Value.{Value, structure, no_member_values}
 use Rattle.smithy_schema.specs.Container.{Entry, folded, container_of}
 use Rattle.smithy_schema.specs.Reading.{Mark, Child, child_value, child_null, child_unknown, entry_of, IsChild, Chain, Contains, IsContainer}
-use Rattle.smithy_schema.specs.Private.Options.{same_some, step_apart, chosen}
+use Rattle.smithy_schema.specs.Lemmas.Options.{same_some, step_apart, chosen}
 use Rattle.smithy_wire.specs.Node.{Form, as_object, Node, null_node, leaf, container, missing, Nodes, no_nodes, node, is_null}
 use Rattle.smithy_wire.specs.Rules.{Rules, is_shallow, key_text, position_in, is_absent}
 use Rattle.smithy_wire.specs.Meaning.{is_in, missing_meaning, entry_at, meaning, entries}

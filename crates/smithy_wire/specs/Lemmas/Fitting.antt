@@ -7,10 +7,10 @@ use Rattle.smithy_schema.specs.Value.{Value, list, structure, values_of, MemberV
 use Rattle.smithy_schema.specs.Container.{folded, element_of, member_step, members_from, container_of}
 use Rattle.smithy_schema.specs.Fits.{AscendFrom, ElementsFit, MembersFit, Fits}
 use Rattle.smithy_schema.specs.Reading.{Mark}
-use Rattle.smithy_schema.specs.Private.Options.{same_some, step_apart, chosen, made}
-use Rattle.smithy_schema.specs.Private.MemberFolds.{entry_with}
-use Rattle.smithy_schema.specs.Private.Fitting.{one_more_fits, element_fits, entry_fits}
-use Rattle.smithy_schema.specs.Private.Ascending.{folded_ascend}
+use Rattle.smithy_schema.specs.Lemmas.Options.{same_some, step_apart, chosen, made}
+use Rattle.smithy_schema.specs.Lemmas.MemberFolds.{entry_with}
+use Rattle.smithy_schema.specs.Lemmas.Fitting.{one_more_fits, element_fits, entry_fits}
+use Rattle.smithy_schema.specs.Lemmas.Ascending.{folded_ascend}
 use Rattle.smithy_wire.specs.Node.{Form, Node, null_node, leaf, container, missing, Nodes, no_nodes, node, is_null}
 use Rattle.smithy_wire.specs.Rules.{Rules, is_shallow, may_skip, key_text, position_in, is_absent}
 use Rattle.smithy_wire.specs.Meaning.{leaf_meaning, is_in, missing_meaning, entry_at, meaning, entries}

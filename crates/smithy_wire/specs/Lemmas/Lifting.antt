@@ -8,7 +8,7 @@ use Rattle.smithy_schema.specs.Table.{Table, Kind, scalar, structure_of, list_of
 use Rattle.smithy_schema.specs.Value.{null_element}
 use Rattle.smithy_schema.specs.Container.{Entry, folded, container_of}
 use Rattle.smithy_schema.specs.Reading.{Mark, IsBelow}
-use Rattle.smithy_schema.specs.Private.Options.{chosen}
+use Rattle.smithy_schema.specs.Lemmas.Options.{chosen}
 use Rattle.smithy_wire.specs.Node.{Form, Node, null_node, leaf, container, missing, Nodes, no_nodes, node, nesting, all_pass, is_null}
 use Rattle.smithy_wire.specs.Rules.{Answer, means, no_meaning, wide, uncarried, settled, Rules, lift, is_shallow, may_skip, key_text, position_in, is_absent}
 use Rattle.smithy_wire.specs.Meaning.{leaf_meaning, is_in, missing_meaning, entry_at, meaning, entries}

@@ -1,4 +1,4 @@
-use Rattle.std.proofs.Common.{◌≡◌, length, refl, rules, sym, ap, subst, ◌∙◌, Err}
+use Rattle.std.proofs.Common.{refl, sym, ap, subst, ◌∙◌, Err}
 use Rattle.std.specs.Result.{IfOk}
 use Rattle.smithy_schema.specs.declared.error.SerdeError.TheVariants.{TooDeep}
 use Rattle.smithy_schema.specs.Site.{site_of}
@@ -6,7 +6,7 @@ use Rattle.smithy_schema.specs.Reading.{CannotGoOn, MatchStep, passed_to}
 use Rattle.smithy_json_codec.specs.Cursor.{cursor_of, reading_settings_of}
 use Rattle.smithy_json_codec.specs.Settings.{without_limits}
 use Rattle.smithy_json_codec.specs.Standing.{json_relations}
-use Rattle.smithy_json_codec.proofs.DeserializerLemmas.{held_depth, error_of, skips_not, skips_never, skips_same, skips_here}
+use Rattle.smithy_json_codec.proofs.DeserializerLemmas.{error_of, skips_not, skips_never, skips_same, skips_here}
 use Rattle.smithy_json_codec.proofs.SteeringLemmas.{stays_undue, invalid_refused}
 use Rattle.smithy_json_codec.specs.Deepest.{OpensTooDeep}
 use Rattle.smithy_json_codec.proofs.OpenWalkLemmas.{reader_reaches}
@@ -24,49 +24,41 @@ returns-then-not-self-clause-would c =
 
 pub returns-in-Ok-clause-unread : goal.returns-in-Ok-clause-unread
 returns-in-Ok-clause-unread c = λ due e skips.
-    let open_now : c.len.result ≡ length c.args.self.now.outer.items = search rules in
-    let same = skips_same (reading_settings_of c.args.self.now) (cursor_of c.args.self.now) c.len.result _ (open_now ∙ held_depth c.args.self.now) c.in-Ok.end e c.in-Ok.ensures.ok skips in
+    let same = skips_same (reading_settings_of c.args.self.now) (cursor_of c.args.self.now) c.depth.result _ c.depth.ensures c.in-Ok.end e c.in-Ok.ensures.ok skips in
     subst (λ e. IfOk c.step_from-in-Ok.result (λ step. MatchStep step (json_relations (reading_settings_of c.args.self.now)) (passed_to (cursor_of c.args.self.now) e) (cursor_of c.step_from-in-Ok.new.self) (site_of c.args.schema.now))) same
     c.step_from-in-Ok.ensures.ok
 
 pub returns-in-Ok-clause-unread_refused : goal.returns-in-Ok-clause-unread_refused
 returns-in-Ok-clause-unread_refused c = λ refused due e skips.
-    let open_now : c.len.result ≡ length c.args.self.now.outer.items = search rules in
-    let same = skips_same (reading_settings_of c.args.self.now) (cursor_of c.args.self.now) c.len.result _ (open_now ∙ held_depth c.args.self.now) c.in-Ok.end e c.in-Ok.ensures.ok skips in
+    let same = skips_same (reading_settings_of c.args.self.now) (cursor_of c.args.self.now) c.depth.result _ c.depth.ensures c.in-Ok.end e c.in-Ok.ensures.ok skips in
     subst (λ e. CannotGoOn (json_relations (reading_settings_of c.args.self.now)) (passed_to (cursor_of c.args.self.now) e) c.args.schema.now.shapes.now c.args.schema.now.place) same
     (c.step_from-in-Ok.ensures.refused refused (reading_settings_of c.args.self.now))
 
 pub returns-in-Ok-clause-unread_would : goal.returns-in-Ok-clause-unread_would
 returns-in-Ok-clause-unread_would c = λ strict invalid due e skips.
-    let open_now : c.len.result ≡ length c.args.self.now.outer.items = search rules in
-    let same = skips_same (without_limits (reading_settings_of c.args.self.now)) (cursor_of c.args.self.now) c.len.result _ (open_now ∙ held_depth c.args.self.now) c.in-Ok.end e c.in-Ok.ensures.ok skips in
+    let same = skips_same (without_limits (reading_settings_of c.args.self.now)) (cursor_of c.args.self.now) c.depth.result _ c.depth.ensures c.in-Ok.end e c.in-Ok.ensures.ok skips in
     subst (λ e. CannotGoOn (json_relations (without_limits (reading_settings_of c.args.self.now))) (passed_to (cursor_of c.args.self.now) e) c.args.schema.now.shapes.now c.args.schema.now.place) same
     (c.step_from-in-Ok.ensures.refused (invalid_refused c.step_from-in-Ok.result invalid) (without_limits (reading_settings_of c.args.self.now)))
 
 pub returns-in-Ok-clause-unskipped : goal.returns-in-Ok-clause-unskipped
 returns-in-Ok-clause-unskipped c = λ due none.
-    let open_now : c.len.result ≡ length c.args.self.now.outer.items = search rules in
-    absurd (none c.in-Ok.end (skips_here (reading_settings_of c.args.self.now) (cursor_of c.args.self.now) c.len.result (open_now ∙ held_depth c.args.self.now) refl c.in-Ok.end c.in-Ok.ensures.ok))
+    absurd (none c.in-Ok.end (skips_here (reading_settings_of c.args.self.now) (cursor_of c.args.self.now) c.depth.result c.depth.ensures refl c.in-Ok.end c.in-Ok.ensures.ok))
 
 pub returns-in-Err-clause-unread_refused : goal.returns-in-Err-clause-unread_refused
 returns-in-Err-clause-unread_refused c = λ refused due e skips.
-    let open_now : c.len.result ≡ length c.args.self.now.outer.items = search rules in
-    absurd (skips_not (reading_settings_of c.args.self.now) (cursor_of c.args.self.now) c.len.result (open_now ∙ held_depth c.args.self.now) refl c.in-Err.ensures.refused e skips)
+    absurd (skips_not (reading_settings_of c.args.self.now) (cursor_of c.args.self.now) c.depth.result c.depth.ensures refl c.in-Err.ensures.refused e skips)
 
 pub returns-in-Err-clause-unread_would : goal.returns-in-Err-clause-unread_would
 returns-in-Err-clause-unread_would c = λ strict invalid due e skips.
-    let open_now : c.len.result ≡ length c.args.self.now.outer.items = search rules in
-    absurd (skips_never (reading_settings_of c.args.self.now) (cursor_of c.args.self.now) c.len.result (open_now ∙ held_depth c.args.self.now)
+    absurd (skips_never (reading_settings_of c.args.self.now) (cursor_of c.args.self.now) c.depth.result c.depth.ensures
     (c.in-Err.ensures.would (rw c.refuse-in-Err.ensures.error at invalid)) e skips)
 
 pub returns-in-Err-clause-deep : goal.returns-in-Err-clause-deep
 returns-in-Err-clause-deep c = λ deep.
-    let open_now : c.len.result ≡ length c.args.self.now.outer.items = search rules in
-    reader_reaches (reading_settings_of c.args.self.now) (cursor_of c.args.self.now) c.len.result c.args.self.now.max_depth (open_now ∙ held_depth c.args.self.now)
+    reader_reaches (reading_settings_of c.args.self.now) (cursor_of c.args.self.now) c.depth.result c.args.self.now.walk.max_depth c.depth.ensures
     (c.in-Err.ensures.deep (ap Err (sym c.refuse-in-Err.ensures.error ∙ error_of c.refuse-in-Err.result TooDeep deep)))
 
 pub returns-in-Err-clause-too_deep : goal.returns-in-Err-clause-too_deep
 returns-in-Err-clause-too_deep c = λ deep.
-    let open_now : c.len.result ≡ length c.args.self.now.outer.items = search rules in
-    subst (λ n. OpensTooDeep c.args.self.now.max_depth n c.args.self.now.input.now c.args.self.now.position) (open_now ∙ held_depth c.args.self.now)
+    subst (λ n. OpensTooDeep c.args.self.now.walk.max_depth n c.args.self.now.walk.input.now c.args.self.now.walk.position) c.depth.ensures
     (c.in-Err.ensures.too_deep (ap Err (sym c.refuse-in-Err.ensures.error ∙ error_of c.refuse-in-Err.result TooDeep deep)))

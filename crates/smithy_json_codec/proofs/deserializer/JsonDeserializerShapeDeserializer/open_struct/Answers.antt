@@ -13,21 +13,21 @@ returns-then-is_empty-clause-deep c =
 
 pub returns-in-Some-clause-deep : goal.returns-in-Some-clause-deep
 returns-in-Some-clause-deep c =
-    let same : c.ready.new.self ≡ c.args.self.now = c.in_ok-ready.ensures.ok in
+    let same : c.ready.new.self ≡ c.args.self.now.walk = c.in_ok-ready.ensures.ok in
     λ deep none. none c.in-Some.inside fresh_mark
-    (opens_structure (reading_settings_of c.args.self.now) c.args.self.now.input.now c.args._schema.now.shapes.now c.args._schema.now.place c.requires.place (depth (cursor_of c.args.self.now)) c.args.self.now.position c.in-Some.inside (rw same at c.in-Some.ensures.found))
+    (opens_structure (reading_settings_of c.args.self.now) c.args.self.now.walk.input.now c.args._schema.now.shapes.now c.args._schema.now.place c.requires.place (depth (cursor_of c.args.self.now)) c.args.self.now.walk.position c.in-Some.inside (rw same at c.in-Some.ensures.found))
 
 pub returns-in-None-clause-refused : goal.returns-in-None-clause-refused
 returns-in-None-clause-refused c =
-    let same : c.ready.new.self ≡ c.args.self.now = c.in_ok-ready.ensures.ok in
-    λ fault due allows. opens_no_structure (reading_settings_of c.args.self.now) c.args.self.now.input.now c.args._schema.now.shapes.now c.args._schema.now.place c.requires.place (depth (cursor_of c.args.self.now)) c.args.self.now.position (rw same at c.in-None.ensures.none) (λ empty at. not_empty c.args.self.now.input.now (search rules) empty)
+    let same : c.ready.new.self ≡ c.args.self.now.walk = c.in_ok-ready.ensures.ok in
+    λ fault due allows. opens_no_structure (reading_settings_of c.args.self.now) c.args.self.now.walk.input.now c.args._schema.now.shapes.now c.args._schema.now.place c.requires.place (depth (cursor_of c.args.self.now)) c.args.self.now.walk.position (rw same at c.in-None.ensures.none) (λ empty at. not_empty c.args.self.now.walk.input.now (search rules) empty)
 
 pub returns-in-None-clause-would : goal.returns-in-None-clause-would
 returns-in-None-clause-would c =
-    let same : c.ready.new.self ≡ c.args.self.now = c.in_ok-ready.ensures.ok in
-    λ strict fault due. opens_no_structure (without_limits (reading_settings_of c.args.self.now)) c.args.self.now.input.now c.args._schema.now.shapes.now c.args._schema.now.place c.requires.place (depth (cursor_of c.args.self.now)) c.args.self.now.position (rw same at c.in-None.ensures.none) (λ empty at. not_empty c.args.self.now.input.now (search rules) empty)
+    let same : c.ready.new.self ≡ c.args.self.now.walk = c.in_ok-ready.ensures.ok in
+    λ strict fault due. opens_no_structure (without_limits (reading_settings_of c.args.self.now)) c.args.self.now.walk.input.now c.args._schema.now.shapes.now c.args._schema.now.place c.requires.place (depth (cursor_of c.args.self.now)) c.args.self.now.walk.position (rw same at c.in-None.ensures.none) (λ empty at. not_empty c.args.self.now.walk.input.now (search rules) empty)
 
 pub returns-in-None-clause-invalid : goal.returns-in-None-clause-invalid
 returns-in-None-clause-invalid c =
-    let same : c.ready.new.self ≡ c.args.self.now = c.in_ok-ready.ensures.ok in
-    λ fault due. opens_no_structure (reading_settings_of c.args.self.now) c.args.self.now.input.now c.args._schema.now.shapes.now c.args._schema.now.place c.requires.place (depth (cursor_of c.args.self.now)) c.args.self.now.position (rw same at c.in-None.ensures.none) (λ empty at. not_empty c.args.self.now.input.now (search rules) empty)
+    let same : c.ready.new.self ≡ c.args.self.now.walk = c.in_ok-ready.ensures.ok in
+    λ fault due. opens_no_structure (reading_settings_of c.args.self.now) c.args.self.now.walk.input.now c.args._schema.now.shapes.now c.args._schema.now.place c.requires.place (depth (cursor_of c.args.self.now)) c.args.self.now.walk.position (rw same at c.in-None.ensures.none) (λ empty at. not_empty c.args.self.now.walk.input.now (search rules) empty)

@@ -1,47 +1,44 @@
-use Rattle.std.proofs.Common.{◌≡◌, false, length, refl, rules, sym, ap, subst, ◌∙◌, Err}
+use Rattle.std.proofs.Common.{◌≡◌, false, refl, rules, sym, ap, subst, ◌∙◌, Err}
 use Rattle.smithy_schema.specs.declared.error.SerdeError.TheVariants.{TooDeep}
 use Rattle.smithy_json_codec.specs.Cursor.{cursor_of, reading_settings_of}
-use Rattle.smithy_json_codec.proofs.DeserializerLemmas.{held_depth, error_of, skips_here, skips_not, skips_never, refusal_conducts}
+use Rattle.smithy_json_codec.proofs.DeserializerLemmas.{error_of, skips_here, skips_not, skips_never, refusal_conducts}
 use Rattle.smithy_json_codec.specs.Deepest.{OpensTooDeep}
 use Rattle.smithy_json_codec.proofs.OpenWalkLemmas.{reader_reaches}
+use Rattle.smithy_wire.specs.Walking.{cursor_of as walk_cursor}
 use Rattle.smithy_json_codec.proofs.deserializer.JsonDeserializerShapeDeserializer.skip_value.Goals as goal
 
 pub returns-in-Ok-clause-ok : goal.returns-in-Ok-clause-ok
 returns-in-Ok-clause-ok c =
-    let same : c.ready.new.self ≡ c.args.self.now = c.in_ok-ready.ensures.ok in
-    let open_now : c.len.result ≡ length c.args.self.now.outer.items = search rules in
+    let same : c.ready.new.self ≡ c.args.self.now.walk = c.in_ok-ready.ensures.ok in
     let at : c.pass.new.self.position ≡ c.in-Ok.end = ap (λ x. x.at) c.pass.ensures.passed in
-    rw at (skips_here (reading_settings_of c.args.self.now) (cursor_of c.args.self.now) c.len.result (open_now ∙ held_depth c.args.self.now) refl c.in-Ok.end (rw same at c.in-Ok.ensures.ok))
+    rw at (skips_here (reading_settings_of c.args.self.now) (cursor_of c.args.self.now) c.depth.result (rw same at c.depth.ensures) refl c.in-Ok.end (rw same at c.in-Ok.ensures.ok))
 
 pub returns-in-Err-clause-conduct : goal.returns-in-Err-clause-conduct
 returns-in-Err-clause-conduct c =
-    let same : c.ready.new.self ≡ c.args.self.now = c.in_ok-ready.ensures.ok in
-    let sound : c.args.self.now.failed ≡ false = search rules in
-    refusal_conducts (cursor_of c.args.self.now) (cursor_of c.refuse.new.self) c.refuse.result c.in-Err.error c.refuse.ensures.error sound (search rules) (search rules) (search rules) (rw same at c.refuse.ensures.stays)
+    let same : c.ready.new.self ≡ c.args.self.now.walk = c.in_ok-ready.ensures.ok in
+    let sound : c.args.self.now.walk.failed ≡ false = search rules in
+    refusal_conducts (cursor_of c.args.self.now) (walk_cursor c.refuse.new.self) c.refuse.result c.in-Err.error c.refuse.ensures.error sound (search rules) (search rules) (search rules) (rw same at c.refuse.ensures.stays)
 
 pub returns-in-Err-clause-refused : goal.returns-in-Err-clause-refused
 returns-in-Err-clause-refused c =
-    let same : c.ready.new.self ≡ c.args.self.now = c.in_ok-ready.ensures.ok in
-    let open_now : c.len.result ≡ length c.args.self.now.outer.items = search rules in
-    λ fault due. skips_not (reading_settings_of c.args.self.now) (cursor_of c.args.self.now) c.len.result (open_now ∙ held_depth c.args.self.now) refl (rw same at c.in-Err.ensures.refused)
+    let same : c.ready.new.self ≡ c.args.self.now.walk = c.in_ok-ready.ensures.ok in
+    λ fault due. skips_not (reading_settings_of c.args.self.now) (cursor_of c.args.self.now) c.depth.result (rw same at c.depth.ensures) refl (rw same at c.in-Err.ensures.refused)
 
 pub returns-in-Err-clause-would : goal.returns-in-Err-clause-would
 returns-in-Err-clause-would c =
-    let same : c.ready.new.self ≡ c.args.self.now = c.in_ok-ready.ensures.ok in
-    let open_now : c.len.result ≡ length c.args.self.now.outer.items = search rules in
-    λ invalid due. skips_never (reading_settings_of c.args.self.now) (cursor_of c.args.self.now) c.len.result (open_now ∙ held_depth c.args.self.now)
+    let same : c.ready.new.self ≡ c.args.self.now.walk = c.in_ok-ready.ensures.ok in
+    λ invalid due. skips_never (reading_settings_of c.args.self.now) (cursor_of c.args.self.now) c.depth.result (rw same at c.depth.ensures)
     (rw same at (c.in-Err.ensures.would (rw c.refuse.ensures.error at invalid)))
 
 pub returns-in-Err-clause-deep : goal.returns-in-Err-clause-deep
 returns-in-Err-clause-deep c = λ deep.
-    let same : c.ready.new.self ≡ c.args.self.now = c.in_ok-ready.ensures.ok in
-    let open_now : c.len.result ≡ length c.args.self.now.outer.items = search rules in
-    reader_reaches (reading_settings_of c.args.self.now) (cursor_of c.args.self.now) c.len.result c.args.self.now.max_depth (open_now ∙ held_depth c.args.self.now)
+    let same : c.ready.new.self ≡ c.args.self.now.walk = c.in_ok-ready.ensures.ok in
+    reader_reaches (reading_settings_of c.args.self.now) (cursor_of c.args.self.now) c.depth.result c.args.self.now.walk.max_depth (rw same at c.depth.ensures)
     (rw same at (c.in-Err.ensures.deep (ap Err (sym c.refuse.ensures.error ∙ error_of c.refuse.result TooDeep deep))))
 
 pub returns-in-Err-clause-too_deep : goal.returns-in-Err-clause-too_deep
 returns-in-Err-clause-too_deep c = λ deep.
-    let same : c.ready.new.self ≡ c.args.self.now = c.in_ok-ready.ensures.ok in
-    let open_now : c.len.result ≡ length c.args.self.now.outer.items = search rules in
-    subst (λ n. OpensTooDeep c.args.self.now.max_depth n c.args.self.now.input.now c.args.self.now.position) (open_now ∙ held_depth c.args.self.now)
+    let same : c.ready.new.self ≡ c.args.self.now.walk = c.in_ok-ready.ensures.ok in
+    let held = rw same at c.depth.ensures in
+    subst (λ n. OpensTooDeep c.args.self.now.walk.max_depth n c.args.self.now.walk.input.now c.args.self.now.walk.position) held
     (rw same at (c.in-Err.ensures.too_deep (ap Err (sym c.refuse.ensures.error ∙ error_of c.refuse.result TooDeep deep))))

@@ -1,0 +1,37 @@
+-- The scalars of JSON, and what they say as each kind.
+use Rattle.std.specs.Prelude.{ℕ, List, ℤ, Bool, Option, Some, None, option_map, option_and_then, if◌then◌else◌}
+use Rattle.smithy_schema.specs.declared.shape_type.Scalar.{Scalar}
+use Rattle.smithy_schema.specs.declared.shape_type.Scalar.TheVariants as scalars
+use Rattle.smithy_schema.specs.declared.shape_type.TimestampFormat.{TimestampFormat}
+use Rattle.smithy_schema.specs.Value.{Value, whole, text}
+use Rattle.smithy_json.specs.Tree.{Json, boolean, number, string}
+use Rattle.smithy_json.specs.Number.{whole_number, is_long}
+use Rattle.smithy_json.specs.Unescape.{unescaped}
+use Rattle.smithy_wire.specs.Rules.{Answer, answer_of}
+
+-- a boolean, the text of a number, what stands between the quotation marks of a string or a name
+pub data JsonScalar : Type 0 where
+  a_boolean : Bool → JsonScalar
+  a_number : List ℕ → JsonScalar
+  a_string : List ℕ → JsonScalar
+
+abbrev pub tree_of : JsonScalar → Json
+tree_of (a_boolean b) = boolean b
+tree_of (a_number raw) = number raw
+tree_of (a_string raw) = string raw
+
+-- a number without fraction and exponent that fits 64 bits
+abbrev pub long_of : JsonScalar → Option Value
+long_of (a_number raw) =
+    option_and_then (λ (z : ℤ). if is_long z then Some (whole z) else None) (whole_number raw)
+long_of _ = None
+
+-- the text of a string
+abbrev pub text_of : JsonScalar → Option (List ℕ)
+text_of (a_string raw) = unescaped raw
+text_of _ = None
+
+-- what a scalar is as one kind
+abbrev pub says : Scalar → Option TimestampFormat → JsonScalar → Answer Value
+says scalars.Long time x = answer_of (long_of x)
+says scalars.String time x = answer_of (option_map text (text_of x))
