@@ -140,44 +140,90 @@ fn years_past_9999_are_seconds_alone(rt: HostRuntime) -> Result<(), Fail> {
     Ok(())
 }
 
-const FRONTS: [(Format, &str, i128, &str); 5] = [
-    (Format::EpochSeconds, "1.5,2", 1_500_000_000, "2"),
-    (Format::EpochSeconds, "-1", -1_000_000_000, ""),
-    (
-        Format::DateTime,
-        "1970-01-01T00:00:00.25Z,",
-        250_000_000,
-        "",
-    ),
-    (
-        Format::DateTimeWithOffset,
-        "1970-01-01T00:01:00+00:01,a,b",
-        0,
-        "a,b",
-    ),
-    (
-        Format::HttpDate,
-        "Thu, 01 Jan 1970 00:00:01 GMT, Thu",
-        1_000_000_000,
-        " Thu",
-    ),
+#[derive(Clone, Copy)]
+struct Front {
+    format: Format,
+    text: &'static str,
+    delim: char,
+    // The instant's nanoseconds and how many bytes are left, and nothing where the text is refused.
+    read: Option<(i128, usize)>,
+}
+
+const FRONTS: [Front; 10] = [
+    Front {
+        format: Format::EpochSeconds,
+        text: "1.5,2",
+        delim: ',',
+        read: Some((1_500_000_000, 1)),
+    },
+    Front {
+        format: Format::EpochSeconds,
+        text: "-1",
+        delim: ',',
+        read: Some((-1_000_000_000, 0)),
+    },
+    Front {
+        format: Format::EpochSeconds,
+        text: "1→2",
+        delim: '→',
+        read: Some((1_000_000_000, 1)),
+    },
+    Front {
+        format: Format::DateTime,
+        text: "1970-01-01T00:00:00.25Z,",
+        delim: ',',
+        read: Some((250_000_000, 0)),
+    },
+    Front {
+        format: Format::DateTimeWithOffset,
+        text: "1970-01-01T00:01:00+00:01,a,b",
+        delim: ',',
+        read: Some((0, 3)),
+    },
+    Front {
+        format: Format::HttpDate,
+        text: "Thu, 01 Jan 1970 00:00:01 GMT, Thu",
+        delim: ',',
+        read: Some((1_000_000_000, 4)),
+    },
+    Front {
+        format: Format::DateTime,
+        text: "1970-01-01T00:00:00Zx",
+        delim: ',',
+        read: None,
+    },
+    Front {
+        format: Format::DateTime,
+        text: "1970-01-01T00:00:00",
+        delim: ',',
+        read: None,
+    },
+    Front {
+        format: Format::EpochSeconds,
+        text: ",1",
+        delim: ',',
+        read: None,
+    },
+    Front {
+        format: Format::HttpDate,
+        text: "→",
+        delim: '→',
+        read: None,
+    },
 ];
 
+fn read_front(row: &Front) -> Option<(i128, usize)> {
+    match DateTime::read(row.text, row.format, row.delim) {
+        Ok((instant, rest)) => Some((instant.as_nanos(), rest.len())),
+        Err(_) => None,
+    }
+}
+
 #[test]
-fn a_front_is_read_up_to_the_delimiter(rt: HostRuntime) -> Result<(), Fail> {
-    for (format, text, nanos, left) in &FRONTS {
-        let (instant, rest) = DateTime::read(text, *format, ',')?;
-        assert_eq!(rt; instant.as_nanos(), *nanos, "{text}");
-        assert_eq!(rt; rest, *left);
+fn a_front_is_read_up_to_the_delimiter(rt: HostRuntime) {
+    for row in &FRONTS {
+        assert!(rt; read_front(row) == row.read, "{}", row.text);
     }
-    let (instant, rest) = DateTime::read("1→2", Format::EpochSeconds, '→')?;
-    assert!(rt; instant == DateTime::from_secs(1));
-    assert_eq!(rt; rest, "2");
-    for text in ["1970-01-01T00:00:00Zx", "1970-01-01T00:00:00", ",", "→"] {
-        let read = DateTime::read(text, Format::DateTime, ',');
-        assert!(rt; read.is_err(), "{text}");
-    }
-    Ok(())
 }
 
 #[test]
