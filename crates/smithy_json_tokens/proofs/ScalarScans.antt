@@ -134,7 +134,7 @@ number_front raw h =
     front_of raw h.minus h.int (h.frac ++ h.exp) h.parts h.is_minus h.is_int (passes_both false h.frac h.exp (frac_pass h.frac h.is_frac) (exp_pass h.exp h.is_exp))
 
 -- which scan such a byte leads to
-number_scan : (b : ℕ) (rest : List ℕ) → (b ≡ minus_sign) ⊎ IsAsciiDigit b → scan_value (b ∷ rest) ≡ scan_number b rest
+pub number_scan : (b : ℕ) (rest : List ℕ) → (b ≡ minus_sign) ⊎ IsAsciiDigit b → scan_value (b ∷ rest) ≡ scan_number b rest
 number_scan b rest (inl h) = rw h refl
 number_scan b rest (inr h) =
     let digit : is_ascii_digit b ≡ true = grind (arith, nat_tests) in

@@ -1,7 +1,9 @@
 -- What comes behind blanks.
-use Rattle.std.proofs.Common.{◌≡◌, ◌+◌, ◌-◌, ◌≤◌, ◌<◌, ℕ, List, [], ◌∷◌, length, drop, get_or, refl, sym, ap, ◌∙◌, arith, subst, reverse, ◌++◌, Result, Ok, Err, IfOk, OnOk}
+use Rattle.std.proofs.Common.{◌≡◌, ◌+◌, ◌-◌, ◌≤◌, ◌<◌, ℕ, List, [], ◌∷◌, length, drop, get_or, refl, sym, ap, ◌∙◌, arith, subst, reverse, ◌++◌, Result, Ok, Err, IfOk, OnOk, cond, false, slice_index}
 use Rattle.std.proofs.lemmas.List.{drop-drop, length-drop, drop_more, get_or-drop, reverse-append}
+use Rattle.std.proofs.lemmas.Bool.Decides.{nat_tests}
 use Rattle.std.proofs.lemmas.List.Sums.{prefix_len_is}
+use Rattle.std.specs.List.{prefix_len}
 use Rattle.smithy_json.specs.Ascii.{is_ws}
 use Rattle.smithy_json.specs.Standing.{IsRunAt}
 use Rattle.smithy_json_tokens.specs.declared.token_turn.State.{State}
@@ -65,3 +67,15 @@ if_ok (Err e) x X P h k f = tt
 pub on_ok : {A E : Type 0} (r : Result A E) (X Y : Type 0) → OnOk r X → (X → Y) → OnOk r Y
 on_ok (Ok y) X Y k f = f k
 on_ok (Err e) X Y k f = tt
+
+-- ---- where no blank comes
+
+no_blank : (b : ℕ) → 32 < b → is_ws b ≡ false
+no_blank b h = grind (arith, nat_tests)
+
+pub stays : (input : List ℕ) (at : ℕ) → at < length input → 32 < slice_index input at → drop at input ≡ skip_ws (drop at input)
+stays input at within high =
+    let front = drop_more input at 0 within in
+    let none : prefix_len is_ws (slice_index input at ∷ drop (at + 1) input) ≡ 0 =
+    ap (λ w. cond w (1 + prefix_len is_ws (drop (at + 1) input)) 0) (no_blank (slice_index input at) high) in
+    sym (ap (λ n. drop n (drop at input)) (ap (prefix_len is_ws) front ∙ none))

@@ -1,9 +1,10 @@
 //! The token of a run of a number's bytes.
 
-ghost use Rattle.std.specs.Prelude.{◌≡◌, ◌≢◌, ◌<◌, length, slice_index, option_map, IfSome, IsUtf8};
+ghost use Rattle.std.specs.Prelude.{◌≡◌, ◌≢◌, ◌<◌, length, slice_index, option_map, IfSome, IsUtf8, unsigned_abs, if◌then◌else◌};
 ghost use Rattle.std.specs.Char.{IsAsciiDigit};
 ghost use Rattle.smithy_json.specs.Ascii.{minus_sign};
-ghost use Rattle.smithy_types.specs.declared.number.Number.TheVariants.{NegInt};
+ghost use Rattle.smithy_types.specs.declared.number.Number.TheVariants.{NegInt, PosInt};
+ghost use Rattle.smithy_json_tokens.specs.Tokens.{value_number};
 ghost use Rattle.smithy_json_tokens.specs.Number.{number_of};
 ghost use Rattle.smithy_json_tokens.specs.TokenRules.{run_token};
 ghost use Rattle.smithy_json_tokens.specs.TokenView.{token_view, token_offset};
@@ -52,6 +53,29 @@ fn natural_number(text: &str) -> Option<Number>
     match text.parse::<u64>() {
         Ok(value) => Some(Number::PosInt(value)),
         Err(_) => None,
+    }
+}
+
+fn pos_int(value: i64) -> Number
+    ensures { result ≡ PosInt (unsigned_abs value) }
+{
+    Number::PosInt(value.unsigned_abs())
+}
+
+/// The token at the offset of a whole number that is written with a minus, or without one.
+#[inline(always)]
+pub(crate) fn whole_token<'a>(with_minus: bool, value: i64, at: usize) -> Token<'a>
+    ensures token { token_view result ≡ value_number (if with_minus then NegInt value else PosInt (unsigned_abs value)) }
+    ensures offset { token_offset result ≡ at }
+{
+    let value = if with_minus {
+        neg_int(value)
+    } else {
+        pos_int(value)
+    };
+    Token::ValueNumber {
+        offset: Offset(at),
+        value,
     }
 }
 

@@ -23,6 +23,7 @@ pub struct JsonTokenIterator<'a> {
 }
 
 // Into a container, behind which this state comes.
+#[inline(always)]
 fn enter(outer: &mut Vec<State>, after: State) -> Result<(), DeserializeError>
     ensures ok { OnOk result (reverse (vec_items outer.new) ≡ after ∷ reverse (vec_items outer.old)) }
     ensures err { IfErr result (λ e. e.kind ≡ NoMemory) }
@@ -37,6 +38,7 @@ fn enter(outer: &mut Vec<State>, after: State) -> Result<(), DeserializeError>
 }
 
 // Back into the container around.
+#[inline(always)]
 fn leave(outer: &mut Vec<State>) -> State
     ensures { (left : List ℕ) → leave (reverse (vec_items outer.old)) left ≡ record { state = result; outer = reverse (vec_items outer.new); left = left } }
 {
@@ -47,6 +49,7 @@ fn leave(outer: &mut Vec<State>) -> State
 }
 
 // The state behind a token, where `after` is the one behind the value or the key that it is of.
+#[inline(always)]
 fn state_behind<'a>(
     outer: &mut Vec<State>,
     token: Token<'a>,
@@ -100,6 +103,7 @@ impl<'a> JsonTokenIterator<'a> {
     }
 
     // Behind the token of a turn.
+    #[inline(always)]
     fn advance(&mut self, turn: Turn<'a>) -> Result<Token<'a>, DeserializeError>
         requires end { turn.scanned.end ≤ length (input_of self.old) }
         ensures input { input_of self.new ≡ input_of self.old }
@@ -114,6 +118,7 @@ impl<'a> JsonTokenIterator<'a> {
     }
 
     // The item that comes at the offset, behind blanks.
+    #[inline(always)]
     fn item_at(&mut self, at: usize) -> Result<Token<'a>, DeserializeError>
         requires within { at ≤ length (input_of self.old) }
         requires due { self.old.state ≡ Initial → at ≢ length (input_of self.old) }

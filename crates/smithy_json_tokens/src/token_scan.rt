@@ -8,9 +8,10 @@ ghost use Rattle.smithy_json_tokens.specs.TokenView.{token_view, token_offset};
 ghost use Rattle.smithy_json_tokens.specs.Private.Scans.{ScansAt, text_scan_of, AreTextPlaces, BeginsNumber};
 
 use crate::error::{DeserializeError, DeserializeErrorKind};
-use crate::run_token::run_token;
+use crate::run_token::{run_token, whole_token};
 use crate::token::{Offset, Token};
 use smithy_json::EscapedStr;
+use smithy_json::number_text::read_long;
 use smithy_json::string_text::plain_end;
 use std::str;
 
@@ -30,6 +31,7 @@ pub(crate) fn error_at(kind: DeserializeErrorKind, at: usize) -> DeserializeErro
     }
 }
 
+#[inline(always)]
 fn is_boundary_byte(byte: u8) -> bool
     ensures { result ≡ is_boundary_byte byte }
 {
@@ -37,6 +39,7 @@ fn is_boundary_byte(byte: u8) -> bool
 }
 
 // The token that ends at the offset, where a value may end there.
+#[inline(always)]
 fn at_boundary<'a>(
     input: &'a [u8],
     token: Token<'a>,
@@ -73,6 +76,7 @@ fn scan_literal<'a>(
     at_boundary(input, token, at + literal.len())
 }
 
+#[inline(always)]
 fn is_e(byte: u8) -> bool
     ensures { result ≡ is_e byte }
 {
@@ -80,6 +84,7 @@ fn is_e(byte: u8) -> bool
 }
 
 // Whether the byte is of a number, and no `e`. A sign may be one where it is due.
+#[inline(always)]
 fn is_piece(sign: bool, byte: u8) -> bool
     ensures { result ≡ is_piece sign byte }
 {
@@ -118,6 +123,7 @@ fn text_end(input: &[u8], at: usize) -> usize
 }
 
 // The text of the string that begins at the offset, and its end.
+#[inline(always)]
 fn scan_text<'a>(input: &'a [u8], at: usize) -> Result<(&'a str, usize), DeserializeError>
     requires within { at < length input.now }
     ensures value { (t : List ℕ → JsonToken) → text_scan_of t input.now result ≡ scan_string t (drop at input.now) (drop (at + 1) input.now) }
@@ -138,6 +144,7 @@ fn scan_text<'a>(input: &'a [u8], at: usize) -> Result<(&'a str, usize), Deseria
 }
 
 // The string value at the offset.
+#[inline(always)]
 fn scan_string_value<'a>(input: &'a [u8], at: usize) -> Result<Scanned<'a>, DeserializeError>
     requires within { at < length input.now }
     ensures { ScansAt input.now at result (scan_string value_string (drop at input.now) (drop (at + 1) input.now)) }
@@ -153,6 +160,7 @@ fn scan_string_value<'a>(input: &'a [u8], at: usize) -> Result<Scanned<'a>, Dese
 }
 
 // The name at the offset.
+#[inline(always)]
 fn scan_name<'a>(input: &'a [u8], at: usize) -> Result<Scanned<'a>, DeserializeError>
     requires within { at < length input.now }
     ensures { ScansAt input.now at result (scan_string object_key (drop at input.now) (drop (at + 1) input.now)) }
@@ -168,7 +176,21 @@ fn scan_name<'a>(input: &'a [u8], at: usize) -> Result<Scanned<'a>, DeserializeE
 }
 
 // The number at the offset, which begins with a minus or a digit.
+#[inline(always)]
 fn scan_number<'a>(input: &'a [u8], at: usize) -> Result<Scanned<'a>, DeserializeError>
+    requires within { at < length input.now }
+    requires begins { BeginsNumber (slice_index input.now at) }
+    ensures { ScansAt input.now at result (scan_number (slice_index input.now at) (drop (at + 1) input.now)) }
+{
+    if let Some((value, end)) = read_long(input, at) {
+        let token = whole_token(input[at] == b'-', value, at);
+        return Ok(Scanned { token, end });
+    }
+    scan_run(input, at)
+}
+
+// The same, of any form.
+fn scan_run<'a>(input: &'a [u8], at: usize) -> Result<Scanned<'a>, DeserializeError>
     requires within { at < length input.now }
     requires begins { BeginsNumber (slice_index input.now at) }
     ensures { ScansAt input.now at result (scan_number (slice_index input.now at) (drop (at + 1) input.now)) }
@@ -181,6 +203,7 @@ fn scan_number<'a>(input: &'a [u8], at: usize) -> Result<Scanned<'a>, Deserializ
 }
 
 /// The first token of the value at the offset.
+#[inline(always)]
 pub(crate) fn scan_value<'a>(input: &'a [u8], at: usize) -> Result<Scanned<'a>, DeserializeError>
     requires within { at ≤ length input.now }
     ensures { ScansAt input.now at result (scan_value (drop at input.now)) }
@@ -192,6 +215,7 @@ pub(crate) fn scan_value<'a>(input: &'a [u8], at: usize) -> Result<Scanned<'a>, 
 }
 
 // The same, where this byte stands at the offset.
+#[inline(always)]
 fn scan_value_by<'a>(input: &'a [u8], at: usize, first: u8) -> Result<Scanned<'a>, DeserializeError>
     requires within { at < length input.now }
     requires first { slice_index input.now at ≡ first }
@@ -238,6 +262,7 @@ fn scan_value_by<'a>(input: &'a [u8], at: usize, first: u8) -> Result<Scanned<'a
 }
 
 /// The name of the member at the offset.
+#[inline(always)]
 pub(crate) fn scan_key<'a>(input: &'a [u8], at: usize) -> Result<Scanned<'a>, DeserializeError>
     requires within { at ≤ length input.now }
     ensures { ScansAt input.now at result (scan_key (drop at input.now)) }

@@ -38,15 +38,21 @@ pub(crate) struct Turn<'a> {
 }
 
 // Where the blanks end that come at the offset.
+#[inline(always)]
 pub(crate) fn past_blanks(input: &[u8], at: usize) -> usize
     requires within { at ≤ length input.now }
     ensures value { drop result input.now ≡ skip_ws (drop at input.now) }
     ensures ordered { at ≤ result }
     ensures bound { result ≤ length input.now }
 {
+    // Mostly none come.
+    if at < input.len() && input[at] > b' ' {
+        return at;
+    }
     skip_blanks(input, at)
 }
 
+#[inline(always)]
 fn value_turn<'a>(input: &'a [u8], at: usize, after: State) -> Result<Turn<'a>, DeserializeError>
     requires within { at ≤ length input.now }
     ensures { TurnsTo input.now at result (value_turn after (drop at input.now)) }
@@ -55,6 +61,7 @@ fn value_turn<'a>(input: &'a [u8], at: usize, after: State) -> Result<Turn<'a>, 
     Ok(Turn { scanned, after })
 }
 
+#[inline(always)]
 fn key_turn<'a>(input: &'a [u8], at: usize) -> Result<Turn<'a>, DeserializeError>
     requires within { at ≤ length input.now }
     ensures { TurnsTo input.now at result (key_turn (drop at input.now)) }
@@ -67,6 +74,7 @@ fn key_turn<'a>(input: &'a [u8], at: usize) -> Result<Turn<'a>, DeserializeError
 }
 
 // The end of a container, whose byte stands at the token's offset.
+#[inline(always)]
 fn end_turn<'a>(input: &'a [u8], token: Token<'a>) -> Turn<'a>
     requires within { token_offset token < length input.now }
     ensures { TurnsTo input.now (token_offset token.entry) (Ok result) (end_turn (token_view token.entry) (slice_index input.now (token_offset token.entry)) (drop (token_offset token.entry + 1) input.now)) }
@@ -85,6 +93,7 @@ fn unexpected(byte: u8, at: usize) -> DeserializeError
 }
 
 // The first value of an array, or its end.
+#[inline(always)]
 fn first_value_turn<'a>(input: &'a [u8], at: usize) -> Result<Turn<'a>, DeserializeError>
     requires within { at < length input.now }
     ensures { TurnsTo input.now at result (state_turn ArrayFirstValueOrEnd (drop at input.now)) }
@@ -95,6 +104,7 @@ fn first_value_turn<'a>(input: &'a [u8], at: usize) -> Result<Turn<'a>, Deserial
     value_turn(input, at, State::ArrayNextValueOrEnd)
 }
 
+#[inline(always)]
 fn next_value_turn<'a>(input: &'a [u8], at: usize) -> Result<Turn<'a>, DeserializeError>
     requires within { at < length input.now }
     ensures { TurnsTo input.now at result (state_turn ArrayNextValueOrEnd (drop at input.now)) }
@@ -112,6 +122,7 @@ fn next_value_turn<'a>(input: &'a [u8], at: usize) -> Result<Turn<'a>, Deseriali
     )
 }
 
+#[inline(always)]
 fn first_key_turn<'a>(input: &'a [u8], at: usize) -> Result<Turn<'a>, DeserializeError>
     requires within { at < length input.now }
     ensures { TurnsTo input.now at result (state_turn ObjectFirstKeyOrEnd (drop at input.now)) }
@@ -122,6 +133,7 @@ fn first_key_turn<'a>(input: &'a [u8], at: usize) -> Result<Turn<'a>, Deserializ
     key_turn(input, at)
 }
 
+#[inline(always)]
 fn next_key_turn<'a>(input: &'a [u8], at: usize) -> Result<Turn<'a>, DeserializeError>
     requires within { at < length input.now }
     ensures { TurnsTo input.now at result (state_turn ObjectNextKeyOrEnd (drop at input.now)) }
@@ -135,6 +147,7 @@ fn next_key_turn<'a>(input: &'a [u8], at: usize) -> Result<Turn<'a>, Deserialize
     key_turn(input, past_blanks(input, at + 1))
 }
 
+#[inline(always)]
 fn field_value_turn<'a>(input: &'a [u8], at: usize) -> Result<Turn<'a>, DeserializeError>
     requires within { at < length input.now }
     ensures { TurnsTo input.now at result (state_turn ObjectFieldValue (drop at input.now)) }
@@ -146,6 +159,7 @@ fn field_value_turn<'a>(input: &'a [u8], at: usize) -> Result<Turn<'a>, Deserial
 }
 
 /// What comes at the offset by the state.
+#[inline(always)]
 pub(crate) fn state_turn<'a>(
     input: &'a [u8],
     at: usize,

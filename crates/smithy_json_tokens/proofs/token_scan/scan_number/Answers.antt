@@ -1,27 +1,20 @@
-use Rattle.std.proofs.Common.{◌∙◌, ap, sym, subst, drop, arith}
-use Rattle.smithy_json_tokens.specs.TokenRules.{at_run, failed}
-use Rattle.smithy_json_tokens.specs.Private.Scans.{AreScanPlaces}
-use Rattle.smithy_json_tokens.specs.TokenView.{left_from, IsPlace}
-use Rattle.smithy_json_tokens.proofs.RunLemmas.{run_utf8, scan_number-run}
+use Rattle.std.proofs.Common.{◌==◌, slice_index, drop, w64, to_z-of_z, ap, sym, ◌∙◌}
+use Rattle.smithy_json.specs.Ascii.{minus_sign}
+use Rattle.smithy_json.proofs.LongLemmas.{long_fits}
+use Rattle.smithy_json_tokens.specs.Tokens.{value_number}
+use Rattle.smithy_json_tokens.specs.TokenRules.{scanned}
+use Rattle.smithy_json_tokens.proofs.LongScans.{held, long_some, long_scans}
 use Rattle.smithy_json_tokens.proofs.token_scan.scan_number.Goals as goal
 
-pub run_token-requires-clause-ascii : goal.run_token-requires-clause-ascii
-run_token-requires-clause-ascii c = run_utf8 c.args.input.now c.args.at c.number_end-end.result c.requires.within c.number_end-end.ensures.value c.requires.begins
-
+-- a whole number of 64 bits
 pub returns-in-Some : goal.returns-in-Some
 returns-in-Some c =
     let input = c.args.input.now in
-    let end = c.number_end-end.result in
-    let run = scan_number-run input c.args.at end c.requires.within c.number_end-end.ensures.value in (
-      c.at_boundary.ensures.0 ∙ ap (at_run (drop c.args.at input) (drop end input)) c.in-Some.ensures.token ∙ sym run,
-      subst (λ at. AreScanPlaces input at c.at_boundary.result) c.in-Some.ensures.offset c.at_boundary.ensures.1,
-    )
-
-pub returns-in-None : goal.returns-in-None
-returns-in-None c =
-    let input = c.args.input.now in
-    let end = c.number_end-end.result in
-    let run = scan_number-run input c.args.at end c.requires.within c.number_end-end.ensures.value in (
-      ap (λ e. failed e.kind (left_from input e.offset)) c.error_at.ensures ∙ ap (at_run (drop c.args.at input) (drop end input)) c.in-None.ensures.token ∙ sym run,
-      subst (λ e. IsPlace input e.offset) (sym c.error_at.ensures) (omega (arith, c.requires.within)),
+    let end = c.in-Some.end in
+    let is = c.in-Some.ensures.found in
+    let with_minus = slice_index input c.args.at == minus_sign in
+    let same = to_z-of_z (long_fits c.in-Some.value is.fits) in (
+      ap (λ t. scanned t (drop end input)) (c.whole_token-token.ensures.token ∙ ap (λ n. value_number (held with_minus n)) same)
+          ∙ sym (long_scans input c.args.at end c.in-Some.value is c.requires.within c.requires.begins),
+      (c.whole_token-token.ensures.offset, long_some input c.args.at end c.in-Some.value is c.requires.within, is.number.within),
     )
