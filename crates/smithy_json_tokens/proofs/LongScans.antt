@@ -1,16 +1,16 @@
 -- A whole number of 64 bits that stands at an offset is scanned as its token.
-use Rattle.std.proofs.Common.{◌≡◌, ◌+◌, ◌-◌, ◌<◌, ◌≤◌, ℕ, suc, List, [], ◌∷◌, ◌++◌, length, take, drop, slice_range, slice_index, Bool, true, false, cond, ◌==◌, Option, Some, None, option_map, option_and_then, ℤ, pos, negsuc, neg_ℤ, unsigned_abs, refl, sym, ap, ◌∙◌, arith, subst}
+use Rattle.std.proofs.Common.{◌≡◌, ◌+◌, ◌-◌, ◌<◌, ℕ, suc, List, ◌∷◌, ◌++◌, length, drop, slice_range, slice_index, Bool, true, cond, ◌==◌, Some, None, option_and_then, ℤ, pos, negsuc, unsigned_abs, sym, ap, ◌∙◌, arith}
 use Rattle.std.proofs.lemmas.Bool.Decides.{nat_tests}
 use Rattle.std.proofs.lemmas.List.{drop_more, length-drop, length-take-le}
 use Rattle.std.specs.Option.{option_map_or}
 use Rattle.smithy_json.specs.Ascii.{minus_sign}
-use Rattle.smithy_json.specs.Number.{whole_number, is_long}
-use Rattle.smithy_json.specs.Standing.{StandsAt, IsLongAt}
+use Rattle.smithy_json.specs.Number.{is_long}
+use Rattle.smithy_json.specs.Standing.{IsLongAt}
 use Rattle.smithy_json.proofs.SliceLemmas.{drop-slice}
 use Rattle.smithy_types.specs.declared.number.Number.{Number}
 use Rattle.smithy_types.specs.declared.number.Number.TheVariants.{PosInt, NegInt}
 use Rattle.smithy_json_tokens.specs.Number.{can_be_held, begins_with_minus, held_as, number_of}
-use Rattle.smithy_json_tokens.specs.Tokens.{JsonToken, value_number, value_uncarried, number_token}
+use Rattle.smithy_json_tokens.specs.Tokens.{value_number, value_uncarried, number_token}
 use Rattle.smithy_json_tokens.specs.TokenRules.{scanned, scan_value, scan_number}
 use Rattle.smithy_json_tokens.specs.Private.Scans.{BeginsNumber}
 use Rattle.smithy_json_tokens.proofs.DecimalLemmas.{number_is_decimal}

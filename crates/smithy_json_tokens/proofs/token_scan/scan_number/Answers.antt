@@ -1,4 +1,4 @@
-use Rattle.std.proofs.Common.{◌==◌, slice_index, drop, w64, to_z-of_z, ap, sym, ◌∙◌}
+use Rattle.std.proofs.Common.{◌==◌, slice_index, drop, to_z-of_z, ap, sym, ◌∙◌}
 use Rattle.smithy_json.specs.Ascii.{minus_sign}
 use Rattle.smithy_json.proofs.LongLemmas.{long_fits}
 use Rattle.smithy_json_tokens.specs.Tokens.{value_number}
