@@ -24,7 +24,7 @@ pub use expect::{
 pub use expect_blob::expect_blob_or_null;
 pub use expect_number_text::expect_number_as_string_or_null;
 pub use expect_text::expect_timestamp_or_null;
-pub use skip::{skip_to_end, skip_value};
+pub use skip::{IsToken, Skip, skip_to_end, skip_value};
 pub use token::{Offset, Token};
 pub use token_iter::JsonTokenIterator;
 pub use tokens_of::json_token_iter;

@@ -15,7 +15,7 @@ use std::borrow::CowStr;
 /// How many containers that began in a call may be open.
 const MAX_SKIP_DEPTH: usize = 512;
 
-// What a token is for a value that is passed.
+/// What a token is for a value that is passed.
 #[derive(Clone, Copy)]
 pub enum Skip {
     /// It goes on, with so many containers open.
@@ -153,7 +153,10 @@ fn skip_from<T: IsToken, I: Iterator<Item = Result<T, DeserializeError>>>(
     Err(wrong(None))
 }
 
-/// Passes one value.
+/// Passes one value. The caller's condition is that the iterator ends.
+///
+/// `Custom` comes where the first token begins no value, where the tokens end too early, and where 513
+/// containers would be open. Brackets and braces aren't told apart.
 pub fn skip_value<T: IsToken, I: Iterator<Item = Result<T, DeserializeError>>>(
     tokens: &mut I,
 ) -> Result<(), DeserializeError>
@@ -164,7 +167,8 @@ pub fn skip_value<T: IsToken, I: Iterator<Item = Result<T, DeserializeError>>>(
     skip_from(tokens, MAX_SKIP_DEPTH, 0)
 }
 
-/// Passes all up to and with the end of the container that was open before.
+/// Passes all up to and with the end of the container that was open before. The caller's condition is that
+/// the iterator ends. At most 512 containers that begin in the call may be open.
 pub fn skip_to_end<T: IsToken, I: Iterator<Item = Result<T, DeserializeError>>>(
     tokens: &mut I,
 ) -> Result<(), DeserializeError>
