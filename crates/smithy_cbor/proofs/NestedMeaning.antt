@@ -7,7 +7,7 @@ use Rattle.smithy_schema.specs.declared.shape_type.Scalar.TheVariants as scalars
 use Rattle.smithy_schema.specs.Table.{Table, Kind, scalar, structure_of, list_of, nothing, kind_of, place_in}
 use Rattle.smithy_schema.specs.Value.{Value, whole, text, nesting}
 use Rattle.smithy_schema.specs.Container.{Entry, container_of}
-use Rattle.smithy_schema.specs.Private.Options.{same_some}
+use Rattle.smithy_schema.specs.Lemmas.Options.{same_some}
 use Rattle.smithy_schema.proofs.NestingLemmas.{NestWithin, container_nests}
 use Rattle.cbor_item.specs.Item.{Item, unsigned, negative, byte_string, text_string, array, map, tag, simple, float, Items, no_items, item, Pairs, no_pairs, pair}
 use Rattle.smithy_cbor.specs.Settings.{Settings, Limits, kept, lifted, is_within, is_shallow}
