@@ -1,26 +1,46 @@
 -- What a reader finds at a place, as the contract of reading says it.
-use Rattle.std.proofs.Common.{◌≡◌, ◌≤◌, ◌⊎◌, inl, inr, ℕ, ℤ, length, List, [], ◌∷◌, true, false, Option, Result, Ok, Err, refl, sym, ap, ◌∙◌, arith}
-use Rattle.std.specs.Prelude.{reverse}
-use Rattle.std.proofs.lemmas.List.{length-map, length-reverse}
+use Rattle.std.proofs.Common.{◌≡◌, ◌≤◌, ◌<◌, ◌⊎◌, inl, inr, ℕ, suc, ℤ, length, List, [], ◌∷◌, true, false, Option, None, Result, Ok, Err, refl, sym, ap, ◌∙◌, arith, subst}
+use Rattle.std.specs.Result.{OnOk}
+use Rattle.std.proofs.lemmas.Bool.Decides.{nat_tests}
 use Rattle.smithy_schema.specs.declared.error.SerdeError.{SerdeError}
 use Rattle.smithy_schema.specs.declared.error.SerdeError.TheVariants.{InvalidInput, Unwritable, Failed, NoMemory}
 use Rattle.smithy_schema.specs.declared.place.Place.{Place}
 use Rattle.smithy_schema.specs.declared.shape_type.TimestampFormat.{TimestampFormat}
 use Rattle.smithy_schema.specs.declared.shape_type.Scalar.TheVariants as scalars
 use Rattle.smithy_schema.specs.Table.{Table, kind_of, scalar_place, IsList, IsStructure}
-use Rattle.smithy_schema.specs.Reading.{Cursor, depth, Mark, Frame, Conducts, StandsNot, OpensNot, SkipsNot, CannotGoOn, IsFault}
-use Rattle.smithy_cbor.specs.declared.deserializer.CborDeserializer.{CborDeserializer}
-use Rattle.smithy_cbor.specs.declared.deserializer.Frame.{Frame as Held}
-use Rattle.smithy_cbor.specs.declared.deserializer.Frame.TheVariants as held
-use Rattle.smithy_cbor.specs.Cursor.{cursor_of, frame_of, due_in}
-use Rattle.smithy_cbor.specs.Settings.{Settings}
-use Rattle.smithy_cbor.specs.Standing.{Follows, HasEntry, IsOver, mark_with, end_mark, cbor_relations}
+use Rattle.smithy_schema.specs.Value.{whole, text}
+use Rattle.smithy_schema.specs.Reading.{Cursor, Frame, depth, passed_to, Mark, Passes, Reads, Enters, Steps, Leaves, Conducts, StandsNot, OpensNot, SkipsNot, CannotGoOn, IsFault, in_list}
+use Rattle.smithy_cbor.specs.Cursor.{inside_of}
+use Rattle.smithy_cbor.specs.Settings.{Settings, Limits, kept, lifted, is_within}
+use Rattle.smithy_cbor.specs.Standing.{Follows, FollowsInside, HasEntry, IsOver, mark_with, end_mark, cbor_relations}
 use Rattle.smithy_cbor.specs.Private.AtPlace.{IsLongAt, HasTextAt, SkipsTo}
+use Rattle.smithy_cbor.specs.Private.Entries.{same_over, entry_or_over}
 use Rattle.smithy_cbor.specs.Private.ItemPlaces.{item_ahead, one_item}
 use Rattle.smithy_cbor.proofs.EntryLemmas.{entry_by_due, over_by_due}
-use Rattle.smithy_cbor.proofs.ReaderLemmas.{opens_empty, no_list_step, no_list_close, stands_long, stands_text}
+use Rattle.smithy_cbor.proofs.ReaderLemmas.{opens_empty, steps_in_list, closes_list, list_is_stuck, long_stands, stands_long, text_stands, stands_text}
+use Rattle.smithy_cbor.proofs.SkippedItems.{skips_are}
+use Rattle.smithy_wire.specs.Walking.{entered_into, gone_on_to}
+
+-- the value that is due was passed
+pub passes : (old new : Cursor) (e : ℕ) → old.failed ≡ false → new ≡ passed_to old e → Passes old new
+passes old new e sound is = rw is (record { input = refl; inner = refl; outer = refl; due = refl; failed = sound })
 
 -- ---- numbers and texts
+
+module _ (o : Settings) (old new : Cursor) (t : Table) (time : Option TimestampFormat) (held : ℕ) (same : held ≡ depth old) (e : ℕ) (sound : old.failed ≡ false) (is : new ≡ passed_to old e) where
+  -- an integer of 64 bits was read
+  pub long_reads : (n m : ℤ) → m ≡ n → IsLongAt n old.input old.at held e → Reads (cbor_relations o) old new t (scalar_place scalars.Long time) (whole m)
+  long_reads n m number h = record {
+    stands = rw (is, number) (long_stands o old.input t (scalar_place scalars.Long time) (depth old) old.at refl n e (rw same at h));
+    passes = passes old new e sound is;
+  }
+
+  -- a text was read
+  pub text_reads : (s : List ℕ) → HasTextAt s old.input old.at e → Follows held old.input e → Reads (cbor_relations o) old new t (scalar_place scalars.String time) (text s)
+  text_reads s h follows = record {
+    stands = rw is (text_stands o old.input t (scalar_place scalars.String time) (depth old) old.at refl s e h (rw same at follows));
+    passes = passes old new e sound is;
+  }
 
 module _ (o : Settings) (c : Cursor) (t : Table) (time : Option TimestampFormat) (held : ℕ) (same : held ≡ depth c) where
   -- no integer of 64 bits stands there
@@ -46,33 +66,76 @@ no_bytes [] h = refl
 no_bytes (b ∷ bytes) h = absurd (omega (arith, h))
 
 -- an empty input opens a structure
+pub empty_at : (o : Settings) (c : Cursor) (t : Table) (p : Place) → IsStructure (kind_of t p) → length c.input ≡ 0 → c.at ≤ length c.input
+    → (cbor_relations o).opens c.input t p (depth c) c.at 0 end_mark
+empty_at o c t p kind empty within =
+    opens_empty o c.input t p kind (depth c) c.at (no_bytes c.input empty) (omega (arith, empty, within))
+
 pub empty_opens : (o : Settings) (c : Cursor) (t : Table) (p : Place) → IsStructure (kind_of t p) → length c.input ≡ 0 → c.at ≤ length c.input → OpensNot (cbor_relations o) c t p → ⊥
-empty_opens o c t p kind empty within none =
-    let here : c.at ≡ 0 = omega (arith, empty, within) in
-    none 0 end_mark (opens_empty o c.input t p kind (depth c) c.at (no_bytes c.input empty) here)
+empty_opens o c t p kind empty within none = none 0 end_mark (empty_at o c t p kind empty within)
 
-due_is : (f : Held) → (frame_of f).mark.due ≡ due_in f
-due_is held.Outside = refl
-due_is (held.Structure due) = refl
-due_is (held.List due) = refl
-due_is held.EmptyInput = refl
+pub not_empty : (input : List ℕ) → (length input ≡ 0 → ⊥) → input ≡ [] → ⊥
+not_empty input full is = full (ap length is)
 
--- how many entries are due by the mark
-pub mark_is : (old : Cursor) (f : Held) → old.inner ≡ frame_of f → old.inner.mark.due ≡ due_in f
-mark_is old f inner = ap (λ (x : Frame). x.mark.due) inner ∙ due_is f
+shallow_enough : (limits : Limits) (greatest d : ℕ) → limits ≡ kept → d < greatest → is_within limits greatest (suc d) ≡ true
+shallow_enough kept greatest d keeps h = grind (arith, nat_tests)
+shallow_enough lifted greatest d keeps h = cc
 
--- where neither an element comes nor the list is over
-pub no_element : (o : Settings) (c : Cursor) (t : Table) (p : Place) (due : Option ℕ) → IsList (kind_of t p) → c.inner.mark.due ≡ due
-    → ((n : Mark) → HasEntry c.input c.at (mark_with due) n → ⊥) × ((e : ℕ) → IsOver c.input c.at (mark_with due) e → ⊥)
-    → CannotGoOn (cbor_relations o) c t p
-no_element o c t p due kind same none = (
-  no_list_step o c.input t p kind (depth c) c.at c.inner.mark (λ n h. none.0 n (entry_by_due c.input c.at c.inner.mark (mark_with due) n same h)),
-  no_list_close o c.input t p kind (depth c) c.at c.inner.mark (λ e h follows. none.1 e (over_by_due c.input c.at c.inner.mark (mark_with due) e same h)),
-)
+-- a container that opens was entered, if there is memory
+pub enters : {A : Type 0} (o : Settings) (c new : Cursor) (t : Table) (p : Place) (inside : ℕ) (frame held : Frame) (r : Result A SerdeError) → o.limits ≡ kept → c.failed ≡ false
+    → held ≡ frame → OnOk r (new ≡ entered_into c inside held) → OnOk r (depth c < o.max_depth)
+    → (cbor_relations o).opens c.input t p (depth c) c.at inside frame.mark → OnOk r (Enters (cbor_relations o) o.max_depth c new t p frame.within)
+enters o c new t p inside frame held (Ok x) keeps sound same is shallow opens =
+    let entered : new ≡ entered_into c inside frame = is ∙ ap (λ f. entered_into c inside f) same in
+    rw entered (record {
+      shallow = shallow;
+      allowed = shallow_enough o.limits o.max_depth (depth c) keeps shallow;
+      opens = opens;
+      input = refl;
+      within = refl;
+      outer = refl;
+      due = refl;
+      failed = sound;
+    })
+enters o c new t p inside frame held (Err e) keeps sound same is shallow opens = tt
 
--- how many containers are open
-pub held_depth : (d : CborDeserializer) → length d.outer.items ≡ depth (cursor_of d)
-held_depth d = sym (length-map (reverse d.outer.items) frame_of ∙ length-reverse d.outer.items)
+module _ (o : Settings) (c : Cursor) (t : Table) (p : Place) (kind : IsList (kind_of t p)) where
+  -- the list went on to an element
+  pub element_steps : (new : Cursor) (after : Option ℕ) → c.inner.within ≡ in_list → c.failed ≡ false → new ≡ gone_on_to c c.at (inside_of in_list after)
+      → HasEntry c.input c.at (mark_with c.inner.mark.due) (mark_with after) → Steps (cbor_relations o) c new t p None
+  element_steps new after within sound is entry = rw is (record {
+    steps = steps_in_list o c.input t p kind (depth c) c.at c.inner.mark (mark_with after) (entry_by_due c.input c.at (mark_with c.inner.mark.due) c.inner.mark (mark_with after) refl entry);
+    input = refl;
+    within = sym within;
+    outer = refl;
+    due = refl;
+    failed = sound;
+  })
+
+  -- it was left
+  pub list_left : (new : Cursor) (e : ℕ) → new.input ≡ c.input → new.at ≡ e → c.outer ≡ new.inner ∷ new.outer → new.due ≡ false → new.failed ≡ c.failed → c.failed ≡ false
+      → IsOver c.input c.at (mark_with c.inner.mark.due) e → FollowsInside (depth c) c.input e → Leaves (cbor_relations o) c new t p
+  list_left new e input place around undue failed sound over follows = record {
+    closes = rw place (closes_list o c.input t p kind (depth c) c.at c.inner.mark e (over_by_due c.input c.at (mark_with c.inner.mark.due) c.inner.mark e refl over) follows);
+    input = input;
+    outer = around;
+    due = undue;
+    failed = failed ∙ sound;
+  }
+
+  -- neither an element comes nor the end
+  pub list_stuck : ((n : Mark) → HasEntry c.input c.at (mark_with c.inner.mark.due) n → ⊥)
+      → ((e : ℕ) → IsOver c.input c.at (mark_with c.inner.mark.due) e → FollowsInside (depth c) c.input e → ⊥) → CannotGoOn (cbor_relations o) c t p
+  list_stuck none shut =
+      list_is_stuck o c.input t p kind (depth c) c.at c.inner.mark
+      (λ n h. none n (entry_by_due c.input c.at c.inner.mark (mark_with c.inner.mark.due) n refl h))
+      (λ e h follows. shut e (over_by_due c.input c.at c.inner.mark (mark_with c.inner.mark.due) e refl h) follows)
+
+  -- nor where it is over and can't be left
+  pub list_shut : (end held : ℕ) → held ≡ depth c → IsOver c.input c.at (mark_with c.inner.mark.due) end → (FollowsInside held c.input end → ⊥) → CannotGoOn (cbor_relations o) c t p
+  list_shut end held same over shut =
+      list_stuck (λ n entry. entry_or_over c.input c.at (mark_with c.inner.mark.due) n end entry over)
+      (λ e ends follows. shut (rw (same, same_over c.input c.at (mark_with c.inner.mark.due) end e over ends) follows))
 
 -- ---- skipped values
 
@@ -83,15 +146,17 @@ skip_place input at held e h = let ahead = item_ahead h.found input at e h.stand
 module _ (o : Settings) (c : Cursor) (held : ℕ) (same : held ≡ depth c) where
   -- nothing can be skipped
   pub skips_not : ((e : ℕ) → SkipsTo c.input c.at held e → ⊥) → SkipsNot (cbor_relations o) c
-  skips_not none e skips = none e (rw same (record { found = skips.0; stands = skips.1; follows = skips.2 }))
+  skips_not none e skips = none e (rw same ((skips_are o c.input (depth c) c.at e).1 skips))
 
   -- what was skipped is skipped there
   pub skips_here : (e : ℕ) → SkipsTo c.input c.at held e → (cbor_relations o).skips c.input (depth c) c.at e
-  skips_here e h = (h.found, h.stands, rw (← same) h.follows)
+  skips_here e h = (skips_are o c.input (depth c) c.at e).0 (rw same at h)
 
   -- what is skipped ends at one place
   pub skips_same : (end e : ℕ) → SkipsTo c.input c.at held end → (cbor_relations o).skips c.input (depth c) c.at e → end ≡ e
-  skips_same end e h skips = (one_item h.found skips.0 c.input c.at end e h.stands skips.1).1
+  skips_same end e h skips =
+      let s = (skips_are o c.input (depth c) c.at e).1 skips in
+      (one_item h.found s.found c.input c.at end e h.stands s.stands).1
 
 -- ---- refusals
 

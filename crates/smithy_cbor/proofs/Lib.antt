@@ -21,5 +21,6 @@ pub mod LongFacts
 pub mod EntryLemmas
 pub mod PresentLemmas
 pub mod ReaderLemmas
+pub mod SkippedItems
 pub mod DeserializerLemmas
 pub mod SteeringLemmas

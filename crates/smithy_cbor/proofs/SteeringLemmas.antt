@@ -8,48 +8,42 @@ use Rattle.smithy_schema.specs.declared.read.Step.TheVariants.{Member as ToMembe
 use Rattle.smithy_schema.specs.Table.{Table, IsStructure}
 use Rattle.smithy_schema.specs.Site.{Site, kind_at}
 use Rattle.smithy_schema.specs.Reading.{Cursor, Mark, depth, Steps, Leaves, MatchStep, CannotGoOn, passed_to, in_structure, IsInvalid, IsRefused}
-use Rattle.smithy_cbor.specs.declared.deserializer.Frame.TheVariants as held
-use Rattle.smithy_cbor.specs.Cursor.{frame_of, gone_on_to}
+use Rattle.smithy_cbor.specs.Cursor.{inside_of}
 use Rattle.smithy_cbor.specs.Settings.{Settings}
-use Rattle.smithy_cbor.specs.Standing.{cbor_relations, IsOver, Drops, StepsInStructure, ClosesStructure, FollowsInside, mark_with}
-use Rattle.smithy_cbor.specs.Private.Present.{NothingComes}
+use Rattle.smithy_cbor.specs.Standing.{cbor_relations, IsOver, FollowsInside, mark_with}
+use Rattle.smithy_cbor.specs.Private.Present.{Drops, StepsInStructure, ClosesStructure, EntryMissing, NothingComes}
 use Rattle.smithy_cbor.specs.Private.Steering.{EndsEmpty, StepsTo}
 use Rattle.smithy_cbor.specs.Private.ItemBegins.{byte_within}
-use Rattle.smithy_cbor.specs.Private.Entries.{key_ahead, drops_ahead}
-use Rattle.smithy_cbor.proofs.ReaderLemmas.{steps_in_structure, closes_structure, closes_empty, no_structure_step, no_structure_close}
+use Rattle.smithy_cbor.proofs.EntryLemmas.{key_ahead}
+use Rattle.smithy_cbor.proofs.ReaderLemmas.{steps_in_structure, closes_structure, closes_empty, structure_is_stuck}
+use Rattle.smithy_wire.specs.Walking.{gone_on_to}
 
 -- ---- the place of a member's value, and of an end
 
-pub value_place : (i : List ℕ) (b : ℕ) (m : Mark) (text : List ℕ) (c : ℕ) (n : Mark) → StepsInStructure i b m text c n → (b ≤ c) × (c ≤ length i)
-value_place i b m text c n s =
-    let ahead = drops_ahead s.0 i b m s.1 s.2 s.3 in
-    let further = key_ahead i s.1 s.2 text c n s.4 in
-    (omega (arith, ahead.0, further), s.4.1.1.0)
+drops_ahead : (count : ℕ) (i : List ℕ) (depth b : ℕ) (m : Mark) (e : ℕ) (n : Mark) → Drops count i depth b m e n → b ≤ e
+drops_ahead zero i depth b m e n h = omega (arith, h.0)
+drops_ahead (suc count) i depth b m e n (text, c, f, k, key, null, more) =
+    omega (arith, key_ahead i b m text c k key, null.1, drops_ahead count i depth f k e n more)
+
+pub value_place : (i : List ℕ) (depth b : ℕ) (m : Mark) (text : List ℕ) (c : ℕ) (n : Mark) → StepsInStructure i depth b m text c n → (b ≤ c) × (c ≤ length i)
+value_place i depth b m text c n (count, at, k, drops, key, real) =
+    (omega (arith, drops_ahead count i depth b m at k drops, key_ahead i at k text c n key), key.1.1.0)
 
 over_place : (i : List ℕ) (d : ℕ) (m : Mark) (e : ℕ) → d ≤ length i → IsOver i d m e → (d ≤ e) × (e ≤ length i)
 over_place i d m e within (inl (due, end)) = (omega (arith, end), omega (arith, end))
 over_place i d m e within (inr (due, comes, end)) =
     let inside = byte_within _ i d comes in (omega (arith, end), omega (arith, end))
 
-drops_within : (count : ℕ) (i : List ℕ) (b : ℕ) (m : Mark) (d : ℕ) (k : Mark) → b ≤ length i → Drops count i b m d k → d ≤ length i
-drops_within zero i b m d k within h = omega (arith, h.0)
-drops_within (suc count) i b m d k within h =
-    let inside = byte_within _ i h.1 h.4 in
-    drops_within count i (suc h.1) h.2 d k (omega arith) h.5
+drops_within : (count : ℕ) (i : List ℕ) (depth b : ℕ) (m : Mark) (e : ℕ) (n : Mark) → b ≤ length i → Drops count i depth b m e n → e ≤ length i
+drops_within zero i depth b m e n within h = omega (arith, h.0)
+drops_within (suc count) i depth b m e n within (text, c, f, k, key, null, more) =
+    let inside = byte_within _ i c null.0 in
+    drops_within count i depth f k e n (omega (arith, inside, null.1)) more
 
-pub end_place : (i : List ℕ) (b : ℕ) (m : Mark) (e : ℕ) → b ≤ length i → ClosesStructure i b m e → (b ≤ e) × (e ≤ length i)
-end_place i b m e within s =
-    let ahead = drops_ahead s.0 i b m s.1 s.2 s.3 in
-    let end = over_place i s.1 s.2 e (drops_within s.0 i b m s.1 s.2 within s.3) s.4 in
-    (omega (arith, ahead.0, end.0), end.1)
-
--- a container that ends stands in another or outside of all
-pub ends_inside : (d : ℕ) (i : List ℕ) (e : ℕ) → FollowsInside d i e → 0 < d
-ends_inside zero i e h = absurd h
-ends_inside (suc d) i e h = omega arith
-
-pub empty_input : (i : List ℕ) (at : ℕ) → at ≤ length i → i ≡ [] → at ≡ 0
-empty_input i at within empty = omega (arith, within, ap length empty)
+pub end_place : (i : List ℕ) (depth b : ℕ) (m : Mark) (e : ℕ) → b ≤ length i → ClosesStructure i depth b m e → (b ≤ e) × (e ≤ length i)
+end_place i depth b m e within (count, at, k, drops, over) =
+    let end = over_place i at k e (drops_within count i depth b m at k within drops) over in
+    (omega (arith, drops_ahead count i depth b m at k drops, end.0), end.1)
 
 -- nothing is due, so that the cursor is as it is behind what was due
 undue : (c : Cursor) → c.due ≡ false → passed_to c c.at ≡ c
@@ -57,12 +51,12 @@ undue c h = ap (λ (due : Bool). record c { due = due }) (sym h)
 
 -- ---- steps and ends
 
-module _ (o : Settings) (c new : Cursor) (at : ℕ) (outer : Site) (kind : IsStructure (kind_at outer)) (due : Option ℕ) (mark : c.inner.mark.due ≡ due) where
+module _ (o : Settings) (c new : Cursor) (at : ℕ) (outer : Site) (kind : IsStructure (kind_at outer)) where
   member_comes : (value : ℕ) (name : List ℕ) (after : Option ℕ) → c.inner.within ≡ in_structure → c.failed ≡ false
-      → new ≡ gone_on_to c value (frame_of (held.Structure after))
-      → StepsInStructure c.input at (mark_with due) name value (mark_with after) → Steps (cbor_relations o) (passed_to c at) new outer.table outer.place (Some name)
+      → new ≡ gone_on_to c value (inside_of in_structure after)
+      → StepsInStructure c.input (depth c) at (mark_with c.inner.mark.due) name value (mark_with after) → Steps (cbor_relations o) (passed_to c at) new outer.table outer.place (Some name)
   member_comes value name after within sound is s = rw is (record {
-    steps = steps_in_structure o c.input outer.table outer.place kind (depth c) at c.inner.mark due name value (mark_with after) mark s;
+    steps = steps_in_structure o c.input outer.table outer.place kind (depth c) at c.inner.mark name value (mark_with after) s;
     input = refl;
     within = sym within;
     outer = refl;
@@ -71,13 +65,20 @@ module _ (o : Settings) (c new : Cursor) (at : ℕ) (outer : Site) (kind : IsStr
   })
 
   -- the step to a member, or to an unknown entry
-  pub steps_to : (value : ℕ) (name : List ℕ) (after : Option ℕ) (step : Step) → c.inner.within ≡ in_structure → c.failed ≡ false
-      → new ≡ gone_on_to c value (frame_of (held.Structure after))
-      → StepsInStructure c.input at (mark_with due) name value (mark_with after) → StepsTo step outer name → MatchStep step (cbor_relations o) (passed_to c at) new outer
-  steps_to value name after (ToMember s) within sound is steps leads =
-      (name, leads.0, member_comes value name after within sound is steps, leads.1, leads.2)
-  steps_to value name after Unknown within sound is steps leads = (name, member_comes value name after within sound is steps, leads)
-  steps_to value name after End within sound is steps leads = absurd leads
+  pub steps_to : (value : ℕ) (name : List ℕ) (after : Option ℕ) (step : Step) (held : ℕ) → held ≡ depth c → c.inner.within ≡ in_structure → c.failed ≡ false
+      → new ≡ gone_on_to c value (inside_of in_structure after)
+      → StepsInStructure c.input held at (mark_with c.inner.mark.due) name value (mark_with after) → StepsTo step o outer name → MatchStep step (cbor_relations o) (passed_to c at) new outer
+  steps_to value name after step held same within sound is steps leads = go step leads
+    where
+      comes : Steps (cbor_relations o) (passed_to c at) new outer.table outer.place (Some name)
+      comes =
+          member_comes value name after within sound is
+          (subst (λ d. StepsInStructure c.input d at (mark_with c.inner.mark.due) name value (mark_with after)) same steps)
+
+      go : (step : Step) → StepsTo step o outer name → MatchStep step (cbor_relations o) (passed_to c at) new outer
+      go (ToMember s) leads = (name, leads.0, comes, leads.1, leads.2)
+      go Unknown leads = (name, comes, leads)
+      go End leads = absurd leads
 
   -- the structure ends, by its map or in an empty input
   pub leaves_at : (e : ℕ) → (cbor_relations o).closes c.input outer.table outer.place (depth c) at c.inner.mark e
@@ -91,24 +92,19 @@ module _ (o : Settings) (c new : Cursor) (at : ℕ) (outer : Site) (kind : IsStr
     failed = failed ∙ sound;
   }
 
-  pub map_closes : (e held : ℕ) → held ≡ depth c → ClosesStructure c.input at (mark_with due) e × FollowsInside held c.input e
+  pub map_closes : (e held : ℕ) → held ≡ depth c → ClosesStructure c.input held at (mark_with c.inner.mark.due) e × FollowsInside held c.input e
       → (cbor_relations o).closes c.input outer.table outer.place (depth c) at c.inner.mark e
   map_closes e held same h =
-      closes_structure o c.input outer.table outer.place kind (depth c) at c.inner.mark due e mark h.0 (subst (λ d. FollowsInside d c.input e) same h.1)
-
-  pub input_closes : EndsEmpty c → at ≤ length c.input → (cbor_relations o).closes c.input outer.table outer.place (depth c) at c.inner.mark 0
-  input_closes h within =
-      closes_empty o c.input outer.table outer.place kind (depth c) at c.inner.mark h.0 h.1 (empty_input c.input at within h.1) h.2
+      closes_structure o c.input outer.table outer.place kind (depth c) at c.inner.mark e
+      (subst (λ d. ClosesStructure c.input d at (mark_with c.inner.mark.due) e) same h.0) (subst (λ d. FollowsInside d c.input e) same h.1)
 
   -- neither a member nor the end comes
-  pub cannot_step : (held : ℕ) → held ≡ depth c → NothingComes c.input at due held → (EndsEmpty c → ⊥)
+  pub cannot_step : (held : ℕ) → held ≡ depth c → NothingComes c.input at c.inner.mark.due held → (EndsEmpty c → ⊥)
       → CannotGoOn (cbor_relations o) (passed_to c at) outer.table outer.place
-  cannot_step held same h full = (
-    no_structure_step o c.input outer.table outer.place kind (depth c) h.count at c.inner.mark due h.place (mark_with h.after) mark h.drops h.missing.0,
-    no_structure_close o c.input outer.table outer.place kind (depth c) h.count at c.inner.mark due h.place (mark_with h.after) mark h.drops h.missing.0
-        (λ f over follows. h.missing.1 f over (subst (λ d. FollowsInside d c.input f) (sym same) follows))
-        (λ at_end empty follows. full (at_end, empty, follows)),
-  )
+  cannot_step held same h full =
+      structure_is_stuck o c.input outer.table outer.place kind (depth c) h.count at c.inner.mark h.place h.after
+      (subst (λ d. Drops h.count c.input d at (mark_with c.inner.mark.due) h.place (mark_with h.after)) same h.drops)
+      (subst (λ d. EntryMissing c.input h.place h.after d) same h.missing) (λ at_end empty some. full (at_end, empty, some))
 
 -- where nothing was due
 pub stays_undue : (o : Settings) (c : Cursor) (t : Table) (p : Place) → c.due ≡ false

@@ -1,23 +1,24 @@
 -- The laws of reading, for CBOR.
 use Rattle.smithy_schema.specs.Reading.{IsLawful, StandsFit, CountsOpeners, IsBelow}
 use Rattle.smithy_cbor.specs.Settings.{Settings, without_limits}
-use Rattle.smithy_cbor.specs.Standing.{cbor_relations}
-use Rattle.smithy_cbor.specs.Private.Fits.{stands_fits}
-use Rattle.smithy_cbor.specs.Private.Lawful.{cbor_is_lawful, cbor_counts_openers}
-use Rattle.smithy_cbor.specs.Private.Limits.{lifting_keeps}
+use Rattle.smithy_cbor.specs.Meaning.{rules_of}
+use Rattle.smithy_cbor.specs.Standing.{cbor_frames, cbor_relations}
+use Rattle.smithy_cbor.specs.Private.Wire.{cbor_is_wire, cbor_bounds_openers}
+use Rattle.smithy_cbor.specs.Private.Fits.{says_fits}
+use Rattle.smithy_wire.specs.Laws as wire
 
 -- the relations obey their laws, whatever the settings
 pub lawful : (c : Settings) → IsLawful (cbor_relations c)
-lawful c = cbor_is_lawful c
+lawful c = wire.lawful cbor_frames (rules_of c) cbor_is_wire
 
 -- what stands is a value of its place
 pub fit : (c : Settings) → StandsFit (cbor_relations c)
-fit c = record { fits = stands_fits c }
+fit c = wire.stands_fit cbor_frames (rules_of c) (record { says_fits = λ i d x a e lies. says_fits c x })
 
 -- containers are counted
 pub counts : (c : Settings) → CountsOpeners (cbor_relations c)
-counts c = cbor_counts_openers c
+counts c = wire.counts_openers cbor_frames (rules_of c) cbor_bounds_openers
 
 -- what holds within the limits holds without them
 pub above : (c : Settings) → IsBelow (cbor_relations c) (cbor_relations (without_limits c))
-above c = lifting_keeps c
+above c = wire.lifted_is_above cbor_frames (rules_of c)

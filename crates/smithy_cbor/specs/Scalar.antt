@@ -1,9 +1,14 @@
 -- What one item stands for by itself: numbers, texts and simple values (RFC 8949, sections 3.1 and
--- 3.3).
-use Rattle.std.specs.Prelude.{ℕ, ◌^◌, ◌==◌, Bool, true, false, ◌&&◌, List, ℤ, pos, negsuc, neg_ℤ, int_le, int_lt, Option, Some, None, if◌then◌else◌}
+-- 3.3), and what it says as each kind.
+use Rattle.std.specs.Prelude.{ℕ, ◌^◌, Bool, true, false, ◌&&◌, List, ℤ, pos, negsuc, neg_ℤ, int_le, int_lt, Option, Some, None, option_map, option_and_then, if◌then◌else◌}
 use Rattle.std.specs.List.{list_all, concat}
 use Rattle.std.specs.Str.{is_utf8}
+use Rattle.smithy_schema.specs.declared.shape_type.Scalar.{Scalar}
+use Rattle.smithy_schema.specs.declared.shape_type.Scalar.TheVariants as scalars
+use Rattle.smithy_schema.specs.declared.shape_type.TimestampFormat.{TimestampFormat}
+use Rattle.smithy_schema.specs.Value.{Value, whole, text}
 use Rattle.cbor_item.specs.Item.{Item, unsigned, negative, text_string, simple}
+use Rattle.smithy_wire.specs.Rules.{Answer, answer_of}
 
 -- simple values (section 3.3)
 abbrev pub false_value : ℕ
@@ -19,10 +24,6 @@ null_value = 22
 abbrev pub boolean_item : Bool → Item
 boolean_item false = simple false_value
 boolean_item true = simple true_value
-
-abbrev pub is_null : Item → Bool
-is_null (simple n) = n == null_value
-is_null _ = false
 
 -- the number of an integer
 abbrev pub integer_of : Item → Option ℤ
@@ -42,3 +43,12 @@ joined_text chunks = if list_all is_utf8 chunks then Some (concat chunks) else N
 abbrev pub text_of : Item → Option (List ℕ)
 text_of (text_string extent chunks) = joined_text chunks
 text_of _ = None
+
+-- an integer that fits 64 bits
+abbrev pub long_of : Item → Option Value
+long_of x = option_and_then (λ (z : ℤ). if is_long z then Some (whole z) else None) (integer_of x)
+
+-- what an item is as one kind
+abbrev pub says : Scalar → Option TimestampFormat → Item → Answer Value
+says scalars.Long time x = answer_of (long_of x)
+says scalars.String time x = answer_of (option_map text (text_of x))

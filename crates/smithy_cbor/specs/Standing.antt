@@ -1,16 +1,14 @@
--- The relations of reading, for CBOR.
+-- Where CBOR lies in an input: the framing of CBOR, and the relations of reading that follow.
 use Rattle.std.specs.Prelude.{◌≡◌, ◌⊎◌, ◌<◌, ◌+◌, ◌-◌, ◌==◌, ℕ, zero, suc, length, drop, List, [], ◌∷◌, Option, Some, None, Bool, true, false, unwrap_or}
-use Rattle.smithy_schema.specs.declared.place.Place.{Place}
-use Rattle.smithy_schema.specs.Table.{Table, kind_of, IsList, IsStructure}
-use Rattle.smithy_schema.specs.Value.{Value, structure, no_member_values}
 use Rattle.smithy_schema.specs.Reading.{Relations, Mark}
 use Rattle.cbor_item.specs.Item.{Item}
 use Rattle.cbor_item.specs.WellFormed.{IsItemAt, break}
-use Rattle.smithy_cbor.specs.Settings.{Settings, is_shallow}
-use Rattle.smithy_cbor.specs.Scalar.{text_of}
-use Rattle.smithy_cbor.specs.Meaning.{cbor_meaning, position_in}
+use Rattle.smithy_cbor.specs.Settings.{Settings}
+use Rattle.smithy_cbor.specs.Meaning.{node_of, rules_of}
 use Rattle.smithy_cbor.specs.Reading.{OpensAt}
 use Rattle.smithy_cbor.specs.Openers.{cbor_openers}
+use Rattle.smithy_wire.specs.Node.{Form, as_array, as_object, leaf}
+use Rattle.smithy_wire.specs.Frames.{Frames, relations}
 
 -- the initial byte of null (section 3.3)
 abbrev pub null_byte : ℕ
@@ -54,58 +52,33 @@ IsOver input b m e =
     ((m.due ≡ Some 0) × (e ≡ b))
     ⊎ ((m.due ≡ None) × (begins_with break (drop b input) ≡ true) × (e ≡ suc b))
 
--- from b to c stands the key of another entry, a text
-abbrev pub HasKey : List ℕ → ℕ → Mark → List ℕ → ℕ → Mark → Type 0
-HasKey input b m text c n =
-    HasEntry input b m n × ((k : Item) × IsItemAt k input b c × (text_of k ≡ Some text))
+-- the major type of a container (section 3.1)
+abbrev pub major_in : Form → ℕ
+major_in as_array = 4
+major_in as_object = 5
 
--- from b to d so many entries come whose value is null, and are dropped
-abbrev pub Drops : ℕ → List ℕ → ℕ → Mark → ℕ → Mark → Type 0
-Drops zero input b m d n = (b ≡ d) × (m ≡ n)
-Drops (suc count) input b m d n =
-    (text : List ℕ) × (c : ℕ) × (k : Mark) × HasKey input b m text c k
-    × (begins_with null_byte (drop c input) ≡ true) × Drops count input (suc c) k d n
+-- another element, or another pair with its key
+abbrev pub Entry : Form → List ℕ → ℕ → Mark → Option Item → ℕ → Mark → Type 0
+Entry as_array input b m key c n = (key ≡ None) × (c ≡ b) × HasEntry input b m n
+Entry as_object input b m key c n =
+    HasEntry input b m n × ((k : Item) × IsItemAt k input b c × (key ≡ Some k))
 
--- entries whose value is null, and then one with this key whose value isn't
-abbrev pub StepsInStructure : List ℕ → ℕ → Mark → List ℕ → ℕ → Mark → Type 0
-StepsInStructure input b m text c n =
-    (count : ℕ) × (d : ℕ) × (k : Mark) × Drops count input b m d k × HasKey input d k text c n
-    × (begins_with null_byte (drop c input) ≡ false)
-
--- entries whose value is null, and then the end
-abbrev pub ClosesStructure : List ℕ → ℕ → Mark → ℕ → Type 0
-ClosesStructure input b m e =
-    (count : ℕ) × (d : ℕ) × (k : Mark) × Drops count input b m d k × IsOver input d k e
-
--- an empty input is the structure without members
-abbrev pub IsEmptyStructure : Settings → List ℕ → Table → Place → ℕ → ℕ → Value → ℕ → Type 0
-IsEmptyStructure c input table place depth a v e =
-    (input ≡ []) × (a ≡ 0) × (e ≡ 0) × IsStructure (kind_of table place) × (is_shallow c (suc depth) ≡ true)
-    × (v ≡ structure no_member_values)
-
-abbrev pub cbor_relations : Settings → Relations
-cbor_relations c = record {
-  allows = λ depth. is_shallow c (suc depth) ≡ true;
-  position = λ table place key. position_in (kind_of table place) key;
-  stands = λ input table place depth a v e.
-      ((i : Item) × IsItemAt i input a e × Follows depth input e × (cbor_meaning c table place depth i ≡ Some v))
-      ⊎ IsEmptyStructure c input table place depth a v e;
-  nulls = λ input depth a e. (begins_with null_byte (drop a input) ≡ true) × (e ≡ suc a) × Follows depth input e;
-  skips = λ input depth a e. (i : Item) × IsItemAt i input a e × Follows depth input e;
-  opens = λ input table place depth a b m.
-      (IsList (kind_of table place) × ((due : Option ℕ) × (m ≡ mark_with due) × OpensAt 4 due input a b))
-      ⊎ ((IsStructure (kind_of table place) × ((due : Option ℕ) × (m ≡ mark_with due) × OpensAt 5 due input a b))
-      ⊎ ((m ≡ end_mark) × IsStructure (kind_of table place) × (input ≡ []) × (a ≡ 0) × (b ≡ 0)));
-  steps = λ input table place depth b m key c n.
-      (IsList (kind_of table place) × (key ≡ None) × (c ≡ b) × HasEntry input b m n)
-      ⊎ (IsStructure (kind_of table place)
-      × ((text : List ℕ) × (key ≡ Some text) × StepsInStructure input b m text c n));
-  closes = λ input table place depth b m e.
-      ((IsList (kind_of table place) × IsOver input b m e)
-      ⊎ ((IsStructure (kind_of table place) × ClosesStructure input b m e)
-      ⊎ (IsStructure (kind_of table place) × (m ≡ end_mark) × (input ≡ []) × (b ≡ 0) × (e ≡ 0))))
-      × FollowsInside depth input e;
+-- A null is one byte. A structure is missing in an empty input alone. What is left of a container is counted in
+-- bytes and in entries that are due.
+abbrev pub cbor_frames : Frames Item
+cbor_frames = record {
+  null = λ input depth a e. (begins_with null_byte (drop a input) ≡ true) × (e ≡ suc a) × Follows depth input e;
+  scalar = λ input depth x a e. (node_of x ≡ leaf x) × IsItemAt x input a e × Follows depth input e;
+  opens = λ form input a b m. (due : Option ℕ) × (m ≡ mark_with due) × OpensAt (major_in form) due input a b;
+  entry = Entry;
+  ends = λ form input b m e. IsOver input b m e;
+  follows = λ input depth e. FollowsInside depth input e;
+  is_over = λ input a. (input ≡ []) × (a ≡ 0);
+  over_mark = end_mark;
   left = λ input b m. length input - b + unwrap_or m.due 0;
   begins_null = λ input a. begins_with null_byte (drop a input);
   openers = cbor_openers;
 }
+
+abbrev pub cbor_relations : Settings → Relations
+cbor_relations c = relations cbor_frames (rules_of c)

@@ -18,9 +18,10 @@ pub struct CborCodec {
 impl CborCodec {
     ghost use Rattle.std.specs.Prelude.{◌≡◌, false};
     ghost use Rattle.smithy_cbor.specs.Codec.{settings_of, strict_settings};
-    ghost use Rattle.smithy_cbor.specs.Cursor.{cursor_of, reading_settings_of, fresh_cursor};
+    ghost use Rattle.smithy_cbor.specs.Cursor.{cursor_of, reading_settings_of};
     ghost use Rattle.smithy_cbor.specs.Serializing.{state_of, has_failed};
     ghost use Rattle.smithy_cbor.specs.Writing.{fresh_state};
+    ghost use Rattle.smithy_wire.specs.Walking.{fresh_cursor};
 
     /// A codec that reads one item and nothing behind it, to a depth of 128 containers.
     pub fn strict() -> CborCodec

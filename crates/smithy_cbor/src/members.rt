@@ -4,7 +4,7 @@ ghost use Rattle.std.specs.Prelude.{◌≡◌, ◌⊎◌, ◌≤◌, length, IfO
 ghost use Rattle.smithy_schema.specs.declared.error.SerdeError.TheVariants.{InvalidInput, NoMemory};
 ghost use Rattle.smithy_cbor.specs.Private.Present.{IsEntry, IsNext, EntryMissing, NothingComes};
 
-use crate::places::{EntryOrEnd, entry_or_end, is_null_at, may_leave};
+use crate::places::{EntryOrEnd, entry_or_end, may_leave, null_end};
 use crate::values::text_at;
 use smithy_schema::SerdeError;
 use std::alloc::Global;
@@ -42,8 +42,8 @@ fn entry_at<'a>(
     match entry_or_end(input, at, due) {
         Some(EntryOrEnd::Entry(after)) => {
             let (key, value) = text_at(alloc, input, at)?;
-            if is_null_at(input, value) {
-                return Ok(Entry::Dropped(value + 1, after));
+            if let Some(end) = null_end(input, value, depth) {
+                return Ok(Entry::Dropped(end, after));
             }
             Ok(Entry::Kept(Next::Member(key, value, after)))
         }

@@ -4,7 +4,7 @@ ghost use Rattle.std.specs.Prelude.{◌≡◌, ◌≤◌, ◌↔◌, ℕ, Option
 ghost use Rattle.smithy_cbor.specs.DecoderView.{input_of, position_of};
 ghost use Rattle.smithy_cbor.specs.Reading.{OpensAt};
 ghost use Rattle.smithy_cbor.specs.Standing.{null_byte, begins_with, Follows, FollowsInside};
-ghost use Rattle.smithy_cbor.specs.Private.AtPlace.{IsEntryOrEnd};
+ghost use Rattle.smithy_cbor.specs.Private.AtPlace.{IsEntryOrEnd, IsNullAt};
 
 use crate::decoder::Decoder;
 use crate::initial::{BREAK, NULL_BYTE};
@@ -88,6 +88,18 @@ pub(crate) fn is_null_at(input: &[u8], at: usize) -> bool
     ensures { result ≡ begins_with null_byte (drop at input.now) }
 {
     at < input.len() && input[at] == NULL_BYTE
+}
+
+// The end of the null that stands there, where a value may end behind it.
+pub(crate) fn null_end(input: &[u8], at: usize, depth: usize) -> Option<usize>
+    requires { at ≤ length input.now }
+    ensures found { IfSome result (IsNullAt input.now at depth) }
+    ensures none { IfNone result ((e : ℕ) → IsNullAt input.now at depth e → ⊥) }
+{
+    if is_null_at(input, at) && may_end(input, at + 1, depth) {
+        return Some(at + 1);
+    }
+    None
 }
 
 // What comes next in the container in whose inside the offset lies, with so many entries due.

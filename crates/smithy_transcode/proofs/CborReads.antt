@@ -9,7 +9,7 @@ use Rattle.smithy_schema.specs.Reading.{Cursor, Reads, StandsNot, ReachesDepth, 
 use Rattle.smithy_schema.proofs.CountLemmas.{starts_counted, reaches_openers}
 use Rattle.smithy_cbor.specs.Codec.{strict_settings}
 use Rattle.smithy_cbor.specs.Openers.{cbor_openers}
-use Rattle.smithy_cbor.specs.Cursor.{fresh_cursor}
+use Rattle.smithy_wire.specs.Walking.{fresh_cursor}
 use Rattle.smithy_cbor.specs.Laws.{fit}
 use Rattle.smithy_cbor.specs.Settings.{Settings, without_limits}
 use Rattle.smithy_cbor.specs.Spelling.{cbor_spells}

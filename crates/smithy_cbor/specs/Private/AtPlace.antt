@@ -1,5 +1,5 @@
 -- What stands at a place, as private functions answer it.
-use Rattle.std.specs.Prelude.{◌≡◌, ℕ, ℤ, List, Option, Some, None, true}
+use Rattle.std.specs.Prelude.{◌≡◌, ℕ, suc, ℤ, List, drop, Option, Some, None, true}
 use Rattle.cbor_item.specs.declared.error.ItemError.{ItemError}
 use Rattle.cbor_item.specs.declared.error.ItemError.TheVariants as item
 use Rattle.cbor_item.specs.Item.{Item}
@@ -10,7 +10,7 @@ use Rattle.smithy_schema.specs.Reading.{Mark}
 use Rattle.smithy_cbor.specs.declared.places.EntryOrEnd.{EntryOrEnd}
 use Rattle.smithy_cbor.specs.declared.places.EntryOrEnd.TheVariants.{Entry, End}
 use Rattle.smithy_cbor.specs.Scalar.{is_long, integer_of, text_of}
-use Rattle.smithy_cbor.specs.Standing.{Follows, HasEntry, IsOver, mark_with}
+use Rattle.smithy_cbor.specs.Standing.{null_byte, begins_with, Follows, HasEntry, IsOver, mark_with}
 
 -- in a container with so many entries due comes this, exactly
 abbrev pub IsEntryOrEnd : List ℕ → ℕ → Option ℕ → Option EntryOrEnd → Type 0
@@ -26,6 +26,11 @@ refusal_of item.Truncated = InvalidInput
 refusal_of item.NotWellFormed = InvalidInput
 refusal_of item.WrongType = InvalidInput
 refusal_of item.InvalidUtf8 = InvalidInput
+
+-- from at to e is a null, where a value may end behind it
+abbrev pub IsNullAt : List ℕ → ℕ → ℕ → ℕ → Type 0
+IsNullAt input at depth e =
+    (begins_with null_byte (drop at input) ≡ true) × (e ≡ suc at) × Follows depth input e
 
 -- an integer of 64 bits stands there, where a value may end behind it
 pub record IsLongAt (n : ℤ) (input : List ℕ) (at depth e : ℕ) : Type 0 where

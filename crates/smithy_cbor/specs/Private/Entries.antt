@@ -5,7 +5,7 @@ use Rattle.smithy_schema.specs.Reading.{Mark}
 use Rattle.smithy_schema.specs.Lemmas.Options.{same_some}
 use Rattle.cbor_item.specs.WellFormed.{break}
 use Rattle.smithy_cbor.specs.Scalar.{text_of}
-use Rattle.smithy_cbor.specs.Standing.{begins_with, null_byte, mark_with, end_mark, HasEntry, IsOver, HasKey, Drops}
+use Rattle.smithy_cbor.specs.Standing.{begins_with, null_byte, mark_with, end_mark, HasEntry, IsOver}
 use Rattle.smithy_cbor.specs.Private.ItemPlaces.{item_ahead, one_item, no_item}
 use Rattle.smithy_cbor.specs.Private.ItemBegins.{no_byte_in_nothing}
 
@@ -61,53 +61,7 @@ pub entry_falls : (i : List ℕ) (b : ℕ) (m n : Mark) → HasEntry i b m n
 entry_falls i b m n (inl h) = inl (rw (h.1, h.2) (omega arith))
 entry_falls i b m n (inr h) = inr (rw (h.0, h.3) (omega arith), h.1)
 
--- ---- keys
-
-pub same_key : (i : List ℕ) (b : ℕ) (m : Mark) (text text' : List ℕ) (c c' : ℕ) (n n' : Mark) → HasKey i b m text c n → HasKey i b m text' c' n'
-    → (text ≡ text') × (c ≡ c') × (n ≡ n')
-same_key i b m text text' c c' n n' h k =
-    let one = one_item h.1.0 k.1.0 i b c c' h.1.1 k.1.1 in
-    (same_some text text' (sym h.1.2 ∙ ap text_of one.0 ∙ k.1.2), one.1, same_entry i b m n n' h.0 k.0)
-
-pub key_ahead : (i : List ℕ) (b : ℕ) (m : Mark) (text : List ℕ) (c : ℕ) (n : Mark) → HasKey i b m text c n → b < c
-key_ahead i b m text c n h = item_ahead h.1.0 i b c h.1.1
-
--- no key stands in an empty input
-pub no_key : (i : List ℕ) (b : ℕ) (m : Mark) (text : List ℕ) (c : ℕ) (n : Mark) → i ≡ [] → HasKey i b m text c n → ⊥
-no_key i b m text c n empty h = no_item h.1.0 i b c empty h.1.1
-
--- nor does a container end there
+-- in an empty input no container ends
 pub no_end : (i : List ℕ) (b : ℕ) (m : Mark) (e : ℕ) → i ≡ [] → m ≡ end_mark → IsOver i b m e → ⊥
 no_end i b m e empty is (inl h) = no_due m.due 0 h.0 (ap (λ (k : Mark). k.due) is)
 no_end i b m e empty is (inr h) = no_byte_in_nothing break i b empty h.1
-
--- ---- entries that are dropped
-
--- the place and the mark behind one of them are determined
-pub drops_on : (count : ℕ) (i : List ℕ) (b : ℕ) (m : Mark) (text text' : List ℕ) (c c' : ℕ) (k k' : Mark) (d : ℕ) (n : Mark)
-    → HasKey i b m text c k → HasKey i b m text' c' k' → Drops count i (suc c') k' d n → Drops count i (suc c) k d n
-drops_on count i b m text text' c c' k k' d n h j drops =
-    let same = same_key i b m text text' c c' k k' h j in
-    subst (λ (x : ℕ). Drops count i (suc x) k d n) (sym same.1) (subst (λ (x : Mark). Drops count i (suc c') x d n) (sym same.2) drops)
-
-pub drops_ahead : (count : ℕ) (i : List ℕ) (b : ℕ) (m : Mark) (d : ℕ) (n : Mark) → Drops count i b m d n → (b ≤ d) × (unwrap_or n.due 0 ≤ unwrap_or m.due 0)
-drops_ahead zero i b m d n h = (omega (arith, h.0), rw h.1 (omega arith))
-drops_ahead (suc count) i b m d n h =
-    let key = key_ahead i b m h.0 h.1 h.2 h.3 in
-    let due = entry_due i b m h.2 h.3.0 in
-    let rest = drops_ahead count i (suc h.1) h.2 d n h.5 in
-    (omega (arith, key, rest.0), omega (arith, due, rest.1))
-
--- a key, and an end, behind no entry that is dropped stands where those begin
-pub key_back : (i : List ℕ) (b d : ℕ) (m n : Mark) (text : List ℕ) (c : ℕ) (k : Mark) → (b ≡ d) × (m ≡ n) → HasKey i d n text c k → HasKey i b m text c k
-key_back i b d m n text c k h key = rw (h.0, h.1) key
-
-pub over_back : (i : List ℕ) (b d : ℕ) (m n : Mark) (e : ℕ) → (b ≡ d) × (m ≡ n) → IsOver i d n e → IsOver i b m e
-over_back i b d m n e h over = rw (h.0, h.1) over
-
--- an entry whose value isn't null is not dropped
-pub no_drop : (i : List ℕ) (b : ℕ) (m : Mark) (text text' : List ℕ) (c d : ℕ) (n k : Mark) → HasKey i b m text c n
-    → begins_with null_byte (drop c i) ≡ false → HasKey i b m text' d k → begins_with null_byte (drop d i) ≡ true → ⊥
-no_drop i b m text text' c d n k h there j null =
-    let same = same_key i b m text text' c d n k h j in
-    not_both (begins_with null_byte (drop c i)) there (ap (λ x. begins_with null_byte (drop x i)) same.1 ∙ null)

@@ -4,16 +4,34 @@ use Rattle.std.specs.Prelude.{◌≡◌, ◌<◌, ◌≤◌, ◌-◌, ◌⊎◌,
 use Rattle.std.proofs.Common.{sym, ◌∙◌, ap, arith, subst, inl, inr, append_assoc}
 use Rattle.std.proofs.lemmas.List.Folds.{drop_split}
 use Rattle.smithy_schema.specs.Reading.{Mark}
-use Rattle.cbor_item.specs.Head.{initial_byte, MayBeIndefinite, BeginsWithHead}
+use Rattle.cbor_item.specs.Head.{HeadRead, initial_byte, MayBeIndefinite, BeginsWithHead}
 use Rattle.cbor_item.specs.Item.{Item}
 use Rattle.cbor_item.specs.WellFormed.{HeadThen, UntilBreak, IsItemAt, break}
-use Rattle.cbor_item.proofs.HeadLemmas.{head_in_front, front_begins_low, opening_begins, head_is_some}
+use Rattle.cbor_item.proofs.HeadLemmas.{head_is_only, head_in_front, front_begins_low, opening_begins, head_is_some}
 use Rattle.smithy_cbor.specs.Reading.{OpensAt}
 use Rattle.smithy_cbor.specs.Standing.{begins_with, mark_with, HasEntry}
 use Rattle.smithy_cbor.specs.Private.Slices.{rest_length, front_slice, slices_join, slices_part}
 use Rattle.smithy_cbor.specs.Private.ItemPlaces.{item_ahead}
 use Rattle.smithy_cbor.specs.Private.ItemBegins.{byte_front, byte_within, no_break_at}
 use Rattle.smithy_cbor.specs.Private.Entries.{no_due, same_due}
+
+-- ---- the head
+
+same_head : (s : List ℕ) (h k : HeadRead) → 0 < h.length → BeginsWithHead s h → BeginsWithHead s k → h ≡ k
+same_head [] h k some p q = let within : h.length ≤ 0 = p.0 in absurd (omega (arith, within, some))
+same_head (b ∷ s) h k some p q = head_is_only b s h p ∙ sym (head_is_only b s k q)
+
+-- the head of a container is determined
+pub same_opens_at : (major : ℕ) (due due' : Option ℕ) (i : List ℕ) (a b c : ℕ) → OpensAt major due i a b → OpensAt major due' i a c → (b ≡ c) × (due ≡ due')
+same_opens_at major due due' i a b c h k =
+    let one = same_head (drop a i) (record { major = major; argument = due; length = b - a }) (record { major = major; argument = due'; length = c - a })
+    (omega (arith, h.0)) h.1 k.1 in
+    let size : b - a ≡ c - a = ap (λ (r : HeadRead). r.length) one in
+    (omega (arith, h.0, k.0, size), ap (λ (r : HeadRead). r.argument) one)
+
+-- it stands in the input
+pub opens_within : (major : ℕ) (due : Option ℕ) (i : List ℕ) (a b : ℕ) → OpensAt major due i a b → 0 < length (drop a i)
+opens_within major due i a b h = let within : b - a ≤ length (drop a i) = h.1.0 in omega (arith, h.0, within)
 
 -- ---- the end of the entries
 

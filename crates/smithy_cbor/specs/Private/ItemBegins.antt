@@ -1,5 +1,5 @@
 -- A null is told by the byte that comes first, and so is a break, with which no item begins.
-use Rattle.std.specs.Prelude.{◌≡◌, ◌<◌, ◌+◌, ◌*◌, ◌/◌, ◌==◌, ℕ, suc, length, drop, List, [], ◌∷◌, ◌++◌, slice_range, true, false, refl}
+use Rattle.std.specs.Prelude.{◌≡◌, ◌<◌, ◌+◌, ◌*◌, ◌/◌, ◌==◌, ℕ, suc, length, drop, List, [], ◌∷◌, ◌++◌, slice_range, Bool, true, false, refl}
 use Rattle.std.proofs.Common.{◌∙◌, ap, arith, inl, inr, slice_index, length-drop}
 use Rattle.std.proofs.lemmas.Bool.Decides.{nat_tests}
 use Rattle.std.proofs.lemmas.List.{drop-drop}
@@ -7,7 +7,7 @@ use Rattle.cbor_item.specs.Item.{Item, unsigned, negative, byte_string, text_str
 use Rattle.cbor_item.specs.WellFormed.{IsSimple, IsFloat, IsEncodingOf, IsItemAt, break}
 use Rattle.cbor_item.proofs.FirstByte.{item_major, major_of, not_empty}
 use Rattle.cbor_item.proofs.Passing.{item_is_no_break}
-use Rattle.smithy_cbor.specs.Scalar.{is_null, null_value}
+use Rattle.smithy_cbor.specs.Scalar.{null_value}
 use Rattle.smithy_cbor.specs.Standing.{begins_with, null_byte}
 use Rattle.smithy_cbor.specs.Private.ItemPlaces.{item_front, item_at, one_item}
 
@@ -35,6 +35,10 @@ pub no_byte_in_nothing : (byte : ℕ) (i : List ℕ) (a : ℕ) → i ≡ [] → 
 no_byte_in_nothing byte i a empty h = omega (arith, ap length empty, byte_within byte i a h)
 
 -- ---- nulls
+
+abbrev pub is_null : Item → Bool
+is_null (simple n) = n == null_value
+is_null _ = false
 
 simple_begins : (n b : ℕ) (rest : List ℕ) → IsSimple n (b ∷ rest) → (b == null_byte) ≡ is_null (simple n)
 simple_begins n b rest (inl (low, e)) = let p : b ≡ 32 * 7 + n = ap (λ l. slice_index l 0) e in grind (arith, nat_tests)

@@ -1,4 +1,4 @@
-use Rattle.std.proofs.Common.{Some, arith, sym, subst, ◌∙◌}
+use Rattle.std.proofs.Common.{Some, subst}
 use Rattle.std.proofs.lemmas.Result.{err_from_is_err_and}
 use Rattle.std.specs.Cow.{cow_str_bytes}
 use Rattle.smithy_cbor.specs.Standing.{mark_with}
@@ -7,15 +7,14 @@ use Rattle.smithy_cbor.specs.Private.Entries.{entry_or_over}
 use Rattle.smithy_cbor.proofs.EntryLemmas.{key_text, key_of}
 use Rattle.smithy_cbor.proofs.members.entry_at.Goals as goal
 
-pub returns-then-is_null_at-clause-ok : goal.returns-then-is_null_at-clause-ok
-returns-then-is_null_at-clause-ok c =
+pub returns-in-Some-clause-ok : goal.returns-in-Some-clause-ok
+returns-in-Some-clause-ok c =
     let entry = subst (λ next. IsEntryOrEnd c.args.input.now c.args.at c.args.due (Some next)) c.in-Some-Entry.field-0-is c.in-Some-Entry.ensures in
     record {
       text = cow_str_bytes c.in_ok-key-in-Some-Entry.key;
       value = c.in_ok-key-in-Some-Entry.value;
       key = key_of c.args.input.now c.args.at (mark_with c.args.due) (cow_str_bytes c.in_ok-key-in-Some-Entry.key) c.in_ok-key-in-Some-Entry.value (mark_with c.in-Some-Entry.after) entry c.in_ok-key-in-Some-Entry.ensures.ok;
-      is_null = sym c.is_null_at.ensures ∙ c.if-is_null_at.true;
-      end = omega arith;
+      is_null = c.in-Some.ensures.found;
     }
 
 pub returns-in_err-key-in-Some-Entry-clause-none : goal.returns-in_err-key-in-Some-Entry-clause-none
