@@ -1,6 +1,6 @@
 -- Where an integer of 64 bits stands, and where none does.
 use Rattle.std.proofs.Common.{◌≡◌, inl, inr, ℕ, ℤ, ◌^◌, List, drop, sym, ◌∙◌, ap, subst, arith, refl, Some, Bool, true, false}
-use Rattle.std.specs.Prelude.{slice_range, FitsSigned, pos, negsuc, neg_ℤ, ◌&&◌, int_le, int_lt}
+use Rattle.std.specs.Prelude.{slice_range, FitsSigned, pos, negsuc, neg_ℤ, int_le, int_lt}
 use Rattle.std.specs.Option.{IfNone}
 use Rattle.std.specs.Bool.{then_some}
 use Rattle.std.specs.Int.{w64}

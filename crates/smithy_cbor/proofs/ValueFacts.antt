@@ -1,6 +1,6 @@
 -- What stands at a place as a text or as an integer of 64 bits, and where none does.
 use Rattle.std.proofs.Common.{◌≡◌, ℕ, suc, zero, List, [], ◌∷◌, ◌++◌, drop, sym, ◌∙◌, ap, subst, arith, refl, Some, None, Bool, true, false}
-use Rattle.std.specs.Prelude.{slice_range, All, IsUtf8, if◌then◌else◌, ◌&&◌}
+use Rattle.std.specs.Prelude.{slice_range, All, IsUtf8, if◌then◌else◌}
 use Rattle.std.specs.List.{concat, list_all}
 use Rattle.std.specs.Str.{is_utf8}
 use Rattle.std.proofs.lemmas.Bool.{and_parts}

@@ -1,6 +1,7 @@
 //! Rows of single calls.
 
-use crate::{DecodeKind, Decoder, DeserializeError, Encoder, set_optional};
+use crate::{CborType, DecodeKind, Decoder, DeserializeError, Encoder, set_optional};
+use std::alloc::Global;
 use std::borrow::CowStr;
 use std::test::Fail;
 
@@ -68,81 +69,6 @@ fn a_text_in_one_piece_is_borrowed(rt: HostRuntime) -> Result<(), Fail> {
     Ok(())
 }
 
-/// What a refusal writes, and that it stays: the position after the call and the place it holds.
-fn refusal<T: Drop>(
-    outcome: Result<T, DeserializeError>,
-    decoder: &Decoder<'_>,
-) -> Option<(DecodeKind, bool)> {
-    match outcome {
-        Ok(_) => None,
-        Err(error) => Some((error.kind, error.at == Some(decoder.position()))),
-    }
-}
-
-#[test]
-fn a_refused_read_stays(rt: HostRuntime) {
-    let mut decoder = Decoder::new(b"\x18\x80");
-    let result = decoder.byte();
-    assert!(rt;
-        matches!(
-            refusal(result, &decoder),
-            Some((DecodeKind::OutOfRange, true))
-        )
-    );
-    assert_eq!(rt; decoder.position(), 0);
-    let mut decoder = Decoder::new(b"\xff");
-    let result = decoder.skip(rt.alloc());
-    assert!(rt;
-        matches!(
-            refusal(result, &decoder),
-            Some((DecodeKind::NotWellFormed, true))
-        )
-    );
-    let result = decoder.null();
-    assert!(rt;
-        matches!(
-            refusal(result, &decoder),
-            Some((DecodeKind::WrongType, true))
-        )
-    );
-    let mut decoder = Decoder::new(b"\x1b\x80\x00\x00\x00\x00\x00\x00\x00");
-    let result = decoder.long();
-    assert!(rt;
-        matches!(
-            refusal(result, &decoder),
-            Some((DecodeKind::OutOfRange, true))
-        )
-    );
-    let mut decoder = Decoder::new(b"\x19\x00");
-    let result = decoder.short();
-    assert!(rt;
-        matches!(
-            refusal(result, &decoder),
-            Some((DecodeKind::Truncated, true))
-        )
-    );
-    let mut decoder = Decoder::new(b"\x61\xff");
-    let result = decoder.string(rt.alloc());
-    assert!(rt;
-        matches!(
-            refusal(result, &decoder),
-            Some((DecodeKind::InvalidUtf8, true))
-        )
-    );
-}
-
-#[test]
-fn a_float_of_the_number_22_is_no_null(rt: HostRuntime) {
-    let mut decoder = Decoder::new(b"\xf9\x00\x16");
-    let result = decoder.null();
-    assert!(rt;
-        matches!(
-            refusal(result, &decoder),
-            Some((DecodeKind::WrongType, true))
-        )
-    );
-}
-
 fn read_byte(_old: Option<i8>, decoder: &mut Decoder<'_>) -> Result<Option<i8>, DeserializeError> {
     match decoder.byte() {
         Ok(byte) => Ok(Some(byte)),
@@ -156,16 +82,166 @@ fn a_null_sets_nothing(rt: HostRuntime) -> Result<(), Fail> {
     assert_eq!(rt; set_optional(None, &mut decoder, read_byte)?, None);
     assert_eq!(rt; set_optional(None, &mut decoder, read_byte)?, Some(5));
     assert_eq!(rt; decoder.position(), 2);
+    match set_optional(None, &mut decoder, read_byte) {
+        Ok(_) => assert!(rt; false, "nothing is left"),
+        Err(error) => assert!(rt; matches!(error.kind, DecodeKind::Truncated)),
+    }
+    Ok(())
+}
+
+#[derive(Clone, Copy)]
+enum Read {
+    Datatype,
+    Skip,
+    Str,
+    Text,
+    List,
+    Map,
+    Null,
+    Boolean,
+    Byte,
+    Short,
+    Integer,
+    Long,
+    Break,
+}
+
+/// A read, the bytes and the kind of its refusal.
+#[derive(Clone, Copy)]
+struct Refused(Read, &'static [u8], &'static str);
+
+const REFUSED: [Refused; 44] = [
+    Refused(Read::Datatype, b"", "Truncated"),
+    Refused(Read::Datatype, b"\x38", "Truncated"),
+    Refused(Read::Skip, b"\x62a", "Truncated"),
+    Refused(Read::Skip, b"\xff", "NotWellFormed"),
+    Refused(Read::Str, b"\x62a", "Truncated"),
+    Refused(Read::Str, b"\x7c", "NotWellFormed"),
+    Refused(Read::Str, b"\x00", "WrongType"),
+    Refused(Read::Str, b"\x61\xff", "InvalidUtf8"),
+    Refused(Read::Text, b"\x62a", "Truncated"),
+    Refused(Read::Text, b"\x7c", "NotWellFormed"),
+    Refused(Read::Text, b"\x00", "WrongType"),
+    Refused(Read::Text, b"\x61\xff", "InvalidUtf8"),
+    Refused(Read::List, b"\x98", "Truncated"),
+    Refused(Read::List, b"\x9c", "NotWellFormed"),
+    Refused(Read::List, b"\xa0", "WrongType"),
+    Refused(Read::Map, b"\xb8", "Truncated"),
+    Refused(Read::Map, b"\xbc", "NotWellFormed"),
+    Refused(Read::Map, b"\x80", "WrongType"),
+    Refused(Read::Null, b"", "Truncated"),
+    Refused(Read::Null, b"\xfc", "NotWellFormed"),
+    Refused(Read::Null, b"\xf7", "WrongType"),
+    Refused(Read::Null, b"\xf9\x00\x16", "WrongType"),
+    Refused(Read::Boolean, b"", "Truncated"),
+    Refused(Read::Boolean, b"\xf8\x15", "NotWellFormed"),
+    Refused(Read::Boolean, b"\xf6", "WrongType"),
+    Refused(Read::Byte, b"\x18", "Truncated"),
+    Refused(Read::Byte, b"\x1c", "NotWellFormed"),
+    Refused(Read::Byte, b"\x61a", "WrongType"),
+    Refused(Read::Byte, b"\x18\x80", "OutOfRange"),
+    Refused(Read::Short, b"\x19\x00", "Truncated"),
+    Refused(Read::Short, b"\x3f", "NotWellFormed"),
+    Refused(Read::Short, b"\xf5", "WrongType"),
+    Refused(Read::Short, b"\x19\x80\x00", "OutOfRange"),
+    Refused(Read::Integer, b"\x1a", "Truncated"),
+    Refused(Read::Integer, b"\x1e", "NotWellFormed"),
+    Refused(Read::Integer, b"\xc1\x00", "WrongType"),
+    Refused(Read::Integer, b"\x3a\x80\x00\x00\x00", "OutOfRange"),
+    Refused(Read::Long, b"\x1b", "Truncated"),
+    Refused(Read::Long, b"\x1f", "NotWellFormed"),
+    Refused(Read::Long, b"\x41a", "WrongType"),
+    Refused(
+        Read::Long,
+        b"\x1b\x80\x00\x00\x00\x00\x00\x00\x00",
+        "OutOfRange",
+    ),
+    Refused(Read::Break, b"", "Truncated"),
+    Refused(Read::Break, b"\xfd", "NotWellFormed"),
+    Refused(Read::Break, b"\x00", "WrongType"),
+];
+
+fn refusal_of(alloc: Global, decoder: &mut Decoder<'_>, read: Read) -> Option<DeserializeError> {
+    match read {
+        Read::Datatype => decoder.datatype().err(),
+        Read::Skip => decoder.skip(alloc).err(),
+        Read::Str => decoder.str(alloc).err(),
+        Read::Text => decoder.string(alloc).err(),
+        Read::List => decoder.list().err(),
+        Read::Map => decoder.map().err(),
+        Read::Null => decoder.null().err(),
+        Read::Boolean => decoder.boolean().err(),
+        Read::Byte => decoder.byte().err(),
+        Read::Short => decoder.short().err(),
+        Read::Integer => decoder.integer().err(),
+        Read::Long => decoder.long().err(),
+        Read::Break => decoder.read_break().err(),
+    }
+}
+
+#[test]
+fn a_refusal_names_its_kind_and_stays(rt: HostRuntime) -> Result<(), Fail> {
+    for Refused(read, input, kind) in &REFUSED {
+        let mut decoder = Decoder::new(input);
+        match refusal_of(rt.alloc(), &mut decoder, *read) {
+            Some(error) => {
+                assert_eq!(rt; format!(in rt.alloc(); "{error}")?.as_str(), *kind);
+                assert_eq!(rt; error.at, Some(0), "{kind}");
+            }
+            None => assert!(rt; false, "{kind}"),
+        }
+        assert_eq!(rt; decoder.position(), 0, "{kind}");
+    }
     Ok(())
 }
 
 #[test]
-fn a_refusal_names_its_kind(rt: HostRuntime) -> Result<(), Fail> {
-    let error = DeserializeError::mixed_union_variants(3);
-    assert_eq!(rt;
-        format!(in rt.alloc(); "{error}")?.as_str(),
-        "MixedUnionVariants"
-    );
-    assert!(rt; !error.is_type_mismatch());
+fn a_copy_of_a_decoder_stands_where_it_stood(rt: HostRuntime) -> Result<(), Fail> {
+    let mut decoder = Decoder::new(b"\x00\xf5\x00");
+    decoder.set_position(1);
+    let mut copy = decoder.clone()?;
+    assert_eq!(rt; copy.position(), 1);
+    assert_eq!(rt; copy.datatype()?, CborType::Bool);
+    assert!(rt; copy.boolean()?);
+    assert_eq!(rt; (copy.position(), decoder.position()), (2, 1));
+    Ok(())
+}
+
+/// Whether the refusal of this kind writes this name.
+fn writes(alloc: Global, kind: DecodeKind, name: &str) -> Result<bool, Fail> {
+    let error = DeserializeError { kind, at: None };
+    let kind = format!(in alloc; "{}", error.kind)?;
+    let whole = format!(in alloc; "{error}")?;
+    Ok(kind.as_str() == name && whole.as_str() == name)
+}
+
+#[test]
+fn a_kind_writes_its_name(rt: HostRuntime) -> Result<(), Fail> {
+    assert!(rt; writes(rt.alloc(), DecodeKind::Truncated, "Truncated")?);
+    assert!(rt; writes(rt.alloc(), DecodeKind::NotWellFormed, "NotWellFormed")?);
+    assert!(rt; writes(rt.alloc(), DecodeKind::WrongType, "WrongType")?);
+    assert!(rt; writes(rt.alloc(), DecodeKind::InvalidUtf8, "InvalidUtf8")?);
+    assert!(rt; writes(rt.alloc(), DecodeKind::OutOfRange, "OutOfRange")?);
+    assert!(rt; writes(rt.alloc(), DecodeKind::TooWide, "TooWide")?);
+    assert!(rt; writes(rt.alloc(), DecodeKind::NotCarried, "NotCarried")?);
+    assert!(rt; writes(rt.alloc(), DecodeKind::NoMemory, "NoMemory")?);
+    Ok(())
+}
+
+#[test]
+fn a_stated_refusal_has_its_kind(rt: HostRuntime) -> Result<(), Fail> {
+    let union = DeserializeError::unexpected_union_variant(CborType::Map, 3);
+    assert!(rt; union.is_type_mismatch());
+    assert!(rt; writes(rt.alloc(), union.kind, "UnexpectedUnionVariant")?);
+    let name = DeserializeError::unknown_union_variant(String::new(rt.alloc()), 3);
+    assert!(rt; !name.is_type_mismatch());
+    assert!(rt; writes(rt.alloc(), name.kind, "UnknownUnionVariant")?);
+    let mixed = DeserializeError::mixed_union_variants(3);
+    assert!(rt; writes(rt.alloc(), mixed.kind, "MixedUnionVariants")?);
+    let end = DeserializeError::expected_end_of_stream(3);
+    assert!(rt; writes(rt.alloc(), end.kind, "ExpectedEndOfStream")?);
+    let custom = DeserializeError::custom(CowStr::Borrowed("c"), 3);
+    assert_eq!(rt; custom.at, Some(3));
+    assert!(rt; writes(rt.alloc(), custom.kind, "Custom")?);
     Ok(())
 }

@@ -8,7 +8,7 @@ use smithy_schema::{Schema, SerdeError, ShapeDeserializer, ShapeType, Shapes, St
 use std::alloc::Global;
 use std::test::Fail;
 
-const TABLE: &[u8] = b"structure S\nmember a long\nmember s S\nlist L long\n";
+const TABLE: &[u8] = b"structure S\nmember a long\nmember s S\nlist L long\nlist N N\n";
 
 /// More entries than any of the inputs has.
 const MANY: usize = 9;
@@ -287,5 +287,161 @@ fn at_most_128_containers_are_open_at_once(rt: HostRuntime) -> Result<(), Fail> 
     assert_eq!(rt; answer, Ok(()), "as deep as may be");
     let answer = open_all(rt.alloc(), &schema, &input, 129);
     assert_eq!(rt; answer, Err(SerdeError::TooDeep), "one deeper");
+    Ok(())
+}
+
+// What is asked of a reader that has read nothing yet, or where nothing is due.
+#[derive(Clone, Copy)]
+enum Call {
+    Structure,
+    List,
+    Null,
+    Skip,
+    Long,
+    Text,
+}
+
+use Call::{List, Long, Null, Skip, Structure, Text};
+
+#[derive(Clone, Copy)]
+struct Refused(&'static str, Call, &'static [u8]);
+
+const REFUSED: [Refused; 15] = [
+    Refused("an array is no structure", Structure, b"\x80"),
+    Refused("a map is no list", List, b"\xa0"),
+    Refused("nothing is no list", List, b""),
+    Refused("a number is no null", Null, b"\x01"),
+    Refused("undefined is no null", Null, b"\xf7"),
+    Refused("a byte behind a null", Null, b"\xf6\x00"),
+    Refused("nothing is skipped", Skip, b""),
+    Refused("a lone break", Skip, b"\xff"),
+    Refused("an array without its element", Skip, b"\x81"),
+    Refused("a byte behind what is skipped", Skip, b"\x80\x00"),
+    Refused("a text is no number", Long, b"\x61a"),
+    Refused("a byte behind a number", Long, b"\x01\x00"),
+    Refused("a number is no text", Text, b"\x01"),
+    Refused("a text that is not UTF-8", Text, b"\x61\xff"),
+    Refused("a byte behind a text", Text, b"\x61a\x00"),
+];
+
+fn make<R: ShapeDeserializer>(
+    source: &mut R,
+    structure: &Schema<'_>,
+    list: &Schema<'_>,
+    call: Call,
+) -> Result<(), SerdeError>
+    requires structure { IsStructure (kind_at (site_of structure.now)) }
+    requires list { IsList (kind_at (site_of list.now)) }
+{
+    match call {
+        Structure => source.open_struct(structure),
+        List => source.open_list(list),
+        Null => source.read_null(),
+        Skip => source.skip_value(),
+        Long => {
+            source.read_long(structure)?;
+            Ok(())
+        }
+        Text => {
+            source.read_string(structure)?;
+            Ok(())
+        }
+    }
+}
+
+#[test]
+fn what_stands_otherwise_is_refused(rt: HostRuntime) -> Result<(), Fail> {
+    let shapes = Shapes::build(rt.alloc(), TableText::read(rt.alloc(), TABLE)?)?;
+    let (Some(structure), Some(list)) = (shapes.find("S"), shapes.find("L")) else {
+        return Ok(());
+    };
+    let (structure, list) = (shapes.schema(structure), shapes.schema(list));
+    assert!(rt; structure.shape_type() == ShapeType::Structure);
+    assert!(rt; list.shape_type() == ShapeType::List);
+    for Refused(name, call, input) in &REFUSED {
+        let mut source = CborCodec::strict().create_deserializer(rt.alloc(), input);
+        let answer = make(&mut source, &structure, &list, *call);
+        assert_eq!(rt; answer, Err(SerdeError::InvalidInput), "{name}");
+        let after = make(&mut source, &structure, &list, *call);
+        assert_eq!(rt; after, Err(SerdeError::Failed), "{name}");
+    }
+    for call in &[Structure, List, Null, Skip, Long, Text] {
+        let mut source = CborCodec::strict().create_deserializer(rt.alloc(), b"\x01");
+        source.read_long(&structure)?;
+        let answer = make(&mut source, &structure, &list, *call);
+        assert_eq!(rt; answer, Err(SerdeError::InvalidInput), "nothing is due");
+    }
+    Ok(())
+}
+
+// The answer behind the first member, whose value is left unread.
+fn after_unread(alloc: Global, schema: &Schema<'_>, input: &[u8]) -> Result<(), SerdeError>
+    requires { IsStructure (kind_at (site_of schema.now)) }
+{
+    let mut source = CborCodec::strict().create_deserializer(alloc, input);
+    source.open_struct(schema)?;
+    match source.next_member(schema)? {
+        Step::Member(_) => {
+            source.next_member(schema)?;
+            Ok(())
+        }
+        Step::Unknown => Ok(()),
+        Step::End => Ok(()),
+    }
+}
+
+// The answer behind so many lists, each the last one's first element.
+fn in_lists(
+    alloc: Global,
+    schema: &Schema<'_>,
+    input: &[u8],
+    depth: usize,
+) -> Result<(), SerdeError>
+    requires { IsList (kind_at (site_of schema.now)) }
+{
+    let mut source = CborCodec::strict().create_deserializer(alloc, input);
+    for _ in 0..depth {
+        source.open_list(schema)?;
+        source.next_element()?;
+    }
+    Ok(())
+}
+
+// A number in so many arrays, behind these bytes.
+fn arrays(alloc: Global, front: &[u8], depth: usize) -> Result<Vec<u8>, Fail> {
+    let mut input = Vec::new(alloc);
+    input.extend_from_slice(front)?;
+    for _ in 0..depth {
+        input.push(0x81)?;
+    }
+    input.push(0x01)?;
+    Ok(input)
+}
+
+#[test]
+fn what_is_passed_over_may_nest_deeper(rt: HostRuntime) -> Result<(), Fail> {
+    let shapes = Shapes::build(rt.alloc(), TableText::read(rt.alloc(), TABLE)?)?;
+    let (Some(structure), Some(list)) = (shapes.find("S"), shapes.find("N")) else {
+        return Ok(());
+    };
+    let (structure, list) = (shapes.schema(structure), shapes.schema(list));
+    assert!(rt; structure.shape_type() == ShapeType::Structure);
+    assert!(rt; list.shape_type() == ShapeType::List);
+    let member = arrays(rt.alloc(), b"\xa1\x61a", 200)?;
+    let deeper = arrays(rt.alloc(), b"", 200)?;
+    let unread = after_unread(rt.alloc(), &structure, &member);
+    assert_eq!(rt; unread, Ok(()), "an unread member");
+    let mut source = CborCodec::strict().create_deserializer(rt.alloc(), &deeper);
+    assert_eq!(rt; source.skip_value(), Ok(()), "an item");
+    let lists = in_lists(rt.alloc(), &list, &deeper, 128);
+    assert_eq!(rt; lists, Ok(()), "as deep as may be");
+    let lists = in_lists(rt.alloc(), &list, &deeper, 129);
+    assert_eq!(rt; lists, Err(SerdeError::TooDeep), "one deeper");
+    let unread = after_unread(rt.alloc(), &structure, b"\xbf\x61a\xff");
+    assert_eq!(rt; unread, Err(SerdeError::InvalidInput), "no value");
+    let key = after_unread(rt.alloc(), &structure, b"\xbf\x61a\x01\x01");
+    assert_eq!(rt; key, Err(SerdeError::InvalidInput), "no key");
+    let no_break = in_lists(rt.alloc(), &list, b"\x9f", 1);
+    assert_eq!(rt; no_break, Err(SerdeError::InvalidInput), "no break");
     Ok(())
 }
