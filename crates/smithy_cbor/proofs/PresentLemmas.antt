@@ -1,11 +1,9 @@
 -- What comes behind entries that are null.
 use Rattle.std.proofs.Common.{ℕ, zero, suc, List, Option, ◌<◌, ◌≤◌, length, refl, arith}
 use Rattle.smithy_schema.specs.Reading.{Mark}
-use Rattle.smithy_cbor.specs.declared.members.Next.{Next}
-use Rattle.smithy_cbor.specs.declared.members.Next.TheVariants.{Member, End}
 use Rattle.smithy_cbor.specs.Standing.{mark_with, null_byte}
 use Rattle.smithy_cbor.specs.Private.AtPlace.{IsNullAt}
-use Rattle.smithy_cbor.specs.Private.Present.{HasKey, Drops, DropsTo, IsKept, IsNext, EntryMissing, NothingComes}
+use Rattle.smithy_cbor.specs.Private.Present.{HasKey, Drops, DropsTo}
 use Rattle.smithy_cbor.specs.Private.ItemBegins.{byte_within}
 use Rattle.smithy_cbor.proofs.EntryLemmas.{key_ahead}
 

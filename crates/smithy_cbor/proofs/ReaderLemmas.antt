@@ -1,9 +1,9 @@
 -- What a reader finds in an input, as a relation of reading, and what it doesn't find.
 use Rattle.std.proofs.Common.{◌≡◌, ◌<◌, ℕ, zero, suc, ℤ, List, [], Option, Some, None, true, refl, sym, ◌∙◌, ap, subst, inl, inr}
-use Rattle.std.specs.Prelude.{option_map, option_and_then, if◌then◌else◌}
+use Rattle.std.specs.Prelude.{option_map, option_and_then}
 use Rattle.smithy_schema.specs.declared.place.Place.{Place}
 use Rattle.smithy_schema.specs.declared.shape_type.Scalar.TheVariants as scalars
-use Rattle.smithy_schema.specs.Table.{Table, Kind, scalar, kind_of, IsList, IsStructure}
+use Rattle.smithy_schema.specs.Table.{Table, scalar, kind_of, IsList, IsStructure}
 use Rattle.smithy_schema.specs.Value.{Value, whole, text, null_element}
 use Rattle.smithy_schema.specs.Reading.{Mark}
 use Rattle.smithy_schema.specs.Lemmas.Kinds.{no_list_and_structure}
@@ -16,11 +16,11 @@ use Rattle.smithy_cbor.specs.Reading.{OpensAt}
 use Rattle.smithy_cbor.specs.Standing.{Follows, FollowsInside, HasEntry, IsOver, mark_with, end_mark, cbor_frames, cbor_relations}
 use Rattle.smithy_cbor.specs.Private.AtPlace.{IsLongAt, HasTextAt}
 use Rattle.smithy_cbor.specs.Private.Fits.{long_is}
-use Rattle.smithy_cbor.specs.Private.Present.{HasKey, Drops as NullsLie, StepsInStructure, ClosesStructure, EntryMissing}
+use Rattle.smithy_cbor.specs.Private.Present.{Drops as NullsLie, StepsInStructure, ClosesStructure, EntryMissing}
 use Rattle.smithy_cbor.specs.Private.Wire.{cbor_is_wire}
 use Rattle.smithy_cbor.proofs.EntryLemmas.{entry_by_due, over_by_due, key_by_due}
 use Rattle.smithy_wire.specs.Node.{as_array, as_object, leaf}
-use Rattle.smithy_wire.specs.Frames.{IsTold, Drops, DropsAll}
+use Rattle.smithy_wire.specs.Frames.{IsTold, DropsAll}
 use Rattle.smithy_wire.specs.Readers.{settled_answer, scalar_stands, stands_scalar, opens_not, cannot_go_on}
 use Rattle.smithy_wire.specs.Entries.{null_is_dropped, step_to_entry, close_at_end, step_to_element, close_list}
 use Rattle.smithy_wire.specs.Lemmas.Places.{structure_is_object, list_is_array}

@@ -1,5 +1,5 @@
 -- What is skipped is an item, of any depth.
-use Rattle.std.proofs.Common.{◌≡◌, ◌&&◌, ◌↔◌, ℕ, List, Bool, true, false, refl}
+use Rattle.std.proofs.Common.{◌≡◌, ◌↔◌, ℕ, List, true, refl}
 use Rattle.std.proofs.lemmas.Bool.{and_parts}
 use Rattle.cbor_item.specs.Item.{Item}
 use Rattle.smithy_cbor.specs.Settings.{Settings}

@@ -11,9 +11,9 @@ use Rattle.cbor_item.specs.WellFormed.{IsItemAt, IsEncodingOf}
 use Rattle.cbor_item.proofs.FirstByte.{not_empty}
 use Rattle.cbor_item.proofs.HeadLemmas.{front_begins_low, opening_begins}
 use Rattle.smithy_cbor.specs.Scalar.{text_of}
-use Rattle.smithy_cbor.specs.Standing.{cbor_relations, mark_with, end_mark, HasEntry, IsOver, FollowsInside}
+use Rattle.smithy_cbor.specs.Standing.{cbor_relations, mark_with, end_mark, HasEntry, IsOver}
 use Rattle.smithy_cbor.specs.Laws.{lawful}
-use Rattle.smithy_cbor.specs.Private.AtPlace.{IsNullAt, SkipsTo}
+use Rattle.smithy_cbor.specs.Private.AtPlace.{IsNullAt}
 use Rattle.smithy_cbor.specs.Private.ItemPlaces.{one_item}
 use Rattle.smithy_cbor.specs.Private.Present.{HasKey}
 use Rattle.smithy_cbor.proofs.OnLiterals.{smithy_cbor_on_literals}

@@ -1,5 +1,5 @@
 -- Where a structure goes on to, as the contract of reading says it.
-use Rattle.std.proofs.Common.{◌≡◌, ◌≤◌, ◌<◌, inl, inr, ℕ, zero, suc, length, List, [], ◌∷◌, Bool, Some, Option, Result, Ok, Err, refl, sym, ap, subst, ◌∙◌, arith, false}
+use Rattle.std.proofs.Common.{◌≡◌, ◌≤◌, inl, inr, ℕ, zero, suc, length, List, ◌∷◌, Bool, Some, Option, Result, Ok, Err, refl, sym, ap, subst, ◌∙◌, arith, false}
 use Rattle.smithy_schema.specs.declared.error.SerdeError.{SerdeError}
 use Rattle.smithy_schema.specs.declared.error.SerdeError.TheVariants.{InvalidInput, TooDeep, Unwritable, Failed, NoMemory}
 use Rattle.smithy_schema.specs.declared.place.Place.{Place}
@@ -15,7 +15,7 @@ use Rattle.smithy_cbor.specs.Private.Present.{Drops, StepsInStructure, ClosesStr
 use Rattle.smithy_cbor.specs.Private.Steering.{EndsEmpty, StepsTo}
 use Rattle.smithy_cbor.specs.Private.ItemBegins.{byte_within}
 use Rattle.smithy_cbor.proofs.EntryLemmas.{key_ahead}
-use Rattle.smithy_cbor.proofs.ReaderLemmas.{steps_in_structure, closes_structure, closes_empty, structure_is_stuck}
+use Rattle.smithy_cbor.proofs.ReaderLemmas.{steps_in_structure, closes_structure, structure_is_stuck}
 use Rattle.smithy_wire.specs.Walking.{gone_on_to}
 
 -- ---- the place of a member's value, and of an end

@@ -1,12 +1,10 @@
 -- How a container goes on is determined, entry by entry, and where it goes on it doesn't end.
-use Rattle.std.specs.Prelude.{◌≡◌, ◌<◌, ◌≤◌, ◌⊎◌, ℕ, zero, suc, length, drop, List, [], Option, Some, None, Bool, true, false, unwrap_or}
-use Rattle.std.proofs.Common.{sym, ◌∙◌, ap, arith, subst, inl, inr}
+use Rattle.std.specs.Prelude.{◌≡◌, ◌<◌, ◌≤◌, ◌⊎◌, ℕ, suc, length, drop, List, [], Option, Some, None, Bool, true, false, unwrap_or}
+use Rattle.std.proofs.Common.{sym, ◌∙◌, ap, arith, inl, inr}
 use Rattle.smithy_schema.specs.Reading.{Mark}
 use Rattle.smithy_schema.specs.Lemmas.Options.{same_some}
 use Rattle.cbor_item.specs.WellFormed.{break}
-use Rattle.smithy_cbor.specs.Scalar.{text_of}
-use Rattle.smithy_cbor.specs.Standing.{begins_with, null_byte, mark_with, end_mark, HasEntry, IsOver}
-use Rattle.smithy_cbor.specs.Private.ItemPlaces.{item_ahead, one_item, no_item}
+use Rattle.smithy_cbor.specs.Standing.{begins_with, mark_with, end_mark, HasEntry, IsOver}
 use Rattle.smithy_cbor.specs.Private.ItemBegins.{no_byte_in_nothing}
 
 -- ---- one entry, or the end

@@ -1,5 +1,5 @@
 -- What an item says as a kind is a value of the kind.
-use Rattle.std.specs.Prelude.{◌≡◌, ◌^◌, ℕ, ℤ, pos, neg_ℤ, int_le, int_lt, List, [], ◌∷◌, Option, Some, None, true, IsUtf8, option_map, cond}
+use Rattle.std.specs.Prelude.{◌≡◌, ◌^◌, ℕ, ℤ, pos, neg_ℤ, int_le, int_lt, List, [], ◌∷◌, Some, None, true, IsUtf8, option_map, cond}
 use Rattle.std.specs.List.{list_all, concat}
 use Rattle.std.specs.Str.{is_utf8}
 use Rattle.std.proofs.Common.{sym, ◌∙◌, arith, subst}

@@ -1,5 +1,5 @@
 -- CBOR is a wire: what is determined in its framing, how values begin, and that positions rise.
-use Rattle.std.specs.Prelude.{◌≡◌, ◌⊎◌, ◌<◌, ◌≤◌, ◌+◌, ◌-◌, ◌/◌, ◌==◌, ℕ, suc, length, drop, List, [], ◌∷◌, ◌++◌, slice_range, Option, Some, None, Bool, true, false, unwrap_or, cond, if◌then◌else◌, refl}
+use Rattle.std.specs.Prelude.{◌≡◌, ◌⊎◌, ◌<◌, ◌≤◌, ◌+◌, ◌-◌, ◌/◌, ◌==◌, ℕ, length, drop, List, [], ◌∷◌, ◌++◌, slice_range, Option, Some, None, Bool, true, false, unwrap_or, cond, if◌then◌else◌, refl}
 use Rattle.std.proofs.Common.{sym, ◌∙◌, ap, arith, inl, inr}
 use Rattle.std.proofs.lemmas.Bool.Decides.{nat_tests}
 use Rattle.smithy_schema.specs.Reading.{Mark}

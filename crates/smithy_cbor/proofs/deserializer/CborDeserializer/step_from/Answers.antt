@@ -1,4 +1,4 @@
-use Rattle.std.proofs.Common.{◌≡◌, false, true, refl, arith, sym, ap, ◌∙◌}
+use Rattle.std.proofs.Common.{◌≡◌, false, true, arith, sym, ap, ◌∙◌}
 use Rattle.smithy_schema.specs.declared.error.SerdeError.TheVariants.{InvalidInput}
 use Rattle.smithy_schema.specs.Site.{site_of}
 use Rattle.smithy_cbor.specs.Cursor.{cursor_of, reading_settings_of}
