@@ -7,13 +7,11 @@ use Rattle.smithy_schema.specs.Table.{Member, Kind, scalar, structure_of, list_o
 use Rattle.smithy_schema.specs.Site.{Site, kind_at, site_of_member, site_of_element, nameless_site, element_of, member_of}
 use Rattle.smithy_schema.specs.Value.{Value}
 use Rattle.smithy_schema.specs.Fits.{FitsOr}
+use Rattle.smithy_schema.specs.Lemmas.Options.{same_some}
 
 -- a site of this place, of the same table as the other one
 abbrev pub IsSiteOf : Place → Site → Site → Type 0
 IsSiteOf place outer inner = inner ≡ record { table = outer.table; place = place; view = inner.view }
-
-same_some : {A : Type 0} (a b : A) → Some a ≡ Some b → a ≡ b
-same_some a b h = cc
 
 abbrev element_in : Kind → Site → Site
 element_in kind site = option_map_or nameless_site (option_map (site_of_element site.table) (list_shape_of kind)) site

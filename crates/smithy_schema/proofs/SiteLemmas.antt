@@ -7,10 +7,8 @@ use Rattle.smithy_schema.specs.Accepted.{AreAcceptedMembers, HaveTextNames, IsAc
 use Rattle.smithy_schema.specs.Site.{Site, View, member_view, element_view, nameless, element_of, member_of}
 use Rattle.smithy_schema.specs.Value.{Value, Values, value, MemberValues, member_value}
 use Rattle.smithy_schema.specs.Fits.{FitsOr, ElementsFit, MembersFit}
+use Rattle.smithy_schema.specs.Lemmas.Options.{same_some}
 use Rattle.smithy_schema.proofs.NamedLemmas.{named_itself}
-
-same_some : {A : Type 0} (a b : A) → Some a ≡ Some b → a ≡ b
-same_some a b h = cc
 
 -- ---- sites
 

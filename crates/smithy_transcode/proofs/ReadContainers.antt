@@ -4,6 +4,7 @@ use Rattle.smithy_schema.specs.declared.place.Place.{Place}
 use Rattle.smithy_schema.specs.Table.{Table, Kind, scalar, structure_of, list_of, nothing, kind_of, place_in, IsStructure, IsSparse}
 use Rattle.smithy_schema.specs.Value.{Value}
 use Rattle.smithy_schema.specs.Container.{container_of}
+use Rattle.smithy_schema.specs.Lemmas.Options.{same_some}
 use Rattle.smithy_schema.specs.Reading.{Cursor, Within, depth, Relations, Mark, Child, child_value, child_unknown, child_null, entry_of, named, IsChild, Chain, Contains, IsContainer, IsLawful, IsBelow, Passes, Reads, Enters, Steps, Leaves, CannotGoOn}
 
 -- From s0, where a container of the place was due, the reader came to s inside it. The container is
@@ -75,9 +76,6 @@ begin w u max laws over below s0 s t p k kind enters = record {
 }
 
 -- a child and its end are determined by the step
-pub same_some : {A : Type 0} (a b : A) → Some a ≡ Some b → a ≡ b
-same_some a b h = cc
-
 pub no_place : (k : Kind) → IsStructure k → (q : Place) → place_in k None ≡ Some q → ⊥
 no_place (scalar s) h q e = elim h [ ]
 no_place (structure_of members) h q e = cc

@@ -6,8 +6,9 @@ use Rattle.smithy_schema.specs.Site.{Site, site_of, site_of_element, element_sit
 use Rattle.smithy_schema.specs.Table.{Table, Kind, scalar, structure_of, list_of, nothing, kind_of, place_in, IsList, IsSparse, IsStructure, is_sparse, list_shape_of}
 use Rattle.smithy_schema.specs.Value.{Value, list, values_of, null_element}
 use Rattle.smithy_schema.specs.Container.{elements_from, container_of}
+use Rattle.smithy_schema.specs.Lemmas.Options.{same_some}
 use Rattle.smithy_schema.specs.Reading.{Cursor, in_list, depth, Relations, Child, child_value, child_unknown, child_null, entry_of, IsChild, IsContainer, IsLawful, IsBelow, Passes, Reads, Enters, Steps, StandsNot, NullsNot, null_is_due}
-use Rattle.smithy_transcode.proofs.ReadContainers.{InContainer, worth_as, begin, child_read, no_child, same_some}
+use Rattle.smithy_transcode.proofs.ReadContainers.{InContainer, worth_as, begin, child_read, no_child}
 
 -- the list that more children make behind these values
 abbrev pub list_value : Bool → List Value → List Child → Option Value

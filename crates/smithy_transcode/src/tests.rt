@@ -6,6 +6,7 @@ use std::alloc::Global;
 use std::test::Fail;
 
 mod cbor;
+mod refusals;
 
 const TABLE: &[u8] = b"structure S\nmember a long\nmember b long\nmember s string\n";
 

@@ -445,3 +445,12 @@ fn what_is_passed_over_may_nest_deeper(rt: HostRuntime) -> Result<(), Fail> {
     assert_eq!(rt; no_break, Err(SerdeError::InvalidInput), "no break");
     Ok(())
 }
+
+#[test]
+fn a_null_is_told_and_read(rt: HostRuntime) -> Result<(), Fail> {
+    let mut source = CborCodec::strict().create_deserializer(rt.alloc(), b"\xf6");
+    assert!(rt; source.is_null());
+    assert_eq!(rt; source.read_null(), Ok(()), "a null");
+    assert_eq!(rt; source.position(), 1);
+    Ok(())
+}
