@@ -13,12 +13,13 @@ use Rattle.smithy_schema.specs.Reading.{Cursor, Frame, depth, passed_to, Mark, P
 use Rattle.smithy_cbor.specs.Cursor.{inside_of}
 use Rattle.smithy_cbor.specs.Settings.{Settings, Limits, kept, lifted, is_within}
 use Rattle.smithy_cbor.specs.Standing.{Follows, FollowsInside, HasEntry, IsOver, mark_with, end_mark, cbor_relations}
-use Rattle.smithy_cbor.specs.Private.AtPlace.{IsLongAt, HasTextAt, SkipsTo}
+use Rattle.smithy_cbor.specs.Private.ScalarAtPlace.{IsLongAt, HasTextAt}
+use Rattle.smithy_cbor.specs.Private.Skipping.{SkipsTo}
 use Rattle.smithy_cbor.specs.Private.Entries.{same_over, entry_or_over}
 use Rattle.smithy_cbor.specs.Private.ItemPlaces.{item_ahead, one_item}
 use Rattle.smithy_cbor.proofs.EntryLemmas.{entry_by_due, over_by_due}
 use Rattle.smithy_cbor.proofs.ReaderLemmas.{opens_empty, steps_in_list, closes_list, list_is_stuck, long_stands, stands_long, text_stands, stands_text}
-use Rattle.smithy_cbor.proofs.SkippedItems.{skips_are}
+use Rattle.smithy_cbor.proofs.SkippedValues.{skips_are}
 use Rattle.smithy_wire.specs.Walking.{entered_into, gone_on_to}
 
 -- the value that is due was passed

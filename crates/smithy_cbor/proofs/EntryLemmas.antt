@@ -2,9 +2,9 @@
 use Rattle.std.proofs.Common.{◌≡◌, ◌<◌, inl, inr, ℕ, List, sym, ◌∙◌}
 use Rattle.smithy_schema.specs.Reading.{Mark}
 use Rattle.smithy_cbor.specs.Standing.{HasEntry, IsOver}
-use Rattle.smithy_cbor.specs.Private.AtPlace.{HasTextAt}
+use Rattle.smithy_cbor.specs.Private.ScalarAtPlace.{HasTextAt}
 use Rattle.smithy_cbor.specs.Private.ItemPlaces.{item_ahead}
-use Rattle.smithy_cbor.specs.Private.Present.{HasKey}
+use Rattle.smithy_cbor.specs.Private.MembersBehindNulls.{HasKey}
 
 pub entry_by_due : (i : List ℕ) (b : ℕ) (m k n : Mark) → m.due ≡ k.due → HasEntry i b m n → HasEntry i b k n
 entry_by_due i b m k n same (inl (count, due, after)) = inl (count, sym same ∙ due, after)

@@ -6,8 +6,8 @@ mod MeaningFacts
 mod SpellingFacts
 mod WritingFacts
 mod StandingFacts
-pub mod HeadFacts
-pub mod Types
+pub mod HeadLemmas
+pub mod NullTypes
 pub mod SpellingLemmas
 pub mod WritingLemmas
 pub mod WrittenItem
@@ -16,11 +16,11 @@ pub mod WrittenMeaning
 pub mod WrittenSpelling
 pub mod NestedMeaning
 pub mod HeadFaults
-pub mod ValueFacts
-pub mod LongFacts
+pub mod TextLemmas
+pub mod LongLemmas
 pub mod EntryLemmas
-pub mod PresentLemmas
+pub mod MembersBehindNullsLemmas
 pub mod ReaderLemmas
-pub mod SkippedItems
+pub mod SkippedValues
 pub mod DeserializerLemmas
-pub mod SteeringLemmas
+pub mod StructureStepsLemmas

@@ -14,9 +14,9 @@ use Rattle.smithy_cbor.specs.Scalar.{is_long, integer_of, text_of, long_of}
 use Rattle.smithy_cbor.specs.Meaning.{node_of, rules_of}
 use Rattle.smithy_cbor.specs.Reading.{OpensAt}
 use Rattle.smithy_cbor.specs.Standing.{Follows, FollowsInside, HasEntry, IsOver, mark_with, end_mark, cbor_frames, cbor_relations}
-use Rattle.smithy_cbor.specs.Private.AtPlace.{IsLongAt, HasTextAt}
+use Rattle.smithy_cbor.specs.Private.ScalarAtPlace.{IsLongAt, HasTextAt}
 use Rattle.smithy_cbor.specs.Private.Fits.{long_is}
-use Rattle.smithy_cbor.specs.Private.Present.{Drops as NullsLie, StepsInStructure, ClosesStructure, EntryMissing}
+use Rattle.smithy_cbor.specs.Private.MembersBehindNulls.{Drops as NullsLie, StepsInStructure, ClosesStructure, EntryMissing}
 use Rattle.smithy_cbor.specs.Private.Wire.{cbor_is_wire}
 use Rattle.smithy_cbor.proofs.EntryLemmas.{entry_by_due, over_by_due, key_by_due}
 use Rattle.smithy_wire.specs.Node.{as_array, as_object, leaf}

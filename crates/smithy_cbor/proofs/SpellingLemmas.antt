@@ -14,7 +14,7 @@ use Rattle.smithy_cbor.specs.Settings.{Settings, is_shallow}
 use Rattle.smithy_cbor.specs.Meaning.{node_of, rules_of, cbor_meaning}
 use Rattle.smithy_cbor.specs.Spelling.{cbor_spells}
 use Rattle.smithy_cbor.specs.Standing.{cbor_frames, cbor_relations}
-use Rattle.smithy_cbor.specs.Private.Items.{item_lies, lies_item, lies_full}
+use Rattle.smithy_cbor.specs.Private.NodePlaces.{item_lies, lies_item, lies_full}
 use Rattle.smithy_wire.specs.Node.{Node, null_node, leaf, container, missing}
 use Rattle.smithy_wire.specs.Meaning.{missing_meaning, meaning}
 use Rattle.smithy_wire.specs.Frames.{Lies}

@@ -13,14 +13,14 @@ use Rattle.cbor_item.proofs.HeadLemmas.{front_begins_low, opening_begins}
 use Rattle.smithy_cbor.specs.Scalar.{text_of}
 use Rattle.smithy_cbor.specs.Standing.{cbor_relations, mark_with, end_mark, HasEntry, IsOver}
 use Rattle.smithy_cbor.specs.Laws.{lawful}
-use Rattle.smithy_cbor.specs.Private.AtPlace.{IsNullAt}
+use Rattle.smithy_cbor.specs.Private.ScalarAtPlace.{IsNullAt}
 use Rattle.smithy_cbor.specs.Private.ItemPlaces.{one_item}
-use Rattle.smithy_cbor.specs.Private.Present.{HasKey}
+use Rattle.smithy_cbor.specs.Private.MembersBehindNulls.{HasKey}
 use Rattle.smithy_cbor.proofs.OnLiterals.{smithy_cbor_on_literals}
 use Rattle.smithy_cbor.proofs.Examples.{one_long, lists_of_strings, long_place, strict, empty_structure}
 use Rattle.smithy_cbor.proofs.EncodedItems.{in_one_byte, a_key, z_key, no_text, small}
 use Rattle.smithy_cbor.proofs.ReaderLemmas.{opens_list, steps_in_list, closes_list, list_is_stuck, opens_structure, opens_empty, steps_in_structure, closes_structure, closes_empty, structure_is_stuck, long_stands, stands_long}
-use Rattle.smithy_cbor.proofs.SkippedItems.{skips_are}
+use Rattle.smithy_cbor.proofs.SkippedValues.{skips_are}
 use Rattle.smithy_wire.specs.Node.{missing}
 
 abbrev strictly : Relations

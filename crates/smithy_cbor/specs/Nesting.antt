@@ -5,7 +5,7 @@ use Rattle.cbor_item.specs.Head.{shortest_head}
 use Rattle.smithy_cbor.specs.Scalar.{null_value}
 use Rattle.smithy_cbor.specs.Canonical.{scalar_bytes}
 use Rattle.smithy_cbor.specs.Writing.{CborState, wrote, opened, cbor_after}
-use Rattle.smithy_cbor.specs.Private.Nested.{structure_closes, list_closes, no_structure_closes, no_list_closes, structure_grows, list_grows, made_grows}
+use Rattle.smithy_cbor.specs.Private.WrittenEnds.{structure_closes, list_closes, no_structure_closes, no_list_closes, structure_grows, list_grows, made_grows}
 
 -- what an end closes is what was begun
 pub cbor_nests : IsNested cbor_after (λ (s : CborState). s.frames)

@@ -55,7 +55,7 @@ impl<'a> CborDeserializer<'a> {
     ghost use Rattle.smithy_cbor.specs.Cursor.{cursor_of, reading_settings_of};
     ghost use Rattle.smithy_cbor.specs.Settings.{Settings};
     ghost use Rattle.smithy_cbor.specs.Standing.{cbor_relations};
-    ghost use Rattle.smithy_cbor.specs.Private.Steering.{EndsEmpty, StepsTo};
+    ghost use Rattle.smithy_cbor.specs.Private.StructureSteps.{EndsEmpty, StepsTo};
     ghost use Rattle.smithy_wire.specs.Walking.{fresh_cursor};
 
     // A fresh reader.

@@ -2,7 +2,7 @@
 
 ghost use Rattle.std.specs.Prelude.{◌≡◌, ◌⊎◌, ◌≤◌, length, IfOk, IfErr};
 ghost use Rattle.smithy_schema.specs.declared.error.SerdeError.TheVariants.{InvalidInput, NoMemory};
-ghost use Rattle.smithy_cbor.specs.Private.Present.{IsEntry, IsNext, EntryMissing, NothingComes};
+ghost use Rattle.smithy_cbor.specs.Private.MembersBehindNulls.{IsEntry, IsNext, EntryMissing, NothingComes};
 
 use crate::places::{EntryOrEnd, entry_or_end, may_leave, null_end};
 use crate::values::text_at;

@@ -4,7 +4,8 @@ ghost use Rattle.std.specs.Prelude.{◌≡◌, ◌≤◌, ◌↔◌, ℕ, Option
 ghost use Rattle.smithy_cbor.specs.DecoderView.{input_of, position_of};
 ghost use Rattle.smithy_cbor.specs.Reading.{OpensAt};
 ghost use Rattle.smithy_cbor.specs.Standing.{null_byte, begins_with, Follows, FollowsInside};
-ghost use Rattle.smithy_cbor.specs.Private.AtPlace.{IsEntryOrEnd, IsNullAt};
+ghost use Rattle.smithy_cbor.specs.Private.NextInContainer.{IsEntryOrEnd};
+ghost use Rattle.smithy_cbor.specs.Private.ScalarAtPlace.{IsNullAt};
 
 use crate::decoder::Decoder;
 use crate::initial::{BREAK, NULL_BYTE};

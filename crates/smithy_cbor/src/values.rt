@@ -4,7 +4,8 @@ ghost use Rattle.std.specs.Prelude.{◌≡◌, ◌⊎◌, ◌≤◌, ℕ, ℤ, L
 ghost use Rattle.std.specs.Cow.{cow_str_bytes};
 ghost use Rattle.smithy_schema.specs.declared.error.SerdeError.TheVariants.{InvalidInput, NoMemory};
 ghost use Rattle.smithy_cbor.specs.Standing.{Follows};
-ghost use Rattle.smithy_cbor.specs.Private.AtPlace.{IsLongAt, HasTextAt, SkipsTo, refusal_of};
+ghost use Rattle.smithy_cbor.specs.Private.ScalarAtPlace.{IsLongAt, HasTextAt, refusal_of};
+ghost use Rattle.smithy_cbor.specs.Private.Skipping.{SkipsTo};
 
 use crate::decoder::Decoder;
 use crate::places::{decoder_at, may_end};

@@ -6,7 +6,7 @@ use Rattle.smithy_json_codec.specs.Standing.{Lies, IsByte, TreeLies, FollowsInsi
 use Rattle.smithy_json_codec.specs.Deepest.{has_come, EntriesLie, IsDueInside, OpensTooDeep}
 use Rattle.smithy_json_codec.specs.Private.ArrayPlaces.{ElementsLie, child_lies, elements_text}
 use Rattle.smithy_json_codec.specs.Private.ObjectPlaces.{MembersLie, members_text}
-use Rattle.smithy_json_codec.specs.Private.GoingOn.{ClosesBy}
+use Rattle.smithy_json_codec.specs.Private.NextInContainer.{ClosesBy}
 use Rattle.smithy_json_codec.specs.Private.Skipping.{ScalarLies, opening, closing, ValueBegins}
 use Rattle.smithy_json_codec.proofs.OpenContainers.{stack_of, stack_of-push, stack_of-pop}
 

@@ -19,10 +19,11 @@ use Rattle.smithy_json_codec.specs.Cursor.{inside_of}
 use Rattle.smithy_wire.specs.Walking.{gone_on_to}
 use Rattle.smithy_json_codec.specs.Settings.{Settings, without_limits, is_shallow, kept}
 use Rattle.smithy_json_codec.specs.Standing.{json_relations, TreeLies, end_mark}
-use Rattle.smithy_json_codec.specs.Private.GoingOn.{LongLies, ElementBegins, ClosesBy, GoesOnInList}
+use Rattle.smithy_json_codec.specs.Private.NextInContainer.{ElementBegins, ClosesBy, GoesOnInList}
+use Rattle.smithy_json_codec.specs.Private.ScalarAtPlace.{LongLies}
 use Rattle.smithy_json_codec.specs.Private.Skipping.{SkipsTo}
 use Rattle.smithy_json_codec.proofs.ReaderLemmas.{long_stands, stands_long, text_stands, stands_text, steps_in_list, list_is_stuck, one_tree}
-use Rattle.smithy_json_codec.proofs.SkippedTrees.{skips_are}
+use Rattle.smithy_json_codec.proofs.SkippedValues.{skips_are}
 
 -- the value that is due was passed
 pub passes : (old new : Cursor) (e : ℕ) → old.failed ≡ false → new ≡ passed_to old e → Passes old new

@@ -1,23 +1,24 @@
 mod Examples
 mod StandardFacts
+mod MeaningFacts
+mod StandingFacts
+mod WritingFacts
 pub mod SpellingLemmas
 pub mod ReaderLemmas
-pub mod FirstByteLemmas
-pub mod SkippedTrees
-pub mod SkipLemmas
-pub mod SkipStates
-pub mod FrontLemmas
-pub mod ByteLemmas
-pub mod ValueLemmas
+pub mod SkippedValues
+pub mod ScannedPlaces
+pub mod FirstBytePlaces
+pub mod FirstBytes
+pub mod ScannedValues
 pub mod OptionLemmas
-pub mod GoingOnLemmas
-pub mod LeadingLemmas
+pub mod NextInContainerLemmas
+pub mod ValueFirstByte
 pub mod ScalarLemmas
-pub mod WalkLemmas
+pub mod SkipSteps
 pub mod OpenContainers
 pub mod DeserializerLemmas
-pub mod SteeringLemmas
-pub mod PresentLemmas
+pub mod StructureStepsLemmas
+pub mod MembersBehindNullsLemmas
 pub mod WritingLemmas
 pub mod NestedMeaning
 pub mod WrittenTree
@@ -25,5 +26,5 @@ pub mod WrittenMeaning
 pub mod WrittenSpelling
 mod OpenersFacts
 pub mod OpenersLemmas
-pub mod OpenWalkLemmas
+pub mod SkipStepOpeners
 pub mod DeepestLemmas

@@ -5,11 +5,14 @@ use Rattle.smithy_json.specs.Tree.{Json, null, boolean, number, string, array, o
 use Rattle.smithy_json_codec.specs.Standing.{Lies, IsByte, IsSeparated, Names, TreeLies, FollowsContainer}
 use Rattle.smithy_json_codec.specs.Private.ArrayPlaces.{ChildLies, child_lies, lies_inside, ElementsLie, elements_text, text_elements}
 use Rattle.smithy_json_codec.specs.Private.ObjectPlaces.{MembersLie, members_text, text_members}
-use Rattle.smithy_json_codec.specs.Private.Fronts.{same_byte, same_separated, same_names, names_or_end, one_tree}
+use Rattle.smithy_json_codec.specs.Private.BytePlaces.{same_byte, same_separated}
+use Rattle.smithy_json_codec.specs.Private.NamePlaces.{same_names, names_or_end}
+use Rattle.smithy_json_codec.specs.Private.ValuePlaces.{one_tree}
 use Rattle.smithy_json_codec.specs.Private.Lexical.{is_numeric}
-use Rattle.smithy_json_codec.specs.Private.GoingOn.{ElementBegins, ClosesBy}
+use Rattle.smithy_json_codec.specs.Private.NextInContainer.{ElementBegins, ClosesBy}
 use Rattle.smithy_json_codec.specs.Private.Skipping.{SkipsTo, ScalarLies, NoValueLies, opening, closing, ValueBegins}
-use Rattle.smithy_json_codec.proofs.LeadingLemmas.{Leads, led_by, follows_flat}
+use Rattle.smithy_json_codec.proofs.FirstBytes.{BeginsWith}
+use Rattle.smithy_json_codec.proofs.ValueFirstByte.{begins_with_byte, follows_flat}
 
 -- how many containers are open, at least d; the innermost stands first, and objects are true
 abbrev pub level : ℕ → List Bool → ℕ
@@ -60,9 +63,9 @@ module _ (greatest d : ℕ) (ks : List Bool) (i : List ℕ) (c e : ℕ) where
 -- it is one of the kind that its bracket tells
 module _ (d : ℕ) (i : List ℕ) (c b e : ℕ) where
   the_array : Lies (IsByte begin_array) i c b → (x : Json) → TreeLies d x i c e → (es : Elements) × (x ≡ array es)
-  the_array o x h = go x (led_by i c begin_array b refl o d x e h)
+  the_array o x h = go x (begins_with_byte i c begin_array b refl o d x e h)
     where
-      go : (x : Json) → Leads x begin_array → (es : Elements) × (x ≡ array es)
+      go : (x : Json) → BeginsWith x begin_array → (es : Elements) × (x ≡ array es)
       go null l = absurd (omega (arith, l))
       go (boolean true) l = absurd (omega (arith, l))
       go (boolean false) l = absurd (omega (arith, l))
@@ -72,9 +75,9 @@ module _ (d : ℕ) (i : List ℕ) (c b e : ℕ) where
       go (object ms) l = absurd (omega (arith, l))
 
   the_object : Lies (IsByte begin_object) i c b → (x : Json) → TreeLies d x i c e → (ms : Members) × (x ≡ object ms)
-  the_object o x h = go x (led_by i c begin_object b refl o d x e h)
+  the_object o x h = go x (begins_with_byte i c begin_object b refl o d x e h)
     where
-      go : (x : Json) → Leads x begin_object → (ms : Members) × (x ≡ object ms)
+      go : (x : Json) → BeginsWith x begin_object → (ms : Members) × (x ≡ object ms)
       go null l = absurd (omega (arith, l))
       go (boolean true) l = absurd (omega (arith, l))
       go (boolean false) l = absurd (omega (arith, l))
@@ -189,9 +192,9 @@ module _ (greatest d : ℕ) (ks : List Bool) (i : List ℕ) (b c e : ℕ) where
 
 -- where a value lies, no array ends
 value_or_end : (i : List ℕ) (c f e : ℕ) (x : Json) → ChildLies x i c f → Lies (IsByte end_array) i c e → ⊥
-value_or_end i c f e x child h = go x (led_by i c end_array e refl h 1 x f (lies_inside 0 x i c f child))
+value_or_end i c f e x child h = go x (begins_with_byte i c end_array e refl h 1 x f (lies_inside 0 x i c f child))
   where
-    go : (x : Json) → Leads x end_array → ⊥
+    go : (x : Json) → BeginsWith x end_array → ⊥
     go null l = omega (arith, l)
     go (boolean true) l = omega (arith, l)
     go (boolean false) l = omega (arith, l)

@@ -8,7 +8,7 @@ use Rattle.smithy_json.specs.Tree.{Json}
 use Rattle.smithy_json.specs.Grammar.{IsValue}
 use Rattle.smithy_json_codec.specs.Standing.{Lies, IsByte, IsSeparated, Names}
 use Rattle.smithy_json_codec.specs.Openers.{json_openers}
-use Rattle.smithy_json_codec.specs.Private.OpenPlaces.{across_begin_array, across_begin_object, across_value, across_separator, across_name, across_end_array, across_end_object}
+use Rattle.smithy_json_codec.specs.Private.OpenersAtPlaces.{across_begin_array, across_begin_object, across_value, across_separator, across_name, across_end_array, across_end_object}
 
 module _ (i : List ℕ) (start : ℕ) where
   -- the loop invariant, for a skipper that has come to `here` and has `count` containers open

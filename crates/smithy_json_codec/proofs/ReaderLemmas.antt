@@ -15,16 +15,18 @@ use Rattle.smithy_json_codec.specs.Scalar.{JsonScalar, a_boolean, a_number, a_st
 use Rattle.smithy_json_codec.specs.Settings.{Settings}
 use Rattle.smithy_json_codec.specs.Meaning.{rules_of}
 use Rattle.smithy_json_codec.specs.Standing.{Lies, FollowsInside, TreeLies, IsByte, IsSeparated, Names, fresh_mark, end_mark, entry_mark, json_frames, json_relations}
-use Rattle.smithy_json_codec.specs.Private.Present.{Drops as NullsLie, EntryMissing}
+use Rattle.smithy_json_codec.specs.Private.MembersBehindNulls.{Drops as NullsLie, EntryMissing}
 use Rattle.smithy_json_codec.specs.Private.Wire.{json_is_wire}
 use Rattle.smithy_wire.specs.Node.{as_array, as_object}
 use Rattle.smithy_wire.specs.Frames.{IsTold, DropsAll}
 use Rattle.smithy_wire.specs.Readers.{settled_answer, scalar_stands, stands_scalar, opens_not, cannot_go_on}
-use Rattle.smithy_wire.specs.Entries.{null_is_dropped, step_to_entry, close_at_end, list_drops_nothing, step_to_element, close_list}
+use Rattle.smithy_wire.specs.Entries.{null_is_dropped, step_to_entry, close_at_end, list_drops_nothing, step_to_element}
 use Rattle.smithy_wire.specs.Lemmas.Places.{structure_is_object, list_is_array}
 -- what stands behind white space, in Private: a byte, a name and a value are determined, with their ends
 pub use Rattle.smithy_json_codec.specs.Private.Lexical.{past_ws, ws_boundary, value_begins}
-pub use Rattle.smithy_json_codec.specs.Private.Fronts.{settle, settle_at, past_byte, same_byte, past_name_front, raw_is, colon_is, same_names, names_or_end, past_value, value_first, one_tree}
+pub use Rattle.smithy_json_codec.specs.Private.BytePlaces.{settle, settle_at, past_byte, same_byte}
+pub use Rattle.smithy_json_codec.specs.Private.NamePlaces.{past_name_front, raw_is, colon_is, same_names, names_or_end}
+pub use Rattle.smithy_json_codec.specs.Private.ValuePlaces.{past_value, value_first, one_tree}
 
 -- ---- a list at a place
 
@@ -43,11 +45,6 @@ module _ (o : Settings) (i : List ℕ) (t : Table) (p : Place) (kind : IsList (k
   pub steps_in_list : (d b : ℕ) (m : Mark) (c : ℕ) → IsSeparated m.entered i b c → ((e : ℕ) → Lies (IsByte end_array) i c e → ⊥)
       → (json_relations o).steps i t p d b m None c entry_mark
   steps_in_list d b m c h none = step_to_element json_frames (rules_of o) i t p d kind b m None c entry_mark (refl, refl, h, none)
-
-  -- a closing bracket closes it, where so deep a list may end
-  pub closes_list : (d b : ℕ) (m : Mark) (e : ℕ) → Lies (IsByte end_array) i b e → FollowsInside d (drop e i)
-      → (json_relations o).closes i t p d b m e
-  closes_list d b m e h follows = close_list json_frames (rules_of o) i t p d kind b m e h follows
 
   -- where neither an element nor its end comes, it can't go on
   pub list_is_stuck : (d b : ℕ) (m : Mark) → ((c : ℕ) → IsSeparated m.entered i b c → ((e : ℕ) → Lies (IsByte end_array) i c e → ⊥) → ⊥)
@@ -88,10 +85,6 @@ module _ (o : Settings) (i : List ℕ) (t : Table) (p : Place) (kind : IsStructu
   pub opens_structure : (d a b : ℕ) → Lies (IsByte begin_object) i a b → (json_relations o).opens i t p d a b fresh_mark
   opens_structure d a b h = inl (as_object, structure_is_object (kind_of t p) kind, (refl, h))
 
-  -- and so it does in an empty input
-  pub opens_empty : (d : ℕ) → i ≡ [] → (json_relations o).opens i t p d 0 0 end_mark
-  opens_empty d empty = inr (kind, (empty, refl), refl, refl)
-
   -- without its bracket, and where the input isn't empty, no structure opens
   pub opens_no_structure : (d a : ℕ) → ((b : ℕ) → Lies (IsByte begin_object) i a b → ⊥) → (i ≡ [] → a ≡ 0 → ⊥)
       → (b : ℕ) (m : Mark) → (json_relations o).opens i t p d a b m → ⊥
@@ -114,10 +107,6 @@ module _ (o : Settings) (i : List ℕ) (t : Table) (p : Place) (kind : IsStructu
   closes_structure d k b m at after e drops h follows =
       let passed = drops_all o i t p d kind k b m at after drops in
       close_at_end json_frames (rules_of o) i t p d (λ q. refl) kind k b m at passed.0 e passed.2 h follows
-
-  -- an empty input closes it
-  pub closes_empty : (d b : ℕ) (m : Mark) → m ≡ end_mark → i ≡ [] → b ≡ 0 → 0 < d → (json_relations o).closes i t p d b m 0
-  closes_empty d b m at_end empty start inside = inr (kind, (empty, start), sym start, at_end, inside)
 
   -- where behind some dropped members neither a name with a text nor its end comes, it can't go on
   pub structure_is_stuck : (d k b : ℕ) (m : Mark) (at : ℕ) (after : Bool) → NullsLie k i b m.entered at after → EntryMissing i at after d

@@ -4,10 +4,11 @@ use Rattle.smithy_json.specs.Ascii.{quotation_mark, begin_array, begin_object}
 use Rattle.smithy_json.specs.Tree.{Json, null, boolean, number, string, array, object}
 use Rattle.smithy_json_codec.specs.Standing.{TreeLies}
 use Rattle.smithy_json_codec.specs.Private.Lexical.{is_numeric}
-use Rattle.smithy_json_codec.specs.Private.GoingOn.{IsFirstByte}
+use Rattle.smithy_json_codec.specs.Private.NextInContainer.{IsFirstByte}
 use Rattle.smithy_json_codec.specs.Private.Skipping.{NoValueLies}
-use Rattle.smithy_json_codec.proofs.ByteLemmas.{first_lies}
-use Rattle.smithy_json_codec.proofs.LeadingLemmas.{Leads, led_by}
+use Rattle.smithy_json_codec.proofs.FirstBytePlaces.{first_lies}
+use Rattle.smithy_json_codec.proofs.FirstBytes.{BeginsWith}
+use Rattle.smithy_json_codec.proofs.ValueFirstByte.{begins_with_byte}
 
 -- a byte in two roles
 two_bytes : (b x y : ℕ) → b ≡ x → b ≡ y → x ≢ y → ⊥
@@ -17,13 +18,13 @@ no_number : (b x : ℕ) → b ≡ x → is_numeric x ≡ false → is_numeric b 
 no_number b x same fails holds = let at_x : is_numeric x ≡ true = rw same at holds in cc
 
 module _ (i : List ℕ) (at b start : ℕ) (here : IsFirstByte i at b start) where
-  led : (d : ℕ) (x : Json) (e : ℕ) → TreeLies d x i at e → Leads x b
-  led = led_by i at b (start + 1) here.plain (first_lies i at b start here)
+  begins_so : (d : ℕ) (x : Json) (e : ℕ) → TreeLies d x i at e → BeginsWith x b
+  begins_so = begins_with_byte i at b (start + 1) here.plain (first_lies i at b start here)
 
   pub no_string : b ≡ quotation_mark → ((raw : List ℕ) (e : ℕ) → TreeLies 1 (string raw) i at e → ⊥) → NoValueLies i at
-  no_string is none d x e h = go x (led d x e h) h
+  no_string is none d x e h = go x (begins_so d x e h) h
     where
-      go : (x : Json) → Leads x b → TreeLies d x i at e → ⊥
+      go : (x : Json) → BeginsWith x b → TreeLies d x i at e → ⊥
       go null l h = two_bytes b 0x6e quotation_mark l is (omega arith)
       go (boolean true) l h = two_bytes b 0x74 quotation_mark l is (omega arith)
       go (boolean false) l h = two_bytes b 0x66 quotation_mark l is (omega arith)
@@ -33,9 +34,9 @@ module _ (i : List ℕ) (at b start : ℕ) (here : IsFirstByte i at b start) whe
       go (object ms) l h = two_bytes b begin_object quotation_mark l is (omega arith)
 
   pub no_null : b ≡ 0x6e → ((e : ℕ) → TreeLies 1 null i at e → ⊥) → NoValueLies i at
-  no_null is none d x e h = go x (led d x e h) h
+  no_null is none d x e h = go x (begins_so d x e h) h
     where
-      go : (x : Json) → Leads x b → TreeLies d x i at e → ⊥
+      go : (x : Json) → BeginsWith x b → TreeLies d x i at e → ⊥
       go null l h = none e h
       go (boolean true) l h = two_bytes b 0x74 0x6e l is (omega arith)
       go (boolean false) l h = two_bytes b 0x66 0x6e l is (omega arith)
@@ -45,9 +46,9 @@ module _ (i : List ℕ) (at b start : ℕ) (here : IsFirstByte i at b start) whe
       go (object ms) l h = two_bytes b begin_object 0x6e l is (omega arith)
 
   pub no_boolean : (b ≡ 0x74) ⊎ (b ≡ 0x66) → ((t : Bool) (e : ℕ) → TreeLies 1 (boolean t) i at e → ⊥) → NoValueLies i at
-  no_boolean is none d x e h = go x is (led d x e h) h
+  no_boolean is none d x e h = go x is (begins_so d x e h) h
     where
-      go : (x : Json) → (b ≡ 0x74) ⊎ (b ≡ 0x66) → Leads x b → TreeLies d x i at e → ⊥
+      go : (x : Json) → (b ≡ 0x74) ⊎ (b ≡ 0x66) → BeginsWith x b → TreeLies d x i at e → ⊥
       go null (inl t) l h = two_bytes b 0x6e 0x74 l t (omega arith)
       go null (inr f) l h = two_bytes b 0x6e 0x66 l f (omega arith)
       go (boolean t) is l h = none t e h
@@ -63,9 +64,9 @@ module _ (i : List ℕ) (at b start : ℕ) (here : IsFirstByte i at b start) whe
   -- with any other byte only a number begins
   pub only_number : b ≢ quotation_mark → b ≢ 0x6e → b ≢ 0x74 → b ≢ 0x66 → b ≢ begin_array → b ≢ begin_object
       → ((raw : List ℕ) (e : ℕ) → TreeLies 1 (number raw) i at e → ⊥) → NoValueLies i at
-  only_number q n t f a o none d x e h = go x (led d x e h) h
+  only_number q n t f a o none d x e h = go x (begins_so d x e h) h
     where
-      go : (x : Json) → Leads x b → TreeLies d x i at e → ⊥
+      go : (x : Json) → BeginsWith x b → TreeLies d x i at e → ⊥
       go null l h = n l
       go (boolean true) l h = t l
       go (boolean false) l h = f l

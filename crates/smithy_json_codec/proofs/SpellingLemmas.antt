@@ -14,8 +14,9 @@ use Rattle.smithy_json_codec.specs.Spelling.{json_spells}
 use Rattle.smithy_json_codec.specs.Laws.{lawful}
 use Rattle.smithy_json_codec.specs.Standing.{Follows, TreeLies, json_frames, json_relations}
 use Rattle.smithy_json_codec.specs.Private.Lexical.{ws_is_boundary}
-use Rattle.smithy_json_codec.specs.Private.Fronts.{settle, one_tree}
-use Rattle.smithy_json_codec.specs.Private.Trees.{tree_lies, lies_tree, lies_full}
+use Rattle.smithy_json_codec.specs.Private.BytePlaces.{settle}
+use Rattle.smithy_json_codec.specs.Private.ValuePlaces.{one_tree}
+use Rattle.smithy_json_codec.specs.Private.NodePlaces.{tree_lies, lies_tree, lies_full}
 use Rattle.smithy_wire.specs.Node.{Node, null_node, leaf, container, missing}
 use Rattle.smithy_wire.specs.Meaning.{missing_meaning, meaning}
 use Rattle.smithy_wire.specs.Frames.{Lies}

@@ -4,7 +4,7 @@ use Rattle.smithy_schema.specs.Writing.{Event, begin_structure, end_structure, b
 use Rattle.smithy_json.specs.Ascii.{begin_array, begin_object}
 use Rattle.smithy_json_codec.specs.Canonical.{scalar_text}
 use Rattle.smithy_json_codec.specs.Writing.{JsonState, wrote, opened, json_after}
-use Rattle.smithy_json_codec.specs.Private.Calls.{structure_closes, list_closes, no_structure_closes, no_list_closes, structure_grows, list_grows, made_grows}
+use Rattle.smithy_json_codec.specs.Private.WrittenEnds.{structure_closes, list_closes, no_structure_closes, no_list_closes, structure_grows, list_grows, made_grows}
 
 pub json_nests : IsNested json_after (λ (s : JsonState). s.frames)
 json_nests = record {

@@ -1,19 +1,23 @@
 -- for the laws, from the bytes up
 pub mod Lexical
-pub mod PlainReader
-pub mod Fronts
-pub mod Sorts
+pub mod TextParts
+pub mod OneTree
+pub mod BytePlaces
+pub mod NamePlaces
+pub mod ValuePlaces
+pub mod ValueSorts
 pub mod ArrayPlaces
 pub mod ObjectPlaces
-pub mod Rises
-pub mod OpenPlaces
+pub mod OpenersOfTexts
+pub mod OpenersAtPlaces
 pub mod Wire
-pub mod Trees
+pub mod NodePlaces
 pub mod Fits
 -- for the laws of writing
-pub mod Calls
+pub mod WrittenEnds
 -- for the clauses of private functions
-pub mod GoingOn
+pub mod NextInContainer
+pub mod ScalarAtPlace
 pub mod Skipping
-pub mod Present
-pub mod Steering
+pub mod MembersBehindNulls
+pub mod StructureSteps

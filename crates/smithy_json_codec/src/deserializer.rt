@@ -59,7 +59,7 @@ impl<'a> JsonDeserializer<'a> {
     ghost use Rattle.smithy_json_codec.specs.Cursor.{cursor_of, reading_settings_of};
     ghost use Rattle.smithy_json_codec.specs.Settings.{Settings};
     ghost use Rattle.smithy_json_codec.specs.Standing.{json_relations};
-    ghost use Rattle.smithy_json_codec.specs.Private.Steering.{EndsEmpty, StepsTo};
+    ghost use Rattle.smithy_json_codec.specs.Private.StructureSteps.{EndsEmpty, StepsTo};
     ghost use Rattle.smithy_wire.specs.Walking.{fresh_cursor};
 
     // A fresh reader.

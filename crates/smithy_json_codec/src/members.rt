@@ -3,7 +3,7 @@
 ghost use Rattle.std.specs.Prelude.{◌≡◌, ◌⊎◌, ◌≤◌, length, IfOk, IfErr};
 ghost use Rattle.smithy_schema.specs.Reading.{IsInvalid};
 ghost use Rattle.smithy_schema.specs.declared.error.SerdeError.TheVariants.{InvalidInput, NoMemory};
-ghost use Rattle.smithy_json_codec.specs.Private.Present.{IsEntry, IsNext, EntryMissing, NothingComes};
+ghost use Rattle.smithy_json_codec.specs.Private.MembersBehindNulls.{IsEntry, IsNext, EntryMissing, NothingComes};
 
 use crate::places::{InObject, next_in_object, null_end};
 use crate::texts::text_of;

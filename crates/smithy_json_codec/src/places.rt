@@ -7,7 +7,7 @@ ghost use Rattle.smithy_json.specs.Grammar.{IsWs};
 ghost use Rattle.smithy_json.specs.Tree.{null};
 ghost use Rattle.smithy_json.specs.Unescape.{has_escape};
 ghost use Rattle.smithy_json_codec.specs.Standing.{Lies, IsByte, IsName, TreeLies, FollowsInside};
-ghost use Rattle.smithy_json_codec.specs.Private.GoingOn.{IsFirstByte, IsNotFirst, GoesOnInList, GoesOnInObject};
+ghost use Rattle.smithy_json_codec.specs.Private.NextInContainer.{IsFirstByte, IsNotFirst, GoesOnInList, GoesOnInObject};
 
 use smithy_json::scan::{is_boundary, read_null, skip_blanks};
 use smithy_json::string_text::scan_string;

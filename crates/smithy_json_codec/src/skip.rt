@@ -1,13 +1,13 @@
 //! Where a value ends that is skipped.
 
-ghost use Rattle.std.specs.Prelude.{◌≡◌, ◌≢◌, ◌<◌, ◌≤◌, ◌+◌, ℕ, List, length, drop, false, IfOk, IfErr, OnErr, IsErrOf, IfSome, IfNone};
+ghost use Rattle.std.specs.Prelude.{◌≡◌, ◌≢◌, ◌<◌, ◌≤◌, ◌+◌, ◌-◌, ℕ, List, length, get_or, drop, false, IfOk, IfErr, OnErr, IsErrOf, IfSome, IfNone};
 ghost use Rattle.smithy_schema.specs.declared.error.SerdeError.TheVariants.{TooDeep, Unwritable};
 ghost use Rattle.smithy_schema.specs.Reading.{IsFault, IsInvalid};
 ghost use Rattle.smithy_json.specs.Ascii.{begin_array, begin_object};
 ghost use Rattle.smithy_json_codec.specs.Deepest.{OpensTooDeep};
 ghost use Rattle.smithy_json_codec.specs.Openers.{json_openers};
-ghost use Rattle.smithy_json_codec.specs.Private.GoingOn.{IsFirstByte};
-ghost use Rattle.smithy_json_codec.specs.Private.Skipping.{SkipsTo, ScalarLies, NoValueLies, Fronts, GoesOnInside};
+ghost use Rattle.smithy_json_codec.specs.Private.NextInContainer.{IsFirstByte};
+ghost use Rattle.smithy_json_codec.specs.Private.Skipping.{SkipsTo, ScalarLies, NoValueLies, BeginsAs, GoesOnInside, IsNextStep};
 
 use crate::places::{InList, InObject, first_byte, next_in_list, next_in_object, null_end};
 use crate::values::{boolean_end, number_end, string_at};
@@ -19,7 +19,7 @@ pub(crate) const GREATEST_DEPTH: usize = 512;
 // How a value begins: as an object or an array, with the offset of its inside, or as a scalar, with
 // its end.
 #[derive(Clone, Copy)]
-enum Front {
+enum Beginning {
     Container(bool, usize),
     Scalar(usize),
 }
@@ -47,19 +47,19 @@ fn scalar_end(input: &[u8], at: usize, first: u8) -> Option<usize>
 }
 
 #[inline(always)]
-fn front_of(input: &[u8], at: usize) -> Option<Front>
+fn beginning_of(input: &[u8], at: usize) -> Option<Beginning>
     requires { at ≤ length input.now }
-    ensures { Fronts input.now at result }
+    ensures { BeginsAs input.now at result }
 {
     let (first, start) = first_byte(input, at)?;
     if first == b'[' {
-        return Some(Front::Container(false, start + 1));
+        return Some(Beginning::Container(false, start + 1));
     }
     if first == b'{' {
-        return Some(Front::Container(true, start + 1));
+        return Some(Beginning::Container(true, start + 1));
     }
     let end = scalar_end(input, start, first)?;
-    Some(Front::Scalar(end))
+    Some(Beginning::Scalar(end))
 }
 
 // How the object or the array goes on in whose inside the offset lies.
@@ -83,6 +83,43 @@ fn next_inside(
     }
 }
 
+// One step on the way through a container: past a scalar, into an object or an array, to a value
+// that is due, or out of the innermost container.
+enum Step {
+    PastScalar(usize),
+    IntoContainer(bool, usize),
+    ToValue(usize),
+    OutOfContainer(usize),
+}
+
+// The next step, where a value is due or else the innermost container goes on.
+#[inline(always)]
+fn next_step(
+    input: &[u8],
+    at: usize,
+    due: bool,
+    entered: bool,
+    is_object: &[bool],
+    count: usize,
+    depth: usize,
+) -> Option<Step>
+    requires within { at ≤ length input.now }
+    requires inside { due ≡ false → 0 < count }
+    requires room { count ≤ length is_object.now }
+    ensures { IsNextStep input.now at due (get_or is_object.now (count - 1) false) entered depth result }
+{
+    if due {
+        return match beginning_of(input, at)? {
+            Beginning::Scalar(end) => Some(Step::PastScalar(end)),
+            Beginning::Container(kind, inside) => Some(Step::IntoContainer(kind, inside)),
+        };
+    }
+    match next_inside(input, at, is_object[count - 1], entered, depth)? {
+        InList::Element(start) => Some(Step::ToValue(start)),
+        InList::End(end) => Some(Step::OutOfContainer(end)),
+    }
+}
+
 // The end of the value that lies at the offset inside so many containers, of whatever kind. No
 // more than `max_depth` containers may be open at once.
 pub(crate) fn skipped_end(
@@ -102,9 +139,9 @@ pub(crate) fn skipped_end(
     ensures deep { IsErrOf result TooDeep → max_depth ≤ depth + json_openers (drop at input.now) }
     ensures too_deep { IsErrOf result TooDeep → OpensTooDeep max_depth depth input.now at }
 {
-    match front_of(input, at) {
-        Some(Front::Scalar(end)) => Ok(end),
-        Some(Front::Container(_, _)) => container_end(input, at, depth, max_depth),
+    match beginning_of(input, at) {
+        Some(Beginning::Scalar(end)) => Ok(end),
+        Some(Beginning::Container(_, _)) => container_end(input, at, depth, max_depth),
         None => Err(SerdeError::InvalidInput),
     }
 }
@@ -132,39 +169,33 @@ fn container_end(
     let mut open: usize = 0;
     let mut is_object = [false; GREATEST_DEPTH];
     while due || 0 < open {
-        if due {
-            match front_of(input, at) {
-                Some(Front::Scalar(end)) => {
-                    at = end;
-                    entered = true;
-                }
-                Some(Front::Container(kind, inside)) => {
-                    if depth + open >= max_depth {
-                        return Err(SerdeError::TooDeep);
-                    }
-                    is_object[open] = kind;
-                    open += 1;
-                    at = inside;
-                    entered = false;
-                }
-                None => return Err(SerdeError::InvalidInput),
+        let Some(step) = next_step(input, at, due, entered, &is_object, open, depth + open) else {
+            return Err(SerdeError::InvalidInput);
+        };
+        match step {
+            Step::PastScalar(end) => {
+                at = end;
+                due = false;
+                entered = true;
             }
-            due = false;
-        } else {
-            let kind = is_object[open - 1];
-            let Some(next) = next_inside(input, at, kind, entered, depth + open) else {
-                return Err(SerdeError::InvalidInput);
-            };
-            match next {
-                InList::Element(start) => {
-                    at = start;
-                    due = true;
+            Step::IntoContainer(kind, inside) => {
+                if depth + open >= max_depth {
+                    return Err(SerdeError::TooDeep);
                 }
-                InList::End(end) => {
-                    at = end;
-                    open -= 1;
-                    entered = true;
-                }
+                is_object[open] = kind;
+                open += 1;
+                at = inside;
+                due = false;
+                entered = false;
+            }
+            Step::ToValue(start) => {
+                at = start;
+                due = true;
+            }
+            Step::OutOfContainer(end) => {
+                at = end;
+                open -= 1;
+                entered = true;
             }
         }
     }

@@ -4,7 +4,7 @@ ghost use Rattle.std.specs.Prelude.{◌≡◌, ◌≤◌, ◌+◌, ℕ, ℤ, Lis
 ghost use Rattle.smithy_json.specs.Tree.{boolean, number, string};
 ghost use Rattle.smithy_json.specs.Unescape.{has_escape};
 ghost use Rattle.smithy_json_codec.specs.Standing.{TreeLies, begins_with_null, begins_with_alphanumeric, without_ws};
-ghost use Rattle.smithy_json_codec.specs.Private.GoingOn.{LongLies};
+ghost use Rattle.smithy_json_codec.specs.Private.ScalarAtPlace.{LongLies};
 
 use smithy_json::number_text::{read_long, scan_number};
 use smithy_json::scan::{is_boundary, read_boolean, skip_blanks};

@@ -1,14 +1,12 @@
-pub mod CborEnds
-pub mod CborReads
-pub mod Ends
-pub mod JsonEnds
+pub mod Begun
+pub mod Bodies
 mod Lists
 pub mod Mapped
 mod ReadContainers
 mod ReadLists
 mod ReadStructures
 mod ReadViews
-pub mod JsonReads
+pub mod Spelled
 mod Structures
 mod Transcodings
 pub mod Views

@@ -1,20 +1,20 @@
 -- What the reading and the writing of one body say together.
-use Rattle.std.proofs.Common.{◌≡◌, ◌≤◌, ◌<◌, ◌^◌, length, ℕ, List, Bool, Result, Ok, Err, IfOk, IfErr, IsErrOf, refl, sym, ◌∙◌, ap, subst}
+use Rattle.std.proofs.Common.{◌≡◌, ◌≤◌, ◌<◌, ◌^◌, length, ℕ, List, Result, Ok, Err, IsErrOf, refl, sym, ◌∙◌, ap, subst}
+use Rattle.std.specs.declared.vec.Vec.{Vec}
+use Rattle.std.specs.declared.alloc.Global.{Global}
 use Rattle.smithy_schema.specs.Accepted.{IsAccepted}
+use Rattle.smithy_schema.specs.declared.error.SerdeError.{SerdeError}
+use Rattle.smithy_schema.specs.declared.error.SerdeError.TheVariants as serde
 use Rattle.smithy_schema.specs.Fits.{Fits}
+use Rattle.smithy_schema.specs.Reading.{IsFault, IsRefused, IsInvalid}
 use Rattle.smithy_schema.specs.Table.{Table, shape_place}
 use Rattle.smithy_schema.specs.Value.{Value, nesting}
-use Rattle.smithy_schema.specs.declared.schema.Schema.{Schema}
-use Rattle.smithy_schema.specs.Site.{Site, site_of, shape_site, whole_view}
+use Rattle.smithy_schema.specs.Site.{whole_view}
 use Rattle.smithy_json_codec.specs.Codec.{strict_settings}
-use Rattle.smithy_json_codec.specs.Settings.{without_limits}
-use Rattle.smithy_json_codec.specs.Spelling.{json_spells}
 use Rattle.smithy_json_codec.proofs.NestedMeaning.{shallow}
 use Rattle.smithy_json_codec.proofs.SpellingLemmas.{one_spelled}
 use Rattle.smithy_json_codec.proofs.WrittenSpelling.{spelled_fits, canonical_spells}
 use Rattle.smithy_cbor.specs.Codec.{strict_settings as strict_cbor}
-use Rattle.smithy_cbor.specs.Settings.{without_limits as without_cbor_limits}
-use Rattle.smithy_cbor.specs.Spelling.{cbor_spells}
 use Rattle.smithy_cbor.proofs.NestedMeaning.{shallow as cbor_shallow}
 use Rattle.smithy_cbor.proofs.SpellingLemmas.{one_spelled as one_cbor_spelled}
 use Rattle.smithy_cbor.proofs.WrittenSpelling.{spelled_fits as cbor_fits, canonical_spells as cbor_spells_again}
@@ -22,8 +22,10 @@ use Rattle.smithy_transcode.specs.declared.wire.Wire.{Wire}
 use Rattle.smithy_transcode.specs.declared.wire.Wire.TheVariants.{Json, Cbor}
 use Rattle.smithy_transcode.specs.declared.wire.TranscodeError.{TranscodeError}
 use Rattle.smithy_transcode.specs.declared.wire.TranscodeError.TheVariants.{InvalidInput, TooDeep, NoMemory}
+use Rattle.smithy_transcode.specs.Causes.{openers}
+use Rattle.smithy_transcode.specs.Refusal.{Tells}
 use Rattle.smithy_transcode.specs.Spelling.{Spells, body}
-use Rattle.smithy_transcode.specs.Transcoding.{Answer, Transcodes, SpellNothing, SpellNothingAtAnyDepth, SpellsAlone}
+use Rattle.smithy_transcode.specs.Transcoding.{Transcodes, SpellNothing, SpellNothingAtAnyDepth, SpellsAlone}
 
 -- at most one value is spelled
 one_value : (w : Wire) (t : Table) (root : ℕ) (i : List ℕ) (v u : Value) → Spells w t root i v → Spells w t root i u → v ≡ u
@@ -31,7 +33,7 @@ one_value (Json b) t root i v u h k = one_spelled (strict_settings b) t (shape_p
 one_value Cbor t root i v u h k = one_cbor_spelled strict_cbor t (shape_place root) i v u h k
 
 -- what is spelled is a value of the root, and nests no deeper than may be read
-spelled_is_small : (w : Wire) (t : Table) (root : ℕ) (i : List ℕ) (v : Value) → Spells w t root i v → Fits t (shape_place root) v × (nesting v ≤ 128)
+pub spelled_is_small : (w : Wire) (t : Table) (root : ℕ) (i : List ℕ) (v : Value) → Spells w t root i v → Fits t (shape_place root) v × (nesting v ≤ 128)
 spelled_is_small (Json b) t root i v h =
     (spelled_fits (strict_settings b) t (shape_place root) i v h, shallow (strict_settings b) t (shape_place root) i v refl h)
 spelled_is_small Cbor t root i v h =
@@ -51,10 +53,20 @@ body_spells_alone from to t root i v accepted h short =
     let spells = body_spells to t root v accepted small.0 small.1 short in
     (spells, λ u other. one_value to t root (body to t root v) u v other spells)
 
--- the body of a spelled value, or want of memory, is an answer
-pub written : (t : Table) (root : ℕ) (from : Wire) (i : List ℕ) (to : Wire) (v : Value) (r : Answer) → IsAccepted t → Spells from t root i v
-    → IfOk r (λ out. out.items ≡ body to t root v) → IfOk r (λ out. length out.items < 2 ^ 64) → IfErr r (λ e. e ≡ NoMemory) → Transcodes t root from i to r
-written t root from i to v (Ok out) accepted spelled ok short err = record {
+-- want of memory is an answer
+no_memory : (t : Table) (root : ℕ) (from : Wire) (i : List ℕ) (to : Wire) → Transcodes t root from i to (Err NoMemory)
+no_memory t root from i to = record {
+  answers_ok = tt;
+  spelled_is_ok = λ v h. tt;
+  answers_invalid_input = λ h. absurd (let x : Err NoMemory ≡ Err InvalidInput = h in cc);
+  answers_invalid_at_any_depth = λ h. absurd (let x : Err NoMemory ≡ Err InvalidInput = h in cc);
+  answers_too_deep = λ h. absurd (let x : Err NoMemory ≡ Err TooDeep = h in cc);
+}
+
+-- the body of a spelled value is an answer
+pub written : (t : Table) (root : ℕ) (from : Wire) (i : List ℕ) (to : Wire) (v : Value) (out : Vec ℕ Global) → IsAccepted t → Spells from t root i v
+    → out.items ≡ body to t root v → length out.items < 2 ^ 64 → Transcodes t root from i to (Ok out)
+written t root from i to v out accepted spelled ok short = record {
   answers_ok = (
     v,
     spelled,
@@ -67,46 +79,31 @@ written t root from i to v (Ok out) accepted spelled ok short err = record {
   answers_invalid_at_any_depth = λ h. absurd (let e : Ok out ≡ Err InvalidInput = h in cc);
   answers_too_deep = λ h. absurd (let e : Ok out ≡ Err TooDeep = h in cc);
 }
-written t root from i to v (Err e) accepted spelled ok short err = record {
+
+-- and so is a refusal of the input
+told : (t : Table) (root : ℕ) (from : Wire) (i : List ℕ) (to : Wire) (e : SerdeError) (refusal : TranscodeError) → Tells e refusal
+    → (IsFault e → SpellNothing from t root i) → (e ≡ serde.InvalidInput → SpellNothingAtAnyDepth from t root i) → (e ≡ serde.TooDeep → 128 ≤ openers from i)
+    → Transcodes t root from i to (Err refusal)
+told t root from i to serde.InvalidInput refusal tells nothing would deep = rw tells (record {
   answers_ok = tt;
-  spelled_is_ok = λ u h. rw err tt;
-  answers_invalid_input = λ h. absurd (let x : Err NoMemory ≡ Err InvalidInput = ap Err (sym err) ∙ h in cc);
-  answers_invalid_at_any_depth = λ h. absurd (let x : Err NoMemory ≡ Err InvalidInput = ap Err (sym err) ∙ h in cc);
-  answers_too_deep = λ h. absurd (let x : Err NoMemory ≡ Err TooDeep = ap Err (sym err) ∙ h in cc);
-}
+  spelled_is_ok = λ v h. absurd (nothing tt v h);
+  answers_invalid_input = λ h. nothing tt;
+  answers_invalid_at_any_depth = λ h. would refl;
+  answers_too_deep = λ h. absurd (let x : Err InvalidInput ≡ Err TooDeep = h in cc);
+})
+told t root from i to serde.TooDeep refusal tells nothing would deep = rw tells (record {
+  answers_ok = tt;
+  spelled_is_ok = λ v h. absurd (nothing tt v h);
+  answers_invalid_input = λ h. nothing tt;
+  answers_invalid_at_any_depth = λ h. absurd (let x : Err TooDeep ≡ Err InvalidInput = h in cc);
+  answers_too_deep = λ h. (nothing tt, deep refl);
+})
+told t root from i to serde.NoMemory refusal tells nothing would deep = rw tells (no_memory t root from i to)
+told t root from i to serde.Unwritable refusal tells nothing would deep = absurd tells
+told t root from i to serde.Failed refusal tells nothing would deep = absurd tells
 
--- a refusal at the schema of the root
-pub refused_at : {X : Type 0} (w : Wire) (b : Bool) (s : Schema) (t : Table) (root : ℕ) (i : List ℕ) (r : Result X TranscodeError) → w ≡ Json b → site_of s ≡ shape_site t root
-    → IfErr r (λ e. (e ≡ NoMemory → ⊥) → (v : Value) → json_spells (strict_settings b) s.shapes.now s.place i v → ⊥)
-    → IfErr r (λ e. (e ≡ NoMemory → ⊥) → SpellNothing w t root i)
-refused_at w b s t root i (Ok x) wire site refused = tt
-refused_at w b s t root i (Err e) wire site refused =
-    let tables : s.shapes.now ≡ t = ap (λ (x : Site). x.table) site in
-    let places : s.place ≡ shape_place root = ap (λ (x : Site). x.place) site in
-    rw wire (rw (tables, places) at refused)
-
--- and of any depth
-pub refused_at_any_depth : {X : Type 0} (w : Wire) (b : Bool) (s : Schema) (t : Table) (root : ℕ) (i : List ℕ) (r : Result X TranscodeError) → w ≡ Json b → site_of s ≡ shape_site t root
-    → (IsErrOf r InvalidInput → (v : Value) → json_spells (without_limits (strict_settings b)) s.shapes.now s.place i v → ⊥)
-    → IsErrOf r InvalidInput → SpellNothingAtAnyDepth w t root i
-refused_at_any_depth w b s t root i r wire site would invalid =
-    let tables : s.shapes.now ≡ t = ap (λ (x : Site). x.table) site in
-    let places : s.place ≡ shape_place root = ap (λ (x : Site). x.place) site in
-    rw wire (rw (tables, places) at (would invalid))
-
-pub refused_at_any_depth_cbor : {X : Type 0} (w : Wire) (s : Schema) (t : Table) (root : ℕ) (i : List ℕ) (r : Result X TranscodeError) → w ≡ Cbor → site_of s ≡ shape_site t root
-    → (IsErrOf r InvalidInput → (v : Value) → cbor_spells (without_cbor_limits strict_cbor) s.shapes.now s.place i v → ⊥)
-    → IsErrOf r InvalidInput → SpellNothingAtAnyDepth w t root i
-refused_at_any_depth_cbor w s t root i r wire site would invalid =
-    let tables : s.shapes.now ≡ t = ap (λ (x : Site). x.table) site in
-    let places : s.place ≡ shape_place root = ap (λ (x : Site). x.place) site in
-    rw wire (rw (tables, places) at (would invalid))
-
-pub refused_at_cbor : {X : Type 0} (w : Wire) (s : Schema) (t : Table) (root : ℕ) (i : List ℕ) (r : Result X TranscodeError) → w ≡ Cbor → site_of s ≡ shape_site t root
-    → IfErr r (λ e. (e ≡ NoMemory → ⊥) → (v : Value) → cbor_spells strict_cbor s.shapes.now s.place i v → ⊥)
-    → IfErr r (λ e. (e ≡ NoMemory → ⊥) → SpellNothing w t root i)
-refused_at_cbor w s t root i (Ok x) wire site refused = tt
-refused_at_cbor w s t root i (Err e) wire site refused =
-    let tables : s.shapes.now ≡ t = ap (λ (x : Site). x.table) site in
-    let places : s.place ≡ shape_place root = ap (λ (x : Site). x.place) site in
-    rw wire (rw (tables, places) at refused)
+pub refused : {A : Type 0} (t : Table) (root : ℕ) (from : Wire) (i : List ℕ) (to : Wire) (r : Result A SerdeError) (e : SerdeError) (refusal : TranscodeError) → r ≡ Err e → Tells e refusal
+    → (IsRefused r → SpellNothing from t root i) → (IsInvalid r → SpellNothingAtAnyDepth from t root i) → (IsErrOf r serde.TooDeep → 128 ≤ openers from i)
+    → Transcodes t root from i to (Err refusal)
+refused t root from i to r e refusal is tells nothing would deep =
+    told t root from i to e refusal tells (λ fault. nothing (rw is fault)) (λ invalid. would (rw (is, invalid) tt)) (λ depth. deep (is ∙ ap Err depth))

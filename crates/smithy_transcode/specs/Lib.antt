@@ -4,3 +4,5 @@ pub mod Causes
 pub mod Transcoding
 -- what the types of the program stand for
 pub mod View
+-- and what its refusals tell
+pub mod Refusal

@@ -1,14 +1,13 @@
 //! Values of any wire, their reading and writing, and the transcoding of one body.
 #![tactic(auto)]
 
-mod cbor;
-mod due;
-mod json;
 mod reading;
+mod refusal;
 #[cfg(test)]
 mod tests;
 mod transcoding;
 mod value;
+mod whole_output;
 mod wire;
 mod writing;
 

@@ -155,6 +155,7 @@ const ROWS: [Row; 25] = [
 fn bodies_are_transcoded_as_written(rt: HostRuntime) -> Result<(), Fail> {
     let shapes = Shapes::build(rt.alloc(), TableText::read(rt.alloc(), TABLE)?)?;
     let Some(root) = shapes.find("S") else {
+        assert!(rt; false, "the table has no S");
         return Ok(());
     };
     for row in &ROWS {
@@ -198,6 +199,7 @@ fn nested(alloc: Global, depth: usize) -> Result<Vec<u8>, Fail> {
 fn at_most_128_containers_are_open_at_once(rt: HostRuntime) -> Result<(), Fail> {
     let shapes = Shapes::build(rt.alloc(), TableText::read(rt.alloc(), TABLE)?)?;
     let Some(root) = shapes.find("S") else {
+        assert!(rt; false, "the table has no S");
         return Ok(());
     };
     let deep = nested(rt.alloc(), 127)?;

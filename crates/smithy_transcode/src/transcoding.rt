@@ -2,17 +2,21 @@
 ghost use Rattle.std.specs.Prelude.{◌≡◌, ◌≤◌, ◌<◌, ◌^◌, length, IfOk, IfErr, IsErrOf};
 ghost use Rattle.smithy_schema.specs.Accepted.{IsAccepted};
 ghost use Rattle.smithy_schema.specs.Fits.{Fits};
+ghost use Rattle.smithy_schema.specs.Reading.{IsRefused, IsInvalid};
 ghost use Rattle.smithy_schema.specs.Table.{IsStructure, kind_of, shape_place};
 ghost use Rattle.smithy_transcode.specs.Causes.{openers};
 ghost use Rattle.smithy_transcode.specs.Spelling.{Spells, body};
 ghost use Rattle.smithy_transcode.specs.Transcoding.{Transcodes, SpellNothing, SpellNothingAtAnyDepth};
 ghost use Rattle.smithy_transcode.specs.View.{view};
 
-use crate::cbor::{read_cbor, write_cbor};
-use crate::json::{read_json, write_json};
+use crate::reading::read_value;
+use crate::refusal::refusal;
 use crate::value::Value;
+use crate::whole_output::write_whole;
 use crate::wire::{TranscodeError, Wire};
-use smithy_schema::{ShapeRef, Shapes};
+use smithy_cbor::CborCodec;
+use smithy_json_codec::JsonCodec;
+use smithy_schema::{SerdeError, ShapeRef, Shapes};
 use std::alloc::Global;
 
 /// Writes the value that the whole input spells in the wire `from`, in its one canonical body in the wire
@@ -28,8 +32,14 @@ pub fn transcode(
     requires root { IsStructure (kind_of shapes.now (shape_place root.0)) }
     ensures { Transcodes shapes.now root.0 from.now input.now to.now result }
 {
-    let value = read_body(alloc, shapes, root, from, input)?;
-    write_body(alloc, shapes, root, to, &value)
+    let value = match read_body(alloc, shapes, root, from, input) {
+        Ok(value) => value,
+        Err(error) => return Err(refusal(error)),
+    };
+    match write_body(alloc, shapes, root, to, &value) {
+        Ok(body) => Ok(body),
+        Err(error) => Err(refusal(error)),
+    }
 }
 
 // The value that the whole input spells.
@@ -39,19 +49,26 @@ fn read_body(
     root: ShapeRef,
     from: &Wire,
     input: &[u8],
-) -> Result<Value, TranscodeError>
+) -> Result<Value, SerdeError>
     requires root { IsStructure (kind_of shapes.now (shape_place root.0)) }
     ensures accepted { IsAccepted shapes.now }
     ensures ok { IfOk result (λ v. Spells from.now shapes.now root.0 input.now (view v)) }
-    ensures fits { IfOk result (λ v. Fits shapes.now (shape_place root.0) (view v)) }
-    ensures refused { IfErr result (λ e. (e ≡ TranscodeError.NoMemory → ⊥) → SpellNothing from.now shapes.now root.0 input.now) }
-    ensures would { IsErrOf result TranscodeError.InvalidInput → SpellNothingAtAnyDepth from.now shapes.now root.0 input.now }
-    ensures deep { IsErrOf result TranscodeError.TooDeep → 128 ≤ openers from.now input.now }
+    ensures refused { IsRefused result → SpellNothing from.now shapes.now root.0 input.now }
+    ensures would { IsInvalid result → SpellNothingAtAnyDepth from.now shapes.now root.0 input.now }
+    ensures deep { IsErrOf result SerdeError.TooDeep → 128 ≤ openers from.now input.now }
+    ensures sound { IsErrOf result SerdeError.Failed → ⊥ }
+    ensures readable { IsErrOf result SerdeError.Unwritable → ⊥ }
 {
     let schema = shapes.schema(root);
     match from {
-        Wire::Json { use_json_name } => read_json(alloc, *use_json_name, &schema, input),
-        Wire::Cbor => read_cbor(alloc, &schema, input),
+        Wire::Json { use_json_name } => {
+            let mut source = JsonCodec::strict(*use_json_name).create_deserializer(alloc, input);
+            read_value(alloc, &mut source, &schema)
+        }
+        Wire::Cbor => {
+            let mut source = CborCodec::strict().create_deserializer(alloc, input);
+            read_value(alloc, &mut source, &schema)
+        }
     }
 }
 
@@ -62,16 +79,23 @@ fn write_body(
     root: ShapeRef,
     to: &Wire,
     value: &Value,
-) -> Result<Vec<u8>, TranscodeError>
+) -> Result<Vec<u8>, SerdeError>
     requires root { IsStructure (kind_of shapes.now (shape_place root.0)) }
     requires fits { Fits shapes.now (shape_place root.0) (view value.now) }
     ensures ok { IfOk result (λ out. out.items ≡ body to.now shapes.now root.0 (view value.now)) }
     ensures short { IfOk result (λ out. length out.items < 2 ^ 64) }
-    ensures err { IfErr result (λ e. e ≡ TranscodeError.NoMemory) }
+    ensures err { IfErr result (λ e. e ≡ SerdeError.NoMemory) }
 {
     let schema = shapes.schema(root);
     match to {
-        Wire::Json { use_json_name } => write_json(alloc, *use_json_name, &schema, value),
-        Wire::Cbor => write_cbor(alloc, &schema, value),
+        Wire::Json { use_json_name } => {
+            let codec = JsonCodec::strict(*use_json_name);
+            let sink = codec.create_serializer(alloc);
+            write_whole(alloc, sink, &schema, value)
+        }
+        Wire::Cbor => {
+            let sink = CborCodec::strict().create_serializer(alloc);
+            write_whole(alloc, sink, &schema, value)
+        }
     }
 }

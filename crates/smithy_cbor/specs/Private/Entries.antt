@@ -5,7 +5,7 @@ use Rattle.smithy_schema.specs.Reading.{Mark}
 use Rattle.smithy_schema.specs.Lemmas.Options.{same_some}
 use Rattle.cbor_item.specs.WellFormed.{break}
 use Rattle.smithy_cbor.specs.Standing.{begins_with, mark_with, end_mark, HasEntry, IsOver}
-use Rattle.smithy_cbor.specs.Private.ItemBegins.{no_byte_in_nothing}
+use Rattle.smithy_cbor.specs.Private.FirstBytes.{no_byte_in_nothing}
 
 -- ---- one entry, or the end
 

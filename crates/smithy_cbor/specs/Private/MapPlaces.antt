@@ -8,8 +8,8 @@ use Rattle.smithy_cbor.specs.Reading.{OpensAt}
 use Rattle.smithy_cbor.specs.Standing.{mark_with, HasEntry, IsOver}
 use Rattle.smithy_cbor.specs.Private.Slices.{nothing_between, empty_between, slices_join, slices_part}
 use Rattle.smithy_cbor.specs.Private.ItemPlaces.{item_ahead}
-use Rattle.smithy_cbor.specs.Private.ItemBegins.{byte_within}
-use Rattle.smithy_cbor.specs.Private.Framing.{EndsAfter, ends_after_entry, entry_of_ends, inside_within, definite_bytes, indefinite_bytes, definite_framed, indefinite_framed}
+use Rattle.smithy_cbor.specs.Private.FirstBytes.{byte_within}
+use Rattle.smithy_cbor.specs.Private.ContainerBytes.{EndsAfter, ends_after_entry, entry_of_ends, inside_within, definite_bytes, indefinite_bytes, definite_framed, indefinite_framed}
 
 -- from b on with a mark these keys and values come, and then the map ends at e
 abbrev pub PairsLie : Pairs → Mark → List ℕ → ℕ → ℕ → Type 0

@@ -2,7 +2,7 @@
 
 ghost use Rattle.std.specs.Prelude.{◌≡◌, ◌≤◌, IfOk, IfErr, IfSome, IfNone, OnErr, Some, FitsSigned, drop};
 ghost use Rattle.cbor_item.specs.Head.{BeginsWithHead};
-ghost use Rattle.smithy_cbor.specs.Private.Number.{number_of};
+ghost use Rattle.smithy_cbor.specs.Private.HeadNumber.{number_of};
 ghost use Rattle.smithy_cbor.specs.declared.error.DecodeKind.TheVariants.{OutOfRange};
 ghost use Rattle.std.specs.Int.{w8, w16, w32, w64};
 

@@ -6,8 +6,8 @@ use Rattle.smithy_json.specs.Tree.{Json, null, boolean, number, string, array, o
 use Rattle.smithy_json.specs.Grammar.{IsWs, IsPadded, IsBoundary, IsValue, AreMoreElements}
 use Rattle.smithy_json_codec.specs.Standing.{IsFront, Lies, FollowsContainer, Follows, TreeLies, IsByte, IsSeparated}
 use Rattle.smithy_json_codec.specs.Private.Lexical.{ws_boundary, elements_boundary}
-use Rattle.smithy_json_codec.specs.Private.PlainReader.{element_parts, bracketed_parts, follows_inside}
-use Rattle.smithy_json_codec.specs.Private.Fronts.{settle, settle_at}
+use Rattle.smithy_json_codec.specs.Private.TextParts.{element_parts, bracketed_parts, follows_inside}
+use Rattle.smithy_json_codec.specs.Private.BytePlaces.{settle, settle_at}
 
 -- ---- a value inside a container
 

@@ -6,8 +6,9 @@ use Rattle.smithy_json.specs.Tree.{Json, object, Members, no_members, member}
 use Rattle.smithy_json.specs.Grammar.{IsWs, IsMember, IsBoundary, IsStringText, IsValue, AreMoreMembers}
 use Rattle.smithy_json_codec.specs.Standing.{IsFront, Lies, FollowsContainer, TreeLies, IsByte, IsName, Names}
 use Rattle.smithy_json_codec.specs.Private.Lexical.{ws_boundary, members_boundary}
-use Rattle.smithy_json_codec.specs.Private.PlainReader.{member_parts, bracketed_parts}
-use Rattle.smithy_json_codec.specs.Private.Fronts.{settle, settle_at, separated_ahead, name_parts}
+use Rattle.smithy_json_codec.specs.Private.TextParts.{member_parts, bracketed_parts}
+use Rattle.smithy_json_codec.specs.Private.BytePlaces.{settle, settle_at, separated_ahead}
+use Rattle.smithy_json_codec.specs.Private.NamePlaces.{name_parts}
 use Rattle.smithy_json_codec.specs.Private.ArrayPlaces.{ChildLies, RestLies, byte_front, front_then, bracketed_front}
 
 -- from b on these members come, with their commas, and then the object ends at e

@@ -7,9 +7,11 @@ use Rattle.smithy_json.specs.Tree.{null}
 use Rattle.smithy_json_codec.specs.Scalar.{JsonScalar, a_boolean, a_number, a_string, tree_of}
 use Rattle.smithy_json_codec.specs.Standing.{Lies, IsByte, IsSeparated, fresh_mark, end_mark, entry_mark, without_ws, begins_with_null, opening, Entry, json_frames}
 use Rattle.smithy_json_codec.specs.Openers.{json_openers}
-use Rattle.smithy_json_codec.specs.Private.Fronts.{one_tree, same_names, names_or_end, same_byte, byte_ahead, same_separated, separated_ahead, names_ahead, tree_ahead, no_byte, no_names, element_or_end}
-use Rattle.smithy_json_codec.specs.Private.Sorts.{null_begins, json_sort, not_null_sort, scalar_sort, opens_sort}
-use Rattle.smithy_json_codec.specs.Private.OpenPlaces.{across_value, across_begin_array, across_begin_object, across_end_array, across_end_object, across_separator, across_name}
+use Rattle.smithy_json_codec.specs.Private.BytePlaces.{same_byte, byte_ahead, same_separated, separated_ahead, no_byte, element_or_end}
+use Rattle.smithy_json_codec.specs.Private.NamePlaces.{same_names, names_or_end, names_ahead, no_names}
+use Rattle.smithy_json_codec.specs.Private.ValuePlaces.{one_tree, tree_ahead}
+use Rattle.smithy_json_codec.specs.Private.ValueSorts.{null_begins, json_sort, not_null_sort, scalar_sort, opens_sort}
+use Rattle.smithy_json_codec.specs.Private.OpenersAtPlaces.{across_value, across_begin_array, across_begin_object, across_end_array, across_end_object, across_separator, across_name}
 use Rattle.smithy_wire.specs.Node.{Form, as_array, as_object}
 use Rattle.smithy_wire.specs.Wire.{no_value, IsBehind, IsWire, BoundsOpeners}
 

@@ -234,9 +234,11 @@ fn bodies_are_transcoded_as_written(rt: HostRuntime) -> Result<(), Fail> {
     for row in &ROWS {
         let shapes = Shapes::build(rt.alloc(), TableText::read(rt.alloc(), row.table)?)?;
         let Some(root) = shapes.find("S") else {
+            assert!(rt; false, "{}: the table has no S", row.name);
             return Ok(());
         };
         let ShapeType::Structure = shapes.schema(root).shape_type() else {
+            assert!(rt; false, "{}: S is no structure", row.name);
             return Ok(());
         };
         let answer = transcode(rt.alloc(), &shapes, root, &row.from, row.input, &row.to);
@@ -265,6 +267,7 @@ fn nested(alloc: Global, depth: usize) -> Result<Vec<u8>, Fail> {
 fn at_most_128_containers_are_open_at_once(rt: HostRuntime) -> Result<(), Fail> {
     let shapes = Shapes::build(rt.alloc(), TableText::read(rt.alloc(), LISTS)?)?;
     let Some(root) = shapes.find("S") else {
+        assert!(rt; false, "the table has no S");
         return Ok(());
     };
     let deep = nested(rt.alloc(), 127)?;

@@ -2,7 +2,7 @@ use Rattle.std.proofs.Common.{Some, subst}
 use Rattle.std.proofs.lemmas.Result.{err_from_is_err_and}
 use Rattle.std.specs.Cow.{cow_str_bytes}
 use Rattle.smithy_cbor.specs.Standing.{mark_with}
-use Rattle.smithy_cbor.specs.Private.AtPlace.{IsEntryOrEnd}
+use Rattle.smithy_cbor.specs.Private.NextInContainer.{IsEntryOrEnd}
 use Rattle.smithy_cbor.specs.Private.Entries.{entry_or_over}
 use Rattle.smithy_cbor.proofs.EntryLemmas.{key_text, key_of}
 use Rattle.smithy_cbor.proofs.members.entry_at.Goals as goal

@@ -1,5 +1,5 @@
 use Rattle.std.proofs.Common.{arith}
-use Rattle.smithy_cbor.proofs.PresentLemmas.{dropped, drop_place}
+use Rattle.smithy_cbor.proofs.MembersBehindNullsLemmas.{dropped, drop_place}
 use Rattle.smithy_cbor.proofs.members.next_present.Goals as goal
 
 pub loop-end-smaller : goal.loop-end-smaller

@@ -1,6 +1,6 @@
 use Rattle.std.proofs.Common.{◌-◌, ◌≤◌, ℕ, length}
 use Rattle.smithy_cbor.specs.Standing.{mark_with}
-use Rattle.smithy_cbor.specs.Private.Present.{Drops}
+use Rattle.smithy_cbor.specs.Private.MembersBehindNulls.{Drops}
 use Rattle.smithy_cbor.proofs.members.next_present.Given as goal
 
 -- what was passed are entries whose value is null

@@ -1,7 +1,7 @@
 -- Where the type is null, the read of a null is not refused.
 use Rattle.std.proofs.Common.{drop}
 use Rattle.smithy_cbor.specs.DecoderView.{input_of, position_of}
-use Rattle.smithy_cbor.proofs.Types.{null_begins, null_fault}
+use Rattle.smithy_cbor.proofs.NullTypes.{null_begins, null_fault}
 use Rattle.smithy_cbor.proofs.optional.set_optional.Goals as goal
 
 pub returns-in-Err-null-clause-null : goal.returns-in-Err-null-clause-null

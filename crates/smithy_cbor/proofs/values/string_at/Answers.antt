@@ -1,7 +1,7 @@
 use Rattle.std.proofs.Common.{◌≡◌, true, false, sym, subst, ◌∙◌}
 use Rattle.std.proofs.lemmas.Result.{err_from_is_err_and}
 use Rattle.smithy_cbor.specs.Standing.{Follows}
-use Rattle.smithy_cbor.proofs.ValueFacts.{one_text_at}
+use Rattle.smithy_cbor.proofs.TextLemmas.{one_text_at}
 use Rattle.smithy_cbor.proofs.values.string_at.Goals as goal
 
 pub returns-in_err-text-clause-none : goal.returns-in_err-text-clause-none

@@ -1,6 +1,6 @@
 use Rattle.std.proofs.Common.{ap, sym, ◌∙◌, Some}
 use Rattle.cbor_item.specs.Item.{text_string}
-use Rattle.smithy_cbor.proofs.ValueFacts.{joined_is, no_text_at}
+use Rattle.smithy_cbor.proofs.TextLemmas.{joined_is, no_text_at}
 use Rattle.smithy_cbor.proofs.values.text_at.Goals as goal
 
 pub returns-in-Ok-clause-ok : goal.returns-in-Ok-clause-ok

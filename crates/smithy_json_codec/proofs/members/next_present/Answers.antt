@@ -1,4 +1,4 @@
-use Rattle.smithy_json_codec.proofs.PresentLemmas.{dropped}
+use Rattle.smithy_json_codec.proofs.MembersBehindNullsLemmas.{dropped}
 use Rattle.smithy_json_codec.proofs.members.next_present.Goals as goal
 
 pub loop-end-preserved : goal.loop-end-preserved

@@ -1,5 +1,5 @@
 use Rattle.std.proofs.Common.{◌-◌, ◌≤◌, ℕ, length}
-use Rattle.smithy_json_codec.specs.Private.Present.{Drops}
+use Rattle.smithy_json_codec.specs.Private.MembersBehindNulls.{Drops}
 use Rattle.smithy_json_codec.proofs.members.next_present.Given as goal
 
 -- what was passed are members that are null

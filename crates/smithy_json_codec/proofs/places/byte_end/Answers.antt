@@ -1,6 +1,6 @@
 use Rattle.std.proofs.Common.{◌+◌, subst, sym}
 use Rattle.smithy_json_codec.specs.Standing.{Lies, IsByte}
-use Rattle.smithy_json_codec.proofs.ByteLemmas.{first_lies, not_first, nothing_first}
+use Rattle.smithy_json_codec.proofs.FirstBytePlaces.{first_lies, not_first, nothing_first}
 use Rattle.smithy_json_codec.proofs.places.byte_end.Goals as goal
 
 pub returns-in-Some-clause-found : goal.returns-in-Some-clause-found

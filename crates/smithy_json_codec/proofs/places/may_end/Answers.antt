@@ -1,6 +1,6 @@
 use Rattle.std.proofs.Common.{eq-eqb}
 use Rattle.std.proofs.lemmas.Bool.{eqb-true}
-use Rattle.smithy_json_codec.proofs.ByteLemmas.{reaches_end, ends_there}
+use Rattle.smithy_json_codec.proofs.FirstBytePlaces.{reaches_end, ends_there}
 use Rattle.smithy_json_codec.proofs.places.may_end.Goals as goal
 
 pub returns-in-1 : goal.returns-in-1

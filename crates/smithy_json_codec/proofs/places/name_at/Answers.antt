@@ -1,6 +1,6 @@
 use Rattle.std.proofs.Common.{◌+◌, length, subst, sym}
 use Rattle.smithy_json_codec.specs.Standing.{Lies, IsName}
-use Rattle.smithy_json_codec.proofs.ValueLemmas.{string_front, name_lies, lying_name_stands, colon_lies}
+use Rattle.smithy_json_codec.proofs.ScannedValues.{string_front, name_lies, lying_name_stands, colon_lies}
 use Rattle.smithy_json_codec.proofs.places.name_at.Goals as goal
 
 pub returns-in_err-name-clause-none : goal.returns-in_err-name-clause-none

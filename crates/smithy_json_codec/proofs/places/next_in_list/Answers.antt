@@ -1,8 +1,8 @@
 use Rattle.std.proofs.Common.{refl, subst, sym}
 use Rattle.smithy_json.specs.Ascii.{end_array, value_separator}
-use Rattle.smithy_json_codec.specs.Private.GoingOn.{IsFirstByte}
-use Rattle.smithy_json_codec.proofs.ByteLemmas.{not_first, nothing_first}
-use Rattle.smithy_json_codec.proofs.GoingOnLemmas.{list_closes, element_behind, comma_hangs, nothing_in_list, element_first}
+use Rattle.smithy_json_codec.specs.Private.NextInContainer.{IsFirstByte}
+use Rattle.smithy_json_codec.proofs.FirstBytePlaces.{not_first, nothing_first}
+use Rattle.smithy_json_codec.proofs.NextInContainerLemmas.{list_closes, element_behind, comma_hangs, nothing_in_list, element_first}
 use Rattle.smithy_json_codec.proofs.places.next_in_list.Goals as goal
 
 pub returns-then-entered : goal.returns-then-entered

@@ -1,7 +1,7 @@
 use Rattle.std.proofs.Common.{◌≡◌, subst, sym, ◌∙◌, ap}
 use Rattle.smithy_json_codec.specs.Standing.{Lies, IsName}
-use Rattle.smithy_json_codec.specs.Private.GoingOn.{IsFirstByte}
-use Rattle.smithy_json_codec.proofs.GoingOnLemmas.{object_closes, no_leading, leading, name_place, names_there, there_names, shut, nothing_in_object}
+use Rattle.smithy_json_codec.specs.Private.NextInContainer.{IsFirstByte}
+use Rattle.smithy_json_codec.proofs.NextInContainerLemmas.{object_closes, no_leading, leading, name_place, names_there, there_names, shut, nothing_in_object}
 use Rattle.smithy_json_codec.proofs.places.next_in_object.Goals as goal
 use Rattle.smithy_json_codec.proofs.places.next_in_object.Goals.{then-entered, else-entered, then-entered-2, else-entered-2}
 

@@ -1,5 +1,5 @@
 use Rattle.smithy_json_codec.proofs.OptionLemmas.{if_some, if_none}
-use Rattle.smithy_json_codec.proofs.ValueLemmas.{null_lies, null_stands}
+use Rattle.smithy_json_codec.proofs.ScannedValues.{null_lies, null_stands}
 use Rattle.smithy_json_codec.proofs.places.null_end.Goals as goal
 
 pub returns-clause-found : goal.returns-clause-found

@@ -1,7 +1,7 @@
 use Rattle.std.proofs.Common.{ap, sym, ◌∙◌}
 use Rattle.std.proofs.lemmas.List.{take_rest}
 use Rattle.smithy_json_codec.specs.Standing.{begins_with_null}
-use Rattle.smithy_json_codec.proofs.FrontLemmas.{rest_behind}
+use Rattle.smithy_json_codec.proofs.ScannedPlaces.{rest_behind}
 use Rattle.smithy_json_codec.proofs.values.begins_null.Goals as goal
 
 pub returns : goal.returns

@@ -1,4 +1,4 @@
-use Rattle.smithy_json_codec.proofs.ValueLemmas.{boolean_lies, boolean_stands}
+use Rattle.smithy_json_codec.proofs.ScannedValues.{boolean_lies, boolean_stands}
 use Rattle.smithy_json_codec.proofs.values.boolean_end.Goals as goal
 
 pub returns-in_err-end-clause-none : goal.returns-in_err-end-clause-none

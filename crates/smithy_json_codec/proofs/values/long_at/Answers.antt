@@ -1,5 +1,5 @@
 use Rattle.smithy_json_codec.proofs.OptionLemmas.{if_some, if_none}
-use Rattle.smithy_json_codec.proofs.ValueLemmas.{long_lies, long_stands}
+use Rattle.smithy_json_codec.proofs.ScannedValues.{long_lies, long_stands}
 use Rattle.smithy_json_codec.proofs.values.long_at.Goals as goal
 
 pub returns-clause-found : goal.returns-clause-found

@@ -1,5 +1,5 @@
 use Rattle.std.proofs.Common.{slice_range}
-use Rattle.smithy_json_codec.proofs.ValueLemmas.{number_lies, number_stands}
+use Rattle.smithy_json_codec.proofs.ScannedValues.{number_lies, number_stands}
 use Rattle.smithy_json_codec.proofs.values.number_end.Goals as goal
 
 pub returns-in_err-number-clause-none : goal.returns-in_err-number-clause-none

@@ -2,7 +2,7 @@ use Rattle.std.proofs.Common.{◌+◌, length, subst, sym}
 use Rattle.smithy_json.specs.Tree.{string}
 use Rattle.smithy_json_codec.specs.Standing.{TreeLies}
 use Rattle.smithy_json_codec.proofs.OptionLemmas.{some_where, none_where}
-use Rattle.smithy_json_codec.proofs.ValueLemmas.{string_front, string_lies, lying_string_stands, string_boundary}
+use Rattle.smithy_json_codec.proofs.ScannedValues.{string_front, string_lies, lying_string_stands, string_boundary}
 use Rattle.smithy_json_codec.proofs.values.string_at.Goals as goal
 
 pub returns-in_err-string-clause-none : goal.returns-in_err-string-clause-none

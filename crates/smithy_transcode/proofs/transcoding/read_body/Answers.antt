@@ -1,18 +1,47 @@
-use Rattle.smithy_transcode.proofs.Transcodings.{refused_at, refused_at_cbor, refused_at_any_depth, refused_at_any_depth_cbor}
+use Rattle.std.proofs.Common.{◌∙◌}
+use Rattle.smithy_json_codec.specs.Cursor.{cursor_of, reading_settings_of}
+use Rattle.smithy_cbor.specs.Cursor.{cursor_of as cbor_cursor_of, reading_settings_of as cbor_settings_of}
+use Rattle.smithy_transcode.specs.View.{view}
+use Rattle.smithy_transcode.proofs.Begun.{json_begins, cbor_begins, read_is_spelled, unread_spells_nothing, unread_spells_nothing_at_any_depth, deep_opens}
+use Rattle.smithy_transcode.proofs.Mapped.{mapped_ok}
 use Rattle.smithy_transcode.proofs.transcoding.read_body.Goals as goal
+
+pub returns-in-Json-clause-ok : goal.returns-in-Json-clause-ok
+returns-in-Json-clause-ok c =
+    let begins = json_begins c.args.from.now c.in-Json.use_json_name (reading_settings_of c.create_deserializer-source.result) (cursor_of c.create_deserializer-source.result) c.schema-schema.result c.args.shapes.now c.args.root.0 c.args.input.now c.in-Json.is (c.create_deserializer-source.ensures.settings ∙ c.strict.ensures) c.create_deserializer-source.ensures.fresh c.schema-schema.ensures.site c.requires.root in
+    mapped_ok c.read_value.result _ _ (λ v h. read_is_spelled begins (cursor_of c.read_value.new.source) (view v) h) c.read_value.ensures.ok
 
 pub returns-in-Json-clause-refused : goal.returns-in-Json-clause-refused
 returns-in-Json-clause-refused c =
-    refused_at c.args.from.now c.in-Json.use_json_name c.schema-schema.result _ _ _ c.read_json.result c.in-Json.is c.schema-schema.ensures.site c.read_json.ensures.refused
-
-pub returns-in-Cbor-clause-refused : goal.returns-in-Cbor-clause-refused
-returns-in-Cbor-clause-refused c =
-    refused_at_cbor c.args.from.now c.schema-schema.result _ _ _ c.read_cbor.result c.in-Cbor.is c.schema-schema.ensures.site c.read_cbor.ensures.refused
+    let begins = json_begins c.args.from.now c.in-Json.use_json_name (reading_settings_of c.create_deserializer-source.result) (cursor_of c.create_deserializer-source.result) c.schema-schema.result c.args.shapes.now c.args.root.0 c.args.input.now c.in-Json.is (c.create_deserializer-source.ensures.settings ∙ c.strict.ensures) c.create_deserializer-source.ensures.fresh c.schema-schema.ensures.site c.requires.root in
+    λ refused. unread_spells_nothing begins (c.read_value.ensures.refused refused)
 
 pub returns-in-Json-clause-would : goal.returns-in-Json-clause-would
 returns-in-Json-clause-would c =
-    refused_at_any_depth c.args.from.now c.in-Json.use_json_name c.schema-schema.result _ _ _ c.read_json.result c.in-Json.is c.schema-schema.ensures.site c.read_json.ensures.would
+    let begins = json_begins c.args.from.now c.in-Json.use_json_name (reading_settings_of c.create_deserializer-source.result) (cursor_of c.create_deserializer-source.result) c.schema-schema.result c.args.shapes.now c.args.root.0 c.args.input.now c.in-Json.is (c.create_deserializer-source.ensures.settings ∙ c.strict.ensures) c.create_deserializer-source.ensures.fresh c.schema-schema.ensures.site c.requires.root in
+    λ invalid. unread_spells_nothing_at_any_depth begins (c.read_value.ensures.would tt invalid)
+
+pub returns-in-Json-clause-deep : goal.returns-in-Json-clause-deep
+returns-in-Json-clause-deep c =
+    let begins = json_begins c.args.from.now c.in-Json.use_json_name (reading_settings_of c.create_deserializer-source.result) (cursor_of c.create_deserializer-source.result) c.schema-schema.result c.args.shapes.now c.args.root.0 c.args.input.now c.in-Json.is (c.create_deserializer-source.ensures.settings ∙ c.strict.ensures) c.create_deserializer-source.ensures.fresh c.schema-schema.ensures.site c.requires.root in
+    deep_opens begins c.read_value.result (cursor_of c.read_value.new.source) c.read_value.ensures.refused c.read_value.ensures.input (c.read_value.ensures.counted tt) c.read_value.ensures.deep
+
+pub returns-in-Cbor-clause-ok : goal.returns-in-Cbor-clause-ok
+returns-in-Cbor-clause-ok c =
+    let begins = cbor_begins c.args.from.now (cbor_settings_of c.create_deserializer-source-in-Cbor.result) (cbor_cursor_of c.create_deserializer-source-in-Cbor.result) c.schema-schema.result c.args.shapes.now c.args.root.0 c.args.input.now c.in-Cbor.is (c.create_deserializer-source-in-Cbor.ensures.settings ∙ c.strict-in-Cbor.ensures) c.create_deserializer-source-in-Cbor.ensures.fresh c.schema-schema.ensures.site c.requires.root in
+    mapped_ok c.read_value-in-Cbor.result _ _ (λ v h. read_is_spelled begins (cbor_cursor_of c.read_value-in-Cbor.new.source) (view v) h) c.read_value-in-Cbor.ensures.ok
+
+pub returns-in-Cbor-clause-refused : goal.returns-in-Cbor-clause-refused
+returns-in-Cbor-clause-refused c =
+    let begins = cbor_begins c.args.from.now (cbor_settings_of c.create_deserializer-source-in-Cbor.result) (cbor_cursor_of c.create_deserializer-source-in-Cbor.result) c.schema-schema.result c.args.shapes.now c.args.root.0 c.args.input.now c.in-Cbor.is (c.create_deserializer-source-in-Cbor.ensures.settings ∙ c.strict-in-Cbor.ensures) c.create_deserializer-source-in-Cbor.ensures.fresh c.schema-schema.ensures.site c.requires.root in
+    λ refused. unread_spells_nothing begins (c.read_value-in-Cbor.ensures.refused refused)
 
 pub returns-in-Cbor-clause-would : goal.returns-in-Cbor-clause-would
 returns-in-Cbor-clause-would c =
-    refused_at_any_depth_cbor c.args.from.now c.schema-schema.result _ _ _ c.read_cbor.result c.in-Cbor.is c.schema-schema.ensures.site c.read_cbor.ensures.would
+    let begins = cbor_begins c.args.from.now (cbor_settings_of c.create_deserializer-source-in-Cbor.result) (cbor_cursor_of c.create_deserializer-source-in-Cbor.result) c.schema-schema.result c.args.shapes.now c.args.root.0 c.args.input.now c.in-Cbor.is (c.create_deserializer-source-in-Cbor.ensures.settings ∙ c.strict-in-Cbor.ensures) c.create_deserializer-source-in-Cbor.ensures.fresh c.schema-schema.ensures.site c.requires.root in
+    λ invalid. unread_spells_nothing_at_any_depth begins (c.read_value-in-Cbor.ensures.would tt invalid)
+
+pub returns-in-Cbor-clause-deep : goal.returns-in-Cbor-clause-deep
+returns-in-Cbor-clause-deep c =
+    let begins = cbor_begins c.args.from.now (cbor_settings_of c.create_deserializer-source-in-Cbor.result) (cbor_cursor_of c.create_deserializer-source-in-Cbor.result) c.schema-schema.result c.args.shapes.now c.args.root.0 c.args.input.now c.in-Cbor.is (c.create_deserializer-source-in-Cbor.ensures.settings ∙ c.strict-in-Cbor.ensures) c.create_deserializer-source-in-Cbor.ensures.fresh c.schema-schema.ensures.site c.requires.root in
+    deep_opens begins c.read_value-in-Cbor.result (cbor_cursor_of c.read_value-in-Cbor.new.source) c.read_value-in-Cbor.ensures.refused c.read_value-in-Cbor.ensures.input (c.read_value-in-Cbor.ensures.counted tt) c.read_value-in-Cbor.ensures.deep

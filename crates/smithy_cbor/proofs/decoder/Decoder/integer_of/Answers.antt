@@ -4,7 +4,7 @@ use Rattle.std.specs.Int.{w64}
 use Rattle.std.proofs.lemmas.Int.{to_z-of_z}
 use Rattle.cbor_item.specs.WellFormed.{IsItemAt}
 use Rattle.smithy_cbor.specs.DecoderView.{input_of, position_of}
-use Rattle.smithy_cbor.proofs.HeadFacts.{integer_there}
+use Rattle.smithy_cbor.proofs.HeadLemmas.{integer_there}
 use Rattle.smithy_cbor.proofs.decoder.Decoder.integer_of.Goals as goal
 
 pub returns-in-Some-clause-found : goal.returns-in-Some-clause-found

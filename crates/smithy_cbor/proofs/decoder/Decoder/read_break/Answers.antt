@@ -2,7 +2,7 @@
 use Rattle.std.proofs.Common.{refl}
 use Rattle.cbor_item.specs.HeadView.{head_read}
 use Rattle.smithy_cbor.specs.DecoderView.{input_of, position_of}
-use Rattle.smithy_cbor.proofs.HeadFacts.{break_there}
+use Rattle.smithy_cbor.proofs.HeadLemmas.{break_there}
 use Rattle.smithy_cbor.proofs.decoder.Decoder.read_break.Goals as goal
 
 pub returns-in-Ok-clause-read : goal.returns-in-Ok-clause-read

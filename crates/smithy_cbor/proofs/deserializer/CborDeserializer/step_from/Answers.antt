@@ -3,9 +3,9 @@ use Rattle.smithy_schema.specs.declared.error.SerdeError.TheVariants.{InvalidInp
 use Rattle.smithy_schema.specs.Site.{site_of}
 use Rattle.smithy_cbor.specs.Cursor.{cursor_of, reading_settings_of}
 use Rattle.smithy_cbor.specs.Standing.{mark_with}
-use Rattle.smithy_cbor.specs.Private.Steering.{StepsTo}
+use Rattle.smithy_cbor.specs.Private.StructureSteps.{StepsTo}
 use Rattle.smithy_cbor.proofs.DeserializerLemmas.{goes_ahead, input_fault}
-use Rattle.smithy_cbor.proofs.SteeringLemmas.{value_place, end_place, steps_to, leaves_at, map_closes, cannot_step}
+use Rattle.smithy_cbor.proofs.StructureStepsLemmas.{value_place, end_place, steps_to, leaves_at, map_closes, cannot_step}
 use Rattle.smithy_wire.specs.Walking.{cursor_of as walk_cursor, gone_on_to}
 use Rattle.smithy_cbor.proofs.deserializer.CborDeserializer.step_from.Goals as goal
 

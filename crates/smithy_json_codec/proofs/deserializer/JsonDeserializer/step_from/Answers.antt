@@ -2,9 +2,9 @@ use Rattle.std.proofs.Common.{◌≡◌, false, true, arith, sym, ap, ◌∙◌}
 use Rattle.smithy_schema.specs.declared.error.SerdeError.TheVariants.{InvalidInput}
 use Rattle.smithy_schema.specs.Site.{site_of}
 use Rattle.smithy_json_codec.specs.Cursor.{cursor_of, reading_settings_of}
-use Rattle.smithy_json_codec.specs.Private.Steering.{StepsTo}
+use Rattle.smithy_json_codec.specs.Private.StructureSteps.{StepsTo}
 use Rattle.smithy_json_codec.proofs.DeserializerLemmas.{goes_ahead, text_fault}
-use Rattle.smithy_json_codec.proofs.SteeringLemmas.{value_place, end_place, steps_to, leaves_at, bracket_closes, cannot_step}
+use Rattle.smithy_json_codec.proofs.StructureStepsLemmas.{value_place, end_place, steps_to, leaves_at, bracket_closes, cannot_step}
 use Rattle.smithy_wire.specs.Walking.{cursor_of as walk_cursor, gone_on_to}
 use Rattle.smithy_json_codec.proofs.deserializer.JsonDeserializer.step_from.Goals as goal
 

@@ -7,9 +7,9 @@ use Rattle.smithy_json_codec.specs.Cursor.{cursor_of, reading_settings_of}
 use Rattle.smithy_json_codec.specs.Settings.{without_limits}
 use Rattle.smithy_json_codec.specs.Standing.{json_relations}
 use Rattle.smithy_json_codec.proofs.DeserializerLemmas.{error_of, skips_not, skips_never, skips_same, skips_here}
-use Rattle.smithy_json_codec.proofs.SteeringLemmas.{stays_undue, invalid_refused}
+use Rattle.smithy_json_codec.proofs.StructureStepsLemmas.{stays_undue, invalid_refused}
 use Rattle.smithy_json_codec.specs.Deepest.{OpensTooDeep}
-use Rattle.smithy_json_codec.proofs.OpenWalkLemmas.{reader_reaches}
+use Rattle.smithy_json_codec.proofs.SkipStepOpeners.{reader_reaches}
 use Rattle.smithy_json_codec.proofs.deserializer.JsonDeserializerShapeDeserializer.next_member.Goals as goal
 
 pub returns-then-not-self-clause-refused : goal.returns-then-not-self-clause-refused

@@ -1,0 +1,35 @@
+use Rattle.std.proofs.Common.{◌+◌, subst}
+use Rattle.smithy_json_codec.specs.Standing.{Lies, IsByte}
+use Rattle.smithy_json_codec.proofs.FirstBytePlaces.{first_lies}
+use Rattle.smithy_json_codec.proofs.ValueFirstByte.{nothing_lies, lies_before, value_behind}
+use Rattle.smithy_json.specs.Grammar.{IsValue}
+use Rattle.smithy_json_codec.proofs.skip.beginning_of.Goals as goal
+
+pub returns-in_err-first : goal.returns-in_err-first
+returns-in_err-first c = rw c.from_residual.ensures (nothing_lies c.args.input.now c.args.at c.in_err-first.ensures.none)
+
+pub returns-then-first-eq91 : goal.returns-then-first-eq91
+returns-then-first-eq91 c =
+    subst (λ b. Lies (IsByte b) c.args.input.now c.args.at (c.in_ok-first.start + 1)) c.if-first-eq91.true
+    (first_lies c.args.input.now c.args.at c.in_ok-first.first c.in_ok-first.start c.in_ok-first.ensures.found)
+
+pub returns-then-first-eq123 : goal.returns-then-first-eq123
+returns-then-first-eq123 c =
+    subst (λ b. Lies (IsByte b) c.args.input.now c.args.at (c.in_ok-first.start + 1)) c.if-first-eq123.true
+    (first_lies c.args.input.now c.args.at c.in_ok-first.first c.in_ok-first.start c.in_ok-first.ensures.found)
+
+pub returns-in_err-end : goal.returns-in_err-end
+returns-in_err-end c =
+    let here = c.in_ok-first.ensures.found in
+    rw c.from_residual-in_err-end.ensures (λ d x e h.
+    c.in_err-end.ensures.none d x e (value_behind c.args.input.now c.args.at c.in_ok-first.first c.in_ok-first.start here d x e h))
+
+pub returns : goal.returns
+returns c =
+    let found = c.in_ok-end.ensures.found in
+    let before = lies_before c.args.input.now c.args.at c.in_ok-first.first c.in_ok-first.start c.in_ok-first.ensures.found in
+    record {
+      tree = found.tree;
+      lies = (before (IsValue found.tree) c.in_ok-end.end found.lies.0, found.lies.1);
+      flat = found.flat;
+    }

@@ -1,0 +1,50 @@
+-- What comes next in a container, as private functions answer it.
+use Rattle.std.specs.Prelude.{◌≡◌, ◌<◌, ◌≤◌, ℕ, List, length, drop, slice_index, slice_range, Bool, false, Option, Some, None}
+use Rattle.smithy_json.specs.Ascii.{end_array, end_object, is_ws}
+use Rattle.smithy_json.specs.Grammar.{IsWs}
+use Rattle.smithy_json.specs.Unescape.{has_escape}
+use Rattle.smithy_json_codec.specs.declared.places.InList.{InList}
+use Rattle.smithy_json_codec.specs.declared.places.InList.TheVariants.{Element, End as EndOfList}
+use Rattle.smithy_json_codec.specs.declared.places.InObject.{InObject}
+use Rattle.smithy_json_codec.specs.declared.places.InObject.TheVariants.{Member, End as EndOfObject}
+use Rattle.smithy_json_codec.specs.declared.places.Name.{Name}
+use Rattle.smithy_json_codec.specs.Standing.{Lies, IsByte, IsSeparated, Names, FollowsInside}
+
+-- at `start` stands the first byte from `at` on that is no white space
+pub record IsFirstByte (input : List ℕ) (at byte start : ℕ) : Type 0 where
+  pub ordered : at ≤ start
+  pub within : start < length input
+  pub ws : IsWs (slice_range input at start)
+  pub is : slice_index input start ≡ byte
+  pub plain : is_ws byte ≡ false
+
+-- this byte doesn't come first behind white space
+abbrev pub IsNotFirst : ℕ → List ℕ → ℕ → Type 0
+IsNotFirst byte input at = (e : ℕ) → Lies (IsByte byte) input at e → ⊥
+
+-- a container closes by this byte, where so deep a one may end
+abbrev pub ClosesBy : ℕ → List ℕ → ℕ → ℕ → ℕ → Type 0
+ClosesBy byte input at depth e = Lies (IsByte byte) input at e × FollowsInside depth (drop e input)
+
+-- another element is due at c
+abbrev pub ElementBegins : List ℕ → ℕ → Bool → ℕ → Type 0
+ElementBegins input at entered c = IsSeparated entered input at c × IsNotFirst end_array input c
+
+-- how a list goes on, exactly
+abbrev pub GoesOnInList : List ℕ → ℕ → Bool → ℕ → Option InList → Type 0
+GoesOnInList input at entered depth (Some (Element c)) = ElementBegins input at entered c
+GoesOnInList input at entered depth (Some (EndOfList e)) = ClosesBy end_array input at depth e
+GoesOnInList input at entered depth None =
+    ((c : ℕ) → ElementBegins input at entered c → ⊥) × ((e : ℕ) → ClosesBy end_array input at depth e → ⊥)
+
+-- a member's name stands there, whether it holds an escape or not
+pub record NameStands (input : List ℕ) (at : ℕ) (entered : Bool) (name : Name) : Type 0 where
+  pub names : Names entered input at name.raw.now name.end
+  pub has_escape : name.has_escape ≡ has_escape name.raw.now
+
+-- how an object goes on, exactly
+abbrev pub GoesOnInObject : List ℕ → ℕ → Bool → ℕ → Option InObject → Type 0
+GoesOnInObject input at entered depth (Some (Member name)) = NameStands input at entered name
+GoesOnInObject input at entered depth (Some (EndOfObject e)) = ClosesBy end_object input at depth e
+GoesOnInObject input at entered depth None =
+    ((raw : List ℕ) (c : ℕ) → Names entered input at raw c → ⊥) × ((e : ℕ) → ClosesBy end_object input at depth e → ⊥)

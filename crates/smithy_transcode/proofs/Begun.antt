@@ -1,0 +1,111 @@
+-- A reader that begins a body, and what it reads there, as what the whole input spells.
+use Rattle.std.proofs.Common.{◌≡◌, ◌≤◌, ◌<◌, ℕ, List, Bool, [], ◌∷◌, length, Result, Ok, Err, IsErrOf, IfOk, refl, sym, ◌∙◌, ap, subst, arith}
+use Rattle.smithy_schema.specs.declared.error.SerdeError.{SerdeError}
+use Rattle.smithy_schema.specs.declared.error.SerdeError.TheVariants.{InvalidInput, TooDeep, Unwritable, Failed, NoMemory}
+use Rattle.smithy_schema.specs.declared.schema.Schema.{Schema}
+use Rattle.smithy_schema.specs.Table.{Table, kind_of, shape_place, IsStructure}
+use Rattle.smithy_schema.specs.Site.{Site, site_of, shape_site}
+use Rattle.smithy_schema.specs.Value.{Value, structure, no_member_values}
+use Rattle.smithy_schema.specs.Reading.{Cursor, depth, Relations, Reads, StandsNot, ReachesDepth, IsCounted, IsRefused}
+use Rattle.smithy_schema.proofs.CountLemmas.{starts_counted, reaches_openers}
+use Rattle.smithy_wire.specs.Walking.{fresh_cursor}
+use Rattle.smithy_json_codec.specs.Codec.{strict_settings}
+use Rattle.smithy_json_codec.specs.Settings.{Settings, without_limits}
+use Rattle.smithy_json_codec.specs.Standing.{json_relations}
+use Rattle.smithy_cbor.specs.Codec.{strict_settings as strict_cbor}
+use Rattle.smithy_cbor.specs.Settings.{Settings as CborSettings, without_limits as without_cbor_limits}
+use Rattle.smithy_cbor.specs.Standing.{cbor_relations}
+use Rattle.smithy_transcode.specs.declared.wire.Wire.{Wire}
+use Rattle.smithy_transcode.specs.declared.wire.Wire.TheVariants.{Json, Cbor}
+use Rattle.smithy_transcode.specs.Causes.{openers}
+use Rattle.smithy_transcode.specs.Spelling.{Spells}
+use Rattle.smithy_transcode.specs.Transcoding.{SpellNothing, SpellNothingAtAnyDepth}
+use Rattle.smithy_transcode.proofs.Spelled.{relations_of, lifted_of, StandsFirst, stands_is_spelled, spelled_stands, spelled_stands_at_any_depth, empty_is_spelled, openers_are}
+
+-- a reader with these relations stands at the start of a body of the root, whose schema is at hand
+pub record Begins (w : Wire) (r l : Relations) (max : ℕ) (old : Cursor) (s : Schema) (t : Table) (root : ℕ) (i : List ℕ) : Type 1 where
+  pub keeps : r ≡ relations_of w
+  pub lifts : l ≡ lifted_of w
+  pub greatest : max ≡ 128
+  pub fresh : old ≡ fresh_cursor i
+  pub site : site_of s ≡ shape_site t root
+  pub kind : IsStructure (kind_of t (shape_place root))
+
+pub json_begins : (w : Wire) (b : Bool) (o : Settings) (old : Cursor) (s : Schema) (t : Table) (root : ℕ) (i : List ℕ) → w ≡ Json b → o ≡ strict_settings b
+    → old ≡ fresh_cursor i → site_of s ≡ shape_site t root → IsStructure (kind_of t (shape_place root))
+    → Begins w (json_relations o) (json_relations (without_limits o)) o.max_depth old s t root i
+json_begins w b o old s t root i wire same fresh site kind = record {
+  keeps = ap json_relations same ∙ sym (ap relations_of wire);
+  lifts = ap (λ c. json_relations (without_limits c)) same ∙ sym (ap lifted_of wire);
+  greatest = ap (λ (c : Settings). c.max_depth) same;
+  fresh = fresh;
+  site = site;
+  kind = kind;
+}
+
+pub cbor_begins : (w : Wire) (o : CborSettings) (old : Cursor) (s : Schema) (t : Table) (root : ℕ) (i : List ℕ) → w ≡ Cbor → o ≡ strict_cbor
+    → old ≡ fresh_cursor i → site_of s ≡ shape_site t root → IsStructure (kind_of t (shape_place root))
+    → Begins w (cbor_relations o) (cbor_relations (without_cbor_limits o)) o.max_depth old s t root i
+cbor_begins w o old s t root i wire same fresh site kind = record {
+  keeps = ap cbor_relations same ∙ sym (ap relations_of wire);
+  lifts = ap (λ c. cbor_relations (without_cbor_limits c)) same ∙ sym (ap lifted_of wire);
+  greatest = ap (λ (c : CborSettings). c.max_depth) same;
+  fresh = fresh;
+  site = site;
+  kind = kind;
+}
+
+module _ {w : Wire} {r l : Relations} {max : ℕ} {old : Cursor} {s : Schema} {t : Table} {root : ℕ} {i : List ℕ} (begins : Begins w r l max old s t root i) where
+  stood : (z : Relations) → (v : Value) → StandsNot z old s.shapes.now s.place → StandsFirst z t root i v → ⊥
+  stood z v none h =
+      let here : StandsNot z old t (shape_place root) = subst (λ (x : Site). StandsNot z old x.table x.place) begins.site none in
+      let first : StandsNot z (fresh_cursor i) t (shape_place root) = subst (λ c. StandsNot z c t (shape_place root)) begins.fresh here in
+      first v h.0 h.1
+
+  -- what was read is spelled
+  pub read_is_spelled : (new : Cursor) (v : Value) → Reads r old new s.shapes.now s.place v → Spells w t root i v
+  read_is_spelled new v h =
+      let here : Reads r old new t (shape_place root) v = subst (λ (x : Site). Reads r old new x.table x.place v) begins.site h in
+      let first : Reads r (fresh_cursor i) new t (shape_place root) v = subst (λ c. Reads r c new t (shape_place root) v) begins.fresh here in
+      let kept : Reads (relations_of w) (fresh_cursor i) new t (shape_place root) v = subst (λ z. Reads z (fresh_cursor i) new t (shape_place root) v) begins.keeps first in
+      stands_is_spelled w t root i v begins.kind (new.at, kept.stands)
+
+  -- where nothing stands, nothing is spelled
+  pub unread_spells_nothing : StandsNot r old s.shapes.now s.place → SpellNothing w t root i
+  unread_spells_nothing none v h =
+      let kept : StandsNot (relations_of w) old s.shapes.now s.place = subst (λ z. StandsNot z old s.shapes.now s.place) begins.keeps none in
+      stood (relations_of w) v kept (spelled_stands w t root i v h)
+
+  -- and nothing of any depth, where nothing stands with the limits lifted
+  pub unread_spells_nothing_at_any_depth : StandsNot l old s.shapes.now s.place → SpellNothingAtAnyDepth w t root i
+  unread_spells_nothing_at_any_depth none v h =
+      let lifted : StandsNot (lifted_of w) old s.shapes.now s.place = subst (λ z. StandsNot z old s.shapes.now s.place) begins.lifts none in
+      stood (lifted_of w) v lifted (spelled_stands_at_any_depth w t root i v h)
+
+  -- an input that spells nothing isn't empty
+  spells_nothing_is_some : (j : List ℕ) → i ≡ j → SpellNothing w t root i → 0 < length j
+  spells_nothing_is_some [] is nothing =
+      absurd (subst (λ j. SpellNothing w t root j) is nothing (structure no_member_values) (empty_is_spelled w t root begins.kind))
+  spells_nothing_is_some (b ∷ j) is nothing = omega arith
+
+  -- and where the greatest depth is reached, as many containers are open at once in the whole input
+  opens_as_many : (new : Cursor) → StandsNot r old s.shapes.now s.place → new.input ≡ old.input → (IsCounted r old → IsCounted r new)
+      → ReachesDepth r max new → 128 ≤ openers w i
+  opens_as_many new none unmoved counted reaches =
+      let whole : new.input ≡ i = unmoved ∙ ap (λ (c : Cursor). c.input) begins.fresh in
+      let start : IsCounted r old = starts_counted r old (ap (λ (c : Cursor). c.at) begins.fresh) (ap depth begins.fresh) in
+      let some : 0 < length new.input = subst (λ j. 0 < length j) (sym whole) (spells_nothing_is_some i refl (unread_spells_nothing none)) in
+      let opened : max ≤ r.openers new.input = reaches_openers r max new some (counted start) reaches in
+      let here : max ≤ r.openers i = subst (λ j. max ≤ r.openers j) whole opened in
+      let kept : max ≤ (relations_of w).openers i = subst (λ (z : Relations). max ≤ z.openers i) begins.keeps here in
+      let bytes : max ≤ openers w i = subst (λ n. max ≤ n) (openers_are w i) kept in
+      subst (λ n. n ≤ openers w i) begins.greatest bytes
+
+  pub deep_opens : {A : Type 0} (answer : Result A SerdeError) (new : Cursor) → (IsRefused answer → StandsNot r old s.shapes.now s.place) → new.input ≡ old.input
+      → (IsCounted r old → IsCounted r new) → (IsErrOf answer TooDeep → ReachesDepth r max new) → IsErrOf answer TooDeep → 128 ≤ openers w i
+  deep_opens (Ok x) new refused unmoved counted deep is = absurd (let both : Ok x ≡ Err TooDeep = is in cc)
+  deep_opens (Err TooDeep) new refused unmoved counted deep is = opens_as_many new (refused tt) unmoved counted (deep is)
+  deep_opens (Err InvalidInput) new refused unmoved counted deep is = absurd (let both : Err InvalidInput ≡ Err TooDeep = is in cc)
+  deep_opens (Err Unwritable) new refused unmoved counted deep is = absurd (let both : Err Unwritable ≡ Err TooDeep = is in cc)
+  deep_opens (Err Failed) new refused unmoved counted deep is = absurd (let both : Err Failed ≡ Err TooDeep = is in cc)
+  deep_opens (Err NoMemory) new refused unmoved counted deep is = absurd (let both : Err NoMemory ≡ Err TooDeep = is in cc)

@@ -1,0 +1,56 @@
+-- What a wire's relations let stand at the start of an input, as what the whole input spells.
+use Rattle.std.proofs.Common.{◌≡◌, ℕ, List, [], refl, inr}
+use Rattle.smithy_schema.specs.Table.{Table, kind_of, shape_place, IsStructure}
+use Rattle.smithy_schema.specs.Value.{Value, structure, no_member_values}
+use Rattle.smithy_schema.specs.Reading.{Relations}
+use Rattle.smithy_json_codec.specs.Codec.{strict_settings}
+use Rattle.smithy_json_codec.specs.Settings.{without_limits}
+use Rattle.smithy_json_codec.specs.Standing.{json_relations}
+use Rattle.smithy_json_codec.proofs.SpellingLemmas.{stands_spells, spells_stands, structure_is_container}
+use Rattle.smithy_cbor.specs.Codec.{strict_settings as strict_cbor}
+use Rattle.smithy_cbor.specs.Settings.{without_limits as without_cbor_limits}
+use Rattle.smithy_cbor.specs.Standing.{cbor_relations}
+use Rattle.smithy_cbor.proofs.SpellingLemmas.{stands_spells as cbor_stands_spells, spells_stands as cbor_spells_stands}
+use Rattle.smithy_transcode.specs.declared.wire.Wire.{Wire}
+use Rattle.smithy_transcode.specs.declared.wire.Wire.TheVariants.{Json, Cbor}
+use Rattle.smithy_transcode.specs.Spelling.{Spells, SpellsAtAnyDepth}
+use Rattle.smithy_transcode.specs.Causes.{openers}
+
+-- the relations under which bodies are read
+abbrev pub relations_of : Wire → Relations
+relations_of (Json use_json_name) = json_relations (strict_settings use_json_name)
+relations_of Cbor = cbor_relations strict_cbor
+
+-- the same with the limits lifted
+abbrev pub lifted_of : Wire → Relations
+lifted_of (Json use_json_name) = json_relations (without_limits (strict_settings use_json_name))
+lifted_of Cbor = cbor_relations (without_cbor_limits strict_cbor)
+
+-- a value of the place stands at the start
+abbrev pub StandsFirst : Relations → Table → ℕ → List ℕ → Value → Type 0
+StandsFirst w t root i v = (e : ℕ) × w.stands i t (shape_place root) 0 0 v e
+
+pub stands_is_spelled : (w : Wire) (t : Table) (root : ℕ) (i : List ℕ) (v : Value) → IsStructure (kind_of t (shape_place root))
+    → StandsFirst (relations_of w) t root i v → Spells w t root i v
+stands_is_spelled (Json b) t root i v kind h = stands_spells (strict_settings b) t (shape_place root) i v h.0 (structure_is_container (kind_of t (shape_place root)) kind) h.1
+stands_is_spelled Cbor t root i v kind h = cbor_stands_spells strict_cbor t (shape_place root) i v h.0 h.1
+
+pub spelled_stands : (w : Wire) (t : Table) (root : ℕ) (i : List ℕ) (v : Value) → Spells w t root i v → StandsFirst (relations_of w) t root i v
+spelled_stands (Json b) t root i v h = spells_stands (strict_settings b) t (shape_place root) i v h
+spelled_stands Cbor t root i v h = cbor_spells_stands strict_cbor t (shape_place root) i v h
+
+pub spelled_stands_at_any_depth : (w : Wire) (t : Table) (root : ℕ) (i : List ℕ) (v : Value) → SpellsAtAnyDepth w t root i v
+    → StandsFirst (lifted_of w) t root i v
+spelled_stands_at_any_depth (Json b) t root i v h = spells_stands (without_limits (strict_settings b)) t (shape_place root) i v h
+spelled_stands_at_any_depth Cbor t root i v h = cbor_spells_stands (without_cbor_limits strict_cbor) t (shape_place root) i v h
+
+-- an empty input spells the structure without members
+pub empty_is_spelled : (w : Wire) (t : Table) (root : ℕ) → IsStructure (kind_of t (shape_place root))
+    → Spells w t root [] (structure no_member_values)
+empty_is_spelled (Json b) t root kind = inr (refl, kind, refl, refl)
+empty_is_spelled Cbor t root kind = inr (refl, kind, refl, refl)
+
+-- what the relations count is what the bytes open
+pub openers_are : (w : Wire) (i : List ℕ) → (relations_of w).openers i ≡ openers w i
+openers_are (Json b) i = refl
+openers_are Cbor i = refl

@@ -1,0 +1,20 @@
+//! Why a body is refused, as a transcoding says it.
+ghost use Rattle.std.specs.Prelude.{◌≢◌};
+ghost use Rattle.smithy_transcode.specs.Refusal.{Tells};
+
+use crate::wire::TranscodeError;
+use smithy_schema::SerdeError;
+
+// The refusal of a transcoding. Its readers and serializers haven't failed before, and write what was read.
+pub(crate) fn refusal(error: SerdeError) -> TranscodeError
+    requires sound { error ≢ SerdeError.Failed }
+    requires written { error ≢ SerdeError.Unwritable }
+    ensures { Tells error result }
+{
+    match error {
+        SerdeError::InvalidInput => TranscodeError::InvalidInput,
+        SerdeError::TooDeep => TranscodeError::TooDeep,
+        SerdeError::NoMemory => TranscodeError::NoMemory,
+        SerdeError::Failed | SerdeError::Unwritable => unreachable!(),
+    }
+}

@@ -1,0 +1,29 @@
+//! The bytes of one value, in any wire.
+ghost use Rattle.std.specs.Prelude.{◌≡◌, false, [], Ok, IfOk, IfErr};
+ghost use Rattle.smithy_schema.specs.declared.error.SerdeError.TheVariants.{NoMemory};
+ghost use Rattle.smithy_schema.specs.Fits.{Fits};
+ghost use Rattle.smithy_schema.specs.Site.{site_of};
+ghost use Rattle.smithy_schema.specs.Writing.{write};
+ghost use Rattle.smithy_transcode.specs.View.{view};
+
+use crate::value::Value;
+use crate::writing::write_value;
+use smithy_schema::{FinishSerializer, Schema, SerdeError};
+use std::alloc::Global;
+
+// The bytes of a serializer that takes the value, once it is written.
+pub(crate) fn write_whole<S: FinishSerializer + Drop>(
+    alloc: Global,
+    mut sink: S,
+    schema: &Schema<'_>,
+    value: &Value,
+) -> Result<Vec<u8>, SerdeError>
+    requires fits { Fits schema.now.shapes.now schema.now.place (view value.now) }
+    requires sound { S.failed sink ≡ false }
+    requires taken { (state : S.State) × (write S.after (site_of schema.now) (view value.now) (S.state sink) ≡ Ok state) × (S.open_in state ≡ []) }
+    ensures ok { IfOk result (λ out. (state : S.State) → write S.after (site_of schema.now) (view value.now) (S.state sink) ≡ Ok state → out.items ≡ S.out state) }
+    ensures err { IfErr result (λ e. e ≡ NoMemory) }
+{
+    write_value(alloc, &mut sink, schema, value)?;
+    sink.finish()
+}
