@@ -1,0 +1,18 @@
+-- What is known of the scalar values of a kind.
+use Rattle.std.proofs.Common.{◌≡◌, ℕ, ℤ, List, true, IsUtf8}
+use Rattle.std.proofs.lemmas.Str.{IsUtf8-from_is_utf8}
+use Rattle.smithy_texts.specs.Ranges.{fits_signed}
+use Rattle.smithy_schema.specs.declared.shape_type.Scalar.{Scalar}
+use Rattle.smithy_schema.specs.declared.shape_type.Scalar.TheVariants as scalars
+use Rattle.smithy_schema.specs.Value.{whole, text}
+use Rattle.smithy_schema.specs.Fits.{is_of}
+
+-- a whole number of any kind fits 64 bits
+pub whole_fits : (s : Scalar) (n : ℤ) → is_of s (whole n) ≡ true → fits_signed 64 n ≡ true
+whole_fits scalars.Long n h = h
+whole_fits scalars.String n h = cc
+
+-- a text of any kind is in UTF-8
+pub text_is_utf8 : (s : Scalar) (t : List ℕ) → is_of s (text t) ≡ true → IsUtf8 t
+text_is_utf8 scalars.Long t h = cc
+text_is_utf8 scalars.String t h = IsUtf8-from_is_utf8 t h
