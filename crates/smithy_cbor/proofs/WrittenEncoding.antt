@@ -18,7 +18,7 @@ use Rattle.smithy_cbor.specs.Scalar.{boolean_item}
 use Rattle.smithy_cbor.specs.Written.{integer_bytes, boolean_bytes, text_bytes, opening_bytes}
 use Rattle.smithy_cbor.specs.Canonical.{scalar_bytes, key_bytes, canonical_cbor, element_bytes, member_bytes}
 use Rattle.smithy_cbor.proofs.WrittenItem.{integer_item, scalar_item, key_item, item_of, items_of, pairs_of}
-use Rattle.smithy_schema.proofs.ScalarLemmas.{whole_fits}
+use Rattle.smithy_schema.proofs.ScalarLemmas.{scalar_kind, whole_fits}
 use Rattle.smithy_schema.proofs.ChildSites.{element_site_is, member_there, member_site_is, member_name_is, fits_site}
 
 -- ---- heads
@@ -68,7 +68,8 @@ key_encodes view name is short = rw is (text_encodes name (rw is at short))
 mutual
   pub encodes : (site : Site) (v : Value) (nulls : Bool) → FitsOr site.table site.place nulls v → IsShort (canonical_cbor site v)
       → IsEncodingOf (item_of site v) (canonical_cbor site v)
-  encodes site (scalar_value x) nulls fits short = scalar_encodes fits.0 x fits.2 short
+  encodes site (scalar_value x) nulls fits short =
+      let s = scalar_kind (kind_at site) x fits in scalar_encodes s.0 x s.2 short
   encodes site (list vs) nulls fits short =
       let inside = (short_parts (element_bytes (element_of site) vs) (break ∷ []) (short_parts (opening_bytes 4) _ short).1).0 in
       (element_bytes (element_of site) vs, elements_encode site vs fits.0 fits.1 inside, refl)

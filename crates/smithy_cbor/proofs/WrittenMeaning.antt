@@ -15,6 +15,7 @@ use Rattle.smithy_schema.specs.Site.{Site, kind_at, element_of, member_of}
 use Rattle.smithy_schema.specs.Value.{ScalarValue, boolean, whole, text, Value, scalar_value, list, structure, null_element, Values, no_values, value, MemberValues, no_member_values, member_value, nesting, elements_nesting, members_nesting}
 use Rattle.smithy_schema.specs.Fits.{is_of, AscendFrom, FitsOr, ElementsFit, MembersFit}
 use Rattle.smithy_schema.specs.Container.{Entry, element_of as element_from, container_of}
+use Rattle.smithy_schema.proofs.ScalarLemmas.{scalar_kind}
 use Rattle.smithy_schema.proofs.NamedLemmas.{named_itself}
 use Rattle.smithy_schema.proofs.ChildLemmas.{SayElements, list_said, SayMembers, structure_said}
 use Rattle.smithy_cbor.specs.Settings.{Settings, Limits, kept, lifted, is_within}
@@ -148,7 +149,8 @@ mutual
   said : (c : Settings) (site : Site) (v : Value) (nulls : Bool) (d : ℕ) → IsAccepted site.table → FitsOr site.table site.place nulls v
       → d + nesting v ≤ c.max_depth → Said c site d nulls v
   said c site (scalar_value x) nulls d accepted fits deep =
-      said_by nulls (is_null (node_of (scalar_item x))) (scalar_value x) _ (scalar_is_no_null x) (scalar_means c site d fits.0 x fits.1 fits.2)
+      let s = scalar_kind (kind_at site) x fits in
+      said_by nulls (is_null (node_of (scalar_item x))) (scalar_value x) _ (scalar_is_no_null x) (scalar_means c site d s.0 x s.1 s.2)
   said c site (list vs) nulls d accepted fits deep =
       said_by nulls false (list vs) _ refl
       (stands_at c (suc d) _ (omega arith)

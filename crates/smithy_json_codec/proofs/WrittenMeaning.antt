@@ -11,6 +11,7 @@ use Rattle.smithy_schema.specs.Value.{ScalarValue, boolean, whole, text, Value, 
 use Rattle.smithy_schema.specs.Container.{Entry, element_of as element_meaning, container_of}
 use Rattle.smithy_schema.specs.Fits.{is_of, AscendFrom, FitsOr, ElementsFit, MembersFit}
 use Rattle.smithy_schema.proofs.ChildLemmas.{SayElements, list_said, Sets, SayMembers, structure_said}
+use Rattle.smithy_schema.proofs.ScalarLemmas.{scalar_kind}
 use Rattle.smithy_schema.proofs.SiteLemmas.{site_at, list_of_kind, structure_of_kind, element_site_at, member_site_at, element_fit, member_fit, named_by_name, named_by_json_name}
 use Rattle.smithy_json.specs.Escape.{escaped}
 use Rattle.smithy_json.specs.Unescape.{unescaped}
@@ -126,7 +127,7 @@ module _ (b : Bool) (t : Table) (accepted : IsAccepted t) where
 
   mutual
     pub value_means : (v : Value) (p : Place) (view : View) (nulls : Bool) (d : ℕ) → FitsOr t p nulls v → d + nesting v ≤ 128 → Means d p nulls (site_at t p view) v
-    value_means (scalar_value x) p view nulls d fits deep = scalar_means p nulls d fits.0 x fits.1 fits.2
+    value_means (scalar_value x) p view nulls d fits deep = let s = scalar_kind (kind_of t p) x fits in scalar_means p nulls d s.0 x s.1 s.2
     value_means null_element p view nulls d fits deep = rw fits refl
     value_means (list vs) p view nulls d fits deep =
         let l = list_of_kind (kind_of t p) fits.0 in

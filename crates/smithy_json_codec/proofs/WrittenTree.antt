@@ -10,7 +10,7 @@ use Rattle.smithy_schema.specs.Accepted.{IsAccepted}
 use Rattle.smithy_schema.specs.Site.{Site, View, member_view, element_view, nameless, element_of, member_of}
 use Rattle.smithy_schema.specs.Value.{ScalarValue, boolean, whole, text, Value, scalar_value, list, structure, null_element, Values, no_values, value, MemberValues, no_member_values, member_value}
 use Rattle.smithy_schema.specs.Fits.{is_of, FitsOr, ElementsFit, MembersFit}
-use Rattle.smithy_schema.proofs.ScalarLemmas.{whole_fits, text_is_utf8}
+use Rattle.smithy_schema.proofs.ScalarLemmas.{scalar_kind, whole_fits, text_is_utf8}
 use Rattle.smithy_schema.proofs.SiteLemmas.{site_at, list_of_kind, structure_of_kind, element_site_at, member_site_at, element_fit, member_fit, names_are_utf8}
 use Rattle.smithy_json.specs.Ascii.{quotation_mark, name_separator}
 use Rattle.smithy_json.specs.Escape.{escaped}
@@ -104,7 +104,7 @@ module _ (b : Bool) (t : Table) (accepted : IsAccepted t) where
 
   mutual
     pub value_written : (v : Value) (p : Place) (view : View) (nulls : Bool) → FitsOr t p nulls v → IsWritten (site_at t p view) v
-    value_written (scalar_value x) p view nulls fits = scalar_written fits.0 x fits.2
+    value_written (scalar_value x) p view nulls fits = let s = scalar_kind (kind_of t p) x fits in scalar_written s.0 x s.2
     value_written null_element p view nulls fits = refl
     value_written (list no_values) p view nulls fits = ([], refl, tt)
     value_written (list (value v vs)) p view nulls fits =

@@ -1,11 +1,19 @@
 -- What is known of the scalar values of a kind.
-use Rattle.std.proofs.Common.{◌≡◌, ℕ, ℤ, List, true, IsUtf8}
+use Rattle.std.proofs.Common.{◌≡◌, ℕ, ℤ, List, true, IsUtf8, refl}
 use Rattle.std.proofs.lemmas.Str.{IsUtf8-from_is_utf8}
 use Rattle.smithy_texts.specs.Ranges.{fits_signed}
 use Rattle.smithy_schema.specs.declared.shape_type.Scalar.{Scalar}
 use Rattle.smithy_schema.specs.declared.shape_type.Scalar.TheVariants as scalars
-use Rattle.smithy_schema.specs.Value.{whole, text}
-use Rattle.smithy_schema.specs.Fits.{is_of}
+use Rattle.smithy_schema.specs.Table.{Kind, scalar, structure_of, list_of, nothing}
+use Rattle.smithy_schema.specs.Value.{ScalarValue, whole, text}
+use Rattle.smithy_schema.specs.Fits.{is_of, is_scalar_of}
+
+-- where a scalar value stands, the kind is one of scalars
+pub scalar_kind : (k : Kind) (x : ScalarValue) → is_scalar_of k x ≡ true → (s : Scalar) × (k ≡ scalar s) × (is_of s x ≡ true)
+scalar_kind (scalar s) x h = (s, refl, h)
+scalar_kind (structure_of members) x h = cc
+scalar_kind (list_of l) x h = cc
+scalar_kind nothing x h = cc
 
 -- a whole number of any kind fits 64 bits
 pub whole_fits : (s : Scalar) (n : ℤ) → is_of s (whole n) ≡ true → fits_signed 64 n ≡ true

@@ -14,6 +14,11 @@ is_of scalars.Long (whole n) = fits_signed 64 n
 is_of scalars.String (text s) = is_utf8 s
 is_of _ _ = false
 
+-- the scalar values of what stands at a place
+abbrev pub is_scalar_of : Kind → ScalarValue → Bool
+is_scalar_of (scalar s) x = is_of s x
+is_scalar_of _ x = false
+
 -- the positions ascend from this one on, each once
 abbrev pub AscendFrom : ℕ → MemberValues → Type 0
 AscendFrom least no_member_values = Unit {0}
@@ -22,8 +27,7 @@ AscendFrom least (member_value n v ms) = (least ≤ n) × AscendFrom (suc n) ms
 -- The value is one of the place, or a null element where one may stand.
 abbrev mutual
   pub FitsOr : Table → Place → Bool → Value → Type 0
-  FitsOr table place nulls (scalar_value x) =
-      (s : Scalar) × (kind_of table place ≡ scalar s) × (is_of s x ≡ true)
+  FitsOr table place nulls (scalar_value x) = is_scalar_of (kind_of table place) x ≡ true
   FitsOr table place nulls (list vs) = IsList (kind_of table place) × ElementsFit table (kind_of table place) vs
   FitsOr table place nulls (structure ms) =
       IsStructure (kind_of table place) × MembersFit table (kind_of table place) ms × AscendFrom 0 ms

@@ -55,7 +55,7 @@ pub says_fits : (c : Settings) (x : Item) (t : Table) (p : Place) (s : Scalar) (
     → settled c.limits null_element (says s p.time x) ≡ Some v → Fits t p v
 says_fits c x t p scalars.Long v kind h =
     let z = long_is x v (sym (settled_answer c.limits null_element (long_of x)) ∙ h) in
-    subst (Fits t p) z.3 (scalars.Long, kind, z.2)
+    subst (Fits t p) z.3 (rw kind z.2)
 says_fits c x t p scalars.String v kind h =
     let s = made (λ s. scalar_value (text s)) (text_of x) v (sym (settled_answer c.limits null_element (option_map (λ s. scalar_value (text s)) (text_of x))) ∙ h) in
-    subst (Fits t p) s.2 (scalars.String, kind, is_utf8-from_IsUtf8 s.0 (text_is_utf8 x s.0 s.1))
+    subst (Fits t p) s.2 (rw kind (is_utf8-from_IsUtf8 s.0 (text_is_utf8 x s.0 s.1)))

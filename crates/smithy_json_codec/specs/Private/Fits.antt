@@ -27,7 +27,7 @@ long_is raw v h =
 
 long_fits : (t : Table) (p : Place) (x : JsonScalar) (v : Value) → kind_of t p ≡ scalar scalars.Long → long_of x ≡ Some v → Fits t p v
 long_fits t p (a_boolean b) v kind h = cc
-long_fits t p (a_number raw) v kind h = let n = long_is raw v h in subst (Fits t p) (sym n.1) (scalars.Long, kind, n.2)
+long_fits t p (a_number raw) v kind h = let n = long_is raw v h in subst (Fits t p) (sym n.1) (rw kind n.2)
 long_fits t p (a_string raw) v kind h = cc
 
 text_is_utf8 : (i : List ℕ) (d : ℕ) (x : JsonScalar) (a e : ℕ) → json_frames.scalar i d x a e → (s : List ℕ) → text_of x ≡ Some s → IsUtf8 s
@@ -41,4 +41,4 @@ pub says_fits : (c : Settings) (i : List ℕ) (d : ℕ) (x : JsonScalar) (a e : 
 says_fits c i d x a e lies t p scalars.Long v kind h = long_fits t p x v kind (sym (settled_answer c.limits null_element (long_of x)) ∙ h)
 says_fits c i d x a e lies t p scalars.String v kind h =
     let s = made (λ s. scalar_value (text s)) (text_of x) v (sym (settled_answer c.limits null_element (option_map (λ s. scalar_value (text s)) (text_of x))) ∙ h) in
-    subst (Fits t p) s.2 (scalars.String, kind, is_utf8-from_IsUtf8 s.0 (text_is_utf8 i d x a e lies s.0 s.1))
+    subst (Fits t p) s.2 (rw kind (is_utf8-from_IsUtf8 s.0 (text_is_utf8 i d x a e lies s.0 s.1)))
