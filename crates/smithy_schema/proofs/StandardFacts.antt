@@ -50,23 +50,29 @@ a_later_name = refl
 
 -- each option of a member
 pub member_options : table_of (lines ("structure S" ∷ "member a L flat time=http-date xml=y json=x" ∷ "list L string" ∷ []))
-    ≡ accepted (record { name = codes "S"; shape = structure (record {
-      name = codes "a";
-      json_name = Some (codes "x");
-      xml_name = Some (codes "y");
-      is_flat = true;
-      place = record { target = Declared (record { 0 = 1 }); time = Some HttpDate };
-    } ∷ []) } ∷ record { name = codes "L"; shape = list (a_list (place (Simple scalars.String))) } ∷ [])
+    ≡ accepted (record {
+      name = codes "S";
+      shape = structure (record {
+        name = codes "a";
+        json_name = Some (codes "x");
+        xml_name = Some (codes "y");
+        is_flat = true;
+        place = record { target = Declared (record { 0 = 1 }); time = Some HttpDate };
+      } ∷ []);
+    } ∷ record { name = codes "L"; shape = list (a_list (place (Simple scalars.String))) } ∷ [])
 unfolding smithy_schema_on_literals
 member_options = refl
 
 -- and of a list
 pub list_options : table_of (lines ("list L string time=epoch-seconds xml=x sparse" ∷ []))
-    ≡ accepted (record { name = codes "L"; shape = list (record {
-      place = record { target = Simple scalars.String; time = Some EpochSeconds };
-      is_sparse = true;
-      xml_name = Some (codes "x");
-    }) } ∷ [])
+    ≡ accepted (record {
+      name = codes "L";
+      shape = list (record {
+        place = record { target = Simple scalars.String; time = Some EpochSeconds };
+        is_sparse = true;
+        xml_name = Some (codes "x");
+      });
+    } ∷ [])
 unfolding smithy_schema_on_literals
 list_options = refl
 
