@@ -16,7 +16,7 @@ const ACCEPTED: [&str; 8] = [
     "structure S\nmember a.b long xml=x time=http-date\nmember c long time=epoch-seconds",
 ];
 
-const REFUSED: [(&str, TableFault); 28] = [
+const REFUSED: [(&str, TableFault); 27] = [
     ("member a long", TableFault::BadLine(1)),
     (
         "structure S\nlist L long\nmember a long",
