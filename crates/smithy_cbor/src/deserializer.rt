@@ -205,6 +205,7 @@ impl ShapeDeserializer for CborDeserializer<'_> {
             → CannotGoOn (cbor_relations (without_limits (reading_settings_of self.old))) (passed_to (cursor_of self.old) e) schema.now.shapes.now schema.now.place }
         ensures unskipped { (cursor_of self.old).due ≡ true → SkipsNot (cbor_relations (reading_settings_of self.old)) (cursor_of self.old) → IsErr result }
         ensures deep { IsErrOf result TooDeep → ReachesDepth (cbor_relations (reading_settings_of self.old)) (reading_settings_of self.old).max_depth (cursor_of self.old) }
+        ensures unread_deep { IsErrOf result TooDeep → ((cursor_of self.old).due ≡ true) × SkipsNot (cbor_relations (reading_settings_of self.old)) (cursor_of self.old) }
 
         // An unread member may nest to any depth.
         ensures shallow { IsErrOf result TooDeep → ⊥ }

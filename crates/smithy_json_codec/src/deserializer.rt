@@ -224,8 +224,8 @@ impl ShapeDeserializer for JsonDeserializer<'_> {
         ensures unskipped { (cursor_of self.old).due ≡ true → SkipsNot (json_relations (reading_settings_of self.old)) (cursor_of self.old) → IsErr result }
         ensures deep { IsErrOf result TooDeep → ReachesDepth (json_relations (reading_settings_of self.old)) (reading_settings_of self.old).max_depth (cursor_of self.old) }
 
-        // It is too deep only by a value that was left unread, as `skip_value` is.
-        ensures due { IsErrOf result TooDeep → (cursor_of self.old).due ≡ true }
+        // It is too deep only by a value that was left unread and can't be skipped here, as `skip_value` is.
+        ensures unread_deep { IsErrOf result TooDeep → ((cursor_of self.old).due ≡ true) × SkipsNot (json_relations (reading_settings_of self.old)) (cursor_of self.old) }
         ensures too_deep { IsErrOf result TooDeep → OpensTooDeep (reading_settings_of self.old).max_depth (depth (cursor_of self.old)) (cursor_of self.old).input (cursor_of self.old).at }
     {
         if self.walk.failed {

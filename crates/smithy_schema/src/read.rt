@@ -92,7 +92,10 @@ pub trait ShapeDeserializer {
         ensures unread_would { is_strict (settings self.old) → IsInvalid result → (state self.old).due ≡ true → (e : ℕ) → (lifted (settings self.old)).skips (state self.old).input (depth (state self.old)) (state self.old).at e
             → CannotGoOn (lifted (settings self.old)) (passed_to (state self.old) e) schema.now.shapes.now schema.now.place }
         ensures unskipped { (state self.old).due ≡ true → SkipsNot (wire (settings self.old)) (state self.old) → IsErr result }
-        ensures deep { IsErrOf result TooDeep → ReachesDepth (wire (settings self.old)) (max_depth (settings self.old)) (state self.old) };
+        ensures deep { IsErrOf result TooDeep → ReachesDepth (wire (settings self.old)) (max_depth (settings self.old)) (state self.old) }
+
+        // It is too deep only by a value that was left unread and can't be skipped here.
+        ensures unread_deep { IsErrOf result TooDeep → ((state self.old).due ≡ true) × SkipsNot (wire (settings self.old)) (state self.old) };
 
     /// Enters the list that is due. Where a list begins here, it is `TooDeep` exactly at the greatest depth.
     fn open_list(&mut self, schema: &Schema<'_>) -> Result<(), SerdeError>

@@ -1,4 +1,4 @@
-use Rattle.std.proofs.Common.{refl, sym, ap, subst, ◌∙◌, Err}
+use Rattle.std.proofs.Common.{refl, sym, ap, subst, ◌∙◌, Err, rules}
 use Rattle.std.specs.Result.{IfOk}
 use Rattle.smithy_schema.specs.declared.error.SerdeError.TheVariants.{TooDeep}
 use Rattle.smithy_schema.specs.Site.{site_of}
@@ -57,6 +57,10 @@ pub returns-in-Err-clause-deep : goal.returns-in-Err-clause-deep
 returns-in-Err-clause-deep c = λ deep.
     reader_reaches (reading_settings_of c.args.self.now) (cursor_of c.args.self.now) c.depth.result c.args.self.now.walk.max_depth c.depth.ensures
     (c.in-Err.ensures.deep (ap Err (sym c.refuse-in-Err.ensures.error ∙ error_of c.refuse-in-Err.result TooDeep deep)))
+
+pub returns-in-Err-clause-unread_deep : goal.returns-in-Err-clause-unread_deep
+returns-in-Err-clause-unread_deep c = λ deep.
+    (search rules, skips_not (reading_settings_of c.args.self.now) (cursor_of c.args.self.now) c.depth.result c.depth.ensures refl c.in-Err.ensures.refused)
 
 pub returns-in-Err-clause-too_deep : goal.returns-in-Err-clause-too_deep
 returns-in-Err-clause-too_deep c = λ deep.
