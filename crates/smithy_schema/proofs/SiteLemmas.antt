@@ -60,7 +60,7 @@ member_fit t members n v ms fits =
 -- ---- names
 
 -- what holds of all holds of each
-each_has : {X : Type 0} (P : X → Type 0) (xs : List X) (n : ℕ) (x : X) → AllByRecursion P xs → slice_get xs n ≡ Some x → P x
+pub each_has : {X : Type 0} (P : X → Type 0) (xs : List X) (n : ℕ) (x : X) → AllByRecursion P xs → slice_get xs n ≡ Some x → P x
 each_has P [] n x all found = absurd (let e : None ≡ Some x = found in cc)
 each_has P (y ∷ xs) zero x all found = subst P (same_some y x found) all.0
 each_has P (y ∷ xs) (suc n) x all found = each_has P xs n x all.1 found
