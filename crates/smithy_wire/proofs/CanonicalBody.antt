@@ -3,15 +3,14 @@ use Rattle.std.specs.Prelude.{◌≡◌, ℕ, List, [], ◌++◌, Bool, true, fa
 use Rattle.std.proofs.Common.{sym, ap, ◌∙◌, subst, append_assoc}
 use Rattle.smithy_schema.specs.declared.place.Place.{Place}
 use Rattle.smithy_schema.specs.declared.shape_type.Scalar.{Scalar}
-use Rattle.smithy_schema.specs.declared.shape_type.Scalar.TheVariants as scalars
 use Rattle.smithy_schema.specs.declared.shape_type.TimestampFormat.{TimestampFormat}
-use Rattle.smithy_schema.specs.Table.{Table, Member, ListShape, structure_of, list_of, scalar, kind_of}
+use Rattle.smithy_schema.specs.Table.{Table, Member, ListShape, structure_of, list_of, kind_of}
 use Rattle.smithy_schema.specs.Site.{Site, View, member_view, element_view, nameless, element_of, member_of}
-use Rattle.smithy_schema.specs.Value.{Value, whole, text, list, structure, null_element, Values, no_values, value, MemberValues, no_member_values, member_value}
-use Rattle.smithy_schema.specs.Fits.{FitsOr, ElementsFit, MembersFit}
+use Rattle.smithy_schema.specs.Value.{ScalarValue, Value, scalar_value, list, structure, null_element, Values, no_values, value, MemberValues, no_member_values, member_value}
+use Rattle.smithy_schema.specs.Fits.{is_of, FitsOr, ElementsFit, MembersFit}
 use Rattle.smithy_schema.proofs.SiteLemmas.{site_at, list_of_kind, structure_of_kind, element_site_at, member_site_at, element_fit, member_fit}
 use Rattle.smithy_wire.specs.Node.{as_array, as_object}
-use Rattle.smithy_wire.specs.Written.{Leaves, scalar_node, child_place, element_nodes, member_nodes, IsOfScalar}
+use Rattle.smithy_wire.specs.Written.{Leaves, scalar_node, child_place, element_nodes, member_nodes}
 use Rattle.smithy_wire.specs.Writes.{Writes, bytes_of, nodes_bytes, body_of}
 use Rattle.smithy_wire.proofs.WrittenMeaning.{member_place, member_name}
 
@@ -25,7 +24,8 @@ pub record Canonical : Type 0 where
 
 -- which are those that it writes
 pub record IsWritten {L : Type 0} (w : Writes L) (l : Leaves L) (name_of : Member → List ℕ) (c : Canonical) : Type 0 where
-  pub scalar_is : (s : Scalar) (time : Option TimestampFormat) (site : Site) (v : Value) → IsOfScalar s v → c.body site v ≡ w.leaf_bytes (l.leaf_of s time v)
+  pub scalar_is : (s : Scalar) (time : Option TimestampFormat) (site : Site) (x : ScalarValue) → is_of s x ≡ true
+      → c.body site (scalar_value x) ≡ w.leaf_bytes (l.leaf_of s time x)
   pub null_is : (site : Site) → c.body site null_element ≡ w.null_bytes
   pub list_is : (site : Site) (vs : Values) → c.body site (list vs) ≡ w.opening as_array ++ (c.elements true (element_of site) vs ++ w.ending as_array)
   pub no_element_is : (is_first : Bool) (site : Site) → c.elements is_first site no_values ≡ []
@@ -47,14 +47,10 @@ module _ {L : Type 0} (w : Writes L) (l : Leaves L) (name_of : Member → List �
   abbrev Same : Site → Place → Value → Type 0
   Same site p v = c.body site v ≡ body_of w l name_of t p v
 
-  scalar_same : (p : Place) (view : View) (s : Scalar) (v : Value) → kind_of t p ≡ scalar s → IsOfScalar s v
-      → c.body (site_at t p view) v ≡ bytes_of w (scalar_node l (kind_of t p) p.time v)
-  scalar_same p view s v kind is = law.scalar_is s p.time (site_at t p view) v is ∙ sym (ap (λ k. bytes_of w (scalar_node l k p.time v)) kind)
-
   mutual
     pub same_body : (v : Value) (p : Place) (view : View) (nulls : Bool) → FitsOr t p nulls v → Same (site_at t p view) p v
-    same_body (whole n) p view nulls fits = scalar_same p view scalars.Long (whole n) fits.0 (n, refl, fits.1)
-    same_body (text s) p view nulls fits = scalar_same p view scalars.String (text s) fits.0 (s, refl, fits.1)
+    same_body (scalar_value x) p view nulls fits =
+        law.scalar_is fits.0 p.time (site_at t p view) x fits.2 ∙ sym (ap (λ k. bytes_of w (scalar_node l k p.time x)) fits.1)
     same_body null_element p view nulls fits = law.null_is (site_at t p view)
     same_body (list vs) p view nulls fits =
         let k = list_of_kind (kind_of t p) fits.0 in

@@ -7,7 +7,7 @@ use Rattle.smithy_schema.specs.declared.shape_type.Scalar.{Scalar}
 use Rattle.smithy_schema.specs.Limits.{Limits, kept, lifted, is_within}
 use Rattle.smithy_schema.specs.Reading.{Mark}
 use Rattle.smithy_schema.specs.Table.{Table, Kind, scalar, structure_of, list_of, nothing, kind_of, place_in, IsList, IsStructure}
-use Rattle.smithy_schema.specs.Value.{Value, whole, text, list, structure, null_element, no_member_values, nesting}
+use Rattle.smithy_schema.specs.Value.{Value, scalar_value, list, structure, null_element, no_member_values, nesting}
 use Rattle.smithy_schema.specs.Container.{container_of}
 use Rattle.smithy_schema.specs.Fits.{Fits}
 use Rattle.smithy_schema.specs.Lemmas.Options.{same_some, step_apart, chosen}
@@ -24,8 +24,7 @@ within_is lifted greatest d keeps h = cc
 
 -- a value of a scalar's place is no container
 scalar_is_flat : (t : Table) (p : Place) (s : Scalar) (v : Value) (most : ℕ) → kind_of t p ≡ scalar s → Fits t p v → nesting v ≤ most
-scalar_is_flat t p s (whole n) most kind fits = omega arith
-scalar_is_flat t p s (text x) most kind fits = omega arith
+scalar_is_flat t p s (scalar_value x) most kind fits = omega arith
 scalar_is_flat t p s (list vs) most kind fits = absurd (subst IsList kind fits.0)
 scalar_is_flat t p s (structure ms) most kind fits = absurd (subst IsStructure kind fits.0)
 scalar_is_flat t p s null_element most kind fits = omega arith

@@ -1,17 +1,15 @@
 -- A body that is written for a value of a place is read back as the value, whichever wire carries it.
-use Rattle.std.specs.Prelude.{◌≡◌, ◌≤◌, ℕ, length, List, Bool, false, Some, None, unwrap_or, slice_get, refl}
+use Rattle.std.specs.Prelude.{◌≡◌, ◌≤◌, ℕ, length, List, Bool, false, Some, None, unwrap_or, slice_get}
 use Rattle.std.proofs.Common.{sym, ap, arith, subst}
 use Rattle.smithy_schema.specs.declared.place.Place.{Place}
-use Rattle.smithy_schema.specs.declared.shape_type.Scalar.{Scalar}
-use Rattle.smithy_schema.specs.declared.shape_type.Scalar.TheVariants as scalars
-use Rattle.smithy_schema.specs.Table.{Table, Member, ListShape, structure_of, list_of, scalar, kind_of}
-use Rattle.smithy_schema.specs.Value.{Value, whole, text, list, structure, null_element, Values, no_values, value, MemberValues, no_member_values, member_value, nesting}
+use Rattle.smithy_schema.specs.Table.{Table, Member, ListShape, structure_of, list_of, kind_of}
+use Rattle.smithy_schema.specs.Value.{Value, scalar_value, list, structure, null_element, Values, no_values, value, MemberValues, no_member_values, member_value, nesting}
 use Rattle.smithy_schema.specs.Fits.{FitsOr, ElementsFit, MembersFit, Fits}
 use Rattle.smithy_schema.proofs.SiteLemmas.{list_of_kind, structure_of_kind, element_fit, member_fit}
 use Rattle.smithy_wire.specs.Node.{as_array, as_object, Node}
 use Rattle.smithy_wire.specs.Rules.{Rules}
 use Rattle.smithy_wire.specs.Frames.{Frames, relations}
-use Rattle.smithy_wire.specs.Written.{Leaves, scalar_node, child_place, name_at, written_node, element_nodes, member_nodes, IsOfScalar, AreNamed, ReadsLeaves}
+use Rattle.smithy_wire.specs.Written.{Leaves, child_place, name_at, written_node, element_nodes, member_nodes, AreNamed, ReadsLeaves}
 use Rattle.smithy_wire.specs.Writes.{Writes, body_of, IsWritable, AreWritable, WritesFrames, WritesLeaves}
 use Rattle.smithy_wire.proofs.WrittenMeaning.{member_place, member_name, node_means}
 use Rattle.smithy_wire.proofs.WrittenPlaces.{body_lies}
@@ -19,9 +17,6 @@ use Rattle.smithy_wire.proofs.WrittenPlaces.{body_lies}
 module _ {L : Type 0} (w : Writes L) (l : Leaves L) (leaves : WritesLeaves w l) (name_of : Member → List ℕ) (t : Table) (named : AreNamed name_of t) where
   abbrev node_at : Place → Value → Node L
   node_at p v = written_node l name_of t p v
-
-  scalar_writable : (p : Place) (s : Scalar) (v : Value) → kind_of t p ≡ scalar s → IsOfScalar s v → IsWritable w (scalar_node l (kind_of t p) p.time v)
-  scalar_writable p s v kind is = rw kind (leaves.scalar_is s p.time v is)
 
   key_writable : (p : Place) (members : List Member) (n : ℕ) (m : Member) → kind_of t p ≡ structure_of members → slice_get members n ≡ Some m
       → w.IsKey (l.key_of (name_at name_of (kind_of t p) n))
@@ -32,8 +27,7 @@ module _ {L : Type 0} (w : Writes L) (l : Leaves L) (leaves : WritesLeaves w l) 
   mutual
     -- the node of a value of a place can be written
     pub value_writable : (v : Value) (p : Place) (nulls : Bool) → FitsOr t p nulls v → IsWritable w (node_at p v)
-    value_writable (whole n) p nulls fits = scalar_writable p scalars.Long (whole n) fits.0 (n, refl, fits.1)
-    value_writable (text s) p nulls fits = scalar_writable p scalars.String (text s) fits.0 (s, refl, fits.1)
+    value_writable (scalar_value x) p nulls fits = rw fits.1 (leaves.scalar_is fits.0 p.time x fits.2)
     value_writable null_element p nulls fits = tt
     value_writable (list vs) p nulls fits =
         let c = list_of_kind (kind_of t p) fits.0 in

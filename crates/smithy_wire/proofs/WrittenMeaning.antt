@@ -4,20 +4,19 @@ use Rattle.std.proofs.Common.{sym, ap, ◌∙◌, arith, subst}
 use Rattle.std.proofs.lemmas.Bool.Decides.{nat_tests}
 use Rattle.smithy_schema.specs.declared.place.Place.{Place}
 use Rattle.smithy_schema.specs.declared.shape_type.Scalar.{Scalar}
-use Rattle.smithy_schema.specs.declared.shape_type.Scalar.TheVariants as scalars
 use Rattle.smithy_schema.specs.Limits.{Limits, kept, lifted, is_within}
 use Rattle.smithy_schema.specs.Names.{has_equal_texts}
 use Rattle.smithy_schema.specs.Table.{Table, Member, ListShape, Kind, scalar, structure_of, list_of, kind_of, members_of, place_in}
-use Rattle.smithy_schema.specs.Value.{Value, whole, text, list, structure, null_element, Values, no_values, value, MemberValues, no_member_values, member_value, nesting, elements_nesting, members_nesting}
+use Rattle.smithy_schema.specs.Value.{ScalarValue, Value, scalar_value, list, structure, null_element, Values, no_values, value, MemberValues, no_member_values, member_value, nesting, elements_nesting, members_nesting}
 use Rattle.smithy_schema.specs.Container.{Entry, element_of, container_of}
-use Rattle.smithy_schema.specs.Fits.{FitsOr, ElementsFit, MembersFit, Fits}
+use Rattle.smithy_schema.specs.Fits.{is_of, FitsOr, ElementsFit, MembersFit, Fits}
 use Rattle.smithy_schema.proofs.ChildLemmas.{SayElements, list_said, Sets, SayMembers, structure_said}
 use Rattle.smithy_schema.proofs.NamedLemmas.{named_itself}
 use Rattle.smithy_schema.proofs.SiteLemmas.{list_of_kind, structure_of_kind, element_fit, member_fit}
 use Rattle.smithy_wire.specs.Node.{Form, as_array, as_object, Node, container, Nodes, is_null}
 use Rattle.smithy_wire.specs.Rules.{settled, Rules, position_in}
 use Rattle.smithy_wire.specs.Meaning.{leaf_meaning, is_in, entry_at, meaning, entries}
-use Rattle.smithy_wire.specs.Written.{Leaves, scalar_node, child_place, name_at, written_node, element_nodes, member_nodes, IsOfScalar, AreNamed, ReadsLeaves}
+use Rattle.smithy_wire.specs.Written.{Leaves, scalar_node, child_place, name_at, written_node, element_nodes, member_nodes, AreNamed, ReadsLeaves}
 
 pub shallow_within : (limits : Limits) (greatest d : ℕ) → d ≤ greatest → is_within limits greatest d ≡ true
 shallow_within kept greatest d h = grind (arith, nat_tests)
@@ -49,17 +48,15 @@ module _ {L : Type 0} (l : Leaves L) (r : Rules L) (reads : ReadsLeaves l r) (t 
 
   -- a value that fits is no null
   not_null : (p : Place) (v : Value) → Fits t p v → is_null (node_at p v) ≡ false
-  not_null p (whole n) fits = rw fits.0 refl
-  not_null p (text s) fits = rw fits.0 refl
+  not_null p (scalar_value x) fits = rw fits.1 refl
   not_null p (list vs) fits = refl
   not_null p (structure ms) fits = refl
   not_null p null_element fits = cc
 
-  scalar_says : (p : Place) (nulls : Bool) (d : ℕ) (s : Scalar) (v : Value) → kind_of t p ≡ scalar s → IsOfScalar s v
-      → element_of nulls (is_null (scalar_node l (kind_of t p) p.time v)) (meaning r t p d (scalar_node l (kind_of t p) p.time v)) ≡ Some v
-  scalar_says p nulls d s v kind is =
-      ap (λ k. element_of nulls (is_null (scalar_node l k p.time v)) (meaning r t p d (scalar_node l k p.time v))) kind
-      ∙ (ap (λ k. leaf_meaning r k p.time (l.leaf_of s p.time v)) kind ∙ ap (settled r.limits null_element) (reads.scalar_means s p.time v is))
+  scalar_says : (p : Place) (nulls : Bool) (d : ℕ) (s : Scalar) (x : ScalarValue) → kind_of t p ≡ scalar s → is_of s x ≡ true → Says nulls d p (scalar_value x)
+  scalar_says p nulls d s x kind is =
+      ap (λ k. element_of nulls (is_null (scalar_node l k p.time x)) (meaning r t p d (scalar_node l k p.time x))) kind
+      ∙ (ap (λ k. leaf_meaning r k p.time (l.leaf_of s p.time x)) kind ∙ ap (settled r.limits null_element) (reads.scalar_means s p.time x is))
 
   -- ---- containers
 
@@ -99,8 +96,7 @@ module _ {L : Type 0} (l : Leaves L) (r : Rules L) (reads : ReadsLeaves l r) (t 
 
   mutual
     value_says : (v : Value) (p : Place) (nulls : Bool) (d : ℕ) → FitsOr t p nulls v → d + nesting v ≤ r.max_depth → Says nulls d p v
-    value_says (whole n) p nulls d fits deep = scalar_says p nulls d scalars.Long (whole n) fits.0 (n, refl, fits.1)
-    value_says (text s) p nulls d fits deep = scalar_says p nulls d scalars.String (text s) fits.0 (s, refl, fits.1)
+    value_says (scalar_value x) p nulls d fits deep = scalar_says p nulls d fits.0 x fits.1 fits.2
     value_says null_element p nulls d fits deep = rw fits refl
     value_says (list vs) p nulls d fits deep =
         let c = list_of_kind (kind_of t p) fits.0 in

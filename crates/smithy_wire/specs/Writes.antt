@@ -4,11 +4,12 @@ use Rattle.smithy_schema.specs.declared.place.Place.{Place}
 use Rattle.smithy_schema.specs.declared.shape_type.Scalar.{Scalar}
 use Rattle.smithy_schema.specs.declared.shape_type.TimestampFormat.{TimestampFormat}
 use Rattle.smithy_schema.specs.Table.{Table, Member}
-use Rattle.smithy_schema.specs.Value.{Value}
+use Rattle.smithy_schema.specs.Value.{ScalarValue, Value}
+use Rattle.smithy_schema.specs.Fits.{is_of}
 use Rattle.smithy_schema.specs.Reading.{Mark}
 use Rattle.smithy_wire.specs.Node.{Form, as_array, as_object, Node, null_node, leaf, container, missing, Nodes, no_nodes, node}
 use Rattle.smithy_wire.specs.Frames.{Frames}
-use Rattle.smithy_wire.specs.Written.{Leaves, written_node, IsOfScalar}
+use Rattle.smithy_wire.specs.Written.{Leaves, written_node}
 
 -- what a wire writes, and when
 pub record Writes (L : Type 0) : Type 1 where
@@ -97,5 +98,5 @@ pub record WritesFrames {L : Type 0} (w : Writes L) (frames : Frames L) : Type 0
 
 -- what it has for scalars and keys can be written
 pub record WritesLeaves {L : Type 0} (w : Writes L) (l : Leaves L) : Type 0 where
-  pub scalar_is : (s : Scalar) (time : Option TimestampFormat) (v : Value) → IsOfScalar s v → w.IsScalar (l.leaf_of s time v)
+  pub scalar_is : (s : Scalar) (time : Option TimestampFormat) (x : ScalarValue) → is_of s x ≡ true → w.IsScalar (l.leaf_of s time x)
   pub key_is : (key : List ℕ) → IsUtf8 key → w.IsKey (l.key_of key)
