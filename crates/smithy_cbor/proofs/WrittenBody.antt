@@ -1,21 +1,18 @@
 -- The canonical encoding of a value is the body that is written for it.
-use Rattle.std.proofs.Common.{◌≡◌, false, Option, refl}
-use Rattle.std.specs.Prelude.{ℤ, pos, negsuc}
+use Rattle.std.proofs.Common.{◌≡◌, true, false, Option, refl}
+use Rattle.std.specs.Prelude.{pos, negsuc}
 use Rattle.smithy_schema.specs.declared.place.Place.{Place}
 use Rattle.smithy_schema.specs.declared.shape_type.Scalar.{Scalar}
-use Rattle.smithy_schema.specs.declared.shape_type.Scalar.TheVariants as scalars
 use Rattle.smithy_schema.specs.declared.shape_type.TimestampFormat.{TimestampFormat}
 use Rattle.smithy_schema.specs.Table.{Table, Member}
-use Rattle.smithy_schema.specs.Site.{Site, View}
-use Rattle.smithy_schema.specs.Value.{Value}
+use Rattle.smithy_schema.specs.Site.{View}
+use Rattle.smithy_schema.specs.Value.{ScalarValue, boolean, whole, text, Value}
 use Rattle.smithy_schema.specs.Fits.{Fits}
 use Rattle.smithy_schema.proofs.SiteLemmas.{site_at}
-use Rattle.smithy_cbor.specs.Canonical.{key_bytes, canonical_cbor, element_bytes, member_bytes}
-use Rattle.smithy_cbor.specs.Written.{integer_bytes}
-use Rattle.smithy_wire.specs.Written.{IsOfScalar}
+use Rattle.smithy_cbor.specs.Canonical.{scalar_bytes, key_bytes, canonical_cbor, element_bytes, member_bytes}
 use Rattle.smithy_wire.specs.Writes.{body_of}
 use Rattle.smithy_wire.proofs.CanonicalBody.{Canonical, IsWritten, same_body}
-use Rattle.smithy_cbor.proofs.WrittenLeaves.{integer_item, leaf_of, cbor_leaves}
+use Rattle.smithy_cbor.proofs.WrittenLeaves.{leaf_of, cbor_leaves}
 use Rattle.smithy_cbor.proofs.WrittenPlaces.{item_bytes, cbor_writes}
 
 abbrev canonical : Canonical
@@ -26,17 +23,16 @@ canonical = record {
   key = λ is_first. key_bytes;
 }
 
-integer_is : (n : ℤ) → integer_bytes n ≡ item_bytes (integer_item n)
-integer_is (pos n) = refl
-integer_is (negsuc n) = refl
-
-scalar_is : (s : Scalar) (time : Option TimestampFormat) (site : Site) (v : Value) → IsOfScalar s v → canonical_cbor site v ≡ item_bytes (leaf_of s time v)
-scalar_is scalars.Long time site v (n, is, long) = rw is (integer_is n)
-scalar_is scalars.String time site v (s, is, utf8) = rw is refl
+scalar_is : (s : Scalar) (time : Option TimestampFormat) (x : ScalarValue) → scalar_bytes x ≡ item_bytes (leaf_of s time x)
+scalar_is s time (boolean true) = refl
+scalar_is s time (boolean false) = refl
+scalar_is s time (whole (pos n)) = refl
+scalar_is s time (whole (negsuc n)) = refl
+scalar_is s time (text t) = refl
 
 is_written : IsWritten cbor_writes cbor_leaves (λ m. m.name) canonical
 is_written = record {
-  scalar_is = scalar_is;
+  scalar_is = λ s time site x is. scalar_is s time x;
   null_is = λ site. refl;
   list_is = λ site vs. refl;
   no_element_is = λ is_first site. refl;

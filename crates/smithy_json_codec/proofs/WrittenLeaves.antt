@@ -1,27 +1,24 @@
 -- What JSON writes for scalars and names, and that it means them.
-use Rattle.std.specs.Prelude.{◌≡◌, ℤ, false, true, Option, refl}
+use Rattle.std.specs.Prelude.{◌≡◌, true, Option, refl}
 use Rattle.std.specs.Fmt.{signed_decimal}
-use Rattle.std.proofs.Common.{arith}
-use Rattle.std.proofs.lemmas.Int.{ints}
 use Rattle.smithy_schema.specs.declared.shape_type.Scalar.{Scalar}
 use Rattle.smithy_schema.specs.declared.shape_type.Scalar.TheVariants as scalars
 use Rattle.smithy_schema.specs.declared.shape_type.TimestampFormat.{TimestampFormat}
-use Rattle.smithy_schema.specs.Value.{Value, whole, text}
-use Rattle.smithy_schema.specs.Fits.{IsLong}
+use Rattle.smithy_schema.specs.Value.{ScalarValue, boolean, whole, text, scalar_value}
+use Rattle.smithy_schema.specs.Fits.{is_of}
 use Rattle.smithy_json.specs.Escape.{escaped}
-use Rattle.smithy_json.specs.Number.{is_long}
 use Rattle.smithy_json.proofs.DecimalLemmas.{decimal_writes}
 use Rattle.smithy_json.proofs.QuotedLemmas.{unescaped_of_escaped}
 use Rattle.smithy_json_codec.specs.Meaning.{rules_of}
 use Rattle.smithy_json_codec.specs.Scalar.{JsonScalar, a_boolean, a_number, a_string, says}
 use Rattle.smithy_json_codec.specs.Settings.{Settings}
 use Rattle.smithy_wire.specs.Rules.{means}
-use Rattle.smithy_wire.specs.Written.{Leaves, IsOfScalar, ReadsLeaves}
+use Rattle.smithy_wire.specs.Written.{Leaves, ReadsLeaves}
 
-abbrev pub leaf_of : Scalar → Option TimestampFormat → Value → JsonScalar
+abbrev pub leaf_of : Scalar → Option TimestampFormat → ScalarValue → JsonScalar
+leaf_of s time (boolean b) = a_boolean b
 leaf_of s time (whole n) = a_number (signed_decimal n)
 leaf_of s time (text t) = a_string (escaped t)
-leaf_of s time _ = a_boolean false
 
 abbrev pub json_leaves : Leaves JsonScalar
 json_leaves = record {
@@ -29,15 +26,10 @@ json_leaves = record {
   key_of = λ key. a_string (escaped key);
 }
 
-pub long_is_long : (z : ℤ) → IsLong z → is_long z ≡ true
-long_is_long z fits =
-    let low = fits.0 in
-    let high = fits.1 in
-    grind (arith, ints)
-
-scalar_means : (s : Scalar) (time : Option TimestampFormat) (v : Value) → IsOfScalar s v → says s time (leaf_of s time v) ≡ means v
-scalar_means scalars.Long time v (n, is, long) = rw (is, decimal_writes n (long_is_long n long), long_is_long n long) refl
-scalar_means scalars.String time v (s, is, utf8) = rw (is, unescaped_of_escaped s) refl
+scalar_means : (s : Scalar) (time : Option TimestampFormat) (x : ScalarValue) → is_of s x ≡ true → says s time (leaf_of s time x) ≡ means (scalar_value x)
+scalar_means scalars.Long time (whole n) is = rw (decimal_writes n is, is) refl
+scalar_means scalars.String time (text t) is = rw (unescaped_of_escaped t) refl
+scalar_means _ time _ is = cc
 
 pub json_reads_leaves : (c : Settings) → ReadsLeaves json_leaves (rules_of c)
 json_reads_leaves c = record {

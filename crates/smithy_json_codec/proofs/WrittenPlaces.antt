@@ -3,10 +3,11 @@ use Rattle.std.specs.Prelude.{◌≡◌, ℕ, zero, suc, drop, List, [], ◌∷�
 use Rattle.std.proofs.Common.{sym, ap, ◌∙◌, arith, subst, inl, inr, append_assoc}
 use Rattle.std.proofs.lemmas.List.{append-nil}
 use Rattle.smithy_schema.specs.declared.shape_type.Scalar.{Scalar}
-use Rattle.smithy_schema.specs.declared.shape_type.Scalar.TheVariants as scalars
 use Rattle.smithy_schema.specs.declared.shape_type.TimestampFormat.{TimestampFormat}
 use Rattle.smithy_schema.specs.Reading.{Mark}
-use Rattle.smithy_schema.specs.Value.{Value}
+use Rattle.smithy_schema.specs.Value.{ScalarValue, boolean, whole, text}
+use Rattle.smithy_schema.specs.Fits.{is_of}
+use Rattle.smithy_schema.proofs.ScalarLemmas.{whole_fits, text_is_utf8}
 use Rattle.smithy_json.specs.Ascii.{quotation_mark, value_separator, name_separator, begin_array, end_array, begin_object}
 use Rattle.smithy_json.specs.Tree.{null}
 use Rattle.smithy_json.specs.Grammar.{IsBoundary, IsStringText, IsValue}
@@ -18,10 +19,9 @@ use Rattle.smithy_json_codec.specs.Standing.{Lies, TreeLies, IsByte, IsSeparated
 use Rattle.smithy_json_codec.specs.Private.Lexical.{first, begins_value, Begins, value_begins, begins_plain, begins_first}
 use Rattle.smithy_json_codec.specs.Private.BytePlaces.{past_byte}
 use Rattle.smithy_wire.specs.Node.{Form, as_array, as_object}
-use Rattle.smithy_wire.specs.Written.{IsOfScalar}
 use Rattle.smithy_wire.specs.Writes.{Writes, IsKeyOf, Stand, Follows, WritesFrames, WritesLeaves}
 use Rattle.smithy_wire.proofs.WrittenPlaces.{parts}
-use Rattle.smithy_json_codec.proofs.WrittenLeaves.{leaf_of, json_leaves, long_is_long}
+use Rattle.smithy_json_codec.proofs.WrittenLeaves.{leaf_of, json_leaves}
 
 -- ---- bytes
 
@@ -144,9 +144,11 @@ json_writes_frames = record {
 
 -- ---- scalars and names
 
-scalar_is : (s : Scalar) (time : Option TimestampFormat) (v : Value) → IsOfScalar s v → IsValue (tree_of (leaf_of s time v)) (leaf_bytes (leaf_of s time v))
-scalar_is scalars.Long time v (n, is, long) = rw is (refl, decimal_is_number n (long_is_long n long))
-scalar_is scalars.String time v (s, is, utf8) = rw is (quoted_is_string s utf8)
+scalar_is : (s : Scalar) (time : Option TimestampFormat) (x : ScalarValue) → is_of s x ≡ true → IsValue (tree_of (leaf_of s time x)) (leaf_bytes (leaf_of s time x))
+scalar_is s time (boolean true) is = refl
+scalar_is s time (boolean false) is = refl
+scalar_is s time (whole n) is = (refl, decimal_is_number n (whole_fits s n is))
+scalar_is s time (text t) is = quoted_is_string t (text_is_utf8 s t is)
 
 pub json_writes_leaves : WritesLeaves json_writes json_leaves
 json_writes_leaves = record {

@@ -8,7 +8,8 @@ use Rattle.smithy_schema.specs.Table.{Table, Member, ListShape, structure_of, li
 use Rattle.smithy_schema.specs.Site.{Site, View, member_view, element_view, nameless, element_of, member_of}
 use Rattle.smithy_schema.specs.Value.{ScalarValue, Value, scalar_value, list, structure, null_element, Values, no_values, value, MemberValues, no_member_values, member_value}
 use Rattle.smithy_schema.specs.Fits.{is_of, FitsOr, ElementsFit, MembersFit}
-use Rattle.smithy_schema.proofs.SiteLemmas.{site_at, list_of_kind, structure_of_kind, element_site_at, member_site_at, element_fit, member_fit}
+use Rattle.smithy_schema.specs.Lemmas.Kinds.{list_kind, structure_kind}
+use Rattle.smithy_schema.proofs.SiteLemmas.{site_at, element_site_at, member_site_at, element_fit, member_fit}
 use Rattle.smithy_wire.specs.Node.{as_array, as_object}
 use Rattle.smithy_wire.specs.Written.{Leaves, scalar_node, child_place, element_nodes, member_nodes}
 use Rattle.smithy_wire.specs.Writes.{Writes, bytes_of, nodes_bytes, body_of}
@@ -53,13 +54,13 @@ module _ {L : Type 0} (w : Writes L) (l : Leaves L) (name_of : Member → List �
         law.scalar_is fits.0 p.time (site_at t p view) x fits.2 ∙ sym (ap (λ k. bytes_of w (scalar_node l k p.time x)) fits.1)
     same_body null_element p view nulls fits = law.null_is (site_at t p view)
     same_body (list vs) p view nulls fits =
-        let k = list_of_kind (kind_of t p) fits.0 in
+        let k = list_kind (kind_of t p) fits.0 in
         law.list_is (site_at t p view) vs
         ∙ (ap (λ site. w.opening as_array ++ (c.elements true site vs ++ w.ending as_array)) (element_site_at t p view k.0 k.1)
         ∙ (ap (λ bytes. w.opening as_array ++ bytes) (elements_same vs true k.0 (nameless (element_view k.0)) (subst (λ k. ElementsFit t k vs) k.1 fits.1))
         ∙ sym (ap (λ k. w.opening as_array ++ nodes_bytes w as_array true (element_nodes l name_of t (child_place k None p) vs)) k.1)))
     same_body (structure ms) p view nulls fits =
-        let k = structure_of_kind (kind_of t p) fits.0 in
+        let k = structure_kind (kind_of t p) fits.0 in
         law.structure_is (site_at t p view) ms
         ∙ ap (λ bytes. w.opening as_object ++ bytes) (members_same ms true p view k.0 k.1 (subst (λ k. MembersFit t k ms) k.1 fits.1))
 

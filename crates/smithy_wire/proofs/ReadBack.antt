@@ -5,7 +5,8 @@ use Rattle.smithy_schema.specs.declared.place.Place.{Place}
 use Rattle.smithy_schema.specs.Table.{Table, Member, ListShape, structure_of, list_of, kind_of}
 use Rattle.smithy_schema.specs.Value.{Value, scalar_value, list, structure, null_element, Values, no_values, value, MemberValues, no_member_values, member_value, nesting}
 use Rattle.smithy_schema.specs.Fits.{FitsOr, ElementsFit, MembersFit, Fits}
-use Rattle.smithy_schema.proofs.SiteLemmas.{list_of_kind, structure_of_kind, element_fit, member_fit}
+use Rattle.smithy_schema.specs.Lemmas.Kinds.{list_kind, structure_kind}
+use Rattle.smithy_schema.proofs.SiteLemmas.{element_fit, member_fit}
 use Rattle.smithy_wire.specs.Node.{as_array, as_object, Node}
 use Rattle.smithy_wire.specs.Rules.{Rules}
 use Rattle.smithy_wire.specs.Frames.{Frames, relations}
@@ -30,11 +31,11 @@ module _ {L : Type 0} (w : Writes L) (l : Leaves L) (leaves : WritesLeaves w l) 
     value_writable (scalar_value x) p nulls fits = rw fits.1 (leaves.scalar_is fits.0 p.time x fits.2)
     value_writable null_element p nulls fits = tt
     value_writable (list vs) p nulls fits =
-        let c = list_of_kind (kind_of t p) fits.0 in
+        let c = list_kind (kind_of t p) fits.0 in
         subst (λ q. AreWritable w as_array (element_nodes l name_of t q vs)) (sym (ap (λ k. child_place k None p) c.1))
         (elements_writable vs c.0 (subst (λ k. ElementsFit t k vs) c.1 fits.1))
     value_writable (structure ms) p nulls fits =
-        let s = structure_of_kind (kind_of t p) fits.0 in
+        let s = structure_kind (kind_of t p) fits.0 in
         members_writable ms p s.0 s.1 (subst (λ k. MembersFit t k ms) s.1 fits.1)
 
     elements_writable : (vs : Values) (c : ListShape) → ElementsFit t (list_of c) vs → AreWritable w as_array (element_nodes l name_of t c.place vs)

@@ -12,7 +12,8 @@ use Rattle.smithy_schema.specs.Container.{Entry, element_of, container_of}
 use Rattle.smithy_schema.specs.Fits.{is_of, FitsOr, ElementsFit, MembersFit, Fits}
 use Rattle.smithy_schema.proofs.ChildLemmas.{SayElements, list_said, Sets, SayMembers, structure_said}
 use Rattle.smithy_schema.proofs.NamedLemmas.{named_itself}
-use Rattle.smithy_schema.proofs.SiteLemmas.{list_of_kind, structure_of_kind, element_fit, member_fit}
+use Rattle.smithy_schema.specs.Lemmas.Kinds.{list_kind, structure_kind}
+use Rattle.smithy_schema.proofs.SiteLemmas.{element_fit, member_fit}
 use Rattle.smithy_wire.specs.Node.{Form, as_array, as_object, Node, container, Nodes, is_null}
 use Rattle.smithy_wire.specs.Rules.{settled, Rules, position_in}
 use Rattle.smithy_wire.specs.Meaning.{leaf_meaning, is_in, entry_at, meaning, entries}
@@ -99,13 +100,13 @@ module _ {L : Type 0} (l : Leaves L) (r : Rules L) (reads : ReadsLeaves l r) (t 
     value_says (scalar_value x) p nulls d fits deep = scalar_says p nulls d fits.0 x fits.1 fits.2
     value_says null_element p nulls d fits deep = rw fits refl
     value_says (list vs) p nulls d fits deep =
-        let c = list_of_kind (kind_of t p) fits.0 in
+        let c = list_kind (kind_of t p) fits.0 in
         let said = elements_say vs p c.0 (suc d) c.1 (subst (λ k. ElementsFit t k vs) c.1 fits.1) (omega (arith, deep)) in
         container_means p (list_of c.0) as_array d (element_nodes l r.name_of t (child_place (kind_of t p) None p) vs) (list vs) c.1 refl (omega (arith, deep))
         (subst (λ q. container_of (list_of c.0) (entries r t p as_array (suc d) (element_nodes l r.name_of t q vs)) ≡ Some (list vs))
         (sym (ap (λ k. child_place k None p) c.1)) (list_said c.0 vs _ said))
     value_says (structure ms) p nulls d fits deep =
-        let s = structure_of_kind (kind_of t p) fits.0 in
+        let s = structure_kind (kind_of t p) fits.0 in
         let said = members_say ms p s.0 (suc d) s.1 (subst (λ k. MembersFit t k ms) s.1 fits.1) (omega (arith, deep)) in
         container_means p (structure_of s.0) as_object d (member_nodes l r.name_of t p ms) (structure ms) s.1 refl (omega (arith, deep))
         (structure_said s.0 ms _ fits.2 said)
