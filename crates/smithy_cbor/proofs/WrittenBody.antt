@@ -32,7 +32,7 @@ scalar_is s time (text t) = refl
 
 is_written : IsWritten cbor_writes cbor_leaves (λ m. m.name) canonical
 is_written = record {
-  scalar_is = λ s time site x is. scalar_is s time x;
+  scalar_is = λ s site x. scalar_is s site.place.time x;
   null_is = λ site. refl;
   list_is = λ site vs. refl;
   no_element_is = λ is_first site. refl;

@@ -60,7 +60,7 @@ module _ (b : Bool) where
 
   is_written : IsWritten json_writes json_leaves (name_of (strict_settings b)) canonical
   is_written = record {
-    scalar_is = λ s time site x is. scalar_is s time x;
+    scalar_is = λ s site x. scalar_is s site.place.time x;
     null_is = λ site. refl;
     list_is = λ site vs. refl;
     no_element_is = no_element_is;

@@ -1,13 +1,12 @@
 -- The body that a wire defines for a value at a site is the one that is written for the value's node.
-use Rattle.std.specs.Prelude.{◌≡◌, ℕ, List, [], ◌++◌, Bool, true, false, Option, Some, None, unwrap_or, refl}
+use Rattle.std.specs.Prelude.{◌≡◌, ℕ, List, [], ◌++◌, Bool, true, false, Some, None, refl}
 use Rattle.std.proofs.Common.{sym, ap, ◌∙◌, subst, append_assoc}
 use Rattle.smithy_schema.specs.declared.place.Place.{Place}
 use Rattle.smithy_schema.specs.declared.shape_type.Scalar.{Scalar}
-use Rattle.smithy_schema.specs.declared.shape_type.TimestampFormat.{TimestampFormat}
 use Rattle.smithy_schema.specs.Table.{Table, Member, ListShape, structure_of, list_of, kind_of}
 use Rattle.smithy_schema.specs.Site.{Site, View, member_view, element_view, nameless, element_of, member_of}
 use Rattle.smithy_schema.specs.Value.{ScalarValue, Value, scalar_value, list, structure, null_element, Values, no_values, value, MemberValues, no_member_values, member_value}
-use Rattle.smithy_schema.specs.Fits.{is_of, FitsOr, ElementsFit, MembersFit}
+use Rattle.smithy_schema.specs.Fits.{FitsOr, ElementsFit, MembersFit}
 use Rattle.smithy_schema.specs.Lemmas.Kinds.{list_kind, structure_kind}
 use Rattle.smithy_schema.proofs.SiteLemmas.{site_at, element_site_at, member_site_at, element_fit, member_fit}
 use Rattle.smithy_wire.specs.Node.{as_array, as_object}
@@ -25,8 +24,7 @@ pub record Canonical : Type 0 where
 
 -- which are those that it writes
 pub record IsWritten {L : Type 0} (w : Writes L) (l : Leaves L) (name_of : Member → List ℕ) (c : Canonical) : Type 0 where
-  pub scalar_is : (s : Scalar) (time : Option TimestampFormat) (site : Site) (x : ScalarValue) → is_of s x ≡ true
-      → c.body site (scalar_value x) ≡ w.leaf_bytes (l.leaf_of s time x)
+  pub scalar_is : (s : Scalar) (site : Site) (x : ScalarValue) → c.body site (scalar_value x) ≡ w.leaf_bytes (l.leaf_of s site.place.time x)
   pub null_is : (site : Site) → c.body site null_element ≡ w.null_bytes
   pub list_is : (site : Site) (vs : Values) → c.body site (list vs) ≡ w.opening as_array ++ (c.elements true (element_of site) vs ++ w.ending as_array)
   pub no_element_is : (is_first : Bool) (site : Site) → c.elements is_first site no_values ≡ []
@@ -51,7 +49,7 @@ module _ {L : Type 0} (w : Writes L) (l : Leaves L) (name_of : Member → List �
   mutual
     pub same_body : (v : Value) (p : Place) (view : View) (nulls : Bool) → FitsOr t p nulls v → Same (site_at t p view) p v
     same_body (scalar_value x) p view nulls fits =
-        law.scalar_is fits.0 p.time (site_at t p view) x fits.2 ∙ sym (ap (λ k. bytes_of w (scalar_node l k p.time x)) fits.1)
+        law.scalar_is fits.0 (site_at t p view) x ∙ sym (ap (λ k. bytes_of w (scalar_node l k p.time x)) fits.1)
     same_body null_element p view nulls fits = law.null_is (site_at t p view)
     same_body (list vs) p view nulls fits =
         let k = list_kind (kind_of t p) fits.0 in
@@ -79,7 +77,7 @@ module _ {L : Type 0} (w : Writes L) (l : Leaves L) (name_of : Member → List �
     members_same (member_value n v ms) is_first p view members kind fits =
         let m = member_fit t members n v ms fits in
         let site = member_site_at t p view members n m.0 kind m.1 in
-        let place = ap (λ o. unwrap_or o p) (member_place p (kind_of t p) members n m.0 kind m.1) in
+        let place = member_place (kind_of t p) members n m.0 p kind m.1 in
         let name = member_name name_of (kind_of t p) members n m.0 kind m.1 in
         entry_is (c.members is_first (site_at t p view) (member_value n v ms)) _ _ _ _ _ (w.ending as_object) _
         (law.member_is is_first (site_at t p view) n v ms)

@@ -1,5 +1,5 @@
 -- A body that is written for a value of a place is read back as the value, whichever wire carries it.
-use Rattle.std.specs.Prelude.{◌≡◌, ◌≤◌, ℕ, length, List, Bool, false, Some, None, unwrap_or, slice_get}
+use Rattle.std.specs.Prelude.{◌≡◌, ◌≤◌, ℕ, length, List, Bool, false, Some, None, slice_get}
 use Rattle.std.proofs.Common.{sym, ap, arith, subst}
 use Rattle.smithy_schema.specs.declared.place.Place.{Place}
 use Rattle.smithy_schema.specs.Table.{Table, Member, ListShape, structure_of, list_of, kind_of}
@@ -48,8 +48,7 @@ module _ {L : Type 0} (w : Writes L) (l : Leaves L) (leaves : WritesLeaves w l) 
     members_writable (member_value n v ms) p members kind fits =
         let m = member_fit t members n v ms fits in (
           key_writable p members n m.0 kind m.1,
-          subst (λ q. IsWritable w (node_at q v)) (sym (ap (λ o. unwrap_or o p) (member_place p (kind_of t p) members n m.0 kind m.1)))
-              (value_writable v m.0.place false m.2),
+          subst (λ q. IsWritable w (node_at q v)) (sym (member_place (kind_of t p) members n m.0 p kind m.1)) (value_writable v m.0.place false m.2),
           members_writable ms p members kind fits.1,
         )
 

@@ -1,5 +1,5 @@
 -- The node as which a value of a place is written means the value, at each depth that leaves room for it.
-use Rattle.std.specs.Prelude.{◌≡◌, ◌≤◌, ◌+◌, ℕ, suc, List, Bool, true, false, Option, Some, None, option_and_then, map, unwrap_or, slice_get, IsUtf8, refl, if◌then◌else◌}
+use Rattle.std.specs.Prelude.{◌≡◌, ◌≤◌, ◌+◌, ℕ, suc, List, Bool, true, false, Option, Some, None, option_and_then, map, slice_get, IsUtf8, refl, if◌then◌else◌}
 use Rattle.std.proofs.Common.{sym, ap, ◌∙◌, arith, subst}
 use Rattle.std.proofs.lemmas.Bool.Decides.{nat_tests}
 use Rattle.smithy_schema.specs.declared.place.Place.{Place}
@@ -19,16 +19,16 @@ use Rattle.smithy_wire.specs.Rules.{settled, Rules, position_in}
 use Rattle.smithy_wire.specs.Meaning.{leaf_meaning, is_in, entry_at, meaning, entries}
 use Rattle.smithy_wire.specs.Written.{Leaves, scalar_node, child_place, name_at, written_node, element_nodes, member_nodes, AreNamed, ReadsLeaves}
 
-pub shallow_within : (limits : Limits) (greatest d : ℕ) → d ≤ greatest → is_within limits greatest d ≡ true
+shallow_within : (limits : Limits) (greatest d : ℕ) → d ≤ greatest → is_within limits greatest d ≡ true
 shallow_within kept greatest d h = grind (arith, nat_tests)
 shallow_within lifted greatest d h = refl
 
 -- ---- places and names
 
 -- a member of a structure: its place, and its name
-pub member_place : (p : Place) (k : Kind) (members : List Member) (n : ℕ) (m : Member) → k ≡ structure_of members → slice_get members n ≡ Some m
-    → place_in k (Some n) ≡ Some m.place
-member_place p k members n m kind found = rw (kind, found) refl
+pub member_place : (k : Kind) (members : List Member) (n : ℕ) (m : Member) (other : Place) → k ≡ structure_of members → slice_get members n ≡ Some m
+    → child_place k (Some n) other ≡ m.place
+member_place k members n m other kind found = rw (kind, found) refl
 
 pub member_name : (name_of : Member → List ℕ) (k : Kind) (members : List Member) (n : ℕ) (m : Member) → k ≡ structure_of members → slice_get members n ≡ Some m
     → name_at name_of k n ≡ name_of m
@@ -78,7 +78,7 @@ module _ {L : Type 0} (l : Leaves L) (r : Rules L) (reads : ReadsLeaves l r) (t 
       → Sets n v (member_entry (kind_of t p) d n (node_at (child_place (kind_of t p) (Some n) p) v))
   member_sets p members n m d v kind found fits mean =
       let k = kind_of t p in
-      let there = member_place p k members n m kind found in
+      let there : place_in k (Some n) ≡ Some m.place = rw (kind, found) refl in
       let x = node_at m.place v in
       let name : name_at r.name_of k n ≡ r.name_of m = member_name r.name_of k members n m kind found in
       let utf8 : IsUtf8 (r.name_of m) = named.names_are_texts p n m (rw kind found) in
@@ -86,7 +86,7 @@ module _ {L : Type 0} (l : Leaves L) (r : Rules L) (reads : ReadsLeaves l r) (t 
       let itself : position_in r k (Some (r.name_of m)) ≡ Some n =
       ap (λ k. position_in r k (Some (r.name_of m))) kind ∙ named_itself r.name_of members (subst (λ k. has_equal_texts (map r.name_of (members_of k)) ≡ false) kind (named.names_differ p)) n m found in
       let position : position_in r k (r.text_of (l.key_of (name_at r.name_of k n))) ≡ Some n = ap (position_in r k) read ∙ itself in
-      subst (λ q. Sets n v (member_entry k d n (node_at q v))) (sym (ap (λ o. unwrap_or o p) there))
+      subst (λ q. Sets n v (member_entry k d n (node_at q v))) (sym (member_place k members n m p kind found))
       (record {
         key = r.name_of m;
         has_key = read;
