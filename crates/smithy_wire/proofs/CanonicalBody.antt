@@ -8,6 +8,7 @@ use Rattle.smithy_schema.specs.Site.{Site, View, member_view, element_view, name
 use Rattle.smithy_schema.specs.Value.{ScalarValue, Value, scalar_value, list, structure, null_element, Values, no_values, value, MemberValues, no_member_values, member_value}
 use Rattle.smithy_schema.specs.Fits.{FitsOr, ElementsFit, MembersFit}
 use Rattle.smithy_schema.specs.Lemmas.Kinds.{list_kind, structure_kind}
+use Rattle.smithy_schema.proofs.ScalarLemmas.{scalar_kind}
 use Rattle.smithy_schema.proofs.SiteLemmas.{site_at, element_site_at, member_site_at, element_fit, member_fit}
 use Rattle.smithy_wire.specs.Node.{as_array, as_object}
 use Rattle.smithy_wire.specs.Written.{Leaves, scalar_node, child_place, element_nodes, member_nodes}
@@ -49,7 +50,8 @@ module _ {L : Type 0} (w : Writes L) (l : Leaves L) (name_of : Member → List �
   mutual
     pub same_body : (v : Value) (p : Place) (view : View) (nulls : Bool) → FitsOr t p nulls v → Same (site_at t p view) p v
     same_body (scalar_value x) p view nulls fits =
-        law.scalar_is fits.0 (site_at t p view) x ∙ sym (ap (λ k. bytes_of w (scalar_node l k p.time x)) fits.1)
+        let s = scalar_kind (kind_of t p) x fits in
+        law.scalar_is s.0 (site_at t p view) x ∙ sym (ap (λ k. bytes_of w (scalar_node l k p.time x)) s.1)
     same_body null_element p view nulls fits = law.null_is (site_at t p view)
     same_body (list vs) p view nulls fits =
         let k = list_kind (kind_of t p) fits.0 in

@@ -6,6 +6,7 @@ use Rattle.smithy_schema.specs.Table.{Table, Member, ListShape, structure_of, li
 use Rattle.smithy_schema.specs.Value.{Value, scalar_value, list, structure, null_element, Values, no_values, value, MemberValues, no_member_values, member_value, nesting}
 use Rattle.smithy_schema.specs.Fits.{FitsOr, ElementsFit, MembersFit, Fits}
 use Rattle.smithy_schema.specs.Lemmas.Kinds.{list_kind, structure_kind}
+use Rattle.smithy_schema.proofs.ScalarLemmas.{scalar_kind}
 use Rattle.smithy_schema.proofs.SiteLemmas.{element_fit, member_fit}
 use Rattle.smithy_wire.specs.Node.{as_array, as_object, Node}
 use Rattle.smithy_wire.specs.Rules.{Rules}
@@ -28,7 +29,7 @@ module _ {L : Type 0} (w : Writes L) (l : Leaves L) (leaves : WritesLeaves w l) 
   mutual
     -- the node of a value of a place can be written
     pub value_writable : (v : Value) (p : Place) (nulls : Bool) → FitsOr t p nulls v → IsWritable w (node_at p v)
-    value_writable (scalar_value x) p nulls fits = rw fits.1 (leaves.scalar_is fits.0 p.time x fits.2)
+    value_writable (scalar_value x) p nulls fits = let s = scalar_kind (kind_of t p) x fits in rw s.1 (leaves.scalar_is s.0 p.time x s.2)
     value_writable null_element p nulls fits = tt
     value_writable (list vs) p nulls fits =
         let c = list_kind (kind_of t p) fits.0 in

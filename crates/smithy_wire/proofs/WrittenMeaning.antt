@@ -3,16 +3,16 @@ use Rattle.std.specs.Prelude.{◌≡◌, ◌≤◌, ◌+◌, ℕ, suc, List, Boo
 use Rattle.std.proofs.Common.{sym, ap, ◌∙◌, arith, subst}
 use Rattle.std.proofs.lemmas.Bool.Decides.{nat_tests}
 use Rattle.smithy_schema.specs.declared.place.Place.{Place}
-use Rattle.smithy_schema.specs.declared.shape_type.Scalar.{Scalar}
 use Rattle.smithy_schema.specs.Limits.{Limits, kept, lifted, is_within}
 use Rattle.smithy_schema.specs.Names.{has_equal_texts}
-use Rattle.smithy_schema.specs.Table.{Table, Member, ListShape, Kind, scalar, structure_of, list_of, kind_of, members_of, place_in}
+use Rattle.smithy_schema.specs.Table.{Table, Member, ListShape, Kind, structure_of, list_of, kind_of, members_of, place_in}
 use Rattle.smithy_schema.specs.Value.{ScalarValue, Value, scalar_value, list, structure, null_element, Values, no_values, value, MemberValues, no_member_values, member_value, nesting, elements_nesting, members_nesting}
 use Rattle.smithy_schema.specs.Container.{Entry, element_of, container_of}
-use Rattle.smithy_schema.specs.Fits.{is_of, FitsOr, ElementsFit, MembersFit, Fits}
+use Rattle.smithy_schema.specs.Fits.{FitsOr, ElementsFit, MembersFit, Fits}
 use Rattle.smithy_schema.proofs.ChildLemmas.{SayElements, list_said, Sets, SayMembers, structure_said}
 use Rattle.smithy_schema.proofs.NamedLemmas.{named_itself}
 use Rattle.smithy_schema.specs.Lemmas.Kinds.{list_kind, structure_kind}
+use Rattle.smithy_schema.proofs.ScalarLemmas.{scalar_kind}
 use Rattle.smithy_schema.proofs.SiteLemmas.{element_fit, member_fit}
 use Rattle.smithy_wire.specs.Node.{Form, as_array, as_object, Node, container, Nodes, is_null}
 use Rattle.smithy_wire.specs.Rules.{settled, Rules, position_in}
@@ -49,15 +49,16 @@ module _ {L : Type 0} (l : Leaves L) (r : Rules L) (reads : ReadsLeaves l r) (t 
 
   -- a value that fits is no null
   not_null : (p : Place) (v : Value) → Fits t p v → is_null (node_at p v) ≡ false
-  not_null p (scalar_value x) fits = rw fits.1 refl
+  not_null p (scalar_value x) fits = let s = scalar_kind (kind_of t p) x fits in rw s.1 refl
   not_null p (list vs) fits = refl
   not_null p (structure ms) fits = refl
   not_null p null_element fits = cc
 
-  scalar_says : (p : Place) (nulls : Bool) (d : ℕ) (s : Scalar) (x : ScalarValue) → kind_of t p ≡ scalar s → is_of s x ≡ true → Says nulls d p (scalar_value x)
-  scalar_says p nulls d s x kind is =
-      ap (λ k. element_of nulls (is_null (scalar_node l k p.time x)) (meaning r t p d (scalar_node l k p.time x))) kind
-      ∙ (ap (λ k. leaf_meaning r k p.time (l.leaf_of s p.time x)) kind ∙ ap (settled r.limits null_element) (reads.scalar_means s p.time x is))
+  scalar_says : (p : Place) (nulls : Bool) (d : ℕ) (x : ScalarValue) → Fits t p (scalar_value x) → Says nulls d p (scalar_value x)
+  scalar_says p nulls d x fits =
+      let s = scalar_kind (kind_of t p) x fits in
+      ap (λ k. element_of nulls (is_null (scalar_node l k p.time x)) (meaning r t p d (scalar_node l k p.time x))) s.1
+      ∙ (ap (λ k. leaf_meaning r k p.time (l.leaf_of s.0 p.time x)) s.1 ∙ ap (settled r.limits null_element) (reads.scalar_means s.0 p.time x s.2))
 
   -- ---- containers
 
@@ -97,7 +98,7 @@ module _ {L : Type 0} (l : Leaves L) (r : Rules L) (reads : ReadsLeaves l r) (t 
 
   mutual
     value_says : (v : Value) (p : Place) (nulls : Bool) (d : ℕ) → FitsOr t p nulls v → d + nesting v ≤ r.max_depth → Says nulls d p v
-    value_says (scalar_value x) p nulls d fits deep = scalar_says p nulls d fits.0 x fits.1 fits.2
+    value_says (scalar_value x) p nulls d fits deep = scalar_says p nulls d x fits
     value_says null_element p nulls d fits deep = rw fits refl
     value_says (list vs) p nulls d fits deep =
         let c = list_kind (kind_of t p) fits.0 in
