@@ -17,6 +17,7 @@ use Rattle.smithy_json.proofs.QuotedLemmas.{quoted_is_string}
 use Rattle.smithy_json_codec.specs.Scalar.{JsonScalar, a_boolean, a_number, a_string, tree_of}
 use Rattle.smithy_json_codec.specs.Standing.{Lies, TreeLies, IsByte, IsSeparated, IsName, FollowsInside, fresh_mark, entry_mark, without_ws, opening, closing, Entry, json_frames}
 use Rattle.smithy_json_codec.specs.Private.Lexical.{first, begins_value, Begins, value_begins, begins_plain, begins_first}
+use Rattle.smithy_json_codec.specs.Private.TextParts.{follows_inside}
 use Rattle.smithy_json_codec.specs.Private.BytePlaces.{past_byte}
 use Rattle.smithy_wire.specs.Node.{Form, as_array, as_object}
 use Rattle.smithy_wire.specs.Writes.{Writes, IsKeyOf, Stand, Follows, WritesFrames, WritesLeaves}
@@ -72,10 +73,8 @@ boundary (suc d) s h = h
 
 scalar_lies : (x : JsonScalar) (d : ℕ) (i : List ℕ) (a e : ℕ) → IsValue (tree_of x) (leaf_bytes x) → Stand (leaf_bytes x) i a e → Follows json_writes d (drop e i)
     → TreeLies 1 (tree_of x) i a e
-scalar_lies (a_boolean b) d i a e is stand follows = (stand_lies (IsValue (tree_of (a_boolean b))) (leaf_bytes (a_boolean b)) i a e is stand, boundary d (drop e i) follows)
-scalar_lies (a_number raw) d i a e is stand follows = (stand_lies (IsValue (tree_of (a_number raw))) raw i a e is stand, boundary d (drop e i) follows)
-scalar_lies (a_string raw) d i a e is stand follows =
-    (stand_lies (IsValue (tree_of (a_string raw))) (leaf_bytes (a_string raw)) i a e is stand, boundary d (drop e i) follows)
+scalar_lies x d i a e is stand follows =
+    (stand_lies (IsValue (tree_of x)) (leaf_bytes x) i a e is stand, follows_inside 0 (tree_of x) (drop e i) (boundary d (drop e i) follows))
 
 separated : (is_first : Bool) (i : List ℕ) (b c : ℕ) → Stand (separator is_first) i b c → IsSeparated (mark_at is_first).entered i b c
 separated true i b c stand = omega (arith, stand.1)

@@ -5,9 +5,7 @@ use Rattle.std.proofs.Math.Seq.{drop-append_seam}
 use Rattle.std.proofs.lemmas.List.{drop-drop, length-append, append-nil, drop_all}
 use Rattle.smithy_wire.specs.Node.{Form, Node, null_node, leaf, container, missing, Nodes, no_nodes, node}
 use Rattle.smithy_wire.specs.Frames.{Frames, Lies, NodesLie}
-use Rattle.smithy_wire.specs.Wire.{no_value, IsWire}
 use Rattle.smithy_wire.specs.Writes.{Writes, bytes_of, nodes_bytes, IsWritable, AreWritable, Stand, Follows, WritesFrames}
-use Rattle.smithy_wire.specs.Lemmas.Nodes.{sort_of, lies_ahead}
 
 -- where two parts stand one after the other
 pub record Parts (xs ys : List ℕ) (i : List ℕ) (a e : ℕ) : Type 0 where
@@ -73,23 +71,10 @@ module _ {L : Type 0} (w : Writes L) (frames : Frames L) (law : WritesFrames w f
           nodes_lie xs f false d child.middle e more child.back,
         )
 
-module _ {L : Type 0} (w : Writes L) (frames : Frames L) (law : WritesFrames w frames) (x : Node L) (can : IsWritable w x) (is_body : w.IsBody (bytes_of w x)) where
-  -- a node lies in its own bytes
-  pub body_lies : Lies frames (bytes_of w x) 0 x 0 (length (bytes_of w x))
-  body_lies =
-      let i = bytes_of w x in
-      let none : drop (length i) i ≡ [] = drop_all (length i) i (omega arith) in
-      node_lies w frames law i is_body x 0 0 (length i) can (sym (append-nil i) ∙ ap (λ r. i ++ r) (sym none), omega arith, omega arith) none
-
-  is_there : (y : Node L) → IsWritable w y → sort_of y ≡ no_value → ⊥
-  is_there null_node can h = cc
-  is_there (leaf y) can h = cc
-  is_there (container f ys) can h = cc
-  is_there missing can h = can
-
-  -- which aren't empty
-  pub body_fills : IsWire frames → bytes_of w x ≡ [] → ⊥
-  body_fills wire empty =
-      let i = bytes_of w x in
-      let ahead = (lies_ahead frames wire i 0 x 0 (length i) body_lies (is_there x can)).0 in
-      omega (arith, ahead, ap length empty)
+-- a node lies in its own bytes
+pub body_lies : {L : Type 0} (w : Writes L) (frames : Frames L) → WritesFrames w frames → (x : Node L) → IsWritable w x → w.IsBody (bytes_of w x)
+    → Lies frames (bytes_of w x) 0 x 0 (length (bytes_of w x))
+body_lies w frames law x can is_body =
+    let i = bytes_of w x in
+    let none : drop (length i) i ≡ [] = drop_all (length i) i (omega arith) in
+    node_lies w frames law i is_body x 0 0 (length i) can (sym (append-nil i) ∙ ap (λ r. i ++ r) (sym none), omega arith, omega arith) none
