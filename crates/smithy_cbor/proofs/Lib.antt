@@ -10,11 +10,10 @@ pub mod HeadLemmas
 pub mod NullTypes
 pub mod SpellingLemmas
 pub mod WritingLemmas
-pub mod WrittenItem
-pub mod WrittenEncoding
-pub mod WrittenMeaning
+pub mod WrittenLeaves
+pub mod WrittenPlaces
+pub mod WrittenBody
 pub mod WrittenSpelling
-pub mod NestedMeaning
 pub mod HeadFaults
 pub mod TextLemmas
 pub mod LongLemmas

@@ -5,15 +5,20 @@ use Rattle.smithy_cbor.specs.Meaning.{rules_of}
 use Rattle.smithy_cbor.specs.Standing.{cbor_frames, cbor_relations}
 use Rattle.smithy_cbor.specs.Private.Wire.{cbor_is_wire, cbor_bounds_openers}
 use Rattle.smithy_cbor.specs.Private.Fits.{says_fits}
+use Rattle.smithy_wire.specs.Wire.{RulesFit}
 use Rattle.smithy_wire.specs.Laws as wire
 
 -- the relations obey their laws, whatever the settings
 pub lawful : (c : Settings) → IsLawful (cbor_relations c)
 lawful c = wire.lawful cbor_frames (rules_of c) cbor_is_wire
 
--- what stands is a value of its place
+-- what scalars mean is of their kind
+pub rules_fit : (c : Settings) → RulesFit cbor_frames (rules_of c)
+rules_fit c = record { says_fits = λ i d x a e lies. says_fits c x }
+
+-- so what stands is a value of its place
 pub fit : (c : Settings) → StandsFit (cbor_relations c)
-fit c = wire.stands_fit cbor_frames (rules_of c) (record { says_fits = λ i d x a e lies. says_fits c x })
+fit c = wire.stands_fit cbor_frames (rules_of c) (rules_fit c)
 
 -- containers are counted
 pub counts : (c : Settings) → CountsOpeners (cbor_relations c)

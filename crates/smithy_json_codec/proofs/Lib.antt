@@ -20,9 +20,9 @@ pub mod DeserializerLemmas
 pub mod StructureStepsLemmas
 pub mod MembersBehindNullsLemmas
 pub mod WritingLemmas
-pub mod NestedMeaning
-pub mod WrittenTree
-pub mod WrittenMeaning
+pub mod WrittenLeaves
+pub mod WrittenPlaces
+pub mod WrittenBody
 pub mod WrittenSpelling
 mod OpenersFacts
 pub mod OpenersLemmas

@@ -1,5 +1,6 @@
 -- Whole inputs: what spells a value is what stands at their start, with nothing but white space behind it.
-use Rattle.std.proofs.Common.{◌≡◌, ◌↔◌, ℕ, zero, suc, List, drop, Some, refl, sym, ◌∙◌, ap, arith, inl, inr}
+use Rattle.std.proofs.Common.{◌≡◌, ◌↔◌, ℕ, zero, suc, length, List, [], drop, Some, refl, sym, ◌∙◌, ap, arith, inl, inr}
+use Rattle.std.proofs.lemmas.List.{drop_all}
 use Rattle.smithy_schema.specs.declared.place.Place.{Place}
 use Rattle.smithy_schema.specs.Table.{Table, Kind, scalar, structure_of, list_of, nothing, kind_of, IsStructure}
 use Rattle.smithy_schema.specs.Value.{Value, structure, no_member_values}
@@ -76,26 +77,16 @@ spells_stands c t p i v (inl h) = let l = text_lies i h.0 h.1 in (l.0, (node_of 
 spells_stands c t p i v (inr h) =
     (0, (missing, ((h.0, refl), refl), rw h.2 (missing_says (kind_of t p) h.1 ∙ ap Some (sym h.3))))
 
--- behind a container outside of all others comes only white space
-tree_text : (c : Settings) (t : Table) (p : Place) (i : List ℕ) (v : Value) (e : ℕ) (x : Json) → IsContainer (kind_of t p)
-    → TreeLies 0 x i 0 e → json_meaning c t p 0 x ≡ Some v → IsJsonText x i
-tree_text c t p i v e null box lies means = cc
-tree_text c t p i v e (boolean b) box lies means = absurd (leaf_means_nothing (rules_of c) t p 0 (a_boolean b) v box means)
-tree_text c t p i v e (number raw) box lies means = absurd (leaf_means_nothing (rules_of c) t p 0 (a_number raw) v box means)
-tree_text c t p i v e (string raw) box lies means = absurd (leaf_means_nothing (rules_of c) t p 0 (a_string raw) v box means)
-tree_text c t p i v e (array es) box lies means = lies_text i (array es) e lies lies.1
-tree_text c t p i v e (object ms) box lies means = lies_text i (object ms) e lies lies.1
-
--- what stands at the start of the input is spelled by it, at a place of a container
-pub stands_spells : (c : Settings) (t : Table) (p : Place) (i : List ℕ) (v : Value) (e : ℕ) → IsContainer (kind_of t p)
-    → (json_relations c).stands i t p 0 0 v e → json_spells c t p i v
-stands_spells c t p i v e box (y, lies, means) = of y lies means
+-- what stands at the start of the input, with only white space behind it, is spelled by it
+stands_alone : (c : Settings) (t : Table) (p : Place) (i : List ℕ) (v : Value) (e : ℕ)
+    → ((x : Json) → TreeLies 0 x i 0 e → json_meaning c t p 0 x ≡ Some v → IsWs (drop e i)) → (json_relations c).stands i t p 0 0 v e → json_spells c t p i v
+stands_alone c t p i v e behind (y, lies, means) = of y lies means
   where
     there : (y : Node JsonScalar) → (sort_of y ≡ no_value → ⊥) → Lies json_frames i 0 y 0 e → meaning (rules_of c) t p 0 y ≡ Some v → json_spells c t p i v
     there y is lies means =
         let x = lies_tree 0 y i 0 e (lies_full 0 y i 0 e lies is) lies in
         let says : json_meaning c t p 0 x.0 ≡ Some v = ap (meaning (rules_of c) t p 0) x.2 ∙ means in
-        inl (x.0, tree_text c t p i v e x.0 box x.1 says, says)
+        inl (x.0, lies_text i x.0 e x.1 (behind x.0 x.1 says), says)
 
     of : (y : Node JsonScalar) → Lies json_frames i 0 y 0 e → meaning (rules_of c) t p 0 y ≡ Some v → json_spells c t p i v
     of null_node lies means = there null_node (λ h. cc) lies means
@@ -105,6 +96,26 @@ stands_spells c t p i v e box (y, lies, means) = of y lies means
         let deep = chosen (is_shallow c 1) (missing_meaning (kind_of t p)) v means in
         let is = missing_is (kind_of t p) v deep.1 in
         inr (lies.0.0, is.0, deep.0, is.1)
+
+-- so is what stands from its start to its end
+pub stands_whole : (c : Settings) (t : Table) (p : Place) (i : List ℕ) (v : Value) → (json_relations c).stands i t p 0 0 v (length i) → json_spells c t p i v
+stands_whole c t p i v h =
+    stands_alone c t p i v (length i) (λ x lies means. let none : drop (length i) i ≡ [] = drop_all (length i) i (omega arith) in rw none tt) h
+
+-- behind a container outside of all others comes only white space
+behind_container : (c : Settings) (t : Table) (p : Place) (i : List ℕ) (v : Value) (e : ℕ) (x : Json) → IsContainer (kind_of t p)
+    → TreeLies 0 x i 0 e → json_meaning c t p 0 x ≡ Some v → IsWs (drop e i)
+behind_container c t p i v e null box lies means = cc
+behind_container c t p i v e (boolean b) box lies means = absurd (leaf_means_nothing (rules_of c) t p 0 (a_boolean b) v box means)
+behind_container c t p i v e (number raw) box lies means = absurd (leaf_means_nothing (rules_of c) t p 0 (a_number raw) v box means)
+behind_container c t p i v e (string raw) box lies means = absurd (leaf_means_nothing (rules_of c) t p 0 (a_string raw) v box means)
+behind_container c t p i v e (array es) box lies means = lies.1
+behind_container c t p i v e (object ms) box lies means = lies.1
+
+-- so what stands at the start of the input is spelled by it, at a place of a container
+pub stands_spells : (c : Settings) (t : Table) (p : Place) (i : List ℕ) (v : Value) (e : ℕ) → IsContainer (kind_of t p)
+    → (json_relations c).stands i t p 0 0 v e → json_spells c t p i v
+stands_spells c t p i v e box h = stands_alone c t p i v e (λ x lies means. behind_container c t p i v e x box lies means) h
 
 -- a structure is a container
 pub structure_is_container : (k : Kind) → IsStructure k → IsContainer k

@@ -1,6 +1,5 @@
--- The canonical text of a value spells the value, and what is spelled fits its place.
-use Rattle.std.proofs.Common.{◌≤◌, ℕ, List, [], Bool, false, sym, arith, inl}
-use Rattle.std.proofs.lemmas.List.{append-nil}
+-- The canonical text of a value spells the value, and what is spelled fits its place and is shallow.
+use Rattle.std.proofs.Common.{◌≡◌, ◌≤◌, ℕ, List, Bool, true, false, arith, subst, sym}
 use Rattle.smithy_schema.specs.declared.place.Place.{Place}
 use Rattle.smithy_schema.specs.Table.{Table}
 use Rattle.smithy_schema.specs.Accepted.{IsAccepted}
@@ -10,27 +9,40 @@ use Rattle.smithy_schema.specs.Fits.{Fits}
 use Rattle.smithy_schema.proofs.SiteLemmas.{site_at}
 use Rattle.smithy_json_codec.specs.Canonical.{canonical_json}
 use Rattle.smithy_json_codec.specs.Codec.{strict_settings}
-use Rattle.smithy_json_codec.specs.Laws.{fit}
-use Rattle.smithy_json_codec.specs.Meaning.{json_meaning, node_of}
-use Rattle.smithy_wire.specs.Node.{is_null}
-use Rattle.smithy_json_codec.specs.Settings.{Settings}
+use Rattle.smithy_json_codec.specs.Laws.{rules_fit, fit}
+use Rattle.smithy_json_codec.specs.Meaning.{rules_of}
+use Rattle.smithy_json_codec.specs.Settings.{Settings, kept, name_of}
 use Rattle.smithy_json_codec.specs.Spelling.{json_spells}
-use Rattle.smithy_json_codec.proofs.SpellingLemmas.{spells_stands}
-use Rattle.smithy_json_codec.proofs.WrittenTree.{tree_of, value_written}
-use Rattle.smithy_json_codec.proofs.WrittenMeaning.{meaning_alone, value_means}
+use Rattle.smithy_json_codec.specs.Standing.{json_frames}
+use Rattle.smithy_wire.specs.Written.{AreNamed}
+use Rattle.smithy_wire.proofs.AcceptedNames.{named_by_name, named_by_json_name}
+use Rattle.smithy_wire.proofs.NestedMeaning.{stands_within_depth}
+use Rattle.smithy_wire.proofs.ReadBack.{written_stands}
+use Rattle.smithy_json_codec.proofs.SpellingLemmas.{spells_stands, stands_whole}
+use Rattle.smithy_json_codec.proofs.WrittenBody.{same_text}
+use Rattle.smithy_json_codec.proofs.WrittenLeaves.{json_leaves, json_reads_leaves}
+use Rattle.smithy_json_codec.proofs.WrittenPlaces.{json_writes, json_writes_frames, json_writes_leaves}
 
 -- what is spelled is a value of the place
 pub spelled_fits : (c : Settings) (t : Table) (p : Place) (bytes : List ℕ) (v : Value) → json_spells c t p bytes v → Fits t p v
 spelled_fits c t p bytes v h = let s = spells_stands c t p bytes v h in (fit c).fits bytes t p 0 0 v s.0 s.1
 
+-- and nests no deeper than the greatest depth
+pub shallow : (c : Settings) (t : Table) (p : Place) (bytes : List ℕ) (v : Value) → c.limits ≡ kept → json_spells c t p bytes v → nesting v ≤ c.max_depth
+shallow c t p bytes v keeps h =
+    let s = spells_stands c t p bytes v h in
+    omega (arith, stands_within_depth json_frames (rules_of c) keeps (rules_fit c) bytes t p 0 0 v s.0 s.1)
+
+-- an accepted table names its members, whichever names are used
+named : (b : Bool) (t : Table) → IsAccepted t → AreNamed (name_of (strict_settings b)) t
+named true t accepted = named_by_json_name t accepted
+named false t accepted = named_by_name t accepted
+
 -- of an accepted table, where the value nests no deeper than may be read
 pub canonical_spells : (b : Bool) (t : Table) (p : Place) (view : View) (v : Value) → IsAccepted t → Fits t p v → nesting v ≤ 128
     → json_spells (strict_settings b) t p (canonical_json b (site_at t p view) v) v
 canonical_spells b t p view v accepted fits deep =
-    let x = tree_of b (site_at t p view) v in
-    let bytes = canonical_json b (site_at t p view) v in
-    inl (
-      x,
-      ([], bytes, [], sym (append-nil bytes), tt, value_written b t accepted v p view false fits, tt),
-      meaning_alone (is_null (node_of x)) (json_meaning (strict_settings b) t p 0 x) v (value_means b t accepted v p view false 0 fits (omega (arith, deep))),
-    )
+    let c = strict_settings b in
+    subst (λ bytes. json_spells c t p bytes v) (sym (same_text b t p view v fits))
+    (stands_whole c t p _ v
+    (written_stands json_writes json_frames json_leaves (rules_of c) json_writes_frames json_writes_leaves (json_reads_leaves c) t p v (named b t accepted) fits deep tt))

@@ -5,15 +5,20 @@ use Rattle.smithy_json_codec.specs.Meaning.{rules_of}
 use Rattle.smithy_json_codec.specs.Standing.{json_frames, json_relations}
 use Rattle.smithy_json_codec.specs.Private.Wire.{json_is_wire, json_bounds_openers}
 use Rattle.smithy_json_codec.specs.Private.Fits.{says_fits}
+use Rattle.smithy_wire.specs.Wire.{RulesFit}
 use Rattle.smithy_wire.specs.Laws as wire
 
 -- the relations obey their laws, whatever the settings
 pub lawful : (c : Settings) → IsLawful (json_relations c)
 lawful c = wire.lawful json_frames (rules_of c) json_is_wire
 
--- what stands is a value of its place
+-- what scalars mean is of their kind
+pub rules_fit : (c : Settings) → RulesFit json_frames (rules_of c)
+rules_fit c = record { says_fits = says_fits c }
+
+-- so what stands is a value of its place
 pub fit : (c : Settings) → StandsFit (json_relations c)
-fit c = wire.stands_fit json_frames (rules_of c) (record { says_fits = says_fits c })
+fit c = wire.stands_fit json_frames (rules_of c) (rules_fit c)
 
 -- brackets are counted
 pub counts : (c : Settings) → CountsOpeners (json_relations c)

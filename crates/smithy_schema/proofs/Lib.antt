@@ -10,7 +10,6 @@ mod AcceptanceLemmas
 mod BuildLemmas
 mod AcceptedLemmas
 mod NameLemmas
-pub mod ChildSites
 pub mod ChildLemmas
 pub mod NestingLemmas
 pub mod CountLemmas

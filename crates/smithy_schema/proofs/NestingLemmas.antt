@@ -8,6 +8,7 @@ use Rattle.smithy_schema.specs.Table.{Kind, scalar, structure_of, list_of, nothi
 use Rattle.smithy_schema.specs.Value.{Value, list, structure, null_element, values_of, MemberValues, no_member_values, member_value, put_member, nesting, elements_nesting, members_nesting}
 use Rattle.smithy_schema.specs.Container.{Entry, elements_from, member_step, members_from, container_of}
 use Rattle.smithy_schema.specs.Lemmas.ElementFolds.{element_apart, elements_apart}
+use Rattle.smithy_schema.specs.Lemmas.Entries.{entry_with}
 use Rattle.smithy_schema.specs.Lemmas.Options.{made, same_some, step_apart}
 
 -- each entry means a value that nests no deeper, if it means anything
@@ -50,7 +51,7 @@ put_nests most n v (member_value at w rest) all one =
 -- an entry by its fields
 entry_nests : (key : Option (List ℕ)) (named : Option ℕ) (mean : Option Value) (absent skippable nil : Bool) (most : ℕ) (fs us : MemberValues)
     → ((w : Value) → mean ≡ Some w → nesting w ≤ most) → members_nesting fs ≤ most
-    → member_step (record { key = key; position = named; meaning = mean; is_absent = absent; is_skippable = skippable; is_null = nil }) fs ≡ Some us
+    → member_step (entry_with key named mean absent skippable nil) fs ≡ Some us
     → members_nesting us ≤ most
 entry_nests None named mean absent skippable nil most fs us each all h = cc
 entry_nests (Some key) named mean true skippable nil most fs us each all h = subst (λ ms. members_nesting ms ≤ most) (same_some fs us h) all

@@ -3,6 +3,6 @@
 pub mod Options
 pub mod Kinds
 pub mod ElementFolds
-pub mod MemberFolds
+pub mod Entries
 pub mod Ascending
 pub mod Fitting

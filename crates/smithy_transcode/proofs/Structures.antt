@@ -1,17 +1,18 @@
 -- A structure that is written in part.
 use denote.Param.Weighed.{most}
-use Rattle.std.proofs.Common.{◌≡◌, ◌≤◌, ℕ, List, [], ◌∷◌, ◌++◌, map, Bool, false, true, Some, Ok, Err, ap, append_assoc, arith}
+use Rattle.std.proofs.Common.{◌≡◌, ◌≤◌, ℕ, List, [], ◌∷◌, ◌++◌, map, true, Some, Ok, Err, ap, append_assoc, arith}
 use Rattle.std.specs.Prelude.{unwrap_or}
 use Rattle.smithy_schema.specs.declared.error.SerdeError.{SerdeError}
 use Rattle.smithy_schema.specs.Site.{Site, kind_at, member_site, member_of}
 use Rattle.smithy_schema.specs.Table.{IsStructure}
 use Rattle.smithy_schema.specs.Fits.{FitsOr, MembersFit}
-use Rattle.smithy_schema.specs.Value.{structure}
+use Rattle.smithy_schema.specs.Value.{structure, member_value}
 use Rattle.smithy_schema.specs.Writing.{Event, Writer, write, run, member_events, begin_structure, end_structure}
 use Rattle.smithy_transcode.specs.declared.value.Value as kept
 use Rattle.smithy_transcode.specs.View.{view, view_members}
 use Rattle.smithy_transcode.proofs.Lists.{fits_or_null}
-use Rattle.smithy_schema.proofs.ChildSites.{member_there, member_site_is as member_stands, fits_site}
+use Rattle.smithy_schema.specs.Lemmas.Kinds.{structure_kind}
+use Rattle.smithy_schema.proofs.SiteLemmas.{member_site_at, member_fit}
 use Rattle.smithy_schema.proofs.WritingLemmas.{call_made, child_written, child_refused}
 
 -- the calls for what is left of a structure
@@ -43,10 +44,10 @@ rest_fits site n v ms rest is fits = (rw is at fits).1
 pub member_fits : (site member : Site) (n : ℕ) (v : kept.Value) (ms rest : List (ℕ × kept.Value)) → IsStructure (kind_at site) → Some member ≡ member_site site n → ms ≡ (n, v) ∷ rest
     → MembersFit site.table (kind_at site) (view_members ms) → FitsOr member.table member.place true (view v)
 member_fits site member n v ms rest is found next fits =
-    let (place, there, fit) = (rw next at fits).0 in
-    let m = member_there (kind_at site) n place is there in
-    rw (member_site_is site n member found)
-    (fits_or_null _ _ _ _ (fits_site place site (member_of site n) false (view v) (member_stands site n place m) fit))
+    let k = structure_kind (kind_at site) is in
+    let first : MembersFit site.table (kind_at site) (member_value n (view v) (view_members rest)) = rw next at fits in
+    let m = member_fit site.table k.0 n (view v) (view_members rest) (rw k.1 at first) in
+    rw (member_site_is site n member found, member_site_at site.table site.place site.view k.0 n m.0 k.1 m.1) (fits_or_null _ _ _ _ m.2)
 
 -- the greatest size of what is left
 abbrev pub largest : (kept.Value → ℕ) → List (ℕ × kept.Value) → ℕ

@@ -9,6 +9,9 @@ pub mod Wire
 pub mod Laws
 pub mod Readers
 pub mod Entries
+-- the node as which a value is written, its bytes, and what a wire proves of them
+pub mod Written
+pub mod Writes
 -- where a reader stands
 pub mod Walking
 -- what the laws are proved by

@@ -208,7 +208,7 @@ value_begins (object (member name x ms)) s h =
     record { byte = begin_object; more = h.0 ++ end_object ∷ []; is = h.1; begins = refl }
 
 -- a byte with which a value begins is no white space
-begins_plain : (b : ℕ) → begins_value b ≡ true → is_ws b ≡ false
+pub begins_plain : (b : ℕ) → begins_value b ≡ true → is_ws b ≡ false
 begins_plain b h = grind (arith, nat_tests)
 
 -- so white space ends before a value

@@ -8,6 +8,7 @@ use Rattle.std.proofs.lemmas.Cmp.{ranked}
 use Rattle.smithy_schema.specs.Value.{Value, MemberValues, no_member_values, member_value, put_member}
 use Rattle.smithy_schema.specs.Container.{Entry, member_step, members_from}
 use Rattle.smithy_schema.specs.Fits.{AscendFrom}
+use Rattle.smithy_schema.specs.Lemmas.Entries.{entry_with}
 
 -- members that ascend from one position ascend from each smaller one
 ascend_from_less : (least less : ℕ) (ms : MemberValues) → less ≤ least → AscendFrom least ms → AscendFrom less ms
@@ -31,7 +32,7 @@ put_ascends n v least (member_value at w rest) low h =
 -- an entry by its fields
 set_ascends : (key : Option (List ℕ)) (named : Option ℕ) (mean : Option Value) (absent skippable nil : Bool) (fs us : MemberValues)
     → AscendFrom 0 fs
-    → member_step (record { key = key; position = named; meaning = mean; is_absent = absent; is_skippable = skippable; is_null = nil }) fs ≡ Some us
+    → member_step (entry_with key named mean absent skippable nil) fs ≡ Some us
     → AscendFrom 0 us
 set_ascends None named mean absent skippable nil fs us h set = absurd (let e : None ≡ Some us = set in cc)
 set_ascends (Some key) named mean true skippable nil fs us h set = let same : fs ≡ us = cc in subst (AscendFrom 0) same h

@@ -1,18 +1,17 @@
 -- What entries mean together fits a place, where what each means fits its own.
-use Rattle.std.specs.Prelude.{◌≡◌, ◌⊎◌, ℕ, ◌<◌, List, [], ◌∷◌, ◌++◌, Option, Some, None, Bool, true, false, refl, option_and_then}
+use Rattle.std.specs.Prelude.{◌≡◌, ◌⊎◌, ℕ, ◌<◌, List, [], ◌∷◌, ◌++◌, Option, Some, None, Bool, true, false, refl}
 use Rattle.std.specs.declared.cmp.Ordering.{Ordering}
 use Rattle.std.specs.declared.cmp.Ordering.TheVariants.{Less, Equal, Greater}
 use Rattle.std.specs.Ordering.{MatchOrdering, nat_cmp, match_ordering}
-use Rattle.std.proofs.Common.{sym, ◌∙◌, ap, subst, inl, inr}
+use Rattle.std.proofs.Common.{sym, subst, inl, inr}
 use Rattle.std.proofs.lemmas.Cmp.{ranked}
 use Rattle.smithy_schema.specs.declared.place.Place.{Place}
 use Rattle.smithy_schema.specs.Table.{Table, ListShape, Kind, list_of, place_in, is_sparse}
 use Rattle.smithy_schema.specs.Value.{Value, scalar_value, list, structure, null_element, values_of, MemberValues, no_member_values, member_value, put_member}
 use Rattle.smithy_schema.specs.Container.{Entry, element_of, members_from}
 use Rattle.smithy_schema.specs.Fits.{FitsOr, ElementsFit, MembersFit, Fits}
-use Rattle.smithy_schema.specs.Lemmas.Options.{step_apart}
 use Rattle.smithy_schema.specs.Lemmas.ElementFolds.{element_apart}
-use Rattle.smithy_schema.specs.Lemmas.MemberFolds.{entry_with}
+use Rattle.smithy_schema.specs.Lemmas.Entries.{entry_with}
 
 -- ---- lists
 
@@ -72,10 +71,3 @@ entry_fits t k (Some key) None mean false false nil fs us xs fit h next folds = 
 entry_fits t k (Some key) (Some n) None false skippable nil fs us xs fit h next folds = cc
 entry_fits t k (Some key) (Some n) (Some v) false skippable nil fs us xs fit h next folds =
     next (put_member n v fs) (put_fits t k n v fs (fit n v refl refl) h) folds
-
--- what stands at the place of a member fits it, by what it means at each place
-pub member_fits : (t : Table) (k : Kind) (meaning : Place → Option Value) → ((q : Place) (w : Value) → meaning q ≡ Some w → Fits t q w)
-    → (named : Option ℕ) (n : ℕ) (v : Value) → named ≡ Some n → option_and_then meaning (place_in k named) ≡ Some v → MemberFits t k n v
-member_fits t k meaning fits named n v is h =
-    let q = step_apart (place_in k named) meaning v h in
-    (q.0, sym (ap (place_in k) is) ∙ q.1, fits q.0 v q.2)

@@ -7,7 +7,7 @@ use Rattle.smithy_schema.specs.Value.{Value, MemberValues}
 use Rattle.smithy_schema.specs.Container.{Entry, member_step, element_of, element_step}
 use Rattle.smithy_schema.specs.Reading.{child_value, child_null, child_unknown, entry_of}
 use Rattle.smithy_schema.specs.Lemmas.Options.{same_some, step_apart, made}
-use Rattle.smithy_schema.specs.Lemmas.MemberFolds.{entry_with}
+use Rattle.smithy_schema.specs.Lemmas.Entries.{entry_with}
 use Rattle.smithy_wire.specs.Node.{Form, as_array, as_object, Node, is_null}
 use Rattle.smithy_wire.specs.Rules.{Rules, key_text, position_in, is_absent, may_skip}
 use Rattle.smithy_wire.specs.Meaning.{entry_at}

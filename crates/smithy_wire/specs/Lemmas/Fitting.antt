@@ -8,7 +8,7 @@ use Rattle.smithy_schema.specs.Container.{folded, element_of, member_step, membe
 use Rattle.smithy_schema.specs.Fits.{AscendFrom, ElementsFit, MembersFit, Fits}
 use Rattle.smithy_schema.specs.Reading.{Mark}
 use Rattle.smithy_schema.specs.Lemmas.Options.{same_some, step_apart, chosen, made}
-use Rattle.smithy_schema.specs.Lemmas.MemberFolds.{entry_with}
+use Rattle.smithy_schema.specs.Lemmas.Entries.{entry_with}
 use Rattle.smithy_schema.specs.Lemmas.Fitting.{one_more_fits, element_fits, entry_fits}
 use Rattle.smithy_schema.specs.Lemmas.Ascending.{folded_ascend}
 use Rattle.smithy_wire.specs.Node.{Form, Node, null_node, leaf, container, missing, Nodes, no_nodes, node, is_null}

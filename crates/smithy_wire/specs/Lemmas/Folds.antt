@@ -6,7 +6,7 @@ use Rattle.smithy_schema.specs.Container.{Entry, folded, element_of, member_step
 use Rattle.smithy_wire.specs.Node.{Form, as_array, as_object}
 use Rattle.smithy_wire.specs.Rules.{Rules}
 use Rattle.smithy_wire.specs.Meaning.{is_in}
-use Rattle.smithy_schema.specs.Lemmas.MemberFolds.{entry_with}
+use Rattle.smithy_schema.specs.Lemmas.Entries.{entry_with}
 use Rattle.smithy_wire.specs.Lemmas.EntrySteps.{FoldsBy, structure_folds, list_folds}
 
 -- what means more and may be skipped more steps no less

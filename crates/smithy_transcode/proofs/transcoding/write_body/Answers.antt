@@ -1,4 +1,4 @@
-use Rattle.std.proofs.Common.{◌≡◌, refl, ◌∙◌, ap}
+use Rattle.std.proofs.Common.{refl, ◌∙◌, ap}
 use Rattle.smithy_schema.specs.Site.{Site, site_of}
 use Rattle.smithy_json_codec.specs.Serializing.{state_of}
 use Rattle.smithy_json_codec.specs.Settings.{Settings}

@@ -1,0 +1,76 @@
+-- The canonical text of a value is the body that is written for it.
+use Rattle.std.proofs.Common.{◌≡◌, ℕ, List, [], ◌++◌, Bool, true, false, Option, refl}
+use Rattle.smithy_schema.specs.declared.place.Place.{Place}
+use Rattle.smithy_schema.specs.declared.shape_type.Scalar.{Scalar}
+use Rattle.smithy_schema.specs.declared.shape_type.TimestampFormat.{TimestampFormat}
+use Rattle.smithy_schema.specs.Table.{Table}
+use Rattle.smithy_schema.specs.Site.{Site, View, member_of}
+use Rattle.smithy_schema.specs.Value.{ScalarValue, boolean, whole, text, Value, Values, no_values, value, MemberValues, no_member_values, member_value}
+use Rattle.smithy_schema.specs.Fits.{Fits}
+use Rattle.smithy_schema.proofs.SiteLemmas.{site_at}
+use Rattle.smithy_json_codec.specs.Canonical.{scalar_text, key_text, canonical_json, first_element, more_elements, first_member, more_members}
+use Rattle.smithy_json_codec.specs.Codec.{strict_settings}
+use Rattle.smithy_json_codec.specs.Settings.{name_of}
+use Rattle.smithy_wire.specs.Writes.{body_of}
+use Rattle.smithy_wire.proofs.CanonicalBody.{Canonical, IsWritten, same_body}
+use Rattle.smithy_json_codec.proofs.WrittenLeaves.{leaf_of, json_leaves}
+use Rattle.smithy_json_codec.proofs.WrittenPlaces.{leaf_bytes, separator, json_writes}
+
+module _ (b : Bool) where
+  abbrev elements : Bool → Site → Values → List ℕ
+  elements true = first_element b
+  elements false = more_elements b
+
+  abbrev members : Bool → Site → MemberValues → List ℕ
+  members true = first_member b
+  members false = more_members b
+
+  abbrev canonical : Canonical
+  canonical = record {
+    body = canonical_json b;
+    elements = elements;
+    members = members;
+    key = λ is_first view. separator is_first ++ key_text b view;
+  }
+
+  scalar_is : (s : Scalar) (time : Option TimestampFormat) (x : ScalarValue) → scalar_text x ≡ leaf_bytes (leaf_of s time x)
+  scalar_is s time (boolean true) = refl
+  scalar_is s time (boolean false) = refl
+  scalar_is s time (whole n) = refl
+  scalar_is s time (text t) = refl
+
+  no_element_is : (is_first : Bool) (site : Site) → elements is_first site no_values ≡ []
+  no_element_is true site = refl
+  no_element_is false site = refl
+
+  element_is : (is_first : Bool) (site : Site) (v : Value) (vs : Values)
+      → elements is_first site (value v vs) ≡ (separator is_first ++ []) ++ (canonical_json b site v ++ more_elements b site vs)
+  element_is true site v vs = refl
+  element_is false site v vs = refl
+
+  no_member_is : (is_first : Bool) (site : Site) → members is_first site no_member_values ≡ []
+  no_member_is true site = refl
+  no_member_is false site = refl
+
+  member_is : (is_first : Bool) (site : Site) (n : ℕ) (v : Value) (ms : MemberValues)
+      → members is_first site (member_value n v ms)
+      ≡ (separator is_first ++ key_text b (member_of site n).view) ++ (canonical_json b (member_of site n) v ++ more_members b site ms)
+  member_is true site n v ms = refl
+  member_is false site n v ms = refl
+
+  is_written : IsWritten json_writes json_leaves (name_of (strict_settings b)) canonical
+  is_written = record {
+    scalar_is = λ s site x. scalar_is s site.place.time x;
+    null_is = λ site. refl;
+    list_is = λ site vs. refl;
+    no_element_is = no_element_is;
+    element_is = element_is;
+    structure_is = λ site ms. refl;
+    no_member_is = no_member_is;
+    member_is = member_is;
+    key_is = λ is_first n m. refl;
+  }
+
+  pub same_text : (t : Table) (p : Place) (view : View) (v : Value) → Fits t p v
+      → canonical_json b (site_at t p view) v ≡ body_of json_writes json_leaves (name_of (strict_settings b)) t p v
+  same_text t p view v fits = same_body json_writes json_leaves (name_of (strict_settings b)) canonical is_written t v p view false fits

@@ -1,0 +1,88 @@
+-- The body that a wire defines for a value at a site is the one that is written for the value's node.
+use Rattle.std.specs.Prelude.{◌≡◌, ℕ, List, [], ◌++◌, Bool, true, false, Some, None, refl}
+use Rattle.std.proofs.Common.{sym, ap, ◌∙◌, subst, append_assoc}
+use Rattle.smithy_schema.specs.declared.place.Place.{Place}
+use Rattle.smithy_schema.specs.declared.shape_type.Scalar.{Scalar}
+use Rattle.smithy_schema.specs.Table.{Table, Member, ListShape, structure_of, list_of, kind_of}
+use Rattle.smithy_schema.specs.Site.{Site, View, member_view, element_view, nameless, element_of, member_of}
+use Rattle.smithy_schema.specs.Value.{ScalarValue, Value, scalar_value, list, structure, null_element, Values, no_values, value, MemberValues, no_member_values, member_value}
+use Rattle.smithy_schema.specs.Fits.{FitsOr, ElementsFit, MembersFit}
+use Rattle.smithy_schema.specs.Lemmas.Kinds.{list_kind, structure_kind}
+use Rattle.smithy_schema.proofs.ScalarLemmas.{scalar_kind}
+use Rattle.smithy_schema.proofs.SiteLemmas.{site_at, element_site_at, member_site_at, element_fit, member_fit}
+use Rattle.smithy_wire.specs.Node.{as_array, as_object}
+use Rattle.smithy_wire.specs.Written.{Leaves, scalar_node, child_place, element_nodes, member_nodes}
+use Rattle.smithy_wire.specs.Writes.{Writes, bytes_of, nodes_bytes, body_of}
+use Rattle.smithy_wire.proofs.WrittenMeaning.{member_place, member_name}
+
+-- what a wire defines: the bytes of a value at a site, and of its children from the first or another on
+pub record Canonical : Type 0 where
+  pub body : Site → Value → List ℕ
+  pub elements : Bool → Site → Values → List ℕ
+  pub members : Bool → Site → MemberValues → List ℕ
+  -- before the value of a member, the first or another
+  pub key : Bool → View → List ℕ
+
+-- which are those that it writes
+pub record IsWritten {L : Type 0} (w : Writes L) (l : Leaves L) (name_of : Member → List ℕ) (c : Canonical) : Type 0 where
+  pub scalar_is : (s : Scalar) (site : Site) (x : ScalarValue) → c.body site (scalar_value x) ≡ w.leaf_bytes (l.leaf_of s site.place.time x)
+  pub null_is : (site : Site) → c.body site null_element ≡ w.null_bytes
+  pub list_is : (site : Site) (vs : Values) → c.body site (list vs) ≡ w.opening as_array ++ (c.elements true (element_of site) vs ++ w.ending as_array)
+  pub no_element_is : (is_first : Bool) (site : Site) → c.elements is_first site no_values ≡ []
+  pub element_is : (is_first : Bool) (site : Site) (v : Value) (vs : Values)
+      → c.elements is_first site (value v vs) ≡ w.entry_bytes as_array is_first None ++ (c.body site v ++ c.elements false site vs)
+  pub structure_is : (site : Site) (ms : MemberValues) → c.body site (structure ms) ≡ w.opening as_object ++ (c.members true site ms ++ w.ending as_object)
+  pub no_member_is : (is_first : Bool) (site : Site) → c.members is_first site no_member_values ≡ []
+  pub member_is : (is_first : Bool) (site : Site) (n : ℕ) (v : Value) (ms : MemberValues)
+      → c.members is_first site (member_value n v ms) ≡ c.key is_first (member_of site n).view ++ (c.body (member_of site n) v ++ c.members false site ms)
+  pub key_is : (is_first : Bool) (n : ℕ) (m : Member) → c.key is_first (member_view n m) ≡ w.entry_bytes as_object is_first (Some (l.key_of (name_of m)))
+
+-- an entry, those behind it, and the end of their container
+entry_is : (entries key key' child child' more end rest : List ℕ) → entries ≡ key ++ (child ++ more) → key ≡ key' → child ≡ child' → more ++ end ≡ rest
+    → entries ++ end ≡ key' ++ (child' ++ rest)
+entry_is entries key key' child child' more end rest is same_key same_child same_rest =
+    rw (is, same_key, same_child, ← same_rest) (simp append_assoc)
+
+module _ {L : Type 0} (w : Writes L) (l : Leaves L) (name_of : Member → List ℕ) (c : Canonical) (law : IsWritten w l name_of c) (t : Table) where
+  abbrev Same : Site → Place → Value → Type 0
+  Same site p v = c.body site v ≡ body_of w l name_of t p v
+
+  mutual
+    pub same_body : (v : Value) (p : Place) (view : View) (nulls : Bool) → FitsOr t p nulls v → Same (site_at t p view) p v
+    same_body (scalar_value x) p view nulls fits =
+        let s = scalar_kind (kind_of t p) x fits in
+        law.scalar_is s.0 (site_at t p view) x ∙ sym (ap (λ k. bytes_of w (scalar_node l k p.time x)) s.1)
+    same_body null_element p view nulls fits = law.null_is (site_at t p view)
+    same_body (list vs) p view nulls fits =
+        let k = list_kind (kind_of t p) fits.0 in
+        law.list_is (site_at t p view) vs
+        ∙ (ap (λ site. w.opening as_array ++ (c.elements true site vs ++ w.ending as_array)) (element_site_at t p view k.0 k.1)
+        ∙ (ap (λ bytes. w.opening as_array ++ bytes) (elements_same vs true k.0 (nameless (element_view k.0)) (subst (λ k. ElementsFit t k vs) k.1 fits.1))
+        ∙ sym (ap (λ k. w.opening as_array ++ nodes_bytes w as_array true (element_nodes l name_of t (child_place k None p) vs)) k.1)))
+    same_body (structure ms) p view nulls fits =
+        let k = structure_kind (kind_of t p) fits.0 in
+        law.structure_is (site_at t p view) ms
+        ∙ ap (λ bytes. w.opening as_object ++ bytes) (members_same ms true p view k.0 k.1 (subst (λ k. MembersFit t k ms) k.1 fits.1))
+
+    elements_same : (vs : Values) (is_first : Bool) (k : ListShape) (view : View) → ElementsFit t (list_of k) vs
+        → c.elements is_first (site_at t k.place view) vs ++ w.ending as_array ≡ nodes_bytes w as_array is_first (element_nodes l name_of t k.place vs)
+    elements_same no_values is_first k view fits = ap (λ none. none ++ w.ending as_array) (law.no_element_is is_first (site_at t k.place view))
+    elements_same (value v vs) is_first k view fits =
+        entry_is (c.elements is_first (site_at t k.place view) (value v vs)) (w.entry_bytes as_array is_first None) _ _ _ _ (w.ending as_array) _
+        (law.element_is is_first (site_at t k.place view) v vs) refl
+        (same_body v k.place view k.is_sparse (element_fit t k v vs fits)) (elements_same vs false k view fits.1)
+
+    members_same : (ms : MemberValues) (is_first : Bool) (p : Place) (view : View) (members : List Member) → kind_of t p ≡ structure_of members
+        → MembersFit t (structure_of members) ms
+        → c.members is_first (site_at t p view) ms ++ w.ending as_object ≡ nodes_bytes w as_object is_first (member_nodes l name_of t p ms)
+    members_same no_member_values is_first p view members kind fits = ap (λ none. none ++ w.ending as_object) (law.no_member_is is_first (site_at t p view))
+    members_same (member_value n v ms) is_first p view members kind fits =
+        let m = member_fit t members n v ms fits in
+        let site = member_site_at t p view members n m.0 kind m.1 in
+        let place = member_place (kind_of t p) members n m.0 p kind m.1 in
+        let name = member_name name_of (kind_of t p) members n m.0 kind m.1 in
+        entry_is (c.members is_first (site_at t p view) (member_value n v ms)) _ _ _ _ _ (w.ending as_object) _
+        (law.member_is is_first (site_at t p view) n v ms)
+        (ap (λ (s : Site). c.key is_first s.view) site ∙ law.key_is is_first n m.0 ∙ sym (ap (λ key. w.entry_bytes as_object is_first (Some (l.key_of key))) name))
+        (ap (λ s. c.body s v) site ∙ same_body v m.0.place (member_view n m.0) false m.2 ∙ sym (ap (λ q. body_of w l name_of t q v) place))
+        (members_same ms false p view members kind fits.1)

@@ -1,0 +1,64 @@
+-- A body that is written for a value of a place is read back as the value, whichever wire carries it.
+use Rattle.std.specs.Prelude.{◌≡◌, ◌≤◌, ℕ, length, List, Bool, false, Some, None, slice_get}
+use Rattle.std.proofs.Common.{sym, ap, arith, subst}
+use Rattle.smithy_schema.specs.declared.place.Place.{Place}
+use Rattle.smithy_schema.specs.Table.{Table, Member, ListShape, structure_of, list_of, kind_of}
+use Rattle.smithy_schema.specs.Value.{Value, scalar_value, list, structure, null_element, Values, no_values, value, MemberValues, no_member_values, member_value, nesting}
+use Rattle.smithy_schema.specs.Fits.{FitsOr, ElementsFit, MembersFit, Fits}
+use Rattle.smithy_schema.specs.Lemmas.Kinds.{list_kind, structure_kind}
+use Rattle.smithy_schema.proofs.ScalarLemmas.{scalar_kind}
+use Rattle.smithy_schema.proofs.SiteLemmas.{element_fit, member_fit}
+use Rattle.smithy_wire.specs.Node.{as_array, as_object, Node}
+use Rattle.smithy_wire.specs.Rules.{Rules}
+use Rattle.smithy_wire.specs.Frames.{Frames, relations}
+use Rattle.smithy_wire.specs.Written.{Leaves, child_place, name_at, written_node, element_nodes, member_nodes, AreNamed, ReadsLeaves}
+use Rattle.smithy_wire.specs.Writes.{Writes, body_of, IsWritable, AreWritable, WritesFrames, WritesLeaves}
+use Rattle.smithy_wire.proofs.WrittenMeaning.{member_place, member_name, node_means}
+use Rattle.smithy_wire.proofs.WrittenPlaces.{body_lies}
+
+module _ {L : Type 0} (w : Writes L) (l : Leaves L) (leaves : WritesLeaves w l) (name_of : Member → List ℕ) (t : Table) (named : AreNamed name_of t) where
+  abbrev node_at : Place → Value → Node L
+  node_at p v = written_node l name_of t p v
+
+  key_writable : (p : Place) (members : List Member) (n : ℕ) (m : Member) → kind_of t p ≡ structure_of members → slice_get members n ≡ Some m
+      → w.IsKey (l.key_of (name_at name_of (kind_of t p) n))
+  key_writable p members n m kind found =
+      subst (λ key. w.IsKey (l.key_of key)) (sym (member_name name_of (kind_of t p) members n m kind found))
+      (leaves.key_is (name_of m) (named.names_are_texts p n m (rw kind found)))
+
+  mutual
+    -- the node of a value of a place can be written
+    pub value_writable : (v : Value) (p : Place) (nulls : Bool) → FitsOr t p nulls v → IsWritable w (node_at p v)
+    value_writable (scalar_value x) p nulls fits = let s = scalar_kind (kind_of t p) x fits in rw s.1 (leaves.scalar_is s.0 p.time x s.2)
+    value_writable null_element p nulls fits = tt
+    value_writable (list vs) p nulls fits =
+        let c = list_kind (kind_of t p) fits.0 in
+        subst (λ q. AreWritable w as_array (element_nodes l name_of t q vs)) (sym (ap (λ k. child_place k None p) c.1))
+        (elements_writable vs c.0 (subst (λ k. ElementsFit t k vs) c.1 fits.1))
+    value_writable (structure ms) p nulls fits =
+        let s = structure_kind (kind_of t p) fits.0 in
+        members_writable ms p s.0 s.1 (subst (λ k. MembersFit t k ms) s.1 fits.1)
+
+    elements_writable : (vs : Values) (c : ListShape) → ElementsFit t (list_of c) vs → AreWritable w as_array (element_nodes l name_of t c.place vs)
+    elements_writable no_values c fits = tt
+    elements_writable (value v vs) c fits = (tt, value_writable v c.place c.is_sparse (element_fit t c v vs fits), elements_writable vs c fits.1)
+
+    members_writable : (ms : MemberValues) (p : Place) (members : List Member) → kind_of t p ≡ structure_of members → MembersFit t (structure_of members) ms
+        → AreWritable w as_object (member_nodes l name_of t p ms)
+    members_writable no_member_values p members kind fits = tt
+    members_writable (member_value n v ms) p members kind fits =
+        let m = member_fit t members n v ms fits in (
+          key_writable p members n m.0 kind m.1,
+          subst (λ q. IsWritable w (node_at q v)) (sym (member_place (kind_of t p) members n m.0 p kind m.1)) (value_writable v m.0.place false m.2),
+          members_writable ms p members kind fits.1,
+        )
+
+-- a value that fits its place and nests no deeper than may be read stands in the body that is written for it
+pub written_stands : {L : Type 0} (w : Writes L) (frames : Frames L) (l : Leaves L) (r : Rules L) → WritesFrames w frames → WritesLeaves w l → ReadsLeaves l r
+    → (t : Table) (p : Place) (v : Value) → AreNamed r.name_of t → Fits t p v → nesting v ≤ r.max_depth → w.IsBody (body_of w l r.name_of t p v)
+    → (relations frames r).stands (body_of w l r.name_of t p v) t p 0 0 v (length (body_of w l r.name_of t p v))
+written_stands w frames l r law leaves reads t p v named fits deep is_body = (
+  written_node l r.name_of t p v,
+  body_lies w frames law (written_node l r.name_of t p v) (value_writable w l leaves r.name_of t named v p false fits) is_body,
+  node_means l r reads t named p 0 v fits (omega (arith, deep)),
+)
