@@ -3,13 +3,16 @@ pub mod Ascii
 pub mod Tree
 pub mod Grammar
 pub mod Number
+pub mod HeldNumber
 pub mod Unescape
 pub mod Escape
+pub mod ValueTexts
+pub mod DocumentMeaning
+pub mod DocumentText
 pub mod Standing
 -- what contracts see of a type
 pub mod EscapedText
 pub mod Appending
 pub mod Writer
-pub mod ValueTexts
 -- for private clauses
 pub mod Private

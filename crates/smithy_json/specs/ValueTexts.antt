@@ -1,11 +1,16 @@
--- Numbers and instants as values of JSON.
-use Rattle.std.specs.Prelude.{ℕ, List}
+-- Names, numbers and instants as they stand in JSON.
+use Rattle.std.specs.Prelude.{ℕ, List, [], ◌∷◌, ◌++◌}
 use Rattle.std.specs.Fmt.{decimal, signed_decimal}
+use Rattle.smithy_json.specs.Ascii.{name_separator}
 use Rattle.smithy_json.specs.Escape.{quoted}
 use Rattle.smithy_types.specs.declared.number.Number.{Number}
 use Rattle.smithy_types.specs.declared.number.Number.TheVariants.{PosInt, NegInt}
 use Rattle.smithy_instants.specs.declared.format.Format.{Format}
 use Rattle.smithy_instants.specs.declared.format.Format.TheVariants.{DateTime, DateTimeWithOffset, HttpDate, EpochSeconds}
+
+-- what stands before a member's value: its name and a colon
+abbrev pub name_text : List ℕ → List ℕ
+name_text name = quoted name ++ name_separator ∷ []
 
 -- a whole number in decimal
 abbrev pub number_text : Number → List ℕ

@@ -1,13 +1,12 @@
 -- What the writers add to a text, and what they lend.
-use Rattle.std.specs.Prelude.{◌≡◌, ℕ, List, [], ◌∷◌, ◌++◌, length, nat_lt, if◌then◌else◌, codes, Bool, true, false, Result, OnOk, OnErr, String, string_bytes}
+use Rattle.std.specs.Prelude.{◌≡◌, ℕ, List, [], ◌∷◌, length, nat_lt, if◌then◌else◌, Result, OnOk, OnErr, String, string_bytes}
 use Rattle.std.specs.Borrow.{RattleType, RestsIfErr, MutBor, Fml, follows, follows_so, name_if_ok, GName}
 use Rattle.std.specs.declared.alloc.AllocError.{AllocError}
 use Rattle.std.specs.declared.alloc.Global.{Global}
 use Rattle.std.specs.contracts.string.String as text
 use Rattle.std.specs.contracts.alloc.Global as global
 use Rattle.std.specs.contracts.impls.GlobalAllocator.TheImpl.{ghosts}
-use Rattle.smithy_json.specs.Ascii.{value_separator, name_separator}
-use Rattle.smithy_json.specs.Escape.{quoted}
+use Rattle.smithy_json.specs.Ascii.{value_separator}
 use Rattle.smithy_json.specs.declared.writer.JsonValueWriter.{JsonValueWriter}
 use Rattle.smithy_json.specs.declared.writer.JsonArrayWriter.{JsonArrayWriter}
 use Rattle.smithy_json.specs.declared.writer.JsonObjectWriter.{JsonObjectWriter}
@@ -15,19 +14,10 @@ use Rattle.smithy_json.specs.contracts.writer.JsonArrayWriter as array
 use Rattle.smithy_json.specs.contracts.writer.JsonObjectWriter as object
 use mir.Syntax.{named}
 
--- the literal of a truth value
-abbrev pub boolean_text : Bool → List ℕ
-boolean_text true = codes "true"
-boolean_text false = codes "false"
-
 -- what stands before an element or a member: a comma, unless it is the first, which begins at the
 -- start
 abbrev pub separator : ℕ → List ℕ → List ℕ
 separator start text = if nat_lt start (length text) then value_separator ∷ [] else []
-
--- what stands before a member's value
-abbrev pub name_text : List ℕ → List ℕ
-name_text name = quoted name ++ name_separator ∷ []
 
 -- the text that a value is written to, so far
 abbrev pub value_text : JsonValueWriter → List ℕ

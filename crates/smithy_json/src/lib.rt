@@ -2,6 +2,7 @@
 #![tactic(auto)]
 
 mod append_text;
+mod document_writer;
 mod escape;
 mod escape_error;
 pub mod number_text;
@@ -14,6 +15,7 @@ mod unescape;
 mod writer;
 
 pub use append_text::AppendText;
+pub use document_writer::push_document;
 pub use escape::{escape_string, push_escaped};
 pub use escape_error::EscapeError;
 pub use unescape::EscapedStr;

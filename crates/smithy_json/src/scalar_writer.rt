@@ -6,8 +6,8 @@ ghost use Rattle.smithy_json.specs.ValueTexts.{number_text, instant_text};
 ghost use Rattle.smithy_types.specs.WrittenDate.{date_text};
 ghost use Rattle.smithy_instants.specs.declared.written_date.DateTimeFormatError.TheVariants.{OutOfRange};
 
+use crate::document_writer::push_number;
 use crate::writer::JsonValueWriter;
-use itoa::Buffer;
 use smithy_types::{DateTime, DateTimeFormatError, Format, Number};
 use std::alloc::AllocError;
 
@@ -17,11 +17,7 @@ impl<'a> JsonValueWriter<'a> {
         ensures ok { OnOk result (string_bytes self.exit.0.now ≡ value_text self.entry ++ number_text value) }
         ensures err { OnErr result (string_bytes self.exit.0.now ≡ value_text self.entry) }
     {
-        let mut buffer = Buffer::new();
-        match value {
-            Number::PosInt(n) => self.write_raw_value(buffer.format(n)),
-            Number::NegInt(n) => self.write_raw_value(buffer.format(n)),
-        }
+        push_number(self.output, value)
     }
 
     /// Writes an instant: for `EpochSeconds` a number, for the other forms a string.

@@ -5,7 +5,9 @@ ghost use Rattle.std.specs.Borrow.{sem};
 ghost use Rattle.smithy_json.specs.Ascii.{quotation_mark};
 ghost use Rattle.smithy_json.specs.Escape.{escaped, quoted};
 ghost use Rattle.smithy_json.specs.Unescape.{unescape};
-ghost use Rattle.smithy_json.specs.Writer.{boolean_text, separator, name_text, value_text, value_borrow, array_text, array_start, array_borrow, object_text, object_start, object_borrow, RestsWithoutArray, RestsWithoutObject, ValueRestsWithoutArray, ValueRestsWithoutObject, LendsArrayText, LendsObjectText, LendsElement, LendsMember};
+ghost use Rattle.smithy_types.specs.PrimitiveText.{boolean_text};
+ghost use Rattle.smithy_json.specs.ValueTexts.{name_text};
+ghost use Rattle.smithy_json.specs.Writer.{separator, value_text, value_borrow, array_text, array_start, array_borrow, object_text, object_start, object_borrow, RestsWithoutArray, RestsWithoutObject, ValueRestsWithoutArray, ValueRestsWithoutObject, LendsArrayText, LendsObjectText, LendsElement, LendsMember};
 ghost use Rattle.smithy_json.specs.Private.Place.{text_borrow, writer_of};
 
 use crate::escape::push_escaped;
@@ -14,7 +16,7 @@ use std::alloc::{AllocError, Global};
 /// A place for one value.
 #[derive(Drop)]
 pub struct JsonValueWriter<'a> {
-    output: &'a mut String,
+    pub(crate) output: &'a mut String,
 }
 
 impl<'a> JsonValueWriter<'a> {

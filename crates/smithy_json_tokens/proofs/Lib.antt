@@ -9,3 +9,6 @@ pub mod TurnLemmas
 pub mod DecimalLemmas
 pub mod SkipLemmas
 pub mod SkipLaws
+pub mod SurelyGiven
+pub mod DocumentLaws
+pub mod FrameLemmas

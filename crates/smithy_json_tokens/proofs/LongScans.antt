@@ -9,7 +9,7 @@ use Rattle.smithy_json.specs.Standing.{IsLongAt}
 use Rattle.smithy_json.proofs.SliceLemmas.{drop-slice}
 use Rattle.smithy_types.specs.declared.number.Number.{Number}
 use Rattle.smithy_types.specs.declared.number.Number.TheVariants.{PosInt, NegInt}
-use Rattle.smithy_json_tokens.specs.Number.{can_be_held, begins_with_minus, held_as, number_of}
+use Rattle.smithy_json.specs.HeldNumber.{can_be_held, begins_with_minus, held_as, number_of}
 use Rattle.smithy_json_tokens.specs.Tokens.{value_number, value_uncarried, number_token}
 use Rattle.smithy_json_tokens.specs.TokenRules.{scanned, scan_value, scan_number}
 use Rattle.smithy_json_tokens.specs.Private.Scans.{BeginsNumber}

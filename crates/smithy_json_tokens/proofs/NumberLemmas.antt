@@ -9,7 +9,7 @@ use Rattle.std.specs.Str.Parse.{AllDigits, IsNumeral, digits_value, signed_digit
 use Rattle.smithy_json.specs.Ascii.{minus_sign}
 use Rattle.smithy_json.specs.Number.{natural_number}
 use Rattle.smithy_types.specs.declared.number.Number.TheVariants.{PosInt, NegInt}
-use Rattle.smithy_json_tokens.specs.Number.{can_be_held, number_of}
+use Rattle.smithy_json.specs.HeldNumber.{can_be_held, number_of}
 
 -- ---- digits
 

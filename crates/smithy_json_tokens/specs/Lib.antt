@@ -1,5 +1,4 @@
 -- to be believed, in this order
-pub mod Number
 pub mod Tokens
 pub mod TokenRules
 pub mod TokenRuns
@@ -7,7 +6,9 @@ pub mod TokenRuns
 pub mod TokenView
 pub mod IteratorView
 pub mod Faults
+pub mod TokenSteps
 pub mod Skipping
+pub mod DocumentSteps
 pub mod Expecting
 pub mod ExpectingTexts
 -- for private clauses

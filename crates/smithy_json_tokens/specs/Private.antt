@@ -1,3 +1,4 @@
 pub mod Scans
 pub mod Turns
 pub mod Texts
+pub mod Frames

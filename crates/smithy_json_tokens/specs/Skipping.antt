@@ -1,7 +1,8 @@
 -- Passing tokens up to the end of a value or of a container.
-use Rattle.std.specs.Prelude.{◌≡◌, ℕ, zero, suc, List, [], ◌∷◌, ◌==◌, Option, Some, None, Result, Ok, Err, if◌then◌else◌}
+use Rattle.std.specs.Prelude.{◌≡◌, ℕ, zero, suc, List, ◌==◌, Option, Some, None, Result, Ok, Err, if◌then◌else◌}
 use Rattle.smithy_json_tokens.specs.Tokens.{JsonToken, start_array, end_array, start_object, end_object, object_key}
 use Rattle.smithy_json_tokens.specs.Faults.{IsCustomAt}
+use Rattle.smithy_json_tokens.specs.TokenSteps.{Takes}
 use Rattle.smithy_json_tokens.specs.declared.skip.Skip.{Skip}
 use Rattle.smithy_json_tokens.specs.declared.skip.Skip.TheVariants.{On, Done, Wrong}
 use Rattle.smithy_json_tokens.specs.declared.error.DeserializeError.{DeserializeError}
@@ -49,8 +50,6 @@ module _ {T S : Type 0} (view : T → JsonToken) (place : T → ℕ) (steps : S 
 
   -- from s, where n containers are open, these tokens are passed, and then an item stops it, with t left
   abbrev pub Skips : ℕ → List T → ℕ → S → Result (Unit {0}) DeserializeError → S → Type 0
-  Skips limit [] n s result t =
-      (item : Option (Result T DeserializeError)) × steps s item t × SkipStops limit n item result
-  Skips limit (token ∷ passed) n s result t =
-      (more : ℕ) × (skip_token limit n (view token) ≡ On more)
-      × ((j : S) × steps s (Some (Ok token)) j × Skips limit passed more j result t)
+  Skips limit passed n s result t =
+      Takes steps (λ k token more. skip_token limit k (view token) ≡ On more) (SkipStops limit) passed n
+      s result t

@@ -2,7 +2,7 @@
 use Rattle.std.specs.Prelude.{ℕ, List, [], ◌∷◌, ◌++◌, Bool}
 use Rattle.std.specs.Option.{option_map_or}
 use Rattle.smithy_json.specs.Tree.{Json, null, boolean, number, string, array, object, Elements, no_elements, element, Members, no_members, member}
-use Rattle.smithy_json_tokens.specs.Number.{number_of}
+use Rattle.smithy_json.specs.HeldNumber.{number_of}
 use Rattle.smithy_types.specs.declared.number.Number.{Number}
 
 pub data JsonToken : Type 0 where

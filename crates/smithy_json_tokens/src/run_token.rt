@@ -5,7 +5,7 @@ ghost use Rattle.std.specs.Char.{IsAsciiDigit};
 ghost use Rattle.smithy_json.specs.Ascii.{minus_sign};
 ghost use Rattle.smithy_types.specs.declared.number.Number.TheVariants.{NegInt, PosInt};
 ghost use Rattle.smithy_json_tokens.specs.Tokens.{value_number};
-ghost use Rattle.smithy_json_tokens.specs.Number.{number_of};
+ghost use Rattle.smithy_json.specs.HeldNumber.{number_of};
 ghost use Rattle.smithy_json_tokens.specs.TokenRules.{run_token};
 ghost use Rattle.smithy_json_tokens.specs.TokenView.{token_view, token_offset};
 ghost use Rattle.smithy_json_tokens.specs.Private.Scans.{BeginsNumber};

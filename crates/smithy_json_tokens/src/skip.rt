@@ -1,28 +1,28 @@
 //! Passing tokens.
 
-ghost use Rattle.std.specs.Prelude.{◌≡◌, ◌≤◌, ◌<◌, ℕ, suc, ◌==◌, List, Some, IfErr, if◌then◌else◌};
+ghost use Rattle.std.specs.Prelude.{◌≡◌, ◌≤◌, suc, ◌==◌, List, if◌then◌else◌};
 ghost use Rattle.std.specs.Iterator.{IsFinite};
-ghost use Rattle.smithy_json_tokens.specs.Tokens.{JsonToken};
-ghost use Rattle.smithy_json_tokens.specs.TokenView.{token_view, token_offset};
+ghost use Rattle.smithy_json_tokens.specs.TokenView.{token_view};
 ghost use Rattle.smithy_json_tokens.specs.Skipping.{skip_token, skip_end, skip_scalar, skip_key, Skips};
 ghost use Rattle.smithy_json_tokens.specs.Faults.{IsCustomKind};
 ghost use Rattle.smithy_json_tokens.specs.declared.skip.Skip.TheVariants.{On, Wrong};
 
 use crate::error::{DeserializeError, DeserializeErrorKind};
+use crate::is_token::IsToken;
 use crate::token::Token;
 use std::borrow::CowStr;
 
 /// How many containers that began in a call may be open.
 const MAX_SKIP_DEPTH: usize = 512;
 
-/// What a token is for a value that is passed.
+// What a token is for a value that is passed.
 #[derive(Clone, Copy)]
-pub enum Skip {
-    /// It goes on, with so many containers open.
+enum Skip {
+    // It goes on, with so many containers open.
     On(usize),
-    /// It ends.
+    // It ends.
     Done,
-    /// It can't go on so.
+    // It can't go on so.
     Wrong,
 }
 
@@ -67,54 +67,31 @@ fn skip_key(depth: usize) -> Skip
     }
 }
 
-/// A token, for the calls that pass tokens.
-pub trait IsToken: Copy + Drop {
-    /// The token without its offset.
-    ghost view: { Self → JsonToken };
-
-    /// Its offset.
-    ghost place: { Self → ℕ };
-
-    /// What it is for a value that is passed, where so many containers are open and may be.
-    fn skip(self, limit: usize, depth: usize) -> Skip
-        requires { depth ≤ limit }
-        ensures { result ≡ skip_token limit depth (view self) };
-
-    fn place(self) -> usize
-        ensures { result ≡ place self };
-}
-
-impl<'a> IsToken for Token<'a> {
-    ghost view = { λ t. token_view t };
-
-    ghost place = { λ t. token_offset t };
-
-    fn skip(self, limit: usize, depth: usize) -> Skip {
-        match self {
-            Token::StartArray { offset: _ } => skip_start(limit, depth),
-            Token::StartObject { offset: _ } => skip_start(limit, depth),
-            Token::EndArray { offset: _ } => skip_end(depth),
-            Token::EndObject { offset: _ } => skip_end(depth),
-            Token::ValueNull { offset: _ } => skip_scalar(depth),
-            Token::ObjectKey { offset: _, key: _ } => skip_key(depth),
-            Token::ValueBool {
-                offset: _,
-                value: _,
-            } => skip_scalar(depth),
-            Token::ValueNumber {
-                offset: _,
-                value: _,
-            } => skip_scalar(depth),
-            Token::ValueString {
-                offset: _,
-                value: _,
-            } => skip_scalar(depth),
-            Token::ValueUncarried { offset: _, text: _ } => skip_scalar(depth),
-        }
-    }
-
-    fn place(self) -> usize {
-        self.offset().0
+// What a token is for a value that is passed, where so many containers are open and may be.
+fn skip_token<'a>(token: Token<'a>, limit: usize, depth: usize) -> Skip
+    requires { depth ≤ limit }
+    ensures { result ≡ skip_token limit depth (token_view token.entry) }
+{
+    match token {
+        Token::StartArray { offset: _ } => skip_start(limit, depth),
+        Token::StartObject { offset: _ } => skip_start(limit, depth),
+        Token::EndArray { offset: _ } => skip_end(depth),
+        Token::EndObject { offset: _ } => skip_end(depth),
+        Token::ValueNull { offset: _ } => skip_scalar(depth),
+        Token::ObjectKey { offset: _, key: _ } => skip_key(depth),
+        Token::ValueBool {
+            offset: _,
+            value: _,
+        } => skip_scalar(depth),
+        Token::ValueNumber {
+            offset: _,
+            value: _,
+        } => skip_scalar(depth),
+        Token::ValueString {
+            offset: _,
+            value: _,
+        } => skip_scalar(depth),
+        Token::ValueUncarried { offset: _, text: _ } => skip_scalar(depth),
     }
 }
 
@@ -144,10 +121,10 @@ fn skip_from<T: IsToken, I: Iterator<Item = Result<T, DeserializeError>>>(
             Ok(token) => token,
             Err(error) => return Err(error),
         };
-        match token.skip(limit, depth) {
+        match skip_token(token.as_token(), limit, depth) {
             Skip::On(more) => depth = more,
             Skip::Done => return Ok(()),
-            Skip::Wrong => return Err(wrong(Some(token.place()))),
+            Skip::Wrong => return Err(wrong(Some(token.as_token().offset().0))),
         }
     }
     Err(wrong(None))

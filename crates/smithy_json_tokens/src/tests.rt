@@ -1,5 +1,6 @@
 mod bad_input;
 mod calls;
+mod documents;
 mod items;
 
 use crate::{DeserializeErrorKind, Token};

@@ -5,7 +5,9 @@ ghost use Rattle.smithy_json.specs.Grammar.{IsJsonText};
 ghost use Rattle.smithy_json.specs.Tree.{Json};
 ghost use Rattle.smithy_json_tokens.specs.Tokens.{tokens};
 ghost use Rattle.smithy_json_tokens.specs.TokenRuns.{start, GivesOnly};
-ghost use Rattle.smithy_json_tokens.specs.IteratorView.{input_of, cursor_of};
+ghost use Rattle.smithy_json_tokens.specs.TokenSteps.{SurelyGives};
+ghost use Rattle.smithy_json_tokens.specs.TokenView.{token_view};
+ghost use Rattle.smithy_json_tokens.specs.IteratorView.{input_of, cursor_of, GivesNext};
 
 use crate::token_iter::JsonTokenIterator;
 use std::alloc::{AllocError, Global};
@@ -19,6 +21,8 @@ pub fn json_token_iter<'a>(
     ensures cursor { IfOk result (λ it. cursor_of it ≡ start input.now) }
     // A text of a tree gives the tree's tokens and then None.
     ensures tokens { IfOk result (λ it. (tree : Json) → IsJsonText tree input.now → GivesOnly (cursor_of it) (tokens tree)) }
+    // So whatever its calls answer, they give these tokens in turn, or the want of memory.
+    ensures gives { IfOk result (λ it. (tree : Json) → IsJsonText tree input.now → SurelyGives token_view GivesNext (tokens tree) it) }
 {
     Ok(JsonTokenIterator::new(alloc, input))
 }

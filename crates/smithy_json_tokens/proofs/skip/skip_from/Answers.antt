@@ -1,4 +1,5 @@
-use Rattle.std.proofs.Common.{sym, subst, [], ◌∷◌, Some, None, Ok, Err, refl}
+use Rattle.std.proofs.Common.{sym, subst, ap, ◌∙◌, [], ◌∷◌, Some, None, Ok, Err, refl}
+use Rattle.smithy_json_tokens.specs.Skipping.{skip_token}
 use Rattle.smithy_json_tokens.proofs.SkipLemmas.{stays_within, ends_done, ends_wrong}
 use Rattle.smithy_json_tokens.proofs.skip.skip_from.Goals as goal
 
@@ -11,23 +12,27 @@ pub loop-item-preserved : goal.loop-item-preserved
 loop-item-preserved g c =
     let inv = c.loop-item.invariant in
     let step = subst (λ item. g.I.Iterator.next_gives c.loop-item.tokens (Some item) c.next.new.self) c.in-Ok.is c.in-Some.ensures.steps in
-    let further = c.in-Some.ensures.goes.on inv.1 in (
+    let further = c.in-Some.ensures.goes.on inv.1 in
+    let more = c.in-On.ensures ∙ ap (skip_token c.args.limit c.loop-item.depth) c.as_token.ensures.view in (
       further.0,
       further.1,
-      stays_within c.args.limit (g.T.IsToken.view c.in-Ok.token) c.loop-item.depth c.in-On.more inv.2 c.in-On.ensures,
-      λ passed result t h. inv.3 (c.in-Ok.token ∷ passed) result t (c.in-On.more, sym c.in-On.ensures, (c.next.new.self, step, h)),
+      stays_within c.args.limit (g.T.IsToken.view c.in-Ok.token) c.loop-item.depth c.in-On.more inv.2 more,
+      λ passed result t h. inv.3 (c.in-Ok.token ∷ passed) result t (c.in-On.more, sym more, (c.next.new.self, step, h)),
     )
 
 pub returns-in-Done : goal.returns-in-Done
 returns-in-Done g c =
     let step = subst (λ item. g.I.Iterator.next_gives c.loop-item.tokens (Some item) c.next.new.self) c.in-Ok.is c.in-Some.ensures.steps in
-    c.loop-item.invariant.3 [] (Ok tt) c.next.new.self (Some (Ok c.in-Ok.token), step, ends_done _ (g.T.IsToken.place c.in-Ok.token) c.in-Done.ensures)
+    let done = c.in-Done.ensures ∙ ap (skip_token c.args.limit c.loop-item.depth) c.as_token.ensures.view in
+    c.loop-item.invariant.3 [] (Ok tt) c.next.new.self (Some (Ok c.in-Ok.token), step, ends_done _ (g.T.IsToken.place c.in-Ok.token) done)
 
 pub returns-in-Wrong : goal.returns-in-Wrong
 returns-in-Wrong g c =
     let step = subst (λ item. g.I.Iterator.next_gives c.loop-item.tokens (Some item) c.next.new.self) c.in-Ok.is c.in-Some.ensures.steps in
+    let wrong = c.in-Wrong.ensures ∙ ap (skip_token c.args.limit c.loop-item.depth) c.as_token.ensures.view in
+    let place = c.offset.ensures ∙ c.as_token-in-Wrong.ensures.place in
     c.loop-item.invariant.3 [] (Err c.wrong.result) c.next.new.self
-    (Some (Ok c.in-Ok.token), step, ends_wrong _ (g.T.IsToken.place c.in-Ok.token) c.place.result c.wrong.result c.in-Wrong.ensures c.place.ensures c.wrong.ensures.offset c.wrong.ensures.kind)
+    (Some (Ok c.in-Ok.token), step, ends_wrong _ (g.T.IsToken.place c.in-Ok.token) c.offset.result.0 c.wrong.result wrong place c.wrong.ensures.offset c.wrong.ensures.kind)
 
 pub returns : goal.returns
 returns g c =

@@ -23,7 +23,8 @@ use denote.Triple.Walked.{Stays, stay_dropped, Goes-dropped, Goes-spent_ref, end
 use Rattle.std.specs.declared.alloc.AllocError.{AllocError}
 use Rattle.std.proofs.raw_atomic.Walks.{proved}
 use Rattle.smithy_json.specs.declared.writer.JsonValueWriter.{JsonValueWriter}
-use Rattle.smithy_json.specs.Writer.{separator, name_text, object_text, object_start, value_borrow, value_text, LendsMember}
+use Rattle.smithy_json.specs.ValueTexts.{name_text}
+use Rattle.smithy_json.specs.Writer.{separator, object_text, object_start, value_borrow, value_text, LendsMember}
 use Rattle.smithy_json.specs.Private.Place.{text_borrow, writer_of}
 use Rattle.smithy_json.specs.contracts.writer.JsonObjectWriter as object
 use Rattle.smithy_json.specs.contracts.writer.JsonObjectWriter.key as f

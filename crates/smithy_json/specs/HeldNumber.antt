@@ -1,4 +1,4 @@
--- The whole numbers that a token holds.
+-- The whole numbers of 64 bits, with or without a sign, that the text of a number writes.
 use Rattle.std.specs.Prelude.{ℕ, ◌^◌, List, [], ◌∷◌, Bool, false, ◌&&◌, ◌==◌, ℤ, pos, neg_ℤ, int_le, int_lt, unsigned_abs, Option, Some, None, option_and_then, if◌then◌else◌}
 use Rattle.smithy_json.specs.Ascii.{minus_sign}
 use Rattle.smithy_json.specs.Number.{whole_number}
