@@ -59,7 +59,7 @@ module _ (task : Task) (old new : Outside) (text input : List ℕ) (table : Tabl
       let found = says.2.2 in
       let read = found.2 in
       absurd (not_nothing (says.0, says.1, (says.2.0, says.2.1, (found.0, found.1, (read.0, read.1, read.2.0)))))
-  complete_of TableRefused says =
+  complete_of (TableRefused fault) says =
       let after = says.1 in let same = accepted_there after.0 after.1 in let told = after.2.2 in absurd (cc (same, told))
   complete_of NoSuchShape says =
       let after = says.1 in
@@ -85,7 +85,7 @@ fault_of_missing task old new gone WriteFailed says = absurd (says.1.there gone)
 fault_of_missing task old new gone OutOfMemory says = inr refl
 fault_of_missing task old new gone InvalidInput says = absurd (says.1.there gone)
 fault_of_missing task old new gone TooDeep says = absurd (says.1.there gone)
-fault_of_missing task old new gone TableRefused says = absurd (says.1.1.there gone)
+fault_of_missing task old new gone (TableRefused fault) says = absurd (says.1.1.there gone)
 fault_of_missing task old new gone NoSuchShape says = absurd (says.1.1.there gone)
 fault_of_missing task old new gone NotAStructure says = absurd (says.1.1.there gone)
 fault_of_missing task old new gone TooLong (inl first) = absurd (first.1.0 gone)

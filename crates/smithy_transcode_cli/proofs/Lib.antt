@@ -1,4 +1,5 @@
 pub mod Moved
+pub mod Written
 pub mod Faults
 pub mod Refusals
 pub mod Complete

@@ -20,7 +20,7 @@ table_of_declarations text decls e = rw (e, table_of) refl
 -- a line that is of no form
 pub line_fails : (old new : Told) (text : List ℕ) (fault : TableFault) → IsLoaded text old → IsLineFault (declarations_of text) fault
     → FailsToLoad old new (status_of_table_fault fault)
-line_fails old new text (BadLine n) loaded e = (text, loaded, bad_line, n, table_of_bad_line text n e, λ same. cc)
+line_fails old new text (BadLine n) loaded e = (text, loaded, (bad_line, n, table_of_bad_line text n e, refl))
 line_fails old new text (NotBuilt n) loaded e = absurd e
 line_fails old new text (FloatShape n) loaded e = absurd e
 line_fails old new text (UnknownTarget n) loaded e = absurd e
@@ -35,14 +35,14 @@ line_fails old new text NoMemory loaded e = tt
 -- declarations that are no table
 pub build_fails : (old new : Told) (text : List ℕ) (decls : List Decl) (fault : TableFault) → IsLoaded text old
     → declarations_of text ≡ declarations decls → IsRefusedBy (build_of decls) fault → FailsToLoad old new (status_of_table_fault fault)
-build_fails old new text decls (BadLine n) loaded e r = (text, loaded, _, n, table_of_declarations text decls e ∙ r, λ same. cc)
+build_fails old new text decls (BadLine n) loaded e r = (text, loaded, (_, n, table_of_declarations text decls e ∙ r, refl))
 build_fails old new text decls (NotBuilt n) loaded e r = (text, loaded, n, table_of_declarations text decls e ∙ r)
-build_fails old new text decls (FloatShape n) loaded e r = (text, loaded, _, n, table_of_declarations text decls e ∙ r, λ same. cc)
-build_fails old new text decls (UnknownTarget n) loaded e r = (text, loaded, _, n, table_of_declarations text decls e ∙ r, λ same. cc)
-build_fails old new text decls (UnknownTimeFormat n) loaded e r = (text, loaded, _, n, table_of_declarations text decls e ∙ r, λ same. cc)
-build_fails old new text decls (DuplicateShape n) loaded e r = (text, loaded, _, n, table_of_declarations text decls e ∙ r, λ same. cc)
-build_fails old new text decls (NameClash n) loaded e r = (text, loaded, _, n, table_of_declarations text decls e ∙ r, λ same. cc)
-build_fails old new text decls (QueryName n) loaded e r = (text, loaded, _, n, table_of_declarations text decls e ∙ r, λ same. cc)
-build_fails old new text decls (KeyValueName n) loaded e r = (text, loaded, _, n, table_of_declarations text decls e ∙ r, λ same. cc)
-build_fails old new text decls (TooMany n) loaded e r = (text, loaded, _, n, table_of_declarations text decls e ∙ r, λ same. cc)
+build_fails old new text decls (FloatShape n) loaded e r = (text, loaded, (_, n, table_of_declarations text decls e ∙ r, refl))
+build_fails old new text decls (UnknownTarget n) loaded e r = (text, loaded, (_, n, table_of_declarations text decls e ∙ r, refl))
+build_fails old new text decls (UnknownTimeFormat n) loaded e r = (text, loaded, (_, n, table_of_declarations text decls e ∙ r, refl))
+build_fails old new text decls (DuplicateShape n) loaded e r = (text, loaded, (_, n, table_of_declarations text decls e ∙ r, refl))
+build_fails old new text decls (NameClash n) loaded e r = (text, loaded, (_, n, table_of_declarations text decls e ∙ r, refl))
+build_fails old new text decls (QueryName n) loaded e r = (text, loaded, (_, n, table_of_declarations text decls e ∙ r, refl))
+build_fails old new text decls (KeyValueName n) loaded e r = (text, loaded, (_, n, table_of_declarations text decls e ∙ r, refl))
+build_fails old new text decls (TooMany n) loaded e r = (text, loaded, (_, n, table_of_declarations text decls e ∙ r, refl))
 build_fails old new text decls NoMemory loaded e r = tt

@@ -3,6 +3,7 @@ pub mod Command
 pub mod Task
 pub mod Status
 pub mod Outside
+pub mod ErrorLine
 pub mod RunAnswer
 -- what the types of the program stand for
 pub mod Words

@@ -22,13 +22,24 @@ pub record Outside : Type 0 where
   pub input : Told
   pub out : Told
   pub err : Told
-  -- the sink `out` may hold back some of what it took
+  -- the sink may hold back some of what it took
   pub out_holds_back : Bool
+  pub err_holds_back : Bool
 
 -- the outside, by its objects
-abbrev pub outside : (List ℕ → Told) → (input out err : Told) → Bool → Outside
-outside files input out err out_holds_back =
-    record { files = files; input = input; out = out; err = err; out_holds_back = out_holds_back }
+abbrev pub outside : (List ℕ → Told) → (input out err : Told) → (out_holds_back err_holds_back : Bool) → Outside
+outside files input out err out_holds_back err_holds_back = record {
+  files = files;
+  input = input;
+  out = out;
+  err = err;
+  out_holds_back = out_holds_back;
+  err_holds_back = err_holds_back;
+}
+
+-- each object but standard error tells, counts and holds back what it did before
+abbrev pub OnlyErrMoved : Outside → Outside → Type 0
+OnlyErrMoved old new = new ≡ record old { err = new.err; err_holds_back = new.err_holds_back }
 
 -- a count that reached it stays there
 abbrev pub last_count : ℕ
@@ -103,3 +114,8 @@ Begins front bytes = (rest : List ℕ) × (bytes ≡ front ++ rest)
 -- a sink took a prefix of these bytes
 abbrev pub TookPrefix : List ℕ → Told → Told → Type 0
 TookPrefix bytes old new = (front : List ℕ) × Begins front bytes × Took front old new
+
+-- bytes were written to a sink: it took all of them, or a prefix, and met one fault, which ended it
+abbrev pub IsWritten : {T E : Type 0} → List ℕ → Result T E → Told → Told → Type 0
+IsWritten bytes (Ok x) old new = MetNoFault old new × Took bytes old new
+IsWritten bytes (Err e) old new = MetOneFault old new × TookPrefix bytes old new

@@ -2,6 +2,7 @@
 use Rattle.std.specs.Prelude.{◌≡◌, ◌≢◌, ◌⊎◌, ◌↔◌, ◌≤◌, ◌+◌, ℕ, List, length, Some, None, false}
 use Rattle.smithy_schema.specs.Table.{Table, IsStructure, kind_of, shape_place, declared_as}
 use Rattle.smithy_schema.specs.Acceptance.{Fault, not_built, TableAnswer, accepted, refused, table_of}
+use Rattle.smithy_schema.specs.declared.fault.TableFault.{TableFault}
 use Rattle.smithy_schema.specs.Value.{Value}
 use Rattle.smithy_transcode.specs.Spelling.{Spells, body}
 use Rattle.smithy_transcode.specs.Causes.{openers}
@@ -11,7 +12,8 @@ use Rattle.smithy_transcode_cli.specs.declared.status.Status.TheVariants.{Done, 
 use Rattle.smithy_transcode_cli.specs.Command.{Transcode, command_of}
 use Rattle.smithy_transcode_cli.specs.Task.{Task, task_of, task_asked}
 use Rattle.smithy_transcode_cli.specs.Status.{status_code}
-use Rattle.smithy_transcode_cli.specs.Outside.{Told, Outside, missing, HasFailed, MetOneFault, MetNoFault, Tells, IsWhole, IsLonger, Gave, GavePast, IsAtEnd, Took, TookPrefix}
+use Rattle.smithy_transcode_cli.specs.ErrorLine.{refusal_of, line_of, TookLine}
+use Rattle.smithy_transcode_cli.specs.Outside.{Told, Outside, OnlyErrMoved, missing, HasFailed, MetOneFault, MetNoFault, Tells, IsWhole, IsLonger, Gave, GavePast, IsAtEnd, Took, TookPrefix}
 
 -- in bytes
 abbrev pub longest_table : ℕ
@@ -79,6 +81,10 @@ AfterTranscoding task old new P =
 abbrev pub BeforeInput : Sources → Sources → Type 0 → Type 0
 BeforeInput old new P = (new.input ≡ old.input) × P
 
+-- the answer is the fault with its number
+abbrev pub IsRefusal : TableFault → TableAnswer → Type 0
+IsRefusal fault answer = (f : Fault) × (n : ℕ) × (answer ≡ refused f n) × (refusal_of fault ≡ Some (f, n))
+
 -- why nothing was written
 abbrev pub Refuses : Task → Sources → Sources → Status → Type 0
 Refuses task old new Done = ⊥
@@ -92,9 +98,7 @@ Refuses task old new InvalidInput = AfterInput task old new (SpellNothing task.f
 Refuses task old new TooDeep =
     AfterInput task old new
     (λ table root input. SpellNothing task.from table root input × (128 ≤ openers task.from input))
-Refuses task old new TableRefused =
-    BeforeInput old new (AfterLoad old
-    (λ answer. (fault : Fault) × (n : ℕ) × (answer ≡ refused fault n) × (fault ≢ not_built)))
+Refuses task old new (TableRefused fault) = BeforeInput old new (AfterLoad old (IsRefusal fault))
 Refuses task old new NoSuchShape =
     BeforeInput old new (AfterTable old (λ table. declared_as table task.root_name ≡ None))
 Refuses task old new NotAStructure =
@@ -145,21 +149,28 @@ pub record TaskAnswer (task : Task) (old new : Outside) (status : Status) : Type
   pub complete : (text input : List ℕ) (table : Table) (root : ℕ) (v : Value)
       → IsInOrder task old new text input table root v → (status ≡ Done) ⊎ (status ≡ OutOfMemory)
 
--- What the number says that `run` answers: it is that of a status.
-pub record RunAnswer (words : List (List ℕ)) (old new : Outside) (code : ℕ) : Type 0 where
-  pub status : Status
-  pub has_code : code ≡ status_code status
+-- What a status says of the files, the input and the output.
+pub record StatusAnswer (words : List (List ℕ)) (old new : Outside) (status : Status) : Type 0 where
   pub is_usage : (status ≡ Usage) ↔ (command_of words ≡ None)
   pub is_not_built : (c : Transcode) → command_of words ≡ Some c → task_of c ≡ None → status ≡ NotBuilt
   pub answers : (c : Transcode) (task : Task) → command_of words ≡ Some c → task_of c ≡ Some task
       → TaskAnswer task old new status
-  -- where the words ask for no task, each object tells and counts what it did before
-  pub only_for_a_task : task_asked words ≡ None → new ≡ old
+  -- words that ask for no task move nothing but standard error
+  pub only_for_a_task : task_asked words ≡ None → OnlyErrMoved old new
   pub nothing_is_held_back : status ≡ Done → new.out_holds_back ≡ false
   -- a fault that shows in the count of the output ends the run with 7
   pub out_met_no_fault : status ≢ WriteFailed → MetNoFault old.out new.out
-  -- what the output and standard error tell and count stays
+  -- what the output tells and counts stays
   pub out_is_untouched : status ≢ Done → status ≢ WriteFailed
       → (new.out ≡ old.out) × (new.out_holds_back ≡ old.out_holds_back)
-  pub err_is_untouched : new.err ≡ old.err
   pub files_are_kept : (path : List ℕ) → (new.files path).content ≡ (old.files path).content
+
+-- What the number says that `run` answers: it is that of a status, whatever becomes of standard error.
+pub record RunAnswer (words : List (List ℕ)) (old new : Outside) (code : ℕ) : Type 0 where
+  pub status : Status
+  pub has_code : code ≡ status_code status
+  pub says : StatusAnswer words old new status
+  -- standard error tells, counts and holds back what it did before, or it took the line of the status
+  pub err_is_untouched : status ≡ Done
+      → (new.err ≡ old.err) × (new.err_holds_back ≡ old.err_holds_back)
+  pub err_took_the_line : status ≢ Done → TookLine (line_of status) old.err new.err new.err_holds_back

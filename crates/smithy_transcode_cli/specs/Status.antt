@@ -18,7 +18,7 @@ status_code WriteFailed = 7
 status_code OutOfMemory = 8
 status_code InvalidInput = 10
 status_code TooDeep = 11
-status_code TableRefused = 20
+status_code (TableRefused fault) = 20
 status_code NoSuchShape = 21
 status_code NotAStructure = 22
 status_code TooLong = 23
@@ -32,17 +32,9 @@ status_of_load_fault load_faults.NoMemory = OutOfMemory
 
 -- where a table was refused
 abbrev pub status_of_table_fault : TableFault → Status
-status_of_table_fault (table_faults.BadLine n) = TableRefused
 status_of_table_fault (table_faults.NotBuilt n) = NotBuilt
-status_of_table_fault (table_faults.FloatShape n) = TableRefused
-status_of_table_fault (table_faults.UnknownTarget n) = TableRefused
-status_of_table_fault (table_faults.UnknownTimeFormat n) = TableRefused
-status_of_table_fault (table_faults.DuplicateShape n) = TableRefused
-status_of_table_fault (table_faults.NameClash n) = TableRefused
-status_of_table_fault (table_faults.QueryName n) = TableRefused
-status_of_table_fault (table_faults.KeyValueName n) = TableRefused
-status_of_table_fault (table_faults.TooMany n) = TableRefused
 status_of_table_fault table_faults.NoMemory = OutOfMemory
+status_of_table_fault fault = TableRefused fault
 
 -- where the input was refused
 abbrev pub status_of_error : TranscodeError → Status

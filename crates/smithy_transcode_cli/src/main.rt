@@ -2,7 +2,7 @@
 //!
 //! `transcode TABLE ROOT FROM TO` reads the table from the file TABLE and a body of the shape ROOT from
 //! standard input, in the wire FROM, and writes it to standard output in its one canonical form in the
-//! wire TO. The process ends with the number of the `Status`.
+//! wire TO. The process ends with the number of the `Status`, and says it on standard error unless it is 0.
 #![tactic(auto)]
 
 ghost use Rattle.std.specs.Process.{exit_status};
@@ -12,6 +12,7 @@ mod arguments;
 mod memory;
 mod os;
 mod outside;
+mod report;
 mod run;
 mod status;
 mod streams;
@@ -22,6 +23,7 @@ mod words;
 
 use crate::arguments::read_words;
 use crate::os::{OsFiles, OsSink, OsSource};
+use crate::report::report;
 use crate::run::exit_code;
 use std::env::Env;
 use std::io::{Read, Write};
@@ -38,14 +40,17 @@ fn run_on_system<
 >(arguments: &A, files: F, input: R, out: W, err: E) -> ExitCode
     ensures { EndsAsRun (exit_status result) }
 {
+    let mut err = OsSink::new(err);
     let words = match read_words(arguments) {
         Ok(words) => words,
-        Err(status) => return ExitCode::from(status.code()),
+        Err(status) => {
+            report(&mut err, status);
+            return ExitCode::from(status.code());
+        }
     };
     let mut files = OsFiles::new(files);
     let mut input = OsSource::new(input);
     let mut out = OsSink::new(out);
-    let mut err = OsSink::new(err);
     exit_code(
         arguments.alloc(),
         &words,

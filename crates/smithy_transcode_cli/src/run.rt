@@ -1,5 +1,5 @@
 //! One run of the program.
-ghost use Rattle.std.specs.Prelude.{◌≡◌, ◌≢◌, ◌⊎◌, ◌↔◌, ◌≤◌, ◌+◌, ◌<◌, ℕ, List, Some, None, false, length, map, string_bytes, IfOk, IfErr, OnErr};
+ghost use Rattle.std.specs.Prelude.{◌≡◌, ◌≢◌, ◌⊎◌, ◌↔◌, ◌≤◌, ◌+◌, ◌<◌, ℕ, List, Bool, Some, None, false, length, map, string_bytes, IfOk, IfErr, OnErr};
 ghost use Rattle.std.specs.Process.{exit_status};
 ghost use Rattle.smithy_schema.specs.Table.{Table, IsStructure, kind_of, shape_place, declared_as};
 ghost use Rattle.smithy_schema.specs.Acceptance.{accepted, table_of};
@@ -7,10 +7,11 @@ ghost use Rattle.smithy_transcode_cli.specs.Outside.{Told, MetNoFault, Gave, out
 ghost use Rattle.smithy_transcode_cli.specs.Command.{command_of};
 ghost use Rattle.smithy_transcode_cli.specs.Task.{task_asked};
 ghost use Rattle.smithy_transcode_cli.specs.Words.{task_view};
-ghost use Rattle.smithy_transcode_cli.specs.RunAnswer.{IsLoaded, IsRoot, AfterTranscoding, Refuses, Says, RunAnswer, longest_input};
+ghost use Rattle.smithy_transcode_cli.specs.RunAnswer.{IsLoaded, IsRoot, AfterTranscoding, Refuses, Says, StatusAnswer, RunAnswer, longest_input};
 ghost use Rattle.smithy_transcode_cli.specs.Private.Stages.{FailsToLoad, FailsToFind};
 
 use crate::outside::{Files, Sink, Source};
+use crate::report::report;
 use crate::status::Status;
 use crate::streams::{read_to_end, write_all};
 use crate::task::Task;
@@ -85,9 +86,9 @@ fn perform<F: Files, S: Source, K: Sink>(
     input: &mut S,
     out: &mut K,
 ) -> Status
-    ensures says { (err : Told) → Says (task_view task.now)
-        (outside (F.told files.old) (S.told input.old) (K.told out.old) err (K.holds_back out.old))
-        (outside (F.told files.new) (S.told input.new) (K.told out.new) err (K.holds_back out.new)) result }
+    ensures says { (err err_behind : Told) (err_holds_back err_holds_back_behind : Bool) → Says (task_view task.now)
+        (outside (F.told files.old) (S.told input.old) (K.told out.old) err (K.holds_back out.old) err_holds_back)
+        (outside (F.told files.new) (S.told input.new) (K.told out.new) err_behind (K.holds_back out.new) err_holds_back_behind) result }
     ensures kept { (at : List ℕ) → (F.told files.new at).content ≡ (F.told files.old at).content }
     ensures no_further { (bytes : List ℕ) × Gave bytes (S.told input.old) (S.told input.new) × (length bytes ≤ longest_input + 1) }
     ensures finished { result ≡ Status.Done → K.holds_back out.new ≡ false }
@@ -120,8 +121,27 @@ fn task_asked(words: &[String]) -> Result<Task<'_>, Status>
     Task::of_command(command).ok_or(Status::NotBuilt)
 }
 
+// How a run with these words ends, whatever standard error tells before and behind it.
+fn status_of<F: Files, S: Source, K: Sink>(
+    alloc: Global,
+    words: &[String],
+    files: &mut F,
+    input: &mut S,
+    out: &mut K,
+) -> Status
+    ensures { (err err_behind : Told) (err_holds_back err_holds_back_behind : Bool) → StatusAnswer (map string_bytes words.now)
+        (outside (F.told files.old) (S.told input.old) (K.told out.old) err (K.holds_back out.old) err_holds_back)
+        (outside (F.told files.new) (S.told input.new) (K.told out.new) err_behind (K.holds_back out.new) err_holds_back_behind) result }
+{
+    let task = match task_asked(words) {
+        Ok(task) => task,
+        Err(status) => return status,
+    };
+    perform(alloc, &task, files, input, out)
+}
+
 /// Runs the program with these words, which are its arguments without its own name, and answers the number
-/// that it ends with.
+/// that it ends with. `err` takes the line that says it, unless the number is 0.
 pub fn run<F: Files, S: Source, K: Sink, E: Sink>(
     alloc: Global,
     words: &[String],
@@ -131,14 +151,12 @@ pub fn run<F: Files, S: Source, K: Sink, E: Sink>(
     err: &mut E,
 ) -> u8
     ensures { RunAnswer (map string_bytes words.now)
-        (outside (F.told files.old) (S.told input.old) (K.told out.old) (E.told err.old) (K.holds_back out.old))
-        (outside (F.told files.new) (S.told input.new) (K.told out.new) (E.told err.new) (K.holds_back out.new)) result }
+        (outside (F.told files.old) (S.told input.old) (K.told out.old) (E.told err.old) (K.holds_back out.old) (E.holds_back err.old))
+        (outside (F.told files.new) (S.told input.new) (K.told out.new) (E.told err.new) (K.holds_back out.new) (E.holds_back err.new)) result }
 {
-    let task = match task_asked(words) {
-        Ok(task) => task,
-        Err(status) => return status.code(),
-    };
-    perform(alloc, &task, files, input, out).code()
+    let status = status_of(alloc, words, files, input, out);
+    report(err, status);
+    status.code()
 }
 
 /// Runs the program, and answers what its process ends with.
@@ -151,8 +169,8 @@ pub fn exit_code<F: Files, S: Source, K: Sink, E: Sink>(
     err: &mut E,
 ) -> ExitCode
     ensures { RunAnswer (map string_bytes words.now)
-        (outside (F.told files.old) (S.told input.old) (K.told out.old) (E.told err.old) (K.holds_back out.old))
-        (outside (F.told files.new) (S.told input.new) (K.told out.new) (E.told err.new) (K.holds_back out.new)) (exit_status result) }
+        (outside (F.told files.old) (S.told input.old) (K.told out.old) (E.told err.old) (K.holds_back out.old) (E.holds_back err.old))
+        (outside (F.told files.new) (S.told input.new) (K.told out.new) (E.told err.new) (K.holds_back out.new) (E.holds_back err.new)) (exit_status result) }
 {
     ExitCode::from(run(alloc, words, files, input, out, err))
 }

@@ -10,29 +10,29 @@ use smithy_transcode::TranscodeError;
 #[derive(Clone, Copy, Debug, PartialEq, Eq)]
 pub enum Status {
     /// All is written.
-    Done = 0,
+    Done,
     /// The words are no command.
-    Usage = 2,
+    Usage,
     /// The table or the input wasn't read.
-    ReadFailed = 6,
+    ReadFailed,
     /// The output wasn't written whole.
-    WriteFailed = 7,
+    WriteFailed,
     /// Want of memory.
-    OutOfMemory = 8,
+    OutOfMemory,
     /// The input spells no value of the root.
-    InvalidInput = 10,
+    InvalidInput,
     /// The input nests too deep.
-    TooDeep = 11,
-    /// The table is refused.
-    TableRefused = 20,
+    TooDeep,
+    /// The table is refused, by this fault.
+    TableRefused(TableFault),
     /// The table declares no such root.
-    NoSuchShape = 21,
+    NoSuchShape,
     /// The root is no structure.
-    NotAStructure = 22,
+    NotAStructure,
     /// The table or the input is longer than its limit.
-    TooLong = 23,
+    TooLong,
     /// What is asked for isn't built yet.
-    NotBuilt = 30,
+    NotBuilt,
 }
 
 impl Status {
@@ -40,7 +40,20 @@ impl Status {
     pub fn code(self) -> u8
         ensures { result ≡ status_code self }
     {
-        self as u8
+        match self {
+            Status::Done => 0,
+            Status::Usage => 2,
+            Status::ReadFailed => 6,
+            Status::WriteFailed => 7,
+            Status::OutOfMemory => 8,
+            Status::InvalidInput => 10,
+            Status::TooDeep => 11,
+            Status::TableRefused(_) => 20,
+            Status::NoSuchShape => 21,
+            Status::NotAStructure => 22,
+            Status::TooLong => 23,
+            Status::NotBuilt => 30,
+        }
     }
 }
 
@@ -63,7 +76,7 @@ impl From<TableFault> for Status {
         match fault {
             TableFault::NotBuilt(_) => Status::NotBuilt,
             TableFault::NoMemory => Status::OutOfMemory,
-            _ => Status::TableRefused,
+            fault => Status::TableRefused(fault),
         }
     }
 }

@@ -1,6 +1,6 @@
 //! Reading a source to its end, and writing all of some bytes.
 ghost use Rattle.std.specs.Prelude.{◌≡◌, ◌<◌, ◌≤◌, ◌+◌, ◌++◌, List, ℕ, false, length, IfOk, OnOk, IsErrOf};
-ghost use Rattle.smithy_transcode_cli.specs.Outside.{IsCounted, IsCountedLoad, Gave, GavePast, IsAtEnd, Took, TookPrefix};
+ghost use Rattle.smithy_transcode_cli.specs.Outside.{IsCountedLoad, Gave, GavePast, IsAtEnd, IsWritten};
 
 use crate::outside::{Failed, LoadFault, Sink, Source};
 use std::alloc::{AllocError, Global};
@@ -61,17 +61,23 @@ pub fn read_to_end<S: Source>(
     Err(LoadFault::TooLong)
 }
 
-/// Writes all of the bytes, and then what the sink holds back.
-pub fn write_all<K: Sink>(sink: &mut K, bytes: &[u8]) -> Result<(), Failed>
-    ensures all { OnOk result (Took bytes.now (K.told sink.old) (K.told sink.new)) }
-    ensures passed_on { OnOk result (K.holds_back sink.new ≡ false) }
-    ensures front { TookPrefix bytes.now (K.told sink.old) (K.told sink.new) }
-    ensures counts { IsCounted result (K.told sink.old) (K.told sink.new) }
+/// Writes all of the bytes, and leaves what the sink holds back.
+pub fn write_part<K: Sink>(sink: &mut K, bytes: &[u8]) -> Result<(), Failed>
+    ensures written { IsWritten bytes.now result (K.told sink.old) (K.told sink.new) }
 {
     let mut rest = bytes;
     while !rest.is_empty() {
         let count = sink.write(rest)?;
         rest = &rest[count..];
     }
+    Ok(())
+}
+
+/// Writes all of the bytes, and then what the sink holds back.
+pub fn write_all<K: Sink>(sink: &mut K, bytes: &[u8]) -> Result<(), Failed>
+    ensures written { IsWritten bytes.now result (K.told sink.old) (K.told sink.new) }
+    ensures passed_on { OnOk result (K.holds_back sink.new ≡ false) }
+{
+    write_part(sink, bytes)?;
     sink.finish()
 }

@@ -1,5 +1,7 @@
 //! Runs over objects in memory.
 mod adapters;
+mod library;
+mod lines;
 mod options;
 mod process;
 mod rows;
@@ -30,7 +32,7 @@ fn files_with(alloc: Global, table: Vec<u8>, fail: u64) -> Result<MemoryFiles, A
     Ok(MemoryFiles::new(entries, [fail].to_vec(alloc)?))
 }
 
-// Checks one row: what the process ends with, what was written, and that nothing stands on standard error.
+// Checks one row: what the process ends with, and what was written.
 fn check(rt: &impl Abort, alloc: Global, row: &Row) -> Result<(), Fail> {
     let words = words_of(alloc, row.words)?;
     let piece = row.piece.max(1);
@@ -42,7 +44,7 @@ fn check(rt: &impl Abort, alloc: Global, row: &Row) -> Result<(), Fail> {
     let code = exit_code(alloc, &words, &mut files, &mut input, &mut out, &mut err);
     assert_eq!(rt; code, ExitCode::from(row.status), "{}", row.name);
     assert_eq!(rt; out.bytes.as_slice(), row.output, "{}", row.name);
-    assert!(rt; err.bytes.is_empty(), "{}", row.name);
+    assert_eq!(rt; err.bytes.as_slice(), row.line.as_bytes(), "{}", row.name);
     Ok(())
 }
 
@@ -98,6 +100,7 @@ struct Length {
     table: usize,
     input: usize,
     status: u8,
+    line: &'static str,
 }
 
 const LENGTHS: [Length; 4] = [
@@ -106,24 +109,28 @@ const LENGTHS: [Length; 4] = [
         table: 1_048_576,
         input: 0,
         status: 0,
+        line: "",
     },
     Length {
         name: "a table past its limit",
         table: 1_048_577,
         input: 0,
         status: 23,
+        line: "smithy_transcode: too long\n",
     },
     Length {
         name: "an input at its limit",
         table: 100,
         input: 16_777_216,
         status: 10,
+        line: "smithy_transcode: invalid input\n",
     },
     Length {
         name: "an input past its limit",
         table: 100,
         input: 16_777_217,
         status: 23,
+        line: "smithy_transcode: too long\n",
     },
 ];
 
@@ -142,10 +149,11 @@ fn limits_are_exact(rt: HostRuntime) -> Result<(), Fail> {
         let mut files = files_with(alloc, filled(alloc, LONGS, b'\n', row.table)?, 0)?;
         let bytes = filled(alloc, "", b' ', row.input)?;
         let mut input = MemorySource::new(bytes, usize::MAX, Vec::new(alloc));
-        let mut out = MemorySink::new(alloc, usize::MAX, 16, Vec::new(alloc))?;
-        let mut err = MemorySink::new(alloc, usize::MAX, 16, Vec::new(alloc))?;
+        let mut out = MemorySink::new(alloc, usize::MAX, 64, Vec::new(alloc))?;
+        let mut err = MemorySink::new(alloc, usize::MAX, 64, Vec::new(alloc))?;
         let status = run(alloc, &words, &mut files, &mut input, &mut out, &mut err);
         assert_eq!(rt; status, row.status, "{}", row.name);
+        assert_eq!(rt; err.bytes.as_slice(), row.line.as_bytes(), "{}", row.name);
     }
     Ok(())
 }
@@ -166,7 +174,7 @@ fn nested(alloc: Global, depth: usize) -> Result<Vec<u8>, AllocError> {
 #[test]
 fn nesting_is_limited(rt: HostRuntime) -> Result<(), Fail> {
     let alloc = rt.alloc();
-    for (depth, status) in [(127, 0), (128, 11)] {
+    for (depth, status, line) in [(127, 0, ""), (128, 11, "smithy_transcode: too deep\n")] {
         let words = words_of(alloc, "transcode t S json json")?;
         let table = "list L L\nstructure S\nmember l L\n";
         let mut files = files_with(alloc, table.as_bytes().to_vec(alloc)?, 0)?;
@@ -176,6 +184,7 @@ fn nesting_is_limited(rt: HostRuntime) -> Result<(), Fail> {
         let mut err = MemorySink::new(alloc, 4096, 4096, Vec::new(alloc))?;
         let ended = run(alloc, &words, &mut files, &mut input, &mut out, &mut err);
         assert_eq!(rt; ended, status, "{depth} lists");
+        assert_eq!(rt; err.bytes.as_slice(), line.as_bytes(), "{depth} lists");
     }
     Ok(())
 }

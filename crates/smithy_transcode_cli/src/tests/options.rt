@@ -16,6 +16,8 @@ struct OptionRow {
     input: &'static [u8],
     status: u8,
     output: &'static [u8],
+    /// What standard error takes.
+    line: &'static str,
 }
 
 const JSON_NAME: &str = "structure S\nmember a long json=A\n";
@@ -30,6 +32,7 @@ const OPTION_ROWS: [OptionRow; 10] = [
         input: b"{\"A\":1,\"a\":2}",
         status: 0,
         output: b"{\"a\":1}",
+        line: "",
     },
     OptionRow {
         name: "a member is written by its JSON name",
@@ -38,6 +41,7 @@ const OPTION_ROWS: [OptionRow; 10] = [
         input: b"{\"A\":1,\"a\":2}",
         status: 0,
         output: b"{\"A\":2}",
+        line: "",
     },
     OptionRow {
         name: "a JSON name with an equals sign",
@@ -46,6 +50,7 @@ const OPTION_ROWS: [OptionRow; 10] = [
         input: b"{\"a\":1}",
         status: 0,
         output: b"{\"a=b\":1}",
+        line: "",
     },
     OptionRow {
         name: "a null of a sparse list is kept",
@@ -54,6 +59,7 @@ const OPTION_ROWS: [OptionRow; 10] = [
         input: b"{\"Items\":[\"a\",null]}",
         status: 0,
         output: b"{\"Items\":[\"a\",null]}",
+        line: "",
     },
     OptionRow {
         name: "a null of a sparse list is written as CBOR",
@@ -62,6 +68,7 @@ const OPTION_ROWS: [OptionRow; 10] = [
         input: b"{\"Items\":[\"a\",null]}",
         status: 0,
         output: b"\xbf\x65Items\x9f\x61a\xf6\xff\xff",
+        line: "",
     },
     OptionRow {
         name: "an option that is there twice",
@@ -70,6 +77,7 @@ const OPTION_ROWS: [OptionRow; 10] = [
         input: b"{}",
         status: 20,
         output: b"",
+        line: "smithy_transcode: table refused: BadLine 2\n",
     },
     OptionRow {
         name: "a float",
@@ -78,6 +86,7 @@ const OPTION_ROWS: [OptionRow; 10] = [
         input: b"{}",
         status: 20,
         output: b"",
+        line: "smithy_transcode: table refused: FloatShape 1\n",
     },
     OptionRow {
         name: "a word that is no time form",
@@ -86,6 +95,7 @@ const OPTION_ROWS: [OptionRow; 10] = [
         input: b"{}",
         status: 20,
         output: b"",
+        line: "smithy_transcode: table refused: UnknownTimeFormat 1\n",
     },
     OptionRow {
         name: "equal JSON names",
@@ -94,6 +104,7 @@ const OPTION_ROWS: [OptionRow; 10] = [
         input: b"{}",
         status: 20,
         output: b"",
+        line: "smithy_transcode: table refused: NameClash 1\n",
     },
     OptionRow {
         name: "equal names in a form",
@@ -102,10 +113,11 @@ const OPTION_ROWS: [OptionRow; 10] = [
         input: b"{}",
         status: 20,
         output: b"",
+        line: "smithy_transcode: table refused: NameClash 1\n",
     },
 ];
 
-// Checks one row: the status, what was written, and that nothing stands on standard error.
+// Checks one row: the status, and what was written, on standard error too.
 fn check(rt: &impl Abort, alloc: Global, row: &OptionRow) -> Result<(), Fail> {
     let words = words_of(alloc, row.words)?;
     let mut files = files_with(alloc, row.table.as_bytes().to_vec(alloc)?, 0)?;
@@ -115,7 +127,7 @@ fn check(rt: &impl Abort, alloc: Global, row: &OptionRow) -> Result<(), Fail> {
     let status = run(alloc, &words, &mut files, &mut input, &mut out, &mut err);
     assert_eq!(rt; status, row.status, "{}", row.name);
     assert_eq!(rt; out.bytes.as_slice(), row.output, "{}", row.name);
-    assert!(rt; err.bytes.is_empty(), "{}", row.name);
+    assert_eq!(rt; err.bytes.as_slice(), row.line.as_bytes(), "{}", row.name);
     Ok(())
 }
 

@@ -40,6 +40,7 @@ struct Process {
     input: &'static [u8],
     status: u8,
     output: &'static [u8],
+    line: &'static str,
 }
 
 const PROCESSES: [Process; 6] = [
@@ -49,6 +50,7 @@ const PROCESSES: [Process; 6] = [
         input: b"{\"z\":[1], \"a\" : 7}",
         status: 0,
         output: b"{\"a\":7}",
+        line: "",
     },
     Process {
         name: "no arguments",
@@ -56,6 +58,7 @@ const PROCESSES: [Process; 6] = [
         input: b"{}",
         status: 2,
         output: b"",
+        line: "smithy_transcode: usage\n",
     },
     Process {
         name: "an argument that is no text is no command",
@@ -63,6 +66,7 @@ const PROCESSES: [Process; 6] = [
         input: b"{}",
         status: 2,
         output: b"",
+        line: "smithy_transcode: usage\n",
     },
     Process {
         name: "no such file",
@@ -70,6 +74,7 @@ const PROCESSES: [Process; 6] = [
         input: b"{}",
         status: 6,
         output: b"",
+        line: "smithy_transcode: read failed\n",
     },
     Process {
         name: "a body that spells nothing",
@@ -77,6 +82,7 @@ const PROCESSES: [Process; 6] = [
         input: b"{",
         status: 10,
         output: b"",
+        line: "smithy_transcode: invalid input\n",
     },
     Process {
         name: "a wire that isn't built",
@@ -93,6 +99,7 @@ const PROCESSES: [Process; 6] = [
         input: b"{}",
         status: 30,
         output: b"",
+        line: "smithy_transcode: not built\n",
     },
 ];
 
@@ -106,7 +113,7 @@ fn the_process_ends_with_the_status(rt: HostRuntime) -> Result<(), Fail> {
         let code = run_on_system(&(arguments, rt.alloc()), &rt, row.input, &mut out, &mut err);
         assert_eq!(rt; code, ExitCode::from(row.status), "{}", row.name);
         assert_eq!(rt; out.as_slice(), row.output, "{}", row.name);
-        assert!(rt; err.is_empty(), "{}", row.name);
+        assert_eq!(rt; err.as_slice(), row.line.as_bytes(), "{}", row.name);
     }
     fs::remove_file(&rt, "shapes")?;
     Ok(())

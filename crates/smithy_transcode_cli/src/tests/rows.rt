@@ -20,6 +20,8 @@ pub struct Row {
     pub piece: usize,
     pub status: u8,
     pub output: &'static [u8],
+    /// What standard error takes.
+    pub line: &'static str,
 }
 
 pub const ROWS: [Row; 39] = [
@@ -35,6 +37,7 @@ pub const ROWS: [Row; 39] = [
         piece: 4096,
         status: 0,
         output: b"{\"a\":7}",
+        line: "",
     },
     Row {
         name: "pieces of one byte",
@@ -47,6 +50,7 @@ pub const ROWS: [Row; 39] = [
         piece: 1,
         status: 0,
         output: b"{\"a\":7}",
+        line: "",
     },
     Row {
         name: "nothing at all is the structure without members",
@@ -59,6 +63,7 @@ pub const ROWS: [Row; 39] = [
         piece: 4096,
         status: 0,
         output: b"{}",
+        line: "",
     },
     Row {
         name: "a blank alone is no body",
@@ -71,6 +76,7 @@ pub const ROWS: [Row; 39] = [
         piece: 4096,
         status: 10,
         output: b"",
+        line: "smithy_transcode: invalid input\n",
     },
     Row {
         name: "the last of equal keys counts, and null never",
@@ -83,6 +89,7 @@ pub const ROWS: [Row; 39] = [
         piece: 4096,
         status: 0,
         output: b"{\"a\":2}",
+        line: "",
     },
     Row {
         name: "null clears no member",
@@ -95,6 +102,7 @@ pub const ROWS: [Row; 39] = [
         piece: 4096,
         status: 0,
         output: b"{\"a\":1}",
+        line: "",
     },
     Row {
         name: "the greatest long",
@@ -107,6 +115,7 @@ pub const ROWS: [Row; 39] = [
         piece: 4096,
         status: 0,
         output: b"{\"a\":9223372036854775807}",
+        line: "",
     },
     Row {
         name: "one more than the greatest long",
@@ -119,6 +128,7 @@ pub const ROWS: [Row; 39] = [
         piece: 4096,
         status: 10,
         output: b"",
+        line: "smithy_transcode: invalid input\n",
     },
     Row {
         name: "members in the order of the table",
@@ -131,6 +141,7 @@ pub const ROWS: [Row; 39] = [
         piece: 4096,
         status: 0,
         output: b"{\"a\":0,\"s\":\"\xc3\xa9\",\"i\":[\"x\",\"y\"]}",
+        line: "",
     },
     // Refusals of words, tables and roots.
     Row {
@@ -144,6 +155,7 @@ pub const ROWS: [Row; 39] = [
         piece: 4096,
         status: 2,
         output: b"",
+        line: "smithy_transcode: usage\n",
     },
     Row {
         name: "a word too few",
@@ -156,6 +168,7 @@ pub const ROWS: [Row; 39] = [
         piece: 4096,
         status: 2,
         output: b"",
+        line: "smithy_transcode: usage\n",
     },
     Row {
         name: "words behind another wire than query",
@@ -168,6 +181,7 @@ pub const ROWS: [Row; 39] = [
         piece: 4096,
         status: 2,
         output: b"",
+        line: "smithy_transcode: usage\n",
     },
     Row {
         name: "query without a version",
@@ -180,6 +194,7 @@ pub const ROWS: [Row; 39] = [
         piece: 4096,
         status: 2,
         output: b"",
+        line: "smithy_transcode: usage\n",
     },
     Row {
         name: "query as the wire of the input",
@@ -192,6 +207,7 @@ pub const ROWS: [Row; 39] = [
         piece: 4096,
         status: 2,
         output: b"",
+        line: "smithy_transcode: usage\n",
     },
     Row {
         name: "another command",
@@ -204,6 +220,7 @@ pub const ROWS: [Row; 39] = [
         piece: 4096,
         status: 2,
         output: b"",
+        line: "smithy_transcode: usage\n",
     },
     Row {
         name: "a word for help",
@@ -216,6 +233,7 @@ pub const ROWS: [Row; 39] = [
         piece: 4096,
         status: 2,
         output: b"",
+        line: "smithy_transcode: usage\n",
     },
     Row {
         name: "a word for the version",
@@ -228,6 +246,7 @@ pub const ROWS: [Row; 39] = [
         piece: 4096,
         status: 2,
         output: b"",
+        line: "smithy_transcode: usage\n",
     },
     Row {
         name: "to CBOR",
@@ -240,6 +259,7 @@ pub const ROWS: [Row; 39] = [
         piece: 4096,
         status: 0,
         output: b"\xbf\x61\x61\x07\xff",
+        line: "",
     },
     Row {
         name: "from CBOR, in pieces of one byte",
@@ -252,6 +272,7 @@ pub const ROWS: [Row; 39] = [
         piece: 1,
         status: 0,
         output: b"{\"a\":1,\"i\":[\"x\"]}",
+        line: "",
     },
     Row {
         name: "bytes behind a CBOR item",
@@ -264,6 +285,7 @@ pub const ROWS: [Row; 39] = [
         piece: 4096,
         status: 10,
         output: b"",
+        line: "smithy_transcode: invalid input\n",
     },
     Row {
         name: "forms aren't built, and no table is asked for",
@@ -276,6 +298,7 @@ pub const ROWS: [Row; 39] = [
         piece: 4096,
         status: 30,
         output: b"",
+        line: "smithy_transcode: not built\n",
     },
     Row {
         name: "forms aren't built",
@@ -288,6 +311,7 @@ pub const ROWS: [Row; 39] = [
         piece: 4096,
         status: 30,
         output: b"",
+        line: "smithy_transcode: not built\n",
     },
     Row {
         name: "a line of no form",
@@ -300,6 +324,7 @@ pub const ROWS: [Row; 39] = [
         piece: 4096,
         status: 20,
         output: b"",
+        line: "smithy_transcode: table refused: BadLine 1\n",
     },
     Row {
         name: "an unknown target",
@@ -312,6 +337,7 @@ pub const ROWS: [Row; 39] = [
         piece: 4096,
         status: 20,
         output: b"",
+        line: "smithy_transcode: table refused: UnknownTarget 1\n",
     },
     Row {
         name: "a target that isn't built",
@@ -324,6 +350,7 @@ pub const ROWS: [Row; 39] = [
         piece: 4096,
         status: 30,
         output: b"",
+        line: "smithy_transcode: not built\n",
     },
     Row {
         name: "no such root",
@@ -336,6 +363,7 @@ pub const ROWS: [Row; 39] = [
         piece: 4096,
         status: 21,
         output: b"",
+        line: "smithy_transcode: no such shape\n",
     },
     Row {
         name: "a scalar is no declared root",
@@ -348,6 +376,7 @@ pub const ROWS: [Row; 39] = [
         piece: 4096,
         status: 21,
         output: b"",
+        line: "smithy_transcode: no such shape\n",
     },
     Row {
         name: "a list as the root",
@@ -360,6 +389,7 @@ pub const ROWS: [Row; 39] = [
         piece: 4096,
         status: 22,
         output: b"",
+        line: "smithy_transcode: not a structure\n",
     },
     // Faults of the outside, and which of two refusals comes first.
     Row {
@@ -373,6 +403,7 @@ pub const ROWS: [Row; 39] = [
         piece: 4096,
         status: 6,
         output: b"",
+        line: "smithy_transcode: read failed\n",
     },
     Row {
         name: "the file fails",
@@ -385,6 +416,7 @@ pub const ROWS: [Row; 39] = [
         piece: 4096,
         status: 6,
         output: b"",
+        line: "smithy_transcode: read failed\n",
     },
     Row {
         name: "the input fails at once",
@@ -397,6 +429,7 @@ pub const ROWS: [Row; 39] = [
         piece: 4096,
         status: 6,
         output: b"",
+        line: "smithy_transcode: read failed\n",
     },
     Row {
         name: "the input fails behind its first byte",
@@ -409,6 +442,7 @@ pub const ROWS: [Row; 39] = [
         piece: 1,
         status: 6,
         output: b"",
+        line: "smithy_transcode: read failed\n",
     },
     Row {
         name: "the input fails at its end",
@@ -421,6 +455,7 @@ pub const ROWS: [Row; 39] = [
         piece: 4096,
         status: 6,
         output: b"",
+        line: "smithy_transcode: read failed\n",
     },
     Row {
         name: "the output fails at once",
@@ -433,6 +468,7 @@ pub const ROWS: [Row; 39] = [
         piece: 4096,
         status: 7,
         output: b"",
+        line: "smithy_transcode: write failed\n",
     },
     Row {
         name: "the output fails behind its first byte",
@@ -445,6 +481,7 @@ pub const ROWS: [Row; 39] = [
         piece: 1,
         status: 7,
         output: b"{",
+        line: "smithy_transcode: write failed\n",
     },
     Row {
         name: "the output fails when it is finished",
@@ -457,6 +494,7 @@ pub const ROWS: [Row; 39] = [
         piece: 4096,
         status: 7,
         output: b"{\"a\":7}",
+        line: "smithy_transcode: write failed\n",
     },
     Row {
         name: "a refused table comes before a failing input",
@@ -469,6 +507,7 @@ pub const ROWS: [Row; 39] = [
         piece: 4096,
         status: 20,
         output: b"",
+        line: "smithy_transcode: table refused: BadLine 1\n",
     },
     Row {
         name: "a failing input comes before a refused body",
@@ -481,6 +520,7 @@ pub const ROWS: [Row; 39] = [
         piece: 4096,
         status: 6,
         output: b"",
+        line: "smithy_transcode: read failed\n",
     },
     Row {
         name: "a refused body comes before a failing output",
@@ -493,5 +533,6 @@ pub const ROWS: [Row; 39] = [
         piece: 4096,
         status: 10,
         output: b"",
+        line: "smithy_transcode: invalid input\n",
     },
 ];

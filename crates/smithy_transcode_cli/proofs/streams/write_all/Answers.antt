@@ -1,13 +1,9 @@
-use Rattle.std.proofs.Common.{◌++◌, ◌∙◌, take, append_assoc, arith}
-use Rattle.std.proofs.lemmas.Grind.{common_steps}
-use Rattle.smithy_transcode_cli.proofs.Moved.{took_more}
+use Rattle.smithy_transcode_cli.proofs.Written.{written_and_finished}
 use Rattle.smithy_transcode_cli.proofs.streams.write_all.Goals as goal
 
-pub loop-rest-preserved : goal.loop-rest-preserved
-loop-rest-preserved g c =
-    let before = c.loop-rest.invariant.took in
+pub returns-clause-written : goal.returns-clause-written
+returns-clause-written g c =
     let told = g.K.Sink.told in
-    record {
-      took = (before.0 ++ take c.in_ok-count.count c.loop-rest.rest.now, rw append_assoc (grind (arith, common_steps)), took_more before.0 _ (told c.args.sink.now) (told c.loop-rest.sink) (told c.write.new.self) before.2 c.in_ok-count.ensures.took);
-      no_fault = c.in_ok-count.ensures.counts ∙ c.loop-rest.invariant.no_fault;
-    }
+    let part = c.in_ok-write_part.ensures.written in
+    written_and_finished c.args.bytes.now c.finish.result (told c.args.sink.now) (told c.write_part.new.sink) (told c.finish.new.self)
+    part.0 part.1 c.finish.ensures.took c.finish.ensures.counts
