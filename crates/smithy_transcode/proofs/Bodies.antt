@@ -1,5 +1,5 @@
 -- That a fresh serializer of a wire takes a value of the root, and has then its body.
-use Rattle.std.proofs.Common.{◌≡◌, List, [], ◌++◌, Bool, true, false, None, Ok, ℕ, refl, sym, ◌∙◌, ap}
+use Rattle.std.proofs.Common.{◌≡◌, [], ◌++◌, Bool, true, false, None, Ok, ℕ, refl, sym, ◌∙◌, ap}
 use Rattle.smithy_schema.specs.declared.schema.Schema.{Schema}
 use Rattle.smithy_schema.specs.Table.{Table}
 use Rattle.smithy_schema.specs.Site.{Site, View, site_of, shape_site}
