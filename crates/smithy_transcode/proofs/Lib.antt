@@ -1,7 +1,9 @@
 pub mod Begun
 pub mod Bodies
+mod CompactVariants
 mod Lists
 pub mod Mapped
+mod MemberOrder
 mod ReadContainers
 mod ReadLists
 mod ReadStructures
@@ -9,4 +11,3 @@ mod ReadViews
 pub mod Spelled
 mod Structures
 mod Transcodings
-pub mod Views

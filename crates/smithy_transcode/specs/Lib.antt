@@ -6,3 +6,5 @@ pub mod Transcoding
 pub mod View
 -- and what its refusals tell
 pub mod Refusal
+-- for private clauses
+pub mod Private

@@ -1,12 +1,18 @@
 //! Values of any wire, their reading and writing, and the transcoding of one body.
 #![tactic(auto)]
 
+mod compact_members;
+mod compact_value;
+mod member_iter;
 mod reading;
 mod refusal;
+mod sorted_members;
 #[cfg(test)]
 mod tests;
 mod transcoding;
+mod tree;
 mod value;
+mod value_tree;
 mod whole_output;
 mod wire;
 mod writing;

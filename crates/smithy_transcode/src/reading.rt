@@ -1,19 +1,16 @@
 //! Reading a value tree from any wire.
-ghost use Rattle.std.specs.Prelude.{◌≡◌, ◌↔◌, true, IfOk, IfErr, OnOk, IsErrOf};
+ghost use Rattle.std.specs.Prelude.{◌≡◌, ◌↔◌, true, IfOk, IsErrOf};
 ghost use Rattle.smithy_schema.specs.Table.{IsStructure, IsList};
 ghost use Rattle.smithy_schema.specs.Site.{site_of, kind_at};
-ghost use Rattle.smithy_schema.specs.Value.{put_member};
 ghost use Rattle.smithy_schema.specs.Reading.{Reads, StandsNot, IsRefused, IsInvalid, ReachesDepth, IsCounted};
-ghost use Rattle.smithy_schema.specs.declared.error.SerdeError.TheVariants.{NoMemory};
-ghost use Rattle.smithy_transcode.specs.View.{view, view_members};
+ghost use Rattle.smithy_transcode.specs.View.{view};
 
+use crate::tree::Tree;
 use crate::value::Value;
 use smithy_schema::{Schema, SerdeError, ShapeDeserializer, ShapeType, Step};
 use std::alloc::Global;
-use std::collections::BTreeMap;
 
 /// Reads the value of the schema that is due, whatever the wire.
-#[cycle(read)]
 pub fn read_value<D: ShapeDeserializer>(
     alloc: Global,
     source: &mut D,
@@ -38,24 +35,45 @@ pub fn read_value<D: ShapeDeserializer>(
     ensures input { (D.state source.new).input ≡ (D.state source.old).input }
     ensures counted { D.is_strict (D.settings source.old) → IsCounted (D.wire (D.settings source.old)) (D.state source.old) → IsCounted (D.wire (D.settings source.old)) (D.state source.new) }
 {
+    read_tree::<Value, D>(alloc, source, schema)
+}
+
+// The same into any tree.
+#[cycle(read)]
+pub(crate) fn read_tree<T: Tree, D: ShapeDeserializer>(
+    alloc: Global,
+    source: &mut D,
+    schema: &Schema<'_>,
+) -> Result<T, SerdeError>
+    requires due { (D.state source.old).due ≡ true }
+    ensures same { D.settings source.new ≡ D.settings source.old }
+    ensures ok { IfOk result (λ v. Reads (D.wire (D.settings source.old)) (D.state source.old) (D.state source.new) schema.now.shapes.now schema.now.place (T.view v)) }
+    ensures refused { IsRefused result → StandsNot (D.wire (D.settings source.old)) (D.state source.old) schema.now.shapes.now schema.now.place }
+    ensures would { D.is_strict (D.settings source.old) → IsInvalid result → StandsNot (D.lifted (D.settings source.old)) (D.state source.old) schema.now.shapes.now schema.now.place }
+    ensures failed { IsErrOf result SerdeError.Failed ↔ ((D.state source.old).failed ≡ true) }
+    ensures readable { IsErrOf result SerdeError.Unwritable → ⊥ }
+    ensures deep { IsErrOf result SerdeError.TooDeep → ReachesDepth (D.wire (D.settings source.old)) (D.max_depth (D.settings source.old)) (D.state source.new) }
+    ensures input { (D.state source.new).input ≡ (D.state source.old).input }
+    ensures counted { D.is_strict (D.settings source.old) → IsCounted (D.wire (D.settings source.old)) (D.state source.old) → IsCounted (D.wire (D.settings source.old)) (D.state source.new) }
+{
     match schema.shape_type() {
-        ShapeType::Long => Ok(Value::Whole(i128::from(source.read_long(schema)?))),
-        ShapeType::String => Ok(Value::Text(source.read_string(schema)?)),
-        ShapeType::Structure => read_structure(alloc, source, schema),
-        ShapeType::List => read_list(alloc, source, schema),
+        ShapeType::Long => Ok(T::long(source.read_long(schema)?)),
+        ShapeType::String => Ok(T::text(source.read_string(schema)?)),
+        ShapeType::Structure => read_structure::<T, D>(alloc, source, schema),
+        ShapeType::List => read_list::<T, D>(alloc, source, schema),
     }
 }
 
 #[cycle(read)]
-fn read_structure<D: ShapeDeserializer>(
+fn read_structure<T: Tree, D: ShapeDeserializer>(
     alloc: Global,
     source: &mut D,
     schema: &Schema<'_>,
-) -> Result<Value, SerdeError>
+) -> Result<T, SerdeError>
     requires due { (D.state source.old).due ≡ true }
     requires place { IsStructure (kind_at (site_of schema.now)) }
     ensures same { D.settings source.new ≡ D.settings source.old }
-    ensures ok { IfOk result (λ v. Reads (D.wire (D.settings source.old)) (D.state source.old) (D.state source.new) schema.now.shapes.now schema.now.place (view v)) }
+    ensures ok { IfOk result (λ v. Reads (D.wire (D.settings source.old)) (D.state source.old) (D.state source.new) schema.now.shapes.now schema.now.place (T.view v)) }
     ensures refused { IsRefused result → StandsNot (D.wire (D.settings source.old)) (D.state source.old) schema.now.shapes.now schema.now.place }
     ensures would { D.is_strict (D.settings source.old) → IsInvalid result → StandsNot (D.lifted (D.settings source.old)) (D.state source.old) schema.now.shapes.now schema.now.place }
     ensures failed { IsErrOf result SerdeError.Failed ↔ ((D.state source.old).failed ≡ true) }
@@ -65,32 +83,32 @@ fn read_structure<D: ShapeDeserializer>(
     ensures counted { D.is_strict (D.settings source.old) → IsCounted (D.wire (D.settings source.old)) (D.state source.old) → IsCounted (D.wire (D.settings source.old)) (D.state source.new) }
 {
     source.open_struct(schema)?;
-    let mut members = BTreeMap::new(alloc);
+    let mut members = T::no_members(alloc);
     loop {
         match source.next_member(schema)? {
             Step::Member(member) => {
                 let Some(index) = member.member_index() else {
                     unreachable!()
                 };
-                let value = read_value(alloc, source, &member)?;
-                set_member(&mut members, index, value)?;
+                let value = read_tree::<T, D>(alloc, source, &member)?;
+                T::set_member(alloc, &mut members, index, value)?;
             }
             Step::Unknown => source.skip_value()?,
-            Step::End => return Ok(Value::Structure(members)),
+            Step::End => return Ok(T::structure(members)),
         }
     }
 }
 
 #[cycle(read)]
-fn read_list<D: ShapeDeserializer>(
+fn read_list<T: Tree, D: ShapeDeserializer>(
     alloc: Global,
     source: &mut D,
     schema: &Schema<'_>,
-) -> Result<Value, SerdeError>
+) -> Result<T, SerdeError>
     requires due { (D.state source.old).due ≡ true }
     requires place { IsList (kind_at (site_of schema.now)) }
     ensures same { D.settings source.new ≡ D.settings source.old }
-    ensures ok { IfOk result (λ v. Reads (D.wire (D.settings source.old)) (D.state source.old) (D.state source.new) schema.now.shapes.now schema.now.place (view v)) }
+    ensures ok { IfOk result (λ v. Reads (D.wire (D.settings source.old)) (D.state source.old) (D.state source.new) schema.now.shapes.now schema.now.place (T.view v)) }
     ensures refused { IsRefused result → StandsNot (D.wire (D.settings source.old)) (D.state source.old) schema.now.shapes.now schema.now.place }
     ensures would { D.is_strict (D.settings source.old) → IsInvalid result → StandsNot (D.lifted (D.settings source.old)) (D.state source.old) schema.now.shapes.now schema.now.place }
     ensures failed { IsErrOf result SerdeError.Failed ↔ ((D.state source.old).failed ≡ true) }
@@ -108,24 +126,11 @@ fn read_list<D: ShapeDeserializer>(
     while source.next_element()? {
         if sparse && source.is_null() {
             source.read_null()?;
-            elements.push(Value::Null)?;
+            elements.push(T::null())?;
         } else {
-            let item = read_value(alloc, source, &element)?;
+            let item = read_tree::<T, D>(alloc, source, &element)?;
             elements.push(item)?;
         }
     }
-    Ok(Value::List(elements))
-}
-
-// The last value of a member counts.
-fn set_member(
-    members: &mut BTreeMap<u32, Value>,
-    index: u32,
-    value: Value,
-) -> Result<(), SerdeError>
-    ensures ok { OnOk result (view_members members.new.entries ≡ put_member index (view value) (view_members members.old.entries)) }
-    ensures err { IfErr result (λ e. e ≡ NoMemory) }
-{
-    members.insert(index, value)?;
-    Ok(())
+    Ok(T::list(elements))
 }

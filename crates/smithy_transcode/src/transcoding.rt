@@ -7,11 +7,11 @@ ghost use Rattle.smithy_schema.specs.Table.{IsStructure, kind_of, shape_place};
 ghost use Rattle.smithy_transcode.specs.Causes.{openers};
 ghost use Rattle.smithy_transcode.specs.Spelling.{Spells, body};
 ghost use Rattle.smithy_transcode.specs.Transcoding.{Transcodes, SpellNothing, SpellNothingAtAnyDepth};
-ghost use Rattle.smithy_transcode.specs.View.{view};
+ghost use Rattle.smithy_transcode.specs.Private.CompactValue.{compact_view as view};
 
-use crate::reading::read_value;
+use crate::compact_value::CompactValue;
+use crate::reading::read_tree;
 use crate::refusal::refusal;
-use crate::value::Value;
 use crate::whole_output::write_whole;
 use crate::wire::{TranscodeError, Wire};
 use smithy_cbor::CborCodec;
@@ -49,7 +49,7 @@ fn read_body(
     root: ShapeRef,
     from: &Wire,
     input: &[u8],
-) -> Result<Value, SerdeError>
+) -> Result<CompactValue, SerdeError>
     requires root { IsStructure (kind_of shapes.now (shape_place root.0)) }
     ensures accepted { IsAccepted shapes.now }
     ensures ok { IfOk result (λ v. Spells from.now shapes.now root.0 input.now (view v)) }
@@ -63,11 +63,11 @@ fn read_body(
     match from {
         Wire::Json { use_json_name } => {
             let mut source = JsonCodec::strict(*use_json_name).create_deserializer(alloc, input);
-            read_value(alloc, &mut source, &schema)
+            read_tree(alloc, &mut source, &schema)
         }
         Wire::Cbor => {
             let mut source = CborCodec::strict().create_deserializer(alloc, input);
-            read_value(alloc, &mut source, &schema)
+            read_tree(alloc, &mut source, &schema)
         }
     }
 }
@@ -78,7 +78,7 @@ fn write_body(
     shapes: &Shapes,
     root: ShapeRef,
     to: &Wire,
-    value: &Value,
+    value: &CompactValue,
 ) -> Result<Vec<u8>, SerdeError>
     requires root { IsStructure (kind_of shapes.now (shape_place root.0)) }
     requires fits { Fits shapes.now (shape_place root.0) (view value.now) }

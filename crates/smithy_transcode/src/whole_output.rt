@@ -4,10 +4,10 @@ ghost use Rattle.smithy_schema.specs.declared.error.SerdeError.TheVariants.{NoMe
 ghost use Rattle.smithy_schema.specs.Fits.{Fits};
 ghost use Rattle.smithy_schema.specs.Site.{site_of};
 ghost use Rattle.smithy_schema.specs.Writing.{write};
-ghost use Rattle.smithy_transcode.specs.View.{view};
+ghost use Rattle.smithy_transcode.specs.Private.CompactValue.{compact_view as view};
 
-use crate::value::Value;
-use crate::writing::write_value;
+use crate::compact_value::CompactValue;
+use crate::writing::write_tree;
 use smithy_schema::{FinishSerializer, Schema, SerdeError};
 use std::alloc::Global;
 
@@ -16,7 +16,7 @@ pub(crate) fn write_whole<S: FinishSerializer + Drop>(
     alloc: Global,
     mut sink: S,
     schema: &Schema<'_>,
-    value: &Value,
+    value: &CompactValue,
 ) -> Result<Vec<u8>, SerdeError>
     requires fits { Fits schema.now.shapes.now schema.now.place (view value.now) }
     requires sound { S.failed sink ≡ false }
@@ -24,6 +24,6 @@ pub(crate) fn write_whole<S: FinishSerializer + Drop>(
     ensures ok { IfOk result (λ out. (state : S.State) → write S.after (site_of schema.now) (view value.now) (S.state sink) ≡ Ok state → out.items ≡ S.out state) }
     ensures err { IfErr result (λ e. e ≡ NoMemory) }
 {
-    write_value(alloc, &mut sink, schema, value)?;
+    write_tree::<CompactValue, S>(alloc, &mut sink, schema, value)?;
     sink.finish()
 }

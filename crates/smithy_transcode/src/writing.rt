@@ -1,22 +1,23 @@
 //! Writing a value to any wire.
-ghost use Rattle.std.specs.Prelude.{◌≡◌, ◌↔◌, true, OnOk, IfErr, IsErr, IsErrOf, Ok, Err};
+ghost use Rattle.std.specs.Prelude.{◌≡◌, ◌↔◌, map, true, OnOk, IfErr, IsErr, IsErrOf, Ok, Err};
 ghost use Rattle.smithy_schema.specs.declared.error.SerdeError.TheVariants.{Failed};
 ghost use Rattle.smithy_schema.specs.Fits.{FitsOr};
 ghost use Rattle.smithy_schema.specs.Reading.{IsFault};
 ghost use Rattle.smithy_schema.specs.Site.{site_of};
 ghost use Rattle.smithy_schema.specs.Value.{list, structure, values_of};
 ghost use Rattle.smithy_schema.specs.Writing.{write};
-ghost use Rattle.smithy_transcode.specs.View.{view, view_elements, view_members};
+ghost use Rattle.smithy_transcode.specs.View.{view};
+ghost use Rattle.smithy_transcode.specs.Private.Tree.{entries, member_views};
 
+use crate::member_iter::MemberIter;
+use crate::tree::{Part, Tree};
 use crate::value::Value;
 use smithy_schema::{Schema, SerdeError, ShapeSerializer};
 use std::alloc::Global;
-use std::collections::BTreeMap;
 
 /// Writes a value of the schema's place, or a null element.
 ///
 /// Elements are written without a name, and members in the order of their positions.
-#[cycle(write)]
 pub fn write_value<S: ShapeSerializer>(
     alloc: Global,
     sink: &mut S,
@@ -29,27 +30,44 @@ pub fn write_value<S: ShapeSerializer>(
     ensures ok { OnOk result (write S.after (site_of schema.now) (view value.now) (S.state sink.old) ≡ Ok (S.state sink.new)) }
     ensures refused { IfErr result (λ e. IsFault e → write S.after (site_of schema.now) (view value.now) (S.state sink.old) ≡ Err e) }
 {
-    match value {
-        Value::Whole(number) => sink.write_long(schema, *number as i64),
-        Value::Text(text) => sink.write_string(schema, text.as_str()),
-        Value::List(elements) => write_list(alloc, sink, schema, elements),
-        Value::Structure(members) => write_structure(alloc, sink, schema, members),
-        Value::Null => sink.write_null(schema),
+    write_tree::<Value, S>(alloc, sink, schema, value)
+}
+
+// The same from any tree.
+#[cycle(write)]
+pub(crate) fn write_tree<T: Tree, S: ShapeSerializer>(
+    alloc: Global,
+    sink: &mut S,
+    schema: &Schema<'_>,
+    value: &T,
+) -> Result<(), SerdeError>
+    requires fits { FitsOr schema.now.shapes.now schema.now.place true (T.view value.now) }
+    ensures failed { IsErrOf result Failed ↔ (S.failed sink.old ≡ true) }
+    ensures broken { IsErr result ↔ (S.failed sink.new ≡ true) }
+    ensures ok { OnOk result (write S.after (site_of schema.now) (T.view value.now) (S.state sink.old) ≡ Ok (S.state sink.new)) }
+    ensures refused { IfErr result (λ e. IsFault e → write S.after (site_of schema.now) (T.view value.now) (S.state sink.old) ≡ Err e) }
+{
+    match value.part() {
+        Part::Whole(number) => sink.write_long(schema, number as i64),
+        Part::Text(content) => sink.write_string(schema, content),
+        Part::List(elements) => write_list::<T, S>(alloc, sink, schema, elements),
+        Part::Structure(members) => write_structure::<T, S>(alloc, sink, schema, members),
+        Part::Null => sink.write_null(schema),
     }
 }
 
 #[cycle(write)]
-fn write_list<S: ShapeSerializer>(
+fn write_list<T: Tree, S: ShapeSerializer>(
     alloc: Global,
     sink: &mut S,
     schema: &Schema<'_>,
-    elements: &[Value],
+    elements: &[T],
 ) -> Result<(), SerdeError>
-    requires fits { FitsOr schema.now.shapes.now schema.now.place true (list (values_of (view_elements elements.now))) }
+    requires fits { FitsOr schema.now.shapes.now schema.now.place true (list (values_of (map T.view elements.now))) }
     ensures failed { IsErrOf result Failed ↔ (S.failed sink.old ≡ true) }
     ensures broken { IsErr result ↔ (S.failed sink.new ≡ true) }
-    ensures ok { OnOk result (write S.after (site_of schema.now) (list (values_of (view_elements elements.now))) (S.state sink.old) ≡ Ok (S.state sink.new)) }
-    ensures refused { IfErr result (λ e. IsFault e → write S.after (site_of schema.now) (list (values_of (view_elements elements.now))) (S.state sink.old) ≡ Err e) }
+    ensures ok { OnOk result (write S.after (site_of schema.now) (list (values_of (map T.view elements.now))) (S.state sink.old) ≡ Ok (S.state sink.new)) }
+    ensures refused { IfErr result (λ e. IsFault e → write S.after (site_of schema.now) (list (values_of (map T.view elements.now))) (S.state sink.old) ≡ Err e) }
 {
     let Some(member) = schema.member() else {
         unreachable!()
@@ -57,30 +75,31 @@ fn write_list<S: ShapeSerializer>(
     let element_schema = member.nameless();
     sink.begin_list(schema, Some(elements.len()))?;
     for element in elements {
-        write_value(alloc, sink, &element_schema, element)?;
+        write_tree::<T, S>(alloc, sink, &element_schema, element)?;
     }
     sink.end_list()
 }
 
 #[cycle(write)]
-fn write_structure<S: ShapeSerializer>(
+fn write_structure<T: Tree, S: ShapeSerializer>(
     alloc: Global,
     sink: &mut S,
     schema: &Schema<'_>,
-    members: &BTreeMap<u32, Value>,
+    members: MemberIter<'_, T>,
 ) -> Result<(), SerdeError>
-    requires fits { FitsOr schema.now.shapes.now schema.now.place true (structure (view_members members.now.entries)) }
+    requires fits { FitsOr schema.now.shapes.now schema.now.place true (structure (member_views T.view (entries members))) }
     ensures failed { IsErrOf result Failed ↔ (S.failed sink.old ≡ true) }
     ensures broken { IsErr result ↔ (S.failed sink.new ≡ true) }
-    ensures ok { OnOk result (write S.after (site_of schema.now) (structure (view_members members.now.entries)) (S.state sink.old) ≡ Ok (S.state sink.new)) }
-    ensures refused { IfErr result (λ e. IsFault e → write S.after (site_of schema.now) (structure (view_members members.now.entries)) (S.state sink.old) ≡ Err e) }
+    ensures ok { OnOk result (write S.after (site_of schema.now) (structure (member_views T.view (entries members.entry))) (S.state sink.old) ≡ Ok (S.state sink.new)) }
+    ensures refused { IfErr result (λ e. IsFault e → write S.after (site_of schema.now) (structure (member_views T.view (entries members.entry))) (S.state sink.old) ≡ Err e) }
 {
     sink.begin_struct(schema)?;
-    for (position, member) in members {
-        let Some(member_schema) = schema.member_at(*position) else {
+    let mut left = members;
+    while let Some((position, member)) = left.next_member() {
+        let Some(member_schema) = schema.member_at(position) else {
             unreachable!()
         };
-        write_value(alloc, sink, &member_schema, member)?;
+        write_tree::<T, S>(alloc, sink, &member_schema, member)?;
     }
     sink.end_struct()
 }

@@ -2,14 +2,11 @@ use Rattle.std.proofs.Common.{None, Some, false, refl, rules, sym, true, ◌∙�
 use Rattle.std.proofs.lemmas.Result.{err_from_is_err_and}
 use Rattle.smithy_schema.specs.Site.{site_of}
 use Rattle.smithy_schema.specs.Reading.{child_value, child_null, child_unknown}
-use Rattle.smithy_transcode.specs.View.{view}
-use Rattle.smithy_transcode.specs.declared.value.Value.TheViews.{made-Null}
 use Rattle.smithy_schema.proofs.CountLemmas.{value_counted, null_counted, skip_counted, entry_counted, step_counted}
 use Rattle.smithy_transcode.proofs.ReadContainers.{itself, left_falls, end, stuck}
 use Rattle.smithy_transcode.proofs.ReadStructures.{member_child, member_read, unknown_skipped, member_refused, unknown_refused}
 use Rattle.smithy_transcode.proofs.ReadLists.{begin_list, element_read, null_read, element_refused, null_refused, element_place}
-use Rattle.smithy_transcode.proofs.ReadViews.{view_elements-push}
-use Rattle.smithy_transcode.proofs.Views.{view-Structure, view-List, view-Null}
+use Rattle.smithy_transcode.proofs.ReadViews.{map-push}
 use Rattle.smithy_transcode.proofs.reading.+read.Goals as goal
 use Rattle.smithy_transcode.proofs.reading.+read.Goals.{read_list-else-sparse-via-then-sparse+else-is_null, read_list-else-sparse-via-else-sparse}
 
@@ -69,7 +66,7 @@ read_structure-returns-in-End-clause-ok g t c =
     let outer = site_of c.args.schema.now in
     let inside = c.loop-members.invariant.inside in
     let would = c.loop-members.invariant.would in
-    rw (view-Structure c.loop-members.members)
+    rw c.structure.ensures
     (end _ _ _ _ _ _ _ _ _ _ _ inside (rw (c.in-End.is, c.loop-members.invariant.same) at (c.in_ok-member.ensures.ok inside.due)) refl)
 
 -- the structure can not go on
@@ -187,8 +184,8 @@ read_structure-loop-members-smaller-in-Continue-branch-5 g t c =
     let would = c.loop-members.invariant.would in
     let step = rw (c.in-Member.is, c.loop-members.invariant.same) at (c.in_ok-member.ensures.ok inside.due) in
     let reads = rw (c.next_member.ensures.same, c.loop-members.invariant.same) at c.in_ok-value-in-Member.ensures.ok in
-    rw (c.read_value.ensures.same, c.next_member.ensures.same, c.loop-members.invariant.same)
-    (left_falls _ _ _ laws _ _ _ _ _ _ _ _ _ (child_value (Some step.0) (Some c.in-Some.index) (view c.in_ok-value-in-Member.value)) inside step.2
+    rw (c.read_tree.ensures.same, c.next_member.ensures.same, c.loop-members.invariant.same)
+    (left_falls _ _ _ laws _ _ _ _ _ _ _ _ _ (child_value (Some step.0) (Some c.in-Some.index) (g.T.Tree.view c.in_ok-value-in-Member.value)) inside step.2
     (member_child _ _ _ outer c.in-Member.member c.in-Some.index _ _ step (sym c.in-Some.ensures) reads.stands) reads.passes)
 
 pub read_structure-loop-members-smaller : goal.read_structure-loop-members-smaller
@@ -307,9 +304,9 @@ read_list-loop-elements-preserved-then-is_null g t c =
     let passes = c.in_ok-read_null.ensures.passes (sym c.is_null.ensures ∙ c.if-is_null.true) in
     record {
       same = search rules;
-      inside = rw (c.in_ok-push.ensures.items, view_elements-push c.loop-elements.elements.items made-Null, view-Null)
+      inside = rw (c.in_ok-push.ensures.items, map-push g.T.Tree.view c.loop-elements.elements.items c.null.result, c.null.ensures)
           (null_read _ _ _ laws same _ _ _ _ _ _ _ inside step (c.is_sparse-sparse.ensures.0 c.if-sparse.true) nulls passes);
-      would = rw (c.in_ok-push.ensures.items, view_elements-push c.loop-elements.elements.items made-Null, view-Null)
+      would = rw (c.in_ok-push.ensures.items, map-push g.T.Tree.view c.loop-elements.elements.items c.null.result, c.null.ensures)
           (null_read _ _ _ over above _ _ _ _ _ _ _ would step (c.is_sparse-sparse.ensures.0 c.if-sparse.true) nulls passes);
       counted = λ strict before. null_counted _ (counts strict) _ _ nulls passes (step_counted _ (counts strict) _ _ _ _ _ step (c.loop-elements.invariant.counted strict before));
     }
@@ -376,9 +373,9 @@ read_list-loop-elements-preserved g t c =
     let reads = rw (c.next_element.ensures.same, c.loop-elements.invariant.same, place.0) at c.in_ok-item.ensures.ok in
     record {
       same = search rules;
-      inside = rw (c.in_ok-push-2.ensures.items, view_elements-push c.loop-elements.elements.items c.in_ok-item.item)
+      inside = rw (c.in_ok-push-2.ensures.items, map-push g.T.Tree.view c.loop-elements.elements.items c.in_ok-item.item)
           (element_read _ _ _ laws same _ _ _ _ _ _ c.in-Some.element.place _ _ _ inside step place.1 reads);
-      would = rw (c.in_ok-push-2.ensures.items, view_elements-push c.loop-elements.elements.items c.in_ok-item.item)
+      would = rw (c.in_ok-push-2.ensures.items, map-push g.T.Tree.view c.loop-elements.elements.items c.in_ok-item.item)
           (element_read _ _ _ over above _ _ _ _ _ _ c.in-Some.element.place _ _ _ would step place.1 reads);
       counted = λ strict before. value_counted _ (counts strict) _ _ _ _ _ reads (step_counted _ (counts strict) _ _ _ _ _ step (c.loop-elements.invariant.counted strict before));
     }
@@ -394,7 +391,7 @@ read_list-returns-clause-ok g t c =
     let same = itself (g.D.ShapeDeserializer.wire s0) in
     let inside = c.loop-elements.invariant.inside in
     let would = c.loop-elements.invariant.would in
-    rw (view-List c.loop-elements.elements)
+    rw c.list.ensures
     (end _ _ _ _ _ _ _ _ _ _ _ inside (rw (c.if-branch.false, c.loop-elements.invariant.same) at (c.in_ok-next_element.ensures.ok inside.due c.args.schema.now.shapes.now c.args.schema.now.place c.requires.place)) refl)
 
 -- less is left to read
@@ -427,5 +424,5 @@ read_list-loop-elements-smaller g t c =
     let step = rw (c.if-branch.true, c.loop-elements.invariant.same) at (c.in_ok-next_element.ensures.ok inside.due c.args.schema.now.shapes.now c.args.schema.now.place c.requires.place) in
     let place = element_place c.args.schema.now c.in-Some.element c.requires.place c.in-Some.ensures in
     let reads = rw (c.next_element.ensures.same, c.loop-elements.invariant.same, place.0) at c.in_ok-item.ensures.ok in
-    rw (c.read_value.ensures.same, c.next_element.ensures.same, c.loop-elements.invariant.same)
-    (left_falls _ _ _ laws _ _ _ _ _ _ _ _ None (child_value None None (view c.in_ok-item.item)) inside step (refl, refl, (c.in-Some.element.place, place.1, reads.stands)) reads.passes)
+    rw (c.read_tree.ensures.same, c.next_element.ensures.same, c.loop-elements.invariant.same)
+    (left_falls _ _ _ laws _ _ _ _ _ _ _ _ None (child_value None None (g.T.Tree.view c.in_ok-item.item)) inside step (refl, refl, (c.in-Some.element.place, place.1, reads.stands)) reads.passes)

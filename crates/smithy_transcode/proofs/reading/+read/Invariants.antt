@@ -1,15 +1,14 @@
-use Rattle.std.proofs.Common.{◌≡◌, ◌+◌, ◌*◌, ◌-◌}
+use Rattle.std.proofs.Common.{◌≡◌, map, ◌+◌, ◌*◌, ◌-◌}
 use Rattle.smithy_schema.specs.Reading.{depth, in_structure, in_list, IsCounted}
 use Rattle.smithy_schema.specs.Table.{kind_of, is_sparse}
 use Rattle.smithy_transcode.proofs.ReadStructures.{structure_value}
 use Rattle.smithy_transcode.proofs.ReadLists.{list_value}
-use Rattle.smithy_transcode.specs.View.{view_members, view_elements}
 use Rattle.smithy_transcode.proofs.ReadContainers.{InContainer}
 use Rattle.smithy_transcode.proofs.reading.+read.Given as goal
 
 -- twice the containers that may still be opened
-abbrev pub decreases-read_value : goal.decreases-read_value
-decreases-read_value g l =
+abbrev pub decreases-read_tree : goal.decreases-read_tree
+decreases-read_tree g l =
     let d = g.D.ShapeDeserializer in
     2 * (d.max_depth (d.settings l.source.now) - depth (d.state l.source.now)) + 1
 
@@ -25,8 +24,8 @@ invariant-read_structure-loop-members g l =
     let c = d.settings l.fn.source in
     record {
       same : d.settings l.source ≡ d.settings l.fn.source;
-      inside : InContainer (d.wire c) (d.wire c) (d.max_depth c) (d.state l.fn.source) (d.state l.source) l.schema.shapes.now l.schema.place in_structure (structure_value (view_members l.members.entries));
-      would : InContainer (d.wire c) (d.lifted c) (d.max_depth c) (d.state l.fn.source) (d.state l.source) l.schema.shapes.now l.schema.place in_structure (structure_value (view_members l.members.entries));
+      inside : InContainer (d.wire c) (d.wire c) (d.max_depth c) (d.state l.fn.source) (d.state l.source) l.schema.shapes.now l.schema.place in_structure (structure_value (g.T.Tree.view_members l.members));
+      would : InContainer (d.wire c) (d.lifted c) (d.max_depth c) (d.state l.fn.source) (d.state l.source) l.schema.shapes.now l.schema.place in_structure (structure_value (g.T.Tree.view_members l.members));
       counted : d.is_strict c → IsCounted (d.wire c) (d.state l.fn.source) → IsCounted (d.wire c) (d.state l.source);
     }
 
@@ -48,8 +47,8 @@ invariant-read_list-loop-elements g l =
     let c = d.settings l.fn.source in
     record {
       same : d.settings l.source ≡ d.settings l.fn.source;
-      inside : InContainer (d.wire c) (d.wire c) (d.max_depth c) (d.state l.fn.source) (d.state l.source) l.schema.shapes.now l.schema.place in_list (list_value (is_sparse (kind_of l.schema.shapes.now l.schema.place)) (view_elements l.elements.items));
-      would : InContainer (d.wire c) (d.lifted c) (d.max_depth c) (d.state l.fn.source) (d.state l.source) l.schema.shapes.now l.schema.place in_list (list_value (is_sparse (kind_of l.schema.shapes.now l.schema.place)) (view_elements l.elements.items));
+      inside : InContainer (d.wire c) (d.wire c) (d.max_depth c) (d.state l.fn.source) (d.state l.source) l.schema.shapes.now l.schema.place in_list (list_value (is_sparse (kind_of l.schema.shapes.now l.schema.place)) (map g.T.Tree.view l.elements.items));
+      would : InContainer (d.wire c) (d.lifted c) (d.max_depth c) (d.state l.fn.source) (d.state l.source) l.schema.shapes.now l.schema.place in_list (list_value (is_sparse (kind_of l.schema.shapes.now l.schema.place)) (map g.T.Tree.view l.elements.items));
       counted : d.is_strict c → IsCounted (d.wire c) (d.state l.fn.source) → IsCounted (d.wire c) (d.state l.source);
     }
 

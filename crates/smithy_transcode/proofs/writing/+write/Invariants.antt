@@ -1,25 +1,36 @@
-use Rattle.std.proofs.Common.{◌≡◌, ◌≤◌, false, drop}
+use Rattle.std.proofs.Common.{◌≡◌, ◌≤◌, ◌+◌, ◌*◌, false, drop, map}
 use Rattle.smithy_schema.specs.Fits.{ElementsFit, MembersFit}
 use Rattle.smithy_schema.specs.Site.{site_of, kind_at}
-use Rattle.smithy_schema.specs.Value.{list, structure, values_of}
+use Rattle.smithy_schema.specs.Value.{list, structure, values_of, nesting, elements_nesting, members_nesting}
 use Rattle.smithy_schema.specs.Writing.{write, run}
-use Rattle.smithy_transcode.specs.View.{view_elements, view_members}
+use Rattle.smithy_transcode.specs.Private.Tree.{member_views, entries}
 use Rattle.smithy_transcode.proofs.Lists.{list_rest}
-use Rattle.smithy_transcode.proofs.Structures.{structure_rest, largest}
-use Rattle.smithy_transcode.proofs.value.Value.TheLaws.{the_size}
+use Rattle.smithy_transcode.proofs.Structures.{structure_rest, count}
 use Rattle.smithy_transcode.proofs.writing.+write.Given as goal
+
+-- twice the containers that stand in one another
+abbrev pub decreases-write_tree : goal.decreases-write_tree
+decreases-write_tree g l = 2 * nesting (g.T.Tree.view l.value.now) + 1
+
+abbrev pub decreases-write_list : goal.decreases-write_list
+decreases-write_list g l = 2 * nesting (list (values_of (map g.T.Tree.view l.elements.now)))
+
+abbrev pub decreases-write_structure : goal.decreases-write_structure
+decreases-write_structure g l = 2 * nesting (structure (member_views g.T.Tree.view (entries l.members)))
 
 -- what the list adds is what the rest of it adds
 abbrev pub invariant-write_list-loop-element : goal.invariant-write_list-loop-element
 invariant-write_list-loop-element g l =
     let sink = g.S.ShapeSerializer in
     let site = site_of l.schema in
-    let left = drop l.element-index l.elements in
+    let all = map g.T.Tree.view l.elements in
+    let now = map g.T.Tree.view (drop l.element-index l.elements) in
     record {
       failed : sink.failed l.sink ≡ false;
-      rest : write sink.after site (list (values_of (view_elements l.elements))) (sink.state l.fn.sink)
-          ≡ run sink.after (list_rest site left) (sink.state l.sink);
-      fits : ElementsFit site.table (kind_at site) (values_of (view_elements left));
+      rest : write sink.after site (list (values_of all)) (sink.state l.fn.sink)
+          ≡ run sink.after (list_rest site now) (sink.state l.sink);
+      fits : ElementsFit site.table (kind_at site) (values_of now);
+      nests : elements_nesting (values_of now) ≤ elements_nesting (values_of all);
     }
 
 -- what the structure adds is what the rest of it adds
@@ -27,11 +38,15 @@ abbrev pub invariant-write_structure-loop-position : goal.invariant-write_struct
 invariant-write_structure-loop-position g l =
     let sink = g.S.ShapeSerializer in
     let site = site_of l.schema in
-    let left = view_members l.position-iterator in
+    let all = member_views g.T.Tree.view (entries l.fn.members) in
+    let now = member_views g.T.Tree.view (entries l.left) in
     record {
       failed : sink.failed l.sink ≡ false;
-      rest : write sink.after site (structure (view_members l.members.entries)) (sink.state l.fn.sink)
-          ≡ run sink.after (structure_rest site l.position-iterator) (sink.state l.sink);
-      fits : MembersFit site.table (kind_at site) left;
-      small : largest the_size l.position-iterator ≤ largest the_size l.members.entries;
+      rest : write sink.after site (structure all) (sink.state l.fn.sink)
+          ≡ run sink.after (structure_rest site now) (sink.state l.sink);
+      fits : MembersFit site.table (kind_at site) now;
+      nests : members_nesting now ≤ members_nesting all;
     }
+
+abbrev pub decreases-write_structure-loop-position : goal.decreases-write_structure-loop-position
+decreases-write_structure-loop-position g l = count (member_views g.T.Tree.view (entries l.left))

@@ -1,0 +1,104 @@
+//! The trees that values are read into.
+
+use super::WIRE;
+use crate::compact_value::CompactValue;
+use crate::transcode;
+use crate::tree::{Part, Tree};
+use crate::value::Value;
+use smithy_schema::{SerdeError, ShapeType, Shapes, TableText};
+use std::alloc::Global;
+use std::test::Fail;
+
+// Some more than are kept in order by moving them.
+const MEMBERS: usize = 40;
+
+fn long_members(alloc: Global) -> Result<String, Fail> {
+    let mut table = String::new(alloc);
+    table.push_str("structure S\n")?;
+    for member in 0..MEMBERS {
+        let line = format!(in alloc; "member m{member} long\n")?;
+        table.push_str(line.as_str())?;
+    }
+    Ok(table)
+}
+
+// A body with the members in falling order, each of them twice, and one of them again at the end.
+fn falling(alloc: Global) -> Result<String, Fail> {
+    let mut body = String::new(alloc);
+    body.push_str("{")?;
+    for turn in 0..MEMBERS {
+        let member = MEMBERS - 1 - turn;
+        let twice = format!(in alloc; "\"m{member}\":-1,\"m{member}\":{member},")?;
+        body.push_str(twice.as_str())?;
+    }
+    body.push_str("\"m3\":-3}")?;
+    Ok(body)
+}
+
+// The same members in the order of the table.
+fn ascending(alloc: Global) -> Result<String, Fail> {
+    let mut body = String::new(alloc);
+    body.push_str("{\"m0\":0,\"m1\":1,\"m2\":2,\"m3\":-3")?;
+    for member in 4..MEMBERS {
+        let once = format!(in alloc; ",\"m{member}\":{member}")?;
+        body.push_str(once.as_str())?;
+    }
+    body.push_str("}")?;
+    Ok(body)
+}
+
+#[test]
+fn many_members_in_falling_order_are_written_in_order(rt: HostRuntime) -> Result<(), Fail> {
+    let table = long_members(rt.alloc())?;
+    let shapes = Shapes::build(rt.alloc(), TableText::read(rt.alloc(), table.as_bytes())?)?;
+    let Some(root) = shapes.find("S") else {
+        assert!(rt; false, "the table has no S");
+        return Ok(());
+    };
+    let ShapeType::Structure = shapes.schema(root).shape_type() else {
+        assert!(rt; false, "S is no structure");
+        return Ok(());
+    };
+    let input = falling(rt.alloc())?;
+    let output = ascending(rt.alloc())?;
+    match transcode(rt.alloc(), &shapes, root, &WIRE, input.as_bytes(), &WIRE) {
+        Ok(body) => assert_eq!(rt; body.as_slice(), output.as_bytes()),
+        Err(error) => assert!(rt; false, "{error}"),
+    }
+    Ok(())
+}
+
+// A structure of two members, of which the second comes first, and then again.
+fn two_members<T: Tree>(alloc: Global) -> Result<T, SerdeError> {
+    let mut members = T::no_members(alloc);
+    T::set_member(alloc, &mut members, 2, T::null())?;
+    T::set_member(alloc, &mut members, 0, T::long(7))?;
+    T::set_member(alloc, &mut members, 2, T::list(Vec::new(alloc)))?;
+    Ok(T::structure(members))
+}
+
+// Whether a tree is that structure.
+fn has_two_members<T: Tree>(tree: &T) -> bool {
+    let Part::Structure(mut left) = tree.part() else {
+        return false;
+    };
+    let Some((0, number)) = left.next_member() else {
+        return false;
+    };
+    let Some((2, elements)) = left.next_member() else {
+        return false;
+    };
+    let Part::List(none) = elements.part() else {
+        return false;
+    };
+    matches!(number.part(), Part::Whole(7)) && none.is_empty() && left.next_member().is_none()
+}
+
+#[test]
+fn a_tree_has_its_members_in_order(rt: HostRuntime) -> Result<(), Fail> {
+    let value: Value = two_members(rt.alloc())?;
+    assert!(rt; has_two_members(&value), "the public value");
+    let compact: CompactValue = two_members(rt.alloc())?;
+    assert!(rt; has_two_members(&compact), "the compact value");
+    Ok(())
+}
