@@ -8,7 +8,7 @@ use Rattle.smithy_schema.specs.declared.place.Place.{Place}
 use Rattle.smithy_schema.specs.declared.shape_type.TimestampFormat.{TimestampFormat}
 use Rattle.smithy_schema.specs.declared.shape_type.Scalar.TheVariants as scalars
 use Rattle.smithy_schema.specs.Table.{Table, kind_of, scalar_place, IsList, IsStructure}
-use Rattle.smithy_schema.specs.Value.{whole, text}
+use Rattle.smithy_schema.specs.Value.{whole, text, scalar_value}
 use Rattle.smithy_schema.specs.Reading.{Cursor, Frame, depth, passed_to, Mark, Passes, Reads, Enters, Steps, Leaves, Conducts, StandsNot, OpensNot, SkipsNot, CannotGoOn, IsFault, in_list}
 use Rattle.smithy_cbor.specs.Cursor.{inside_of}
 use Rattle.smithy_cbor.specs.Settings.{Settings, Limits, kept, lifted, is_within}
@@ -30,14 +30,14 @@ passes old new e sound is = rw is (record { input = refl; inner = refl; outer = 
 
 module _ (o : Settings) (old new : Cursor) (t : Table) (time : Option TimestampFormat) (held : ℕ) (same : held ≡ depth old) (e : ℕ) (sound : old.failed ≡ false) (is : new ≡ passed_to old e) where
   -- an integer of 64 bits was read
-  pub long_reads : (n m : ℤ) → m ≡ n → IsLongAt n old.input old.at held e → Reads (cbor_relations o) old new t (scalar_place scalars.Long time) (whole m)
+  pub long_reads : (n m : ℤ) → m ≡ n → IsLongAt n old.input old.at held e → Reads (cbor_relations o) old new t (scalar_place scalars.Long time) (scalar_value (whole m))
   long_reads n m number h = record {
     stands = rw (is, number) (long_stands o old.input t (scalar_place scalars.Long time) (depth old) old.at refl n e (rw same at h));
     passes = passes old new e sound is;
   }
 
   -- a text was read
-  pub text_reads : (s : List ℕ) → HasTextAt s old.input old.at e → Follows held old.input e → Reads (cbor_relations o) old new t (scalar_place scalars.String time) (text s)
+  pub text_reads : (s : List ℕ) → HasTextAt s old.input old.at e → Follows held old.input e → Reads (cbor_relations o) old new t (scalar_place scalars.String time) (scalar_value (text s))
   text_reads s h follows = record {
     stands = rw is (text_stands o old.input t (scalar_place scalars.String time) (depth old) old.at refl s e h (rw same at follows));
     passes = passes old new e sound is;

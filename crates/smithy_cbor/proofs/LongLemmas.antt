@@ -11,14 +11,15 @@ use Rattle.cbor_item.specs.Item.{Item, unsigned, negative, byte_string, text_str
 use Rattle.cbor_item.specs.WellFormed.{IsItemAt}
 use Rattle.cbor_item.proofs.HeadLemmas.{head_in_front, front_begins_low}
 use Rattle.smithy_cbor.specs.declared.error.DecodeKind.{DecodeKind}
-use Rattle.smithy_cbor.specs.Scalar.{is_long, integer_of}
+use Rattle.smithy_cbor.specs.Scalar.{integer_of}
+use Rattle.smithy_texts.specs.Ranges.{fits_signed}
 use Rattle.smithy_cbor.specs.Reading.{IsInteger, IsIntegerFault}
 use Rattle.smithy_cbor.specs.Private.ScalarAtPlace.{IsLongAt}
 use Rattle.smithy_cbor.specs.Private.ItemPlaces.{item_front, one_item}
 use Rattle.smithy_cbor.proofs.HeadFaults.{no_wanted_head}
 
 -- what is a long fits 64 bits
-long_fits : (z : ℤ) → is_long z ≡ true → FitsSigned w64 z
+long_fits : (z : ℤ) → fits_signed 64 z ≡ true → FitsSigned w64 z
 long_fits (pos n) h =
     record { sfits = ltb-true _ _ (and_parts (int_le (neg_ℤ (pos (2 ^ 63))) (pos n)) (int_lt (pos n) (pos (2 ^ 63))) h).1 }
 long_fits (negsuc n) h =

@@ -1,29 +1,29 @@
 -- What items mean over small tables, by computing, and what stands close by and means nothing.
 use Rattle.std.proofs.Common.{◌≡◌, List, [], ◌∷◌, map, replicate, true, false, Some, None, refl, pos, neg_ℤ, ◌^◌, ◌-◌, codes}
 use Rattle.smithy_schema.specs.Value as values
-use Rattle.smithy_schema.specs.Value.{whole, text, null_element, no_values, no_member_values, member_value}
+use Rattle.smithy_schema.specs.Value.{null_element, no_values, no_member_values, member_value}
 use Rattle.cbor_item.specs.Item.{definite, indefinite, Item, unsigned, negative, byte_string, array, map as map_item, tag, simple, float, no_items, no_pairs, pair}
 use Rattle.smithy_cbor.specs.Meaning.{cbor_meaning}
 use Rattle.smithy_cbor.proofs.OnLiterals.{smithy_cbor_on_literals}
-use Rattle.smithy_cbor.proofs.Examples.{one_long, long_renamed, accented, one_string, three_members, lists_of_lists, lists_of_strings, nodes, long_place, string_place, a_text, chunked, null, undefined, an_array, a_map, items_of, alone, both, in_arrays, in_lists, empty_structure, first_alone, strict, means_at, would_mean_at, means_within}
+use Rattle.smithy_cbor.proofs.Examples.{whole_value, text_value, one_long, long_renamed, accented, one_string, three_members, lists_of_lists, lists_of_strings, nodes, long_place, string_place, a_text, chunked, null, undefined, an_array, a_map, items_of, alone, both, in_arrays, in_lists, empty_structure, first_alone, strict, means_at, would_mean_at, means_within}
 
 -- ---- members of a structure
 
 -- {"a": 1} and {_ "a": 1}
 pub either_length : map (means_at one_long 0) (alone (codes "a") (unsigned 1) ∷ map_item indefinite (pair (a_text (codes "a")) (unsigned 1) no_pairs) ∷ [])
-    ≡ Some (first_alone (whole (pos 1))) ∷ Some (first_alone (whole (pos 1))) ∷ []
+    ≡ Some (first_alone (whole_value (pos 1))) ∷ Some (first_alone (whole_value (pos 1))) ∷ []
 unfolding smithy_cbor_on_literals
 either_length = refl
 
 -- {"a": 1, "a": 2} and {"a": 2, "a": 1}
 pub last_member_counts : map (means_at one_long 0) (both (codes "a") (unsigned 1) (codes "a") (unsigned 2) ∷ both (codes "a") (unsigned 2) (codes "a") (unsigned 1) ∷ [])
-    ≡ Some (first_alone (whole (pos 2))) ∷ Some (first_alone (whole (pos 1))) ∷ []
+    ≡ Some (first_alone (whole_value (pos 2))) ∷ Some (first_alone (whole_value (pos 1))) ∷ []
 unfolding smithy_cbor_on_literals
 last_member_counts = refl
 
 -- {"a": 1, "a": null} and {"a": null, "a": 1}
 pub null_clears_nothing : map (means_at one_long 0) (both (codes "a") (unsigned 1) (codes "a") null ∷ both (codes "a") null (codes "a") (unsigned 1) ∷ [])
-    ≡ Some (first_alone (whole (pos 1))) ∷ Some (first_alone (whole (pos 1))) ∷ []
+    ≡ Some (first_alone (whole_value (pos 1))) ∷ Some (first_alone (whole_value (pos 1))) ∷ []
 unfolding smithy_cbor_on_literals
 null_clears_nothing = refl
 
@@ -41,7 +41,7 @@ no_member_at_all = refl
 
 -- a member goes by its own name, whatever its name is in JSON: {"a": 1} and {"A": 1}
 pub own_names : map (means_at long_renamed 0) (alone (codes "a") (unsigned 1) ∷ alone (codes "A") (unsigned 1) ∷ [])
-    ≡ Some (first_alone (whole (pos 1))) ∷ Some empty_structure ∷ []
+    ≡ Some (first_alone (whole_value (pos 1))) ∷ Some empty_structure ∷ []
 unfolding smithy_cbor_on_literals
 own_names = refl
 
@@ -54,7 +54,7 @@ undefined_member = refl
 -- under an unknown key stands any item: a text that isn't UTF-8, also in chunks, a byte string, a float, a
 -- simple value, a tag, keys that are no texts, and arrays in one another
 pub skipped_items : map (means_at one_long 0) (map (λ i. both (codes "z") i (codes "a") (unsigned 1)) (a_text (0xff ∷ []) ∷ chunked ((0xc3 ∷ []) ∷ (0xa9 ∷ []) ∷ []) ∷ byte_string definite ((0xff ∷ []) ∷ []) ∷ float (0x7e ∷ 0x00 ∷ []) ∷ simple 32 ∷ tag 1 (float (replicate 8 0)) ∷ a_map ((unsigned 1, null) ∷ (undefined, unsigned 2) ∷ []) ∷ in_arrays 200 null ∷ []))
-    ≡ replicate 8 (Some (first_alone (whole (pos 1))))
+    ≡ replicate 8 (Some (first_alone (whole_value (pos 1))))
 unfolding smithy_cbor_on_literals
 skipped_items = refl
 
@@ -68,13 +68,13 @@ no_structures = refl
 
 -- a key may come in chunks: (_ "a"), (_ "", "a"), and (_ ), which is empty and names nothing
 pub chunked_keys : map (λ k. means_at one_long 0 (a_map ((k, unsigned 1) ∷ []))) (chunked (codes "a" ∷ []) ∷ chunked ([] ∷ codes "a" ∷ []) ∷ chunked [] ∷ [])
-    ≡ Some (first_alone (whole (pos 1))) ∷ Some (first_alone (whole (pos 1))) ∷ Some empty_structure ∷ []
+    ≡ Some (first_alone (whole_value (pos 1))) ∷ Some (first_alone (whole_value (pos 1))) ∷ Some empty_structure ∷ []
 unfolding smithy_cbor_on_literals
 chunked_keys = refl
 
 -- each chunk is UTF-8 by itself: "é" in one chunk, and its two bytes in a chunk each
 pub accented_keys : map (λ k. means_at accented 0 (a_map ((k, unsigned 1) ∷ []))) (a_text (0xc3 ∷ 0xa9 ∷ []) ∷ chunked ((0xc3 ∷ 0xa9 ∷ []) ∷ []) ∷ chunked ((0xc3 ∷ []) ∷ (0xa9 ∷ []) ∷ []) ∷ [])
-    ≡ Some (first_alone (whole (pos 1))) ∷ Some (first_alone (whole (pos 1))) ∷ None ∷ []
+    ≡ Some (first_alone (whole_value (pos 1))) ∷ Some (first_alone (whole_value (pos 1))) ∷ None ∷ []
 unfolding smithy_cbor_on_literals
 accented_keys = refl
 
@@ -99,7 +99,7 @@ key_without_text_lifted = refl
 
 -- 0, 2^63-1, -1 and -2^63
 pub whole_numbers : map (cbor_meaning strict one_long long_place 0) (unsigned 0 ∷ unsigned (2 ^ 63 - 1) ∷ negative 0 ∷ negative (2 ^ 63 - 1) ∷ [])
-    ≡ Some (whole (pos 0)) ∷ Some (whole (pos (2 ^ 63 - 1))) ∷ Some (whole (neg_ℤ (pos 1))) ∷ Some (whole (neg_ℤ (pos (2 ^ 63)))) ∷ []
+    ≡ Some (whole_value (pos 0)) ∷ Some (whole_value (pos (2 ^ 63 - 1))) ∷ Some (whole_value (neg_ℤ (pos 1))) ∷ Some (whole_value (neg_ℤ (pos (2 ^ 63)))) ∷ []
 whole_numbers = refl
 
 -- 2^63, 2^64-1, -2^63-1 and -2^64; the width isn't a limit that is lifted
@@ -118,7 +118,7 @@ no_longs = refl
 
 -- "", (_ ), "hi", (_ "h", "i"), a quotation mark with a line feed, and "é" in one chunk
 pub texts : map (cbor_meaning strict one_string string_place 0) (a_text [] ∷ chunked [] ∷ a_text (codes "hi") ∷ chunked (codes "h" ∷ codes "i" ∷ []) ∷ a_text (0x22 ∷ 0x0a ∷ []) ∷ chunked (codes "h" ∷ (0xc3 ∷ 0xa9 ∷ []) ∷ []) ∷ [])
-    ≡ Some (text []) ∷ Some (text []) ∷ Some (text (codes "hi")) ∷ Some (text (codes "hi")) ∷ Some (text (0x22 ∷ 0x0a ∷ [])) ∷ Some (text (0x68 ∷ 0xc3 ∷ 0xa9 ∷ [])) ∷ []
+    ≡ Some (text_value []) ∷ Some (text_value []) ∷ Some (text_value (codes "hi")) ∷ Some (text_value (codes "hi")) ∷ Some (text_value (0x22 ∷ 0x0a ∷ [])) ∷ Some (text_value (0x68 ∷ 0xc3 ∷ 0xa9 ∷ [])) ∷ []
 unfolding smithy_cbor_on_literals
 texts = refl
 
@@ -138,13 +138,13 @@ no_texts = refl
 
 -- ["x", "y"], [_ "x", "y"], [] and [_ ]
 pub elements : map (means_at (lists_of_strings false) 0) (an_array (a_text (codes "x") ∷ a_text (codes "y") ∷ []) ∷ array indefinite (items_of (a_text (codes "x") ∷ a_text (codes "y") ∷ [])) ∷ an_array [] ∷ array indefinite no_items ∷ [])
-    ≡ Some (values.list (values.value (text (codes "x")) (values.value (text (codes "y")) no_values))) ∷ Some (values.list (values.value (text (codes "x")) (values.value (text (codes "y")) no_values))) ∷ Some (values.list no_values) ∷ Some (values.list no_values) ∷ []
+    ≡ Some (values.list (values.value (text_value (codes "x")) (values.value (text_value (codes "y")) no_values))) ∷ Some (values.list (values.value (text_value (codes "x")) (values.value (text_value (codes "y")) no_values))) ∷ Some (values.list no_values) ∷ Some (values.list no_values) ∷ []
 unfolding smithy_cbor_on_literals
 elements = refl
 
 -- a null stands in a sparse list alone
 pub null_elements : map (λ is_sparse. means_at (lists_of_strings is_sparse) 0 (an_array (null ∷ a_text (codes "x") ∷ []))) (true ∷ false ∷ [])
-    ≡ Some (values.list (values.value null_element (values.value (text (codes "x")) no_values))) ∷ None ∷ []
+    ≡ Some (values.list (values.value null_element (values.value (text_value (codes "x")) no_values))) ∷ None ∷ []
 unfolding smithy_cbor_on_literals
 null_elements = refl
 
@@ -162,7 +162,7 @@ no_lists = refl
 
 -- {"i": ["x", "y"], "s": "é", "a": 0}, whose members come in the table's order
 pub members_in_order : means_at three_members 1 (a_map ((a_text (codes "i"), an_array (a_text (codes "x") ∷ a_text (codes "y") ∷ [])) ∷ (a_text (codes "s"), a_text (0xc3 ∷ 0xa9 ∷ [])) ∷ (a_text (codes "a"), unsigned 0) ∷ []))
-    ≡ Some (values.structure (member_value 0 (whole (pos 0)) (member_value 1 (text (0xc3 ∷ 0xa9 ∷ [])) (member_value 2 (values.list (values.value (text (codes "x")) (values.value (text (codes "y")) no_values))) no_member_values))))
+    ≡ Some (values.structure (member_value 0 (whole_value (pos 0)) (member_value 1 (text_value (0xc3 ∷ 0xa9 ∷ [])) (member_value 2 (values.list (values.value (text_value (codes "x")) (values.value (text_value (codes "y")) no_values))) no_member_values))))
 unfolding smithy_cbor_on_literals
 members_in_order = refl
 

@@ -6,7 +6,7 @@ use Rattle.smithy_schema.specs.declared.place.Place.{Place}
 use Rattle.smithy_schema.specs.declared.shape_type.Scalar.TheVariants as scalars
 use Rattle.smithy_schema.specs.declared.shape_type.TimestampFormat.{TimestampFormat}
 use Rattle.smithy_schema.specs.Table.{Table, Kind, scalar, structure_of, list_of, nothing, kind_of, place_in}
-use Rattle.smithy_schema.specs.Value.{Value, text, structure, no_member_values, null_element, nesting}
+use Rattle.smithy_schema.specs.Value.{text, Value, scalar_value, structure, no_member_values, null_element, nesting}
 use Rattle.smithy_schema.specs.Container.{container_of}
 use Rattle.smithy_schema.specs.Lemmas.Options.{chosen, made}
 use Rattle.smithy_schema.proofs.NestingLemmas.{NestWithin, container_nests}
@@ -28,7 +28,7 @@ leaf_nests c (scalar scalars.Long) time x v most h =
     let z = long_is x v (sym (settled_answer c.limits null_element (long_of x)) ∙ h) in
     subst (λ u. nesting u ≤ most) z.3 (omega arith)
 leaf_nests c (scalar scalars.String) time x v most h =
-    let s = made text (text_of x) v (sym (settled_answer c.limits null_element (option_map text (text_of x))) ∙ h) in
+    let s = made (λ s. scalar_value (text s)) (text_of x) v (sym (settled_answer c.limits null_element (option_map (λ s. scalar_value (text s)) (text_of x))) ∙ h) in
     subst (λ u. nesting u ≤ most) s.2 (omega arith)
 leaf_nests c (structure_of members) time x v most h = cc
 leaf_nests c (list_of l) time x v most h = cc

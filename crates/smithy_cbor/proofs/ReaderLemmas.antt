@@ -4,13 +4,14 @@ use Rattle.std.specs.Prelude.{option_map, option_and_then}
 use Rattle.smithy_schema.specs.declared.place.Place.{Place}
 use Rattle.smithy_schema.specs.declared.shape_type.Scalar.TheVariants as scalars
 use Rattle.smithy_schema.specs.Table.{Table, scalar, kind_of, IsList, IsStructure}
-use Rattle.smithy_schema.specs.Value.{Value, whole, text, null_element}
+use Rattle.smithy_schema.specs.Value.{whole, text, Value, scalar_value, null_element}
 use Rattle.smithy_schema.specs.Reading.{Mark}
 use Rattle.smithy_schema.specs.Lemmas.Kinds.{no_list_and_structure}
 use Rattle.smithy_schema.specs.Lemmas.Options.{made}
 use Rattle.cbor_item.specs.Item.{Item, unsigned, negative, byte_string, text_string, array, map, tag, simple, float}
 use Rattle.smithy_cbor.specs.Settings.{Settings}
-use Rattle.smithy_cbor.specs.Scalar.{is_long, integer_of, text_of, long_of}
+use Rattle.smithy_cbor.specs.Scalar.{integer_of, text_of, long_of}
+use Rattle.smithy_texts.specs.Ranges.{fits_signed}
 use Rattle.smithy_cbor.specs.Meaning.{node_of, rules_of}
 use Rattle.smithy_cbor.specs.Reading.{OpensAt}
 use Rattle.smithy_cbor.specs.Standing.{Follows, FollowsInside, HasEntry, IsOver, mark_with, end_mark, cbor_frames, cbor_relations}
@@ -160,21 +161,21 @@ text_is_leaf (tag m x) s is = cc
 text_is_leaf (simple m) s is = cc
 text_is_leaf (float digits) s is = cc
 
-long_said : (x : Item) (n : ℤ) → integer_of x ≡ Some n → is_long n ≡ true → long_of x ≡ Some (whole n)
+long_said : (x : Item) (n : ℤ) → integer_of x ≡ Some n → fits_signed 64 n ≡ true → long_of x ≡ Some (scalar_value (whole n))
 long_said x n is fits = rw (is, fits) refl
 
 module _ (o : Settings) (i : List ℕ) (t : Table) (p : Place) (d a : ℕ) (kind : kind_of t p ≡ scalar scalars.Long) where
   -- at the place of a long exactly an integer of 64 bits stands
-  pub long_stands : (n : ℤ) (e : ℕ) → IsLongAt n i a d e → (cbor_relations o).stands i t p d a (whole n) e
+  pub long_stands : (n : ℤ) (e : ℕ) → IsLongAt n i a d e → (cbor_relations o).stands i t p d a (scalar_value (whole n)) e
   long_stands n e h =
-      scalar_stands cbor_frames (rules_of o) i t p scalars.Long kind d a (whole n) e (
+      scalar_stands cbor_frames (rules_of o) i t p scalars.Long kind d a (scalar_value (whole n)) e (
         h.found,
         (integer_is_leaf h.found n h.is, h.stands, h.follows),
         settled_answer o.limits null_element (long_of h.found) ∙ long_said h.found n h.is h.fits,
       )
 
   -- and back
-  pub stands_long : (v : Value) (e : ℕ) → (cbor_relations o).stands i t p d a v e → (n : ℤ) × (v ≡ whole n) × IsLongAt n i a d e
+  pub stands_long : (v : Value) (e : ℕ) → (cbor_relations o).stands i t p d a v e → (n : ℤ) × (v ≡ scalar_value (whole n)) × IsLongAt n i a d e
   stands_long v e h =
       let (x, lies, says) = stands_scalar cbor_frames (rules_of o) i t p scalars.Long kind d a v e h in
       let z = long_is x v (sym (settled_answer o.limits null_element (long_of x)) ∙ says) in
@@ -182,17 +183,17 @@ module _ (o : Settings) (i : List ℕ) (t : Table) (p : Place) (d a : ℕ) (kind
 
 module _ (o : Settings) (i : List ℕ) (t : Table) (p : Place) (d a : ℕ) (kind : kind_of t p ≡ scalar scalars.String) where
   -- at the place of a string exactly a text stands
-  pub text_stands : (s : List ℕ) (e : ℕ) → HasTextAt s i a e → Follows d i e → (cbor_relations o).stands i t p d a (text s) e
+  pub text_stands : (s : List ℕ) (e : ℕ) → HasTextAt s i a e → Follows d i e → (cbor_relations o).stands i t p d a (scalar_value (text s)) e
   text_stands s e h follows =
-      scalar_stands cbor_frames (rules_of o) i t p scalars.String kind d a (text s) e (
+      scalar_stands cbor_frames (rules_of o) i t p scalars.String kind d a (scalar_value (text s)) e (
         h.found,
         (text_is_leaf h.found s h.is, h.stands, follows),
-        settled_answer o.limits null_element (option_map text (text_of h.found)) ∙ ap (option_map text) h.is,
+        settled_answer o.limits null_element (option_map (λ s. scalar_value (text s)) (text_of h.found)) ∙ ap (option_map (λ s. scalar_value (text s))) h.is,
       )
 
   -- and back
   pub stands_text : (v : Value) (e : ℕ) → (cbor_relations o).stands i t p d a v e → (s : List ℕ) × HasTextAt s i a e × Follows d i e
   stands_text v e h =
       let (x, lies, says) = stands_scalar cbor_frames (rules_of o) i t p scalars.String kind d a v e h in
-      let s = made text (text_of x) v (sym (settled_answer o.limits null_element (option_map text (text_of x))) ∙ says) in
+      let s = made (λ s. scalar_value (text s)) (text_of x) v (sym (settled_answer o.limits null_element (option_map (λ s. scalar_value (text s)) (text_of x))) ∙ says) in
       (s.0, record { found = x; stands = lies.1; is = s.1 }, lies.2)

@@ -3,7 +3,7 @@ use Rattle.std.specs.Prelude.{slice_range}
 use Rattle.std.proofs.Common.{◌≡◌, ◌≢◌, inl, inr, ℕ, ◌-◌, ◌^◌, List, [], ◌∷◌, ◌++◌, length, false, Option, Some, None, refl, sym, ap, ◌∙◌, subst, arith, append-nil, take_all, le_refl, pos, neg_ℤ, replicate, codes}
 use Rattle.smithy_schema.specs.Table.{Table, shape_place}
 use Rattle.smithy_schema.specs.Value as values
-use Rattle.smithy_schema.specs.Value.{Value, whole, text, no_values}
+use Rattle.smithy_schema.specs.Value.{Value, no_values}
 use Rattle.cbor_item.specs.Head as widths
 use Rattle.cbor_item.specs.Item.{indefinite, unsigned, array, map as map_item, Items, no_items, item, no_pairs}
 use Rattle.cbor_item.specs.WellFormed.{IsEncodingOf, AreEncodingsOf}
@@ -15,7 +15,7 @@ use Rattle.cbor_item.proofs.Cutting.{stops_cut}
 use Rattle.cbor_item.proofs.SkipLemmas.{found_cut}
 use Rattle.smithy_cbor.specs.Spelling.{cbor_spells}
 use Rattle.smithy_cbor.proofs.OnLiterals.{smithy_cbor_on_literals}
-use Rattle.smithy_cbor.proofs.Examples.{one_long, one_string, lists_of_lists, a_text, chunked, null, alone, in_lists, empty_structure, first_alone, strict, means_at}
+use Rattle.smithy_cbor.proofs.Examples.{whole_value, text_value, one_long, one_string, lists_of_lists, a_text, chunked, null, alone, in_lists, empty_structure, first_alone, strict, means_at}
 use Rattle.smithy_cbor.proofs.EncodedItems.{Encoded, in_one_byte, one_chunk, short_text, small, long_unsigned, long_negative, sole, sole_until, two, arrays, a_key, z_key, l_key, no_text, a_null, an_undefined}
 
 -- ---- what an input spells, and that it spells nothing
@@ -58,12 +58,12 @@ cut_off t root bytes some short v (inr (empty, structure, shallow, is)) = some e
 -- ---- structures of one member
 
 -- {"a": 1} and {_ "a": 1}
-pub either_length : Spells one_long 0 (0xa1 ∷ 0x61 ∷ 0x61 ∷ 0x01 ∷ []) (first_alone (whole (pos 1)))
-    × Spells one_long 0 (0xbf ∷ 0x61 ∷ 0x61 ∷ 0x01 ∷ 0xff ∷ []) (first_alone (whole (pos 1)))
+pub either_length : Spells one_long 0 (0xa1 ∷ 0x61 ∷ 0x61 ∷ 0x01 ∷ []) (first_alone (whole_value (pos 1)))
+    × Spells one_long 0 (0xbf ∷ 0x61 ∷ 0x61 ∷ 0x01 ∷ 0xff ∷ []) (first_alone (whole_value (pos 1)))
 unfolding smithy_cbor_on_literals
 either_length = (
-  meaning one_long 0 (sole a_key (small 1 (omega arith))) (first_alone (whole (pos 1))) refl,
-  meaning one_long 0 (sole_until a_key (small 1 (omega arith))) (first_alone (whole (pos 1))) refl,
+  meaning one_long 0 (sole a_key (small 1 (omega arith))) (first_alone (whole_value (pos 1))) refl,
+  meaning one_long 0 (sole_until a_key (small 1 (omega arith))) (first_alone (whole_value (pos 1))) refl,
 )
 
 -- {"a": 1} in heads that are wider than need be
@@ -86,14 +86,14 @@ wide_pair = record {
   );
 }
 
-pub wide_heads : Spells one_long 0 (0xb8 ∷ 0x01 ∷ 0x78 ∷ 0x01 ∷ 0x61 ∷ 0x19 ∷ 0x00 ∷ 0x01 ∷ []) (first_alone (whole (pos 1)))
+pub wide_heads : Spells one_long 0 (0xb8 ∷ 0x01 ∷ 0x78 ∷ 0x01 ∷ 0x61 ∷ 0x19 ∷ 0x00 ∷ 0x01 ∷ []) (first_alone (whole_value (pos 1)))
 unfolding smithy_cbor_on_literals
-wide_heads = meaning one_long 0 wide_pair (first_alone (whole (pos 1))) refl
+wide_heads = meaning one_long 0 wide_pair (first_alone (whole_value (pos 1))) refl
 
 -- {_ "a": -9223372036854775808}
-pub least_long : Spells one_long 0 (0xbf ∷ 0x61 ∷ 0x61 ∷ 0x3b ∷ 0x7f ∷ (replicate 7 0xff ++ 0xff ∷ [])) (first_alone (whole (neg_ℤ (pos (2 ^ 63)))))
+pub least_long : Spells one_long 0 (0xbf ∷ 0x61 ∷ 0x61 ∷ 0x3b ∷ 0x7f ∷ (replicate 7 0xff ++ 0xff ∷ [])) (first_alone (whole_value (neg_ℤ (pos (2 ^ 63)))))
 unfolding smithy_cbor_on_literals
-least_long = meaning one_long 0 (sole_until a_key (long_negative (2 ^ 63 - 1) (omega arith))) (first_alone (whole (neg_ℤ (pos (2 ^ 63))))) refl
+least_long = meaning one_long 0 (sole_until a_key (long_negative (2 ^ 63 - 1) (omega arith))) (first_alone (whole_value (neg_ℤ (pos (2 ^ 63))))) refl
 
 -- {_ "a": -9223372036854775809} and {_ "a": 9223372036854775808}
 pub beyond_long : SpellsNothing one_long 0 (0xbf ∷ 0x61 ∷ 0x61 ∷ 0x3b ∷ 0x80 ∷ (replicate 7 0x00 ++ 0xff ∷ []))
@@ -119,9 +119,9 @@ no_wide_null (inl (low, same)) = cc
 no_wide_null (inr (high, below, same)) = omega arith
 
 -- {"z": a text that isn't UTF-8, "a": 1}
-pub skipped_text : Spells one_long 0 (0xa2 ∷ 0x61 ∷ 0x7a ∷ 0x61 ∷ 0xff ∷ 0x61 ∷ 0x61 ∷ 0x01 ∷ []) (first_alone (whole (pos 1)))
+pub skipped_text : Spells one_long 0 (0xa2 ∷ 0x61 ∷ 0x7a ∷ 0x61 ∷ 0xff ∷ 0x61 ∷ 0x61 ∷ 0x01 ∷ []) (first_alone (whole_value (pos 1)))
 unfolding smithy_cbor_on_literals
-skipped_text = meaning one_long 0 (two z_key no_text a_key (small 1 (omega arith))) (first_alone (whole (pos 1))) refl
+skipped_text = meaning one_long 0 (two z_key no_text a_key (small 1 (omega arith))) (first_alone (whole_value (pos 1))) refl
 
 -- such a text as a key above a null, and as the value of a text; and 1 as a key
 pub wrong_texts : SpellsNothing one_long 0 (0xa1 ∷ 0x61 ∷ 0xff ∷ 0xf6 ∷ []) × SpellsNothing one_string 0 (0xa1 ∷ 0x61 ∷ 0x61 ∷ 0x61 ∷ 0xff ∷ [])
@@ -134,9 +134,9 @@ wrong_texts = (
 )
 
 -- a text with a quotation mark and a line feed
-pub plain_text : Spells one_string 0 (0xa1 ∷ 0x61 ∷ 0x61 ∷ 0x62 ∷ 0x22 ∷ 0x0a ∷ []) (first_alone (text (0x22 ∷ 0x0a ∷ [])))
+pub plain_text : Spells one_string 0 (0xa1 ∷ 0x61 ∷ 0x61 ∷ 0x62 ∷ 0x22 ∷ 0x0a ∷ []) (first_alone (text_value (0x22 ∷ 0x0a ∷ [])))
 unfolding smithy_cbor_on_literals
-plain_text = meaning one_string 0 (sole a_key (short_text (0x22 ∷ 0x0a ∷ []) (omega arith))) (first_alone (text (0x22 ∷ 0x0a ∷ []))) refl
+plain_text = meaning one_string 0 (sole a_key (short_text (0x22 ∷ 0x0a ∷ []) (omega arith))) (first_alone (text_value (0x22 ∷ 0x0a ∷ []))) refl
 
 -- (_ "a"), and (_ "h", "i")
 abbrev a_in_chunks : Encoded
@@ -149,9 +149,9 @@ hi_in_chunks = record {
   is = (0x61 ∷ 0x68 ∷ 0x61 ∷ 0x69 ∷ [], (0x61 ∷ 0x68 ∷ [], 0x61 ∷ 0x69 ∷ [], (0x61 ∷ [], in_one_byte 3 1 (omega arith), refl), one_chunk 3 (codes "i") (omega arith), refl), refl);
 }
 
-pub chunked_texts : Spells one_string 0 (0xbf ∷ 0x7f ∷ 0x61 ∷ 0x61 ∷ 0xff ∷ 0x7f ∷ 0x61 ∷ 0x68 ∷ 0x61 ∷ 0x69 ∷ 0xff ∷ 0xff ∷ []) (first_alone (text (codes "hi")))
+pub chunked_texts : Spells one_string 0 (0xbf ∷ 0x7f ∷ 0x61 ∷ 0x61 ∷ 0xff ∷ 0x7f ∷ 0x61 ∷ 0x68 ∷ 0x61 ∷ 0x69 ∷ 0xff ∷ 0xff ∷ []) (first_alone (text_value (codes "hi")))
 unfolding smithy_cbor_on_literals
-chunked_texts = meaning one_string 0 (sole_until a_in_chunks hi_in_chunks) (first_alone (text (codes "hi"))) refl
+chunked_texts = meaning one_string 0 (sole_until a_in_chunks hi_in_chunks) (first_alone (text_value (codes "hi"))) refl
 
 -- [] and [_ ] where a map is due
 abbrev no_elements_until : Encoded

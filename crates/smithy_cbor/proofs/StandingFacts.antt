@@ -4,7 +4,7 @@ use Rattle.std.proofs.Common.{◌≡◌, inl, inr, ℕ, ◌-◌, List, [], ◌�
 use Rattle.std.specs.Prelude.{slice_range}
 use Rattle.smithy_schema.specs.Table.{Table, shape_place}
 use Rattle.smithy_schema.specs.Reading.{Relations, Mark}
-use Rattle.smithy_schema.specs.Value.{Value, whole}
+use Rattle.smithy_schema.specs.Value.{Value}
 use Rattle.cbor_item.specs.Head as widths
 use Rattle.cbor_item.specs.Item.{Item, unsigned}
 use Rattle.cbor_item.specs.WellFormed.{IsItemAt, IsEncodingOf}
@@ -17,7 +17,7 @@ use Rattle.smithy_cbor.specs.Private.ScalarAtPlace.{IsNullAt}
 use Rattle.smithy_cbor.specs.Private.ItemPlaces.{one_item}
 use Rattle.smithy_cbor.specs.Private.MembersBehindNulls.{HasKey}
 use Rattle.smithy_cbor.proofs.OnLiterals.{smithy_cbor_on_literals}
-use Rattle.smithy_cbor.proofs.Examples.{one_long, lists_of_strings, long_place, strict, empty_structure}
+use Rattle.smithy_cbor.proofs.Examples.{whole_value, one_long, lists_of_strings, long_place, strict, empty_structure}
 use Rattle.smithy_cbor.proofs.EncodedItems.{in_one_byte, a_key, z_key, no_text, small}
 use Rattle.smithy_cbor.proofs.ReaderLemmas.{opens_list, steps_in_list, closes_list, list_is_stuck, opens_structure, opens_empty, steps_in_structure, closes_structure, closes_empty, structure_is_stuck, long_stands, stands_long}
 use Rattle.smithy_cbor.proofs.SkippedValues.{skips_are}
@@ -189,7 +189,7 @@ begins_null = refl
 -- ---- what follows
 
 -- a number and {_ } with a byte behind them stand inside a container, and not outside of all
-pub byte_behind : strictly.stands (0x01 ∷ 0x00 ∷ []) one_long long_place 1 0 (whole (pos 1)) 1
+pub byte_behind : strictly.stands (0x01 ∷ 0x00 ∷ []) one_long long_place 1 0 (whole_value (pos 1)) 1
     × strictly.skips (0x01 ∷ 0x00 ∷ []) 1 0 1
     × strictly.closes (0xbf ∷ 0xff ∷ 0x00 ∷ []) one_long (shape_place 0) 2 1 (mark_with None) 2
     × ((v : Value) → strictly.stands (0x01 ∷ 0x00 ∷ []) one_long long_place 0 0 v 1 → ⊥)

@@ -5,33 +5,33 @@ use Rattle.smithy_schema.specs.declared.error.SerdeError.{SerdeError}
 use Rattle.smithy_schema.specs.declared.error.SerdeError.TheVariants.{Unwritable}
 use Rattle.smithy_schema.specs.Site.{Site, shape_site, site_of_member, nameless_site}
 use Rattle.smithy_schema.specs.Value as values
-use Rattle.smithy_schema.specs.Value.{Value, whole, text, null_element, no_values, no_member_values, member_value}
-use Rattle.smithy_schema.specs.Writing.{begin_structure, end_structure, begin_list, end_list, null_of, scalar_of, long, Open, open_structure, open_list, write}
+use Rattle.smithy_schema.specs.Value.{whole, Value, null_element, no_values, no_member_values, member_value}
+use Rattle.smithy_schema.specs.Writing.{begin_structure, end_structure, begin_list, end_list, null_of, scalar_of, Open, open_structure, open_list, write}
 use Rattle.smithy_cbor.specs.Openers.{cbor_openers}
 use Rattle.smithy_cbor.specs.Writing.{CborState, fresh_state, cbor_after}
-use Rattle.smithy_cbor.proofs.Examples.{one_long, long_renamed, one_string, three_members, lists_of_lists, lists_of_strings, nodes, long_place, plain_member, in_lists, empty_structure, first_alone, written}
+use Rattle.smithy_cbor.proofs.Examples.{whole_value, text_value, one_long, long_renamed, one_string, three_members, lists_of_lists, lists_of_strings, nodes, long_place, plain_member, in_lists, empty_structure, first_alone, written}
 
 -- ---- canonical encodings
 
 -- {_ "a": 1} and {_ }, and a member under its own name, whatever its name is in JSON
-pub structures : (written one_long 0 (first_alone (whole (pos 1))) ≡ 0xbf ∷ 0x61 ∷ 0x61 ∷ 0x01 ∷ 0xff ∷ [])
+pub structures : (written one_long 0 (first_alone (whole_value (pos 1))) ≡ 0xbf ∷ 0x61 ∷ 0x61 ∷ 0x01 ∷ 0xff ∷ [])
     × (written one_long 0 empty_structure ≡ 0xbf ∷ 0xff ∷ [])
-    × (written long_renamed 0 (first_alone (whole (pos 1))) ≡ 0xbf ∷ 0x61 ∷ 0x61 ∷ 0x01 ∷ 0xff ∷ [])
+    × (written long_renamed 0 (first_alone (whole_value (pos 1))) ≡ 0xbf ∷ 0x61 ∷ 0x61 ∷ 0x01 ∷ 0xff ∷ [])
 structures = (refl, refl, refl)
 
 -- -2^63 and 2^63-1
-pub ends_of_long : (written one_long 0 (first_alone (whole (neg_ℤ (pos (2 ^ 63))))) ≡ 0xbf ∷ 0x61 ∷ 0x61 ∷ 0x3b ∷ 0x7f ∷ (replicate 7 0xff ++ 0xff ∷ []))
-    × (written one_long 0 (first_alone (whole (pos (2 ^ 63 - 1)))) ≡ 0xbf ∷ 0x61 ∷ 0x61 ∷ 0x1b ∷ 0x7f ∷ (replicate 7 0xff ++ 0xff ∷ []))
+pub ends_of_long : (written one_long 0 (first_alone (whole_value (neg_ℤ (pos (2 ^ 63))))) ≡ 0xbf ∷ 0x61 ∷ 0x61 ∷ 0x3b ∷ 0x7f ∷ (replicate 7 0xff ++ 0xff ∷ []))
+    × (written one_long 0 (first_alone (whole_value (pos (2 ^ 63 - 1)))) ≡ 0xbf ∷ 0x61 ∷ 0x61 ∷ 0x1b ∷ 0x7f ∷ (replicate 7 0xff ++ 0xff ∷ []))
 ends_of_long = (refl, refl)
 
 -- texts of 2, of 23 and of 24 bytes
-pub texts : (written one_string 0 (first_alone (text (0x22 ∷ 0x0a ∷ []))) ≡ 0xbf ∷ 0x61 ∷ 0x61 ∷ 0x62 ∷ 0x22 ∷ 0x0a ∷ 0xff ∷ [])
-    × (written one_string 0 (first_alone (text (replicate 23 0x78))) ≡ 0xbf ∷ 0x61 ∷ 0x61 ∷ 0x77 ∷ (replicate 23 0x78 ++ 0xff ∷ []))
-    × (written one_string 0 (first_alone (text (replicate 24 0x78))) ≡ 0xbf ∷ 0x61 ∷ 0x61 ∷ 0x78 ∷ 0x18 ∷ (replicate 24 0x78 ++ 0xff ∷ []))
+pub texts : (written one_string 0 (first_alone (text_value (0x22 ∷ 0x0a ∷ []))) ≡ 0xbf ∷ 0x61 ∷ 0x61 ∷ 0x62 ∷ 0x22 ∷ 0x0a ∷ 0xff ∷ [])
+    × (written one_string 0 (first_alone (text_value (replicate 23 0x78))) ≡ 0xbf ∷ 0x61 ∷ 0x61 ∷ 0x77 ∷ (replicate 23 0x78 ++ 0xff ∷ []))
+    × (written one_string 0 (first_alone (text_value (replicate 24 0x78))) ≡ 0xbf ∷ 0x61 ∷ 0x61 ∷ 0x78 ∷ 0x18 ∷ (replicate 24 0x78 ++ 0xff ∷ []))
 texts = (refl, refl, refl)
 
 abbrev x_and_null : Value
-x_and_null = values.list (values.value (text (codes "x")) (values.value null_element no_values))
+x_and_null = values.list (values.value (text_value (codes "x")) (values.value null_element no_values))
 
 -- [_ ] and [_ "x", null]: elements have no keys
 pub lists : (written (lists_of_strings true) 0 (values.list no_values) ≡ 0x9f ∷ 0xff ∷ [])
@@ -40,13 +40,13 @@ pub lists : (written (lists_of_strings true) 0 (values.list no_values) ≡ 0x9f 
 lists = (refl, refl, refl)
 
 -- {_ "a": 0, "s": "é", "i": [_ "x", "y"]}
-pub all_members : written three_members 1 (values.structure (member_value 0 (whole (pos 0)) (member_value 1 (text (0xc3 ∷ 0xa9 ∷ [])) (member_value 2 (values.list (values.value (text (codes "x")) (values.value (text (codes "y")) no_values))) no_member_values))))
+pub all_members : written three_members 1 (values.structure (member_value 0 (whole_value (pos 0)) (member_value 1 (text_value (0xc3 ∷ 0xa9 ∷ [])) (member_value 2 (values.list (values.value (text_value (codes "x")) (values.value (text_value (codes "y")) no_values))) no_member_values))))
     ≡ 0xbf ∷ 0x61 ∷ 0x61 ∷ 0x00 ∷ 0x61 ∷ 0x73 ∷ 0x62 ∷ 0xc3 ∷ 0xa9 ∷ 0x61 ∷ 0x69 ∷ 0x9f ∷ 0x61 ∷ 0x78 ∷ 0x61 ∷ 0x79 ∷ 0xff ∷ 0xff ∷ []
 all_members = refl
 
 -- {_ "value": 1, "nodes": [_ {_ "value": 2}, {_ }]}
 abbrev two_nodes : Value
-two_nodes = values.structure (member_value 0 (whole (pos 1)) (member_value 1 (values.list (values.value (first_alone (whole (pos 2))) (values.value empty_structure no_values))) no_member_values))
+two_nodes = values.structure (member_value 0 (whole_value (pos 1)) (member_value 1 (values.list (values.value (first_alone (whole_value (pos 2))) (values.value empty_structure no_values))) no_member_values))
 
 abbrev two_nodes_bytes : List ℕ
 two_nodes_bytes = 0xbf ∷ 0x65 ∷ (codes "value" ++ 0x01 ∷ 0x65 ∷ (codes "nodes" ++ 0x9f ∷ 0xbf ∷ 0x65 ∷ (codes "value" ++ 0x02 ∷ 0xff ∷ 0xbf ∷ 0xff ∷ 0xff ∷ 0xff ∷ [])))
@@ -77,10 +77,10 @@ abbrev inside : List Open → CborState
 inside frames = record { out = []; frames = frames }
 
 -- a key stands in a structure alone, and not under a nameless schema
-pub keys : (cbor_after (scalar_of a_site (long (pos 1))) (inside (open_structure ∷ [])) ≡ made (0x61 ∷ 0x61 ∷ 0x01 ∷ []) (open_structure ∷ []))
-    × (cbor_after (scalar_of a_site (long (pos 1))) (inside (open_list ∷ open_structure ∷ [])) ≡ made (0x01 ∷ []) (open_list ∷ open_structure ∷ []))
-    × (cbor_after (scalar_of a_site (long (pos 1))) (inside []) ≡ made (0x01 ∷ []) [])
-    × (cbor_after (scalar_of (nameless_site a_site) (long (pos 1))) (inside (open_structure ∷ [])) ≡ made (0x01 ∷ []) (open_structure ∷ []))
+pub keys : (cbor_after (scalar_of a_site (whole (pos 1))) (inside (open_structure ∷ [])) ≡ made (0x61 ∷ 0x61 ∷ 0x01 ∷ []) (open_structure ∷ []))
+    × (cbor_after (scalar_of a_site (whole (pos 1))) (inside (open_list ∷ open_structure ∷ [])) ≡ made (0x01 ∷ []) (open_list ∷ open_structure ∷ []))
+    × (cbor_after (scalar_of a_site (whole (pos 1))) (inside []) ≡ made (0x01 ∷ []) [])
+    × (cbor_after (scalar_of (nameless_site a_site) (whole (pos 1))) (inside (open_structure ∷ [])) ≡ made (0x01 ∷ []) (open_structure ∷ []))
 keys = (refl, refl, refl, refl)
 
 -- so it is with nulls and with what begins a container, whose length isn't written

@@ -3,7 +3,7 @@ use Rattle.std.proofs.Common.{◌≡◌, ℕ, List, [], ◌∷◌, ◌++◌, Res
 use Rattle.std.proofs.lemmas.List.{append-nil}
 use Rattle.smithy_schema.specs.declared.error.SerdeError.{SerdeError}
 use Rattle.smithy_schema.specs.Site.{Site, element_of, member_of}
-use Rattle.smithy_schema.specs.Value.{Value, whole, text, list, structure, null_element, Values, no_values, value, MemberValues, no_member_values, member_value}
+use Rattle.smithy_schema.specs.Value.{Value, scalar_value, list, structure, null_element, Values, no_values, value, MemberValues, no_member_values, member_value}
 use Rattle.smithy_schema.specs.Writing.{Event, run, write, events, element_events, member_events, end_list, end_structure, Open, open_structure, open_list}
 use Rattle.smithy_schema.proofs.WritingLemmas.{child_written}
 use Rattle.cbor_item.specs.WellFormed.{break}
@@ -36,8 +36,7 @@ mutual
   adds : (site : Site) (v : Value) (o : List ℕ) (frames : List Open)
       → write cbor_after site v (state o frames)
       ≡ Ok (state (o ++ (lead (state o frames) site.view ++ canonical_cbor site v)) frames)
-  adds site (whole n) o frames = refl
-  adds site (text s) o frames = refl
+  adds site (scalar_value x) o frames = refl
   adds site null_element o frames = refl
   adds site (list vs) o frames =
       let before = lead (state o frames) site.view in

@@ -3,25 +3,27 @@ use Rattle.std.proofs.Common.{◌≡◌, ◌≤◌, ◌+◌, ℕ, zero, suc, Lis
 use Rattle.std.specs.Prelude.{ℤ, pos, negsuc, IsUtf8, if◌then◌else◌}
 use Rattle.std.specs.List.{slice_get}
 use Rattle.std.proofs.lemmas.Bool.Decides.{nat_tests}
-use Rattle.std.proofs.lemmas.Int.{ints}
 use Rattle.std.proofs.lemmas.List.{append-nil}
-use Rattle.std.proofs.lemmas.Str.{is_utf8-from_IsUtf8}
+use Rattle.std.proofs.lemmas.Str.{is_utf8-from_IsUtf8, IsUtf8-from_is_utf8}
 use Rattle.smithy_schema.specs.declared.place.Place.{Place}
+use Rattle.smithy_schema.specs.declared.shape_type.Scalar.{Scalar}
 use Rattle.smithy_schema.specs.declared.shape_type.Scalar.TheVariants as scalars
 use Rattle.smithy_schema.specs.declared.shape_type.TimestampFormat.{TimestampFormat}
 use Rattle.smithy_schema.specs.Table.{Member, Kind, scalar, structure_of, list_of, nothing, members_of, is_sparse, IsList, IsStructure}
 use Rattle.smithy_schema.specs.Accepted.{HaveTextNames, IsAccepted}
 use Rattle.smithy_schema.specs.Site.{Site, kind_at, element_of, member_of}
-use Rattle.smithy_schema.specs.Value.{Value, whole, text, list, structure, null_element, Values, no_values, value, MemberValues, no_member_values, member_value, nesting, elements_nesting, members_nesting}
-use Rattle.smithy_schema.specs.Fits.{IsLong, AscendFrom, FitsOr, ElementsFit, MembersFit}
+use Rattle.smithy_schema.specs.Value.{ScalarValue, boolean, whole, text, Value, scalar_value, list, structure, null_element, Values, no_values, value, MemberValues, no_member_values, member_value, nesting, elements_nesting, members_nesting}
+use Rattle.smithy_schema.specs.Fits.{is_of, AscendFrom, FitsOr, ElementsFit, MembersFit}
 use Rattle.smithy_schema.specs.Container.{Entry, element_of as element_from, container_of}
+use Rattle.smithy_schema.proofs.ScalarLemmas.{scalar_kind}
 use Rattle.smithy_schema.proofs.NamedLemmas.{named_itself}
 use Rattle.smithy_schema.proofs.ChildLemmas.{SayElements, list_said, SayMembers, structure_said}
 use Rattle.smithy_cbor.specs.Settings.{Settings, Limits, kept, lifted, is_within}
 use Rattle.cbor_item.specs.Item.{definite, text_string}
-use Rattle.smithy_cbor.specs.Scalar.{is_long, joined_text, text_of}
+use Rattle.smithy_cbor.specs.Scalar.{joined_text, text_of}
+use Rattle.smithy_texts.specs.Ranges.{fits_signed}
 use Rattle.smithy_cbor.specs.Meaning.{node_of, item_nodes, pair_nodes, rules_of, cbor_meaning}
-use Rattle.smithy_cbor.proofs.WrittenItem.{integer_item, key_item, item_of, items_of, pairs_of}
+use Rattle.smithy_cbor.proofs.WrittenItem.{integer_item, scalar_item, key_item, item_of, items_of, pairs_of}
 use Rattle.smithy_wire.specs.Node.{Form, as_array, as_object, is_null}
 use Rattle.smithy_wire.specs.Rules.{at_depth, position_in}
 use Rattle.smithy_wire.specs.Meaning.{leaf_meaning, is_in, entries}
@@ -39,21 +41,27 @@ stands_at c d v h = rw (shallow_within c.limits c.max_depth d h) refl
 
 -- ---- scalars
 
-is_long_true : (n : ℤ) → IsLong n → is_long n ≡ true
-is_long_true n h = let low = h.0 in let high = h.1 in grind (arith, ints)
-
-integer_means : (c : Settings) (site : Site) (d : ℕ) (n : ℤ) → kind_at site ≡ scalar scalars.Long → IsLong n
-    → cbor_meaning c site.table site.place d (integer_item n) ≡ Some (whole n)
-integer_means c site d (pos n) kind fits = rw (kind, is_long_true (pos n) fits) refl
-integer_means c site d (negsuc n) kind fits = rw (kind, is_long_true (negsuc n) fits) refl
+integer_means : (c : Settings) (site : Site) (d : ℕ) (n : ℤ) → kind_at site ≡ scalar scalars.Long → fits_signed 64 n ≡ true
+    → cbor_meaning c site.table site.place d (integer_item n) ≡ Some (scalar_value (whole n))
+integer_means c site d (pos n) kind fits = rw (kind, fits) refl
+integer_means c site d (negsuc n) kind fits = rw (kind, fits) refl
 
 -- one chunk of UTF-8 is its text
 chunk_text : (s : List ℕ) → IsUtf8 s → joined_text (s ∷ []) ≡ Some s
 chunk_text s h = rw (is_utf8-from_IsUtf8 s h) (ap Some (append-nil s))
 
 text_means : (c : Settings) (kind : Kind) (time : Option TimestampFormat) (s : List ℕ) → kind ≡ scalar scalars.String → IsUtf8 s
-    → leaf_meaning (rules_of c) kind time (text_string definite (s ∷ [])) ≡ Some (text s)
+    → leaf_meaning (rules_of c) kind time (text_string definite (s ∷ [])) ≡ Some (scalar_value (text s))
 text_means c kind time s is utf8 = rw (is, chunk_text s utf8) refl
+
+scalar_means : (c : Settings) (site : Site) (d : ℕ) (s : Scalar) (x : ScalarValue) → kind_at site ≡ scalar s → is_of s x ≡ true
+    → cbor_meaning c site.table site.place d (scalar_item x) ≡ Some (scalar_value x)
+scalar_means c site d scalars.Long (boolean b) kind is = cc
+scalar_means c site d scalars.Long (whole n) kind is = integer_means c site d n kind is
+scalar_means c site d scalars.Long (text s) kind is = cc
+scalar_means c site d scalars.String (boolean b) kind is = cc
+scalar_means c site d scalars.String (whole n) kind is = cc
+scalar_means c site d scalars.String (text s) kind is = text_means c (kind_at site) site.place.time s kind (IsUtf8-from_is_utf8 s is)
 
 -- ---- containers
 
@@ -79,6 +87,12 @@ integer_is_no_null : (n : ℤ) → is_null (node_of (integer_item n)) ≡ false
 integer_is_no_null (pos n) = refl
 integer_is_no_null (negsuc n) = refl
 
+scalar_is_no_null : (x : ScalarValue) → is_null (node_of (scalar_item x)) ≡ false
+scalar_is_no_null (boolean true) = refl
+scalar_is_no_null (boolean false) = refl
+scalar_is_no_null (whole n) = integer_is_no_null n
+scalar_is_no_null (text s) = refl
+
 -- what is no null says the value that it means
 said_by : (is_sparse nil : Bool) (v : Value) (o : Option Value) → nil ≡ false → o ≡ Some v → element_from is_sparse nil o ≡ Some v
 said_by is_sparse nil v o there h = rw (there, h) refl
@@ -90,9 +104,7 @@ value_said false v o h = h
 
 -- a value that is no null element isn't written as null
 not_null : (site : Site) (v : Value) → FitsOr site.table site.place false v → is_null (node_of (item_of site v)) ≡ false
-not_null site (whole (pos n)) fits = refl
-not_null site (whole (negsuc n)) fits = refl
-not_null site (text s) fits = refl
+not_null site (scalar_value x) fits = scalar_is_no_null x
 not_null site (list vs) fits = refl
 not_null site (structure ms) fits = refl
 not_null site null_element fits = cc
@@ -136,10 +148,9 @@ accepted_inside outer inner place is accepted = subst (λ (s : Site). IsAccepted
 mutual
   said : (c : Settings) (site : Site) (v : Value) (nulls : Bool) (d : ℕ) → IsAccepted site.table → FitsOr site.table site.place nulls v
       → d + nesting v ≤ c.max_depth → Said c site d nulls v
-  said c site (whole n) nulls d accepted fits deep =
-      said_by nulls (is_null (node_of (integer_item n))) (whole n) _ (integer_is_no_null n) (integer_means c site d n fits.0 fits.1)
-  said c site (text s) nulls d accepted fits deep =
-      said_by nulls false (text s) _ refl (text_means c (kind_at site) site.place.time s fits.0 fits.1)
+  said c site (scalar_value x) nulls d accepted fits deep =
+      let s = scalar_kind (kind_at site) x fits in
+      said_by nulls (is_null (node_of (scalar_item x))) (scalar_value x) _ (scalar_is_no_null x) (scalar_means c site d s.0 x s.1 s.2)
   said c site (list vs) nulls d accepted fits deep =
       said_by nulls false (list vs) _ refl
       (stands_at c (suc d) _ (omega arith)

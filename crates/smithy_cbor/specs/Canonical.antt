@@ -1,16 +1,16 @@
 -- The one encoding in which a value is written.
 use Rattle.std.specs.Prelude.{ℕ, List, [], ◌∷◌, ◌++◌, Some, None}
 use Rattle.smithy_schema.specs.Site.{Site, View, element_of, member_of}
-use Rattle.smithy_schema.specs.Value.{Value, whole, text, list, structure, null_element, Values, no_values, value, MemberValues, no_member_values, member_value}
-use Rattle.smithy_schema.specs.Writing.{Scalar, long, string}
+use Rattle.smithy_schema.specs.Value.{ScalarValue, boolean, whole, text, Value, scalar_value, list, structure, null_element, Values, no_values, value, MemberValues, no_member_values, member_value}
 use Rattle.cbor_item.specs.Head.{shortest_head}
 use Rattle.cbor_item.specs.WellFormed.{break}
 use Rattle.smithy_cbor.specs.Scalar.{null_value}
-use Rattle.smithy_cbor.specs.Written.{integer_bytes, text_bytes, opening_bytes}
+use Rattle.smithy_cbor.specs.Written.{integer_bytes, boolean_bytes, text_bytes, opening_bytes}
 
-abbrev pub scalar_bytes : Scalar → List ℕ
-scalar_bytes (long n) = integer_bytes n
-scalar_bytes (string s) = text_bytes s
+abbrev pub scalar_bytes : ScalarValue → List ℕ
+scalar_bytes (boolean b) = boolean_bytes b
+scalar_bytes (whole n) = integer_bytes n
+scalar_bytes (text s) = text_bytes s
 
 -- what stands before the value of a member: its name, where it has one
 abbrev pub key_bytes : View → List ℕ
@@ -22,8 +22,7 @@ key_bytes view = elim view.name [
 -- Lists and structures of indefinite length; members in the table's order and elements in theirs.
 abbrev mutual
   pub canonical_cbor : Site → Value → List ℕ
-  canonical_cbor site (whole n) = scalar_bytes (long n)
-  canonical_cbor site (text s) = scalar_bytes (string s)
+  canonical_cbor site (scalar_value x) = scalar_bytes x
   canonical_cbor site (list vs) = opening_bytes 4 ++ (element_bytes (element_of site) vs ++ break ∷ [])
   canonical_cbor site (structure ms) = opening_bytes 5 ++ (member_bytes site ms ++ break ∷ [])
   canonical_cbor site null_element = shortest_head 7 null_value

@@ -1,12 +1,13 @@
 -- What one item stands for by itself: numbers, texts and simple values (RFC 8949, sections 3.1 and
 -- 3.3), and what it says as each kind.
-use Rattle.std.specs.Prelude.{ℕ, ◌^◌, Bool, true, false, ◌&&◌, List, ℤ, pos, negsuc, neg_ℤ, int_le, int_lt, Option, Some, None, option_map, option_and_then, if◌then◌else◌}
+use Rattle.std.specs.Prelude.{ℕ, Bool, true, false, List, ℤ, pos, negsuc, Option, Some, None, option_map, option_and_then, if◌then◌else◌}
 use Rattle.std.specs.List.{list_all, concat}
 use Rattle.std.specs.Str.{is_utf8}
+use Rattle.smithy_texts.specs.Ranges.{fits_signed}
 use Rattle.smithy_schema.specs.declared.shape_type.Scalar.{Scalar}
 use Rattle.smithy_schema.specs.declared.shape_type.Scalar.TheVariants as scalars
 use Rattle.smithy_schema.specs.declared.shape_type.TimestampFormat.{TimestampFormat}
-use Rattle.smithy_schema.specs.Value.{Value, whole, text}
+use Rattle.smithy_schema.specs.Value.{whole, text, Value, scalar_value}
 use Rattle.cbor_item.specs.Item.{Item, unsigned, negative, text_string, simple}
 use Rattle.smithy_wire.specs.Rules.{Answer, answer_of}
 
@@ -31,10 +32,6 @@ integer_of (unsigned n) = Some (pos n)
 integer_of (negative n) = Some (negsuc n)
 integer_of _ = None
 
--- from -2^63 to 2^63-1
-abbrev pub is_long : ℤ → Bool
-is_long z = int_le (neg_ℤ (pos (2 ^ 63))) z && int_lt z (pos (2 ^ 63))
-
 -- the text of chunks, where each of them is UTF-8 by itself
 abbrev pub joined_text : List (List ℕ) → Option (List ℕ)
 joined_text chunks = if list_all is_utf8 chunks then Some (concat chunks) else None
@@ -46,9 +43,9 @@ text_of _ = None
 
 -- an integer that fits 64 bits
 abbrev pub long_of : Item → Option Value
-long_of x = option_and_then (λ (z : ℤ). if is_long z then Some (whole z) else None) (integer_of x)
+long_of x = option_and_then (λ (z : ℤ). if fits_signed 64 z then Some (scalar_value (whole z)) else None) (integer_of x)
 
 -- what an item is as one kind
 abbrev pub says : Scalar → Option TimestampFormat → Item → Answer Value
 says scalars.Long time x = answer_of (long_of x)
-says scalars.String time x = answer_of (option_map text (text_of x))
+says scalars.String time x = answer_of (option_map (λ s. scalar_value (text s)) (text_of x))

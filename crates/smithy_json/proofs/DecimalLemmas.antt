@@ -9,7 +9,8 @@ use Rattle.std.specs.List.{AllByRecursion}
 use Rattle.std.specs.Str.Parse.{AllDigits}
 use Rattle.smithy_json.specs.Ascii.{minus_sign}
 use Rattle.smithy_json.specs.Grammar.{IsInt, IsNumber}
-use Rattle.smithy_json.specs.Number.{whole_number, is_long}
+use Rattle.smithy_json.specs.Number.{whole_number}
+use Rattle.smithy_texts.specs.Ranges.{fits_signed}
 use Rattle.smithy_json.proofs.NumberLemmas.{IsMinus}
 use Rattle.smithy_json.proofs.WholeLemmas.{signed_value, whole_number-parts}
 
@@ -49,20 +50,20 @@ module _ (minus int : List ℕ) (is_minus : IsMinus minus) (is_int : IsInt int) 
   parts_write : whole_number (minus ++ int) ≡ Some (signed_value minus int)
   parts_write = ap (λ t. whole_number (minus ++ t)) (sym (append-nil int)) ∙ whole_number-parts minus int [] is_minus is_int tt
 
-positive_fits : (n : ℕ) → is_long (pos n) ≡ true → n < 2 ^ 64
+positive_fits : (n : ℕ) → fits_signed 64 (pos n) ≡ true → n < 2 ^ 64
 positive_fits n fits = let below : n < 2 ^ 63 = grind (arith, nat_tests) in omega arith
 
-negative_fits : (n : ℕ) → is_long (negsuc n) ≡ true → suc n < 2 ^ 64
+negative_fits : (n : ℕ) → fits_signed 64 (negsuc n) ≡ true → suc n < 2 ^ 64
 negative_fits n fits = let below : n < 2 ^ 63 = grind (arith, nat_tests) in omega arith
 
 -- the text of a whole number is a number
-pub decimal_is_number : (z : ℤ) → is_long z ≡ true → IsNumber (signed_decimal z)
+pub decimal_is_number : (z : ℤ) → fits_signed 64 z ≡ true → IsNumber (signed_decimal z)
 decimal_is_number (pos n) fits = parts_are_number [] (decimal n) (inl refl) (decimal_is_int n (positive_fits n fits))
 decimal_is_number (negsuc n) fits =
     parts_are_number (minus_sign ∷ []) (decimal (suc n)) (inr refl) (decimal_is_int (suc n) (negative_fits n fits))
 
 -- that writes it
-pub decimal_writes : (z : ℤ) → is_long z ≡ true → whole_number (signed_decimal z) ≡ Some z
+pub decimal_writes : (z : ℤ) → fits_signed 64 z ≡ true → whole_number (signed_decimal z) ≡ Some z
 decimal_writes (pos n) fits =
     let small = positive_fits n fits in
     parts_write [] (decimal n) (inl refl) (decimal_is_int n small)

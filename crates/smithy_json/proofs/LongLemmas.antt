@@ -8,7 +8,8 @@ use Rattle.std.specs.Char.{is_ascii_digit}
 use Rattle.std.specs.Str.Parse.{digits_value, digits_value_after}
 use Rattle.smithy_json.specs.Ascii.{digit_zero}
 use Rattle.smithy_json.specs.Grammar.{IsInt, IsBoundary, AreDigits}
-use Rattle.smithy_json.specs.Number.{whole_number, is_long}
+use Rattle.smithy_json.specs.Number.{whole_number}
+use Rattle.smithy_texts.specs.Ranges.{fits_signed}
 use Rattle.smithy_json.specs.Standing.{IsLongAt}
 use Rattle.smithy_json.specs.Private.Numeral.{first_byte, digit_count, run_value, after_minus, is_int_between, long_of}
 use Rattle.smithy_json.proofs.SliceLemmas.{drop-slice, slice_between}
@@ -126,42 +127,42 @@ digits_are_int (d ∷ e ∷ digits) rest start end are size test =
     zero_not true is other = cc
     zero_not false is other = grind (arith, nat_tests)
 
-long_of_some : (negative : Bool) (magnitude : ℕ) (n : ℤ) → long_of negative magnitude ≡ Some n → (cond negative (neg_ℤ (pos magnitude)) (pos magnitude) ≡ n) × (is_long n ≡ true)
-long_of_some negative magnitude n e = go (is_long (cond negative (neg_ℤ (pos magnitude)) (pos magnitude))) refl
+long_of_some : (negative : Bool) (magnitude : ℕ) (n : ℤ) → long_of negative magnitude ≡ Some n → (cond negative (neg_ℤ (pos magnitude)) (pos magnitude) ≡ n) × (fits_signed 64 n ≡ true)
+long_of_some negative magnitude n e = go (fits_signed 64 (cond negative (neg_ℤ (pos magnitude)) (pos magnitude))) refl
   where
-    go : (fits : Bool) → is_long (cond negative (neg_ℤ (pos magnitude)) (pos magnitude)) ≡ fits → (cond negative (neg_ℤ (pos magnitude)) (pos magnitude) ≡ n) × (is_long n ≡ true)
+    go : (fits : Bool) → fits_signed 64 (cond negative (neg_ℤ (pos magnitude)) (pos magnitude)) ≡ fits → (cond negative (neg_ℤ (pos magnitude)) (pos magnitude) ≡ n) × (fits_signed 64 n ≡ true)
     go true fits =
         let found : ◌≡◌ {A = Option ℤ} (Some (cond negative (neg_ℤ (pos magnitude)) (pos magnitude))) (Some n) = rw fits at e in
         let same : cond negative (neg_ℤ (pos magnitude)) (pos magnitude) ≡ n = cc in
-        (same, subst (λ z. is_long z ≡ true) same fits)
+        (same, subst (λ z. fits_signed 64 z ≡ true) same fits)
     go false fits =
         let found : ◌≡◌ {A = Option ℤ} None (Some n) = rw fits at e in cc
 
-wide_positive : (v : ℕ) → 2 ^ 64 ≤ v → is_long (pos v) ≡ false
+wide_positive : (v : ℕ) → 2 ^ 64 ≤ v → fits_signed 64 (pos v) ≡ false
 wide_positive v wide = grind (arith, nat_tests)
 
-wide_negative : (v : ℕ) → 2 ^ 64 ≤ v → is_long (neg_ℤ (pos v)) ≡ false
+wide_negative : (v : ℕ) → 2 ^ 64 ≤ v → fits_signed 64 (neg_ℤ (pos v)) ≡ false
 wide_negative zero wide = absurd (omega arith)
 wide_negative (suc v) wide = grind (arith, nat_tests)
 
 -- a magnitude of more than 64 bits has no number of 64 bits
-pub wide_is_not_long : (negative : Bool) (v : ℕ) → 2 ^ 64 ≤ v → is_long (cond negative (neg_ℤ (pos v)) (pos v)) ≡ false
+pub wide_is_not_long : (negative : Bool) (v : ℕ) → 2 ^ 64 ≤ v → fits_signed 64 (cond negative (neg_ℤ (pos v)) (pos v)) ≡ false
 wide_is_not_long true v wide = wide_negative v wide
 wide_is_not_long false v wide = wide_positive v wide
 
-pub long_of_none : (negative : Bool) (magnitude : ℕ) → long_of negative magnitude ≡ None → is_long (cond negative (neg_ℤ (pos magnitude)) (pos magnitude)) ≡ false
-long_of_none negative magnitude e = go (is_long (cond negative (neg_ℤ (pos magnitude)) (pos magnitude))) refl
+pub long_of_none : (negative : Bool) (magnitude : ℕ) → long_of negative magnitude ≡ None → fits_signed 64 (cond negative (neg_ℤ (pos magnitude)) (pos magnitude)) ≡ false
+long_of_none negative magnitude e = go (fits_signed 64 (cond negative (neg_ℤ (pos magnitude)) (pos magnitude))) refl
   where
-    go : (fits : Bool) → is_long (cond negative (neg_ℤ (pos magnitude)) (pos magnitude)) ≡ fits → is_long (cond negative (neg_ℤ (pos magnitude)) (pos magnitude)) ≡ false
+    go : (fits : Bool) → fits_signed 64 (cond negative (neg_ℤ (pos magnitude)) (pos magnitude)) ≡ fits → fits_signed 64 (cond negative (neg_ℤ (pos magnitude)) (pos magnitude)) ≡ false
     go true fits =
         let found : ◌≡◌ {A = Option ℤ} (Some (cond negative (neg_ℤ (pos magnitude)) (pos magnitude))) None = rw fits at e in cc
     go false fits = fits
 
 module _ (input : List ℕ) (at start : ℕ) (behind : drop start input ≡ after_minus (drop at input)) (within : start ≤ length input) (end : ℕ) (n : ℤ) (long : IsLongAt input at end n) where
   -- so none stands there whose digits write too much
-  not_long : is_long (cond (nat_lt at start) (neg_ℤ (pos (run_value 0 (drop start input)))) (pos (run_value 0 (drop start input)))) ≡ false → ⊥
+  not_long : fits_signed 64 (cond (nat_lt at start) (neg_ℤ (pos (run_value 0 (drop start input)))) (pos (run_value 0 (drop start input)))) ≡ false → ⊥
   not_long fails =
-      let signed = ap is_long (signed_is input at start behind within end n long) in
+      let signed = ap (fits_signed 64) (signed_is input at start behind within end n long) in
       let fits = long.fits in cc
 
   pub no_wide_long : 2 ^ 64 ≤ run_value 0 (drop start input) → ⊥
@@ -218,7 +219,7 @@ module _ (input : List ℕ) (at start end : ℕ) (n : ℤ) (behind : drop start 
       }
 
 -- such a number is one of an i64
-pub long_fits : (z : ℤ) → is_long z ≡ true → FitsSigned w64 z
+pub long_fits : (z : ℤ) → fits_signed 64 z ≡ true → FitsSigned w64 z
 long_fits (pos n) fits =
     let below : n < 2 ^ 63 = grind (arith, nat_tests) in
     search (arith, ints)

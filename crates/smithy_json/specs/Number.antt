@@ -1,5 +1,5 @@
 -- The whole number that a number's text writes (RFC 8259, section 6).
-use Rattle.std.specs.Prelude.{ℕ, ◌^◌, List, [], ◌∷◌, Bool, ◌&&◌, ◌==◌, ℤ, pos, neg_ℤ, int_le, int_lt, Option, Some, None, option_map, if◌then◌else◌}
+use Rattle.std.specs.Prelude.{ℕ, List, [], ◌∷◌, ◌==◌, ℤ, pos, neg_ℤ, Option, Some, None, option_map, if◌then◌else◌}
 use Rattle.std.specs.Str.{all_ascii_digits}
 use Rattle.std.specs.Str.Parse.{digits_value}
 use Rattle.smithy_json.specs.Ascii.{minus_sign}
@@ -16,7 +16,3 @@ whole_number [] = None
 whole_number (b ∷ text) =
     if b == minus_sign then option_map (λ n. neg_ℤ (pos n)) (natural_number text)
     else option_map pos (natural_number (b ∷ text))
-
--- from -2^63 to 2^63-1
-abbrev pub is_long : ℤ → Bool
-is_long z = int_le (neg_ℤ (pos (2 ^ 63))) z && int_lt z (pos (2 ^ 63))

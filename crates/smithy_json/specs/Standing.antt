@@ -2,7 +2,8 @@
 use Rattle.std.specs.Prelude.{◌≡◌, ◌<◌, ◌≤◌, ℕ, ◌+◌, List, length, drop, Bool, true, false, slice_index, slice_range, ℤ, Some}
 use Rattle.smithy_json.specs.Ascii.{quotation_mark}
 use Rattle.smithy_json.specs.Grammar.{IsNumber, IsStringText, IsBoundary}
-use Rattle.smithy_json.specs.Number.{whole_number, is_long}
+use Rattle.smithy_json.specs.Number.{whole_number}
+use Rattle.smithy_texts.specs.Ranges.{fits_signed}
 
 -- from at to end stands the longest run of bytes that pass the test
 pub record IsRunAt (test : ℕ → Bool) (input : List ℕ) (at end : ℕ) : Type 0 where
@@ -30,4 +31,4 @@ pub record IsStringAt (input : List ℕ) (opening closing : ℕ) : Type 0 where
 pub record IsLongAt (input : List ℕ) (at end : ℕ) (n : ℤ) : Type 0 where
   pub number : StandsAt IsNumber input at end
   pub value : whole_number (slice_range input at end) ≡ Some n
-  pub fits : is_long n ≡ true
+  pub fits : fits_signed 64 n ≡ true

@@ -9,11 +9,12 @@ use Rattle.smithy_schema.specs.declared.place.Place.{Place}
 use Rattle.smithy_schema.specs.declared.shape_type.TimestampFormat.{TimestampFormat}
 use Rattle.smithy_schema.specs.declared.shape_type.Scalar.TheVariants as scalars
 use Rattle.smithy_schema.specs.Table.{Table, kind_of, scalar_place, IsList, IsStructure}
-use Rattle.smithy_schema.specs.Value.{Value, whole, text}
+use Rattle.smithy_schema.specs.Value.{whole, text, Value, scalar_value}
 use Rattle.smithy_schema.specs.Reading.{Cursor, depth, Passes, Reads, Steps, Conducts, StandsNot, OpensNot, SkipsNot, CannotGoOn, IsFault, passed_to, failed_at, in_list}
 use Rattle.smithy_json.specs.Ascii.{end_array}
 use Rattle.smithy_json.specs.Tree.{string, nesting}
-use Rattle.smithy_json.specs.Number.{whole_number, is_long}
+use Rattle.smithy_json.specs.Number.{whole_number}
+use Rattle.smithy_texts.specs.Ranges.{fits_signed}
 use Rattle.smithy_json.specs.Unescape.{unescaped}
 use Rattle.smithy_json_codec.specs.Cursor.{inside_of}
 use Rattle.smithy_wire.specs.Walking.{gone_on_to}
@@ -32,24 +33,24 @@ passes old new e sound is = rw is (record { input = refl; inner = refl; outer = 
 -- ---- numbers and texts
 
 -- what a number means is a whole number
-long_at : (z : ℤ) (fits : Bool) (v : Value) → (if fits then Some (whole z) else None) ≡ Some v → v ≡ whole z
-long_at z true v h = let same : whole z ≡ v = cc in sym same
+long_at : (z : ℤ) (fits : Bool) (v : Value) → (if fits then Some (scalar_value (whole z)) else None) ≡ Some v → v ≡ scalar_value (whole z)
+long_at z true v h = let same : scalar_value (whole z) ≡ v = cc in sym same
 long_at z false v h = absurd (let no : None ≡ Some v = h in cc)
 
-long_from : (z : Option ℤ) (v : Value) → option_and_then (λ (z : ℤ). if is_long z then Some (whole z) else None) z ≡ Some v → (n : ℤ) × (v ≡ whole n)
+long_from : (z : Option ℤ) (v : Value) → option_and_then (λ (z : ℤ). if fits_signed 64 z then Some (scalar_value (whole z)) else None) z ≡ Some v → (n : ℤ) × (v ≡ scalar_value (whole n))
 long_from None v h = absurd (let no : None ≡ Some v = h in cc)
-long_from (Some z) v h = (z, long_at z (is_long z) v h)
+long_from (Some z) v h = (z, long_at z (fits_signed 64 z) v h)
 
 module _ (o : Settings) (old new : Cursor) (t : Table) (time : Option TimestampFormat) (e : ℕ) (sound : old.failed ≡ false) (is : new ≡ passed_to old e) where
-  pub long_reads : (n m : ℤ) → m ≡ n → LongLies old.input old.at n e → Reads (json_relations o) old new t (scalar_place scalars.Long time) (whole m)
+  pub long_reads : (n m : ℤ) → m ≡ n → LongLies old.input old.at n e → Reads (json_relations o) old new t (scalar_place scalars.Long time) (scalar_value (whole m))
   long_reads n m same lies = record {
-    stands = rw (is, same) (long_stands o old.input t (scalar_place scalars.Long time) (depth old) old.at (whole n) e refl (lies.raw, lies.lies, lies.means));
+    stands = rw (is, same) (long_stands o old.input t (scalar_place scalars.Long time) (depth old) old.at (scalar_value (whole n)) e refl (lies.raw, lies.lies, lies.means));
     passes = passes old new e sound is;
   }
 
-  pub text_reads : (raw s : List ℕ) → unescaped raw ≡ Some s → TreeLies 1 (string raw) old.input old.at e → Reads (json_relations o) old new t (scalar_place scalars.String time) (text s)
+  pub text_reads : (raw s : List ℕ) → unescaped raw ≡ Some s → TreeLies 1 (string raw) old.input old.at e → Reads (json_relations o) old new t (scalar_place scalars.String time) (scalar_value (text s))
   text_reads raw s has lies = record {
-    stands = rw is (text_stands o old.input t (scalar_place scalars.String time) (depth old) old.at (text s) e refl (raw, s, lies, has, refl));
+    stands = rw is (text_stands o old.input t (scalar_place scalars.String time) (depth old) old.at (scalar_value (text s)) e refl (raw, s, lies, has, refl));
     passes = passes old new e sound is;
   }
 

@@ -3,26 +3,26 @@
 use Rattle.std.proofs.Common.{◌≡◌, [], ◌∷◌, map, true, false, Some, None, refl, pos, codes}
 use Rattle.std.specs.Char.{encode_utf8}
 use Rattle.smithy_schema.specs.Value as values
-use Rattle.smithy_schema.specs.Value.{whole, text, null_element, no_values, no_member_values, member_value}
+use Rattle.smithy_schema.specs.Value.{null_element, no_values, no_member_values, member_value}
 use Rattle.smithy_json.specs.Unescape.{code_unit}
 use Rattle.smithy_json.specs.Tree.{null, boolean, number, string, array, object, no_elements, element, no_members, member, nesting}
-use Rattle.smithy_json_codec.proofs.Examples.{one_long, long_renamed, names_swapped, lists_of_lists, lists_of_strings, nodes, alone, both, in_arrays, in_objects, in_lists, empty_structure, first_alone, means_at, means_by_json_name, would_mean_at, means_within}
+use Rattle.smithy_json_codec.proofs.Examples.{whole_value, text_value, one_long, long_renamed, names_swapped, lists_of_lists, lists_of_strings, nodes, alone, both, in_arrays, in_objects, in_lists, empty_structure, first_alone, means_at, means_by_json_name, would_mean_at, means_within}
 
 -- ---- members of a structure
 
 -- {"a":1,"a":2} and {"a":2,"a":1}
 pub last_member_counts : map (means_at one_long 0) (both (codes "a") (number (codes "1")) (codes "a") (number (codes "2")) ∷ both (codes "a") (number (codes "2")) (codes "a") (number (codes "1")) ∷ [])
-    ≡ Some (first_alone (whole (pos 2))) ∷ Some (first_alone (whole (pos 1))) ∷ []
+    ≡ Some (first_alone (whole_value (pos 2))) ∷ Some (first_alone (whole_value (pos 1))) ∷ []
 last_member_counts = refl
 
 -- {"a":1,"a":null} and {"a":null,"a":1}
 pub null_clears_nothing : map (means_at one_long 0) (both (codes "a") (number (codes "1")) (codes "a") null ∷ both (codes "a") null (codes "a") (number (codes "1")) ∷ [])
-    ≡ Some (first_alone (whole (pos 1))) ∷ Some (first_alone (whole (pos 1))) ∷ []
+    ≡ Some (first_alone (whole_value (pos 1))) ∷ Some (first_alone (whole_value (pos 1))) ∷ []
 null_clears_nothing = refl
 
 -- {"z":["\ud800",1.5],"a":1,"a":null,"\u0061":2}, whose last key is escaped
 pub key_is_unescaped : means_at one_long 0 (object (member (codes "z") (array (element (string (codes "\\ud800")) (element (number (codes "1.5")) no_elements))) (member (codes "a") (number (codes "1")) (member (codes "a") null (member (codes "\\u0061") (number (codes "2")) no_members)))))
-    ≡ Some (first_alone (whole (pos 2)))
+    ≡ Some (first_alone (whole_value (pos 2)))
 unfolding encode_utf8 code_unit
 key_is_unescaped = refl
 
@@ -92,7 +92,7 @@ small_depths = (refl, refl)
 
 -- {"i":["x","y"]}, {"i":[]}
 pub lists : map (means_at (lists_of_strings false) 1) (alone (codes "i") (array (element (string (codes "x")) (element (string (codes "y")) no_elements))) ∷ alone (codes "i") (array no_elements) ∷ [])
-    ≡ Some (first_alone (values.list (values.value (text (codes "x")) (values.value (text (codes "y")) no_values)))) ∷ Some (first_alone (values.list no_values)) ∷ []
+    ≡ Some (first_alone (values.list (values.value (text_value (codes "x")) (values.value (text_value (codes "y")) no_values)))) ∷ Some (first_alone (values.list no_values)) ∷ []
 lists = refl
 
 -- {"i":["x",1]}, {"i":{}}, {"i":"x"}
@@ -102,7 +102,7 @@ no_lists = refl
 
 -- {"i":[null,"x",null]} in a sparse list, and in another
 pub null_elements : map (λ is_sparse. means_at (lists_of_strings is_sparse) 1 (alone (codes "i") (array (element null (element (string (codes "x")) (element null no_elements)))))) (true ∷ false ∷ [])
-    ≡ Some (first_alone (values.list (values.value null_element (values.value (text (codes "x")) (values.value null_element no_values))))) ∷ None ∷ []
+    ≡ Some (first_alone (values.list (values.value null_element (values.value (text_value (codes "x")) (values.value null_element no_values))))) ∷ None ∷ []
 null_elements = refl
 
 -- {"l":[[null],null]} in sparse lists of lists and in others; lifting the limits makes no null an element
@@ -134,16 +134,16 @@ scalars_take_no_depth = refl
 -- ---- names
 
 -- {"A":1,"a":2}, where `a` has the JSON name `A`: by JSON names and by member names
-pub by_name : (means_by_json_name long_renamed 0 (both (codes "A") (number (codes "1")) (codes "a") (number (codes "2"))) ≡ Some (first_alone (whole (pos 1))))
-    × (means_at long_renamed 0 (both (codes "A") (number (codes "1")) (codes "a") (number (codes "2"))) ≡ Some (first_alone (whole (pos 2))))
+pub by_name : (means_by_json_name long_renamed 0 (both (codes "A") (number (codes "1")) (codes "a") (number (codes "2"))) ≡ Some (first_alone (whole_value (pos 1))))
+    × (means_at long_renamed 0 (both (codes "A") (number (codes "1")) (codes "a") (number (codes "2"))) ≡ Some (first_alone (whole_value (pos 2))))
 by_name = (refl, refl)
 
 -- a member without a JSON name goes by its own
-pub own_name : means_by_json_name one_long 0 (alone (codes "a") (number (codes "1"))) ≡ Some (first_alone (whole (pos 1)))
+pub own_name : means_by_json_name one_long 0 (alone (codes "a") (number (codes "1"))) ≡ Some (first_alone (whole_value (pos 1)))
 own_name = refl
 
 -- {"a":1,"b":"x"}, where each has the JSON name of the other
-pub swapped_names : (means_at names_swapped 0 (both (codes "a") (number (codes "1")) (codes "b") (string (codes "x"))) ≡ Some (values.structure (member_value 0 (whole (pos 1)) (member_value 1 (text (codes "x")) no_member_values))))
+pub swapped_names : (means_at names_swapped 0 (both (codes "a") (number (codes "1")) (codes "b") (string (codes "x"))) ≡ Some (values.structure (member_value 0 (whole_value (pos 1)) (member_value 1 (text_value (codes "x")) no_member_values))))
     × (means_by_json_name names_swapped 0 (both (codes "a") (number (codes "1")) (codes "b") (string (codes "x"))) ≡ None)
-    × (means_by_json_name names_swapped 0 (both (codes "a") (string (codes "x")) (codes "b") (number (codes "1"))) ≡ Some (values.structure (member_value 0 (whole (pos 1)) (member_value 1 (text (codes "x")) no_member_values))))
+    × (means_by_json_name names_swapped 0 (both (codes "a") (string (codes "x")) (codes "b") (number (codes "1"))) ≡ Some (values.structure (member_value 0 (whole_value (pos 1)) (member_value 1 (text_value (codes "x")) no_member_values))))
 swapped_names = (refl, refl, refl)

@@ -4,7 +4,7 @@ use Rattle.std.specs.Option.{option_map, option_and_then}
 use Rattle.smithy_schema.specs.declared.place.Place.{Place}
 use Rattle.smithy_schema.specs.declared.shape_type.Scalar.TheVariants as scalars
 use Rattle.smithy_schema.specs.Table.{Table, scalar, kind_of, IsList, IsStructure}
-use Rattle.smithy_schema.specs.Value.{Value, text, null_element}
+use Rattle.smithy_schema.specs.Value.{text, Value, scalar_value, null_element}
 use Rattle.smithy_schema.specs.Reading.{Mark}
 use Rattle.smithy_schema.specs.Lemmas.Options.{made}
 use Rattle.smithy_schema.specs.Lemmas.Kinds.{no_list_and_structure}
@@ -130,17 +130,17 @@ LongTextLies i a v e = (raw : List ℕ) × TreeLies 1 (number raw) i a e × (lon
 
 -- a string that has a text lies there
 abbrev pub TextLies : List ℕ → ℕ → Value → ℕ → Type 0
-TextLies i a v e = (raw s : List ℕ) × TreeLies 1 (string raw) i a e × (unescaped raw ≡ Some s) × (text s ≡ v)
+TextLies i a v e = (raw s : List ℕ) × TreeLies 1 (string raw) i a e × (unescaped raw ≡ Some s) × (scalar_value (text s) ≡ v)
 
 long_says : (i : List ℕ) (a : ℕ) (v : Value) (e : ℕ) (x : JsonScalar) → TreeLies 1 (tree_of x) i a e → long_of x ≡ Some v → LongTextLies i a v e
 long_says i a v e (a_boolean b) lies means = cc
 long_says i a v e (a_number raw) lies means = (raw, lies, means)
 long_says i a v e (a_string raw) lies means = cc
 
-text_says : (i : List ℕ) (a : ℕ) (v : Value) (e : ℕ) (x : JsonScalar) → TreeLies 1 (tree_of x) i a e → option_map text (text_of x) ≡ Some v → TextLies i a v e
+text_says : (i : List ℕ) (a : ℕ) (v : Value) (e : ℕ) (x : JsonScalar) → TreeLies 1 (tree_of x) i a e → option_map (λ s. scalar_value (text s)) (text_of x) ≡ Some v → TextLies i a v e
 text_says i a v e (a_boolean b) lies means = cc
 text_says i a v e (a_number raw) lies means = cc
-text_says i a v e (a_string raw) lies means = let s = made text (unescaped raw) v means in (raw, s.0, lies, s.1, s.2)
+text_says i a v e (a_string raw) lies means = let s = made (λ s. scalar_value (text s)) (unescaped raw) v means in (raw, s.0, lies, s.1, s.2)
 
 module _ (o : Settings) (i : List ℕ) (t : Table) (p : Place) (d a : ℕ) (v : Value) (e : ℕ) where
   -- at the place of a long exactly such a number stands
@@ -159,10 +159,10 @@ module _ (o : Settings) (i : List ℕ) (t : Table) (p : Place) (d a : ℕ) (v : 
   pub text_stands : kind_of t p ≡ scalar scalars.String → TextLies i a v e → (json_relations o).stands i t p d a v e
   text_stands kind (raw, s, lies, has, is) =
       scalar_stands json_frames (rules_of o) i t p scalars.String kind d a v e
-      (a_string raw, lies, settled_answer o.limits null_element (option_map text (unescaped raw)) ∙ (ap (option_map text) has ∙ ap Some is))
+      (a_string raw, lies, settled_answer o.limits null_element (option_map (λ s. scalar_value (text s)) (unescaped raw)) ∙ (ap (option_map (λ s. scalar_value (text s))) has ∙ ap Some is))
 
   -- and back
   pub stands_text : kind_of t p ≡ scalar scalars.String → (json_relations o).stands i t p d a v e → TextLies i a v e
   stands_text kind h =
       let s = stands_scalar json_frames (rules_of o) i t p scalars.String kind d a v e h in
-      text_says i a v e s.0 s.1 (sym (settled_answer o.limits null_element (option_map text (text_of s.0))) ∙ s.2)
+      text_says i a v e s.0 s.1 (sym (settled_answer o.limits null_element (option_map (λ s. scalar_value (text s)) (text_of s.0))) ∙ s.2)

@@ -1,9 +1,10 @@
 -- From places that scanners find to values that lie behind white space.
 use Rattle.std.proofs.Common.{Bool, true, ℤ, Option, Some, None, option_and_then, if◌then◌else◌, ◌≡◌, ◌+◌, ◌-◌, ◌<◌, ◌≤◌, ℕ, suc, List, [], ◌∷◌, ◌++◌, length, drop, slice_index, slice_range, false, get_or, sym, ap, ◌∙◌, arith, refl, subst, append_assoc}
 use Rattle.std.proofs.lemmas.List.{length-drop, length-append, drop_more, drop-drop, get_or-drop}
-use Rattle.smithy_schema.specs.Value.{whole}
+use Rattle.smithy_schema.specs.Value.{whole, scalar_value}
 use Rattle.smithy_json.specs.Ascii.{quotation_mark, name_separator, is_ws}
-use Rattle.smithy_json.specs.Number.{whole_number, is_long}
+use Rattle.smithy_json.specs.Number.{whole_number}
+use Rattle.smithy_texts.specs.Ranges.{fits_signed}
 use Rattle.smithy_json.specs.Tree.{Json, null, boolean, string, number}
 use Rattle.smithy_json.specs.Grammar.{IsStringText, IsString, IsValue, IsNumber, IsBoundary}
 use Rattle.smithy_json.specs.Standing.{IsRunAt, StandsAt, IsStringAt, IsLongAt}
@@ -141,13 +142,13 @@ module _ (i : List ℕ) (at start : ℕ) (run : IsRunAt is_ws i at start) (raw :
 
 -- ---- whole numbers
 
-two_parts : (answer : Option ℤ) (n : ℤ) → option_and_then (λ (z : ℤ). if is_long z then Some (whole z) else None) answer ≡ Some (whole n)
-    → (answer ≡ Some n) × (is_long n ≡ true)
+two_parts : (answer : Option ℤ) (n : ℤ) → option_and_then (λ (z : ℤ). if fits_signed 64 z then Some (scalar_value (whole z)) else None) answer ≡ Some (scalar_value (whole n))
+    → (answer ≡ Some n) × (fits_signed 64 n ≡ true)
 two_parts None n h = cc
-two_parts (Some z) n h = fits_if (is_long z) refl h
+two_parts (Some z) n h = fits_if (fits_signed 64 z) refl h
   where
-    fits_if : (fits : Bool) → is_long z ≡ fits → (if fits then Some (whole z) else None) ≡ Some (whole n) → (Some z ≡ Some n) × (is_long n ≡ true)
-    fits_if true is e = let same : z ≡ n = cc in (ap Some same, sym (ap is_long same) ∙ is)
+    fits_if : (fits : Bool) → fits_signed 64 z ≡ fits → (if fits then Some (scalar_value (whole z)) else None) ≡ Some (scalar_value (whole n)) → (Some z ≡ Some n) × (fits_signed 64 n ≡ true)
+    fits_if true is e = let same : z ≡ n = cc in (ap Some same, sym (ap (fits_signed 64) same) ∙ is)
     fits_if false is e = cc
 
 module _ (i : List ℕ) (at start : ℕ) (run : IsRunAt is_ws i at start) where

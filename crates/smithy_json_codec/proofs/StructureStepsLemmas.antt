@@ -21,7 +21,7 @@ use Rattle.smithy_json_codec.specs.Standing.{json_relations, FollowsInside}
 use Rattle.smithy_json_codec.specs.Private.NamePlaces.{names_ahead}
 use Rattle.smithy_json_codec.specs.Private.MembersBehindNulls.{Drops, StepsInStructure, ClosesStructure, NothingComes, EntryMissing}
 use Rattle.smithy_json_codec.specs.Private.StructureSteps.{EndsEmpty, StepsTo}
-use Rattle.smithy_json_codec.proofs.ReaderLemmas.{steps_in_structure, closes_structure, closes_empty, structure_is_stuck}
+use Rattle.smithy_json_codec.proofs.ReaderLemmas.{steps_in_structure, closes_structure, structure_is_stuck}
 use Rattle.smithy_wire.specs.Rules.{position_in}
 
 -- ---- the place of a member's value, and of an end

@@ -2,10 +2,10 @@
 use Rattle.std.proofs.Common.{◌≡◌, [], ◌∷◌, ◌++◌, map, true, false, Some, refl, pos, neg_ℤ, ◌^◌, ◌-◌, codes, replicate}
 use Rattle.std.specs.Fmt.{digits}
 use Rattle.smithy_schema.specs.Value as values
-use Rattle.smithy_schema.specs.Value.{whole, text, null_element, no_values}
+use Rattle.smithy_schema.specs.Value.{null_element, no_values}
 use Rattle.smithy_json.specs.Ascii.{begin_array, end_array}
 use Rattle.smithy_json.specs.Tree.{number, string, array, object, no_elements, element, no_members, member}
-use Rattle.smithy_json_codec.proofs.Examples.{one_long, long_renamed, one_string, three_members, lists_of_lists, nodes, alone, both, in_lists, empty_structure, first_alone, written, rewritten, rewritten_by}
+use Rattle.smithy_json_codec.proofs.Examples.{whole_value, text_value, one_long, long_renamed, one_string, three_members, lists_of_lists, nodes, alone, both, in_lists, empty_structure, first_alone, written, rewritten, rewritten_by}
 
 -- {"i":["x","y"],"s":"é","a":-0}: members in the table's order, whatever order they came in
 pub in_table_order : rewritten three_members 1 (object (member (codes "i") (array (element (string (codes "x")) (element (string (codes "y")) no_elements))) (member (codes "s") (string (0xc3 ∷ 0xa9 ∷ [])) (member (codes "a") (number (codes "-0")) no_members))))
@@ -22,12 +22,12 @@ pub empty_texts : (written one_long 0 empty_structure ≡ codes "{}") × (writte
 empty_texts = (refl, refl)
 
 -- each byte that is escaped, and the neighbours that aren't: 0x1f and space, DEL, `/`
-pub escapes : written one_string 0 (first_alone (text (0x22 ∷ 0x5c ∷ 0x08 ∷ 0x0c ∷ 0x0a ∷ 0x0d ∷ 0x09 ∷ 0x00 ∷ 0x1f ∷ 0x20 ∷ 0x7f ∷ 0x2f ∷ [])))
+pub escapes : written one_string 0 (first_alone (text_value (0x22 ∷ 0x5c ∷ 0x08 ∷ 0x0c ∷ 0x0a ∷ 0x0d ∷ 0x09 ∷ 0x00 ∷ 0x1f ∷ 0x20 ∷ 0x7f ∷ 0x2f ∷ [])))
     ≡ codes "{\"a\":\"\\\"\\\\\\b\\f\\n\\r\\t\\u0000\\u001f " ++ 0x7f ∷ codes "/\"}"
 escapes = refl
 
 -- 2^63-1, -2^63, 0, -7
-pub numbers : map (λ z. written one_long 0 (first_alone (whole z))) (pos (2 ^ 63 - 1) ∷ neg_ℤ (pos (2 ^ 63)) ∷ pos 0 ∷ neg_ℤ (pos 7) ∷ [])
+pub numbers : map (λ z. written one_long 0 (first_alone (whole_value z))) (pos (2 ^ 63 - 1) ∷ neg_ℤ (pos (2 ^ 63)) ∷ pos 0 ∷ neg_ℤ (pos 7) ∷ [])
     ≡ codes "{\"a\":9223372036854775807}" ∷ codes "{\"a\":-9223372036854775808}" ∷ codes "{\"a\":0}" ∷ codes "{\"a\":-7}" ∷ []
 unfolding digits
 numbers = refl

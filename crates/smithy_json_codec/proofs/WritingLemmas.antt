@@ -3,7 +3,7 @@ use Rattle.std.proofs.Common.{◌≡◌, ℕ, List, [], ◌∷◌, ◌++◌, Boo
 use Rattle.std.proofs.lemmas.List.{append-nil}
 use Rattle.smithy_schema.specs.declared.error.SerdeError.{SerdeError}
 use Rattle.smithy_schema.specs.Site.{Site, element_of, member_of}
-use Rattle.smithy_schema.specs.Value.{Value, whole, text, list, structure, null_element, Values, no_values, value, MemberValues, no_member_values, member_value}
+use Rattle.smithy_schema.specs.Value.{Value, scalar_value, list, structure, null_element, Values, no_values, value, MemberValues, no_member_values, member_value}
 use Rattle.smithy_schema.specs.Writing.{Event, run, write, events, element_events, member_events, end_list, end_structure, Open, open_structure, open_list}
 use Rattle.smithy_schema.proofs.WritingLemmas.{child_written}
 use Rattle.smithy_json.specs.Ascii.{value_separator, begin_array, end_array, begin_object, end_object}
@@ -50,8 +50,7 @@ mutual
   pub value_adds : (site : Site) (v : Value) (b : Bool) (o : List ℕ) (comma : Bool) (frames : List Open)
       → write json_after site v (state b o comma frames)
       ≡ Ok (state b (o ++ (lead (state b o comma frames) site.view ++ canonical_json b site v)) true frames)
-  value_adds site (whole n) b o comma frames = refl
-  value_adds site (text s) b o comma frames = refl
+  value_adds site (scalar_value x) b o comma frames = refl
   value_adds site null_element b o comma frames = refl
   value_adds site (list no_values) b o comma frames =
       regroup b _ _ frames _ refl

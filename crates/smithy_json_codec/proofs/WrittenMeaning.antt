@@ -2,13 +2,16 @@
 use Rattle.std.proofs.Common.{◌≡◌, ◌≤◌, ◌+◌, ℕ, suc, List, Bool, true, false, cond, Option, Some, None, option_map, option_and_then, slice_get, refl, sym, ap, ◌∙◌, arith, subst}
 use Rattle.std.proofs.lemmas.Bool.Decides.{nat_tests}
 use Rattle.smithy_schema.specs.declared.place.Place.{Place}
-use Rattle.smithy_schema.specs.Table.{Table, Member, ListShape, structure_of, list_of, kind_of, place_in, position_named}
+use Rattle.smithy_schema.specs.declared.shape_type.Scalar.{Scalar}
+use Rattle.smithy_schema.specs.declared.shape_type.Scalar.TheVariants as scalars
+use Rattle.smithy_schema.specs.Table.{Table, Member, ListShape, scalar, structure_of, list_of, kind_of, place_in, position_named}
 use Rattle.smithy_schema.specs.Accepted.{IsAccepted}
 use Rattle.smithy_schema.specs.Site.{Site, View, member_view, element_view, nameless, element_of, member_of}
-use Rattle.smithy_schema.specs.Value.{Value, whole, text, list, structure, null_element, Values, no_values, value, MemberValues, no_member_values, member_value, nesting, elements_nesting, members_nesting}
+use Rattle.smithy_schema.specs.Value.{ScalarValue, boolean, whole, text, Value, scalar_value, list, structure, null_element, Values, no_values, value, MemberValues, no_member_values, member_value, nesting, elements_nesting, members_nesting}
 use Rattle.smithy_schema.specs.Container.{Entry, element_of as element_meaning, container_of}
-use Rattle.smithy_schema.specs.Fits.{AscendFrom, FitsOr, ElementsFit, MembersFit}
+use Rattle.smithy_schema.specs.Fits.{is_of, AscendFrom, FitsOr, ElementsFit, MembersFit}
 use Rattle.smithy_schema.proofs.ChildLemmas.{SayElements, list_said, Sets, SayMembers, structure_said}
+use Rattle.smithy_schema.proofs.ScalarLemmas.{scalar_kind}
 use Rattle.smithy_schema.proofs.SiteLemmas.{site_at, list_of_kind, structure_of_kind, element_site_at, member_site_at, element_fit, member_fit, named_by_name, named_by_json_name}
 use Rattle.smithy_json.specs.Escape.{escaped}
 use Rattle.smithy_json.specs.Unescape.{unescaped}
@@ -21,12 +24,16 @@ use Rattle.smithy_json_codec.specs.Settings.{Settings, is_shallow, name_of}
 use Rattle.smithy_wire.specs.Node.{as_array, as_object, is_null}
 use Rattle.smithy_wire.specs.Rules.{position_in}
 use Rattle.smithy_wire.specs.Meaning.{is_in, entry_at, meaning, entries}
-use Rattle.smithy_json_codec.proofs.WrittenTree.{key_of, tree_of, element_trees, member_trees, long_is_long}
+use Rattle.smithy_json_codec.proofs.WrittenTree.{key_of, scalar_tree, tree_of, element_trees, member_trees}
+
+scalar_is_no_null : (x : ScalarValue) → is_null (node_of (scalar_tree x)) ≡ false
+scalar_is_no_null (boolean b) = refl
+scalar_is_no_null (whole n) = refl
+scalar_is_no_null (text s) = refl
 
 -- no value but a null element is a null
 present_tree : (b : Bool) (site : Site) (t : Table) (p : Place) (v : Value) → FitsOr t p false v → is_null (node_of (tree_of b site v)) ≡ false
-present_tree b site t p (whole n) fits = refl
-present_tree b site t p (text s) fits = refl
+present_tree b site t p (scalar_value x) fits = scalar_is_no_null x
 present_tree b site t p (list vs) fits = refl
 present_tree b site t p (structure ms) fits = refl
 present_tree b site t p null_element fits = cc
@@ -50,6 +57,15 @@ module _ (b : Bool) (t : Table) (accepted : IsAccepted t) where
 
   abbrev member_entries : Place → ℕ → Site → MemberValues → List Entry
   member_entries p d site ms = entries (rules_of c) t p as_object d (member_nodes (member_trees b site ms))
+
+  scalar_means : (p : Place) (nulls : Bool) (d : ℕ) (s : Scalar) (x : ScalarValue) → kind_of t p ≡ scalar s → is_of s x ≡ true
+      → element_meaning nulls (is_null (node_of (scalar_tree x))) (json_meaning c t p d (scalar_tree x)) ≡ Some (scalar_value x)
+  scalar_means p nulls d scalars.Long (boolean t) kind h = cc
+  scalar_means p nulls d scalars.Long (whole n) kind h = rw (kind, decimal_writes n h, h) refl
+  scalar_means p nulls d scalars.Long (text s) kind h = cc
+  scalar_means p nulls d scalars.String (boolean t) kind h = cc
+  scalar_means p nulls d scalars.String (whole n) kind h = cc
+  scalar_means p nulls d scalars.String (text s) kind h = rw (kind, unescaped_of_escaped s) refl
 
   shallow_enough : (d : ℕ) → d ≤ 128 → is_shallow c d ≡ true
   shallow_enough d h = grind (arith, nat_tests)
@@ -111,8 +127,7 @@ module _ (b : Bool) (t : Table) (accepted : IsAccepted t) where
 
   mutual
     pub value_means : (v : Value) (p : Place) (view : View) (nulls : Bool) (d : ℕ) → FitsOr t p nulls v → d + nesting v ≤ 128 → Means d p nulls (site_at t p view) v
-    value_means (whole n) p view nulls d fits deep = rw (fits.0, decimal_writes n (long_is_long n fits.1), long_is_long n fits.1) refl
-    value_means (text s) p view nulls d fits deep = rw (fits.0, unescaped_of_escaped s) refl
+    value_means (scalar_value x) p view nulls d fits deep = let s = scalar_kind (kind_of t p) x fits in scalar_means p nulls d s.0 x s.1 s.2
     value_means null_element p view nulls d fits deep = rw fits refl
     value_means (list vs) p view nulls d fits deep =
         let l = list_of_kind (kind_of t p) fits.0 in

@@ -1,24 +1,24 @@
 -- The tree of a value, and that the text that is written for the value is a text of the tree.
-use Rattle.std.proofs.Common.{◌≡◌, ℕ, List, [], ◌∷◌, ◌++◌, Bool, true, false, Some, None, slice_get, refl, sym, arith, subst, append_assoc, IsUtf8, ℤ}
+use Rattle.std.proofs.Common.{◌≡◌, ℕ, List, [], ◌∷◌, ◌++◌, Bool, true, false, Some, None, slice_get, refl, sym, subst, append_assoc, IsUtf8}
 use Rattle.std.specs.Prelude.{unwrap_or, if◌then◌else◌}
 use Rattle.std.specs.Fmt.{signed_decimal}
 use Rattle.std.proofs.lemmas.List.{append-nil}
-use Rattle.std.proofs.lemmas.Int.{ints}
 use Rattle.smithy_schema.specs.declared.place.Place.{Place}
+use Rattle.smithy_schema.specs.declared.shape_type.Scalar.{Scalar}
 use Rattle.smithy_schema.specs.Table.{Table, Member, ListShape, structure_of, list_of, kind_of}
 use Rattle.smithy_schema.specs.Accepted.{IsAccepted}
 use Rattle.smithy_schema.specs.Site.{Site, View, member_view, element_view, nameless, element_of, member_of}
-use Rattle.smithy_schema.specs.Value.{Value, whole, text, list, structure, null_element, Values, no_values, value, MemberValues, no_member_values, member_value}
-use Rattle.smithy_schema.specs.Fits.{IsLong, FitsOr, ElementsFit, MembersFit}
+use Rattle.smithy_schema.specs.Value.{ScalarValue, boolean, whole, text, Value, scalar_value, list, structure, null_element, Values, no_values, value, MemberValues, no_member_values, member_value}
+use Rattle.smithy_schema.specs.Fits.{is_of, FitsOr, ElementsFit, MembersFit}
+use Rattle.smithy_schema.proofs.ScalarLemmas.{scalar_kind, whole_fits, text_is_utf8}
 use Rattle.smithy_schema.proofs.SiteLemmas.{site_at, list_of_kind, structure_of_kind, element_site_at, member_site_at, element_fit, member_fit, names_are_utf8}
 use Rattle.smithy_json.specs.Ascii.{quotation_mark, name_separator}
 use Rattle.smithy_json.specs.Escape.{escaped}
-use Rattle.smithy_json.specs.Tree.{Json, null, number, string, array, object, Elements, no_elements, element, Members, no_members, member}
+use Rattle.smithy_json.specs.Tree.{Json, null, boolean as boolean_tree, number, string, array, object, Elements, no_elements, element, Members, no_members, member}
 use Rattle.smithy_json.specs.Grammar.{IsPadded, IsValue, IsMember, AreMoreElements, AreMoreMembers}
-use Rattle.smithy_json.specs.Number.{is_long}
 use Rattle.smithy_json.proofs.DecimalLemmas.{decimal_is_number}
 use Rattle.smithy_json.proofs.QuotedLemmas.{quoted_is_string}
-use Rattle.smithy_json_codec.specs.Canonical.{name_text, key_text, canonical_json, more_elements, more_members}
+use Rattle.smithy_json_codec.specs.Canonical.{scalar_text, name_text, key_text, canonical_json, more_elements, more_members}
 use Rattle.smithy_json_codec.specs.Codec.{strict_settings}
 use Rattle.smithy_json_codec.specs.Settings.{name_of}
 
@@ -29,10 +29,14 @@ key_of b view = elim view.name [
   | Some name ↦ if b then unwrap_or view.json_name name else name
 ]
 
+abbrev pub scalar_tree : ScalarValue → Json
+scalar_tree (boolean b) = boolean_tree b
+scalar_tree (whole n) = number (signed_decimal n)
+scalar_tree (text s) = string (escaped s)
+
 abbrev mutual
   pub tree_of : Bool → Site → Value → Json
-  tree_of b site (whole n) = number (signed_decimal n)
-  tree_of b site (text s) = string (escaped s)
+  tree_of b site (scalar_value x) = scalar_tree x
   tree_of b site (list vs) = array (element_trees b (element_of site) vs)
   tree_of b site (structure ms) = object (member_trees b site ms)
   tree_of b site null_element = null
@@ -46,11 +50,12 @@ abbrev mutual
   member_trees b site (member_value n v ms) =
       member (escaped (key_of b (member_of site n).view)) (tree_of b (member_of site n) v) (member_trees b site ms)
 
-pub long_is_long : (z : ℤ) → IsLong z → is_long z ≡ true
-long_is_long z fits =
-    let low = fits.0 in
-    let high = fits.1 in
-    grind (arith, ints)
+-- the text of a scalar of a kind is a text of its tree
+scalar_written : (s : Scalar) (x : ScalarValue) → is_of s x ≡ true → IsValue (scalar_tree x) (scalar_text x)
+scalar_written s (boolean true) h = refl
+scalar_written s (boolean false) h = refl
+scalar_written s (whole n) h = (refl, decimal_is_number n (whole_fits s n h))
+scalar_written s (text t) h = quoted_is_string t (text_is_utf8 s t h)
 
 -- ---- texts
 
@@ -99,8 +104,7 @@ module _ (b : Bool) (t : Table) (accepted : IsAccepted t) where
 
   mutual
     pub value_written : (v : Value) (p : Place) (view : View) (nulls : Bool) → FitsOr t p nulls v → IsWritten (site_at t p view) v
-    value_written (whole n) p view nulls fits = (refl, decimal_is_number n (long_is_long n fits.1))
-    value_written (text s) p view nulls fits = quoted_is_string s fits.1
+    value_written (scalar_value x) p view nulls fits = let s = scalar_kind (kind_of t p) x fits in scalar_written s.0 x s.2
     value_written null_element p view nulls fits = refl
     value_written (list no_values) p view nulls fits = ([], refl, tt)
     value_written (list (value v vs)) p view nulls fits =

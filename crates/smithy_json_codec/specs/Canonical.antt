@@ -1,15 +1,16 @@
 -- The one spelling in which a value is written.
-use Rattle.std.specs.Prelude.{ℕ, List, [], ◌∷◌, ◌++◌, Bool, Some, None, unwrap_or, codes, if◌then◌else◌}
+use Rattle.std.specs.Prelude.{ℕ, List, [], ◌∷◌, ◌++◌, Bool, true, false, Some, None, unwrap_or, codes, if◌then◌else◌}
 use Rattle.std.specs.Fmt.{signed_decimal}
 use Rattle.smithy_schema.specs.Site.{Site, View, element_of, member_of}
-use Rattle.smithy_schema.specs.Value.{Value, whole, text, list, structure, null_element, Values, no_values, value, MemberValues, no_member_values, member_value}
-use Rattle.smithy_schema.specs.Writing.{Scalar, long, string}
+use Rattle.smithy_schema.specs.Value.{ScalarValue, boolean, whole, text, Value, scalar_value, list, structure, null_element, Values, no_values, value, MemberValues, no_member_values, member_value}
 use Rattle.smithy_json.specs.Ascii.{value_separator, name_separator, begin_array, end_array, begin_object, end_object}
 use Rattle.smithy_json.specs.Escape.{quoted}
 
-abbrev pub scalar_text : Scalar → List ℕ
-scalar_text (long n) = signed_decimal n
-scalar_text (string s) = quoted s
+abbrev pub scalar_text : ScalarValue → List ℕ
+scalar_text (boolean true) = codes "true"
+scalar_text (boolean false) = codes "false"
+scalar_text (whole n) = signed_decimal n
+scalar_text (text s) = quoted s
 
 -- the name of a member, and a colon
 abbrev pub name_text : List ℕ → List ℕ
@@ -25,8 +26,7 @@ key_text use_json_name view = elim view.name [
 -- Members in the table's order and elements in theirs, with no white space.
 abbrev mutual
   pub canonical_json : Bool → Site → Value → List ℕ
-  canonical_json use_json_name site (whole n) = scalar_text (long n)
-  canonical_json use_json_name site (text s) = scalar_text (string s)
+  canonical_json use_json_name site (scalar_value x) = scalar_text x
   canonical_json use_json_name site (list vs) =
       begin_array ∷ (first_element use_json_name (element_of site) vs ++ end_array ∷ [])
   canonical_json use_json_name site (structure ms) =

@@ -3,9 +3,10 @@ use Rattle.std.specs.Prelude.{ℕ, List, ℤ, Bool, Option, Some, None, option_m
 use Rattle.smithy_schema.specs.declared.shape_type.Scalar.{Scalar}
 use Rattle.smithy_schema.specs.declared.shape_type.Scalar.TheVariants as scalars
 use Rattle.smithy_schema.specs.declared.shape_type.TimestampFormat.{TimestampFormat}
-use Rattle.smithy_schema.specs.Value.{Value, whole, text}
+use Rattle.smithy_schema.specs.Value.{whole, text, Value, scalar_value}
 use Rattle.smithy_json.specs.Tree.{Json, boolean, number, string}
-use Rattle.smithy_json.specs.Number.{whole_number, is_long}
+use Rattle.smithy_json.specs.Number.{whole_number}
+use Rattle.smithy_texts.specs.Ranges.{fits_signed}
 use Rattle.smithy_json.specs.Unescape.{unescaped}
 use Rattle.smithy_wire.specs.Rules.{Answer, answer_of}
 
@@ -23,7 +24,7 @@ tree_of (a_string raw) = string raw
 -- a number without fraction and exponent that fits 64 bits
 abbrev pub long_of : JsonScalar → Option Value
 long_of (a_number raw) =
-    option_and_then (λ (z : ℤ). if is_long z then Some (whole z) else None) (whole_number raw)
+    option_and_then (λ (z : ℤ). if fits_signed 64 z then Some (scalar_value (whole z)) else None) (whole_number raw)
 long_of _ = None
 
 -- the text of a string
@@ -34,4 +35,4 @@ text_of _ = None
 -- what a scalar is as one kind
 abbrev pub says : Scalar → Option TimestampFormat → JsonScalar → Answer Value
 says scalars.Long time x = answer_of (long_of x)
-says scalars.String time x = answer_of (option_map text (text_of x))
+says scalars.String time x = answer_of (option_map (λ s. scalar_value (text s)) (text_of x))

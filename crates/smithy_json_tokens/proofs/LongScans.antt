@@ -4,7 +4,7 @@ use Rattle.std.proofs.lemmas.Bool.Decides.{nat_tests}
 use Rattle.std.proofs.lemmas.List.{drop_more, length-drop, length-take-le}
 use Rattle.std.specs.Option.{option_map_or}
 use Rattle.smithy_json.specs.Ascii.{minus_sign}
-use Rattle.smithy_json.specs.Number.{is_long}
+use Rattle.smithy_texts.specs.Ranges.{fits_signed}
 use Rattle.smithy_json.specs.Standing.{IsLongAt}
 use Rattle.smithy_json.proofs.SliceLemmas.{drop-slice}
 use Rattle.smithy_types.specs.declared.number.Number.{Number}
@@ -16,7 +16,7 @@ use Rattle.smithy_json_tokens.specs.Private.Scans.{BeginsNumber}
 use Rattle.smithy_json_tokens.proofs.DecimalLemmas.{number_is_decimal}
 use Rattle.smithy_json_tokens.proofs.ScalarScans.{number_front, number_scan, number_scans}
 
-long_held : (z : ℤ) → is_long z ≡ true → can_be_held z ≡ true
+long_held : (z : ℤ) → fits_signed 64 z ≡ true → can_be_held z ≡ true
 long_held (pos n) h = grind (arith, nat_tests)
 long_held (negsuc n) h = grind (arith, nat_tests)
 

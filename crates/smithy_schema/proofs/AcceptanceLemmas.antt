@@ -107,15 +107,18 @@ pub passes_here : {X : Type 0} (f : X → Decl) (xs : List X) (test : ℕ → De
     → e ≡ get_or xs i e → false ≡ test (i + 1) (f e) → failing_from (map f xs) test i ≡ total → failing_from (map f xs) test (i + 1) ≡ total
 passes_here f xs test i e total within is here before = sym (failing_at f xs test i e false within is here) ∙ before
 
--- ---- targets
+-- ---- members
 
--- a name of the member at a position
+-- what is seen of the member at a position
+pub seen_at : {X Y Z : Type 0} (f : X → Y) (g : Y → Z) (xs : List X) (i : ℕ) (x : X) (z : Z) → i < length xs
+    → g (f (get_or xs i x)) ≡ get_or (map g (map f xs)) i z
+seen_at f g xs i x z within =
+    sym (get_or-map g (map f xs) i (f x) z (omega (arith, within, length-map xs f)) ∙ ap g (get_or-map f xs i x (f x) within))
+
+-- a name of it
 pub named_at : {X Y : Type 0} (f : X → Y) (g : Y → List ℕ) (xs : List X) (i : ℕ) (x : X) → i < length (map g (map f xs))
     → g (f (get_or xs i x)) ≡ get_or (map g (map f xs)) i []
-named_at f g xs i x within =
-    let w : i < length (map f xs) = omega (arith, length-map (map f xs) g) in
-    let v : i < length xs = omega (arith, length-map xs f) in
-    sym (get_or-map g (map f xs) i (f x) [] w ∙ ap g (get_or-map f xs i x (f x) v))
+named_at f g xs i x within = seen_at f g xs i x [] (omega (arith, within, length-map (map f xs) g, length-map xs f))
 
 pub not_not : (b : Bool) → not (not b) ≡ b
 not_not true = refl

@@ -3,7 +3,7 @@ use Rattle.std.proofs.Common.{◌≡◌, ◌≢◌, ℕ, ◌+◌, ◌-◌, ◌<�
 use Rattle.std.specs.Str.{bytes_eq}
 use Rattle.std.specs.Option.{option_map, option_map_or, option_or, is_some, unwrap_or}
 use Rattle.std.specs.List.{list_any, list_all, position, find, enumerate_from, slice_get}
-use Rattle.std.proofs.lemmas.Bool.{true≢false}
+use Rattle.std.proofs.lemmas.Bool.{true≢false, cases_Bool}
 use Rattle.std.proofs.lemmas.Bool.Decides.{nat_tests}
 use Rattle.std.proofs.lemmas.List.{length-map, get_or-map, get_or-take, length-take}
 use Rattle.std.proofs.lemmas.List.Folds.{list_any_at, list_any_none, Any-from_list_any}
@@ -14,9 +14,9 @@ use Rattle.smithy_schema.specs.declared.place.Target.TheVariants.{Simple, Declar
 use Rattle.smithy_schema.specs.declared.shape_type.Scalar.{Scalar}
 use Rattle.smithy_schema.specs.Table as table
 use Rattle.smithy_schema.specs.Table.{Kind, scalar, structure_of, list_of, nothing, kind_of_shape, kind_of, kind_of_target, place_in, list_shape_of, element_name_of, IsClosed}
-use Rattle.smithy_schema.specs.Names.{scalar_names, named, is_scalar_name, is_unbuilt_name, is_reserved, has_equal_texts, is_query_name}
-use Rattle.smithy_schema.specs.Decl.{MemberDecl, Form, structure, union, list, map as map_form, Decl}
-use Rattle.smithy_schema.specs.Acceptance.{Fault, Test, tests, members_of, targets_of, is_declared, place_of, member_of, shape_of, table_from, json_name_of, query_name_of, is_unbuilt_form, has_unbuilt_item, has_unknown_target, is_duplicate, has_clash, has_unfit_name, is_too_many, first_failing, first_fault}
+use Rattle.smithy_schema.specs.Names.{scalar_names, named, is_scalar_name, is_reserved, has_equal_texts, is_query_name}
+use Rattle.smithy_schema.specs.Decl.{PlaceWords, MemberDecl, Form, structure, union, list, map as map_form, Decl}
+use Rattle.smithy_schema.specs.Acceptance.{Fault, Test, tests, members_of, place_of_member, place_of_elements, places_of, query_names_of, element_name_of as written_name_of, is_declared, place_of, member_of, list_shape_of as shape_of_list, shape_of, table_from, json_name_of, query_name_of, has_unknown_target, has_unknown_shape, is_duplicate, has_clash, has_unfit_name, is_too_many, first_failing, first_fault}
 use Rattle.smithy_schema.specs.Accepted.{AreAcceptedMembers, HaveTextNames, IsAccepted}
 use Rattle.smithy_schema.proofs.OrderLemmas.{first_of, false_if, not_both, no_equal_texts, le_or_lt}
 
@@ -43,10 +43,9 @@ none_fails test n (x ∷ xs) none (suc i) d within =
     ap (λ k. test k (get_or xs i d)) (let e : n + suc i ≡ n + 1 + i = omega arith in e)
     ∙ none_fails test (n + 1) xs (first_passes (test n x) (n, x) (find (λ (p : ℕ × Decl). test p.0 p.1) (enumerate_from (n + 1) xs)) none).1 i d (omega arith)
 
--- all of them, by position from 0
+-- what is used of them, by position from 0
 pub record Passes (ds : List Decl) : Type 0 where
-  pub built : (i : ℕ) (d : Decl) → i < length ds → has_unbuilt_item ds (1 + i) (get_or ds i d) ≡ false
-  pub known : (i : ℕ) (d : Decl) → i < length ds → has_unknown_target ds (1 + i) (get_or ds i d) ≡ false
+  pub known : (i : ℕ) (d : Decl) → i < length ds → has_unknown_shape ds (1 + i) (get_or ds i d) ≡ false
   pub single : (i : ℕ) (d : Decl) → i < length ds → is_duplicate ds (1 + i) (get_or ds i d) ≡ false
   pub distinct : (i : ℕ) (d : Decl) → i < length ds → has_clash ds (1 + i) (get_or ds i d) ≡ false
   pub fit : (i : ℕ) (d : Decl) → i < length ds → has_unfit_name ds (1 + i) (get_or ds i d) ≡ false
@@ -65,7 +64,8 @@ each_passes ds (t ∷ ts) none =
 pub passes : (ds : List Decl) → first_fault ds tests ≡ None → Passes ds
 passes ds none =
     let all = each_passes ds tests none in
-    record { built = all.0; known = all.1.0; single = all.1.1.0; distinct = all.1.1.1.0; fit = all.1.1.1.1.0; few = all.1.1.1.1.1.0 }
+    let behind_places = all.1.1.1.1 in
+    record { known = all.1.1.0; single = behind_places.0; distinct = behind_places.1.0; fit = behind_places.1.1.0; few = behind_places.1.1.1.1.0 }
 
 or_false : (a b : Bool) → a || b ≡ false → (a ≡ false) × (b ≡ false)
 or_false true b h = absurd (true≢false h)
@@ -128,11 +128,17 @@ members_accepted ds ms few distinct fit =
       query_names_fit = ap (list_all is_query_name) (map-map table.query_name_of (member_of ds) ms) ∙ not_false (list_all is_query_name (map query_name_of ms)) fit;
     }
 
-as_kind : (ds : List Decl) (form : Form) → AreAcceptedMembers (map (member_of ds) (members_of form)) → AreAcceptedMembers (table.members_of (kind_of_shape (shape_of ds form)))
-as_kind ds (structure ms) h = h
-as_kind ds (union ms) h = h
-as_kind ds (list l) h = h
-as_kind ds (map_form m) h = h
+no_members : AreAcceptedMembers []
+no_members = record { are_few = omega arith; names_differ = refl; json_names_differ = refl; query_names_differ = refl; query_names_fit = refl }
+
+-- those of a structure
+form_accepted : (ds : List Decl) (n : ℕ) (d : Decl) (form : Form) → ltb 65535 (length (members_of form)) ≡ false
+    → has_clash ds n (record { name = d.name; form = form }) ≡ false → not (list_all is_query_name (query_names_of form)) ≡ false
+    → AreAcceptedMembers (table.members_of (kind_of_shape (shape_of ds form)))
+form_accepted ds n d (structure ms) few distinct fit = members_accepted ds ms few distinct fit
+form_accepted ds n d (union ms) few distinct fit = members_accepted ds ms few distinct fit
+form_accepted ds n d (list l) few distinct fit = no_members
+form_accepted ds n d (map_form m) few distinct fit = no_members
 
 -- ---- what stands at the places of the table
 
@@ -168,37 +174,33 @@ module _ (ds : List Decl) (P : Kind → Type 0) (of_scalar : (s : Scalar) → P 
   pub of_place : (at : Place) → P (kind_of (table_from ds) at)
   of_place at = of_target at.target
 
-no_members : AreAcceptedMembers []
-no_members = record { are_few = omega arith; names_differ = refl; json_names_differ = refl; query_names_differ = refl; query_names_fit = refl }
-
 members_in_table : (ds : List Decl) → Passes ds → (at : Place) → AreAcceptedMembers (table.members_of (kind_of (table_from ds) at))
 members_in_table ds p = of_place ds (λ kind. AreAcceptedMembers (table.members_of kind)) (λ s. no_members) no_members (λ n d within is.
-    let ms = members_of d.form in
-    as_kind ds d.form (members_accepted ds ms
+    form_accepted ds (1 + n) d d.form
     (ap (λ (d : Decl). ltb 65535 (length (members_of d.form))) (sym is) ∙ (or_false (ltb 65535 (length (members_of (get_or ds n d).form))) (eqb (1 + n) 65536) (p.few n d within)).0)
     (ap (λ d. has_clash ds (1 + n) d) (sym is) ∙ p.distinct n d within)
-    (ap (λ d. has_unfit_name ds (1 + n) d) (sym is) ∙ p.fit n d within)))
+    (ap (λ d. has_unfit_name ds (1 + n) d) (sym is) ∙ p.fit n d within))
 
 -- ---- elements
 
-not_some : {A : Type 0} (o : Option A) → is_some o ≡ false → o ≡ None
-not_some None h = refl
-not_some (Some x) h = absurd (true≢false h)
+first_of_all : (name : List ℕ) → not (list_all is_query_name (name ∷ [])) ≡ false → is_query_name name ≡ true
+first_of_all name fit = elim (cases_Bool (is_query_name name)) [
+  | inl fits ↦ fits
+  | inr unfit ↦ absurd (true≢false (rw unfit at fit))
+]
 
-element_fits : (ds : List Decl) (form : Form) → is_unbuilt_form form ≡ false → (l : table.ListShape) → list_shape_of (kind_of_shape (shape_of ds form)) ≡ Some l → is_query_name (element_name_of l) ≡ true
-element_fits ds (structure ms) built l found = absurd (let e : None ≡ Some l = found in cc)
-element_fits ds (union ms) built l found = absurd (true≢false built)
-element_fits ds (map_form m) built l found = absurd (true≢false built)
-element_fits ds (list k) built l found =
-    let no_name = not_some k.xml (or_false k.is_sparse (is_some k.xml) (or_false (k.is_sparse || is_some k.xml) (is_some k.time) built).0).1 in
-    let kept : table.ListShape = record { place = place_of ds k.target; is_sparse = k.is_sparse; xml_name = k.xml } in
-    ap (λ (l : table.ListShape). is_query_name (element_name_of l)) (sym (some_equal kept l found)) ∙ ap (λ o. is_query_name (unwrap_or o (codes "member"))) no_name
+element_fits : (ds : List Decl) (form : Form) → not (list_all is_query_name (query_names_of form)) ≡ false → (l : table.ListShape) → list_shape_of (kind_of_shape (shape_of ds form)) ≡ Some l
+    → is_query_name (element_name_of l) ≡ true
+element_fits ds (structure ms) fit l found = absurd (let e : None ≡ Some l = found in cc)
+element_fits ds (union ms) fit l found = absurd (let e : None ≡ Some l = found in cc)
+element_fits ds (map_form m) fit l found = absurd (let e : None ≡ Some l = found in cc)
+element_fits ds (list k) fit l found =
+    ap (λ (l : table.ListShape). is_query_name (element_name_of l)) (sym (some_equal (shape_of_list ds k) l found)) ∙ first_of_all (written_name_of k) fit
 
 elements_in_table : (ds : List Decl) → Passes ds → (at : Place) (l : table.ListShape) → list_shape_of (kind_of (table_from ds) at) ≡ Some l → is_query_name (element_name_of l) ≡ true
 elements_in_table ds p = of_place ds (λ kind. (l : table.ListShape) → list_shape_of kind ≡ Some l → is_query_name (element_name_of l) ≡ true)
     (λ s l found. absurd (let e : None ≡ Some l = found in cc)) (λ l found. absurd (let e : None ≡ Some l = found in cc))
-    (λ n d within is. element_fits ds d.form
-    (ap (λ (d : Decl). is_unbuilt_form d.form) (sym is) ∙ (or_false (is_unbuilt_form (get_or ds n d).form) (list_any is_unbuilt_name (targets_of (get_or ds n d).form)) (p.built n d within)).0))
+    (λ n d within is. element_fits ds d.form (ap (λ d. has_unfit_name ds (1 + n) d) (sym is) ∙ p.fit n d within))
 
 -- ---- targets
 
@@ -218,9 +220,6 @@ declared_is_something ds m within none =
     shape_is_something (shape_of ds (get_or ds m some_decl).form)
     (sym (ap (λ o. option_map_or kind_of_shape (option_map (λ (d : table.Declaration). d.shape) o) nothing) found) ∙ none)
 
-abbrev is_unknown : List Decl → List ℕ → Bool
-is_unknown ds target = not (is_scalar_name target) && not (is_declared ds target)
-
 named_is_something : (ds : List Decl) (target : List ℕ) (o : Option Scalar) → not (is_some o) && not (is_declared ds target) ≡ false
     → kind_of_target (table_from ds) (unwrap_or (option_map Simple o) (Declared (record { 0 = unwrap_or (position (λ (d : Decl). bytes_eq d.name target) ds) 0 }))) ≢ nothing
 named_is_something ds target (Some s) known none = let e : scalar s ≡ nothing = none in cc
@@ -230,44 +229,48 @@ named_is_something ds target None known none =
     declared_is_something ds first.0 (omega (arith, first.1, any.2))
     (ap (λ o. kind_of_target (table_from ds) (Declared (record { 0 = unwrap_or o 0 }))) (sym first.2) ∙ none)
 
-known_is_something : (ds : List Decl) (target : List ℕ) → is_unknown ds target ≡ false → kind_of (table_from ds) (place_of ds target) ≢ nothing
-known_is_something ds target known = named_is_something ds target (named scalar_names target) known
+known_is_something : (ds : List Decl) (p : PlaceWords) → has_unknown_target ds p ≡ false → kind_of (table_from ds) (place_of ds p) ≢ nothing
+known_is_something ds p known = named_is_something ds p.target (named scalar_names p.target) known
 
-member_found : (ds : List Decl) (ms : List MemberDecl) → list_any (is_unknown ds) (map (λ (m : MemberDecl). m.target) ms) ≡ false
+some_place : PlaceWords
+some_place = record { target = []; time = None }
+
+member_found : (ds : List Decl) (ms : List MemberDecl) → list_any (has_unknown_target ds) (map place_of_member ms) ≡ false
     → (inner : Place) (k : ℕ) → place_in (structure_of (map (member_of ds) ms)) (Some k) ≡ Some inner → (o : Option MemberDecl) → slice_get ms k ≡ o → kind_of (table_from ds) inner ≢ nothing
 member_found ds ms known inner k found None here =
     absurd (let e : None ≡ Some inner = sym (ap (option_map (λ (m : table.Member). m.place)) (slice_get-map (member_of ds) ms k ∙ ap (option_map (member_of ds)) here)) ∙ found in cc)
 member_found ds ms known inner k found (Some m) here =
     let at = declared_at ms k m here in
-    let place : place_of ds m.target ≡ inner =
-    some_equal (place_of ds m.target) inner (sym (ap (option_map (λ (m : table.Member). m.place)) (slice_get-map (member_of ds) ms k ∙ ap (option_map (member_of ds)) here)) ∙ found) in
-    let is_known : is_unknown ds m.target ≡ false = false_if (is_unknown ds m.target) (λ unknown.
-    not_both (list_any (is_unknown ds) (map (λ (m : MemberDecl). m.target) ms))
-    (list_any_at (is_unknown ds) (map (λ (m : MemberDecl). m.target) ms) k [] (omega (arith, at.0, length-map ms (λ (m : MemberDecl). m.target)))
-    (ap (is_unknown ds) (get_or-map (λ (m : MemberDecl). m.target) ms k m [] at.0 ∙ ap (λ (m : MemberDecl). m.target) at.1) ∙ unknown))
+    let place : place_of ds (place_of_member m) ≡ inner =
+    some_equal (place_of ds (place_of_member m)) inner (sym (ap (option_map (λ (m : table.Member). m.place)) (slice_get-map (member_of ds) ms k ∙ ap (option_map (member_of ds)) here)) ∙ found) in
+    let is_known : has_unknown_target ds (place_of_member m) ≡ false = false_if (has_unknown_target ds (place_of_member m)) (λ unknown.
+    not_both (list_any (has_unknown_target ds) (map place_of_member ms))
+    (list_any_at (has_unknown_target ds) (map place_of_member ms) k some_place (omega (arith, at.0, length-map ms place_of_member))
+    (ap (has_unknown_target ds) (get_or-map place_of_member ms k m some_place at.0 ∙ ap place_of_member at.1) ∙ unknown))
     known) in
     let P : Place → Type 0 = λ p. kind_of (table_from ds) p ≢ nothing in
-    subst P place (known_is_something ds m.target is_known)
+    subst P place (known_is_something ds (place_of_member m) is_known)
 
-member_known : (ds : List Decl) (ms : List MemberDecl) → list_any (is_unknown ds) (map (λ (m : MemberDecl). m.target) ms) ≡ false
+member_known : (ds : List Decl) (ms : List MemberDecl) → list_any (has_unknown_target ds) (map place_of_member ms) ≡ false
     → (inner : Place) (n : Option ℕ) → place_in (structure_of (map (member_of ds) ms)) n ≡ Some inner → kind_of (table_from ds) inner ≢ nothing
 member_known ds ms known inner None found = absurd (let e : None ≡ Some inner = found in cc)
 member_known ds ms known inner (Some k) found = member_found ds ms known inner k found (slice_get ms k) refl
 
-place_known : (ds : List Decl) (form : Form) → list_any (is_unknown ds) (targets_of form) ≡ false
+place_known : (ds : List Decl) (form : Form) → list_any (has_unknown_target ds) (places_of form) ≡ false
     → (inner : Place) (n : Option ℕ) → place_in (kind_of_shape (shape_of ds form)) n ≡ Some inner → kind_of (table_from ds) inner ≢ nothing
 place_known ds (structure ms) known inner n found = member_known ds ms known inner n found
 place_known ds (union ms) known inner n found = member_known ds ms known inner n found
 place_known ds (map_form m) known inner n found = member_known ds [] refl inner n found
 place_known ds (list l) known inner n found =
     let P : Place → Type 0 = λ p. kind_of (table_from ds) p ≢ nothing in
-    subst P (some_equal (place_of ds l.target) inner found) (known_is_something ds l.target (or_false (is_unknown ds l.target) false known).0)
+    subst P (some_equal (place_of ds (place_of_elements l)) inner found)
+    (known_is_something ds (place_of_elements l) (or_false (has_unknown_target ds (place_of_elements l)) false known).0)
 
 closed : (ds : List Decl) → Passes ds → IsClosed (table_from ds)
 closed ds p outer inner n = of_place ds (λ kind. place_in kind n ≡ Some inner → kind_of (table_from ds) inner ≢ nothing)
     (λ s found. absurd (let e : None ≡ Some inner = found in cc)) (λ found. absurd (let e : None ≡ Some inner = found in cc))
     (λ k d within is found. place_known ds d.form
-    (ap (λ d. has_unknown_target ds (1 + k) d) (sym is) ∙ p.known k d within) inner n found) outer
+    (ap (λ d. has_unknown_shape ds (1 + k) d) (sym is) ∙ p.known k d within) inner n found) outer
 
 pub accepted_table : (ds : List Decl) → first_fault ds tests ≡ None
     → ((at : Place) → HaveTextNames (table.members_of (kind_of (table_from ds) at))) → IsAccepted (table_from ds)

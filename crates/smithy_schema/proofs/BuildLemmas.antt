@@ -1,11 +1,11 @@
--- Declarations with the places of their targets are the table.
+-- Declarations with their places are the table.
 use Rattle.std.proofs.Common.{◌≡◌, ℕ, ◌<◌, List, [], ◌∷◌, ◌++◌, map, length, get_or, refl, sym, ap, ◌∙◌, arith}
 use Rattle.std.proofs.lemmas.List.{map-append, length-map, get_or-map, get_or_default}
 use Rattle.std.proofs.lemmas.Simd.{map-map}
 use Rattle.smithy_schema.specs.declared.place.Place.{Place}
 use Rattle.smithy_schema.specs.Table as table
 use Rattle.smithy_schema.specs.Decl.{MemberDecl, Form, structure, union, list, map as map_form, Decl}
-use Rattle.smithy_schema.specs.Acceptance.{targets_of, place_of, member_of, shape_of}
+use Rattle.smithy_schema.specs.Acceptance.{place_of_member, places_of, place_of, member_of, shape_of}
 use Rattle.smithy_schema.specs.Private.Placed.{member_with, members_with, shape_with, declaration_with, table_with}
 
 members_with_push : (ms : List MemberDecl) (m : MemberDecl) (ps : List Place) (p : Place) → length ms < length ps → p ≡ get_or ps (length ms) p
@@ -42,21 +42,21 @@ declaration_pushed view read new kept v ds d all ps is so_far here within places
 
 -- ---- the places that the declarations give
 
-members_placed : (ds : List Decl) (ms : List MemberDecl) → members_with ms (map (place_of ds) (map (λ (m : MemberDecl). m.target) ms)) ≡ map (member_of ds) ms
+members_placed : (ds : List Decl) (ms : List MemberDecl) → members_with ms (map (place_of ds) (map place_of_member ms)) ≡ map (member_of ds) ms
 members_placed ds [] = refl
 members_placed ds (m ∷ ms) = ap (λ more. member_of ds m ∷ more) (members_placed ds ms)
 
-shape_placed : (ds : List Decl) (form : Form) → shape_with form (map (place_of ds) (targets_of form)) ≡ shape_of ds form
+shape_placed : (ds : List Decl) (form : Form) → shape_with form (map (place_of ds) (places_of form)) ≡ shape_of ds form
 shape_placed ds (structure ms) = ap table.Shape.structure (members_placed ds ms)
 shape_placed ds (union ms) = ap table.Shape.structure (members_placed ds ms)
 shape_placed ds (list l) = refl
 shape_placed ds (map_form m) = refl
 
 pub table_placed : {X : Type 0} (ds : List Decl) (read : X → Decl) (xs : List X)
-    → table_with (map read xs) (map (λ x. map (place_of ds) (targets_of (read x).form)) xs) ≡ map (λ (d : Decl). record { name = d.name; shape = shape_of ds d.form }) (map read xs)
+    → table_with (map read xs) (map (λ x. map (place_of ds) (places_of (read x).form)) xs) ≡ map (λ (d : Decl). record { name = d.name; shape = shape_of ds d.form }) (map read xs)
 table_placed ds read [] = refl
 table_placed ds read (x ∷ xs) =
-    ap (λ (s : table.Shape). record { name = (read x).name; shape = s } ∷ table_with (map read xs) (map (λ x. map (place_of ds) (targets_of (read x).form)) xs)) (shape_placed ds (read x).form)
+    ap (λ (s : table.Shape). record { name = (read x).name; shape = s } ∷ table_with (map read xs) (map (λ x. map (place_of ds) (places_of (read x).form)) xs)) (shape_placed ds (read x).form)
     ∙ ap (λ more. record { name = (read x).name; shape = shape_of ds (read x).form } ∷ more) (table_placed ds read xs)
 
 -- ---- lengths
@@ -68,11 +68,11 @@ lengths_at f g xs ys same i x y within =
     sym (get_or-map f xs i x 0 (omega arith)) ∙ ap (λ ns. get_or ns i 0) same ∙ get_or-map g ys i y 0 within
 
 pub lengths_of_places : {X : Type 0} (ds : List Decl) (read : X → Decl) (xs : List X)
-    → map length (map (λ x. map (place_of ds) (targets_of (read x).form)) xs) ≡ map (λ x. length (targets_of (read x).form)) xs
+    → map length (map (λ x. map (place_of ds) (places_of (read x).form)) xs) ≡ map (λ x. length (places_of (read x).form)) xs
 lengths_of_places ds read [] = refl
 lengths_of_places ds read (x ∷ xs) =
-    ap (λ n. n ∷ map length (map (λ x. map (place_of ds) (targets_of (read x).form)) xs)) (length-map (targets_of (read x).form) (place_of ds))
-    ∙ ap (λ more. length (targets_of (read x).form) ∷ more) (lengths_of_places ds read xs)
+    ap (λ n. n ∷ map length (map (λ x. map (place_of ds) (places_of (read x).form)) xs)) (length-map (places_of (read x).form) (place_of ds))
+    ∙ ap (λ more. length (places_of (read x).form) ∷ more) (lengths_of_places ds read xs)
 
 -- a read at a place that is known by another name
 pub read_at : {X : Type 0} (xs : List X) (i j : ℕ) (d : X) → i ≡ j → j < length xs → get_or xs i d ≡ get_or xs j (get_or xs i d)

@@ -17,3 +17,4 @@ pub mod CountLemmas
 pub mod NamedLemmas
 pub mod SiteLemmas
 mod MembersLemmas
+pub mod ScalarLemmas

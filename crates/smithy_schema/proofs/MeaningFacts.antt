@@ -3,10 +3,10 @@ use Rattle.std.proofs.Common.{◌≡◌, ℕ, List, [], ◌∷◌, map, Bool, tr
 use Rattle.smithy_schema.specs.declared.shape_type.Scalar.TheVariants as scalars
 use Rattle.smithy_schema.specs.Table as table
 use Rattle.smithy_schema.specs.Table.{Table, Member, ListShape, Kind, scalar, structure_of, list_of, nothing, kind_of, place_in, members_of, position_named, json_name_of, query_name_of, element_name_of, declared_as, scalar_place, shape_place}
-use Rattle.smithy_schema.specs.Value.{Value, whole, text, list, structure, null_element, no_values, value, no_member_values, member_value}
+use Rattle.smithy_schema.specs.Value.{Value, scalar_value, whole, text, list, structure, null_element, no_values, value, no_member_values, member_value}
 use Rattle.smithy_schema.specs.Container.{Entry, container_of}
 use Rattle.smithy_schema.specs.Site.{shape_site, member_site, element_site, nameless_site, member_named, element_of, member_of}
-use Rattle.smithy_schema.specs.Writing.{string, begin_structure, end_structure, begin_list, end_list, null_of, scalar_of, events}
+use Rattle.smithy_schema.specs.Writing.{begin_structure, end_structure, begin_list, end_list, null_of, scalar_of, events}
 
 -- ---- entries and kinds
 
@@ -35,7 +35,7 @@ absent key position = record {
 
 -- an entry that names the member at a position, and means a number there
 abbrev sets : ℕ → ℕ → Entry
-sets position n = present (Some (codes "a")) (Some position) (Some (whole (pos n))) true
+sets position n = present (Some (codes "a")) (Some position) (Some (scalar_value (whole (pos n)))) true
 
 -- an element that means something or nothing, and whether it is a null
 abbrev child : Option Value → Bool → Entry
@@ -61,13 +61,13 @@ pub no_entries : (folded [] ≡ Some (structure no_member_values)) × (container
 no_entries = (refl, refl)
 
 -- the last of the entries that name one member counts, in either order
-pub last_counts : (folded (sets 0 1 ∷ sets 0 2 ∷ []) ≡ Some (structure (member_value 0 (whole (pos 2)) no_member_values)))
-    × (folded (sets 0 2 ∷ sets 0 1 ∷ []) ≡ Some (structure (member_value 0 (whole (pos 1)) no_member_values)))
+pub last_counts : (folded (sets 0 1 ∷ sets 0 2 ∷ []) ≡ Some (structure (member_value 0 (scalar_value (whole (pos 2))) no_member_values)))
+    × (folded (sets 0 2 ∷ sets 0 1 ∷ []) ≡ Some (structure (member_value 0 (scalar_value (whole (pos 1))) no_member_values)))
 last_counts = (refl, refl)
 
 -- one that is absent clears nothing, before it or behind it
-pub absent_clears_nothing : (folded (sets 0 1 ∷ absent (Some (codes "a")) (Some 0) ∷ []) ≡ Some (structure (member_value 0 (whole (pos 1)) no_member_values)))
-    × (folded (absent (Some (codes "a")) (Some 0) ∷ sets 0 1 ∷ []) ≡ Some (structure (member_value 0 (whole (pos 1)) no_member_values)))
+pub absent_clears_nothing : (folded (sets 0 1 ∷ absent (Some (codes "a")) (Some 0) ∷ []) ≡ Some (structure (member_value 0 (scalar_value (whole (pos 1))) no_member_values)))
+    × (folded (absent (Some (codes "a")) (Some 0) ∷ sets 0 1 ∷ []) ≡ Some (structure (member_value 0 (scalar_value (whole (pos 1))) no_member_values)))
     × (folded (absent (Some (codes "a")) (Some 0) ∷ []) ≡ Some (structure no_member_values))
 absent_clears_nothing = (refl, refl, refl)
 
@@ -82,29 +82,29 @@ pub unknown_entries : map folded ((present (Some (codes "z")) None None true ∷
 unknown_entries = refl
 
 -- one that names a member needn't be one that could be skipped
-pub known_and_deep : folded (present (Some (codes "a")) (Some 0) (Some (whole (pos 1))) false ∷ []) ≡ Some (structure (member_value 0 (whole (pos 1)) no_member_values))
+pub known_and_deep : folded (present (Some (codes "a")) (Some 0) (Some (scalar_value (whole (pos 1)))) false ∷ []) ≡ Some (structure (member_value 0 (scalar_value (whole (pos 1))) no_member_values))
 known_and_deep = refl
 
 -- a key without a text refuses, known or not, absent or not
-pub key_without_text : map folded ((present None None None true ∷ []) ∷ (absent None None ∷ []) ∷ (sets 0 1 ∷ absent None None ∷ []) ∷ (present None (Some 0) (Some (whole (pos 1))) true ∷ []) ∷ [])
+pub key_without_text : map folded ((present None None None true ∷ []) ∷ (absent None None ∷ []) ∷ (sets 0 1 ∷ absent None None ∷ []) ∷ (present None (Some 0) (Some (scalar_value (whole (pos 1)))) true ∷ []) ∷ [])
     ≡ None ∷ None ∷ None ∷ None ∷ []
 key_without_text = refl
 
 -- members stand by position, each once, in whatever order their entries come
 pub by_position : folded (sets 2 20 ∷ sets 0 1 ∷ sets 1 10 ∷ sets 2 21 ∷ sets 0 2 ∷ [])
-    ≡ Some (structure (member_value 0 (whole (pos 2)) (member_value 1 (whole (pos 10)) (member_value 2 (whole (pos 21)) no_member_values))))
+    ≡ Some (structure (member_value 0 (scalar_value (whole (pos 2))) (member_value 1 (scalar_value (whole (pos 10))) (member_value 2 (scalar_value (whole (pos 21))) no_member_values))))
 by_position = refl
 
 -- ---- lists
 
 -- elements stay in order, and equal ones stay
-pub elements : container_of (of_list false) (child (Some (whole (pos 2))) false ∷ child (Some (whole (pos 1))) false ∷ child (Some (whole (pos 2))) false ∷ [])
-    ≡ Some (list (value (whole (pos 2)) (value (whole (pos 1)) (value (whole (pos 2)) no_values))))
+pub elements : container_of (of_list false) (child (Some (scalar_value (whole (pos 2)))) false ∷ child (Some (scalar_value (whole (pos 1)))) false ∷ child (Some (scalar_value (whole (pos 2)))) false ∷ [])
+    ≡ Some (list (value (scalar_value (whole (pos 2))) (value (scalar_value (whole (pos 1))) (value (scalar_value (whole (pos 2))) no_values))))
 elements = refl
 
 -- a null is an element of a sparse list alone
-pub null_elements : map (λ is_sparse. container_of (of_list is_sparse) (child None true ∷ child (Some (whole (pos 1))) false ∷ [])) (true ∷ false ∷ [])
-    ≡ Some (list (value null_element (value (whole (pos 1)) no_values))) ∷ None ∷ []
+pub null_elements : map (λ is_sparse. container_of (of_list is_sparse) (child None true ∷ child (Some (scalar_value (whole (pos 1)))) false ∷ [])) (true ∷ false ∷ [])
+    ≡ Some (list (value null_element (value (scalar_value (whole (pos 1))) no_values))) ∷ None ∷ []
 null_elements = refl
 
 -- what means nothing and is no null is an element of no list, though it could be skipped; nor does an
@@ -187,8 +187,8 @@ sites_by_name = refl
 -- ---- the calls that write a value
 
 -- a structure with its second member: its begin, the member by its own site, its end
-pub events_of_structure : events (shape_site shapes 0) (structure (member_value 1 (text (codes "x")) no_member_values))
-    ≡ begin_structure (shape_site shapes 0) ∷ scalar_of (member_of (shape_site shapes 0) 1) (string (codes "x")) ∷ end_structure ∷ []
+pub events_of_structure : events (shape_site shapes 0) (structure (member_value 1 (scalar_value (text (codes "x"))) no_member_values))
+    ≡ begin_structure (shape_site shapes 0) ∷ scalar_of (member_of (shape_site shapes 0) 1) (text (codes "x")) ∷ end_structure ∷ []
 events_of_structure = refl
 
 -- a list with its count, elements without a name, a null among them and a list inside

@@ -1,15 +1,16 @@
 -- Table texts and what they are.
-use Rattle.std.proofs.Common.{◌≡◌, ℕ, List, [], ◌∷◌, ◌++◌, Some, None, true, false, refl, codes, map as list_map}
+use Rattle.std.proofs.Common.{◌≡◌, ℕ, List, [], ◌∷◌, ◌++◌, Option, Some, None, Bool, true, false, refl, codes, map as list_map}
 use Prim.Native.String.{String}
 use Rattle.std.specs.List.{join_with_byte}
 use Rattle.smithy_schema.specs.declared.place.Place.{Place}
 use Rattle.smithy_schema.specs.declared.place.Target.{Target}
 use Rattle.smithy_schema.specs.declared.place.Target.TheVariants.{Simple, Declared}
 use Rattle.smithy_schema.specs.declared.shape_type.Scalar.TheVariants as scalars
+use Rattle.smithy_schema.specs.declared.shape_type.TimestampFormat.TheVariants.{EpochSeconds, HttpDate}
 use Rattle.smithy_schema.specs.Table.{Table, Member, ListShape, structure, list, declared_as}
 use Rattle.smithy_schema.specs.Decl.{Form}
 use Rattle.smithy_schema.specs.TableText.{line_feed, declarations_of, declarations}
-use Rattle.smithy_schema.specs.Acceptance.{Fault, accepted, refused, table_of, build_of, is_too_many}
+use Rattle.smithy_schema.specs.Acceptance.{Fault, accepted, refused, table_of, build_of, has_one_entry_name, is_too_many}
 use Rattle.smithy_schema.proofs.OnLiterals.{smithy_schema_on_literals}
 
 abbrev lines : List String → List ℕ
@@ -46,6 +47,34 @@ list_of_itself = refl
 pub a_later_name : table_of (lines ("structure S" ∷ "member m L" ∷ "list L string" ∷ [])) ≡ accepted (record { name = codes "S"; shape = structure (a_member (codes "m") (declared 1) ∷ []) } ∷ record { name = codes "L"; shape = list (a_list (place (Simple scalars.String))) } ∷ [])
 unfolding smithy_schema_on_literals
 a_later_name = refl
+
+-- each option of a member
+pub member_options : table_of (lines ("structure S" ∷ "member a L flat time=http-date xml=y json=x" ∷ "list L string" ∷ []))
+    ≡ accepted (record {
+      name = codes "S";
+      shape = structure (record {
+        name = codes "a";
+        json_name = Some (codes "x");
+        xml_name = Some (codes "y");
+        is_flat = true;
+        place = record { target = Declared (record { 0 = 1 }); time = Some HttpDate };
+      } ∷ []);
+    } ∷ record { name = codes "L"; shape = list (a_list (place (Simple scalars.String))) } ∷ [])
+unfolding smithy_schema_on_literals
+member_options = refl
+
+-- and of a list
+pub list_options : table_of (lines ("list L string time=epoch-seconds xml=x sparse" ∷ []))
+    ≡ accepted (record {
+      name = codes "L";
+      shape = list (record {
+        place = record { target = Simple scalars.String; time = Some EpochSeconds };
+        is_sparse = true;
+        xml_name = Some (codes "x");
+      });
+    } ∷ [])
+unfolding smithy_schema_on_literals
+list_options = refl
 
 -- an empty line and a comment say nothing
 pub passed_over : table_of (lines ("" ∷ "# a  b" ∷ "structure S" ∷ "" ∷ [])) ≡ accepted empty_structure
@@ -151,20 +180,45 @@ pub no_map_yet : table_of (lines ("structure S" ∷ "map M long" ∷ [])) ≡ re
 unfolding smithy_schema_on_literals
 no_map_yet = refl
 
--- nor an option
-pub no_option_yet : table_of (lines ("structure S" ∷ "member a long xml=x" ∷ [])) ≡ refused Fault.not_built 1
-unfolding smithy_schema_on_literals
-no_option_yet = refl
-
 -- a target that is neither a scalar nor declared
 pub no_such_target : table_of (lines ("structure S" ∷ "member a b" ∷ [])) ≡ refused Fault.unknown_target 1
 unfolding smithy_schema_on_literals
 no_such_target = refl
 
 -- the test that is made first decides, not the first declaration
-pub first_test_first : table_of (lines ("list L b" ∷ "list M float" ∷ [])) ≡ refused Fault.not_built 2
+pub first_test_first : table_of (lines ("list L b" ∷ "list M float" ∷ [])) ≡ refused Fault.float_shape 2
 unfolding smithy_schema_on_literals
 first_test_first = refl
+
+-- a float, also where a declaration has its name
+pub float_target : table_of (lines ("structure S" ∷ "member a float" ∷ "structure float" ∷ [])) ≡ refused Fault.float_shape 1
+unfolding smithy_schema_on_literals
+float_target = refl
+
+-- a double
+pub double_target : table_of (lines ("structure S" ∷ "list L double" ∷ [])) ≡ refused Fault.float_shape 2
+unfolding smithy_schema_on_literals
+double_target = refl
+
+-- what isn't built comes before a float
+pub unbuilt_before_float : table_of (lines ("list L float" ∷ "map M long" ∷ [])) ≡ refused Fault.not_built 2
+unfolding smithy_schema_on_literals
+unbuilt_before_float = refl
+
+-- a time form that is none, whatever the target is
+pub no_such_time_format : table_of (lines ("structure S" ∷ "member a long time=http-date" ∷ "list L string time=http" ∷ [])) ≡ refused Fault.unknown_time_format 2
+unfolding smithy_schema_on_literals
+no_such_time_format = refl
+
+-- an unknown target comes before an unknown time form
+pub time_format_in_order : table_of (lines ("list L long time=x" ∷ "list L b" ∷ [])) ≡ refused Fault.unknown_target 2
+unfolding smithy_schema_on_literals
+time_format_in_order = refl
+
+-- which comes before a name that is there twice
+pub time_format_before_duplicates : table_of (lines ("list L long" ∷ "list L long time=x" ∷ [])) ≡ refused Fault.unknown_time_format 2
+unfolding smithy_schema_on_literals
+time_format_before_duplicates = refl
 
 -- the later of two equal names
 pub declared_twice : table_of (lines ("structure S" ∷ "list S long" ∷ [])) ≡ refused Fault.duplicate_shape 2
@@ -176,20 +230,53 @@ pub named_as_a_scalar : table_of (lines ("structure long" ∷ [])) ≡ refused F
 unfolding smithy_schema_on_literals
 named_as_a_scalar = refl
 
--- also of one that no table can have yet
-pub named_as_an_unbuilt_scalar : table_of (lines ("structure float" ∷ [])) ≡ refused Fault.duplicate_shape 1
+-- also of one that no table can have
+pub named_as_a_float : table_of (lines ("structure float" ∷ [])) ≡ refused Fault.duplicate_shape 1
 unfolding smithy_schema_on_literals
-named_as_an_unbuilt_scalar = refl
+named_as_a_float = refl
 
 -- equal member names
 pub equal_member_names : table_of (lines ("structure S" ∷ "member a long" ∷ "member a string" ∷ [])) ≡ refused Fault.name_clash 1
 unfolding smithy_schema_on_literals
 equal_member_names = refl
 
+-- equal JSON names
+pub equal_json_names : table_of (lines ("structure S" ∷ "member a long json=x" ∷ "member b long json=x" ∷ [])) ≡ refused Fault.name_clash 1
+unfolding smithy_schema_on_literals
+equal_json_names = refl
+
+-- a JSON name that is another member's own
+pub json_name_of_another : table_of (lines ("structure S" ∷ "member a long" ∷ "member b long json=a" ∷ [])) ≡ refused Fault.name_clash 1
+unfolding smithy_schema_on_literals
+json_name_of_another = refl
+
+-- equal names in a form
+pub equal_query_names : table_of (lines ("structure S" ∷ "member a long xml=x" ∷ "member b long xml=x" ∷ [])) ≡ refused Fault.name_clash 1
+unfolding smithy_schema_on_literals
+equal_query_names = refl
+
 -- a name that can't stand in the path of a form
 pub unfit_query_name : table_of (lines ("structure S" ∷ "member a.b long" ∷ [])) ≡ refused Fault.query_name 1
 unfolding smithy_schema_on_literals
 unfit_query_name = refl
+
+-- nor can a name that is given for the elements of a list
+pub unfit_element_name : table_of (lines ("list L string xml=a.b" ∷ [])) ≡ refused Fault.query_name 1
+unfolding smithy_schema_on_literals
+unfit_element_name = refl
+
+-- a name that is given for a form stands in place of the member's
+pub name_for_a_form : table_of (lines ("structure S" ∷ "member a.b long xml=x" ∷ [])) ≡ accepted (record { name = codes "S"; shape = structure (record (a_member (codes "a.b") (place (Simple scalars.Long))) { xml_name = Some (codes "x") } ∷ []) } ∷ [])
+unfolding smithy_schema_on_literals
+name_for_a_form = refl
+
+-- a map whose keys have the name of its values, as given or by default
+abbrev entry_names : Option (List ℕ) → Option (List ℕ) → Bool
+entry_names key value = has_one_entry_name (Form.map (record { target = codes "long"; is_sparse = false; key = key; value = value; time = None }))
+
+pub equal_entry_names : entry_names None None ∷ entry_names (Some (codes "k")) (Some (codes "k")) ∷ entry_names (Some (codes "value")) None ∷ [] ≡ false ∷ true ∷ true ∷ []
+unfolding smithy_schema_on_literals
+equal_entry_names = refl
 
 -- an empty name, which no text gives
 pub empty_query_name : build_of (record {

@@ -1,13 +1,13 @@
 -- Which declarations are a table: the tests in their order, and the table.
-use Rattle.std.specs.Prelude.{◌-◌, ◌==◌, ◌&&◌, ◌||◌, ℕ, nat_lt, List, [], ◌∷◌, length, take, map as list_map, find, position, Bool, true, not, Option, None, option_map, is_some, unwrap_or, bytes_eq}
+use Rattle.std.specs.Prelude.{◌-◌, ◌==◌, ◌&&◌, ◌||◌, ℕ, nat_lt, List, [], ◌∷◌, length, take, map as list_map, find, position, Bool, true, false, not, Option, None, option_map, option_and_then, unwrap_or, codes, bytes_eq}
 use Rattle.std.specs.List.{list_all, list_any, enumerate_from}
 use Rattle.std.specs.Option.{option_map_or, option_or}
 use Rattle.smithy_schema.specs.declared.place.Place.{Place}
 use Rattle.smithy_schema.specs.declared.place.Target.{Target}
 use Rattle.smithy_schema.specs.declared.place.Target.TheVariants.{Simple, Declared}
 use Rattle.smithy_schema.specs.Table.{Member, Shape, Table, ListShape}
-use Rattle.smithy_schema.specs.Names.{scalar_names, named, is_scalar_name, is_unbuilt_name, is_reserved, has_equal_texts, is_query_name}
-use Rattle.smithy_schema.specs.Decl.{MemberDecl, ListDecl, Form, structure, union, list, map, Decl}
+use Rattle.smithy_schema.specs.Names.{scalar_names, time_formats, named, is_scalar_name, is_unbuilt_name, is_float_name, is_time_format, is_reserved, has_equal_texts, is_query_name}
+use Rattle.smithy_schema.specs.Decl.{PlaceWords, MemberDecl, ListDecl, MapDecl, Form, structure, union, list, map, Decl}
 use Rattle.smithy_schema.specs.TableText.{Lines, declarations, declarations_of}
 
 -- ---- what a declaration names
@@ -22,11 +22,46 @@ members_of (structure ms) = ms
 members_of (union ms) = ms
 members_of _ = []
 
--- the names of all targets, in order
-abbrev pub targets_of : Form → List (List ℕ)
-targets_of (list l) = l.target ∷ []
-targets_of (map m) = m.target ∷ []
-targets_of form = list_map (λ (m : MemberDecl). m.target) (members_of form)
+-- the places of a member, of a list's elements and of a map's values
+abbrev pub place_of_member : MemberDecl → PlaceWords
+place_of_member m = record { target = m.target; time = m.time }
+
+abbrev pub place_of_elements : ListDecl → PlaceWords
+place_of_elements l = record { target = l.target; time = l.time }
+
+abbrev pub place_of_values : MapDecl → PlaceWords
+place_of_values m = record { target = m.target; time = m.time }
+
+-- all places, in order
+abbrev pub places_of : Form → List PlaceWords
+places_of (list l) = place_of_elements l ∷ []
+places_of (map m) = place_of_values m ∷ []
+places_of form = list_map place_of_member (members_of form)
+
+-- the name of a member in JSON under `json-name`
+abbrev pub json_name_of : MemberDecl → List ℕ
+json_name_of m = unwrap_or m.json m.name
+
+-- the name of a member in a form
+abbrev pub query_name_of : MemberDecl → List ℕ
+query_name_of m = unwrap_or m.xml m.name
+
+-- the name of a list's elements in a form
+abbrev pub element_name_of : ListDecl → List ℕ
+element_name_of l = unwrap_or l.xml (codes "member")
+
+-- the names of a map's keys and of its values in a form
+abbrev pub key_name_of : MapDecl → List ℕ
+key_name_of m = unwrap_or m.key (codes "key")
+
+abbrev pub value_name_of : MapDecl → List ℕ
+value_name_of m = unwrap_or m.value (codes "value")
+
+-- all names that stand in the paths of a form
+abbrev pub query_names_of : Form → List (List ℕ)
+query_names_of (list l) = element_name_of l ∷ []
+query_names_of (map m) = key_name_of m ∷ value_name_of m ∷ []
+query_names_of form = list_map query_name_of (members_of form)
 
 -- ---- the table
 
@@ -36,9 +71,10 @@ target_of decls name =
     unwrap_or (option_map Simple (named scalar_names name))
     (Declared (record { 0 = unwrap_or (position (λ (d : Decl). bytes_eq d.name name) decls) 0 }))
 
--- the place of a target, which has no time form yet
-abbrev pub place_of : List Decl → List ℕ → Place
-place_of decls target = record { target = target_of decls target; time = None }
+-- the place that words name
+abbrev pub place_of : List Decl → PlaceWords → Place
+place_of decls p =
+    record { target = target_of decls p.target; time = option_and_then (named time_formats) p.time }
 
 -- a member of the table
 abbrev pub member_of : List Decl → MemberDecl → Member
@@ -47,13 +83,13 @@ member_of decls m = record {
   json_name = m.json;
   xml_name = m.xml;
   is_flat = m.is_flat;
-  place = place_of decls m.target;
+  place = place_of decls (place_of_member m);
 }
 
 -- a list of the table
 abbrev pub list_shape_of : List Decl → ListDecl → ListShape
 list_shape_of decls l = record {
-  place = place_of decls l.target;
+  place = place_of decls (place_of_elements l);
   is_sparse = l.is_sparse;
   xml_name = l.xml;
 }
@@ -67,42 +103,55 @@ shape_of decls form = Shape.structure (list_map (member_of decls) (members_of fo
 abbrev pub table_from : List Decl → Table
 table_from decls = list_map (λ (d : Decl). record { name = d.name; shape = shape_of decls d.form }) decls
 
+-- ---- the tests of a place
+
+-- the target is a scalar that no table can have yet
+abbrev pub has_unbuilt_target : PlaceWords → Bool
+has_unbuilt_target p = is_unbuilt_name p.target
+
+-- the target is `float` or `double`
+abbrev pub has_float_target : PlaceWords → Bool
+has_float_target p = is_float_name p.target
+
+-- the target is neither a scalar nor declared
+abbrev pub has_unknown_target : List Decl → PlaceWords → Bool
+has_unknown_target decls p = not (is_scalar_name p.target) && not (is_declared decls p.target)
+
+-- the time form is none of the three, whatever the target is
+abbrev pub has_unknown_time : PlaceWords → Bool
+has_unknown_time p = option_map_or (λ word. not (is_time_format word)) p.time false
+
 -- ---- the tests, of a declaration and its number among all of them, from 1
 
 -- a test of one declaration, which may look at all of them and at its own number
 abbrev pub Test : Type 0
 Test = List Decl → ℕ → Decl → Bool
 
--- the member has some option
-abbrev pub has_option : MemberDecl → Bool
-has_option m = is_some m.json || is_some m.xml || m.is_flat || is_some m.time
-
--- a form or an option that no table can have yet
+-- a form that no table can have yet
 abbrev pub is_unbuilt_form : Form → Bool
-is_unbuilt_form (structure ms) = list_any has_option ms
-is_unbuilt_form (list l) = l.is_sparse || is_some l.xml || is_some l.time
+is_unbuilt_form (structure ms) = false
+is_unbuilt_form (list l) = false
 is_unbuilt_form _ = true
 
--- a form, an option or a target that no table can have yet
+-- a form or a target that no table can have yet
 abbrev pub has_unbuilt_item : Test
-has_unbuilt_item decls n d = is_unbuilt_form d.form || list_any is_unbuilt_name (targets_of d.form)
+has_unbuilt_item decls n d = is_unbuilt_form d.form || list_any has_unbuilt_target (places_of d.form)
 
--- a target that is neither a scalar nor declared
-abbrev pub has_unknown_target : Test
-has_unknown_target decls n d =
-    list_any (λ target. not (is_scalar_name target) && not (is_declared decls target)) (targets_of d.form)
+-- a place of a float
+abbrev pub has_float_shape : Test
+has_float_shape decls n d = list_any has_float_target (places_of d.form)
+
+-- a place whose target isn't known
+abbrev pub has_unknown_shape : Test
+has_unknown_shape decls n d = list_any (has_unknown_target decls) (places_of d.form)
+
+-- a place whose time form isn't known
+abbrev pub has_unknown_time_format : Test
+has_unknown_time_format decls n d = list_any has_unknown_time (places_of d.form)
 
 -- the name of an earlier declaration, or of a scalar
 abbrev pub is_duplicate : Test
 is_duplicate decls n d = is_reserved d.name || is_declared (take (n - 1) decls) d.name
-
--- the name in JSON under `json-name`
-abbrev pub json_name_of : MemberDecl → List ℕ
-json_name_of m = unwrap_or m.json m.name
-
--- the name in a form
-abbrev pub query_name_of : MemberDecl → List ℕ
-query_name_of m = unwrap_or m.xml m.name
 
 -- two members have one name, one JSON name or one name in a form
 abbrev pub has_clash : Test
@@ -111,9 +160,18 @@ has_clash decls n d =
     || has_equal_texts (list_map json_name_of (members_of d.form))
     || has_equal_texts (list_map query_name_of (members_of d.form))
 
--- a member whose name can't stand in the path of a form
+-- a name that can't stand in the path of a form
 abbrev pub has_unfit_name : Test
-has_unfit_name decls n d = not (list_all is_query_name (list_map query_name_of (members_of d.form)))
+has_unfit_name decls n d = not (list_all is_query_name (query_names_of d.form))
+
+-- a map whose keys and values have one name
+abbrev pub has_one_entry_name : Form → Bool
+has_one_entry_name (map m) = bytes_eq (key_name_of m) (value_name_of m)
+has_one_entry_name _ = false
+
+-- the same as a test
+abbrev pub has_key_value_name : Test
+has_key_value_name decls n d = has_one_entry_name d.form
 
 -- too many members, or one declaration too many
 abbrev pub is_too_many : Test
@@ -123,13 +181,15 @@ is_too_many decls n d = nat_lt 65535 (length (members_of d.form)) || n == 65536
 
 -- why declarations, or a line, are no table
 pub data Fault : Type 0 where
-  bad_line not_built unknown_target duplicate_shape name_clash query_name too_many : Fault
+  bad_line not_built float_shape unknown_target unknown_time_format duplicate_shape name_clash : Fault
+  query_name key_value_name too_many : Fault
 
 -- the tests after the lines, in the order in which they are made
 abbrev pub tests : List (Fault × Test)
 tests =
-    (not_built, has_unbuilt_item) ∷ (unknown_target, has_unknown_target) ∷ (duplicate_shape, is_duplicate)
-    ∷ (name_clash, has_clash) ∷ (query_name, has_unfit_name) ∷ (too_many, is_too_many) ∷ []
+    (not_built, has_unbuilt_item) ∷ (float_shape, has_float_shape) ∷ (unknown_target, has_unknown_shape)
+    ∷ (unknown_time_format, has_unknown_time_format) ∷ (duplicate_shape, is_duplicate) ∷ (name_clash, has_clash)
+    ∷ (query_name, has_unfit_name) ∷ (key_value_name, has_key_value_name) ∷ (too_many, is_too_many) ∷ []
 
 -- a table, or a fault with the number of its line or declaration, from 1
 pub data TableAnswer : Type 0 where

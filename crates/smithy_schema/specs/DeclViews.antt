@@ -4,10 +4,15 @@ use Rattle.smithy_schema.specs.declared.decl.MemberDecl as kept_member
 use Rattle.smithy_schema.specs.declared.decl.Decl as kept
 use Rattle.smithy_schema.specs.declared.decl.Decl.TheVariants.{Structure, Union, List, Map}
 use Rattle.smithy_schema.specs.declared.fault.TableFault.{TableFault}
-use Rattle.smithy_schema.specs.declared.fault.TableFault.TheVariants.{BadLine, NotBuilt, UnknownTarget, DuplicateShape, NameClash, QueryName, TooMany, NoMemory}
-use Rattle.smithy_schema.specs.Decl.{MemberDecl, structure, union, list, map, Decl}
+use Rattle.smithy_schema.specs.declared.fault.TableFault.TheVariants.{BadLine, NotBuilt, FloatShape, UnknownTarget, UnknownTimeFormat, DuplicateShape, NameClash, QueryName, KeyValueName, TooMany, NoMemory}
+use Rattle.smithy_schema.specs.declared.acceptance.places.PlaceWords as kept_place
+use Rattle.smithy_schema.specs.Decl.{PlaceWords, MemberDecl, structure, union, list, map, Decl}
 use Rattle.smithy_schema.specs.TableText.{Lines}
-use Rattle.smithy_schema.specs.Acceptance.{TableAnswer, refused, bad_line, not_built, unknown_target, duplicate_shape, name_clash, query_name, too_many}
+use Rattle.smithy_schema.specs.Acceptance.{TableAnswer, refused, bad_line, not_built, float_shape, unknown_target, unknown_time_format, duplicate_shape, name_clash, query_name, key_value_name, too_many}
+
+-- the place that the program's words name
+abbrev pub place_words_of : kept_place.PlaceWords → PlaceWords
+place_words_of p = record { target = p.target.now; time = option_map (λ word. word.now) p.time }
 
 -- the member that the program's declaration of one is
 abbrev pub member_decl_of : kept_member.MemberDecl → MemberDecl
@@ -54,10 +59,13 @@ decl_of (Map name target sparse key value time) = record {
 abbrev pub IsRefusedBy : TableAnswer → TableFault → Type 0
 IsRefusedBy answer (BadLine n) = answer ≡ refused bad_line n
 IsRefusedBy answer (NotBuilt n) = answer ≡ refused not_built n
+IsRefusedBy answer (FloatShape n) = answer ≡ refused float_shape n
 IsRefusedBy answer (UnknownTarget n) = answer ≡ refused unknown_target n
+IsRefusedBy answer (UnknownTimeFormat n) = answer ≡ refused unknown_time_format n
 IsRefusedBy answer (DuplicateShape n) = answer ≡ refused duplicate_shape n
 IsRefusedBy answer (NameClash n) = answer ≡ refused name_clash n
 IsRefusedBy answer (QueryName n) = answer ≡ refused query_name n
+IsRefusedBy answer (KeyValueName n) = answer ≡ refused key_value_name n
 IsRefusedBy answer (TooMany n) = answer ≡ refused too_many n
 IsRefusedBy answer NoMemory = Unit {0}
 

@@ -1,24 +1,33 @@
 -- Which values are values of a place.
-use Rattle.std.specs.Prelude.{◌≡◌, ◌≤◌, ◌^◌, ℕ, suc, ℤ, pos, neg_ℤ, ◌≤ℤ◌, ◌<ℤ◌, Bool, true, false, Some, None, IsUtf8}
+use Rattle.std.specs.Prelude.{◌≡◌, ◌≤◌, ℕ, suc, Bool, true, false, Some, None}
+use Rattle.std.specs.Str.{is_utf8}
+use Rattle.smithy_texts.specs.Ranges.{fits_signed}
 use Rattle.smithy_schema.specs.declared.place.Place.{Place}
+use Rattle.smithy_schema.specs.declared.shape_type.Scalar.{Scalar}
 use Rattle.smithy_schema.specs.declared.shape_type.Scalar.TheVariants as scalars
 use Rattle.smithy_schema.specs.Table.{Table, Kind, scalar, kind_of, place_in, is_sparse, IsList, IsStructure}
-use Rattle.smithy_schema.specs.Value.{Value, whole, text, list, structure, null_element, Values, no_values, value, MemberValues, no_member_values, member_value}
+use Rattle.smithy_schema.specs.Value.{ScalarValue, whole, text, Value, scalar_value, list, structure, null_element, Values, no_values, value, MemberValues, no_member_values, member_value}
 
--- from -2^63 to 2^63-1
-abbrev pub IsLong : ℤ → Type 0
-IsLong n = (neg_ℤ (pos (2 ^ 63)) ≤ℤ n) × (n <ℤ pos (2 ^ 63))
+-- the scalar values of a kind
+abbrev pub is_of : Scalar → ScalarValue → Bool
+is_of scalars.Long (whole n) = fits_signed 64 n
+is_of scalars.String (text s) = is_utf8 s
+is_of _ _ = false
+
+-- the scalar values of what stands at a place
+abbrev pub is_scalar_of : Kind → ScalarValue → Bool
+is_scalar_of (scalar s) x = is_of s x
+is_scalar_of _ x = false
 
 -- the positions ascend from this one on, each once
 abbrev pub AscendFrom : ℕ → MemberValues → Type 0
 AscendFrom least no_member_values = Unit {0}
 AscendFrom least (member_value n v ms) = (least ≤ n) × AscendFrom (suc n) ms
 
--- The value is one of the place, or a null element where one may stand. A text is in UTF-8.
+-- The value is one of the place, or a null element where one may stand.
 abbrev mutual
   pub FitsOr : Table → Place → Bool → Value → Type 0
-  FitsOr table place nulls (whole n) = (kind_of table place ≡ scalar scalars.Long) × IsLong n
-  FitsOr table place nulls (text s) = (kind_of table place ≡ scalar scalars.String) × IsUtf8 s
+  FitsOr table place nulls (scalar_value x) = is_scalar_of (kind_of table place) x ≡ true
   FitsOr table place nulls (list vs) = IsList (kind_of table place) × ElementsFit table (kind_of table place) vs
   FitsOr table place nulls (structure ms) =
       IsStructure (kind_of table place) × MembersFit table (kind_of table place) ms × AscendFrom 0 ms

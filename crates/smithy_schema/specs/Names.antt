@@ -1,19 +1,30 @@
--- The names in a table: which are reserved, which can stand in a form, and whether two are equal.
+-- The names and words in a table: which are reserved, which can stand in a form, and whether two are equal.
 use Rattle.std.specs.Prelude.{◌==◌, ◌||◌, ◌&&◌, ℕ, List, [], ◌∷◌, length, find, Bool, false, not, Option, option_map, is_some, codes, bytes_eq}
 use Rattle.std.specs.List.{list_all, list_any}
 use Rattle.std.specs.Char.{is_ascii_alphanumeric}
 use Rattle.smithy_schema.specs.declared.shape_type.Scalar.{Scalar}
 use Rattle.smithy_schema.specs.declared.shape_type.Scalar.TheVariants as scalars
+use Rattle.smithy_schema.specs.declared.shape_type.TimestampFormat.{TimestampFormat}
+use Rattle.smithy_schema.specs.declared.shape_type.TimestampFormat.TheVariants.{EpochSeconds, DateTime, HttpDate}
 
 -- the scalars by their names
 abbrev pub scalar_names : List (List ℕ × Scalar)
 scalar_names = (codes "long", scalars.Long) ∷ (codes "string", scalars.String) ∷ []
 
--- the names of the scalars that a table can't have yet, and of the two that it can never have
+-- the names of the scalars that a table can't have yet
 abbrev pub unbuilt_names : List (List ℕ)
 unbuilt_names =
     codes "boolean" ∷ codes "byte" ∷ codes "short" ∷ codes "integer" ∷ codes "blob" ∷ codes "timestamp"
-    ∷ codes "bigInteger" ∷ codes "bigDecimal" ∷ codes "document" ∷ codes "float" ∷ codes "double" ∷ []
+    ∷ codes "bigInteger" ∷ codes "bigDecimal" ∷ codes "document" ∷ []
+
+-- the names of the scalars that no table can have
+abbrev pub float_names : List (List ℕ)
+float_names = codes "float" ∷ codes "double" ∷ []
+
+-- the time forms by their words
+abbrev pub time_formats : List (List ℕ × TimestampFormat)
+time_formats =
+    (codes "epoch-seconds", EpochSeconds) ∷ (codes "date-time", DateTime) ∷ (codes "http-date", HttpDate) ∷ []
 
 -- what the name means in the list of names
 abbrev pub named : {X : Type 0} → List (List ℕ × X) → List ℕ → Option X
@@ -23,13 +34,21 @@ named names name = option_map (λ p. p.1) (find (λ p. bytes_eq name p.0) names)
 abbrev pub is_scalar_name : List ℕ → Bool
 is_scalar_name name = is_some (named scalar_names name)
 
--- the name is one that no target can have yet, or ever
+-- the name is that of a scalar which no target can be yet
 abbrev pub is_unbuilt_name : List ℕ → Bool
 is_unbuilt_name name = list_any (bytes_eq name) unbuilt_names
 
+-- the name is that of a scalar which no target can be
+abbrev pub is_float_name : List ℕ → Bool
+is_float_name name = list_any (bytes_eq name) float_names
+
 -- no declaration may have the name
 abbrev pub is_reserved : List ℕ → Bool
-is_reserved name = is_scalar_name name || is_unbuilt_name name
+is_reserved name = is_scalar_name name || is_unbuilt_name name || is_float_name name
+
+-- the word is that of a time form
+abbrev pub is_time_format : List ℕ → Bool
+is_time_format word = is_some (named time_formats word)
 
 -- two of the texts are equal
 abbrev pub has_equal_texts : List (List ℕ) → Bool

@@ -1,13 +1,19 @@
 -- The value that a body stands for, whichever wire carries it.
-use Rattle.std.specs.Prelude.{ℕ, suc, max, ℤ, List, [], ◌∷◌}
+use Rattle.std.specs.Prelude.{Bool, ℕ, suc, max, ℤ, List, [], ◌∷◌}
 use Rattle.std.specs.Ordering.{nat_cmp, match_ordering}
+
+-- a value without parts
+pub data ScalarValue : Type 0 where
+  boolean : Bool → ScalarValue
+  -- of each integer kind
+  whole : ℤ → ScalarValue
+  -- in UTF-8
+  text : List ℕ → ScalarValue
 
 mutual
   -- a value, which names no wire
   pub data Value : Type 0 where
-    whole : ℤ → Value
-    -- in UTF-8
-    text : List ℕ → Value
+    scalar_value : ScalarValue → Value
     list : Values → Value
     structure : MemberValues → Value
     -- a null among the elements of a sparse list
@@ -38,8 +44,7 @@ put_member position v (member_value at w rest) =
 abbrev mutual
   -- how deep lists and structures nest: 0 for a scalar and a null, else one more than the deepest child
   pub nesting : Value → ℕ
-  nesting (whole n) = 0
-  nesting (text s) = 0
+  nesting (scalar_value x) = 0
   nesting (list vs) = suc (elements_nesting vs)
   nesting (structure ms) = suc (members_nesting ms)
   nesting null_element = 0

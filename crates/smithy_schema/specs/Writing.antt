@@ -1,15 +1,9 @@
 -- What is written, call by call, and what a value adds.
-use Rattle.std.specs.Prelude.{◌≡◌, ℕ, ℤ, suc, List, [], ◌∷◌, ◌++◌, Option, Some, Result, Ok, Err}
+use Rattle.std.specs.Prelude.{◌≡◌, ℕ, suc, List, [], ◌∷◌, ◌++◌, Option, Some, Result, Ok, Err}
 use Rattle.smithy_schema.specs.declared.error.SerdeError.{SerdeError}
 use Rattle.smithy_schema.specs.declared.error.SerdeError.TheVariants.{Unwritable}
 use Rattle.smithy_schema.specs.Site.{Site, element_of, member_of}
-use Rattle.smithy_schema.specs.Value.{Value, whole, text, list, structure, null_element, Values, no_values, value, MemberValues, no_member_values, member_value}
-
--- what a write of a scalar is given
-pub data Scalar : Type 0 where
-  long : ℤ → Scalar
-  -- in UTF-8
-  string : List ℕ → Scalar
+use Rattle.smithy_schema.specs.Value.{ScalarValue, Value, scalar_value, list, structure, null_element, Values, no_values, value, MemberValues, no_member_values, member_value}
 
 -- one call of a serializer, with what its schema tells
 pub data Event : Type 0 where
@@ -19,7 +13,7 @@ pub data Event : Type 0 where
   begin_list : Site → Option ℕ → Event
   end_list : Event
   null_of : Site → Event
-  scalar_of : Site → Scalar → Event
+  scalar_of : Site → ScalarValue → Event
 
 -- what an event makes of a serializer's state, or why it can't be written there
 abbrev pub Writer : Type 0 → Type 0
@@ -44,8 +38,7 @@ count_of (value v vs) = suc (count_of vs)
 abbrev mutual
   -- a scalar is one call
   pub events : Site → Value → List Event
-  events site (whole n) = scalar_of site (long n) ∷ []
-  events site (text s) = scalar_of site (string s) ∷ []
+  events site (scalar_value x) = scalar_of site x ∷ []
   events site (list vs) =
       begin_list site (Some (count_of vs)) ∷ (element_events (element_of site) vs ++ end_list ∷ [])
   events site (structure ms) = begin_structure site ∷ (member_events site ms ++ end_structure ∷ [])
@@ -77,7 +70,7 @@ pub record IsNested {S : Type 0} (after : Writer S) (open_in : S → List Open) 
   pub begins_list : (site : Site) (n : Option ℕ) (s t : S) → after (begin_list site n) s ≡ Ok t → open_in t ≡ open_list ∷ open_in s
   pub ends_list : (s t : S) → after end_list s ≡ Ok t → open_in s ≡ open_list ∷ open_in t
   pub keeps_null : (site : Site) (s t : S) → after (null_of site) s ≡ Ok t → open_in t ≡ open_in s
-  pub keeps_scalar : (site : Site) (x : Scalar) (s t : S) → after (scalar_of site x) s ≡ Ok t → open_in t ≡ open_in s
+  pub keeps_scalar : (site : Site) (x : ScalarValue) (s t : S) → after (scalar_of site x) s ≡ Ok t → open_in t ≡ open_in s
   -- an end that closes nothing, or another container
   pub no_structure : (s : S) → ((os : List Open) → open_in s ≡ open_structure ∷ os → ⊥) → after end_structure s ≡ Err Unwritable
   pub no_list : (s : S) → ((os : List Open) → open_in s ≡ open_list ∷ os → ⊥) → after end_list s ≡ Err Unwritable

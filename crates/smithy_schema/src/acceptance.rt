@@ -1,22 +1,26 @@
 //! The tests that declarations have to pass to be a table.
 ghost use Rattle.std.specs.Prelude.{◌≡◌, ◌+◌, ◌&&◌, [], take, map, not, IfOk, IfErr, OnOk, None};
-ghost use Rattle.std.specs.List.{list_any};
-ghost use Rattle.smithy_schema.specs.Names.{is_unbuilt_name, is_scalar_name};
-ghost use Rattle.smithy_schema.specs.Acceptance.{refused, has_option, is_unbuilt_form, has_unbuilt_item, has_unknown_target, is_duplicate, is_declared, has_clash as has_clash_of_members, has_unfit_name, targets_of, first_failing, first_fault, tests, build_of};
-ghost use Rattle.smithy_schema.specs.DeclViews.{decl_of, member_decl_of, IsRefusedBy};
+ghost use Rattle.std.specs.List.{list_any, list_all};
+ghost use Rattle.smithy_schema.specs.Names.{is_scalar_name, is_query_name};
+ghost use Rattle.smithy_schema.specs.Acceptance.{refused, is_unbuilt_form, has_unbuilt_item, has_unknown_time, is_duplicate, is_declared, has_clash as has_clash_of_members, has_unfit_name, has_one_entry_name, query_name_of, places_of, first_failing, first_fault, tests, build_of};
+ghost use Rattle.smithy_schema.specs.DeclViews.{decl_of, member_decl_of, place_words_of, IsRefusedBy};
 ghost use Rattle.smithy_schema.specs.Private.DeclNames.{declared_name};
 ghost use Rattle.smithy_schema.specs.Private.Order.{IsOrderOf};
-ghost use Rattle.smithy_schema.specs.Private.Tests.{test_of, fault_of};
+ghost use Rattle.smithy_schema.specs.Private.Tests.{place_test_of, test_of, fault_of};
 
 pub(crate) mod names;
+pub(crate) mod places;
 pub(crate) mod words;
 
 use crate::decl::{Decl, MemberDecl};
 use crate::fault::TableFault;
 use crate::names::{Named, has_clash, position_of};
-use names::{DeclaredNames, JsonNames, MemberNames, QueryNames, Targets};
+use names::{DeclaredNames, JsonNames, MemberNames, QueryNames, given_or};
+use places::{PlaceWords, Places};
 use std::alloc::{AllocError, Global};
-use words::{is_query_name, is_reserved, is_unbuilt_name, scalar_of};
+use words::{
+    is_float_name, is_query_name, is_reserved, is_unbuilt_name, scalar_of, time_format_of,
+};
 
 /// The most declarations of a table, and members of a declaration.
 const LIMIT: usize = 65_535;
@@ -25,22 +29,37 @@ const LIMIT: usize = 65_535;
 #[derive(Clone, Copy)]
 pub(crate) enum Test {
     NotBuilt,
+    FloatShape,
     UnknownTarget,
+    UnknownTimeFormat,
     DuplicateShape,
     NameClash,
     QueryName,
+    KeyValueName,
     TooMany,
 }
 
 /// The tests in the order in which they are made.
-const TESTS: [Test; 6] = [
+const TESTS: [Test; 9] = [
     Test::NotBuilt,
+    Test::FloatShape,
     Test::UnknownTarget,
+    Test::UnknownTimeFormat,
     Test::DuplicateShape,
     Test::NameClash,
     Test::QueryName,
+    Test::KeyValueName,
     Test::TooMany,
 ];
+
+/// A test that each place of a declaration has to pass.
+#[derive(Clone, Copy)]
+pub(crate) enum PlaceTest {
+    UnbuiltTarget,
+    FloatTarget,
+    UnknownTarget,
+    UnknownTime,
+}
 
 /// Makes the tests one after the other over all declarations, which `order` has in the order of their names.
 pub(crate) fn check(alloc: Global, decls: &[Decl], order: &[usize]) -> Result<(), TableFault>
@@ -88,11 +107,14 @@ impl Test {
         ensures { IfOk result (λ fails. fails ≡ test_of self (map decl_of decls.now) (position + 1) (decl_of decl.now)) }
     {
         match self {
-            Test::NotBuilt => Ok(has_unbuilt_item(decl)),
-            Test::UnknownTarget => Ok(has_unknown_target(decls, order, decl)),
+            Test::NotBuilt => Ok(has_unbuilt_item(decls, order, decl)),
+            Test::FloatShape => Ok(PlaceTest::FloatTarget.fails_at_some(decls, order, decl)),
+            Test::UnknownTarget => Ok(PlaceTest::UnknownTarget.fails_at_some(decls, order, decl)),
+            Test::UnknownTimeFormat => Ok(PlaceTest::UnknownTime.fails_at_some(decls, order, decl)),
             Test::DuplicateShape => Ok(is_duplicate(decls, order, position, decl)),
             Test::NameClash => has_clash_of_members(alloc, decl),
             Test::QueryName => Ok(has_unfit_name(decl)),
+            Test::KeyValueName => Ok(has_one_entry_name(decl)),
             Test::TooMany => Ok(decl.members().len() > LIMIT || position == LIMIT),
         }
     }
@@ -103,75 +125,76 @@ impl Test {
     {
         match self {
             Test::NotBuilt => TableFault::NotBuilt(number),
+            Test::FloatShape => TableFault::FloatShape(number),
             Test::UnknownTarget => TableFault::UnknownTarget(number),
+            Test::UnknownTimeFormat => TableFault::UnknownTimeFormat(number),
             Test::DuplicateShape => TableFault::DuplicateShape(number),
             Test::NameClash => TableFault::NameClash(number),
             Test::QueryName => TableFault::QueryName(number),
+            Test::KeyValueName => TableFault::KeyValueName(number),
             Test::TooMany => TableFault::TooMany(number),
         }
     }
 }
 
-// The declaration uses a form, an option or a target that no table can have yet.
-fn has_unbuilt_item(decl: &Decl) -> bool
-    ensures { result ≡ has_unbuilt_item [] 0 (decl_of decl.now) }
+impl PlaceTest {
+    // Some place of the declaration fails the test.
+    fn fails_at_some(self, decls: &[Decl], order: &[usize], decl: &Decl) -> bool
+        requires { IsOrderOf (map declared_name decls.now) order.now }
+        ensures { result ≡ list_any (place_test_of self (map decl_of decls.now)) (places_of (decl_of decl.now).form) }
+    {
+        let places = Places(decl);
+        for position in 0..places.count() {
+            if self.fails(decls, order, places.at(position)) {
+                return true;
+            }
+        }
+        false
+    }
+
+    // The place fails the test.
+    fn fails(self, decls: &[Decl], order: &[usize], place: PlaceWords<'_>) -> bool
+        requires { IsOrderOf (map declared_name decls.now) order.now }
+        ensures { result ≡ place_test_of self (map decl_of decls.now) (place_words_of place.entry) }
+    {
+        match self {
+            PlaceTest::UnbuiltTarget => is_unbuilt_name(place.target),
+            PlaceTest::FloatTarget => is_float_name(place.target),
+            PlaceTest::UnknownTarget => is_unknown(decls, order, place.target),
+            PlaceTest::UnknownTime => has_unknown_time(place),
+        }
+    }
+}
+
+// The declaration uses a form or a target that no table can have yet.
+fn has_unbuilt_item(decls: &[Decl], order: &[usize], decl: &Decl) -> bool
+    requires { IsOrderOf (map declared_name decls.now) order.now }
+    ensures { result ≡ has_unbuilt_item (map decl_of decls.now) 0 (decl_of decl.now) }
 {
-    is_unbuilt_form(decl) || has_unbuilt_target(decl)
+    is_unbuilt_form(decl) || PlaceTest::UnbuiltTarget.fails_at_some(decls, order, decl)
 }
 
 fn is_unbuilt_form(decl: &Decl) -> bool
     ensures { result ≡ is_unbuilt_form (decl_of decl.now).form }
 {
     match decl {
-        Decl::Structure { members, .. } => has_options(members.as_slice()),
-        Decl::List {
-            sparse,
-            xml,
-            time,
-            ..
-        } => *sparse || xml.is_some() || time.is_some(),
+        Decl::Structure { .. } => false,
+        Decl::List { .. } => false,
         _ => true,
     }
 }
 
-// Some member has an option.
-fn has_options(members: &[MemberDecl]) -> bool
-    ensures { result ≡ list_any has_option (map member_decl_of members.now) }
+// The time form is none of the three.
+fn has_unknown_time(place: PlaceWords<'_>) -> bool
+    ensures { result ≡ has_unknown_time (place_words_of place.entry) }
 {
-    for member in members {
-        if member.json.is_some() || member.xml.is_some() || member.flat || member.time.is_some() {
-            return true;
-        }
+    match place.time {
+        Some(word) => time_format_of(word).is_none(),
+        None => false,
     }
-    false
 }
 
-fn has_unbuilt_target(decl: &Decl) -> bool
-    ensures { result ≡ list_any is_unbuilt_name (targets_of (decl_of decl.now).form) }
-{
-    let targets = Targets(decl);
-    for position in 0..targets.count() {
-        if is_unbuilt_name(targets.name_at(position)) {
-            return true;
-        }
-    }
-    false
-}
-
-// Some target is neither a scalar nor a declared name.
-fn has_unknown_target(decls: &[Decl], order: &[usize], decl: &Decl) -> bool
-    requires { IsOrderOf (map declared_name decls.now) order.now }
-    ensures { result ≡ has_unknown_target (map decl_of decls.now) 0 (decl_of decl.now) }
-{
-    let targets = Targets(decl);
-    for position in 0..targets.count() {
-        if is_unknown(decls, order, targets.name_at(position)) {
-            return true;
-        }
-    }
-    false
-}
-
+// The target is neither a scalar nor a declared name.
 fn is_unknown(decls: &[Decl], order: &[usize], target: &str) -> bool
     requires { IsOrderOf (map declared_name decls.now) order.now }
     ensures { result ≡ (not (is_scalar_name target.now) && not (is_declared (map decl_of decls.now) target.now)) }
@@ -209,15 +232,39 @@ fn has_clash_of_members(alloc: Global, decl: &Decl) -> Result<bool, AllocError>
     )
 }
 
-// A name of some member can't stand in the path of a form.
+// A name can't stand in the path of a form.
 fn has_unfit_name(decl: &Decl) -> bool
     ensures { result ≡ has_unfit_name [] 0 (decl_of decl.now) }
 {
-    let names = QueryNames(decl.members());
+    match decl {
+        Decl::Structure { members, .. } => has_unfit_member(members.as_slice()),
+        Decl::Union { members, .. } => has_unfit_member(members.as_slice()),
+        Decl::List { xml, .. } => !is_query_name(given_or(xml, "member")),
+        Decl::Map { key, value, .. } => {
+            !is_query_name(given_or(key, "key")) || !is_query_name(given_or(value, "value"))
+        }
+    }
+}
+
+// A name of some member can't stand in the path of a form.
+fn has_unfit_member(members: &[MemberDecl]) -> bool
+    ensures { result ≡ not (list_all is_query_name (map query_name_of (map member_decl_of members.now))) }
+{
+    let names = QueryNames(members);
     for position in 0..names.count() {
         if !is_query_name(names.name_at(position)) {
             return true;
         }
     }
     false
+}
+
+// The keys and the values of a map have one name.
+fn has_one_entry_name(decl: &Decl) -> bool
+    ensures { result ≡ has_one_entry_name (decl_of decl.now).form }
+{
+    match decl {
+        Decl::Map { key, value, .. } => given_or(key, "key") == given_or(value, "value"),
+        _ => false,
+    }
 }

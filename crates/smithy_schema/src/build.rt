@@ -2,20 +2,21 @@
 ghost use Rattle.std.specs.Prelude.{◌≡◌, ◌≤◌, length, map, unwrap_or, bytes_eq, string_bytes, position as first_position, IfOk};
 ghost use Rattle.smithy_schema.specs.Decl.{Decl as SpecDecl};
 ghost use Rattle.smithy_schema.specs.Table.{structure};
-ghost use Rattle.smithy_schema.specs.Acceptance.{targets_of, place_of};
-ghost use Rattle.smithy_schema.specs.DeclViews.{decl_of, member_decl_of};
+ghost use Rattle.smithy_schema.specs.Acceptance.{places_of, place_of, target_of};
+ghost use Rattle.smithy_schema.specs.DeclViews.{decl_of, member_decl_of, place_words_of};
 ghost use Rattle.smithy_schema.specs.Views.{member_of, declaration_of};
 ghost use Rattle.smithy_schema.specs.Private.DeclNames.{declared_name};
 ghost use Rattle.smithy_schema.specs.Private.Order.{IsOrderOf};
 ghost use Rattle.smithy_schema.specs.Private.Placed.{members_with, declaration_with, table_with};
 
 use crate::acceptance::check;
-use crate::acceptance::names::{DeclaredNames, Targets};
-use crate::acceptance::words::scalar_of;
+use crate::acceptance::names::DeclaredNames;
+use crate::acceptance::places::{PlaceWords, Places};
+use crate::acceptance::words::{scalar_of, time_format_of};
 use crate::decl::{Decl, MemberDecl};
 use crate::fault::TableFault;
 use crate::members::{MemberList, MemberShape};
-use crate::names::{Named, order_of, position_of};
+use crate::names::{order_of, position_of};
 use crate::place::{Place, Target};
 use crate::shape_type::ShapeRef;
 use crate::shapes::{Declaration, ListShape, Shape, Shapes};
@@ -43,12 +44,12 @@ impl Shapes {
     }
 }
 
-// The places of the targets of each declaration.
+// The places of each declaration.
 fn all_places(alloc: Global, decls: &[Decl], order: &[usize]) -> Result<Vec<Vec<Place>>, AllocError>
     requires few { length decls.now ≤ 65535 }
     requires in_order { IsOrderOf (map declared_name decls.now) order.now }
     ensures { IfOk result (λ all. map (λ p. p.items) all.items
-        ≡ map (λ d. map (place_of (map decl_of decls.now)) (targets_of (decl_of d).form)) decls.now) }
+        ≡ map (λ d. map (place_of (map decl_of decls.now)) (places_of (decl_of d).form)) decls.now) }
 {
     let mut all = Vec::with_capacity(alloc, decls.len())?;
     for decl in decls {
@@ -57,7 +58,7 @@ fn all_places(alloc: Global, decls: &[Decl], order: &[usize]) -> Result<Vec<Vec<
     Ok(all)
 }
 
-// The places of the targets of a declaration.
+// The places of a declaration.
 fn places_of(
     alloc: Global,
     decls: &[Decl],
@@ -66,27 +67,41 @@ fn places_of(
 ) -> Result<Vec<Place>, AllocError>
     requires few { length decls.now ≤ 65535 }
     requires in_order { IsOrderOf (map declared_name decls.now) order.now }
-    ensures { IfOk result (λ places. places.items ≡ map (place_of (map decl_of decls.now)) (targets_of (decl_of decl.now).form)) }
+    ensures { IfOk result (λ places. places.items ≡ map (place_of (map decl_of decls.now)) (places_of (decl_of decl.now).form)) }
 {
-    let targets = Targets(decl);
-    let mut places = Vec::with_capacity(alloc, targets.count())?;
-    for position in 0..targets.count() {
-        places.push(place_of(decls, order, targets.name_at(position)))?;
+    let named = Places(decl);
+    let mut places = Vec::with_capacity(alloc, named.count())?;
+    for position in 0..named.count() {
+        places.push(place_of(decls, order, named.at(position)))?;
     }
     Ok(places)
 }
 
-// The place of a target.
-fn place_of(decls: &[Decl], order: &[usize], target: &str) -> Place
+// The place that words name.
+fn place_of(decls: &[Decl], order: &[usize], place: PlaceWords<'_>) -> Place
     requires few { length decls.now ≤ 65535 }
     requires in_order { IsOrderOf (map declared_name decls.now) order.now }
-    ensures { result ≡ place_of (map decl_of decls.now) target.now }
+    ensures { result ≡ place_of (map decl_of decls.now) (place_words_of place.entry) }
 {
-    let target = match scalar_of(target) {
+    Place {
+        target: target_of(decls, order, place.target),
+        time: match place.time {
+            Some(word) => time_format_of(word),
+            None => None,
+        },
+    }
+}
+
+// The scalar or the declaration of that name.
+fn target_of(decls: &[Decl], order: &[usize], name: &str) -> Target
+    requires few { length decls.now ≤ 65535 }
+    requires in_order { IsOrderOf (map declared_name decls.now) order.now }
+    ensures { result ≡ target_of (map decl_of decls.now) name.now }
+{
+    match scalar_of(name) {
         Some(scalar) => Target::Simple(scalar),
-        None => Target::Declared(ShapeRef(number_of(decls, order, target))),
-    };
-    Place { target, time: None }
+        None => Target::Declared(ShapeRef(number_of(decls, order, name))),
+    }
 }
 
 // The number of the first declaration of that name, or 0.
@@ -101,13 +116,13 @@ fn number_of(decls: &[Decl], order: &[usize], name: &str) -> u32
     }
 }
 
-// The declarations with the places of their targets.
+// The declarations with their places.
 fn declarations_with(
     alloc: Global,
     decls: Vec<Decl>,
     all: &[Vec<Place>],
 ) -> Result<Vec<Declaration>, AllocError>
-    requires { map (λ p. length p.items) all.now ≡ map (λ d. length (targets_of (decl_of d).form)) decls.items }
+    requires { map (λ p. length p.items) all.now ≡ map (λ d. length (places_of (decl_of d).form)) decls.items }
     ensures { IfOk result (λ v. map declaration_of v.items ≡ table_with (map decl_of decls.items) (map (λ p. p.items) all.now)) }
 {
     let mut declarations = Vec::with_capacity(alloc, decls.len())?;
@@ -118,9 +133,9 @@ fn declarations_with(
     Ok(declarations)
 }
 
-// A declaration with the places of its targets. No union and no map passes the tests yet.
+// A declaration with its places. No union and no map passes the tests yet.
 fn declaration_with(alloc: Global, decl: Decl, places: &[Place]) -> Result<Declaration, AllocError>
-    requires { length (targets_of (decl_of decl).form) ≤ length places.now }
+    requires { length (places_of (decl_of decl).form) ≤ length places.now }
     ensures { IfOk result (λ v. declaration_of v ≡ declaration_with (decl_of decl) places.now) }
 {
     match decl {

@@ -15,18 +15,27 @@ pub enum TableFault {
     /// The declaration uses an item that no table can have yet.
     #[error("NotBuilt")]
     NotBuilt(u64),
+    /// A target is `float` or `double`.
+    #[error("FloatShape")]
+    FloatShape(u64),
     /// A target is neither a scalar nor a declared name.
     #[error("UnknownTarget")]
     UnknownTarget(u64),
-    /// The name is that of an earlier declaration or of a scalar.
+    /// A `time` is none of the three time forms.
+    #[error("UnknownTimeFormat")]
+    UnknownTimeFormat(u64),
+    /// The name is that of an earlier declaration, of a scalar, or `float` or `double`.
     #[error("DuplicateShape")]
     DuplicateShape(u64),
     /// Two members have equal names, equal JSON names or equal names in a form.
     #[error("NameClash")]
     NameClash(u64),
-    /// A name can't stand in the path of a form.
+    /// The name of a member, an element, a key or a value can't stand in the path of a form.
     #[error("QueryName")]
     QueryName(u64),
+    /// The keys and the values of a map have one name in a form.
+    #[error("KeyValueName")]
+    KeyValueName(u64),
     /// The declaration has more than 65,535 members, or is number 65,536.
     #[error("TooMany")]
     TooMany(u64),

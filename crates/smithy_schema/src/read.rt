@@ -3,7 +3,7 @@ ghost use Rattle.std.specs.Prelude.{◌≡◌, ◌≤◌, ℕ, length, Option, S
 ghost use Rattle.smithy_schema.specs.declared.place.Place.{Place};
 ghost use Rattle.smithy_schema.specs.declared.shape_type.Scalar.TheVariants as scalars;
 ghost use Rattle.smithy_schema.specs.Table.{Table, kind_of, IsStructure, IsList, scalar_place};
-ghost use Rattle.smithy_schema.specs.Value.{Value, whole, text};
+ghost use Rattle.smithy_schema.specs.Value.{Value, scalar_value, whole, text};
 ghost use Rattle.smithy_schema.specs.Site.{site_of, kind_at};
 ghost use Rattle.smithy_schema.specs.Reading.{Cursor, depth, Relations, Mark, IsLawful, StandsFit, CountsOpeners, IsBelow, Conducts, Passes, Reads, Enters, Steps, Leaves, MatchStep, CannotGoOn, StandsNot, OpensNot, SkipsNot, NullsNot, ReachesDepth, null_is_due, IsRefused, IsInvalid, IsNoAnswer, failed_at, passed_to, in_structure, in_list};
 ghost use Rattle.smithy_schema.specs.declared.error.SerdeError.TheVariants.{TooDeep, NoMemory};
@@ -160,7 +160,7 @@ pub trait ShapeDeserializer {
         ensures memory { IsErrOf result NoMemory → ⊥ }
         ensures shallow { IsErrOf result TooDeep → ⊥ }
         ensures undue { (state self.old).due ≡ false → IsNoAnswer result }
-        ensures ok { IfOk result (λ n. Reads (wire (settings self.old)) (state self.old) (state self.new) schema.now.shapes.now (scalar_place scalars.Long schema.now.place.time) (whole n)) }
+        ensures ok { IfOk result (λ n. Reads (wire (settings self.old)) (state self.old) (state self.new) schema.now.shapes.now (scalar_place scalars.Long schema.now.place.time) (scalar_value (whole n))) }
         ensures refused { IsRefused result → (state self.old).due ≡ true
             → StandsNot (wire (settings self.old)) (state self.old) schema.now.shapes.now (scalar_place scalars.Long schema.now.place.time) }
         ensures would { is_strict (settings self.old) → IsInvalid result → (state self.old).due ≡ true
@@ -172,7 +172,7 @@ pub trait ShapeDeserializer {
         ensures conduct { Conducts (state self.old) (state self.new) result }
         ensures shallow { IsErrOf result TooDeep → ⊥ }
         ensures undue { (state self.old).due ≡ false → IsNoAnswer result }
-        ensures ok { IfOk result (λ s. Reads (wire (settings self.old)) (state self.old) (state self.new) schema.now.shapes.now (scalar_place scalars.String schema.now.place.time) (text (string_bytes s))) }
+        ensures ok { IfOk result (λ s. Reads (wire (settings self.old)) (state self.old) (state self.new) schema.now.shapes.now (scalar_place scalars.String schema.now.place.time) (scalar_value (text (string_bytes s)))) }
         ensures refused { IsRefused result → (state self.old).due ≡ true
             → StandsNot (wire (settings self.old)) (state self.old) schema.now.shapes.now (scalar_place scalars.String schema.now.place.time) }
         ensures would { is_strict (settings self.old) → IsInvalid result → (state self.old).due ≡ true

@@ -1,10 +1,10 @@
 //! The view of one place of a table.
-ghost use Rattle.std.specs.Prelude.{◌≢◌};
+ghost use Rattle.std.specs.Prelude.{◌≡◌, ◌≢◌, option_map, string_bytes};
 ghost use Rattle.smithy_schema.specs.Table.{kind_of, nothing};
 
 use crate::members::MemberList;
 use crate::place::{Place, Target};
-use crate::shape_type::{Scalar, ShapeRef, ShapeType};
+use crate::shape_type::{Scalar, ShapeRef, ShapeType, TimestampFormat};
 use crate::shapes::{Shape, Shapes};
 
 /// Where a view comes from.
@@ -30,7 +30,7 @@ pub struct Schema<'a> {
 }
 
 impl<'a> Schema<'a> {
-    ghost use Rattle.std.specs.Prelude.{◌≡◌, ◌↔◌, ◌≤◌, [], Some, IsTrue, IfSome, length, map, option_map};
+    ghost use Rattle.std.specs.Prelude.{◌↔◌, ◌≤◌, [], Some, IsTrue, IfSome, length, map};
     ghost use Rattle.std.specs.Option.{option_map_or};
     ghost use Rattle.smithy_schema.specs.Table.{Member, type_of, members_of, IsSparse, json_name_of};
     ghost use Rattle.smithy_schema.specs.Views.{member_of};
@@ -97,14 +97,53 @@ impl<'a> Schema<'a> {
         let shapes = self.shapes;
         match self.origin {
             Origin::MemberOf(shape, position) => match shapes.member_at(ShapeRef(shape), position) {
-                Some(member) => match &member.json_name {
-                    Some(name) => Some(name.as_str()),
-                    None => None,
-                },
+                Some(member) => text_given(&member.json_name),
                 None => None,
             },
             _ => None,
         }
+    }
+
+    /// The name of a member or of a list's elements in a form, where one is given.
+    pub fn xml_name(&self) -> Option<&'a str>
+        ensures { option_map (λ s. s.now) result ≡ (site_of self.now).view.xml_name }
+    {
+        let shapes = self.shapes;
+        match self.origin {
+            Origin::Whole => None,
+            Origin::MemberOf(shape, position) => match shapes.member_at(ShapeRef(shape), position) {
+                Some(member) => text_given(&member.xml_name),
+                None => None,
+            },
+            Origin::ElementOf(shape) => match shapes.list_at(ShapeRef(shape)) {
+                Some(list) => text_given(&list.xml_name),
+                None => None,
+            },
+        }
+    }
+
+    /// The member is flat: in a form its entries stand under its own name.
+    pub fn xml_flattened(&self) -> bool
+        ensures { result ≡ (site_of self.now).view.is_flat }
+    {
+        let shapes = self.shapes;
+        if self.is_nameless {
+            return false;
+        }
+        match self.origin {
+            Origin::MemberOf(shape, position) => match shapes.member_at(ShapeRef(shape), position) {
+                Some(member) => member.flat,
+                None => false,
+            },
+            _ => false,
+        }
+    }
+
+    /// The form of instants that is given at the place: it has an effect on timestamps alone.
+    pub fn timestamp_format(&self) -> Option<TimestampFormat>
+        ensures { result ≡ (site_of self.now).place.time }
+    {
+        self.place.time
     }
 
     /// The elements of a list.
@@ -187,7 +226,7 @@ impl<'a> Schema<'a> {
         }
     }
 
-    /// The same view without a member name, a position and the flat mark.
+    /// The same view without a member name, a position and the flat mark. It keeps its time form.
     pub fn nameless(&self) -> Schema<'a>
         ensures { site_of result ≡ nameless_site (site_of self.now) }
     {
@@ -197,5 +236,15 @@ impl<'a> Schema<'a> {
             origin: self.origin,
             is_nameless: true,
         }
+    }
+}
+
+// The text, where one is given.
+fn text_given(given: &Option<String>) -> Option<&str>
+    ensures { option_map (λ s. s.now) result ≡ option_map string_bytes given.now }
+{
+    match given {
+        Some(text) => Some(text.as_str()),
+        None => None,
     }
 }

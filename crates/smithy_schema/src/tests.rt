@@ -1,18 +1,22 @@
 //! Table texts with their answers, and the look-ups in a table.
-use crate::{Schema, SerdeError, ShapeRef, ShapeType, Shapes, TableFault, TableText};
+use crate::{
+    Schema, SerdeError, ShapeRef, ShapeType, Shapes, TableFault, TableText, TimestampFormat,
+};
 use std::alloc::Global;
 use std::test::Fail;
 
-const ACCEPTED: [&str; 6] = [
+const ACCEPTED: [&str; 8] = [
     "",
     "structure S\nmember a long",
     "list L L\nstructure S\nmember l L",
     "structure S\r\nmember a string\r\n",
     "\n# a  b\nstructure S",
     "list Items string\nstructure S\nmember Items Items\n",
+    "list L string xml=x sparse time=date-time\nstructure S\nmember l L flat json=a=b xml=y",
+    "structure S\nmember a.b long xml=x time=http-date\nmember c long time=epoch-seconds",
 ];
 
-const REFUSED: [(&str, TableFault); 17] = [
+const REFUSED: [(&str, TableFault); 27] = [
     ("member a long", TableFault::BadLine(1)),
     (
         "structure S\nlist L long\nmember a long",
@@ -27,21 +31,46 @@ const REFUSED: [(&str, TableFault); 17] = [
     ),
     ("structure S\nmember a long json=", TableFault::BadLine(2)),
     ("structure S\nmember a boolean", TableFault::NotBuilt(1)),
-    ("structure S\nmember a long json=x", TableFault::NotBuilt(1)),
+    ("list L long flat", TableFault::BadLine(1)),
+    ("list L long sparse sparse", TableFault::BadLine(1)),
     ("union U\nmember a long", TableFault::NotBuilt(1)),
-    ("list L string sparse", TableFault::NotBuilt(1)),
     ("list L b\nmap M float", TableFault::NotBuilt(2)),
+    ("structure S\nmember a float", TableFault::FloatShape(1)),
+    ("list L b\nlist M double", TableFault::FloatShape(2)),
+    ("list L float\nstructure float", TableFault::FloatShape(1)),
+    (
+        "structure S\nmember a long time=http",
+        TableFault::UnknownTimeFormat(1),
+    ),
+    (
+        "list L long\nlist L string time=date",
+        TableFault::UnknownTimeFormat(2),
+    ),
     ("structure S\nmember a b", TableFault::UnknownTarget(1)),
     ("structure S\nlist S long", TableFault::DuplicateShape(2)),
     ("structure long", TableFault::DuplicateShape(1)),
+    ("structure double", TableFault::DuplicateShape(1)),
     (
         "structure S\nmember a long\nmember a string",
+        TableFault::NameClash(1),
+    ),
+    (
+        "structure S\nmember a long json=x\nmember b long json=x",
+        TableFault::NameClash(1),
+    ),
+    (
+        "structure S\nmember a long\nmember b long json=a",
+        TableFault::NameClash(1),
+    ),
+    (
+        "structure S\nmember a long xml=b\nmember b long",
         TableFault::NameClash(1),
     ),
     (
         "structure S\nstructure T\nmember a.b long",
         TableFault::QueryName(2),
     ),
+    ("list L long xml=a.b", TableFault::QueryName(1)),
 ];
 
 fn table_of(alloc: Global, text: &str) -> Result<Shapes, TableFault> {
@@ -121,9 +150,19 @@ fn refuses_65536_declarations(rt: HostRuntime) -> Result<(), Fail> {
 }
 
 // A fault, its name, and another fault: the same of another number, where it has one.
-const FAULTS: [(TableFault, &str, TableFault); 8] = [
+const FAULTS: [(TableFault, &str, TableFault); 11] = [
     (TableFault::BadLine(3), "BadLine", TableFault::BadLine(4)),
     (TableFault::NotBuilt(3), "NotBuilt", TableFault::NotBuilt(4)),
+    (
+        TableFault::FloatShape(3),
+        "FloatShape",
+        TableFault::FloatShape(4),
+    ),
+    (
+        TableFault::UnknownTimeFormat(3),
+        "UnknownTimeFormat",
+        TableFault::UnknownTimeFormat(4),
+    ),
     (
         TableFault::UnknownTarget(3),
         "UnknownTarget",
@@ -143,6 +182,11 @@ const FAULTS: [(TableFault, &str, TableFault); 8] = [
         TableFault::QueryName(3),
         "QueryName",
         TableFault::QueryName(4),
+    ),
+    (
+        TableFault::KeyValueName(3),
+        "KeyValueName",
+        TableFault::KeyValueName(4),
     ),
     (TableFault::TooMany(3), "TooMany", TableFault::TooMany(4)),
     (TableFault::NoMemory, "NoMemory", TableFault::TooMany(3)),
@@ -234,6 +278,40 @@ fn tells_of_members_and_elements(rt: HostRuntime) -> Result<(), Fail> {
     };
     assert_eq!(rt; element.member_name(), Some("member"));
     assert_eq!(rt; element.shape_type(), ShapeType::String);
+    Ok(())
+}
+
+#[test]
+fn tells_of_options(rt: HostRuntime) -> Result<(), Fail> {
+    let shapes = table_of(
+        rt.alloc(),
+        "structure S\nmember a L json=x xml=y flat time=http-date\nlist L string sparse xml=z time=date-time",
+    )?;
+    let Some(root) = shapes.find("S") else {
+        assert!(rt; false, "the root");
+        return Ok(());
+    };
+    let Some(member) = shapes.schema(root).member_schema("a") else {
+        assert!(rt; false, "the member");
+        return Ok(());
+    };
+    assert_eq!(rt; member.json_name(), Some("x"));
+    assert_eq!(rt; member.xml_name(), Some("y"));
+    assert!(rt; member.xml_flattened(), "flat");
+    assert!(rt; member.is_sparse(), "a sparse list");
+    assert_eq!(rt; member.timestamp_format(), Some(TimestampFormat::HttpDate));
+    assert!(rt; !member.nameless().xml_flattened(), "not flat");
+    assert_eq!(rt;
+        member.nameless().timestamp_format(),
+        Some(TimestampFormat::HttpDate)
+    );
+    let Some(element) = member.member() else {
+        assert!(rt; false, "the elements");
+        return Ok(());
+    };
+    assert_eq!(rt; element.xml_name(), Some("z"));
+    assert!(rt; matches!(element.json_name(), None), "no JSON name");
+    assert_eq!(rt; element.timestamp_format(), Some(TimestampFormat::DateTime));
     Ok(())
 }
 

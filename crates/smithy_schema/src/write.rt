@@ -3,8 +3,9 @@ ghost use Rattle.std.specs.Prelude.{◌++◌, ◌≡◌, ◌≢◌, ◌↔◌, �
 ghost use Rattle.smithy_schema.specs.declared.error.SerdeError.{SerdeError};
 ghost use Rattle.smithy_schema.specs.declared.error.SerdeError.TheVariants.{Failed, NoMemory, Unwritable};
 ghost use Rattle.smithy_schema.specs.Site.{site_of};
+ghost use Rattle.smithy_schema.specs.Value.{whole, text};
 ghost use Rattle.smithy_schema.specs.Reading.{IsFault};
-ghost use Rattle.smithy_schema.specs.Writing.{Event, Writer, Open, IsNested, long, string, begin_structure, end_structure, begin_list as list_begins, end_list as list_ends, null_of, scalar_of};
+ghost use Rattle.smithy_schema.specs.Writing.{Event, Writer, Open, IsNested, begin_structure, end_structure, begin_list as list_begins, end_list as list_ends, null_of, scalar_of};
 
 use crate::error::SerdeError;
 use crate::schema::Schema;
@@ -73,15 +74,15 @@ pub trait ShapeSerializer {
     fn write_long(&mut self, schema: &Schema<'_>, value: i64) -> Result<(), SerdeError>
         ensures failed { IsErrOf result Failed ↔ (failed self.old ≡ true) }
         ensures broken { IsErr result ↔ (failed self.new ≡ true) }
-        ensures ok { OnOk result (after (scalar_of (site_of schema.now) (long value)) (state self.old) ≡ Ok (state self.new)) }
-        ensures refused { IfErr result (λ e. IsFault e → after (scalar_of (site_of schema.now) (long value)) (state self.old) ≡ Err e) };
+        ensures ok { OnOk result (after (scalar_of (site_of schema.now) (whole value)) (state self.old) ≡ Ok (state self.new)) }
+        ensures refused { IfErr result (λ e. IsFault e → after (scalar_of (site_of schema.now) (whole value)) (state self.old) ≡ Err e) };
 
     /// Writes a text.
     fn write_string(&mut self, schema: &Schema<'_>, value: &str) -> Result<(), SerdeError>
         ensures failed { IsErrOf result Failed ↔ (failed self.old ≡ true) }
         ensures broken { IsErr result ↔ (failed self.new ≡ true) }
-        ensures ok { OnOk result (after (scalar_of (site_of schema.now) (string value.now)) (state self.old) ≡ Ok (state self.new)) }
-        ensures refused { IfErr result (λ e. IsFault e → after (scalar_of (site_of schema.now) (string value.now)) (state self.old) ≡ Err e) };
+        ensures ok { OnOk result (after (scalar_of (site_of schema.now) (text value.now)) (state self.old) ≡ Ok (state self.new)) }
+        ensures refused { IfErr result (λ e. IsFault e → after (scalar_of (site_of schema.now) (text value.now)) (state self.old) ≡ Err e) };
 
     // No call takes back a byte.
     ghost grows: { (e : Event) (s t : State) → after e s ≡ Ok t → (more : List ℕ) × (out t ≡ out s ++ more) };

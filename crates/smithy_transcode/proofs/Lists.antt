@@ -7,7 +7,7 @@ use Rattle.smithy_schema.specs.declared.place.Place.{Place}
 use Rattle.smithy_schema.specs.Table.{Table, Kind, scalar, structure_of, list_of, nothing, list_shape_of, place_in}
 use Rattle.smithy_schema.specs.Site.{Site, kind_at, element_site, nameless_site, site_of_element, element_of}
 use Rattle.smithy_schema.specs.Fits.{FitsOr, ElementsFit}
-use Rattle.smithy_schema.specs.Value.{Value, whole, text, list, structure, null_element, values_of}
+use Rattle.smithy_schema.specs.Value.{Value, scalar_value, list, structure, null_element, values_of}
 use Rattle.smithy_schema.specs.Writing.{Event, Writer, write, run, count_of, element_events, begin_list, end_list}
 use Rattle.smithy_transcode.specs.declared.value.Value as kept
 use Rattle.smithy_transcode.specs.View.{view, view_elements}
@@ -59,8 +59,7 @@ element_place table nothing member place found is = absurd (let none : Some memb
 
 -- a value of the place stands also where a null may stand
 pub fits_or_null : (table : Table) (place : Place) (nulls : Bool) (v : Value) → FitsOr table place nulls v → FitsOr table place true v
-fits_or_null table place nulls (whole n) fits = fits
-fits_or_null table place nulls (text s) fits = fits
+fits_or_null table place nulls (scalar_value x) fits = fits
 fits_or_null table place nulls (list vs) fits = fits
 fits_or_null table place nulls (structure ms) fits = fits
 fits_or_null table place nulls null_element fits = refl

@@ -34,10 +34,13 @@ status_of_load_fault load_faults.NoMemory = OutOfMemory
 abbrev pub status_of_table_fault : TableFault → Status
 status_of_table_fault (table_faults.BadLine n) = TableRefused
 status_of_table_fault (table_faults.NotBuilt n) = NotBuilt
+status_of_table_fault (table_faults.FloatShape n) = TableRefused
 status_of_table_fault (table_faults.UnknownTarget n) = TableRefused
+status_of_table_fault (table_faults.UnknownTimeFormat n) = TableRefused
 status_of_table_fault (table_faults.DuplicateShape n) = TableRefused
 status_of_table_fault (table_faults.NameClash n) = TableRefused
 status_of_table_fault (table_faults.QueryName n) = TableRefused
+status_of_table_fault (table_faults.KeyValueName n) = TableRefused
 status_of_table_fault (table_faults.TooMany n) = TableRefused
 status_of_table_fault table_faults.NoMemory = OutOfMemory
 

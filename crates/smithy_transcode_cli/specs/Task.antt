@@ -1,5 +1,5 @@
 -- What a command asks for, where its wires are built.
-use Rattle.std.specs.Prelude.{ℕ, List, Option, Some, None, option_and_then, option_map, false}
+use Rattle.std.specs.Prelude.{ℕ, List, Option, Some, None, option_and_then, option_map, false, true}
 use Rattle.smithy_transcode.specs.declared.wire.Wire.{Wire}
 use Rattle.smithy_transcode.specs.declared.wire.Wire.TheVariants.{Json, Cbor}
 use Rattle.smithy_transcode_cli.specs.Command.{NamedWire, json, json_name, cbor, query, Transcode, command_of}
@@ -14,7 +14,7 @@ pub record Task : Type 0 where
 -- the wire of this name, where it is built
 abbrev pub built_wire : NamedWire → Option Wire
 built_wire json = Some (Json false)
-built_wire json_name = None
+built_wire json_name = Some (Json true)
 built_wire cbor = Some Cbor
 built_wire (query action version) = None
 

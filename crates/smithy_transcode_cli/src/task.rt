@@ -27,8 +27,11 @@ fn built(words: WireWords<'_>) -> Option<Wire>
         WireWords::Json => Some(Wire::Json {
             use_json_name: false,
         }),
+        WireWords::JsonName => Some(Wire::Json {
+            use_json_name: true,
+        }),
         WireWords::Cbor => Some(Wire::Cbor),
-        WireWords::JsonName | WireWords::Query(_, _) => None,
+        WireWords::Query(_, _) => None,
     }
 }
 

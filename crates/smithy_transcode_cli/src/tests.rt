@@ -1,5 +1,6 @@
 //! Runs over objects in memory.
 mod adapters;
+mod options;
 mod process;
 mod rows;
 

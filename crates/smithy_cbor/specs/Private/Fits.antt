@@ -1,37 +1,30 @@
 -- What an item says as a kind is a value of the kind.
-use Rattle.std.specs.Prelude.{◌≡◌, ◌^◌, ℕ, ℤ, pos, neg_ℤ, int_le, int_lt, List, [], ◌∷◌, Some, None, true, IsUtf8, option_map, cond}
+use Rattle.std.specs.Prelude.{◌≡◌, ℕ, ℤ, List, [], ◌∷◌, Some, None, true, IsUtf8, option_map, cond}
 use Rattle.std.specs.List.{list_all, concat}
 use Rattle.std.specs.Str.{is_utf8}
-use Rattle.std.proofs.Common.{sym, ◌∙◌, arith, subst}
+use Rattle.std.proofs.Common.{sym, ◌∙◌, subst}
 use Rattle.std.proofs.lemmas.Bool.{and_parts}
-use Rattle.std.proofs.lemmas.Int.{ints}
-use Rattle.std.proofs.lemmas.Str.{IsUtf8-append, IsUtf8-nil, IsUtf8-from_is_utf8}
+use Rattle.std.proofs.lemmas.Str.{IsUtf8-append, IsUtf8-nil, IsUtf8-from_is_utf8, is_utf8-from_IsUtf8}
 use Rattle.smithy_schema.specs.declared.place.Place.{Place}
 use Rattle.smithy_schema.specs.declared.shape_type.Scalar.{Scalar}
 use Rattle.smithy_schema.specs.declared.shape_type.Scalar.TheVariants as scalars
 use Rattle.smithy_schema.specs.Table.{Table, scalar, kind_of}
-use Rattle.smithy_schema.specs.Value.{Value, whole, text, null_element}
-use Rattle.smithy_schema.specs.Fits.{IsLong, Fits}
+use Rattle.smithy_schema.specs.Value.{whole, text, Value, scalar_value, null_element}
+use Rattle.smithy_schema.specs.Fits.{Fits}
 use Rattle.smithy_schema.specs.Lemmas.Options.{same_some, step_apart, chosen, made}
 use Rattle.cbor_item.specs.Item.{Item, unsigned, negative, byte_string, text_string, array, map as map_item, tag, simple, float}
 use Rattle.smithy_cbor.specs.Settings.{Settings}
-use Rattle.smithy_cbor.specs.Scalar.{is_long, integer_of, joined_text, text_of, long_of, says}
+use Rattle.smithy_cbor.specs.Scalar.{integer_of, joined_text, text_of, long_of, says}
+use Rattle.smithy_texts.specs.Ranges.{fits_signed}
 use Rattle.smithy_wire.specs.Rules.{settled}
 use Rattle.smithy_wire.specs.Readers.{settled_answer}
 
-is_long_fits : (z : ℤ) → is_long z ≡ true → IsLong z
-is_long_fits z h =
-    let both = and_parts (int_le (neg_ℤ (pos (2 ^ 63))) z) (int_lt z (pos (2 ^ 63))) h in
-    let low = both.0 in
-    let high = both.1 in
-    (grind (arith, ints), grind (arith, ints))
-
 -- what is a long is an integer that fits 64 bits
-pub long_is : (x : Item) (v : Value) → long_of x ≡ Some v → (z : ℤ) × (integer_of x ≡ Some z) × (is_long z ≡ true) × (whole z ≡ v)
+pub long_is : (x : Item) (v : Value) → long_of x ≡ Some v → (z : ℤ) × (integer_of x ≡ Some z) × (fits_signed 64 z ≡ true) × (scalar_value (whole z) ≡ v)
 long_is x v h =
-    let z = step_apart (integer_of x) (λ (z : ℤ). cond (is_long z) (Some (whole z)) None) v h in
-    let size = chosen (is_long z.0) (Some (whole z.0)) v z.2 in
-    (z.0, z.1, size.0, same_some (whole z.0) v size.1)
+    let z = step_apart (integer_of x) (λ (z : ℤ). cond (fits_signed 64 z) (Some (scalar_value (whole z))) None) v h in
+    let size = chosen (fits_signed 64 z.0) (Some (scalar_value (whole z.0))) v z.2 in
+    (z.0, z.1, size.0, same_some (scalar_value (whole z.0)) v size.1)
 
 -- texts one after another are a text
 joined_is_utf8 : (chunks : List (List ℕ)) → list_all is_utf8 chunks ≡ true → IsUtf8 (concat chunks)
@@ -62,7 +55,7 @@ pub says_fits : (c : Settings) (x : Item) (t : Table) (p : Place) (s : Scalar) (
     → settled c.limits null_element (says s p.time x) ≡ Some v → Fits t p v
 says_fits c x t p scalars.Long v kind h =
     let z = long_is x v (sym (settled_answer c.limits null_element (long_of x)) ∙ h) in
-    subst (Fits t p) z.3 (kind, is_long_fits z.0 z.2)
+    subst (Fits t p) z.3 (rw kind z.2)
 says_fits c x t p scalars.String v kind h =
-    let s = made text (text_of x) v (sym (settled_answer c.limits null_element (option_map text (text_of x))) ∙ h) in
-    subst (Fits t p) s.2 (kind, text_is_utf8 x s.0 s.1)
+    let s = made (λ s. scalar_value (text s)) (text_of x) v (sym (settled_answer c.limits null_element (option_map (λ s. scalar_value (text s)) (text_of x))) ∙ h) in
+    subst (Fits t p) s.2 (rw kind (is_utf8-from_IsUtf8 s.0 (text_is_utf8 x s.0 s.1)))

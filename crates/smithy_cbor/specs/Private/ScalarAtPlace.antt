@@ -6,7 +6,8 @@ use Rattle.cbor_item.specs.Item.{Item}
 use Rattle.cbor_item.specs.WellFormed.{IsItemAt}
 use Rattle.smithy_schema.specs.declared.error.SerdeError.{SerdeError}
 use Rattle.smithy_schema.specs.declared.error.SerdeError.TheVariants.{InvalidInput, NoMemory}
-use Rattle.smithy_cbor.specs.Scalar.{is_long, integer_of, text_of}
+use Rattle.smithy_cbor.specs.Scalar.{integer_of, text_of}
+use Rattle.smithy_texts.specs.Ranges.{fits_signed}
 use Rattle.smithy_cbor.specs.Standing.{null_byte, begins_with, Follows}
 
 -- the refusal of what isn't read for the item's fault
@@ -27,7 +28,7 @@ pub record IsLongAt (n : ℤ) (input : List ℕ) (at depth e : ℕ) : Type 0 whe
   pub found : Item
   pub stands : IsItemAt found input at e
   pub is : integer_of found ≡ Some n
-  pub fits : is_long n ≡ true
+  pub fits : fits_signed 64 n ≡ true
   pub follows : Follows depth input e
 
 -- a text stands there

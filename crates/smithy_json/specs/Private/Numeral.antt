@@ -3,7 +3,7 @@ use Rattle.std.specs.Prelude.{◌≡◌, ◌<◌, ◌≤◌, ℕ, ◌+◌, ◌^�
 use Rattle.std.specs.List.{prefix_len}
 use Rattle.std.specs.Char.{is_ascii_digit}
 use Rattle.std.specs.Str.Parse.{digits_value_after}
-use Rattle.smithy_json.specs.Number.{is_long}
+use Rattle.smithy_texts.specs.Ranges.{fits_signed}
 use Rattle.smithy_json.specs.Ascii.{minus_sign, plus_sign, digit_zero, decimal_point, is_e}
 
 -- the first byte, and 0 where there is none
@@ -74,4 +74,4 @@ ReadsNatural input at result =
 abbrev pub long_of : Bool → ℕ → Option ℤ
 long_of negative magnitude =
     let n = if negative then neg_ℤ (pos magnitude) else pos magnitude in
-    if is_long n then Some n else None
+    if fits_signed 64 n then Some n else None

@@ -1,16 +1,16 @@
 -- What a scalar of JSON means at a place is a value of the place.
-use Rattle.std.specs.Prelude.{◌≡◌, ℕ, ◌^◌, ℤ, pos, neg_ℤ, int_le, int_lt, List, Some, None, true, IsUtf8, option_map, if◌then◌else◌}
-use Rattle.std.proofs.Common.{sym, ◌∙◌, arith, subst}
-use Rattle.std.proofs.lemmas.Bool.{and_parts}
-use Rattle.std.proofs.lemmas.Int.{ints}
+use Rattle.std.specs.Prelude.{◌≡◌, ℕ, ℤ, List, Some, None, true, IsUtf8, option_map, if◌then◌else◌}
+use Rattle.std.proofs.Common.{sym, ◌∙◌, subst}
+use Rattle.std.proofs.lemmas.Str.{is_utf8-from_IsUtf8}
 use Rattle.smithy_schema.specs.declared.place.Place.{Place}
 use Rattle.smithy_schema.specs.declared.shape_type.Scalar.{Scalar}
 use Rattle.smithy_schema.specs.declared.shape_type.Scalar.TheVariants as scalars
 use Rattle.smithy_schema.specs.Table.{Table, scalar, kind_of}
-use Rattle.smithy_schema.specs.Value.{Value, whole, text, null_element}
-use Rattle.smithy_schema.specs.Fits.{IsLong, Fits}
+use Rattle.smithy_schema.specs.Value.{whole, text, Value, scalar_value, null_element}
+use Rattle.smithy_schema.specs.Fits.{Fits}
 use Rattle.smithy_schema.specs.Lemmas.Options.{same_some, step_apart, chosen, made}
-use Rattle.smithy_json.specs.Number.{whole_number, is_long}
+use Rattle.smithy_json.specs.Number.{whole_number}
+use Rattle.smithy_texts.specs.Ranges.{fits_signed}
 use Rattle.smithy_json.proofs.TextLemmas.{unescaped_is_utf8}
 use Rattle.smithy_json_codec.specs.Scalar.{JsonScalar, a_boolean, a_number, a_string, long_of, text_of, says}
 use Rattle.smithy_json_codec.specs.Settings.{Settings}
@@ -18,23 +18,16 @@ use Rattle.smithy_json_codec.specs.Standing.{json_frames}
 use Rattle.smithy_wire.specs.Rules.{settled}
 use Rattle.smithy_wire.specs.Readers.{settled_answer}
 
-is_long_fits : (z : ℤ) → is_long z ≡ true → IsLong z
-is_long_fits z h =
-    let both = and_parts (int_le (neg_ℤ (pos (2 ^ 63))) z) (int_lt z (pos (2 ^ 63))) h in
-    let low = both.0 in
-    let high = both.1 in
-    (grind (arith, ints), grind (arith, ints))
-
 -- the number that a text writes is one of 64 bits
-pub long_is : (raw : List ℕ) (v : Value) → long_of (a_number raw) ≡ Some v → (z : ℤ) × (v ≡ whole z) × IsLong z
+pub long_is : (raw : List ℕ) (v : Value) → long_of (a_number raw) ≡ Some v → (z : ℤ) × (v ≡ scalar_value (whole z)) × (fits_signed 64 z ≡ true)
 long_is raw v h =
-    let z = step_apart (whole_number raw) (λ (z : ℤ). if is_long z then Some (whole z) else None) v h in
-    let size = chosen (is_long z.0) (Some (whole z.0)) v z.2 in
-    (z.0, sym (same_some (whole z.0) v size.1), is_long_fits z.0 size.0)
+    let z = step_apart (whole_number raw) (λ (z : ℤ). if fits_signed 64 z then Some (scalar_value (whole z)) else None) v h in
+    let size = chosen (fits_signed 64 z.0) (Some (scalar_value (whole z.0))) v z.2 in
+    (z.0, sym (same_some (scalar_value (whole z.0)) v size.1), size.0)
 
 long_fits : (t : Table) (p : Place) (x : JsonScalar) (v : Value) → kind_of t p ≡ scalar scalars.Long → long_of x ≡ Some v → Fits t p v
 long_fits t p (a_boolean b) v kind h = cc
-long_fits t p (a_number raw) v kind h = let n = long_is raw v h in subst (Fits t p) (sym n.1) (kind, n.2)
+long_fits t p (a_number raw) v kind h = let n = long_is raw v h in subst (Fits t p) (sym n.1) (rw kind n.2)
 long_fits t p (a_string raw) v kind h = cc
 
 text_is_utf8 : (i : List ℕ) (d : ℕ) (x : JsonScalar) (a e : ℕ) → json_frames.scalar i d x a e → (s : List ℕ) → text_of x ≡ Some s → IsUtf8 s
@@ -47,5 +40,5 @@ pub says_fits : (c : Settings) (i : List ℕ) (d : ℕ) (x : JsonScalar) (a e : 
     → (t : Table) (p : Place) (s : Scalar) (v : Value) → kind_of t p ≡ scalar s → settled c.limits null_element (says s p.time x) ≡ Some v → Fits t p v
 says_fits c i d x a e lies t p scalars.Long v kind h = long_fits t p x v kind (sym (settled_answer c.limits null_element (long_of x)) ∙ h)
 says_fits c i d x a e lies t p scalars.String v kind h =
-    let s = made text (text_of x) v (sym (settled_answer c.limits null_element (option_map text (text_of x))) ∙ h) in
-    subst (Fits t p) s.2 (kind, text_is_utf8 i d x a e lies s.0 s.1)
+    let s = made (λ s. scalar_value (text s)) (text_of x) v (sym (settled_answer c.limits null_element (option_map (λ s. scalar_value (text s)) (text_of x))) ∙ h) in
+    subst (Fits t p) s.2 (rw kind (is_utf8-from_IsUtf8 s.0 (text_is_utf8 i d x a e lies s.0 s.1)))

@@ -7,7 +7,7 @@ use Rattle.std.proofs.Common.{sym, ◌∙◌, ap, subst, inl, inr}
 use Rattle.std.proofs.lemmas.Cmp.{ranked}
 use Rattle.smithy_schema.specs.declared.place.Place.{Place}
 use Rattle.smithy_schema.specs.Table.{Table, ListShape, Kind, list_of, place_in, is_sparse}
-use Rattle.smithy_schema.specs.Value.{Value, whole, text, list, structure, null_element, values_of, MemberValues, no_member_values, member_value, put_member}
+use Rattle.smithy_schema.specs.Value.{Value, scalar_value, list, structure, null_element, values_of, MemberValues, no_member_values, member_value, put_member}
 use Rattle.smithy_schema.specs.Container.{Entry, element_of, members_from}
 use Rattle.smithy_schema.specs.Fits.{FitsOr, ElementsFit, MembersFit, Fits}
 use Rattle.smithy_schema.specs.Lemmas.Options.{step_apart}
@@ -18,8 +18,7 @@ use Rattle.smithy_schema.specs.Lemmas.MemberFolds.{entry_with}
 
 -- a value of a place fits it where nulls may stand, too
 fits_or : (t : Table) (q : Place) (b : Bool) (v : Value) → FitsOr t q false v → FitsOr t q b v
-fits_or t q b (whole n) h = h
-fits_or t q b (text s) h = h
+fits_or t q b (scalar_value x) h = h
 fits_or t q b (list vs) h = h
 fits_or t q b (structure ms) h = h
 fits_or t q b null_element h = cc

@@ -1,4 +1,4 @@
--- Declarations whose targets were resolved beforehand.
+-- Declarations with their places beside them.
 use Rattle.std.specs.Prelude.{List, [], ◌∷◌}
 use Rattle.smithy_schema.specs.declared.place.Place.{Place}
 use Rattle.smithy_schema.specs.Table.{Member, Shape, Declaration}

@@ -1,12 +1,22 @@
 //! The names in declarations.
-ghost use Rattle.std.specs.Prelude.{map};
+ghost use Rattle.std.specs.Prelude.{◌≡◌, map, option_map, unwrap_or, string_bytes};
 ghost use Rattle.smithy_schema.specs.Decl.{MemberDecl};
-ghost use Rattle.smithy_schema.specs.Acceptance.{targets_of, json_name_of, query_name_of};
+ghost use Rattle.smithy_schema.specs.Acceptance.{json_name_of, query_name_of};
 ghost use Rattle.smithy_schema.specs.DeclViews.{decl_of, member_decl_of};
 ghost use Rattle.smithy_schema.specs.Private.DeclNames.{declared_name};
 
 use crate::decl::{Decl, MemberDecl};
 use crate::names::Named;
+
+/// The name that is given, or the other one where none is.
+pub(crate) fn given_or<'a>(given: &'a Option<String>, other: &'a str) -> &'a str
+    ensures { result.now ≡ unwrap_or (option_map string_bytes given.now) other.now }
+{
+    match given {
+        Some(name) => name.as_str(),
+        None => other,
+    }
+}
 
 /// The names of the declarations.
 #[derive(Clone, Copy)]
@@ -21,31 +31,6 @@ impl Named for DeclaredNames<'_> {
 
     fn name_at(&self, position: usize) -> &str {
         self.0[position].name()
-    }
-}
-
-/// The targets of one declaration.
-#[derive(Clone, Copy)]
-pub(crate) struct Targets<'a>(pub(crate) &'a Decl);
-
-impl Named for Targets<'_> {
-    ghost names = { λ s. targets_of (decl_of s.0.now).form };
-
-    fn count(&self) -> usize {
-        match self.0 {
-            Decl::Structure { members, .. } => members.len(),
-            Decl::Union { members, .. } => members.len(),
-            _ => 1,
-        }
-    }
-
-    fn name_at(&self, position: usize) -> &str {
-        match self.0 {
-            Decl::Structure { members, .. } => members[position].target.as_str(),
-            Decl::Union { members, .. } => members[position].target.as_str(),
-            Decl::List { target, .. } => target.as_str(),
-            Decl::Map { target, .. } => target.as_str(),
-        }
     }
 }
 
@@ -78,10 +63,7 @@ impl Named for JsonNames<'_> {
 
     fn name_at(&self, position: usize) -> &str {
         let member = &self.0[position];
-        match &member.json {
-            Some(name) => name.as_str(),
-            None => member.name.as_str(),
-        }
+        given_or(&member.json, member.name.as_str())
     }
 }
 
@@ -98,9 +80,6 @@ impl Named for QueryNames<'_> {
 
     fn name_at(&self, position: usize) -> &str {
         let member = &self.0[position];
-        match &member.xml {
-            Some(name) => name.as_str(),
-            None => member.name.as_str(),
-        }
+        given_or(&member.xml, member.name.as_str())
     }
 }

@@ -1,8 +1,8 @@
-//! Which words are reserved, and which can stand in the path of a form.
+//! Which words are reserved, which are time forms, and which can stand in the path of a form.
 ghost use Rattle.std.specs.Prelude.{◌≡◌};
-ghost use Rattle.smithy_schema.specs.Names.{scalar_names, named, is_unbuilt_name, is_reserved, is_name_byte, is_query_name};
+ghost use Rattle.smithy_schema.specs.Names.{scalar_names, time_formats, named, is_unbuilt_name, is_float_name, is_reserved, is_name_byte, is_query_name};
 
-use crate::shape_type::Scalar;
+use crate::shape_type::{Scalar, TimestampFormat};
 
 /// The scalar of that name.
 pub(crate) fn scalar_of(name: &str) -> Option<Scalar>
@@ -17,8 +17,8 @@ pub(crate) fn scalar_of(name: &str) -> Option<Scalar>
     }
 }
 
-/// The names of the scalars that no table can have yet, and of the two that none can ever have.
-const UNBUILT_NAMES: [&str; 11] = [
+/// The names of the scalars that no table can have yet.
+const UNBUILT_NAMES: [&str; 9] = [
     "boolean",
     "byte",
     "short",
@@ -28,22 +28,42 @@ const UNBUILT_NAMES: [&str; 11] = [
     "bigInteger",
     "bigDecimal",
     "document",
-    "float",
-    "double",
 ];
 
-/// No table can have the scalar of that name.
+/// No table can have the scalar of that name yet.
 pub(crate) fn is_unbuilt_name(name: &str) -> bool
     ensures { result ≡ is_unbuilt_name name.now }
 {
     UNBUILT_NAMES.iter().any(|unbuilt| name == *unbuilt)
 }
 
+/// The name is that of a scalar that no table can have.
+pub(crate) fn is_float_name(name: &str) -> bool
+    ensures { result ≡ is_float_name name.now }
+{
+    name == "float" || name == "double"
+}
+
+/// The time form of that word.
+pub(crate) fn time_format_of(word: &str) -> Option<TimestampFormat>
+    ensures { result ≡ named time_formats word.now }
+{
+    if word == "epoch-seconds" {
+        Some(TimestampFormat::EpochSeconds)
+    } else if word == "date-time" {
+        Some(TimestampFormat::DateTime)
+    } else if word == "http-date" {
+        Some(TimestampFormat::HttpDate)
+    } else {
+        None
+    }
+}
+
 /// No declaration may have the name.
 pub(crate) fn is_reserved(name: &str) -> bool
     ensures { result ≡ is_reserved name.now }
 {
-    scalar_of(name).is_some() || is_unbuilt_name(name)
+    scalar_of(name).is_some() || is_unbuilt_name(name) || is_float_name(name)
 }
 
 /// The name can stand in the path of a form.

@@ -80,7 +80,16 @@ const PROCESSES: [Process; 6] = [
     },
     Process {
         name: "a wire that isn't built",
-        arguments: &[b"cli", b"transcode", b"shapes", b"S", b"json-name", b"json"],
+        arguments: &[
+            b"cli",
+            b"transcode",
+            b"shapes",
+            b"S",
+            b"json",
+            b"query",
+            b"Do",
+            b"1",
+        ],
         input: b"{}",
         status: 30,
         output: b"",

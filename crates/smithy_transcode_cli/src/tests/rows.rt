@@ -266,8 +266,8 @@ pub const ROWS: [Row; 39] = [
         output: b"",
     },
     Row {
-        name: "JSON names aren't built, and no table is asked for",
-        words: "transcode u S json-name json",
+        name: "forms aren't built, and no table is asked for",
+        words: "transcode u S json query Do 1",
         table: LONGS,
         input: b"{\"z\":[1], \"a\" : 7}",
         files_fail: 0,

@@ -3,7 +3,7 @@ use Rattle.std.proofs.lemmas.List.{length_push, length-map, get_or-map}
 use Rattle.std.proofs.lemmas.Iterator.Adapters.{YieldsList-from_vec}
 use Rattle.std.proofs.lemmas.Iterator.Consumers.{YieldsList-turn}
 use Rattle.smithy_schema.specs.declared.place.Place.{Place}
-use Rattle.smithy_schema.specs.Acceptance.{targets_of}
+use Rattle.smithy_schema.specs.Acceptance.{places_of}
 use Rattle.smithy_schema.specs.DeclViews.{decl_of}
 use Rattle.smithy_schema.specs.Views.{declaration_of}
 use Rattle.smithy_schema.proofs.BuildLemmas.{lengths_at, declaration_pushed}
@@ -15,9 +15,9 @@ declaration_with-requires c =
     let here : c.len-in-loop-decl.result ≡ length c.loop-decl.yielded = omega (arith, c.loop-decl.declarations.ok.0, c.len-in-loop-decl.ensures, c.loop-decl.invariant.counted) in
     let read : c.index-all-len.result ≡ get_or c.args.all.now (length c.loop-decl.yielded) c.index-all-len.result =
     c.index-all-len.is ∙ ap (λ n. get_or c.args.all.now n c.index-all-len.result) here in
-    let same = lengths_at (λ (p : Vec Place Global). length p.items) (λ d. length (targets_of (decl_of d).form)) c.args.all.now c.args.decls.items c.requires (length c.loop-decl.yielded) c.index-all-len.result c.in-Some.decl turn.0 in
-    let all : length (targets_of (decl_of c.in-Some.decl).form) ≡ length c.as_slice.result.now =
-    ap (λ d. length (targets_of (decl_of d).form)) turn.1 ∙ sym same ∙ ap (λ (p : Vec Place Global). length p.items) (sym read) ∙ sym (ap length c.as_slice.ensures.value) in
+    let same = lengths_at (λ (p : Vec Place Global). length p.items) (λ d. length (places_of (decl_of d).form)) c.args.all.now c.args.decls.items c.requires (length c.loop-decl.yielded) c.index-all-len.result c.in-Some.decl turn.0 in
+    let all : length (places_of (decl_of c.in-Some.decl).form) ≡ length c.as_slice.result.now =
+    ap (λ d. length (places_of (decl_of d).form)) turn.1 ∙ sym same ∙ ap (λ (p : Vec Place Global). length p.items) (sym read) ∙ sym (ap length c.as_slice.ensures.value) in
     omega (arith, all)
 
 pub loop-decl-preserved : goal.loop-decl-preserved
@@ -27,7 +27,7 @@ loop-decl-preserved c =
     let read : c.index-all-len.result ≡ get_or c.args.all.now (length c.loop-decl.yielded) c.index-all-len.result =
     c.index-all-len.is ∙ ap (λ n. get_or c.args.all.now n c.index-all-len.result) here in
     let many : length c.args.all.now ≡ length c.args.decls.items =
-    sym (length-map c.args.all.now (λ (p : Vec Place Global). length p.items)) ∙ ap length c.requires ∙ length-map c.args.decls.items (λ d. length (targets_of (decl_of d).form)) in
+    sym (length-map c.args.all.now (λ (p : Vec Place Global). length p.items)) ∙ ap length c.requires ∙ length-map c.args.decls.items (λ d. length (places_of (decl_of d).form)) in
     let all = map (λ (p : Vec Place Global). p.items) c.args.all.now in
     record {
       counted = ap length c.in_ok-push.ensures.items ∙ length_push c.loop-decl.declarations.items _ ∙ ap (λ n. n + 1) c.loop-decl.invariant.counted ∙ sym (length_push c.loop-decl.yielded c.in-Some.decl);

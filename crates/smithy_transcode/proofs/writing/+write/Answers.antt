@@ -44,6 +44,13 @@ write_list-loop-element-preserved g t c =
       fits = lists.rest_fits (site_of c.args.schema.now) c.element-item.result _ _ next c.loop-element.invariant.fits;
     }
 
+pub write_structure-write_value-requires : goal.write_structure-write_value-requires
+write_structure-write_value-requires g t c κs within =
+    let next = c.in-Some.ensures.steps in
+    let size = structures.next_size the_size c.in-Some.position.now c.in-Some.member.now _ _ next in
+    let small = c.loop-position.invariant.small in
+    (omega (arith, size.0, small, c.decreases), (search rules, structures.member_fits (site_of c.args.schema.now) (site_of c.in-Some-member_at.member_schema) c.in-Some.position.now c.in-Some.member.now _ _ c.requires.fits.0 c.in-Some-member_at.ensures next c.loop-position.invariant.fits))
+
 pub write_structure-loop-position-preserved : goal.write_structure-loop-position-preserved
 write_structure-loop-position-preserved g t c =
     let next = c.in-Some.ensures.steps in
@@ -52,6 +59,7 @@ write_structure-loop-position-preserved g t c =
       failed = search rules;
       rest = c.loop-position.invariant.rest ∙ structures.member_written g.S.ShapeSerializer.after (site_of c.args.schema.now) c.in-Some.position.now c.in-Some.member.now _ _ (g.S.ShapeSerializer.state c.loop-position.sink) _ next (rw site at c.in_ok-write_value.ensures.ok);
       fits = structures.rest_fits (site_of c.args.schema.now) c.in-Some.position.now c.in-Some.member.now _ _ next c.loop-position.invariant.fits;
+      small = let size = structures.next_size the_size c.in-Some.position.now c.in-Some.member.now _ _ next in omega (arith, size.1, c.loop-position.invariant.small);
     }
 
 pub write_structure-returns-in_err-write_value-clause-refused :

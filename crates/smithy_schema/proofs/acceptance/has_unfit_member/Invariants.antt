@@ -3,7 +3,7 @@ use Rattle.std.specs.List.{list_all}
 use Rattle.smithy_schema.specs.Names.{is_query_name}
 use Rattle.smithy_schema.specs.Acceptance.{query_name_of}
 use Rattle.smithy_schema.specs.DeclViews.{member_decl_of}
-use Rattle.smithy_schema.proofs.acceptance.has_unfit_name.Given as goal
+use Rattle.smithy_schema.proofs.acceptance.has_unfit_member.Given as goal
 
 abbrev pub invariant-loop-position : goal.invariant-loop-position
 invariant-loop-position l =
