@@ -41,11 +41,7 @@ pub(crate) fn owned_text(alloc: Global, raw: &str) -> Result<String, SerdeError>
 }
 
 // The text of the string that comes first behind blanks, with its end, where a value may end behind it.
-pub(crate) fn text_at(
-    alloc: Global,
-    input: &[u8],
-    at: usize,
-) -> Result<(String, usize), SerdeError>
+pub(crate) fn text_at(alloc: Global, input: &[u8], at: usize) -> Result<(String, usize), SerdeError>
     requires { at ≤ length input.now }
     ensures found { IfOk result (λ r. TextLies input.now at (string_bytes r.0) r.1) }
     ensures none { IsInvalid result → (text : List ℕ) (e : ℕ) → TextLies input.now at text e → ⊥ }
