@@ -13,52 +13,13 @@ use Rattle.smithy_schema.specs.Reading.{Cursor, Frame, depth, passed_to, Mark, P
 use Rattle.smithy_cbor.specs.Cursor.{inside_of}
 use Rattle.smithy_cbor.specs.Settings.{Settings, Limits, kept, lifted, is_within}
 use Rattle.smithy_cbor.specs.Standing.{Follows, FollowsInside, HasEntry, IsOver, mark_with, end_mark, cbor_relations}
-use Rattle.smithy_cbor.specs.Private.ScalarAtPlace.{IsLongAt, HasTextAt}
 use Rattle.smithy_cbor.specs.Private.Skipping.{SkipsTo}
 use Rattle.smithy_cbor.specs.Private.Entries.{same_over, entry_or_over}
 use Rattle.smithy_cbor.specs.Private.ItemPlaces.{item_ahead, one_item}
 use Rattle.smithy_cbor.proofs.EntryLemmas.{entry_by_due, over_by_due}
-use Rattle.smithy_cbor.proofs.ReaderLemmas.{opens_empty, steps_in_list, closes_list, list_is_stuck, long_stands, stands_long, text_stands, stands_text}
+use Rattle.smithy_cbor.proofs.ReaderLemmas.{opens_empty, steps_in_list, closes_list, list_is_stuck}
 use Rattle.smithy_cbor.proofs.SkippedValues.{skips_are}
 use Rattle.smithy_wire.specs.Walking.{entered_into, gone_on_to}
-
--- the value that is due was passed
-pub passes : (old new : Cursor) (e : ℕ) → old.failed ≡ false → new ≡ passed_to old e → Passes old new
-passes old new e sound is = rw is (record { input = refl; inner = refl; outer = refl; due = refl; failed = sound })
-
--- ---- numbers and texts
-
-module _ (o : Settings) (old new : Cursor) (t : Table) (time : Option TimestampFormat) (held : ℕ) (same : held ≡ depth old) (e : ℕ) (sound : old.failed ≡ false) (is : new ≡ passed_to old e) where
-  -- an integer of 64 bits was read
-  pub long_reads : (n m : ℤ) → m ≡ n → IsLongAt n old.input old.at held e → Reads (cbor_relations o) old new t (scalar_place scalars.Long time) (scalar_value (whole m))
-  long_reads n m number h = record {
-    stands = rw (is, number) (long_stands o old.input t (scalar_place scalars.Long time) (depth old) old.at refl n e (rw same at h));
-    passes = passes old new e sound is;
-  }
-
-  -- a text was read
-  pub text_reads : (s : List ℕ) → HasTextAt s old.input old.at e → Follows held old.input e → Reads (cbor_relations o) old new t (scalar_place scalars.String time) (scalar_value (text s))
-  text_reads s h follows = record {
-    stands = rw is (text_stands o old.input t (scalar_place scalars.String time) (depth old) old.at refl s e h (rw same at follows));
-    passes = passes old new e sound is;
-  }
-
-module _ (o : Settings) (c : Cursor) (t : Table) (time : Option TimestampFormat) (held : ℕ) (same : held ≡ depth c) where
-  -- no integer of 64 bits stands there
-  pub no_long : ((n : ℤ) (e : ℕ) → IsLongAt n c.input c.at held e → ⊥) → StandsNot (cbor_relations o) c t (scalar_place scalars.Long time)
-  no_long none v e stands =
-      let found = stands_long o c.input t (scalar_place scalars.Long time) (depth c) c.at refl v e stands in
-      none found.0 e (rw same found.2)
-
-  -- no text stands there
-  pub no_string : ((s : List ℕ) (e : ℕ) → HasTextAt s c.input c.at e → Follows held c.input e → ⊥) → StandsNot (cbor_relations o) c t (scalar_place scalars.String time)
-  no_string none v e stands =
-      let found = stands_text o c.input t (scalar_place scalars.String time) (depth c) c.at refl v e stands in
-      none found.0 e found.1 (rw same found.2)
-
--- a text ends behind its place, and in the input
-pub text_place : (input : List ℕ) (at : ℕ) (s : List ℕ) (e : ℕ) → HasTextAt s input at e → (at ≤ e) × (e ≤ length input)
-text_place input at s e h = let ahead = item_ahead h.found input at e h.stands in (omega arith, h.stands.0)
 
 -- ---- containers
 

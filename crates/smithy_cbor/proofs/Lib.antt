@@ -16,10 +16,11 @@ pub mod WrittenBody
 pub mod WrittenSpelling
 pub mod HeadFaults
 pub mod TextLemmas
-pub mod LongLemmas
+pub mod WholeLemmas
 pub mod EntryLemmas
 pub mod MembersBehindNullsLemmas
 pub mod ReaderLemmas
 pub mod SkippedValues
 pub mod DeserializerLemmas
 pub mod StructureStepsLemmas
+pub mod ScalarReads

@@ -10,19 +10,16 @@ use Rattle.smithy_schema.specs.Lemmas.Kinds.{no_list_and_structure}
 use Rattle.smithy_schema.specs.Lemmas.Options.{made}
 use Rattle.cbor_item.specs.Item.{Item, unsigned, negative, byte_string, text_string, array, map, tag, simple, float}
 use Rattle.smithy_cbor.specs.Settings.{Settings}
-use Rattle.smithy_cbor.specs.Scalar.{integer_of, text_of, long_of}
-use Rattle.smithy_texts.specs.Ranges.{fits_signed}
+use Rattle.smithy_cbor.specs.Scalar.{text_of}
 use Rattle.smithy_cbor.specs.Meaning.{node_of, rules_of}
 use Rattle.smithy_cbor.specs.Reading.{OpensAt}
 use Rattle.smithy_cbor.specs.Standing.{Follows, FollowsInside, HasEntry, IsOver, mark_with, end_mark, cbor_frames, cbor_relations}
-use Rattle.smithy_cbor.specs.Private.ScalarAtPlace.{IsLongAt, HasTextAt}
-use Rattle.smithy_cbor.specs.Private.Fits.{long_is}
 use Rattle.smithy_cbor.specs.Private.MembersBehindNulls.{Drops as NullsLie, StepsInStructure, ClosesStructure, EntryMissing}
 use Rattle.smithy_cbor.specs.Private.Wire.{cbor_is_wire}
 use Rattle.smithy_cbor.proofs.EntryLemmas.{entry_by_due, over_by_due, key_by_due}
 use Rattle.smithy_wire.specs.Node.{as_array, as_object, leaf}
 use Rattle.smithy_wire.specs.Frames.{IsTold, DropsAll}
-use Rattle.smithy_wire.specs.Readers.{settled_answer, scalar_stands, stands_scalar, opens_not, cannot_go_on}
+use Rattle.smithy_wire.specs.Readers.{opens_not, cannot_go_on}
 use Rattle.smithy_wire.specs.Entries.{null_is_dropped, step_to_entry, close_at_end, step_to_element, close_list}
 use Rattle.smithy_wire.specs.Lemmas.Places.{structure_is_object, list_is_array}
 
@@ -135,65 +132,3 @@ module _ (o : Settings) (i : List ℕ) (t : Table) (p : Place) (kind : IsStructu
       no_key j same key c n (next, (k, there, is)) told =
           let s = told_text (text_of k) (subst (λ (x : Option Item). IsTold as_object (option_and_then text_of x)) is told) in
           missing.0 s.0 c n (entry_by_due i at j (mark_with after) n (sym same) next, (k, there, s.1))
-
--- ---- scalars
-
--- integers and texts are scalars
-integer_is_leaf : (x : Item) (n : ℤ) → integer_of x ≡ Some n → node_of x ≡ leaf x
-integer_is_leaf (unsigned m) n is = refl
-integer_is_leaf (negative m) n is = refl
-integer_is_leaf (byte_string extent chunks) n is = cc
-integer_is_leaf (text_string extent chunks) n is = cc
-integer_is_leaf (array extent es) n is = cc
-integer_is_leaf (map extent ps) n is = cc
-integer_is_leaf (tag m x) n is = cc
-integer_is_leaf (simple m) n is = cc
-integer_is_leaf (float digits) n is = cc
-
-text_is_leaf : (x : Item) (s : List ℕ) → text_of x ≡ Some s → node_of x ≡ leaf x
-text_is_leaf (unsigned m) s is = cc
-text_is_leaf (negative m) s is = cc
-text_is_leaf (byte_string extent chunks) s is = cc
-text_is_leaf (text_string extent chunks) s is = refl
-text_is_leaf (array extent es) s is = cc
-text_is_leaf (map extent ps) s is = cc
-text_is_leaf (tag m x) s is = cc
-text_is_leaf (simple m) s is = cc
-text_is_leaf (float digits) s is = cc
-
-long_said : (x : Item) (n : ℤ) → integer_of x ≡ Some n → fits_signed 64 n ≡ true → long_of x ≡ Some (scalar_value (whole n))
-long_said x n is fits = rw (is, fits) refl
-
-module _ (o : Settings) (i : List ℕ) (t : Table) (p : Place) (d a : ℕ) (kind : kind_of t p ≡ scalar scalars.Long) where
-  -- at the place of a long exactly an integer of 64 bits stands
-  pub long_stands : (n : ℤ) (e : ℕ) → IsLongAt n i a d e → (cbor_relations o).stands i t p d a (scalar_value (whole n)) e
-  long_stands n e h =
-      scalar_stands cbor_frames (rules_of o) i t p scalars.Long kind d a (scalar_value (whole n)) e (
-        h.found,
-        (integer_is_leaf h.found n h.is, h.stands, h.follows),
-        settled_answer o.limits null_element (long_of h.found) ∙ long_said h.found n h.is h.fits,
-      )
-
-  -- and back
-  pub stands_long : (v : Value) (e : ℕ) → (cbor_relations o).stands i t p d a v e → (n : ℤ) × (v ≡ scalar_value (whole n)) × IsLongAt n i a d e
-  stands_long v e h =
-      let (x, lies, says) = stands_scalar cbor_frames (rules_of o) i t p scalars.Long kind d a v e h in
-      let z = long_is x v (sym (settled_answer o.limits null_element (long_of x)) ∙ says) in
-      (z.0, sym z.3, record { found = x; stands = lies.1; is = z.1; fits = z.2; follows = lies.2 })
-
-module _ (o : Settings) (i : List ℕ) (t : Table) (p : Place) (d a : ℕ) (kind : kind_of t p ≡ scalar scalars.String) where
-  -- at the place of a string exactly a text stands
-  pub text_stands : (s : List ℕ) (e : ℕ) → HasTextAt s i a e → Follows d i e → (cbor_relations o).stands i t p d a (scalar_value (text s)) e
-  text_stands s e h follows =
-      scalar_stands cbor_frames (rules_of o) i t p scalars.String kind d a (scalar_value (text s)) e (
-        h.found,
-        (text_is_leaf h.found s h.is, h.stands, follows),
-        settled_answer o.limits null_element (option_map (λ s. scalar_value (text s)) (text_of h.found)) ∙ ap (option_map (λ s. scalar_value (text s))) h.is,
-      )
-
-  -- and back
-  pub stands_text : (v : Value) (e : ℕ) → (cbor_relations o).stands i t p d a v e → (s : List ℕ) × HasTextAt s i a e × Follows d i e
-  stands_text v e h =
-      let (x, lies, says) = stands_scalar cbor_frames (rules_of o) i t p scalars.String kind d a v e h in
-      let s = made (λ s. scalar_value (text s)) (text_of x) v (sym (settled_answer o.limits null_element (option_map (λ s. scalar_value (text s)) (text_of x))) ∙ says) in
-      (s.0, record { found = x; stands = lies.1; is = s.1 }, lies.2)

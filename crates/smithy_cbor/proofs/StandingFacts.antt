@@ -2,6 +2,7 @@
 -- what doesn't.
 use Rattle.std.proofs.Common.{◌≡◌, inl, inr, ℕ, ◌-◌, List, [], ◌∷◌, map, take, true, false, Option, Some, None, refl, sym, ap, ◌∙◌, subst, arith, pos, codes, ◌≤◌}
 use Rattle.std.specs.Prelude.{slice_range}
+use Rattle.smithy_schema.specs.declared.shape_type.Scalar.TheVariants as scalars
 use Rattle.smithy_schema.specs.Table.{Table, shape_place}
 use Rattle.smithy_schema.specs.Reading.{Relations, Mark}
 use Rattle.smithy_schema.specs.Value.{Value}
@@ -11,7 +12,8 @@ use Rattle.cbor_item.specs.WellFormed.{IsItemAt, IsEncodingOf}
 use Rattle.cbor_item.proofs.FirstByte.{not_empty}
 use Rattle.cbor_item.proofs.HeadLemmas.{front_begins_low, opening_begins}
 use Rattle.smithy_cbor.specs.Scalar.{text_of}
-use Rattle.smithy_cbor.specs.Standing.{cbor_relations, mark_with, end_mark, HasEntry, IsOver}
+use Rattle.smithy_cbor.specs.Meaning.{rules_of}
+use Rattle.smithy_cbor.specs.Standing.{cbor_frames, cbor_relations, mark_with, end_mark, HasEntry, IsOver}
 use Rattle.smithy_cbor.specs.Laws.{lawful}
 use Rattle.smithy_cbor.specs.Private.ScalarAtPlace.{IsNullAt}
 use Rattle.smithy_cbor.specs.Private.ItemPlaces.{one_item}
@@ -19,9 +21,10 @@ use Rattle.smithy_cbor.specs.Private.MembersBehindNulls.{HasKey}
 use Rattle.smithy_cbor.proofs.OnLiterals.{smithy_cbor_on_literals}
 use Rattle.smithy_cbor.proofs.Examples.{whole_value, one_long, lists_of_strings, long_place, strict, empty_structure}
 use Rattle.smithy_cbor.proofs.EncodedItems.{in_one_byte, a_key, z_key, no_text, small}
-use Rattle.smithy_cbor.proofs.ReaderLemmas.{opens_list, steps_in_list, closes_list, list_is_stuck, opens_structure, opens_empty, steps_in_structure, closes_structure, closes_empty, structure_is_stuck, long_stands, stands_long}
+use Rattle.smithy_cbor.proofs.ReaderLemmas.{opens_list, steps_in_list, closes_list, list_is_stuck, opens_structure, opens_empty, steps_in_structure, closes_structure, closes_empty, structure_is_stuck}
 use Rattle.smithy_cbor.proofs.SkippedValues.{skips_are}
-use Rattle.smithy_wire.specs.Node.{missing}
+use Rattle.smithy_wire.specs.Node.{leaf, missing}
+use Rattle.smithy_wire.specs.Readers.{stands_scalar}
 
 abbrev strictly : Relations
 strictly = cbor_relations strict
@@ -196,10 +199,10 @@ pub byte_behind : strictly.stands (0x01 ∷ 0x00 ∷ []) one_long long_place 1 0
     × (strictly.skips (0x01 ∷ 0x00 ∷ []) 0 0 1 → ⊥)
     × (strictly.closes (0xbf ∷ 0xff ∷ 0x00 ∷ []) one_long (shape_place 0) 1 1 (mark_with None) 2 → ⊥)
 byte_behind = (
-  long_stands strict (0x01 ∷ 0x00 ∷ []) one_long long_place 1 0 refl (pos 1) 1 (record { found = unsigned 1; stands = (omega arith, (small 1 (omega arith)).is); is = refl; fits = refl; follows = tt }),
+  (leaf (unsigned 1), (refl, (omega arith, (small 1 (omega arith)).is), tt), refl),
   (skips_are strict (0x01 ∷ 0x00 ∷ []) 1 0 1).0 (record { found = unsigned 1; stands = (omega arith, (small 1 (omega arith)).is); follows = tt }),
   closes_structure strict (0xbf ∷ 0xff ∷ 0x00 ∷ []) one_long (shape_place 0) tt 2 1 (mark_with None) 2 (0, 1, mark_with None, (refl, refl), inr (refl, refl, refl)) tt,
-  λ v h. let wrong : ◌≡◌ {A = ℕ} 1 2 = (stands_long strict (0x01 ∷ 0x00 ∷ []) one_long long_place 0 0 refl v 1 h).2.follows in absurd (omega arith),
+  λ v h. let wrong : ◌≡◌ {A = ℕ} 1 2 = (stands_scalar cbor_frames (rules_of strict) (0x01 ∷ 0x00 ∷ []) one_long long_place scalars.Long refl 0 0 v 1 h).1.2 in absurd (omega arith),
   λ h. let wrong : ◌≡◌ {A = ℕ} 1 2 = ((skips_are strict (0x01 ∷ 0x00 ∷ []) 0 0 1).1 h).follows in absurd (omega arith),
   closes,
 )

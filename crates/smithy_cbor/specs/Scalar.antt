@@ -41,11 +41,12 @@ abbrev pub text_of : Item → Option (List ℕ)
 text_of (text_string extent chunks) = joined_text chunks
 text_of _ = None
 
--- an integer that fits 64 bits
-abbrev pub long_of : Item → Option Value
-long_of x = option_and_then (λ (z : ℤ). if fits_signed 64 z then Some (scalar_value (whole z)) else None) (integer_of x)
+-- an integer that fits so many bits
+abbrev pub whole_of : ℕ → Item → Option Value
+whole_of bits x =
+    option_and_then (λ (z : ℤ). if fits_signed bits z then Some (scalar_value (whole z)) else None) (integer_of x)
 
 -- what an item is as one kind
 abbrev pub says : Scalar → Option TimestampFormat → Item → Answer Value
-says scalars.Long time x = answer_of (long_of x)
+says scalars.Long time x = answer_of (whole_of 64 x)
 says scalars.String time x = answer_of (option_map (λ s. scalar_value (text s)) (text_of x))

@@ -329,29 +329,19 @@ impl ShapeDeserializer for CborDeserializer<'_> {
 
     fn read_long(&mut self, _schema: &Schema<'_>) -> Result<i64, SerdeError> {
         self.walk.ready()?;
-        match long_at(self.walk.input, self.walk.position, self.walk.depth()) {
-            Some((n, end)) => {
-                self.walk.pass(end);
-                Ok(n)
-            }
-            None => Err(self.walk.refuse(SerdeError::InvalidInput)),
-        }
+        let found = long_at(self.walk.input, self.walk.position, self.walk.depth());
+        self.walk.take(found)
     }
 
     fn read_string(&mut self, _schema: &Schema<'_>) -> Result<String, SerdeError> {
         self.walk.ready()?;
-        match string_at(
+        let found = string_at(
             self.alloc,
             self.walk.input,
             self.walk.position,
             self.walk.depth(),
-        ) {
-            Ok((text, end)) => {
-                self.walk.pass(end);
-                Ok(text)
-            }
-            Err(error) => Err(self.walk.refuse(error)),
-        }
+        );
+        self.walk.take_result(found)
     }
 }
 

@@ -4,7 +4,7 @@ ghost use Rattle.std.specs.Prelude.{◌≡◌, ◌⊎◌, ◌≤◌, ℕ, ℤ, L
 ghost use Rattle.std.specs.Cow.{cow_str_bytes};
 ghost use Rattle.smithy_schema.specs.declared.error.SerdeError.TheVariants.{InvalidInput, NoMemory};
 ghost use Rattle.smithy_cbor.specs.Standing.{Follows};
-ghost use Rattle.smithy_cbor.specs.Private.ScalarAtPlace.{IsLongAt, HasTextAt, refusal_of};
+ghost use Rattle.smithy_cbor.specs.Private.ScalarAtPlace.{IsWholeAt, HasTextAt, refusal_of};
 ghost use Rattle.smithy_cbor.specs.Private.Skipping.{SkipsTo};
 
 use crate::decoder::Decoder;
@@ -30,8 +30,8 @@ fn refusal_of(error: ItemError) -> SerdeError
 // The integer of 64 bits that stands there, with its end, where a value may end there.
 pub(crate) fn long_at(input: &[u8], at: usize, depth: usize) -> Option<(i64, usize)>
     requires { at ≤ length input.now }
-    ensures found { IfSome result (λ r. IsLongAt r.0 input.now at depth r.1) }
-    ensures none { IfNone result ((n : ℤ) (e : ℕ) → IsLongAt n input.now at depth e → ⊥) }
+    ensures found { IfSome result (λ r. IsWholeAt 64 r.0 input.now at depth r.1) }
+    ensures none { IfNone result ((n : ℤ) (e : ℕ) → IsWholeAt 64 n input.now at depth e → ⊥) }
 {
     let mut decoder = decoder_at(input, at);
     match decoder.long() {

@@ -21,60 +21,9 @@ use Rattle.smithy_wire.specs.Walking.{gone_on_to}
 use Rattle.smithy_json_codec.specs.Settings.{Settings, without_limits, is_shallow, kept}
 use Rattle.smithy_json_codec.specs.Standing.{json_relations, TreeLies, end_mark}
 use Rattle.smithy_json_codec.specs.Private.NextInContainer.{ElementBegins, ClosesBy, GoesOnInList}
-use Rattle.smithy_json_codec.specs.Private.ScalarAtPlace.{LongLies}
 use Rattle.smithy_json_codec.specs.Private.Skipping.{SkipsTo}
-use Rattle.smithy_json_codec.proofs.ReaderLemmas.{long_stands, stands_long, text_stands, stands_text, steps_in_list, list_is_stuck, one_tree}
+use Rattle.smithy_json_codec.proofs.ReaderLemmas.{steps_in_list, list_is_stuck, one_tree}
 use Rattle.smithy_json_codec.proofs.SkippedValues.{skips_are}
-
--- the value that is due was passed
-pub passes : (old new : Cursor) (e : ℕ) → old.failed ≡ false → new ≡ passed_to old e → Passes old new
-passes old new e sound is = rw is (record { input = refl; inner = refl; outer = refl; due = refl; failed = sound })
-
--- ---- numbers and texts
-
--- what a number means is a whole number
-long_at : (z : ℤ) (fits : Bool) (v : Value) → (if fits then Some (scalar_value (whole z)) else None) ≡ Some v → v ≡ scalar_value (whole z)
-long_at z true v h = let same : scalar_value (whole z) ≡ v = cc in sym same
-long_at z false v h = absurd (let no : None ≡ Some v = h in cc)
-
-long_from : (z : Option ℤ) (v : Value) → option_and_then (λ (z : ℤ). if fits_signed 64 z then Some (scalar_value (whole z)) else None) z ≡ Some v → (n : ℤ) × (v ≡ scalar_value (whole n))
-long_from None v h = absurd (let no : None ≡ Some v = h in cc)
-long_from (Some z) v h = (z, long_at z (fits_signed 64 z) v h)
-
-module _ (o : Settings) (old new : Cursor) (t : Table) (time : Option TimestampFormat) (e : ℕ) (sound : old.failed ≡ false) (is : new ≡ passed_to old e) where
-  pub long_reads : (n m : ℤ) → m ≡ n → LongLies old.input old.at n e → Reads (json_relations o) old new t (scalar_place scalars.Long time) (scalar_value (whole m))
-  long_reads n m same lies = record {
-    stands = rw (is, same) (long_stands o old.input t (scalar_place scalars.Long time) (depth old) old.at (scalar_value (whole n)) e refl (lies.raw, lies.lies, lies.means));
-    passes = passes old new e sound is;
-  }
-
-  pub text_reads : (raw s : List ℕ) → unescaped raw ≡ Some s → TreeLies 1 (string raw) old.input old.at e → Reads (json_relations o) old new t (scalar_place scalars.String time) (scalar_value (text s))
-  text_reads raw s has lies = record {
-    stands = rw is (text_stands o old.input t (scalar_place scalars.String time) (depth old) old.at (scalar_value (text s)) e refl (raw, s, lies, has, refl));
-    passes = passes old new e sound is;
-  }
-
-module _ (o : Settings) (c : Cursor) (t : Table) (time : Option TimestampFormat) where
-  -- no number of the kind lies there
-  pub no_long : ((n : ℤ) (e : ℕ) → LongLies c.input c.at n e → ⊥) → StandsNot (json_relations o) c t (scalar_place scalars.Long time)
-  no_long none v e stands =
-      let found = stands_long o c.input t (scalar_place scalars.Long time) (depth c) c.at v e refl stands in
-      let number = long_from (whole_number found.0) v found.2 in
-      none number.0 e (record { raw = found.0; lies = found.1; means = found.2 ∙ ap Some number.1 })
-
-  -- no string lies there
-  pub no_string : ((raw : List ℕ) (e : ℕ) → TreeLies 1 (string raw) c.input c.at e → ⊥) → StandsNot (json_relations o) c t (scalar_place scalars.String time)
-  no_string none v e stands =
-      let found = stands_text o c.input t (scalar_place scalars.String time) (depth c) c.at v e refl stands in
-      none found.0 e found.2
-
-  -- the string there has no text
-  pub no_text : (raw : List ℕ) (f : ℕ) → TreeLies 1 (string raw) c.input c.at f → unescaped raw ≡ None → StandsNot (json_relations o) c t (scalar_place scalars.String time)
-  no_text raw f lies wordless v e stands =
-      let found = stands_text o c.input t (scalar_place scalars.String time) (depth c) c.at v e refl stands in
-      let same : string found.0 ≡ string raw = (one_tree 1 1 (string found.0) (string raw) c.input c.at e f found.2 lies).0 in
-      let raws : found.0 ≡ raw = cc in
-      let both : Some found.1 ≡ None = sym found.3 ∙ ap unescaped raws ∙ wordless in cc
 
 -- a refusal by a text that isn't want of memory
 pub text_fault : (error : SerdeError) → (error ≡ InvalidInput) ⊎ (error ≡ NoMemory) → IsFault error → error ≡ InvalidInput

@@ -28,3 +28,4 @@ mod OpenersFacts
 pub mod OpenersLemmas
 pub mod SkipStepOpeners
 pub mod DeepestLemmas
+pub mod ScalarReads

@@ -1,17 +1,14 @@
 -- What a reader finds in an input, as a relation of reading, and what it doesn't find.
 use Rattle.std.proofs.Common.{◌≡◌, ◌<◌, ℕ, zero, suc, List, [], drop, Option, Some, None, Bool, refl, sym, ◌∙◌, ap, subst, inl, inr}
-use Rattle.std.specs.Option.{option_map, option_and_then}
+use Rattle.std.specs.Option.{option_and_then}
 use Rattle.smithy_schema.specs.declared.place.Place.{Place}
-use Rattle.smithy_schema.specs.declared.shape_type.Scalar.TheVariants as scalars
-use Rattle.smithy_schema.specs.Table.{Table, scalar, kind_of, IsList, IsStructure}
-use Rattle.smithy_schema.specs.Value.{text, Value, scalar_value, null_element}
+use Rattle.smithy_schema.specs.Table.{Table, kind_of, IsList, IsStructure}
 use Rattle.smithy_schema.specs.Reading.{Mark}
-use Rattle.smithy_schema.specs.Lemmas.Options.{made}
 use Rattle.smithy_schema.specs.Lemmas.Kinds.{no_list_and_structure}
 use Rattle.smithy_json.specs.Ascii.{begin_array, end_array, begin_object, end_object}
-use Rattle.smithy_json.specs.Tree.{null, number, string}
+use Rattle.smithy_json.specs.Tree.{null}
 use Rattle.smithy_json.specs.Unescape.{unescaped}
-use Rattle.smithy_json_codec.specs.Scalar.{JsonScalar, a_boolean, a_number, a_string, tree_of, long_of, text_of}
+use Rattle.smithy_json_codec.specs.Scalar.{a_string, text_of}
 use Rattle.smithy_json_codec.specs.Settings.{Settings}
 use Rattle.smithy_json_codec.specs.Meaning.{rules_of}
 use Rattle.smithy_json_codec.specs.Standing.{Lies, FollowsInside, TreeLies, IsByte, IsSeparated, Names, fresh_mark, end_mark, entry_mark, json_frames, json_relations}
@@ -19,7 +16,7 @@ use Rattle.smithy_json_codec.specs.Private.MembersBehindNulls.{Drops as NullsLie
 use Rattle.smithy_json_codec.specs.Private.Wire.{json_is_wire}
 use Rattle.smithy_wire.specs.Node.{as_array, as_object}
 use Rattle.smithy_wire.specs.Frames.{IsTold, DropsAll}
-use Rattle.smithy_wire.specs.Readers.{settled_answer, scalar_stands, stands_scalar, opens_not, cannot_go_on}
+use Rattle.smithy_wire.specs.Readers.{opens_not, cannot_go_on}
 use Rattle.smithy_wire.specs.Entries.{null_is_dropped, step_to_entry, close_at_end, list_drops_nothing, step_to_element}
 use Rattle.smithy_wire.specs.Lemmas.Places.{structure_is_object, list_is_array}
 -- what stands behind white space, in Private: a byte, a name and a value are determined, with their ends
@@ -121,48 +118,3 @@ module _ (o : Settings) (i : List ℕ) (t : Table) (p : Place) (kind : IsStructu
       (λ c n drop. no_entry_told i at passed.0.entered d stuck drop.entry.0 drop.at drop.entry.3 (subst (λ k. IsTold as_object (option_and_then text_of k)) drop.entry.1 drop.told))
       (no_entry_ends i at passed.0.entered d stuck)
       (λ structure' at_end over inside. full at_end over.0 inside)
-
--- ---- scalars
-
--- a number that is one of 64 bits lies there
-abbrev pub LongTextLies : List ℕ → ℕ → Value → ℕ → Type 0
-LongTextLies i a v e = (raw : List ℕ) × TreeLies 1 (number raw) i a e × (long_of (a_number raw) ≡ Some v)
-
--- a string that has a text lies there
-abbrev pub TextLies : List ℕ → ℕ → Value → ℕ → Type 0
-TextLies i a v e = (raw s : List ℕ) × TreeLies 1 (string raw) i a e × (unescaped raw ≡ Some s) × (scalar_value (text s) ≡ v)
-
-long_says : (i : List ℕ) (a : ℕ) (v : Value) (e : ℕ) (x : JsonScalar) → TreeLies 1 (tree_of x) i a e → long_of x ≡ Some v → LongTextLies i a v e
-long_says i a v e (a_boolean b) lies means = cc
-long_says i a v e (a_number raw) lies means = (raw, lies, means)
-long_says i a v e (a_string raw) lies means = cc
-
-text_says : (i : List ℕ) (a : ℕ) (v : Value) (e : ℕ) (x : JsonScalar) → TreeLies 1 (tree_of x) i a e → option_map (λ s. scalar_value (text s)) (text_of x) ≡ Some v → TextLies i a v e
-text_says i a v e (a_boolean b) lies means = cc
-text_says i a v e (a_number raw) lies means = cc
-text_says i a v e (a_string raw) lies means = let s = made (λ s. scalar_value (text s)) (unescaped raw) v means in (raw, s.0, lies, s.1, s.2)
-
-module _ (o : Settings) (i : List ℕ) (t : Table) (p : Place) (d a : ℕ) (v : Value) (e : ℕ) where
-  -- at the place of a long exactly such a number stands
-  pub long_stands : kind_of t p ≡ scalar scalars.Long → LongTextLies i a v e → (json_relations o).stands i t p d a v e
-  long_stands kind (raw, lies, means) =
-      scalar_stands json_frames (rules_of o) i t p scalars.Long kind d a v e
-      (a_number raw, lies, settled_answer o.limits null_element (long_of (a_number raw)) ∙ means)
-
-  -- and back
-  pub stands_long : kind_of t p ≡ scalar scalars.Long → (json_relations o).stands i t p d a v e → LongTextLies i a v e
-  stands_long kind h =
-      let s = stands_scalar json_frames (rules_of o) i t p scalars.Long kind d a v e h in
-      long_says i a v e s.0 s.1 (sym (settled_answer o.limits null_element (long_of s.0)) ∙ s.2)
-
-  -- at the place of a string exactly such a string stands
-  pub text_stands : kind_of t p ≡ scalar scalars.String → TextLies i a v e → (json_relations o).stands i t p d a v e
-  text_stands kind (raw, s, lies, has, is) =
-      scalar_stands json_frames (rules_of o) i t p scalars.String kind d a v e
-      (a_string raw, lies, settled_answer o.limits null_element (option_map (λ s. scalar_value (text s)) (unescaped raw)) ∙ (ap (option_map (λ s. scalar_value (text s))) has ∙ ap Some is))
-
-  -- and back
-  pub stands_text : kind_of t p ≡ scalar scalars.String → (json_relations o).stands i t p d a v e → TextLies i a v e
-  stands_text kind h =
-      let s = stands_scalar json_frames (rules_of o) i t p scalars.String kind d a v e h in
-      text_says i a v e s.0 s.1 (sym (settled_answer o.limits null_element (option_map (λ s. scalar_value (text s)) (text_of s.0))) ∙ s.2)

@@ -10,7 +10,7 @@ use Rattle.smithy_json.specs.Grammar.{IsStringText, IsString, IsValue, IsNumber,
 use Rattle.smithy_json.specs.Standing.{IsRunAt, StandsAt, IsStringAt, IsLongAt}
 use Rattle.smithy_json.proofs.SliceLemmas.{drop-slice, slice_between, drop_past_text}
 use Rattle.smithy_json_codec.specs.Standing.{Lies, IsByte, IsName, TreeLies}
-use Rattle.smithy_json_codec.specs.Private.ScalarAtPlace.{LongLies}
+use Rattle.smithy_json_codec.specs.Private.ScalarAtPlace.{WholeLies}
 use Rattle.smithy_json_codec.specs.Private.BytePlaces.{settle_at}
 use Rattle.smithy_json_codec.specs.Private.NamePlaces.{name_parts}
 use Rattle.smithy_json_codec.specs.Private.Lexical.{value_begins, begins_stops, behind_text, text_all}
@@ -152,7 +152,7 @@ two_parts (Some z) n h = fits_if (fits_signed 64 z) refl h
     fits_if false is e = cc
 
 module _ (i : List ℕ) (at start : ℕ) (run : IsRunAt is_ws i at start) where
-  pub long_lies : (n : ℤ) (e : ℕ) → IsLongAt i start e n → LongLies i at n e
+  pub long_lies : (n : ℤ) (e : ℕ) → IsLongAt i start e n → WholeLies 64 i at n e
   long_lies n e h =
       let raw = slice_range i start e in
       record {
@@ -161,7 +161,7 @@ module _ (i : List ℕ) (at start : ℕ) (run : IsRunAt is_ws i at start) where
         means = rw (h.value, h.fits) refl;
       }
 
-  pub long_stands : (n : ℤ) (e : ℕ) → LongLies i at n e → IsLongAt i start e n
+  pub long_stands : (n : ℤ) (e : ℕ) → WholeLies 64 i at n e → IsLongAt i start e n
   long_stands n e h =
       let plain = plain_value (number h.raw) in
       let text = lies_stands i at start run (IsValue (number h.raw)) e plain h.lies.0 in

@@ -21,11 +21,11 @@ tree_of (a_boolean b) = boolean b
 tree_of (a_number raw) = number raw
 tree_of (a_string raw) = string raw
 
--- a number without fraction and exponent that fits 64 bits
-abbrev pub long_of : JsonScalar → Option Value
-long_of (a_number raw) =
-    option_and_then (λ (z : ℤ). if fits_signed 64 z then Some (scalar_value (whole z)) else None) (whole_number raw)
-long_of _ = None
+-- a number without fraction and exponent that fits so many bits
+abbrev pub whole_of : ℕ → JsonScalar → Option Value
+whole_of bits (a_number raw) =
+    option_and_then (λ (z : ℤ). if fits_signed bits z then Some (scalar_value (whole z)) else None) (whole_number raw)
+whole_of bits _ = None
 
 -- the text of a string
 abbrev pub text_of : JsonScalar → Option (List ℕ)
@@ -34,5 +34,5 @@ text_of _ = None
 
 -- what a scalar is as one kind
 abbrev pub says : Scalar → Option TimestampFormat → JsonScalar → Answer Value
-says scalars.Long time x = answer_of (long_of x)
+says scalars.Long time x = answer_of (whole_of 64 x)
 says scalars.String time x = answer_of (option_map (λ s. scalar_value (text s)) (text_of x))

@@ -2,8 +2,8 @@
 use crate::members::{Next, next_present};
 use crate::places::{InList, byte_end, next_in_list, null_end};
 use crate::skip::skipped_end;
-use crate::texts::owned_text;
-use crate::values::{begins_null, long_at, string_at};
+use crate::texts::text_at;
+use crate::values::{begins_null, long_at};
 use smithy_schema::{Schema, SerdeError, ShapeDeserializer, Step, TimestampFormat};
 use smithy_wire::{Frame, Mark, Walk, Within};
 use std::alloc::Global;
@@ -338,27 +338,14 @@ impl ShapeDeserializer for JsonDeserializer<'_> {
 
     fn read_long(&mut self, _schema: &Schema<'_>) -> Result<i64, SerdeError> {
         self.walk.ready()?;
-        match long_at(self.walk.input, self.walk.position) {
-            Some((n, end)) => {
-                self.walk.pass(end);
-                Ok(n)
-            }
-            None => Err(self.walk.refuse(SerdeError::InvalidInput)),
-        }
+        let found = long_at(self.walk.input, self.walk.position);
+        self.walk.take(found)
     }
 
     fn read_string(&mut self, _schema: &Schema<'_>) -> Result<String, SerdeError> {
         self.walk.ready()?;
-        let Some(string) = string_at(self.walk.input, self.walk.position) else {
-            return Err(self.walk.refuse(SerdeError::InvalidInput));
-        };
-        match owned_text(self.alloc, string.text) {
-            Ok(text) => {
-                self.walk.pass(string.closing + 1);
-                Ok(text)
-            }
-            Err(error) => Err(self.walk.refuse(error)),
-        }
+        let found = text_at(self.alloc, self.walk.input, self.walk.position);
+        self.walk.take_result(found)
     }
 }
 

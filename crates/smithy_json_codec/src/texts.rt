@@ -1,10 +1,12 @@
 //! The texts that strings stand for.
-ghost use Rattle.std.specs.Prelude.{◌≡◌, ◌⊎◌, Some, None, IfOk, IfErr, string_bytes};
+ghost use Rattle.std.specs.Prelude.{◌≡◌, ◌⊎◌, ◌≤◌, ℕ, List, length, Some, None, IfOk, IfErr, string_bytes};
 ghost use Rattle.std.specs.Cow.{cow_str_bytes};
 ghost use Rattle.smithy_schema.specs.Reading.{IsInvalid};
 ghost use Rattle.smithy_schema.specs.declared.error.SerdeError.TheVariants.{InvalidInput, NoMemory};
 ghost use Rattle.smithy_json.specs.Unescape.{unescaped};
+ghost use Rattle.smithy_json_codec.specs.Private.ScalarAtPlace.{TextLies};
 
+use crate::values::string_at;
 use smithy_json::{EscapeError, EscapedStr};
 use smithy_schema::SerdeError;
 use std::alloc::Global;
@@ -34,6 +36,22 @@ pub(crate) fn owned_text(alloc: Global, raw: &str) -> Result<String, SerdeError>
             Ok(text) => Ok(text),
             Err(_) => Err(SerdeError::NoMemory),
         },
+        Err(error) => Err(error),
+    }
+}
+
+// The text of the string that comes first behind blanks, with its end, where a value may end behind it.
+pub(crate) fn text_at(alloc: Global, input: &[u8], at: usize) -> Result<(String, usize), SerdeError>
+    requires { at ≤ length input.now }
+    ensures found { IfOk result (λ r. TextLies input.now at (string_bytes r.0) r.1) }
+    ensures none { IsInvalid result → (text : List ℕ) (e : ℕ) → TextLies input.now at text e → ⊥ }
+    ensures kind { IfErr result (λ e. (e ≡ InvalidInput) ⊎ (e ≡ NoMemory)) }
+{
+    let Some(string) = string_at(input, at) else {
+        return Err(SerdeError::InvalidInput);
+    };
+    match owned_text(alloc, string.text) {
+        Ok(text) => Ok((text, string.closing + 1)),
         Err(error) => Err(error),
     }
 }

@@ -4,7 +4,7 @@ ghost use Rattle.std.specs.Prelude.{◌≡◌, ◌≤◌, ◌+◌, ℕ, ℤ, Lis
 ghost use Rattle.smithy_json.specs.Tree.{boolean, number, string};
 ghost use Rattle.smithy_json.specs.Unescape.{has_escape};
 ghost use Rattle.smithy_json_codec.specs.Standing.{TreeLies, begins_with_null, begins_with_alphanumeric, without_ws};
-ghost use Rattle.smithy_json_codec.specs.Private.ScalarAtPlace.{LongLies};
+ghost use Rattle.smithy_json_codec.specs.Private.ScalarAtPlace.{WholeLies};
 
 use smithy_json::number_text::{read_long, scan_number};
 use smithy_json::scan::{is_boundary, read_boolean, skip_blanks};
@@ -24,8 +24,8 @@ pub(crate) fn string_at<'a>(input: &'a [u8], at: usize) -> Option<ScannedString<
 // The whole number of 64 bits that comes first behind blanks, with its end.
 pub(crate) fn long_at(input: &[u8], at: usize) -> Option<(i64, usize)>
     requires { at ≤ length input.now }
-    ensures found { IfSome result (λ r. LongLies input.now at r.0 r.1) }
-    ensures none { IfNone result ((n : ℤ) (e : ℕ) → LongLies input.now at n e → ⊥) }
+    ensures found { IfSome result (λ r. WholeLies 64 input.now at r.0 r.1) }
+    ensures none { IfNone result ((n : ℤ) (e : ℕ) → WholeLies 64 input.now at n e → ⊥) }
 {
     read_long(input, skip_blanks(input, at))
 }

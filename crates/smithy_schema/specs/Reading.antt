@@ -1,12 +1,13 @@
 -- What a reader tells, the relations of a wire, the laws that they obey, and what a call does.
-use Rattle.std.specs.Prelude.{◌≡◌, ◌⊎◌, ◌↔◌, ◌<◌, ◌≤◌, ◌&&◌, ℕ, suc, ◌+◌, length, drop, List, [], ◌∷◌, map, Option, Some, None, Bool, true, false, option_and_then, Result, Ok, Err, IsErrOf, OnErr}
+use Rattle.std.specs.Prelude.{◌≡◌, ◌⊎◌, ◌↔◌, ◌<◌, ◌≤◌, ◌&&◌, ℕ, suc, ◌+◌, length, drop, List, [], ◌∷◌, map, Option, Some, None, Bool, true, false, option_and_then, Result, Ok, Err, IsErrOf, OnErr, IfOk}
 use Rattle.smithy_schema.specs.declared.place.Place.{Place}
+use Rattle.smithy_schema.specs.declared.shape_type.Scalar.{Scalar}
 use Rattle.smithy_schema.specs.declared.read.Step.{Step}
 use Rattle.smithy_schema.specs.declared.read.Step.TheVariants.{Member as ToMember, Unknown, End}
 use Rattle.smithy_schema.specs.declared.error.SerdeError.{SerdeError}
 use Rattle.smithy_schema.specs.declared.error.SerdeError.TheVariants.{InvalidInput, TooDeep, Unwritable, Failed, NoMemory}
-use Rattle.smithy_schema.specs.Table.{Table, Kind, scalar, structure_of, list_of, nothing, kind_of, place_in, IsStructure, IsSparse}
-use Rattle.smithy_schema.specs.Value.{Value}
+use Rattle.smithy_schema.specs.Table.{Table, Kind, scalar, structure_of, list_of, nothing, kind_of, place_in, scalar_place, IsStructure, IsSparse}
+use Rattle.smithy_schema.specs.Value.{ScalarValue, Value, scalar_value}
 use Rattle.smithy_schema.specs.Fits.{Fits}
 use Rattle.smithy_schema.specs.Container.{Entry, container_of}
 use Rattle.smithy_schema.specs.Site.{Site, site_of, member_site}
@@ -278,6 +279,15 @@ pub record Reads (w : Relations) (old new : Cursor) (t : Table) (p : Place) (v :
 -- no value of the place stands where the reader is
 abbrev pub StandsNot : Relations → Cursor → Table → Place → Type 0
 StandsNot w c t p = (v : Value) (e : ℕ) → w.stands c.input t p (depth c) c.at v e → ⊥
+
+-- What a read of one scalar kind says of its answer: by the relations w, and by u, those with the limits lifted.
+pub record ReadsScalar {A : Type 0} (w u : Relations) (is_strict : Type 0) (old new : Cursor) (site : Site) (s : Scalar) (value : A → ScalarValue) (result : Result A SerdeError) : Type 0 where
+  pub conduct : Conducts old new result
+  pub shallow : IsErrOf result TooDeep → ⊥
+  pub undue : old.due ≡ false → IsNoAnswer result
+  pub ok : IfOk result (λ x. Reads w old new site.table (scalar_place s site.place.time) (scalar_value (value x)))
+  pub refused : IsRefused result → old.due ≡ true → StandsNot w old site.table (scalar_place s site.place.time)
+  pub would : is_strict → IsInvalid result → old.due ≡ true → StandsNot u old site.table (scalar_place s site.place.time)
 
 abbrev pub OpensNot : Relations → Cursor → Table → Place → Type 0
 OpensNot w c t p = (b : ℕ) (m : Mark) → w.opens c.input t p (depth c) c.at b m → ⊥

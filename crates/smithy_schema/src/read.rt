@@ -2,10 +2,10 @@
 ghost use Rattle.std.specs.Prelude.{◌≡◌, ◌≤◌, ℕ, length, Option, Some, None, Bool, true, false, ◌&&◌, IfOk, IsOk, OnOk, IsErrOf, IsErr, MatchBool, string_bytes};
 ghost use Rattle.smithy_schema.specs.declared.place.Place.{Place};
 ghost use Rattle.smithy_schema.specs.declared.shape_type.Scalar.TheVariants as scalars;
-ghost use Rattle.smithy_schema.specs.Table.{Table, kind_of, IsStructure, IsList, scalar_place};
-ghost use Rattle.smithy_schema.specs.Value.{Value, scalar_value, whole, text};
+ghost use Rattle.smithy_schema.specs.Table.{Table, kind_of, IsStructure, IsList};
+ghost use Rattle.smithy_schema.specs.Value.{Value, whole, text};
 ghost use Rattle.smithy_schema.specs.Site.{site_of, kind_at};
-ghost use Rattle.smithy_schema.specs.Reading.{Cursor, depth, Relations, Mark, IsLawful, StandsFit, CountsOpeners, IsBelow, Conducts, Passes, Reads, Enters, Steps, Leaves, MatchStep, CannotGoOn, StandsNot, OpensNot, SkipsNot, NullsNot, ReachesDepth, null_is_due, IsRefused, IsInvalid, IsNoAnswer, failed_at, passed_to, in_structure, in_list};
+ghost use Rattle.smithy_schema.specs.Reading.{ReadsScalar, Cursor, depth, Relations, Mark, IsLawful, StandsFit, CountsOpeners, IsBelow, Conducts, Passes, Enters, Steps, Leaves, MatchStep, CannotGoOn, OpensNot, SkipsNot, NullsNot, ReachesDepth, null_is_due, IsRefused, IsInvalid, IsNoAnswer, failed_at, passed_to, in_structure, in_list};
 ghost use Rattle.smithy_schema.specs.declared.error.SerdeError.TheVariants.{TooDeep, NoMemory};
 
 use crate::error::SerdeError;
@@ -159,27 +159,13 @@ pub trait ShapeDeserializer {
     /// Reads a whole number from -2^63 to 2^63-1. It takes no memory.
     fn read_long(&mut self, schema: &Schema<'_>) -> Result<i64, SerdeError>
         ensures same { settings self.new ≡ settings self.old }
-        ensures conduct { Conducts (state self.old) (state self.new) result }
-        ensures memory { IsErrOf result NoMemory → ⊥ }
-        ensures shallow { IsErrOf result TooDeep → ⊥ }
-        ensures undue { (state self.old).due ≡ false → IsNoAnswer result }
-        ensures ok { IfOk result (λ n. Reads (wire (settings self.old)) (state self.old) (state self.new) schema.now.shapes.now (scalar_place scalars.Long schema.now.place.time) (scalar_value (whole n))) }
-        ensures refused { IsRefused result → (state self.old).due ≡ true
-            → StandsNot (wire (settings self.old)) (state self.old) schema.now.shapes.now (scalar_place scalars.Long schema.now.place.time) }
-        ensures would { is_strict (settings self.old) → IsInvalid result → (state self.old).due ≡ true
-            → StandsNot (lifted (settings self.old)) (state self.old) schema.now.shapes.now (scalar_place scalars.Long schema.now.place.time) };
+        ensures read { ReadsScalar (wire (settings self.old)) (lifted (settings self.old)) (is_strict (settings self.old)) (state self.old) (state self.new) (site_of schema.now) scalars.Long whole result }
+        ensures memory { IsErrOf result NoMemory → ⊥ };
 
     /// Reads a text.
     fn read_string(&mut self, schema: &Schema<'_>) -> Result<String, SerdeError>
         ensures same { settings self.new ≡ settings self.old }
-        ensures conduct { Conducts (state self.old) (state self.new) result }
-        ensures shallow { IsErrOf result TooDeep → ⊥ }
-        ensures undue { (state self.old).due ≡ false → IsNoAnswer result }
-        ensures ok { IfOk result (λ s. Reads (wire (settings self.old)) (state self.old) (state self.new) schema.now.shapes.now (scalar_place scalars.String schema.now.place.time) (scalar_value (text (string_bytes s)))) }
-        ensures refused { IsRefused result → (state self.old).due ≡ true
-            → StandsNot (wire (settings self.old)) (state self.old) schema.now.shapes.now (scalar_place scalars.String schema.now.place.time) }
-        ensures would { is_strict (settings self.old) → IsInvalid result → (state self.old).due ≡ true
-            → StandsNot (lifted (settings self.old)) (state self.old) schema.now.shapes.now (scalar_place scalars.String schema.now.place.time) };
+        ensures read { ReadsScalar (wire (settings self.old)) (lifted (settings self.old)) (is_strict (settings self.old)) (state self.old) (state self.new) (site_of schema.now) scalars.String (λ s. text (string_bytes s)) result };
 
     // Each wire obeys the laws of reading, with its limits and with them lifted.
     ghost lawful: { (c : Settings) → IsLawful (wire c) };

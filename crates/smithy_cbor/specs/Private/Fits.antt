@@ -1,5 +1,5 @@
 -- What an item says as a kind is a value of the kind.
-use Rattle.std.specs.Prelude.{◌≡◌, ℕ, ℤ, List, [], ◌∷◌, Some, None, true, IsUtf8, option_map, cond}
+use Rattle.std.specs.Prelude.{◌≡◌, ℕ, ℤ, List, [], ◌∷◌, Some, None, true, IsUtf8, refl, option_map, cond}
 use Rattle.std.specs.List.{list_all, concat}
 use Rattle.std.specs.Str.{is_utf8}
 use Rattle.std.proofs.Common.{sym, ◌∙◌, subst}
@@ -10,20 +10,20 @@ use Rattle.smithy_schema.specs.declared.shape_type.Scalar.{Scalar}
 use Rattle.smithy_schema.specs.declared.shape_type.Scalar.TheVariants as scalars
 use Rattle.smithy_schema.specs.Table.{Table, scalar, kind_of}
 use Rattle.smithy_schema.specs.Value.{whole, text, Value, scalar_value, null_element}
-use Rattle.smithy_schema.specs.Fits.{Fits}
+use Rattle.smithy_schema.specs.Fits.{is_of, Fits}
 use Rattle.smithy_schema.specs.Lemmas.Options.{same_some, step_apart, chosen, made}
 use Rattle.cbor_item.specs.Item.{Item, unsigned, negative, byte_string, text_string, array, map as map_item, tag, simple, float}
 use Rattle.smithy_cbor.specs.Settings.{Settings}
-use Rattle.smithy_cbor.specs.Scalar.{integer_of, joined_text, text_of, long_of, says}
+use Rattle.smithy_cbor.specs.Scalar.{integer_of, joined_text, text_of, whole_of, says}
 use Rattle.smithy_texts.specs.Ranges.{fits_signed}
 use Rattle.smithy_wire.specs.Rules.{settled}
 use Rattle.smithy_wire.specs.Readers.{settled_answer}
 
--- what is a long is an integer that fits 64 bits
-pub long_is : (x : Item) (v : Value) → long_of x ≡ Some v → (z : ℤ) × (integer_of x ≡ Some z) × (fits_signed 64 z ≡ true) × (scalar_value (whole z) ≡ v)
-long_is x v h =
-    let z = step_apart (integer_of x) (λ (z : ℤ). cond (fits_signed 64 z) (Some (scalar_value (whole z))) None) v h in
-    let size = chosen (fits_signed 64 z.0) (Some (scalar_value (whole z.0))) v z.2 in
+-- what is a whole number is an integer that fits its bits
+pub whole_is : (bits : ℕ) (x : Item) (v : Value) → whole_of bits x ≡ Some v → (z : ℤ) × (integer_of x ≡ Some z) × (fits_signed bits z ≡ true) × (scalar_value (whole z) ≡ v)
+whole_is bits x v h =
+    let z = step_apart (integer_of x) (λ (z : ℤ). cond (fits_signed bits z) (Some (scalar_value (whole z))) None) v h in
+    let size = chosen (fits_signed bits z.0) (Some (scalar_value (whole z.0))) v z.2 in
     (z.0, z.1, size.0, same_some (scalar_value (whole z.0)) v size.1)
 
 -- texts one after another are a text
@@ -50,12 +50,14 @@ text_is_utf8 (tag n x) s h = cc
 text_is_utf8 (simple n) s h = cc
 text_is_utf8 (float digits) s h = cc
 
+whole_fits : (bits : ℕ) (s : Scalar) → ((z : ℤ) → is_of s (whole z) ≡ fits_signed bits z) → (t : Table) (p : Place) (x : Item) (v : Value) → kind_of t p ≡ scalar s → whole_of bits x ≡ Some v → Fits t p v
+whole_fits bits s is t p x v kind h = let z = whole_is bits x v h in subst (Fits t p) z.3 (rw kind (is z.0 ∙ z.2))
+
 -- a law of a wire
 pub says_fits : (c : Settings) (x : Item) (t : Table) (p : Place) (s : Scalar) (v : Value) → kind_of t p ≡ scalar s
     → settled c.limits null_element (says s p.time x) ≡ Some v → Fits t p v
 says_fits c x t p scalars.Long v kind h =
-    let z = long_is x v (sym (settled_answer c.limits null_element (long_of x)) ∙ h) in
-    subst (Fits t p) z.3 (rw kind z.2)
+    whole_fits 64 scalars.Long (λ z. refl) t p x v kind (sym (settled_answer c.limits null_element (whole_of 64 x)) ∙ h)
 says_fits c x t p scalars.String v kind h =
     let s = made (λ s. scalar_value (text s)) (text_of x) v (sym (settled_answer c.limits null_element (option_map (λ s. scalar_value (text s)) (text_of x))) ∙ h) in
     subst (Fits t p) s.2 (rw kind (is_utf8-from_IsUtf8 s.0 (text_is_utf8 x s.0 s.1)))

@@ -23,12 +23,12 @@ abbrev pub IsNullAt : List ℕ → ℕ → ℕ → ℕ → Type 0
 IsNullAt input at depth e =
     (begins_with null_byte (drop at input) ≡ true) × (e ≡ suc at) × Follows depth input e
 
--- an integer of 64 bits stands there, where a value may end behind it
-pub record IsLongAt (n : ℤ) (input : List ℕ) (at depth e : ℕ) : Type 0 where
+-- an integer of so many bits stands there, where a value may end behind it
+pub record IsWholeAt (bits : ℕ) (n : ℤ) (input : List ℕ) (at depth e : ℕ) : Type 0 where
   pub found : Item
   pub stands : IsItemAt found input at e
   pub is : integer_of found ≡ Some n
-  pub fits : fits_signed 64 n ≡ true
+  pub fits : fits_signed bits n ≡ true
   pub follows : Follows depth input e
 
 -- a text stands there

@@ -1,4 +1,4 @@
-use Rattle.smithy_json_codec.proofs.OptionLemmas.{if_some, if_none}
+use Rattle.smithy_wire.proofs.ScalarReads.{if_some, if_none}
 use Rattle.smithy_json_codec.proofs.ScannedValues.{null_lies, null_stands}
 use Rattle.smithy_json_codec.proofs.places.null_end.Goals as goal
 

@@ -1,6 +1,6 @@
 use Rattle.std.proofs.Common.{◌≡◌, ◌⊎◌, inl, inr, refl}
 use Rattle.smithy_json.specs.Tree.{null, boolean, number, string}
-use Rattle.smithy_json_codec.proofs.OptionLemmas.{if_some, if_none}
+use Rattle.smithy_wire.proofs.ScalarReads.{if_some, if_none}
 use Rattle.smithy_json_codec.proofs.ScalarLemmas.{no_string, no_null, no_boolean, only_number}
 use Rattle.smithy_json_codec.proofs.skip.scalar_end.Goals as goal
 use Rattle.smithy_json_codec.proofs.skip.scalar_end.Goals.{then-first-eq116-via-then-first-eq116, then-first-eq116-via-else-first-eq116+then-first-eq102}

@@ -1,23 +1,17 @@
-use Rattle.std.proofs.Common.{◌≡◌, false, rules}
+use Rattle.std.proofs.Common.{◌≡◌, ◌≤◌, length, refl, sym, ◌∙◌, rules}
+use Rattle.smithy_schema.specs.declared.shape_type.Scalar.TheVariants as scalars
+use Rattle.smithy_schema.specs.Site.{site_of}
 use Rattle.smithy_cbor.specs.Cursor.{cursor_of, reading_settings_of}
-use Rattle.smithy_cbor.specs.Settings.{without_limits}
-use Rattle.smithy_cbor.proofs.DeserializerLemmas.{long_reads, no_long}
-use Rattle.smithy_wire.specs.Walking.{cursor_of as walk_cursor}
+use Rattle.smithy_cbor.proofs.ScalarReads.{reads_whole}
+use Rattle.smithy_wire.proofs.ScalarReads.{was_ready}
 use Rattle.smithy_cbor.proofs.deserializer.CborDeserializerShapeDeserializer.read_long.Goals as goal
 
-pub returns-in-Some-clause-ok : goal.returns-in-Some-clause-ok
-returns-in-Some-clause-ok c =
+pub returns-clause-read : goal.returns-clause-read
+returns-clause-read c =
     let same : c.ready.new.self ≡ c.args.self.now.walk = c.in_ok-ready.ensures.ok in
-    let sound : c.args.self.now.walk.failed ≡ false = search rules in
-    long_reads (reading_settings_of c.args.self.now) (cursor_of c.args.self.now) (walk_cursor c.pass.new.self) c.args._schema.now.shapes.now c.args._schema.now.place.time c.depth.result (rw same at c.depth.ensures) c.in-Some.end
-    sound (rw same at c.pass.ensures.passed) c.in-Some.n _ (search rules) (rw same at c.in-Some.ensures.found)
-
-pub returns-in-None-clause-refused : goal.returns-in-None-clause-refused
-returns-in-None-clause-refused c = λ fault due.
-    let same : c.ready.new.self ≡ c.args.self.now.walk = c.in_ok-ready.ensures.ok in
-    no_long (reading_settings_of c.args.self.now) (cursor_of c.args.self.now) c.args._schema.now.shapes.now c.args._schema.now.place.time c.depth.result (rw same at c.depth.ensures) (rw same at c.in-None.ensures.none)
-
-pub returns-in-None-clause-would : goal.returns-in-None-clause-would
-returns-in-None-clause-would c = λ strict invalid due.
-    let same : c.ready.new.self ≡ c.args.self.now.walk = c.in_ok-ready.ensures.ok in
-    no_long (without_limits (reading_settings_of c.args.self.now)) (cursor_of c.args.self.now) c.args._schema.now.shapes.now c.args._schema.now.place.time c.depth.result (rw same at c.depth.ensures) (rw same at c.in-None.ensures.none)
+    let was = was_ready c.args.self.now.walk.failed c.args.self.now.walk.due (sym c.in_ok-ready.was ∙ c.ready.ensures.answer) in
+    let within : c.args.self.now.walk.position ≤ length c.args.self.now.walk.input.now = search rules in
+    let found = rw (c.depth.ensures, same) at c.long_at-found.ensures in
+    let take = rw same at c.take.ensures in
+    reads_whole (reading_settings_of c.args.self.now) (cursor_of c.args.self.now) (site_of c.args._schema.now) was.0 was.1 within scalars.Long 64 (λ x. refl) _ c.long_at-found.result c.take.result
+    found.found found.none take.ok take.some take.none take.err take.error

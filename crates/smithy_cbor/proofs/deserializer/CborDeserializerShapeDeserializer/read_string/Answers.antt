@@ -1,41 +1,17 @@
-use Rattle.std.proofs.Common.{◌≡◌, false, rules, ap, inl, inr}
-use Rattle.smithy_schema.specs.declared.error.SerdeError.TheVariants.{InvalidInput}
+use Rattle.std.proofs.Common.{◌≡◌, ◌≤◌, length, sym, ◌∙◌, rules}
+use Rattle.std.specs.Prelude.{string_bytes}
+use Rattle.smithy_schema.specs.Site.{site_of}
 use Rattle.smithy_cbor.specs.Cursor.{cursor_of, reading_settings_of}
-use Rattle.smithy_cbor.specs.Settings.{without_limits}
-use Rattle.smithy_cbor.proofs.DeserializerLemmas.{text_place, text_reads, no_string, input_fault, goes_ahead}
-use Rattle.smithy_wire.specs.Walking.{cursor_of as walk_cursor}
+use Rattle.smithy_cbor.proofs.ScalarReads.{reads_text}
+use Rattle.smithy_wire.proofs.ScalarReads.{was_ready}
 use Rattle.smithy_cbor.proofs.deserializer.CborDeserializerShapeDeserializer.read_string.Goals as goal
 
-pub returns-in-Ok-clause-conduct : goal.returns-in-Ok-clause-conduct
-returns-in-Ok-clause-conduct c =
+pub returns-clause-read : goal.returns-clause-read
+returns-clause-read c =
     let same : c.ready.new.self ≡ c.args.self.now.walk = c.in_ok-ready.ensures.ok in
-    let sound : c.args.self.now.walk.failed ≡ false = search rules in
-    let old = cursor_of c.args.self.now in
-    let found = rw same at c.in-Ok.ensures.ok in
-    let place = text_place old.input old.at _ c.in-Ok.end found.0 in
-    let passed = rw same at c.pass.ensures.passed in
-    goes_ahead _ old (walk_cursor c.pass.new.self) _ c.in-Ok.end sound (ap (λ x. x.at) passed) (ap (λ x. x.input) passed) place.0 place.1
-
-pub returns-in-Ok-clause-ok : goal.returns-in-Ok-clause-ok
-returns-in-Ok-clause-ok c =
-    let same : c.ready.new.self ≡ c.args.self.now.walk = c.in_ok-ready.ensures.ok in
-    let sound : c.args.self.now.walk.failed ≡ false = search rules in
-    let found = rw same at c.in-Ok.ensures.ok in
-    text_reads (reading_settings_of c.args.self.now) (cursor_of c.args.self.now) (walk_cursor c.pass.new.self) c.args._schema.now.shapes.now c.args._schema.now.place.time c.depth.result (rw same at c.depth.ensures) c.in-Ok.end
-    sound (rw same at c.pass.ensures.passed) _ found.0 found.1
-
-pub returns-in-Err-clause-refused : goal.returns-in-Err-clause-refused
-returns-in-Err-clause-refused c = λ fault due.
-    let same : c.ready.new.self ≡ c.args.self.now.walk = c.in_ok-ready.ensures.ok in
-    let none = c.in-Err.ensures.none (input_fault c.in-Err.error c.in-Err.ensures.kind (rw c.refuse.ensures.error at fault)) in
-    no_string (reading_settings_of c.args.self.now) (cursor_of c.args.self.now) c.args._schema.now.shapes.now c.args._schema.now.place.time c.depth.result (rw same at c.depth.ensures) (rw same at none)
-
-pub returns-in-Err-clause-would : goal.returns-in-Err-clause-would
-returns-in-Err-clause-would c = λ strict invalid due.
-    let same : c.ready.new.self ≡ c.args.self.now.walk = c.in_ok-ready.ensures.ok in
-    let is : c.in-Err.error ≡ InvalidInput = elim c.in-Err.ensures.kind [
-      | inl input ↦ input
-      | inr memory ↦ absurd (rw (c.refuse.ensures.error, memory) at invalid)
-    ] in
-    let none = c.in-Err.ensures.none is in
-    no_string (without_limits (reading_settings_of c.args.self.now)) (cursor_of c.args.self.now) c.args._schema.now.shapes.now c.args._schema.now.place.time c.depth.result (rw same at c.depth.ensures) (rw same at none)
+    let was = was_ready c.args.self.now.walk.failed c.args.self.now.walk.due (sym c.in_ok-ready.was ∙ c.ready.ensures.answer) in
+    let within : c.args.self.now.walk.position ≤ length c.args.self.now.walk.input.now = search rules in
+    let found = rw (c.depth.ensures, same) at c.string_at-found.ensures in
+    let take = rw same at c.take_result.ensures in
+    reads_text (reading_settings_of c.args.self.now) (cursor_of c.args.self.now) (site_of c.args._schema.now) was.0 was.1 within string_bytes _ c.string_at-found.result c.take_result.result
+    found.ok found.kind found.none take.ok take.some take.err take.error

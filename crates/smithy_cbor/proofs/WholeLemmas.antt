@@ -14,7 +14,7 @@ use Rattle.smithy_cbor.specs.declared.error.DecodeKind.{DecodeKind}
 use Rattle.smithy_cbor.specs.Scalar.{integer_of}
 use Rattle.smithy_texts.specs.Ranges.{fits_signed}
 use Rattle.smithy_cbor.specs.Reading.{IsInteger, IsIntegerFault}
-use Rattle.smithy_cbor.specs.Private.ScalarAtPlace.{IsLongAt}
+use Rattle.smithy_cbor.specs.Private.ScalarAtPlace.{IsWholeAt}
 use Rattle.smithy_cbor.specs.Private.ItemPlaces.{item_front, one_item}
 use Rattle.smithy_cbor.proofs.HeadFaults.{no_wanted_head}
 
@@ -52,20 +52,20 @@ integer_head (simple n) z input at e is there = absurd (cc)
 integer_head (float digits) z input at e is there = absurd (cc)
 
 -- where no integer of 64 bits can be read, none stands
-pub no_long_at : (input : List ℕ) (at : ℕ) (kind : DecodeKind) → IsIntegerFault w64 input at kind
-    → (n : ℤ) (depth e : ℕ) → IsLongAt n input at depth e → ⊥
-no_long_at input at kind (inl (error, is, fault)) n depth e h =
+pub no_whole_at : (input : List ℕ) (at : ℕ) (kind : DecodeKind) → IsIntegerFault w64 input at kind
+    → (n : ℤ) (depth e : ℕ) → IsWholeAt 64 n input at depth e → ⊥
+no_whole_at input at kind (inl (error, is, fault)) n depth e h =
     let head = integer_head h.found n input at e h.is h.stands in
     no_wanted_head IsInteger input at error head.0 fault head.1 head.2
-no_long_at input at kind (inr (is, (z, end, (i, there, number), misfit))) n depth e h =
+no_whole_at input at kind (inr (is, (z, end, (i, there, number), misfit))) n depth e h =
     let same = (one_item h.found i input at e end h.stands there).0 in
     let numbers : Some n ≡ Some z = sym h.is ∙ ap integer_of same ∙ number in
     let value : n ≡ z = cc in
     misfit (subst (FitsSigned w64) value (long_fits n h.fits))
 
 -- an integer that stands there has one end
-pub same_long_end : (input : List ℕ) (at : ℕ) (n : ℤ) (i : Item) (depth e end : ℕ) → IsLongAt n input at depth e → IsItemAt i input at end → e ≡ end
-same_long_end input at n i depth e end h there = (one_item h.found i input at e end h.stands there).1
+pub same_whole_end : (input : List ℕ) (at : ℕ) (n : ℤ) (i : Item) (depth e end : ℕ) → IsWholeAt 64 n input at depth e → IsItemAt i input at end → e ≡ end
+same_whole_end input at n i depth e end h there = (one_item h.found i input at e end h.stands there).1
 
 -- where a test decides, nothing is answered only where it fails
 pub unless : {T : Type 0} (test : Bool) (x : T) (P : Type 0) → (test ≡ false → P) → IfNone (then_some test x) P

@@ -1,0 +1,149 @@
+-- A read of a scalar: what was found stands there, and where nothing was found nothing stands.
+use Rattle.std.proofs.Common.{◌≡◌, ◌≤◌, ℕ, length, Bool, true, false, Option, Some, None, refl, sym, ◌∙◌, subst, arith, ◌⊎◌, inl, inr}
+use Rattle.std.specs.Prelude.{Result, Ok, Err, OnErr, IfOk, IfErr, IsOk, IsErr, IsErrOf, IfSome, IfNone, IsSome, IsNone, if◌then◌else◌}
+use Rattle.smithy_schema.specs.declared.shape_type.Scalar.{Scalar}
+use Rattle.smithy_schema.specs.declared.error.SerdeError.{SerdeError}
+use Rattle.smithy_schema.specs.declared.error.SerdeError.TheVariants.{InvalidInput, Failed, NoMemory}
+use Rattle.smithy_schema.specs.Table.{scalar_place}
+use Rattle.smithy_schema.specs.Site.{Site}
+use Rattle.smithy_schema.specs.Value.{ScalarValue, scalar_value}
+use Rattle.smithy_schema.specs.Reading.{Cursor, depth, Relations, IsLawful, Passes, StandsNot, IsRefused, IsInvalid, ReadsScalar, failed_at, passed_to}
+
+-- what holds of an answer, said in other words
+pub if_some : {A : Type 0} (answer : Option A) (P Q : A → Type 0) → ((x : A) → P x → Q x) → IfSome answer P → IfSome answer Q
+if_some None P Q turn h = tt
+if_some (Some x) P Q turn h = turn x h
+
+pub if_none : {A : Type 0} (answer : Option A) (P Q : Type 0) → (P → Q) → IfNone answer P → IfNone answer Q
+if_none None P Q turn h = turn h
+if_none (Some x) P Q turn h = tt
+
+pub if_ok : {A E : Type 0} (answer : Result A E) (P Q : A → Type 0) → ((x : A) → P x → Q x) → IfOk answer P → IfOk answer Q
+if_ok (Ok x) P Q turn h = turn x h
+if_ok (Err e) P Q turn h = tt
+
+-- a reader that is ready hasn't failed, and a value is due
+pub was_ready : (failed due : Bool) → ◌≡◌ {A = Result Unit SerdeError} (Ok tt) (if failed then Err Failed else (if due then Ok tt else Err InvalidInput)) → (failed ≡ false) × (due ≡ true)
+was_ready true due h = cc
+was_ready false true h = (refl, refl)
+was_ready false false h = cc
+
+module _ {A : Type 0} (w u : Relations) (is_strict : Type 0) (site : Site) (s : Scalar) (value : A → ScalarValue) where
+  abbrev Says : Cursor → Cursor → Result A SerdeError → Type 0
+  Says old new result = ReadsScalar w u is_strict old new site s value result
+
+  -- nothing of the kind stands there, whatever the limits
+  abbrev pub NoneStands : Cursor → Type 0
+  NoneStands c = StandsNot w c site.table (scalar_place s site.place.time) × StandsNot u c site.table (scalar_place s site.place.time)
+
+  -- the reader failed before
+  failed_before : (old new : Cursor) → new ≡ failed_at old → old.at ≤ length old.input → old.failed ≡ true → Says old new (Err Failed)
+  failed_before old new stays within failed = record {
+    conduct = record {
+      failed = (λ h. failed, λ h. refl);
+      stays = stays;
+      readable = λ h. cc;
+      ahead = rw stays (omega arith);
+      within = rw stays within;
+    };
+    shallow = λ h. cc;
+    undue = λ h. tt;
+    ok = tt;
+    refused = λ fault. absurd fault;
+    would = λ strict fault. absurd fault;
+  }
+
+  -- the input is refused, where nothing stands or no value is due
+  pub refuses : (old new : Cursor) → new ≡ failed_at old → old.at ≤ length old.input → old.failed ≡ false → (old.due ≡ true → NoneStands old)
+      → Says old new (Err InvalidInput)
+  refuses old new stays within sound none = record {
+    conduct = record {
+      failed = (λ h. cc, λ h. absurd (let both : true ≡ false = sym h ∙ sound in cc));
+      stays = stays;
+      readable = λ h. cc;
+      ahead = rw stays (omega arith);
+      within = rw stays within;
+    };
+    shallow = λ h. cc;
+    undue = λ h. tt;
+    ok = tt;
+    refused = λ fault due. (none due).0;
+    would = λ strict fault due. (none due).1;
+  }
+
+  -- want of memory
+  pub runs_out : (old new : Cursor) → new ≡ failed_at old → old.at ≤ length old.input → old.failed ≡ false → Says old new (Err NoMemory)
+  runs_out old new stays within sound = record {
+    conduct = record {
+      failed = (λ h. cc, λ h. absurd (let both : true ≡ false = sym h ∙ sound in cc));
+      stays = stays;
+      readable = λ h. cc;
+      ahead = rw stays (omega arith);
+      within = rw stays within;
+    };
+    shallow = λ h. cc;
+    undue = λ h. tt;
+    ok = tt;
+    refused = λ fault. absurd fault;
+    would = λ strict fault. absurd fault;
+  }
+
+  -- a reader that isn't ready answers so
+  pub not_ready : (old new : Cursor) (e : SerdeError) → ◌≡◌ {A = Result Unit SerdeError} (Err e) (if old.failed then Err Failed else (if old.due then Ok tt else Err InvalidInput))
+      → new ≡ failed_at old → old.at ≤ length old.input → Says old new (Err e)
+  not_ready old new e answer stays within = by old.failed old.due refl refl answer
+    where
+      by : (failed due : Bool) → old.failed ≡ failed → old.due ≡ due → ◌≡◌ {A = Result Unit SerdeError} (Err e) (if failed then Err Failed else (if due then Ok tt else Err InvalidInput)) → Says old new (Err e)
+      by true due failed is answer = let same : e ≡ Failed = cc in rw same (failed_before old new stays within failed)
+      by false true sound is answer = cc
+      by false false sound is answer =
+          let same : e ≡ InvalidInput = cc in
+          rw same (refuses old new stays within sound (λ due. absurd (let both : true ≡ false = sym due ∙ is in cc)))
+
+  module _ (laws : IsLawful w) (old : Cursor) (sound : old.failed ≡ false) (due : old.due ≡ true) (within : old.at ≤ length old.input) where
+    abbrev Stands : A → ℕ → Type 0
+    Stands x e = w.stands old.input site.table (scalar_place s site.place.time) (depth old) old.at (scalar_value (value x)) e
+
+    reads : (new : Cursor) (x : A) (e : ℕ) → Stands x e → new ≡ passed_to old e → Says old new (Ok x)
+    reads new x e stands passed =
+        let ends = laws.stands_within old.input site.table (scalar_place s site.place.time) (depth old) old.at (scalar_value (value x)) e stands in
+        rw passed (record {
+          conduct = record {
+            failed = (λ h. cc, λ h. absurd (let both : true ≡ false = sym h ∙ sound in cc));
+            stays = tt;
+            readable = λ h. cc;
+            ahead = ends.0;
+            within = ends.1;
+          };
+          shallow = λ h. cc;
+          undue = λ h. absurd (let both : true ≡ false = sym due ∙ h in cc);
+          ok = record { stands = stands; passes = record { input = refl; inner = refl; outer = refl; due = refl; failed = sound } };
+          refused = λ fault. absurd fault;
+          would = λ strict fault. absurd fault;
+        })
+
+    -- of what was found, or not
+    pub takes : (new : Cursor) (found : Option (A × ℕ)) (result : Result A SerdeError) → IfSome found (λ r. Stands r.0 r.1) → IfNone found (NoneStands old)
+        → IfOk result (λ x. IfSome found (λ r. (r.0 ≡ x) × (new ≡ passed_to old r.1))) → (IsOk result → IsSome found) → (IsErr result → IsNone found)
+        → OnErr result (new ≡ failed_at old) → IfErr result (λ e. e ≡ InvalidInput) → Says old new result
+    takes new (Some r) (Ok x) stands none taken some fails stays error = subst (λ y. Says old new (Ok y)) taken.0 (reads new r.0 r.1 stands taken.1)
+    takes new None (Ok x) stands none taken some fails stays error = absurd (let no' = some refl in cc)
+    takes new (Some r) (Err e) stands none taken some fails stays error = absurd (let no' = fails refl in cc)
+    takes new None (Err e) stands none taken some fails stays error = rw error (refuses old new stays within sound (λ due. none))
+
+    -- the same of what took memory to find
+    pub takes_result : (new : Cursor) (found : Result (A × ℕ) SerdeError) (result : Result A SerdeError) → IfOk found (λ r. Stands r.0 r.1)
+        → IfErr found (λ e. (e ≡ InvalidInput) ⊎ (e ≡ NoMemory)) → (IsInvalid found → NoneStands old)
+        → IfOk result (λ x. IfOk found (λ r. (r.0 ≡ x) × (new ≡ passed_to old r.1))) → (IsOk result → IsOk found)
+        → OnErr result (new ≡ failed_at old) → IfErr result (λ e. found ≡ Err e) → Says old new result
+    takes_result new (Ok r) (Ok x) stands kind none taken some stays error = subst (λ y. Says old new (Ok y)) taken.0 (reads new r.0 r.1 stands taken.1)
+    takes_result new (Err e) (Ok x) stands kind none taken some stays error = absurd (let no' = some refl in cc)
+    takes_result new (Ok r) (Err e) stands kind none taken some stays error = absurd (let no' : ◌≡◌ {A = Result (A × ℕ) SerdeError} (Ok r) (Err e) = error in cc)
+    takes_result new (Err g) (Err e) stands kind none taken some stays error = by kind
+      where
+        same : g ≡ e
+        same = cc
+
+        by : (g ≡ InvalidInput) ⊎ (g ≡ NoMemory) → Says old new (Err e)
+        by (inl is) = rw (← same, is) (refuses old new stays within sound (λ due. none (rw is tt)))
+        by (inr is) = rw (← same, is) (runs_out old new stays within sound)
