@@ -3,11 +3,12 @@ use std::alloc::{AllocError, Global};
 use std::collections::BTreeMap;
 use std::test::Fail;
 
-// `{"a":[true,null],"b":"é"}`
+// `{"a":[true,null,-5],"b":"é"}`
 fn sample(alloc: Global) -> Result<Document, AllocError> {
     let mut elements = Vec::new(alloc);
     elements.push(Document::from(true))?;
     elements.push(Document::default())?;
+    elements.push(Document::from(-5_i32))?;
     let mut properties = BTreeMap::new(alloc);
     let name = String::from_str(alloc, "a")?;
     drop(properties.insert(name, Document::from(elements))?);
@@ -132,7 +133,7 @@ fn parts_are_changed_in_place(rt: HostRuntime) -> Result<(), Fail> {
         .and_then(|p: &BTreeMap<String, Document>| p.get("a"))
         .and_then(|d: &Document| d.as_array())
         .map(|a: &Vec<Document>| a.len());
-    assert_eq!(rt; length, Some(3));
+    assert_eq!(rt; length, Some(4));
     assert!(rt; Document::default().as_array_mut().is_none());
     Ok(())
 }
