@@ -92,8 +92,12 @@ fn a_document_hands_out_its_parts(rt: HostRuntime) -> Result<(), Fail> {
     let Some(elements) = properties.get("a").and_then(|d: &Document| d.as_array()) else {
         return Err(Fail::from("no array"));
     };
-    assert_eq!(rt; elements[0].as_bool(), Some(true));
-    assert_eq!(rt; elements[1].as_null(), Some(()));
+    let [first, second, third] = elements.as_slice() else {
+        return Err(Fail::from("no three elements"));
+    };
+    assert_eq!(rt; first.as_bool(), Some(true));
+    assert_eq!(rt; second.as_null(), Some(()));
+    assert!(rt; third.as_number() == Some(&Number::NegInt(-5)));
     Ok(())
 }
 
