@@ -11,6 +11,11 @@ def write(name, text):
 
 write("long.table", "structure S\nmember a long\n")
 write("lists.table", "list Longs long\nlist Strings string\nstructure S\nmember l Longs\nmember s Strings\n")
+write(
+    "points.table",
+    "list Points Point\nstructure S\nmember points Points\n"
+    "structure Point\nmember id long\nmember width long\nmember height long\nmember depth long\n",
+)
 write("many.table", "structure S\n" + "".join(f"member member{n} long\n" for n in range(2000)))
 
 # 200,000 objects as the values of unknown members, some 16 MB
@@ -24,6 +29,11 @@ write("unknown_members.json", body)
 members = ",".join(f'"member{n}":{n * 7919}' for n in range(2000))
 turns = 8_000_000 // (len(members) + 1)
 write("many_members.json", "{" + ",".join([members] * turns) + "}")
+
+# a list of 200,000 structures of four integers
+point = '{"id":%d,"width":%d,"height":%d,"depth":%d}'
+points = [point % (n, n * 37 % 1000, n * 91 % 10_000, -n % 777) for n in range(200_000)]
+write("points.json", '{"points":[' + ",".join(points) + "]}")
 
 count, size, numbers = 0, 0, []
 while size < 8_000_000:

@@ -28,10 +28,12 @@ run() {
 
 run unknown_members "$work/long.table" "$work/unknown_members.json" json json
 run many_members "$work/many.table" "$work/many_members.json" json json
+run small_structures "$work/points.table" "$work/points.json" json json
 run list_of_integers "$work/lists.table" "$work/integers.json" json json
 run list_of_strings "$work/lists.table" "$work/strings.json" json json
 run long_strings "$work/lists.table" "$work/long_strings.json" json json
 run many_escapes "$work/lists.table" "$work/escapes.json" json json
+run small_structures "$work/points.table" "$work/points.json" json cbor
 run list_of_integers "$work/lists.table" "$work/integers.json" json cbor
 run list_of_strings "$work/lists.table" "$work/strings.json" json cbor
 run list_of_integers "$work/lists.table" "$work/integers.cbor" cbor json
