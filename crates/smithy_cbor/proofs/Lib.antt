@@ -16,7 +16,7 @@ pub mod WrittenBody
 pub mod WrittenSpelling
 pub mod HeadFaults
 pub mod TextLemmas
-pub mod WholeLemmas
+pub mod ScalarPlaces
 pub mod EntryLemmas
 pub mod MembersBehindNullsLemmas
 pub mod ReaderLemmas

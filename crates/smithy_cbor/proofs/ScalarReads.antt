@@ -1,5 +1,5 @@
 -- What a reader finds at the place of a scalar stands there, and where it finds nothing, nothing does.
-use Rattle.std.proofs.Common.{◌≡◌, ◌≤◌, ◌⊎◌, ℕ, ℤ, List, length, true, false, Option, Some, None, refl, sym, ◌∙◌, ap}
+use Rattle.std.proofs.Common.{◌≡◌, ◌≤◌, ◌⊎◌, ◌-◌, ◌^◌, ℕ, ℤ, List, length, Bool, true, false, subst, Option, Some, refl, sym, ◌∙◌, ap}
 use Rattle.std.specs.Prelude.{option_map, Result, Ok, Err, OnErr, IfOk, IfErr, IsOk, IsErr, IfSome, IfNone, IsSome, IsNone}
 use Rattle.smithy_texts.specs.Ranges.{fits_signed}
 use Rattle.smithy_schema.specs.declared.shape_type.Scalar.{Scalar}
@@ -8,21 +8,25 @@ use Rattle.smithy_schema.specs.declared.error.SerdeError.{SerdeError}
 use Rattle.smithy_schema.specs.declared.error.SerdeError.TheVariants.{InvalidInput, TooDeep, Unwritable, Failed, NoMemory}
 use Rattle.smithy_schema.specs.Table.{scalar_place}
 use Rattle.smithy_schema.specs.Site.{Site}
-use Rattle.smithy_schema.specs.Value.{ScalarValue, whole, text, Value, scalar_value, null_element}
+use Rattle.smithy_schema.specs.Value.{ScalarValue, boolean, whole, text, Value, scalar_value, null_element}
 use Rattle.smithy_schema.specs.Reading.{Cursor, depth, StandsNot, IsInvalid, ReadsScalar, passed_to, failed_at}
-use Rattle.smithy_schema.specs.Lemmas.Options.{made}
+use Rattle.smithy_schema.specs.Lemmas.Options.{same_some, made}
+use Rattle.smithy_schema.proofs.ScalarLemmas.{fits_more}
+use Rattle.cbor_item.specs.WellFormed.{IsItemAt}
 use Rattle.cbor_item.specs.Item.{Item, unsigned, negative, byte_string, text_string, array, map, tag, simple, float}
 use Rattle.smithy_cbor.specs.Settings.{Settings, without_limits}
-use Rattle.smithy_cbor.specs.Scalar.{integer_of, text_of, whole_of, says}
+use Rattle.smithy_cbor.specs.Scalar.{boolean_item, boolean_of, integer_of, text_of, whole_of, says}
 use Rattle.smithy_cbor.specs.Laws.{lawful}
 use Rattle.smithy_cbor.specs.Meaning.{node_of, rules_of}
 use Rattle.smithy_cbor.specs.Standing.{Follows, cbor_frames, cbor_relations}
-use Rattle.smithy_cbor.specs.Private.Fits.{whole_is}
-use Rattle.smithy_cbor.specs.Private.ScalarAtPlace.{IsWholeAt, HasTextAt}
+use Rattle.smithy_cbor.specs.Private.Fits.{boolean_is, whole_is}
+use Rattle.smithy_cbor.specs.Private.ScalarAtPlace.{IsAt, IsWholeAt, HasTextAt}
+use Rattle.smithy_cbor.specs.Private.ItemPlaces.{one_item}
 use Rattle.smithy_wire.specs.Node.{leaf}
 use Rattle.smithy_wire.specs.Rules.{answer_of, settled}
+use Rattle.smithy_wire.specs.Narrowing.{IsNarrowed, IsWider}
 use Rattle.smithy_wire.specs.Readers.{settled_answer, scalar_stands, stands_scalar}
-use Rattle.smithy_wire.proofs.ScalarReads.{takes, takes_result, if_some, if_none, if_ok}
+use Rattle.smithy_wire.proofs.ScalarReads.{takes, takes_result, narrow_found, narrow_none, if_some, if_none, if_ok}
 
 -- integers and texts are scalars
 integer_is_leaf : (x : Item) (n : ℤ) → integer_of x ≡ Some n → node_of x ≡ leaf x
@@ -35,6 +39,10 @@ integer_is_leaf (map extent ps) n is = cc
 integer_is_leaf (tag m x) n is = cc
 integer_is_leaf (simple m) n is = cc
 integer_is_leaf (float digits) n is = cc
+
+boolean_is_leaf : (b : Bool) → node_of (boolean_item b) ≡ leaf (boolean_item b)
+boolean_is_leaf true = refl
+boolean_is_leaf false = refl
 
 text_is_leaf : (x : Item) (s : List ℕ) → text_of x ≡ Some s → node_of x ≡ leaf x
 text_is_leaf (unsigned m) s is = cc
@@ -63,6 +71,25 @@ module _ (o : Settings) (c : Cursor) (site : Site) (s : Scalar) where
       let x = stands_scalar cbor_frames (rules_of o) c.input site.table (scalar_place s site.place.time) s refl (depth c) c.at v e stands in
       none x.0 v e x.1 x.2
 
+-- ---- booleans
+
+boolean_back : (b : Bool) → boolean_of (boolean_item b) ≡ Some (scalar_value (boolean b))
+boolean_back true = refl
+boolean_back false = refl
+
+module _ (o : Settings) (c : Cursor) (site : Site) where
+  settled_boolean : (x : Item) → settled o.limits null_element (says scalars.Boolean site.place.time x) ≡ boolean_of x
+  settled_boolean x = settled_answer o.limits null_element (boolean_of x)
+
+  pub boolean_stands : (b : Bool) (e : ℕ) → IsAt (boolean_item b) c.input c.at (depth c) e → Stands o c site scalars.Boolean (boolean b) e
+  boolean_stands b e (stands, follows) =
+      says_stands o c site scalars.Boolean (boolean_item b) (scalar_value (boolean b)) e (boolean_is_leaf b, stands, follows) (settled_boolean (boolean_item b) ∙ boolean_back b)
+
+  pub no_boolean_stands : ((b : Bool) (e : ℕ) → IsAt (boolean_item b) c.input c.at (depth c) e → ⊥) → StandsNot (cbor_relations o) c site.table (scalar_place scalars.Boolean site.place.time)
+  no_boolean_stands none = nothing_stands o c site scalars.Boolean (λ x v e lies means.
+      let b = boolean_is x v (sym (settled_boolean x) ∙ means) in
+      none b.0 e (subst (λ (y : Item). IsItemAt y c.input c.at e) b.1 lies.1, lies.2))
+
 -- ---- a kind of whole numbers of so many bits
 
 module _ (o : Settings) (c : Cursor) (site : Site) (s : Scalar) (bits : ℕ) (says_whole : (x : Item) → says s site.place.time x ≡ answer_of (whole_of bits x)) where
@@ -80,6 +107,11 @@ module _ (o : Settings) (c : Cursor) (site : Site) (s : Scalar) (bits : ℕ) (sa
   no_whole_stands none = nothing_stands o c site s (λ x v e lies means.
       let z = whole_is bits x v (sym (settled_whole x) ∙ means) in
       none z.0 e (record { found = x; stands = lies.1; is = z.1; fits = z.2; follows = lies.2 }))
+
+-- at one place stands one number
+same_number : (input : List ℕ) (at depth : ℕ) (n m : ℤ) (e f : ℕ) → IsWholeAt 64 n input at depth e → IsWholeAt 64 m input at depth f → n ≡ m
+same_number input at depth n m e f h k =
+    same_some n m (sym h.is ∙ ap integer_of (one_item h.found k.found input at e f h.stands k.stands).0 ∙ k.is)
 
 -- ---- texts
 
@@ -114,6 +146,17 @@ by_error (Err Failed) Q h invalid = absurd invalid
 by_error (Err NoMemory) Q h invalid = absurd invalid
 
 module _ (o : Settings) (old : Cursor) (site : Site) (sound : old.failed ≡ false) (due : old.due ≡ true) (within : old.at ≤ length old.input) where
+  -- of a boolean
+  pub reads_boolean : (new : Cursor) (found : Option (Bool × ℕ)) (result : Result Bool SerdeError)
+      → IfSome found (λ r. IsAt (boolean_item r.0) old.input old.at (depth old) r.1) → IfNone found ((b : Bool) (e : ℕ) → IsAt (boolean_item b) old.input old.at (depth old) e → ⊥)
+      → IfOk result (λ x. IfSome found (λ r. (r.0 ≡ x) × (new ≡ passed_to old r.1))) → (IsOk result → IsSome found) → (IsErr result → IsNone found)
+      → OnErr result (new ≡ failed_at old) → IfErr result (λ e. e ≡ InvalidInput)
+      → ReadsScalar (cbor_relations o) (cbor_relations (without_limits o)) (Unit {0}) old new site scalars.Boolean boolean result
+  reads_boolean new found result here none =
+      takes (cbor_relations o) (cbor_relations (without_limits o)) (Unit {0}) site scalars.Boolean boolean (lawful o) old sound due within new found result
+      (if_some found _ _ (λ r. boolean_stands o old site r.0 r.1) here)
+      (if_none found _ _ (λ nothing. (no_boolean_stands o old site nothing, no_boolean_stands (without_limits o) old site nothing)) none)
+
   -- of a kind of whole numbers of so many bits
   pub reads_whole : (s : Scalar) (bits : ℕ) → ((x : Item) → says s site.place.time x ≡ answer_of (whole_of bits x))
       → (new : Cursor) (found : Option (ℤ × ℕ)) (result : Result ℤ SerdeError)
@@ -125,6 +168,21 @@ module _ (o : Settings) (old : Cursor) (site : Site) (sound : old.failed ≡ fal
       takes (cbor_relations o) (cbor_relations (without_limits o)) (Unit {0}) site s whole (lawful o) old sound due within new found result
       (if_some found _ _ (λ r. whole_stands o old site s bits says_whole r.0 r.1) here)
       (if_none found _ _ (λ nothing. (no_whole_stands o old site s bits says_whole nothing, no_whole_stands (without_limits o) old site s bits says_whole nothing)) none)
+
+  -- the same in fewer bits
+  pub reads_narrow : (s : Scalar) (bits : ℕ) → 2 ^ (bits - 1) ≤ 2 ^ 63 → ((x : Item) → says s site.place.time x ≡ answer_of (whole_of bits x))
+      → (new : Cursor) (wide found : Option (ℤ × ℕ)) (result : Result ℤ SerdeError)
+      → IfSome wide (λ r. IsWholeAt 64 r.0 old.input old.at (depth old) r.1) → IfNone wide ((n : ℤ) (e : ℕ) → IsWholeAt 64 n old.input old.at (depth old) e → ⊥)
+      → IfSome found (IsNarrowed bits wide) → IfNone found (IsWider bits wide)
+      → IfOk result (λ x. IfSome found (λ r. (r.0 ≡ x) × (new ≡ passed_to old r.1))) → (IsOk result → IsSome found) → (IsErr result → IsNone found)
+      → OnErr result (new ≡ failed_at old) → IfErr result (λ e. e ≡ InvalidInput)
+      → ReadsScalar (cbor_relations o) (cbor_relations (without_limits o)) (Unit {0}) old new site s whole result
+  reads_narrow s bits fewer says_whole new wide found result here none narrow wider =
+      let At : ℕ → ℤ → ℕ → Type 0 = λ bits n e. IsWholeAt bits n old.input old.at (depth old) e in
+      reads_whole s bits says_whole new found result
+      (narrow_found At bits wide found (λ n e h fits. record { found = h.found; stands = h.stands; is = h.is; fits = fits; follows = h.follows }) here narrow)
+      (narrow_none At bits wide found (λ n e h. (record { found = h.found; stands = h.stands; is = h.is; fits = fits_more bits 64 n fewer h.fits; follows = h.follows }, h.fits))
+      (same_number old.input old.at (depth old)) here none wider)
 
   -- of a text
   pub reads_text : {A : Type 0} (text_of : A → List ℕ) (new : Cursor) (found : Result (A × ℕ) SerdeError) (result : Result A SerdeError)

@@ -1,31 +1,19 @@
 -- The bytes that CBOR writes for nodes, and that they lie as it frames them: shortest heads, and containers of
 -- indefinite length.
-use Rattle.std.specs.Prelude.{◌≡◌, ◌≤◌, ◌<◌, ◌-◌, ◌^◌, ℕ, ℤ, pos, negsuc, neg_ℤ, int_le, int_lt, zero, suc, length, drop, List, [], ◌∷◌, Bool, true, false, Option, Some, None, refl}
+use Rattle.std.specs.Prelude.{◌≡◌, ◌≤◌, ◌<◌, ◌-◌, ◌^◌, ℕ, zero, suc, length, drop, List, [], ◌∷◌, false, Option, Some, None, refl}
 use Rattle.std.proofs.Common.{sym, ap, arith, subst, inl, inr, length-drop}
-use Rattle.std.proofs.lemmas.Bool.Decides.{nat_tests}
-use Rattle.std.proofs.lemmas.Bool.{and_parts}
-use Rattle.std.proofs.lemmas.Int.{ints}
-use Rattle.std.proofs.lemmas.List.{append-nil, length-append}
-use Rattle.smithy_schema.specs.declared.shape_type.Scalar.{Scalar}
-use Rattle.smithy_schema.specs.declared.shape_type.TimestampFormat.{TimestampFormat}
-use Rattle.smithy_schema.specs.Value.{ScalarValue, boolean, whole, text}
-use Rattle.smithy_schema.specs.Fits.{is_of}
-use Rattle.smithy_schema.proofs.ScalarLemmas.{whole_fits}
-use Rattle.smithy_texts.specs.Ranges.{fits_signed}
-use Rattle.cbor_item.specs.Head.{width_limit, IsHead, narrowest, shortest_head, MayBeIndefinite, BeginsWithHead}
+use Rattle.cbor_item.specs.Head.{shortest_head, MayBeIndefinite, BeginsWithHead}
 use Rattle.cbor_item.specs.Item.{Item, definite, unsigned, negative, text_string, simple}
 use Rattle.cbor_item.specs.WellFormed.{IsEncodingOf, IsItemAt, break}
 use Rattle.cbor_item.proofs.HeadLemmas.{opening_begins as head_begins}
 use Rattle.smithy_cbor.specs.Meaning.{node_of}
 use Rattle.smithy_cbor.specs.Reading.{OpensAt}
 use Rattle.smithy_cbor.specs.Standing.{begins_with, null_byte, mark_with, HasEntry, Follows as Follows_at, major_in, Entry, cbor_frames}
-use Rattle.smithy_cbor.specs.Scalar.{boolean_item}
 use Rattle.smithy_cbor.specs.Written.{text_bytes, opening_bytes}
 use Rattle.smithy_cbor.specs.Private.ItemPlaces.{item_at, item_ahead}
 use Rattle.smithy_cbor.specs.Private.FirstBytes.{no_break_at}
 use Rattle.smithy_wire.specs.Node.{Form, as_array, as_object, leaf}
-use Rattle.smithy_wire.specs.Writes.{Writes, IsKeyOf, Stand, Follows, WritesFrames, WritesLeaves}
-use Rattle.smithy_cbor.proofs.WrittenLeaves.{integer_item, text_item, leaf_of, cbor_leaves}
+use Rattle.smithy_wire.specs.Writes.{Writes, IsKeyOf, Stand, Follows, WritesFrames}
 
 -- ---- bytes
 
@@ -41,7 +29,7 @@ key_bytes None = []
 key_bytes (Some k) = item_bytes k
 
 -- they encode the item, where a head can say how long they are
-abbrev IsEncoded : Item → Type 0
+abbrev pub IsEncoded : Item → Type 0
 IsEncoded x = length (item_bytes x) < 2 ^ 64 → IsEncodingOf x (item_bytes x)
 
 abbrev pub cbor_writes : Writes Item
@@ -119,36 +107,3 @@ cbor_writes_frames = record {
   entry_follows = λ f key r. tt;
   ending_follows = λ f r. tt;
 }
-
--- ---- scalars and names
-
-narrowest_holds : (n : ℕ) → n < 2 ^ 64 → n < width_limit (narrowest n)
-narrowest_holds n h = grind (arith, nat_tests)
-
-shortest_is_head : (major n : ℕ) → n < 2 ^ 64 → IsHead major n (shortest_head major n)
-shortest_is_head major n h = record { width = narrowest n; fits = narrowest_holds n h; spelled = refl }
-
-integer_is : (n : ℤ) → fits_signed 64 n ≡ true → cbor_writes.IsScalar (integer_item n)
-integer_is (pos n) fits =
-    let high = (and_parts (int_le (neg_ℤ (pos (2 ^ 63))) (pos n)) (int_lt (pos n) (pos (2 ^ 63))) fits).1 in
-    (refl, λ _. shortest_is_head 0 n (grind (arith, ints)))
-integer_is (negsuc n) fits =
-    let low = (and_parts (int_le (neg_ℤ (pos (2 ^ 63))) (negsuc n)) (int_lt (negsuc n) (pos (2 ^ 63))) fits).0 in
-    (refl, λ _. shortest_is_head 1 n (grind (arith, ints)))
-
-boolean_is : (b : Bool) → cbor_writes.IsScalar (boolean_item b)
-boolean_is true = (refl, λ _. inl (omega arith, refl))
-boolean_is false = (refl, λ _. inl (omega arith, refl))
-
-text_is : (s : List ℕ) → IsEncoded (text_item s)
-text_is s short =
-    let sum = length-append (shortest_head 3 (length s)) s in
-    (refl, (text_bytes s, [], (shortest_head 3 (length s), shortest_is_head 3 (length s) (omega (arith, short, sum)), refl), refl, sym (append-nil (text_bytes s))))
-
-scalar_is : (s : Scalar) (time : Option TimestampFormat) (x : ScalarValue) → is_of s x ≡ true → cbor_writes.IsScalar (leaf_of s time x)
-scalar_is s time (boolean b) is = boolean_is b
-scalar_is s time (whole n) is = integer_is n (whole_fits s n is)
-scalar_is s time (text t) is = (refl, text_is t)
-
-pub cbor_writes_leaves : WritesLeaves cbor_writes cbor_leaves
-cbor_writes_leaves = record { scalar_is = scalar_is; key_is = λ key utf8. text_is key }

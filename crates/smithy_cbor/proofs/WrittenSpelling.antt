@@ -19,8 +19,8 @@ use Rattle.smithy_wire.proofs.NestedMeaning.{stands_within_depth}
 use Rattle.smithy_wire.proofs.ReadBack.{written_stands}
 use Rattle.smithy_cbor.proofs.SpellingLemmas.{spells_stands, stands_spells}
 use Rattle.smithy_cbor.proofs.WrittenBody.{same_bytes}
-use Rattle.smithy_cbor.proofs.WrittenLeaves.{cbor_leaves, cbor_reads_leaves}
-use Rattle.smithy_cbor.proofs.WrittenPlaces.{cbor_writes, cbor_writes_frames, cbor_writes_leaves}
+use Rattle.smithy_cbor.proofs.WrittenLeaves.{cbor_leaves, cbor_reads_leaves, cbor_writes_leaves}
+use Rattle.smithy_cbor.proofs.WrittenPlaces.{cbor_writes, cbor_writes_frames}
 
 -- what is spelled is a value of the place
 pub spelled_fits : (c : Settings) (t : Table) (p : Place) (bytes : List ℕ) (v : Value) → cbor_spells c t p bytes v → Fits t p v

@@ -5,9 +5,9 @@ ghost use Rattle.smithy_wire.specs.Walking.{within_of, frame_of};
 
 use crate::members::{Next, next_present};
 use crate::places::{EntryOrEnd, array_at, entry_or_end, is_null_at, map_at, may_leave, null_end};
-use crate::values::{long_at, skipped_end, string_at};
+use crate::values::{boolean_at, long_at, skipped_end, string_at};
 use smithy_schema::{Schema, SerdeError, ShapeDeserializer, Step};
-use smithy_wire::{Frame, Mark, Walk, Within};
+use smithy_wire::{Frame, Mark, Walk, Within, byte_found, integer_found, short_found};
 use std::alloc::Global;
 
 /// A strict reader of one CBOR item.
@@ -325,6 +325,30 @@ impl ShapeDeserializer for CborDeserializer<'_> {
             }
             Err(fault) => Err(self.walk.refuse(fault)),
         }
+    }
+
+    fn read_boolean(&mut self, _schema: &Schema<'_>) -> Result<bool, SerdeError> {
+        self.walk.ready()?;
+        let found = boolean_at(self.walk.input, self.walk.position, self.walk.depth());
+        self.walk.take(found)
+    }
+
+    fn read_byte(&mut self, _schema: &Schema<'_>) -> Result<i8, SerdeError> {
+        self.walk.ready()?;
+        let found = long_at(self.walk.input, self.walk.position, self.walk.depth());
+        self.walk.take(byte_found(found))
+    }
+
+    fn read_short(&mut self, _schema: &Schema<'_>) -> Result<i16, SerdeError> {
+        self.walk.ready()?;
+        let found = long_at(self.walk.input, self.walk.position, self.walk.depth());
+        self.walk.take(short_found(found))
+    }
+
+    fn read_integer(&mut self, _schema: &Schema<'_>) -> Result<i32, SerdeError> {
+        self.walk.ready()?;
+        let found = long_at(self.walk.input, self.walk.position, self.walk.depth());
+        self.walk.take(integer_found(found))
     }
 
     fn read_long(&mut self, _schema: &Schema<'_>) -> Result<i64, SerdeError> {

@@ -151,6 +151,25 @@ impl ShapeSerializer for CborSerializer {
         Ok(())
     }
 
+    fn write_boolean(&mut self, schema: &Schema<'_>, value: bool) -> Result<(), SerdeError> {
+        self.begin_value(schema)?;
+        self.encoder.boolean(value)?;
+        self.failed = false;
+        Ok(())
+    }
+
+    fn write_byte(&mut self, schema: &Schema<'_>, value: i8) -> Result<(), SerdeError> {
+        self.write_long(schema, i64::from(value))
+    }
+
+    fn write_short(&mut self, schema: &Schema<'_>, value: i16) -> Result<(), SerdeError> {
+        self.write_long(schema, i64::from(value))
+    }
+
+    fn write_integer(&mut self, schema: &Schema<'_>, value: i32) -> Result<(), SerdeError> {
+        self.write_long(schema, i64::from(value))
+    }
+
     fn write_long(&mut self, schema: &Schema<'_>, value: i64) -> Result<(), SerdeError> {
         self.begin_value(schema)?;
         self.encoder.long(value)?;

@@ -1,10 +1,11 @@
 //! What stands at a place of an input: integers, texts, and what is skipped.
 
-ghost use Rattle.std.specs.Prelude.{◌≡◌, ◌⊎◌, ◌≤◌, ℕ, ℤ, List, length, IfSome, IfNone, IfOk, IfErr, string_bytes};
+ghost use Rattle.std.specs.Prelude.{◌≡◌, ◌⊎◌, ◌≤◌, ℕ, ℤ, Bool, List, length, IfSome, IfNone, IfOk, IfErr, string_bytes};
 ghost use Rattle.std.specs.Cow.{cow_str_bytes};
 ghost use Rattle.smithy_schema.specs.declared.error.SerdeError.TheVariants.{InvalidInput, NoMemory};
+ghost use Rattle.smithy_cbor.specs.Scalar.{boolean_item};
 ghost use Rattle.smithy_cbor.specs.Standing.{Follows};
-ghost use Rattle.smithy_cbor.specs.Private.ScalarAtPlace.{IsWholeAt, HasTextAt, refusal_of};
+ghost use Rattle.smithy_cbor.specs.Private.ScalarAtPlace.{IsAt, IsWholeAt, HasTextAt, refusal_of};
 ghost use Rattle.smithy_cbor.specs.Private.Skipping.{SkipsTo};
 
 use crate::decoder::Decoder;
@@ -24,6 +25,22 @@ fn refusal_of(error: ItemError) -> SerdeError
         | ItemError::NotWellFormed
         | ItemError::WrongType
         | ItemError::InvalidUtf8 => SerdeError::InvalidInput,
+    }
+}
+
+// The boolean that stands there, with its end, where a value may end there.
+pub(crate) fn boolean_at(input: &[u8], at: usize, depth: usize) -> Option<(bool, usize)>
+    requires { at ≤ length input.now }
+    ensures found { IfSome result (λ r. IsAt (boolean_item r.0) input.now at depth r.1) }
+    ensures none { IfNone result ((b : Bool) (e : ℕ) → IsAt (boolean_item b) input.now at depth e → ⊥) }
+{
+    let mut decoder = decoder_at(input, at);
+    match decoder.boolean() {
+        Ok(value) => {
+            let end = decoder.position();
+            may_end(input, end, depth).then_some((value, end))
+        }
+        Err(_) => None,
     }
 }
 

@@ -6,7 +6,6 @@ use Rattle.std.specs.Str.{is_utf8, chars}
 use Rattle.smithy_json.specs.Escape.{escaped, quoted}
 use Rattle.smithy_json.specs.Grammar.{IsInt, IsFrac, IsNumber, IsUnescaped, AreChars, IsStringText, IsValue, IsJsonText, IsBoundary}
 use Rattle.smithy_json.specs.Number.{whole_number}
-use Rattle.smithy_texts.specs.Ranges.{fits_signed}
 use Rattle.smithy_json.specs.Tree.{null, boolean, number, string, array, object, no_elements, element, no_members, member, nesting}
 use Rattle.smithy_json.specs.Unescape.{code_unit, unescape}
 use Rattle.smithy_json.specs.declared.escape_error.EscapeError.TheVariants.{UnexpectedEndOfString, InvalidEscapeCharacter, InvalidUnicodeEscape, ExpectedSurrogatePair, InvalidSurrogatePair}
@@ -95,10 +94,6 @@ whole_numbers = refl
 pub other_numbers : map whole_number (codes "1.0" ∷ codes "1e3" ∷ codes "-" ∷ codes "+1" ∷ [] ∷ [])
     ≡ None ∷ None ∷ None ∷ None ∷ None ∷ []
 other_numbers = refl
-
--- the ends of 64 bits, and one beyond each
-pub longs : map (fits_signed 64) (neg_ℤ (pos (2 ^ 63)) ∷ pos (2 ^ 63 - 1) ∷ []) ≡ true ∷ true ∷ []
-longs = refl
 
 -- ---- texts
 

@@ -1,25 +1,19 @@
 -- What a reader finds at a place, as the contract of reading says it.
-use Rattle.std.proofs.Common.{◌≡◌, ◌≢◌, ◌≤◌, ◌+◌, ◌⊎◌, inl, inr, ℕ, ℤ, length, List, [], ◌∷◌, Bool, true, false, Some, None, Option, Result, Ok, Err, refl, sym, ap, subst, ◌∙◌, arith}
+use Rattle.std.proofs.Common.{◌≡◌, ◌≢◌, ◌≤◌, ◌+◌, ◌⊎◌, inl, inr, ℕ, length, List, [], ◌∷◌, true, false, None, Result, Ok, Err, refl, sym, ap, subst, ◌∙◌, arith}
 use Rattle.std.proofs.lemmas.Bool.Decides.{nat_tests}
-use Rattle.std.specs.Prelude.{option_and_then, if◌then◌else◌, nat_le}
+use Rattle.std.specs.Prelude.{nat_le}
 use Rattle.std.specs.Result.{IsErrOf}
 use Rattle.smithy_schema.specs.declared.error.SerdeError.{SerdeError}
 use Rattle.smithy_schema.specs.declared.error.SerdeError.TheVariants.{InvalidInput, Unwritable, Failed, NoMemory}
 use Rattle.smithy_schema.specs.declared.place.Place.{Place}
-use Rattle.smithy_schema.specs.declared.shape_type.TimestampFormat.{TimestampFormat}
-use Rattle.smithy_schema.specs.declared.shape_type.Scalar.TheVariants as scalars
-use Rattle.smithy_schema.specs.Table.{Table, kind_of, scalar_place, IsList, IsStructure}
-use Rattle.smithy_schema.specs.Value.{whole, text, Value, scalar_value}
-use Rattle.smithy_schema.specs.Reading.{Cursor, depth, Passes, Reads, Steps, Conducts, StandsNot, OpensNot, SkipsNot, CannotGoOn, IsFault, passed_to, failed_at, in_list}
+use Rattle.smithy_schema.specs.Table.{Table, kind_of, IsList, IsStructure}
+use Rattle.smithy_schema.specs.Reading.{Cursor, depth, Steps, Conducts, OpensNot, SkipsNot, CannotGoOn, IsFault, failed_at, in_list}
 use Rattle.smithy_json.specs.Ascii.{end_array}
-use Rattle.smithy_json.specs.Tree.{string, nesting}
-use Rattle.smithy_json.specs.Number.{whole_number}
-use Rattle.smithy_texts.specs.Ranges.{fits_signed}
-use Rattle.smithy_json.specs.Unescape.{unescaped}
+use Rattle.smithy_json.specs.Tree.{nesting}
 use Rattle.smithy_json_codec.specs.Cursor.{inside_of}
 use Rattle.smithy_wire.specs.Walking.{gone_on_to}
 use Rattle.smithy_json_codec.specs.Settings.{Settings, without_limits, is_shallow, kept}
-use Rattle.smithy_json_codec.specs.Standing.{json_relations, TreeLies, end_mark}
+use Rattle.smithy_json_codec.specs.Standing.{json_relations, end_mark}
 use Rattle.smithy_json_codec.specs.Private.NextInContainer.{ElementBegins, ClosesBy, GoesOnInList}
 use Rattle.smithy_json_codec.specs.Private.Skipping.{SkipsTo}
 use Rattle.smithy_json_codec.proofs.ReaderLemmas.{steps_in_list, list_is_stuck, one_tree}

@@ -1,5 +1,5 @@
 -- What an answer says, said in other words.
-use Rattle.std.proofs.Common.{◌≡◌, Bool, true, false, Option, Some, None, IfSome, IfNone, refl}
+use Rattle.std.proofs.Common.{◌≡◌, Bool, true, false, IfSome, IfNone, refl}
 use Rattle.std.specs.Bool.{then_some}
 
 -- an answer that is given where a test holds

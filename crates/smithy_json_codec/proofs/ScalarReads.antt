@@ -1,25 +1,31 @@
 -- What a reader finds at the place of a scalar stands there, and where it finds nothing, nothing does.
-use Rattle.std.proofs.Common.{◌≡◌, ◌≤◌, ◌⊎◌, ℕ, ℤ, List, length, true, false, Option, Some, None, refl, sym, ◌∙◌, ap}
-use Rattle.std.specs.Prelude.{option_map, Result, Ok, Err, OnErr, IfOk, IfErr, IsOk, IsErr, IfSome, IfNone, IsSome, IsNone}
+use Rattle.std.proofs.Common.{◌≡◌, ◌≤◌, ◌⊎◌, ◌-◌, ◌^◌, ℕ, ℤ, List, length, Bool, true, false, Option, Some, refl, sym, ◌∙◌, ap}
+use Rattle.std.specs.Prelude.{option_map, Result, Err, OnErr, IfOk, IfErr, IsOk, IsErr, IfSome, IfNone, IsSome, IsNone}
+use Rattle.smithy_texts.specs.Ranges.{fits_signed}
 use Rattle.smithy_schema.specs.declared.shape_type.Scalar.{Scalar}
 use Rattle.smithy_schema.specs.declared.shape_type.Scalar.TheVariants as scalars
 use Rattle.smithy_schema.specs.declared.error.SerdeError.{SerdeError}
 use Rattle.smithy_schema.specs.declared.error.SerdeError.TheVariants.{InvalidInput, NoMemory}
 use Rattle.smithy_schema.specs.Table.{scalar_place}
 use Rattle.smithy_schema.specs.Site.{Site}
-use Rattle.smithy_schema.specs.Value.{ScalarValue, whole, text, Value, scalar_value, null_element}
+use Rattle.smithy_schema.specs.Value.{ScalarValue, boolean, whole, text, Value, scalar_value, null_element}
 use Rattle.smithy_schema.specs.Reading.{Cursor, depth, StandsNot, IsInvalid, ReadsScalar, passed_to, failed_at}
-use Rattle.smithy_schema.specs.Lemmas.Options.{made}
+use Rattle.smithy_schema.specs.Lemmas.Options.{same_some, made}
+use Rattle.smithy_schema.proofs.ScalarLemmas.{fits_more}
+use Rattle.smithy_json.specs.Tree.{boolean as boolean_tree, number}
+use Rattle.smithy_json.specs.Number.{whole_number}
 use Rattle.smithy_json_codec.specs.Settings.{Settings, without_limits}
-use Rattle.smithy_json_codec.specs.Scalar.{JsonScalar, a_boolean, a_number, a_string, tree_of, whole_of, text_of, says}
+use Rattle.smithy_json_codec.specs.Scalar.{JsonScalar, a_boolean, a_number, a_string, tree_of, boolean_of, whole_of, text_of, says}
 use Rattle.smithy_json_codec.specs.Laws.{lawful}
 use Rattle.smithy_json_codec.specs.Meaning.{rules_of}
 use Rattle.smithy_json_codec.specs.Standing.{TreeLies, json_frames, json_relations}
 use Rattle.smithy_json_codec.specs.Private.Fits.{whole_is}
 use Rattle.smithy_json_codec.specs.Private.ScalarAtPlace.{WholeLies, TextLies}
 use Rattle.smithy_wire.specs.Rules.{answer_of, settled}
+use Rattle.smithy_json_codec.specs.Private.ValuePlaces.{one_tree}
+use Rattle.smithy_wire.specs.Narrowing.{IsNarrowed, IsWider}
 use Rattle.smithy_wire.specs.Readers.{settled_answer, scalar_stands, stands_scalar}
-use Rattle.smithy_wire.proofs.ScalarReads.{takes, takes_result, if_some, if_none, if_ok}
+use Rattle.smithy_wire.proofs.ScalarReads.{takes, takes_result, narrow_found, narrow_none, if_some, if_none, if_ok}
 
 module _ (o : Settings) (c : Cursor) (site : Site) (s : Scalar) where
   abbrev pub Stands : ScalarValue → ℕ → Type 0
@@ -37,22 +43,49 @@ module _ (o : Settings) (c : Cursor) (site : Site) (s : Scalar) where
       let x = stands_scalar json_frames (rules_of o) c.input site.table (scalar_place s site.place.time) s refl (depth c) c.at v e stands in
       none x.0 v e x.1 x.2
 
+-- ---- booleans
+
+module _ (o : Settings) (c : Cursor) (site : Site) where
+  settled_boolean : (x : JsonScalar) → settled o.limits null_element (says scalars.Boolean site.place.time x) ≡ boolean_of x
+  settled_boolean x = settled_answer o.limits null_element (boolean_of x)
+
+  pub boolean_stands : (b : Bool) (e : ℕ) → TreeLies 1 (boolean_tree b) c.input c.at e → Stands o c site scalars.Boolean (boolean b) e
+  boolean_stands b e lies = says_stands o c site scalars.Boolean (a_boolean b) (scalar_value (boolean b)) e lies (settled_boolean (a_boolean b))
+
+  pub no_boolean_stands : ((b : Bool) (e : ℕ) → TreeLies 1 (boolean_tree b) c.input c.at e → ⊥) → StandsNot (json_relations o) c site.table (scalar_place scalars.Boolean site.place.time)
+  no_boolean_stands none = nothing_stands o c site scalars.Boolean (λ x v e lies means. by x v e lies (sym (settled_boolean x) ∙ means))
+    where
+      by : (x : JsonScalar) (v : Value) (e : ℕ) → TreeLies 1 (tree_of x) c.input c.at e → boolean_of x ≡ Some v → ⊥
+      by (a_boolean b) v e lies means = none b e lies
+      by (a_number raw) v e lies means = cc
+      by (a_string raw) v e lies means = cc
+
 -- ---- a kind of whole numbers of so many bits
 
 module _ (o : Settings) (c : Cursor) (site : Site) (s : Scalar) (bits : ℕ) (says_whole : (x : JsonScalar) → says s site.place.time x ≡ answer_of (whole_of bits x)) where
   settled_whole : (x : JsonScalar) → settled o.limits null_element (says s site.place.time x) ≡ whole_of bits x
   settled_whole x = ap (settled o.limits null_element) (says_whole x) ∙ settled_answer o.limits null_element (whole_of bits x)
 
+  is_whole : (raw : List ℕ) (n : ℤ) → whole_number raw ≡ Some n → fits_signed bits n ≡ true → whole_of bits (a_number raw) ≡ Some (scalar_value (whole n))
+  is_whole raw n is fits = rw (is, fits) refl
+
   pub whole_stands : (n : ℤ) (e : ℕ) → WholeLies bits c.input c.at n e → Stands o c site s (whole n) e
-  whole_stands n e h = says_stands o c site s (a_number h.raw) (scalar_value (whole n)) e h.lies (settled_whole (a_number h.raw) ∙ h.means)
+  whole_stands n e h = says_stands o c site s (a_number h.raw) (scalar_value (whole n)) e h.lies (settled_whole (a_number h.raw) ∙ is_whole h.raw n h.is h.fits)
 
   pub no_whole_stands : ((n : ℤ) (e : ℕ) → WholeLies bits c.input c.at n e → ⊥) → StandsNot (json_relations o) c site.table (scalar_place s site.place.time)
   no_whole_stands none = nothing_stands o c site s (λ x v e lies means. by x v e lies (sym (settled_whole x) ∙ means))
     where
       by : (x : JsonScalar) (v : Value) (e : ℕ) → TreeLies 1 (tree_of x) c.input c.at e → whole_of bits x ≡ Some v → ⊥
       by (a_boolean b) v e lies means = cc
-      by (a_number raw) v e lies means = let n = whole_is bits raw v means in none n.0 e (record { raw = raw; lies = lies; means = means ∙ ap Some n.1 })
+      by (a_number raw) v e lies means = let n = whole_is bits raw v means in none n.0 e (record { raw = raw; lies = lies; is = n.2; fits = n.3 })
       by (a_string raw) v e lies means = cc
+
+-- at one place lies one number
+same_number : (input : List ℕ) (at : ℕ) (n m : ℤ) (e f : ℕ) → WholeLies 64 input at n e → WholeLies 64 input at m f → n ≡ m
+same_number input at n m e f h k =
+    let same = (one_tree 1 1 (number h.raw) (number k.raw) input at e f h.lies k.lies).0 in
+    let raws : h.raw ≡ k.raw = cc in
+    same_some n m (sym h.is ∙ ap whole_number raws ∙ k.is)
 
 -- ---- texts
 
@@ -75,6 +108,17 @@ module _ (o : Settings) (c : Cursor) (site : Site) where
 -- ---- the answer of a read
 
 module _ (o : Settings) (old : Cursor) (site : Site) (sound : old.failed ≡ false) (due : old.due ≡ true) (within : old.at ≤ length old.input) where
+  -- of a boolean
+  pub reads_boolean : (new : Cursor) (found : Option (Bool × ℕ)) (result : Result Bool SerdeError)
+      → IfSome found (λ r. TreeLies 1 (boolean_tree r.0) old.input old.at r.1) → IfNone found ((b : Bool) (e : ℕ) → TreeLies 1 (boolean_tree b) old.input old.at e → ⊥)
+      → IfOk result (λ x. IfSome found (λ r. (r.0 ≡ x) × (new ≡ passed_to old r.1))) → (IsOk result → IsSome found) → (IsErr result → IsNone found)
+      → OnErr result (new ≡ failed_at old) → IfErr result (λ e. e ≡ InvalidInput)
+      → ReadsScalar (json_relations o) (json_relations (without_limits o)) (Unit {0}) old new site scalars.Boolean boolean result
+  reads_boolean new found result here none =
+      takes (json_relations o) (json_relations (without_limits o)) (Unit {0}) site scalars.Boolean boolean (lawful o) old sound due within new found result
+      (if_some found _ _ (λ r. boolean_stands o old site r.0 r.1) here)
+      (if_none found _ _ (λ nothing. (no_boolean_stands o old site nothing, no_boolean_stands (without_limits o) old site nothing)) none)
+
   -- of a kind of whole numbers of so many bits
   pub reads_whole : (s : Scalar) (bits : ℕ) → ((x : JsonScalar) → says s site.place.time x ≡ answer_of (whole_of bits x))
       → (new : Cursor) (found : Option (ℤ × ℕ)) (result : Result ℤ SerdeError)
@@ -86,6 +130,21 @@ module _ (o : Settings) (old : Cursor) (site : Site) (sound : old.failed ≡ fal
       takes (json_relations o) (json_relations (without_limits o)) (Unit {0}) site s whole (lawful o) old sound due within new found result
       (if_some found _ _ (λ r. whole_stands o old site s bits says_whole r.0 r.1) here)
       (if_none found _ _ (λ nothing. (no_whole_stands o old site s bits says_whole nothing, no_whole_stands (without_limits o) old site s bits says_whole nothing)) none)
+
+  -- the same in fewer bits
+  pub reads_narrow : (s : Scalar) (bits : ℕ) → 2 ^ (bits - 1) ≤ 2 ^ 63 → ((x : JsonScalar) → says s site.place.time x ≡ answer_of (whole_of bits x))
+      → (new : Cursor) (wide found : Option (ℤ × ℕ)) (result : Result ℤ SerdeError)
+      → IfSome wide (λ r. WholeLies 64 old.input old.at r.0 r.1) → IfNone wide ((n : ℤ) (e : ℕ) → WholeLies 64 old.input old.at n e → ⊥)
+      → IfSome found (IsNarrowed bits wide) → IfNone found (IsWider bits wide)
+      → IfOk result (λ x. IfSome found (λ r. (r.0 ≡ x) × (new ≡ passed_to old r.1))) → (IsOk result → IsSome found) → (IsErr result → IsNone found)
+      → OnErr result (new ≡ failed_at old) → IfErr result (λ e. e ≡ InvalidInput)
+      → ReadsScalar (json_relations o) (json_relations (without_limits o)) (Unit {0}) old new site s whole result
+  reads_narrow s bits fewer says_whole new wide found result here none narrow wider =
+      let At : ℕ → ℤ → ℕ → Type 0 = λ bits n e. WholeLies bits old.input old.at n e in
+      reads_whole s bits says_whole new found result
+      (narrow_found At bits wide found (λ n e h fits. record { raw = h.raw; lies = h.lies; is = h.is; fits = fits }) here narrow)
+      (narrow_none At bits wide found (λ n e h. (record { raw = h.raw; lies = h.lies; is = h.is; fits = fits_more bits 64 n fewer h.fits }, h.fits))
+      (same_number old.input old.at) here none wider)
 
   -- of a text
   pub reads_text : {A : Type 0} (text_of : A → List ℕ) (new : Cursor) (found : Result (A × ℕ) SerdeError) (result : Result A SerdeError)

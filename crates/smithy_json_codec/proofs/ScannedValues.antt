@@ -1,10 +1,8 @@
 -- From places that scanners find to values that lie behind white space.
-use Rattle.std.proofs.Common.{Bool, true, ℤ, Option, Some, None, option_and_then, if◌then◌else◌, ◌≡◌, ◌+◌, ◌-◌, ◌<◌, ◌≤◌, ℕ, suc, List, [], ◌∷◌, ◌++◌, length, drop, slice_index, slice_range, false, get_or, sym, ap, ◌∙◌, arith, refl, subst, append_assoc}
+use Rattle.std.proofs.Common.{Bool, ℤ, ◌≡◌, ◌+◌, ◌-◌, ◌<◌, ◌≤◌, ℕ, suc, List, [], ◌∷◌, ◌++◌, length, drop, slice_index, slice_range, get_or, sym, ap, ◌∙◌, arith, refl, subst, append_assoc}
 use Rattle.std.proofs.lemmas.List.{length-drop, length-append, drop_more, drop-drop, get_or-drop}
-use Rattle.smithy_schema.specs.Value.{whole, scalar_value}
 use Rattle.smithy_json.specs.Ascii.{quotation_mark, name_separator, is_ws}
 use Rattle.smithy_json.specs.Number.{whole_number}
-use Rattle.smithy_texts.specs.Ranges.{fits_signed}
 use Rattle.smithy_json.specs.Tree.{Json, null, boolean, string, number}
 use Rattle.smithy_json.specs.Grammar.{IsStringText, IsString, IsValue, IsNumber, IsBoundary}
 use Rattle.smithy_json.specs.Standing.{IsRunAt, StandsAt, IsStringAt, IsLongAt}
@@ -142,15 +140,6 @@ module _ (i : List ℕ) (at start : ℕ) (run : IsRunAt is_ws i at start) (raw :
 
 -- ---- whole numbers
 
-two_parts : (answer : Option ℤ) (n : ℤ) → option_and_then (λ (z : ℤ). if fits_signed 64 z then Some (scalar_value (whole z)) else None) answer ≡ Some (scalar_value (whole n))
-    → (answer ≡ Some n) × (fits_signed 64 n ≡ true)
-two_parts None n h = cc
-two_parts (Some z) n h = fits_if (fits_signed 64 z) refl h
-  where
-    fits_if : (fits : Bool) → fits_signed 64 z ≡ fits → (if fits then Some (scalar_value (whole z)) else None) ≡ Some (scalar_value (whole n)) → (Some z ≡ Some n) × (fits_signed 64 n ≡ true)
-    fits_if true is e = let same : z ≡ n = cc in (ap Some same, sym (ap (fits_signed 64) same) ∙ is)
-    fits_if false is e = cc
-
 module _ (i : List ℕ) (at start : ℕ) (run : IsRunAt is_ws i at start) where
   pub long_lies : (n : ℤ) (e : ℕ) → IsLongAt i start e n → WholeLies 64 i at n e
   long_lies n e h =
@@ -158,14 +147,14 @@ module _ (i : List ℕ) (at start : ℕ) (run : IsRunAt is_ws i at start) where
       record {
         raw = raw;
         lies = (stands_lies i at start run (IsValue (number raw)) e h.number.ordered h.number.within (refl, h.number.text), h.number.boundary);
-        means = rw (h.value, h.fits) refl;
+        is = h.value;
+        fits = h.fits;
       }
 
   pub long_stands : (n : ℤ) (e : ℕ) → WholeLies 64 i at n e → IsLongAt i start e n
   long_stands n e h =
       let plain = plain_value (number h.raw) in
       let text = lies_stands i at start run (IsValue (number h.raw)) e plain h.lies.0 in
-      let parts = two_parts (whole_number h.raw) n h.means in
       record {
         number = record {
           ordered = lies_ordered i at start run (IsValue (number h.raw)) e plain h.lies.0;
@@ -173,8 +162,8 @@ module _ (i : List ℕ) (at start : ℕ) (run : IsRunAt is_ws i at start) where
           text = subst IsNumber (sym text.0) text.1;
           boundary = h.lies.1;
         };
-        value = ap whole_number text.0 ∙ parts.0;
-        fits = parts.1;
+        value = ap whole_number text.0 ∙ h.is;
+        fits = h.fits;
       }
 
 -- ---- numbers and booleans

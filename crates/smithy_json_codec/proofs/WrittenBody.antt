@@ -1,20 +1,18 @@
 -- The canonical text of a value is the body that is written for it.
-use Rattle.std.proofs.Common.{◌≡◌, ℕ, List, [], ◌++◌, Bool, true, false, Option, refl}
+use Rattle.std.proofs.Common.{◌≡◌, ℕ, List, [], ◌++◌, Bool, true, false, refl}
 use Rattle.smithy_schema.specs.declared.place.Place.{Place}
-use Rattle.smithy_schema.specs.declared.shape_type.Scalar.{Scalar}
-use Rattle.smithy_schema.specs.declared.shape_type.TimestampFormat.{TimestampFormat}
 use Rattle.smithy_schema.specs.Table.{Table}
 use Rattle.smithy_schema.specs.Site.{Site, View, member_of}
-use Rattle.smithy_schema.specs.Value.{ScalarValue, boolean, whole, text, Value, Values, no_values, value, MemberValues, no_member_values, member_value}
+use Rattle.smithy_schema.specs.Value.{Value, Values, no_values, value, MemberValues, no_member_values, member_value}
 use Rattle.smithy_schema.specs.Fits.{Fits}
 use Rattle.smithy_schema.proofs.SiteLemmas.{site_at}
-use Rattle.smithy_json_codec.specs.Canonical.{scalar_text, key_text, canonical_json, first_element, more_elements, first_member, more_members}
+use Rattle.smithy_json_codec.specs.Canonical.{key_text, canonical_json, first_element, more_elements, first_member, more_members}
 use Rattle.smithy_json_codec.specs.Codec.{strict_settings}
 use Rattle.smithy_json_codec.specs.Settings.{name_of}
 use Rattle.smithy_wire.specs.Writes.{body_of}
 use Rattle.smithy_wire.proofs.CanonicalBody.{Canonical, IsWritten, same_body}
-use Rattle.smithy_json_codec.proofs.WrittenLeaves.{leaf_of, json_leaves}
-use Rattle.smithy_json_codec.proofs.WrittenPlaces.{leaf_bytes, separator, json_writes}
+use Rattle.smithy_json_codec.proofs.WrittenLeaves.{json_leaves, scalar_bytes}
+use Rattle.smithy_json_codec.proofs.WrittenPlaces.{separator, json_writes}
 
 module _ (b : Bool) where
   abbrev elements : Bool → Site → Values → List ℕ
@@ -32,12 +30,6 @@ module _ (b : Bool) where
     members = members;
     key = λ is_first view. separator is_first ++ key_text b view;
   }
-
-  scalar_is : (s : Scalar) (time : Option TimestampFormat) (x : ScalarValue) → scalar_text x ≡ leaf_bytes (leaf_of s time x)
-  scalar_is s time (boolean true) = refl
-  scalar_is s time (boolean false) = refl
-  scalar_is s time (whole n) = refl
-  scalar_is s time (text t) = refl
 
   no_element_is : (is_first : Bool) (site : Site) → elements is_first site no_values ≡ []
   no_element_is true site = refl
@@ -60,7 +52,7 @@ module _ (b : Bool) where
 
   is_written : IsWritten json_writes json_leaves (name_of (strict_settings b)) canonical
   is_written = record {
-    scalar_is = λ s site x. scalar_is s site.place.time x;
+    scalar_is = λ s site x. scalar_bytes s site.place.time x;
     null_is = λ site. refl;
     list_is = λ site vs. refl;
     no_element_is = no_element_is;

@@ -1,19 +1,24 @@
--- What JSON writes for scalars and names, and that it means them.
-use Rattle.std.specs.Prelude.{◌≡◌, true, Option, refl}
+-- What JSON writes for scalars and names: it means them, can be written, and is their canonical text.
+use Rattle.std.specs.Prelude.{◌≡◌, true, false, Option, refl}
 use Rattle.std.specs.Fmt.{signed_decimal}
 use Rattle.smithy_schema.specs.declared.shape_type.Scalar.{Scalar}
 use Rattle.smithy_schema.specs.declared.shape_type.Scalar.TheVariants as scalars
 use Rattle.smithy_schema.specs.declared.shape_type.TimestampFormat.{TimestampFormat}
 use Rattle.smithy_schema.specs.Value.{ScalarValue, boolean, whole, text, scalar_value}
 use Rattle.smithy_schema.specs.Fits.{is_of}
+use Rattle.smithy_schema.proofs.ScalarLemmas.{whole_fits, text_is_utf8}
 use Rattle.smithy_json.specs.Escape.{escaped}
-use Rattle.smithy_json.proofs.DecimalLemmas.{decimal_writes}
-use Rattle.smithy_json.proofs.QuotedLemmas.{unescaped_of_escaped}
+use Rattle.smithy_json.proofs.DecimalLemmas.{decimal_is_number, decimal_writes}
+use Rattle.smithy_json.proofs.QuotedLemmas.{quoted_is_string, unescaped_of_escaped}
 use Rattle.smithy_json_codec.specs.Meaning.{rules_of}
-use Rattle.smithy_json_codec.specs.Scalar.{JsonScalar, a_boolean, a_number, a_string, says}
+use Rattle.smithy_json_codec.specs.Scalar.{JsonScalar, a_boolean, a_number, a_string, tree_of, says}
 use Rattle.smithy_json_codec.specs.Settings.{Settings}
 use Rattle.smithy_wire.specs.Rules.{means}
+use Rattle.smithy_json_codec.specs.Canonical.{scalar_text}
+use Rattle.smithy_json_codec.proofs.WrittenPlaces.{leaf_bytes, json_writes}
+use Rattle.smithy_json.specs.Grammar.{IsValue}
 use Rattle.smithy_wire.specs.Written.{Leaves, ReadsLeaves}
+use Rattle.smithy_wire.specs.Writes.{WritesLeaves}
 
 abbrev pub leaf_of : Scalar → Option TimestampFormat → ScalarValue → JsonScalar
 leaf_of s time (boolean b) = a_boolean b
@@ -27,6 +32,10 @@ json_leaves = record {
 }
 
 scalar_means : (s : Scalar) (time : Option TimestampFormat) (x : ScalarValue) → is_of s x ≡ true → says s time (leaf_of s time x) ≡ means (scalar_value x)
+scalar_means scalars.Boolean time (boolean b) is = refl
+scalar_means scalars.Byte time (whole n) is = rw (decimal_writes n (whole_fits scalars.Byte n is), is) refl
+scalar_means scalars.Short time (whole n) is = rw (decimal_writes n (whole_fits scalars.Short n is), is) refl
+scalar_means scalars.Integer time (whole n) is = rw (decimal_writes n (whole_fits scalars.Integer n is), is) refl
 scalar_means scalars.Long time (whole n) is = rw (decimal_writes n is, is) refl
 scalar_means scalars.String time (text t) is = rw (unescaped_of_escaped t) refl
 scalar_means _ time _ is = cc
@@ -36,3 +45,23 @@ json_reads_leaves c = record {
   scalar_means = scalar_means;
   key_means = λ key utf8. unescaped_of_escaped key;
 }
+
+-- a scalar and a name can be written
+scalar_is : (s : Scalar) (time : Option TimestampFormat) (x : ScalarValue) → is_of s x ≡ true → IsValue (tree_of (leaf_of s time x)) (leaf_bytes (leaf_of s time x))
+scalar_is s time (boolean true) is = refl
+scalar_is s time (boolean false) is = refl
+scalar_is s time (whole n) is = (refl, decimal_is_number n (whole_fits s n is))
+scalar_is s time (text t) is = quoted_is_string t (text_is_utf8 s t is)
+
+pub json_writes_leaves : WritesLeaves json_writes json_leaves
+json_writes_leaves = record {
+  scalar_is = scalar_is;
+  key_is = λ key utf8. (escaped key, refl, (quoted_is_string key utf8).1);
+}
+
+-- the canonical text of a scalar is what is written for it
+pub scalar_bytes : (s : Scalar) (time : Option TimestampFormat) (x : ScalarValue) → scalar_text x ≡ leaf_bytes (leaf_of s time x)
+scalar_bytes s time (boolean true) = refl
+scalar_bytes s time (boolean false) = refl
+scalar_bytes s time (whole n) = refl
+scalar_bytes s time (text t) = refl

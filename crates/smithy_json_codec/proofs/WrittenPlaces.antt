@@ -2,27 +2,18 @@
 use Rattle.std.specs.Prelude.{◌≡◌, ℕ, zero, suc, drop, List, [], ◌∷◌, ◌++◌, Bool, true, false, Option, Some, None, refl, codes}
 use Rattle.std.proofs.Common.{sym, ap, ◌∙◌, arith, subst, inl, inr, append_assoc}
 use Rattle.std.proofs.lemmas.List.{append-nil}
-use Rattle.smithy_schema.specs.declared.shape_type.Scalar.{Scalar}
-use Rattle.smithy_schema.specs.declared.shape_type.TimestampFormat.{TimestampFormat}
 use Rattle.smithy_schema.specs.Reading.{Mark}
-use Rattle.smithy_schema.specs.Value.{ScalarValue, boolean, whole, text}
-use Rattle.smithy_schema.specs.Fits.{is_of}
-use Rattle.smithy_schema.proofs.ScalarLemmas.{whole_fits, text_is_utf8}
 use Rattle.smithy_json.specs.Ascii.{quotation_mark, value_separator, name_separator, begin_array, end_array, begin_object}
 use Rattle.smithy_json.specs.Tree.{null}
 use Rattle.smithy_json.specs.Grammar.{IsBoundary, IsStringText, IsValue}
-use Rattle.smithy_json.specs.Escape.{escaped}
-use Rattle.smithy_json.proofs.DecimalLemmas.{decimal_is_number}
-use Rattle.smithy_json.proofs.QuotedLemmas.{quoted_is_string}
 use Rattle.smithy_json_codec.specs.Scalar.{JsonScalar, a_boolean, a_number, a_string, tree_of}
 use Rattle.smithy_json_codec.specs.Standing.{Lies, TreeLies, IsByte, IsSeparated, IsName, FollowsInside, fresh_mark, entry_mark, without_ws, opening, closing, Entry, json_frames}
 use Rattle.smithy_json_codec.specs.Private.Lexical.{first, begins_value, Begins, value_begins, begins_plain, begins_first}
 use Rattle.smithy_json_codec.specs.Private.TextParts.{follows_inside}
 use Rattle.smithy_json_codec.specs.Private.BytePlaces.{past_byte}
 use Rattle.smithy_wire.specs.Node.{Form, as_array, as_object}
-use Rattle.smithy_wire.specs.Writes.{Writes, IsKeyOf, Stand, Follows, WritesFrames, WritesLeaves}
+use Rattle.smithy_wire.specs.Writes.{Writes, IsKeyOf, Stand, Follows, WritesFrames}
 use Rattle.smithy_wire.proofs.WrittenPlaces.{parts}
-use Rattle.smithy_json_codec.proofs.WrittenLeaves.{leaf_of, json_leaves}
 
 -- ---- bytes
 
@@ -139,18 +130,4 @@ json_writes_frames = record {
   opening_begins = λ f i a b stand. front_begins (opening f ∷ []) i a b (opening_begins f) stand;
   entry_follows = λ f key r. inr (inl refl);
   ending_follows = ending_follows;
-}
-
--- ---- scalars and names
-
-scalar_is : (s : Scalar) (time : Option TimestampFormat) (x : ScalarValue) → is_of s x ≡ true → IsValue (tree_of (leaf_of s time x)) (leaf_bytes (leaf_of s time x))
-scalar_is s time (boolean true) is = refl
-scalar_is s time (boolean false) is = refl
-scalar_is s time (whole n) is = (refl, decimal_is_number n (whole_fits s n is))
-scalar_is s time (text t) is = quoted_is_string t (text_is_utf8 s t is)
-
-pub json_writes_leaves : WritesLeaves json_writes json_leaves
-json_writes_leaves = record {
-  scalar_is = scalar_is;
-  key_is = λ key utf8. (escaped key, refl, (quoted_is_string key utf8).1);
 }

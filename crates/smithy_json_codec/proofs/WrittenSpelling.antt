@@ -20,8 +20,8 @@ use Rattle.smithy_wire.proofs.NestedMeaning.{stands_within_depth}
 use Rattle.smithy_wire.proofs.ReadBack.{written_stands}
 use Rattle.smithy_json_codec.proofs.SpellingLemmas.{spells_stands, stands_whole}
 use Rattle.smithy_json_codec.proofs.WrittenBody.{same_text}
-use Rattle.smithy_json_codec.proofs.WrittenLeaves.{json_leaves, json_reads_leaves}
-use Rattle.smithy_json_codec.proofs.WrittenPlaces.{json_writes, json_writes_frames, json_writes_leaves}
+use Rattle.smithy_json_codec.proofs.WrittenLeaves.{json_leaves, json_reads_leaves, json_writes_leaves}
+use Rattle.smithy_json_codec.proofs.WrittenPlaces.{json_writes, json_writes_frames}
 
 -- what is spelled is a value of the place
 pub spelled_fits : (c : Settings) (t : Table) (p : Place) (bytes : List ℕ) (v : Value) → json_spells c t p bytes v → Fits t p v

@@ -3,7 +3,7 @@ use Rattle.std.specs.Prelude.{ℕ, List, ℤ, Bool, Option, Some, None, option_m
 use Rattle.smithy_schema.specs.declared.shape_type.Scalar.{Scalar}
 use Rattle.smithy_schema.specs.declared.shape_type.Scalar.TheVariants as scalars
 use Rattle.smithy_schema.specs.declared.shape_type.TimestampFormat.{TimestampFormat}
-use Rattle.smithy_schema.specs.Value.{whole, text, Value, scalar_value}
+use Rattle.smithy_schema.specs.Value.{boolean as boolean_value, whole, text, Value, scalar_value}
 use Rattle.smithy_json.specs.Tree.{Json, boolean, number, string}
 use Rattle.smithy_json.specs.Number.{whole_number}
 use Rattle.smithy_texts.specs.Ranges.{fits_signed}
@@ -21,6 +21,11 @@ tree_of (a_boolean b) = boolean b
 tree_of (a_number raw) = number raw
 tree_of (a_string raw) = string raw
 
+-- false or true
+abbrev pub boolean_of : JsonScalar → Option Value
+boolean_of (a_boolean b) = Some (scalar_value (boolean_value b))
+boolean_of _ = None
+
 -- a number without fraction and exponent that fits so many bits
 abbrev pub whole_of : ℕ → JsonScalar → Option Value
 whole_of bits (a_number raw) =
@@ -34,5 +39,9 @@ text_of _ = None
 
 -- what a scalar is as one kind
 abbrev pub says : Scalar → Option TimestampFormat → JsonScalar → Answer Value
+says scalars.Boolean time x = answer_of (boolean_of x)
+says scalars.Byte time x = answer_of (whole_of 8 x)
+says scalars.Short time x = answer_of (whole_of 16 x)
+says scalars.Integer time x = answer_of (whole_of 32 x)
 says scalars.Long time x = answer_of (whole_of 64 x)
 says scalars.String time x = answer_of (option_map (λ s. scalar_value (text s)) (text_of x))

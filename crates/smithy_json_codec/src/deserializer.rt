@@ -3,9 +3,9 @@ use crate::members::{Next, next_present};
 use crate::places::{InList, byte_end, next_in_list, null_end};
 use crate::skip::skipped_end;
 use crate::texts::text_at;
-use crate::values::{begins_null, long_at};
+use crate::values::{begins_null, boolean_at, long_at};
 use smithy_schema::{Schema, SerdeError, ShapeDeserializer, Step, TimestampFormat};
-use smithy_wire::{Frame, Mark, Walk, Within};
+use smithy_wire::{Frame, Mark, Walk, Within, byte_found, integer_found, short_found};
 use std::alloc::Global;
 
 /// A strict reader of one JSON text.
@@ -334,6 +334,30 @@ impl ShapeDeserializer for JsonDeserializer<'_> {
             }
             Err(error) => Err(self.walk.refuse(error)),
         }
+    }
+
+    fn read_boolean(&mut self, _schema: &Schema<'_>) -> Result<bool, SerdeError> {
+        self.walk.ready()?;
+        let found = boolean_at(self.walk.input, self.walk.position);
+        self.walk.take(found)
+    }
+
+    fn read_byte(&mut self, _schema: &Schema<'_>) -> Result<i8, SerdeError> {
+        self.walk.ready()?;
+        let found = byte_found(long_at(self.walk.input, self.walk.position));
+        self.walk.take(found)
+    }
+
+    fn read_short(&mut self, _schema: &Schema<'_>) -> Result<i16, SerdeError> {
+        self.walk.ready()?;
+        let found = short_found(long_at(self.walk.input, self.walk.position));
+        self.walk.take(found)
+    }
+
+    fn read_integer(&mut self, _schema: &Schema<'_>) -> Result<i32, SerdeError> {
+        self.walk.ready()?;
+        let found = integer_found(long_at(self.walk.input, self.walk.position));
+        self.walk.take(found)
     }
 
     fn read_long(&mut self, _schema: &Schema<'_>) -> Result<i64, SerdeError> {

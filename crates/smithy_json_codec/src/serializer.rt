@@ -222,6 +222,23 @@ impl ShapeSerializer for JsonSerializer<'_> {
         self.write_text(schema, b"null")
     }
 
+    fn write_boolean(&mut self, schema: &Schema<'_>, value: bool) -> Result<(), SerdeError> {
+        let text = if value { "true" } else { "false" };
+        self.write_text(schema, text.as_bytes())
+    }
+
+    fn write_byte(&mut self, schema: &Schema<'_>, value: i8) -> Result<(), SerdeError> {
+        self.write_long(schema, i64::from(value))
+    }
+
+    fn write_short(&mut self, schema: &Schema<'_>, value: i16) -> Result<(), SerdeError> {
+        self.write_long(schema, i64::from(value))
+    }
+
+    fn write_integer(&mut self, schema: &Schema<'_>, value: i32) -> Result<(), SerdeError> {
+        self.write_long(schema, i64::from(value))
+    }
+
     fn write_long(&mut self, schema: &Schema<'_>, value: i64) -> Result<(), SerdeError> {
         let mut buffer = Buffer::new();
         self.write_text(schema, buffer.format(value).as_bytes())

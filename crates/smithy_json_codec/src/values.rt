@@ -59,13 +59,22 @@ pub(crate) fn begins_null(input: &[u8], at: usize) -> bool
     begins_with_null(&input[skip_blanks(input, at)..])
 }
 
+// The boolean that comes first behind blanks, with its end, where a value may end behind it.
+pub(crate) fn boolean_at(input: &[u8], at: usize) -> Option<(bool, usize)>
+    requires { at ≤ length input.now }
+    ensures found { IfSome result (λ r. TreeLies 1 (boolean r.0) input.now at r.1) }
+    ensures none { IfNone result ((b : Bool) (e : ℕ) → TreeLies 1 (boolean b) input.now at e → ⊥) }
+{
+    read_boolean(input, skip_blanks(input, at))
+}
+
 // The end of `true` or `false`, which comes first behind blanks, where a value may end behind it.
 pub(crate) fn boolean_end(input: &[u8], at: usize) -> Option<usize>
     requires { at ≤ length input.now }
     ensures found { IfSome result (λ e. (b : Bool) × TreeLies 1 (boolean b) input.now at e) }
     ensures none { IfNone result ((b : Bool) (e : ℕ) → TreeLies 1 (boolean b) input.now at e → ⊥) }
 {
-    let (_, end) = read_boolean(input, skip_blanks(input, at))?;
+    let (_, end) = boolean_at(input, at)?;
     Some(end)
 }
 

@@ -1,5 +1,5 @@
 -- Declarations that pass every test are an accepted table.
-use Rattle.std.proofs.Common.{◌≡◌, ◌≢◌, ℕ, ◌+◌, ◌-◌, ◌<◌, ◌≤◌, List, [], ◌∷◌, map, length, take, get_or, Bool, true, false, not, cond, ltb, ◌&&◌, ◌||◌, Option, Some, None, refl, sym, ap, ◌∙◌, arith, subst, suc, zero, eqb, inl, inr, codes}
+use Rattle.std.proofs.Common.{◌≡◌, ◌≢◌, ℕ, ◌+◌, ◌-◌, ◌<◌, ◌≤◌, List, [], ◌∷◌, map, length, take, get_or, Bool, true, false, not, cond, ltb, ◌&&◌, ◌||◌, Option, Some, None, refl, sym, ap, ◌∙◌, arith, subst, suc, zero, eqb, inl, inr}
 use Rattle.std.specs.Str.{bytes_eq}
 use Rattle.std.specs.Option.{option_map, option_map_or, option_or, is_some, unwrap_or}
 use Rattle.std.specs.List.{list_any, list_all, position, find, enumerate_from, slice_get}
@@ -13,8 +13,8 @@ use Rattle.smithy_schema.specs.declared.place.Target.{Target}
 use Rattle.smithy_schema.specs.declared.place.Target.TheVariants.{Simple, Declared}
 use Rattle.smithy_schema.specs.declared.shape_type.Scalar.{Scalar}
 use Rattle.smithy_schema.specs.Table as table
-use Rattle.smithy_schema.specs.Table.{Kind, scalar, structure_of, list_of, nothing, kind_of_shape, kind_of, kind_of_target, place_in, list_shape_of, element_name_of, IsClosed}
-use Rattle.smithy_schema.specs.Names.{scalar_names, named, is_scalar_name, is_reserved, has_equal_texts, is_query_name}
+use Rattle.smithy_schema.specs.Table.{Kind, scalar, structure_of, nothing, kind_of_shape, kind_of, kind_of_target, place_in, list_shape_of, element_name_of, IsClosed}
+use Rattle.smithy_schema.specs.Names.{scalar_names, named, is_reserved, has_equal_texts, is_query_name}
 use Rattle.smithy_schema.specs.Decl.{PlaceWords, MemberDecl, Form, structure, union, list, map as map_form, Decl}
 use Rattle.smithy_schema.specs.Acceptance.{Fault, Test, tests, members_of, place_of_member, place_of_elements, places_of, query_names_of, element_name_of as written_name_of, is_declared, place_of, member_of, list_shape_of as shape_of_list, shape_of, table_from, json_name_of, query_name_of, has_unknown_target, has_unknown_shape, is_duplicate, has_clash, has_unfit_name, is_too_many, first_failing, first_fault}
 use Rattle.smithy_schema.specs.Accepted.{AreAcceptedMembers, HaveTextNames, IsAccepted}

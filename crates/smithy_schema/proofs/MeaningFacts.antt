@@ -1,9 +1,10 @@
 -- Examples of what entries mean together, and of tables and views, by computing.
-use Rattle.std.proofs.Common.{◌≡◌, ℕ, List, [], ◌∷◌, map, Bool, true, false, Option, Some, None, option_map, refl, pos, codes}
+use Rattle.std.proofs.Common.{◌≡◌, ℕ, List, [], ◌∷◌, map, Bool, true, false, Option, Some, None, option_map, refl, pos, neg_ℤ, codes, ◌+◌, ◌-◌, ◌^◌}
 use Rattle.smithy_schema.specs.declared.shape_type.Scalar.TheVariants as scalars
 use Rattle.smithy_schema.specs.Table as table
-use Rattle.smithy_schema.specs.Table.{Table, Member, ListShape, Kind, scalar, structure_of, list_of, nothing, kind_of, place_in, members_of, position_named, json_name_of, query_name_of, element_name_of, declared_as, scalar_place, shape_place}
-use Rattle.smithy_schema.specs.Value.{Value, scalar_value, whole, text, list, structure, null_element, no_values, value, no_member_values, member_value}
+use Rattle.smithy_schema.specs.Table.{Table, Member, ListShape, Kind, scalar, structure_of, list_of, nothing, kind_of, place_in, position_named, json_name_of, query_name_of, element_name_of, declared_as, scalar_place, shape_place}
+use Rattle.smithy_schema.specs.Value.{ScalarValue, boolean, Value, scalar_value, whole, text, list, structure, null_element, no_values, value, no_member_values, member_value}
+use Rattle.smithy_schema.specs.Fits.{is_of}
 use Rattle.smithy_schema.specs.Container.{Entry, container_of}
 use Rattle.smithy_schema.specs.Site.{shape_site, member_site, element_site, nameless_site, member_named, element_of, member_of}
 use Rattle.smithy_schema.specs.Writing.{begin_structure, end_structure, begin_list, end_list, null_of, scalar_of, events}
@@ -183,6 +184,25 @@ without_name = refl
 pub sites_by_name : map (λ (name : List ℕ). member_named json_name_of (shape_site shapes 0) name) (codes "a" ∷ codes "ab" ∷ [])
     ≡ member_site (shape_site shapes 0) 0 ∷ None ∷ []
 sites_by_name = refl
+
+-- ---- scalar values of kinds
+
+-- one before the least of each width, the least, the greatest, and one behind it
+abbrev ends_of : ℕ → List ScalarValue
+ends_of half = map whole (neg_ℤ (pos (half + 1)) ∷ neg_ℤ (pos half) ∷ pos (half - 1) ∷ pos half ∷ [])
+
+pub widths : (map (is_of scalars.Byte) (ends_of (2 ^ 7)) ≡ false ∷ true ∷ true ∷ false ∷ [])
+    × (map (is_of scalars.Short) (ends_of (2 ^ 15)) ≡ false ∷ true ∷ true ∷ false ∷ [])
+    × (map (is_of scalars.Integer) (ends_of (2 ^ 31)) ≡ false ∷ true ∷ true ∷ false ∷ [])
+    × (map (is_of scalars.Long) (ends_of (2 ^ 63)) ≡ false ∷ true ∷ true ∷ false ∷ [])
+widths = (refl, refl, refl, refl)
+
+-- no kind has the values of another one
+pub other_kinds : map (λ s. is_of s (whole (pos 1))) (scalars.Boolean ∷ scalars.String ∷ []) ≡ false ∷ false ∷ []
+other_kinds = refl
+
+pub other_values : map (is_of scalars.Byte) (boolean true ∷ text (codes "1") ∷ []) ≡ false ∷ false ∷ []
+other_values = refl
 
 -- ---- the calls that write a value
 

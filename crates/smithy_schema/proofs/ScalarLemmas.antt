@@ -1,5 +1,8 @@
 -- What is known of the scalar values of a kind.
-use Rattle.std.proofs.Common.{◌≡◌, ℕ, ℤ, List, true, IsUtf8, refl}
+use Rattle.std.proofs.Common.{◌≡◌, ◌≤◌, ◌-◌, ◌^◌, ℕ, ℤ, pos, List, true, IsUtf8, refl, arith, lit≤}
+use Rattle.std.specs.Prelude.{◌&&◌, neg_ℤ, int_le, int_lt}
+use Rattle.std.proofs.lemmas.Bool.{and_parts}
+use Rattle.std.proofs.lemmas.Int.{ints}
 use Rattle.std.proofs.lemmas.Str.{IsUtf8-from_is_utf8}
 use Rattle.smithy_texts.specs.Ranges.{fits_signed}
 use Rattle.smithy_schema.specs.declared.shape_type.Scalar.{Scalar}
@@ -15,12 +18,28 @@ scalar_kind (structure_of members) x h = cc
 scalar_kind (list_of l) x h = cc
 scalar_kind nothing x h = cc
 
+-- ---- widths
+
+between : (p q : ℕ) (n : ℤ) → p ≤ q → (int_le (neg_ℤ (pos p)) n && int_lt n (pos p)) ≡ true → (int_le (neg_ℤ (pos q)) n && int_lt n (pos q)) ≡ true
+between p q n wider h =
+    let parts = and_parts (int_le (neg_ℤ (pos p)) n) (int_lt n (pos p)) h in
+    let low = parts.0 in
+    let high = parts.1 in
+    grind (arith, ints)
+
+-- what fits so many bits fits more
+pub fits_more : (bits more : ℕ) (n : ℤ) → 2 ^ (bits - 1) ≤ 2 ^ (more - 1) → fits_signed bits n ≡ true → fits_signed more n ≡ true
+fits_more bits more n wider h = between (2 ^ (bits - 1)) (2 ^ (more - 1)) n wider h
+
 -- a whole number of any kind fits 64 bits
 pub whole_fits : (s : Scalar) (n : ℤ) → is_of s (whole n) ≡ true → fits_signed 64 n ≡ true
+whole_fits scalars.Byte n h = fits_more 8 64 n (lit≤ tt) h
+whole_fits scalars.Short n h = fits_more 16 64 n (lit≤ tt) h
+whole_fits scalars.Integer n h = fits_more 32 64 n (lit≤ tt) h
 whole_fits scalars.Long n h = h
-whole_fits scalars.String n h = cc
+whole_fits _ n h = cc
 
 -- a text of any kind is in UTF-8
 pub text_is_utf8 : (s : Scalar) (t : List ℕ) → is_of s (text t) ≡ true → IsUtf8 t
-text_is_utf8 scalars.Long t h = cc
 text_is_utf8 scalars.String t h = IsUtf8-from_is_utf8 t h
+text_is_utf8 _ t h = cc

@@ -166,9 +166,9 @@ equals_in_a_text = refl
 -- ---- refused declarations
 
 -- a target that no table can have yet
-pub no_boolean_yet : table_of (lines ("structure S" ∷ "member a boolean" ∷ [])) ≡ refused Fault.not_built 1
+pub no_blob_yet : table_of (lines ("structure S" ∷ "member a blob" ∷ [])) ≡ refused Fault.not_built 1
 unfolding smithy_schema_on_literals
-no_boolean_yet = refl
+no_blob_yet = refl
 
 -- nor a union
 pub no_union_yet : table_of (lines ("union U" ∷ [])) ≡ refused Fault.not_built 1

@@ -6,10 +6,14 @@ use Rattle.smithy_schema.specs.declared.place.Place.{Place}
 use Rattle.smithy_schema.specs.declared.shape_type.Scalar.{Scalar}
 use Rattle.smithy_schema.specs.declared.shape_type.Scalar.TheVariants as scalars
 use Rattle.smithy_schema.specs.Table.{Table, Kind, scalar, kind_of, place_in, is_sparse, IsList, IsStructure}
-use Rattle.smithy_schema.specs.Value.{ScalarValue, whole, text, Value, scalar_value, list, structure, null_element, Values, no_values, value, MemberValues, no_member_values, member_value}
+use Rattle.smithy_schema.specs.Value.{ScalarValue, boolean, whole, text, Value, scalar_value, list, structure, null_element, Values, no_values, value, MemberValues, no_member_values, member_value}
 
 -- the scalar values of a kind
 abbrev pub is_of : Scalar → ScalarValue → Bool
+is_of scalars.Boolean (boolean b) = true
+is_of scalars.Byte (whole n) = fits_signed 8 n
+is_of scalars.Short (whole n) = fits_signed 16 n
+is_of scalars.Integer (whole n) = fits_signed 32 n
 is_of scalars.Long (whole n) = fits_signed 64 n
 is_of scalars.String (text s) = is_utf8 s
 is_of _ _ = false

@@ -89,6 +89,10 @@ shape_place n = record { target = Declared (record { 0 = n }); time = None }
 
 -- the type of a scalar
 abbrev pub scalar_type : Scalar → ShapeType
+scalar_type scalars.Boolean = types.Boolean
+scalar_type scalars.Byte = types.Byte
+scalar_type scalars.Short = types.Short
+scalar_type scalars.Integer = types.Integer
 scalar_type scalars.Long = types.Long
 scalar_type scalars.String = types.String
 

@@ -3,7 +3,7 @@ ghost use Rattle.std.specs.Prelude.{◌≡◌, ◌≤◌, ℕ, length, Option, S
 ghost use Rattle.smithy_schema.specs.declared.place.Place.{Place};
 ghost use Rattle.smithy_schema.specs.declared.shape_type.Scalar.TheVariants as scalars;
 ghost use Rattle.smithy_schema.specs.Table.{Table, kind_of, IsStructure, IsList};
-ghost use Rattle.smithy_schema.specs.Value.{Value, whole, text};
+ghost use Rattle.smithy_schema.specs.Value.{Value, boolean, whole, text};
 ghost use Rattle.smithy_schema.specs.Site.{site_of, kind_at};
 ghost use Rattle.smithy_schema.specs.Reading.{ReadsScalar, Cursor, depth, Relations, Mark, IsLawful, StandsFit, CountsOpeners, IsBelow, Conducts, Passes, Enters, Steps, Leaves, MatchStep, CannotGoOn, OpensNot, SkipsNot, NullsNot, ReachesDepth, null_is_due, IsRefused, IsInvalid, IsNoAnswer, failed_at, passed_to, in_structure, in_list};
 ghost use Rattle.smithy_schema.specs.declared.error.SerdeError.TheVariants.{TooDeep, NoMemory};
@@ -155,6 +155,30 @@ pub trait ShapeDeserializer {
         ensures refused { IsRefused result → (state self.old).due ≡ true → SkipsNot (wire (settings self.old)) (state self.old) }
         ensures would { is_strict (settings self.old) → IsInvalid result → (state self.old).due ≡ true → SkipsNot (lifted (settings self.old)) (state self.old) }
         ensures deep { IsErrOf result TooDeep → ReachesDepth (wire (settings self.old)) (max_depth (settings self.old)) (state self.old) };
+
+    /// Reads false or true. It takes no memory.
+    fn read_boolean(&mut self, schema: &Schema<'_>) -> Result<bool, SerdeError>
+        ensures same { settings self.new ≡ settings self.old }
+        ensures read { ReadsScalar (wire (settings self.old)) (lifted (settings self.old)) (is_strict (settings self.old)) (state self.old) (state self.new) (site_of schema.now) scalars.Boolean boolean result }
+        ensures memory { IsErrOf result NoMemory → ⊥ };
+
+    /// Reads a whole number from -2^7 to 2^7-1. It takes no memory.
+    fn read_byte(&mut self, schema: &Schema<'_>) -> Result<i8, SerdeError>
+        ensures same { settings self.new ≡ settings self.old }
+        ensures read { ReadsScalar (wire (settings self.old)) (lifted (settings self.old)) (is_strict (settings self.old)) (state self.old) (state self.new) (site_of schema.now) scalars.Byte whole result }
+        ensures memory { IsErrOf result NoMemory → ⊥ };
+
+    /// Reads a whole number from -2^15 to 2^15-1. It takes no memory.
+    fn read_short(&mut self, schema: &Schema<'_>) -> Result<i16, SerdeError>
+        ensures same { settings self.new ≡ settings self.old }
+        ensures read { ReadsScalar (wire (settings self.old)) (lifted (settings self.old)) (is_strict (settings self.old)) (state self.old) (state self.new) (site_of schema.now) scalars.Short whole result }
+        ensures memory { IsErrOf result NoMemory → ⊥ };
+
+    /// Reads a whole number from -2^31 to 2^31-1. It takes no memory.
+    fn read_integer(&mut self, schema: &Schema<'_>) -> Result<i32, SerdeError>
+        ensures same { settings self.new ≡ settings self.old }
+        ensures read { ReadsScalar (wire (settings self.old)) (lifted (settings self.old)) (is_strict (settings self.old)) (state self.old) (state self.new) (site_of schema.now) scalars.Integer whole result }
+        ensures memory { IsErrOf result NoMemory → ⊥ };
 
     /// Reads a whole number from -2^63 to 2^63-1. It takes no memory.
     fn read_long(&mut self, schema: &Schema<'_>) -> Result<i64, SerdeError>

@@ -4,7 +4,7 @@ ghost use Rattle.smithy_schema.specs.Table.{kind_of, nothing};
 
 use crate::members::MemberList;
 use crate::place::{Place, Target};
-use crate::shape_type::{Scalar, ShapeRef, ShapeType, TimestampFormat};
+use crate::shape_type::{ShapeRef, ShapeType, TimestampFormat};
 use crate::shapes::{Shape, Shapes};
 
 /// Where a view comes from.
@@ -42,8 +42,7 @@ impl<'a> Schema<'a> {
     {
         let shapes = self.shapes;
         match self.place.target {
-            Target::Simple(Scalar::Long) => ShapeType::Long,
-            Target::Simple(Scalar::String) => ShapeType::String,
+            Target::Simple(scalar) => scalar.shape_type(),
             Target::Declared(shape) => match shapes.shape_at(shape) {
                 Some(Shape::Structure(_)) => ShapeType::Structure,
                 Some(Shape::List(_)) => ShapeType::List,

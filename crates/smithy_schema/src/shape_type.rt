@@ -1,17 +1,47 @@
 //! The kinds of shapes.
+ghost use Rattle.std.specs.Prelude.{◌≡◌};
+ghost use Rattle.smithy_schema.specs.Table.{scalar_type};
 
 /// A shape that has no members and is written as one scalar.
 #[derive(Clone, Copy, Debug, PartialEq, Eq)]
 pub enum Scalar {
+    /// False or true.
+    Boolean,
+    /// A whole number from -2^7 to 2^7-1.
+    Byte,
+    /// A whole number from -2^15 to 2^15-1.
+    Short,
+    /// A whole number from -2^31 to 2^31-1.
+    Integer,
     /// A whole number from -2^63 to 2^63-1.
     Long,
     /// A text of Unicode scalar values.
     String,
 }
 
+impl Scalar {
+    /// The kind of a shape that is this scalar.
+    pub(crate) fn shape_type(self) -> ShapeType
+        ensures { result ≡ scalar_type self }
+    {
+        match self {
+            Scalar::Boolean => ShapeType::Boolean,
+            Scalar::Byte => ShapeType::Byte,
+            Scalar::Short => ShapeType::Short,
+            Scalar::Integer => ShapeType::Integer,
+            Scalar::Long => ShapeType::Long,
+            Scalar::String => ShapeType::String,
+        }
+    }
+}
+
 /// The kind of a shape.
 #[derive(Clone, Copy, Debug, PartialEq, Eq)]
 pub enum ShapeType {
+    Boolean,
+    Byte,
+    Short,
+    Integer,
     Long,
     String,
     List,

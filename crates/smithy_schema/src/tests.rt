@@ -30,7 +30,7 @@ const REFUSED: [(&str, TableFault); 27] = [
         TableFault::BadLine(2),
     ),
     ("structure S\nmember a long json=", TableFault::BadLine(2)),
-    ("structure S\nmember a boolean", TableFault::NotBuilt(1)),
+    ("structure S\nmember a blob", TableFault::NotBuilt(1)),
     ("list L long flat", TableFault::BadLine(1)),
     ("list L long sparse sparse", TableFault::BadLine(1)),
     ("union U\nmember a long", TableFault::NotBuilt(1)),

@@ -3,7 +3,7 @@ ghost use Rattle.std.specs.Prelude.{◌++◌, ◌≡◌, ◌≢◌, ◌↔◌, �
 ghost use Rattle.smithy_schema.specs.declared.error.SerdeError.{SerdeError};
 ghost use Rattle.smithy_schema.specs.declared.error.SerdeError.TheVariants.{Failed, NoMemory, Unwritable};
 ghost use Rattle.smithy_schema.specs.Site.{site_of};
-ghost use Rattle.smithy_schema.specs.Value.{whole, text};
+ghost use Rattle.smithy_schema.specs.Value.{boolean, whole, text};
 ghost use Rattle.smithy_schema.specs.Reading.{IsFault};
 ghost use Rattle.smithy_schema.specs.Writing.{Event, Writer, Open, IsNested, begin_structure, end_structure, begin_list as list_begins, end_list as list_ends, null_of, scalar_of};
 
@@ -69,6 +69,34 @@ pub trait ShapeSerializer {
         ensures broken { IsErr result ↔ (failed self.new ≡ true) }
         ensures ok { OnOk result (after (null_of (site_of schema.now)) (state self.old) ≡ Ok (state self.new)) }
         ensures refused { IfErr result (λ e. IsFault e → after (null_of (site_of schema.now)) (state self.old) ≡ Err e) };
+
+    /// Writes false or true.
+    fn write_boolean(&mut self, schema: &Schema<'_>, value: bool) -> Result<(), SerdeError>
+        ensures failed { IsErrOf result Failed ↔ (failed self.old ≡ true) }
+        ensures broken { IsErr result ↔ (failed self.new ≡ true) }
+        ensures ok { OnOk result (after (scalar_of (site_of schema.now) (boolean value)) (state self.old) ≡ Ok (state self.new)) }
+        ensures refused { IfErr result (λ e. IsFault e → after (scalar_of (site_of schema.now) (boolean value)) (state self.old) ≡ Err e) };
+
+    /// Writes a whole number.
+    fn write_byte(&mut self, schema: &Schema<'_>, value: i8) -> Result<(), SerdeError>
+        ensures failed { IsErrOf result Failed ↔ (failed self.old ≡ true) }
+        ensures broken { IsErr result ↔ (failed self.new ≡ true) }
+        ensures ok { OnOk result (after (scalar_of (site_of schema.now) (whole value)) (state self.old) ≡ Ok (state self.new)) }
+        ensures refused { IfErr result (λ e. IsFault e → after (scalar_of (site_of schema.now) (whole value)) (state self.old) ≡ Err e) };
+
+    /// Writes a whole number.
+    fn write_short(&mut self, schema: &Schema<'_>, value: i16) -> Result<(), SerdeError>
+        ensures failed { IsErrOf result Failed ↔ (failed self.old ≡ true) }
+        ensures broken { IsErr result ↔ (failed self.new ≡ true) }
+        ensures ok { OnOk result (after (scalar_of (site_of schema.now) (whole value)) (state self.old) ≡ Ok (state self.new)) }
+        ensures refused { IfErr result (λ e. IsFault e → after (scalar_of (site_of schema.now) (whole value)) (state self.old) ≡ Err e) };
+
+    /// Writes a whole number.
+    fn write_integer(&mut self, schema: &Schema<'_>, value: i32) -> Result<(), SerdeError>
+        ensures failed { IsErrOf result Failed ↔ (failed self.old ≡ true) }
+        ensures broken { IsErr result ↔ (failed self.new ≡ true) }
+        ensures ok { OnOk result (after (scalar_of (site_of schema.now) (whole value)) (state self.old) ≡ Ok (state self.new)) }
+        ensures refused { IfErr result (λ e. IsFault e → after (scalar_of (site_of schema.now) (whole value)) (state self.old) ≡ Err e) };
 
     /// Writes a whole number.
     fn write_long(&mut self, schema: &Schema<'_>, value: i64) -> Result<(), SerdeError>

@@ -14,8 +14,10 @@ use std::collections::BTreeMap;
 /// A value of the shapes that are read.
 #[derive(Debug, Drop)]
 pub enum CompactValue {
+    /// False or true.
+    Boolean(bool),
     /// A whole number.
-    Long(i64),
+    Whole(i64),
     /// A text.
     Text(String),
     /// The elements of a list, in their order.
@@ -35,8 +37,12 @@ impl Tree for CompactValue {
 
     ghost view_members = { λ m. compact_members (member_entries m) };
 
-    fn long(number: i64) -> CompactValue {
-        CompactValue::Long(number)
+    fn boolean(value: bool) -> CompactValue {
+        CompactValue::Boolean(value)
+    }
+
+    fn whole(number: i64) -> CompactValue {
+        CompactValue::Whole(number)
     }
 
     fn text(content: String) -> CompactValue {
@@ -75,7 +81,8 @@ impl Tree for CompactValue {
 
     fn part(&self) -> Part<'_, CompactValue> {
         match self {
-            CompactValue::Long(number) => Part::Whole(i128::from(*number)),
+            CompactValue::Boolean(value) => Part::Boolean(*value),
+            CompactValue::Whole(number) => Part::Whole(i128::from(*number)),
             CompactValue::Text(content) => Part::Text(content.as_str()),
             CompactValue::List(elements) => Part::List(elements.as_slice()),
             CompactValue::Structure(members) => {

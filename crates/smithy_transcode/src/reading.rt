@@ -57,7 +57,11 @@ pub(crate) fn read_tree<T: Tree, D: ShapeDeserializer>(
     ensures counted { D.is_strict (D.settings source.old) → IsCounted (D.wire (D.settings source.old)) (D.state source.old) → IsCounted (D.wire (D.settings source.old)) (D.state source.new) }
 {
     match schema.shape_type() {
-        ShapeType::Long => Ok(T::long(source.read_long(schema)?)),
+        ShapeType::Boolean => Ok(T::boolean(source.read_boolean(schema)?)),
+        ShapeType::Byte => Ok(T::whole(i64::from(source.read_byte(schema)?))),
+        ShapeType::Short => Ok(T::whole(i64::from(source.read_short(schema)?))),
+        ShapeType::Integer => Ok(T::whole(i64::from(source.read_integer(schema)?))),
+        ShapeType::Long => Ok(T::whole(source.read_long(schema)?)),
         ShapeType::String => Ok(T::text(source.read_string(schema)?)),
         ShapeType::Structure => read_structure::<T, D>(alloc, source, schema),
         ShapeType::List => read_list::<T, D>(alloc, source, schema),

@@ -7,6 +7,7 @@ use std::test::Fail;
 
 mod cbor;
 mod refusals;
+mod scalars;
 mod trees;
 
 const TABLE: &[u8] = b"structure S\nmember a long\nmember b long\nmember s string\n";

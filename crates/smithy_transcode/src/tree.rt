@@ -1,7 +1,7 @@
 //! A tree of values, as a reader builds it and a writer goes through it.
 ghost use Rattle.std.specs.Prelude.{◌≡◌, map, OnOk, IfErr, string_bytes};
 ghost use Rattle.smithy_schema.specs.declared.error.SerdeError.TheVariants.{NoMemory};
-ghost use Rattle.smithy_schema.specs.Value.{Value, scalar_value, whole, text, list, structure, null_element, values_of, MemberValues, no_member_values, put_member};
+ghost use Rattle.smithy_schema.specs.Value.{Value, scalar_value, boolean, whole, text, list, structure, null_element, values_of, MemberValues, no_member_values, put_member};
 ghost use Rattle.smithy_transcode.specs.Private.Tree.{part_view};
 
 use crate::member_iter::MemberIter;
@@ -11,6 +11,8 @@ use std::alloc::Global;
 /// What a tree is at its root.
 #[derive(Drop)]
 pub enum Part<'v, T> {
+    /// False or true.
+    Boolean(bool),
     /// A whole number.
     Whole(i128),
     /// A text.
@@ -33,7 +35,10 @@ pub trait Tree: Drop + Sized {
 
     ghost view_members: { Self.Members → MemberValues };
 
-    fn long(number: i64) -> Self
+    fn boolean(value: bool) -> Self
+        ensures { view result ≡ scalar_value (boolean value) };
+
+    fn whole(number: i64) -> Self
         ensures { view result ≡ scalar_value (whole number) };
 
     fn text(content: String) -> Self

@@ -5,7 +5,9 @@ use std::collections::BTreeMap;
 /// A value.
 #[derive(Debug, Drop)]
 pub enum Value {
-    /// A whole number.
+    /// False or true.
+    Boolean(bool),
+    /// A whole number of any width.
     Whole(i128),
     /// A text.
     Text(String),

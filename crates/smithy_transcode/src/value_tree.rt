@@ -17,7 +17,11 @@ impl Tree for Value {
 
     ghost view_members = { λ m. value_members m.entries };
 
-    fn long(number: i64) -> Value {
+    fn boolean(value: bool) -> Value {
+        Value::Boolean(value)
+    }
+
+    fn whole(number: i64) -> Value {
         Value::Whole(i128::from(number))
     }
 
@@ -55,6 +59,7 @@ impl Tree for Value {
 
     fn part(&self) -> Part<'_, Value> {
         match self {
+            Value::Boolean(value) => Part::Boolean(*value),
             Value::Whole(number) => Part::Whole(*number),
             Value::Text(content) => Part::Text(content.as_str()),
             Value::List(elements) => Part::List(elements.as_slice()),

@@ -1,18 +1,18 @@
 //! Writing a value to any wire.
 ghost use Rattle.std.specs.Prelude.{◌≡◌, ◌↔◌, map, true, OnOk, IfErr, IsErr, IsErrOf, Ok, Err};
 ghost use Rattle.smithy_schema.specs.declared.error.SerdeError.TheVariants.{Failed};
-ghost use Rattle.smithy_schema.specs.Fits.{FitsOr};
+ghost use Rattle.smithy_schema.specs.Fits.{FitsOr, is_scalar_of};
 ghost use Rattle.smithy_schema.specs.Reading.{IsFault};
-ghost use Rattle.smithy_schema.specs.Site.{site_of};
-ghost use Rattle.smithy_schema.specs.Value.{list, structure, values_of};
-ghost use Rattle.smithy_schema.specs.Writing.{write};
+ghost use Rattle.smithy_schema.specs.Site.{site_of, kind_at};
+ghost use Rattle.smithy_schema.specs.Value.{whole, list, structure, values_of};
+ghost use Rattle.smithy_schema.specs.Writing.{write, scalar_of};
 ghost use Rattle.smithy_transcode.specs.View.{view};
 ghost use Rattle.smithy_transcode.specs.Private.Tree.{entries, member_views};
 
 use crate::member_iter::MemberIter;
 use crate::tree::{Part, Tree};
 use crate::value::Value;
-use smithy_schema::{Schema, SerdeError, ShapeSerializer};
+use smithy_schema::{Schema, SerdeError, ShapeSerializer, ShapeType};
 use std::alloc::Global;
 
 /// Writes a value of the schema's place, or a null element.
@@ -48,11 +48,35 @@ pub(crate) fn write_tree<T: Tree, S: ShapeSerializer>(
     ensures refused { IfErr result (λ e. IsFault e → write S.after (site_of schema.now) (T.view value.now) (S.state sink.old) ≡ Err e) }
 {
     match value.part() {
-        Part::Whole(number) => sink.write_long(schema, number as i64),
+        Part::Boolean(value) => sink.write_boolean(schema, value),
+        Part::Whole(number) => write_whole(sink, schema, number),
         Part::Text(content) => sink.write_string(schema, content),
         Part::List(elements) => write_list::<T, S>(alloc, sink, schema, elements),
         Part::Structure(members) => write_structure::<T, S>(alloc, sink, schema, members),
         Part::Null => sink.write_null(schema),
+    }
+}
+
+// Writes a whole number of the schema's kind.
+fn write_whole<S: ShapeSerializer>(
+    sink: &mut S,
+    schema: &Schema<'_>,
+    number: i128,
+) -> Result<(), SerdeError>
+    requires fits { is_scalar_of (kind_at (site_of schema.now)) (whole number) ≡ true }
+    ensures failed { IsErrOf result Failed ↔ (S.failed sink.old ≡ true) }
+    ensures broken { IsErr result ↔ (S.failed sink.new ≡ true) }
+    ensures ok { OnOk result (S.after (scalar_of (site_of schema.now) (whole number)) (S.state sink.old) ≡ Ok (S.state sink.new)) }
+    ensures refused { IfErr result (λ e. IsFault e → S.after (scalar_of (site_of schema.now) (whole number)) (S.state sink.old) ≡ Err e) }
+{
+    match schema.shape_type() {
+        ShapeType::Byte => sink.write_byte(schema, number as i8),
+        ShapeType::Short => sink.write_short(schema, number as i16),
+        ShapeType::Integer => sink.write_integer(schema, number as i32),
+        ShapeType::Long => sink.write_long(schema, number as i64),
+        ShapeType::Boolean | ShapeType::String | ShapeType::List | ShapeType::Structure => {
+            unreachable!()
+        }
     }
 }
 

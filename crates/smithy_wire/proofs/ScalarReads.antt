@@ -1,13 +1,15 @@
 -- A read of a scalar: what was found stands there, and where nothing was found nothing stands.
-use Rattle.std.proofs.Common.{◌≡◌, ◌≤◌, ℕ, length, Bool, true, false, Option, Some, None, refl, sym, ◌∙◌, subst, arith, ◌⊎◌, inl, inr}
-use Rattle.std.specs.Prelude.{Result, Ok, Err, OnErr, IfOk, IfErr, IsOk, IsErr, IsErrOf, IfSome, IfNone, IsSome, IsNone, if◌then◌else◌}
+use Rattle.std.proofs.Common.{◌≡◌, ◌≤◌, ℕ, ℤ, length, Bool, true, false, Option, Some, None, refl, sym, ◌∙◌, ap, subst, arith, ◌⊎◌, inl, inr}
+use Rattle.std.specs.Prelude.{Result, Ok, Err, OnErr, IfOk, IfErr, IsOk, IsErr, IfSome, IfNone, IsSome, IsNone, if◌then◌else◌}
+use Rattle.smithy_texts.specs.Ranges.{fits_signed}
 use Rattle.smithy_schema.specs.declared.shape_type.Scalar.{Scalar}
 use Rattle.smithy_schema.specs.declared.error.SerdeError.{SerdeError}
 use Rattle.smithy_schema.specs.declared.error.SerdeError.TheVariants.{InvalidInput, Failed, NoMemory}
 use Rattle.smithy_schema.specs.Table.{scalar_place}
 use Rattle.smithy_schema.specs.Site.{Site}
 use Rattle.smithy_schema.specs.Value.{ScalarValue, scalar_value}
-use Rattle.smithy_schema.specs.Reading.{Cursor, depth, Relations, IsLawful, Passes, StandsNot, IsRefused, IsInvalid, ReadsScalar, failed_at, passed_to}
+use Rattle.smithy_schema.specs.Reading.{Cursor, depth, Relations, IsLawful, StandsNot, IsInvalid, ReadsScalar, failed_at, passed_to}
+use Rattle.smithy_wire.specs.Narrowing.{IsNarrowed, IsWider}
 
 -- what holds of an answer, said in other words
 pub if_some : {A : Type 0} (answer : Option A) (P Q : A → Type 0) → ((x : A) → P x → Q x) → IfSome answer P → IfSome answer Q
@@ -147,3 +149,25 @@ module _ {A : Type 0} (w u : Relations) (is_strict : Type 0) (site : Site) (s : 
         by : (g ≡ InvalidInput) ⊎ (g ≡ NoMemory) → Says old new (Err e)
         by (inl is) = rw (← same, is) (refuses old new stays within sound (λ due. none (rw is tt)))
         by (inr is) = rw (← same, is) (runs_out old new stays within sound)
+
+-- ---- whole numbers of fewer bits
+
+-- by where a number of so many bits stands, with its end
+module _ (At : ℕ → ℤ → ℕ → Type 0) (bits : ℕ) where
+  pub narrow_found : (found narrow : Option (ℤ × ℕ)) → ((n : ℤ) (e : ℕ) → At 64 n e → fits_signed bits n ≡ true → At bits n e)
+      → IfSome found (λ r. At 64 r.0 r.1) → IfSome narrow (IsNarrowed bits found) → IfSome narrow (λ r. At bits r.0 r.1)
+  narrow_found found None narrows here is = tt
+  narrow_found found (Some r) narrows here (same, fits) =
+      let there : At 64 r.0 r.1 = rw same at here in
+      narrows r.0 r.1 there fits
+
+  pub narrow_none : (found narrow : Option (ℤ × ℕ)) → ((n : ℤ) (e : ℕ) → At bits n e → At 64 n e × (fits_signed bits n ≡ true))
+      → ((n m : ℤ) (e f : ℕ) → At 64 n e → At 64 m f → n ≡ m) → IfSome found (λ r. At 64 r.0 r.1) → IfNone found ((n : ℤ) (e : ℕ) → At 64 n e → ⊥)
+      → IfNone narrow (IsWider bits found) → IfNone narrow ((n : ℤ) (e : ℕ) → At bits n e → ⊥)
+  narrow_none found (Some r) widens same here none wider = tt
+  narrow_none None None widens same here none wider = λ n e h. none n e (widens n e h).0
+  narrow_none (Some r) None widens same here none wider = λ n e h.
+      let wide = widens n e h in
+      let number : n ≡ r.0 = same n r.0 e r.1 wide.0 here in
+      let both : true ≡ false = sym wide.1 ∙ ap (fits_signed bits) number ∙ wider in
+      cc

@@ -12,6 +12,8 @@ pub mod Entries
 -- the node as which a value is written, its bytes, and what a wire proves of them
 pub mod Written
 pub mod Writes
+-- whole numbers in the bits of their kinds
+pub mod Narrowing
 -- where a reader stands
 pub mod Walking
 -- what the laws are proved by

@@ -23,6 +23,10 @@ abbrev pub IsNullAt : List ℕ → ℕ → ℕ → ℕ → Type 0
 IsNullAt input at depth e =
     (begins_with null_byte (drop at input) ≡ true) × (e ≡ suc at) × Follows depth input e
 
+-- the item stands there, where a value may end behind it
+abbrev pub IsAt : Item → List ℕ → ℕ → ℕ → ℕ → Type 0
+IsAt x input at depth e = IsItemAt x input at e × Follows depth input e
+
 -- an integer of so many bits stands there, where a value may end behind it
 pub record IsWholeAt (bits : ℕ) (n : ℤ) (input : List ℕ) (at depth e : ℕ) : Type 0 where
   pub found : Item

@@ -6,29 +6,34 @@ use Rattle.smithy_schema.specs.declared.place.Place.{Place}
 use Rattle.smithy_schema.specs.declared.shape_type.Scalar.{Scalar}
 use Rattle.smithy_schema.specs.declared.shape_type.Scalar.TheVariants as scalars
 use Rattle.smithy_schema.specs.Table.{Table, scalar, kind_of}
-use Rattle.smithy_schema.specs.Value.{whole, text, Value, scalar_value, null_element}
+use Rattle.smithy_schema.specs.Value.{boolean as boolean_value, whole, text, Value, scalar_value, null_element}
 use Rattle.smithy_schema.specs.Fits.{is_of, Fits}
 use Rattle.smithy_schema.specs.Lemmas.Options.{same_some, step_apart, chosen, made}
 use Rattle.smithy_json.specs.Number.{whole_number}
 use Rattle.smithy_texts.specs.Ranges.{fits_signed}
 use Rattle.smithy_json.proofs.TextLemmas.{unescaped_is_utf8}
-use Rattle.smithy_json_codec.specs.Scalar.{JsonScalar, a_boolean, a_number, a_string, whole_of, text_of, says}
+use Rattle.smithy_json_codec.specs.Scalar.{JsonScalar, a_boolean, a_number, a_string, boolean_of, whole_of, text_of, says}
 use Rattle.smithy_json_codec.specs.Settings.{Settings}
 use Rattle.smithy_json_codec.specs.Standing.{json_frames}
 use Rattle.smithy_wire.specs.Rules.{settled}
 use Rattle.smithy_wire.specs.Readers.{settled_answer}
 
 -- the number that a text writes fits its bits
-pub whole_is : (bits : ℕ) (raw : List ℕ) (v : Value) → whole_of bits (a_number raw) ≡ Some v → (z : ℤ) × (v ≡ scalar_value (whole z)) × (fits_signed bits z ≡ true)
+pub whole_is : (bits : ℕ) (raw : List ℕ) (v : Value) → whole_of bits (a_number raw) ≡ Some v → (z : ℤ) × (v ≡ scalar_value (whole z)) × (whole_number raw ≡ Some z) × (fits_signed bits z ≡ true)
 whole_is bits raw v h =
     let z = step_apart (whole_number raw) (λ (z : ℤ). if fits_signed bits z then Some (scalar_value (whole z)) else None) v h in
     let size = chosen (fits_signed bits z.0) (Some (scalar_value (whole z.0))) v z.2 in
-    (z.0, sym (same_some (scalar_value (whole z.0)) v size.1), size.0)
+    (z.0, sym (same_some (scalar_value (whole z.0)) v size.1), z.1, size.0)
 
 whole_fits : (bits : ℕ) (s : Scalar) → ((z : ℤ) → is_of s (whole z) ≡ fits_signed bits z) → (t : Table) (p : Place) (x : JsonScalar) (v : Value) → kind_of t p ≡ scalar s → whole_of bits x ≡ Some v → Fits t p v
 whole_fits bits s is t p (a_boolean b) v kind h = cc
-whole_fits bits s is t p (a_number raw) v kind h = let n = whole_is bits raw v h in subst (Fits t p) (sym n.1) (rw kind (is n.0 ∙ n.2))
+whole_fits bits s is t p (a_number raw) v kind h = let n = whole_is bits raw v h in subst (Fits t p) (sym n.1) (rw kind (is n.0 ∙ n.3))
 whole_fits bits s is t p (a_string raw) v kind h = cc
+
+boolean_fits : (t : Table) (p : Place) (x : JsonScalar) (v : Value) → kind_of t p ≡ scalar scalars.Boolean → boolean_of x ≡ Some v → Fits t p v
+boolean_fits t p (a_boolean b) v kind h = subst (Fits t p) (same_some (scalar_value (boolean_value b)) v h) (rw kind refl)
+boolean_fits t p (a_number raw) v kind h = cc
+boolean_fits t p (a_string raw) v kind h = cc
 
 text_is_utf8 : (i : List ℕ) (d : ℕ) (x : JsonScalar) (a e : ℕ) → json_frames.scalar i d x a e → (s : List ℕ) → text_of x ≡ Some s → IsUtf8 s
 text_is_utf8 i d (a_boolean b) a e lies s h = cc
@@ -38,6 +43,10 @@ text_is_utf8 i d (a_string raw) a e lies s h = unescaped_is_utf8 raw s lies.0.2.
 -- what a scalar means fits its place, with the limits kept or lifted
 pub says_fits : (c : Settings) (i : List ℕ) (d : ℕ) (x : JsonScalar) (a e : ℕ) → json_frames.scalar i d x a e
     → (t : Table) (p : Place) (s : Scalar) (v : Value) → kind_of t p ≡ scalar s → settled c.limits null_element (says s p.time x) ≡ Some v → Fits t p v
+says_fits c i d x a e lies t p scalars.Boolean v kind h = boolean_fits t p x v kind (sym (settled_answer c.limits null_element (boolean_of x)) ∙ h)
+says_fits c i d x a e lies t p scalars.Byte v kind h = whole_fits 8 scalars.Byte (λ z. refl) t p x v kind (sym (settled_answer c.limits null_element (whole_of 8 x)) ∙ h)
+says_fits c i d x a e lies t p scalars.Short v kind h = whole_fits 16 scalars.Short (λ z. refl) t p x v kind (sym (settled_answer c.limits null_element (whole_of 16 x)) ∙ h)
+says_fits c i d x a e lies t p scalars.Integer v kind h = whole_fits 32 scalars.Integer (λ z. refl) t p x v kind (sym (settled_answer c.limits null_element (whole_of 32 x)) ∙ h)
 says_fits c i d x a e lies t p scalars.Long v kind h = whole_fits 64 scalars.Long (λ z. refl) t p x v kind (sym (settled_answer c.limits null_element (whole_of 64 x)) ∙ h)
 says_fits c i d x a e lies t p scalars.String v kind h =
     let s = made (λ s. scalar_value (text s)) (text_of x) v (sym (settled_answer c.limits null_element (option_map (λ s. scalar_value (text s)) (text_of x))) ∙ h) in

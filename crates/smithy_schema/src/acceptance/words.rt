@@ -8,7 +8,15 @@ use crate::shape_type::{Scalar, TimestampFormat};
 pub(crate) fn scalar_of(name: &str) -> Option<Scalar>
     ensures { result ≡ named scalar_names name.now }
 {
-    if name == "long" {
+    if name == "boolean" {
+        Some(Scalar::Boolean)
+    } else if name == "byte" {
+        Some(Scalar::Byte)
+    } else if name == "short" {
+        Some(Scalar::Short)
+    } else if name == "integer" {
+        Some(Scalar::Integer)
+    } else if name == "long" {
         Some(Scalar::Long)
     } else if name == "string" {
         Some(Scalar::String)
@@ -18,17 +26,7 @@ pub(crate) fn scalar_of(name: &str) -> Option<Scalar>
 }
 
 /// The names of the scalars that no table can have yet.
-const UNBUILT_NAMES: [&str; 9] = [
-    "boolean",
-    "byte",
-    "short",
-    "integer",
-    "blob",
-    "timestamp",
-    "bigInteger",
-    "bigDecimal",
-    "document",
-];
+const UNBUILT_NAMES: [&str; 5] = ["blob", "timestamp", "bigInteger", "bigDecimal", "document"];
 
 /// No table can have the scalar of that name yet.
 pub(crate) fn is_unbuilt_name(name: &str) -> bool

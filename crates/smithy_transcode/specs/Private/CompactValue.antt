@@ -1,6 +1,6 @@
 -- The value that a tree of a transcoding stands for.
 use Rattle.std.specs.Prelude.{ℕ, List, map, string_bytes}
-use Rattle.smithy_schema.specs.Value.{Value, scalar_value, whole, text, list, structure, null_element, values_of, MemberValues}
+use Rattle.smithy_schema.specs.Value.{Value, scalar_value, boolean, whole, text, list, structure, null_element, values_of, MemberValues}
 use Rattle.smithy_transcode.specs.View.{member_values_of}
 use Rattle.smithy_transcode.specs.Private.Tree.{member_views}
 use Rattle.smithy_transcode.specs.declared.compact_value.CompactValue as kept
@@ -8,7 +8,8 @@ use Rattle.smithy_transcode.specs.declared.compact_value.CompactValue.TheOpen.{C
 
 -- one level, with each value inside already seen as what it stands for
 abbrev pub compact_step : CompactValue-F Value → Value
-compact_step (CompactValue-F.Long n) = scalar_value (whole n)
+compact_step (CompactValue-F.Boolean b) = scalar_value (boolean b)
+compact_step (CompactValue-F.Whole n) = scalar_value (whole n)
 compact_step (CompactValue-F.Text s) = scalar_value (text (string_bytes s))
 compact_step (CompactValue-F.List v) = list (values_of v.items)
 compact_step (CompactValue-F.Structure m) = structure (member_values_of m.items)

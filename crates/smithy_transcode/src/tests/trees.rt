@@ -72,7 +72,7 @@ fn many_members_in_falling_order_are_written_in_order(rt: HostRuntime) -> Result
 fn two_members<T: Tree>(alloc: Global) -> Result<T, SerdeError> {
     let mut members = T::no_members(alloc);
     T::set_member(alloc, &mut members, 2, T::null())?;
-    T::set_member(alloc, &mut members, 0, T::long(7))?;
+    T::set_member(alloc, &mut members, 0, T::whole(7))?;
     T::set_member(alloc, &mut members, 2, T::list(Vec::new(alloc)))?;
     Ok(T::structure(members))
 }

@@ -1,6 +1,6 @@
 use Rattle.std.proofs.Common.{◌≡◌, true, false, sym, subst, ◌∙◌}
 use Rattle.smithy_cbor.specs.Standing.{Follows}
-use Rattle.smithy_cbor.proofs.WholeLemmas.{no_whole_at, same_whole_end, unless}
+use Rattle.smithy_cbor.proofs.ScalarPlaces.{no_whole_at, same_whole_end, unless}
 use Rattle.smithy_cbor.proofs.values.long_at.Goals.{in-Ok, in-Err}
 use Rattle.smithy_cbor.proofs.values.long_at.Goals as goal
 

@@ -1,22 +1,24 @@
--- Where an integer of 64 bits stands, and where none does.
-use Rattle.std.proofs.Common.{◌≡◌, inl, inr, ℕ, ℤ, ◌^◌, List, drop, sym, ◌∙◌, ap, subst, arith, refl, Some, Bool, true, false}
+-- Where booleans and integers stand, and where none does.
+use Rattle.std.proofs.Common.{◌≡◌, inl, inr, ℕ, ℤ, ◌^◌, List, drop, sym, ◌∙◌, ap, subst, arith, refl, Some, Bool, true, false, ◌<◌, ◌⊎◌, ◌++◌, ◌∷◌, [], length}
 use Rattle.std.specs.Prelude.{slice_range, FitsSigned, pos, negsuc, neg_ℤ, int_le, int_lt}
 use Rattle.std.specs.Option.{IfNone}
 use Rattle.std.specs.Bool.{then_some}
 use Rattle.std.specs.Int.{w64}
 use Rattle.std.proofs.lemmas.Int.{ints}
 use Rattle.std.proofs.lemmas.Bool.{and_parts, ltb-true}
-use Rattle.cbor_item.specs.Head.{HeadRead, BeginsWithHead}
+use Rattle.cbor_item.specs.Head.{HeadRead, BeginsWithHead, IsHead, immediate, initial_byte}
 use Rattle.cbor_item.specs.Item.{Item, unsigned, negative, byte_string, text_string, array, map, tag, simple, float}
-use Rattle.cbor_item.specs.WellFormed.{IsItemAt}
-use Rattle.cbor_item.proofs.HeadLemmas.{head_in_front, front_begins_low}
+use Rattle.cbor_item.specs.WellFormed.{IsItemAt, IsSimple}
+use Rattle.cbor_item.proofs.HeadLemmas.{head_in_front, front_begins_low, front_begins}
 use Rattle.smithy_cbor.specs.declared.error.DecodeKind.{DecodeKind}
-use Rattle.smithy_cbor.specs.Scalar.{integer_of}
+use Rattle.smithy_cbor.specs.Scalar.{integer_of, boolean_item, false_value, true_value}
 use Rattle.smithy_texts.specs.Ranges.{fits_signed}
-use Rattle.smithy_cbor.specs.Reading.{IsInteger, IsIntegerFault}
-use Rattle.smithy_cbor.specs.Private.ScalarAtPlace.{IsWholeAt}
+use Rattle.smithy_cbor.specs.Reading.{IsInteger, IsIntegerFault, IsKindOf, IsHeadFault, IsSimpleHead}
+use Rattle.smithy_cbor.specs.Private.ScalarAtPlace.{IsWholeAt, IsAt}
 use Rattle.smithy_cbor.specs.Private.ItemPlaces.{item_front, one_item}
 use Rattle.smithy_cbor.proofs.HeadFaults.{no_wanted_head}
+
+-- ---- integers
 
 -- what is a long fits 64 bits
 long_fits : (z : ℤ) → fits_signed 64 z ≡ true → FitsSigned w64 z
@@ -71,3 +73,37 @@ same_whole_end input at n i depth e end h there = (one_item h.found i input at e
 pub unless : {T : Type 0} (test : Bool) (x : T) (P : Type 0) → (test ≡ false → P) → IfNone (then_some test x) P
 unless true x P h = tt
 unless false x P h = h refl
+
+-- ---- booleans
+
+-- the head of false or of true
+abbrev IsBooleanHead : HeadRead → Type 0
+IsBooleanHead h = IsSimpleHead false_value h ⊎ IsSimpleHead true_value h
+
+simple_head : (n : ℕ) (input : List ℕ) (at e : ℕ) → n < 24 → IsItemAt (simple n) input at e
+    → BeginsWithHead (drop at input) (head_in_front 7 n (initial_byte 7 n ∷ []))
+simple_head n input at e low there = by there.1
+  where
+    by : IsSimple n (slice_range input at e) → BeginsWithHead (drop at input) (head_in_front 7 n (initial_byte 7 n ∷ []))
+    by (inl (less, is)) =
+        let front = item_front (simple n) input at e there ∙ ap (λ s. s ++ drop e input) is in
+        let head : IsHead 7 n (initial_byte 7 n ∷ []) = record { width = immediate; fits = less; spelled = refl } in
+        subst (λ l. BeginsWithHead l (head_in_front 7 n (initial_byte 7 n ∷ []))) (sym front)
+        (front_begins 7 n (initial_byte 7 n ∷ []) (drop e input) (omega arith) head (λ s. let no' = ap length s.2 in omega (arith, no')))
+    by (inr (high, limit, is)) = absurd (omega (arith, low, high))
+
+boolean_head : (b : Bool) (input : List ℕ) (at e : ℕ) → IsItemAt (boolean_item b) input at e
+    → (h : HeadRead) × BeginsWithHead (drop at input) h × IsBooleanHead h
+boolean_head false input at e h = (head_in_front 7 20 (initial_byte 7 20 ∷ []), simple_head 20 input at e (omega arith) h, inl (refl, refl, refl))
+boolean_head true input at e h = (head_in_front 7 21 (initial_byte 7 21 ∷ []), simple_head 21 input at e (omega arith) h, inr (refl, refl, refl))
+
+-- where no boolean can be read, none stands
+pub no_boolean_at : (input : List ℕ) (at : ℕ) (kind : DecodeKind) → IsKindOf (IsHeadFault IsBooleanHead input at) kind
+    → (b : Bool) (depth e : ℕ) → IsAt (boolean_item b) input at depth e → ⊥
+no_boolean_at input at kind (error, is, fault) b depth e h =
+    let head = boolean_head b input at e h.0 in
+    no_wanted_head IsBooleanHead input at error head.0 fault head.1 head.2
+
+-- a boolean that stands there has one end
+pub same_boolean_end : (input : List ℕ) (at : ℕ) (b : Bool) (x : Item) (depth e end : ℕ) → IsAt (boolean_item b) input at depth e → IsItemAt x input at end → e ≡ end
+same_boolean_end input at b x depth e end h there = (one_item (boolean_item b) x input at e end h.0 there).1
