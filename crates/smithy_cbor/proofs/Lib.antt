@@ -1,26 +1,3 @@
-mod OnLiterals
 mod StandardFacts
-mod Examples
-mod EncodedItems
-mod MeaningFacts
-mod SpellingFacts
-mod WritingFacts
-mod StandingFacts
 pub mod HeadLemmas
 pub mod NullTypes
-pub mod SpellingLemmas
-pub mod WritingLemmas
-pub mod WrittenLeaves
-pub mod WrittenPlaces
-pub mod WrittenBody
-pub mod WrittenSpelling
-pub mod HeadFaults
-pub mod TextLemmas
-pub mod ScalarPlaces
-pub mod EntryLemmas
-pub mod MembersBehindNullsLemmas
-pub mod ReaderLemmas
-pub mod SkippedValues
-pub mod DeserializerLemmas
-pub mod StructureStepsLemmas
-pub mod ScalarReads

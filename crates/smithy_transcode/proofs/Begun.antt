@@ -12,9 +12,9 @@ use Rattle.smithy_wire.specs.Walking.{fresh_cursor}
 use Rattle.smithy_json_codec.specs.Codec.{strict_settings}
 use Rattle.smithy_json_codec.specs.Settings.{Settings, without_limits}
 use Rattle.smithy_json_codec.specs.Standing.{json_relations}
-use Rattle.smithy_cbor.specs.Codec.{strict_settings as strict_cbor}
-use Rattle.smithy_cbor.specs.Settings.{Settings as CborSettings, without_limits as without_cbor_limits}
-use Rattle.smithy_cbor.specs.Standing.{cbor_relations}
+use Rattle.smithy_cbor_codec.specs.Codec.{strict_settings as strict_cbor}
+use Rattle.smithy_cbor_codec.specs.Settings.{Settings as CborSettings, without_limits as without_cbor_limits}
+use Rattle.smithy_cbor_codec.specs.Standing.{cbor_relations}
 use Rattle.smithy_transcode.specs.declared.wire.Wire.{Wire}
 use Rattle.smithy_transcode.specs.declared.wire.Wire.TheVariants.{Json, Cbor}
 use Rattle.smithy_transcode.specs.Causes.{openers}

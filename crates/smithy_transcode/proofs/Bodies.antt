@@ -8,9 +8,9 @@ use Rattle.smithy_schema.specs.Writing.{write}
 use Rattle.smithy_json_codec.specs.Canonical.{canonical_json, key_text}
 use Rattle.smithy_json_codec.specs.Writing.{JsonState, json_after, fresh_state}
 use Rattle.smithy_json_codec.proofs.WritingLemmas.{state, value_adds}
-use Rattle.smithy_cbor.specs.Canonical.{canonical_cbor}
-use Rattle.smithy_cbor.specs.Writing.{CborState, cbor_after, fresh_state as fresh_cbor_state}
-use Rattle.smithy_cbor.proofs.WritingLemmas.{value_adds as cbor_value_adds}
+use Rattle.smithy_cbor_codec.specs.Canonical.{canonical_cbor}
+use Rattle.smithy_cbor_codec.specs.Writing.{CborState, cbor_after, fresh_state as fresh_cbor_state}
+use Rattle.smithy_cbor_codec.proofs.WritingLemmas.{value_adds as cbor_value_adds}
 use Rattle.smithy_transcode.specs.declared.wire.Wire.{Wire}
 use Rattle.smithy_transcode.specs.declared.wire.Wire.TheVariants.{Json, Cbor}
 use Rattle.smithy_transcode.specs.Spelling.{body}

@@ -7,10 +7,10 @@ use Rattle.smithy_json_codec.specs.Codec.{strict_settings}
 use Rattle.smithy_json_codec.specs.Settings.{without_limits}
 use Rattle.smithy_json_codec.specs.Standing.{json_relations}
 use Rattle.smithy_json_codec.proofs.SpellingLemmas.{stands_spells, spells_stands, structure_is_container}
-use Rattle.smithy_cbor.specs.Codec.{strict_settings as strict_cbor}
-use Rattle.smithy_cbor.specs.Settings.{without_limits as without_cbor_limits}
-use Rattle.smithy_cbor.specs.Standing.{cbor_relations}
-use Rattle.smithy_cbor.proofs.SpellingLemmas.{stands_spells as cbor_stands_spells, spells_stands as cbor_spells_stands}
+use Rattle.smithy_cbor_codec.specs.Codec.{strict_settings as strict_cbor}
+use Rattle.smithy_cbor_codec.specs.Settings.{without_limits as without_cbor_limits}
+use Rattle.smithy_cbor_codec.specs.Standing.{cbor_relations}
+use Rattle.smithy_cbor_codec.proofs.SpellingLemmas.{stands_spells as cbor_stands_spells, spells_stands as cbor_spells_stands}
 use Rattle.smithy_transcode.specs.declared.wire.Wire.{Wire}
 use Rattle.smithy_transcode.specs.declared.wire.Wire.TheVariants.{Json, Cbor}
 use Rattle.smithy_transcode.specs.Spelling.{Spells, SpellsAtAnyDepth}

@@ -13,9 +13,9 @@ use Rattle.smithy_schema.specs.Site.{whole_view}
 use Rattle.smithy_json_codec.specs.Codec.{strict_settings}
 use Rattle.smithy_json_codec.proofs.SpellingLemmas.{one_spelled}
 use Rattle.smithy_json_codec.proofs.WrittenSpelling.{spelled_fits, shallow, canonical_spells}
-use Rattle.smithy_cbor.specs.Codec.{strict_settings as strict_cbor}
-use Rattle.smithy_cbor.proofs.SpellingLemmas.{one_spelled as one_cbor_spelled}
-use Rattle.smithy_cbor.proofs.WrittenSpelling.{spelled_fits as cbor_fits, shallow as cbor_shallow, canonical_spells as cbor_spells_again}
+use Rattle.smithy_cbor_codec.specs.Codec.{strict_settings as strict_cbor}
+use Rattle.smithy_cbor_codec.proofs.SpellingLemmas.{one_spelled as one_cbor_spelled}
+use Rattle.smithy_cbor_codec.proofs.WrittenSpelling.{spelled_fits as cbor_fits, shallow as cbor_shallow, canonical_spells as cbor_spells_again}
 use Rattle.smithy_transcode.specs.declared.wire.Wire.{Wire}
 use Rattle.smithy_transcode.specs.declared.wire.Wire.TheVariants.{Json, Cbor}
 use Rattle.smithy_transcode.specs.declared.wire.TranscodeError.{TranscodeError}

@@ -1,7 +1,7 @@
 -- What the bytes of an input say of why it is refused, wire by wire.
 use Rattle.std.specs.Prelude.{ℕ, List}
 use Rattle.smithy_json_codec.specs.Openers.{json_openers}
-use Rattle.smithy_cbor.specs.Openers.{cbor_openers}
+use Rattle.smithy_cbor_codec.specs.Openers.{cbor_openers}
 use Rattle.smithy_transcode.specs.declared.wire.Wire.{Wire}
 use Rattle.smithy_transcode.specs.declared.wire.Wire.TheVariants.{Json, Cbor}
 

@@ -7,10 +7,10 @@ use Rattle.smithy_json_codec.specs.Canonical.{canonical_json}
 use Rattle.smithy_json_codec.specs.Codec.{strict_settings}
 use Rattle.smithy_json_codec.specs.Settings.{without_limits}
 use Rattle.smithy_json_codec.specs.Spelling.{json_spells}
-use Rattle.smithy_cbor.specs.Canonical.{canonical_cbor}
-use Rattle.smithy_cbor.specs.Codec.{strict_settings as strict_cbor}
-use Rattle.smithy_cbor.specs.Settings.{without_limits as without_cbor_limits}
-use Rattle.smithy_cbor.specs.Spelling.{cbor_spells}
+use Rattle.smithy_cbor_codec.specs.Canonical.{canonical_cbor}
+use Rattle.smithy_cbor_codec.specs.Codec.{strict_settings as strict_cbor}
+use Rattle.smithy_cbor_codec.specs.Settings.{without_limits as without_cbor_limits}
+use Rattle.smithy_cbor_codec.specs.Spelling.{cbor_spells}
 use Rattle.smithy_transcode.specs.declared.wire.Wire.{Wire}
 use Rattle.smithy_transcode.specs.declared.wire.Wire.TheVariants.{Json, Cbor}
 

@@ -14,7 +14,7 @@ use crate::reading::read_tree;
 use crate::refusal::refusal;
 use crate::whole_output::write_whole;
 use crate::wire::{TranscodeError, Wire};
-use smithy_cbor::CborCodec;
+use smithy_cbor_codec::CborCodec;
 use smithy_json_codec::JsonCodec;
 use smithy_schema::{SerdeError, ShapeRef, Shapes};
 use std::alloc::Global;

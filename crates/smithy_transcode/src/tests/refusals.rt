@@ -1,7 +1,7 @@
 //! What a reader that has failed answers, and how the refusals of a transcoding are printed.
 
 use crate::{TranscodeError, read_value};
-use smithy_cbor::CborCodec;
+use smithy_cbor_codec::CborCodec;
 use smithy_json_codec::JsonCodec;
 use smithy_schema::{SerdeError, ShapeDeserializer, Shapes, TableText};
 use std::test::Fail;

@@ -1,0 +1,139 @@
+-- What a reader finds at a place, as the contract of reading says it.
+use Rattle.std.proofs.Common.{◌≡◌, ◌≤◌, ◌<◌, ◌⊎◌, inl, inr, ℕ, suc, ℤ, length, List, [], ◌∷◌, true, false, Option, None, Result, Ok, Err, refl, sym, ap, ◌∙◌, arith}
+use Rattle.std.specs.Result.{OnOk}
+use Rattle.std.proofs.lemmas.Bool.Decides.{nat_tests}
+use Rattle.smithy_schema.specs.declared.error.SerdeError.{SerdeError}
+use Rattle.smithy_schema.specs.declared.error.SerdeError.TheVariants.{InvalidInput, Unwritable, Failed, NoMemory}
+use Rattle.smithy_schema.specs.declared.place.Place.{Place}
+use Rattle.smithy_schema.specs.declared.shape_type.TimestampFormat.{TimestampFormat}
+use Rattle.smithy_schema.specs.declared.shape_type.Scalar.TheVariants as scalars
+use Rattle.smithy_schema.specs.Table.{Table, kind_of, scalar_place, IsList, IsStructure}
+use Rattle.smithy_schema.specs.Value.{whole, text, scalar_value}
+use Rattle.smithy_schema.specs.Reading.{Cursor, Frame, depth, passed_to, Mark, Passes, Reads, Enters, Steps, Leaves, Conducts, StandsNot, OpensNot, SkipsNot, CannotGoOn, IsFault, in_list}
+use Rattle.smithy_cbor_codec.specs.Cursor.{inside_of}
+use Rattle.smithy_cbor_codec.specs.Settings.{Settings, Limits, kept, lifted, is_within}
+use Rattle.smithy_cbor_codec.specs.Standing.{Follows, FollowsInside, HasEntry, IsOver, mark_with, end_mark, cbor_relations}
+use Rattle.smithy_cbor_codec.specs.Private.Skipping.{SkipsTo}
+use Rattle.smithy_cbor_codec.specs.Private.Entries.{same_over, entry_or_over}
+use Rattle.smithy_cbor_codec.specs.Private.ItemPlaces.{item_ahead, one_item}
+use Rattle.smithy_cbor_codec.proofs.EntryLemmas.{entry_by_due, over_by_due}
+use Rattle.smithy_cbor_codec.proofs.ReaderLemmas.{opens_empty, steps_in_list, closes_list, list_is_stuck}
+use Rattle.smithy_cbor_codec.proofs.SkippedValues.{skips_are}
+use Rattle.smithy_wire.specs.Walking.{entered_into, gone_on_to}
+
+-- ---- containers
+
+no_bytes : (bytes : List ℕ) → length bytes ≡ 0 → bytes ≡ []
+no_bytes [] h = refl
+no_bytes (b ∷ bytes) h = absurd (omega (arith, h))
+
+-- an empty input opens a structure
+pub empty_at : (o : Settings) (c : Cursor) (t : Table) (p : Place) → IsStructure (kind_of t p) → length c.input ≡ 0 → c.at ≤ length c.input
+    → (cbor_relations o).opens c.input t p (depth c) c.at 0 end_mark
+empty_at o c t p kind empty within =
+    opens_empty o c.input t p kind (depth c) c.at (no_bytes c.input empty) (omega (arith, empty, within))
+
+pub empty_opens : (o : Settings) (c : Cursor) (t : Table) (p : Place) → IsStructure (kind_of t p) → length c.input ≡ 0 → c.at ≤ length c.input → OpensNot (cbor_relations o) c t p → ⊥
+empty_opens o c t p kind empty within none = none 0 end_mark (empty_at o c t p kind empty within)
+
+pub not_empty : (input : List ℕ) → (length input ≡ 0 → ⊥) → input ≡ [] → ⊥
+not_empty input full is = full (ap length is)
+
+shallow_enough : (limits : Limits) (greatest d : ℕ) → limits ≡ kept → d < greatest → is_within limits greatest (suc d) ≡ true
+shallow_enough kept greatest d keeps h = grind (arith, nat_tests)
+shallow_enough lifted greatest d keeps h = cc
+
+-- a container that opens was entered, if there is memory
+pub enters : {A : Type 0} (o : Settings) (c new : Cursor) (t : Table) (p : Place) (inside : ℕ) (frame held : Frame) (r : Result A SerdeError) → o.limits ≡ kept → c.failed ≡ false
+    → held ≡ frame → OnOk r (new ≡ entered_into c inside held) → OnOk r (depth c < o.max_depth)
+    → (cbor_relations o).opens c.input t p (depth c) c.at inside frame.mark → OnOk r (Enters (cbor_relations o) o.max_depth c new t p frame.within)
+enters o c new t p inside frame held (Ok x) keeps sound same is shallow opens =
+    let entered : new ≡ entered_into c inside frame = is ∙ ap (λ f. entered_into c inside f) same in
+    rw entered (record {
+      shallow = shallow;
+      allowed = shallow_enough o.limits o.max_depth (depth c) keeps shallow;
+      opens = opens;
+      input = refl;
+      within = refl;
+      outer = refl;
+      due = refl;
+      failed = sound;
+    })
+enters o c new t p inside frame held (Err e) keeps sound same is shallow opens = tt
+
+module _ (o : Settings) (c : Cursor) (t : Table) (p : Place) (kind : IsList (kind_of t p)) where
+  -- the list went on to an element
+  pub element_steps : (new : Cursor) (after : Option ℕ) → c.inner.within ≡ in_list → c.failed ≡ false → new ≡ gone_on_to c c.at (inside_of in_list after)
+      → HasEntry c.input c.at (mark_with c.inner.mark.due) (mark_with after) → Steps (cbor_relations o) c new t p None
+  element_steps new after within sound is entry = rw is (record {
+    steps = steps_in_list o c.input t p kind (depth c) c.at c.inner.mark (mark_with after) (entry_by_due c.input c.at (mark_with c.inner.mark.due) c.inner.mark (mark_with after) refl entry);
+    input = refl;
+    within = sym within;
+    outer = refl;
+    due = refl;
+    failed = sound;
+  })
+
+  -- it was left
+  pub list_left : (new : Cursor) (e : ℕ) → new.input ≡ c.input → new.at ≡ e → c.outer ≡ new.inner ∷ new.outer → new.due ≡ false → new.failed ≡ c.failed → c.failed ≡ false
+      → IsOver c.input c.at (mark_with c.inner.mark.due) e → FollowsInside (depth c) c.input e → Leaves (cbor_relations o) c new t p
+  list_left new e input place around undue failed sound over follows = record {
+    closes = rw place (closes_list o c.input t p kind (depth c) c.at c.inner.mark e (over_by_due c.input c.at (mark_with c.inner.mark.due) c.inner.mark e refl over) follows);
+    input = input;
+    outer = around;
+    due = undue;
+    failed = failed ∙ sound;
+  }
+
+  -- neither an element comes nor the end
+  pub list_stuck : ((n : Mark) → HasEntry c.input c.at (mark_with c.inner.mark.due) n → ⊥)
+      → ((e : ℕ) → IsOver c.input c.at (mark_with c.inner.mark.due) e → FollowsInside (depth c) c.input e → ⊥) → CannotGoOn (cbor_relations o) c t p
+  list_stuck none shut =
+      list_is_stuck o c.input t p kind (depth c) c.at c.inner.mark
+      (λ n h. none n (entry_by_due c.input c.at c.inner.mark (mark_with c.inner.mark.due) n refl h))
+      (λ e h follows. shut e (over_by_due c.input c.at c.inner.mark (mark_with c.inner.mark.due) e refl h) follows)
+
+  -- nor where it is over and can't be left
+  pub list_shut : (end held : ℕ) → held ≡ depth c → IsOver c.input c.at (mark_with c.inner.mark.due) end → (FollowsInside held c.input end → ⊥) → CannotGoOn (cbor_relations o) c t p
+  list_shut end held same over shut =
+      list_stuck (λ n entry. entry_or_over c.input c.at (mark_with c.inner.mark.due) n end entry over)
+      (λ e ends follows. shut (rw (same, same_over c.input c.at (mark_with c.inner.mark.due) end e over ends) follows))
+
+-- ---- skipped values
+
+-- an item that is skipped ends behind its place, and in the input
+pub skip_place : (input : List ℕ) (at held e : ℕ) → SkipsTo input at held e → (at ≤ e) × (e ≤ length input)
+skip_place input at held e h = let ahead = item_ahead h.found input at e h.stands in (omega arith, h.stands.0)
+
+module _ (o : Settings) (c : Cursor) (held : ℕ) (same : held ≡ depth c) where
+  -- nothing can be skipped
+  pub skips_not : ((e : ℕ) → SkipsTo c.input c.at held e → ⊥) → SkipsNot (cbor_relations o) c
+  skips_not none e skips = none e (rw same ((skips_are o c.input (depth c) c.at e).1 skips))
+
+  -- what was skipped is skipped there
+  pub skips_here : (e : ℕ) → SkipsTo c.input c.at held e → (cbor_relations o).skips c.input (depth c) c.at e
+  skips_here e h = (skips_are o c.input (depth c) c.at e).0 (rw same at h)
+
+  -- what is skipped ends at one place
+  pub skips_same : (end e : ℕ) → SkipsTo c.input c.at held end → (cbor_relations o).skips c.input (depth c) c.at e → end ≡ e
+  skips_same end e h skips =
+      let s = (skips_are o c.input (depth c) c.at e).1 skips in
+      (one_item h.found s.found c.input c.at end e h.stands s.stands).1
+
+-- ---- refusals
+
+-- a refusal that isn't want of memory
+pub input_fault : (error : SerdeError) → (error ≡ InvalidInput) ⊎ (error ≡ NoMemory) → IsFault error → error ≡ InvalidInput
+input_fault error (inl is) fault = is
+input_fault error (inr is) fault = absurd (rw is at fault)
+
+-- an answer of a reader that hadn't failed, and went on
+pub goes_ahead : (A : Type 0) (old new : Cursor) (x : A) (at : ℕ) → old.failed ≡ false → new.at ≡ at → new.input ≡ old.input → old.at ≤ at → at ≤ length old.input
+    → Conducts {A = A} old new (Ok x)
+goes_ahead A old new x at sound place input ahead within = record {
+  failed = (λ h. let no : ◌≡◌ {A = Result A SerdeError} (Ok x) (Err Failed) = h in cc, λ h. absurd (let both : true ≡ false = sym h ∙ sound in cc));
+  stays = tt;
+  readable = λ h. let no : ◌≡◌ {A = Result A SerdeError} (Ok x) (Err Unwritable) = h in cc;
+  ahead = rw place ahead;
+  within = rw (place, input) within;
+}

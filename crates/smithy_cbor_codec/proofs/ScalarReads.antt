@@ -1,0 +1,198 @@
+-- What a reader finds at the place of a scalar stands there, and where it finds nothing, nothing does.
+use Rattle.std.proofs.Common.{◌≡◌, ◌≤◌, ◌⊎◌, ◌-◌, ◌^◌, ℕ, ℤ, List, length, Bool, true, false, subst, Option, Some, refl, sym, ◌∙◌, ap}
+use Rattle.std.specs.Prelude.{option_map, Result, Ok, Err, OnErr, IfOk, IfErr, IsOk, IsErr, IfSome, IfNone, IsSome, IsNone}
+use Rattle.smithy_texts.specs.Ranges.{fits_signed}
+use Rattle.smithy_schema.specs.declared.shape_type.Scalar.{Scalar}
+use Rattle.smithy_schema.specs.declared.shape_type.Scalar.TheVariants as scalars
+use Rattle.smithy_schema.specs.declared.error.SerdeError.{SerdeError}
+use Rattle.smithy_schema.specs.declared.error.SerdeError.TheVariants.{InvalidInput, TooDeep, Unwritable, Failed, NoMemory}
+use Rattle.smithy_schema.specs.Table.{scalar_place}
+use Rattle.smithy_schema.specs.Site.{Site}
+use Rattle.smithy_schema.specs.Value.{ScalarValue, boolean, whole, text, Value, scalar_value, null_element}
+use Rattle.smithy_schema.specs.Reading.{Cursor, depth, StandsNot, IsInvalid, ReadsScalar, passed_to, failed_at}
+use Rattle.smithy_schema.specs.Lemmas.Options.{same_some, made}
+use Rattle.smithy_schema.proofs.ScalarLemmas.{fits_more}
+use Rattle.cbor_item.specs.WellFormed.{IsItemAt}
+use Rattle.cbor_item.specs.Item.{Item, unsigned, negative, byte_string, text_string, array, map, tag, simple, float}
+use Rattle.smithy_cbor_codec.specs.Settings.{Settings, without_limits}
+use Rattle.smithy_cbor.specs.Scalar.{boolean_item, integer_of, text_of}
+use Rattle.smithy_cbor_codec.specs.Scalar.{boolean_of, whole_of, says}
+use Rattle.smithy_cbor_codec.specs.Laws.{lawful}
+use Rattle.smithy_cbor_codec.specs.Meaning.{node_of, rules_of}
+use Rattle.smithy_cbor_codec.specs.Standing.{Follows, cbor_frames, cbor_relations}
+use Rattle.smithy_cbor_codec.specs.Private.Fits.{boolean_is, whole_is}
+use Rattle.smithy_cbor_codec.specs.Private.ScalarAtPlace.{IsAt, IsWholeAt, HasTextAt}
+use Rattle.smithy_cbor_codec.specs.Private.ItemPlaces.{one_item}
+use Rattle.smithy_wire.specs.Node.{leaf}
+use Rattle.smithy_wire.specs.Rules.{answer_of, settled}
+use Rattle.smithy_wire.specs.Narrowing.{IsNarrowed, IsWider}
+use Rattle.smithy_wire.specs.Readers.{settled_answer, scalar_stands, stands_scalar}
+use Rattle.smithy_wire.proofs.ScalarReads.{takes, takes_result, narrow_found, narrow_none, if_some, if_none, if_ok}
+
+-- integers and texts are scalars
+integer_is_leaf : (x : Item) (n : ℤ) → integer_of x ≡ Some n → node_of x ≡ leaf x
+integer_is_leaf (unsigned m) n is = refl
+integer_is_leaf (negative m) n is = refl
+integer_is_leaf (byte_string extent chunks) n is = cc
+integer_is_leaf (text_string extent chunks) n is = cc
+integer_is_leaf (array extent es) n is = cc
+integer_is_leaf (map extent ps) n is = cc
+integer_is_leaf (tag m x) n is = cc
+integer_is_leaf (simple m) n is = cc
+integer_is_leaf (float digits) n is = cc
+
+boolean_is_leaf : (b : Bool) → node_of (boolean_item b) ≡ leaf (boolean_item b)
+boolean_is_leaf true = refl
+boolean_is_leaf false = refl
+
+text_is_leaf : (x : Item) (s : List ℕ) → text_of x ≡ Some s → node_of x ≡ leaf x
+text_is_leaf (unsigned m) s is = cc
+text_is_leaf (negative m) s is = cc
+text_is_leaf (byte_string extent chunks) s is = cc
+text_is_leaf (text_string extent chunks) s is = refl
+text_is_leaf (array extent es) s is = cc
+text_is_leaf (map extent ps) s is = cc
+text_is_leaf (tag m x) s is = cc
+text_is_leaf (simple m) s is = cc
+text_is_leaf (float digits) s is = cc
+
+module _ (o : Settings) (c : Cursor) (site : Site) (s : Scalar) where
+  abbrev pub Stands : ScalarValue → ℕ → Type 0
+  Stands v e = (cbor_relations o).stands c.input site.table (scalar_place s site.place.time) (depth c) c.at (scalar_value v) e
+
+  -- what an item that is a scalar says stands there
+  says_stands : (x : Item) (v : Value) (e : ℕ) → cbor_frames.scalar c.input (depth c) x c.at e → settled o.limits null_element (says s site.place.time x) ≡ Some v
+      → (cbor_relations o).stands c.input site.table (scalar_place s site.place.time) (depth c) c.at v e
+  says_stands x v e lies means = scalar_stands cbor_frames (rules_of o) c.input site.table (scalar_place s site.place.time) s refl (depth c) c.at v e (x, lies, means)
+
+  -- and nothing else does
+  nothing_stands : ((x : Item) (v : Value) (e : ℕ) → cbor_frames.scalar c.input (depth c) x c.at e → settled o.limits null_element (says s site.place.time x) ≡ Some v → ⊥)
+      → StandsNot (cbor_relations o) c site.table (scalar_place s site.place.time)
+  nothing_stands none v e stands =
+      let x = stands_scalar cbor_frames (rules_of o) c.input site.table (scalar_place s site.place.time) s refl (depth c) c.at v e stands in
+      none x.0 v e x.1 x.2
+
+-- ---- booleans
+
+boolean_back : (b : Bool) → boolean_of (boolean_item b) ≡ Some (scalar_value (boolean b))
+boolean_back true = refl
+boolean_back false = refl
+
+module _ (o : Settings) (c : Cursor) (site : Site) where
+  settled_boolean : (x : Item) → settled o.limits null_element (says scalars.Boolean site.place.time x) ≡ boolean_of x
+  settled_boolean x = settled_answer o.limits null_element (boolean_of x)
+
+  pub boolean_stands : (b : Bool) (e : ℕ) → IsAt (boolean_item b) c.input c.at (depth c) e → Stands o c site scalars.Boolean (boolean b) e
+  boolean_stands b e (stands, follows) =
+      says_stands o c site scalars.Boolean (boolean_item b) (scalar_value (boolean b)) e (boolean_is_leaf b, stands, follows) (settled_boolean (boolean_item b) ∙ boolean_back b)
+
+  pub no_boolean_stands : ((b : Bool) (e : ℕ) → IsAt (boolean_item b) c.input c.at (depth c) e → ⊥) → StandsNot (cbor_relations o) c site.table (scalar_place scalars.Boolean site.place.time)
+  no_boolean_stands none = nothing_stands o c site scalars.Boolean (λ x v e lies means.
+      let b = boolean_is x v (sym (settled_boolean x) ∙ means) in
+      none b.0 e (subst (λ (y : Item). IsItemAt y c.input c.at e) b.1 lies.1, lies.2))
+
+-- ---- a kind of whole numbers of so many bits
+
+module _ (o : Settings) (c : Cursor) (site : Site) (s : Scalar) (bits : ℕ) (says_whole : (x : Item) → says s site.place.time x ≡ answer_of (whole_of bits x)) where
+  settled_whole : (x : Item) → settled o.limits null_element (says s site.place.time x) ≡ whole_of bits x
+  settled_whole x = ap (settled o.limits null_element) (says_whole x) ∙ settled_answer o.limits null_element (whole_of bits x)
+
+  is_whole : (x : Item) (n : ℤ) → integer_of x ≡ Some n → fits_signed bits n ≡ true → whole_of bits x ≡ Some (scalar_value (whole n))
+  is_whole x n is fits = rw (is, fits) refl
+
+  pub whole_stands : (n : ℤ) (e : ℕ) → IsWholeAt bits n c.input c.at (depth c) e → Stands o c site s (whole n) e
+  whole_stands n e h =
+      says_stands o c site s h.found (scalar_value (whole n)) e (integer_is_leaf h.found n h.is, h.stands, h.follows) (settled_whole h.found ∙ is_whole h.found n h.is h.fits)
+
+  pub no_whole_stands : ((n : ℤ) (e : ℕ) → IsWholeAt bits n c.input c.at (depth c) e → ⊥) → StandsNot (cbor_relations o) c site.table (scalar_place s site.place.time)
+  no_whole_stands none = nothing_stands o c site s (λ x v e lies means.
+      let z = whole_is bits x v (sym (settled_whole x) ∙ means) in
+      none z.0 e (record { found = x; stands = lies.1; is = z.1; fits = z.2; follows = lies.2 }))
+
+-- at one place stands one number
+same_number : (input : List ℕ) (at depth : ℕ) (n m : ℤ) (e f : ℕ) → IsWholeAt 64 n input at depth e → IsWholeAt 64 m input at depth f → n ≡ m
+same_number input at depth n m e f h k =
+    same_some n m (sym h.is ∙ ap integer_of (one_item h.found k.found input at e f h.stands k.stands).0 ∙ k.is)
+
+-- ---- texts
+
+-- a text with what may follow it
+abbrev pub TextStands : List ℕ → ℕ → ℕ → List ℕ → ℕ → Type 0
+TextStands input at depth t e = HasTextAt t input at e × Follows depth input e
+
+module _ (o : Settings) (c : Cursor) (site : Site) where
+  settled_text : (x : Item) → settled o.limits null_element (says scalars.String site.place.time x) ≡ option_map (λ s. scalar_value (text s)) (text_of x)
+  settled_text x = settled_answer o.limits null_element (option_map (λ s. scalar_value (text s)) (text_of x))
+
+  pub text_stands : (t : List ℕ) (e : ℕ) → TextStands c.input c.at (depth c) t e → Stands o c site scalars.String (text t) e
+  text_stands t e (h, follows) =
+      says_stands o c site scalars.String h.found (scalar_value (text t)) e (text_is_leaf h.found t h.is, h.stands, follows)
+      (settled_text h.found ∙ ap (option_map (λ s. scalar_value (text s))) h.is)
+
+  pub no_text_stands : ((t : List ℕ) (e : ℕ) → HasTextAt t c.input c.at e → Follows (depth c) c.input e → ⊥)
+      → StandsNot (cbor_relations o) c site.table (scalar_place scalars.String site.place.time)
+  no_text_stands none = nothing_stands o c site scalars.String (λ x v e lies means.
+      let s = made (λ s. scalar_value (text s)) (text_of x) v (sym (settled_text x) ∙ means) in
+      none s.0 e (record { found = x; stands = lies.1; is = s.1 }) lies.2)
+
+-- ---- the answer of a read
+
+-- a refusal of the input, by its error
+by_error : {A : Type 0} (found : Result A SerdeError) (Q : Type 0) → IfErr found (λ e. e ≡ InvalidInput → Q) → IsInvalid found → Q
+by_error (Ok x) Q h invalid = absurd invalid
+by_error (Err InvalidInput) Q h invalid = h refl
+by_error (Err TooDeep) Q h invalid = absurd invalid
+by_error (Err Unwritable) Q h invalid = absurd invalid
+by_error (Err Failed) Q h invalid = absurd invalid
+by_error (Err NoMemory) Q h invalid = absurd invalid
+
+module _ (o : Settings) (old : Cursor) (site : Site) (sound : old.failed ≡ false) (due : old.due ≡ true) (within : old.at ≤ length old.input) where
+  -- of a boolean
+  pub reads_boolean : (new : Cursor) (found : Option (Bool × ℕ)) (result : Result Bool SerdeError)
+      → IfSome found (λ r. IsAt (boolean_item r.0) old.input old.at (depth old) r.1) → IfNone found ((b : Bool) (e : ℕ) → IsAt (boolean_item b) old.input old.at (depth old) e → ⊥)
+      → IfOk result (λ x. IfSome found (λ r. (r.0 ≡ x) × (new ≡ passed_to old r.1))) → (IsOk result → IsSome found) → (IsErr result → IsNone found)
+      → OnErr result (new ≡ failed_at old) → IfErr result (λ e. e ≡ InvalidInput)
+      → ReadsScalar (cbor_relations o) (cbor_relations (without_limits o)) (Unit {0}) old new site scalars.Boolean boolean result
+  reads_boolean new found result here none =
+      takes (cbor_relations o) (cbor_relations (without_limits o)) (Unit {0}) site scalars.Boolean boolean (lawful o) old sound due within new found result
+      (if_some found _ _ (λ r. boolean_stands o old site r.0 r.1) here)
+      (if_none found _ _ (λ nothing. (no_boolean_stands o old site nothing, no_boolean_stands (without_limits o) old site nothing)) none)
+
+  -- of a kind of whole numbers of so many bits
+  pub reads_whole : (s : Scalar) (bits : ℕ) → ((x : Item) → says s site.place.time x ≡ answer_of (whole_of bits x))
+      → (new : Cursor) (found : Option (ℤ × ℕ)) (result : Result ℤ SerdeError)
+      → IfSome found (λ r. IsWholeAt bits r.0 old.input old.at (depth old) r.1) → IfNone found ((n : ℤ) (e : ℕ) → IsWholeAt bits n old.input old.at (depth old) e → ⊥)
+      → IfOk result (λ x. IfSome found (λ r. (r.0 ≡ x) × (new ≡ passed_to old r.1))) → (IsOk result → IsSome found) → (IsErr result → IsNone found)
+      → OnErr result (new ≡ failed_at old) → IfErr result (λ e. e ≡ InvalidInput)
+      → ReadsScalar (cbor_relations o) (cbor_relations (without_limits o)) (Unit {0}) old new site s whole result
+  reads_whole s bits says_whole new found result here none =
+      takes (cbor_relations o) (cbor_relations (without_limits o)) (Unit {0}) site s whole (lawful o) old sound due within new found result
+      (if_some found _ _ (λ r. whole_stands o old site s bits says_whole r.0 r.1) here)
+      (if_none found _ _ (λ nothing. (no_whole_stands o old site s bits says_whole nothing, no_whole_stands (without_limits o) old site s bits says_whole nothing)) none)
+
+  -- the same in fewer bits
+  pub reads_narrow : (s : Scalar) (bits : ℕ) → 2 ^ (bits - 1) ≤ 2 ^ 63 → ((x : Item) → says s site.place.time x ≡ answer_of (whole_of bits x))
+      → (new : Cursor) (wide found : Option (ℤ × ℕ)) (result : Result ℤ SerdeError)
+      → IfSome wide (λ r. IsWholeAt 64 r.0 old.input old.at (depth old) r.1) → IfNone wide ((n : ℤ) (e : ℕ) → IsWholeAt 64 n old.input old.at (depth old) e → ⊥)
+      → IfSome found (IsNarrowed bits wide) → IfNone found (IsWider bits wide)
+      → IfOk result (λ x. IfSome found (λ r. (r.0 ≡ x) × (new ≡ passed_to old r.1))) → (IsOk result → IsSome found) → (IsErr result → IsNone found)
+      → OnErr result (new ≡ failed_at old) → IfErr result (λ e. e ≡ InvalidInput)
+      → ReadsScalar (cbor_relations o) (cbor_relations (without_limits o)) (Unit {0}) old new site s whole result
+  reads_narrow s bits fewer says_whole new wide found result here none narrow wider =
+      let At : ℕ → ℤ → ℕ → Type 0 = λ bits n e. IsWholeAt bits n old.input old.at (depth old) e in
+      reads_whole s bits says_whole new found result
+      (narrow_found At bits wide found (λ n e h fits. record { found = h.found; stands = h.stands; is = h.is; fits = fits; follows = h.follows }) here narrow)
+      (narrow_none At bits wide found (λ n e h. (record { found = h.found; stands = h.stands; is = h.is; fits = fits_more bits 64 n fewer h.fits; follows = h.follows }, h.fits))
+      (same_number old.input old.at (depth old)) here none wider)
+
+  -- of a text
+  pub reads_text : {A : Type 0} (text_of : A → List ℕ) (new : Cursor) (found : Result (A × ℕ) SerdeError) (result : Result A SerdeError)
+      → IfOk found (λ r. TextStands old.input old.at (depth old) (text_of r.0) r.1) → IfErr found (λ e. (e ≡ InvalidInput) ⊎ (e ≡ NoMemory))
+      → IfErr found (λ e. e ≡ InvalidInput → (t : List ℕ) (e : ℕ) → HasTextAt t old.input old.at e → Follows (depth old) old.input e → ⊥)
+      → IfOk result (λ x. IfOk found (λ r. (r.0 ≡ x) × (new ≡ passed_to old r.1))) → (IsOk result → IsOk found)
+      → OnErr result (new ≡ failed_at old) → IfErr result (λ e. found ≡ Err e)
+      → ReadsScalar (cbor_relations o) (cbor_relations (without_limits o)) (Unit {0}) old new site scalars.String (λ x. text (text_of x)) result
+  reads_text text_of new found result here kind none =
+      takes_result (cbor_relations o) (cbor_relations (without_limits o)) (Unit {0}) site scalars.String (λ x. text (text_of x)) (lawful o) old sound due within new found result
+      (if_ok found _ _ (λ r. text_stands o old site (text_of r.0) r.1) here) kind
+      (λ invalid. let nothing = by_error found _ none invalid in (no_text_stands o old site nothing, no_text_stands (without_limits o) old site nothing))

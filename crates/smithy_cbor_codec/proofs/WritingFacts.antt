@@ -1,0 +1,117 @@
+-- The canonical encodings of values over small tables, what each call of a serializer adds, and how many
+-- heads of arrays and maps some bytes can hold.
+use Rattle.std.proofs.Common.{◌≡◌, ℕ, List, [], ◌∷◌, ◌++◌, map, true, false, Result, Ok, Err, Some, None, refl, pos, neg_ℤ, ◌^◌, ◌-◌, replicate, codes}
+use Rattle.smithy_schema.specs.declared.error.SerdeError.{SerdeError}
+use Rattle.smithy_schema.specs.declared.error.SerdeError.TheVariants.{Unwritable}
+use Rattle.smithy_schema.specs.Site.{Site, shape_site, site_of_member, nameless_site}
+use Rattle.smithy_schema.specs.Value as values
+use Rattle.smithy_schema.specs.Value.{whole, Value, null_element, no_values, no_member_values, member_value}
+use Rattle.smithy_schema.specs.Writing.{begin_structure, end_structure, begin_list, end_list, null_of, scalar_of, Open, open_structure, open_list, write}
+use Rattle.smithy_cbor_codec.specs.Openers.{cbor_openers}
+use Rattle.smithy_cbor_codec.specs.Writing.{CborState, fresh_state, cbor_after}
+use Rattle.smithy_cbor_codec.proofs.Examples.{whole_value, text_value, one_long, long_renamed, one_string, three_members, lists_of_lists, lists_of_strings, nodes, long_place, plain_member, in_lists, empty_structure, first_alone, written}
+
+-- ---- canonical encodings
+
+-- {_ "a": 1} and {_ }, and a member under its own name, whatever its name is in JSON
+pub structures : (written one_long 0 (first_alone (whole_value (pos 1))) ≡ 0xbf ∷ 0x61 ∷ 0x61 ∷ 0x01 ∷ 0xff ∷ [])
+    × (written one_long 0 empty_structure ≡ 0xbf ∷ 0xff ∷ [])
+    × (written long_renamed 0 (first_alone (whole_value (pos 1))) ≡ 0xbf ∷ 0x61 ∷ 0x61 ∷ 0x01 ∷ 0xff ∷ [])
+structures = (refl, refl, refl)
+
+-- -2^63 and 2^63-1
+pub ends_of_long : (written one_long 0 (first_alone (whole_value (neg_ℤ (pos (2 ^ 63))))) ≡ 0xbf ∷ 0x61 ∷ 0x61 ∷ 0x3b ∷ 0x7f ∷ (replicate 7 0xff ++ 0xff ∷ []))
+    × (written one_long 0 (first_alone (whole_value (pos (2 ^ 63 - 1)))) ≡ 0xbf ∷ 0x61 ∷ 0x61 ∷ 0x1b ∷ 0x7f ∷ (replicate 7 0xff ++ 0xff ∷ []))
+ends_of_long = (refl, refl)
+
+-- texts of 2, of 23 and of 24 bytes
+pub texts : (written one_string 0 (first_alone (text_value (0x22 ∷ 0x0a ∷ []))) ≡ 0xbf ∷ 0x61 ∷ 0x61 ∷ 0x62 ∷ 0x22 ∷ 0x0a ∷ 0xff ∷ [])
+    × (written one_string 0 (first_alone (text_value (replicate 23 0x78))) ≡ 0xbf ∷ 0x61 ∷ 0x61 ∷ 0x77 ∷ (replicate 23 0x78 ++ 0xff ∷ []))
+    × (written one_string 0 (first_alone (text_value (replicate 24 0x78))) ≡ 0xbf ∷ 0x61 ∷ 0x61 ∷ 0x78 ∷ 0x18 ∷ (replicate 24 0x78 ++ 0xff ∷ []))
+texts = (refl, refl, refl)
+
+abbrev x_and_null : Value
+x_and_null = values.list (values.value (text_value (codes "x")) (values.value null_element no_values))
+
+-- [_ ] and [_ "x", null]: elements have no keys
+pub lists : (written (lists_of_strings true) 0 (values.list no_values) ≡ 0x9f ∷ 0xff ∷ [])
+    × (written (lists_of_strings true) 0 x_and_null ≡ 0x9f ∷ 0x61 ∷ 0x78 ∷ 0xf6 ∷ 0xff ∷ [])
+    × (written (lists_of_strings true) 1 (first_alone x_and_null) ≡ 0xbf ∷ 0x61 ∷ 0x69 ∷ 0x9f ∷ 0x61 ∷ 0x78 ∷ 0xf6 ∷ 0xff ∷ 0xff ∷ [])
+lists = (refl, refl, refl)
+
+-- {_ "a": 0, "s": "é", "i": [_ "x", "y"]}
+pub all_members : written three_members 1 (values.structure (member_value 0 (whole_value (pos 0)) (member_value 1 (text_value (0xc3 ∷ 0xa9 ∷ [])) (member_value 2 (values.list (values.value (text_value (codes "x")) (values.value (text_value (codes "y")) no_values))) no_member_values))))
+    ≡ 0xbf ∷ 0x61 ∷ 0x61 ∷ 0x00 ∷ 0x61 ∷ 0x73 ∷ 0x62 ∷ 0xc3 ∷ 0xa9 ∷ 0x61 ∷ 0x69 ∷ 0x9f ∷ 0x61 ∷ 0x78 ∷ 0x61 ∷ 0x79 ∷ 0xff ∷ 0xff ∷ []
+all_members = refl
+
+-- {_ "value": 1, "nodes": [_ {_ "value": 2}, {_ }]}
+abbrev two_nodes : Value
+two_nodes = values.structure (member_value 0 (whole_value (pos 1)) (member_value 1 (values.list (values.value (first_alone (whole_value (pos 2))) (values.value empty_structure no_values))) no_member_values))
+
+abbrev two_nodes_bytes : List ℕ
+two_nodes_bytes = 0xbf ∷ 0x65 ∷ (codes "value" ++ 0x01 ∷ 0x65 ∷ (codes "nodes" ++ 0x9f ∷ 0xbf ∷ 0x65 ∷ (codes "value" ++ 0x02 ∷ 0xff ∷ 0xbf ∷ 0xff ∷ 0xff ∷ 0xff ∷ [])))
+
+pub inner_structures : written nodes 1 two_nodes ≡ two_nodes_bytes
+inner_structures = refl
+
+-- 127 lists in one another
+pub deepest_lists : written (lists_of_lists false) 1 (first_alone (in_lists 126 (values.list no_values)))
+    ≡ 0xbf ∷ 0x61 ∷ 0x6c ∷ (replicate 127 0x9f ++ (replicate 127 0xff ++ 0xff ∷ []))
+deepest_lists = refl
+
+-- ---- the calls of a serializer
+
+abbrev made : List ℕ → List Open → Result CborState SerdeError
+made out frames = Ok (record { out = out; frames = frames })
+
+-- what writes a value adds its canonical encoding
+pub written_in_turn : (write cbor_after (shape_site nodes 1) two_nodes fresh_state ≡ made two_nodes_bytes [])
+    × (write cbor_after (shape_site (lists_of_strings true) 0) x_and_null fresh_state ≡ made (0x9f ∷ 0x61 ∷ 0x78 ∷ 0xf6 ∷ 0xff ∷ []) [])
+written_in_turn = (refl, refl)
+
+-- the member "a", inside these containers, with nothing before it
+abbrev a_site : Site
+a_site = site_of_member one_long 0 (plain_member (codes "a") long_place)
+
+abbrev inside : List Open → CborState
+inside frames = record { out = []; frames = frames }
+
+-- a key stands in a structure alone, and not under a nameless schema
+pub keys : (cbor_after (scalar_of a_site (whole (pos 1))) (inside (open_structure ∷ [])) ≡ made (0x61 ∷ 0x61 ∷ 0x01 ∷ []) (open_structure ∷ []))
+    × (cbor_after (scalar_of a_site (whole (pos 1))) (inside (open_list ∷ open_structure ∷ [])) ≡ made (0x01 ∷ []) (open_list ∷ open_structure ∷ []))
+    × (cbor_after (scalar_of a_site (whole (pos 1))) (inside []) ≡ made (0x01 ∷ []) [])
+    × (cbor_after (scalar_of (nameless_site a_site) (whole (pos 1))) (inside (open_structure ∷ [])) ≡ made (0x01 ∷ []) (open_structure ∷ []))
+keys = (refl, refl, refl, refl)
+
+-- so it is with nulls and with what begins a container, whose length isn't written
+pub keys_of_others : (cbor_after (null_of a_site) (inside (open_structure ∷ [])) ≡ made (0x61 ∷ 0x61 ∷ 0xf6 ∷ []) (open_structure ∷ []))
+    × (cbor_after (begin_structure a_site) (inside (open_structure ∷ [])) ≡ made (0x61 ∷ 0x61 ∷ 0xbf ∷ []) (open_structure ∷ open_structure ∷ []))
+    × (cbor_after (begin_list a_site (Some 2)) (inside (open_structure ∷ [])) ≡ made (0x61 ∷ 0x61 ∷ 0x9f ∷ []) (open_list ∷ open_structure ∷ []))
+    × (cbor_after (begin_list a_site None) (inside []) ≡ made (0x9f ∷ []) (open_list ∷ []))
+keys_of_others = (refl, refl, refl, refl)
+
+-- an end is that of the innermost container
+pub ends : (cbor_after end_structure (inside (open_structure ∷ open_list ∷ [])) ≡ made (0xff ∷ []) (open_list ∷ []))
+    × (cbor_after end_list (inside (open_list ∷ open_structure ∷ [])) ≡ made (0xff ∷ []) (open_structure ∷ []))
+    × (cbor_after end_structure (inside (open_list ∷ open_structure ∷ [])) ≡ Err Unwritable)
+    × (cbor_after end_list (inside (open_structure ∷ open_list ∷ [])) ≡ Err Unwritable)
+    × (cbor_after end_structure (inside []) ≡ Err Unwritable)
+    × (cbor_after end_list (inside []) ≡ Err Unwritable)
+ends = (refl, refl, refl, refl, refl, refl)
+
+-- ---- openers
+
+-- the first and the last of each range, and those beside them
+pub ends_of_openers : map (λ b. cbor_openers (b ∷ [])) (0x00 ∷ 0x7f ∷ 0x80 ∷ 0x9b ∷ 0x9f ∷ 0xa0 ∷ 0xbb ∷ 0xbf ∷ 0xc0 ∷ 0xff ∷ [])
+    ≡ 0 ∷ 0 ∷ 1 ∷ 1 ∷ 1 ∷ 1 ∷ 1 ∷ 1 ∷ 0 ∷ 0 ∷ []
+ends_of_openers = refl
+
+-- in a text and in a number they count as well, and an end takes none away
+pub openers_anywhere : map cbor_openers ([] ∷ (0x62 ∷ 0xc2 ∷ 0x80 ∷ []) ∷ (0x18 ∷ 0x80 ∷ []) ∷ (0x9f ∷ 0xff ∷ 0x9f ∷ 0xff ∷ []) ∷ [])
+    ≡ 0 ∷ 1 ∷ 1 ∷ 2 ∷ []
+openers_anywhere = refl
+
+-- {_ "l": lists in one another}: 127 of them, and 128
+pub openers_of_lists : map (λ n. cbor_openers (0xbf ∷ 0x61 ∷ 0x6c ∷ (replicate n 0x81 ++ 0x80 ∷ 0xff ∷ []))) (126 ∷ 127 ∷ [])
+    ≡ 128 ∷ 129 ∷ []
+openers_of_lists = refl

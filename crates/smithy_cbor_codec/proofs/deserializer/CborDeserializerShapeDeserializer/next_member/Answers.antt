@@ -1,0 +1,60 @@
+use Rattle.std.proofs.Common.{◌≡◌, subst, inl, inr}
+use Rattle.std.specs.Result.{IfOk}
+use Rattle.smithy_schema.specs.declared.error.SerdeError.TheVariants.{InvalidInput}
+use Rattle.smithy_schema.specs.Site.{site_of}
+use Rattle.smithy_schema.specs.Reading.{CannotGoOn, MatchStep, passed_to}
+use Rattle.smithy_cbor_codec.specs.Cursor.{cursor_of, reading_settings_of}
+use Rattle.smithy_cbor_codec.specs.Settings.{without_limits}
+use Rattle.smithy_cbor_codec.specs.Standing.{cbor_relations}
+use Rattle.smithy_cbor_codec.proofs.DeserializerLemmas.{skip_place, skips_not, skips_same, skips_here, input_fault}
+use Rattle.smithy_cbor_codec.proofs.StructureStepsLemmas.{stays_undue, invalid_refused}
+use Rattle.smithy_cbor_codec.proofs.deserializer.CborDeserializerShapeDeserializer.next_member.Goals as goal
+
+pub returns-then-not-self-clause-refused : goal.returns-then-not-self-clause-refused
+returns-then-not-self-clause-refused c =
+    λ refused due. stays_undue (reading_settings_of c.args.self.now) (cursor_of c.args.self.now) c.args.schema.now.shapes.now c.args.schema.now.place due
+    (c.step_from.ensures.refused refused (reading_settings_of c.args.self.now))
+
+pub returns-then-not-self-clause-would : goal.returns-then-not-self-clause-would
+returns-then-not-self-clause-would c =
+    λ strict invalid due. stays_undue (without_limits (reading_settings_of c.args.self.now)) (cursor_of c.args.self.now) c.args.schema.now.shapes.now c.args.schema.now.place due
+    (c.step_from.ensures.refused (invalid_refused c.step_from.result invalid) (without_limits (reading_settings_of c.args.self.now)))
+
+pub step_from-requires-in-Ok-clause-ahead : goal.step_from-requires-in-Ok-clause-ahead
+step_from-requires-in-Ok-clause-ahead c = (skip_place c.args.self.now.walk.input.now c.args.self.now.walk.position c.depth.result c.in-Ok.end c.in-Ok.ensures.ok).0
+
+pub returns-in-Ok-clause-unread : goal.returns-in-Ok-clause-unread
+returns-in-Ok-clause-unread c = λ due e skips.
+    let same = skips_same (reading_settings_of c.args.self.now) (cursor_of c.args.self.now) c.depth.result c.depth.ensures c.in-Ok.end e c.in-Ok.ensures.ok skips in
+    subst (λ e. IfOk c.step_from-in-Ok.result (λ step. MatchStep step (cbor_relations (reading_settings_of c.args.self.now)) (passed_to (cursor_of c.args.self.now) e) (cursor_of c.step_from-in-Ok.new.self) (site_of c.args.schema.now))) same
+    c.step_from-in-Ok.ensures.ok
+
+pub returns-in-Ok-clause-unread_refused : goal.returns-in-Ok-clause-unread_refused
+returns-in-Ok-clause-unread_refused c = λ refused due e skips.
+    let same = skips_same (reading_settings_of c.args.self.now) (cursor_of c.args.self.now) c.depth.result c.depth.ensures c.in-Ok.end e c.in-Ok.ensures.ok skips in
+    subst (λ e. CannotGoOn (cbor_relations (reading_settings_of c.args.self.now)) (passed_to (cursor_of c.args.self.now) e) c.args.schema.now.shapes.now c.args.schema.now.place) same
+    (c.step_from-in-Ok.ensures.refused refused (reading_settings_of c.args.self.now))
+
+pub returns-in-Ok-clause-unread_would : goal.returns-in-Ok-clause-unread_would
+returns-in-Ok-clause-unread_would c = λ strict invalid due e skips.
+    let same = skips_same (without_limits (reading_settings_of c.args.self.now)) (cursor_of c.args.self.now) c.depth.result c.depth.ensures c.in-Ok.end e c.in-Ok.ensures.ok skips in
+    subst (λ e. CannotGoOn (cbor_relations (without_limits (reading_settings_of c.args.self.now))) (passed_to (cursor_of c.args.self.now) e) c.args.schema.now.shapes.now c.args.schema.now.place) same
+    (c.step_from-in-Ok.ensures.refused (invalid_refused c.step_from-in-Ok.result invalid) (without_limits (reading_settings_of c.args.self.now)))
+
+pub returns-in-Ok-clause-unskipped : goal.returns-in-Ok-clause-unskipped
+returns-in-Ok-clause-unskipped c = λ due none.
+    absurd (none c.in-Ok.end (skips_here (reading_settings_of c.args.self.now) (cursor_of c.args.self.now) c.depth.result c.depth.ensures c.in-Ok.end c.in-Ok.ensures.ok))
+
+pub returns-in-Err-clause-unread_refused : goal.returns-in-Err-clause-unread_refused
+returns-in-Err-clause-unread_refused c = λ fault due e skips.
+    absurd (skips_not (reading_settings_of c.args.self.now) (cursor_of c.args.self.now) c.depth.result c.depth.ensures
+    (c.in-Err.ensures.none (input_fault c.in-Err.error c.in-Err.ensures.kind (rw c.refuse-in-Err.ensures.error at fault))) e skips)
+
+pub returns-in-Err-clause-unread_would : goal.returns-in-Err-clause-unread_would
+returns-in-Err-clause-unread_would c = λ strict invalid due e skips.
+    let is : c.in-Err.error ≡ InvalidInput = elim c.in-Err.ensures.kind [
+      | inl input ↦ input
+      | inr memory ↦ absurd (rw (c.refuse-in-Err.ensures.error, memory) at invalid)
+    ] in
+    absurd (skips_not (without_limits (reading_settings_of c.args.self.now)) (cursor_of c.args.self.now) c.depth.result c.depth.ensures
+    (c.in-Err.ensures.none is) e skips)

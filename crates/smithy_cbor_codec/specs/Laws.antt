@@ -1,0 +1,29 @@
+-- The laws of reading, for CBOR.
+use Rattle.smithy_schema.specs.Reading.{IsLawful, StandsFit, CountsOpeners, IsBelow}
+use Rattle.smithy_cbor_codec.specs.Settings.{Settings, without_limits}
+use Rattle.smithy_cbor_codec.specs.Meaning.{rules_of}
+use Rattle.smithy_cbor_codec.specs.Standing.{cbor_frames, cbor_relations}
+use Rattle.smithy_cbor_codec.specs.Private.Wire.{cbor_is_wire, cbor_bounds_openers}
+use Rattle.smithy_cbor_codec.specs.Private.Fits.{says_fits}
+use Rattle.smithy_wire.specs.Wire.{RulesFit}
+use Rattle.smithy_wire.specs.Laws as wire
+
+-- the relations obey their laws, whatever the settings
+pub lawful : (c : Settings) → IsLawful (cbor_relations c)
+lawful c = wire.lawful cbor_frames (rules_of c) cbor_is_wire
+
+-- what scalars mean is of their kind
+pub rules_fit : (c : Settings) → RulesFit cbor_frames (rules_of c)
+rules_fit c = record { says_fits = λ i d x a e lies. says_fits c x }
+
+-- so what stands is a value of its place
+pub fit : (c : Settings) → StandsFit (cbor_relations c)
+fit c = wire.stands_fit cbor_frames (rules_of c) (rules_fit c)
+
+-- containers are counted
+pub counts : (c : Settings) → CountsOpeners (cbor_relations c)
+counts c = wire.counts_openers cbor_frames (rules_of c) cbor_bounds_openers
+
+-- what holds within the limits holds without them
+pub above : (c : Settings) → IsBelow (cbor_relations c) (cbor_relations (without_limits c))
+above c = wire.lifted_is_above cbor_frames (rules_of c)

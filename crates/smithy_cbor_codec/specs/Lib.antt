@@ -1,0 +1,18 @@
+-- To be believed, in this order.
+pub mod Settings
+pub mod Codec
+pub mod Scalar
+pub mod Meaning
+pub mod Spelling
+pub mod Canonical
+pub mod Openers
+-- For contracts.
+pub mod Cursor
+pub mod Standing
+pub mod Writing
+pub mod Serializing
+-- The laws of reading, and that the calls of writing nest.
+pub mod Laws
+pub mod Nesting
+-- For private clauses, and for the laws.
+pub mod Private

@@ -1,0 +1,42 @@
+-- The null, the integer or the text that stands at a place, as private functions answer it.
+use Rattle.std.specs.Prelude.{◌≡◌, ℕ, suc, ℤ, List, drop, Some, true}
+use Rattle.cbor_item.specs.declared.error.ItemError.{ItemError}
+use Rattle.cbor_item.specs.declared.error.ItemError.TheVariants as item
+use Rattle.cbor_item.specs.Item.{Item}
+use Rattle.cbor_item.specs.WellFormed.{IsItemAt}
+use Rattle.smithy_schema.specs.declared.error.SerdeError.{SerdeError}
+use Rattle.smithy_schema.specs.declared.error.SerdeError.TheVariants.{InvalidInput, NoMemory}
+use Rattle.smithy_cbor.specs.Scalar.{integer_of, text_of}
+use Rattle.smithy_texts.specs.Ranges.{fits_signed}
+use Rattle.smithy_cbor_codec.specs.Standing.{null_byte, begins_with, Follows}
+
+-- the refusal of what isn't read for the item's fault
+abbrev pub refusal_of : ItemError → SerdeError
+refusal_of item.NoMemory = NoMemory
+refusal_of item.Truncated = InvalidInput
+refusal_of item.NotWellFormed = InvalidInput
+refusal_of item.WrongType = InvalidInput
+refusal_of item.InvalidUtf8 = InvalidInput
+
+-- from at to e is a null, where a value may end behind it
+abbrev pub IsNullAt : List ℕ → ℕ → ℕ → ℕ → Type 0
+IsNullAt input at depth e =
+    (begins_with null_byte (drop at input) ≡ true) × (e ≡ suc at) × Follows depth input e
+
+-- the item stands there, where a value may end behind it
+abbrev pub IsAt : Item → List ℕ → ℕ → ℕ → ℕ → Type 0
+IsAt x input at depth e = IsItemAt x input at e × Follows depth input e
+
+-- an integer of so many bits stands there, where a value may end behind it
+pub record IsWholeAt (bits : ℕ) (n : ℤ) (input : List ℕ) (at depth e : ℕ) : Type 0 where
+  pub found : Item
+  pub stands : IsItemAt found input at e
+  pub is : integer_of found ≡ Some n
+  pub fits : fits_signed bits n ≡ true
+  pub follows : Follows depth input e
+
+-- a text stands there
+pub record HasTextAt (text : List ℕ) (input : List ℕ) (at e : ℕ) : Type 0 where
+  pub found : Item
+  pub stands : IsItemAt found input at e
+  pub is : text_of found ≡ Some text

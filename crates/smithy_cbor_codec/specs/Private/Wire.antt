@@ -1,0 +1,114 @@
+-- CBOR is a wire: what is determined in its framing, how values begin, and that positions rise.
+use Rattle.std.specs.Prelude.{◌≡◌, ◌⊎◌, ◌<◌, ◌≤◌, ◌+◌, ◌-◌, ℕ, length, drop, List, Option, Some, None, unwrap_or, refl}
+use Rattle.std.proofs.Common.{sym, ◌∙◌, ap, arith, inl, inr}
+use Rattle.smithy_schema.specs.Reading.{Mark}
+use Rattle.cbor_item.specs.Item.{Item}
+use Rattle.cbor_item.specs.WellFormed.{break}
+use Rattle.smithy_cbor_codec.specs.Standing.{null_byte, mark_with, end_mark, HasEntry, IsOver, major_in, Entry, cbor_frames}
+use Rattle.smithy_cbor_codec.specs.Private.ItemPlaces.{item_ahead, one_item, no_item}
+use Rattle.smithy_cbor_codec.specs.Private.FirstBytes.{byte_within}
+use Rattle.smithy_cbor_codec.specs.Private.Entries.{same_entry as same_next, same_over, entry_or_over, over_ahead, entry_due, entry_falls, no_end}
+use Rattle.smithy_cbor_codec.specs.Private.ContainerBytes.{same_opens_at, opens_within, inside_within}
+use Rattle.smithy_cbor_codec.specs.Private.OpenersAtPlaces.{openers_fall, opens_adds}
+use Rattle.smithy_wire.specs.Node.{Form, as_array, as_object}
+use Rattle.smithy_wire.specs.Wire.{IsBehind, IsWire, BoundsOpeners}
+use Rattle.smithy_cbor_codec.specs.Private.ValueSorts.{cbor_sort, others_begin, null_sort, scalar_sort, head_sort, over_sort}
+
+-- ---- what is determined
+
+same_entry : (s : Form) (i : List ℕ) (b : ℕ) (m : Mark) (k l : Option Item) (c e : ℕ) (n o : Mark) → Entry s i b m k c n → Entry s i b m l e o
+    → (k ≡ l) × (c ≡ e) × (n ≡ o)
+same_entry as_array i b m k l c e n o h j = (h.0 ∙ sym j.0, h.1 ∙ sym j.1, same_next i b m n o h.2 j.2)
+same_entry as_object i b m k l c e n o h j =
+    let one = one_item h.1.0 j.1.0 i b c e h.1.1 j.1.1 in (h.1.2 ∙ ap Some one.0 ∙ sym j.1.2, one.1, same_next i b m n o h.0 j.0)
+
+entry_next : (s : Form) (i : List ℕ) (b : ℕ) (m : Mark) (k : Option Item) (c : ℕ) (n : Mark) → Entry s i b m k c n → HasEntry i b m n
+entry_next as_array i b m k c n h = h.2
+entry_next as_object i b m k c n h = h.0
+
+same_opens : (s : Form) (i : List ℕ) (a b c : ℕ) (m n : Mark) → cbor_frames.opens s i a b m → cbor_frames.opens s i a c n → (b ≡ c) × (m ≡ n)
+same_opens s i a b c m n h j =
+    let one = same_opens_at (major_in s) h.0 j.0 i a b c h.2 j.2 in (one.0, h.1 ∙ ap mark_with one.1 ∙ sym j.1)
+
+no_mark : (due : Option ℕ) (m : Mark) → m ≡ mark_with due → m ≡ end_mark → ⊥
+no_mark due m h k = let clash = ap (λ (x : Mark). x.at_end) (sym h ∙ k) in cc
+
+next_inside : (i : List ℕ) (b : ℕ) (m n : Mark) → HasEntry i b m n → n ≡ end_mark → ⊥
+next_inside i b m n (inl h) is = no_mark (Some h.0) n h.2 is
+next_inside i b m n (inr h) is = no_mark None n h.3 is
+
+-- ---- positions rise
+
+entry_ahead : (s : Form) (i : List ℕ) (b : ℕ) (m : Mark) (k : Option Item) (c : ℕ) (n : Mark) → Entry s i b m k c n → b ≤ c
+entry_ahead as_array i b m k c n h = omega (arith, h.1)
+entry_ahead as_object i b m k c n h = omega (arith, item_ahead h.1.0 i b c h.1.1)
+
+falls_in_array : (i : List ℕ) (b c e more less : ℕ) → c ≡ b → IsBehind cbor_frames i c e → (less < more) ⊎ ((less ≤ more) × (b < length i))
+    → length i - e + less < length i - b + more
+falls_in_array i b c e more less at (inl ahead, within) (inl fewer) = omega (arith, at, ahead, within, fewer)
+falls_in_array i b c e more less at (inl ahead, within) (inr same) = omega (arith, at, ahead, within, same.0, same.1)
+falls_in_array i b c e more less at (inr over, within) (inl fewer) = omega (arith, at, over.0, within, fewer)
+falls_in_array i b c e more less at (inr over, within) (inr same) = absurd (omega (arith, same.1, ap length over.1.0))
+
+up : (i : List ℕ) (c e : ℕ) → IsBehind cbor_frames i c e → (c ≤ e) × (e ≤ length i)
+up i c e (inl h, within) = (omega (arith, h), within)
+up i c e (inr h, within) = (omega (arith, h.0), within)
+
+falls : (n b c e more less : ℕ) → b < c → c ≤ e → e ≤ n → less ≤ more → n - e + less < n - b + more
+falls n b c e more less ahead up within fewer = omega (arith, ahead, up, within, fewer)
+
+nearer : (s : Form) (i : List ℕ) (b : ℕ) (m : Mark) (k : Option Item) (c e : ℕ) (n : Mark) → Entry s i b m k c n → IsBehind cbor_frames i c e
+    → cbor_frames.left i e n < cbor_frames.left i b m
+nearer as_array i b m k c e n h at = falls_in_array i b c e (unwrap_or m.due 0) (unwrap_or n.due 0) h.1 at (entry_falls i b m n h.2)
+nearer as_object i b m k c e n h at =
+    let u = up i c e at in
+    falls (length i) b c e (unwrap_or m.due 0) (unwrap_or n.due 0) (item_ahead h.1.0 i b c h.1.1) u.0 u.1 (entry_due i b m n h.0)
+
+over_within : (i : List ℕ) (b : ℕ) (m : Mark) (e : ℕ) → b ≤ length i → IsOver i b m e → e ≤ length i
+over_within i b m e low (inl h) = omega (arith, low, h.1)
+over_within i b m e low (inr h) = omega (arith, h.2, byte_within break i b h.1)
+
+pub cbor_is_wire : IsWire cbor_frames
+cbor_is_wire = record {
+  same_null = λ i d a e f h k. h.1 ∙ sym k.1;
+  same_scalar = λ i d x y a e f h k. one_item x y i a e f h.1 k.1;
+  same_opens = same_opens;
+  same_entry = same_entry;
+  same_ends = λ s i b m e f h k. same_over i b m e f h k;
+  entry_or_end = λ s i b m k c e n h end. entry_or_over i b m n e (entry_next s i b m k c n h) end;
+  sort_at = λ i a. cbor_sort (drop a i);
+  null_sort = λ i d a e h. null_sort (drop a i) h.0;
+  scalar_sort = λ i d x a e h. scalar_sort i x a e h.0 h.1;
+  opens_sort = λ s i a b m h.
+      head_sort s (drop a i) (record { major = major_in s; argument = h.0; length = b - a }) refl h.2.1 (opens_within (major_in s) h.0 i a b h.2);
+  over_sort = λ i a h. over_sort i a h.0 h.1;
+  null_begins = λ i d a e h. h.0;
+  others_begin = λ i a h. others_begin (drop a i) h;
+  over_is_end = λ i a h. h.1 ∙ sym (ap length h.0);
+  no_entry_over = λ i b k c n over h. no_item h.1.0 i b c over.0 h.1.1;
+  no_end_over = λ i b e over h. no_end i b end_mark e over.0 refl h;
+  opens_inside = λ s i a b m h is. no_mark h.0 m h.1 is;
+  entry_inside = λ s i b m k c n h is. next_inside i b m n (entry_next s i b m k c n h) is;
+  null_ahead = λ i d a e h. (omega (arith, h.1), omega (arith, h.1, byte_within null_byte i a h.0));
+  scalar_ahead = λ i d x a e h. (item_ahead x i a e h.1, h.1.0);
+  opens_ahead = λ s i a b m h. (h.2.0, inside_within (major_in s) h.0 i a b h.2);
+  entry_ahead = entry_ahead;
+  ends_ahead = λ s i b m e low h. ((over_ahead i b m e h).0, over_within i b m e low h);
+  nearer = nearer;
+}
+
+-- ---- openers
+
+is_counted : (s : Form) → (major_in s ≡ 4) ⊎ (major_in s ≡ 5)
+is_counted as_array = inl refl
+is_counted as_object = inr refl
+
+pub cbor_bounds_openers : BoundsOpeners cbor_frames
+cbor_bounds_openers = record {
+  over_is_empty = λ i a over some. omega (arith, some, ap length over.0);
+  null_takes_none = λ i d a e h. openers_fall i a e (omega (arith, h.1));
+  scalar_takes_none = λ i d x a e h. openers_fall i a e (omega (arith, item_ahead x i a e h.1));
+  opening_adds = λ s i a b m h. opens_adds (major_in s) h.0 i a b (is_counted s) h.2;
+  entry_takes_none = λ s i b m k c n h. openers_fall i b c (entry_ahead s i b m k c n h);
+  end_takes_one = λ s i b m e h. let fall = openers_fall i b e (over_ahead i b m e h).0 in omega (arith, fall);
+}

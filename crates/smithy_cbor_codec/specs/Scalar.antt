@@ -1,0 +1,31 @@
+-- What one item says as each kind.
+use Rattle.std.specs.Prelude.{◌==◌, ℕ, true, false, ℤ, Option, Some, None, option_map, option_and_then, if◌then◌else◌}
+use Rattle.smithy_texts.specs.Ranges.{fits_signed}
+use Rattle.smithy_schema.specs.declared.shape_type.Scalar.{Scalar}
+use Rattle.smithy_schema.specs.declared.shape_type.Scalar.TheVariants as scalars
+use Rattle.smithy_schema.specs.declared.shape_type.TimestampFormat.{TimestampFormat}
+use Rattle.smithy_schema.specs.Value.{boolean, whole, text, Value, scalar_value}
+use Rattle.cbor_item.specs.Item.{Item, simple}
+use Rattle.smithy_cbor.specs.Scalar.{false_value, true_value, integer_of, text_of}
+use Rattle.smithy_wire.specs.Rules.{Answer, answer_of}
+
+-- false or true
+abbrev pub boolean_of : Item → Option Value
+boolean_of (simple n) =
+    if n == false_value then Some (scalar_value (boolean false))
+    else if n == true_value then Some (scalar_value (boolean true)) else None
+boolean_of _ = None
+
+-- an integer that fits so many bits
+abbrev pub whole_of : ℕ → Item → Option Value
+whole_of bits x =
+    option_and_then (λ (z : ℤ). if fits_signed bits z then Some (scalar_value (whole z)) else None) (integer_of x)
+
+-- what an item is as one kind
+abbrev pub says : Scalar → Option TimestampFormat → Item → Answer Value
+says scalars.Boolean time x = answer_of (boolean_of x)
+says scalars.Byte time x = answer_of (whole_of 8 x)
+says scalars.Short time x = answer_of (whole_of 16 x)
+says scalars.Integer time x = answer_of (whole_of 32 x)
+says scalars.Long time x = answer_of (whole_of 64 x)
+says scalars.String time x = answer_of (option_map (λ s. scalar_value (text s)) (text_of x))

@@ -1,0 +1,373 @@
+//! The reader of CBOR values that a schema directs.
+ghost use Rattle.std.specs.Prelude.{◌≡◌};
+ghost use Rattle.smithy_cbor_codec.specs.Cursor.{inside_of, missing_frame};
+ghost use Rattle.smithy_wire.specs.Walking.{within_of, frame_of};
+
+use crate::members::{Next, next_present};
+use crate::places::{EntryOrEnd, array_at, entry_or_end, is_null_at, map_at, may_leave, null_end};
+use crate::values::{boolean_at, long_at, skipped_end, string_at};
+use smithy_schema::{Schema, SerdeError, ShapeDeserializer, Step};
+use smithy_wire::{Frame, Mark, Walk, Within, byte_found, integer_found, short_found};
+use std::alloc::Global;
+
+/// A strict reader of one CBOR item.
+#[derive(Drop)]
+pub struct CborDeserializer<'a> {
+    pub(crate) walk: Walk<'a>,
+    pub(crate) alloc: Global,
+}
+
+// What is kept of an open container: how many of its entries are still due, where its head tells it.
+#[inline]
+fn frame(within: Within, due: Option<u64>) -> Frame
+    ensures { frame_of result ≡ inside_of (within_of within) due }
+{
+    Frame {
+        within,
+        mark: Mark {
+            entered: false,
+            at_end: false,
+            due,
+        },
+    }
+}
+
+// What is kept of the structure without members that an empty input is.
+fn missing() -> Frame
+    ensures { frame_of result ≡ missing_frame }
+{
+    Frame {
+        within: Within::Structure,
+        mark: Mark {
+            entered: false,
+            at_end: true,
+            due: None,
+        },
+    }
+}
+
+impl<'a> CborDeserializer<'a> {
+    ghost use Rattle.std.specs.Prelude.{◌≡◌, ◌≤◌, ◌↔◌, length, IsTrue, IfOk, IsErrOf, false};
+    ghost use Rattle.smithy_schema.specs.Reading.{passed_to, in_structure, Conducts, MatchStep, CannotGoOn, IsRefused};
+    ghost use Rattle.smithy_schema.specs.Table.{IsStructure};
+    ghost use Rattle.smithy_schema.specs.Site.{site_of, kind_at};
+    ghost use Rattle.smithy_schema.specs.declared.error.SerdeError.TheVariants.{TooDeep};
+    ghost use Rattle.smithy_cbor_codec.specs.Cursor.{cursor_of, reading_settings_of};
+    ghost use Rattle.smithy_cbor_codec.specs.Settings.{Settings};
+    ghost use Rattle.smithy_cbor_codec.specs.Standing.{cbor_relations};
+    ghost use Rattle.smithy_cbor_codec.specs.Private.StructureSteps.{EndsEmpty, StepsTo};
+    ghost use Rattle.smithy_wire.specs.Walking.{fresh_cursor};
+
+    // A fresh reader.
+    pub(crate) fn new(input: &'a [u8], alloc: Global, max_depth: usize) -> CborDeserializer<'a>
+        requires { max_depth ≤ 512 }
+        ensures state { cursor_of result ≡ fresh_cursor input.now }
+        ensures max_depth { result.walk.max_depth ≡ max_depth }
+    {
+        CborDeserializer {
+            walk: Walk::new(input, alloc, max_depth),
+            alloc,
+        }
+    }
+
+    // Whether the innermost container was opened at the end of an empty input, and ends there.
+    fn ends_empty(&self) -> bool
+        ensures { IsTrue result ↔ EndsEmpty (cursor_of self.now) }
+    {
+        let mark = self.walk.inner.mark;
+        mark.at_end
+            && !mark.entered
+            && mark.due.is_none()
+            && self.walk.input.is_empty()
+            && self.walk.depth() > 0
+    }
+
+    // The step to a member of this name.
+    fn step_to<'s>(&self, schema: &Schema<'s>, name: &str) -> Step<'s>
+        ensures { StepsTo result (reading_settings_of self.now) (site_of schema.now) name.now }
+    {
+        match schema.member_schema(name) {
+            Some(member) => Step::Member(member),
+            None => Step::Unknown,
+        }
+    }
+
+    // Goes on in the structure from the offset on, where nothing is due any more.
+    fn step_from<'s>(&mut self, at: usize, schema: &Schema<'s>) -> Result<Step<'s>, SerdeError>
+        requires ahead { self.old.walk.position ≤ at }
+        requires within { at ≤ length self.old.walk.input.now }
+        requires sound { self.old.walk.failed ≡ false }
+        requires inside { (cursor_of self.old).inner.within ≡ in_structure }
+        requires place { IsStructure (kind_at (site_of schema.now)) }
+        ensures same { reading_settings_of self.new ≡ reading_settings_of self.old }
+        ensures conduct { Conducts (cursor_of self.old) (cursor_of self.new) result }
+        ensures ok { IfOk result (λ step. MatchStep step (cbor_relations (reading_settings_of self.old)) (passed_to (cursor_of self.old) at) (cursor_of self.new) (site_of schema.now)) }
+        ensures refused { IsRefused result → (o : Settings) → CannotGoOn (cbor_relations o) (passed_to (cursor_of self.old) at) schema.now.shapes.now schema.now.place }
+        ensures shallow { IsErrOf result TooDeep → ⊥ }
+    {
+        if self.ends_empty() {
+            self.walk.leave(0);
+            return Ok(Step::End);
+        }
+        match next_present(
+            self.alloc,
+            self.walk.input,
+            at,
+            self.walk.inner.mark.due,
+            self.walk.depth(),
+        ) {
+            Ok(Next::Member(name, value, due)) => {
+                let step = self.step_to(schema, name.as_str());
+                self.walk.go_on(value, frame(Within::Structure, due));
+                Ok(step)
+            }
+            Ok(Next::End(end)) => {
+                self.walk.leave(end);
+                Ok(Step::End)
+            }
+            Err(error) => Err(self.walk.refuse(error)),
+        }
+    }
+}
+
+impl ShapeDeserializer for CborDeserializer<'_> {
+    ghost use Rattle.std.specs.Prelude.{◌≡◌, ℕ, OnOk, IfOk, IsErr, IsErrOf, true, false};
+    ghost use Rattle.smithy_schema.specs.Reading.{depth, in_structure, passed_to, null_is_due, Conducts, Passes, MatchStep, CannotGoOn, IsRefused, IsInvalid, IsNoAnswer, NullsNot, SkipsNot, ReachesDepth};
+    ghost use Rattle.smithy_schema.specs.Table.{IsStructure};
+    ghost use Rattle.smithy_schema.specs.Site.{site_of, kind_at};
+    ghost use Rattle.smithy_schema.specs.declared.error.SerdeError.TheVariants.{NoMemory, TooDeep};
+    ghost use Rattle.smithy_cbor_codec.specs.Cursor.{cursor_of, reading_settings_of};
+    ghost use Rattle.smithy_cbor_codec.specs.Settings.{Settings, without_limits};
+    ghost use Rattle.smithy_cbor_codec.specs.Standing.{cbor_relations};
+    ghost use Rattle.smithy_cbor_codec.specs.Laws.{lawful as cbor_is_lawful, fit as cbor_fits, counts as cbor_counts, above as limits_are_above};
+
+    ghost Settings = { Settings };
+
+    ghost settings = { reading_settings_of };
+
+    ghost state = { cursor_of };
+
+    ghost max_depth = { λ (c : Settings). c.max_depth };
+
+    ghost wire = { cbor_relations };
+
+    ghost lifted = { λ c. cbor_relations (without_limits c) };
+
+    // The one maker gives settings of which all that is said of the lifted relations holds.
+    ghost is_strict = { λ _. Unit {0} };
+
+    ghost lawful = { cbor_is_lawful };
+
+    ghost lifted_lawful = { λ c. cbor_is_lawful (without_limits c) };
+
+    ghost fit = { cbor_fits };
+
+    ghost counts = { λ c _. cbor_counts c };
+
+    ghost above = { limits_are_above };
+
+    fn position(&self) -> usize {
+        self.walk.position
+    }
+
+    fn fail(&mut self) {
+        self.walk.failed = true;
+    }
+
+    fn open_struct(&mut self, _schema: &Schema<'_>) -> Result<(), SerdeError> {
+        self.walk.ready()?;
+        if self.walk.input.is_empty() {
+            return self.walk.enter(0, missing());
+        }
+        match map_at(self.walk.input, self.walk.position) {
+            Some(opening) => self
+                .walk
+                .enter(opening.inside, frame(Within::Structure, opening.due)),
+            None => Err(self.walk.refuse(SerdeError::InvalidInput)),
+        }
+    }
+
+    fn next_member<'s>(&mut self, schema: &Schema<'s>) -> Result<Step<'s>, SerdeError>
+        requires within { (cursor_of self.old).inner.within ≡ in_structure }
+        requires place { IsStructure (kind_at (site_of schema.now)) }
+        ensures same { reading_settings_of self.new ≡ reading_settings_of self.old }
+        ensures conduct { Conducts (cursor_of self.old) (cursor_of self.new) result }
+        ensures ok { (cursor_of self.old).due ≡ false → IfOk result (λ step. MatchStep step (cbor_relations (reading_settings_of self.old)) (cursor_of self.old) (cursor_of self.new) (site_of schema.now)) }
+        ensures refused { IsRefused result → (cursor_of self.old).due ≡ false
+            → CannotGoOn (cbor_relations (reading_settings_of self.old)) (cursor_of self.old) schema.now.shapes.now schema.now.place }
+        ensures would { Unit {0} → IsInvalid result → (cursor_of self.old).due ≡ false
+            → CannotGoOn (cbor_relations (without_limits (reading_settings_of self.old))) (cursor_of self.old) schema.now.shapes.now schema.now.place }
+        ensures unread { (cursor_of self.old).due ≡ true → (e : ℕ) → (cbor_relations (reading_settings_of self.old)).skips (cursor_of self.old).input (depth (cursor_of self.old)) (cursor_of self.old).at e
+            → IfOk result (λ step. MatchStep step (cbor_relations (reading_settings_of self.old)) (passed_to (cursor_of self.old) e) (cursor_of self.new) (site_of schema.now)) }
+        ensures unread_refused { IsRefused result → (cursor_of self.old).due ≡ true → (e : ℕ) → (cbor_relations (reading_settings_of self.old)).skips (cursor_of self.old).input (depth (cursor_of self.old)) (cursor_of self.old).at e
+            → CannotGoOn (cbor_relations (reading_settings_of self.old)) (passed_to (cursor_of self.old) e) schema.now.shapes.now schema.now.place }
+        ensures unread_would { Unit {0} → IsInvalid result → (cursor_of self.old).due ≡ true → (e : ℕ) → (cbor_relations (without_limits (reading_settings_of self.old))).skips (cursor_of self.old).input (depth (cursor_of self.old)) (cursor_of self.old).at e
+            → CannotGoOn (cbor_relations (without_limits (reading_settings_of self.old))) (passed_to (cursor_of self.old) e) schema.now.shapes.now schema.now.place }
+        ensures unskipped { (cursor_of self.old).due ≡ true → SkipsNot (cbor_relations (reading_settings_of self.old)) (cursor_of self.old) → IsErr result }
+        ensures deep { IsErrOf result TooDeep → ReachesDepth (cbor_relations (reading_settings_of self.old)) (reading_settings_of self.old).max_depth (cursor_of self.old) }
+        ensures unread_deep { IsErrOf result TooDeep → ((cursor_of self.old).due ≡ true) × SkipsNot (cbor_relations (reading_settings_of self.old)) (cursor_of self.old) }
+
+        // An unread member may nest to any depth.
+        ensures shallow { IsErrOf result TooDeep → ⊥ }
+    {
+        if self.walk.failed {
+            return Err(self.walk.refuse(SerdeError::Failed));
+        }
+        if !self.walk.due {
+            let at = self.walk.position;
+            return self.step_from(at, schema);
+        }
+        match skipped_end(
+            self.alloc,
+            self.walk.input,
+            self.walk.position,
+            self.walk.depth(),
+        ) {
+            Ok(end) => self.step_from(end, schema),
+            Err(error) => Err(self.walk.refuse(error)),
+        }
+    }
+
+    fn open_list(&mut self, _schema: &Schema<'_>) -> Result<(), SerdeError> {
+        self.walk.ready()?;
+        match array_at(self.walk.input, self.walk.position) {
+            Some(opening) => self
+                .walk
+                .enter(opening.inside, frame(Within::List, opening.due)),
+            None => Err(self.walk.refuse(SerdeError::InvalidInput)),
+        }
+    }
+
+    fn next_element(&mut self) -> Result<bool, SerdeError> {
+        if self.walk.failed {
+            return Err(self.walk.refuse(SerdeError::Failed));
+        }
+        if self.walk.due {
+            return Err(self.walk.refuse(SerdeError::InvalidInput));
+        }
+        match entry_or_end(
+            self.walk.input,
+            self.walk.position,
+            self.walk.inner.mark.due,
+        ) {
+            Some(EntryOrEnd::Entry(due)) => {
+                let at = self.walk.position;
+                self.walk.go_on(at, frame(Within::List, due));
+                Ok(true)
+            }
+            Some(EntryOrEnd::End(end)) => {
+                if may_leave(self.walk.input, end, self.walk.depth()) {
+                    self.walk.leave(end);
+                    return Ok(false);
+                }
+                Err(self.walk.refuse(SerdeError::InvalidInput))
+            }
+            None => Err(self.walk.refuse(SerdeError::InvalidInput)),
+        }
+    }
+
+    fn is_null(&self) -> bool {
+        self.walk.due && is_null_at(self.walk.input, self.walk.position)
+    }
+
+    fn read_null(&mut self) -> Result<(), SerdeError>
+        ensures same { reading_settings_of self.new ≡ reading_settings_of self.old }
+        ensures conduct { Conducts (cursor_of self.old) (cursor_of self.new) result }
+        ensures memory { IsErrOf result NoMemory → ⊥ }
+        ensures shallow { IsErrOf result TooDeep → ⊥ }
+        ensures ok { null_is_due (cbor_relations (reading_settings_of self.old)) (cursor_of self.old) ≡ true → OnOk result ((cbor_relations (reading_settings_of self.old)).nulls (cursor_of self.old).input (depth (cursor_of self.old)) (cursor_of self.old).at (cursor_of self.new).at) }
+        ensures passes { null_is_due (cbor_relations (reading_settings_of self.old)) (cursor_of self.old) ≡ true → OnOk result (Passes (cursor_of self.old) (cursor_of self.new)) }
+        ensures refused { null_is_due (cbor_relations (reading_settings_of self.old)) (cursor_of self.old) ≡ true → IsRefused result → NullsNot (cbor_relations (reading_settings_of self.old)) (cursor_of self.old) }
+        ensures would { Unit {0} → null_is_due (cbor_relations (reading_settings_of self.old)) (cursor_of self.old) ≡ true → IsInvalid result → NullsNot (cbor_relations (without_limits (reading_settings_of self.old))) (cursor_of self.old) }
+        ensures nothing { null_is_due (cbor_relations (reading_settings_of self.old)) (cursor_of self.old) ≡ false → OnOk result (cursor_of self.new ≡ cursor_of self.old) }
+
+        // Where no null is due, it refuses.
+        ensures not_due { null_is_due (cbor_relations (reading_settings_of self.old)) (cursor_of self.old) ≡ false → IsErr result }
+    {
+        if self.walk.failed {
+            return Err(self.walk.refuse(SerdeError::Failed));
+        }
+        if !self.is_null() {
+            return Err(self.walk.refuse(SerdeError::InvalidInput));
+        }
+        match null_end(self.walk.input, self.walk.position, self.walk.depth()) {
+            Some(end) => {
+                self.walk.pass(end);
+                Ok(())
+            }
+            None => Err(self.walk.refuse(SerdeError::InvalidInput)),
+        }
+    }
+
+    fn skip_value(&mut self) -> Result<(), SerdeError>
+        ensures same { reading_settings_of self.new ≡ reading_settings_of self.old }
+        ensures conduct { Conducts (cursor_of self.old) (cursor_of self.new) result }
+        ensures undue { (cursor_of self.old).due ≡ false → IsNoAnswer result }
+        ensures ok { OnOk result ((cbor_relations (reading_settings_of self.old)).skips (cursor_of self.old).input (depth (cursor_of self.old)) (cursor_of self.old).at (cursor_of self.new).at) }
+        ensures passes { OnOk result (Passes (cursor_of self.old) (cursor_of self.new)) }
+        ensures refused { IsRefused result → (cursor_of self.old).due ≡ true → SkipsNot (cbor_relations (reading_settings_of self.old)) (cursor_of self.old) }
+        ensures would { Unit {0} → IsInvalid result → (cursor_of self.old).due ≡ true → SkipsNot (cbor_relations (without_limits (reading_settings_of self.old))) (cursor_of self.old) }
+        ensures deep { IsErrOf result TooDeep → ReachesDepth (cbor_relations (reading_settings_of self.old)) (reading_settings_of self.old).max_depth (cursor_of self.old) }
+
+        // What is skipped may nest to any depth.
+        ensures shallow { IsErrOf result TooDeep → ⊥ }
+    {
+        self.walk.ready()?;
+        match skipped_end(
+            self.alloc,
+            self.walk.input,
+            self.walk.position,
+            self.walk.depth(),
+        ) {
+            Ok(end) => {
+                self.walk.pass(end);
+                Ok(())
+            }
+            Err(fault) => Err(self.walk.refuse(fault)),
+        }
+    }
+
+    fn read_boolean(&mut self, _schema: &Schema<'_>) -> Result<bool, SerdeError> {
+        self.walk.ready()?;
+        let found = boolean_at(self.walk.input, self.walk.position, self.walk.depth());
+        self.walk.take(found)
+    }
+
+    fn read_byte(&mut self, _schema: &Schema<'_>) -> Result<i8, SerdeError> {
+        self.walk.ready()?;
+        let found = long_at(self.walk.input, self.walk.position, self.walk.depth());
+        self.walk.take(byte_found(found))
+    }
+
+    fn read_short(&mut self, _schema: &Schema<'_>) -> Result<i16, SerdeError> {
+        self.walk.ready()?;
+        let found = long_at(self.walk.input, self.walk.position, self.walk.depth());
+        self.walk.take(short_found(found))
+    }
+
+    fn read_integer(&mut self, _schema: &Schema<'_>) -> Result<i32, SerdeError> {
+        self.walk.ready()?;
+        let found = long_at(self.walk.input, self.walk.position, self.walk.depth());
+        self.walk.take(integer_found(found))
+    }
+
+    fn read_long(&mut self, _schema: &Schema<'_>) -> Result<i64, SerdeError> {
+        self.walk.ready()?;
+        let found = long_at(self.walk.input, self.walk.position, self.walk.depth());
+        self.walk.take(found)
+    }
+
+    fn read_string(&mut self, _schema: &Schema<'_>) -> Result<String, SerdeError> {
+        self.walk.ready()?;
+        let found = string_at(
+            self.alloc,
+            self.walk.input,
+            self.walk.position,
+            self.walk.depth(),
+        );
+        self.walk.take_result(found)
+    }
+}
+
+#[cfg(test)]
+mod tests;

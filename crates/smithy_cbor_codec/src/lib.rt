@@ -1,0 +1,13 @@
+//! The CBOR wire: a reader and a serializer that a schema directs (RFC 8949).
+#![tactic(auto)]
+
+mod codec;
+mod deserializer;
+mod members;
+mod places;
+mod serializer;
+mod values;
+
+pub use codec::CborCodec;
+pub use deserializer::CborDeserializer;
+pub use serializer::CborSerializer;

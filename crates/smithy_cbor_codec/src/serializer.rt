@@ -1,0 +1,199 @@
+//! Writing a body as a schema directs.
+ghost use Rattle.std.specs.Prelude.{◌≡◌, ◌↔◌, true, false, OnOk, OnErr, IfErr, IsErrOf};
+ghost use Rattle.smithy_schema.specs.declared.error.SerdeError.TheVariants.{Failed};
+ghost use Rattle.smithy_schema.specs.Reading.{IsFault};
+ghost use Rattle.smithy_schema.specs.Site.{site_of};
+ghost use Rattle.smithy_cbor_codec.specs.Serializing.{state_of, has_failed};
+ghost use Rattle.smithy_cbor_codec.specs.Writing.{CborState, fresh_state, keyed, cbor_after};
+
+use smithy_cbor::Encoder;
+use smithy_schema::{FinishSerializer, Schema, SerdeError, ShapeSerializer};
+use std::alloc::{AllocError, Global};
+
+// A container that is open.
+#[derive(Clone, Copy, Debug)]
+pub(crate) enum Container {
+    Structure,
+    List,
+}
+
+/// Writes one body: a value in its canonical encoding.
+///
+/// Members are written by name; lists and structures are of indefinite length.
+#[derive(Debug, Drop)]
+pub struct CborSerializer {
+    encoder: Encoder,
+    stack: Vec<Container>,
+    // From the beginning of a call until it is done, and for good where it is refused.
+    failed: bool,
+}
+
+impl CborSerializer {
+    pub(crate) fn new(alloc: Global) -> CborSerializer
+        ensures state { state_of result ≡ fresh_state }
+        ensures sound { has_failed result ≡ false }
+    {
+        CborSerializer {
+            encoder: Encoder::new(Vec::new(alloc)),
+            stack: Vec::new(alloc),
+            failed: false,
+        }
+    }
+
+    // Writes the key of a member, in a structure alone.
+    fn write_key(&mut self, schema: &Schema<'_>) -> Result<(), AllocError>
+        ensures ok { OnOk result (state_of self.new ≡ keyed (state_of self.old) (site_of schema.now).view) }
+        ensures err { OnErr result (state_of self.new ≡ state_of self.old) }
+        ensures failed { has_failed self.new ≡ has_failed self.old }
+    {
+        if let Some(Container::Structure) = self.stack.last()
+            && let Some(name) = schema.member_name()
+        {
+            return self.encoder.str(name);
+        }
+        Ok(())
+    }
+
+    // Begins a call, until whose end the serializer counts as failed.
+    fn begin(&mut self) -> Result<(), SerdeError>
+        ensures failed { IsErrOf result Failed ↔ (has_failed self.old ≡ true) }
+        ensures broken { has_failed self.new ≡ true }
+        ensures kept { state_of self.new ≡ state_of self.old }
+        ensures refused { IfErr result (λ e. e ≡ Failed) }
+    {
+        if self.failed {
+            return Err(SerdeError::Failed);
+        }
+        self.failed = true;
+        Ok(())
+    }
+
+    // Begins the call of a value, by its key.
+    fn begin_value(&mut self, schema: &Schema<'_>) -> Result<(), SerdeError>
+        ensures failed { IsErrOf result Failed ↔ (has_failed self.old ≡ true) }
+        ensures broken { has_failed self.new ≡ true }
+        ensures ok { OnOk result (state_of self.new ≡ keyed (state_of self.old) (site_of schema.now).view) }
+        ensures refused { IfErr result (λ e. IsFault e → ⊥) }
+    {
+        self.begin()?;
+        self.write_key(schema)?;
+        Ok(())
+    }
+}
+
+impl ShapeSerializer for CborSerializer {
+    ghost use Rattle.smithy_cbor_codec.specs.Nesting.{cbor_nests, cbor_grows};
+
+    ghost State = { CborState };
+
+    ghost state = { state_of };
+
+    ghost failed = { has_failed };
+
+    ghost out = { λ s. s.out };
+
+    ghost open_in = { λ s. s.frames };
+
+    ghost after = { cbor_after };
+
+    ghost grows = { cbor_grows };
+
+    ghost nested = { cbor_nests };
+
+    fn fail(&mut self) {
+        self.failed = true;
+    }
+
+    fn begin_struct(&mut self, schema: &Schema<'_>) -> Result<(), SerdeError> {
+        self.begin_value(schema)?;
+        self.encoder.begin_map()?;
+        self.stack.push(Container::Structure)?;
+        self.failed = false;
+        Ok(())
+    }
+
+    fn end_struct(&mut self) -> Result<(), SerdeError> {
+        self.begin()?;
+        let Some(Container::Structure) = self.stack.pop() else {
+            return Err(SerdeError::Unwritable);
+        };
+        self.encoder.end()?;
+        self.failed = false;
+        Ok(())
+    }
+
+    fn begin_list(
+        &mut self,
+        schema: &Schema<'_>,
+        _length: Option<usize>,
+    ) -> Result<(), SerdeError> {
+        self.begin_value(schema)?;
+        self.encoder.begin_array()?;
+        self.stack.push(Container::List)?;
+        self.failed = false;
+        Ok(())
+    }
+
+    fn end_list(&mut self) -> Result<(), SerdeError> {
+        self.begin()?;
+        let Some(Container::List) = self.stack.pop() else {
+            return Err(SerdeError::Unwritable);
+        };
+        self.encoder.end()?;
+        self.failed = false;
+        Ok(())
+    }
+
+    fn write_null(&mut self, schema: &Schema<'_>) -> Result<(), SerdeError> {
+        self.begin_value(schema)?;
+        self.encoder.null()?;
+        self.failed = false;
+        Ok(())
+    }
+
+    fn write_boolean(&mut self, schema: &Schema<'_>, value: bool) -> Result<(), SerdeError> {
+        self.begin_value(schema)?;
+        self.encoder.boolean(value)?;
+        self.failed = false;
+        Ok(())
+    }
+
+    fn write_byte(&mut self, schema: &Schema<'_>, value: i8) -> Result<(), SerdeError> {
+        self.write_long(schema, i64::from(value))
+    }
+
+    fn write_short(&mut self, schema: &Schema<'_>, value: i16) -> Result<(), SerdeError> {
+        self.write_long(schema, i64::from(value))
+    }
+
+    fn write_integer(&mut self, schema: &Schema<'_>, value: i32) -> Result<(), SerdeError> {
+        self.write_long(schema, i64::from(value))
+    }
+
+    fn write_long(&mut self, schema: &Schema<'_>, value: i64) -> Result<(), SerdeError> {
+        self.begin_value(schema)?;
+        self.encoder.long(value)?;
+        self.failed = false;
+        Ok(())
+    }
+
+    fn write_string(&mut self, schema: &Schema<'_>, value: &str) -> Result<(), SerdeError> {
+        self.begin_value(schema)?;
+        self.encoder.str(value)?;
+        self.failed = false;
+        Ok(())
+    }
+}
+
+impl FinishSerializer for CborSerializer {
+    fn finish(mut self) -> Result<Vec<u8>, SerdeError> {
+        self.begin()?;
+        if !self.stack.is_empty() {
+            return Err(SerdeError::Unwritable);
+        }
+        Ok(self.encoder.into_writer())
+    }
+}
+
+#[cfg(test)]
+mod tests;

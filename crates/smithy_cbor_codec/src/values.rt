@@ -1,0 +1,115 @@
+//! What stands at a place of an input: integers, texts, and what is skipped.
+
+ghost use Rattle.std.specs.Prelude.{◌≡◌, ◌⊎◌, ◌≤◌, ℕ, ℤ, Bool, List, length, IfSome, IfNone, IfOk, IfErr, string_bytes};
+ghost use Rattle.std.specs.Cow.{cow_str_bytes};
+ghost use Rattle.smithy_schema.specs.declared.error.SerdeError.TheVariants.{InvalidInput, NoMemory};
+ghost use Rattle.smithy_cbor.specs.Scalar.{boolean_item};
+ghost use Rattle.smithy_cbor_codec.specs.Standing.{Follows};
+ghost use Rattle.smithy_cbor_codec.specs.Private.ScalarAtPlace.{IsAt, IsWholeAt, HasTextAt, refusal_of};
+ghost use Rattle.smithy_cbor_codec.specs.Private.Skipping.{SkipsTo};
+
+use crate::places::{decoder_at, may_end};
+use cbor_item::{ItemError, skip_item, text_chunks};
+use smithy_schema::SerdeError;
+use std::alloc::Global;
+use std::borrow::CowStr;
+
+// The refusal of what can't be read for the item's fault.
+fn refusal_of(error: ItemError) -> SerdeError
+    ensures { result ≡ refusal_of error }
+{
+    match error {
+        ItemError::NoMemory => SerdeError::NoMemory,
+        ItemError::Truncated
+        | ItemError::NotWellFormed
+        | ItemError::WrongType
+        | ItemError::InvalidUtf8 => SerdeError::InvalidInput,
+    }
+}
+
+// The boolean that stands there, with its end, where a value may end there.
+pub(crate) fn boolean_at(input: &[u8], at: usize, depth: usize) -> Option<(bool, usize)>
+    requires { at ≤ length input.now }
+    ensures found { IfSome result (λ r. IsAt (boolean_item r.0) input.now at depth r.1) }
+    ensures none { IfNone result ((b : Bool) (e : ℕ) → IsAt (boolean_item b) input.now at depth e → ⊥) }
+{
+    let mut decoder = decoder_at(input, at);
+    match decoder.boolean() {
+        Ok(value) => {
+            let end = decoder.position();
+            may_end(input, end, depth).then_some((value, end))
+        }
+        Err(_) => None,
+    }
+}
+
+// The integer of 64 bits that stands there, with its end, where a value may end there.
+pub(crate) fn long_at(input: &[u8], at: usize, depth: usize) -> Option<(i64, usize)>
+    requires { at ≤ length input.now }
+    ensures found { IfSome result (λ r. IsWholeAt 64 r.0 input.now at depth r.1) }
+    ensures none { IfNone result ((n : ℤ) (e : ℕ) → IsWholeAt 64 n input.now at depth e → ⊥) }
+{
+    let mut decoder = decoder_at(input, at);
+    match decoder.long() {
+        Ok(value) => {
+            let end = decoder.position();
+            may_end(input, end, depth).then_some((value, end))
+        }
+        Err(_) => None,
+    }
+}
+
+// The text that stands there, borrowed where it is in one piece, with its end.
+pub(crate) fn text_at<'a>(
+    alloc: Global,
+    input: &'a [u8],
+    at: usize,
+) -> Result<(CowStr<'a, Global>, usize), SerdeError>
+    requires { at ≤ length input.now }
+    ensures ok { IfOk result (λ r. HasTextAt (cow_str_bytes r.0) input.now at r.1) }
+    ensures none { IfErr result (λ error. error ≡ InvalidInput → (text : List ℕ) (e : ℕ) → HasTextAt text input.now at e → ⊥) }
+    ensures kind { IfErr result (λ e. (e ≡ InvalidInput) ⊎ (e ≡ NoMemory)) }
+{
+    match text_chunks(alloc, input, at) {
+        Ok((text, end)) => Ok((text, end)),
+        Err(error) => Err(refusal_of(error)),
+    }
+}
+
+// The same as a text of its own, where a value may end behind it.
+pub(crate) fn string_at(
+    alloc: Global,
+    input: &[u8],
+    at: usize,
+    depth: usize,
+) -> Result<(String, usize), SerdeError>
+    requires { at ≤ length input.now }
+    ensures ok { IfOk result (λ r. HasTextAt (string_bytes r.0) input.now at r.1 × Follows depth input.now r.1) }
+    ensures none { IfErr result (λ error. error ≡ InvalidInput → (text : List ℕ) (e : ℕ) → HasTextAt text input.now at e → Follows depth input.now e → ⊥) }
+    ensures kind { IfErr result (λ e. (e ≡ InvalidInput) ⊎ (e ≡ NoMemory)) }
+{
+    let (text, end) = text_at(alloc, input, at)?;
+    if !may_end(input, end, depth) {
+        return Err(SerdeError::InvalidInput);
+    }
+    Ok((text.into_owned(alloc)?, end))
+}
+
+// The end of the item that stands there, where a value may end behind it.
+pub(crate) fn skipped_end(
+    alloc: Global,
+    input: &[u8],
+    at: usize,
+    depth: usize,
+) -> Result<usize, SerdeError>
+    requires { at ≤ length input.now }
+    ensures ok { IfOk result (SkipsTo input.now at depth) }
+    ensures none { IfErr result (λ error. error ≡ InvalidInput → (e : ℕ) → SkipsTo input.now at depth e → ⊥) }
+    ensures kind { IfErr result (λ e. (e ≡ InvalidInput) ⊎ (e ≡ NoMemory)) }
+{
+    let end = skip_item(alloc, input, at).map_err(refusal_of)?;
+    if !may_end(input, end, depth) {
+        return Err(SerdeError::InvalidInput);
+    }
+    Ok(end)
+}
