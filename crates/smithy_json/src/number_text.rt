@@ -193,6 +193,7 @@ fn signed(is_negative: bool, magnitude: u64) -> Option<i64>
 
 /// The whole number of 64 bits that stands at the offset, with its end, where a value may end behind
 /// it.
+#[inline(always)]
 pub fn read_long(input: &[u8], at: usize) -> Option<(i64, usize)>
     requires { at ≤ length input.now }
     ensures found { IfSome result (λ r. IsLongAt input.now at r.1 r.0) }

@@ -29,11 +29,12 @@ pub fn skip_blanks(input: &[u8], at: usize) -> usize
 
 /// Whether a value may end at the offset: the input ends there, or a blank, a comma or a closing
 /// bracket stands there.
+#[inline(always)]
 pub fn is_boundary(input: &[u8], at: usize) -> bool
     requires { at ≤ length input.now }
     ensures { IsTrue result ↔ IsBoundary (drop at input.now) }
 {
-    at == input.len() || is_blank(input[at]) || matches!(input[at], b',' | b']' | b'}')
+    at >= input.len() || matches!(input[at], b',' | b']' | b'}') || is_blank(input[at])
 }
 
 // The end of the literal that stands at the offset, where a value may end behind it.

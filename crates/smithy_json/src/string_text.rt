@@ -40,9 +40,9 @@ pub fn plain_end(input: &[u8], at: usize) -> usize
     plain_end_by_byte(input, end)
 }
 
-// A bit for each of 16 bytes that doesn't stand for itself, the first byte's lowest.
+/// A bit for each of 16 bytes that doesn't stand for itself, the first byte's lowest.
 #[inline(always)]
-fn stops(bytes: u8x16) -> u64
+pub fn stops(bytes: u8x16) -> u64
     ensures { result ≡ mask_l (map is_stop bytes) }
 {
     (bytes.simd_eq(u8x16::splat(b'"'))

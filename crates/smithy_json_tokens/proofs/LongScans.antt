@@ -4,12 +4,13 @@ use Rattle.std.proofs.lemmas.Bool.Decides.{nat_tests}
 use Rattle.std.proofs.lemmas.List.{drop_more, length-drop, length-take-le}
 use Rattle.std.specs.Option.{option_map_or}
 use Rattle.smithy_json.specs.Ascii.{minus_sign}
+use Rattle.smithy_texts.specs.Numeral.{begins_with}
 use Rattle.smithy_texts.specs.Ranges.{fits_signed}
 use Rattle.smithy_json.specs.Standing.{IsLongAt}
 use Rattle.smithy_json.proofs.SliceLemmas.{drop-slice}
 use Rattle.smithy_types.specs.declared.number.Number.{Number}
 use Rattle.smithy_types.specs.declared.number.Number.TheVariants.{PosInt, NegInt}
-use Rattle.smithy_json.specs.HeldNumber.{can_be_held, begins_with_minus, held_as, number_of}
+use Rattle.smithy_json.specs.HeldNumber.{can_be_held, held_as, number_of}
 use Rattle.smithy_json_tokens.specs.Tokens.{value_number, value_uncarried, number_token}
 use Rattle.smithy_json_tokens.specs.TokenRules.{scanned, scan_value, scan_number}
 use Rattle.smithy_json_tokens.specs.Private.Scans.{BeginsNumber}
@@ -48,11 +49,11 @@ module _ (input : List ℕ) (at end : ℕ) (n : ℤ) (is : IsLongAt input at end
       let count : length raw ≡ end - at = length-take-le (end - at) (drop at input) (omega (arith, length-drop at input, is.number.within)) in
       omega (arith, size, count)
 
-  minus_first : begins_with_minus raw ≡ (first == minus_sign)
+  minus_first : begins_with minus_sign raw ≡ (first == minus_sign)
   minus_first =
       let parts = number_front raw is.number.text in
       let same : first ≡ parts.first = same_first first parts.first (drop (at + 1) input) (parts.others ++ drop end input) (sym front ∙ split ∙ ap (λ s. s ++ drop end input) parts.split) in
-      ap begins_with_minus parts.split ∙ ap (λ b. b == minus_sign) (sym same)
+      ap (begins_with minus_sign) parts.split ∙ ap (λ b. b == minus_sign) (sym same)
 
   token : number_token raw ≡ value_number (held (first == minus_sign) n)
   token =

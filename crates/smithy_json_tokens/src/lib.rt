@@ -11,6 +11,7 @@ mod frames;
 mod is_token;
 mod run_token;
 mod skip;
+mod string_end;
 #[cfg(test)]
 mod tests;
 mod token;

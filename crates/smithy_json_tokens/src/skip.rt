@@ -4,13 +4,12 @@ ghost use Rattle.std.specs.Prelude.{◌≡◌, ◌≤◌, suc, ◌==◌, List, i
 ghost use Rattle.std.specs.Iterator.{IsFinite};
 ghost use Rattle.smithy_json_tokens.specs.TokenView.{token_view};
 ghost use Rattle.smithy_json_tokens.specs.Skipping.{skip_token, skip_end, skip_scalar, skip_key, Skips};
-ghost use Rattle.smithy_json_tokens.specs.Faults.{IsCustomKind};
 ghost use Rattle.smithy_json_tokens.specs.declared.skip.Skip.TheVariants.{On, Wrong};
 
-use crate::error::{DeserializeError, DeserializeErrorKind};
+use crate::error::DeserializeError;
+use crate::expect::expected;
 use crate::is_token::IsToken;
 use crate::token::Token;
-use std::borrow::CowStr;
 
 /// How many containers that began in a call may be open.
 const MAX_SKIP_DEPTH: usize = 512;
@@ -95,16 +94,6 @@ fn skip_token<'a>(token: Token<'a>, limit: usize, depth: usize) -> Skip
     }
 }
 
-fn wrong(offset: Option<usize>) -> DeserializeError
-    ensures offset { result.offset ≡ offset }
-    ensures kind { IsCustomKind result.kind }
-{
-    DeserializeError {
-        kind: DeserializeErrorKind::Custom(CowStr::Borrowed("expected value")),
-        offset,
-    }
-}
-
 fn skip_from<T: IsToken, I: Iterator<Item = Result<T, DeserializeError>>>(
     tokens: &mut I,
     limit: usize,
@@ -124,10 +113,13 @@ fn skip_from<T: IsToken, I: Iterator<Item = Result<T, DeserializeError>>>(
         match skip_token(token.as_token(), limit, depth) {
             Skip::On(more) => depth = more,
             Skip::Done => return Ok(()),
-            Skip::Wrong => return Err(wrong(Some(token.as_token().offset().0))),
+            Skip::Wrong => {
+                let at = token.as_token().offset().0;
+                return Err(expected("expected value", Some(at)));
+            }
         }
     }
-    Err(wrong(None))
+    Err(expected("expected value", None))
 }
 
 /// Passes one value. The caller's condition is that the iterator ends.

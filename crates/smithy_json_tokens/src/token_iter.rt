@@ -145,11 +145,11 @@ impl<'a> Iterator for JsonTokenIterator<'a> {
     ghost remaining = { bytes_left };
 
     fn next(&mut self) -> Option<Result<Token<'a>, DeserializeError>> {
-        if self.index == self.input.len() {
+        if self.index >= self.input.len() {
             return None;
         }
         let at = past_blanks(self.input, self.index);
-        if at == self.input.len() && self.state == State::Initial {
+        if at >= self.input.len() && self.state == State::Initial {
             self.index = at;
             return None;
         }

@@ -9,10 +9,10 @@ ghost use Rattle.smithy_json_tokens.specs.Private.Scans.{ScansAt, text_scan_of, 
 
 use crate::error::{DeserializeError, DeserializeErrorKind};
 use crate::run_token::{run_token, whole_token};
+use crate::string_end::text_end;
 use crate::token::{Offset, Token};
 use smithy_json::EscapedStr;
 use smithy_json::number_text::read_long;
-use smithy_json::string_text::plain_end;
 use std::str;
 
 /// A token and the offset behind its last byte.
@@ -57,7 +57,7 @@ fn at_boundary<'a>(
 }
 
 // The literal of the token, at the token's offset.
-fn scan_literal<'a>(
+fn literal_at<'a>(
     input: &'a [u8],
     literal: &[u8],
     token: Token<'a>,
@@ -74,6 +74,22 @@ fn scan_literal<'a>(
         return Err(error_at(DeserializeErrorKind::ExpectedLiteral, at));
     }
     at_boundary(input, token, at + literal.len())
+}
+
+// The same, moved out of the place where the call wrote it: a result whose place no call out of line is
+// handed stays in registers. So does that of `scan_any_number`.
+#[inline(always)]
+fn scan_literal<'a>(
+    input: &'a [u8],
+    literal: &[u8],
+    token: Token<'a>,
+) -> Result<Scanned<'a>, DeserializeError>
+    requires within { token_offset token ≤ length input.now }
+    requires some { 0 < length literal.now }
+    ensures { ScansAt input.now (token_offset token.entry) result (scan_literal literal.now (token_view token.entry) (drop (token_offset token.entry) input.now)) }
+{
+    let scanned = literal_at(input, literal, token)?;
+    Ok(scanned)
 }
 
 #[inline(always)]
@@ -102,22 +118,6 @@ fn number_end(input: &[u8], at: usize) -> usize
     while end < input.len() && (is_piece(sign, input[end]) || is_e(input[end])) {
         sign = is_e(input[end]);
         end += 1;
-    }
-    end
-}
-
-// Where the text of a string ends that goes on at the offset.
-fn text_end(input: &[u8], at: usize) -> usize
-    requires { at ≤ length input.now }
-    ensures value { result ≡ at + text_length (drop at input.now) }
-    ensures within { result ≤ length input.now }
-{
-    let mut end = plain_end(input, at);
-    while input.len() - end > 1 && input[end] == b'\\' {
-        end = plain_end(input, end + 2);
-    }
-    if end < input.len() && input[end] == b'\\' {
-        return input.len();
     }
     end
 }
@@ -186,10 +186,21 @@ fn scan_number<'a>(input: &'a [u8], at: usize) -> Result<Scanned<'a>, Deserializ
         let token = whole_token(input[at] == b'-', value, at);
         return Ok(Scanned { token, end });
     }
-    scan_run(input, at)
+    scan_any_number(input, at)
 }
 
 // The same, of any form.
+#[inline(always)]
+fn scan_any_number<'a>(input: &'a [u8], at: usize) -> Result<Scanned<'a>, DeserializeError>
+    requires within { at < length input.now }
+    requires begins { BeginsNumber (slice_index input.now at) }
+    ensures { ScansAt input.now at result (scan_number (slice_index input.now at) (drop (at + 1) input.now)) }
+{
+    let scanned = scan_run(input, at)?;
+    Ok(scanned)
+}
+
+// The same, by the run of its bytes.
 fn scan_run<'a>(input: &'a [u8], at: usize) -> Result<Scanned<'a>, DeserializeError>
     requires within { at < length input.now }
     requires begins { BeginsNumber (slice_index input.now at) }
@@ -208,7 +219,7 @@ pub(crate) fn scan_value<'a>(input: &'a [u8], at: usize) -> Result<Scanned<'a>, 
     requires within { at ≤ length input.now }
     ensures { ScansAt input.now at result (scan_value (drop at input.now)) }
 {
-    if at == input.len() {
+    if at >= input.len() {
         return Err(error_at(DeserializeErrorKind::UnexpectedEos, at));
     }
     scan_value_by(input, at, input[at])
@@ -267,7 +278,7 @@ pub(crate) fn scan_key<'a>(input: &'a [u8], at: usize) -> Result<Scanned<'a>, De
     requires within { at ≤ length input.now }
     ensures { ScansAt input.now at result (scan_key (drop at input.now)) }
 {
-    if at == input.len() {
+    if at >= input.len() {
         return Err(error_at(DeserializeErrorKind::UnexpectedEos, at));
     }
     if input[at] != b'"' {

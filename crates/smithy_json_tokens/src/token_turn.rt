@@ -169,7 +169,7 @@ pub(crate) fn state_turn<'a>(
     requires due { state ≡ Initial → at ≢ length input.now }
     ensures { TurnsTo input.now at result (state_turn state (drop at input.now)) }
 {
-    if at == input.len() {
+    if at >= input.len() {
         return Err(error_at(DeserializeErrorKind::UnexpectedEos, at));
     }
     match state {

@@ -30,10 +30,10 @@ pub returns-in-Wrong : goal.returns-in-Wrong
 returns-in-Wrong g c =
     let step = subst (λ item. g.I.Iterator.next_gives c.loop-item.tokens (Some item) c.next.new.self) c.in-Ok.is c.in-Some.ensures.steps in
     let wrong = c.in-Wrong.ensures ∙ ap (skip_token c.args.limit c.loop-item.depth) c.as_token.ensures.view in
-    let place = c.offset.ensures ∙ c.as_token-in-Wrong.ensures.place in
-    c.loop-item.invariant.3 [] (Err c.wrong.result) c.next.new.self
-    (Some (Ok c.in-Ok.token), step, ends_wrong _ (g.T.IsToken.place c.in-Ok.token) c.offset.result.0 c.wrong.result wrong place c.wrong.ensures.offset c.wrong.ensures.kind)
+    let place = c.offset-at.ensures ∙ c.as_token-in-Wrong.ensures.place in
+    c.loop-item.invariant.3 [] (Err c.expected.result) c.next.new.self
+    (Some (Ok c.in-Ok.token), step, ends_wrong _ (g.T.IsToken.place c.in-Ok.token) c.offset-at.result.0 c.expected.result wrong place c.expected.ensures.offset c.expected.ensures.kind)
 
 pub returns : goal.returns
 returns g c =
-    c.loop-item.invariant.3 [] (Err c.wrong-2.result) c.next.new.self (None, c.in_default.ensures.steps, (c.wrong-2.ensures.offset, c.wrong-2.ensures.kind))
+    c.loop-item.invariant.3 [] (Err c.expected-2.result) c.next.new.self (None, c.in_default.ensures.steps, (c.expected-2.ensures.offset, c.expected-2.ensures.kind))

@@ -1,7 +1,7 @@
 use Rattle.std.proofs.Common.{◌≡◌, ◌+◌, ◌-◌, ◌≤◌, ◌<◌, length, drop, slice_index, false}
 use Rattle.smithy_json.specs.Private.Chars.{is_plain}
 use Rattle.smithy_json_tokens.specs.TokenRules.{text_length}
-use Rattle.smithy_json_tokens.proofs.token_scan.text_end.Given as goal
+use Rattle.smithy_json_tokens.proofs.string_end.text_end_by_escapes.Given as goal
 
 -- the text goes on where the loop has come, with a byte that doesn't stand for itself
 abbrev pub invariant-loop-end : goal.invariant-loop-end

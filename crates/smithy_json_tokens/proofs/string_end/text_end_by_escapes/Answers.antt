@@ -1,7 +1,7 @@
 use Rattle.std.proofs.Common.{◌∙◌, arith}
 use Rattle.smithy_json.proofs.StringLemmas.{run_stops}
 use Rattle.smithy_json_tokens.proofs.ScanLemmas.{text_length-run, text_length-taken}
-use Rattle.smithy_json_tokens.proofs.token_scan.text_end.Goals as goal
+use Rattle.smithy_json_tokens.proofs.string_end.text_end_by_escapes.Goals as goal
 
 pub loop-end-init : goal.loop-end-init
 loop-end-init c =
