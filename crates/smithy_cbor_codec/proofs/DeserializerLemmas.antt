@@ -1,43 +1,39 @@
 -- What a reader finds at a place, as the contract of reading says it.
-use Rattle.std.proofs.Common.{◌≡◌, ◌≤◌, ◌<◌, ◌⊎◌, inl, inr, ℕ, suc, ℤ, length, List, [], ◌∷◌, true, false, Option, None, Result, Ok, Err, refl, sym, ap, ◌∙◌, arith}
+use Rattle.std.proofs.Common.{◌≡◌, ◌≤◌, ◌<◌, ◌⊎◌, ◌↔◌, inl, inr, ℕ, suc, length, List, [], ◌∷◌, Bool, true, false, Option, Some, None, Result, Ok, Err, refl, sym, ap, ◌∙◌, arith}
+use Rattle.std.specs.Prelude.{IsTrue}
 use Rattle.std.specs.Result.{OnOk}
 use Rattle.std.proofs.lemmas.Bool.Decides.{nat_tests}
 use Rattle.smithy_schema.specs.declared.error.SerdeError.{SerdeError}
 use Rattle.smithy_schema.specs.declared.error.SerdeError.TheVariants.{InvalidInput, Unwritable, Failed, NoMemory}
 use Rattle.smithy_schema.specs.declared.place.Place.{Place}
-use Rattle.smithy_schema.specs.declared.shape_type.TimestampFormat.{TimestampFormat}
-use Rattle.smithy_schema.specs.declared.shape_type.Scalar.TheVariants as scalars
-use Rattle.smithy_schema.specs.Table.{Table, kind_of, scalar_place, IsList, IsStructure}
-use Rattle.smithy_schema.specs.Value.{whole, text, scalar_value}
-use Rattle.smithy_schema.specs.Reading.{Cursor, Frame, depth, passed_to, Mark, Passes, Reads, Enters, Steps, Leaves, Conducts, StandsNot, OpensNot, SkipsNot, CannotGoOn, IsFault, in_list}
+use Rattle.smithy_schema.specs.Table.{Table, kind_of, IsList, IsMap, IsStructure}
+use Rattle.smithy_schema.specs.Reading.{Cursor, Frame, depth, Mark, Enters, Steps, Leaves, Conducts, OpensNot, SkipsNot, CannotGoOn, IsFault, in_list, in_map}
 use Rattle.smithy_cbor_codec.specs.Cursor.{inside_of}
 use Rattle.smithy_cbor_codec.specs.Settings.{Settings, Limits, kept, lifted, is_within}
-use Rattle.smithy_cbor_codec.specs.Standing.{Follows, FollowsInside, HasEntry, IsOver, mark_with, end_mark, cbor_relations}
+use Rattle.smithy_cbor_codec.specs.Standing.{FollowsInside, HasEntry, IsOver, mark_with, end_mark, cbor_relations}
+use Rattle.smithy_cbor_codec.specs.Private.PassedEntries.{HasKey, PairMissing}
 use Rattle.smithy_cbor_codec.specs.Private.Skipping.{SkipsTo}
 use Rattle.smithy_cbor_codec.specs.Private.Entries.{same_over, entry_or_over}
 use Rattle.smithy_cbor_codec.specs.Private.ItemPlaces.{item_ahead, one_item}
-use Rattle.smithy_cbor_codec.proofs.EntryLemmas.{entry_by_due, over_by_due}
-use Rattle.smithy_cbor_codec.proofs.ReaderLemmas.{opens_empty, steps_in_list, closes_list, list_is_stuck}
+use Rattle.smithy_cbor_codec.proofs.EntryLemmas.{entry_by_due, over_by_due, key_by_due}
+use Rattle.smithy_cbor_codec.proofs.ReaderLemmas.{opens_empty, steps_in_list, closes_list, list_is_stuck, steps_in_map, closes_map, map_is_stuck}
 use Rattle.smithy_cbor_codec.proofs.SkippedValues.{skips_are}
 use Rattle.smithy_wire.specs.Walking.{entered_into, gone_on_to}
 
 -- ---- containers
 
-no_bytes : (bytes : List ℕ) → length bytes ≡ 0 → bytes ≡ []
-no_bytes [] h = refl
-no_bytes (b ∷ bytes) h = absurd (omega (arith, h))
-
 -- an empty input opens a structure
-pub empty_at : (o : Settings) (c : Cursor) (t : Table) (p : Place) → IsStructure (kind_of t p) → length c.input ≡ 0 → c.at ≤ length c.input
+pub empty_at : (o : Settings) (c : Cursor) (t : Table) (p : Place) → IsStructure (kind_of t p) → c.input ≡ [] → c.at ≤ length c.input
     → (cbor_relations o).opens c.input t p (depth c) c.at 0 end_mark
 empty_at o c t p kind empty within =
-    opens_empty o c.input t p kind (depth c) c.at (no_bytes c.input empty) (omega (arith, empty, within))
+    opens_empty o c.input t p kind (depth c) c.at empty (omega (arith, ap length empty, within))
 
-pub empty_opens : (o : Settings) (c : Cursor) (t : Table) (p : Place) → IsStructure (kind_of t p) → length c.input ≡ 0 → c.at ≤ length c.input → OpensNot (cbor_relations o) c t p → ⊥
+pub empty_opens : (o : Settings) (c : Cursor) (t : Table) (p : Place) → IsStructure (kind_of t p) → c.input ≡ [] → c.at ≤ length c.input → OpensNot (cbor_relations o) c t p → ⊥
 empty_opens o c t p kind empty within none = none 0 end_mark (empty_at o c t p kind empty within)
 
-pub not_empty : (input : List ℕ) → (length input ≡ 0 → ⊥) → input ≡ [] → ⊥
-not_empty input full is = full (ap length is)
+-- what a test denies
+pub not_missing : (missing : Bool) (A B : Type 0) → IsTrue missing ↔ A × B → missing ≡ false → A → B → ⊥
+not_missing missing A B is denied a b = let told : missing ≡ true = is.1 (a, b) in cc
 
 shallow_enough : (limits : Limits) (greatest d : ℕ) → limits ≡ kept → d < greatest → is_within limits greatest (suc d) ≡ true
 shallow_enough kept greatest d keeps h = grind (arith, nat_tests)
@@ -98,6 +94,38 @@ module _ (o : Settings) (c : Cursor) (t : Table) (p : Place) (kind : IsList (kin
   list_shut end held same over shut =
       list_stuck (λ n entry. entry_or_over c.input c.at (mark_with c.inner.mark.due) n end entry over)
       (λ e ends follows. shut (rw (same, same_over c.input c.at (mark_with c.inner.mark.due) end e over ends) follows))
+
+module _ (o : Settings) (c : Cursor) (t : Table) (p : Place) (kind : IsMap (kind_of t p)) where
+  -- the map went on to an entry
+  pub entry_steps : (new : Cursor) (key : List ℕ) (value : ℕ) (after : Option ℕ) → c.inner.within ≡ in_map → c.failed ≡ false
+      → new ≡ gone_on_to c value (inside_of in_map after)
+      → HasKey c.input c.at (mark_with c.inner.mark.due) key value (mark_with after) → Steps (cbor_relations o) c new t p (Some key)
+  entry_steps new key value after within sound is entry = rw is (record {
+    steps = steps_in_map o c.input t p kind (depth c) c.at c.inner.mark key value (mark_with after) (key_by_due c.input c.at (mark_with c.inner.mark.due) c.inner.mark key value (mark_with after) refl entry);
+    input = refl;
+    within = sym within;
+    outer = refl;
+    due = refl;
+    failed = sound;
+  })
+
+  -- it was left
+  pub map_left : (new : Cursor) (e held : ℕ) → held ≡ depth c → new.input ≡ c.input → new.at ≡ e → c.outer ≡ new.inner ∷ new.outer → new.due ≡ false → new.failed ≡ c.failed → c.failed ≡ false
+      → IsOver c.input c.at (mark_with c.inner.mark.due) e × FollowsInside held c.input e → Leaves (cbor_relations o) c new t p
+  map_left new e held same input place around undue failed sound h = record {
+    closes = rw place (closes_map o c.input t p kind (depth c) c.at c.inner.mark e (over_by_due c.input c.at (mark_with c.inner.mark.due) c.inner.mark e refl h.0) (rw same at h.1));
+    input = input;
+    outer = around;
+    due = undue;
+    failed = failed ∙ sound;
+  }
+
+  -- neither a key comes nor the end
+  pub map_stuck : (held : ℕ) → held ≡ depth c → PairMissing c.input c.at c.inner.mark.due held → CannotGoOn (cbor_relations o) c t p
+  map_stuck held same h =
+      map_is_stuck o c.input t p kind (depth c) c.at c.inner.mark
+      (λ s v n key. h.0 s v n (key_by_due c.input c.at c.inner.mark (mark_with c.inner.mark.due) s v n refl key))
+      (λ e over follows. h.1 e (over_by_due c.input c.at c.inner.mark (mark_with c.inner.mark.due) e refl over) (rw (← same) at follows))
 
 -- ---- skipped values
 

@@ -1,10 +1,12 @@
 -- How a container goes on depends on how many entries are due, and on nothing else of its mark.
-use Rattle.std.proofs.Common.{◌≡◌, ◌<◌, inl, inr, ℕ, List, sym, ◌∙◌}
+use Rattle.std.proofs.Common.{◌≡◌, ◌<◌, inl, inr, ℕ, List, sym, ap, ◌∙◌}
 use Rattle.smithy_schema.specs.Reading.{Mark}
+use Rattle.smithy_schema.specs.Lemmas.Options.{same_some}
+use Rattle.smithy_cbor.specs.Scalar.{text_of}
 use Rattle.smithy_cbor_codec.specs.Standing.{HasEntry, IsOver}
 use Rattle.smithy_cbor_codec.specs.Private.ScalarAtPlace.{HasTextAt}
-use Rattle.smithy_cbor_codec.specs.Private.ItemPlaces.{item_ahead}
-use Rattle.smithy_cbor_codec.specs.Private.MembersBehindNulls.{HasKey}
+use Rattle.smithy_cbor_codec.specs.Private.ItemPlaces.{item_ahead, one_item}
+use Rattle.smithy_cbor_codec.specs.Private.PassedEntries.{HasKey}
 
 pub entry_by_due : (i : List ℕ) (b : ℕ) (m k n : Mark) → m.due ≡ k.due → HasEntry i b m n → HasEntry i b k n
 entry_by_due i b m k n same (inl (count, due, after)) = inl (count, sym same ∙ due, after)
@@ -25,3 +27,9 @@ key_of i b m text c n entry h = (entry, (h.found, h.stands, h.is))
 
 pub key_ahead : (i : List ℕ) (b : ℕ) (m : Mark) (text : List ℕ) (c : ℕ) (n : Mark) → HasKey i b m text c n → b < c
 key_ahead i b m text c n h = item_ahead h.1.0 i b c h.1.1
+
+-- a key is determined, with its end
+pub one_key : (i : List ℕ) (b : ℕ) (m : Mark) (s r : List ℕ) (c e : ℕ) (n o : Mark) → HasKey i b m s c n → HasKey i b m r e o → (s ≡ r) × (c ≡ e)
+one_key i b m s r c e n o h j =
+    let one = one_item h.1.0 j.1.0 i b c e h.1.1 j.1.1 in
+    (same_some s r (sym h.1.2 ∙ (ap text_of one.0 ∙ j.1.2)), one.1)

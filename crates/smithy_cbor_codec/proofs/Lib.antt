@@ -13,11 +13,10 @@ pub mod WrittenBody
 pub mod WrittenSpelling
 pub mod HeadFaults
 pub mod TextLemmas
-pub mod ScalarPlaces
 pub mod EntryLemmas
-pub mod MembersBehindNullsLemmas
+pub mod PassedEntryLemmas
 pub mod ReaderLemmas
 pub mod SkippedValues
 pub mod DeserializerLemmas
-pub mod StructureStepsLemmas
+pub mod MemberStepLemmas
 pub mod ScalarReads

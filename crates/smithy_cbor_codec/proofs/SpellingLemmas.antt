@@ -3,7 +3,7 @@ use Rattle.std.proofs.Common.{◌≡◌, ◌↔◌, ℕ, List, length, Some, ref
 use Rattle.std.specs.List.{slice_range}
 use Rattle.std.proofs.lemmas.List.{take_rest}
 use Rattle.smithy_schema.specs.declared.place.Place.{Place}
-use Rattle.smithy_schema.specs.Table.{Table, Kind, scalar, structure_of, list_of, nothing, kind_of, IsStructure}
+use Rattle.smithy_schema.specs.Table.{Table, Kind, scalar, structure_of, union_of, list_of, map_of, nothing, kind_of, IsStructure}
 use Rattle.smithy_schema.specs.Value.{Value, structure, no_member_values}
 use Rattle.smithy_schema.specs.Lemmas.Options.{same_some, chosen}
 use Rattle.cbor_item.specs.Item.{Item}
@@ -37,13 +37,17 @@ standing_encodes x i e h end =
 missing_says : (k : Kind) → IsStructure k → missing_meaning k ≡ Some (structure no_member_values)
 missing_says (scalar s) h = absurd h
 missing_says (structure_of members) h = refl
+missing_says (union_of members) h = absurd h
 missing_says (list_of l) h = absurd h
+missing_says (map_of m) h = absurd h
 missing_says nothing h = absurd h
 
 missing_is : (k : Kind) (v : Value) → missing_meaning k ≡ Some v → IsStructure k × (v ≡ structure no_member_values)
 missing_is (scalar s) v h = cc
 missing_is (structure_of members) v h = (tt, sym (same_some (structure no_member_values) v h))
+missing_is (union_of members) v h = cc
 missing_is (list_of l) v h = cc
+missing_is (map_of m) v h = cc
 missing_is nothing v h = cc
 
 -- what the input spells stands at its start

@@ -17,11 +17,11 @@ use Rattle.smithy_cbor_codec.specs.Standing.{cbor_frames, cbor_relations, mark_w
 use Rattle.smithy_cbor_codec.specs.Laws.{lawful}
 use Rattle.smithy_cbor_codec.specs.Private.ScalarAtPlace.{IsNullAt}
 use Rattle.smithy_cbor_codec.specs.Private.ItemPlaces.{one_item}
-use Rattle.smithy_cbor_codec.specs.Private.MembersBehindNulls.{HasKey}
+use Rattle.smithy_cbor_codec.specs.Private.PassedEntries.{HasKey}
 use Rattle.smithy_cbor_codec.proofs.OnLiterals.{smithy_cbor_codec_on_literals}
 use Rattle.smithy_cbor_codec.proofs.Examples.{whole_value, one_long, lists_of_strings, long_place, strict, empty_structure}
 use Rattle.smithy_cbor_codec.proofs.EncodedItems.{in_one_byte, a_key, z_key, no_text, small}
-use Rattle.smithy_cbor_codec.proofs.ReaderLemmas.{opens_list, steps_in_list, closes_list, list_is_stuck, opens_structure, opens_empty, steps_in_structure, closes_structure, closes_empty, structure_is_stuck}
+use Rattle.smithy_cbor_codec.proofs.ReaderLemmas.{opens_list, steps_in_list, closes_list, list_is_stuck, opens_members, opens_empty, steps_to_member, closes_members, closes_empty, members_are_stuck}
 use Rattle.smithy_cbor_codec.proofs.SkippedValues.{skips_are}
 use Rattle.smithy_wire.specs.Node.{leaf, missing}
 use Rattle.smithy_wire.specs.Readers.{stands_scalar}
@@ -60,9 +60,9 @@ pub openings : strictly.opens (0xa1 ∷ []) one_long (shape_place 0) 0 0 1 (mark
     × strictly.opens (0xb8 ∷ 0x01 ∷ []) one_long (shape_place 0) 0 0 2 (mark_with (Some 1))
     × strictly.opens (0xbf ∷ []) one_long (shape_place 0) 0 0 1 (mark_with None)
 openings = (
-  opens_structure strict (0xa1 ∷ []) one_long (shape_place 0) tt 0 0 1 (Some 1) (omega arith, front_begins_low 5 1 (0xa1 ∷ []) [] (omega arith) (in_one_byte 5 1 (omega arith))),
-  opens_structure strict (0xb8 ∷ 0x01 ∷ []) one_long (shape_place 0) tt 0 0 2 (Some 1) (omega arith, front_begins_low 5 1 (0xb8 ∷ 0x01 ∷ []) [] (omega arith) (record { width = widths.one; fits = omega arith; spelled = refl })),
-  opens_structure strict (0xbf ∷ []) one_long (shape_place 0) tt 0 0 1 None (omega arith, opening_begins 5 [] (inl (omega arith, omega arith))),
+  opens_members strict (0xa1 ∷ []) one_long (shape_place 0) tt 0 0 1 (Some 1) (omega arith, front_begins_low 5 1 (0xa1 ∷ []) [] (omega arith) (in_one_byte 5 1 (omega arith))),
+  opens_members strict (0xb8 ∷ 0x01 ∷ []) one_long (shape_place 0) tt 0 0 2 (Some 1) (omega arith, front_begins_low 5 1 (0xb8 ∷ 0x01 ∷ []) [] (omega arith) (record { width = widths.one; fits = omega arith; spelled = refl })),
+  opens_members strict (0xbf ∷ []) one_long (shape_place 0) tt 0 0 1 None (omega arith, opening_begins 5 [] (inl (omega arith, omega arith))),
 )
 
 -- 82 and 9f open a list
@@ -117,9 +117,9 @@ pub null_is_dropped : strictly.steps (0xa2 ∷ 0x61 ∷ 0x7a ∷ 0xf6 ∷ 0x61 �
     × strictly.closes (0xa2 ∷ 0x61 ∷ 0x7a ∷ 0xf6 ∷ 0x61 ∷ 0x61 ∷ 0x01 ∷ []) one_long (shape_place 0) 1 7 (mark_with (Some 0)) 7
 unfolding smithy_cbor_codec_on_literals
 null_is_dropped = (
-  steps_in_structure strict (0xa2 ∷ 0x61 ∷ 0x7a ∷ 0xf6 ∷ 0x61 ∷ 0x61 ∷ 0x01 ∷ []) one_long (shape_place 0) tt 1 1 (mark_with (Some 2)) (codes "a") 6 (mark_with (Some 0))
-      (1, 4, mark_with (Some 1), (codes "z", 3, 4, mark_with (Some 1), (inl (1, refl, refl), (z_key.item, (omega arith, z_key.is), refl)), (refl, refl, tt), (refl, refl)), (inl (0, refl, refl), (a_key.item, (omega arith, a_key.is), refl)), no_null (0xa2 ∷ 0x61 ∷ 0x7a ∷ 0xf6 ∷ 0x61 ∷ 0x61 ∷ 0x01 ∷ []) 6 1 refl),
-  closes_structure strict (0xa2 ∷ 0x61 ∷ 0x7a ∷ 0xf6 ∷ 0x61 ∷ 0x61 ∷ 0x01 ∷ []) one_long (shape_place 0) tt 1 7 (mark_with (Some 0)) 7 (0, 7, mark_with (Some 0), (refl, refl), inl (refl, refl)) refl,
+  steps_to_member strict (0xa2 ∷ 0x61 ∷ 0x7a ∷ 0xf6 ∷ 0x61 ∷ 0x61 ∷ 0x01 ∷ []) one_long (shape_place 0) tt 1 1 (mark_with (Some 2)) (codes "a") 6 (mark_with (Some 0))
+      (1, 4, mark_with (Some 1), (codes "z", 3, 4, mark_with (Some 1), (inl (1, refl, refl), (z_key.item, (omega arith, z_key.is), refl)), inl (refl, refl, tt), (refl, refl)), (inl (0, refl, refl), (a_key.item, (omega arith, a_key.is), refl)), (refl, no_null (0xa2 ∷ 0x61 ∷ 0x7a ∷ 0xf6 ∷ 0x61 ∷ 0x61 ∷ 0x01 ∷ []) 6 1 refl)),
+  closes_members strict (0xa2 ∷ 0x61 ∷ 0x7a ∷ 0xf6 ∷ 0x61 ∷ 0x61 ∷ 0x01 ∷ []) one_long (shape_place 0) tt 1 7 (mark_with (Some 0)) 7 (0, 7, mark_with (Some 0), (refl, refl), inl (refl, refl)) refl,
 )
 
 -- {"a": null} and {_ "a": null} end behind the null, and behind the break
@@ -127,27 +127,27 @@ pub null_before_the_end : strictly.closes (0xa1 ∷ 0x61 ∷ 0x61 ∷ 0xf6 ∷ [
     × strictly.closes (0xbf ∷ 0x61 ∷ 0x61 ∷ 0xf6 ∷ 0xff ∷ []) one_long (shape_place 0) 1 1 (mark_with None) 5
 unfolding smithy_cbor_codec_on_literals
 null_before_the_end = (
-  closes_structure strict (0xa1 ∷ 0x61 ∷ 0x61 ∷ 0xf6 ∷ []) one_long (shape_place 0) tt 1 1 (mark_with (Some 1)) 4
-      (1, 4, mark_with (Some 0), (codes "a", 3, 4, mark_with (Some 0), (inl (0, refl, refl), (a_key.item, (omega arith, a_key.is), refl)), (refl, refl, tt), (refl, refl)), inl (refl, refl)) refl,
-  closes_structure strict (0xbf ∷ 0x61 ∷ 0x61 ∷ 0xf6 ∷ 0xff ∷ []) one_long (shape_place 0) tt 1 1 (mark_with None) 5
-      (1, 4, mark_with None, (codes "a", 3, 4, mark_with None, (inr (refl, omega arith, refl, refl), (a_key.item, (omega arith, a_key.is), refl)), (refl, refl, tt), (refl, refl)), inr (refl, refl, refl)) refl,
+  closes_members strict (0xa1 ∷ 0x61 ∷ 0x61 ∷ 0xf6 ∷ []) one_long (shape_place 0) tt 1 1 (mark_with (Some 1)) 4
+      (1, 4, mark_with (Some 0), (codes "a", 3, 4, mark_with (Some 0), (inl (0, refl, refl), (a_key.item, (omega arith, a_key.is), refl)), inl (refl, refl, tt), (refl, refl)), inl (refl, refl)) refl,
+  closes_members strict (0xbf ∷ 0x61 ∷ 0x61 ∷ 0xf6 ∷ 0xff ∷ []) one_long (shape_place 0) tt 1 1 (mark_with None) 5
+      (1, 4, mark_with None, (codes "a", 3, 4, mark_with None, (inr (refl, omega arith, refl, refl), (a_key.item, (omega arith, a_key.is), refl)), inl (refl, refl, tt), (refl, refl)), inr (refl, refl, refl)) refl,
 )
 
 -- undefined is no null: {"a": undefined} goes on to its value
 pub undefined_is_due : strictly.steps (0xa1 ∷ 0x61 ∷ 0x61 ∷ 0xf7 ∷ []) one_long (shape_place 0) 1 1 (mark_with (Some 1)) (Some (codes "a")) 3 (mark_with (Some 0))
 unfolding smithy_cbor_codec_on_literals
 undefined_is_due =
-    steps_in_structure strict (0xa1 ∷ 0x61 ∷ 0x61 ∷ 0xf7 ∷ []) one_long (shape_place 0) tt 1 1 (mark_with (Some 1)) (codes "a") 3 (mark_with (Some 0))
-    (0, 1, mark_with (Some 1), (refl, refl), (inl (0, refl, refl), (a_key.item, (omega arith, a_key.is), refl)), no_null (0xa1 ∷ 0x61 ∷ 0x61 ∷ 0xf7 ∷ []) 3 1 refl)
+    steps_to_member strict (0xa1 ∷ 0x61 ∷ 0x61 ∷ 0xf7 ∷ []) one_long (shape_place 0) tt 1 1 (mark_with (Some 1)) (codes "a") 3 (mark_with (Some 0))
+    (0, 1, mark_with (Some 1), (refl, refl), (inl (0, refl, refl), (a_key.item, (omega arith, a_key.is), refl)), (refl, no_null (0xa1 ∷ 0x61 ∷ 0x61 ∷ 0xf7 ∷ []) 3 1 refl))
 
 -- a null under a key that isn't UTF-8 isn't dropped: a1 61 ff f6
 pub null_without_key : StepsNot (0xa1 ∷ 0x61 ∷ 0xff ∷ 0xf6 ∷ []) one_long 0 1 1 (mark_with (Some 1)) × ClosesNot (0xa1 ∷ 0x61 ∷ 0xff ∷ 0xf6 ∷ []) one_long 0 1 1 (mark_with (Some 1))
 unfolding smithy_cbor_codec_on_literals
 null_without_key =
-    structure_is_stuck strict (0xa1 ∷ 0x61 ∷ 0xff ∷ 0xf6 ∷ []) one_long (shape_place 0) tt 1 0 1 (mark_with (Some 1)) 1 (Some 1) (refl, refl) (
+    members_are_stuck strict (0xa1 ∷ 0x61 ∷ 0xff ∷ 0xf6 ∷ []) one_long (shape_place 0) tt 1 0 1 (mark_with (Some 1)) 1 (Some 1) (refl, refl) (inl (
       λ text c n has. no_key (0xa1 ∷ 0x61 ∷ 0xff ∷ 0xf6 ∷ []) 1 3 (mark_with (Some 1)) no_text.item (omega arith, no_text.is) refl text c n has,
       λ e over follows. going e over,
-    ) (λ at_end empty some. cc)
+    )) (λ is at_end empty some. cc)
   where
     going : (e : ℕ) → IsOver (0xa1 ∷ 0x61 ∷ 0xff ∷ 0xf6 ∷ []) 1 (mark_with (Some 1)) e → ⊥
     going e (inl (due, at)) = cc
@@ -156,10 +156,10 @@ null_without_key =
 -- a pair that is announced and doesn't come: a2 61 61 01
 pub missing_pair : ClosesNot (0xa2 ∷ 0x61 ∷ 0x61 ∷ 0x01 ∷ []) one_long 0 1 4 (mark_with (Some 1))
 missing_pair =
-    (structure_is_stuck strict (0xa2 ∷ 0x61 ∷ 0x61 ∷ 0x01 ∷ []) one_long (shape_place 0) tt 1 0 4 (mark_with (Some 1)) 4 (Some 1) (refl, refl) (
+    (members_are_stuck strict (0xa2 ∷ 0x61 ∷ 0x61 ∷ 0x01 ∷ []) one_long (shape_place 0) tt 1 0 4 (mark_with (Some 1)) 4 (Some 1) (refl, refl) (inl (
       λ text c n has. let (entry, (i, (within, there), text_is)) = has in nothing_there c within i there,
       λ e over follows. going e over,
-    ) (λ at_end empty some. cc)).1
+    )) (λ is at_end empty some. cc)).1
   where
     nothing_there : (c : ℕ) → c ≤ 4 → (i : Item) → IsEncodingOf i (slice_range (0xa2 ∷ 0x61 ∷ 0x61 ∷ 0x01 ∷ []) 4 c) → ⊥
     nothing_there c within i there = let none : c - 4 ≡ 0 = omega arith in not_empty i (subst (λ (x : ℕ). IsEncodingOf i (take x [])) none there)
@@ -171,10 +171,10 @@ missing_pair =
 -- and a break that doesn't: bf 61 61 01
 pub missing_break_of_map : StepsNot (0xbf ∷ 0x61 ∷ 0x61 ∷ 0x01 ∷ []) one_long 0 1 4 (mark_with None) × ClosesNot (0xbf ∷ 0x61 ∷ 0x61 ∷ 0x01 ∷ []) one_long 0 1 4 (mark_with None)
 missing_break_of_map =
-    structure_is_stuck strict (0xbf ∷ 0x61 ∷ 0x61 ∷ 0x01 ∷ []) one_long (shape_place 0) tt 1 0 4 (mark_with None) 4 None (refl, refl) (
+    members_are_stuck strict (0xbf ∷ 0x61 ∷ 0x61 ∷ 0x01 ∷ []) one_long (shape_place 0) tt 1 0 4 (mark_with None) 4 None (refl, refl) (inl (
       λ text c n has. none n has.0,
       λ e over follows. going e over,
-    ) (λ at_end empty some. cc)
+    )) (λ is at_end empty some. cc)
   where
     none : (n : Mark) → HasEntry (0xbf ∷ 0x61 ∷ 0x61 ∷ 0x01 ∷ []) 4 (mark_with None) n → ⊥
     none n (inl (count, due, mark)) = cc
@@ -201,7 +201,7 @@ pub byte_behind : strictly.stands (0x01 ∷ 0x00 ∷ []) one_long long_place 1 0
 byte_behind = (
   (leaf (unsigned 1), (refl, (omega arith, (small 1 (omega arith)).is), tt), refl),
   (skips_are strict (0x01 ∷ 0x00 ∷ []) 1 0 1).0 (record { found = unsigned 1; stands = (omega arith, (small 1 (omega arith)).is); follows = tt }),
-  closes_structure strict (0xbf ∷ 0xff ∷ 0x00 ∷ []) one_long (shape_place 0) tt 2 1 (mark_with None) 2 (0, 1, mark_with None, (refl, refl), inr (refl, refl, refl)) tt,
+  closes_members strict (0xbf ∷ 0xff ∷ 0x00 ∷ []) one_long (shape_place 0) tt 2 1 (mark_with None) 2 (0, 1, mark_with None, (refl, refl), inr (refl, refl, refl)) tt,
   λ v h. let wrong : ◌≡◌ {A = ℕ} 1 2 = (stands_scalar cbor_frames (rules_of strict) (0x01 ∷ 0x00 ∷ []) one_long long_place scalars.Long refl 0 0 v 1 h).1.2 in absurd (omega arith),
   λ h. let wrong : ◌≡◌ {A = ℕ} 1 2 = ((skips_are strict (0x01 ∷ 0x00 ∷ []) 0 0 1).1 h).follows in absurd (omega arith),
   closes,

@@ -1,17 +1,19 @@
 -- A value adds its canonical encoding, whatever stands before it.
-use Rattle.std.proofs.Common.{◌≡◌, ℕ, List, [], ◌∷◌, ◌++◌, Result, Ok, refl, sym, ◌∙◌, append_assoc}
+use Rattle.std.proofs.Common.{◌≡◌, ℕ, List, [], ◌∷◌, ◌++◌, Some, Result, Ok, refl, sym, ap, ◌∙◌, append_assoc}
 use Rattle.std.proofs.lemmas.List.{append-nil}
 use Rattle.smithy_schema.specs.declared.error.SerdeError.{SerdeError}
-use Rattle.smithy_schema.specs.Site.{Site, element_of, member_of}
-use Rattle.smithy_schema.specs.Value.{Value, scalar_value, list, structure, null_element, Values, no_values, value, MemberValues, no_member_values, member_value}
-use Rattle.smithy_schema.specs.Writing.{Event, run, write, events, element_events, member_events, end_list, end_structure, Open, open_structure, open_list}
+use Rattle.smithy_schema.specs.Site.{Site, element_of, key_of, value_of, member_of}
+use Rattle.smithy_schema.specs.Value.{ScalarValue, boolean, whole, text, Value, scalar_value, list, map, structure, union, null_element, Values, no_values, value, MapEntries, no_map_entries, map_entry, MemberValues, no_member_values, member_value}
+use Rattle.smithy_schema.specs.Writing.{Event, run, write, and_run, events, element_events, entry_events, member_events, count_of, entry_count, begin_list, begin_map, begin_structure, null_of, scalar_of, end_list, end_map, end_structure, after_value, after_text, Open, open_structure, open_list, open_map_at_key, open_map_at_value}
 use Rattle.smithy_schema.proofs.WritingLemmas.{child_written}
+use Rattle.cbor_item.specs.Head.{shortest_head}
 use Rattle.cbor_item.specs.WellFormed.{break}
-use Rattle.smithy_cbor.specs.Written.{opening_bytes}
-use Rattle.smithy_cbor_codec.specs.Canonical.{key_bytes, canonical_cbor, element_bytes, member_bytes}
+use Rattle.smithy_cbor.specs.Scalar.{null_value}
+use Rattle.smithy_cbor.specs.Written.{text_bytes, opening_bytes}
+use Rattle.smithy_cbor_codec.specs.Canonical.{scalar_bytes, key_bytes, canonical_cbor, element_bytes, entry_bytes, member_bytes}
 use Rattle.smithy_cbor_codec.specs.Writing.{CborState, lead, cbor_after}
 
-abbrev state : List ℕ → List Open → CborState
+abbrev pub state : List ℕ → List Open → CborState
 state out frames = record { out = out; frames = frames }
 
 -- the calls of a first part, and then of a second
@@ -24,35 +26,88 @@ regroup : (o p : List ℕ) (frames : List Open) (r : Result CborState SerdeError
     → r ≡ Ok (state o frames) → o ≡ p → r ≡ Ok (state p frames)
 regroup o p frames r is same = rw (← same) is
 
+-- the first call, and then the others
+first : (e : Event) (es : List Event) (s s' : CborState) (r : Result CborState SerdeError)
+    → cbor_after e s ≡ Ok s' → run cbor_after es s' ≡ r → run cbor_after (e ∷ es) s ≡ r
+first e es s s' r begins rest = ap (and_run (run cbor_after es)) begins ∙ rest
+
 group_container : (o l opening inside end : List ℕ)
     → ((o ++ (l ++ opening)) ++ inside) ++ end ≡ o ++ (l ++ (opening ++ (inside ++ end)))
 group_container o l opening inside end = simp append_assoc
 
+group_union : (o l opening key inside end : List ℕ)
+    → ((o ++ (l ++ opening)) ++ (key ++ inside)) ++ end ≡ o ++ (l ++ (opening ++ (key ++ (inside ++ end))))
+group_union o l opening key inside end = simp append_assoc
+
+group_entry : (o key x more : List ℕ) → ((o ++ key) ++ x) ++ more ≡ o ++ (key ++ (x ++ more))
+group_entry o key x more = simp append_assoc
+
 group_member : (o key x more : List ℕ) → (o ++ (key ++ x)) ++ more ≡ o ++ (key ++ (x ++ more))
 group_member o key x more = simp append_assoc
 
+-- a text is taken where a value is due
+text_taken : (frames after : List Open) → after_value frames ≡ Ok after → after_text frames ≡ Ok after
+text_taken [] after due = due
+text_taken (open_structure ∷ frames) after due = due
+text_taken (open_list ∷ frames) after due = due
+text_taken (open_map_at_key ∷ frames) after due = cc
+text_taken (open_map_at_value ∷ frames) after due = due
+
+-- a scalar is written where a value is due
+scalar_adds : (site : Site) (x : ScalarValue) (o : List ℕ) (frames after : List Open) → after_value frames ≡ Ok after
+    → cbor_after (scalar_of site x) (state o frames) ≡ Ok (state (o ++ (lead (state o frames) site.view ++ scalar_bytes x)) after)
+scalar_adds site (boolean b) o frames after due = rw due refl
+scalar_adds site (whole n) o frames after due = rw due refl
+scalar_adds site (text s) o frames after due = rw (text_taken frames after due) refl
+
 mutual
-  -- a value adds what stands before it, and its canonical encoding
-  adds : (site : Site) (v : Value) (o : List ℕ) (frames : List Open)
+  -- where a value is due, it adds what stands before it, and its canonical encoding
+  pub value_adds : (site : Site) (v : Value) (o : List ℕ) (frames after : List Open) → after_value frames ≡ Ok after
       → write cbor_after site v (state o frames)
-      ≡ Ok (state (o ++ (lead (state o frames) site.view ++ canonical_cbor site v)) frames)
-  adds site (scalar_value x) o frames = refl
-  adds site null_element o frames = refl
-  adds site (list vs) o frames =
+      ≡ Ok (state (o ++ (lead (state o frames) site.view ++ canonical_cbor site v)) after)
+  value_adds site (scalar_value x) o frames after due =
+      first (scalar_of site x) [] (state o frames) (state (o ++ (lead (state o frames) site.view ++ scalar_bytes x)) after) _ (scalar_adds site x o frames after due) refl
+  value_adds site null_element o frames after due =
+      first (null_of site) [] (state o frames) (state (o ++ (lead (state o frames) site.view ++ shortest_head 7 null_value)) after) _ (rw due refl) refl
+  value_adds site (list vs) o frames after due =
       let before = lead (state o frames) site.view in
       let child = element_of site in
-      regroup _ _ frames _
+      let front = o ++ (before ++ opening_bytes 4) in
+      regroup _ _ after _
+      (first (begin_list site (Some (count_of vs))) (element_events child vs ++ end_list ∷ []) (state o frames) (state front (open_list ∷ after)) _ (rw due refl)
       (step (element_events child vs) (end_list ∷ []) _ _ _
-      (elements_add child vs (o ++ (before ++ opening_bytes 4)) frames)
-      refl)
+      (elements_add child vs front after)
+      refl))
       (group_container o before (opening_bytes 4) (element_bytes child vs) (break ∷ []))
-  adds site (structure ms) o frames =
+  value_adds site (map es) o frames after due =
       let before = lead (state o frames) site.view in
-      regroup _ _ frames _
+      let child = value_of site in
+      let front = o ++ (before ++ opening_bytes 5) in
+      regroup _ _ after _
+      (first (begin_map site (Some (entry_count es))) (entry_events (key_of site) child es ++ end_map ∷ []) (state o frames) (state front (open_map_at_key ∷ after)) _ (rw due refl)
+      (step (entry_events (key_of site) child es) (end_map ∷ []) _ _ _
+      (entries_add (key_of site) child es front after)
+      refl))
+      (group_container o before (opening_bytes 5) (entry_bytes child es) (break ∷ []))
+  value_adds site (structure ms) o frames after due =
+      let before = lead (state o frames) site.view in
+      let front = o ++ (before ++ opening_bytes 5) in
+      regroup _ _ after _
+      (first (begin_structure site) (member_events site ms ++ end_structure ∷ []) (state o frames) (state front (open_structure ∷ after)) _ (rw due refl)
       (step (member_events site ms) (end_structure ∷ []) _ _ _
-      (members_add site ms (o ++ (before ++ opening_bytes 5)) frames)
-      refl)
+      (members_add site ms front after)
+      refl))
       (group_container o before (opening_bytes 5) (member_bytes site ms) (break ∷ []))
+  value_adds site (union n v) o frames after due =
+      let before = lead (state o frames) site.view in
+      let child = member_of site n in
+      let front = o ++ (before ++ opening_bytes 5) in
+      regroup _ _ after _
+      (first (begin_structure site) (events child v ++ end_structure ∷ []) (state o frames) (state front (open_structure ∷ after)) _ (rw due refl)
+      (step (events child v) (end_structure ∷ []) _ _ _
+      (value_adds child v front (open_structure ∷ after) (open_structure ∷ after) refl)
+      refl))
+      (group_union o before (opening_bytes 5) (key_bytes child.view) (canonical_cbor child v) (break ∷ []))
 
   -- elements add their encodings
   pub elements_add : (site : Site) (vs : Values) (o : List ℕ) (frames : List Open)
@@ -62,9 +117,22 @@ mutual
   elements_add site (value v vs) o frames =
       regroup _ _ (open_list ∷ frames) _
       (step (events site v) (element_events site vs) _ _ _
-      (adds site v o (open_list ∷ frames))
+      (value_adds site v o (open_list ∷ frames) (open_list ∷ frames) refl)
       (elements_add site vs (o ++ canonical_cbor site v) frames))
       (append_assoc o (canonical_cbor site v) (element_bytes site vs))
+
+  -- entries add their keys and encodings
+  pub entries_add : (key_site site : Site) (es : MapEntries) (o : List ℕ) (frames : List Open)
+      → run cbor_after (entry_events key_site site es) (state o (open_map_at_key ∷ frames))
+      ≡ Ok (state (o ++ entry_bytes site es) (open_map_at_key ∷ frames))
+  entries_add key_site site no_map_entries o frames = regroup _ _ (open_map_at_key ∷ frames) _ refl (sym (append-nil o))
+  entries_add key_site site (map_entry key v es) o frames =
+      regroup _ _ (open_map_at_key ∷ frames) _
+      (first (scalar_of key_site (text key)) (events site v ++ entry_events key_site site es) (state o (open_map_at_key ∷ frames)) (state (o ++ text_bytes key) (open_map_at_value ∷ frames)) _ refl
+      (step (events site v) (entry_events key_site site es) _ _ _
+      (value_adds site v (o ++ text_bytes key) (open_map_at_value ∷ frames) (open_map_at_key ∷ frames) refl)
+      (entries_add key_site site es ((o ++ text_bytes key) ++ canonical_cbor site v) frames)))
+      (group_entry o (text_bytes key) (canonical_cbor site v) (entry_bytes site es))
 
   -- members add their names and encodings
   pub members_add : (site : Site) (ms : MemberValues) (o : List ℕ) (frames : List Open)
@@ -76,10 +144,6 @@ mutual
       let key = key_bytes child.view in
       regroup _ _ (open_structure ∷ frames) _
       (step (events child v) (member_events site ms) _ _ _
-      (adds child v o (open_structure ∷ frames))
+      (value_adds child v o (open_structure ∷ frames) (open_structure ∷ frames) refl)
       (members_add site ms (o ++ (key ++ canonical_cbor child v)) frames))
       (group_member o key (canonical_cbor child v) (member_bytes site ms))
-
-pub value_adds : (site : Site) (v : Value) (s : CborState)
-    → write cbor_after site v s ≡ Ok (record s { out = s.out ++ (lead s site.view ++ canonical_cbor site v) })
-value_adds site v s = adds site v s.out s.frames

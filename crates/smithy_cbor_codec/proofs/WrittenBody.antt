@@ -6,7 +6,7 @@ use Rattle.smithy_schema.specs.Site.{View}
 use Rattle.smithy_schema.specs.Value.{Value}
 use Rattle.smithy_schema.specs.Fits.{Fits}
 use Rattle.smithy_schema.proofs.SiteLemmas.{site_at}
-use Rattle.smithy_cbor_codec.specs.Canonical.{key_bytes, canonical_cbor, element_bytes, member_bytes}
+use Rattle.smithy_cbor_codec.specs.Canonical.{key_bytes, canonical_cbor, element_bytes, entry_bytes, member_bytes}
 use Rattle.smithy_wire.specs.Writes.{body_of}
 use Rattle.smithy_wire.proofs.CanonicalBody.{Canonical, IsWritten, same_body}
 use Rattle.smithy_cbor_codec.proofs.WrittenLeaves.{cbor_leaves, scalar_is_written}
@@ -16,6 +16,7 @@ abbrev canonical : Canonical
 canonical = record {
   body = canonical_cbor;
   elements = λ is_first. element_bytes;
+  entries = λ is_first. entry_bytes;
   members = λ is_first. member_bytes;
   key = λ is_first. key_bytes;
 }
@@ -27,6 +28,10 @@ is_written = record {
   list_is = λ site vs. refl;
   no_element_is = λ is_first site. refl;
   element_is = λ is_first site v vs. refl;
+  map_is = λ site es. refl;
+  no_map_entry_is = λ is_first site. refl;
+  map_entry_is = λ is_first site key v es. refl;
+  union_is = λ site n v. refl;
   structure_is = λ site ms. refl;
   no_member_is = λ is_first site. refl;
   member_is = λ is_first site n v ms. refl;

@@ -1,7 +1,7 @@
 -- The one encoding in which a value is written.
 use Rattle.std.specs.Prelude.{ℕ, List, [], ◌∷◌, ◌++◌, Some, None}
-use Rattle.smithy_schema.specs.Site.{Site, View, element_of, member_of}
-use Rattle.smithy_schema.specs.Value.{ScalarValue, boolean, whole, text, Value, scalar_value, list, structure, null_element, Values, no_values, value, MemberValues, no_member_values, member_value}
+use Rattle.smithy_schema.specs.Site.{Site, View, element_of, value_of, member_of}
+use Rattle.smithy_schema.specs.Value.{ScalarValue, boolean, whole, text, Value, scalar_value, list, map, structure, union, null_element, Values, no_values, value, MapEntries, no_map_entries, map_entry, MemberValues, no_member_values, member_value}
 use Rattle.cbor_item.specs.Head.{shortest_head}
 use Rattle.cbor_item.specs.WellFormed.{break}
 use Rattle.smithy_cbor.specs.Scalar.{null_value}
@@ -19,17 +19,25 @@ key_bytes view = elim view.name [
   | Some name ↦ text_bytes name
 ]
 
--- Lists and structures of indefinite length; members in the table's order and elements in theirs.
+-- Containers of indefinite length; members in the table's order, elements in theirs and the entries of a map in that
+-- of its keys' bytes. A union is a map of its one member.
 abbrev mutual
   pub canonical_cbor : Site → Value → List ℕ
   canonical_cbor site (scalar_value x) = scalar_bytes x
   canonical_cbor site (list vs) = opening_bytes 4 ++ (element_bytes (element_of site) vs ++ break ∷ [])
+  canonical_cbor site (map es) = opening_bytes 5 ++ (entry_bytes (value_of site) es ++ break ∷ [])
   canonical_cbor site (structure ms) = opening_bytes 5 ++ (member_bytes site ms ++ break ∷ [])
+  canonical_cbor site (union n v) =
+      opening_bytes 5 ++ (key_bytes (member_of site n).view ++ (canonical_cbor (member_of site n) v ++ break ∷ []))
   canonical_cbor site null_element = shortest_head 7 null_value
 
   pub element_bytes : Site → Values → List ℕ
   element_bytes site no_values = []
   element_bytes site (value v vs) = canonical_cbor site v ++ element_bytes site vs
+
+  pub entry_bytes : Site → MapEntries → List ℕ
+  entry_bytes site no_map_entries = []
+  entry_bytes site (map_entry key v es) = text_bytes key ++ (canonical_cbor site v ++ entry_bytes site es)
 
   pub member_bytes : Site → MemberValues → List ℕ
   member_bytes site no_member_values = []

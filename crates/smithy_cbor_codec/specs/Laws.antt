@@ -4,7 +4,7 @@ use Rattle.smithy_cbor_codec.specs.Settings.{Settings, without_limits}
 use Rattle.smithy_cbor_codec.specs.Meaning.{rules_of}
 use Rattle.smithy_cbor_codec.specs.Standing.{cbor_frames, cbor_relations}
 use Rattle.smithy_cbor_codec.specs.Private.Wire.{cbor_is_wire, cbor_bounds_openers}
-use Rattle.smithy_cbor_codec.specs.Private.Fits.{says_fits}
+use Rattle.smithy_cbor_codec.specs.Private.Fits.{text_is_utf8, says_fits}
 use Rattle.smithy_wire.specs.Wire.{RulesFit}
 use Rattle.smithy_wire.specs.Laws as wire
 
@@ -12,9 +12,9 @@ use Rattle.smithy_wire.specs.Laws as wire
 pub lawful : (c : Settings) → IsLawful (cbor_relations c)
 lawful c = wire.lawful cbor_frames (rules_of c) cbor_is_wire
 
--- what scalars mean is of their kind
+-- what scalars mean is of their kind, and keys are texts
 pub rules_fit : (c : Settings) → RulesFit cbor_frames (rules_of c)
-rules_fit c = record { says_fits = λ i d x a e lies. says_fits c x }
+rules_fit c = record { says_fits = λ i d x a e lies. says_fits c x; key_fits = λ i b m key c n text entry. text_is_utf8 key text }
 
 -- so what stands is a value of its place
 pub fit : (c : Settings) → StandsFit (cbor_relations c)

@@ -2,8 +2,8 @@
 pub mod NextInContainer
 pub mod ScalarAtPlace
 pub mod Skipping
-pub mod MembersBehindNulls
-pub mod StructureSteps
+pub mod PassedEntries
+pub mod MemberSteps
 pub mod Slices
 pub mod ItemPlaces
 pub mod FirstBytes
@@ -16,4 +16,4 @@ pub mod MapPlaces
 pub mod ValueSorts
 pub mod Wire
 pub mod NodePlaces
-pub mod WrittenEnds
+pub mod MadeStates

@@ -1,12 +1,14 @@
 //! The reader of CBOR values that a schema directs.
-ghost use Rattle.std.specs.Prelude.{◌≡◌};
+ghost use Rattle.std.specs.Prelude.{◌≡◌, ◌↔◌, [], IsTrue};
+ghost use Rattle.smithy_schema.specs.Table.{IsStructure};
+ghost use Rattle.smithy_schema.specs.Site.{site_of, kind_at};
 ghost use Rattle.smithy_cbor_codec.specs.Cursor.{inside_of, missing_frame};
 ghost use Rattle.smithy_wire.specs.Walking.{within_of, frame_of};
 
-use crate::members::{Next, next_present};
+use crate::members::{Next, next_in_map, next_present, step_to};
 use crate::places::{EntryOrEnd, array_at, entry_or_end, is_null_at, map_at, may_leave, null_end};
 use crate::values::{boolean_at, long_at, skipped_end, string_at};
-use smithy_schema::{Schema, SerdeError, ShapeDeserializer, Step};
+use smithy_schema::{Schema, SerdeError, ShapeDeserializer, ShapeType, Step};
 use smithy_wire::{Frame, Mark, Walk, Within, byte_found, integer_found, short_found};
 use std::alloc::Global;
 
@@ -32,6 +34,20 @@ fn frame(within: Within, due: Option<u64>) -> Frame
     }
 }
 
+// Whether a structure stands at the place.
+fn is_structure(schema: &Schema<'_>) -> bool
+    ensures { IsTrue result ↔ IsStructure (kind_at (site_of schema.now)) }
+{
+    schema.shape_type() == ShapeType::Structure
+}
+
+// Whether an empty input is the structure without members.
+fn is_missing(input: &[u8], schema: &Schema<'_>) -> bool
+    ensures { IsTrue result ↔ IsStructure (kind_at (site_of schema.now)) × (input.now ≡ []) }
+{
+    input.is_empty() && is_structure(schema)
+}
+
 // What is kept of the structure without members that an empty input is.
 fn missing() -> Frame
     ensures { frame_of result ≡ missing_frame }
@@ -49,13 +65,13 @@ fn missing() -> Frame
 impl<'a> CborDeserializer<'a> {
     ghost use Rattle.std.specs.Prelude.{◌≡◌, ◌≤◌, ◌↔◌, length, IsTrue, IfOk, IsErrOf, false};
     ghost use Rattle.smithy_schema.specs.Reading.{passed_to, in_structure, Conducts, MatchStep, CannotGoOn, IsRefused};
-    ghost use Rattle.smithy_schema.specs.Table.{IsStructure};
+    ghost use Rattle.smithy_schema.specs.Table.{IsStructure, HasMembers};
     ghost use Rattle.smithy_schema.specs.Site.{site_of, kind_at};
     ghost use Rattle.smithy_schema.specs.declared.error.SerdeError.TheVariants.{TooDeep};
     ghost use Rattle.smithy_cbor_codec.specs.Cursor.{cursor_of, reading_settings_of};
     ghost use Rattle.smithy_cbor_codec.specs.Settings.{Settings};
     ghost use Rattle.smithy_cbor_codec.specs.Standing.{cbor_relations};
-    ghost use Rattle.smithy_cbor_codec.specs.Private.StructureSteps.{EndsEmpty, StepsTo};
+    ghost use Rattle.smithy_cbor_codec.specs.Private.MemberSteps.{EndsEmpty};
     ghost use Rattle.smithy_wire.specs.Walking.{fresh_cursor};
 
     // A fresh reader.
@@ -70,42 +86,32 @@ impl<'a> CborDeserializer<'a> {
         }
     }
 
-    // Whether the innermost container was opened at the end of an empty input, and ends there.
-    fn ends_empty(&self) -> bool
-        ensures { IsTrue result ↔ EndsEmpty (cursor_of self.now) }
+    // Whether the innermost container was opened at the end of an empty input, and ends there as a structure.
+    fn ends_empty(&self, schema: &Schema<'_>) -> bool
+        ensures { IsTrue result ↔ IsStructure (kind_at (site_of schema.now)) × EndsEmpty (cursor_of self.now) }
     {
         let mark = self.walk.inner.mark;
         mark.at_end
             && !mark.entered
             && mark.due.is_none()
-            && self.walk.input.is_empty()
+            && is_missing(self.walk.input, schema)
             && self.walk.depth() > 0
     }
 
-    // The step to a member of this name.
-    fn step_to<'s>(&self, schema: &Schema<'s>, name: &str) -> Step<'s>
-        ensures { StepsTo result (reading_settings_of self.now) (site_of schema.now) name.now }
-    {
-        match schema.member_schema(name) {
-            Some(member) => Step::Member(member),
-            None => Step::Unknown,
-        }
-    }
-
-    // Goes on in the structure from the offset on, where nothing is due any more.
+    // Goes on in the structure or the union from the offset on, where nothing is due any more.
     fn step_from<'s>(&mut self, at: usize, schema: &Schema<'s>) -> Result<Step<'s>, SerdeError>
         requires ahead { self.old.walk.position ≤ at }
         requires within { at ≤ length self.old.walk.input.now }
         requires sound { self.old.walk.failed ≡ false }
         requires inside { (cursor_of self.old).inner.within ≡ in_structure }
-        requires place { IsStructure (kind_at (site_of schema.now)) }
+        requires place { HasMembers (kind_at (site_of schema.now)) }
         ensures same { reading_settings_of self.new ≡ reading_settings_of self.old }
         ensures conduct { Conducts (cursor_of self.old) (cursor_of self.new) result }
         ensures ok { IfOk result (λ step. MatchStep step (cbor_relations (reading_settings_of self.old)) (passed_to (cursor_of self.old) at) (cursor_of self.new) (site_of schema.now)) }
         ensures refused { IsRefused result → (o : Settings) → CannotGoOn (cbor_relations o) (passed_to (cursor_of self.old) at) schema.now.shapes.now schema.now.place }
         ensures shallow { IsErrOf result TooDeep → ⊥ }
     {
-        if self.ends_empty() {
+        if self.ends_empty(schema) {
             self.walk.leave(0);
             return Ok(Step::End);
         }
@@ -115,9 +121,10 @@ impl<'a> CborDeserializer<'a> {
             at,
             self.walk.inner.mark.due,
             self.walk.depth(),
+            schema,
         ) {
-            Ok(Next::Member(name, value, due)) => {
-                let step = self.step_to(schema, name.as_str());
+            Ok(Next::Pair(name, value, due)) => {
+                let step = step_to(schema, name.as_str());
                 self.walk.go_on(value, frame(Within::Structure, due));
                 Ok(step)
             }
@@ -133,7 +140,7 @@ impl<'a> CborDeserializer<'a> {
 impl ShapeDeserializer for CborDeserializer<'_> {
     ghost use Rattle.std.specs.Prelude.{◌≡◌, ℕ, OnOk, IfOk, IsErr, IsErrOf, true, false};
     ghost use Rattle.smithy_schema.specs.Reading.{depth, in_structure, passed_to, null_is_due, Conducts, Passes, MatchStep, CannotGoOn, IsRefused, IsInvalid, IsNoAnswer, NullsNot, SkipsNot, ReachesDepth};
-    ghost use Rattle.smithy_schema.specs.Table.{IsStructure};
+    ghost use Rattle.smithy_schema.specs.Table.{HasMembers};
     ghost use Rattle.smithy_schema.specs.Site.{site_of, kind_at};
     ghost use Rattle.smithy_schema.specs.declared.error.SerdeError.TheVariants.{NoMemory, TooDeep};
     ghost use Rattle.smithy_cbor_codec.specs.Cursor.{cursor_of, reading_settings_of};
@@ -174,9 +181,9 @@ impl ShapeDeserializer for CborDeserializer<'_> {
         self.walk.failed = true;
     }
 
-    fn open_struct(&mut self, _schema: &Schema<'_>) -> Result<(), SerdeError> {
+    fn open_struct(&mut self, schema: &Schema<'_>) -> Result<(), SerdeError> {
         self.walk.ready()?;
-        if self.walk.input.is_empty() {
+        if is_missing(self.walk.input, schema) {
             return self.walk.enter(0, missing());
         }
         match map_at(self.walk.input, self.walk.position) {
@@ -189,7 +196,7 @@ impl ShapeDeserializer for CborDeserializer<'_> {
 
     fn next_member<'s>(&mut self, schema: &Schema<'s>) -> Result<Step<'s>, SerdeError>
         requires within { (cursor_of self.old).inner.within ≡ in_structure }
-        requires place { IsStructure (kind_at (site_of schema.now)) }
+        requires place { HasMembers (kind_at (site_of schema.now)) }
         ensures same { reading_settings_of self.new ≡ reading_settings_of self.old }
         ensures conduct { Conducts (cursor_of self.old) (cursor_of self.new) result }
         ensures ok { (cursor_of self.old).due ≡ false → IfOk result (λ step. MatchStep step (cbor_relations (reading_settings_of self.old)) (cursor_of self.old) (cursor_of self.new) (site_of schema.now)) }
@@ -205,7 +212,6 @@ impl ShapeDeserializer for CborDeserializer<'_> {
             → CannotGoOn (cbor_relations (without_limits (reading_settings_of self.old))) (passed_to (cursor_of self.old) e) schema.now.shapes.now schema.now.place }
         ensures unskipped { (cursor_of self.old).due ≡ true → SkipsNot (cbor_relations (reading_settings_of self.old)) (cursor_of self.old) → IsErr result }
         ensures deep { IsErrOf result TooDeep → ReachesDepth (cbor_relations (reading_settings_of self.old)) (reading_settings_of self.old).max_depth (cursor_of self.old) }
-        ensures unread_deep { IsErrOf result TooDeep → ((cursor_of self.old).due ≡ true) × SkipsNot (cbor_relations (reading_settings_of self.old)) (cursor_of self.old) }
 
         // An unread member may nest to any depth.
         ensures shallow { IsErrOf result TooDeep → ⊥ }
@@ -263,6 +269,45 @@ impl ShapeDeserializer for CborDeserializer<'_> {
                 Err(self.walk.refuse(SerdeError::InvalidInput))
             }
             None => Err(self.walk.refuse(SerdeError::InvalidInput)),
+        }
+    }
+
+    fn open_map(&mut self, _schema: &Schema<'_>) -> Result<(), SerdeError> {
+        self.walk.ready()?;
+        match map_at(self.walk.input, self.walk.position) {
+            Some(opening) => self
+                .walk
+                .enter(opening.inside, frame(Within::Map, opening.due)),
+            None => Err(self.walk.refuse(SerdeError::InvalidInput)),
+        }
+    }
+
+    fn next_key(&mut self) -> Result<Option<String>, SerdeError> {
+        if self.walk.failed {
+            return Err(self.walk.refuse(SerdeError::Failed));
+        }
+        if self.walk.due {
+            return Err(self.walk.refuse(SerdeError::InvalidInput));
+        }
+        match next_in_map(
+            self.alloc,
+            self.walk.input,
+            self.walk.position,
+            self.walk.inner.mark.due,
+            self.walk.depth(),
+        ) {
+            Ok(Next::Pair(text, value, due)) => match text.into_owned(self.alloc) {
+                Ok(key) => {
+                    self.walk.go_on(value, frame(Within::Map, due));
+                    Ok(Some(key))
+                }
+                Err(error) => Err(self.walk.refuse(SerdeError::from(error))),
+            },
+            Ok(Next::End(end)) => {
+                self.walk.leave(end);
+                Ok(None)
+            }
+            Err(error) => Err(self.walk.refuse(error)),
         }
     }
 

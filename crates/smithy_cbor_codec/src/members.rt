@@ -1,64 +1,51 @@
-//! Which member of a map comes next that isn't null.
+//! Which entry of a map comes next: in a structure or a union behind those that are passed over.
 
 ghost use Rattle.std.specs.Prelude.{◌≡◌, ◌⊎◌, ◌≤◌, length, IfOk, IfErr};
 ghost use Rattle.smithy_schema.specs.declared.error.SerdeError.TheVariants.{InvalidInput, NoMemory};
-ghost use Rattle.smithy_cbor_codec.specs.Private.MembersBehindNulls.{IsEntry, IsNext, EntryMissing, NothingComes};
+ghost use Rattle.smithy_schema.specs.Site.{site_of, kind_at};
+ghost use Rattle.smithy_cbor_codec.specs.Private.MemberSteps.{StepsTo};
+ghost use Rattle.smithy_cbor_codec.specs.Private.PassedEntries.{is_mark, IsPairOrEnd, PairMissing, IsEntry, IsNext, EntryMissing, NothingComes};
 
 use crate::places::{EntryOrEnd, entry_or_end, may_leave, null_end};
-use crate::values::text_at;
-use smithy_schema::SerdeError;
+use crate::values::{skipped_end, text_at};
+use smithy_schema::{Schema, SerdeError, Step};
 use std::alloc::Global;
 use std::borrow::CowStr;
 
-// A member that isn't null, by its key, the offset of its value and how many are due behind it, or the
-// end of the map.
+// An entry of a map, by its key, the offset of its value and how many are due behind it, or the end of the map.
 #[derive(Drop)]
 pub(crate) enum Next<'a> {
-    Member(CowStr<'a, Global>, usize, Option<u64>),
+    Pair(CowStr<'a, Global>, usize, Option<u64>),
     End(usize),
 }
 
-// What comes next in a map: a null, which is dropped, with the offset behind it and how many entries are
-// due there, or something else.
+// What comes next in a structure or a union: an entry that is passed over, with the offset behind it and how many
+// entries are due there, or something else.
 #[derive(Drop)]
 enum Entry<'a> {
-    Dropped(usize, Option<u64>),
+    Passed(usize, Option<u64>),
     Kept(Next<'a>),
 }
 
-// What comes next in the map in whose inside the offset lies.
-fn entry_at<'a>(
-    alloc: Global,
-    input: &'a [u8],
-    at: usize,
-    due: Option<u64>,
-    depth: usize,
-) -> Result<Entry<'a>, SerdeError>
-    requires { at ≤ length input.now }
-    ensures ok { IfOk result (IsEntry input.now at due depth) }
-    ensures none { IfErr result (λ e. e ≡ InvalidInput → EntryMissing input.now at due depth) }
-    ensures kind { IfErr result (λ e. (e ≡ InvalidInput) ⊎ (e ≡ NoMemory)) }
+// The step to an entry of this name.
+pub(crate) fn step_to<'s>(schema: &Schema<'s>, name: &str) -> Step<'s>
+    ensures { StepsTo result (site_of schema.now) name.now }
 {
-    match entry_or_end(input, at, due) {
-        Some(EntryOrEnd::Entry(after)) => {
-            let (key, value) = text_at(alloc, input, at)?;
-            if let Some(end) = null_end(input, value, depth) {
-                return Ok(Entry::Dropped(end, after));
-            }
-            Ok(Entry::Kept(Next::Member(key, value, after)))
-        }
-        Some(EntryOrEnd::End(end)) => {
-            if may_leave(input, end, depth) {
-                return Ok(Entry::Kept(Next::End(end)));
-            }
-            Err(SerdeError::InvalidInput)
-        }
-        None => Err(SerdeError::InvalidInput),
+    match schema.member_schema(name) {
+        Some(member) => Step::Member(member),
+        None => Step::Unknown,
     }
 }
 
-// The next member that isn't null, or the end of the map in whose inside the offset lies.
-pub(crate) fn next_present<'a>(
+// Whether the key marks the variant of a union: a `__type` that names no member.
+fn is_mark(schema: &Schema<'_>, key: &str) -> bool
+    ensures { result ≡ is_mark (kind_at (site_of schema.now)) key.now }
+{
+    key == "__type" && schema.member_schema(key).is_none()
+}
+
+// What comes next in the map in whose inside the offset lies.
+pub(crate) fn next_in_map<'a>(
     alloc: Global,
     input: &'a [u8],
     at: usize,
@@ -66,19 +53,81 @@ pub(crate) fn next_present<'a>(
     depth: usize,
 ) -> Result<Next<'a>, SerdeError>
     requires { at ≤ length input.now }
-    ensures ok { IfOk result (IsNext input.now at due depth) }
-    ensures none { IfErr result (λ e. e ≡ InvalidInput → NothingComes input.now at due depth) }
+    ensures ok { IfOk result (IsPairOrEnd input.now at due depth) }
+    ensures none { IfErr result (λ e. e ≡ InvalidInput → PairMissing input.now at due depth) }
+    ensures kind { IfErr result (λ e. (e ≡ InvalidInput) ⊎ (e ≡ NoMemory)) }
+{
+    match entry_or_end(input, at, due) {
+        Some(EntryOrEnd::Entry(after)) => {
+            let (key, value) = text_at(alloc, input, at)?;
+            Ok(Next::Pair(key, value, after))
+        }
+        Some(EntryOrEnd::End(end)) => {
+            if may_leave(input, end, depth) {
+                return Ok(Next::End(end));
+            }
+            Err(SerdeError::InvalidInput)
+        }
+        None => Err(SerdeError::InvalidInput),
+    }
+}
+
+// The same in a structure or a union, where nulls and marks are passed over.
+fn entry_at<'a>(
+    alloc: Global,
+    input: &'a [u8],
+    at: usize,
+    due: Option<u64>,
+    depth: usize,
+    schema: &Schema<'_>,
+) -> Result<Entry<'a>, SerdeError>
+    requires { at ≤ length input.now }
+    ensures ok { IfOk result (IsEntry (kind_at (site_of schema.now)) input.now at due depth) }
+    ensures none { IfErr result (λ e. e ≡ InvalidInput → EntryMissing (kind_at (site_of schema.now)) input.now at due depth) }
+    ensures kind { IfErr result (λ e. (e ≡ InvalidInput) ⊎ (e ≡ NoMemory)) }
+{
+    match next_in_map(alloc, input, at, due, depth) {
+        Ok(Next::Pair(key, value, after)) => {
+            if let Some(end) = null_end(input, value, depth) {
+                return Ok(Entry::Passed(end, after));
+            }
+            if !is_mark(schema, key.as_str()) {
+                return Ok(Entry::Kept(Next::Pair(key, value, after)));
+            }
+            match skipped_end(alloc, input, value, depth) {
+                Ok(end) => Ok(Entry::Passed(end, after)),
+                Err(error) => Err(error),
+            }
+        }
+        Ok(Next::End(end)) => Ok(Entry::Kept(Next::End(end))),
+        Err(error) => Err(error),
+    }
+}
+
+// The next member that isn't passed over, or the end of the map in whose inside the offset lies.
+pub(crate) fn next_present<'a>(
+    alloc: Global,
+    input: &'a [u8],
+    at: usize,
+    due: Option<u64>,
+    depth: usize,
+    schema: &Schema<'_>,
+) -> Result<Next<'a>, SerdeError>
+    requires { at ≤ length input.now }
+    ensures ok { IfOk result (IsNext (kind_at (site_of schema.now)) input.now at due depth) }
+    ensures none { IfErr result (λ e. e ≡ InvalidInput → NothingComes (kind_at (site_of schema.now)) input.now at due depth) }
     ensures kind { IfErr result (λ e. (e ≡ InvalidInput) ⊎ (e ≡ NoMemory)) }
 {
     let mut at = at;
     let mut due = due;
     loop {
-        match entry_at(alloc, input, at, due, depth)? {
-            Entry::Dropped(end, after) => {
+        match entry_at(alloc, input, at, due, depth, schema) {
+            Ok(Entry::Passed(end, after)) => {
                 at = end;
                 due = after;
             }
-            Entry::Kept(next) => return Ok(next),
+            Ok(Entry::Kept(next)) => return Ok(next),
+            Err(error) => return Err(error),
         }
     }
 }

@@ -1,31 +1,46 @@
 //! Writing a body as a schema directs.
-ghost use Rattle.std.specs.Prelude.{◌≡◌, ◌↔◌, true, false, OnOk, OnErr, IfErr, IsErrOf};
+ghost use Rattle.std.specs.Prelude.{◌≡◌, ◌↔◌, ◌++◌, Ok, Err, true, false, OnOk, OnErr, IfErr, IsErr, IsErrOf};
 ghost use Rattle.smithy_schema.specs.declared.error.SerdeError.TheVariants.{Failed};
 ghost use Rattle.smithy_schema.specs.Reading.{IsFault};
 ghost use Rattle.smithy_schema.specs.Site.{site_of};
-ghost use Rattle.smithy_cbor_codec.specs.Serializing.{state_of, has_failed};
-ghost use Rattle.smithy_cbor_codec.specs.Writing.{CborState, fresh_state, keyed, cbor_after};
+ghost use Rattle.smithy_schema.specs.Writing.{after_value, after_text};
+ghost use Rattle.smithy_cbor.specs.Written.{text_bytes};
+ghost use Rattle.smithy_cbor_codec.specs.Canonical.{key_bytes};
+ghost use Rattle.smithy_cbor_codec.specs.Serializing.{opens_of, state_of, has_failed};
+ghost use Rattle.smithy_cbor_codec.specs.Writing.{CborState, fresh_state, key_in, lead, cbor_after};
 
 use smithy_cbor::Encoder;
 use smithy_schema::{FinishSerializer, Schema, SerdeError, ShapeSerializer};
 use std::alloc::{AllocError, Global};
 
-// A container that is open.
+// A container that is open, and of a map what is due in it.
 #[derive(Clone, Copy, Debug)]
 pub(crate) enum Container {
     Structure,
     List,
+    MapAtKey,
+    MapAtValue,
 }
 
 /// Writes one body: a value in its canonical encoding.
 ///
-/// Members are written by name; lists and structures are of indefinite length.
+/// Members and the entries of a map are written by name; containers are of indefinite length.
 #[derive(Debug, Drop)]
 pub struct CborSerializer {
     encoder: Encoder,
     stack: Vec<Container>,
     // From the beginning of a call until it is done, and for good where it is refused.
     failed: bool,
+}
+
+// Writes the name of a member; nothing for what has none.
+fn write_name(encoder: &mut Encoder, schema: &Schema<'_>) -> Result<(), AllocError>
+    ensures { OnOk result (encoder.new ≡ encoder.old ++ key_bytes (site_of schema.now).view) }
+{
+    match schema.member_name() {
+        Some(name) => encoder.str(name),
+        None => Ok(()),
+    }
 }
 
 impl CborSerializer {
@@ -38,20 +53,6 @@ impl CborSerializer {
             stack: Vec::new(alloc),
             failed: false,
         }
-    }
-
-    // Writes the key of a member, in a structure alone.
-    fn write_key(&mut self, schema: &Schema<'_>) -> Result<(), AllocError>
-        ensures ok { OnOk result (state_of self.new ≡ keyed (state_of self.old) (site_of schema.now).view) }
-        ensures err { OnErr result (state_of self.new ≡ state_of self.old) }
-        ensures failed { has_failed self.new ≡ has_failed self.old }
-    {
-        if let Some(Container::Structure) = self.stack.last()
-            && let Some(name) = schema.member_name()
-        {
-            return self.encoder.str(name);
-        }
-        Ok(())
     }
 
     // Begins a call, until whose end the serializer counts as failed.
@@ -68,16 +69,48 @@ impl CborSerializer {
         Ok(())
     }
 
-    // Begins the call of a value, by its key.
+    // Begins the call of a value: with the name of a member. Where a map's key is due no value comes, and behind a map's
+    // value a key is due.
     fn begin_value(&mut self, schema: &Schema<'_>) -> Result<(), SerdeError>
         ensures failed { IsErrOf result Failed ↔ (has_failed self.old ≡ true) }
         ensures broken { has_failed self.new ≡ true }
-        ensures ok { OnOk result (state_of self.new ≡ keyed (state_of self.old) (site_of schema.now).view) }
-        ensures refused { IfErr result (λ e. IsFault e → ⊥) }
+        ensures lead { OnOk result ((state_of self.new).out ≡ (state_of self.old).out ++ lead (state_of self.old) (site_of schema.now).view) }
+        ensures taken { OnOk result (after_value (state_of self.old).frames ≡ Ok (state_of self.new).frames) }
+        ensures refused { IfErr result (λ e. IsFault e → after_value (state_of self.old).frames ≡ Err e) }
     {
         self.begin()?;
-        self.write_key(schema)?;
-        Ok(())
+        match self.stack.last() {
+            Some(Container::MapAtKey) => Err(SerdeError::Unwritable),
+            Some(Container::MapAtValue) => {
+                self.stack.pop();
+                self.stack.push(Container::MapAtKey)?;
+                Ok(())
+            }
+            Some(Container::Structure) => {
+                write_name(&mut self.encoder, schema)?;
+                Ok(())
+            }
+            Some(Container::List) | None => Ok(()),
+        }
+    }
+
+    // Begins the call of a text, which is a key where a map's key is due: its value is due then.
+    fn begin_text(&mut self, schema: &Schema<'_>) -> Result<(), SerdeError>
+        ensures failed { IsErrOf result Failed ↔ (has_failed self.old ≡ true) }
+        ensures broken { has_failed self.new ≡ true }
+        ensures lead { OnOk result ((state_of self.new).out ≡ (state_of self.old).out ++ lead (state_of self.old) (site_of schema.now).view) }
+        ensures taken { OnOk result (after_text (state_of self.old).frames ≡ Ok (state_of self.new).frames) }
+        ensures refused { IfErr result (λ e. IsFault e → after_text (state_of self.old).frames ≡ Err e) }
+    {
+        match self.stack.last() {
+            Some(Container::MapAtKey) => {
+                self.begin()?;
+                self.stack.pop();
+                self.stack.push(Container::MapAtValue)?;
+                Ok(())
+            }
+            _ => self.begin_value(schema),
+        }
     }
 }
 
@@ -144,6 +177,24 @@ impl ShapeSerializer for CborSerializer {
         Ok(())
     }
 
+    fn begin_map(&mut self, schema: &Schema<'_>, _length: Option<usize>) -> Result<(), SerdeError> {
+        self.begin_value(schema)?;
+        self.encoder.begin_map()?;
+        self.stack.push(Container::MapAtKey)?;
+        self.failed = false;
+        Ok(())
+    }
+
+    fn end_map(&mut self) -> Result<(), SerdeError> {
+        self.begin()?;
+        let Some(Container::MapAtKey) = self.stack.pop() else {
+            return Err(SerdeError::Unwritable);
+        };
+        self.encoder.end()?;
+        self.failed = false;
+        Ok(())
+    }
+
     fn write_null(&mut self, schema: &Schema<'_>) -> Result<(), SerdeError> {
         self.begin_value(schema)?;
         self.encoder.null()?;
@@ -178,7 +229,7 @@ impl ShapeSerializer for CborSerializer {
     }
 
     fn write_string(&mut self, schema: &Schema<'_>, value: &str) -> Result<(), SerdeError> {
-        self.begin_value(schema)?;
+        self.begin_text(schema)?;
         self.encoder.str(value)?;
         self.failed = false;
         Ok(())

@@ -1,23 +1,26 @@
 -- What a reader finds at a place, as the contract of reading says it.
-use Rattle.std.proofs.Common.{◌≡◌, ◌≢◌, ◌≤◌, ◌+◌, ◌⊎◌, inl, inr, ℕ, length, List, [], ◌∷◌, true, false, None, Result, Ok, Err, refl, sym, ap, subst, ◌∙◌, arith}
+use Rattle.std.proofs.Common.{◌≡◌, ◌≢◌, ◌≤◌, ◌+◌, ◌⊎◌, inl, inr, ℕ, length, List, [], ◌∷◌, true, false, Some, None, Result, Ok, Err, refl, sym, ap, subst, ◌∙◌, arith}
 use Rattle.std.proofs.lemmas.Bool.Decides.{nat_tests}
 use Rattle.std.specs.Prelude.{nat_le}
 use Rattle.std.specs.Result.{IsErrOf}
 use Rattle.smithy_schema.specs.declared.error.SerdeError.{SerdeError}
 use Rattle.smithy_schema.specs.declared.error.SerdeError.TheVariants.{InvalidInput, Unwritable, Failed, NoMemory}
 use Rattle.smithy_schema.specs.declared.place.Place.{Place}
-use Rattle.smithy_schema.specs.Table.{Table, kind_of, IsList, IsStructure}
-use Rattle.smithy_schema.specs.Reading.{Cursor, depth, Steps, Conducts, OpensNot, SkipsNot, CannotGoOn, IsFault, failed_at, in_list}
-use Rattle.smithy_json.specs.Ascii.{end_array}
+use Rattle.smithy_schema.specs.Table.{Table, kind_of, IsList, IsMap, IsStructure}
+use Rattle.smithy_schema.specs.Reading.{Cursor, depth, Steps, Conducts, OpensNot, SkipsNot, CannotGoOn, IsFault, failed_at, in_list, in_map}
+use Rattle.smithy_json.specs.Ascii.{end_array, end_object}
 use Rattle.smithy_json.specs.Tree.{nesting}
+use Rattle.smithy_json.specs.Unescape.{unescaped}
 use Rattle.smithy_json_codec.specs.Cursor.{inside_of}
 use Rattle.smithy_wire.specs.Walking.{gone_on_to}
 use Rattle.smithy_json_codec.specs.Settings.{Settings, without_limits, is_shallow, kept}
-use Rattle.smithy_json_codec.specs.Standing.{json_relations, end_mark}
-use Rattle.smithy_json_codec.specs.Private.NextInContainer.{ElementBegins, ClosesBy, GoesOnInList}
+use Rattle.smithy_json_codec.specs.Standing.{json_relations, end_mark, Names}
+use Rattle.smithy_json_codec.specs.Private.NextInContainer.{ElementBegins, ClosesBy, GoesOnInList, GoesOnInObject}
 use Rattle.smithy_json_codec.specs.Private.Skipping.{SkipsTo}
-use Rattle.smithy_json_codec.proofs.ReaderLemmas.{steps_in_list, list_is_stuck, one_tree}
+use Rattle.smithy_json_codec.proofs.ReaderLemmas.{steps_in_list, list_is_stuck, steps_in_map, map_is_stuck, one_tree, same_names, names_or_end}
 use Rattle.smithy_json_codec.proofs.SkippedValues.{skips_are}
+use Rattle.smithy_wire.specs.Frames.{IsTold}
+use Rattle.smithy_wire.specs.Node.{as_object}
 
 -- a refusal by a text that isn't want of memory
 pub text_fault : (error : SerdeError) → (error ≡ InvalidInput) ⊎ (error ≡ NoMemory) → IsFault error → error ≡ InvalidInput
@@ -59,12 +62,42 @@ list_stuck o c t p kind held same h =
     let shut = subst (λ d. (e : ℕ) → ClosesBy end_array c.input c.at d e → ⊥) same h.1 in
     list_is_stuck o c.input t p kind (depth c) c.at c.inner.mark (λ b separated goes. h.0 b (separated, goes)) (λ e lies follows. shut e (lies, follows))
 
+-- ---- maps
+
+-- the map went on to an entry
+pub entry_steps : (o : Settings) (old new : Cursor) (t : Table) (p : Place) (raw key : List ℕ) (b : ℕ) → IsMap (kind_of t p) → old.inner.within ≡ in_map → old.failed ≡ false
+    → new ≡ gone_on_to old b (inside_of in_map true) → Names old.inner.mark.entered old.input old.at raw b → unescaped raw ≡ Some key
+    → Steps (json_relations o) old new t p (Some key)
+entry_steps o old new t p raw key b kind within sound is names some = rw is (record {
+  steps = steps_in_map o old.input t p kind (depth old) old.at old.inner.mark raw key b names some;
+  input = refl;
+  within = sym within;
+  outer = refl;
+  due = refl;
+  failed = sound;
+})
+
+-- the map goes on neither to a key nor to its end
+pub map_stuck : (o : Settings) (c : Cursor) (t : Table) (p : Place) → IsMap (kind_of t p) → (held : ℕ) → held ≡ depth c
+    → GoesOnInObject c.input c.at c.inner.mark.entered held None → CannotGoOn (json_relations o) c t p
+map_stuck o c t p kind held same h =
+    let shut = subst (λ d. (e : ℕ) → ClosesBy end_object c.input c.at d e → ⊥) same h.1 in
+    map_is_stuck o c.input t p kind (depth c) c.at c.inner.mark (λ raw b names told. h.0 raw b names) (λ e lies follows. shut e (lies, follows))
+
+-- nor where its key has no text
+pub key_stuck : (o : Settings) (c : Cursor) (t : Table) (p : Place) (raw : List ℕ) (b : ℕ) → IsMap (kind_of t p) → Names c.inner.mark.entered c.input c.at raw b
+    → unescaped raw ≡ None → CannotGoOn (json_relations o) c t p
+key_stuck o c t p raw b kind names wordless =
+    map_is_stuck o c.input t p kind (depth c) c.at c.inner.mark
+    (λ other d there told. subst (IsTold as_object) (ap unescaped (same_names c.input c.inner.mark.entered c.at other raw d b there names).0 ∙ wordless) told)
+    (λ e lies follows. names_or_end c.input c.inner.mark.entered c.at raw b e names lies)
+
 -- ---- skipped values
 
-kept_shallow : (o : Settings) (d : ℕ) → o.limits ≡ kept → is_shallow o d ≡ true → d ≤ o.max_depth
+pub kept_shallow : (o : Settings) (d : ℕ) → o.limits ≡ kept → is_shallow o d ≡ true → d ≤ o.max_depth
 kept_shallow o d limits shallow = let test : nat_le d o.max_depth ≡ true = rw limits at shallow in grind (arith, nat_tests, test)
 
-shallow_kept : (o : Settings) (d : ℕ) → o.limits ≡ kept → d ≤ o.max_depth → is_shallow o d ≡ true
+pub shallow_kept : (o : Settings) (d : ℕ) → o.limits ≡ kept → d ≤ o.max_depth → is_shallow o d ≡ true
 shallow_kept o d limits shallow = let test : nat_le d o.max_depth ≡ true = grind (arith, nat_tests, shallow) in rw limits test
 
 module _ (o : Settings) (c : Cursor) where

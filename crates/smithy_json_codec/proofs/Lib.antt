@@ -3,6 +3,7 @@ mod StandardFacts
 mod MeaningFacts
 mod StandingFacts
 mod WritingFacts
+mod EntryFacts
 pub mod SpellingLemmas
 pub mod ReaderLemmas
 pub mod SkippedValues
@@ -11,14 +12,15 @@ pub mod FirstBytePlaces
 pub mod FirstBytes
 pub mod ScannedValues
 pub mod OptionLemmas
+pub mod TextLemmas
 pub mod NextInContainerLemmas
 pub mod ValueFirstByte
 pub mod ScalarLemmas
 pub mod SkipSteps
 pub mod OpenContainers
 pub mod DeserializerLemmas
-pub mod StructureStepsLemmas
-pub mod MembersBehindNullsLemmas
+pub mod MemberStepLemmas
+pub mod PassedEntryLemmas
 pub mod WritingLemmas
 pub mod WrittenLeaves
 pub mod WrittenPlaces

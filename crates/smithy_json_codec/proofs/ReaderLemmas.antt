@@ -1,8 +1,10 @@
 -- What a reader finds in an input, as a relation of reading, and what it doesn't find.
-use Rattle.std.proofs.Common.{◌≡◌, ◌<◌, ℕ, zero, suc, List, [], drop, Option, Some, None, Bool, refl, sym, ◌∙◌, ap, subst, inl, inr}
+use Rattle.std.proofs.Common.{◌≡◌, ◌⊎◌, ◌<◌, ℕ, zero, suc, List, [], drop, Option, Some, None, Bool, true, false, refl, sym, ◌∙◌, ap, subst, inl, inr}
+use Rattle.std.specs.Str.{bytes_eq}
+use Rattle.std.proofs.lemmas.Slice.Eq.{bytes_eq-Decides}
 use Rattle.std.specs.Option.{option_and_then}
 use Rattle.smithy_schema.specs.declared.place.Place.{Place}
-use Rattle.smithy_schema.specs.Table.{Table, kind_of, IsList, IsStructure}
+use Rattle.smithy_schema.specs.Table.{Table, Kind, structure_of, kind_of, IsList, IsMap, IsStructure, HasMembers}
 use Rattle.smithy_schema.specs.Reading.{Mark}
 use Rattle.smithy_schema.specs.Lemmas.Kinds.{no_list_and_structure}
 use Rattle.smithy_json.specs.Ascii.{begin_array, end_array, begin_object, end_object}
@@ -12,13 +14,15 @@ use Rattle.smithy_json_codec.specs.Scalar.{a_string, text_of}
 use Rattle.smithy_json_codec.specs.Settings.{Settings}
 use Rattle.smithy_json_codec.specs.Meaning.{rules_of}
 use Rattle.smithy_json_codec.specs.Standing.{Lies, FollowsInside, TreeLies, IsByte, IsSeparated, Names, fresh_mark, end_mark, entry_mark, json_frames, json_relations}
-use Rattle.smithy_json_codec.specs.Private.MembersBehindNulls.{Drops as NullsLie, EntryMissing}
+use Rattle.smithy_json_codec.specs.Private.PassedEntries.{type_name, IsNoMark, IsPassed, Passes, EntryMissing}
+use Rattle.smithy_json_codec.specs.Private.Skipping.{SkipsTo}
 use Rattle.smithy_json_codec.specs.Private.Wire.{json_is_wire}
 use Rattle.smithy_wire.specs.Node.{as_array, as_object}
-use Rattle.smithy_wire.specs.Frames.{IsTold, DropsAll}
+use Rattle.smithy_wire.specs.Frames.{IsTold, Drops, DropsAll}
+use Rattle.smithy_wire.specs.Rules.{is_mark, key_text}
 use Rattle.smithy_wire.specs.Readers.{opens_not, cannot_go_on}
-use Rattle.smithy_wire.specs.Entries.{null_is_dropped, step_to_entry, close_at_end, list_drops_nothing, step_to_element}
-use Rattle.smithy_wire.specs.Lemmas.Places.{structure_is_object, list_is_array}
+use Rattle.smithy_wire.specs.Entries.{other_is_no_mark, drop_is, mark_is_dropped, null_is_dropped, step_to_entry, close_at_end, list_drops_nothing, step_to_element, map_drops_nothing, step_to_key}
+use Rattle.smithy_wire.specs.Lemmas.Places.{members_are_object, list_is_array, map_is_object}
 -- what stands behind white space, in Private: a byte, a name and a value are determined, with their ends
 pub use Rattle.smithy_json_codec.specs.Private.Lexical.{past_ws, ws_boundary, value_begins}
 pub use Rattle.smithy_json_codec.specs.Private.BytePlaces.{settle, settle_at, past_byte, same_byte}
@@ -50,71 +54,150 @@ module _ (o : Settings) (i : List ℕ) (t : Table) (p : Place) (kind : IsList (k
       × ((e : ℕ) → (json_relations o).closes i t p d b m e → ⊥)
   list_is_stuck d b m none shut =
       cannot_go_on json_frames (rules_of o) i t p json_is_wire as_array (list_is_array (kind_of t p) kind) d 0 b m b m (refl, refl)
-      (λ key c n entry told stays. none c entry.2 entry.3) (list_drops_nothing json_frames (rules_of o) i t p d kind as_array b m) shut
+      (λ key c n entry told unmarked stays. none c entry.2 entry.3) (list_drops_nothing json_frames (rules_of o) i t p d kind as_array b m) shut
       (λ structure' at_end over some. no_list_and_structure (kind_of t p) kind structure')
 
--- ---- a structure at a place
+-- ---- a map at a place
 
--- members that are null are dropped
-drops_all : (o : Settings) (i : List ℕ) (t : Table) (p : Place) (d : ℕ) → IsStructure (kind_of t p) → (count b : ℕ) (m : Mark) (e : ℕ) (after : Bool)
-    → NullsLie count i b m.entered e after → (n : Mark) × (n.entered ≡ after) × DropsAll json_frames (rules_of o) (kind_of t p) as_object count i d b m e n
-drops_all o i t p d kind zero b m e after h = (m, h.1, (h.0, refl))
-drops_all o i t p d kind (suc count) b m e after h =
-    let rest = drops_all o i t p d kind count h.2 entry_mark e after h.5 in
-    let one = null_is_dropped json_frames (rules_of o) i t p d (λ q. refl) kind b m (Some (a_string h.0)) h.1 entry_mark h.2 (h.0, refl, refl, h.3) (rw h.6.1 tt) h.4 in
-    (rest.0, rest.1, (h.2, entry_mark, one, rest.2))
+no_map_and_structure : (k : Kind) → IsMap k → IsStructure k → ⊥
+no_map_and_structure (structure_of members) h l = h
+no_map_and_structure _ h l = l
 
--- where no entry is, no name with a text comes
-no_entry_told : (i : List ℕ) (at : ℕ) (entered : Bool) (d : ℕ) → EntryMissing i at entered d → (raw : List ℕ) (c : ℕ) → Names entered i at raw c
-    → IsTold as_object (unescaped raw) → ⊥
-no_entry_told i at entered d (inl (nameless, open_ended)) raw c names told = nameless raw c names
-no_entry_told i at entered d (inr (other, e, name, wordless)) raw c names told =
-    let same = same_names i entered at raw other c e names name in
-    subst (IsTold as_object) (ap unescaped same.0 ∙ wordless) told
+module _ (o : Settings) (i : List ℕ) (t : Table) (p : Place) (kind : IsMap (kind_of t p)) where
+  -- with its bracket a map opens
+  pub opens_map : (d a b : ℕ) → Lies (IsByte begin_object) i a b → (json_relations o).opens i t p d a b fresh_mark
+  opens_map d a b h = inl (as_object, map_is_object (kind_of t p) kind, (refl, h))
 
--- nor the end
-no_entry_ends : (i : List ℕ) (at : ℕ) (entered : Bool) (d : ℕ) → EntryMissing i at entered d → (e : ℕ) → Lies (IsByte end_object) i at e → FollowsInside d (drop e i) → ⊥
-no_entry_ends i at entered d (inl (nameless, open_ended)) e lies follows = open_ended e (lies, follows)
-no_entry_ends i at entered d (inr (other, c, name, wordless)) e lies follows = names_or_end i entered at other c e name lies
+  -- without its bracket no map opens
+  pub opens_no_map : (d a : ℕ) → ((b : ℕ) → Lies (IsByte begin_object) i a b → ⊥) → (b : ℕ) (m : Mark) → (json_relations o).opens i t p d a b m → ⊥
+  opens_no_map d a none =
+      opens_not json_frames (rules_of o) i t p json_is_wire as_object (map_is_object (kind_of t p) kind) d a (λ b m h. none b h.1)
+      (λ structure' over. no_map_and_structure (kind_of t p) kind structure')
 
-module _ (o : Settings) (i : List ℕ) (t : Table) (p : Place) (kind : IsStructure (kind_of t p)) where
-  -- with its bracket a structure opens
-  pub opens_structure : (d a b : ℕ) → Lies (IsByte begin_object) i a b → (json_relations o).opens i t p d a b fresh_mark
-  opens_structure d a b h = inl (as_object, structure_is_object (kind_of t p) kind, (refl, h))
-
-  -- without its bracket, and where the input isn't empty, no structure opens
-  pub opens_no_structure : (d a : ℕ) → ((b : ℕ) → Lies (IsByte begin_object) i a b → ⊥) → (i ≡ [] → a ≡ 0 → ⊥)
-      → (b : ℕ) (m : Mark) → (json_relations o).opens i t p d a b m → ⊥
-  opens_no_structure d a none full =
-      opens_not json_frames (rules_of o) i t p json_is_wire as_object (structure_is_object (kind_of t p) kind) d a (λ b m h. none b h.1)
-      (λ structure' over. full over.0 over.1)
-
-  -- behind some dropped members comes one with a text whose value isn't null
-  pub steps_in_structure : (d k b : ℕ) (m : Mark) (at : ℕ) (after : Bool) (raw s : List ℕ) (c : ℕ) → NullsLie k i b m.entered at after
-      → Names after i at raw c → unescaped raw ≡ Some s → ((e : ℕ) → TreeLies 1 null i c e → ⊥)
+  -- an entry whose key has a text is a step
+  pub steps_in_map : (d b : ℕ) (m : Mark) (raw s : List ℕ) (c : ℕ) → Names m.entered i b raw c → unescaped raw ≡ Some s
       → (json_relations o).steps i t p d b m (Some s) c entry_mark
-  steps_in_structure d k b m at after raw s c drops names some real =
-      let passed = drops_all o i t p d kind k b m at after drops in
-      step_to_entry json_frames (rules_of o) i t p d (λ q. refl) kind k b m at passed.0 (Some (a_string raw)) (Some s) c entry_mark passed.2
-      (raw, refl, refl, subst (λ entered. Names entered i at raw c) (sym passed.1) names) some tt real
+  steps_in_map d b m raw s c names some =
+      step_to_key json_frames (rules_of o) i t p d kind b m (Some (a_string raw)) (Some s) c entry_mark (raw, refl, refl, names) some tt
 
-  -- behind some dropped members it ends
-  pub closes_structure : (d k b : ℕ) (m : Mark) (at : ℕ) (after : Bool) (e : ℕ) → NullsLie k i b m.entered at after → Lies (IsByte end_object) i at e
-      → FollowsInside d (drop e i) → (json_relations o).closes i t p d b m e
-  closes_structure d k b m at after e drops h follows =
-      let passed = drops_all o i t p d kind k b m at after drops in
-      close_at_end json_frames (rules_of o) i t p d (λ q. refl) kind k b m at passed.0 e passed.2 h follows
-
-  -- where behind some dropped members neither a name with a text nor its end comes, it can't go on
-  pub structure_is_stuck : (d k b : ℕ) (m : Mark) (at : ℕ) (after : Bool) → NullsLie k i b m.entered at after → EntryMissing i at after d
-      → (m ≡ end_mark → i ≡ [] → 0 < d → ⊥)
+  -- where neither a key with a text comes nor its end, it can't go on
+  pub map_is_stuck : (d b : ℕ) (m : Mark) → ((raw : List ℕ) (c : ℕ) → Names m.entered i b raw c → IsTold as_object (unescaped raw) → ⊥)
+      → ((e : ℕ) → Lies (IsByte end_object) i b e → FollowsInside d (drop e i) → ⊥)
       → ((key : Option (List ℕ)) (c : ℕ) (n : Mark) → (json_relations o).steps i t p d b m key c n → ⊥)
       × ((e : ℕ) → (json_relations o).closes i t p d b m e → ⊥)
-  structure_is_stuck d k b m at after drops missing full =
-      let passed = drops_all o i t p d kind k b m at after drops in
-      let stuck = subst (λ entered. EntryMissing i at entered d) (sym passed.1) missing in
-      cannot_go_on json_frames (rules_of o) i t p json_is_wire as_object (structure_is_object (kind_of t p) kind) d k b m at passed.0 passed.2
-      (λ key c n entry told stays. no_entry_told i at passed.0.entered d stuck entry.0 c entry.3 (subst (λ k. IsTold as_object (option_and_then text_of k)) entry.1 told))
-      (λ c n drop. no_entry_told i at passed.0.entered d stuck drop.entry.0 drop.at drop.entry.3 (subst (λ k. IsTold as_object (option_and_then text_of k)) drop.entry.1 drop.told))
-      (no_entry_ends i at passed.0.entered d stuck)
-      (λ structure' at_end over inside. full at_end over.0 inside)
+  map_is_stuck d b m none shut =
+      cannot_go_on json_frames (rules_of o) i t p json_is_wire as_object (map_is_object (kind_of t p) kind) d 0 b m b m (refl, refl)
+      (λ key c n entry told unmarked stays. none entry.0 c entry.3 (subst (λ k. IsTold as_object (option_and_then text_of k)) entry.1 told))
+      (map_drops_nothing json_frames (rules_of o) i t p d kind as_object b m) shut
+      (λ structure' at_end over some. no_map_and_structure (kind_of t p) kind structure')
+
+-- ---- a structure or a union at a place
+
+module _ (o : Settings) (i : List ℕ) (t : Table) (p : Place) (kind : HasMembers (kind_of t p)) where
+  -- with its bracket it opens
+  pub opens_members : (d a b : ℕ) → Lies (IsByte begin_object) i a b → (json_relations o).opens i t p d a b fresh_mark
+  opens_members d a b h = inl (as_object, members_are_object (kind_of t p) kind, (refl, h))
+
+  -- without its bracket it doesn't, unless it is a structure and the input is empty
+  pub opens_no_members : (d a : ℕ) → ((b : ℕ) → Lies (IsByte begin_object) i a b → ⊥) → (IsStructure (kind_of t p) → i ≡ [] → ⊥)
+      → (b : ℕ) (m : Mark) → (json_relations o).opens i t p d a b m → ⊥
+  opens_no_members d a none full =
+      opens_not json_frames (rules_of o) i t p json_is_wire as_object (members_are_object (kind_of t p) kind) d a (λ b m h. none b h.1)
+      (λ structure' over. full structure' over.0)
+
+  -- Marks are passed over exactly where there are some, and what is passed over inside so many containers is skipped.
+  module _ (marks : Bool) (marked : marks ≡ is_mark (rules_of o) (kind_of t p) (Some type_name)) (greatest d : ℕ)
+      (skips : (c e : ℕ) → SkipsTo greatest d i c e → (json_relations o).skips i d c e) where
+    one_passes : (b : ℕ) (m : Mark) (raw : List ℕ) (c e : ℕ) → Names m.entered i b raw c → IsPassed marks greatest d i raw c e
+        → Drops json_frames (rules_of o) (kind_of t p) as_object i d b m e entry_mark
+    one_passes b m raw c e names (inl (null_lies, text)) =
+        null_is_dropped json_frames (rules_of o) i t p d (λ q. refl) kind b m (Some (a_string raw)) c entry_mark e (raw, refl, refl, names) (rw text.1 tt) null_lies
+    one_passes b m raw c e names (inr (passes, is, skipped)) =
+        mark_is_dropped json_frames (rules_of o) i t p d as_object b m (Some (a_string raw)) c entry_mark e (raw, refl, refl, names) (rw is tt)
+        (rw is (sym marked ∙ passes)) (skips c e skipped)
+
+    -- what is passed over is dropped
+    drops_all : (count b : ℕ) (m : Mark) (e : ℕ) (after : Bool) → Passes marks greatest d count i b m.entered e after
+        → (n : Mark) × (n.entered ≡ after) × DropsAll json_frames (rules_of o) (kind_of t p) as_object count i d b m e n
+    drops_all zero b m e after h = (m, h.1, (h.0, refl))
+    drops_all (suc count) b m e after h =
+        let rest = drops_all count h.2 entry_mark e after h.5 in
+        (rest.0, rest.1, (h.2, entry_mark, one_passes b m h.0 h.1 h.2 h.3 h.4, rest.2))
+
+    -- a name that is no mark as it is read is none
+    no_mark : (raw s : List ℕ) → unescaped raw ≡ Some s → IsNoMark marks raw → is_mark (rules_of o) (kind_of t p) (Some s) ≡ false
+    no_mark raw s is other = by (bytes_eq s type_name) refl marks refl
+      where
+        by : (same : Bool) → bytes_eq s type_name ≡ same → (passes : Bool) → marks ≡ passes → is_mark (rules_of o) (kind_of t p) (Some s) ≡ false
+        by false differ passes may = other_is_no_mark (rules_of o) (kind_of t p) s differ
+        by true same true may = absurd (other may (is ∙ ap Some ((bytes_eq-Decides s type_name).0 same)))
+        by true same false may =
+            ap (λ x. is_mark (rules_of o) (kind_of t p) (Some x)) ((bytes_eq-Decides s type_name).0 same) ∙ sym marked ∙ may
+
+    -- behind what is passed over comes a name with a text, which is no mark, and its value isn't null
+    pub steps_to_member : (k b : ℕ) (m : Mark) (at : ℕ) (after : Bool) (raw s : List ℕ) (c : ℕ) → Passes marks greatest d k i b m.entered at after
+        → Names after i at raw c → unescaped raw ≡ Some s → IsNoMark marks raw → ((e : ℕ) → TreeLies 1 null i c e → ⊥)
+        → (json_relations o).steps i t p d b m (Some s) c entry_mark
+    steps_to_member k b m at after raw s c passes names some other real =
+        let passed = drops_all k b m at after passes in
+        step_to_entry json_frames (rules_of o) i t p d (λ q. refl) kind k b m at passed.0 (Some (a_string raw)) (Some s) c entry_mark passed.2
+        (raw, refl, refl, subst (λ entered. Names entered i at raw c) (sym passed.1) names) some tt (no_mark raw s some other) real
+
+    -- behind what is passed over it ends
+    pub closes_members : (k b : ℕ) (m : Mark) (at : ℕ) (after : Bool) (e : ℕ) → Passes marks greatest d k i b m.entered at after → Lies (IsByte end_object) i at e
+        → FollowsInside d (drop e i) → (json_relations o).closes i t p d b m e
+    closes_members k b m at after e passes h follows =
+        let passed = drops_all k b m at after passes in
+        close_at_end json_frames (rules_of o) i t p d (λ q. refl) kind k b m at passed.0 e passed.2 h follows
+
+    -- a mark stays only where its value can't be skipped
+    module _ (Stays : ℕ → Type 0) (stays_unskipped : (c : ℕ) → Stays c → (e : ℕ) → (json_relations o).skips i d c e → ⊥) where
+      -- where no entry is, no name with a text comes that is handed on
+      no_entry_told : (at : ℕ) (entered : Bool) → EntryMissing Stays marks d i at entered → (raw : List ℕ) (c : ℕ) → Names entered i at raw c
+          → IsTold as_object (unescaped raw) → is_mark (rules_of o) (kind_of t p) (unescaped raw) ≡ false → ⊥
+      no_entry_told at entered (inl (nameless, open_ended)) raw c names told unmarked = nameless raw c names
+      no_entry_told at entered (inr (inl (other, e, name, wordless))) raw c names told unmarked =
+          let same = same_names i entered at raw other c e names name in
+          subst (IsTold as_object) (ap unescaped same.0 ∙ wordless) told
+      no_entry_told at entered (inr (inr mark)) raw c names told unmarked =
+          let same = same_names i entered at raw mark.raw c mark.value names mark.names in
+          let text = ap unescaped same.0 ∙ mark.is_mark in
+          let clash : true ≡ false = sym mark.passes_marks ∙ marked ∙ sym (ap (is_mark (rules_of o) (kind_of t p)) text) ∙ unmarked in cc
+
+      -- nor one that is dropped
+      no_entry_dropped : (at : ℕ) (j : Mark) → EntryMissing Stays marks d i at j.entered → (e : ℕ) (n : Mark)
+          → Drops json_frames (rules_of o) (kind_of t p) as_object i d at j e n → ⊥
+      no_entry_dropped at j (inl (nameless, open_ended)) e n drop = nameless drop.entry.0 drop.at drop.entry.3
+      no_entry_dropped at j (inr (inl (other, f, name, wordless))) e n drop =
+          let same = same_names i j.entered at drop.entry.0 other drop.at f drop.entry.3 name in
+          subst (IsTold as_object) (ap unescaped same.0 ∙ wordless) (subst (λ k. IsTold as_object (option_and_then text_of k)) drop.entry.1 drop.told)
+      no_entry_dropped at j (inr (inr mark)) e n drop =
+          let same = same_names i j.entered at drop.entry.0 mark.raw drop.at mark.value drop.entry.3 mark.names in
+          by (drop_is json_frames (rules_of o) i t p d as_object at j e n drop) same.1
+        where
+          by : json_frames.null i d drop.at e ⊎ ((is_mark (rules_of o) (kind_of t p) (key_text (rules_of o) as_object drop.key) ≡ true) × (json_relations o).skips i d drop.at e)
+              → drop.at ≡ mark.value → ⊥
+          by (inl null_lies) there = mark.no_null e (subst (λ c. TreeLies 1 null i c e) there null_lies)
+          by (inr (is, skipped)) there = stays_unskipped mark.value mark.stays e (subst (λ c. (json_relations o).skips i d c e) there skipped)
+
+      -- nor the end
+      no_entry_ends : (at : ℕ) (entered : Bool) → EntryMissing Stays marks d i at entered → (e : ℕ) → Lies (IsByte end_object) i at e → FollowsInside d (drop e i) → ⊥
+      no_entry_ends at entered (inl (nameless, open_ended)) e lies follows = open_ended e (lies, follows)
+      no_entry_ends at entered (inr (inl (other, c, name, wordless))) e lies follows = names_or_end i entered at other c e name lies
+      no_entry_ends at entered (inr (inr mark)) e lies follows = names_or_end i entered at mark.raw mark.value e mark.names lies
+
+      -- where behind what is passed over neither such a name nor the end comes, it can't go on
+      pub members_are_stuck : (k b : ℕ) (m : Mark) (at : ℕ) (after : Bool) → Passes marks greatest d k i b m.entered at after → EntryMissing Stays marks d i at after
+          → (IsStructure (kind_of t p) → m ≡ end_mark → i ≡ [] → 0 < d → ⊥)
+          → ((key : Option (List ℕ)) (c : ℕ) (n : Mark) → (json_relations o).steps i t p d b m key c n → ⊥)
+          × ((e : ℕ) → (json_relations o).closes i t p d b m e → ⊥)
+      members_are_stuck k b m at after passes missing full =
+          let passed = drops_all k b m at after passes in
+          let stuck = subst (λ entered. EntryMissing Stays marks d i at entered) (sym passed.1) missing in
+          cannot_go_on json_frames (rules_of o) i t p json_is_wire as_object (members_are_object (kind_of t p) kind) d k b m at passed.0 passed.2
+          (λ key c n entry told unmarked stays. no_entry_told at passed.0.entered stuck entry.0 c entry.3
+          (subst (λ k. IsTold as_object (option_and_then text_of k)) entry.1 told)
+          (subst (λ k. is_mark (rules_of o) (kind_of t p) (option_and_then text_of k) ≡ false) entry.1 unmarked))
+          (no_entry_dropped at passed.0 stuck)
+          (no_entry_ends at passed.0.entered stuck)
+          (λ structure' at_end over inside. full structure' at_end over.0 inside)

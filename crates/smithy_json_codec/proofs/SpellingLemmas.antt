@@ -2,7 +2,7 @@
 use Rattle.std.proofs.Common.{◌≡◌, ◌↔◌, ℕ, zero, suc, length, List, [], drop, Some, refl, sym, ◌∙◌, ap, arith, inl, inr}
 use Rattle.std.proofs.lemmas.List.{drop_all}
 use Rattle.smithy_schema.specs.declared.place.Place.{Place}
-use Rattle.smithy_schema.specs.Table.{Table, Kind, scalar, structure_of, list_of, nothing, kind_of, IsStructure}
+use Rattle.smithy_schema.specs.Table.{Table, Kind, structure_of, kind_of, IsStructure}
 use Rattle.smithy_schema.specs.Value.{Value, structure, no_member_values}
 use Rattle.smithy_schema.specs.Reading.{IsContainer}
 use Rattle.smithy_schema.specs.Lemmas.Options.{same_some, chosen}
@@ -59,16 +59,12 @@ one_text i x y h k =
 
 -- what is missing is a structure without members
 missing_says : (k : Kind) → IsStructure k → missing_meaning k ≡ Some (structure no_member_values)
-missing_says (scalar s) h = absurd h
 missing_says (structure_of members) h = refl
-missing_says (list_of l) h = absurd h
-missing_says nothing h = absurd h
+missing_says _ h = absurd h
 
 missing_is : (k : Kind) (v : Value) → missing_meaning k ≡ Some v → IsStructure k × (v ≡ structure no_member_values)
-missing_is (scalar s) v h = cc
 missing_is (structure_of members) v h = (tt, sym (same_some (structure no_member_values) v h))
-missing_is (list_of l) v h = cc
-missing_is nothing v h = cc
+missing_is _ v h = cc
 
 -- what the input spells stands at its start
 pub spells_stands : (c : Settings) (t : Table) (p : Place) (i : List ℕ) (v : Value) → json_spells c t p i v
@@ -119,10 +115,8 @@ stands_spells c t p i v e box h = stands_alone c t p i v e (λ x lies means. beh
 
 -- a structure is a container
 pub structure_is_container : (k : Kind) → IsStructure k → IsContainer k
-structure_is_container (scalar s) h = h
 structure_is_container (structure_of members) h = h
-structure_is_container (list_of l) h = tt
-structure_is_container nothing h = h
+structure_is_container _ h = absurd h
 
 -- so what an input spells at the place of a structure is what stands at its start
 pub spells_is_stands : (c : Settings) (t : Table) (p : Place) (i : List ℕ) (v : Value) → IsStructure (kind_of t p)

@@ -1,14 +1,14 @@
 -- A value adds its canonical text, whatever stands before it.
-use Rattle.std.proofs.Common.{◌≡◌, ℕ, List, [], ◌∷◌, ◌++◌, Bool, true, false, Result, Ok, refl, sym, ◌∙◌, append_assoc}
+use Rattle.std.proofs.Common.{◌≡◌, ℕ, List, [], ◌∷◌, ◌++◌, Bool, true, false, Result, Ok, refl, sym, ap, ◌∙◌, append_assoc, codes}
 use Rattle.std.proofs.lemmas.List.{append-nil}
 use Rattle.smithy_schema.specs.declared.error.SerdeError.{SerdeError}
-use Rattle.smithy_schema.specs.Site.{Site, element_of, member_of}
-use Rattle.smithy_schema.specs.Value.{Value, scalar_value, list, structure, null_element, Values, no_values, value, MemberValues, no_member_values, member_value}
-use Rattle.smithy_schema.specs.Writing.{Event, run, write, events, element_events, member_events, end_list, end_structure, Open, open_structure, open_list}
+use Rattle.smithy_schema.specs.Site.{Site, element_of, key_of, value_of, member_of}
+use Rattle.smithy_schema.specs.Value.{ScalarValue, boolean, whole, text, Value, scalar_value, list, map, structure, union, null_element, Values, no_values, value, MapEntries, no_map_entries, map_entry, MemberValues, no_member_values, member_value}
+use Rattle.smithy_schema.specs.Writing.{Event, run, write, and_run, events, element_events, entry_events, member_events, scalar_of, end_list, end_map, end_structure, after_value, after_begin, Open, open_structure, open_list, open_map_at_key, open_map_at_value}
 use Rattle.smithy_schema.proofs.WritingLemmas.{child_written}
 use Rattle.smithy_json.specs.Ascii.{value_separator, begin_array, end_array, begin_object, end_object}
-use Rattle.smithy_json_codec.specs.Canonical.{key_text, canonical_json, more_elements, more_members}
-use Rattle.smithy_json_codec.specs.Writing.{JsonState, lead, json_after}
+use Rattle.smithy_json_codec.specs.Canonical.{scalar_text, name_text, key_text, canonical_json, more_elements, more_entries, more_members}
+use Rattle.smithy_json_codec.specs.Writing.{JsonState, lead, wrote, opened, where_taken, json_after}
 
 abbrev pub state : Bool → List ℕ → Bool → List Open → JsonState
 state use_json_name out needs_comma frames = record {
@@ -28,6 +28,10 @@ regroup : (b : Bool) (o p : List ℕ) (frames : List Open) (r : Result JsonState
     → r ≡ Ok (state b o true frames) → o ≡ p → r ≡ Ok (state b p true frames)
 regroup b o p frames r is same = rw (← same) is
 
+-- the first call, and then the others
+first : (es : List Event) (s' : JsonState) (made r : Result JsonState SerdeError) → made ≡ Ok s' → run json_after es s' ≡ r → and_run (run json_after es) made ≡ r
+first es s' made r is rest = ap (and_run (run json_after es)) is ∙ rest
+
 group_empty : (o l : List ℕ) (c d : ℕ) → (o ++ (l ++ c ∷ [])) ++ d ∷ [] ≡ o ++ (l ++ c ∷ d ∷ [])
 group_empty o l c d = simp append_assoc
 
@@ -39,48 +43,114 @@ group_structure : (o l key x more : List ℕ) (c d : ℕ)
     → (((o ++ (l ++ c ∷ [])) ++ (key ++ x)) ++ more) ++ d ∷ [] ≡ o ++ (l ++ c ∷ ((key ++ (x ++ more)) ++ d ∷ []))
 group_structure o l key x more c d = simp append_assoc
 
+group_entry : (o l key x more : List ℕ) (c d : ℕ)
+    → ((((o ++ (l ++ c ∷ [])) ++ key) ++ x) ++ more) ++ d ∷ [] ≡ o ++ (l ++ c ∷ ((key ++ (x ++ more)) ++ d ∷ []))
+group_entry o l key x more c d = simp append_assoc
+
+group_union : (o l key x : List ℕ) (c d : ℕ)
+    → ((o ++ (l ++ c ∷ [])) ++ (key ++ x)) ++ d ∷ [] ≡ o ++ (l ++ c ∷ (key ++ (x ++ d ∷ [])))
+group_union o l key x c d = simp append_assoc
+
 group_element : (o x more : List ℕ) (c : ℕ) → (o ++ c ∷ x) ++ more ≡ o ++ c ∷ (x ++ more)
 group_element o x more c = simp append_assoc
+
+group_more : (o key x more : List ℕ) (c : ℕ) → ((o ++ c ∷ key) ++ x) ++ more ≡ o ++ c ∷ (key ++ (x ++ more))
+group_more o key x more c = simp append_assoc
 
 group_member : (o key x more : List ℕ) (c : ℕ) → (o ++ c ∷ (key ++ x)) ++ more ≡ o ++ c ∷ (key ++ (x ++ more))
 group_member o key x more c = simp append_assoc
 
+text_adds : (b : Bool) (out : List ℕ) (next after : List Open) → ◌≡◌ {A = Result (List Open) SerdeError} (Ok next) (Ok after)
+    → ◌≡◌ {A = Result JsonState SerdeError} (Ok (state b out true next)) (Ok (state b out true after))
+text_adds b out next after same = ap (where_taken (state b out true)) same
+
+-- a scalar is written where a value is due
+scalar_adds : (site : Site) (x : ScalarValue) (b : Bool) (o : List ℕ) (comma : Bool) (frames after : List Open) → after_value frames ≡ Ok after
+    → json_after (scalar_of site x) (state b o comma frames)
+    ≡ Ok (state b (o ++ (lead (state b o comma frames) site.view ++ scalar_text x)) true after)
+scalar_adds site (boolean x) b o comma frames after due = rw due refl
+scalar_adds site (whole n) b o comma frames after due = rw due refl
+scalar_adds site (text s) b o comma [] after due = text_adds b _ [] after due
+scalar_adds site (text s) b o comma (open_structure ∷ frames) after due = text_adds b _ (open_structure ∷ frames) after due
+scalar_adds site (text s) b o comma (open_list ∷ frames) after due = text_adds b _ (open_list ∷ frames) after due
+scalar_adds site (text s) b o comma (open_map_at_key ∷ frames) after due = cc
+scalar_adds site (text s) b o comma (open_map_at_value ∷ frames) after due = text_adds b _ (open_map_at_key ∷ frames) after due
+
+-- a container begins where a value is due
+begins : (kind : Open) (make : List Open → JsonState) (frames after : List Open) → after_value frames ≡ Ok after
+    → where_taken make (after_begin kind frames) ≡ Ok (make (kind ∷ after))
+begins kind make frames after due = ap (λ r. where_taken make (and_run (λ outer. Ok (kind ∷ outer)) r)) due
+
 mutual
-  -- a value adds what stands before it, and its canonical text
-  pub value_adds : (site : Site) (v : Value) (b : Bool) (o : List ℕ) (comma : Bool) (frames : List Open)
+  -- where a value is due, it adds what stands before it, and its canonical text
+  pub value_adds : (site : Site) (v : Value) (b : Bool) (o : List ℕ) (comma : Bool) (frames after : List Open) → after_value frames ≡ Ok after
       → write json_after site v (state b o comma frames)
-      ≡ Ok (state b (o ++ (lead (state b o comma frames) site.view ++ canonical_json b site v)) true frames)
-  value_adds site (scalar_value x) b o comma frames = refl
-  value_adds site null_element b o comma frames = refl
-  value_adds site (list no_values) b o comma frames =
-      regroup b _ _ frames _ refl
-      (group_empty o (lead (state b o comma frames) site.view) begin_array end_array)
-  value_adds site (list (value v vs)) b o comma frames =
+      ≡ Ok (state b (o ++ (lead (state b o comma frames) site.view ++ canonical_json b site v)) true after)
+  value_adds site (scalar_value x) b o comma frames after due = ap (and_run (run json_after [])) (scalar_adds site x b o comma frames after due)
+  value_adds site null_element b o comma frames after due = ap (λ r. and_run (run json_after []) (where_taken (wrote (state b o comma frames) site.view (codes "null")) r)) due
+  value_adds site (list no_values) b o comma frames after due =
+      let before = lead (state b o comma frames) site.view in
+      regroup b _ _ after _
+      (first (end_list ∷ []) (state b (o ++ (before ++ begin_array ∷ [])) false (open_list ∷ after)) _ _ (begins open_list (opened (state b o comma frames) site.view begin_array) frames after due) refl)
+      (group_empty o before begin_array end_array)
+  value_adds site (list (value v vs)) b o comma frames after due =
       let before = lead (state b o comma frames) site.view in
       let child = element_of site in
       let front = o ++ (before ++ begin_array ∷ []) in
-      regroup b _ _ frames _
+      regroup b _ _ after _
+      (first ((events child v ++ element_events child vs) ++ end_list ∷ []) (state b front false (open_list ∷ after)) _ _ (begins open_list (opened (state b o comma frames) site.view begin_array) frames after due)
       (step (events child v ++ element_events child vs) (end_list ∷ []) _ _ _
       (step (events child v) (element_events child vs) _ _ _
-      (value_adds child v b front false (open_list ∷ frames))
-      (elements_add child vs b (front ++ canonical_json b child v) frames))
-      refl)
+      (value_adds child v b front false (open_list ∷ after) (open_list ∷ after) refl)
+      (elements_add child vs b (front ++ canonical_json b child v) after))
+      refl))
       (group_list o before (canonical_json b child v) (more_elements b child vs) begin_array end_array)
-  value_adds site (structure no_member_values) b o comma frames =
-      regroup b _ _ frames _ refl
-      (group_empty o (lead (state b o comma frames) site.view) begin_object end_object)
-  value_adds site (structure (member_value n v ms)) b o comma frames =
+  value_adds site (map no_map_entries) b o comma frames after due =
+      let before = lead (state b o comma frames) site.view in
+      regroup b _ _ after _
+      (first (end_map ∷ []) (state b (o ++ (before ++ begin_object ∷ [])) false (open_map_at_key ∷ after)) _ _ (begins open_map_at_key (opened (state b o comma frames) site.view begin_object) frames after due) refl)
+      (group_empty o before begin_object end_object)
+  value_adds site (map (map_entry key v es)) b o comma frames after due =
+      let before = lead (state b o comma frames) site.view in
+      let child = value_of site in
+      let front = o ++ (before ++ begin_object ∷ []) in
+      regroup b _ _ after _
+      (first ((scalar_of (key_of site) (text key) ∷ (events child v ++ entry_events (key_of site) child es)) ++ end_map ∷ []) (state b front false (open_map_at_key ∷ after)) _ _ (begins open_map_at_key (opened (state b o comma frames) site.view begin_object) frames after due)
+      (step (scalar_of (key_of site) (text key) ∷ (events child v ++ entry_events (key_of site) child es)) (end_map ∷ []) (state b front false (open_map_at_key ∷ after)) _ _
+      (first (events child v ++ entry_events (key_of site) child es) (state b (front ++ name_text key) false (open_map_at_value ∷ after)) _ _ refl
+      (step (events child v) (entry_events (key_of site) child es) _ _ _
+      (value_adds child v b (front ++ name_text key) false (open_map_at_value ∷ after) (open_map_at_key ∷ after) refl)
+      (entries_add (key_of site) child es b ((front ++ name_text key) ++ canonical_json b child v) after)))
+      refl))
+      (group_entry o before (name_text key) (canonical_json b child v) (more_entries b child es) begin_object end_object)
+  value_adds site (structure no_member_values) b o comma frames after due =
+      let before = lead (state b o comma frames) site.view in
+      regroup b _ _ after _
+      (first (end_structure ∷ []) (state b (o ++ (before ++ begin_object ∷ [])) false (open_structure ∷ after)) _ _ (begins open_structure (opened (state b o comma frames) site.view begin_object) frames after due) refl)
+      (group_empty o before begin_object end_object)
+  value_adds site (structure (member_value n v ms)) b o comma frames after due =
       let before = lead (state b o comma frames) site.view in
       let child = member_of site n in
       let key = key_text b child.view in
       let front = o ++ (before ++ begin_object ∷ []) in
-      regroup b _ _ frames _
+      regroup b _ _ after _
+      (first ((events child v ++ member_events site ms) ++ end_structure ∷ []) (state b front false (open_structure ∷ after)) _ _ (begins open_structure (opened (state b o comma frames) site.view begin_object) frames after due)
       (step (events child v ++ member_events site ms) (end_structure ∷ []) _ _ _
       (step (events child v) (member_events site ms) _ _ _
-      (value_adds child v b front false (open_structure ∷ frames))
-      (members_add site ms b (front ++ (key ++ canonical_json b child v)) frames))
-      refl)
+      (value_adds child v b front false (open_structure ∷ after) (open_structure ∷ after) refl)
+      (members_add site ms b (front ++ (key ++ canonical_json b child v)) after))
+      refl))
       (group_structure o before key (canonical_json b child v) (more_members b site ms) begin_object end_object)
+  value_adds site (union n v) b o comma frames after due =
+      let before = lead (state b o comma frames) site.view in
+      let child = member_of site n in
+      let front = o ++ (before ++ begin_object ∷ []) in
+      regroup b _ _ after _
+      (first (events child v ++ end_structure ∷ []) (state b front false (open_structure ∷ after)) _ _ (begins open_structure (opened (state b o comma frames) site.view begin_object) frames after due)
+      (step (events child v) (end_structure ∷ []) _ _ _
+      (value_adds child v b front false (open_structure ∷ after) (open_structure ∷ after) refl)
+      refl))
+      (group_union o before (key_text b child.view) (canonical_json b child v) begin_object end_object)
 
   -- further elements add their texts, each behind a comma
   pub elements_add : (site : Site) (vs : Values) (b : Bool) (o : List ℕ) (frames : List Open)
@@ -90,9 +160,22 @@ mutual
   elements_add site (value v vs) b o frames =
       regroup b _ _ (open_list ∷ frames) _
       (step (events site v) (element_events site vs) _ _ _
-      (value_adds site v b o true (open_list ∷ frames))
+      (value_adds site v b o true (open_list ∷ frames) (open_list ∷ frames) refl)
       (elements_add site vs b (o ++ value_separator ∷ canonical_json b site v) frames))
       (group_element o (canonical_json b site v) (more_elements b site vs) value_separator)
+
+  -- further entries add their keys and texts, each behind a comma
+  pub entries_add : (key_site site : Site) (es : MapEntries) (b : Bool) (o : List ℕ) (frames : List Open)
+      → run json_after (entry_events key_site site es) (state b o true (open_map_at_key ∷ frames))
+      ≡ Ok (state b (o ++ more_entries b site es) true (open_map_at_key ∷ frames))
+  entries_add key_site site no_map_entries b o frames = regroup b _ _ (open_map_at_key ∷ frames) _ refl (sym (append-nil o))
+  entries_add key_site site (map_entry key v es) b o frames =
+      regroup b _ _ (open_map_at_key ∷ frames) _
+      (first (events site v ++ entry_events key_site site es) (state b (o ++ value_separator ∷ name_text key) false (open_map_at_value ∷ frames)) _ _ refl
+      (step (events site v) (entry_events key_site site es) _ _ _
+      (value_adds site v b (o ++ value_separator ∷ name_text key) false (open_map_at_value ∷ frames) (open_map_at_key ∷ frames) refl)
+      (entries_add key_site site es b ((o ++ value_separator ∷ name_text key) ++ canonical_json b site v) frames)))
+      (group_more o (name_text key) (canonical_json b site v) (more_entries b site es) value_separator)
 
   -- further members add their names and texts, each behind a comma
   pub members_add : (site : Site) (ms : MemberValues) (b : Bool) (o : List ℕ) (frames : List Open)
@@ -105,6 +188,6 @@ mutual
       let key = key_text b child.view in
       regroup b _ _ (open_structure ∷ frames) _
       (step (events child v) (member_events site ms) _ _ _
-      (value_adds child v b o true (open_structure ∷ frames))
+      (value_adds child v b o true (open_structure ∷ frames) (open_structure ∷ frames) refl)
       (members_add site ms b (o ++ value_separator ∷ (key ++ canonical_json b child v)) frames))
       (group_member o key (canonical_json b child v) (more_members b site ms) value_separator)

@@ -3,10 +3,10 @@ use Rattle.std.proofs.Common.{◌≡◌, ℕ, List, [], ◌++◌, Bool, true, fa
 use Rattle.smithy_schema.specs.declared.place.Place.{Place}
 use Rattle.smithy_schema.specs.Table.{Table}
 use Rattle.smithy_schema.specs.Site.{Site, View, member_of}
-use Rattle.smithy_schema.specs.Value.{Value, Values, no_values, value, MemberValues, no_member_values, member_value}
+use Rattle.smithy_schema.specs.Value.{Value, Values, no_values, value, MapEntries, no_map_entries, map_entry, MemberValues, no_member_values, member_value}
 use Rattle.smithy_schema.specs.Fits.{Fits}
 use Rattle.smithy_schema.proofs.SiteLemmas.{site_at}
-use Rattle.smithy_json_codec.specs.Canonical.{key_text, canonical_json, first_element, more_elements, first_member, more_members}
+use Rattle.smithy_json_codec.specs.Canonical.{name_text, key_text, canonical_json, first_element, more_elements, first_entry, more_entries, first_member, more_members}
 use Rattle.smithy_json_codec.specs.Codec.{strict_settings}
 use Rattle.smithy_json_codec.specs.Settings.{name_of}
 use Rattle.smithy_wire.specs.Writes.{body_of}
@@ -19,6 +19,10 @@ module _ (b : Bool) where
   elements true = first_element b
   elements false = more_elements b
 
+  abbrev entries : Bool → Site → MapEntries → List ℕ
+  entries true = first_entry b
+  entries false = more_entries b
+
   abbrev members : Bool → Site → MemberValues → List ℕ
   members true = first_member b
   members false = more_members b
@@ -27,6 +31,7 @@ module _ (b : Bool) where
   canonical = record {
     body = canonical_json b;
     elements = elements;
+    entries = entries;
     members = members;
     key = λ is_first view. separator is_first ++ key_text b view;
   }
@@ -39,6 +44,15 @@ module _ (b : Bool) where
       → elements is_first site (value v vs) ≡ (separator is_first ++ []) ++ (canonical_json b site v ++ more_elements b site vs)
   element_is true site v vs = refl
   element_is false site v vs = refl
+
+  no_map_entry_is : (is_first : Bool) (site : Site) → entries is_first site no_map_entries ≡ []
+  no_map_entry_is true site = refl
+  no_map_entry_is false site = refl
+
+  map_entry_is : (is_first : Bool) (site : Site) (key : List ℕ) (v : Value) (es : MapEntries)
+      → entries is_first site (map_entry key v es) ≡ (separator is_first ++ name_text key) ++ (canonical_json b site v ++ more_entries b site es)
+  map_entry_is true site key v es = refl
+  map_entry_is false site key v es = refl
 
   no_member_is : (is_first : Bool) (site : Site) → members is_first site no_member_values ≡ []
   no_member_is true site = refl
@@ -57,6 +71,10 @@ module _ (b : Bool) where
     list_is = λ site vs. refl;
     no_element_is = no_element_is;
     element_is = element_is;
+    map_is = λ site es. refl;
+    no_map_entry_is = no_map_entry_is;
+    map_entry_is = map_entry_is;
+    union_is = λ site n v. refl;
     structure_is = λ site ms. refl;
     no_member_is = no_member_is;
     member_is = member_is;

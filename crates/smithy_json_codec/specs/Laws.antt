@@ -4,7 +4,7 @@ use Rattle.smithy_json_codec.specs.Settings.{Settings, without_limits}
 use Rattle.smithy_json_codec.specs.Meaning.{rules_of}
 use Rattle.smithy_json_codec.specs.Standing.{json_frames, json_relations}
 use Rattle.smithy_json_codec.specs.Private.Wire.{json_is_wire, json_bounds_openers}
-use Rattle.smithy_json_codec.specs.Private.Fits.{says_fits}
+use Rattle.smithy_json_codec.specs.Private.Fits.{says_fits, key_fits}
 use Rattle.smithy_wire.specs.Wire.{RulesFit}
 use Rattle.smithy_wire.specs.Laws as wire
 
@@ -12,9 +12,9 @@ use Rattle.smithy_wire.specs.Laws as wire
 pub lawful : (c : Settings) → IsLawful (json_relations c)
 lawful c = wire.lawful json_frames (rules_of c) json_is_wire
 
--- what scalars mean is of their kind
+-- what scalars mean is of their kind, and keys are texts
 pub rules_fit : (c : Settings) → RulesFit json_frames (rules_of c)
-rules_fit c = record { says_fits = says_fits c }
+rules_fit c = record { says_fits = says_fits c; key_fits = key_fits }
 
 -- so what stands is a value of its place
 pub fit : (c : Settings) → StandsFit (json_relations c)

@@ -14,10 +14,10 @@ pub mod Wire
 pub mod NodePlaces
 pub mod Fits
 -- for the laws of writing
-pub mod WrittenEnds
+pub mod MadeStates
 -- for the clauses of private functions
 pub mod NextInContainer
 pub mod ScalarAtPlace
 pub mod Skipping
-pub mod MembersBehindNulls
-pub mod StructureSteps
+pub mod PassedEntries
+pub mod MemberSteps

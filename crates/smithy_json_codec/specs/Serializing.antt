@@ -1,22 +1,28 @@
 -- What contracts see of a serializer.
-use Rattle.std.specs.Prelude.{map, reverse, Bool}
-use Rattle.smithy_schema.specs.Writing.{Open, open_structure, open_list}
+use Rattle.std.specs.Prelude.{List, map, reverse, Bool}
+use Rattle.smithy_schema.specs.Writing.{Open, open_structure, open_list, open_map_at_key, open_map_at_value}
 use Rattle.smithy_json_codec.specs.declared.serializer.Container.{Container}
-use Rattle.smithy_json_codec.specs.declared.serializer.Container.TheVariants.{Structure, List as Listed}
+use Rattle.smithy_json_codec.specs.declared.serializer.Container.TheVariants.{Structure, List as Listed, MapAtKey, MapAtValue}
 use Rattle.smithy_json_codec.specs.declared.serializer.JsonSerializer.{JsonSerializer}
 use Rattle.smithy_json_codec.specs.Writing.{JsonState}
 
 abbrev pub open_of : Container → Open
 open_of Structure = open_structure
 open_of Listed = open_list
+open_of MapAtKey = open_map_at_key
+open_of MapAtValue = open_map_at_value
 
--- what its calls depend on; its stack has the innermost container last
+-- the open containers by a stack, which has the innermost last
+abbrev pub opens_of : List Container → List Open
+opens_of stack = map open_of (reverse stack)
+
+-- what its calls depend on
 abbrev pub state_of : JsonSerializer → JsonState
 state_of s = record {
   use_json_name = s.codec.now.use_json_name;
   out = s.out.items;
   needs_comma = s.needs_comma;
-  frames = map open_of (reverse s.stack.items);
+  frames = opens_of s.stack.items;
 }
 
 -- an earlier call was refused, or was `fail`

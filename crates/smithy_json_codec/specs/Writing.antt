@@ -1,18 +1,19 @@
 -- What each call of a serializer makes of its state.
 use Rattle.std.specs.Prelude.{ℕ, List, [], ◌∷◌, ◌++◌, Bool, true, false, if◌then◌else◌, Result, Ok, Err, codes}
 use Rattle.smithy_schema.specs.declared.error.SerdeError.{SerdeError}
-use Rattle.smithy_schema.specs.declared.error.SerdeError.TheVariants.{Unwritable}
 use Rattle.smithy_schema.specs.Site.{View}
-use Rattle.smithy_schema.specs.Writing.{Writer, begin_structure, end_structure, begin_list, end_list, null_of, scalar_of, Open, open_structure, open_list}
+use Rattle.smithy_schema.specs.Value.{ScalarValue, text}
+use Rattle.smithy_schema.specs.Writing.{Event, Writer, begin_structure, end_structure, begin_list, end_list, begin_map, end_map, null_of, scalar_of, Open, open_structure, open_map_at_key, open_after}
 use Rattle.smithy_json.specs.Ascii.{value_separator, begin_array, end_array, begin_object, end_object}
-use Rattle.smithy_json_codec.specs.Canonical.{key_text, scalar_text}
+use Rattle.smithy_json_codec.specs.Canonical.{name_text, key_text, scalar_text}
 
 pub record JsonState : Type 0 where
   -- members go by their JSON names, where they have one
   pub use_json_name : Bool
   -- the bytes so far
   pub out : List ℕ
-  -- the innermost container, or the text outside of all, has an entry
+  -- a comma stands before whatever comes next but an end: an entry has come in the innermost container or, outside
+  -- of all, a value, and no key behind it
   pub needs_comma : Bool
   -- the open containers, innermost first
   pub frames : List Open
@@ -24,46 +25,65 @@ fresh_state use_json_name = record { use_json_name = use_json_name; out = []; ne
 abbrev pub comma_text : Bool → List ℕ
 comma_text needs_comma = if needs_comma then value_separator ∷ [] else []
 
--- a key stands everywhere but in a list
+-- the name of a member stands everywhere but in a list or a map
 abbrev pub key_in : List Open → List ℕ → List ℕ
 key_in [] key = key
 key_in (open_structure ∷ frames) key = key
-key_in (open_list ∷ frames) key = []
+key_in _ key = []
+
+-- the innermost container is a map in which a key is due
+abbrev pub is_key_due : List Open → Bool
+is_key_due (open_map_at_key ∷ frames) = true
+is_key_due _ = false
 
 -- what stands before a value
 abbrev pub lead : JsonState → View → List ℕ
 lead s view = comma_text s.needs_comma ++ key_in s.frames (key_text s.use_json_name view)
 
 -- the text of a value that is no container
-abbrev pub wrote : JsonState → View → List ℕ → JsonState
-wrote s view text = record s { out = s.out ++ (lead s view ++ text); needs_comma = true }
+abbrev pub wrote : JsonState → View → List ℕ → List Open → JsonState
+wrote s view bytes frames =
+    record s { out = s.out ++ (lead s view ++ bytes); needs_comma = true; frames = frames }
 
--- the opening bracket of a container
-abbrev pub opened : JsonState → View → Open → ℕ → JsonState
-opened s view frame bracket = record s {
-  out = s.out ++ (lead s view ++ bracket ∷ []);
+-- the key of a map's entry, with its colon; no comma comes between it and its value
+abbrev pub key_wrote : JsonState → List ℕ → List Open → JsonState
+key_wrote s key frames = record s {
+  out = s.out ++ (comma_text s.needs_comma ++ name_text key);
   needs_comma = false;
-  frames = frame ∷ s.frames;
+  frames = frames;
 }
 
--- the closing bracket of the innermost container, with those that stay open
+-- a scalar: a text is a key where one is due
+abbrev pub scalar_wrote : JsonState → View → ScalarValue → List Open → JsonState
+scalar_wrote s view (text key) frames =
+    if is_key_due s.frames then key_wrote s key frames else wrote s view (scalar_text (text key)) frames
+scalar_wrote s view x frames = wrote s view (scalar_text x) frames
+
+-- the opening bracket of a container
+abbrev pub opened : JsonState → View → ℕ → List Open → JsonState
+opened s view bracket frames =
+    record s { out = s.out ++ (lead s view ++ bracket ∷ []); needs_comma = false; frames = frames }
+
+-- the closing bracket of a container
 abbrev pub closed : JsonState → ℕ → List Open → JsonState
 closed s bracket frames = record s { out = s.out ++ bracket ∷ []; needs_comma = true; frames = frames }
 
-abbrev pub structure_closed : JsonState → List Open → Result JsonState SerdeError
-structure_closed s [] = Err Unwritable
-structure_closed s (open_structure ∷ frames) = Ok (closed s end_object frames)
-structure_closed s (open_list ∷ frames) = Err Unwritable
+-- what a call makes of the state, with the containers that are open behind it
+abbrev pub made : Event → JsonState → List Open → JsonState
+made (begin_structure site) s frames = opened s site.view begin_object frames
+made end_structure s frames = closed s end_object frames
+made (begin_list site length) s frames = opened s site.view begin_array frames
+made end_list s frames = closed s end_array frames
+made (begin_map site length) s frames = opened s site.view begin_object frames
+made end_map s frames = closed s end_object frames
+made (null_of site) s frames = wrote s site.view (codes "null") frames
+made (scalar_of site x) s frames = scalar_wrote s site.view x frames
 
-abbrev pub list_closed : JsonState → List Open → Result JsonState SerdeError
-list_closed s [] = Err Unwritable
-list_closed s (open_structure ∷ frames) = Err Unwritable
-list_closed s (open_list ∷ frames) = Ok (closed s end_array frames)
+-- the state that is made of the open containers, unless the call is refused
+abbrev pub where_taken : (List Open → JsonState) → Result (List Open) SerdeError → Result JsonState SerdeError
+where_taken make (Ok frames) = Ok (make frames)
+where_taken make (Err e) = Err e
 
+-- a call is refused where no serializer takes it
 abbrev pub json_after : Writer JsonState
-json_after (begin_structure site) s = Ok (opened s site.view open_structure begin_object)
-json_after end_structure s = structure_closed s s.frames
-json_after (begin_list site length) s = Ok (opened s site.view open_list begin_array)
-json_after end_list s = list_closed s s.frames
-json_after (null_of site) s = Ok (wrote s site.view (codes "null"))
-json_after (scalar_of site x) s = Ok (wrote s site.view (scalar_text x))
+json_after e s = where_taken (made e s) (open_after e s.frames)

@@ -1,10 +1,10 @@
 //! The reader of JSON values that a schema directs.
-use crate::members::{Next, next_present};
-use crate::places::{InList, byte_end, next_in_list, null_end};
+use crate::members::{Names, Next, next_present};
+use crate::places::{InList, InObject, byte_end, next_in_list, next_in_object, null_end};
 use crate::skip::skipped_end;
-use crate::texts::text_at;
+use crate::texts::{owned_text, text_at};
 use crate::values::{begins_null, boolean_at, long_at};
-use smithy_schema::{Schema, SerdeError, ShapeDeserializer, Step, TimestampFormat};
+use smithy_schema::{Schema, SerdeError, ShapeDeserializer, ShapeType, Step, TimestampFormat};
 use smithy_wire::{Frame, Mark, Walk, Within, byte_found, integer_found, short_found};
 use std::alloc::Global;
 
@@ -17,7 +17,9 @@ pub struct JsonDeserializer<'a> {
     pub(crate) default_timestamp_format: TimestampFormat,
 }
 
-ghost use Rattle.std.specs.Prelude.{◌≡◌};
+ghost use Rattle.std.specs.Prelude.{◌≡◌, ◌↔◌, IsTrue};
+ghost use Rattle.smithy_schema.specs.Table.{IsStructure};
+ghost use Rattle.smithy_schema.specs.Site.{site_of, kind_at};
 ghost use Rattle.smithy_json_codec.specs.Cursor.{inside_of, missing_frame};
 ghost use Rattle.smithy_wire.specs.Walking.{within_of, frame_of};
 
@@ -36,6 +38,13 @@ fn frame(within: Within, entered: bool) -> Frame
     }
 }
 
+// Whether a structure stands at the place: in an empty input none else may.
+fn is_structure(schema: &Schema<'_>) -> bool
+    ensures { IsTrue result ↔ IsStructure (kind_at (site_of schema.now)) }
+{
+    schema.shape_type() == ShapeType::Structure
+}
+
 // What is kept of the structure without members that an empty input is.
 fn missing() -> Frame
     ensures { frame_of result ≡ missing_frame }
@@ -51,15 +60,17 @@ fn missing() -> Frame
 }
 
 impl<'a> JsonDeserializer<'a> {
-    ghost use Rattle.std.specs.Prelude.{◌≡◌, ◌≤◌, ◌↔◌, length, IsTrue, IfOk, IsErrOf, false};
-    ghost use Rattle.smithy_schema.specs.Reading.{passed_to, in_structure, Conducts, MatchStep, CannotGoOn, IsRefused};
-    ghost use Rattle.smithy_schema.specs.Table.{IsStructure};
+    ghost use Rattle.std.specs.Prelude.{◌≡◌, ◌≤◌, ◌↔◌, ◌+◌, ℕ, length, drop, Some, IsTrue, IfOk, IsErrOf, false, codes};
+    ghost use Rattle.smithy_schema.specs.Reading.{passed_to, depth, in_structure, Conducts, MatchStep, CannotGoOn, IsRefused, IsInvalid};
+    ghost use Rattle.smithy_schema.specs.Table.{IsStructure, HasMembers};
     ghost use Rattle.smithy_schema.specs.Site.{site_of, kind_at};
     ghost use Rattle.smithy_schema.specs.declared.error.SerdeError.TheVariants.{TooDeep};
     ghost use Rattle.smithy_json_codec.specs.Cursor.{cursor_of, reading_settings_of};
-    ghost use Rattle.smithy_json_codec.specs.Settings.{Settings};
+    ghost use Rattle.smithy_json_codec.specs.Deepest.{OpensTooDeep};
+    ghost use Rattle.smithy_json_codec.specs.Openers.{json_openers};
+    ghost use Rattle.smithy_json_codec.specs.Settings.{without_limits};
     ghost use Rattle.smithy_json_codec.specs.Standing.{json_relations};
-    ghost use Rattle.smithy_json_codec.specs.Private.StructureSteps.{EndsEmpty, StepsTo};
+    ghost use Rattle.smithy_json_codec.specs.Private.MemberSteps.{EndsEmpty};
     ghost use Rattle.smithy_wire.specs.Walking.{fresh_cursor};
 
     // A fresh reader.
@@ -96,47 +107,41 @@ impl<'a> JsonDeserializer<'a> {
             && self.walk.depth() > 0
     }
 
-    // The step to a member of this name.
-    fn step_to<'s>(&self, schema: &Schema<'s>, name: &str) -> Step<'s>
-        ensures { StepsTo result (reading_settings_of self.now) (site_of schema.now) name.now }
-    {
-        let member = if self.use_json_name {
-            schema.member_of_json_name(name)
-        } else {
-            schema.member_schema(name)
-        };
-        match member {
-            Some(member) => Step::Member(member),
-            None => Step::Unknown,
-        }
-    }
-
-    // Goes on in the structure from the offset on, where nothing is due any more.
+    // Goes on in the structure or the union from the offset on, where nothing is due any more.
     fn step_from<'s>(&mut self, at: usize, schema: &Schema<'s>) -> Result<Step<'s>, SerdeError>
         requires ahead { self.old.walk.position ≤ at }
         requires within { at ≤ length self.old.walk.input.now }
         requires sound { self.old.walk.failed ≡ false }
         requires inside { (cursor_of self.old).inner.within ≡ in_structure }
-        requires place { IsStructure (kind_at (site_of schema.now)) }
+        requires place { HasMembers (kind_at (site_of schema.now)) }
         ensures same { reading_settings_of self.new ≡ reading_settings_of self.old }
         ensures conduct { Conducts (cursor_of self.old) (cursor_of self.new) result }
         ensures ok { IfOk result (λ step. MatchStep step (json_relations (reading_settings_of self.old)) (passed_to (cursor_of self.old) at) (cursor_of self.new) (site_of schema.now)) }
-        ensures refused { IsRefused result → (o : Settings) → CannotGoOn (json_relations o) (passed_to (cursor_of self.old) at) schema.now.shapes.now schema.now.place }
-        ensures shallow { IsErrOf result TooDeep → ⊥ }
+        ensures refused { IsRefused result → CannotGoOn (json_relations (reading_settings_of self.old)) (passed_to (cursor_of self.old) at) schema.now.shapes.now schema.now.place }
+        ensures would { IsInvalid result → CannotGoOn (json_relations (without_limits (reading_settings_of self.old))) (passed_to (cursor_of self.old) at) schema.now.shapes.now schema.now.place }
+        ensures deep { IsErrOf result TooDeep → (reading_settings_of self.old).max_depth ≤ depth (cursor_of self.old) + json_openers (drop at (cursor_of self.old).input) }
+        ensures too_deep { IsErrOf result TooDeep
+            → (q : ℕ) × (at ≤ q) × OpensTooDeep (reading_settings_of self.old).max_depth (depth (cursor_of self.old)) (cursor_of self.old).input q }
     {
-        if self.ends_empty() {
+        if self.ends_empty() && is_structure(schema) {
             self.walk.leave(0);
             return Ok(Step::End);
         }
+        let names = Names {
+            schema,
+            use_json_name: self.use_json_name,
+        };
         match next_present(
             self.alloc,
             self.walk.input,
             at,
             self.walk.inner.mark.entered,
             self.walk.depth(),
+            self.walk.max_depth,
+            names,
         ) {
             Ok(Next::Member(name, value)) => {
-                let step = self.step_to(schema, name.as_str());
+                let step = names.step_to(name.as_str());
                 self.walk.go_on(value, frame(Within::Structure, true));
                 Ok(step)
             }
@@ -150,9 +155,9 @@ impl<'a> JsonDeserializer<'a> {
 }
 
 impl ShapeDeserializer for JsonDeserializer<'_> {
-    ghost use Rattle.std.specs.Prelude.{◌≡◌, ℕ, true, false, IfOk, IsOk, OnOk, IsErr, IsErrOf};
+    ghost use Rattle.std.specs.Prelude.{◌≡◌, ◌≤◌, ℕ, true, false, IfOk, IsOk, OnOk, IsErr, IsErrOf};
     ghost use Rattle.smithy_schema.specs.Reading.{depth, in_structure, passed_to, Conducts, Passes, MatchStep, CannotGoOn, SkipsNot, NullsNot, ReachesDepth, null_is_due, IsRefused, IsInvalid, IsNoAnswer};
-    ghost use Rattle.smithy_schema.specs.Table.{IsStructure};
+    ghost use Rattle.smithy_schema.specs.Table.{IsStructure, HasMembers};
     ghost use Rattle.smithy_schema.specs.Site.{site_of, kind_at};
     ghost use Rattle.smithy_schema.specs.declared.error.SerdeError.TheVariants.{NoMemory, TooDeep};
     ghost use Rattle.smithy_json_codec.specs.Cursor.{cursor_of, reading_settings_of};
@@ -194,9 +199,9 @@ impl ShapeDeserializer for JsonDeserializer<'_> {
         self.walk.failed = true;
     }
 
-    fn open_struct(&mut self, _schema: &Schema<'_>) -> Result<(), SerdeError> {
+    fn open_struct(&mut self, schema: &Schema<'_>) -> Result<(), SerdeError> {
         self.walk.ready()?;
-        if self.walk.input.is_empty() {
+        if self.walk.input.is_empty() && is_structure(schema) {
             return self.walk.enter(0, missing());
         }
         match byte_end(self.walk.input, self.walk.position, b'{') {
@@ -207,7 +212,7 @@ impl ShapeDeserializer for JsonDeserializer<'_> {
 
     fn next_member<'s>(&mut self, schema: &Schema<'s>) -> Result<Step<'s>, SerdeError>
         requires within { (cursor_of self.old).inner.within ≡ in_structure }
-        requires place { IsStructure (kind_at (site_of schema.now)) }
+        requires place { HasMembers (kind_at (site_of schema.now)) }
         ensures same { reading_settings_of self.new ≡ reading_settings_of self.old }
         ensures conduct { Conducts (cursor_of self.old) (cursor_of self.new) result }
         ensures ok { (cursor_of self.old).due ≡ false → IfOk result (λ step. MatchStep step (json_relations (reading_settings_of self.old)) (cursor_of self.old) (cursor_of self.new) (site_of schema.now)) }
@@ -224,9 +229,10 @@ impl ShapeDeserializer for JsonDeserializer<'_> {
         ensures unskipped { (cursor_of self.old).due ≡ true → SkipsNot (json_relations (reading_settings_of self.old)) (cursor_of self.old) → IsErr result }
         ensures deep { IsErrOf result TooDeep → ReachesDepth (json_relations (reading_settings_of self.old)) (reading_settings_of self.old).max_depth (cursor_of self.old) }
 
-        // It is too deep only by a value that was left unread and can't be skipped here, as `skip_value` is.
-        ensures unread_deep { IsErrOf result TooDeep → ((cursor_of self.old).due ≡ true) × SkipsNot (json_relations (reading_settings_of self.old)) (cursor_of self.old) }
-        ensures too_deep { IsErrOf result TooDeep → OpensTooDeep (reading_settings_of self.old).max_depth (depth (cursor_of self.old)) (cursor_of self.old).input (cursor_of self.old).at }
+        // It is too deep only by a container that begins at the greatest depth, in the value that is skipped here or in
+        // that of a mark behind it.
+        ensures too_deep { IsErrOf result TooDeep
+            → (q : ℕ) × ((cursor_of self.old).at ≤ q) × OpensTooDeep (reading_settings_of self.old).max_depth (depth (cursor_of self.old)) (cursor_of self.old).input q }
     {
         if self.walk.failed {
             return Err(self.walk.refuse(SerdeError::Failed));
@@ -269,6 +275,46 @@ impl ShapeDeserializer for JsonDeserializer<'_> {
             Some(InList::End(end)) => {
                 self.walk.leave(end);
                 Ok(false)
+            }
+            None => Err(self.walk.refuse(SerdeError::InvalidInput)),
+        }
+    }
+
+    fn open_map(&mut self, _schema: &Schema<'_>) -> Result<(), SerdeError> {
+        self.walk.ready()?;
+        match byte_end(self.walk.input, self.walk.position, b'{') {
+            Some(inside) => self.walk.enter(inside, frame(Within::Map, false)),
+            None => Err(self.walk.refuse(SerdeError::InvalidInput)),
+        }
+    }
+
+    fn next_key(&mut self) -> Result<Option<String>, SerdeError> {
+        if self.walk.failed {
+            return Err(self.walk.refuse(SerdeError::Failed));
+        }
+        if self.walk.due {
+            return Err(self.walk.refuse(SerdeError::InvalidInput));
+        }
+        match next_in_object(
+            self.walk.input,
+            self.walk.position,
+            self.walk.inner.mark.entered,
+            self.walk.depth(),
+        ) {
+            Some(InObject::Member(name)) => match owned_text(
+                self.alloc,
+                name.raw,
+                name.has_escape,
+            ) {
+                Ok(key) => {
+                    self.walk.go_on(name.end, frame(Within::Map, true));
+                    Ok(Some(key))
+                }
+                Err(error) => Err(self.walk.refuse(error)),
+            },
+            Some(InObject::End(end)) => {
+                self.walk.leave(end);
+                Ok(None)
             }
             None => Err(self.walk.refuse(SerdeError::InvalidInput)),
         }
@@ -373,5 +419,7 @@ impl ShapeDeserializer for JsonDeserializer<'_> {
     }
 }
 
+#[cfg(test)]
+mod entry_tests;
 #[cfg(test)]
 mod tests;

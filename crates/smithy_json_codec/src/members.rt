@@ -1,13 +1,19 @@
-//! Which member of an object comes next that isn't null.
+//! Which member of an object comes next, behind the entries that are passed over.
 
-ghost use Rattle.std.specs.Prelude.{◌≡◌, ◌⊎◌, ◌≤◌, length, IfOk, IfErr};
-ghost use Rattle.smithy_schema.specs.Reading.{IsInvalid};
-ghost use Rattle.smithy_schema.specs.declared.error.SerdeError.TheVariants.{InvalidInput, NoMemory};
-ghost use Rattle.smithy_json_codec.specs.Private.MembersBehindNulls.{IsEntry, IsNext, EntryMissing, NothingComes};
+ghost use Rattle.std.specs.Prelude.{◌≡◌, ◌≢◌, ◌≤◌, ◌+◌, ◌↔◌, ℕ, length, drop, IfOk, IfErr, IsErrOf, IsTrue};
+ghost use Rattle.smithy_schema.specs.Reading.{IsInvalid, IsRefused};
+ghost use Rattle.smithy_schema.specs.declared.error.SerdeError.TheVariants.{Failed, TooDeep, Unwritable};
+ghost use Rattle.smithy_schema.specs.Site.{site_of};
+ghost use Rattle.smithy_json_codec.specs.Codec.{strict_settings};
+ghost use Rattle.smithy_json_codec.specs.Deepest.{OpensTooDeep};
+ghost use Rattle.smithy_json_codec.specs.Openers.{json_openers};
+ghost use Rattle.smithy_json_codec.specs.Private.MemberSteps.{StepsTo, passes_marks};
+ghost use Rattle.smithy_json_codec.specs.Private.PassedEntries.{type_name, IsEntry, IsNext, EntryMissing, NothingComes, NoSkip, NoSkipWithin};
 
 use crate::places::{InObject, next_in_object, null_end};
+use crate::skip::{GREATEST_DEPTH, skipped_end};
 use crate::texts::text_of;
-use smithy_schema::SerdeError;
+use smithy_schema::{Schema, SerdeError, Step};
 use std::alloc::Global;
 use std::borrow::CowStr;
 
@@ -19,57 +25,120 @@ pub(crate) enum Next<'a> {
     End(usize),
 }
 
-// What comes next in an object: a null, which is dropped, with its end, or something else.
+// What comes next in an object: an entry that is passed over, with its end, or something else.
 #[derive(Drop)]
 enum Entry<'a> {
-    Dropped(usize),
+    Passed(usize),
     Kept(Next<'a>),
 }
 
-// What comes next in the object in whose inside the offset lies.
+/// The names by which the members of a structure or a union are found.
+#[derive(Clone, Copy)]
+pub(crate) struct Names<'a, 's> {
+    pub(crate) schema: &'a Schema<'s>,
+    pub(crate) use_json_name: bool,
+}
+
+impl<'s> Names<'_, 's> {
+    // The step to a member of this name.
+    pub(crate) fn step_to(&self, name: &str) -> Step<'s>
+        ensures { StepsTo result (strict_settings self.now.use_json_name) (site_of self.now.schema.now) name.now }
+    {
+        let member = if self.use_json_name {
+            self.schema.member_of_json_name(name)
+        } else {
+            self.schema.member_schema(name)
+        };
+        match member {
+            Some(member) => Step::Member(member),
+            None => Step::Unknown,
+        }
+    }
+
+    // Whether each `__type` is a mark: where no member has this name.
+    fn passes_marks(&self) -> bool
+        ensures { result ≡ passes_marks self.now.use_json_name (site_of self.now.schema.now) }
+    {
+        matches!(self.step_to("__type"), Step::Unknown)
+    }
+}
+
+// The name of a mark, which says of what shape a value is.
+#[inline(always)]
+fn is_type_name(name: &str) -> bool
+    ensures { IsTrue result ↔ (name.now ≡ type_name) }
+{
+    name == "__type"
+}
+
+// What comes next in the object in whose inside the offset lies: nulls and marks are passed over.
 fn entry_at<'a>(
     alloc: Global,
     input: &'a [u8],
     at: usize,
     entered: bool,
     depth: usize,
+    max_depth: usize,
+    names: Names<'_, '_>,
 ) -> Result<Entry<'a>, SerdeError>
-    requires { at ≤ length input.now }
-    ensures ok { IfOk result (IsEntry input.now at entered depth) }
-    ensures none { IsInvalid result → EntryMissing input.now at entered depth }
-    ensures kind { IfErr result (λ e. (e ≡ InvalidInput) ⊎ (e ≡ NoMemory)) }
+    requires within { at ≤ length input.now }
+    requires shallow { depth ≤ max_depth }
+    requires greatest { max_depth ≤ GREATEST_DEPTH }
+    ensures ok { IfOk result (IsEntry (passes_marks names.entry.use_json_name (site_of names.entry.schema.now)) max_depth depth input.now at entered) }
+    ensures refused { IsRefused result → EntryMissing (NoSkipWithin max_depth depth input.now) (passes_marks names.entry.use_json_name (site_of names.entry.schema.now)) depth input.now at entered }
+    ensures would { IsInvalid result → EntryMissing (NoSkip depth input.now) (passes_marks names.entry.use_json_name (site_of names.entry.schema.now)) depth input.now at entered }
+    ensures sound { IfErr result (λ e. e ≢ Failed) }
+    ensures readable { IfErr result (λ e. e ≢ Unwritable) }
+    ensures deep { IsErrOf result TooDeep → max_depth ≤ depth + json_openers (drop at input.now) }
+    ensures too_deep { IsErrOf result TooDeep → (q : ℕ) × (at ≤ q) × OpensTooDeep max_depth depth input.now q }
 {
-    match next_in_object(input, at, entered, depth) {
-        Some(InObject::Member(name)) => match text_of(alloc, name.raw) {
-            Ok(text) => match null_end(input, name.end) {
-                Some(end) => Ok(Entry::Dropped(end)),
-                None => Ok(Entry::Kept(Next::Member(text, name.end))),
-            },
-            Err(error) => Err(error),
-        },
-        Some(InObject::End(end)) => Ok(Entry::Kept(Next::End(end))),
-        None => Err(SerdeError::InvalidInput),
+    let name = match next_in_object(input, at, entered, depth) {
+        Some(InObject::Member(name)) => name,
+        Some(InObject::End(end)) => return Ok(Entry::Kept(Next::End(end))),
+        None => return Err(SerdeError::InvalidInput),
+    };
+    let text = match text_of(alloc, name.raw, name.has_escape) {
+        Ok(text) => text,
+        Err(error) => return Err(error),
+    };
+    if let Some(end) = null_end(input, name.end) {
+        return Ok(Entry::Passed(end));
+    }
+    if !is_type_name(text.as_str()) || !names.passes_marks() {
+        return Ok(Entry::Kept(Next::Member(text, name.end)));
+    }
+    match skipped_end(input, name.end, depth, max_depth) {
+        Ok(end) => Ok(Entry::Passed(end)),
+        Err(error) => Err(error),
     }
 }
 
-// The next member that isn't null, or the end of the object in whose inside the offset lies.
+// The next member that isn't passed over, or the end of the object in whose inside the offset lies.
 pub(crate) fn next_present<'a>(
     alloc: Global,
     input: &'a [u8],
     at: usize,
     entered: bool,
     depth: usize,
+    max_depth: usize,
+    names: Names<'_, '_>,
 ) -> Result<Next<'a>, SerdeError>
-    requires { at ≤ length input.now }
-    ensures ok { IfOk result (IsNext input.now at entered depth) }
-    ensures none { IsInvalid result → NothingComes input.now at entered depth }
-    ensures kind { IfErr result (λ e. (e ≡ InvalidInput) ⊎ (e ≡ NoMemory)) }
+    requires within { at ≤ length input.now }
+    requires shallow { depth ≤ max_depth }
+    requires greatest { max_depth ≤ GREATEST_DEPTH }
+    ensures ok { IfOk result (IsNext (passes_marks names.entry.use_json_name (site_of names.entry.schema.now)) max_depth depth input.now at entered) }
+    ensures refused { IsRefused result → NothingComes (NoSkipWithin max_depth depth input.now) (passes_marks names.entry.use_json_name (site_of names.entry.schema.now)) max_depth depth input.now at entered }
+    ensures would { IsInvalid result → NothingComes (NoSkip depth input.now) (passes_marks names.entry.use_json_name (site_of names.entry.schema.now)) max_depth depth input.now at entered }
+    ensures sound { IfErr result (λ e. e ≢ Failed) }
+    ensures readable { IfErr result (λ e. e ≢ Unwritable) }
+    ensures deep { IsErrOf result TooDeep → max_depth ≤ depth + json_openers (drop at input.now) }
+    ensures too_deep { IsErrOf result TooDeep → (q : ℕ) × (at ≤ q) × OpensTooDeep max_depth depth input.now q }
 {
     let mut at = at;
     let mut entered = entered;
     loop {
-        match entry_at(alloc, input, at, entered, depth) {
-            Ok(Entry::Dropped(end)) => {
+        match entry_at(alloc, input, at, entered, depth, max_depth, names) {
+            Ok(Entry::Passed(end)) => {
                 at = end;
                 entered = true;
             }

@@ -1,12 +1,13 @@
 //! Writing a body as a schema directs.
-ghost use Rattle.std.specs.Prelude.{◌≡◌, ◌↔◌, ◌∷◌, ◌++◌, true, false, OnOk, IfErr, IsErr, IsErrOf, map, reverse};
+ghost use Rattle.std.specs.Prelude.{◌≡◌, ◌↔◌, ◌∷◌, ◌++◌, Ok, Err, true, false, OnOk, IfErr, IsErr, IsErrOf};
 ghost use Rattle.smithy_schema.specs.declared.error.SerdeError.TheVariants.{Failed, NoMemory};
 ghost use Rattle.smithy_schema.specs.Reading.{IsFault};
 ghost use Rattle.smithy_schema.specs.Site.{site_of};
+ghost use Rattle.smithy_schema.specs.Writing.{after_value, after_text, after_begin};
 ghost use Rattle.smithy_json.specs.Escape.{quoted};
 ghost use Rattle.smithy_json_codec.specs.Canonical.{name_text, key_text};
-ghost use Rattle.smithy_json_codec.specs.Serializing.{open_of, state_of, has_failed};
-ghost use Rattle.smithy_json_codec.specs.Writing.{JsonState, fresh_state, comma_text, key_in, wrote, opened, json_after};
+ghost use Rattle.smithy_json_codec.specs.Serializing.{open_of, opens_of, state_of, has_failed};
+ghost use Rattle.smithy_json_codec.specs.Writing.{JsonState, fresh_state, comma_text, key_in, is_key_due, lead, wrote, key_wrote, opened, where_taken, json_after};
 
 use crate::codec::JsonCodec;
 use itoa::Buffer;
@@ -14,21 +15,23 @@ use smithy_json::push_escaped;
 use smithy_schema::{FinishSerializer, Schema, SerdeError, ShapeSerializer};
 use std::alloc::{AllocError, Global};
 
-/// A container that is open.
+/// A container that is open, and of a map what is due in it.
 #[derive(Clone, Copy, Debug)]
 pub(crate) enum Container {
     Structure,
     List,
+    MapAtKey,
+    MapAtValue,
 }
 
 /// Writes one body: a value in its canonical text.
 ///
-/// Members are written by name, with a comma between two entries, and without white space.
+/// Members and the entries of a map are written by name, with a comma between two, and without white space.
 #[derive(Debug, Drop)]
 pub struct JsonSerializer<'c> {
     codec: &'c JsonCodec,
     out: Vec<u8>,
-    // Whether the innermost container, or the text outside of all, has an entry.
+    // Whether a comma stands before whatever comes next but an end.
     needs_comma: bool,
     stack: Vec<Container>,
     // From the beginning of a call until it is done, and for good where it is refused.
@@ -65,23 +68,47 @@ fn push_key(out: &mut Vec<u8>, use_json_name: bool, schema: &Schema<'_>) -> Resu
     push_name(out, member_name)
 }
 
-// A comma where one is due, and a key outside of lists.
-fn push_lead(
-    out: &mut Vec<u8>,
-    use_json_name: bool,
-    needs_comma: bool,
-    stack: &[Container],
-    schema: &Schema<'_>,
-) -> Result<(), AllocError>
-    ensures { OnOk result (out.new.items ≡ out.old.items
-        ++ (comma_text needs_comma ++ key_in (map open_of (reverse stack.now)) (key_text use_json_name (site_of schema.now).view))) }
+fn push_comma(out: &mut Vec<u8>, needs_comma: bool) -> Result<(), AllocError>
+    ensures { OnOk result (out.new.items ≡ out.old.items ++ comma_text needs_comma) }
 {
     if needs_comma {
         out.push(b',')?;
     }
+    Ok(())
+}
+
+// Begins a value: with a comma where one is due, and the name of a member. Where a map's key is due no value comes, and
+// behind a map's value a key is due.
+fn begin_value(
+    out: &mut Vec<u8>,
+    stack: &mut Vec<Container>,
+    use_json_name: bool,
+    needs_comma: bool,
+    schema: &Schema<'_>,
+) -> Result<(), SerdeError>
+    ensures lead { OnOk result (out.new.items ≡ out.old.items
+        ++ (comma_text needs_comma ++ key_in (opens_of stack.old.items) (key_text use_json_name (site_of schema.now).view))) }
+    ensures taken { OnOk result (after_value (opens_of stack.old.items) ≡ Ok (opens_of stack.new.items)) }
+    ensures refused { IfErr result (λ e. IsFault e → after_value (opens_of stack.old.items) ≡ Err e) }
+    ensures sound { IsErrOf result Failed → ⊥ }
+{
     match stack.last() {
-        Some(Container::List) => Ok(()),
-        _ => push_key(out, use_json_name, schema),
+        Some(Container::MapAtKey) => Err(SerdeError::Unwritable),
+        Some(Container::MapAtValue) => {
+            push_comma(out, needs_comma)?;
+            stack.pop();
+            stack.push(Container::MapAtKey)?;
+            Ok(())
+        }
+        Some(Container::List) => {
+            push_comma(out, needs_comma)?;
+            Ok(())
+        }
+        Some(Container::Structure) | None => {
+            push_comma(out, needs_comma)?;
+            push_key(out, use_json_name, schema)?;
+            Ok(())
+        }
     }
 }
 
@@ -99,6 +126,24 @@ impl<'c> JsonSerializer<'c> {
         }
     }
 
+    // Begins a value as `begin_value` does.
+    fn begin(&mut self, schema: &Schema<'_>) -> Result<(), SerdeError>
+        ensures same { (state_of self.new).use_json_name ≡ (state_of self.old).use_json_name }
+        ensures broken { has_failed self.new ≡ has_failed self.old }
+        ensures lead { OnOk result ((state_of self.new).out ≡ (state_of self.old).out ++ lead (state_of self.old) (site_of schema.now).view) }
+        ensures taken { OnOk result (after_value (state_of self.old).frames ≡ Ok (state_of self.new).frames) }
+        ensures refused { IfErr result (λ e. IsFault e → after_value (state_of self.old).frames ≡ Err e) }
+        ensures sound { IsErrOf result Failed → ⊥ }
+    {
+        begin_value(
+            &mut self.out,
+            &mut self.stack,
+            self.codec.use_json_name,
+            self.needs_comma,
+            schema,
+        )
+    }
+
     fn open(
         &mut self,
         schema: &Schema<'_>,
@@ -107,21 +152,14 @@ impl<'c> JsonSerializer<'c> {
     ) -> Result<(), SerdeError>
         ensures failed { IsErrOf result Failed ↔ (has_failed self.old ≡ true) }
         ensures broken { IsErr result ↔ (has_failed self.new ≡ true) }
-        ensures ok { OnOk result (state_of self.new ≡ opened (state_of self.old) (site_of schema.now).view (open_of container) bracket) }
-        ensures refused { IfErr result (λ e. IsFault e → ⊥) }
+        ensures ok { OnOk result (where_taken (opened (state_of self.old) (site_of schema.now).view bracket) (after_begin (open_of container) (state_of self.old).frames) ≡ Ok (state_of self.new)) }
+        ensures refused { IfErr result (λ e. IsFault e → after_value (state_of self.old).frames ≡ Err e) }
     {
         if self.failed {
             return Err(SerdeError::Failed);
         }
         self.failed = true;
-        let use_json_name = self.codec.use_json_name;
-        push_lead(
-            &mut self.out,
-            use_json_name,
-            self.needs_comma,
-            &self.stack,
-            schema,
-        )?;
+        self.begin(schema)?;
         self.out.push(bracket)?;
         self.stack.push(container)?;
         self.needs_comma = false;
@@ -133,23 +171,55 @@ impl<'c> JsonSerializer<'c> {
     fn write_text(&mut self, schema: &Schema<'_>, text: &[u8]) -> Result<(), SerdeError>
         ensures failed { IsErrOf result Failed ↔ (has_failed self.old ≡ true) }
         ensures broken { IsErr result ↔ (has_failed self.new ≡ true) }
-        ensures ok { OnOk result (state_of self.new ≡ wrote (state_of self.old) (site_of schema.now).view text.now) }
+        ensures ok { OnOk result (where_taken (wrote (state_of self.old) (site_of schema.now).view text.now) (after_value (state_of self.old).frames) ≡ Ok (state_of self.new)) }
+        ensures refused { IfErr result (λ e. IsFault e → after_value (state_of self.old).frames ≡ Err e) }
+    {
+        if self.failed {
+            return Err(SerdeError::Failed);
+        }
+        self.failed = true;
+        self.begin(schema)?;
+        self.out.extend_from_slice(text)?;
+        self.needs_comma = true;
+        self.failed = false;
+        Ok(())
+    }
+
+    // Writes a text that is a value.
+    fn write_quoted(&mut self, schema: &Schema<'_>, text: &str) -> Result<(), SerdeError>
+        ensures failed { IsErrOf result Failed ↔ (has_failed self.old ≡ true) }
+        ensures broken { IsErr result ↔ (has_failed self.new ≡ true) }
+        ensures ok { OnOk result (where_taken (wrote (state_of self.old) (site_of schema.now).view (quoted text.now)) (after_value (state_of self.old).frames) ≡ Ok (state_of self.new)) }
+        ensures refused { IfErr result (λ e. IsFault e → after_value (state_of self.old).frames ≡ Err e) }
+    {
+        if self.failed {
+            return Err(SerdeError::Failed);
+        }
+        self.failed = true;
+        self.begin(schema)?;
+        push_quoted(&mut self.out, text)?;
+        self.needs_comma = true;
+        self.failed = false;
+        Ok(())
+    }
+
+    // Writes the key of an entry where one is due; its value is due then.
+    fn write_key(&mut self, key: &str) -> Result<(), SerdeError>
+        requires { is_key_due (state_of self.old).frames ≡ true }
+        ensures failed { IsErrOf result Failed ↔ (has_failed self.old ≡ true) }
+        ensures broken { IsErr result ↔ (has_failed self.new ≡ true) }
+        ensures ok { OnOk result (where_taken (key_wrote (state_of self.old) key.now) (after_text (state_of self.old).frames) ≡ Ok (state_of self.new)) }
         ensures refused { IfErr result (λ e. IsFault e → ⊥) }
     {
         if self.failed {
             return Err(SerdeError::Failed);
         }
         self.failed = true;
-        let use_json_name = self.codec.use_json_name;
-        push_lead(
-            &mut self.out,
-            use_json_name,
-            self.needs_comma,
-            &self.stack,
-            schema,
-        )?;
-        self.out.extend_from_slice(text)?;
-        self.needs_comma = true;
+        push_comma(&mut self.out, self.needs_comma)?;
+        push_name(&mut self.out, key)?;
+        self.stack.pop();
+        self.stack.push(Container::MapAtValue)?;
+        self.needs_comma = false;
         self.failed = false;
         Ok(())
     }
@@ -218,6 +288,24 @@ impl ShapeSerializer for JsonSerializer<'_> {
         Ok(())
     }
 
+    fn begin_map(&mut self, schema: &Schema<'_>, _length: Option<usize>) -> Result<(), SerdeError> {
+        self.open(schema, Container::MapAtKey, b'{')
+    }
+
+    fn end_map(&mut self) -> Result<(), SerdeError> {
+        if self.failed {
+            return Err(SerdeError::Failed);
+        }
+        self.failed = true;
+        let Some(Container::MapAtKey) = self.stack.pop() else {
+            return Err(SerdeError::Unwritable);
+        };
+        self.out.push(b'}')?;
+        self.needs_comma = true;
+        self.failed = false;
+        Ok(())
+    }
+
     fn write_null(&mut self, schema: &Schema<'_>) -> Result<(), SerdeError> {
         self.write_text(schema, b"null")
     }
@@ -245,22 +333,10 @@ impl ShapeSerializer for JsonSerializer<'_> {
     }
 
     fn write_string(&mut self, schema: &Schema<'_>, value: &str) -> Result<(), SerdeError> {
-        if self.failed {
-            return Err(SerdeError::Failed);
+        match self.stack.last() {
+            Some(Container::MapAtKey) => self.write_key(value),
+            _ => self.write_quoted(schema, value),
         }
-        self.failed = true;
-        let use_json_name = self.codec.use_json_name;
-        push_lead(
-            &mut self.out,
-            use_json_name,
-            self.needs_comma,
-            &self.stack,
-            schema,
-        )?;
-        push_quoted(&mut self.out, value)?;
-        self.needs_comma = true;
-        self.failed = false;
-        Ok(())
     }
 }
 

@@ -3,7 +3,7 @@ ghost use Rattle.std.specs.Prelude.{◌≡◌, ◌⊎◌, ◌≤◌, ℕ, List, 
 ghost use Rattle.std.specs.Cow.{cow_str_bytes};
 ghost use Rattle.smithy_schema.specs.Reading.{IsInvalid};
 ghost use Rattle.smithy_schema.specs.declared.error.SerdeError.TheVariants.{InvalidInput, NoMemory};
-ghost use Rattle.smithy_json.specs.Unescape.{unescaped};
+ghost use Rattle.smithy_json.specs.Unescape.{unescaped, has_escape};
 ghost use Rattle.smithy_json_codec.specs.Private.ScalarAtPlace.{TextLies};
 
 use crate::values::string_at;
@@ -13,7 +13,27 @@ use std::alloc::Global;
 use std::borrow::CowStr;
 
 // The text of a string, which is borrowed where it has no escapes.
-pub(crate) fn text_of<'a>(alloc: Global, raw: &'a str) -> Result<CowStr<'a, Global>, SerdeError>
+#[inline(always)]
+pub(crate) fn text_of<'a>(
+    alloc: Global,
+    raw: &'a str,
+    is_escaped: bool,
+) -> Result<CowStr<'a, Global>, SerdeError>
+    requires { is_escaped ≡ has_escape raw.now }
+    ensures ok { IfOk result (λ text. unescaped raw.now ≡ Some (cow_str_bytes text)) }
+    ensures none { IsInvalid result → unescaped raw.now ≡ None }
+    ensures kind { IfErr result (λ e. (e ≡ InvalidInput) ⊎ (e ≡ NoMemory)) }
+{
+    if is_escaped {
+        unescaped_text(alloc, raw)
+    } else {
+        Ok(CowStr::Borrowed(raw))
+    }
+}
+
+// The same of any string. It stays a call, so that the common case is short.
+#[inline(never)]
+fn unescaped_text<'a>(alloc: Global, raw: &'a str) -> Result<CowStr<'a, Global>, SerdeError>
     ensures ok { IfOk result (λ text. unescaped raw.now ≡ Some (cow_str_bytes text)) }
     ensures none { IsInvalid result → unescaped raw.now ≡ None }
     ensures kind { IfErr result (λ e. (e ≡ InvalidInput) ⊎ (e ≡ NoMemory)) }
@@ -26,12 +46,13 @@ pub(crate) fn text_of<'a>(alloc: Global, raw: &'a str) -> Result<CowStr<'a, Glob
 }
 
 // The same as a text of its own.
-pub(crate) fn owned_text(alloc: Global, raw: &str) -> Result<String, SerdeError>
+pub(crate) fn owned_text(alloc: Global, raw: &str, is_escaped: bool) -> Result<String, SerdeError>
+    requires { is_escaped ≡ has_escape raw.now }
     ensures ok { IfOk result (λ text. unescaped raw.now ≡ Some (string_bytes text)) }
     ensures none { IsInvalid result → unescaped raw.now ≡ None }
     ensures kind { IfErr result (λ e. (e ≡ InvalidInput) ⊎ (e ≡ NoMemory)) }
 {
-    match text_of(alloc, raw) {
+    match text_of(alloc, raw, is_escaped) {
         Ok(text) => match text.into_owned(alloc) {
             Ok(text) => Ok(text),
             Err(_) => Err(SerdeError::NoMemory),
@@ -50,7 +71,7 @@ pub(crate) fn text_at(alloc: Global, input: &[u8], at: usize) -> Result<(String,
     let Some(string) = string_at(input, at) else {
         return Err(SerdeError::InvalidInput);
     };
-    match owned_text(alloc, string.text) {
+    match owned_text(alloc, string.text, string.has_escape) {
         Ok(text) => Ok((text, string.closing + 1)),
         Err(error) => Err(error),
     }

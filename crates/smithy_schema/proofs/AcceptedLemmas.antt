@@ -3,7 +3,7 @@ use Rattle.std.proofs.Common.{◌≡◌, ◌≢◌, ℕ, ◌+◌, ◌-◌, ◌<�
 use Rattle.std.specs.Str.{bytes_eq}
 use Rattle.std.specs.Option.{option_map, option_map_or, option_or, is_some, unwrap_or}
 use Rattle.std.specs.List.{list_any, list_all, position, find, enumerate_from, slice_get}
-use Rattle.std.proofs.lemmas.Bool.{true≢false, cases_Bool}
+use Rattle.std.proofs.lemmas.Bool.{true≢false, cases_Bool, and_parts}
 use Rattle.std.proofs.lemmas.Bool.Decides.{nat_tests}
 use Rattle.std.proofs.lemmas.List.{length-map, get_or-map, get_or-take, length-take}
 use Rattle.std.proofs.lemmas.List.Folds.{list_any_at, list_any_none, Any-from_list_any}
@@ -13,11 +13,11 @@ use Rattle.smithy_schema.specs.declared.place.Target.{Target}
 use Rattle.smithy_schema.specs.declared.place.Target.TheVariants.{Simple, Declared}
 use Rattle.smithy_schema.specs.declared.shape_type.Scalar.{Scalar}
 use Rattle.smithy_schema.specs.Table as table
-use Rattle.smithy_schema.specs.Table.{Kind, scalar, structure_of, nothing, kind_of_shape, kind_of, kind_of_target, place_in, list_shape_of, element_name_of, IsClosed}
+use Rattle.smithy_schema.specs.Table.{Kind, scalar, structure_of, nothing, kind_of_shape, kind_of, kind_of_target, place_in, list_shape_of, map_shape_of, element_name_of, IsClosed}
 use Rattle.smithy_schema.specs.Names.{scalar_names, named, is_reserved, has_equal_texts, is_query_name}
-use Rattle.smithy_schema.specs.Decl.{PlaceWords, MemberDecl, Form, structure, union, list, map as map_form, Decl}
-use Rattle.smithy_schema.specs.Acceptance.{Fault, Test, tests, members_of, place_of_member, place_of_elements, places_of, query_names_of, element_name_of as written_name_of, is_declared, place_of, member_of, list_shape_of as shape_of_list, shape_of, table_from, json_name_of, query_name_of, has_unknown_target, has_unknown_shape, is_duplicate, has_clash, has_unfit_name, is_too_many, first_failing, first_fault}
-use Rattle.smithy_schema.specs.Accepted.{AreAcceptedMembers, HaveTextNames, IsAccepted}
+use Rattle.smithy_schema.specs.Decl.{PlaceWords, MemberDecl, MapDecl, Form, structure, union, list, map as map_form, Decl}
+use Rattle.smithy_schema.specs.Acceptance.{Fault, Test, tests, members_of, place_of_member, place_of_elements, place_of_values, places_of, query_names_of, element_name_of as written_name_of, key_name_of, value_name_of, is_declared, place_of, member_of, list_shape_of as shape_of_list, map_shape_of as shape_of_map, shape_of, table_from, json_name_of, query_name_of, has_unknown_target, has_unknown_shape, is_duplicate, has_clash, has_unfit_name, has_one_entry_name, has_key_value_name, is_too_many, first_failing, first_fault}
+use Rattle.smithy_schema.specs.Accepted.{AreAcceptedMembers, AreAcceptedNames, HaveTextNames, IsAccepted}
 use Rattle.smithy_schema.proofs.OrderLemmas.{first_of, false_if, not_both, no_equal_texts, le_or_lt}
 
 -- ---- each declaration passes each test
@@ -49,6 +49,7 @@ pub record Passes (ds : List Decl) : Type 0 where
   pub single : (i : ℕ) (d : Decl) → i < length ds → is_duplicate ds (1 + i) (get_or ds i d) ≡ false
   pub distinct : (i : ℕ) (d : Decl) → i < length ds → has_clash ds (1 + i) (get_or ds i d) ≡ false
   pub fit : (i : ℕ) (d : Decl) → i < length ds → has_unfit_name ds (1 + i) (get_or ds i d) ≡ false
+  pub told_apart : (i : ℕ) (d : Decl) → i < length ds → has_key_value_name ds (1 + i) (get_or ds i d) ≡ false
   pub few : (i : ℕ) (d : Decl) → i < length ds → is_too_many ds (1 + i) (get_or ds i d) ≡ false
 
 abbrev EachPasses : List Decl → List (Fault × Test) → Type 0
@@ -65,7 +66,7 @@ pub passes : (ds : List Decl) → first_fault ds tests ≡ None → Passes ds
 passes ds none =
     let all = each_passes ds tests none in
     let behind_places = all.1.1.1.1 in
-    record { known = all.1.1.0; single = behind_places.0; distinct = behind_places.1.0; fit = behind_places.1.1.0; few = behind_places.1.1.1.1.0 }
+    record { known = all.1.1.0; single = behind_places.0; distinct = behind_places.1.0; fit = behind_places.1.1.0; told_apart = behind_places.1.1.1.0; few = behind_places.1.1.1.1.0 }
 
 or_false : (a b : Bool) → a || b ≡ false → (a ≡ false) × (b ≡ false)
 or_false true b h = absurd (true≢false h)
@@ -131,7 +132,7 @@ members_accepted ds ms few distinct fit =
 no_members : AreAcceptedMembers []
 no_members = record { are_few = omega arith; names_differ = refl; json_names_differ = refl; query_names_differ = refl; query_names_fit = refl }
 
--- those of a structure
+-- those of a structure or a union
 form_accepted : (ds : List Decl) (n : ℕ) (d : Decl) (form : Form) → ltb 65535 (length (members_of form)) ≡ false
     → has_clash ds n (record { name = d.name; form = form }) ≡ false → not (list_all is_query_name (query_names_of form)) ≡ false
     → AreAcceptedMembers (table.members_of (kind_of_shape (shape_of ds form)))
@@ -202,11 +203,42 @@ elements_in_table ds p = of_place ds (λ kind. (l : table.ListShape) → list_sh
     (λ s l found. absurd (let e : None ≡ Some l = found in cc)) (λ l found. absurd (let e : None ≡ Some l = found in cc))
     (λ n d within is. element_fits ds d.form (ap (λ d. has_unfit_name ds (1 + n) d) (sym is) ∙ p.fit n d within))
 
+-- ---- keys and values of maps
+
+both_of_all : (key value : List ℕ) → not (list_all is_query_name (key ∷ value ∷ [])) ≡ false → (is_query_name key ≡ true) × (is_query_name value ≡ true)
+both_of_all key value fit =
+    let all = not_false (list_all is_query_name (key ∷ value ∷ [])) fit in
+    let parts = and_parts (is_query_name key) (list_all is_query_name (value ∷ [])) all in
+    (parts.0, (and_parts (is_query_name value) true parts.1).0)
+
+map_names_accepted : (ds : List Decl) (m : MapDecl) → not (list_all is_query_name (query_names_of (map_form m))) ≡ false → has_one_entry_name (map_form m) ≡ false
+    → AreAcceptedNames (shape_of_map ds m)
+map_names_accepted ds m fit apart =
+    let both = both_of_all (key_name_of m) (value_name_of m) fit in
+    record { key_name_fits = both.0; value_name_fits = both.1; names_differ = apart }
+
+entry_names_accepted : (ds : List Decl) (form : Form) → not (list_all is_query_name (query_names_of form)) ≡ false → has_one_entry_name form ≡ false
+    → (m : table.MapShape) → map_shape_of (kind_of_shape (shape_of ds form)) ≡ Some m → AreAcceptedNames m
+entry_names_accepted ds (structure ms) fit apart m found = absurd (let e : None ≡ Some m = found in cc)
+entry_names_accepted ds (union ms) fit apart m found = absurd (let e : None ≡ Some m = found in cc)
+entry_names_accepted ds (list l) fit apart m found = absurd (let e : None ≡ Some m = found in cc)
+entry_names_accepted ds (map_form k) fit apart m found =
+    subst AreAcceptedNames (some_equal (shape_of_map ds k) m found) (map_names_accepted ds k fit apart)
+
+entry_names_in_table : (ds : List Decl) → Passes ds → (at : Place) (m : table.MapShape) → map_shape_of (kind_of (table_from ds) at) ≡ Some m → AreAcceptedNames m
+entry_names_in_table ds p = of_place ds (λ kind. (m : table.MapShape) → map_shape_of kind ≡ Some m → AreAcceptedNames m)
+    (λ s m found. absurd (let e : None ≡ Some m = found in cc)) (λ m found. absurd (let e : None ≡ Some m = found in cc))
+    (λ n d within is. entry_names_accepted ds d.form
+    (ap (λ d. has_unfit_name ds (1 + n) d) (sym is) ∙ p.fit n d within)
+    (ap (λ d. has_key_value_name ds (1 + n) d) (sym is) ∙ p.told_apart n d within))
+
 -- ---- targets
 
 shape_is_something : (s : table.Shape) → kind_of_shape s ≢ nothing
 shape_is_something (table.Shape.structure ms) e = cc
+shape_is_something (table.Shape.union ms) e = cc
 shape_is_something (table.Shape.list l) e = cc
+shape_is_something (table.Shape.map m) e = cc
 
 slice_get_at : {X : Type 0} (xs : List X) (n : ℕ) (d : X) → n < length xs → slice_get xs n ≡ Some (get_or xs n d)
 slice_get_at [] n d within = absurd (omega arith)
@@ -256,15 +288,18 @@ member_known : (ds : List Decl) (ms : List MemberDecl) → list_any (has_unknown
 member_known ds ms known inner None found = absurd (let e : None ≡ Some inner = found in cc)
 member_known ds ms known inner (Some k) found = member_found ds ms known inner k found (slice_get ms k) refl
 
+only_place_known : (ds : List Decl) (p : PlaceWords) (inner : Place) → Some (place_of ds p) ≡ Some inner → list_any (has_unknown_target ds) (p ∷ []) ≡ false
+    → kind_of (table_from ds) inner ≢ nothing
+only_place_known ds p inner found known =
+    let P : Place → Type 0 = λ p. kind_of (table_from ds) p ≢ nothing in
+    subst P (some_equal (place_of ds p) inner found) (known_is_something ds p (or_false (has_unknown_target ds p) false known).0)
+
 place_known : (ds : List Decl) (form : Form) → list_any (has_unknown_target ds) (places_of form) ≡ false
     → (inner : Place) (n : Option ℕ) → place_in (kind_of_shape (shape_of ds form)) n ≡ Some inner → kind_of (table_from ds) inner ≢ nothing
 place_known ds (structure ms) known inner n found = member_known ds ms known inner n found
 place_known ds (union ms) known inner n found = member_known ds ms known inner n found
-place_known ds (map_form m) known inner n found = member_known ds [] refl inner n found
-place_known ds (list l) known inner n found =
-    let P : Place → Type 0 = λ p. kind_of (table_from ds) p ≢ nothing in
-    subst P (some_equal (place_of ds (place_of_elements l)) inner found)
-    (known_is_something ds (place_of_elements l) (or_false (has_unknown_target ds (place_of_elements l)) false known).0)
+place_known ds (list l) known inner n found = only_place_known ds (place_of_elements l) inner found known
+place_known ds (map_form m) known inner n found = only_place_known ds (place_of_values m) inner found known
 
 closed : (ds : List Decl) → Passes ds → IsClosed (table_from ds)
 closed ds p outer inner n = of_place ds (λ kind. place_in kind n ≡ Some inner → kind_of (table_from ds) inner ≢ nothing)
@@ -284,4 +319,5 @@ accepted_table ds none texts =
       names_are_texts = texts;
       members_are_accepted = members_in_table ds p;
       element_names_fit = elements_in_table ds p;
+      entry_names_are_accepted = entry_names_in_table ds p;
     }

@@ -48,7 +48,7 @@ members_placed ds (m ∷ ms) = ap (λ more. member_of ds m ∷ more) (members_pl
 
 shape_placed : (ds : List Decl) (form : Form) → shape_with form (map (place_of ds) (places_of form)) ≡ shape_of ds form
 shape_placed ds (structure ms) = ap table.Shape.structure (members_placed ds ms)
-shape_placed ds (union ms) = ap table.Shape.structure (members_placed ds ms)
+shape_placed ds (union ms) = ap table.Shape.union (members_placed ds ms)
 shape_placed ds (list l) = refl
 shape_placed ds (map_form m) = refl
 

@@ -4,6 +4,7 @@ mod Closed
 mod Positions
 mod MeaningFacts
 pub mod WritingLemmas
+pub mod OpenLemmas
 mod TableTextLemmas
 mod OrderLemmas
 mod AcceptanceLemmas

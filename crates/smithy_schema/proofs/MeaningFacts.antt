@@ -1,13 +1,15 @@
 -- Examples of what entries mean together, and of tables and views, by computing.
-use Rattle.std.proofs.Common.{◌≡◌, ℕ, List, [], ◌∷◌, map, Bool, true, false, Option, Some, None, option_map, refl, pos, neg_ℤ, codes, ◌+◌, ◌-◌, ◌^◌}
+use Rattle.std.proofs.Common.{◌≡◌, ℕ, List, [], ◌∷◌, map, Bool, true, false, Option, Some, None, option_map, refl, pos, neg_ℤ, codes, ◌+◌, ◌-◌, ◌^◌, Result, Ok, Err}
+use Rattle.smithy_schema.specs.declared.error.SerdeError.{SerdeError}
+use Rattle.smithy_schema.specs.declared.error.SerdeError.TheVariants.{Unwritable}
 use Rattle.smithy_schema.specs.declared.shape_type.Scalar.TheVariants as scalars
 use Rattle.smithy_schema.specs.Table as table
-use Rattle.smithy_schema.specs.Table.{Table, Member, ListShape, Kind, scalar, structure_of, list_of, nothing, kind_of, place_in, position_named, json_name_of, query_name_of, element_name_of, declared_as, scalar_place, shape_place}
-use Rattle.smithy_schema.specs.Value.{ScalarValue, boolean, Value, scalar_value, whole, text, list, structure, null_element, no_values, value, no_member_values, member_value}
+use Rattle.smithy_schema.specs.Table.{Table, Member, ListShape, MapShape, Kind, scalar, structure_of, union_of, list_of, map_of, nothing, kind_of, place_in, is_sparse, position_named, json_name_of, query_name_of, element_name_of, key_name_of, value_name_of, declared_as, scalar_place, shape_place}
+use Rattle.smithy_schema.specs.Value.{ScalarValue, boolean, Value, scalar_value, whole, text, list, map as map_value, structure, union, null_element, no_values, value, no_map_entries, map_entry, no_member_values, member_value}
 use Rattle.smithy_schema.specs.Fits.{is_of}
 use Rattle.smithy_schema.specs.Container.{Entry, container_of}
-use Rattle.smithy_schema.specs.Site.{shape_site, member_site, element_site, nameless_site, member_named, element_of, member_of}
-use Rattle.smithy_schema.specs.Writing.{begin_structure, end_structure, begin_list, end_list, null_of, scalar_of, events}
+use Rattle.smithy_schema.specs.Site.{Site, shape_site, member_site, element_site, inner_site, key_site, nameless_site, member_named, element_of, key_of, value_of, member_of}
+use Rattle.smithy_schema.specs.Writing.{Open, open_structure, open_list, open_map_at_key, open_map_at_value, Event, begin_structure, end_structure, begin_list, end_list, begin_map, end_map, null_of, scalar_of, events, open_after, run}
 
 -- ---- entries and kinds
 
@@ -116,13 +118,70 @@ no_elements = refl
 pub no_absent_elements : container_of (of_list false) (absent None None ∷ []) ≡ None
 no_absent_elements = refl
 
+-- ---- unions
+
+abbrev of_union : List Entry → Option Value
+of_union = container_of (union_of [])
+
+-- an entry that marks the variant, and one that names no member
+abbrev mark : Bool → Entry
+mark is_skippable = present (Some (codes "__type")) None None is_skippable
+
+abbrev unknown : Entry
+unknown = present (Some (codes "b")) None None true
+
+-- exactly one member, however often a mark or what is absent stands beside it
+pub one_variant : map of_union ((sets 1 5 ∷ []) ∷ (mark true ∷ sets 1 5 ∷ absent (Some (codes "c")) None ∷ mark true ∷ []) ∷ [])
+    ≡ Some (union 1 (scalar_value (whole (pos 5)))) ∷ Some (union 1 (scalar_value (whole (pos 5)))) ∷ []
+one_variant = refl
+
+-- none, two, one member twice, an entry that names none beside it, a mark that can't be skipped, a key that is no text
+pub no_variant : map of_union ([] ∷ (mark true ∷ []) ∷ (sets 0 1 ∷ sets 1 2 ∷ []) ∷ (sets 0 1 ∷ sets 0 1 ∷ []) ∷ (unknown ∷ sets 0 1 ∷ [])
+    ∷ (mark false ∷ sets 0 1 ∷ []) ∷ (absent None None ∷ sets 0 1 ∷ []) ∷ (present (Some (codes "a")) (Some 0) None true ∷ []) ∷ [])
+    ≡ None ∷ None ∷ None ∷ None ∷ None ∷ None ∷ None ∷ None ∷ []
+no_variant = refl
+
+-- where `__type` names a member it is one
+pub type_member : of_union (present (Some (codes "__type")) (Some 0) (Some (scalar_value (whole (pos 1)))) true ∷ []) ≡ Some (union 0 (scalar_value (whole (pos 1))))
+type_member = refl
+
+-- ---- maps
+
+abbrev of_map : Bool → List Entry → Option Value
+of_map is_sparse = container_of (map_of (record { place = scalar_place scalars.Long None; is_sparse = is_sparse; key_name = None; value_name = None }))
+
+-- an entry with a key and a number, and one with a null
+abbrev at_key : List ℕ → ℕ → Entry
+at_key key n = present (Some key) None (Some (scalar_value (whole (pos n)))) true
+
+abbrev null_at : List ℕ → Entry
+null_at key = record (child None true) { key = Some key }
+
+-- keys come in byte order, and of equal ones the last counts
+pub entries_in_order : of_map false (at_key (codes "b") 1 ∷ at_key (codes "a") 2 ∷ at_key [] 4 ∷ at_key (codes "b") 3 ∷ [])
+    ≡ Some (map_value (map_entry [] (scalar_value (whole (pos 4))) (map_entry (codes "a") (scalar_value (whole (pos 2))) (map_entry (codes "b") (scalar_value (whole (pos 3))) no_map_entries))))
+entries_in_order = refl
+
+-- a null is a value of a sparse map alone, also where a later entry has its key
+pub null_values : map (λ is_sparse. of_map is_sparse (null_at (codes "a") ∷ at_key (codes "b") 1 ∷ [])) (true ∷ false ∷ [])
+    ≡ Some (map_value (map_entry (codes "a") null_element (map_entry (codes "b") (scalar_value (whole (pos 1))) no_map_entries))) ∷ None ∷ []
+null_values = refl
+
+pub null_before_a_value : of_map false (null_at (codes "a") ∷ at_key (codes "a") 1 ∷ []) ≡ None
+null_before_a_value = refl
+
+-- each key is a text, and each entry has to mean something
+pub no_map : map (of_map true) ((child (Some (scalar_value (whole (pos 1)))) false ∷ []) ∷ (present (Some (codes "a")) None None true ∷ []) ∷ []) ≡ None ∷ None ∷ []
+no_map = refl
+
 -- scalars have no entries
 pub no_containers : map (λ kind. container_of kind []) (scalar scalars.Long ∷ scalar scalars.String ∷ nothing ∷ []) ≡ None ∷ None ∷ None ∷ []
 no_containers = refl
 
 -- ---- tables
 
--- structure S / member a long xml=x / member ab string json=a flat / list L S sparse xml=e / list P string
+-- structure S / member a long xml=x / member ab string json=a flat / list L S sparse xml=e / list P string / union U / member ab
+-- string json=a flat / map M L sparse key=k
 abbrev first : Member
 first = record { name = codes "a"; json_name = None; xml_name = Some (codes "x"); is_flat = false; place = scalar_place scalars.Long None }
 
@@ -135,14 +194,28 @@ items = record { place = shape_place 0; is_sparse = true; xml_name = Some (codes
 abbrev plain : ListShape
 plain = record { place = scalar_place scalars.String None; is_sparse = false; xml_name = None }
 
+abbrev by_key : MapShape
+by_key = record { place = shape_place 1; is_sparse = true; key_name = Some (codes "k"); value_name = None }
+
 abbrev shapes : Table
 shapes = record { name = codes "S"; shape = table.structure (first ∷ second ∷ []) }
     ∷ record { name = codes "L"; shape = table.list items }
-    ∷ record { name = codes "P"; shape = table.list plain } ∷ []
+    ∷ record { name = codes "P"; shape = table.list plain }
+    ∷ record { name = codes "U"; shape = table.union (second ∷ []) }
+    ∷ record { name = codes "M"; shape = table.map by_key } ∷ []
 
-pub kinds : map (kind_of shapes) (shape_place 0 ∷ shape_place 1 ∷ shape_place 2 ∷ shape_place 3 ∷ scalar_place scalars.Long None ∷ [])
-    ≡ structure_of (first ∷ second ∷ []) ∷ list_of items ∷ list_of plain ∷ nothing ∷ scalar scalars.Long ∷ []
+pub kinds : map (kind_of shapes) (shape_place 0 ∷ shape_place 1 ∷ shape_place 2 ∷ shape_place 3 ∷ shape_place 4 ∷ shape_place 5 ∷ scalar_place scalars.Long None ∷ [])
+    ≡ structure_of (first ∷ second ∷ []) ∷ list_of items ∷ list_of plain ∷ union_of (second ∷ []) ∷ map_of by_key ∷ nothing ∷ scalar scalars.Long ∷ []
 kinds = refl
+
+-- a union has the places of its members, and a map one for all its values
+pub other_places : (map (place_in (kind_of shapes (shape_place 3))) (Some 0 ∷ Some 1 ∷ None ∷ []) ≡ Some (scalar_place scalars.String None) ∷ None ∷ None ∷ [])
+    × (place_in (kind_of shapes (shape_place 4)) None ≡ Some (shape_place 1))
+other_places = (refl, refl)
+
+-- lists and maps are sparse where they say so
+pub sparse_kinds : map (λ n. is_sparse (kind_of shapes (shape_place n))) (0 ∷ 1 ∷ 2 ∷ 3 ∷ 4 ∷ []) ≡ false ∷ true ∷ false ∷ false ∷ true ∷ []
+sparse_kinds = refl
 
 pub places : map (λ n. place_in (kind_of shapes (shape_place 0)) n) (Some 0 ∷ Some 1 ∷ Some 2 ∷ None ∷ [])
     ≡ Some (scalar_place scalars.Long None) ∷ Some (scalar_place scalars.String None) ∷ None ∷ None ∷ []
@@ -157,7 +230,8 @@ positions = refl
 pub other_names : (map json_name_of (first ∷ second ∷ []) ≡ codes "a" ∷ codes "a" ∷ [])
     × (map query_name_of (first ∷ second ∷ []) ≡ codes "x" ∷ codes "ab" ∷ [])
     × (map element_name_of (items ∷ plain ∷ []) ≡ codes "e" ∷ codes "member" ∷ [])
-other_names = (refl, refl, refl)
+    × (key_name_of by_key ≡ codes "k") × (value_name_of by_key ≡ codes "value")
+other_names = (refl, refl, refl, refl, refl)
 
 pub declarations : map (declared_as shapes) (codes "S" ∷ codes "L" ∷ codes "P" ∷ codes "s" ∷ codes "SL" ∷ [])
     ≡ Some 0 ∷ Some 1 ∷ Some 2 ∷ None ∷ None ∷ []
@@ -174,6 +248,16 @@ member_sites = (refl, refl, refl)
 pub element_sites : (element_site (shape_site shapes 1) ≡ Some (record { table = shapes; place = shape_place 0; view = record { name = Some (codes "member"); index = None; json_name = None; xml_name = Some (codes "e"); is_flat = false } }))
     × (element_site (shape_site shapes 0) ≡ None)
 element_sites = (refl, refl)
+
+-- a map's values stand under `value`, and its keys, which are strings, under `key`; a list has no keys
+pub entry_sites : (inner_site (shape_site shapes 4) ≡ Some (record { table = shapes; place = shape_place 1; view = record { name = Some (codes "value"); index = None; json_name = None; xml_name = None; is_flat = false } }))
+    × (key_site (shape_site shapes 4) ≡ Some (record { table = shapes; place = scalar_place scalars.String None; view = record { name = Some (codes "key"); index = None; json_name = None; xml_name = Some (codes "k"); is_flat = false } }))
+    × (inner_site (shape_site shapes 1) ≡ element_site (shape_site shapes 1)) × (key_site (shape_site shapes 1) ≡ None)
+entry_sites = (refl, refl, refl, refl)
+
+-- a union's member is seen as a structure's is
+pub variant_site : member_site (shape_site shapes 3) 0 ≡ Some (record { table = shapes; place = scalar_place scalars.String None; view = record { name = Some (codes "ab"); index = Some 0; json_name = Some (codes "a"); xml_name = None; is_flat = true } })
+variant_site = refl
 
 -- a view without a name keeps its other names and its place
 pub without_name : option_map nameless_site (member_site (shape_site shapes 0) 1)
@@ -218,3 +302,48 @@ events_of_list = refl
 
 pub site_of_elements : Some (element_of (shape_site shapes 1)) ≡ option_map nameless_site (element_site (shape_site shapes 1))
 site_of_elements = refl
+
+-- a union is a structure with one member
+pub events_of_union : events (shape_site shapes 3) (union 0 (scalar_value (text (codes "x"))))
+    ≡ begin_structure (shape_site shapes 3) ∷ scalar_of (member_of (shape_site shapes 3) 0) (text (codes "x")) ∷ end_structure ∷ []
+events_of_union = refl
+
+-- a map with its count: of each entry the key, and then its value without a name
+pub events_of_map : events (shape_site shapes 4) (map_value (map_entry (codes "a") null_element (map_entry (codes "b") (list no_values) no_map_entries)))
+    ≡ begin_map (shape_site shapes 4) (Some 2) ∷ scalar_of (key_of (shape_site shapes 4)) (text (codes "a")) ∷ null_of (value_of (shape_site shapes 4))
+    ∷ scalar_of (key_of (shape_site shapes 4)) (text (codes "b")) ∷ begin_list (value_of (shape_site shapes 4)) (Some 0) ∷ end_list ∷ end_map ∷ []
+events_of_map = refl
+
+pub site_of_values : Some (value_of (shape_site shapes 4)) ≡ option_map nameless_site (inner_site (shape_site shapes 4))
+site_of_values = refl
+
+-- ---- open containers
+
+-- the calls, and the containers that are open behind them
+abbrev behind : List Event → List Open → Result (List Open) SerdeError
+behind = run open_after
+
+abbrev at : Site
+at = shape_site shapes 4
+
+abbrev key : Event
+key = scalar_of at (text (codes "k"))
+
+abbrev number : Event
+number = scalar_of at (whole (pos 1))
+
+-- in a map a key and its value come in turn, and a text is both
+pub in_turn : map (λ calls. behind calls []) ((begin_map at None ∷ []) ∷ (begin_map at None ∷ key ∷ []) ∷ (begin_map at None ∷ key ∷ key ∷ []) ∷ (begin_map at None ∷ key ∷ begin_list at None ∷ []) ∷ (begin_map at None ∷ key ∷ null_of at ∷ end_map ∷ []) ∷ [])
+    ≡ Ok (open_map_at_key ∷ []) ∷ Ok (open_map_at_value ∷ []) ∷ Ok (open_map_at_key ∷ []) ∷ Ok (open_list ∷ open_map_at_key ∷ []) ∷ Ok [] ∷ []
+in_turn = refl
+
+-- in a key's place nothing else comes
+pub no_key : map (λ call. behind (call ∷ []) (open_map_at_key ∷ [])) (number ∷ null_of at ∷ begin_list at None ∷ begin_map at None ∷ begin_structure at ∷ end_list ∷ end_structure ∷ [])
+    ≡ Err Unwritable ∷ Err Unwritable ∷ Err Unwritable ∷ Err Unwritable ∷ Err Unwritable ∷ Err Unwritable ∷ Err Unwritable ∷ []
+no_key = refl
+
+-- behind a key the map doesn't end, and no other container ends by its call
+pub no_end : (map (behind (end_map ∷ [])) ((open_map_at_value ∷ []) ∷ (open_list ∷ open_map_at_key ∷ []) ∷ (open_structure ∷ []) ∷ [] ∷ []) ≡ Err Unwritable ∷ Err Unwritable ∷ Err Unwritable ∷ Err Unwritable ∷ [])
+    × (map (behind (end_list ∷ [])) ((open_map_at_value ∷ []) ∷ (open_structure ∷ open_list ∷ []) ∷ [] ∷ []) ≡ Err Unwritable ∷ Err Unwritable ∷ Err Unwritable ∷ [])
+    × (map (behind (end_structure ∷ [])) ((open_map_at_value ∷ []) ∷ (open_list ∷ open_structure ∷ []) ∷ [] ∷ []) ≡ Err Unwritable ∷ Err Unwritable ∷ Err Unwritable ∷ [])
+no_end = (refl, refl, refl)

@@ -8,7 +8,7 @@ use Rattle.smithy_schema.specs.declared.place.Target.{Target}
 use Rattle.smithy_schema.specs.declared.place.Target.TheVariants.{Simple, Declared}
 use Rattle.smithy_schema.specs.declared.members.MemberShape.{MemberShape}
 use Rattle.smithy_schema.specs.declared.shapes.Shape.{Shape}
-use Rattle.smithy_schema.specs.declared.shapes.Shape.TheVariants.{Structure, List as Listed}
+use Rattle.smithy_schema.specs.declared.shapes.Shape.TheVariants.{Structure, Union, List as Listed, Map}
 use Rattle.smithy_schema.specs.declared.shapes.Declaration.{Declaration}
 use Rattle.smithy_schema.specs.Table as table
 use Rattle.smithy_schema.specs.Table.{Kind, nothing, kind_of, kind_of_target, kind_of_shape, members_of}
@@ -25,7 +25,9 @@ members_have (m ∷ ms) = ((IsUtf8-string_bytes m.name, json_name_is_text m.json
 
 shape_has : (s : Shape) → HaveTextNames (members_of (kind_of_shape (shape_of s)))
 shape_has (Structure members) = members_have members.items.items
+shape_has (Union members) = members_have members.items.items
 shape_has (Listed l) = tt
+shape_has (Map m) = tt
 
 declared_have : (ds : List Declaration) (n : ℕ)
     → HaveTextNames (members_of (option_map_or kind_of_shape (option_map (λ (d : table.Declaration). d.shape) (slice_get (map declaration_of ds) n)) nothing))

@@ -7,16 +7,14 @@ use Rattle.std.proofs.lemmas.Str.{IsUtf8-from_is_utf8}
 use Rattle.smithy_texts.specs.Ranges.{fits_signed}
 use Rattle.smithy_schema.specs.declared.shape_type.Scalar.{Scalar}
 use Rattle.smithy_schema.specs.declared.shape_type.Scalar.TheVariants as scalars
-use Rattle.smithy_schema.specs.Table.{Kind, scalar, structure_of, list_of, nothing}
+use Rattle.smithy_schema.specs.Table.{Kind, scalar}
 use Rattle.smithy_schema.specs.Value.{ScalarValue, whole, text}
 use Rattle.smithy_schema.specs.Fits.{is_of, is_scalar_of}
 
 -- where a scalar value stands, the kind is one of scalars
 pub scalar_kind : (k : Kind) (x : ScalarValue) → is_scalar_of k x ≡ true → (s : Scalar) × (k ≡ scalar s) × (is_of s x ≡ true)
 scalar_kind (scalar s) x h = (s, refl, h)
-scalar_kind (structure_of members) x h = cc
-scalar_kind (list_of l) x h = cc
-scalar_kind nothing x h = cc
+scalar_kind _ x h = cc
 
 -- ---- widths
 

@@ -7,7 +7,7 @@ use Rattle.smithy_schema.specs.declared.place.Target.{Target}
 use Rattle.smithy_schema.specs.declared.place.Target.TheVariants.{Simple, Declared}
 use Rattle.smithy_schema.specs.declared.shape_type.Scalar.TheVariants as scalars
 use Rattle.smithy_schema.specs.declared.shape_type.TimestampFormat.TheVariants.{EpochSeconds, HttpDate}
-use Rattle.smithy_schema.specs.Table.{Table, Member, ListShape, structure, list, declared_as}
+use Rattle.smithy_schema.specs.Table.{Table, Member, ListShape, MapShape, structure, union, list, map, declared_as}
 use Rattle.smithy_schema.specs.Decl.{Form}
 use Rattle.smithy_schema.specs.TableText.{line_feed, declarations_of, declarations}
 use Rattle.smithy_schema.specs.Acceptance.{Fault, accepted, refused, table_of, build_of, has_one_entry_name, is_too_many}
@@ -27,6 +27,9 @@ a_member name place = record { name = name; json_name = None; xml_name = None; i
 
 abbrev a_list : Place → ListShape
 a_list place = record { place = place; is_sparse = false; xml_name = None }
+
+abbrev a_map : Place → MapShape
+a_map place = record { place = place; is_sparse = false; key_name = None; value_name = None }
 
 abbrev empty_structure : Table
 empty_structure = record { name = codes "S"; shape = structure [] } ∷ []
@@ -75,6 +78,27 @@ pub list_options : table_of (lines ("list L string time=epoch-seconds xml=x spar
     } ∷ [])
 unfolding smithy_schema_on_literals
 list_options = refl
+
+-- and of a map
+pub map_options : table_of (lines ("map M string value=v time=http-date sparse key=k" ∷ []))
+    ≡ accepted (record {
+      name = codes "M";
+      shape = map (record {
+        place = record { target = Simple scalars.String; time = Some HttpDate };
+        is_sparse = true;
+        key_name = Some (codes "k");
+        value_name = Some (codes "v");
+      });
+    } ∷ [])
+unfolding smithy_schema_on_literals
+map_options = refl
+
+-- a union has members as a structure has, and a map of maps refers to itself
+pub unions_and_maps : table_of (lines ("union U" ∷ "member a long" ∷ "map M M" ∷ []))
+    ≡ accepted (record { name = codes "U"; shape = union (a_member (codes "a") (place (Simple scalars.Long)) ∷ []) }
+    ∷ record { name = codes "M"; shape = map (a_map (declared 1)) } ∷ [])
+unfolding smithy_schema_on_literals
+unions_and_maps = refl
 
 -- an empty line and a comment say nothing
 pub passed_over : table_of (lines ("" ∷ "# a  b" ∷ "structure S" ∷ "" ∷ [])) ≡ accepted empty_structure
@@ -170,15 +194,14 @@ pub no_blob_yet : table_of (lines ("structure S" ∷ "member a blob" ∷ [])) �
 unfolding smithy_schema_on_literals
 no_blob_yet = refl
 
--- nor a union
-pub no_union_yet : table_of (lines ("union U" ∷ [])) ≡ refused Fault.not_built 1
+-- nor can a union's member or a map's values have one
+pub no_document_yet : table_of (lines ("union U" ∷ "member a document" ∷ [])) ≡ refused Fault.not_built 1
 unfolding smithy_schema_on_literals
-no_union_yet = refl
+no_document_yet = refl
 
--- nor a map
-pub no_map_yet : table_of (lines ("structure S" ∷ "map M long" ∷ [])) ≡ refused Fault.not_built 2
+pub no_timestamp_yet : table_of (lines ("structure S" ∷ "map M timestamp" ∷ [])) ≡ refused Fault.not_built 2
 unfolding smithy_schema_on_literals
-no_map_yet = refl
+no_timestamp_yet = refl
 
 -- a target that is neither a scalar nor declared
 pub no_such_target : table_of (lines ("structure S" ∷ "member a b" ∷ [])) ≡ refused Fault.unknown_target 1
@@ -201,7 +224,7 @@ unfolding smithy_schema_on_literals
 double_target = refl
 
 -- what isn't built comes before a float
-pub unbuilt_before_float : table_of (lines ("list L float" ∷ "map M long" ∷ [])) ≡ refused Fault.not_built 2
+pub unbuilt_before_float : table_of (lines ("list L float" ∷ "map M blob" ∷ [])) ≡ refused Fault.not_built 2
 unfolding smithy_schema_on_literals
 unbuilt_before_float = refl
 
@@ -269,6 +292,18 @@ unfit_element_name = refl
 pub name_for_a_form : table_of (lines ("structure S" ∷ "member a.b long xml=x" ∷ [])) ≡ accepted (record { name = codes "S"; shape = structure (record (a_member (codes "a.b") (place (Simple scalars.Long))) { xml_name = Some (codes "x") } ∷ []) } ∷ [])
 unfolding smithy_schema_on_literals
 name_for_a_form = refl
+
+-- nor a name of a map's keys or values
+pub unfit_entry_names : list_map (λ line. table_of (lines (line ∷ []))) ("map M long key=a.b" ∷ "map M long value=a.b" ∷ [])
+    ≡ refused Fault.query_name 1 ∷ refused Fault.query_name 1 ∷ []
+unfolding smithy_schema_on_literals
+unfit_entry_names = refl
+
+-- keys and values of one name, which comes behind a name that can't stand in a form
+pub one_entry_name : list_map (λ ls. table_of (lines ls)) (("structure S" ∷ "map M long key=value" ∷ []) ∷ ("map M long key=k value=k" ∷ "list L long xml=." ∷ []) ∷ [])
+    ≡ refused Fault.key_value_name 2 ∷ refused Fault.query_name 2 ∷ []
+unfolding smithy_schema_on_literals
+one_entry_name = refl
 
 -- a map whose keys have the name of its values, as given or by default
 abbrev entry_names : Option (List ℕ) → Option (List ℕ) → Bool

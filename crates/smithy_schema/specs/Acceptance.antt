@@ -1,11 +1,11 @@
 -- Which declarations are a table: the tests in their order, and the table.
-use Rattle.std.specs.Prelude.{◌-◌, ◌==◌, ◌&&◌, ◌||◌, ℕ, nat_lt, List, [], ◌∷◌, length, take, map as list_map, find, position, Bool, true, false, not, Option, None, option_map, option_and_then, unwrap_or, codes, bytes_eq}
+use Rattle.std.specs.Prelude.{◌-◌, ◌==◌, ◌&&◌, ◌||◌, ℕ, nat_lt, List, [], ◌∷◌, length, take, map as list_map, find, position, Bool, false, not, Option, None, option_map, option_and_then, unwrap_or, codes, bytes_eq}
 use Rattle.std.specs.List.{list_all, list_any, enumerate_from}
 use Rattle.std.specs.Option.{option_map_or, option_or}
 use Rattle.smithy_schema.specs.declared.place.Place.{Place}
 use Rattle.smithy_schema.specs.declared.place.Target.{Target}
 use Rattle.smithy_schema.specs.declared.place.Target.TheVariants.{Simple, Declared}
-use Rattle.smithy_schema.specs.Table.{Member, Shape, Table, ListShape}
+use Rattle.smithy_schema.specs.Table.{Member, Shape, Table, ListShape, MapShape}
 use Rattle.smithy_schema.specs.Names.{scalar_names, time_formats, named, is_scalar_name, is_unbuilt_name, is_float_name, is_time_format, is_reserved, has_equal_texts, is_query_name}
 use Rattle.smithy_schema.specs.Decl.{PlaceWords, MemberDecl, ListDecl, MapDecl, Form, structure, union, list, map, Decl}
 use Rattle.smithy_schema.specs.TableText.{Lines, declarations, declarations_of}
@@ -94,10 +94,21 @@ list_shape_of decls l = record {
   xml_name = l.xml;
 }
 
--- the shape of a structure or a list; no other form is let pass yet
+-- a map of the table
+abbrev pub map_shape_of : List Decl → MapDecl → MapShape
+map_shape_of decls m = record {
+  place = place_of decls (place_of_values m);
+  is_sparse = m.is_sparse;
+  key_name = m.key;
+  value_name = m.value;
+}
+
+-- the shape that a form declares
 abbrev pub shape_of : List Decl → Form → Shape
+shape_of decls (structure ms) = Shape.structure (list_map (member_of decls) ms)
+shape_of decls (union ms) = Shape.union (list_map (member_of decls) ms)
 shape_of decls (list l) = Shape.list (list_shape_of decls l)
-shape_of decls form = Shape.structure (list_map (member_of decls) (members_of form))
+shape_of decls (map m) = Shape.map (map_shape_of decls m)
 
 -- the table of accepted declarations
 abbrev pub table_from : List Decl → Table
@@ -127,15 +138,9 @@ has_unknown_time p = option_map_or (λ word. not (is_time_format word)) p.time f
 abbrev pub Test : Type 0
 Test = List Decl → ℕ → Decl → Bool
 
--- a form that no table can have yet
-abbrev pub is_unbuilt_form : Form → Bool
-is_unbuilt_form (structure ms) = false
-is_unbuilt_form (list l) = false
-is_unbuilt_form _ = true
-
--- a form or a target that no table can have yet
-abbrev pub has_unbuilt_item : Test
-has_unbuilt_item decls n d = is_unbuilt_form d.form || list_any has_unbuilt_target (places_of d.form)
+-- a place whose target no table can have yet
+abbrev pub has_unbuilt_shape : Test
+has_unbuilt_shape decls n d = list_any has_unbuilt_target (places_of d.form)
 
 -- a place of a float
 abbrev pub has_float_shape : Test
@@ -187,7 +192,7 @@ pub data Fault : Type 0 where
 -- the tests after the lines, in the order in which they are made
 abbrev pub tests : List (Fault × Test)
 tests =
-    (not_built, has_unbuilt_item) ∷ (float_shape, has_float_shape) ∷ (unknown_target, has_unknown_shape)
+    (not_built, has_unbuilt_shape) ∷ (float_shape, has_float_shape) ∷ (unknown_target, has_unknown_shape)
     ∷ (unknown_time_format, has_unknown_time_format) ∷ (duplicate_shape, is_duplicate) ∷ (name_clash, has_clash)
     ∷ (query_name, has_unfit_name) ∷ (key_value_name, has_key_value_name) ∷ (too_many, is_too_many) ∷ []
 

@@ -1,12 +1,15 @@
 -- Which values are values of a place.
-use Rattle.std.specs.Prelude.{◌≡◌, ◌≤◌, ℕ, suc, Bool, true, false, Some, None}
+use Rattle.std.specs.Prelude.{◌≡◌, ◌≤◌, ℕ, suc, List, Bool, true, false, Some, None, IsUtf8}
+use Rattle.std.specs.declared.cmp.Ordering.TheVariants.{Less}
+use Rattle.std.specs.Ordering.{nat_cmp}
+use Rattle.std.specs.Cmp.Lexicographic.{slice_cmp}
 use Rattle.std.specs.Str.{is_utf8}
 use Rattle.smithy_texts.specs.Ranges.{fits_signed}
 use Rattle.smithy_schema.specs.declared.place.Place.{Place}
 use Rattle.smithy_schema.specs.declared.shape_type.Scalar.{Scalar}
 use Rattle.smithy_schema.specs.declared.shape_type.Scalar.TheVariants as scalars
-use Rattle.smithy_schema.specs.Table.{Table, Kind, scalar, kind_of, place_in, is_sparse, IsList, IsStructure}
-use Rattle.smithy_schema.specs.Value.{ScalarValue, boolean, whole, text, Value, scalar_value, list, structure, null_element, Values, no_values, value, MemberValues, no_member_values, member_value}
+use Rattle.smithy_schema.specs.Table.{Table, Kind, scalar, kind_of, place_in, is_sparse, IsList, IsMap, IsStructure, IsUnion}
+use Rattle.smithy_schema.specs.Value.{ScalarValue, boolean, whole, text, Value, scalar_value, list, map, structure, union, null_element, Values, no_values, value, MapEntries, no_map_entries, map_entry, MemberValues, no_member_values, member_value}
 
 -- the scalar values of a kind
 abbrev pub is_of : Scalar → ScalarValue → Bool
@@ -28,13 +31,28 @@ abbrev pub AscendFrom : ℕ → MemberValues → Type 0
 AscendFrom least no_member_values = Unit {0}
 AscendFrom least (member_value n v ms) = (least ≤ n) × AscendFrom (suc n) ms
 
+-- the first key, if there is one, is above this one in byte order, and so on
+abbrev pub KeysAscendAbove : List ℕ → MapEntries → Type 0
+KeysAscendAbove key no_map_entries = Unit {0}
+KeysAscendAbove key (map_entry at v es) = (slice_cmp nat_cmp key at ≡ Less) × KeysAscendAbove at es
+
+-- the keys ascend, each once
+abbrev pub KeysAscend : MapEntries → Type 0
+KeysAscend no_map_entries = Unit {0}
+KeysAscend (map_entry key v es) = KeysAscendAbove key es
+
 -- The value is one of the place, or a null element where one may stand.
 abbrev mutual
   pub FitsOr : Table → Place → Bool → Value → Type 0
   FitsOr table place nulls (scalar_value x) = is_scalar_of (kind_of table place) x ≡ true
   FitsOr table place nulls (list vs) = IsList (kind_of table place) × ElementsFit table (kind_of table place) vs
+  FitsOr table place nulls (map es) =
+      IsMap (kind_of table place) × EntriesFit table (kind_of table place) es × KeysAscend es
   FitsOr table place nulls (structure ms) =
       IsStructure (kind_of table place) × MembersFit table (kind_of table place) ms × AscendFrom 0 ms
+  FitsOr table place nulls (union n v) =
+      IsUnion (kind_of table place)
+      × ((inner : Place) × (place_in (kind_of table place) (Some n) ≡ Some inner) × FitsOr table inner false v)
   FitsOr table place nulls null_element = nulls ≡ true
 
   -- the elements of a list: a null stands only where it is sparse
@@ -43,6 +61,14 @@ abbrev mutual
   ElementsFit table kind (value v vs) =
       ((place : Place) × (place_in kind None ≡ Some place) × FitsOr table place (is_sparse kind) v)
       × ElementsFit table kind vs
+
+  -- the entries of a map: a key is a text, and a null stands only where the map is sparse
+  pub EntriesFit : Table → Kind → MapEntries → Type 0
+  EntriesFit table kind no_map_entries = Unit {0}
+  EntriesFit table kind (map_entry key v es) =
+      IsUtf8 key
+      × ((place : Place) × (place_in kind None ≡ Some place) × FitsOr table place (is_sparse kind) v)
+      × EntriesFit table kind es
 
   -- the members of a structure: each is one that it has
   pub MembersFit : Table → Kind → MemberValues → Type 0

@@ -4,5 +4,7 @@ pub mod Options
 pub mod Kinds
 pub mod ElementFolds
 pub mod Entries
+pub mod Variants
 pub mod Ascending
+pub mod AscendingKeys
 pub mod Fitting

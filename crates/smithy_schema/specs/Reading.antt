@@ -6,7 +6,7 @@ use Rattle.smithy_schema.specs.declared.read.Step.{Step}
 use Rattle.smithy_schema.specs.declared.read.Step.TheVariants.{Member as ToMember, Unknown, End}
 use Rattle.smithy_schema.specs.declared.error.SerdeError.{SerdeError}
 use Rattle.smithy_schema.specs.declared.error.SerdeError.TheVariants.{InvalidInput, TooDeep, Unwritable, Failed, NoMemory}
-use Rattle.smithy_schema.specs.Table.{Table, Kind, scalar, structure_of, list_of, nothing, kind_of, place_in, scalar_place, IsStructure, IsSparse}
+use Rattle.smithy_schema.specs.Table.{Table, Kind, structure_of, union_of, list_of, map_of, kind_of, place_in, scalar_place, IsStructure, IsSparse}
 use Rattle.smithy_schema.specs.Value.{ScalarValue, Value, scalar_value}
 use Rattle.smithy_schema.specs.Fits.{Fits}
 use Rattle.smithy_schema.specs.Container.{Entry, container_of}
@@ -25,8 +25,10 @@ pub record Mark : Type 0 where
 
 pub data Within : Type 0 where
   outside : Within
+  -- in a structure or in a union
   in_structure : Within
   in_list : Within
+  in_map : Within
 
 pub record Frame : Type 0 where
   pub within : Within
@@ -108,7 +110,7 @@ entry_of (child_unknown key) = record {
 abbrev pub named : Relations → Table → Place → Option (List ℕ) → Option ℕ
 named w t p key = option_and_then (w.position t p) key
 
--- from c to f is this child, behind a step with the key
+-- from c to f is this child, behind a step with the key: only a structure has entries that name no member
 abbrev pub IsChild : Relations → List ℕ → Table → Place → ℕ → Option (List ℕ) → Child → ℕ → ℕ → Type 0
 IsChild w i t p d key (child_value k n v) c f =
     (k ≡ key) × (n ≡ named w t p key)
@@ -135,10 +137,11 @@ pub record Contains (w : Relations) (i : List ℕ) (t : Table) (p : Place) (d a 
   pub means : container_of (kind_of t p) (map entry_of children) ≡ Some v
 
 abbrev pub IsContainer : Kind → Type 0
-IsContainer (scalar s) = ⊥
 IsContainer (structure_of members) = Unit {0}
+IsContainer (union_of members) = Unit {0}
 IsContainer (list_of l) = Unit {0}
-IsContainer nothing = ⊥
+IsContainer (map_of m) = Unit {0}
+IsContainer _ = ⊥
 
 -- ---- laws
 
@@ -159,6 +162,9 @@ pub record IsLawful (w : Relations) : Type 0 where
       → w.stands i t p d a v e → (a < e) ⊎ ((a ≡ e) × (e ≡ length i) × IsStructure (kind_of t p))
   pub stands_within : (i : List ℕ) (t : Table) (p : Place) (d a : ℕ) (v : Value) (e : ℕ)
       → w.stands i t p d a v e → (a ≤ e) × (e ≤ length i)
+  -- an inside is past its start, but for a structure that is read at the end of the input
+  pub opens_ahead : (i : List ℕ) (t : Table) (p : Place) (d a b : ℕ) (m : Mark)
+      → w.opens i t p d a b m → (a < b) ⊎ ((a ≡ b) × (b ≡ length i) × IsStructure (kind_of t p))
   pub nulls_within : (i : List ℕ) (d a e : ℕ) → w.nulls i d a e → (a < e) × (e ≤ length i)
   pub skips_within : (i : List ℕ) (d a e : ℕ) → w.skips i d a e → (a < e) × (e ≤ length i)
   -- a step with its child leaves less to read
@@ -179,6 +185,9 @@ pub record IsLawful (w : Relations) : Type 0 where
   pub null_begins : (i : List ℕ) (d a e : ℕ) → w.nulls i d a e → w.begins_null i a ≡ true
   pub value_begins : (i : List ℕ) (t : Table) (p : Place) (d a : ℕ) (v : Value) (e : ℕ)
       → w.stands i t p d a v e → w.begins_null i a ≡ false
+  -- an empty input opens and ends a structure at position 0
+  pub empty_structure : (t : Table) (p : Place) (d : ℕ) → IsStructure (kind_of t p)
+      → (m : Mark) × w.opens [] t p d 0 0 m × w.closes [] t p (suc d) 0 m 0
 
 -- with the limits kept: what stands is a value of its place
 pub record StandsFit (w : Relations) : Type 0 where
@@ -345,7 +354,7 @@ CannotGoOn w c t p =
     ((key : Option (List ℕ)) (b : ℕ) (n : Mark) → w.steps c.input t p (depth c) c.at c.inner.mark key b n → ⊥)
     × ((e : ℕ) → w.closes c.input t p (depth c) c.at c.inner.mark e → ⊥)
 
--- the step goes on to a member, whose schema it has, or to an unknown entry, or leaves the structure
+-- the step goes on to a member, whose schema it has, or to an unknown entry, or leaves the structure or union
 abbrev pub MatchStep : Step → Relations → Cursor → Cursor → Site → Type 0
 MatchStep (ToMember s) w old new outer =
     (key : List ℕ) × (n : ℕ) × Steps w old new outer.table outer.place (Some key)

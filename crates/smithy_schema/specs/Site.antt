@@ -1,14 +1,15 @@
 -- What a schema tells: its place, and the names and marks under which the value stands there.
 use Rattle.std.specs.Prelude.{ℕ, List, Bool, false, Option, Some, None, map, option_map, option_and_then, slice_get, unwrap_or, codes, if◌then◌else◌}
 use Rattle.std.specs.List.{enumerate_from}
-use Rattle.std.specs.Option.{option_map_or}
+use Rattle.std.specs.Option.{option_map_or, option_or}
 use Rattle.smithy_schema.specs.declared.place.Place.{Place}
 use Rattle.smithy_schema.specs.declared.schema.Schema.{Schema}
 use Rattle.smithy_schema.specs.declared.schema.Origin.{Origin}
-use Rattle.smithy_schema.specs.declared.schema.Origin.TheVariants.{Whole, MemberOf, ElementOf}
-use Rattle.smithy_schema.specs.Table.{Table, Member, ListShape, Kind, kind_of, shape_place, members_of, list_shape_of, position_named}
+use Rattle.smithy_schema.specs.declared.schema.Origin.TheVariants.{Whole, MemberOf, ElementOf, KeyOf, ValueOf}
+use Rattle.smithy_schema.specs.declared.shape_type.Scalar.TheVariants as scalars
+use Rattle.smithy_schema.specs.Table.{Table, Member, ListShape, MapShape, Kind, kind_of, scalar_place, shape_place, members_of, list_shape_of, map_shape_of, position_named}
 
--- the names and marks of a member, of an element, or of a shape as a whole, which has none
+-- the names and marks of a member, of an element, of a map's key or value, or of a shape as a whole, which has none
 pub record View : Type 0 where
   pub name : Option (List ℕ)
   -- the position of a member, from 0
@@ -46,6 +47,26 @@ element_view l = record {
   is_flat = false;
 }
 
+-- the keys of a map stand under the name `key`
+abbrev pub key_view : MapShape → View
+key_view m = record {
+  name = Some (codes "key");
+  index = None;
+  json_name = None;
+  xml_name = m.key_name;
+  is_flat = false;
+}
+
+-- the values of a map stand under the name `value`
+abbrev pub value_view : MapShape → View
+value_view m = record {
+  name = Some (codes "value");
+  index = None;
+  json_name = None;
+  xml_name = m.value_name;
+  is_flat = false;
+}
+
 -- the view of a member by its position, where there is one
 abbrev pub view_of_member : Kind → ℕ → View
 view_of_member kind n = option_map_or (member_view n) (slice_get (members_of kind) n) whole_view
@@ -54,11 +75,22 @@ view_of_member kind n = option_map_or (member_view n) (slice_get (members_of kin
 abbrev pub view_of_element : Kind → View
 view_of_element kind = option_map_or element_view (list_shape_of kind) whole_view
 
--- the view of a declaration as a whole, of a member of one by its position, of the elements of a list
+-- the view of a map's keys, where there is a map
+abbrev pub view_of_key : Kind → View
+view_of_key kind = option_map_or key_view (map_shape_of kind) whole_view
+
+-- the view of a map's values, where there is a map
+abbrev pub view_of_value : Kind → View
+view_of_value kind = option_map_or value_view (map_shape_of kind) whole_view
+
+-- the view of a declaration as a whole, of a member of one by its position, of a list's elements, of a map's
+-- keys and values
 abbrev pub view_at : Table → Origin → View
 view_at table Whole = whole_view
 view_at table (MemberOf n position) = view_of_member (kind_of table (shape_place n)) position
 view_at table (ElementOf n) = view_of_element (kind_of table (shape_place n))
+view_at table (KeyOf n) = view_of_key (kind_of table (shape_place n))
+view_at table (ValueOf n) = view_of_value (kind_of table (shape_place n))
 
 -- a table, a place of it, and the view under which the place is seen
 pub record Site : Type 0 where
@@ -100,6 +132,26 @@ site_of_element table l = record { table = table; place = l.place; view = elemen
 abbrev pub element_site : Site → Option Site
 element_site outer = option_map (site_of_element outer.table) (list_shape_of (kind_at outer))
 
+-- the site of a map's keys, which are strings
+abbrev pub site_of_key : Table → MapShape → Site
+site_of_key table m = record { table = table; place = scalar_place scalars.String None; view = key_view m }
+
+-- the site of a map's values
+abbrev pub site_of_value : Table → MapShape → Site
+site_of_value table m = record { table = table; place = m.place; view = value_view m }
+
+-- the site of the keys of a map
+abbrev pub key_site : Site → Option Site
+key_site outer = option_map (site_of_key outer.table) (map_shape_of (kind_at outer))
+
+-- the site of the values of a map
+abbrev pub value_site : Site → Option Site
+value_site outer = option_map (site_of_value outer.table) (map_shape_of (kind_at outer))
+
+-- the site of the elements of a list, or of the values of a map
+abbrev pub inner_site : Site → Option Site
+inner_site outer = option_or (element_site outer) (value_site outer)
+
 -- the same site without a name
 abbrev pub nameless_site : Site → Site
 nameless_site site = record site { view = nameless site.view }
@@ -107,6 +159,14 @@ nameless_site site = record site { view = nameless site.view }
 -- the site at which a list's elements are written: they have no name there
 abbrev pub element_of : Site → Site
 element_of site = option_map_or nameless_site (element_site site) site
+
+-- the site at which a map's keys are written
+abbrev pub key_of : Site → Site
+key_of site = unwrap_or (key_site site) site
+
+-- the site at which a map's values are written: they have no name there
+abbrev pub value_of : Site → Site
+value_of site = option_map_or nameless_site (value_site site) site
 
 -- the site at which the member at a position is written
 abbrev pub member_of : Site → ℕ → Site

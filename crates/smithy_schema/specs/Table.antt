@@ -1,5 +1,5 @@
 -- Tables of shapes as plain data, and what stands at a place of one.
-use Rattle.std.specs.Prelude.{◌≡◌, ◌≢◌, ℕ, List, [], Bool, true, false, Option, Some, None, option_map, slice_get, unwrap_or, codes, bytes_eq, position as first_position}
+use Rattle.std.specs.Prelude.{◌≡◌, ◌≢◌, ℕ, List, [], Bool, true, false, Option, Some, None, option_map, option_and_then, slice_get, unwrap_or, codes, bytes_eq, position as first_position}
 use Rattle.std.specs.Option.{option_map_or}
 use Rattle.smithy_schema.specs.declared.place.Place.{Place}
 use Rattle.smithy_schema.specs.declared.place.Target.{Target}
@@ -10,7 +10,7 @@ use Rattle.smithy_schema.specs.declared.shape_type.ShapeType.{ShapeType}
 use Rattle.smithy_schema.specs.declared.shape_type.ShapeType.TheVariants as types
 use Rattle.smithy_schema.specs.declared.shape_type.TimestampFormat.{TimestampFormat}
 
--- a member of a structure; the two names are there where they are given
+-- a member of a structure or a union; the two names are there where they are given
 pub record Member : Type 0 where
   pub name : List ℕ
   pub json_name : Option (List ℕ)
@@ -24,10 +24,19 @@ pub record ListShape : Type 0 where
   pub is_sparse : Bool
   pub xml_name : Option (List ℕ)
 
+-- the values of a map, and the names that its keys and values have in a form, where they are given
+pub record MapShape : Type 0 where
+  pub place : Place
+  pub is_sparse : Bool
+  pub key_name : Option (List ℕ)
+  pub value_name : Option (List ℕ)
+
 -- what a declaration declares
 pub data Shape : Type 0 where
   structure : List Member → Shape
+  union : List Member → Shape
   list : ListShape → Shape
+  map : MapShape → Shape
 
 -- a shape under its name
 pub record Declaration : Type 0 where
@@ -50,6 +59,14 @@ query_name_of m = unwrap_or m.xml_name m.name
 abbrev pub element_name_of : ListShape → List ℕ
 element_name_of l = unwrap_or l.xml_name (codes "member")
 
+-- the name of a map's keys in a form
+abbrev pub key_name_of : MapShape → List ℕ
+key_name_of m = unwrap_or m.key_name (codes "key")
+
+-- the name of a map's values in a form
+abbrev pub value_name_of : MapShape → List ℕ
+value_name_of m = unwrap_or m.value_name (codes "value")
+
 -- the number of the first declaration of this name
 abbrev pub declared_as : Table → List ℕ → Option ℕ
 declared_as table name = first_position (λ (d : Declaration). bytes_eq d.name name) table
@@ -58,13 +75,17 @@ declared_as table name = first_position (λ (d : Declaration). bytes_eq d.name n
 pub data Kind : Type 0 where
   scalar : Scalar → Kind
   structure_of : List Member → Kind
+  union_of : List Member → Kind
   list_of : ListShape → Kind
+  map_of : MapShape → Kind
   nothing : Kind
 
 -- what stands where a shape is the target
 abbrev pub kind_of_shape : Shape → Kind
 kind_of_shape (structure members) = structure_of members
+kind_of_shape (union members) = union_of members
 kind_of_shape (list l) = list_of l
+kind_of_shape (map m) = map_of m
 
 -- the shape of the declaration of that number
 abbrev pub shape_declared : Table → ℕ → Option Shape
@@ -100,58 +121,83 @@ scalar_type scalars.String = types.String
 abbrev pub type_of : Kind → Option ShapeType
 type_of (scalar s) = Some (scalar_type s)
 type_of (structure_of members) = Some types.Structure
+type_of (union_of members) = Some types.Union
 type_of (list_of l) = Some types.List
+type_of (map_of m) = Some types.Map
 type_of nothing = None
 
--- the members of a structure
+-- the members of a structure or a union
 abbrev pub members_of : Kind → List Member
-members_of (scalar s) = []
 members_of (structure_of members) = members
-members_of (list_of l) = []
-members_of nothing = []
+members_of (union_of members) = members
+members_of _ = []
 
 -- the list at a place of one
 abbrev pub list_shape_of : Kind → Option ListShape
-list_shape_of (scalar s) = None
-list_shape_of (structure_of members) = None
 list_shape_of (list_of l) = Some l
-list_shape_of nothing = None
+list_shape_of _ = None
 
--- the place of a child: of a member by its position, of an element without one
+-- the map at a place of one
+abbrev pub map_shape_of : Kind → Option MapShape
+map_shape_of (map_of m) = Some m
+map_shape_of _ = None
+
+-- the place of a member by its position
+abbrev pub member_place : List Member → Option ℕ → Option Place
+member_place members position =
+    option_map (λ (m : Member). m.place) (option_and_then (slice_get members) position)
+
+-- the place of a child: of a member by its position, of an element or a map's value without one
 abbrev pub place_in : Kind → Option ℕ → Option Place
-place_in (scalar s) n = None
-place_in (structure_of members) None = None
-place_in (structure_of members) (Some n) = option_map (λ (m : Member). m.place) (slice_get members n)
+place_in (structure_of members) n = member_place members n
+place_in (union_of members) n = member_place members n
 place_in (list_of l) n = Some l.place
-place_in nothing n = None
+place_in (map_of m) n = Some m.place
+place_in _ n = None
 
 -- a structure stands there
 abbrev pub IsStructure : Kind → Type 0
-IsStructure (scalar s) = ⊥
 IsStructure (structure_of members) = Unit {0}
-IsStructure (list_of l) = ⊥
-IsStructure nothing = ⊥
+IsStructure _ = ⊥
+
+-- a union stands there
+abbrev pub IsUnion : Kind → Type 0
+IsUnion (union_of members) = Unit {0}
+IsUnion _ = ⊥
+
+-- a structure or a union stands there
+abbrev pub HasMembers : Kind → Type 0
+HasMembers (structure_of members) = Unit {0}
+HasMembers (union_of members) = Unit {0}
+HasMembers _ = ⊥
+
+-- the same, as a test
+abbrev pub has_members : Kind → Bool
+has_members (structure_of members) = true
+has_members (union_of members) = true
+has_members _ = false
 
 -- a list stands there
 abbrev pub IsList : Kind → Type 0
-IsList (scalar s) = ⊥
-IsList (structure_of members) = ⊥
 IsList (list_of l) = Unit {0}
-IsList nothing = ⊥
+IsList _ = ⊥
 
--- a list stands there whose elements may be null
+-- a map stands there
+abbrev pub IsMap : Kind → Type 0
+IsMap (map_of m) = Unit {0}
+IsMap _ = ⊥
+
+-- a list or a map stands there whose elements or values may be null
 abbrev pub is_sparse : Kind → Bool
-is_sparse (scalar s) = false
-is_sparse (structure_of members) = false
 is_sparse (list_of l) = l.is_sparse
-is_sparse nothing = false
+is_sparse (map_of m) = m.is_sparse
+is_sparse _ = false
 
 -- the same, as a fact
 abbrev pub IsSparse : Kind → Type 0
-IsSparse (scalar s) = ⊥
-IsSparse (structure_of members) = ⊥
 IsSparse (list_of l) = l.is_sparse ≡ true
-IsSparse nothing = ⊥
+IsSparse (map_of m) = m.is_sparse ≡ true
+IsSparse _ = ⊥
 
 -- the position of the member of this name, from 0: by member names, or by JSON names
 abbrev pub position_named : (Member → List ℕ) → List Member → List ℕ → Option ℕ

@@ -1,6 +1,7 @@
 -- The value that a body stands for, whichever wire carries it.
 use Rattle.std.specs.Prelude.{Bool, ℕ, suc, max, ℤ, List, [], ◌∷◌}
 use Rattle.std.specs.Ordering.{nat_cmp, match_ordering}
+use Rattle.std.specs.Cmp.Lexicographic.{slice_cmp}
 
 -- a value without parts
 pub data ScalarValue : Type 0 where
@@ -15,14 +16,23 @@ mutual
   pub data Value : Type 0 where
     scalar_value : ScalarValue → Value
     list : Values → Value
+    -- by key, in byte order, each once
+    map : MapEntries → Value
     structure : MemberValues → Value
-    -- a null among the elements of a sparse list
+    -- the position of the member, and its value
+    union : ℕ → Value → Value
+    -- a null among the elements of a sparse list or the values of a sparse map
     null_element : Value
 
   -- the elements of a list, in order
   pub data Values : Type 0 where
     no_values : Values
     value : Value → Values → Values
+
+  -- the keys of a map, each with its value
+  pub data MapEntries : Type 0 where
+    no_map_entries : MapEntries
+    map_entry : List ℕ → Value → MapEntries → MapEntries
 
   -- by position of the member, in order, each once
   pub data MemberValues : Type 0 where
@@ -41,18 +51,32 @@ put_member position v (member_value at w rest) =
     match_ordering (nat_cmp position at) (member_value position v (member_value at w rest))
     (member_value at v rest) (member_value at w (put_member position v rest))
 
+-- the entries with this value at this key
+abbrev pub put_entry : List ℕ → Value → MapEntries → MapEntries
+put_entry key v no_map_entries = map_entry key v no_map_entries
+put_entry key v (map_entry at w rest) =
+    match_ordering (slice_cmp nat_cmp key at) (map_entry key v (map_entry at w rest))
+    (map_entry at v rest) (map_entry at w (put_entry key v rest))
+
 abbrev mutual
-  -- how deep lists and structures nest: 0 for a scalar and a null, else one more than the deepest child
+  -- how deep containers nest: 0 for a scalar and a null, else one more than the deepest child
   pub nesting : Value → ℕ
   nesting (scalar_value x) = 0
   nesting (list vs) = suc (elements_nesting vs)
+  nesting (map es) = suc (entries_nesting es)
   nesting (structure ms) = suc (members_nesting ms)
+  nesting (union n v) = suc (nesting v)
   nesting null_element = 0
 
   -- the greatest of the children
   pub elements_nesting : Values → ℕ
   elements_nesting no_values = 0
   elements_nesting (value v vs) = max (nesting v) (elements_nesting vs)
+
+  -- the greatest of the values in a map
+  pub entries_nesting : MapEntries → ℕ
+  entries_nesting no_map_entries = 0
+  entries_nesting (map_entry key v es) = max (nesting v) (entries_nesting es)
 
   -- the greatest of the members
   pub members_nesting : MemberValues → ℕ

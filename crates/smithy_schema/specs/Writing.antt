@@ -2,17 +2,21 @@
 use Rattle.std.specs.Prelude.{◌≡◌, ℕ, suc, List, [], ◌∷◌, ◌++◌, Option, Some, Result, Ok, Err}
 use Rattle.smithy_schema.specs.declared.error.SerdeError.{SerdeError}
 use Rattle.smithy_schema.specs.declared.error.SerdeError.TheVariants.{Unwritable}
-use Rattle.smithy_schema.specs.Site.{Site, element_of, member_of}
-use Rattle.smithy_schema.specs.Value.{ScalarValue, Value, scalar_value, list, structure, null_element, Values, no_values, value, MemberValues, no_member_values, member_value}
+use Rattle.smithy_schema.specs.Site.{Site, element_of, key_of, value_of, member_of}
+use Rattle.smithy_schema.specs.Value.{ScalarValue, text, Value, scalar_value, list, map, structure, union, null_element, Values, no_values, value, MapEntries, no_map_entries, map_entry, MemberValues, no_member_values, member_value}
 
 -- one call of a serializer, with what its schema tells
 pub data Event : Type 0 where
+  -- a structure or a union
   begin_structure : Site → Event
   end_structure : Event
-  -- with the number of elements, where it is told
+  -- with the number of elements or entries, where it is told
   begin_list : Site → Option ℕ → Event
   end_list : Event
+  begin_map : Site → Option ℕ → Event
+  end_map : Event
   null_of : Site → Event
+  -- where a map's key is due, a text is that key
   scalar_of : Site → ScalarValue → Event
 
 -- what an event makes of a serializer's state, or why it can't be written there
@@ -34,6 +38,11 @@ abbrev pub count_of : Values → ℕ
 count_of no_values = 0
 count_of (value v vs) = suc (count_of vs)
 
+-- the number of entries
+abbrev pub entry_count : MapEntries → ℕ
+entry_count no_map_entries = 0
+entry_count (map_entry key v es) = suc (entry_count es)
+
 -- the calls that write a value: a container is what it begins with, its children, and its end
 abbrev mutual
   -- a scalar is one call
@@ -41,13 +50,22 @@ abbrev mutual
   events site (scalar_value x) = scalar_of site x ∷ []
   events site (list vs) =
       begin_list site (Some (count_of vs)) ∷ (element_events (element_of site) vs ++ end_list ∷ [])
+  events site (map es) =
+      begin_map site (Some (entry_count es)) ∷ (entry_events (key_of site) (value_of site) es ++ end_map ∷ [])
   events site (structure ms) = begin_structure site ∷ (member_events site ms ++ end_structure ∷ [])
+  events site (union n v) = begin_structure site ∷ (events (member_of site n) v ++ end_structure ∷ [])
   events site null_element = null_of site ∷ []
 
   -- the elements in order, each at the same site
   pub element_events : Site → Values → List Event
   element_events site no_values = []
   element_events site (value v vs) = events site v ++ element_events site vs
+
+  -- the entries in order, of each its key and then its value
+  pub entry_events : Site → Site → MapEntries → List Event
+  entry_events key_site site no_map_entries = []
+  entry_events key_site site (map_entry key v es) =
+      scalar_of key_site (text key) ∷ (events site v ++ entry_events key_site site es)
 
   -- the members in order, each at its own site
   pub member_events : Site → MemberValues → List Event
@@ -58,19 +76,63 @@ abbrev mutual
 abbrev pub write : {S : Type 0} → Writer S → Site → Value → S → Result S SerdeError
 write after site v = run after (events site v)
 
--- an open container
+-- ---- open containers
+
+-- an open container, and of a map what is due in it
 pub data Open : Type 0 where
+  -- a structure or a union
   open_structure : Open
   open_list : Open
+  open_map_at_key : Open
+  open_map_at_value : Open
 
--- Each wire keeps its open containers by its calls, innermost first.
+-- the containers once a value has come: none comes in a key's place, and behind a map's value a key is due
+abbrev pub after_value : List Open → Result (List Open) SerdeError
+after_value (open_map_at_key ∷ os) = Err Unwritable
+after_value (open_map_at_value ∷ os) = Ok (open_map_at_key ∷ os)
+after_value os = Ok os
+
+-- the same once a text has come, which is a key where one is due
+abbrev pub after_text : List Open → Result (List Open) SerdeError
+after_text (open_map_at_key ∷ os) = Ok (open_map_at_value ∷ os)
+after_text os = after_value os
+
+-- the same of any scalar
+abbrev pub after_scalar : ScalarValue → List Open → Result (List Open) SerdeError
+after_scalar (text s) os = after_text os
+after_scalar _ os = after_value os
+
+-- once a container has begun, which is a value where it stands
+abbrev pub after_begin : Open → List Open → Result (List Open) SerdeError
+after_begin o os = and_run (λ outer. Ok (o ∷ outer)) (after_value os)
+
+-- once the structure or union has ended that is innermost
+abbrev pub after_end_structure : List Open → Result (List Open) SerdeError
+after_end_structure (open_structure ∷ os) = Ok os
+after_end_structure _ = Err Unwritable
+
+-- once the list has ended that is innermost
+abbrev pub after_end_list : List Open → Result (List Open) SerdeError
+after_end_list (open_list ∷ os) = Ok os
+after_end_list _ = Err Unwritable
+
+-- once the map has ended that is innermost: none ends behind a key whose value hasn't come
+abbrev pub after_end_map : List Open → Result (List Open) SerdeError
+after_end_map (open_map_at_key ∷ os) = Ok os
+after_end_map _ = Err Unwritable
+
+-- what a call makes of the open containers of any serializer, innermost first, or that none takes it there
+abbrev pub open_after : Writer (List Open)
+open_after (begin_structure site) os = after_begin open_structure os
+open_after end_structure os = after_end_structure os
+open_after (begin_list site n) os = after_begin open_list os
+open_after end_list os = after_end_list os
+open_after (begin_map site n) os = after_begin open_map_at_key os
+open_after end_map os = after_end_map os
+open_after (null_of site) os = after_value os
+open_after (scalar_of site x) os = after_scalar x os
+
+-- Each wire keeps its open containers by its calls, and refuses what no serializer takes.
 pub record IsNested {S : Type 0} (after : Writer S) (open_in : S → List Open) : Type 0 where
-  pub begins_structure : (site : Site) (s t : S) → after (begin_structure site) s ≡ Ok t → open_in t ≡ open_structure ∷ open_in s
-  pub ends_structure : (s t : S) → after end_structure s ≡ Ok t → open_in s ≡ open_structure ∷ open_in t
-  pub begins_list : (site : Site) (n : Option ℕ) (s t : S) → after (begin_list site n) s ≡ Ok t → open_in t ≡ open_list ∷ open_in s
-  pub ends_list : (s t : S) → after end_list s ≡ Ok t → open_in s ≡ open_list ∷ open_in t
-  pub keeps_null : (site : Site) (s t : S) → after (null_of site) s ≡ Ok t → open_in t ≡ open_in s
-  pub keeps_scalar : (site : Site) (x : ScalarValue) (s t : S) → after (scalar_of site x) s ≡ Ok t → open_in t ≡ open_in s
-  -- an end that closes nothing, or another container
-  pub no_structure : (s : S) → ((os : List Open) → open_in s ≡ open_structure ∷ os → ⊥) → after end_structure s ≡ Err Unwritable
-  pub no_list : (s : S) → ((os : List Open) → open_in s ≡ open_list ∷ os → ⊥) → after end_list s ≡ Err Unwritable
+  pub goes : (e : Event) (s t : S) → after e s ≡ Ok t → open_after e (open_in s) ≡ Ok (open_in t)
+  pub stops : (e : Event) (s : S) → open_after e (open_in s) ≡ Err Unwritable → after e s ≡ Err Unwritable

@@ -2,7 +2,7 @@
 ghost use Rattle.std.specs.Prelude.{◌≡◌, ◌+◌, ◌&&◌, [], take, map, not, IfOk, IfErr, OnOk, None};
 ghost use Rattle.std.specs.List.{list_any, list_all};
 ghost use Rattle.smithy_schema.specs.Names.{is_scalar_name, is_query_name};
-ghost use Rattle.smithy_schema.specs.Acceptance.{refused, is_unbuilt_form, has_unbuilt_item, has_unknown_time, is_duplicate, is_declared, has_clash as has_clash_of_members, has_unfit_name, has_one_entry_name, query_name_of, places_of, first_failing, first_fault, tests, build_of};
+ghost use Rattle.smithy_schema.specs.Acceptance.{refused, has_unknown_time, is_duplicate, is_declared, has_clash as has_clash_of_members, has_unfit_name, has_one_entry_name, query_name_of, places_of, first_failing, first_fault, tests, build_of};
 ghost use Rattle.smithy_schema.specs.DeclViews.{decl_of, member_decl_of, place_words_of, IsRefusedBy};
 ghost use Rattle.smithy_schema.specs.Private.DeclNames.{declared_name};
 ghost use Rattle.smithy_schema.specs.Private.Order.{IsOrderOf};
@@ -107,7 +107,7 @@ impl Test {
         ensures { IfOk result (λ fails. fails ≡ test_of self (map decl_of decls.now) (position + 1) (decl_of decl.now)) }
     {
         match self {
-            Test::NotBuilt => Ok(has_unbuilt_item(decls, order, decl)),
+            Test::NotBuilt => Ok(PlaceTest::UnbuiltTarget.fails_at_some(decls, order, decl)),
             Test::FloatShape => Ok(PlaceTest::FloatTarget.fails_at_some(decls, order, decl)),
             Test::UnknownTarget => Ok(PlaceTest::UnknownTarget.fails_at_some(decls, order, decl)),
             Test::UnknownTimeFormat => Ok(PlaceTest::UnknownTime.fails_at_some(decls, order, decl)),
@@ -163,24 +163,6 @@ impl PlaceTest {
             PlaceTest::UnknownTarget => is_unknown(decls, order, place.target),
             PlaceTest::UnknownTime => has_unknown_time(place),
         }
-    }
-}
-
-// The declaration uses a form or a target that no table can have yet.
-fn has_unbuilt_item(decls: &[Decl], order: &[usize], decl: &Decl) -> bool
-    requires { IsOrderOf (map declared_name decls.now) order.now }
-    ensures { result ≡ has_unbuilt_item (map decl_of decls.now) 0 (decl_of decl.now) }
-{
-    is_unbuilt_form(decl) || PlaceTest::UnbuiltTarget.fails_at_some(decls, order, decl)
-}
-
-fn is_unbuilt_form(decl: &Decl) -> bool
-    ensures { result ≡ is_unbuilt_form (decl_of decl.now).form }
-{
-    match decl {
-        Decl::Structure { .. } => false,
-        Decl::List { .. } => false,
-        _ => true,
     }
 }
 

@@ -1,7 +1,6 @@
 //! Builds a table of declarations that pass every test.
-ghost use Rattle.std.specs.Prelude.{◌≡◌, ◌≤◌, length, map, unwrap_or, bytes_eq, string_bytes, position as first_position, IfOk};
+ghost use Rattle.std.specs.Prelude.{◌≡◌, ◌≤◌, length, map, unwrap_or, bytes_eq, position as first_position, IfOk};
 ghost use Rattle.smithy_schema.specs.Decl.{Decl as SpecDecl};
-ghost use Rattle.smithy_schema.specs.Table.{structure};
 ghost use Rattle.smithy_schema.specs.Acceptance.{places_of, place_of, target_of};
 ghost use Rattle.smithy_schema.specs.DeclViews.{decl_of, member_decl_of, place_words_of};
 ghost use Rattle.smithy_schema.specs.Views.{member_of, declaration_of};
@@ -19,7 +18,7 @@ use crate::members::{MemberList, MemberShape};
 use crate::names::{order_of, position_of};
 use crate::place::{Place, Target};
 use crate::shape_type::ShapeRef;
-use crate::shapes::{Declaration, ListShape, Shape, Shapes};
+use crate::shapes::{Declaration, ListShape, MapShape, Shape, Shapes};
 use std::alloc::{AllocError, Global};
 
 impl Shapes {
@@ -133,14 +132,20 @@ fn declarations_with(
     Ok(declarations)
 }
 
-// A declaration with its places. No union and no map passes the tests yet.
+// A declaration with its places.
 fn declaration_with(alloc: Global, decl: Decl, places: &[Place]) -> Result<Declaration, AllocError>
     requires { length (places_of (decl_of decl).form) ≤ length places.now }
     ensures { IfOk result (λ v. declaration_of v ≡ declaration_with (decl_of decl) places.now) }
 {
     match decl {
-        Decl::Structure { name, members } => structure_with(alloc, name, members, places),
-        Decl::Union { name, members } => structure_with(alloc, name, members, places),
+        Decl::Structure { name, members } => Ok(Declaration {
+            name,
+            shape: Shape::Structure(member_list_with(alloc, members, places)?),
+        }),
+        Decl::Union { name, members } => Ok(Declaration {
+            name,
+            shape: Shape::Union(member_list_with(alloc, members, places)?),
+        }),
         Decl::List {
             name,
             sparse,
@@ -154,26 +159,33 @@ fn declaration_with(alloc: Global, decl: Decl, places: &[Place]) -> Result<Decla
                 xml_name: xml,
             }),
         }),
-        Decl::Map { name, .. } => structure_with(alloc, name, Vec::new(alloc), places),
+        Decl::Map {
+            name,
+            sparse,
+            key,
+            value,
+            ..
+        } => Ok(Declaration {
+            name,
+            shape: Shape::Map(MapShape {
+                place: places[0],
+                sparse,
+                key_name: key,
+                value_name: value,
+            }),
+        }),
     }
 }
 
-fn structure_with(
+fn member_list_with(
     alloc: Global,
-    name: String,
     members: Vec<MemberDecl>,
     places: &[Place],
-) -> Result<Declaration, AllocError>
+) -> Result<MemberList, AllocError>
     requires { length members.items ≤ length places.now }
-    ensures { IfOk result (λ v. declaration_of v
-        ≡ record { name = string_bytes name; shape = structure (members_with (map member_decl_of members.items) places.now) }) }
+    ensures { IfOk result (λ v. map member_of v.items.items ≡ members_with (map member_decl_of members.items) places.now) }
 {
-    let items = members_with(alloc, members, places)?;
-    let members = MemberList::new(alloc, items)?;
-    Ok(Declaration {
-        name,
-        shape: Shape::Structure(members),
-    })
+    MemberList::new(alloc, members_with(alloc, members, places)?)
 }
 
 // The members with their places.

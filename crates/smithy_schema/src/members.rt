@@ -1,4 +1,4 @@
-//! The members of a structure, and where they stand by their names.
+//! The members of a structure or a union, and where they stand by their names.
 ghost use Rattle.std.specs.Prelude.{map};
 ghost use Rattle.smithy_schema.specs.Private.MemberNames.{member_name, json_name};
 ghost use Rattle.smithy_schema.specs.Private.Order.{IsOrderOf};
@@ -16,7 +16,7 @@ pub(crate) struct MemberShape {
     pub(crate) place: Place,
 }
 
-/// The members of a structure in their order, with their positions in the order of their names.
+/// The members of a structure or a union in their order, with their positions in the order of their names.
 #[derive(Drop)]
 pub(crate) struct MemberList {
     pub(crate) items: Vec<MemberShape>,

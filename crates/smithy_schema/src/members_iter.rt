@@ -5,7 +5,7 @@ ghost use Rattle.smithy_schema.specs.Site.{site_of, kind_at};
 
 use crate::schema::Schema;
 
-/// An iterator over the members of a structure, in order.
+/// An iterator over the members of a structure or a union, in order.
 #[derive(Clone, Copy)]
 pub struct Members<'a> {
     schema: Schema<'a>,
@@ -19,7 +19,7 @@ impl<'a> Schema<'a> {
     ghost use Rattle.smithy_schema.specs.Site.{member_sites};
     ghost use Rattle.smithy_schema.specs.MembersLeft.{members_left};
 
-    /// The members of the structure, in order: none where the place is of another kind.
+    /// The members of the structure or the union, in order: none where the place is of another kind.
     pub fn members(&self) -> Members<'a>
         ensures { members_left result ≡ member_sites (site_of self.now) }
     {

@@ -1,31 +1,31 @@
 //! Reading a value as a schema directs.
-ghost use Rattle.std.specs.Prelude.{◌≡◌, ◌≤◌, ℕ, length, Option, Some, None, Bool, true, false, ◌&&◌, IfOk, IsOk, OnOk, IsErrOf, IsErr, MatchBool, string_bytes};
+ghost use Rattle.std.specs.Prelude.{◌≡◌, ◌≤◌, ℕ, length, Option, Some, None, Bool, true, false, ◌&&◌, IfOk, IsOk, OnOk, IsErrOf, IsErr, MatchBool, MatchOption, string_bytes};
 ghost use Rattle.smithy_schema.specs.declared.place.Place.{Place};
 ghost use Rattle.smithy_schema.specs.declared.shape_type.Scalar.TheVariants as scalars;
-ghost use Rattle.smithy_schema.specs.Table.{Table, kind_of, IsStructure, IsList};
+ghost use Rattle.smithy_schema.specs.Table.{Table, kind_of, IsStructure, HasMembers, IsList, IsMap};
 ghost use Rattle.smithy_schema.specs.Value.{Value, boolean, whole, text};
 ghost use Rattle.smithy_schema.specs.Site.{site_of, kind_at};
-ghost use Rattle.smithy_schema.specs.Reading.{ReadsScalar, Cursor, depth, Relations, Mark, IsLawful, StandsFit, CountsOpeners, IsBelow, Conducts, Passes, Enters, Steps, Leaves, MatchStep, CannotGoOn, OpensNot, SkipsNot, NullsNot, ReachesDepth, null_is_due, IsRefused, IsInvalid, IsNoAnswer, failed_at, passed_to, in_structure, in_list};
+ghost use Rattle.smithy_schema.specs.Reading.{ReadsScalar, Cursor, depth, Relations, Mark, IsLawful, StandsFit, CountsOpeners, IsBelow, Conducts, Passes, Enters, Steps, Leaves, MatchStep, CannotGoOn, OpensNot, SkipsNot, NullsNot, ReachesDepth, null_is_due, IsRefused, IsInvalid, IsNoAnswer, failed_at, passed_to, in_structure, in_list, in_map};
 ghost use Rattle.smithy_schema.specs.declared.error.SerdeError.TheVariants.{TooDeep, NoMemory};
 
 use crate::error::SerdeError;
 use crate::schema::Schema;
 
-/// Where a structure goes on: to a member that the table knows, to another entry, or to its end.
+/// Where a structure or a union goes on: to a member that the table knows, to another entry, or to its end.
 #[derive(Clone, Copy)]
 pub enum Step<'s> {
     /// The value of this member is due.
     Member(Schema<'s>),
     /// The value of an entry is due whose key names no member.
     Unknown,
-    /// The structure has ended.
+    /// The structure or the union has ended.
     End,
 }
 
 /// A reader of one input, which a schema directs call by call.
 ///
 /// It has a stack of open containers. A value is due on a fresh reader, and after a step that gave a
-/// member, an unknown entry or an element, until it is read, opened or skipped. Positions are byte
+/// member, an unknown entry, an element or a map's key, until it is read, opened or skipped. Positions are byte
 /// offsets from 0. After an answered error a reader has failed: it stays where it is, and answers
 /// `Failed` from then on.
 pub trait ShapeDeserializer {
@@ -57,10 +57,10 @@ pub trait ShapeDeserializer {
         ensures same { settings self.new ≡ settings self.old }
         ensures fails { state self.new ≡ failed_at (state self.old) };
 
-    /// Enters the structure that is due. Where its kind begins here, it is `TooDeep` exactly at the
+    /// Enters the structure or the union that is due. Where one begins here, it is `TooDeep` exactly at the
     /// greatest depth.
     fn open_struct(&mut self, schema: &Schema<'_>) -> Result<(), SerdeError>
-        requires place { IsStructure (kind_at (site_of schema.now)) }
+        requires place { HasMembers (kind_at (site_of schema.now)) }
         ensures same { settings self.new ≡ settings self.old }
         ensures conduct { Conducts (state self.old) (state self.new) result }
         ensures undue { (state self.old).due ≡ false → IsNoAnswer result }
@@ -74,10 +74,12 @@ pub trait ShapeDeserializer {
         ensures deepest { IsErrOf result TooDeep → depth (state self.old) ≡ max_depth (settings self.old) }
         ensures deep { IsErrOf result TooDeep → OpensNot (wire (settings self.old)) (state self.old) schema.now.shapes.now schema.now.place → ⊥ };
 
-    /// Goes on in the structure, which is the one of this schema. A value that is still due is skipped first.
+    /// Goes on in the structure or the union, which is the one of this schema: to an entry whose value is due then, or
+    /// to the end. Entries with a null are passed over, and each `__type` that names no member. A value that is still
+    /// due is skipped first.
     fn next_member<'s>(&mut self, schema: &Schema<'s>) -> Result<Step<'s>, SerdeError>
         requires within { (state self.old).inner.within ≡ in_structure }
-        requires place { IsStructure (kind_at (site_of schema.now)) }
+        requires place { HasMembers (kind_at (site_of schema.now)) }
         ensures same { settings self.new ≡ settings self.old }
         ensures conduct { Conducts (state self.old) (state self.new) result }
         ensures ok { (state self.old).due ≡ false → IfOk result (λ step. MatchStep step (wire (settings self.old)) (state self.old) (state self.new) (site_of schema.now)) }
@@ -92,10 +94,7 @@ pub trait ShapeDeserializer {
         ensures unread_would { is_strict (settings self.old) → IsInvalid result → (state self.old).due ≡ true → (e : ℕ) → (lifted (settings self.old)).skips (state self.old).input (depth (state self.old)) (state self.old).at e
             → CannotGoOn (lifted (settings self.old)) (passed_to (state self.old) e) schema.now.shapes.now schema.now.place }
         ensures unskipped { (state self.old).due ≡ true → SkipsNot (wire (settings self.old)) (state self.old) → IsErr result }
-        ensures deep { IsErrOf result TooDeep → ReachesDepth (wire (settings self.old)) (max_depth (settings self.old)) (state self.old) }
-
-        // It is too deep only by a value that was left unread and can't be skipped here.
-        ensures unread_deep { IsErrOf result TooDeep → ((state self.old).due ≡ true) × SkipsNot (wire (settings self.old)) (state self.old) };
+        ensures deep { IsErrOf result TooDeep → ReachesDepth (wire (settings self.old)) (max_depth (settings self.old)) (state self.old) };
 
     /// Enters the list that is due. Where a list begins here, it is `TooDeep` exactly at the greatest depth.
     fn open_list(&mut self, schema: &Schema<'_>) -> Result<(), SerdeError>
@@ -127,6 +126,38 @@ pub trait ShapeDeserializer {
         ensures refused { IsRefused result → (state self.old).due ≡ false → (t : Table) (p : Place) → IsList (kind_of t p)
             → CannotGoOn (wire (settings self.old)) (state self.old) t p }
         ensures would { is_strict (settings self.old) → IsInvalid result → (state self.old).due ≡ false → (t : Table) (p : Place) → IsList (kind_of t p)
+            → CannotGoOn (lifted (settings self.old)) (state self.old) t p };
+
+    /// Enters the map that is due. Where a map begins here, it is `TooDeep` exactly at the greatest depth.
+    fn open_map(&mut self, schema: &Schema<'_>) -> Result<(), SerdeError>
+        requires place { IsMap (kind_at (site_of schema.now)) }
+        ensures same { settings self.new ≡ settings self.old }
+        ensures conduct { Conducts (state self.old) (state self.new) result }
+        ensures undue { (state self.old).due ≡ false → IsNoAnswer result }
+        ensures ok { OnOk result (Enters (wire (settings self.old)) (max_depth (settings self.old)) (state self.old) (state self.new) schema.now.shapes.now schema.now.place in_map) }
+        ensures refused { IsRefused result → (state self.old).due ≡ true → (wire (settings self.old)).allows (depth (state self.old))
+            → OpensNot (wire (settings self.old)) (state self.old) schema.now.shapes.now schema.now.place }
+        ensures would { is_strict (settings self.old) → IsInvalid result → (state self.old).due ≡ true
+            → OpensNot (lifted (settings self.old)) (state self.old) schema.now.shapes.now schema.now.place }
+        ensures invalid { IsInvalid result → (state self.old).due ≡ true
+            → OpensNot (wire (settings self.old)) (state self.old) schema.now.shapes.now schema.now.place }
+        ensures deepest { IsErrOf result TooDeep → depth (state self.old) ≡ max_depth (settings self.old) }
+        ensures deep { IsErrOf result TooDeep → OpensNot (wire (settings self.old)) (state self.old) schema.now.shapes.now schema.now.place → ⊥ };
+
+    /// Goes on in the map: the key of the next entry, whose value is due then, or none where the map has ended. Keys
+    /// come in the order of the input, equal ones each time. A value that was left unread is refused.
+    fn next_key(&mut self) -> Result<Option<String>, SerdeError>
+        requires within { (state self.old).inner.within ≡ in_map }
+        ensures same { settings self.new ≡ settings self.old }
+        ensures conduct { Conducts (state self.old) (state self.new) result }
+        ensures shallow { IsErrOf result TooDeep → ⊥ }
+        ensures unread { (state self.old).due ≡ true → IsNoAnswer result }
+        ensures ok { (state self.old).due ≡ false → (t : Table) (p : Place) → IsMap (kind_of t p)
+            → IfOk result (λ next. MatchOption next (Leaves (wire (settings self.old)) (state self.old) (state self.new) t p)
+            (λ key. Steps (wire (settings self.old)) (state self.old) (state self.new) t p (Some (string_bytes key)))) }
+        ensures refused { IsRefused result → (state self.old).due ≡ false → (t : Table) (p : Place) → IsMap (kind_of t p)
+            → CannotGoOn (wire (settings self.old)) (state self.old) t p }
+        ensures would { is_strict (settings self.old) → IsInvalid result → (state self.old).due ≡ false → (t : Table) (p : Place) → IsMap (kind_of t p)
             → CannotGoOn (lifted (settings self.old)) (state self.old) t p };
 
     /// Whether the value that is due is a null.

@@ -4,7 +4,7 @@ ghost use Rattle.smithy_schema.specs.Table.{kind_of, nothing};
 
 use crate::members::MemberList;
 use crate::place::{Place, Target};
-use crate::shape_type::{ShapeRef, ShapeType, TimestampFormat};
+use crate::shape_type::{Scalar, ShapeRef, ShapeType, TimestampFormat};
 use crate::shapes::{Shape, Shapes};
 
 /// Where a view comes from.
@@ -16,9 +16,14 @@ pub(crate) enum Origin {
     MemberOf(u32, u32),
     /// The elements of a list, by the number of its declaration.
     ElementOf(u32),
+    /// The keys of a map, by the number of its declaration.
+    KeyOf(u32),
+    /// The values of a map, by the number of its declaration.
+    ValueOf(u32),
 }
 
-/// A view of one place of a table: of a whole shape, a member or the elements of a list.
+/// A view of one place of a table: of a whole shape, a member, the elements of a list, or the keys or the values of a
+/// map.
 #[derive(Clone, Copy)]
 pub struct Schema<'a> {
     pub(crate) shapes: &'a Shapes,
@@ -34,7 +39,7 @@ impl<'a> Schema<'a> {
     ghost use Rattle.std.specs.Option.{option_map_or};
     ghost use Rattle.smithy_schema.specs.Table.{Member, type_of, members_of, IsSparse, json_name_of};
     ghost use Rattle.smithy_schema.specs.Views.{member_of};
-    ghost use Rattle.smithy_schema.specs.Site.{site_of, kind_at, member_site, member_named, element_site, nameless_site};
+    ghost use Rattle.smithy_schema.specs.Site.{site_of, kind_at, member_site, member_named, element_site, value_site, inner_site, key_site, nameless_site};
 
     /// The kind of the shape, of a member the kind of its target.
     pub fn shape_type(&self) -> ShapeType
@@ -45,13 +50,15 @@ impl<'a> Schema<'a> {
             Target::Simple(scalar) => scalar.shape_type(),
             Target::Declared(shape) => match shapes.shape_at(shape) {
                 Some(Shape::Structure(_)) => ShapeType::Structure,
+                Some(Shape::Union(_)) => ShapeType::Union,
                 Some(Shape::List(_)) => ShapeType::List,
+                Some(Shape::Map(_)) => ShapeType::Map,
                 None => unreachable!(),
             },
         }
     }
 
-    /// The name of a member, or `member` at the elements of a list.
+    /// The name of a member, or `member`, `key` or `value` at elements, keys and values.
     pub fn member_name(&self) -> Option<&'a str>
         ensures { option_map (λ s. s.now) result ≡ (site_of self.now).view.name }
     {
@@ -67,6 +74,14 @@ impl<'a> Schema<'a> {
             },
             Origin::ElementOf(shape) => match shapes.list_at(ShapeRef(shape)) {
                 Some(_) => Some("member"),
+                None => None,
+            },
+            Origin::KeyOf(shape) => match shapes.map_at(ShapeRef(shape)) {
+                Some(_) => Some("key"),
+                None => None,
+            },
+            Origin::ValueOf(shape) => match shapes.map_at(ShapeRef(shape)) {
+                Some(_) => Some("value"),
                 None => None,
             },
         }
@@ -103,7 +118,7 @@ impl<'a> Schema<'a> {
         }
     }
 
-    /// The name of a member or of a list's elements in a form, where one is given.
+    /// The name of a member, of elements, keys or values in a form, where one is given.
     pub fn xml_name(&self) -> Option<&'a str>
         ensures { option_map (λ s. s.now) result ≡ (site_of self.now).view.xml_name }
     {
@@ -116,6 +131,14 @@ impl<'a> Schema<'a> {
             },
             Origin::ElementOf(shape) => match shapes.list_at(ShapeRef(shape)) {
                 Some(list) => text_given(&list.xml_name),
+                None => None,
+            },
+            Origin::KeyOf(shape) => match shapes.map_at(ShapeRef(shape)) {
+                Some(map) => text_given(&map.key_name),
+                None => None,
+            },
+            Origin::ValueOf(shape) => match shapes.map_at(ShapeRef(shape)) {
+                Some(map) => text_given(&map.value_name),
                 None => None,
             },
         }
@@ -145,8 +168,18 @@ impl<'a> Schema<'a> {
         self.place.time
     }
 
-    /// The elements of a list.
+    /// The elements of a list, or the values of a map.
     pub fn member(&self) -> Option<Schema<'a>>
+        ensures { option_map site_of result ≡ inner_site (site_of self.now) }
+    {
+        match self.element() {
+            Some(element) => Some(element),
+            None => self.map_value(),
+        }
+    }
+
+    // The elements of a list.
+    fn element(&self) -> Option<Schema<'a>>
         ensures { option_map site_of result ≡ element_site (site_of self.now) }
     {
         let shapes = self.shapes;
@@ -157,6 +190,47 @@ impl<'a> Schema<'a> {
                     shapes,
                     place: list.place,
                     origin: Origin::ElementOf(shape.0),
+                    is_nameless: false,
+                }),
+                None => None,
+            },
+        }
+    }
+
+    // The values of a map.
+    fn map_value(&self) -> Option<Schema<'a>>
+        ensures { option_map site_of result ≡ value_site (site_of self.now) }
+    {
+        let shapes = self.shapes;
+        match self.place.target {
+            Target::Simple(_) => None,
+            Target::Declared(shape) => match shapes.map_at(shape) {
+                Some(map) => Some(Schema {
+                    shapes,
+                    place: map.place,
+                    origin: Origin::ValueOf(shape.0),
+                    is_nameless: false,
+                }),
+                None => None,
+            },
+        }
+    }
+
+    /// The keys of a map, which are strings.
+    pub fn key(&self) -> Option<Schema<'a>>
+        ensures { option_map site_of result ≡ key_site (site_of self.now) }
+    {
+        let shapes = self.shapes;
+        match self.place.target {
+            Target::Simple(_) => None,
+            Target::Declared(shape) => match shapes.map_at(shape) {
+                Some(_) => Some(Schema {
+                    shapes,
+                    place: Place {
+                        target: Target::Simple(Scalar::String),
+                        time: None,
+                    },
+                    origin: Origin::KeyOf(shape.0),
                     is_nameless: false,
                 }),
                 None => None,
@@ -199,7 +273,7 @@ impl<'a> Schema<'a> {
         self.member_at(position as u32)
     }
 
-    // The members of the structure that stands at the place, if one does.
+    // The members of the structure or the union that stands at the place, if one does.
     pub(crate) fn members_at_place(&self) -> Option<&'a MemberList>
         ensures few { IfSome result (λ m. length m.now.items.items ≤ 65535) }
         ensures members { option_map_or (λ m. map member_of m.now.items.items) result [] ≡ members_of (kind_at (site_of self.now)) }
@@ -211,16 +285,17 @@ impl<'a> Schema<'a> {
         }
     }
 
-    /// The list is sparse.
+    /// The list or the map is sparse.
     pub fn is_sparse(&self) -> bool
         ensures { IsTrue result ↔ IsSparse (kind_at (site_of self.now)) }
     {
         let shapes = self.shapes;
         match self.place.target {
             Target::Simple(_) => false,
-            Target::Declared(shape) => match shapes.list_at(shape) {
-                Some(list) => list.sparse,
-                None => false,
+            Target::Declared(shape) => match shapes.shape_at(shape) {
+                Some(Shape::List(list)) => list.sparse,
+                Some(Shape::Map(map)) => map.sparse,
+                _ => false,
             },
         }
     }

@@ -45,7 +45,9 @@ pub enum ShapeType {
     Long,
     String,
     List,
+    Map,
     Structure,
+    Union,
 }
 
 /// How instants are written as text.

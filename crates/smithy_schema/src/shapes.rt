@@ -14,9 +14,19 @@ pub(crate) struct ListShape {
 }
 
 #[derive(Drop)]
+pub(crate) struct MapShape {
+    pub(crate) place: Place,
+    pub(crate) sparse: bool,
+    pub(crate) key_name: Option<String>,
+    pub(crate) value_name: Option<String>,
+}
+
+#[derive(Drop)]
 pub(crate) enum Shape {
     Structure(MemberList),
+    Union(MemberList),
     List(ListShape),
+    Map(MapShape),
 }
 
 #[derive(Drop)]
@@ -71,10 +81,10 @@ impl Shapes {
     ghost use Rattle.std.specs.Prelude.{◌≡◌, ◌≢◌, ◌<◌, ◌≤◌, [], length, map, option_map, slice_get, IfSome};
     ghost use Rattle.std.specs.Option.{option_map_or};
     ghost use Rattle.smithy_schema.specs.declared.shape_type.ShapeRef.{ShapeRef};
-    ghost use Rattle.smithy_schema.specs.Table.{kind_of, shape_place, IsClosed, list_shape_of as list_at_kind, members_of, nothing, shape_declared, declared_as};
+    ghost use Rattle.smithy_schema.specs.Table.{kind_of, shape_place, IsClosed, list_shape_of as list_at_kind, map_shape_of as map_at_kind, members_of, nothing, shape_declared, declared_as};
     ghost use Rattle.smithy_schema.specs.Accepted.{IsAccepted};
     ghost use Rattle.smithy_schema.specs.Site.{site_of, shape_site};
-    ghost use Rattle.smithy_schema.specs.Views.{shape_of, member_of, list_shape_of};
+    ghost use Rattle.smithy_schema.specs.Views.{shape_of, member_of, list_shape_of, map_shape_of};
 
     /// The number of declarations.
     pub fn len(&self) -> usize
@@ -128,7 +138,7 @@ impl Shapes {
         }
     }
 
-    // The member at a position of that declaration, if it is a structure with one there.
+    // The member at a position of that declaration, if it is a structure or a union with one there.
     pub(crate) fn member_at(&self, at: ShapeRef, position: u32) -> Option<&MemberShape>
         ensures found { option_map (λ m. member_of m.now) result
             ≡ slice_get (members_of (kind_of self.now (shape_place at.0))) position }
@@ -145,17 +155,19 @@ impl Shapes {
     {
         match self.shape_at(at) {
             Some(Shape::Structure(members)) => members.items.get(position as usize),
+            Some(Shape::Union(members)) => members.items.get(position as usize),
             _ => None,
         }
     }
 
-    // The members of that declaration, if it is a structure.
+    // The members of that declaration, if it is a structure or a union.
     pub(crate) fn members_at(&self, at: ShapeRef) -> Option<&MemberList>
         ensures few { IfSome result (λ m. length m.now.items.items ≤ 65535) }
         ensures members { option_map_or (λ m. map member_of m.now.items.items) result [] ≡ members_of (kind_of self.now (shape_place at.0)) }
     {
         match self.shape_at(at) {
             Some(Shape::Structure(members)) => Some(members),
+            Some(Shape::Union(members)) => Some(members),
             _ => None,
         }
     }
@@ -168,6 +180,18 @@ impl Shapes {
     {
         match self.shape_at(at) {
             Some(Shape::List(list)) => Some(list),
+            _ => None,
+        }
+    }
+
+    // The map that is declared under that number, if it is one.
+    pub(crate) fn map_at(&self, at: ShapeRef) -> Option<&MapShape>
+        ensures found { option_map (λ m. map_shape_of m.now) result
+            ≡ map_at_kind (kind_of self.now (shape_place at.0)) }
+        ensures known { IfSome result (λ m. kind_of self.now m.now.place ≢ nothing) }
+    {
+        match self.shape_at(at) {
+            Some(Shape::Map(map)) => Some(map),
             _ => None,
         }
     }

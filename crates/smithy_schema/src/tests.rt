@@ -5,7 +5,7 @@ use crate::{
 use std::alloc::Global;
 use std::test::Fail;
 
-const ACCEPTED: [&str; 8] = [
+const ACCEPTED: [&str; 11] = [
     "",
     "structure S\nmember a long",
     "list L L\nstructure S\nmember l L",
@@ -14,9 +14,12 @@ const ACCEPTED: [&str; 8] = [
     "list Items string\nstructure S\nmember Items Items\n",
     "list L string xml=x sparse time=date-time\nstructure S\nmember l L flat json=a=b xml=y",
     "structure S\nmember a.b long xml=x time=http-date\nmember c long time=epoch-seconds",
+    "union U\nmember a long json=x xml=y\nmember u U flat\nunion V",
+    "map M M",
+    "map M string value=v time=date-time sparse key=k\nstructure S\nmember m M flat",
 ];
 
-const REFUSED: [(&str, TableFault); 27] = [
+const REFUSED: [(&str, TableFault); 43] = [
     ("member a long", TableFault::BadLine(1)),
     (
         "structure S\nlist L long\nmember a long",
@@ -33,8 +36,33 @@ const REFUSED: [(&str, TableFault); 27] = [
     ("structure S\nmember a blob", TableFault::NotBuilt(1)),
     ("list L long flat", TableFault::BadLine(1)),
     ("list L long sparse sparse", TableFault::BadLine(1)),
-    ("union U\nmember a long", TableFault::NotBuilt(1)),
-    ("list L b\nmap M float", TableFault::NotBuilt(2)),
+    ("union U\nmember a document", TableFault::NotBuilt(1)),
+    ("list L b\nmap M timestamp", TableFault::NotBuilt(2)),
+    ("union U a", TableFault::BadLine(1)),
+    ("map M long flat", TableFault::BadLine(1)),
+    ("map M long xml=x", TableFault::BadLine(1)),
+    ("map M long key=a key=b", TableFault::BadLine(1)),
+    ("map M long value=", TableFault::BadLine(1)),
+    ("map M long\nmember a long", TableFault::BadLine(2)),
+    ("list L b\nmap M float", TableFault::FloatShape(2)),
+    ("union U\nmap M b", TableFault::UnknownTarget(2)),
+    ("map M long time=iso", TableFault::UnknownTimeFormat(1)),
+    ("union U\nmap U long", TableFault::DuplicateShape(2)),
+    (
+        "structure S\nunion U\nmember a long xml=b\nmember b long",
+        TableFault::NameClash(2),
+    ),
+    ("map M long key=a.b", TableFault::QueryName(1)),
+    ("map M long value=a.b", TableFault::QueryName(1)),
+    (
+        "map M long key=value\nlist L long xml=.",
+        TableFault::QueryName(2),
+    ),
+    ("map M long key=k value=k", TableFault::KeyValueName(1)),
+    (
+        "structure S\nmap M long value=key",
+        TableFault::KeyValueName(2),
+    ),
     ("structure S\nmember a float", TableFault::FloatShape(1)),
     ("list L b\nlist M double", TableFault::FloatShape(2)),
     ("list L float\nstructure float", TableFault::FloatShape(1)),
@@ -312,6 +340,70 @@ fn tells_of_options(rt: HostRuntime) -> Result<(), Fail> {
     assert_eq!(rt; element.xml_name(), Some("z"));
     assert!(rt; matches!(element.json_name(), None), "no JSON name");
     assert_eq!(rt; element.timestamp_format(), Some(TimestampFormat::DateTime));
+    Ok(())
+}
+
+#[test]
+fn tells_of_keys_and_values(rt: HostRuntime) -> Result<(), Fail> {
+    let shapes = table_of(
+        rt.alloc(),
+        "map M U sparse value=v time=date-time\nmap N string key=k\nunion U",
+    )?;
+    assert_eq!(rt; shapes.len(), 3);
+    let map = shapes.schema(ShapeRef(0));
+    assert_eq!(rt; map.shape_type(), ShapeType::Map);
+    assert!(rt; map.is_sparse(), "sparse");
+    let (Some(key), Some(value)) = (map.key(), map.member()) else {
+        assert!(rt; false, "a key and a value");
+        return Ok(());
+    };
+    assert_eq!(rt; key.member_name(), Some("key"));
+    assert_eq!(rt; key.shape_type(), ShapeType::String);
+    assert!(rt; matches!(key.xml_name(), None), "no name of keys is given");
+    assert_eq!(rt; value.member_name(), Some("value"));
+    assert_eq!(rt; value.shape_type(), ShapeType::Union);
+    assert_eq!(rt; value.xml_name(), Some("v"));
+    assert_eq!(rt; value.timestamp_format(), Some(TimestampFormat::DateTime));
+    assert!(rt; matches!(value.member_index(), None), "no position");
+    assert!(rt; matches!(value.nameless().member_name(), None), "no name");
+    let other = shapes.schema(ShapeRef(1));
+    assert!(rt; !other.is_sparse(), "not sparse");
+    let Some(key) = other.key() else {
+        assert!(rt; false, "a key");
+        return Ok(());
+    };
+    assert_eq!(rt; key.xml_name(), Some("k"));
+    let union = shapes.schema(ShapeRef(2));
+    assert!(rt; matches!(union.key(), None), "a union has no keys");
+    assert!(rt; matches!(union.member(), None), "and no values");
+    Ok(())
+}
+
+#[test]
+fn tells_of_the_members_of_a_union(rt: HostRuntime) -> Result<(), Fail> {
+    let shapes = table_of(
+        rt.alloc(),
+        "union U\nmember a long\nmember b U json=x xml=y flat",
+    )?;
+    assert_eq!(rt; shapes.len(), 1);
+    let union = shapes.schema(ShapeRef(0));
+    assert_eq!(rt; union.shape_type(), ShapeType::Union);
+    assert_eq!(rt; index_of(union.member_schema("a")), Some(0));
+    assert_eq!(rt; index_of(union.member_of_json_name("x")), Some(1));
+    assert_eq!(rt; index_of(union.member_of_json_name("b")), None);
+    let Some(member) = union.member_at(1) else {
+        assert!(rt; false, "a second member");
+        return Ok(());
+    };
+    assert_eq!(rt; member.member_name(), Some("b"));
+    assert_eq!(rt; member.xml_name(), Some("y"));
+    assert!(rt; member.xml_flattened(), "flat");
+    assert_eq!(rt; member.shape_type(), ShapeType::Union);
+    let mut count = 0;
+    for _ in union.members() {
+        count = 2;
+    }
+    assert_eq!(rt; count, 2);
     Ok(())
 }
 

@@ -5,7 +5,7 @@ ghost use Rattle.smithy_schema.specs.declared.error.SerdeError.TheVariants.{Fail
 ghost use Rattle.smithy_schema.specs.Site.{site_of};
 ghost use Rattle.smithy_schema.specs.Value.{boolean, whole, text};
 ghost use Rattle.smithy_schema.specs.Reading.{IsFault};
-ghost use Rattle.smithy_schema.specs.Writing.{Event, Writer, Open, IsNested, begin_structure, end_structure, begin_list as list_begins, end_list as list_ends, null_of, scalar_of};
+ghost use Rattle.smithy_schema.specs.Writing.{Event, Writer, Open, IsNested, begin_structure, end_structure, begin_list as list_begins, end_list as list_ends, begin_map as map_begins, end_map as map_ends, null_of, scalar_of};
 
 use crate::error::SerdeError;
 use crate::schema::Schema;
@@ -35,14 +35,14 @@ pub trait ShapeSerializer {
     fn fail(&mut self)
         ensures { failed self.new ≡ true };
 
-    /// Begins a structure.
+    /// Begins a structure or a union.
     fn begin_struct(&mut self, schema: &Schema<'_>) -> Result<(), SerdeError>
         ensures failed { IsErrOf result Failed ↔ (failed self.old ≡ true) }
         ensures broken { IsErr result ↔ (failed self.new ≡ true) }
         ensures ok { OnOk result (after (begin_structure (site_of schema.now)) (state self.old) ≡ Ok (state self.new)) }
         ensures refused { IfErr result (λ e. IsFault e → after (begin_structure (site_of schema.now)) (state self.old) ≡ Err e) };
 
-    /// Ends the structure that is open.
+    /// Ends the structure or the union that is open.
     fn end_struct(&mut self) -> Result<(), SerdeError>
         ensures failed { IsErrOf result Failed ↔ (failed self.old ≡ true) }
         ensures broken { IsErr result ↔ (failed self.new ≡ true) }
@@ -63,7 +63,21 @@ pub trait ShapeSerializer {
         ensures ok { OnOk result (after list_ends (state self.old) ≡ Ok (state self.new)) }
         ensures refused { IfErr result (λ e. IsFault e → after list_ends (state self.old) ≡ Err e) };
 
-    /// Writes a null element.
+    /// Begins a map, of a number of entries where that is told.
+    fn begin_map(&mut self, schema: &Schema<'_>, length: Option<usize>) -> Result<(), SerdeError>
+        ensures failed { IsErrOf result Failed ↔ (failed self.old ≡ true) }
+        ensures broken { IsErr result ↔ (failed self.new ≡ true) }
+        ensures ok { OnOk result (after (map_begins (site_of schema.now) length) (state self.old) ≡ Ok (state self.new)) }
+        ensures refused { IfErr result (λ e. IsFault e → after (map_begins (site_of schema.now) length) (state self.old) ≡ Err e) };
+
+    /// Ends the map that is open. Where the value of a key hasn't come it is `Unwritable`.
+    fn end_map(&mut self) -> Result<(), SerdeError>
+        ensures failed { IsErrOf result Failed ↔ (failed self.old ≡ true) }
+        ensures broken { IsErr result ↔ (failed self.new ≡ true) }
+        ensures ok { OnOk result (after map_ends (state self.old) ≡ Ok (state self.new)) }
+        ensures refused { IfErr result (λ e. IsFault e → after map_ends (state self.old) ≡ Err e) };
+
+    /// Writes a null element, or a null value of a map.
     fn write_null(&mut self, schema: &Schema<'_>) -> Result<(), SerdeError>
         ensures failed { IsErrOf result Failed ↔ (failed self.old ≡ true) }
         ensures broken { IsErr result ↔ (failed self.new ≡ true) }
@@ -105,7 +119,8 @@ pub trait ShapeSerializer {
         ensures ok { OnOk result (after (scalar_of (site_of schema.now) (whole value)) (state self.old) ≡ Ok (state self.new)) }
         ensures refused { IfErr result (λ e. IsFault e → after (scalar_of (site_of schema.now) (whole value)) (state self.old) ≡ Err e) };
 
-    /// Writes a text.
+    /// Writes a text: in a map a key, and where its values are strings in turn a key and a value. In a key's place
+    /// nothing else can be written.
     fn write_string(&mut self, schema: &Schema<'_>, value: &str) -> Result<(), SerdeError>
         ensures failed { IsErrOf result Failed ↔ (failed self.old ≡ true) }
         ensures broken { IsErr result ↔ (failed self.new ≡ true) }
@@ -115,7 +130,7 @@ pub trait ShapeSerializer {
     // No call takes back a byte.
     ghost grows: { (e : Event) (s t : State) → after e s ≡ Ok t → (more : List ℕ) × (out t ≡ out s ++ more) };
 
-    // Calls nest.
+    // Calls nest, and in a map a key and its value come in turn.
     ghost nested: { IsNested after open_in };
 }
 

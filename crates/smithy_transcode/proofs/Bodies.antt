@@ -25,14 +25,14 @@ pub json_adds : (b : Bool) (site : Site) (v : Value) (s : JsonState) → s ≡ f
     → write json_after site v s ≡ Ok (json_body b site v)
 json_adds b site v s fresh nameless =
     ap (write json_after site v) fresh
-    ∙ value_adds site v b [] false []
+    ∙ value_adds site v b [] false [] [] refl
     ∙ ap (λ key. Ok (state b (key ++ canonical_json b site v) true [])) (no_key b site.view nameless)
 
 abbrev pub cbor_body : Site → Value → CborState
 cbor_body site v = record { out = canonical_cbor site v; frames = [] }
 
 pub cbor_adds : (site : Site) (v : Value) (s : CborState) → s ≡ fresh_cbor_state → write cbor_after site v s ≡ Ok (cbor_body site v)
-cbor_adds site v s fresh = ap (write cbor_after site v) fresh ∙ cbor_value_adds site v fresh_cbor_state
+cbor_adds site v s fresh = ap (write cbor_after site v) fresh ∙ cbor_value_adds site v [] [] [] refl
 
 -- which is the body of the root, at the schema of the root
 pub json_is_body : (w : Wire) (b : Bool) (s : Schema) (t : Table) (root : ℕ) (v : Value) → w ≡ Json b → site_of s ≡ shape_site t root

@@ -1,13 +1,18 @@
 pub mod Begun
 pub mod Bodies
 mod CompactVariants
+mod EntryOrder
+mod Inner
 mod Lists
 pub mod Mapped
-mod MemberOrder
+mod Maps
 mod ReadContainers
 mod ReadLists
+mod ReadMaps
 mod ReadStructures
+mod ReadUnions
 mod ReadViews
 pub mod Spelled
 mod Structures
 mod Transcodings
+mod Unions

@@ -4,10 +4,10 @@ use Rattle.std.specs.Option.{option_map_or}
 use Rattle.std.proofs.Math.Nat.{le-max_left, le-max_right}
 use Rattle.smithy_schema.specs.declared.error.SerdeError.{SerdeError}
 use Rattle.smithy_schema.specs.declared.place.Place.{Place}
-use Rattle.smithy_schema.specs.Table.{Table, Kind, scalar, structure_of, list_of, nothing, list_shape_of, place_in}
+use Rattle.smithy_schema.specs.Table.{Table, Kind, list_of, list_shape_of, place_in}
 use Rattle.smithy_schema.specs.Site.{Site, kind_at, element_site, nameless_site, site_of_element, element_of}
 use Rattle.smithy_schema.specs.Fits.{FitsOr, ElementsFit}
-use Rattle.smithy_schema.specs.Value.{Value, scalar_value, list, structure, null_element, values_of, nesting, elements_nesting}
+use Rattle.smithy_schema.specs.Value.{Value, scalar_value, list, map as mapped, structure, union, null_element, values_of, nesting, elements_nesting}
 use Rattle.smithy_schema.specs.Writing.{Event, Writer, write, run, count_of, element_events, begin_list, end_list}
 use Rattle.smithy_schema.proofs.WritingLemmas.{call_made, call_refused, child_written, child_refused}
 
@@ -54,19 +54,19 @@ element_refused after site v vs ws s e is refused = rw (is, append_assoc) (child
 -- the place of the elements
 element_place : (table : Table) (kind : Kind) (member : Site) (place : Place) → Some member ≡ option_map (site_of_element table) (list_shape_of kind) → place_in kind None ≡ Some place
     → (member.table ≡ table) × (member.place ≡ place)
-element_place table (scalar s) member place found is = absurd (let none : Some member ≡ None = found in cc)
-element_place table (structure_of ms) member place found is = absurd (let none : Some member ≡ None = found in cc)
 element_place table (list_of l) member place found is =
     let same : member ≡ site_of_element table l = cc in
     let there : l.place ≡ place = cc in
     (ap (λ (s : Site). s.table) same, ap (λ (s : Site). s.place) same ∙ there)
-element_place table nothing member place found is = absurd (let none : Some member ≡ None = found in cc)
+element_place table _ member place found is = absurd (let none : Some member ≡ None = found in cc)
 
 -- a value of the place stands also where a null may stand
 pub fits_or_null : (table : Table) (place : Place) (nulls : Bool) (v : Value) → FitsOr table place nulls v → FitsOr table place true v
 fits_or_null table place nulls (scalar_value x) fits = fits
 fits_or_null table place nulls (list vs) fits = fits
+fits_or_null table place nulls (mapped es) fits = fits
 fits_or_null table place nulls (structure ms) fits = fits
+fits_or_null table place nulls (union n v) fits = fits
 fits_or_null table place nulls null_element fits = refl
 
 pub element_fits : (site member child : Site) (v : Value) (vs ws : List Value) → Some member ≡ element_site site → child ≡ nameless_site member → vs ≡ v ∷ ws

@@ -1,7 +1,7 @@
 -- A container that is half read, of any kind and on any wire.
 use Rattle.std.proofs.Common.{◌≡◌, ℕ, suc, ◌<◌, List, [], ◌∷◌, map, Option, Some, None, true, false, refl, sym, ◌∙◌, ap, subst}
 use Rattle.smithy_schema.specs.declared.place.Place.{Place}
-use Rattle.smithy_schema.specs.Table.{Table, Kind, scalar, structure_of, list_of, nothing, kind_of, place_in, IsStructure, IsSparse}
+use Rattle.smithy_schema.specs.Table.{Table, Kind, structure_of, union_of, kind_of, place_in, IsStructure, HasMembers, IsSparse}
 use Rattle.smithy_schema.specs.Value.{Value}
 use Rattle.smithy_schema.specs.Container.{container_of}
 use Rattle.smithy_schema.specs.Lemmas.Options.{same_some}
@@ -75,23 +75,26 @@ begin w u max laws over below s0 s t p k kind enters = record {
       (found.children, moved u s0.input t p (suc (depth s0)) found.inside s.at found.mark s.inner.mark found.children e same.0 same.1 found.chain, found.means);
 }
 
--- a child and its end are determined by the step
-pub no_place : (k : Kind) → IsStructure k → (q : Place) → place_in k None ≡ Some q → ⊥
-no_place (scalar s) h q e = elim h [ ]
-no_place (structure_of members) h q e = cc
-no_place (list_of l) h q e = elim h [ ]
-no_place nothing h q e = elim h [ ]
+pub structure_has_members : (k : Kind) → IsStructure k → HasMembers k
+structure_has_members (structure_of members) h = tt
+structure_has_members _ h = absurd h
 
-pub not_both : (k : Kind) → IsStructure k → IsSparse k → ⊥
-not_both (scalar s) h l = l
+-- where there are members, a child without a position has no place, and no null stands
+pub no_place : (k : Kind) → HasMembers k → (q : Place) → place_in k None ≡ Some q → ⊥
+no_place (structure_of members) h q e = cc
+no_place (union_of members) h q e = cc
+no_place _ h q e = h
+
+pub not_both : (k : Kind) → HasMembers k → IsSparse k → ⊥
 not_both (structure_of members) h l = l
-not_both (list_of e) h l = h
-not_both nothing h l = l
+not_both (union_of members) h l = l
+not_both _ h l = h
 
 -- a null is no value
 null_or_value : (w : Relations) → IsLawful w → (i : List ℕ) (t : Table) (p : Place) (d a : ℕ) (v : Value) (e f : ℕ) → w.stands i t p d a v e → w.nulls i d a f → ⊥
 null_or_value w laws i t p d a v e f stands nulls = let both : true ≡ false = sym (laws.null_begins i d a f nulls) ∙ laws.value_begins i t p d a v e stands in cc
 
+-- a child and its end are determined by the step
 pub same_child : (w : Relations) → IsLawful w → (i : List ℕ) (t : Table) (p : Place) (d : ℕ) (key : Option (List ℕ)) (x y : Child) (c f g : ℕ)
     → IsChild w i t p d key x c f → IsChild w i t p d key y c g → (x ≡ y) × (f ≡ g)
 same_child w laws i t p d key (child_value a m v) (child_value b n u) c f g h k =
@@ -101,12 +104,12 @@ same_child w laws i t p d key (child_value a m v) (child_value b n u) c f g h k 
     let values : v ≡ u = laws.same_value i t k.2.0 d c v u f g moved k.2.2 in
     (ap (λ z. child_value z m v) (h.0 ∙ sym k.0) ∙ ap (λ z. child_value b z v) positions ∙ ap (child_value b n) values, laws.same_end i t k.2.0 d c v u f g moved k.2.2)
 same_child w laws i t p d key (child_value a m v) (child_null b) c f g h k = absurd (null_or_value w laws i t h.2.0 d c v f g h.2.2 k.2)
-same_child w laws i t p d key (child_value a m v) (child_unknown b) c f g h k = absurd (no_place _ k.1 h.2.0 (ap (place_in (kind_of t p)) (sym (h.1 ∙ k.2)) ∙ h.2.1))
+same_child w laws i t p d key (child_value a m v) (child_unknown b) c f g h k = absurd (no_place _ (structure_has_members _ k.1) h.2.0 (ap (place_in (kind_of t p)) (sym (h.1 ∙ k.2)) ∙ h.2.1))
 same_child w laws i t p d key (child_null a) (child_value b n u) c f g h k = absurd (null_or_value w laws i t k.2.0 d c u g f k.2.2 h.2)
 same_child w laws i t p d key (child_null a) (child_null b) c f g h k = (ap child_null (h.0 ∙ sym k.0), laws.same_null i d c f g h.2 k.2)
-same_child w laws i t p d key (child_null a) (child_unknown b) c f g h k = absurd (not_both _ k.1 h.1)
-same_child w laws i t p d key (child_unknown a) (child_value b n u) c f g h k = absurd (no_place _ h.1 k.2.0 (ap (place_in (kind_of t p)) (sym (k.1 ∙ h.2)) ∙ k.2.1))
-same_child w laws i t p d key (child_unknown a) (child_null b) c f g h k = absurd (not_both _ h.1 k.1)
+same_child w laws i t p d key (child_null a) (child_unknown b) c f g h k = absurd (not_both _ (structure_has_members _ k.1) h.1)
+same_child w laws i t p d key (child_unknown a) (child_value b n u) c f g h k = absurd (no_place _ (structure_has_members _ h.1) k.2.0 (ap (place_in (kind_of t p)) (sym (k.1 ∙ h.2)) ∙ k.2.1))
+same_child w laws i t p d key (child_unknown a) (child_null b) c f g h k = absurd (not_both _ (structure_has_members _ h.1) k.1)
 same_child w laws i t p d key (child_unknown a) (child_unknown b) c f g h k = (ap child_unknown (h.0 ∙ sym k.0), laws.same_skip i d c f g h.3 k.3)
 
 -- after the step, children that complete the container begin with one that is behind this step
@@ -198,6 +201,34 @@ no_child w u max over below s0 s s1 t p k worth key inside steps none v e stands
     let found = inside.only e v stands in
     let first = first_of u over s0.input t p (suc (depth s0)) s.at s.inner.mark key s1.at s1.inner.mark found.0 e (below.steps s0.input t p (suc (depth s0)) s.at s.inner.mark key s1.at s1.inner.mark (stepped w u max s0 s s1 t p k worth key inside steps)) found.1 in
     none_here first.0 first.2 first.4
+
+none_is_some : {A : Type 0} (o : Option A) (v : A) → o ≡ None → o ≡ Some v → ⊥
+none_is_some o v none some = cc
+
+-- nothing stands where no child behind a step makes a container
+pub no_worth : (w u : Relations) (max : ℕ) → IsLawful u → IsBelow w u → (s0 s s1 : Cursor) (t : Table) (p : Place) (k : Within) (worth : List Child → Option Value) (key : Option (List ℕ))
+    → InContainer w u max s0 s t p k worth → Steps w s s1 t p key
+    → ((x : Child) (f : ℕ) → IsChild u s1.input t p (depth s1) key x s1.at f → (xs : List Child) → worth (x ∷ xs) ≡ None)
+    → (v : Value) (e : ℕ) → u.stands s0.input t p (depth s0) s0.at v e → ⊥
+no_worth w u max over below s0 s s1 t p k worth key inside steps none v e stands =
+    let none_here : (x : Child) (f : ℕ) → IsChild u s0.input t p (suc (depth s0)) key x s1.at f → (xs : List Child) → worth (x ∷ xs) ≡ None = rw (steps.input, inside.input, steps.outer, inside.outer) at none in
+    let found = inside.only e v stands in
+    let first = first_of u over s0.input t p (suc (depth s0)) s.at s.inner.mark key s1.at s1.inner.mark found.0 e (below.steps s0.input t p (suc (depth s0)) s.at s.inner.mark key s1.at s1.inner.mark (stepped w u max s0 s s1 t p k worth key inside steps)) found.1 in
+    none_is_some (worth found.0) v (ap worth first.3 ∙ none_here first.0 first.2 first.4 first.1) found.2
+
+no_children : (w : Relations) → IsLawful w → (i : List ℕ) (t : Table) (p : Place) (d b : ℕ) (m : Mark) (xs : List Child) (e f : ℕ) → w.closes i t p d b m f → Chain w i t p d b m xs e → xs ≡ []
+no_children w laws i t p d b m [] e f closes chain = refl
+no_children w laws i t p d b m (x ∷ xs) e f closes chain = absurd (laws.step_or_close i t p d b m chain.0 chain.1 chain.2 f chain.4 closes)
+
+-- nothing stands where the container ends too early
+pub ends_early : (w u : Relations) (max : ℕ) → IsLawful u → IsBelow w u → (s0 s s1 : Cursor) (t : Table) (p : Place) (k : Within) (worth : List Child → Option Value)
+    → InContainer w u max s0 s t p k worth → Leaves w s s1 t p → worth [] ≡ None
+    → (v : Value) (e : ℕ) → u.stands s0.input t p (depth s0) s0.at v e → ⊥
+ends_early w u max over below s0 s s1 t p k worth inside leaves none v e stands =
+    let found = inside.only e v stands in
+    let closes : w.closes s0.input t p (suc (depth s0)) s.at s.inner.mark s1.at = rw (inside.input, inside.outer) at leaves.closes in
+    let empty = no_children u over s0.input t p (suc (depth s0)) s.at s.inner.mark found.0 e s1.at (below.closes s0.input t p (suc (depth s0)) s.at s.inner.mark s1.at closes) found.1 in
+    none_is_some (worth found.0) v (ap worth empty ∙ none) found.2
 
 -- the loop over children ends
 pub left_falls : (w u : Relations) (max : ℕ) → IsLawful w → (s0 s s1 s2 : Cursor) (t : Table) (p : Place) (k : Within) (worth : List Child → Option Value) (key : Option (List ℕ)) (x : Child)

@@ -2,12 +2,14 @@
 use Rattle.std.proofs.Common.{◌≡◌, ◌&&◌, ℕ, List, [], ◌∷◌, ◌++◌, map, Option, Some, None, Bool, true, false, option_map, refl, sym, ◌∙◌, ap}
 use Rattle.smithy_schema.specs.declared.place.Place.{Place}
 use Rattle.smithy_schema.specs.declared.schema.Schema.{Schema}
-use Rattle.smithy_schema.specs.Site.{Site, site_of, site_of_element, element_site, kind_at}
-use Rattle.smithy_schema.specs.Table.{Table, Kind, scalar, structure_of, list_of, nothing, kind_of, place_in, IsList, IsSparse, IsStructure, is_sparse, list_shape_of}
+use Rattle.smithy_schema.specs.Site.{Site, site_of, inner_site, kind_at}
+use Rattle.smithy_schema.specs.Table.{Table, Kind, list_of, map_of, kind_of, place_in, IsList, IsSparse, is_sparse}
 use Rattle.smithy_schema.specs.Value.{Value, list, values_of, null_element}
 use Rattle.smithy_schema.specs.Container.{elements_from, container_of}
+use Rattle.smithy_schema.specs.Lemmas.Kinds.{no_list_and_structure}
 use Rattle.smithy_schema.specs.Lemmas.Options.{same_some}
 use Rattle.smithy_schema.specs.Reading.{Cursor, in_list, depth, Relations, Child, child_value, child_unknown, child_null, entry_of, IsChild, IsContainer, IsLawful, IsBelow, Passes, Reads, Enters, Steps, StandsNot, NullsNot, null_is_due}
+use Rattle.smithy_transcode.proofs.Inner.{inner_in}
 use Rattle.smithy_transcode.proofs.ReadContainers.{InContainer, worth_as, begin, child_read, no_child}
 
 -- the list that more children make behind these values
@@ -15,28 +17,17 @@ abbrev pub list_value : Bool → List Value → List Child → Option Value
 list_value sparse vs xs = option_map (λ us. list (values_of us)) (elements_from sparse vs (map entry_of xs))
 
 list_folds : (k : Kind) → IsList k → (xs : List Child) → container_of k (map entry_of xs) ≡ list_value (is_sparse k) [] xs
-list_folds (scalar s) h xs = elim h [ ]
-list_folds (structure_of members) h xs = elim h [ ]
 list_folds (list_of l) h xs = refl
-list_folds nothing h xs = elim h [ ]
+list_folds _ h xs = absurd h
 
 list_contains : (k : Kind) → IsList k → IsContainer k
-list_contains (scalar s) h = elim h [ ]
-list_contains (structure_of members) h = elim h [ ]
 list_contains (list_of l) h = tt
-list_contains nothing h = elim h [ ]
+list_contains _ h = absurd h
 
-not_structure : (k : Kind) → IsList k → IsStructure k → ⊥
-not_structure (scalar s) h l = l
-not_structure (structure_of members) h l = h
-not_structure (list_of e) h l = l
-not_structure nothing h l = l
-
-sparse_is : (k : Kind) → IsSparse k → is_sparse k ≡ true
-sparse_is (scalar s) h = elim h [ ]
-sparse_is (structure_of members) h = elim h [ ]
+pub sparse_is : (k : Kind) → IsSparse k → is_sparse k ≡ true
 sparse_is (list_of l) h = h
-sparse_is nothing h = elim h [ ]
+sparse_is (map_of m) h = h
+sparse_is _ h = absurd h
 
 null_folds : (sparse : Bool) → sparse ≡ true → (vs : List Value) (xs : List Child) → list_value sparse vs (child_null None ∷ xs) ≡ list_value sparse (vs ++ null_element ∷ []) xs
 null_folds true h vs xs = refl
@@ -59,13 +50,11 @@ null_read w u max over below s0 s s1 s2 t p vs inside steps sparse nulls passes 
     (child_read w u max over below s0 s s1 s2 t p in_list (list_value (is_sparse (kind_of t p)) vs) None (child_null None) inside steps (refl, sparse, nulls) passes)
 
 -- the place of the elements, as a schema of them tells it
-list_place : (k : Kind) (t : Table) (e : Site) → IsList k → Some e ≡ option_map (site_of_element t) (list_shape_of k) → (e.table ≡ t) × (place_in k None ≡ Some e.place)
-list_place (scalar s) t e h is = elim h [ ]
-list_place (structure_of members) t e h is = elim h [ ]
+list_place : (k : Kind) (t : Table) (e : Site) → IsList k → Some e ≡ inner_in t k → (e.table ≡ t) × (place_in k None ≡ Some e.place)
 list_place (list_of l) t e h is = (ap (λ (x : Site). x.table) (same_some _ _ is), ap (λ (x : Site). Some x.place) (sym (same_some _ _ is)))
-list_place nothing t e h is = elim h [ ]
+list_place _ t e h is = absurd h
 
-pub element_place : (o e : Schema) → IsList (kind_at (site_of o)) → Some (site_of e) ≡ element_site (site_of o) → (e.shapes.now ≡ o.shapes.now) × (place_in (kind_at (site_of o)) None ≡ Some e.place)
+pub element_place : (o e : Schema) → IsList (kind_at (site_of o)) → Some (site_of e) ≡ inner_site (site_of o) → (e.shapes.now ≡ o.shapes.now) × (place_in (kind_at (site_of o)) None ≡ Some e.place)
 element_place o e h is = list_place (kind_at (site_of o)) o.shapes.now (site_of e) h is
 
 element_only : (w : Relations) (s1 : Cursor) (t : Table) (p q : Place) → IsList (kind_of t p) → place_in (kind_of t p) None ≡ Some q
@@ -76,9 +65,9 @@ element_only w s1 t p q kind place none no_null (child_value k n v) f child =
     let target : child.2.0 ≡ q = cc in
     none v f (rw (← target) child.2.2)
 element_only w s1 t p q kind place none no_null (child_null k) f child = no_null child.1 f child.2
-element_only w s1 t p q kind place none no_null (child_unknown k) f child = not_structure _ kind child.1
+element_only w s1 t p q kind place none no_null (child_unknown k) f child = no_list_and_structure _ kind child.1
 
-due_begins : (d b : Bool) → d ≡ true → (d && b) ≡ false → b ≡ false
+pub due_begins : (d b : Bool) → d ≡ true → (d && b) ≡ false → b ≡ false
 due_begins true b due none = none
 due_begins false b due none = cc
 
@@ -94,7 +83,7 @@ element_refused w u max over below s0 s s1 t p q worth kind inside steps place n
     let begins = sym (below.begins_null s1.input s1.at) ∙ due_begins s1.due (w.begins_null s1.input s1.at) steps.due (no_null sparse) in
     let both : true ≡ false = sym (over.null_begins s1.input (depth s1) s1.at f nulls) ∙ begins in cc))
 
-and_true : (d b : Bool) → (d && b) ≡ true → b ≡ true
+pub and_true : (d b : Bool) → (d && b) ≡ true → b ≡ true
 and_true true b h = h
 and_true false b h = cc
 

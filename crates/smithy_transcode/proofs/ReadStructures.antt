@@ -5,28 +5,24 @@ use Rattle.std.proofs.lemmas.Option.{slice_get_past}
 use Rattle.smithy_schema.specs.declared.place.Place.{Place}
 use Rattle.smithy_schema.specs.declared.schema.Schema.{Schema}
 use Rattle.smithy_schema.specs.declared.read.Step.TheVariants.{Member as ToMember, Unknown}
-use Rattle.smithy_schema.specs.Table.{Table, Kind, scalar, structure_of, list_of, nothing, kind_of, place_in, members_of, Member, IsStructure}
+use Rattle.smithy_schema.specs.Table.{Table, Kind, structure_of, union_of, kind_of, place_in, members_of, Member, IsStructure, HasMembers}
 use Rattle.smithy_schema.specs.Site.{Site, site_of, site_of_member, member_site, kind_at}
 use Rattle.smithy_schema.specs.Value.{Value, MemberValues, no_member_values, put_member, structure}
 use Rattle.smithy_schema.specs.Container.{members_from, container_of}
 use Rattle.smithy_schema.specs.Reading.{Cursor, in_structure, depth, Relations, Child, child_value, child_unknown, child_null, entry_of, IsChild, IsContainer, IsLawful, IsBelow, Passes, Reads, Enters, MatchStep}
-use Rattle.smithy_transcode.proofs.ReadContainers.{InContainer, worth_as, begin, named_above, child_read, no_child, no_place, not_both}
+use Rattle.smithy_transcode.proofs.ReadContainers.{InContainer, worth_as, begin, named_above, child_read, no_child, no_place, not_both, structure_has_members}
 
 -- the structure that more children make of these fields
 abbrev pub structure_value : MemberValues → List Child → Option Value
 structure_value fs xs = option_map structure (members_from fs (map entry_of xs))
 
 structure_folds : (k : Kind) → IsStructure k → (xs : List Child) → container_of k (map entry_of xs) ≡ structure_value no_member_values xs
-structure_folds (scalar s) h xs = elim h [ ]
 structure_folds (structure_of members) h xs = refl
-structure_folds (list_of l) h xs = elim h [ ]
-structure_folds nothing h xs = elim h [ ]
+structure_folds _ h xs = absurd h
 
 pub structure_contains : (k : Kind) → IsStructure k → IsContainer k
-structure_contains (scalar s) h = elim h [ ]
 structure_contains (structure_of members) h = tt
-structure_contains (list_of l) h = elim h [ ]
-structure_contains nothing h = elim h [ ]
+structure_contains _ h = absurd h
 
 pub begin_structure : (w u : Relations) (max : ℕ) → IsLawful w → IsLawful u → IsBelow w u → (s0 s : Cursor) (t : Table) (p : Place) → IsStructure (kind_of t p) → Enters w max s0 s t p in_structure → InContainer w u max s0 s t p in_structure (structure_value no_member_values)
 begin_structure w u max laws over below s0 s t p kind enters = worth_as w u max s0 s t p in_structure _ _ (structure_folds _ kind) (begin w u max laws over below s0 s t p in_structure (structure_contains _ kind) enters)
@@ -44,12 +40,11 @@ no_member t n s h = let e : None ≡ Some s = sym (ap (option_map (site_of_membe
 
 told_in : (k : Kind) (t : Table) (n : ℕ) (s : Site) → option_map (site_of_member t n) (slice_get (members_of k) n) ≡ Some s
     → (s.table ≡ t) × (place_in k (Some n) ≡ Some s.place) × (s.view.index ≡ Some n)
-told_in (scalar x) t n s h = absurd (no_member t n s h)
 told_in (structure_of ms) t n s h = member_told (slice_get ms n) t n s h
-told_in (list_of l) t n s h = absurd (no_member t n s h)
-told_in nothing t n s h = absurd (no_member t n s h)
+told_in (union_of ms) t n s h = member_told (slice_get ms n) t n s h
+told_in _ t n s h = absurd (no_member t n s h)
 
-site_told : (o : Site) (n : ℕ) (s : Site) → member_site o n ≡ Some s
+pub site_told : (o : Site) (n : ℕ) (s : Site) → member_site o n ≡ Some s
     → (s.table ≡ o.table) × (place_in (kind_at o) (Some n) ≡ Some s.place) × (s.view.index ≡ Some n)
 site_told o n s h = told_in (kind_at o) o.table n s h
 
@@ -75,7 +70,7 @@ unknown_skipped w u max over below s0 s s1 s2 o fs kind inside step skips passes
     child_read w u max over below s0 s s1 s2 o.table o.place in_structure (structure_value fs) (Some step.0) (child_unknown (Some step.0)) inside step.1 (refl, kind, step.2, skips) passes
 
 -- a member's child is a value, and an unknown entry's child is skipped
-member_only : (w u : Relations) → IsBelow w u → (s s1 : Cursor) (o : Site) (m : Schema) → IsStructure (kind_at o) → (step : MatchStep (ToMember m) w s s1 o) (x : Child) (f : ℕ)
+member_only : (w u : Relations) → IsBelow w u → (s s1 : Cursor) (o : Site) (m : Schema) → HasMembers (kind_at o) → (step : MatchStep (ToMember m) w s s1 o) (x : Child) (f : ℕ)
     → IsChild u s1.input o.table o.place (depth s1) (Some step.0) x s1.at f → (v : Value) × u.stands s1.input m.shapes.now m.place (depth s1) s1.at v f
 member_only w u below s s1 o m kind step (child_value k n v) f child =
     let told = site_told o step.1 (site_of m) step.4 in
@@ -87,19 +82,20 @@ member_only w u below s s1 o m kind step (child_null k) f child = absurd (not_bo
 member_only w u below s s1 o m kind step (child_unknown k) f child =
     absurd (let e : Some step.1 ≡ None = sym step.3 ∙ named_above w u below o.table o.place (Some step.0) ∙ child.2 in cc)
 
-pub member_refused : (w u : Relations) (max : ℕ) → IsLawful u → IsBelow w u → (s0 s s1 : Cursor) (o : Site) (m : Schema) (fs : MemberValues)
-    → IsStructure (kind_at o) → InContainer w u max s0 s o.table o.place in_structure (structure_value fs) → MatchStep (ToMember m) w s s1 o
+-- nothing stands where no value of the member does
+pub member_refused : (w u : Relations) (max : ℕ) → IsLawful u → IsBelow w u → (s0 s s1 : Cursor) (o : Site) (m : Schema) (worth : List Child → Option Value)
+    → HasMembers (kind_at o) → InContainer w u max s0 s o.table o.place in_structure worth → MatchStep (ToMember m) w s s1 o
     → ((v : Value) (e : ℕ) → u.stands s1.input m.shapes.now m.place (depth s1) s1.at v e → ⊥)
     → (v : Value) (e : ℕ) → u.stands s0.input o.table o.place (depth s0) s0.at v e → ⊥
-member_refused w u max over below s0 s s1 o m fs kind inside step none =
-    no_child w u max over below s0 s s1 o.table o.place in_structure (structure_value fs) (Some step.0) inside step.2
+member_refused w u max over below s0 s s1 o m worth kind inside step none =
+    no_child w u max over below s0 s s1 o.table o.place in_structure worth (Some step.0) inside step.2
     (λ x f child. let found = member_only w u below s s1 o m kind step x f child in none found.0 f found.1)
 
 unknown_only : (w u : Relations) → IsBelow w u → (s s1 : Cursor) (o : Site) → IsStructure (kind_at o) → (step : MatchStep Unknown w s s1 o) (x : Child) (f : ℕ)
     → IsChild u s1.input o.table o.place (depth s1) (Some step.0) x s1.at f → u.skips s1.input (depth s1) s1.at f
 unknown_only w u below s s1 o kind step (child_value k n v) f child =
-    absurd (no_place _ kind child.2.0 (ap (place_in (kind_at o)) (sym (child.1 ∙ sym (named_above w u below o.table o.place (Some step.0)) ∙ step.2)) ∙ child.2.1))
-unknown_only w u below s s1 o kind step (child_null k) f child = absurd (not_both _ kind child.1)
+    absurd (no_place _ (structure_has_members _ kind) child.2.0 (ap (place_in (kind_at o)) (sym (child.1 ∙ sym (named_above w u below o.table o.place (Some step.0)) ∙ step.2)) ∙ child.2.1))
+unknown_only w u below s s1 o kind step (child_null k) f child = absurd (not_both _ (structure_has_members _ kind) child.1)
 unknown_only w u below s s1 o kind step (child_unknown k) f child = child.3
 
 pub unknown_refused : (w u : Relations) (max : ℕ) → IsLawful u → IsBelow w u → (s0 s s1 : Cursor) (o : Site) (fs : MemberValues)

@@ -1,5 +1,4 @@
 -- Words that private clauses cite.
 pub mod Tree
-pub mod CompactValue
-pub mod Members
+pub mod Entries
 pub mod Order

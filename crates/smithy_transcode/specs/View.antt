@@ -1,8 +1,14 @@
 -- The value that a tree of the program stands for.
-use Rattle.std.specs.Prelude.{ℕ, List, [], ◌∷◌, map, string_bytes}
-use Rattle.smithy_schema.specs.Value.{boolean, whole, text, Value, scalar_value, list, structure, null_element, values_of, MemberValues, no_member_values, member_value}
+use Rattle.std.specs.Prelude.{ℕ, List, [], ◌∷◌, map as mapped, String, string_bytes, box_value}
+use Rattle.std.specs.declared.alloc.Global.{Global}
+use Rattle.smithy_schema.specs.Value.{boolean, whole, text, Value, scalar_value, list, map, structure, union, null_element, values_of, MapEntries, no_map_entries, map_entry, MemberValues, no_member_values, member_value}
 use Rattle.smithy_transcode.specs.declared.value.Value as kept
 use Rattle.smithy_transcode.specs.declared.value.Value.TheOpen.{Value-F}
+
+-- entries by the bytes of their keys, in order
+abbrev pub map_entries_of : List (String Global × Value) → MapEntries
+map_entries_of [] = no_map_entries
+map_entries_of (e ∷ es) = map_entry (string_bytes e.0) e.1 (map_entries_of es)
 
 -- members by their positions, in order
 abbrev pub member_values_of : List (ℕ × Value) → MemberValues
@@ -15,14 +21,19 @@ view_step (Value-F.Boolean b) = scalar_value (boolean b)
 view_step (Value-F.Whole n) = scalar_value (whole n)
 view_step (Value-F.Text s) = scalar_value (text (string_bytes s))
 view_step (Value-F.List v) = list (values_of v.items)
+view_step (Value-F.Map m) = map (map_entries_of m.entries)
 view_step (Value-F.Structure m) = structure (member_values_of m.entries)
+view_step (Value-F.Union n v) = union n (box_value v)
 view_step Value-F.Null = null_element
 
 abbrev pub view : kept.Value → Value
 view = kept.fold-Value Value view_step
 
+abbrev pub view_entries : List (String Global × kept.Value) → MapEntries
+view_entries es = map_entries_of (mapped (λ (e : String Global × kept.Value). (e.0, view e.1)) es)
+
 abbrev pub view_members : List (ℕ × kept.Value) → MemberValues
-view_members ms = member_values_of (map (λ (m : ℕ × kept.Value). (m.0, view m.1)) ms)
+view_members ms = member_values_of (mapped (λ (m : ℕ × kept.Value). (m.0, view m.1)) ms)
 
 abbrev pub view_elements : List kept.Value → List Value
-view_elements vs = map view vs
+view_elements vs = mapped view vs

@@ -1,11 +1,11 @@
-//! The tree of a transcoding, which keeps the members of a structure in a vector.
+//! The tree of a transcoding, which keeps the members of a structure and the entries of a map in a vector.
 ghost use Rattle.std.specs.Prelude.{◌≡◌};
 ghost use Rattle.smithy_schema.specs.Value.{list, values_of};
-ghost use Rattle.smithy_transcode.specs.Private.CompactValue.{compact_view, compact_elements, compact_members};
-ghost use Rattle.smithy_transcode.specs.Private.Members.{member_entries};
+ghost use Rattle.smithy_transcode.specs.Private.Tree.{compact_view, compact_elements, compact_entries as compact_entry_views, compact_members};
+ghost use Rattle.smithy_transcode.specs.Private.Entries.{kept_entries};
 
-use crate::compact_members::CompactMembers;
-use crate::member_iter::MemberIter;
+use crate::compact_entries::CompactEntries;
+use crate::entry_iter::EntryIter;
 use crate::tree::{Part, Tree};
 use smithy_schema::SerdeError;
 use std::alloc::Global;
@@ -22,20 +22,30 @@ pub enum CompactValue {
     Text(String),
     /// The elements of a list, in their order.
     List(Vec<CompactValue>),
+    /// The entries of a map, in the order of their keys.
+    Map(Vec<(String, CompactValue)>),
+    /// The same, where many came out of order.
+    TreeMap(BTreeMap<String, CompactValue>),
     /// The members of a structure, in the order of their positions.
     Structure(Vec<(u32, CompactValue)>),
     /// The same, where many came out of order.
     StructureMap(BTreeMap<u32, CompactValue>),
-    /// A null among the elements of a sparse list.
+    /// The member of a union by its position, and its value.
+    Union(u32, Box<CompactValue>),
+    /// A null among the elements of a sparse list or the values of a sparse map.
     Null,
 }
 
 impl Tree for CompactValue {
-    type Members = CompactMembers<CompactValue>;
+    type Entries = CompactEntries<String, CompactValue>;
+
+    type Members = CompactEntries<u32, CompactValue>;
 
     ghost view = { compact_view };
 
-    ghost view_members = { λ m. compact_members (member_entries m) };
+    ghost view_entries = { λ m. compact_entry_views (kept_entries m) };
+
+    ghost view_members = { λ m. compact_members (kept_entries m) };
 
     fn boolean(value: bool) -> CompactValue {
         CompactValue::Boolean(value)
@@ -59,24 +69,48 @@ impl Tree for CompactValue {
         CompactValue::List(elements)
     }
 
-    fn no_members(alloc: Global) -> CompactMembers<CompactValue> {
-        CompactMembers::new(alloc)
+    fn no_entries(alloc: Global) -> CompactEntries<String, CompactValue> {
+        CompactEntries::new(alloc)
+    }
+
+    fn set_entry(
+        alloc: Global,
+        entries: &mut CompactEntries<String, CompactValue>,
+        key: String,
+        value: CompactValue,
+    ) -> Result<(), SerdeError> {
+        entries.set(alloc, key, value)
+    }
+
+    fn map(entries: CompactEntries<String, CompactValue>) -> CompactValue {
+        match entries {
+            CompactEntries::Sorted(sorted) => CompactValue::Map(sorted.into_entries()),
+            CompactEntries::Map(map) => CompactValue::TreeMap(map),
+        }
+    }
+
+    fn no_members(alloc: Global) -> CompactEntries<u32, CompactValue> {
+        CompactEntries::new(alloc)
     }
 
     fn set_member(
         alloc: Global,
-        members: &mut CompactMembers<CompactValue>,
+        members: &mut CompactEntries<u32, CompactValue>,
         index: u32,
         value: CompactValue,
     ) -> Result<(), SerdeError> {
         members.set(alloc, index, value)
     }
 
-    fn structure(members: CompactMembers<CompactValue>) -> CompactValue {
+    fn structure(members: CompactEntries<u32, CompactValue>) -> CompactValue {
         match members {
-            CompactMembers::Sorted(sorted) => CompactValue::Structure(sorted.into_entries()),
-            CompactMembers::Map(map) => CompactValue::StructureMap(map),
+            CompactEntries::Sorted(sorted) => CompactValue::Structure(sorted.into_entries()),
+            CompactEntries::Map(map) => CompactValue::StructureMap(map),
         }
+    }
+
+    fn union(alloc: Global, index: u32, value: CompactValue) -> Result<CompactValue, SerdeError> {
+        Ok(CompactValue::Union(index, Box::new(alloc, value)?))
     }
 
     fn part(&self) -> Part<'_, CompactValue> {
@@ -85,10 +119,13 @@ impl Tree for CompactValue {
             CompactValue::Whole(number) => Part::Whole(i128::from(*number)),
             CompactValue::Text(content) => Part::Text(content.as_str()),
             CompactValue::List(elements) => Part::List(elements.as_slice()),
+            CompactValue::Map(entries) => Part::Map(EntryIter::Slice(entries.as_slice())),
+            CompactValue::TreeMap(entries) => Part::Map(EntryIter::Map(entries.iter())),
             CompactValue::Structure(members) => {
-                Part::Structure(MemberIter::Slice(members.as_slice()))
+                Part::Structure(EntryIter::Slice(members.as_slice()))
             }
-            CompactValue::StructureMap(members) => Part::Structure(MemberIter::Map(members.iter())),
+            CompactValue::StructureMap(members) => Part::Structure(EntryIter::Map(members.iter())),
+            CompactValue::Union(index, value) => Part::Union(*index, &**value),
             CompactValue::Null => Part::Null,
         }
     }

@@ -1,18 +1,17 @@
 //! Values of any wire, their reading and writing, and the transcoding of one body.
 #![tactic(auto)]
 
-mod compact_members;
+mod compact_entries;
 mod compact_value;
-mod member_iter;
+mod entry_iter;
 mod reading;
 mod refusal;
-mod sorted_members;
+mod sorted_entries;
 #[cfg(test)]
 mod tests;
 mod transcoding;
 mod tree;
 mod value;
-mod value_tree;
 mod whole_output;
 mod wire;
 mod writing;

@@ -1,6 +1,6 @@
 //! Reading a value tree from any wire.
 ghost use Rattle.std.specs.Prelude.{◌≡◌, ◌↔◌, true, IfOk, IsErrOf};
-ghost use Rattle.smithy_schema.specs.Table.{IsStructure, IsList};
+ghost use Rattle.smithy_schema.specs.Table.{IsStructure, IsUnion, IsList, IsMap};
 ghost use Rattle.smithy_schema.specs.Site.{site_of, kind_at};
 ghost use Rattle.smithy_schema.specs.Reading.{Reads, StandsNot, IsRefused, IsInvalid, ReachesDepth, IsCounted};
 ghost use Rattle.smithy_transcode.specs.View.{view};
@@ -40,6 +40,7 @@ pub fn read_value<D: ShapeDeserializer>(
 
 // The same into any tree.
 #[cycle(read)]
+#[inline(always)]
 pub(crate) fn read_tree<T: Tree, D: ShapeDeserializer>(
     alloc: Global,
     source: &mut D,
@@ -64,11 +65,14 @@ pub(crate) fn read_tree<T: Tree, D: ShapeDeserializer>(
         ShapeType::Long => Ok(T::whole(source.read_long(schema)?)),
         ShapeType::String => Ok(T::text(source.read_string(schema)?)),
         ShapeType::Structure => read_structure::<T, D>(alloc, source, schema),
+        ShapeType::Union => read_union::<T, D>(alloc, source, schema),
         ShapeType::List => read_list::<T, D>(alloc, source, schema),
+        ShapeType::Map => read_map::<T, D>(alloc, source, schema),
     }
 }
 
 #[cycle(read)]
+#[inline(never)]
 fn read_structure<T: Tree, D: ShapeDeserializer>(
     alloc: Global,
     source: &mut D,
@@ -104,6 +108,42 @@ fn read_structure<T: Tree, D: ShapeDeserializer>(
 }
 
 #[cycle(read)]
+#[inline(never)]
+fn read_union<T: Tree, D: ShapeDeserializer>(
+    alloc: Global,
+    source: &mut D,
+    schema: &Schema<'_>,
+) -> Result<T, SerdeError>
+    requires due { (D.state source.old).due ≡ true }
+    requires place { IsUnion (kind_at (site_of schema.now)) }
+    ensures same { D.settings source.new ≡ D.settings source.old }
+    ensures ok { IfOk result (λ v. Reads (D.wire (D.settings source.old)) (D.state source.old) (D.state source.new) schema.now.shapes.now schema.now.place (T.view v)) }
+    ensures refused { IsRefused result → StandsNot (D.wire (D.settings source.old)) (D.state source.old) schema.now.shapes.now schema.now.place }
+    ensures would { D.is_strict (D.settings source.old) → IsInvalid result → StandsNot (D.lifted (D.settings source.old)) (D.state source.old) schema.now.shapes.now schema.now.place }
+    ensures failed { IsErrOf result SerdeError.Failed ↔ ((D.state source.old).failed ≡ true) }
+    ensures readable { IsErrOf result SerdeError.Unwritable → ⊥ }
+    ensures deep { IsErrOf result SerdeError.TooDeep → ReachesDepth (D.wire (D.settings source.old)) (D.max_depth (D.settings source.old)) (D.state source.new) }
+    ensures input { (D.state source.new).input ≡ (D.state source.old).input }
+    ensures counted { D.is_strict (D.settings source.old) → IsCounted (D.wire (D.settings source.old)) (D.state source.old) → IsCounted (D.wire (D.settings source.old)) (D.state source.new) }
+{
+    source.open_struct(schema)?;
+    let Step::Member(member) = source.next_member(schema)? else {
+        source.fail();
+        return Err(SerdeError::InvalidInput);
+    };
+    let Some(index) = member.member_index() else {
+        unreachable!()
+    };
+    let value = read_tree::<T, D>(alloc, source, &member)?;
+    let Step::End = source.next_member(schema)? else {
+        source.fail();
+        return Err(SerdeError::InvalidInput);
+    };
+    T::union(alloc, index, value)
+}
+
+#[cycle(read)]
+#[inline(never)]
 fn read_list<T: Tree, D: ShapeDeserializer>(
     alloc: Global,
     source: &mut D,
@@ -137,4 +177,41 @@ fn read_list<T: Tree, D: ShapeDeserializer>(
         }
     }
     Ok(T::list(elements))
+}
+
+#[cycle(read)]
+#[inline(never)]
+fn read_map<T: Tree, D: ShapeDeserializer>(
+    alloc: Global,
+    source: &mut D,
+    schema: &Schema<'_>,
+) -> Result<T, SerdeError>
+    requires due { (D.state source.old).due ≡ true }
+    requires place { IsMap (kind_at (site_of schema.now)) }
+    ensures same { D.settings source.new ≡ D.settings source.old }
+    ensures ok { IfOk result (λ v. Reads (D.wire (D.settings source.old)) (D.state source.old) (D.state source.new) schema.now.shapes.now schema.now.place (T.view v)) }
+    ensures refused { IsRefused result → StandsNot (D.wire (D.settings source.old)) (D.state source.old) schema.now.shapes.now schema.now.place }
+    ensures would { D.is_strict (D.settings source.old) → IsInvalid result → StandsNot (D.lifted (D.settings source.old)) (D.state source.old) schema.now.shapes.now schema.now.place }
+    ensures failed { IsErrOf result SerdeError.Failed ↔ ((D.state source.old).failed ≡ true) }
+    ensures readable { IsErrOf result SerdeError.Unwritable → ⊥ }
+    ensures deep { IsErrOf result SerdeError.TooDeep → ReachesDepth (D.wire (D.settings source.old)) (D.max_depth (D.settings source.old)) (D.state source.new) }
+    ensures input { (D.state source.new).input ≡ (D.state source.old).input }
+    ensures counted { D.is_strict (D.settings source.old) → IsCounted (D.wire (D.settings source.old)) (D.state source.old) → IsCounted (D.wire (D.settings source.old)) (D.state source.new) }
+{
+    source.open_map(schema)?;
+    let sparse = schema.is_sparse();
+    let Some(inner) = schema.member() else {
+        unreachable!()
+    };
+    let mut entries = T::no_entries(alloc);
+    while let Some(key) = source.next_key()? {
+        if sparse && source.is_null() {
+            source.read_null()?;
+            T::set_entry(alloc, &mut entries, key, T::null())?;
+        } else {
+            let value = read_tree::<T, D>(alloc, source, &inner)?;
+            T::set_entry(alloc, &mut entries, key, value)?;
+        }
+    }
+    Ok(T::map(entries))
 }

@@ -6,9 +6,12 @@ use std::alloc::Global;
 use std::test::Fail;
 
 mod cbor;
+mod entries;
 mod refusals;
+mod rows;
 mod scalars;
 mod trees;
+mod values;
 
 const TABLE: &[u8] = b"structure S\nmember a long\nmember b long\nmember s string\n";
 

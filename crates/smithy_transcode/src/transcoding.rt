@@ -7,7 +7,7 @@ ghost use Rattle.smithy_schema.specs.Table.{IsStructure, kind_of, shape_place};
 ghost use Rattle.smithy_transcode.specs.Causes.{openers};
 ghost use Rattle.smithy_transcode.specs.Spelling.{Spells, body};
 ghost use Rattle.smithy_transcode.specs.Transcoding.{Transcodes, SpellNothing, SpellNothingAtAnyDepth};
-ghost use Rattle.smithy_transcode.specs.Private.CompactValue.{compact_view as view};
+ghost use Rattle.smithy_transcode.specs.Private.Tree.{compact_view as view};
 
 use crate::compact_value::CompactValue;
 use crate::reading::read_tree;

@@ -1,10 +1,10 @@
 //! A tree of values, as a reader builds it and a writer goes through it.
-ghost use Rattle.std.specs.Prelude.{◌≡◌, map, OnOk, IfErr, string_bytes};
+ghost use Rattle.std.specs.Prelude.{◌≡◌, map as mapped, OnOk, IfOk, IfErr, string_bytes};
 ghost use Rattle.smithy_schema.specs.declared.error.SerdeError.TheVariants.{NoMemory};
-ghost use Rattle.smithy_schema.specs.Value.{Value, scalar_value, boolean, whole, text, list, structure, null_element, values_of, MemberValues, no_member_values, put_member};
+ghost use Rattle.smithy_schema.specs.Value.{Value, scalar_value, boolean, whole, text, list, map, structure, union, null_element, values_of, MapEntries, no_map_entries, put_entry, MemberValues, no_member_values, put_member};
 ghost use Rattle.smithy_transcode.specs.Private.Tree.{part_view};
 
-use crate::member_iter::MemberIter;
+use crate::entry_iter::EntryIter;
 use smithy_schema::SerdeError;
 use std::alloc::Global;
 
@@ -19,19 +19,28 @@ pub enum Part<'v, T> {
     Text(&'v str),
     /// The elements of a list, in their order.
     List(&'v [T]),
+    /// The entries of a map, in the order of their keys.
+    Map(EntryIter<'v, String, T>),
     /// The members of a structure, in the order of their positions.
-    Structure(MemberIter<'v, T>),
-    /// A null among the elements of a sparse list.
+    Structure(EntryIter<'v, u32, T>),
+    /// The member of a union by its position, and its value.
+    Union(u32, &'v T),
+    /// A null among the elements of a sparse list or the values of a sparse map.
     Null,
 }
 
 /// A tree that is built from its leaves on, and gone through from its root on.
 pub trait Tree: Drop + Sized {
+    /// The entries of a map that is half built.
+    type Entries: Drop;
+
     /// The members of a structure that is half built.
     type Members: Drop;
 
-    // What the tree and its members stand for.
+    // What the tree, its entries and its members stand for.
     ghost view: { Self → Value };
+
+    ghost view_entries: { Self.Entries → MapEntries };
 
     ghost view_members: { Self.Members → MemberValues };
 
@@ -48,7 +57,23 @@ pub trait Tree: Drop + Sized {
         ensures { view result ≡ null_element };
 
     fn list(elements: Vec<Self>) -> Self
-        ensures { view result ≡ list (values_of (map view elements.items)) };
+        ensures { view result ≡ list (values_of (mapped view elements.items)) };
+
+    fn no_entries(alloc: Global) -> Self::Entries
+        ensures { view_entries result ≡ no_map_entries };
+
+    /// The last value of a key counts.
+    fn set_entry(
+        alloc: Global,
+        entries: &mut Self::Entries,
+        key: String,
+        value: Self,
+    ) -> Result<(), SerdeError>
+        ensures ok { OnOk result (view_entries entries.new ≡ put_entry (string_bytes key) (view value) (view_entries entries.old)) }
+        ensures err { IfErr result (λ e. e ≡ NoMemory) };
+
+    fn map(entries: Self::Entries) -> Self
+        ensures { view result ≡ map (view_entries entries) };
 
     fn no_members(alloc: Global) -> Self::Members
         ensures { view_members result ≡ no_member_values };
@@ -65,6 +90,10 @@ pub trait Tree: Drop + Sized {
 
     fn structure(members: Self::Members) -> Self
         ensures { view result ≡ structure (view_members members) };
+
+    fn union(alloc: Global, index: u32, value: Self) -> Result<Self, SerdeError>
+        ensures ok { IfOk result (λ u. view u ≡ union index (view value)) }
+        ensures err { IfErr result (λ e. e ≡ NoMemory) };
 
     fn part(&self) -> Part<'_, Self>
         ensures { view self.now ≡ part_view view result };

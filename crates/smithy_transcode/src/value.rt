@@ -1,5 +1,12 @@
-//! The value that a body stands for, whichever wire carries it.
+//! The value that a body stands for, whichever wire carries it, as a tree that is built and gone through.
+ghost use Rattle.std.specs.Prelude.{◌≡◌};
+ghost use Rattle.smithy_schema.specs.Value.{list, values_of};
+ghost use Rattle.smithy_transcode.specs.View.{view as value_view, view_elements, view_entries as value_entries, view_members as value_members};
 
+use crate::entry_iter::EntryIter;
+use crate::tree::{Part, Tree};
+use smithy_schema::SerdeError;
+use std::alloc::Global;
 use std::collections::BTreeMap;
 
 /// A value.
@@ -13,8 +20,99 @@ pub enum Value {
     Text(String),
     /// The elements of a list, in their order.
     List(Vec<Value>),
+    /// The values of a map by their keys.
+    Map(BTreeMap<String, Value>),
     /// The members that are present, by their positions in the table, from 0.
     Structure(BTreeMap<u32, Value>),
-    /// A null among the elements of a sparse list.
+    /// The member of a union, by its position in the table, from 0, and its value.
+    Union(u32, Box<Value>),
+    /// A null among the elements of a sparse list or the values of a sparse map.
     Null,
+}
+
+impl Tree for Value {
+    type Entries = BTreeMap<String, Value>;
+
+    type Members = BTreeMap<u32, Value>;
+
+    ghost view = { value_view };
+
+    ghost view_entries = { λ m. value_entries m.entries };
+
+    ghost view_members = { λ m. value_members m.entries };
+
+    fn boolean(value: bool) -> Value {
+        Value::Boolean(value)
+    }
+
+    fn whole(number: i64) -> Value {
+        Value::Whole(i128::from(number))
+    }
+
+    fn text(content: String) -> Value {
+        Value::Text(content)
+    }
+
+    fn null() -> Value {
+        Value::Null
+    }
+
+    fn list(elements: Vec<Value>) -> Value
+        ensures { value_view result ≡ list (values_of (view_elements elements.items)) }
+    {
+        Value::List(elements)
+    }
+
+    fn no_entries(alloc: Global) -> BTreeMap<String, Value> {
+        BTreeMap::new(alloc)
+    }
+
+    fn set_entry(
+        _alloc: Global,
+        entries: &mut BTreeMap<String, Value>,
+        key: String,
+        value: Value,
+    ) -> Result<(), SerdeError> {
+        entries.insert(key, value)?;
+        Ok(())
+    }
+
+    fn map(entries: BTreeMap<String, Value>) -> Value {
+        Value::Map(entries)
+    }
+
+    fn no_members(alloc: Global) -> BTreeMap<u32, Value> {
+        BTreeMap::new(alloc)
+    }
+
+    fn set_member(
+        _alloc: Global,
+        members: &mut BTreeMap<u32, Value>,
+        index: u32,
+        value: Value,
+    ) -> Result<(), SerdeError> {
+        members.insert(index, value)?;
+        Ok(())
+    }
+
+    fn structure(members: BTreeMap<u32, Value>) -> Value {
+        Value::Structure(members)
+    }
+
+    fn union(alloc: Global, index: u32, value: Value) -> Result<Value, SerdeError> {
+        Ok(Value::Union(index, Box::new(alloc, value)?))
+    }
+
+    fn part(&self) -> Part<'_, Value> {
+        match self {
+            Value::Boolean(value) => Part::Boolean(*value),
+            Value::Whole(number) => Part::Whole(*number),
+            Value::Text(content) => Part::Text(content.as_str()),
+            Value::List(elements) => Part::List(elements.as_slice()),
+            Value::Map(entries) => Part::Map(EntryIter::Map(entries.iter())),
+            Value::Structure(members) => Part::Structure(EntryIter::Map(members.iter())),
+            Value::Union(index, value) => Part::Union(*index, &**value),
+            Value::Null => Part::Null,
+        }
+    }
 }

@@ -4,7 +4,7 @@ ghost use Rattle.smithy_schema.specs.declared.error.SerdeError.TheVariants.{NoMe
 ghost use Rattle.smithy_schema.specs.Fits.{Fits};
 ghost use Rattle.smithy_schema.specs.Site.{site_of};
 ghost use Rattle.smithy_schema.specs.Writing.{write};
-ghost use Rattle.smithy_transcode.specs.Private.CompactValue.{compact_view as view};
+ghost use Rattle.smithy_transcode.specs.Private.Tree.{compact_view as view};
 
 use crate::compact_value::CompactValue;
 use crate::writing::write_tree;

@@ -1,15 +1,15 @@
 //! Writing a value to any wire.
-ghost use Rattle.std.specs.Prelude.{◌≡◌, ◌↔◌, map, true, OnOk, IfErr, IsErr, IsErrOf, Ok, Err};
+ghost use Rattle.std.specs.Prelude.{◌≡◌, ◌↔◌, map as mapped, true, OnOk, IfErr, IsErr, IsErrOf, Ok, Err};
 ghost use Rattle.smithy_schema.specs.declared.error.SerdeError.TheVariants.{Failed};
 ghost use Rattle.smithy_schema.specs.Fits.{FitsOr, is_scalar_of};
 ghost use Rattle.smithy_schema.specs.Reading.{IsFault};
 ghost use Rattle.smithy_schema.specs.Site.{site_of, kind_at};
-ghost use Rattle.smithy_schema.specs.Value.{whole, list, structure, values_of};
+ghost use Rattle.smithy_schema.specs.Value.{whole, list, map, structure, union, values_of};
 ghost use Rattle.smithy_schema.specs.Writing.{write, scalar_of};
 ghost use Rattle.smithy_transcode.specs.View.{view};
-ghost use Rattle.smithy_transcode.specs.Private.Tree.{entries, member_views};
+ghost use Rattle.smithy_transcode.specs.Private.Tree.{entries as entries_left, entry_views, member_views};
 
-use crate::member_iter::MemberIter;
+use crate::entry_iter::EntryIter;
 use crate::tree::{Part, Tree};
 use crate::value::Value;
 use smithy_schema::{Schema, SerdeError, ShapeSerializer, ShapeType};
@@ -52,7 +52,9 @@ pub(crate) fn write_tree<T: Tree, S: ShapeSerializer>(
         Part::Whole(number) => write_whole(sink, schema, number),
         Part::Text(content) => sink.write_string(schema, content),
         Part::List(elements) => write_list::<T, S>(alloc, sink, schema, elements),
+        Part::Map(entries) => write_map::<T, S>(alloc, sink, schema, entries),
         Part::Structure(members) => write_structure::<T, S>(alloc, sink, schema, members),
+        Part::Union(index, inner) => write_union::<T, S>(alloc, sink, schema, index, inner),
         Part::Null => sink.write_null(schema),
     }
 }
@@ -74,24 +76,28 @@ fn write_whole<S: ShapeSerializer>(
         ShapeType::Short => sink.write_short(schema, number as i16),
         ShapeType::Integer => sink.write_integer(schema, number as i32),
         ShapeType::Long => sink.write_long(schema, number as i64),
-        ShapeType::Boolean | ShapeType::String | ShapeType::List | ShapeType::Structure => {
-            unreachable!()
-        }
+        ShapeType::Boolean
+        | ShapeType::String
+        | ShapeType::List
+        | ShapeType::Map
+        | ShapeType::Structure
+        | ShapeType::Union => unreachable!(),
     }
 }
 
 #[cycle(write)]
+#[inline(never)]
 fn write_list<T: Tree, S: ShapeSerializer>(
     alloc: Global,
     sink: &mut S,
     schema: &Schema<'_>,
     elements: &[T],
 ) -> Result<(), SerdeError>
-    requires fits { FitsOr schema.now.shapes.now schema.now.place true (list (values_of (map T.view elements.now))) }
+    requires fits { FitsOr schema.now.shapes.now schema.now.place true (list (values_of (mapped T.view elements.now))) }
     ensures failed { IsErrOf result Failed ↔ (S.failed sink.old ≡ true) }
     ensures broken { IsErr result ↔ (S.failed sink.new ≡ true) }
-    ensures ok { OnOk result (write S.after (site_of schema.now) (list (values_of (map T.view elements.now))) (S.state sink.old) ≡ Ok (S.state sink.new)) }
-    ensures refused { IfErr result (λ e. IsFault e → write S.after (site_of schema.now) (list (values_of (map T.view elements.now))) (S.state sink.old) ≡ Err e) }
+    ensures ok { OnOk result (write S.after (site_of schema.now) (list (values_of (mapped T.view elements.now))) (S.state sink.old) ≡ Ok (S.state sink.new)) }
+    ensures refused { IfErr result (λ e. IsFault e → write S.after (site_of schema.now) (list (values_of (mapped T.view elements.now))) (S.state sink.old) ≡ Err e) }
 {
     let Some(member) = schema.member() else {
         unreachable!()
@@ -105,25 +111,79 @@ fn write_list<T: Tree, S: ShapeSerializer>(
 }
 
 #[cycle(write)]
+#[inline(never)]
 fn write_structure<T: Tree, S: ShapeSerializer>(
     alloc: Global,
     sink: &mut S,
     schema: &Schema<'_>,
-    members: MemberIter<'_, T>,
+    members: EntryIter<'_, u32, T>,
 ) -> Result<(), SerdeError>
-    requires fits { FitsOr schema.now.shapes.now schema.now.place true (structure (member_views T.view (entries members))) }
+    requires fits { FitsOr schema.now.shapes.now schema.now.place true (structure (member_views T.view (entries_left members))) }
     ensures failed { IsErrOf result Failed ↔ (S.failed sink.old ≡ true) }
     ensures broken { IsErr result ↔ (S.failed sink.new ≡ true) }
-    ensures ok { OnOk result (write S.after (site_of schema.now) (structure (member_views T.view (entries members.entry))) (S.state sink.old) ≡ Ok (S.state sink.new)) }
-    ensures refused { IfErr result (λ e. IsFault e → write S.after (site_of schema.now) (structure (member_views T.view (entries members.entry))) (S.state sink.old) ≡ Err e) }
+    ensures ok { OnOk result (write S.after (site_of schema.now) (structure (member_views T.view (entries_left members.entry))) (S.state sink.old) ≡ Ok (S.state sink.new)) }
+    ensures refused { IfErr result (λ e. IsFault e → write S.after (site_of schema.now) (structure (member_views T.view (entries_left members.entry))) (S.state sink.old) ≡ Err e) }
 {
     sink.begin_struct(schema)?;
     let mut left = members;
-    while let Some((position, member)) = left.next_member() {
-        let Some(member_schema) = schema.member_at(position) else {
+    while let Some((position, member)) = left.next_entry() {
+        let Some(member_schema) = schema.member_at(*position) else {
             unreachable!()
         };
         write_tree::<T, S>(alloc, sink, &member_schema, member)?;
     }
     sink.end_struct()
+}
+
+#[cycle(write)]
+#[inline(never)]
+fn write_union<T: Tree, S: ShapeSerializer>(
+    alloc: Global,
+    sink: &mut S,
+    schema: &Schema<'_>,
+    index: u32,
+    value: &T,
+) -> Result<(), SerdeError>
+    requires fits { FitsOr schema.now.shapes.now schema.now.place true (union index (T.view value.now)) }
+    ensures failed { IsErrOf result Failed ↔ (S.failed sink.old ≡ true) }
+    ensures broken { IsErr result ↔ (S.failed sink.new ≡ true) }
+    ensures ok { OnOk result (write S.after (site_of schema.now) (union index (T.view value.now)) (S.state sink.old) ≡ Ok (S.state sink.new)) }
+    ensures refused { IfErr result (λ e. IsFault e → write S.after (site_of schema.now) (union index (T.view value.now)) (S.state sink.old) ≡ Err e) }
+{
+    let Some(member) = schema.member_at(index) else {
+        unreachable!()
+    };
+    sink.begin_struct(schema)?;
+    write_tree::<T, S>(alloc, sink, &member, value)?;
+    sink.end_struct()
+}
+
+#[cycle(write)]
+#[inline(never)]
+fn write_map<T: Tree, S: ShapeSerializer>(
+    alloc: Global,
+    sink: &mut S,
+    schema: &Schema<'_>,
+    entries: EntryIter<'_, String, T>,
+) -> Result<(), SerdeError>
+    requires fits { FitsOr schema.now.shapes.now schema.now.place true (map (entry_views T.view (entries_left entries))) }
+    ensures failed { IsErrOf result Failed ↔ (S.failed sink.old ≡ true) }
+    ensures broken { IsErr result ↔ (S.failed sink.new ≡ true) }
+    ensures ok { OnOk result (write S.after (site_of schema.now) (map (entry_views T.view (entries_left entries.entry))) (S.state sink.old) ≡ Ok (S.state sink.new)) }
+    ensures refused { IfErr result (λ e. IsFault e → write S.after (site_of schema.now) (map (entry_views T.view (entries_left entries.entry))) (S.state sink.old) ≡ Err e) }
+{
+    let Some(key_schema) = schema.key() else {
+        unreachable!()
+    };
+    let Some(member) = schema.member() else {
+        unreachable!()
+    };
+    let value_schema = member.nameless();
+    sink.begin_map(schema, Some(entries.len()))?;
+    let mut left = entries;
+    while let Some((key, value)) = left.next_entry() {
+        sink.write_string(&key_schema, key.as_str())?;
+        write_tree::<T, S>(alloc, sink, &value_schema, value)?;
+    }
+    sink.end_map()
 }

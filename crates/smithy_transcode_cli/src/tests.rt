@@ -5,6 +5,7 @@ mod lines;
 mod options;
 mod process;
 mod rows;
+mod shapes;
 
 use crate::memory::{MemoryFiles, MemorySink, MemorySource};
 use crate::outside::{Failed, LoadFault};

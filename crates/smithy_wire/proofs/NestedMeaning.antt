@@ -6,8 +6,8 @@ use Rattle.smithy_schema.specs.declared.place.Place.{Place}
 use Rattle.smithy_schema.specs.declared.shape_type.Scalar.{Scalar}
 use Rattle.smithy_schema.specs.Limits.{Limits, kept, lifted, is_within}
 use Rattle.smithy_schema.specs.Reading.{Mark}
-use Rattle.smithy_schema.specs.Table.{Table, Kind, scalar, structure_of, list_of, nothing, kind_of, place_in, IsList, IsStructure}
-use Rattle.smithy_schema.specs.Value.{Value, scalar_value, list, structure, null_element, no_member_values, nesting}
+use Rattle.smithy_schema.specs.Table.{Table, Kind, scalar, structure_of, kind_of, place_in, IsList, IsMap, IsStructure, IsUnion}
+use Rattle.smithy_schema.specs.Value.{Value, scalar_value, list, map, structure, union, null_element, no_member_values, nesting}
 use Rattle.smithy_schema.specs.Container.{container_of}
 use Rattle.smithy_schema.specs.Fits.{Fits}
 use Rattle.smithy_schema.specs.Lemmas.Options.{same_some, step_apart, chosen}
@@ -26,14 +26,14 @@ within_is lifted greatest d keeps h = cc
 scalar_is_flat : (t : Table) (p : Place) (s : Scalar) (v : Value) (most : ℕ) → kind_of t p ≡ scalar s → Fits t p v → nesting v ≤ most
 scalar_is_flat t p s (scalar_value x) most kind fits = omega arith
 scalar_is_flat t p s (list vs) most kind fits = absurd (subst IsList kind fits.0)
+scalar_is_flat t p s (map es) most kind fits = absurd (subst IsMap kind fits.0)
 scalar_is_flat t p s (structure ms) most kind fits = absurd (subst IsStructure kind fits.0)
+scalar_is_flat t p s (union n v) most kind fits = absurd (subst IsUnion kind fits.0)
 scalar_is_flat t p s null_element most kind fits = omega arith
 
 missing_nests : (k : Kind) (v : Value) (most : ℕ) → missing_meaning k ≡ Some v → nesting v ≤ suc most
-missing_nests (scalar s) v most h = cc
 missing_nests (structure_of members) v most h = subst (λ u. nesting u ≤ suc most) (same_some (structure no_member_values) v h) (omega arith)
-missing_nests (list_of l) v most h = cc
-missing_nests nothing v most h = cc
+missing_nests _ v most h = cc
 
 module _ {L : Type 0} (w : Frames L) (r : Rules L) (keeps : r.limits ≡ kept) (fits : RulesFit w r) (i : List ℕ) (t : Table) where
   -- how deep what stands inside so many containers may nest
@@ -47,9 +47,7 @@ module _ {L : Type 0} (w : Frames L) (r : Rules L) (keeps : r.limits ≡ kept) (
   leaf_nests : (p : Place) (k : Kind) (d : ℕ) (x : L) (a e : ℕ) (v : Value) → w.scalar i d x a e → kind_of t p ≡ k → leaf_meaning r k p.time x ≡ Some v
       → nesting v ≤ left d
   leaf_nests p (scalar s) d x a e v lies kind h = scalar_is_flat t p s v (left d) kind (fits.says_fits i d x a e lies t p s v kind h)
-  leaf_nests p (structure_of members) d x a e v lies kind h = cc
-  leaf_nests p (list_of l) d x a e v lies kind h = cc
-  leaf_nests p nothing d x a e v lies kind h = cc
+  leaf_nests p _ d x a e v lies kind h = cc
 
   mutual
     pub meaning_nests : (x : Node L) (d : ℕ) (p : Place) (v : Value) (a e : ℕ) → Lies w i d x a e → meaning r t p d x ≡ Some v → nesting v ≤ left d

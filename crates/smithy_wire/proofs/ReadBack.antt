@@ -1,30 +1,28 @@
 -- A body that is written for a value of a place is read back as the value, whichever wire carries it.
-use Rattle.std.specs.Prelude.{◌≡◌, ◌≤◌, ℕ, length, List, Bool, false, Some, None, slice_get}
+use Rattle.std.specs.Prelude.{◌≡◌, ◌≤◌, ℕ, length, List, Bool, false, None}
 use Rattle.std.proofs.Common.{sym, ap, arith, subst}
 use Rattle.smithy_schema.specs.declared.place.Place.{Place}
-use Rattle.smithy_schema.specs.Table.{Table, Member, ListShape, structure_of, list_of, kind_of}
-use Rattle.smithy_schema.specs.Value.{Value, scalar_value, list, structure, null_element, Values, no_values, value, MemberValues, no_member_values, member_value, nesting}
-use Rattle.smithy_schema.specs.Fits.{FitsOr, ElementsFit, MembersFit, Fits}
-use Rattle.smithy_schema.specs.Lemmas.Kinds.{list_kind, structure_kind}
+use Rattle.smithy_schema.specs.Table.{Table, Member, ListShape, MapShape, structure_of, list_of, map_of, kind_of}
+use Rattle.smithy_schema.specs.Value.{Value, scalar_value, list, map, structure, union, null_element, Values, no_values, value, MapEntries, no_map_entries, map_entry, MemberValues, no_member_values, member_value, nesting}
+use Rattle.smithy_schema.specs.Fits.{FitsOr, ElementsFit, EntriesFit, MembersFit, Fits}
+use Rattle.smithy_schema.specs.Lemmas.Kinds.{list_kind, map_kind, structure_kind, union_kind}
 use Rattle.smithy_schema.proofs.ScalarLemmas.{scalar_kind}
-use Rattle.smithy_schema.proofs.SiteLemmas.{element_fit, member_fit}
+use Rattle.smithy_schema.proofs.SiteLemmas.{element_fit, entry_fit, member_fit}
 use Rattle.smithy_wire.specs.Node.{as_array, as_object, Node}
 use Rattle.smithy_wire.specs.Rules.{Rules}
 use Rattle.smithy_wire.specs.Frames.{Frames, relations}
-use Rattle.smithy_wire.specs.Written.{Leaves, child_place, name_at, written_node, element_nodes, member_nodes, AreNamed, ReadsLeaves}
+use Rattle.smithy_wire.specs.Written.{Leaves, child_place, name_at, written_node, element_nodes, entry_nodes, member_nodes, AreNamed, ReadsLeaves}
 use Rattle.smithy_wire.specs.Writes.{Writes, body_of, IsWritable, AreWritable, WritesFrames, WritesLeaves}
-use Rattle.smithy_wire.proofs.WrittenMeaning.{member_place, member_name, node_means}
+use Rattle.smithy_wire.proofs.WrittenMeaning.{IsMember, structure_member, member_place, member_name, variant_member, node_means}
 use Rattle.smithy_wire.proofs.WrittenPlaces.{body_lies}
 
 module _ {L : Type 0} (w : Writes L) (l : Leaves L) (leaves : WritesLeaves w l) (name_of : Member → List ℕ) (t : Table) (named : AreNamed name_of t) where
   abbrev node_at : Place → Value → Node L
   node_at p v = written_node l name_of t p v
 
-  key_writable : (p : Place) (members : List Member) (n : ℕ) (m : Member) → kind_of t p ≡ structure_of members → slice_get members n ≡ Some m
-      → w.IsKey (l.key_of (name_at name_of (kind_of t p) n))
-  key_writable p members n m kind found =
-      subst (λ key. w.IsKey (l.key_of key)) (sym (member_name name_of (kind_of t p) members n m kind found))
-      (leaves.key_is (name_of m) (named.names_are_texts p n m (rw kind found)))
+  name_writable : (p : Place) (n : ℕ) (m : Member) → IsMember (kind_of t p) n m → w.IsKey (l.key_of (name_at name_of (kind_of t p) n))
+  name_writable p n m is =
+      subst (λ key. w.IsKey (l.key_of key)) (sym (member_name name_of (kind_of t p) n m is)) (leaves.key_is (name_of m) (named.names_are_texts p n m is.found))
 
   mutual
     -- the node of a value of a place can be written
@@ -35,6 +33,17 @@ module _ {L : Type 0} (w : Writes L) (l : Leaves L) (leaves : WritesLeaves w l) 
         let c = list_kind (kind_of t p) fits.0 in
         subst (λ q. AreWritable w as_array (element_nodes l name_of t q vs)) (sym (ap (λ k. child_place k None p) c.1))
         (elements_writable vs c.0 (subst (λ k. ElementsFit t k vs) c.1 fits.1))
+    value_writable (map es) p nulls fits =
+        let c = map_kind (kind_of t p) fits.0 in
+        subst (λ q. AreWritable w as_object (entry_nodes l name_of t q es)) (sym (ap (λ k. child_place k None p) c.1))
+        (entries_writable es c.0 (subst (λ k. EntriesFit t k es) c.1 fits.1))
+    value_writable (union n v) p nulls fits =
+        let s = union_kind (kind_of t p) fits.0 in
+        let m = variant_member t (kind_of t p) s.0 n v s.1 fits.1 in (
+          name_writable p n m.0 m.1,
+          subst (λ q. IsWritable w (node_at q v)) (sym (member_place (kind_of t p) n m.0 p m.1)) (value_writable v m.0.place false m.2),
+          tt,
+        )
     value_writable (structure ms) p nulls fits =
         let s = structure_kind (kind_of t p) fits.0 in
         members_writable ms p s.0 s.1 (subst (λ k. MembersFit t k ms) s.1 fits.1)
@@ -43,13 +52,19 @@ module _ {L : Type 0} (w : Writes L) (l : Leaves L) (leaves : WritesLeaves w l) 
     elements_writable no_values c fits = tt
     elements_writable (value v vs) c fits = (tt, value_writable v c.place c.is_sparse (element_fit t c v vs fits), elements_writable vs c fits.1)
 
+    entries_writable : (es : MapEntries) (c : MapShape) → EntriesFit t (map_of c) es → AreWritable w as_object (entry_nodes l name_of t c.place es)
+    entries_writable no_map_entries c fits = tt
+    entries_writable (map_entry key v es) c fits =
+        (leaves.key_is key fits.0, value_writable v c.place c.is_sparse (entry_fit t c key v es fits), entries_writable es c fits.2)
+
     members_writable : (ms : MemberValues) (p : Place) (members : List Member) → kind_of t p ≡ structure_of members → MembersFit t (structure_of members) ms
         → AreWritable w as_object (member_nodes l name_of t p ms)
     members_writable no_member_values p members kind fits = tt
     members_writable (member_value n v ms) p members kind fits =
-        let m = member_fit t members n v ms fits in (
-          key_writable p members n m.0 kind m.1,
-          subst (λ q. IsWritable w (node_at q v)) (sym (member_place (kind_of t p) members n m.0 p kind m.1)) (value_writable v m.0.place false m.2),
+        let m = member_fit t members n v ms fits in
+        let is = structure_member (kind_of t p) members n m.0 kind m.1 in (
+          name_writable p n m.0 is,
+          subst (λ q. IsWritable w (node_at q v)) (sym (member_place (kind_of t p) n m.0 p is)) (value_writable v m.0.place false m.2),
           members_writable ms p members kind fits.1,
         )
 

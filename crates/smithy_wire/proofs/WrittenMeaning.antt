@@ -1,23 +1,22 @@
 -- The node as which a value of a place is written means the value, at each depth that leaves room for it.
-use Rattle.std.specs.Prelude.{◌≡◌, ◌≤◌, ◌+◌, ℕ, suc, List, Bool, true, false, Option, Some, None, option_and_then, map, slice_get, IsUtf8, refl, if◌then◌else◌}
+use Rattle.std.specs.Prelude.{◌≡◌, ◌≤◌, ◌+◌, ℕ, suc, List, Bool, true, false, Option, Some, None, option_and_then, slice_get, refl, if◌then◌else◌}
 use Rattle.std.proofs.Common.{sym, ap, ◌∙◌, arith, subst}
 use Rattle.std.proofs.lemmas.Bool.Decides.{nat_tests}
 use Rattle.smithy_schema.specs.declared.place.Place.{Place}
 use Rattle.smithy_schema.specs.Limits.{Limits, kept, lifted, is_within}
-use Rattle.smithy_schema.specs.Names.{has_equal_texts}
-use Rattle.smithy_schema.specs.Table.{Table, Member, ListShape, Kind, structure_of, list_of, kind_of, members_of, place_in}
-use Rattle.smithy_schema.specs.Value.{ScalarValue, Value, scalar_value, list, structure, null_element, Values, no_values, value, MemberValues, no_member_values, member_value, nesting, elements_nesting, members_nesting}
+use Rattle.smithy_schema.specs.Table.{Table, Member, ListShape, MapShape, Kind, structure_of, union_of, list_of, map_of, kind_of, members_of, place_in}
+use Rattle.smithy_schema.specs.Value.{ScalarValue, Value, scalar_value, list, map, structure, union, null_element, Values, no_values, value, MapEntries, no_map_entries, map_entry, MemberValues, no_member_values, member_value, nesting, elements_nesting, entries_nesting, members_nesting}
 use Rattle.smithy_schema.specs.Container.{Entry, element_of, container_of}
-use Rattle.smithy_schema.specs.Fits.{FitsOr, ElementsFit, MembersFit, Fits}
-use Rattle.smithy_schema.proofs.ChildLemmas.{SayElements, list_said, Sets, SayMembers, structure_said}
+use Rattle.smithy_schema.specs.Fits.{FitsOr, ElementsFit, EntriesFit, MembersFit, Fits}
+use Rattle.smithy_schema.proofs.ChildLemmas.{SayElements, list_said, SayEntries, map_said, Sets, SayMembers, structure_said, union_said}
 use Rattle.smithy_schema.proofs.NamedLemmas.{named_itself}
-use Rattle.smithy_schema.specs.Lemmas.Kinds.{list_kind, structure_kind}
+use Rattle.smithy_schema.specs.Lemmas.Kinds.{list_kind, map_kind, structure_kind, union_kind}
 use Rattle.smithy_schema.proofs.ScalarLemmas.{scalar_kind}
-use Rattle.smithy_schema.proofs.SiteLemmas.{element_fit, member_fit}
-use Rattle.smithy_wire.specs.Node.{Form, as_array, as_object, Node, container, Nodes, is_null}
+use Rattle.smithy_schema.proofs.SiteLemmas.{element_fit, entry_fit, member_fit, variant_fit}
+use Rattle.smithy_wire.specs.Node.{Form, as_array, as_object, Node, container, Nodes, no_nodes, node, is_null}
 use Rattle.smithy_wire.specs.Rules.{settled, Rules, position_in}
 use Rattle.smithy_wire.specs.Meaning.{leaf_meaning, is_in, entry_at, meaning, entries}
-use Rattle.smithy_wire.specs.Written.{Leaves, scalar_node, child_place, name_at, written_node, element_nodes, member_nodes, AreNamed, ReadsLeaves}
+use Rattle.smithy_wire.specs.Written.{Leaves, scalar_node, child_place, name_at, written_node, element_nodes, entry_nodes, member_nodes, AreNamed, ReadsLeaves}
 
 shallow_within : (limits : Limits) (greatest d : ℕ) → d ≤ greatest → is_within limits greatest d ≡ true
 shallow_within kept greatest d h = grind (arith, nat_tests)
@@ -25,14 +24,30 @@ shallow_within lifted greatest d h = refl
 
 -- ---- places and names
 
--- a member of a structure: its place, and its name
-pub member_place : (k : Kind) (members : List Member) (n : ℕ) (m : Member) (other : Place) → k ≡ structure_of members → slice_get members n ≡ Some m
-    → child_place k (Some n) other ≡ m.place
-member_place k members n m other kind found = rw (kind, found) refl
+-- the member of a structure or a union at a position
+pub record IsMember (k : Kind) (n : ℕ) (m : Member) : Type 0 where
+  pub found : slice_get (members_of k) n ≡ Some m
+  pub placed : place_in k (Some n) ≡ Some m.place
 
-pub member_name : (name_of : Member → List ℕ) (k : Kind) (members : List Member) (n : ℕ) (m : Member) → k ≡ structure_of members → slice_get members n ≡ Some m
-    → name_at name_of k n ≡ name_of m
-member_name name_of k members n m kind found = rw (kind, found) refl
+pub structure_member : (k : Kind) (members : List Member) (n : ℕ) (m : Member) → k ≡ structure_of members → slice_get members n ≡ Some m → IsMember k n m
+structure_member k members n m kind found = record { found = rw kind found; placed = rw (kind, found) refl }
+
+pub union_member : (k : Kind) (members : List Member) (n : ℕ) (m : Member) → k ≡ union_of members → slice_get members n ≡ Some m → IsMember k n m
+union_member k members n m kind found = record { found = rw kind found; placed = rw (kind, found) refl }
+
+-- its place, and its name
+pub member_place : (k : Kind) (n : ℕ) (m : Member) (other : Place) → IsMember k n m → child_place k (Some n) other ≡ m.place
+member_place k n m other is = rw is.placed refl
+
+pub member_name : (name_of : Member → List ℕ) (k : Kind) (n : ℕ) (m : Member) → IsMember k n m → name_at name_of k n ≡ name_of m
+member_name name_of k n m is = rw is.found refl
+
+-- the member of a union whose value fits
+pub variant_member : (t : Table) (k : Kind) (members : List Member) (n : ℕ) (v : Value) → k ≡ union_of members
+    → (q : Place) × (place_in k (Some n) ≡ Some q) × Fits t q v → (m : Member) × IsMember k n m × Fits t m.place v
+variant_member t k members n v kind fits =
+    let m = variant_fit t members n v (subst (λ k. (q : Place) × (place_in k (Some n) ≡ Some q) × Fits t q v) kind fits) in
+    (m.0, union_member k members n m.0 kind m.1, m.2)
 
 module _ {L : Type 0} (l : Leaves L) (r : Rules L) (reads : ReadsLeaves l r) (t : Table) (named : AreNamed r.name_of t) where
   abbrev node_at : Place → Value → Node L
@@ -51,7 +66,9 @@ module _ {L : Type 0} (l : Leaves L) (r : Rules L) (reads : ReadsLeaves l r) (t 
   not_null : (p : Place) (v : Value) → Fits t p v → is_null (node_at p v) ≡ false
   not_null p (scalar_value x) fits = let s = scalar_kind (kind_of t p) x fits in rw s.1 refl
   not_null p (list vs) fits = refl
+  not_null p (map es) fits = refl
   not_null p (structure ms) fits = refl
+  not_null p (union n v) fits = refl
   not_null p null_element fits = cc
 
   scalar_says : (p : Place) (nulls : Bool) (d : ℕ) (x : ScalarValue) → Fits t p (scalar_value x) → Says nulls d p (scalar_value x)
@@ -69,31 +86,29 @@ module _ {L : Type 0} (l : Leaves L) (r : Rules L) (reads : ReadsLeaves l r) (t 
       ap (λ b. if b then (if is_in (kind_of t p) f then container_of (kind_of t p) es else None) else None) (shallow_within r.limits r.max_depth (suc d) deep)
       ∙ (ap (λ k. if is_in k f then container_of k es else None) kind ∙ (ap (λ b. if b then container_of k es else None) within ∙ said))
 
-  -- the entry of a member, inside a structure of this kind
+  -- the entry of a member, inside a structure or a union of this kind
   abbrev member_entry : Kind → ℕ → ℕ → Node L → Entry
   member_entry k d n x = entry_at r k as_object d (Some (l.key_of (name_at r.name_of k n))) x (λ q. meaning r t q d x)
 
   -- sets the member at its position
-  member_sets : (p : Place) (members : List Member) (n : ℕ) (m : Member) (d : ℕ) (v : Value) → kind_of t p ≡ structure_of members → slice_get members n ≡ Some m
-      → Fits t m.place v → meaning r t m.place d (node_at m.place v) ≡ Some v
+  member_sets : (p : Place) (n : ℕ) (m : Member) (d : ℕ) (v : Value) → IsMember (kind_of t p) n m → Fits t m.place v
+      → meaning r t m.place d (node_at m.place v) ≡ Some v
       → Sets n v (member_entry (kind_of t p) d n (node_at (child_place (kind_of t p) (Some n) p) v))
-  member_sets p members n m d v kind found fits mean =
+  member_sets p n m d v is fits mean =
       let k = kind_of t p in
-      let there : place_in k (Some n) ≡ Some m.place = rw (kind, found) refl in
       let x = node_at m.place v in
-      let name : name_at r.name_of k n ≡ r.name_of m = member_name r.name_of k members n m kind found in
-      let utf8 : IsUtf8 (r.name_of m) = named.names_are_texts p n m (rw kind found) in
-      let read : r.text_of (l.key_of (name_at r.name_of k n)) ≡ Some (r.name_of m) = ap (λ key. r.text_of (l.key_of key)) name ∙ reads.key_means (r.name_of m) utf8 in
-      let itself : position_in r k (Some (r.name_of m)) ≡ Some n =
-      ap (λ k. position_in r k (Some (r.name_of m))) kind ∙ named_itself r.name_of members (subst (λ k. has_equal_texts (map r.name_of (members_of k)) ≡ false) kind (named.names_differ p)) n m found in
+      let name : name_at r.name_of k n ≡ r.name_of m = member_name r.name_of k n m is in
+      let read : r.text_of (l.key_of (name_at r.name_of k n)) ≡ Some (r.name_of m) =
+      ap (λ key. r.text_of (l.key_of key)) name ∙ reads.key_means (r.name_of m) (named.names_are_texts p n m is.found) in
+      let itself : position_in r k (Some (r.name_of m)) ≡ Some n = named_itself r.name_of (members_of k) (named.names_differ p) n m is.found in
       let position : position_in r k (r.text_of (l.key_of (name_at r.name_of k n))) ≡ Some n = ap (position_in r k) read ∙ itself in
-      subst (λ q. Sets n v (member_entry k d n (node_at q v))) (sym (member_place k members n m p kind found))
+      subst (λ q. Sets n v (member_entry k d n (node_at q v))) (sym (member_place k n m p is))
       (record {
         key = r.name_of m;
         has_key = read;
         there = rw (not_null m.place v fits) refl;
         position = position;
-        meaning = ap (λ o. option_and_then (λ q. meaning r t q d x) (place_in k o)) position ∙ (ap (option_and_then (λ q. meaning r t q d x)) there ∙ mean);
+        meaning = ap (λ o. option_and_then (λ q. meaning r t q d x) (place_in k o)) position ∙ (ap (option_and_then (λ q. meaning r t q d x)) is.placed ∙ mean);
       })
 
   mutual
@@ -106,6 +121,19 @@ module _ {L : Type 0} (l : Leaves L) (r : Rules L) (reads : ReadsLeaves l r) (t 
         container_means p (list_of c.0) as_array d (element_nodes l r.name_of t (child_place (kind_of t p) None p) vs) (list vs) c.1 refl (omega (arith, deep))
         (subst (λ q. container_of (list_of c.0) (entries r t p as_array (suc d) (element_nodes l r.name_of t q vs)) ≡ Some (list vs))
         (sym (ap (λ k. child_place k None p) c.1)) (list_said c.0 vs _ said))
+    value_says (map es) p nulls d fits deep =
+        let c = map_kind (kind_of t p) fits.0 in
+        let said = entries_say es p c.0 (suc d) c.1 (subst (λ k. EntriesFit t k es) c.1 fits.1) (omega (arith, deep)) in
+        container_means p (map_of c.0) as_object d (entry_nodes l r.name_of t (child_place (kind_of t p) None p) es) (map es) c.1 refl (omega (arith, deep))
+        (subst (λ q. container_of (map_of c.0) (entries r t p as_object (suc d) (entry_nodes l r.name_of t q es)) ≡ Some (map es))
+        (sym (ap (λ k. child_place k None p) c.1)) (map_said c.0 es _ fits.2 said))
+    value_says (union n v) p nulls d fits deep =
+        let s = union_kind (kind_of t p) fits.0 in
+        let m = variant_member t (kind_of t p) s.0 n v s.1 fits.1 in
+        let mean = says_alone (is_null (node_at m.0.place v)) (meaning r t m.0.place (suc d) (node_at m.0.place v)) v (value_says v m.0.place false (suc d) m.2 (omega (arith, deep))) in
+        container_means p (union_of s.0) as_object d
+        (node (Some (l.key_of (name_at r.name_of (kind_of t p) n))) (node_at (child_place (kind_of t p) (Some n) p) v) no_nodes) (union n v) s.1 refl (omega (arith, deep))
+        (union_said s.0 n v _ (member_sets p n m.0 (suc d) v m.1 m.2 mean))
     value_says (structure ms) p nulls d fits deep =
         let s = structure_kind (kind_of t p) fits.0 in
         let said = members_say ms p s.0 (suc d) s.1 (subst (λ k. MembersFit t k ms) s.1 fits.1) (omega (arith, deep)) in
@@ -122,13 +150,24 @@ module _ {L : Type 0} (l : Leaves L) (r : Rules L) (reads : ReadsLeaves l r) (t 
           elements_say vs p c d kind fits.1 (omega (arith, deep)),
         )
 
+    entries_say : (es : MapEntries) (p : Place) (c : MapShape) (d : ℕ) → kind_of t p ≡ map_of c → EntriesFit t (map_of c) es
+        → d + entries_nesting es ≤ r.max_depth → SayEntries c.is_sparse es (entries r t p as_object d (entry_nodes l r.name_of t c.place es))
+    entries_say no_map_entries p c d kind fits deep = tt
+    entries_say (map_entry key v es) p c d kind fits deep =
+        let x = node_at c.place v in (
+          reads.key_means key fits.0,
+          ap (λ k. element_of c.is_sparse (is_null x) (option_and_then (λ q. meaning r t q d x) (place_in k (position_in r k (r.text_of (l.key_of key)))))) kind
+              ∙ value_says v c.place c.is_sparse d (entry_fit t c key v es fits) (omega (arith, deep)),
+          entries_say es p c d kind fits.2 (omega (arith, deep)),
+        )
+
     members_say : (ms : MemberValues) (p : Place) (members : List Member) (d : ℕ) → kind_of t p ≡ structure_of members → MembersFit t (structure_of members) ms
         → d + members_nesting ms ≤ r.max_depth → SayMembers ms (entries r t p as_object d (member_nodes l r.name_of t p ms))
     members_say no_member_values p members d kind fits deep = tt
     members_say (member_value n v ms) p members d kind fits deep =
         let m = member_fit t members n v ms fits in
         let mean = says_alone (is_null (node_at m.0.place v)) (meaning r t m.0.place d (node_at m.0.place v)) v (value_says v m.0.place false d m.2 (omega (arith, deep))) in
-        (member_sets p members n m.0 d v kind m.1 m.2 mean, members_say ms p members d kind fits.1 (omega (arith, deep)))
+        (member_sets p n m.0 d v (structure_member (kind_of t p) members n m.0 kind m.1) m.2 mean, members_say ms p members d kind fits.1 (omega (arith, deep)))
 
   -- at its place, so many containers deep
   pub node_means : (p : Place) (d : ℕ) (v : Value) → Fits t p v → d + nesting v ≤ r.max_depth → meaning r t p d (written_node l r.name_of t p v) ≡ Some v

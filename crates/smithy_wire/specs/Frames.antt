@@ -4,7 +4,7 @@ use Rattle.std.specs.Prelude.{◌≡◌, ◌⊎◌, ◌<◌, ℕ, zero, suc, Lis
 use Rattle.smithy_schema.specs.Table.{Kind, kind_of, IsStructure}
 use Rattle.smithy_schema.specs.Reading.{Mark, Relations}
 use Rattle.smithy_wire.specs.Node.{Form, as_array, as_object, Node, null_node, leaf, container, missing, Nodes, no_nodes, node}
-use Rattle.smithy_wire.specs.Rules.{Rules, is_shallow, may_skip, key_text, position_in, drops_null, is_absent}
+use Rattle.smithy_wire.specs.Rules.{Rules, is_shallow, may_skip, key_text, position_in, drops_null, is_mark, is_dropped}
 use Rattle.smithy_wire.specs.Meaning.{is_in, meaning}
 
 -- what a wire tells of bytes
@@ -60,7 +60,7 @@ pub record Drops {L : Type 0} (w : Frames L) (r : Rules L) (k : Kind) (f : Form)
   pub entry : w.entry f i b m key at n
   pub told : IsTold f (key_text r f key)
   pub lies : Lies w i d child at e
-  pub absent : is_absent r k (key_text r f key) child ≡ true
+  pub dropped : is_dropped r k d (key_text r f key) child ≡ true
 
 -- so many entries are dropped, one after another
 abbrev pub DropsAll : {L : Type 0} → Frames L → Rules L → Kind → Form → ℕ → List ℕ → ℕ → ℕ → Mark → ℕ → Mark → Type 0
@@ -68,7 +68,7 @@ DropsAll w r k f zero i d b m e n = (b ≡ e) × (m ≡ n)
 DropsAll w r k f (suc count) i d b m e n =
     (c : ℕ) × (j : Mark) × Drops w r k f i d b m c j × DropsAll w r k f count i d c j e n
 
--- behind entries that are dropped comes one that a reader hands on: no null that is dropped
+-- behind entries that are dropped comes one that a reader hands on: no mark, and no null that is dropped
 pub record StepsIn {L : Type 0} (w : Frames L) (r : Rules L) (k : Kind) (f : Form) (i : List ℕ) (d b : ℕ) (m : Mark) (text : Option (List ℕ)) (c : ℕ) (n : Mark) : Type 0 where
   pub count : ℕ
   pub at : ℕ
@@ -78,6 +78,7 @@ pub record StepsIn {L : Type 0} (w : Frames L) (r : Rules L) (k : Kind) (f : For
   pub entry : w.entry f i at mark key c n
   pub told : IsTold f text
   pub names : key_text r f key ≡ text
+  pub unmarked : is_mark r k text ≡ false
   pub stays : (e : ℕ) → w.null i d c e → drops_null r k (position_in r k text) ≡ false
 
 -- behind entries that are dropped nothing more comes

@@ -56,6 +56,11 @@ module _ {L : Type 0} (w : Frames L) (r : Rules L) (wire : IsWire w) where
   nearer i k f d b m key c n e step at =
       omega (arith, drops_fall i k f step.count d b m step.at step.mark step.drops, wire.nearer f i step.at step.mark step.key c e n step.entry at)
 
+  inside : (i : List ℕ) (t : Table) (p : Place) (d a b : ℕ) (m : Mark) → (relations w r).opens i t p d a b m
+      → (a < b) ⊎ ((a ≡ b) × (b ≡ length i) × IsStructure (kind_of t p))
+  inside i t p d a b m (inl (f, is, opens)) = inl (wire.opens_ahead f i a b m opens).0
+  inside i t p d a b m (inr h) = inr (sym h.2, h.2 ∙ wire.over_is_end i a h.1, h.0)
+
   opening : (i : List ℕ) (t : Table) (p : Place) (d a b c : ℕ) (m n : Mark) → (relations w r).opens i t p d a b m → (relations w r).opens i t p d a c n → (b ≡ c) × (m ≡ n)
   opening i t p d a b c m n (inl (f, is, opens)) (inl (g, is', opens')) =
       wire.same_opens f i a b c m n opens (subst (λ z. w.opens z i a c n) (one_form (kind_of t p) g f is' is) opens')
@@ -95,6 +100,7 @@ module _ {L : Type 0} (w : Frames L) (r : Rules L) (wire : IsWire w) where
     same_end = λ i t p d a v u e f h k. (one_node w wire i d h.0 k.0 a e f h.1 k.1).1;
     stands_ahead = λ i t p d a v e h. ahead i t p d a v e h.0 h.1 h.2;
     stands_within = λ i t p d a v e h. within i d a e h.0 h.1;
+    opens_ahead = inside;
     nulls_within = λ i d a e h. wire.null_ahead i d a e h;
     skips_within = λ i d a e h. lies_ahead w wire i d h.0 a e h.1 (skipped_is_there d h.0 h.2);
     nearer = λ i t p d b m key c n x e steps child.
@@ -107,6 +113,8 @@ module _ {L : Type 0} (w : Frames L) (r : Rules L) (wire : IsWire w) where
     same_skip = λ i d a e f h k. (one_node w wire i d h.0 k.0 a e f h.1 k.1).1;
     null_begins = wire.null_begins;
     value_begins = λ i t p d a v e h. begins i t p d a v e h.0 h.1 h.2;
+    empty_structure = λ t p d structure'.
+        (w.over_mark, inr (structure', wire.empty_is_over, refl, refl), inr (structure', wire.empty_is_over, refl, refl, omega arith));
   }
 
 -- where what scalars mean is a value of their kind, what stands is a value of its place

@@ -2,7 +2,7 @@
 use Rattle.std.specs.Prelude.{ℕ, suc, List, [], ◌∷◌, Bool, true, false, Option, Some, None, option_and_then, if◌then◌else◌}
 use Rattle.smithy_schema.specs.declared.place.Place.{Place}
 use Rattle.smithy_schema.specs.declared.shape_type.TimestampFormat.{TimestampFormat}
-use Rattle.smithy_schema.specs.Table.{Table, Kind, scalar, structure_of, list_of, kind_of, place_in}
+use Rattle.smithy_schema.specs.Table.{Table, Kind, scalar, structure_of, union_of, list_of, map_of, kind_of, place_in}
 use Rattle.smithy_schema.specs.Value.{Value, structure, no_member_values, null_element}
 use Rattle.smithy_schema.specs.Container.{Entry, container_of}
 use Rattle.smithy_wire.specs.Node.{Form, as_array, as_object, Node, null_node, leaf, container, missing, Nodes, no_nodes, node, is_null}
@@ -13,10 +13,12 @@ abbrev pub leaf_meaning : {L : Type 0} → Rules L → Kind → Option Timestamp
 leaf_meaning r (scalar s) time x = settled r.limits null_element (r.says s time x)
 leaf_meaning r _ time x = None
 
--- lists are arrays, and structures are objects
+-- lists are arrays, and structures, unions and maps are objects
 abbrev pub is_in : Kind → Form → Bool
 is_in (list_of l) as_array = true
 is_in (structure_of members) as_object = true
+is_in (union_of members) as_object = true
+is_in (map_of m) as_object = true
 is_in _ _ = false
 
 -- what is missing is a structure without members

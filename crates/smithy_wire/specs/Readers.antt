@@ -11,12 +11,12 @@ use Rattle.smithy_schema.specs.Container.{container_of}
 use Rattle.smithy_schema.specs.Reading.{Mark}
 use Rattle.smithy_schema.specs.Lemmas.Options.{chosen}
 use Rattle.smithy_wire.specs.Node.{Form, Node, null_node, leaf, container, missing}
-use Rattle.smithy_wire.specs.Rules.{settled, answer_of, Rules, is_shallow, at_depth, key_text, position_in, drops_null, is_absent}
+use Rattle.smithy_wire.specs.Rules.{settled, answer_of, Rules, is_shallow, at_depth, key_text, position_in, drops_null, is_mark}
 use Rattle.smithy_wire.specs.Meaning.{leaf_meaning, is_in, missing_meaning, meaning, entries}
 use Rattle.smithy_wire.specs.Frames.{Frames, Lies, IsTold, Drops, DropsAll, StepsIn, EndsIn, relations}
 use Rattle.smithy_wire.specs.Wire.{IsWire}
 use Rattle.smithy_wire.specs.Lemmas.Nodes.{one_node}
-use Rattle.smithy_wire.specs.Lemmas.Determined.{one_form, handed_on}
+use Rattle.smithy_wire.specs.Lemmas.Determined.{is_droppable, one_form, droppable, handed_on}
 
 -- from a to e is a scalar that says v as a kind
 abbrev pub Says : {L : Type 0} → Frames L → Rules L → Scalar → Option TimestampFormat → List ℕ → ℕ → ℕ → Value → ℕ → Type 0
@@ -75,7 +75,7 @@ module _ {L : Type 0} (w : Frames L) (r : Rules L) (i : List ℕ) (t : Table) (p
     -- no entry that is told and handed on comes there
     abbrev pub NoEntry : ℕ → Mark → Type 0
     NoEntry at j = (key : Option L) (c : ℕ) (n : Mark) → w.entry f i at j key c n → IsTold f (key_text r f key)
-        → NullStays (key_text r f key) c → ⊥
+        → is_mark r (kind_of t p) (key_text r f key) ≡ false → NullStays (key_text r f key) c → ⊥
 
     -- nor is one dropped
     abbrev pub NoDrop : ℕ → Mark → Type 0
@@ -91,27 +91,28 @@ module _ {L : Type 0} (w : Frames L) (r : Rules L) (i : List ℕ) (t : Table) (p
         subst (λ z. Drops w r (kind_of t p) f i d z j c n) h.0 (subst (λ z. Drops w r (kind_of t p) f i d b z c n) h.1 one)
 
     no_drop_here : (b : ℕ) (m : Mark) (text : Option (List ℕ)) (c : ℕ) (n : Mark) (e : ℕ) (o : Mark) (key : Option L) → w.entry f i b m key c n
-        → key_text r f key ≡ text → NullStays text c
+        → key_text r f key ≡ text → is_mark r (kind_of t p) text ≡ false → NullStays text c
         → Drops w r (kind_of t p) f i d b m e o → ⊥
-    no_drop_here b m text c n e o key entry names stays h =
+    no_drop_here b m text c n e o key entry names unmarked stays h =
         let same = wire.same_entry f i b m key h.key c h.at n o entry h.entry in
-        let kept = handed_on w r i (kind_of t p) d text c e h.child stays (rw same.1 h.lies) in
-        let other : is_absent r (kind_of t p) text h.child ≡ true = rw (← names, same.0) h.absent in
+        let kept = handed_on w r i (kind_of t p) d text c e h.child unmarked stays (rw same.1 h.lies) in
+        let drop = droppable r (kind_of t p) d (key_text r f h.key) h.child h.dropped in
+        let other : is_droppable r (kind_of t p) text h.child ≡ true = rw (← names, same.0) drop in
         let clash = sym kept ∙ other in cc
 
     -- behind entries that are dropped, where no entry comes there is no step
     pub no_step : (x y b : ℕ) (m : Mark) (at to : ℕ) (j o : Mark) (text : Option (List ℕ)) (c : ℕ) (n : Mark) → DropsAll w r (kind_of t p) f x i d b m at j → NoEntry at j → NoDrop at j
         → DropsAll w r (kind_of t p) f y i d b m to o → (key : Option L) → w.entry f i to o key c n → IsTold f text → key_text r f key ≡ text
-        → NullStays text c → ⊥
-    no_step zero zero b m at to j o text c n p none fixed q key entry told names stays =
+        → is_mark r (kind_of t p) text ≡ false → NullStays text c → ⊥
+    no_step zero zero b m at to j o text c n p none fixed q key entry told names unmarked stays =
         let here : (to ≡ at) × (o ≡ j) = (sym q.0 ∙ p.0, sym q.1 ∙ p.1) in
-        none key c n (entry_back to at o j key c n here entry) (subst (IsTold f) (sym names) told) (rw names stays)
-    no_step zero (suc y) b m at to j o text c n p none fixed q key entry told names stays = fixed q.0 q.1 (drops_back b at m j q.0 q.1 p q.2)
-    no_step (suc x) zero b m at to j o text c n p none fixed q key entry told names stays =
-        no_drop_here b m text c n p.0 p.1 key (entry_back to b o m key c n (sym q.0, sym q.1) entry) names stays p.2
-    no_step (suc x) (suc y) b m at to j o text c n p none fixed q key entry told names stays =
+        none key c n (entry_back to at o j key c n here entry) (subst (IsTold f) (sym names) told) (rw names unmarked) (rw names stays)
+    no_step zero (suc y) b m at to j o text c n p none fixed q key entry told names unmarked stays = fixed q.0 q.1 (drops_back b at m j q.0 q.1 p q.2)
+    no_step (suc x) zero b m at to j o text c n p none fixed q key entry told names unmarked stays =
+        no_drop_here b m text c n p.0 p.1 key (entry_back to b o m key c n (sym q.0, sym q.1) entry) names unmarked stays p.2
+    no_step (suc x) (suc y) b m at to j o text c n p none fixed q key entry told names unmarked stays =
         let one = same_drop b m q.0 p.0 q.1 p.1 q.2 p.2 in
-        no_step x y p.0 p.1 at to j o text c n p.3 none fixed (rw (← one.0, ← one.1) q.3) key entry told names stays
+        no_step x y p.0 p.1 at to j o text c n p.3 none fixed (rw (← one.0, ← one.1) q.3) key entry told names unmarked stays
 
     -- and where no end comes it doesn't end
     pub no_close : (x y b : ℕ) (m : Mark) (at to : ℕ) (j o : Mark) (e : ℕ) → DropsAll w r (kind_of t p) f x i d b m at j → NoDrop at j
@@ -135,7 +136,7 @@ module _ {L : Type 0} (w : Frames L) (r : Rules L) (i : List ℕ) (t : Table) (p
         steps key c n (g, is, step) = here (subst (λ z. StepsIn w r (kind_of t p) z i d b m key c n) (one_form (kind_of t p) g f is within) step)
           where
             here : StepsIn w r (kind_of t p) f i d b m key c n → ⊥
-            here s = no_step count s.count b m at s.at j s.mark key c n drops none fixed s.drops s.key s.entry s.told s.names s.stays
+            here s = no_step count s.count b m at s.at j s.mark key c n drops none fixed s.drops s.key s.entry s.told s.names s.unmarked s.stays
 
         closes : (e : ℕ) → (relations w r).closes i t p d b m e → ⊥
         closes e (inl (g, is, ends, follows)) = here (subst (λ z. EndsIn w r (kind_of t p) z i d b m e) (one_form (kind_of t p) g f is within) ends)

@@ -1,12 +1,13 @@
 -- What the meaning of a node depends on beside table and place: the wire's scalars, and the settings.
-use Rattle.std.specs.Prelude.{ℕ, ◌+◌, List, Bool, true, false, ◌&&◌, not, Option, Some, None, option_and_then, if◌then◌else◌}
+use Rattle.std.specs.Prelude.{ℕ, ◌+◌, List, Bool, true, false, ◌&&◌, ◌||◌, not, Option, Some, None, option_and_then, if◌then◌else◌}
 use Rattle.std.specs.Option.{option_map_or}
 use Rattle.smithy_schema.specs.declared.place.Place.{Place}
 use Rattle.smithy_schema.specs.declared.shape_type.Scalar.{Scalar}
 use Rattle.smithy_schema.specs.declared.shape_type.TimestampFormat.{TimestampFormat}
 use Rattle.smithy_schema.specs.Limits.{Limits, kept, lifted, is_within}
-use Rattle.smithy_schema.specs.Table.{Member, Kind, structure_of, members_of, place_in, position_named}
+use Rattle.smithy_schema.specs.Table.{Member, Kind, structure_of, union_of, members_of, member_place, has_members, position_named}
 use Rattle.smithy_schema.specs.Value.{Value}
+use Rattle.smithy_schema.specs.Container.{is_type_mark}
 use Rattle.smithy_wire.specs.Node.{Form, as_array, as_object, Node, nesting, all_pass, is_null}
 
 -- what a scalar of a body is as one kind
@@ -86,12 +87,22 @@ position_in r k key = option_and_then (position_named r.name_of (members_of k)) 
 
 -- ---- what is dropped
 
--- a null under a key is dropped: in structures alone, and not where its member keeps it
+-- a null under a key is dropped: in structures and unions alone, and not where its member keeps it
 abbrev pub drops_null : {L : Type 0} → Rules L → Kind → Option ℕ → Bool
 drops_null r (structure_of members) position =
-    not (option_map_or r.keeps_null (place_in (structure_of members) position) false)
+    not (option_map_or r.keeps_null (member_place members position) false)
+drops_null r (union_of members) position =
+    not (option_map_or r.keeps_null (member_place members position) false)
 drops_null r _ position = false
 
 -- an entry that is as good as not there
 abbrev pub is_absent : {L : Type 0} → Rules L → Kind → Option (List ℕ) → Node L → Bool
 is_absent r k key x = is_null x && drops_null r k (position_in r k key)
+
+-- a `__type` of a structure or a union that names no member
+abbrev pub is_mark : {L : Type 0} → Rules L → Kind → Option (List ℕ) → Bool
+is_mark r k key = has_members k && option_map_or (is_type_mark (position_in r k key)) key false
+
+-- an entry that a reader passes over: one that is absent, and a mark that may be skipped inside so many containers
+abbrev pub is_dropped : {L : Type 0} → Rules L → Kind → ℕ → Option (List ℕ) → Node L → Bool
+is_dropped r k depth key x = is_absent r k key x || is_mark r k key && may_skip r depth x

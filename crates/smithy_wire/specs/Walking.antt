@@ -1,6 +1,6 @@
 -- Where a walk stands, as the contract of reading sees it.
 use Rattle.std.specs.Prelude.{ℕ, List, [], ◌∷◌, map, reverse, None, true, false}
-use Rattle.smithy_schema.specs.Reading.{Cursor, Frame, Mark, Within, outside, in_structure, in_list}
+use Rattle.smithy_schema.specs.Reading.{Cursor, Frame, Mark, Within, outside, in_structure, in_list, in_map}
 use Rattle.smithy_wire.specs.declared.walk.Within.{Within as HeldWithin}
 use Rattle.smithy_wire.specs.declared.walk.Within.TheVariants as held
 use Rattle.smithy_wire.specs.declared.walk.Mark.{Mark as HeldMark}
@@ -11,6 +11,7 @@ abbrev pub within_of : HeldWithin → Within
 within_of held.Outside = outside
 within_of held.Structure = in_structure
 within_of held.List = in_list
+within_of held.Map = in_map
 
 abbrev pub mark_of : HeldMark → Mark
 mark_of m = record { entered = m.entered; at_end = m.at_end; due = m.due }

@@ -1,5 +1,5 @@
 -- What a wire proves of its framing: none of it speaks of tables, kinds or values but the last record.
-use Rattle.std.specs.Prelude.{◌≡◌, ◌⊎◌, ◌<◌, ◌≤◌, ℕ, suc, length, drop, List, Option, Some, true, false}
+use Rattle.std.specs.Prelude.{◌≡◌, ◌⊎◌, ◌<◌, ◌≤◌, ℕ, suc, length, drop, List, [], Option, Some, true, false, IsUtf8}
 use Rattle.smithy_schema.specs.declared.place.Place.{Place}
 use Rattle.smithy_schema.specs.declared.shape_type.Scalar.{Scalar}
 use Rattle.smithy_schema.specs.Table.{Table, scalar, kind_of}
@@ -40,6 +40,7 @@ pub record IsWire {L : Type 0} (w : Frames L) : Type 0 where
   pub null_begins : (i : List ℕ) (d a e : ℕ) → w.null i d a e → w.begins_null i a ≡ true
   pub others_begin : (i : List ℕ) (a : ℕ) → (sort_at i a ≡ a_null → ⊥) → w.begins_null i a ≡ false
   -- ---- where the input ends
+  pub empty_is_over : w.is_over [] 0
   pub over_is_end : (i : List ℕ) (a : ℕ) → w.is_over i a → a ≡ length i
   pub no_entry_over : (i : List ℕ) (b : ℕ) (k : Option L) (c : ℕ) (n : Mark) → w.is_over i b → w.entry as_object i b w.over_mark k c n → ⊥
   pub no_end_over : (i : List ℕ) (b e : ℕ) → w.is_over i b → w.ends as_object i b w.over_mark e → ⊥
@@ -64,9 +65,11 @@ pub record BoundsOpeners {L : Type 0} (w : Frames L) : Type 0 where
       → w.openers (drop c i) ≤ w.openers (drop b i)
   pub end_takes_one : (s : Form) (i : List ℕ) (b : ℕ) (m : Mark) (e : ℕ) → w.ends s i b m e → w.openers (drop e i) ≤ suc (w.openers (drop b i))
 
--- What a scalar that lies somewhere means as a kind is a value of it. Where the limits are lifted that may be
--- false: what is too wide then means a null.
+-- What a scalar that lies somewhere means as a kind is a value of it, and the text of a key is in UTF-8. Where the
+-- limits are lifted the first may be false: what is too wide then means a null.
 pub record RulesFit {L : Type 0} (w : Frames L) (r : Rules L) : Type 0 where
   pub says_fits : (i : List ℕ) (d : ℕ) (x : L) (a e : ℕ) → w.scalar i d x a e
       → (t : Table) (p : Place) (s : Scalar) (v : Value) → kind_of t p ≡ scalar s
       → settled r.limits null_element (r.says s p.time x) ≡ Some v → Fits t p v
+  pub key_fits : (i : List ℕ) (b : ℕ) (m : Mark) (key : L) (c : ℕ) (n : Mark) (text : List ℕ)
+      → w.entry as_object i b m (Some key) c n → r.text_of key ≡ Some text → IsUtf8 text

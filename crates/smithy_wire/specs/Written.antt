@@ -1,12 +1,12 @@
 -- The node as which a value is written at a place of a table, whichever wire carries it.
-use Rattle.std.specs.Prelude.{◌≡◌, ℕ, List, [], true, false, Option, Some, None, map, slice_get, unwrap_or, IsUtf8}
+use Rattle.std.specs.Prelude.{◌≡◌, ℕ, List, [], true, false, Option, Some, None, map as list_map, slice_get, unwrap_or, IsUtf8}
 use Rattle.std.specs.Option.{option_map_or}
 use Rattle.smithy_schema.specs.declared.place.Place.{Place}
 use Rattle.smithy_schema.specs.declared.shape_type.Scalar.{Scalar}
 use Rattle.smithy_schema.specs.declared.shape_type.TimestampFormat.{TimestampFormat}
 use Rattle.smithy_schema.specs.Names.{has_equal_texts}
 use Rattle.smithy_schema.specs.Table.{Table, Member, Kind, scalar, kind_of, members_of, place_in}
-use Rattle.smithy_schema.specs.Value.{ScalarValue, Value, scalar_value, list, structure, null_element, Values, no_values, value, MemberValues, no_member_values, member_value}
+use Rattle.smithy_schema.specs.Value.{ScalarValue, Value, scalar_value, list, map, structure, union, null_element, Values, no_values, value, MapEntries, no_map_entries, map_entry, MemberValues, no_member_values, member_value}
 use Rattle.smithy_schema.specs.Fits.{is_of}
 use Rattle.smithy_wire.specs.Node.{as_array, as_object, Node, null_node, leaf, container, Nodes, no_nodes, node}
 use Rattle.smithy_wire.specs.Rules.{means, Rules}
@@ -32,17 +32,27 @@ abbrev pub name_at : (Member → List ℕ) → Kind → ℕ → List ℕ
 name_at name_of k n = option_map_or name_of (slice_get (members_of k) n) []
 
 abbrev mutual
-  -- lists are arrays, and structures are objects under the names of their members
+  -- Lists are arrays. Maps are objects under their keys, and structures and unions under the names of their members.
   pub written_node : {L : Type 0} → Leaves L → (Member → List ℕ) → Table → Place → Value → Node L
   written_node l name_of t p (scalar_value x) = scalar_node l (kind_of t p) p.time x
   written_node l name_of t p (list vs) = container as_array (element_nodes l name_of t (child_place (kind_of t p) None p) vs)
+  written_node l name_of t p (map es) = container as_object (entry_nodes l name_of t (child_place (kind_of t p) None p) es)
   written_node l name_of t p (structure ms) = container as_object (member_nodes l name_of t p ms)
+  written_node l name_of t p (union n v) =
+      container as_object
+      (node (Some (l.key_of (name_at name_of (kind_of t p) n))) (written_node l name_of t (child_place (kind_of t p) (Some n) p) v) no_nodes)
   written_node l name_of t p null_element = null_node
 
   -- elements in order, all at one place
   pub element_nodes : {L : Type 0} → Leaves L → (Member → List ℕ) → Table → Place → Values → Nodes L
   element_nodes l name_of t q no_values = no_nodes
   element_nodes l name_of t q (value v vs) = node None (written_node l name_of t q v) (element_nodes l name_of t q vs)
+
+  -- entries of a map in order, their values all at one place
+  pub entry_nodes : {L : Type 0} → Leaves L → (Member → List ℕ) → Table → Place → MapEntries → Nodes L
+  entry_nodes l name_of t q no_map_entries = no_nodes
+  entry_nodes l name_of t q (map_entry key v es) =
+      node (Some (l.key_of key)) (written_node l name_of t q v) (entry_nodes l name_of t q es)
 
   -- members in order, of a structure at this place
   pub member_nodes : {L : Type 0} → Leaves L → (Member → List ℕ) → Table → Place → MemberValues → Nodes L
@@ -55,7 +65,7 @@ abbrev mutual
 
 -- what an accepted table says of the names under which members are written
 pub record AreNamed (name_of : Member → List ℕ) (t : Table) : Type 0 where
-  pub names_differ : (at : Place) → has_equal_texts (map name_of (members_of (kind_of t at))) ≡ false
+  pub names_differ : (at : Place) → has_equal_texts (list_map name_of (members_of (kind_of t at))) ≡ false
   pub names_are_texts : (at : Place) (n : ℕ) (m : Member) → slice_get (members_of (kind_of t at)) n ≡ Some m → IsUtf8 (name_of m)
 
 -- what a wire proves: a scalar and a key mean what they were written for

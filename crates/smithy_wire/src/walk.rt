@@ -8,8 +8,10 @@ use std::alloc::Global;
 #[derive(Clone, Copy)]
 pub enum Within {
     Outside,
+    /// A structure or a union.
     Structure,
     List,
+    Map,
 }
 
 /// How far a reader is in an open container.

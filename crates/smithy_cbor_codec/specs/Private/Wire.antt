@@ -84,6 +84,7 @@ cbor_is_wire = record {
   over_sort = λ i a h. over_sort i a h.0 h.1;
   null_begins = λ i d a e h. h.0;
   others_begin = λ i a h. others_begin (drop a i) h;
+  empty_is_over = (refl, refl);
   over_is_end = λ i a h. h.1 ∙ sym (ap length h.0);
   no_entry_over = λ i b k c n over h. no_item h.1.0 i b c over.0 h.1.1;
   no_end_over = λ i b e over h. no_end i b end_mark e over.0 refl h;

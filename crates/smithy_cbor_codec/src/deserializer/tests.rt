@@ -3,6 +3,8 @@
 ghost use Rattle.smithy_schema.specs.Table.{IsStructure, IsList};
 ghost use Rattle.smithy_schema.specs.Site.{site_of, kind_at};
 
+mod entries;
+
 use crate::CborCodec;
 use smithy_schema::{Schema, SerdeError, ShapeDeserializer, ShapeType, Shapes, Step, TableText};
 use std::alloc::Global;

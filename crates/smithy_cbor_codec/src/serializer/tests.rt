@@ -23,6 +23,8 @@ enum Call {
     EndStruct,
     BeginList(At),
     EndList,
+    BeginMap(At),
+    EndMap,
     Null(At),
     Long(At, i64),
     Text(At, &'static str),
@@ -30,7 +32,7 @@ enum Call {
 }
 
 use At::{Member, Whole};
-use Call::{BeginList, BeginStruct, EndList, EndStruct, Long, Null, Text};
+use Call::{BeginList, BeginMap, BeginStruct, EndList, EndMap, EndStruct, Long, Null, Text};
 
 #[derive(Clone, Copy)]
 struct Row {
@@ -39,7 +41,7 @@ struct Row {
     answer: Result<&'static [u8], SerdeError>,
 }
 
-const ROWS: [Row; 8] = [
+const ROWS: [Row; 18] = [
     Row {
         name: "a structure without members",
         calls: &[BeginStruct(Whole), EndStruct],
@@ -70,6 +72,82 @@ const ROWS: [Row; 8] = [
             EndList,
         ],
         answer: Ok(b"\x9f\x9f\xff\xf6\x64IETF\x38\x63\xff"),
+    },
+    Row {
+        name: "a map without entries",
+        calls: &[BeginMap(Whole), EndMap],
+        answer: Ok(b"\xbf\xff"),
+    },
+    Row {
+        name: "keys and values in turn, and no names of members: {_ \"k\": 1, \"l\": null}",
+        calls: &[
+            BeginMap(Whole),
+            Text(Member(1), "k"),
+            Long(Member(0), 1),
+            Text(Whole, "l"),
+            Null(Member(0)),
+            EndMap,
+        ],
+        answer: Ok(b"\xbf\x61k\x01\x61l\xf6\xff"),
+    },
+    Row {
+        name: "texts as keys and as values: {_ \"k\": \"v\", \"l\": \"w\"}",
+        calls: &[
+            BeginMap(Whole),
+            Text(Whole, "k"),
+            Text(Whole, "v"),
+            Text(Whole, "l"),
+            Text(Whole, "w"),
+            EndMap,
+        ],
+        answer: Ok(b"\xbf\x61k\x61v\x61l\x61w\xff"),
+    },
+    Row {
+        name: "maps, lists and structures in a map: {_ \"k\": {_ }, \"l\": [_ ], \"m\": {_ }}",
+        calls: &[
+            BeginMap(Whole),
+            Text(Whole, "k"),
+            BeginMap(Whole),
+            EndMap,
+            Text(Whole, "l"),
+            BeginList(Whole),
+            EndList,
+            Text(Whole, "m"),
+            BeginStruct(Whole),
+            EndStruct,
+            EndMap,
+        ],
+        answer: Ok(b"\xbf\x61k\xbf\xff\x61l\x9f\xff\x61m\xbf\xff\xff"),
+    },
+    Row {
+        name: "the end of a map behind a key",
+        calls: &[BeginMap(Whole), Text(Whole, "k"), EndMap],
+        answer: Err(SerdeError::Unwritable),
+    },
+    Row {
+        name: "a number where a key is due",
+        calls: &[BeginMap(Whole), Long(Whole, 1)],
+        answer: Err(SerdeError::Unwritable),
+    },
+    Row {
+        name: "a list where a key is due",
+        calls: &[BeginMap(Whole), BeginList(Whole)],
+        answer: Err(SerdeError::Unwritable),
+    },
+    Row {
+        name: "a null where a key is due, behind a value",
+        calls: &[BeginMap(Whole), Text(Whole, "k"), Null(Whole), Null(Whole)],
+        answer: Err(SerdeError::Unwritable),
+    },
+    Row {
+        name: "the end of a structure in a map",
+        calls: &[BeginMap(Whole), EndStruct],
+        answer: Err(SerdeError::Unwritable),
+    },
+    Row {
+        name: "the end of a map in a structure",
+        calls: &[BeginStruct(Whole), EndMap],
+        answer: Err(SerdeError::Unwritable),
     },
     Row {
         name: "nothing at all",
@@ -113,6 +191,8 @@ fn make<S: ShapeSerializer>(sink: &mut S, shapes: &Shapes, call: Call) -> Result
         EndStruct => sink.end_struct(),
         BeginList(at) => sink.begin_list(&schema(shapes, at)?, None),
         EndList => sink.end_list(),
+        BeginMap(at) => sink.begin_map(&schema(shapes, at)?, None),
+        EndMap => sink.end_map(),
         Null(at) => sink.write_null(&schema(shapes, at)?),
         Long(at, number) => sink.write_long(&schema(shapes, at)?, number),
         Text(at, text) => sink.write_string(&schema(shapes, at)?, text),

@@ -8,13 +8,16 @@ use Rattle.smithy_schema.specs.declared.shape_type.Scalar.TheVariants as scalars
 use Rattle.smithy_schema.specs.Table.{Table, scalar, kind_of}
 use Rattle.smithy_schema.specs.Value.{boolean as boolean_value, whole, text, Value, scalar_value, null_element}
 use Rattle.smithy_schema.specs.Fits.{is_of, Fits}
+use Rattle.smithy_schema.specs.Reading.{Mark}
 use Rattle.smithy_schema.specs.Lemmas.Options.{same_some, step_apart, chosen, made}
+use Rattle.smithy_json.specs.Grammar.{IsStringText}
 use Rattle.smithy_json.specs.Number.{whole_number}
 use Rattle.smithy_texts.specs.Ranges.{fits_signed}
 use Rattle.smithy_json.proofs.TextLemmas.{unescaped_is_utf8}
 use Rattle.smithy_json_codec.specs.Scalar.{JsonScalar, a_boolean, a_number, a_string, boolean_of, whole_of, text_of, says}
 use Rattle.smithy_json_codec.specs.Settings.{Settings}
 use Rattle.smithy_json_codec.specs.Standing.{json_frames}
+use Rattle.smithy_wire.specs.Node.{as_object}
 use Rattle.smithy_wire.specs.Rules.{settled}
 use Rattle.smithy_wire.specs.Readers.{settled_answer}
 
@@ -39,6 +42,15 @@ text_is_utf8 : (i : List ℕ) (d : ℕ) (x : JsonScalar) (a e : ℕ) → json_fr
 text_is_utf8 i d (a_boolean b) a e lies s h = cc
 text_is_utf8 i d (a_number raw) a e lies s h = cc
 text_is_utf8 i d (a_string raw) a e lies s h = unescaped_is_utf8 raw s lies.0.2.4.1.0 h
+
+-- the text of a name is in UTF-8
+pub key_fits : (i : List ℕ) (b : ℕ) (m : Mark) (key : JsonScalar) (c : ℕ) (n : Mark) (s : List ℕ) → json_frames.entry as_object i b m (Some key) c n
+    → text_of key ≡ Some s → IsUtf8 s
+key_fits i b m (a_boolean x) c n s entry h = cc
+key_fits i b m (a_number raw) c n s entry h = cc
+key_fits i b m (a_string raw) c n s (name, is, mark, names) h =
+    let same : raw ≡ name = cc in
+    unescaped_is_utf8 raw s (subst IsStringText (sym same) names.2.2.4.2).0 h
 
 -- what a scalar means fits its place, with the limits kept or lifted
 pub says_fits : (c : Settings) (i : List ℕ) (d : ℕ) (x : JsonScalar) (a e : ℕ) → json_frames.scalar i d x a e

@@ -100,6 +100,7 @@ json_is_wire = record {
   over_sort = λ i a h. over_sort i a h.0 h.1;
   null_begins = λ i d a e h. null_begins i a e h;
   others_begin = λ i a h. not_null_sort (without_ws (drop a i)) (begins_with_null (without_ws (drop a i))) h;
+  empty_is_over = (refl, refl);
   over_is_end = λ i a h. h.1 ∙ sym (ap length h.0);
   no_entry_over = λ i b k c n over h. no_names i false b h.0 c over.0 h.3;
   no_end_over = λ i b e over h. no_byte end_object i b e over.0 h;

@@ -23,6 +23,8 @@ enum Call {
     EndStruct,
     BeginList(At),
     EndList,
+    BeginMap(At),
+    EndMap,
     Null(At),
     Long(At, i64),
     Text(At, &'static str),
@@ -30,7 +32,7 @@ enum Call {
 }
 
 use At::{Member, Whole};
-use Call::{BeginList, BeginStruct, EndList, EndStruct, Long, Null, Text};
+use Call::{BeginList, BeginMap, BeginStruct, EndList, EndMap, EndStruct, Long, Null, Text};
 
 #[derive(Clone, Copy)]
 struct Row {
@@ -39,7 +41,7 @@ struct Row {
     answer: Result<&'static str, SerdeError>,
 }
 
-const ROWS: [Row; 8] = [
+const ROWS: [Row; 17] = [
     Row {
         name: "a structure without members",
         calls: &[BeginStruct(Whole), EndStruct],
@@ -67,6 +69,36 @@ const ROWS: [Row; 8] = [
         answer: Ok("[\"\\\"\\u001f\",{}]"),
     },
     Row {
+        name: "a map without entries, as a member",
+        calls: &[BeginStruct(Whole), BeginMap(Member(0)), EndMap, EndStruct],
+        answer: Ok("{\"a\":{}}"),
+    },
+    Row {
+        name: "a text behind each key",
+        calls: &[
+            BeginMap(Whole),
+            Text(Whole, "k"),
+            Text(Whole, "v"),
+            Text(Whole, "\""),
+            Text(Whole, ""),
+            EndMap,
+        ],
+        answer: Ok("{\"k\":\"v\",\"\\\"\":\"\"}"),
+    },
+    Row {
+        name: "a map as a map's value",
+        calls: &[
+            BeginMap(Whole),
+            Text(Whole, "k"),
+            BeginMap(Whole),
+            EndMap,
+            Text(Whole, "l"),
+            Null(Whole),
+            EndMap,
+        ],
+        answer: Ok("{\"k\":{},\"l\":null}"),
+    },
+    Row {
         name: "nothing at all",
         calls: &[],
         answer: Ok(""),
@@ -79,6 +111,36 @@ const ROWS: [Row; 8] = [
     Row {
         name: "an end where nothing is open",
         calls: &[EndStruct],
+        answer: Err(SerdeError::Unwritable),
+    },
+    Row {
+        name: "the end of a map behind a key",
+        calls: &[BeginMap(Whole), Text(Whole, "k"), EndMap],
+        answer: Err(SerdeError::Unwritable),
+    },
+    Row {
+        name: "the end of a structure where a map is open",
+        calls: &[BeginMap(Whole), EndStruct],
+        answer: Err(SerdeError::Unwritable),
+    },
+    Row {
+        name: "a number in the place of a key",
+        calls: &[BeginMap(Whole), Long(Whole, 1)],
+        answer: Err(SerdeError::Unwritable),
+    },
+    Row {
+        name: "a list in the place of a key",
+        calls: &[BeginMap(Whole), BeginList(Whole)],
+        answer: Err(SerdeError::Unwritable),
+    },
+    Row {
+        name: "a null in the place of a key",
+        calls: &[BeginMap(Whole), Null(Whole)],
+        answer: Err(SerdeError::Unwritable),
+    },
+    Row {
+        name: "the body is asked for while a map is open",
+        calls: &[BeginMap(Whole)],
         answer: Err(SerdeError::Unwritable),
     },
     Row {
@@ -108,6 +170,8 @@ fn make<S: ShapeSerializer>(sink: &mut S, shapes: &Shapes, call: Call) -> Result
         EndStruct => sink.end_struct(),
         BeginList(at) => sink.begin_list(&schema(shapes, at)?, None),
         EndList => sink.end_list(),
+        BeginMap(at) => sink.begin_map(&schema(shapes, at)?, None),
+        EndMap => sink.end_map(),
         Null(at) => sink.write_null(&schema(shapes, at)?),
         Long(at, number) => sink.write_long(&schema(shapes, at)?, number),
         Text(at, text) => sink.write_string(&schema(shapes, at)?, text),

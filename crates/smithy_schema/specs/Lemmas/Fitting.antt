@@ -1,27 +1,31 @@
 -- What entries mean together fits a place, where what each means fits its own.
-use Rattle.std.specs.Prelude.{◌≡◌, ◌⊎◌, ℕ, ◌<◌, List, [], ◌∷◌, ◌++◌, Option, Some, None, Bool, true, false, refl}
+use Rattle.std.specs.Prelude.{◌≡◌, ◌⊎◌, ℕ, ◌<◌, List, [], ◌∷◌, ◌++◌, Option, Some, None, Bool, true, false, refl, IsUtf8}
 use Rattle.std.specs.declared.cmp.Ordering.{Ordering}
 use Rattle.std.specs.declared.cmp.Ordering.TheVariants.{Less, Equal, Greater}
 use Rattle.std.specs.Ordering.{MatchOrdering, nat_cmp, match_ordering}
+use Rattle.std.specs.Cmp.Lexicographic.{slice_cmp}
 use Rattle.std.proofs.Common.{sym, subst, inl, inr}
 use Rattle.std.proofs.lemmas.Cmp.{ranked}
 use Rattle.smithy_schema.specs.declared.place.Place.{Place}
-use Rattle.smithy_schema.specs.Table.{Table, ListShape, Kind, list_of, place_in, is_sparse}
-use Rattle.smithy_schema.specs.Value.{Value, scalar_value, list, structure, null_element, values_of, MemberValues, no_member_values, member_value, put_member}
+use Rattle.smithy_schema.specs.Table.{Table, ListShape, MapShape, Kind, list_of, map_of, place_in, is_sparse}
+use Rattle.smithy_schema.specs.Value.{Value, scalar_value, list, map, structure, union, null_element, values_of, MapEntries, no_map_entries, map_entry, put_entry, MemberValues, no_member_values, member_value, put_member}
 use Rattle.smithy_schema.specs.Container.{Entry, element_of, members_from}
-use Rattle.smithy_schema.specs.Fits.{FitsOr, ElementsFit, MembersFit, Fits}
+use Rattle.smithy_schema.specs.Fits.{FitsOr, ElementsFit, EntriesFit, MembersFit, Fits}
 use Rattle.smithy_schema.specs.Lemmas.ElementFolds.{element_apart}
 use Rattle.smithy_schema.specs.Lemmas.Entries.{entry_with}
 
--- ---- lists
+-- ---- lists and maps
 
 -- a value of a place fits it where nulls may stand, too
 fits_or : (t : Table) (q : Place) (b : Bool) (v : Value) → FitsOr t q false v → FitsOr t q b v
 fits_or t q b (scalar_value x) h = h
 fits_or t q b (list vs) h = h
+fits_or t q b (map es) h = h
 fits_or t q b (structure ms) h = h
+fits_or t q b (union n v) h = h
 fits_or t q b null_element h = cc
 
+-- the value is an element of a list, or a value of a map
 abbrev pub ElementFits : Table → Kind → Value → Type 0
 ElementFits t k v = (q : Place) × (place_in k None ≡ Some q) × FitsOr t q (is_sparse k) v
 
@@ -30,13 +34,38 @@ pub one_more_fits : (t : Table) (k : Kind) (vs : List Value) (v : Value) → Ele
 one_more_fits t k [] v h w = (w, tt)
 one_more_fits t k (u ∷ vs) v h w = (h.0, one_more_fits t k vs v h.1 w)
 
+child_fits : (t : Table) (k : Kind) (q : Place) (nulls : Bool) → place_in k None ≡ Some q → is_sparse k ≡ nulls → (nil : Bool) (mean : Option Value) (v : Value)
+    → ((w : Value) → mean ≡ Some w → Fits t q w) → element_of nulls nil mean ≡ Some v → ElementFits t k v
+child_fits t k q nulls place sparse nil mean v fits h = fits_apart (element_apart nulls nil mean v h)
+  where
+    fits_apart : ((nulls ≡ true) × (nil ≡ true) × (v ≡ null_element)) ⊎ (mean ≡ Some v) → ElementFits t k v
+    fits_apart (inl null) = (q, place, subst (FitsOr t q (is_sparse k)) (sym null.2) (rw sparse null.0))
+    fits_apart (inr means) = (q, place, fits_or t q (is_sparse k) v (fits v means))
+
+-- an element fits, where what its entry means does
 pub element_fits : (t : Table) (k : Kind) (l : ListShape) → k ≡ list_of l → (nil : Bool) (mean : Option Value) (v : Value)
     → ((w : Value) → mean ≡ Some w → Fits t l.place w) → element_of l.is_sparse nil mean ≡ Some v → ElementFits t k v
-element_fits t k l kind nil mean v fits h = fits_apart (element_apart l.is_sparse nil mean v h)
-  where
-    fits_apart : ((l.is_sparse ≡ true) × (nil ≡ true) × (v ≡ null_element)) ⊎ (mean ≡ Some v) → ElementFits t k v
-    fits_apart (inl null) = (l.place, rw kind refl, subst (FitsOr t l.place (is_sparse k)) (sym null.2) (rw kind null.0))
-    fits_apart (inr means) = (l.place, rw kind refl, fits_or t l.place (is_sparse k) v (fits v means))
+element_fits t k l kind = child_fits t k l.place l.is_sparse (rw kind refl) (rw kind refl)
+
+-- so does a value of a map
+pub map_value_fits : (t : Table) (k : Kind) (m : MapShape) → k ≡ map_of m → (nil : Bool) (mean : Option Value) (v : Value)
+    → ((w : Value) → mean ≡ Some w → Fits t m.place w) → element_of m.is_sparse nil mean ≡ Some v → ElementFits t k v
+map_value_fits t k m kind = child_fits t k m.place m.is_sparse (rw kind refl) (rw kind refl)
+
+entry_placed_fits : (t : Table) (k : Kind) (key at : List ℕ) (v w : Value) (rest more : MapEntries) (order : Ordering)
+    → IsUtf8 key → ElementFits t k v → IsUtf8 at → ElementFits t k w → EntriesFit t k rest → EntriesFit t k more
+    → EntriesFit t k (match_ordering order (map_entry key v (map_entry at w rest)) (map_entry at v rest) (map_entry at w more))
+entry_placed_fits t k key at v w rest more Less text one other_text other all next = (text, one, (other_text, other, all))
+entry_placed_fits t k key at v w rest more Equal text one other_text other all next = (other_text, one, all)
+entry_placed_fits t k key at v w rest more Greater text one other_text other all next = (other_text, other, next)
+
+-- one more entry that fits
+pub put_entry_fits : (t : Table) (k : Kind) (key : List ℕ) (v : Value) (es : MapEntries) → IsUtf8 key → ElementFits t k v → EntriesFit t k es
+    → EntriesFit t k (put_entry key v es)
+put_entry_fits t k key v no_map_entries text one h = (text, one, tt)
+put_entry_fits t k key v (map_entry at w rest) text one h =
+    entry_placed_fits t k key at v w rest (put_entry key v rest) (slice_cmp nat_cmp key at) text one h.0 h.1 h.2
+    (put_entry_fits t k key v rest text one h.2)
 
 -- ---- structures
 

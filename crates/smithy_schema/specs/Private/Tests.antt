@@ -5,7 +5,7 @@ use Rattle.smithy_schema.specs.declared.acceptance.Test.TheVariants as kept_test
 use Rattle.smithy_schema.specs.declared.acceptance.PlaceTest as kept_place
 use Rattle.smithy_schema.specs.declared.acceptance.PlaceTest.TheVariants as kept_place_tests
 use Rattle.smithy_schema.specs.Decl.{PlaceWords, Decl}
-use Rattle.smithy_schema.specs.Acceptance.{Test, Fault, not_built, float_shape, unknown_target, unknown_time_format, duplicate_shape, name_clash, query_name, key_value_name, too_many, has_unbuilt_target, has_float_target, has_unknown_target, has_unknown_time, has_unbuilt_item, has_float_shape, has_unknown_shape, has_unknown_time_format, is_duplicate, has_clash, has_unfit_name, has_key_value_name, is_too_many}
+use Rattle.smithy_schema.specs.Acceptance.{Test, Fault, not_built, float_shape, unknown_target, unknown_time_format, duplicate_shape, name_clash, query_name, key_value_name, too_many, has_unbuilt_target, has_float_target, has_unknown_target, has_unknown_time, has_unbuilt_shape, has_float_shape, has_unknown_shape, has_unknown_time_format, is_duplicate, has_clash, has_unfit_name, has_key_value_name, is_too_many}
 
 abbrev pub place_test_of : kept_place.PlaceTest → List Decl → PlaceWords → Bool
 place_test_of kept_place_tests.UnbuiltTarget decls = has_unbuilt_target
@@ -14,7 +14,7 @@ place_test_of kept_place_tests.UnknownTarget decls = has_unknown_target decls
 place_test_of kept_place_tests.UnknownTime decls = has_unknown_time
 
 abbrev pub test_of : kept.Test → Test
-test_of kept_tests.NotBuilt = has_unbuilt_item
+test_of kept_tests.NotBuilt = has_unbuilt_shape
 test_of kept_tests.FloatShape = has_float_shape
 test_of kept_tests.UnknownTarget = has_unknown_shape
 test_of kept_tests.UnknownTimeFormat = has_unknown_time_format

@@ -1,14 +1,20 @@
--- Entries in the order of their positions.
-use Rattle.std.specs.Prelude.{ℕ, nat_lt, Bool, true, ◌&&◌, suc, List, [], ◌∷◌}
-use Rattle.std.specs.List.{list_all}
-use Rattle.std.specs.Ordering.{nat_cmp, match_ordering}
+-- Entries in the order of their keys.
+use Rattle.std.specs.Prelude.{◌≡◌, ℕ, suc, Bool, true, ◌&&◌, List, [], ◌∷◌}
+use Rattle.std.specs.List.{All, list_all}
+use Rattle.std.specs.declared.cmp.Ordering.{Ordering}
+use Rattle.std.specs.declared.cmp.Ordering.TheVariants.{Greater}
+use Rattle.std.specs.Ordering.{is_lt, match_ordering}
 
--- how many entries stand before the first at this position or a later one
-abbrev pub rank : {T : Type 0} → ℕ → List (ℕ × T) → ℕ
-rank n [] = 0
-rank {T} n (e ∷ es) = match_ordering (nat_cmp n e.0) 0 0 (suc (rank n es))
+-- how many entries stand before the first at this key or behind it
+abbrev pub rank : {K V : Type 0} → (K → K → Ordering) → K → List (K × V) → ℕ
+rank cmp key [] = 0
+rank {K} {V} cmp key (e ∷ es) = match_ordering (cmp key e.0) 0 0 (suc (rank cmp key es))
 
 -- each entry stands behind those before it
-abbrev pub ascends : {T : Type 0} → List (ℕ × T) → Bool
-ascends [] = true
-ascends {T} (e ∷ es) = list_all (λ (x : ℕ × T). nat_lt e.0 x.0) es && ascends es
+abbrev pub ascends : {K V : Type 0} → (K → K → Ordering) → List (K × V) → Bool
+ascends cmp [] = true
+ascends {K} {V} cmp (e ∷ es) = list_all (λ (x : K × V). is_lt (cmp e.0 x.0)) es && ascends cmp es
+
+-- the key is above all of them
+abbrev pub AllBelow : {K V : Type 0} → (K → K → Ordering) → K → List (K × V) → Type 0
+AllBelow {K} {V} cmp key es = All (λ (e : K × V). cmp key e.0 ≡ Greater) es

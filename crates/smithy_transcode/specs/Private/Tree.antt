@@ -1,26 +1,62 @@
--- What a tree is at its root, seen as the value that it stands for.
-use Rattle.std.specs.Prelude.{ℕ, List, map}
-use Rattle.smithy_schema.specs.Value.{Value, scalar_value, boolean, whole, text, list, structure, null_element, values_of, MemberValues}
-use Rattle.smithy_transcode.specs.View.{member_values_of}
+-- What a tree is at its root, and the tree of a transcoding, seen as the values that they stand for.
+use Rattle.std.specs.Prelude.{ℕ, List, map as mapped, String, string_bytes, box_value}
+use Rattle.std.specs.declared.alloc.Global.{Global}
+use Rattle.smithy_schema.specs.Value.{Value, scalar_value, boolean, whole, text, list, map, structure, union, null_element, values_of, MapEntries, MemberValues}
+use Rattle.smithy_transcode.specs.View.{map_entries_of, member_values_of}
+use Rattle.smithy_transcode.specs.declared.compact_value.CompactValue as kept
+use Rattle.smithy_transcode.specs.declared.compact_value.CompactValue.TheOpen.{CompactValue-F}
 use Rattle.smithy_transcode.specs.declared.tree.Part.{Part}
-use Rattle.smithy_transcode.specs.declared.tree.Part.TheVariants.{Boolean, Whole, Text, List as Listed, Structure, Null}
-use Rattle.smithy_transcode.specs.declared.member_iter.MemberIter.{MemberIter}
-use Rattle.smithy_transcode.specs.declared.member_iter.MemberIter.TheVariants.{Map, Slice}
+use Rattle.smithy_transcode.specs.declared.tree.Part.TheVariants as parts
+use Rattle.smithy_transcode.specs.declared.entry_iter.EntryIter.{EntryIter}
+use Rattle.smithy_transcode.specs.declared.entry_iter.EntryIter.TheVariants.{Map, Slice}
 
--- the members that are left, in their order
-abbrev pub entries : {T : Type 0} → MemberIter T → List (ℕ × T)
+-- the entries that are left, in their order
+abbrev pub entries : {K T : Type 0} → EntryIter K T → List (K × T)
 entries (Map rest) = rest
 entries (Slice rest) = rest.now
 
+-- entries of a map as the values that they stand for
+abbrev pub entry_views : {T : Type 0} → (T → Value) → List (String Global × T) → MapEntries
+entry_views {T} view es = map_entries_of (mapped (λ (e : String Global × T). (e.0, view e.1)) es)
+
 -- members as the values that they stand for
 abbrev pub member_views : {T : Type 0} → (T → Value) → List (ℕ × T) → MemberValues
-member_views {T} view ms = member_values_of (map (λ (m : ℕ × T). (m.0, view m.1)) ms)
+member_views {T} view ms = member_values_of (mapped (λ (m : ℕ × T). (m.0, view m.1)) ms)
 
 -- the value of a tree, by its root
 abbrev pub part_view : {T : Type 0} → (T → Value) → Part T → Value
-part_view view (Boolean b) = scalar_value (boolean b)
-part_view view (Whole n) = scalar_value (whole n)
-part_view view (Text s) = scalar_value (text s.now)
-part_view view (Listed vs) = list (values_of (map view vs.now))
-part_view view (Structure members) = structure (member_views view (entries members))
-part_view view Null = null_element
+part_view view (parts.Boolean b) = scalar_value (boolean b)
+part_view view (parts.Whole n) = scalar_value (whole n)
+part_view view (parts.Text s) = scalar_value (text s.now)
+part_view view (parts.List vs) = list (values_of (mapped view vs.now))
+part_view view (parts.Map es) = map (entry_views view (entries es))
+part_view view (parts.Structure members) = structure (member_views view (entries members))
+part_view view (parts.Union n v) = union n (view v.now)
+part_view view parts.Null = null_element
+
+-- ---- the tree of a transcoding
+
+-- one level, with each value inside already seen as what it stands for
+abbrev pub compact_step : CompactValue-F Value → Value
+compact_step (CompactValue-F.Boolean b) = scalar_value (boolean b)
+compact_step (CompactValue-F.Whole n) = scalar_value (whole n)
+compact_step (CompactValue-F.Text s) = scalar_value (text (string_bytes s))
+compact_step (CompactValue-F.List v) = list (values_of v.items)
+compact_step (CompactValue-F.Map m) = map (map_entries_of m.items)
+compact_step (CompactValue-F.TreeMap m) = map (map_entries_of m.entries)
+compact_step (CompactValue-F.Structure m) = structure (member_values_of m.items)
+compact_step (CompactValue-F.StructureMap m) = structure (member_values_of m.entries)
+compact_step (CompactValue-F.Union n v) = union n (box_value v)
+compact_step CompactValue-F.Null = null_element
+
+abbrev pub compact_view : kept.CompactValue → Value
+compact_view = kept.fold-CompactValue Value compact_step
+
+abbrev pub compact_entries : List (String Global × kept.CompactValue) → MapEntries
+compact_entries es = entry_views compact_view es
+
+abbrev pub compact_members : List (ℕ × kept.CompactValue) → MemberValues
+compact_members ms = member_views compact_view ms
+
+abbrev pub compact_elements : List kept.CompactValue → List Value
+compact_elements vs = mapped compact_view vs

@@ -1,7 +1,6 @@
 //! Booleans and whole numbers of every width, from each wire to the other.
 
-use crate::{TranscodeError, Wire, transcode};
-use smithy_schema::{ShapeType, Shapes, TableText};
+use super::rows::{CBOR, INVALID, JSON, Row, check};
 use std::test::Fail;
 
 const BOOLEAN: &[u8] = b"structure S\nmember a boolean\n";
@@ -13,25 +12,6 @@ const SHORT: &[u8] = b"structure S\nmember a short\n";
 const INTEGER: &[u8] = b"structure S\nmember a integer\n";
 
 const LONG: &[u8] = b"structure S\nmember a long\n";
-
-const JSON: Wire = Wire::Json {
-    use_json_name: false,
-};
-
-const CBOR: Wire = Wire::Cbor;
-
-// What it is, the table, the wires, the input and the answer.
-#[derive(Clone, Copy)]
-struct Row(
-    &'static str,
-    &'static [u8],
-    Wire,
-    Wire,
-    &'static [u8],
-    Result<&'static [u8], TranscodeError>,
-);
-
-const INVALID: Result<&'static [u8], TranscodeError> = Err(TranscodeError::InvalidInput);
 
 const ROWS: [Row; 40] = [
     Row(
@@ -359,22 +339,7 @@ const ROWS: [Row; 40] = [
 #[test]
 fn scalars_are_transcoded_within_their_widths(rt: HostRuntime) -> Result<(), Fail> {
     for row in &ROWS {
-        let Row(name, table, from, to, input, expected) = *row;
-        let shapes = Shapes::build(rt.alloc(), TableText::read(rt.alloc(), table)?)?;
-        let Some(root) = shapes.find("S") else {
-            assert!(rt; false, "{name}: the table has no S");
-            return Ok(());
-        };
-        let ShapeType::Structure = shapes.schema(root).shape_type() else {
-            assert!(rt; false, "{name}: S is no structure");
-            return Ok(());
-        };
-        let answer = transcode(rt.alloc(), &shapes, root, &from, input, &to);
-        match (answer, expected) {
-            (Ok(body), Ok(bytes)) => assert_eq!(rt; body.as_slice(), bytes, "{name}"),
-            (Err(error), Err(expected)) => assert_eq!(rt; error, expected, "{name}"),
-            _ => assert!(rt; false, "{name}"),
-        }
+        check(&rt, rt.alloc(), row)?;
     }
     Ok(())
 }

@@ -82,16 +82,16 @@ fn has_two_members<T: Tree>(tree: &T) -> bool {
     let Part::Structure(mut left) = tree.part() else {
         return false;
     };
-    let Some((0, number)) = left.next_member() else {
+    let Some((&0, number)) = left.next_entry() else {
         return false;
     };
-    let Some((2, elements)) = left.next_member() else {
+    let Some((&2, elements)) = left.next_entry() else {
         return false;
     };
     let Part::List(none) = elements.part() else {
         return false;
     };
-    matches!(number.part(), Part::Whole(7)) && none.is_empty() && left.next_member().is_none()
+    matches!(number.part(), Part::Whole(7)) && none.is_empty() && left.next_entry().is_none()
 }
 
 #[test]
@@ -100,5 +100,97 @@ fn a_tree_has_its_members_in_order(rt: HostRuntime) -> Result<(), Fail> {
     assert!(rt; has_two_members(&value), "the public value");
     let compact: CompactValue = two_members(rt.alloc())?;
     assert!(rt; has_two_members(&compact), "the compact value");
+    Ok(())
+}
+
+// A map of two entries, of which the second comes first, and then again.
+fn two_entries<T: Tree>(alloc: Global) -> Result<T, SerdeError> {
+    let mut entries = T::no_entries(alloc);
+    T::set_entry(alloc, &mut entries, "b".to_string(alloc)?, T::null())?;
+    T::set_entry(alloc, &mut entries, "a".to_string(alloc)?, T::whole(7))?;
+    let last = T::union(alloc, 3, T::boolean(true))?;
+    T::set_entry(alloc, &mut entries, "b".to_string(alloc)?, last)?;
+    Ok(T::map(entries))
+}
+
+// Whether a tree is that map.
+fn has_two_entries<T: Tree>(tree: &T) -> bool {
+    let Part::Map(mut left) = tree.part() else {
+        return false;
+    };
+    if left.len() != 2 {
+        return false;
+    }
+    let Some((first, number)) = left.next_entry() else {
+        return false;
+    };
+    let Some((second, variant)) = left.next_entry() else {
+        return false;
+    };
+    if first.as_str() != "a" || second.as_str() != "b" {
+        return false;
+    }
+    let Part::Union(3, inner) = variant.part() else {
+        return false;
+    };
+    matches!(number.part(), Part::Whole(7))
+        && matches!(inner.part(), Part::Boolean(true))
+        && left.next_entry().is_none()
+}
+
+#[test]
+fn a_tree_has_its_entries_in_order(rt: HostRuntime) -> Result<(), Fail> {
+    let value: Value = two_entries(rt.alloc())?;
+    assert!(rt; has_two_entries(&value), "the public value");
+    let compact: CompactValue = two_entries(rt.alloc())?;
+    assert!(rt; has_two_entries(&compact), "the compact value");
+    Ok(())
+}
+
+// A body whose map has keys in falling order, each of them twice, and one of them again at the end.
+fn falling_keys(alloc: Global) -> Result<String, Fail> {
+    let mut body = String::new(alloc);
+    body.push_str("{\"m\":{")?;
+    for turn in 0..MEMBERS {
+        let key = MEMBERS + 9 - turn;
+        let twice = format!(in alloc; "\"k{key}\":-1,\"k{key}\":{key},")?;
+        body.push_str(twice.as_str())?;
+    }
+    body.push_str("\"k13\":-3}}")?;
+    Ok(body)
+}
+
+// The same keys in their order.
+fn ascending_keys(alloc: Global) -> Result<String, Fail> {
+    let mut body = String::new(alloc);
+    body.push_str("{\"m\":{\"k10\":10,\"k11\":11,\"k12\":12,\"k13\":-3")?;
+    for turn in 4..MEMBERS {
+        let key = turn + 10;
+        let once = format!(in alloc; ",\"k{key}\":{key}")?;
+        body.push_str(once.as_str())?;
+    }
+    body.push_str("}}")?;
+    Ok(body)
+}
+
+const MAP: &[u8] = b"map M long\nstructure S\nmember m M\n";
+
+#[test]
+fn many_keys_in_falling_order_are_written_in_order(rt: HostRuntime) -> Result<(), Fail> {
+    let shapes = Shapes::build(rt.alloc(), TableText::read(rt.alloc(), MAP)?)?;
+    let Some(root) = shapes.find("S") else {
+        assert!(rt; false, "the table has no S");
+        return Ok(());
+    };
+    let ShapeType::Structure = shapes.schema(root).shape_type() else {
+        assert!(rt; false, "S is no structure");
+        return Ok(());
+    };
+    let input = falling_keys(rt.alloc())?;
+    let output = ascending_keys(rt.alloc())?;
+    match transcode(rt.alloc(), &shapes, root, &WIRE, input.as_bytes(), &WIRE) {
+        Ok(body) => assert_eq!(rt; body.as_slice(), output.as_bytes()),
+        Err(error) => assert!(rt; false, "{error}"),
+    }
     Ok(())
 }

@@ -2,20 +2,20 @@
 use Rattle.std.specs.Prelude.{◌≡◌, ℕ, zero, suc, map, List, [], ◌∷◌, Option, Some, None, Bool, true, false, refl, option_and_then, if◌then◌else◌}
 use Rattle.std.proofs.Common.{sym, ◌∙◌, ap, arith, subst, inl, inr}
 use Rattle.smithy_schema.specs.declared.place.Place.{Place}
-use Rattle.smithy_schema.specs.Table.{Table, Kind, scalar, structure_of, list_of, nothing, kind_of, place_in, IsStructure}
+use Rattle.smithy_schema.specs.Table.{Table, Kind, structure_of, kind_of, place_in, IsStructure}
 use Rattle.smithy_schema.specs.Value.{Value, structure, no_member_values}
 use Rattle.smithy_schema.specs.Container.{Entry, folded, container_of}
 use Rattle.smithy_schema.specs.Reading.{Mark, Child, child_value, child_null, child_unknown, entry_of, IsChild, Chain, Contains, IsContainer}
 use Rattle.smithy_schema.specs.Lemmas.Options.{same_some, step_apart, chosen}
 use Rattle.smithy_wire.specs.Node.{Form, as_object, Node, null_node, leaf, container, missing, Nodes, no_nodes, node, is_null}
-use Rattle.smithy_wire.specs.Rules.{Rules, is_shallow, key_text, position_in, is_absent}
+use Rattle.smithy_wire.specs.Rules.{Rules, is_shallow, key_text, position_in, is_absent, is_mark}
 use Rattle.smithy_wire.specs.Meaning.{is_in, missing_meaning, entry_at, meaning, entries}
 use Rattle.smithy_wire.specs.Frames.{Frames, Lies, NodesLie, IsTold, Drops, DropsAll, StepsIn, EndsIn, relations}
 use Rattle.smithy_wire.specs.Wire.{IsWire}
 use Rattle.smithy_wire.specs.Lemmas.Nodes.{one_node}
-use Rattle.smithy_wire.specs.Lemmas.Determined.{one_form, drops_one_more, step_hands_on, no_step_over, no_end_over}
-use Rattle.smithy_wire.specs.Lemmas.EntrySteps.{IsOneOf, FoldsBy}
-use Rattle.smithy_wire.specs.Lemmas.Places.{structure_is_object, sparse_is, is_sparse_list, null_means_nothing, leaf_means_nothing}
+use Rattle.smithy_wire.specs.Lemmas.Determined.{is_droppable, one_form, drops_one_more, step_hands_on, no_step_over, no_end_over}
+use Rattle.smithy_wire.specs.Lemmas.EntrySteps.{IsOneOf, FoldsBy, or_neither}
+use Rattle.smithy_wire.specs.Lemmas.Places.{structure_is_object, sparse_is, is_sparse_kind, null_means_nothing, leaf_means_nothing}
 use Rattle.smithy_wire.specs.Lemmas.Folds.{Fold, fold_of, folds_by}
 
 -- one case or the other
@@ -64,7 +64,7 @@ module _ {L : Type 0} (w : Frames L) (r : Rules L) (wire : IsWire w) (i : List �
       let rest = drop_nodes count at j c n xs e more lie in (
         node one.key one.child rest.0,
         (one.at, j, at, one.entry, one.lies, rest.1),
-        λ s. ap (option_and_then (λ after. folded fold.step after (all rest.0))) (by.absent one.key one.child (means_at one.child) s one.told one.absent) ∙ rest.2 s,
+        λ s. ap (option_and_then (λ after. folded fold.step after (all rest.0))) (by.dropped one.key one.child (means_at one.child) s one.told one.dropped) ∙ rest.2 s,
       )
 
   told_key : (key : Option L) (text : Option (List ℕ)) → key_text r f key ≡ text → IsTold f text → IsTold f (key_text r f key)
@@ -130,7 +130,7 @@ module _ {L : Type 0} (w : Frames L) (r : Rules L) (wire : IsWire w) (i : List �
   Children b m e s after = (xs : List Child) × Chain (relations w r) i t p (suc d) b m xs e × (folded fold.step s (map entry_of xs) ≡ Some after)
 
   -- a node that isn't dropped is a child
-  node_child : (key : Option L) (x : Node L) (c e : ℕ) (s : S) → IsTold f (key_text r f key) → is_absent r k (key_text r f key) x ≡ false → Lies w i (suc d) x c e
+  node_child : (key : Option L) (x : Node L) (c e : ℕ) (s : S) → IsTold f (key_text r f key) → is_droppable r k (key_text r f key) x ≡ false → Lies w i (suc d) x c e
       → IsOneOf r k (suc d) (key_text r f key) x (means_at x)
       → (y : Child) × IsChild (relations w r) i t p (suc d) (key_text r f key) y c e × (fold.step (entry key x) s ≡ fold.step (entry_of y) s)
   node_child key x c e s told kept lies (inl (q, v, there, means)) = (
@@ -141,7 +141,7 @@ module _ {L : Type 0} (w : Frames L) (r : Rules L) (wire : IsWire w) (i : List �
   )
   node_child key x c e s told kept lies (inr (inl (takes, nil))) = (
     child_null (key_text r f key),
-    (refl, is_sparse_list k takes, null_lies x nil lies),
+    (refl, is_sparse_kind k takes, null_lies x nil lies),
     by.nulls key x (means_at x) s takes nil,
   )
     where
@@ -163,13 +163,15 @@ module _ {L : Type 0} (w : Frames L) (r : Rules L) (wire : IsWire w) (i : List �
   node_children count b m at j (node key x xs) e s after follows drops (c, n, g, there, lies, lie) folds =
       let apart = step_apart (fold.step (entry key x) s) (λ next. folded fold.step next (all xs)) after folds in
       let told = by.told key x (means_at x) s apart.0 apart.1 in
-      either (is_absent r k (key_text r f key) x)
+      either (is_droppable r k (key_text r f key) x)
       (λ may.
-      let same : apart.0 ≡ s = same_some apart.0 s (sym apart.1 ∙ by.absent key x (means_at x) s told may) in
-      let one : Drops w r k f i (suc d) at j g n = record { key = key; at = c; child = x; entry = there; told = told; lies = lies; absent = may } in
+      let is = by.drops key x (means_at x) s apart.0 apart.1 may in
+      let same : apart.0 ≡ s = same_some apart.0 s (sym apart.1 ∙ by.dropped key x (means_at x) s told is) in
+      let one : Drops w r k f i (suc d) at j g n = record { key = key; at = c; child = x; entry = there; told = told; lies = lies; dropped = is } in
       node_children (suc count) b m g n xs e s after follows (drops_one_more w r i k (suc d) f count b m at j g n drops one) lie
       (subst (λ next. folded fold.step next (all xs) ≡ Some after) same apart.2))
       (λ kept.
+      let real = or_neither (is_absent r k (key_text r f key) x) (is_mark r k (key_text r f key)) kept in
       let child = node_child key x c g s told kept lies (by.children key x (means_at x) s apart.0 apart.1 kept) in
       let rest = node_children 0 g n g n xs e apart.0 after follows (refl, refl) lie apart.2 in
       let step : StepsIn w r k f i (suc d) b m (key_text r f key) c n = record {
@@ -181,7 +183,8 @@ module _ {L : Type 0} (w : Frames L) (r : Rules L) (wire : IsWire w) (i : List �
         entry = there;
         told = told;
         names = refl;
-        stays = λ h nil. subst (λ y. is_absent r k (key_text r f key) y ≡ false) (one_node w wire i (suc d) x null_node c g h lies nil).0 kept;
+        unmarked = real.1;
+        stays = λ h nil. subst (λ y. is_absent r k (key_text r f key) y ≡ false) (one_node w wire i (suc d) x null_node c g h lies nil).0 real.0;
       } in (
         child.0 ∷ rest.0,
         (key_text r f key, c, n, g, (f, within, step), child.1, rest.1),
@@ -239,16 +242,12 @@ module _ {L : Type 0} (w : Frames L) (r : Rules L) (wire : IsWire w) (i : List �
       absurd (no_step_over w r wire i (kind_of t p) f (suc d) (object_form f structure' within) b m over is text c n steps)
 
   missing_is : (k : Kind) → IsStructure k → (missing_meaning k ≡ Some (structure no_member_values)) × (container_of k [] ≡ Some (structure no_member_values))
-  missing_is (scalar s) h = absurd h
   missing_is (structure_of members) h = (refl, refl)
-  missing_is (list_of l) h = absurd h
-  missing_is nothing h = absurd h
+  missing_is _ h = absurd h
 
   pub is_missing : (k : Kind) (v : Value) → missing_meaning k ≡ Some v → IsStructure k
-  is_missing (scalar s) v h = cc
   is_missing (structure_of members) v h = tt
-  is_missing (list_of l) v h = cc
-  is_missing nothing v h = cc
+  is_missing _ v h = cc
 
   pub folded_stands : (a : ℕ) (v : Value) (e : ℕ) → Contains (relations w r) i t p d a v e → (relations w r).stands i t p d a v e
   folded_stands a v e box = by box.opens

@@ -1,21 +1,23 @@
 -- What a node means at a place is a value of the place, where what its scalars mean is.
-use Rattle.std.specs.Prelude.{◌≡◌, ℕ, suc, List, [], ◌∷◌, ◌++◌, Option, Some, None, Bool, true, refl, option_and_then, option_map, if◌then◌else◌}
+use Rattle.std.specs.Prelude.{◌≡◌, ℕ, suc, List, [], ◌∷◌, ◌++◌, Option, Some, None, Bool, true, false, refl, option_and_then, option_map, cond, if◌then◌else◌, IsUtf8}
 use Rattle.std.proofs.Common.{sym, ◌∙◌, ap, subst}
 use Rattle.smithy_schema.specs.declared.place.Place.{Place}
-use Rattle.smithy_schema.specs.Table.{Table, ListShape, Kind, scalar, structure_of, list_of, nothing, kind_of, place_in}
-use Rattle.smithy_schema.specs.Value.{Value, list, structure, values_of, MemberValues, no_member_values}
-use Rattle.smithy_schema.specs.Container.{folded, element_of, member_step, members_from, container_of}
-use Rattle.smithy_schema.specs.Fits.{AscendFrom, ElementsFit, MembersFit, Fits}
+use Rattle.smithy_schema.specs.Table.{Table, Member, ListShape, MapShape, Kind, scalar, structure_of, union_of, list_of, map_of, kind_of, place_in}
+use Rattle.smithy_schema.specs.Value.{Value, list, map, structure, union, values_of, MapEntries, put_entry, MemberValues, no_member_values}
+use Rattle.smithy_schema.specs.Container.{folded, is_type_mark, element_of, entry_step, member_step, members_from, container_of}
+use Rattle.smithy_schema.specs.Fits.{AscendFrom, KeysAscend, ElementsFit, EntriesFit, MembersFit, Fits}
 use Rattle.smithy_schema.specs.Reading.{Mark}
 use Rattle.smithy_schema.specs.Lemmas.Options.{same_some, step_apart, chosen, made}
 use Rattle.smithy_schema.specs.Lemmas.Entries.{entry_with}
-use Rattle.smithy_schema.specs.Lemmas.Fitting.{one_more_fits, element_fits, entry_fits}
+use Rattle.smithy_schema.specs.Lemmas.Fitting.{one_more_fits, element_fits, map_value_fits, put_entry_fits, entry_fits}
 use Rattle.smithy_schema.specs.Lemmas.Ascending.{folded_ascend}
-use Rattle.smithy_wire.specs.Node.{Form, Node, null_node, leaf, container, missing, Nodes, no_nodes, node, is_null}
+use Rattle.smithy_schema.specs.Lemmas.AscendingKeys.{put_keys_ascend}
+use Rattle.smithy_wire.specs.Node.{Form, as_array, as_object, Node, null_node, leaf, container, missing, Nodes, no_nodes, node, is_null}
 use Rattle.smithy_wire.specs.Rules.{Rules, is_shallow, may_skip, key_text, position_in, is_absent}
 use Rattle.smithy_wire.specs.Meaning.{leaf_meaning, is_in, missing_meaning, entry_at, meaning, entries}
 use Rattle.smithy_wire.specs.Frames.{Frames, Lies, NodesLie}
 use Rattle.smithy_wire.specs.Wire.{RulesFit}
+use Rattle.smithy_schema.specs.Lemmas.Variants.{first_variant, variant_step}
 use Rattle.smithy_wire.specs.Lemmas.Folds.{Fold, fold_of}
 
 abbrev ChildFits : Table → Kind → Option ℕ → Value → Type 0
@@ -27,7 +29,8 @@ pub record Holding (t : Table) (p : Place) (k : Kind) (fold : Fold k) : Type 1 w
   pub Holds : fold.S → Type 0
   pub begins : Holds fold.first
   pub goes_on : (key : Option (List ℕ)) (pos : Option ℕ) (m : Option Value) (absent skips nil : Bool) (s after : fold.S)
-      → ((v : Value) → m ≡ Some v → ChildFits t k pos v) → Holds s → fold.step (entry_with key pos m absent skips nil) s ≡ Some after → Holds after
+      → ((text : List ℕ) → key ≡ Some text → IsUtf8 text) → ((v : Value) → m ≡ Some v → ChildFits t k pos v)
+      → Holds s → fold.step (entry_with key pos m absent skips nil) s ≡ Some after → Holds after
   pub ends : (s : fold.S) (v : Value) → Holds s → fold.finish s ≡ Some v → Fits t p v
 
 member_holds : (t : Table) (k : Kind) (key : Option (List ℕ)) (pos : Option ℕ) (m : Option Value) (absent skips nil : Bool) (s after : MemberValues)
@@ -51,37 +54,93 @@ element_holds t l pos m nil s after fits h step =
     (element_fits t (list_of l) l refl nil m v.0
     (λ w means. let q = fits w means in subst (λ z. Fits t z w) (sym (same_some l.place q.0 q.1)) q.2) v.1))
 
+entry_holds : (t : Table) (c : MapShape) (key : Option (List ℕ)) (pos : Option ℕ) (m : Option Value) (absent skips nil : Bool) (s after : MapEntries)
+    → ((text : List ℕ) → key ≡ Some text → IsUtf8 text) → ((v : Value) → m ≡ Some v → ChildFits t (map_of c) pos v) → EntriesFit t (map_of c) s × KeysAscend s
+    → entry_step c.is_sparse (entry_with key pos m absent skips nil) s ≡ Some after → EntriesFit t (map_of c) after × KeysAscend after
+entry_holds t c None pos m absent skips nil s after utf8 fits h step = cc
+entry_holds t c (Some key) pos m absent skips nil s after utf8 fits h step =
+    let v = made (λ v. put_entry key v s) (element_of c.is_sparse nil m) after step in
+    subst (λ es. EntriesFit t (map_of c) es × KeysAscend es) v.2 (
+      put_entry_fits t (map_of c) key v.0 s (utf8 key refl)
+          (map_value_fits t (map_of c) c refl nil m v.0 (λ w means. let q = fits w means in subst (λ z. Fits t z w) (sym (same_some c.place q.0 q.1)) q.2) v.1) h.0,
+      put_keys_ascend key v.0 s h.1,
+    )
+
+-- the one variant, if it has come
+abbrev VariantFits : Table → Kind → Option Value → Type 0
+VariantFits t k None = Unit {0}
+VariantFits t k (Some v) = (n : ℕ) × (u : Value) × (v ≡ union n u) × ChildFits t k (Some n) u
+
+mark_holds : {S : Type 0} (P : S → Type 0) (mark skips : Bool) (s after : S) (x : Option S) → P s → (x ≡ Some after → P after)
+    → cond mark (cond skips (Some s) None) x ≡ Some after → P after
+mark_holds P true true s after x h next step = subst P (same_some s after step) h
+mark_holds P true false s after x h next step = cc
+mark_holds P false skips s after x h next step = next step
+
+first_holds : (t : Table) (k : Kind) (s : Option Value) (pos : Option ℕ) (m : Option Value) (after : Option Value) → ((v : Value) → m ≡ Some v → ChildFits t k pos v)
+    → first_variant s pos m ≡ Some after → VariantFits t k after
+first_holds t k (Some u) pos m after fits h = cc
+first_holds t k None None m after fits h = cc
+first_holds t k None (Some n) None after fits h = cc
+first_holds t k None (Some n) (Some v) after fits h =
+    subst (VariantFits t k) (same_some (Some (union n v)) after h) (n, v, refl, fits v refl)
+
+variant_holds : (t : Table) (k : Kind) (key : Option (List ℕ)) (pos : Option ℕ) (m : Option Value) (absent skips nil : Bool) (s after : Option Value)
+    → ((v : Value) → m ≡ Some v → ChildFits t k pos v) → VariantFits t k s → variant_step (entry_with key pos m absent skips nil) s ≡ Some after → VariantFits t k after
+variant_holds t k None pos m absent skips nil s after fits h step = cc
+variant_holds t k (Some key) pos m true skips nil s after fits h step = subst (VariantFits t k) (same_some s after step) h
+variant_holds t k (Some key) pos m false skips nil s after fits h step =
+    mark_holds (VariantFits t k) (is_type_mark pos key) skips s after (first_variant s pos m) h (first_holds t k s pos m after fits) step
+
+variant_ends : (t : Table) (p : Place) (ss : List Member) → kind_of t p ≡ union_of ss → (s : Option Value) (v : Value) → VariantFits t (union_of ss) s → s ≡ Some v → Fits t p v
+variant_ends t p ss kind None v h is = cc
+variant_ends t p ss kind (Some u) v (n, x, what, (q, at, fits)) is =
+    subst (Fits t p) (sym what ∙ same_some u v is) (rw kind tt, (q, rw kind at, fits))
+
 holding : (t : Table) (p : Place) (k : Kind) (f : Form) (within : is_in k f ≡ true) → kind_of t p ≡ k → Holding t p k (fold_of k f within)
 unfolding fold_of
-holding t p (scalar s) f within kind = cc
 holding t p (structure_of ss) f within kind = record {
   Holds = λ s. MembersFit t (structure_of ss) s × AscendFrom 0 s;
   begins = (tt, tt);
-  goes_on = member_holds t (structure_of ss);
+  goes_on = λ key pos m absent skips nil s after utf8 fits h step. member_holds t (structure_of ss) key pos m absent skips nil s after fits h step;
   ends = λ s v h is. subst (Fits t p) (same_some (structure s) v is) (rw kind tt, rw kind h.0, h.1);
+}
+holding t p (union_of ss) f within kind = record {
+  Holds = VariantFits t (union_of ss);
+  begins = tt;
+  goes_on = λ key pos m absent skips nil s after utf8 fits h step. variant_holds t (union_of ss) key pos m absent skips nil s after fits h step;
+  ends = λ s v h is. variant_ends t p ss kind s v h is;
 }
 holding t p (list_of l) f within kind = record {
   Holds = λ s. ElementsFit t (list_of l) (values_of s);
   begins = tt;
-  goes_on = λ key pos m absent skips nil s after fits h step. element_holds t l pos m nil s after fits h step;
+  goes_on = λ key pos m absent skips nil s after utf8 fits h step. element_holds t l pos m nil s after fits h step;
   ends = λ s v h is. subst (Fits t p) (same_some (list (values_of s)) v is) (rw kind tt, rw kind h);
 }
-holding t p nothing f within kind = cc
+holding t p (map_of c) f within kind = record {
+  Holds = λ s. EntriesFit t (map_of c) s × KeysAscend s;
+  begins = (tt, tt);
+  goes_on = entry_holds t c;
+  ends = λ s v h is. subst (Fits t p) (same_some (map s) v is) (rw kind tt, rw kind h.0, h.1);
+}
+holding t p _ f within kind = cc
 
 -- ---- a node
 
 module _ {L : Type 0} (w : Frames L) (r : Rules L) (fits : RulesFit w r) (i : List ℕ) (t : Table) where
   leaf_fits : (p : Place) (k : Kind) (d : ℕ) (x : L) (a e : ℕ) (v : Value) → w.scalar i d x a e → kind_of t p ≡ k → leaf_meaning r k p.time x ≡ Some v → Fits t p v
   leaf_fits p (scalar s) d x a e v lies kind h = fits.says_fits i d x a e lies t p s v kind h
-  leaf_fits p (structure_of members) d x a e v lies kind h = cc
-  leaf_fits p (list_of l) d x a e v lies kind h = cc
-  leaf_fits p nothing d x a e v lies kind h = cc
+  leaf_fits p _ d x a e v lies kind h = cc
+
+  -- the text of a key is in UTF-8
+  text_fits : (f : Form) (b : ℕ) (m : Mark) (key : Option L) (c : ℕ) (n : Mark) (text : List ℕ) → w.entry f i b m key c n → key_text r f key ≡ Some text → IsUtf8 text
+  text_fits as_array b m key c n text entry h = cc
+  text_fits as_object b m None c n text entry h = cc
+  text_fits as_object b m (Some key) c n text entry h = fits.key_fits i b m key c n text entry h
 
   missing_fits : (p : Place) (k : Kind) (v : Value) → kind_of t p ≡ k → missing_meaning k ≡ Some v → Fits t p v
-  missing_fits p (scalar s) v kind h = cc
   missing_fits p (structure_of members) v kind h = subst (Fits t p) (same_some (structure no_member_values) v h) (rw kind tt, tt, tt)
-  missing_fits p (list_of l) v kind h = cc
-  missing_fits p nothing v kind h = cc
+  missing_fits p _ v kind h = cc
 
   container_fits : (p : Place) (f : Form) (d : ℕ) (xs : Nodes L) (v : Value)
       → ((within : is_in (kind_of t p) f ≡ true) (s after : (fold_of (kind_of t p) f within).S) → (holding t p (kind_of t p) f within refl).Holds s
@@ -117,4 +176,5 @@ module _ {L : Type 0} (w : Frames L) (r : Rules L) (fits : RulesFit w r) (i : Li
         let apart = step_apart (fold.step (entry_at r k f d key x (λ q. meaning r t q d x)) s) (λ next. folded fold.step next (entries r t p f d xs)) after h in
         nodes_fit d xs p f g n e lie within apart.0 after
         ((holding t p k f within refl).goes_on text (position_in r k text) (option_and_then (λ q. meaning r t q d x) place) (is_absent r k text x) (may_skip r d x) (is_null x) s apart.0
+        (λ text named. text_fits f b m key c n text entry named)
         (λ v is. let q = step_apart place (λ q. meaning r t q d x) v is in (q.0, q.1, meaning_fits d x q.0 v c g lies q.2)) held apart.1) apart.2

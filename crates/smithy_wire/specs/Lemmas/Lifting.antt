@@ -1,16 +1,16 @@
 -- What holds with the limits kept holds with them lifted.
-use Rattle.std.specs.Prelude.{◌≡◌, ◌+◌, ◌&&◌, ℕ, zero, suc, List, Option, Some, None, Bool, true, false, refl, option_and_then, cond, if◌then◌else◌}
+use Rattle.std.specs.Prelude.{◌≡◌, ◌+◌, ◌&&◌, ◌||◌, ℕ, zero, suc, List, Option, Some, None, Bool, true, false, refl, option_and_then, cond, if◌then◌else◌}
 use Rattle.std.proofs.Common.{sym, ◌∙◌, inl, inr}
 use Rattle.smithy_schema.specs.declared.place.Place.{Place}
 use Rattle.smithy_schema.specs.declared.shape_type.TimestampFormat.{TimestampFormat}
 use Rattle.smithy_schema.specs.Limits.{Limits, kept, lifted}
-use Rattle.smithy_schema.specs.Table.{Table, Kind, scalar, structure_of, list_of, nothing, kind_of, place_in}
+use Rattle.smithy_schema.specs.Table.{Table, Kind, scalar, kind_of, place_in}
 use Rattle.smithy_schema.specs.Value.{null_element}
 use Rattle.smithy_schema.specs.Container.{Entry, folded, container_of}
 use Rattle.smithy_schema.specs.Reading.{Mark, IsBelow}
 use Rattle.smithy_schema.specs.Lemmas.Options.{chosen}
 use Rattle.smithy_wire.specs.Node.{Form, Node, null_node, leaf, container, missing, Nodes, no_nodes, node, nesting, all_pass, is_null}
-use Rattle.smithy_wire.specs.Rules.{Answer, means, no_meaning, wide, uncarried, settled, Rules, lift, is_shallow, may_skip, key_text, position_in, is_absent}
+use Rattle.smithy_wire.specs.Rules.{Answer, means, no_meaning, wide, uncarried, settled, Rules, lift, is_shallow, may_skip, key_text, position_in, is_absent, is_mark}
 use Rattle.smithy_wire.specs.Meaning.{leaf_meaning, is_in, missing_meaning, entry_at, meaning, entries}
 use Rattle.smithy_wire.specs.Frames.{Frames, Drops, DropsAll, StepsIn, relations}
 use Rattle.smithy_wire.specs.Lemmas.Folds.{fold_of}
@@ -40,15 +40,18 @@ skip_rises true true deep h = refl
 skip_rises true false deep h = refl
 skip_rises false count deep h = cc
 
+drop_rises_where : (absent mark skips may : Bool) → (skips ≡ true → may ≡ true) → (absent || mark && skips) ≡ true → (absent || mark && may) ≡ true
+drop_rises_where true mark skips may up h = refl
+drop_rises_where false true skips may up h = up h
+drop_rises_where false false skips may up h = cc
+
 module _ {L : Type 0} (r : Rules L) where
   may_skip_rises : (d : ℕ) (x : Node L) → may_skip r d x ≡ true → may_skip (lift r) d x ≡ true
   may_skip_rises d x h = skip_rises (all_pass r.may_skip_scalar x) r.skips_count (is_shallow r (d + nesting x)) h
 
   leaf_rises : (k : Kind) (time : Option TimestampFormat) (x : L) → Rises (leaf_meaning r k time x) (leaf_meaning (lift r) k time x)
   leaf_rises (scalar s) time x v h = settled_rises r.limits null_element (r.says s time x) v h
-  leaf_rises (structure_of members) time x v h = cc
-  leaf_rises (list_of l) time x v h = cc
-  leaf_rises nothing time x v h = cc
+  leaf_rises _ time x v h = cc
 
   -- a container's entries that give no less together
   inside_rises : (k : Kind) (f : Form) (es us : List Entry) → ((within : is_in k f ≡ true) (s : (fold_of k f within).S)
@@ -99,7 +102,8 @@ module _ {L : Type 0} (w : Frames L) (r : Rules L) where
     entry = h.entry;
     told = h.told;
     lies = h.lies;
-    absent = h.absent;
+    dropped = drop_rises_where (is_absent r k (key_text r f h.key) h.child) (is_mark r k (key_text r f h.key)) (may_skip r d h.child) (may_skip (lift r) d h.child)
+        (may_skip_rises r d h.child) h.dropped;
   }
 
   drops_rise : (k : Kind) (f : Form) (count : ℕ) (i : List ℕ) (d b : ℕ) (m : Mark) (e : ℕ) (n : Mark) → DropsAll w r k f count i d b m e n
@@ -118,6 +122,7 @@ module _ {L : Type 0} (w : Frames L) (r : Rules L) where
     entry = h.entry;
     told = h.told;
     names = h.names;
+    unmarked = h.unmarked;
     stays = h.stays;
   }
 

@@ -2,39 +2,43 @@
 use Rattle.std.specs.Prelude.{◌≡◌, ℕ, Option, Some, true, refl}
 use Rattle.smithy_schema.specs.declared.place.Place.{Place}
 use Rattle.smithy_schema.specs.declared.shape_type.TimestampFormat.{TimestampFormat}
-use Rattle.smithy_schema.specs.Table.{Table, Kind, scalar, structure_of, list_of, nothing, kind_of, is_sparse, IsSparse, IsList, IsStructure}
+use Rattle.smithy_schema.specs.Table.{Table, Kind, structure_of, union_of, list_of, map_of, kind_of, is_sparse, IsSparse, IsList, IsMap, IsStructure, HasMembers}
 use Rattle.smithy_schema.specs.Value.{Value}
 use Rattle.smithy_schema.specs.Reading.{IsContainer}
 use Rattle.smithy_wire.specs.Node.{as_array, as_object, Node, null_node, leaf, container, missing, is_null}
 use Rattle.smithy_wire.specs.Rules.{Rules}
 use Rattle.smithy_wire.specs.Meaning.{is_in, leaf_meaning, meaning}
 
--- a structure is an object
+-- structures and unions are objects
+pub members_are_object : (k : Kind) → HasMembers k → is_in k as_object ≡ true
+members_are_object (structure_of members) h = refl
+members_are_object (union_of members) h = refl
+members_are_object _ h = absurd h
+
 pub structure_is_object : (k : Kind) → IsStructure k → is_in k as_object ≡ true
-structure_is_object (scalar s) h = absurd h
 structure_is_object (structure_of members) h = refl
-structure_is_object (list_of l) h = absurd h
-structure_is_object nothing h = absurd h
+structure_is_object _ h = absurd h
 
--- and a list an array
+-- a list is an array
 pub list_is_array : (k : Kind) → IsList k → is_in k as_array ≡ true
-list_is_array (scalar s) h = absurd h
-list_is_array (structure_of members) h = absurd h
 list_is_array (list_of l) h = refl
-list_is_array nothing h = absurd h
+list_is_array _ h = absurd h
 
--- a list is sparse, or isn't
+-- and a map an object
+pub map_is_object : (k : Kind) → IsMap k → is_in k as_object ≡ true
+map_is_object (map_of m) h = refl
+map_is_object _ h = absurd h
+
+-- a list or a map is sparse, or isn't
 pub sparse_is : (k : Kind) → IsSparse k → is_sparse k ≡ true
-sparse_is (scalar s) h = absurd h
-sparse_is (structure_of members) h = absurd h
 sparse_is (list_of l) h = h
-sparse_is nothing h = absurd h
+sparse_is (map_of m) h = h
+sparse_is _ h = absurd h
 
-pub is_sparse_list : (k : Kind) → is_sparse k ≡ true → IsSparse k
-is_sparse_list (scalar s) h = cc
-is_sparse_list (structure_of members) h = cc
-is_sparse_list (list_of l) h = h
-is_sparse_list nothing h = cc
+pub is_sparse_kind : (k : Kind) → is_sparse k ≡ true → IsSparse k
+is_sparse_kind (list_of l) h = h
+is_sparse_kind (map_of m) h = h
+is_sparse_kind _ h = cc
 
 module _ {L : Type 0} (r : Rules L) (t : Table) where
   -- a null means nothing
@@ -45,10 +49,11 @@ module _ {L : Type 0} (r : Rules L) (t : Table) where
   null_means_nothing q d missing v nil means = cc
 
   no_leaf : (k : Kind) (time : Option TimestampFormat) (x : L) (v : Value) → IsContainer k → leaf_meaning r k time x ≡ Some v → ⊥
-  no_leaf (scalar s) time x v c h = c
   no_leaf (structure_of members) time x v c h = cc
+  no_leaf (union_of members) time x v c h = cc
   no_leaf (list_of l) time x v c h = cc
-  no_leaf nothing time x v c h = c
+  no_leaf (map_of m) time x v c h = cc
+  no_leaf _ time x v c h = c
 
   -- a scalar is no container
   pub leaf_means_nothing : (p : Place) (d : ℕ) (x : L) (v : Value) → IsContainer (kind_of t p) → meaning r t p d (leaf x) ≡ Some v → ⊥

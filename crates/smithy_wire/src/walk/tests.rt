@@ -33,6 +33,36 @@ fn a_list_is_entered_and_left(rt: HostRuntime) -> Result<(), Fail> {
     Ok(())
 }
 
+const MAP: Frame = Frame {
+    within: Within::Map,
+    mark: Mark {
+        entered: true,
+        at_end: false,
+        due: Some(1),
+    },
+};
+
+#[test]
+fn a_map_is_entered_inside_a_list_and_left(rt: HostRuntime) -> Result<(), Fail> {
+    let mut walk = Walk::new(b"[{}]", rt.alloc(), 2);
+    assert_eq!(rt; walk.enter(1, LIST), Ok(()), "a list");
+    walk.go_on(1, LIST);
+    assert_eq!(rt; walk.enter(2, MAP), Ok(()), "its element is a map");
+    assert_eq!(rt; walk.depth(), 2, "two are open");
+    assert!(rt;
+        matches!(walk.inner.within, Within::Map),
+        "the map is innermost"
+    );
+    assert_eq!(rt; walk.inner.mark.due, Some(1), "with its mark");
+    walk.leave(3);
+    assert!(rt;
+        matches!(walk.inner.within, Within::List),
+        "then the list is"
+    );
+    assert_eq!(rt; walk.depth(), 1, "which is open still");
+    Ok(())
+}
+
 #[test]
 fn one_container_too_many_is_refused(rt: HostRuntime) -> Result<(), Fail> {
     let mut walk = Walk::new(b"[", rt.alloc(), 0);

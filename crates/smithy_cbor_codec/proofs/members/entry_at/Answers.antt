@@ -1,30 +1,21 @@
-use Rattle.std.proofs.Common.{Some, subst}
-use Rattle.std.proofs.lemmas.Result.{err_from_is_err_and}
+use Rattle.std.proofs.Common.{sym, ◌∙◌, inl, inr}
 use Rattle.std.specs.Cow.{cow_str_bytes}
 use Rattle.smithy_cbor_codec.specs.Standing.{mark_with}
-use Rattle.smithy_cbor_codec.specs.Private.NextInContainer.{IsEntryOrEnd}
-use Rattle.smithy_cbor_codec.specs.Private.Entries.{entry_or_over}
-use Rattle.smithy_cbor_codec.proofs.EntryLemmas.{key_text, key_of}
 use Rattle.smithy_cbor_codec.proofs.members.entry_at.Goals as goal
 
 pub returns-in-Some-clause-ok : goal.returns-in-Some-clause-ok
 returns-in-Some-clause-ok c =
-    let entry = subst (λ next. IsEntryOrEnd c.args.input.now c.args.at c.args.due (Some next)) c.in-Some-Entry.field-0-is c.in-Some-Entry.ensures in
-    record {
-      text = cow_str_bytes c.in_ok-key-in-Some-Entry.key;
-      value = c.in_ok-key-in-Some-Entry.value;
-      key = key_of c.args.input.now c.args.at (mark_with c.args.due) (cow_str_bytes c.in_ok-key-in-Some-Entry.key) c.in_ok-key-in-Some-Entry.value (mark_with c.in-Some-Entry.after) entry c.in_ok-key-in-Some-Entry.ensures.ok;
-      is_null = c.in-Some.ensures.found;
-    }
+    let pair = rw c.in-Ok-Pair.field-0-is at c.in-Ok-Pair.ensures.ok in
+    record { text = cow_str_bytes c.in-Ok-Pair.key; value = c.in-Ok-Pair.value; key = pair; passed = inl c.in-Some.ensures.found }
 
-pub returns-in_err-key-in-Some-Entry-clause-none : goal.returns-in_err-key-in-Some-Entry-clause-none
-returns-in_err-key-in-Some-Entry-clause-none c =
-    let p = err_from_is_err_and c.from_residual.result c.from_residual.ensures.1 in
-    rw (p.1, p.2) (λ invalid.
-    let entry = subst (λ next. IsEntryOrEnd c.args.input.now c.args.at c.args.due (Some next)) c.in-Some-Entry.field-0-is c.in-Some-Entry.ensures in (
-      λ text e n h. c.in_err-key-in-Some-Entry.ensures.none invalid text e (key_text c.args.input.now c.args.at (mark_with c.args.due) text e n h),
-      λ e over follows. entry_or_over c.args.input.now c.args.at (mark_with c.args.due) (mark_with c.in-Some-Entry.after) e entry over,
-    ))
-
-pub returns-in-None-clause-none : goal.returns-in-None-clause-none
-returns-in-None-clause-none c = λ invalid. (λ text e n h. c.in-None.ensures.0 n h.0, λ e over follows. c.in-None.ensures.1 e over)
+pub returns-in-Ok-Pair-clause-none : goal.returns-in-Ok-Pair-clause-none
+returns-in-Ok-Pair-clause-none c = λ invalid.
+    let pair = rw c.in-Ok-Pair.field-0-is at c.in-Ok-Pair.ensures.ok in
+    inr (record {
+      text = cow_str_bytes c.in-Ok-Pair.key;
+      value = c.in-Ok-Pair.value;
+      after = mark_with c.in-Ok-Pair.after;
+      key = pair;
+      is_mark = rw c.as_str.ensures.value at (sym c.is_mark.ensures ∙ c.if-not-is_mark.false);
+      stays = c.in-Err-skipped_end.ensures.none invalid;
+    })

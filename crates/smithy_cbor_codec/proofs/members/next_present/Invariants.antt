@@ -1,13 +1,14 @@
 use Rattle.std.proofs.Common.{◌-◌, ◌≤◌, ℕ, length}
+use Rattle.smithy_schema.specs.Site.{site_of, kind_at}
 use Rattle.smithy_cbor_codec.specs.Standing.{mark_with}
-use Rattle.smithy_cbor_codec.specs.Private.MembersBehindNulls.{Drops}
+use Rattle.smithy_cbor_codec.specs.Private.PassedEntries.{Passes}
 use Rattle.smithy_cbor_codec.proofs.members.next_present.Given as goal
 
--- what was passed are entries whose value is null
+-- what came before is passed over
 abbrev pub invariant-loop-end : goal.invariant-loop-end
 invariant-loop-end l = record {
   within : l.at ≤ length l.input;
-  drops : (count : ℕ) × Drops count l.input l.depth (l.fn.at) (mark_with l.fn.due) l.at (mark_with l.due);
+  passes : (count : ℕ) × Passes (kind_at (site_of l.schema)) count l.input l.depth (l.fn.at) (mark_with l.fn.due) l.at (mark_with l.due);
 }
 
 abbrev pub decreases-loop-end : goal.decreases-loop-end

@@ -1,6 +1,6 @@
 use Rattle.std.proofs.Common.{◌≡◌, true, false, sym, subst, ◌∙◌}
 use Rattle.smithy_cbor_codec.specs.Standing.{Follows}
-use Rattle.smithy_cbor_codec.proofs.ScalarPlaces.{no_boolean_at, same_boolean_end, unless}
+use Rattle.smithy_cbor_codec.proofs.ScalarReads.{no_boolean_at, same_boolean_end, unless}
 use Rattle.smithy_cbor_codec.proofs.values.boolean_at.Goals.{in-Ok, in-Err}
 use Rattle.smithy_cbor_codec.proofs.values.boolean_at.Goals as goal
 

@@ -1,14 +1,16 @@
-use Rattle.std.proofs.Common.{None, Some, false, refl, rules, sym, true, ◌∙◌, ◌≡◌}
-use Rattle.std.proofs.lemmas.Result.{err_from_is_err_and}
+use Rattle.std.proofs.Common.{None, Some, ap, false, refl, rules, string_bytes, sym, true, ◌∙◌, ◌≡◌}
+use Rattle.std.proofs.lemmas.Result.{err_from_is_err_and, IfOk-weaker}
 use Rattle.smithy_schema.specs.Site.{site_of}
 use Rattle.smithy_schema.specs.Reading.{child_value, child_null, child_unknown}
-use Rattle.smithy_schema.proofs.CountLemmas.{value_counted, null_counted, skip_counted, entry_counted, step_counted}
-use Rattle.smithy_transcode.proofs.ReadContainers.{itself, left_falls, end, stuck}
+use Rattle.smithy_schema.proofs.CountLemmas.{value_counted, null_counted, skip_counted, entry_counted, step_counted, member_counted, refusal_counted}
+use Rattle.smithy_transcode.proofs.ReadContainers.{itself, left_falls, end, stuck, structure_has_members}
 use Rattle.smithy_transcode.proofs.ReadStructures.{member_child, member_read, unknown_skipped, member_refused, unknown_refused}
 use Rattle.smithy_transcode.proofs.ReadLists.{begin_list, element_read, null_read, element_refused, null_refused, element_place}
+use Rattle.smithy_transcode.proofs.ReadMaps.{begin_map, entry_read, null_entry_read, entry_refused, null_entry_refused, value_place, entry_falls}
+use Rattle.smithy_transcode.proofs.ReadUnions.{begin_union, variant_read, no_first, no_end, step_input, had_not_failed, union_has_members, is_not_failed, is_not_unwritable, is_not_deep}
 use Rattle.smithy_transcode.proofs.ReadViews.{map-push}
 use Rattle.smithy_transcode.proofs.reading.+read.Goals as goal
-use Rattle.smithy_transcode.proofs.reading.+read.Goals.{read_list-else-sparse-via-then-sparse+else-is_null, read_list-else-sparse-via-else-sparse}
+use Rattle.smithy_transcode.proofs.reading.+read.Goals.{read_list-else-sparse-via-then-sparse+else-is_null, read_list-else-sparse-via-else-sparse, read_map-else-sparse-via-then-sparse+else-is_null, read_map-else-sparse-via-else-sparse}
 
 -- a member was read
 pub read_structure-loop-members-preserved-in-Continue-branch-5 : goal.read_structure-loop-members-preserved-in-Continue-branch-5
@@ -115,7 +117,7 @@ read_structure-returns-in_err-value-in-Member-clause-refused g t c =
     let step = rw (c.in-Member.is, c.loop-members.invariant.same) at (c.in_ok-member.ensures.ok inside.due) in
     let p = err_from_is_err_and c.from_residual-in_err-value-in-Member.result c.from_residual-in_err-value-in-Member.ensures.1 in
     rw (p.1, p.2)
-    (λ refused. member_refused _ _ _ laws same _ _ _ outer c.in-Member.member _ c.requires.place inside step
+    (λ refused. member_refused _ _ _ laws same _ _ _ outer c.in-Member.member _ (structure_has_members _ c.requires.place) inside step
     (rw (c.next_member.ensures.same, c.loop-members.invariant.same) at (c.in_err-value-in-Member.ensures.refused refused)))
 
 pub read_structure-returns-in_err-value-in-Member-clause-would : goal.read_structure-returns-in_err-value-in-Member-clause-would
@@ -132,7 +134,7 @@ read_structure-returns-in_err-value-in-Member-clause-would g t c =
     let step = rw (c.in-Member.is, c.loop-members.invariant.same) at (c.in_ok-member.ensures.ok inside.due) in
     let p = err_from_is_err_and c.from_residual-in_err-value-in-Member.result c.from_residual-in_err-value-in-Member.ensures.1 in
     rw (p.1, p.2)
-    (λ strict refused. member_refused _ _ _ over above _ _ _ outer c.in-Member.member _ c.requires.place would step
+    (λ strict refused. member_refused _ _ _ over above _ _ _ outer c.in-Member.member _ (structure_has_members _ c.requires.place) would step
     (rw (c.next_member.ensures.same, c.loop-members.invariant.same) at (c.in_err-value-in-Member.ensures.would (rw (c.next_member.ensures.same, c.loop-members.invariant.same) strict) refused)))
 
 -- an unknown entry can not be skipped
@@ -426,3 +428,392 @@ read_list-loop-elements-smaller g t c =
     let reads = rw (c.next_element.ensures.same, c.loop-elements.invariant.same, place.0) at c.in_ok-item.ensures.ok in
     rw (c.read_tree.ensures.same, c.next_element.ensures.same, c.loop-elements.invariant.same)
     (left_falls _ _ _ laws _ _ _ _ _ _ _ _ None (child_value None None (g.T.Tree.view c.in_ok-item.item)) inside step (refl, refl, (c.in-Some.element.place, place.1, reads.stands)) reads.passes)
+
+-- the map was entered
+pub read_map-loop-entries-init : goal.read_map-loop-entries-init
+read_map-loop-entries-init g t c =
+    let d = g.met.D.ShapeDeserializer in
+    let s0 = g.D.ShapeDeserializer.settings c.args.source.now in
+    let laws = d.lawful s0 in
+    let over = d.lifted_lawful s0 in
+    let counts = d.counts s0 in
+    let above = d.above s0 in
+    let same = itself (g.D.ShapeDeserializer.wire s0) in
+    record {
+      same = c.open_map.ensures.same;
+      inside = rw c.no_entries-entries.ensures (begin_map _ _ _ laws laws same _ _ _ _ c.requires.place c.in_ok-open_map.ensures.ok);
+      would = rw c.no_entries-entries.ensures (begin_map _ _ _ laws over above _ _ _ _ c.requires.place c.in_ok-open_map.ensures.ok);
+      counted = λ strict before. entry_counted _ (counts strict) _ _ _ _ _ _ c.in_ok-open_map.ensures.ok before;
+    }
+
+-- the map can not go on
+pub read_map-returns-in_err-key-clause-refused : goal.read_map-returns-in_err-key-clause-refused
+read_map-returns-in_err-key-clause-refused g t c =
+    let inside = c.loop-entries.invariant.inside in
+    let would = c.loop-entries.invariant.would in
+    let p = err_from_is_err_and c.from_residual-in_err-key.result c.from_residual-in_err-key.ensures.1 in
+    rw (p.1, p.2)
+    (λ refused. stuck _ _ _ _ _ _ _ _ _ inside (rw c.loop-entries.invariant.same at (c.in_err-key.ensures.refused refused inside.due c.args.schema.now.shapes.now c.args.schema.now.place c.requires.place)))
+
+pub read_map-returns-in_err-key-clause-would : goal.read_map-returns-in_err-key-clause-would
+read_map-returns-in_err-key-clause-would g t c =
+    let inside = c.loop-entries.invariant.inside in
+    let would = c.loop-entries.invariant.would in
+    let p = err_from_is_err_and c.from_residual-in_err-key.result c.from_residual-in_err-key.ensures.1 in
+    rw (p.1, p.2)
+    (λ strict refused. stuck _ _ _ _ _ _ _ _ _ would (rw c.loop-entries.invariant.same at (c.in_err-key.ensures.would (rw c.loop-entries.invariant.same strict) refused inside.due c.args.schema.now.shapes.now c.args.schema.now.place c.requires.place)))
+
+-- a null value was refused
+pub read_map-returns-in_err-read_null-clause-refused : goal.read_map-returns-in_err-read_null-clause-refused
+read_map-returns-in_err-read_null-clause-refused g t c =
+    let d = g.met.D.ShapeDeserializer in
+    let s0 = g.D.ShapeDeserializer.settings c.args.source.now in
+    let laws = d.lawful s0 in
+    let over = d.lifted_lawful s0 in
+    let above = d.above s0 in
+    let same = itself (g.D.ShapeDeserializer.wire s0) in
+    let inside = c.loop-entries.invariant.inside in
+    let would = c.loop-entries.invariant.would in
+    let step = rw (c.in-Some-2.is, c.loop-entries.invariant.same) at (c.in_ok-key.ensures.ok inside.due c.args.schema.now.shapes.now c.args.schema.now.place c.requires.place) in
+    let place = value_place c.args.schema.now c.in-Some.inner c.requires.place c.in-Some.ensures in
+    let begins = rw (c.next_key.ensures.same, c.loop-entries.invariant.same) at (sym c.is_null.ensures ∙ c.if-is_null.true) in
+    let p = err_from_is_err_and c.from_residual-in_err-read_null.result c.from_residual-in_err-read_null.ensures.1 in
+    rw (p.1, p.2)
+    (λ refused. null_entry_refused _ _ _ laws same _ _ _ _ _ _ _ _ c.requires.place inside step place.1 begins
+    (rw (c.next_key.ensures.same, c.loop-entries.invariant.same) at (c.in_err-read_null.ensures.refused (sym c.is_null.ensures ∙ c.if-is_null.true) refused)))
+
+pub read_map-returns-in_err-read_null-clause-would : goal.read_map-returns-in_err-read_null-clause-would
+read_map-returns-in_err-read_null-clause-would g t c =
+    let d = g.met.D.ShapeDeserializer in
+    let s0 = g.D.ShapeDeserializer.settings c.args.source.now in
+    let laws = d.lawful s0 in
+    let over = d.lifted_lawful s0 in
+    let above = d.above s0 in
+    let same = itself (g.D.ShapeDeserializer.wire s0) in
+    let inside = c.loop-entries.invariant.inside in
+    let would = c.loop-entries.invariant.would in
+    let step = rw (c.in-Some-2.is, c.loop-entries.invariant.same) at (c.in_ok-key.ensures.ok inside.due c.args.schema.now.shapes.now c.args.schema.now.place c.requires.place) in
+    let place = value_place c.args.schema.now c.in-Some.inner c.requires.place c.in-Some.ensures in
+    let begins = rw (c.next_key.ensures.same, c.loop-entries.invariant.same) at (sym c.is_null.ensures ∙ c.if-is_null.true) in
+    let p = err_from_is_err_and c.from_residual-in_err-read_null.result c.from_residual-in_err-read_null.ensures.1 in
+    rw (p.1, p.2)
+    (λ strict refused. null_entry_refused _ _ _ over above _ _ _ _ _ _ _ _ c.requires.place would step place.1 begins
+    (rw (c.next_key.ensures.same, c.loop-entries.invariant.same) at (c.in_err-read_null.ensures.would (rw (c.next_key.ensures.same, c.loop-entries.invariant.same) strict) (sym c.is_null.ensures ∙ c.if-is_null.true) refused)))
+
+-- a null value was read
+pub read_map-loop-entries-preserved-then-is_null : goal.read_map-loop-entries-preserved-then-is_null
+read_map-loop-entries-preserved-then-is_null g t c =
+    let d = g.met.D.ShapeDeserializer in
+    let s0 = g.D.ShapeDeserializer.settings c.args.source.now in
+    let laws = d.lawful s0 in
+    let over = d.lifted_lawful s0 in
+    let counts = d.counts s0 in
+    let above = d.above s0 in
+    let same = itself (g.D.ShapeDeserializer.wire s0) in
+    let inside = c.loop-entries.invariant.inside in
+    let would = c.loop-entries.invariant.would in
+    let step = rw (c.in-Some-2.is, c.loop-entries.invariant.same) at (c.in_ok-key.ensures.ok inside.due c.args.schema.now.shapes.now c.args.schema.now.place c.requires.place) in
+    let nulls = rw (c.next_key.ensures.same, c.loop-entries.invariant.same) at (c.in_ok-read_null.ensures.ok (sym c.is_null.ensures ∙ c.if-is_null.true)) in
+    let passes = c.in_ok-read_null.ensures.passes (sym c.is_null.ensures ∙ c.if-is_null.true) in
+    record {
+      same = c.read_null.ensures.same ∙ c.next_key.ensures.same ∙ c.loop-entries.invariant.same;
+      inside = rw (c.in_ok-set_entry.ensures.ok, c.null.ensures)
+          (null_entry_read _ _ _ laws same _ _ _ _ _ _ _ _ inside step (c.is_sparse-sparse.ensures.0 c.if-sparse.true) nulls passes);
+      would = rw (c.in_ok-set_entry.ensures.ok, c.null.ensures)
+          (null_entry_read _ _ _ over above _ _ _ _ _ _ _ _ would step (c.is_sparse-sparse.ensures.0 c.if-sparse.true) nulls passes);
+      counted = λ strict before. null_counted _ (counts strict) _ _ nulls passes (step_counted _ (counts strict) _ _ _ _ _ step (c.loop-entries.invariant.counted strict before));
+    }
+
+-- a value was refused
+pub read_map-returns-in_err-value-clause-refused : goal.read_map-returns-in_err-value-clause-refused
+read_map-returns-in_err-value-clause-refused g t c =
+    let d = g.met.D.ShapeDeserializer in
+    let s0 = g.D.ShapeDeserializer.settings c.args.source.now in
+    let laws = d.lawful s0 in
+    let over = d.lifted_lawful s0 in
+    let above = d.above s0 in
+    let same = itself (g.D.ShapeDeserializer.wire s0) in
+    let inside = c.loop-entries.invariant.inside in
+    let would = c.loop-entries.invariant.would in
+    let step = rw (c.in-Some-2.is, c.loop-entries.invariant.same) at (c.in_ok-key.ensures.ok inside.due c.args.schema.now.shapes.now c.args.schema.now.place c.requires.place) in
+    let place = value_place c.args.schema.now c.in-Some.inner c.requires.place c.in-Some.ensures in
+    let p = err_from_is_err_and c.from_residual-in_err-value.result c.from_residual-in_err-value.ensures.1 in
+    rw (p.1, p.2)
+    (λ refused. entry_refused _ _ _ laws same _ _ _ _ _ _ _ _ c.requires.place inside step place.1
+    (rw (c.next_key.ensures.same, c.loop-entries.invariant.same, place.0) at (c.in_err-value.ensures.refused refused))
+    (λ sparse. elim c.else-sparse.branch [
+      | read_map-else-sparse-via-then-sparse+else-is_null w ↦
+          rw (c.next_key.ensures.same, c.loop-entries.invariant.same) at (sym w.is_null.ensures ∙ w.if-is_null.false)
+      | read_map-else-sparse-via-else-sparse w ↦ absurd (let found : true ≡ false = sym (c.is_sparse-sparse.ensures.1 sparse) ∙ w.if-sparse.false in cc)
+    ]))
+
+pub read_map-returns-in_err-value-clause-would : goal.read_map-returns-in_err-value-clause-would
+read_map-returns-in_err-value-clause-would g t c =
+    let d = g.met.D.ShapeDeserializer in
+    let s0 = g.D.ShapeDeserializer.settings c.args.source.now in
+    let laws = d.lawful s0 in
+    let over = d.lifted_lawful s0 in
+    let above = d.above s0 in
+    let same = itself (g.D.ShapeDeserializer.wire s0) in
+    let inside = c.loop-entries.invariant.inside in
+    let would = c.loop-entries.invariant.would in
+    let step = rw (c.in-Some-2.is, c.loop-entries.invariant.same) at (c.in_ok-key.ensures.ok inside.due c.args.schema.now.shapes.now c.args.schema.now.place c.requires.place) in
+    let place = value_place c.args.schema.now c.in-Some.inner c.requires.place c.in-Some.ensures in
+    let p = err_from_is_err_and c.from_residual-in_err-value.result c.from_residual-in_err-value.ensures.1 in
+    rw (p.1, p.2)
+    (λ strict refused. entry_refused _ _ _ over above _ _ _ _ _ _ _ _ c.requires.place would step place.1
+    (rw (c.next_key.ensures.same, c.loop-entries.invariant.same, place.0) at (c.in_err-value.ensures.would (rw (c.next_key.ensures.same, c.loop-entries.invariant.same) strict) refused))
+    (λ sparse. elim c.else-sparse.branch [
+      | read_map-else-sparse-via-then-sparse+else-is_null w ↦
+          rw (c.next_key.ensures.same, c.loop-entries.invariant.same) at (sym w.is_null.ensures ∙ w.if-is_null.false)
+      | read_map-else-sparse-via-else-sparse w ↦ absurd (let found : true ≡ false = sym (c.is_sparse-sparse.ensures.1 sparse) ∙ w.if-sparse.false in cc)
+    ]))
+
+-- a value was read
+pub read_map-loop-entries-preserved : goal.read_map-loop-entries-preserved
+read_map-loop-entries-preserved g t c =
+    let d = g.met.D.ShapeDeserializer in
+    let s0 = g.D.ShapeDeserializer.settings c.args.source.now in
+    let laws = d.lawful s0 in
+    let over = d.lifted_lawful s0 in
+    let counts = d.counts s0 in
+    let above = d.above s0 in
+    let same = itself (g.D.ShapeDeserializer.wire s0) in
+    let inside = c.loop-entries.invariant.inside in
+    let would = c.loop-entries.invariant.would in
+    let step = rw (c.in-Some-2.is, c.loop-entries.invariant.same) at (c.in_ok-key.ensures.ok inside.due c.args.schema.now.shapes.now c.args.schema.now.place c.requires.place) in
+    let place = value_place c.args.schema.now c.in-Some.inner c.requires.place c.in-Some.ensures in
+    let reads = rw (c.next_key.ensures.same, c.loop-entries.invariant.same, place.0) at c.in_ok-value.ensures.ok in
+    record {
+      same = c.read_tree.ensures.same ∙ c.next_key.ensures.same ∙ c.loop-entries.invariant.same;
+      inside = rw c.in_ok-set_entry-2.ensures.ok
+          (entry_read _ _ _ laws same _ _ _ _ _ _ c.in-Some.inner.place _ _ _ _ c.requires.place inside step place.1 reads);
+      would = rw c.in_ok-set_entry-2.ensures.ok
+          (entry_read _ _ _ over above _ _ _ _ _ _ c.in-Some.inner.place _ _ _ _ c.requires.place would step place.1 reads);
+      counted = λ strict before. value_counted _ (counts strict) _ _ _ _ _ reads (step_counted _ (counts strict) _ _ _ _ _ step (c.loop-entries.invariant.counted strict before));
+    }
+
+-- the map ended
+pub read_map-returns-clause-ok : goal.read_map-returns-clause-ok
+read_map-returns-clause-ok g t c =
+    let inside = c.loop-entries.invariant.inside in
+    let would = c.loop-entries.invariant.would in
+    rw c.map.ensures
+    (end _ _ _ _ _ _ _ _ _ _ _ inside (rw (c.in_default-2.is, c.loop-entries.invariant.same) at (c.in_ok-key.ensures.ok inside.due c.args.schema.now.shapes.now c.args.schema.now.place c.requires.place)) refl)
+
+-- less is left to read
+pub read_map-loop-entries-smaller-then-is_null : goal.read_map-loop-entries-smaller-then-is_null
+read_map-loop-entries-smaller-then-is_null g t c =
+    let d = g.met.D.ShapeDeserializer in
+    let s0 = g.D.ShapeDeserializer.settings c.args.source.now in
+    let laws = d.lawful s0 in
+    let over = d.lifted_lawful s0 in
+    let above = d.above s0 in
+    let same = itself (g.D.ShapeDeserializer.wire s0) in
+    let inside = c.loop-entries.invariant.inside in
+    let would = c.loop-entries.invariant.would in
+    let step = rw (c.in-Some-2.is, c.loop-entries.invariant.same) at (c.in_ok-key.ensures.ok inside.due c.args.schema.now.shapes.now c.args.schema.now.place c.requires.place) in
+    let nulls = rw (c.next_key.ensures.same, c.loop-entries.invariant.same) at (c.in_ok-read_null.ensures.ok (sym c.is_null.ensures ∙ c.if-is_null.true)) in
+    let passes = c.in_ok-read_null.ensures.passes (sym c.is_null.ensures ∙ c.if-is_null.true) in
+    rw (c.read_null.ensures.same, c.next_key.ensures.same, c.loop-entries.invariant.same)
+    (left_falls _ _ _ laws _ _ _ _ _ _ _ _ (Some (string_bytes c.in-Some-2.key)) (child_null (Some (string_bytes c.in-Some-2.key))) inside step (refl, c.is_sparse-sparse.ensures.0 c.if-sparse.true, nulls) passes)
+
+pub read_map-loop-entries-smaller : goal.read_map-loop-entries-smaller
+read_map-loop-entries-smaller g t c =
+    let d = g.met.D.ShapeDeserializer in
+    let s0 = g.D.ShapeDeserializer.settings c.args.source.now in
+    let laws = d.lawful s0 in
+    let over = d.lifted_lawful s0 in
+    let above = d.above s0 in
+    let same = itself (g.D.ShapeDeserializer.wire s0) in
+    let inside = c.loop-entries.invariant.inside in
+    let would = c.loop-entries.invariant.would in
+    let step = rw (c.in-Some-2.is, c.loop-entries.invariant.same) at (c.in_ok-key.ensures.ok inside.due c.args.schema.now.shapes.now c.args.schema.now.place c.requires.place) in
+    let place = value_place c.args.schema.now c.in-Some.inner c.requires.place c.in-Some.ensures in
+    let reads = rw (c.next_key.ensures.same, c.loop-entries.invariant.same, place.0) at c.in_ok-value.ensures.ok in
+    rw (c.read_tree.ensures.same, c.next_key.ensures.same, c.loop-entries.invariant.same)
+    (entry_falls _ _ _ laws _ _ _ _ _ _ c.in-Some.inner.place _ _ _ c.requires.place inside step place.1 reads)
+
+-- the union can not begin
+pub read_union-returns-in_err-member-clause-refused : goal.read_union-returns-in_err-member-clause-refused
+read_union-returns-in_err-member-clause-refused g t c =
+    let d = g.met.D.ShapeDeserializer in
+    let s0 = g.D.ShapeDeserializer.settings c.args.source.now in
+    let laws = d.lawful s0 in
+    let over = d.lifted_lawful s0 in
+    let above = d.above s0 in
+    let same = itself (g.D.ShapeDeserializer.wire s0) in
+    let outer = site_of c.args.schema.now in
+    let begun = begin_union _ _ _ laws laws same _ _ _ _ c.requires.place c.in_ok-open_struct.ensures.ok in
+    let lifted = begin_union _ _ _ laws over above _ _ _ _ c.requires.place c.in_ok-open_struct.ensures.ok in
+    let p = err_from_is_err_and c.from_residual-in_err-member.result c.from_residual-in_err-member.ensures.1 in
+    rw (p.1, p.2)
+    (λ refused. stuck _ _ _ _ _ _ _ _ _ begun (rw c.open_struct.ensures.same at (c.in_err-member.ensures.refused refused begun.due)))
+
+pub read_union-returns-in_err-member-clause-would : goal.read_union-returns-in_err-member-clause-would
+read_union-returns-in_err-member-clause-would g t c =
+    let d = g.met.D.ShapeDeserializer in
+    let s0 = g.D.ShapeDeserializer.settings c.args.source.now in
+    let laws = d.lawful s0 in
+    let over = d.lifted_lawful s0 in
+    let above = d.above s0 in
+    let same = itself (g.D.ShapeDeserializer.wire s0) in
+    let outer = site_of c.args.schema.now in
+    let begun = begin_union _ _ _ laws laws same _ _ _ _ c.requires.place c.in_ok-open_struct.ensures.ok in
+    let lifted = begin_union _ _ _ laws over above _ _ _ _ c.requires.place c.in_ok-open_struct.ensures.ok in
+    let p = err_from_is_err_and c.from_residual-in_err-member.result c.from_residual-in_err-member.ensures.1 in
+    rw (p.1, p.2)
+    (λ strict refused. stuck _ _ _ _ _ _ _ _ _ lifted (rw c.open_struct.ensures.same at (c.in_err-member.ensures.would (rw c.open_struct.ensures.same strict) refused begun.due)))
+
+-- no variant came
+pub read_union-returns-in_default : goal.read_union-returns-in_default
+read_union-returns-in_default g t c =
+    let d = g.met.D.ShapeDeserializer in
+    let s0 = g.D.ShapeDeserializer.settings c.args.source.now in
+    let laws = d.lawful s0 in
+    let over = d.lifted_lawful s0 in
+    let counts = d.counts s0 in
+    let above = d.above s0 in
+    let same = itself (g.D.ShapeDeserializer.wire s0) in
+    let outer = site_of c.args.schema.now in
+    let begun = begin_union _ _ _ laws laws same _ _ _ _ c.requires.place c.in_ok-open_struct.ensures.ok in
+    let lifted = begin_union _ _ _ laws over above _ _ _ _ c.requires.place c.in_ok-open_struct.ensures.ok in
+    let step = rw c.open_struct.ensures.same at (c.in_ok-member.ensures.ok begun.due) in
+    record {
+      same = c.fail.ensures.same ∙ c.next_member.ensures.same ∙ c.open_struct.ensures.same;
+      ok = tt;
+      refused = λ fault. no_first _ _ _ laws same _ _ _ outer _ c.in_default.not-Member c.requires.place begun step;
+      would = λ strict fault. no_first _ _ _ over above _ _ _ outer _ c.in_default.not-Member c.requires.place lifted step;
+      failed = ((λ is. absurd (is_not_failed is)), λ failed. absurd (had_not_failed _ _ _ _ c.in_ok-open_struct.was c.open_struct.ensures.conduct failed));
+      readable = is_not_unwritable;
+      deep = λ is. absurd (is_not_deep is);
+      input = ap (λ s. s.input) c.fail.ensures.fails ∙ step_input _ _ _ outer _ step ∙ begun.input;
+      counted = λ strict before. refusal_counted (g.D.ShapeDeserializer.wire s0) (g.D.ShapeDeserializer.state c.next_member.new.self) _ c.fail.ensures.fails (member_counted _ (counts strict) _ _ _ outer step (entry_counted _ (counts strict) _ _ _ _ _ _ c.in_ok-open_struct.ensures.ok before));
+    }
+
+-- the value of the variant was refused
+pub read_union-returns-in_err-value-clause-refused : goal.read_union-returns-in_err-value-clause-refused
+read_union-returns-in_err-value-clause-refused g t c =
+    let d = g.met.D.ShapeDeserializer in
+    let s0 = g.D.ShapeDeserializer.settings c.args.source.now in
+    let laws = d.lawful s0 in
+    let over = d.lifted_lawful s0 in
+    let above = d.above s0 in
+    let same = itself (g.D.ShapeDeserializer.wire s0) in
+    let outer = site_of c.args.schema.now in
+    let begun = begin_union _ _ _ laws laws same _ _ _ _ c.requires.place c.in_ok-open_struct.ensures.ok in
+    let lifted = begin_union _ _ _ laws over above _ _ _ _ c.requires.place c.in_ok-open_struct.ensures.ok in
+    let step = rw (c.in-Member.is, c.open_struct.ensures.same) at (c.in_ok-member.ensures.ok begun.due) in
+    let p = err_from_is_err_and c.from_residual-in_err-value.result c.from_residual-in_err-value.ensures.1 in
+    rw (p.1, p.2)
+    (λ refused. member_refused _ _ _ laws same _ _ _ outer c.in-Member.member _ (union_has_members _ c.requires.place) begun step
+    (rw (c.next_member.ensures.same, c.open_struct.ensures.same) at (c.in_err-value.ensures.refused refused)))
+
+pub read_union-returns-in_err-value-clause-would : goal.read_union-returns-in_err-value-clause-would
+read_union-returns-in_err-value-clause-would g t c =
+    let d = g.met.D.ShapeDeserializer in
+    let s0 = g.D.ShapeDeserializer.settings c.args.source.now in
+    let laws = d.lawful s0 in
+    let over = d.lifted_lawful s0 in
+    let above = d.above s0 in
+    let same = itself (g.D.ShapeDeserializer.wire s0) in
+    let outer = site_of c.args.schema.now in
+    let begun = begin_union _ _ _ laws laws same _ _ _ _ c.requires.place c.in_ok-open_struct.ensures.ok in
+    let lifted = begin_union _ _ _ laws over above _ _ _ _ c.requires.place c.in_ok-open_struct.ensures.ok in
+    let step = rw (c.in-Member.is, c.open_struct.ensures.same) at (c.in_ok-member.ensures.ok begun.due) in
+    let p = err_from_is_err_and c.from_residual-in_err-value.result c.from_residual-in_err-value.ensures.1 in
+    rw (p.1, p.2)
+    (λ strict refused. member_refused _ _ _ over above _ _ _ outer c.in-Member.member _ (union_has_members _ c.requires.place) lifted step
+    (rw (c.next_member.ensures.same, c.open_struct.ensures.same) at (c.in_err-value.ensures.would (rw (c.next_member.ensures.same, c.open_struct.ensures.same) strict) refused)))
+
+-- the union can not go on behind the variant
+pub read_union-returns-in_err-next_member-clause-refused : goal.read_union-returns-in_err-next_member-clause-refused
+read_union-returns-in_err-next_member-clause-refused g t c =
+    let d = g.met.D.ShapeDeserializer in
+    let s0 = g.D.ShapeDeserializer.settings c.args.source.now in
+    let laws = d.lawful s0 in
+    let over = d.lifted_lawful s0 in
+    let above = d.above s0 in
+    let same = itself (g.D.ShapeDeserializer.wire s0) in
+    let outer = site_of c.args.schema.now in
+    let begun = begin_union _ _ _ laws laws same _ _ _ _ c.requires.place c.in_ok-open_struct.ensures.ok in
+    let lifted = begin_union _ _ _ laws over above _ _ _ _ c.requires.place c.in_ok-open_struct.ensures.ok in
+    let step = rw (c.in-Member.is, c.open_struct.ensures.same) at (c.in_ok-member.ensures.ok begun.due) in
+    let reads = rw (c.next_member.ensures.same, c.open_struct.ensures.same) at c.in_ok-value.ensures.ok in
+    let inside = variant_read _ _ _ laws same _ _ _ _ outer c.in-Member.member c.in-Some.index _ begun step (sym c.in-Some.ensures) reads in
+    let would = variant_read _ _ _ over above _ _ _ _ outer c.in-Member.member c.in-Some.index _ lifted step (sym c.in-Some.ensures) reads in
+    let settings = c.read_tree.ensures.same ∙ c.next_member.ensures.same ∙ c.open_struct.ensures.same in
+    let p = err_from_is_err_and c.from_residual-in_err-next_member.result c.from_residual-in_err-next_member.ensures.1 in
+    rw (p.1, p.2)
+    (λ refused. stuck _ _ _ _ _ _ _ _ _ inside (rw settings at (c.in_err-next_member.ensures.refused refused inside.due)))
+
+pub read_union-returns-in_err-next_member-clause-would : goal.read_union-returns-in_err-next_member-clause-would
+read_union-returns-in_err-next_member-clause-would g t c =
+    let d = g.met.D.ShapeDeserializer in
+    let s0 = g.D.ShapeDeserializer.settings c.args.source.now in
+    let laws = d.lawful s0 in
+    let over = d.lifted_lawful s0 in
+    let above = d.above s0 in
+    let same = itself (g.D.ShapeDeserializer.wire s0) in
+    let outer = site_of c.args.schema.now in
+    let begun = begin_union _ _ _ laws laws same _ _ _ _ c.requires.place c.in_ok-open_struct.ensures.ok in
+    let lifted = begin_union _ _ _ laws over above _ _ _ _ c.requires.place c.in_ok-open_struct.ensures.ok in
+    let step = rw (c.in-Member.is, c.open_struct.ensures.same) at (c.in_ok-member.ensures.ok begun.due) in
+    let reads = rw (c.next_member.ensures.same, c.open_struct.ensures.same) at c.in_ok-value.ensures.ok in
+    let inside = variant_read _ _ _ laws same _ _ _ _ outer c.in-Member.member c.in-Some.index _ begun step (sym c.in-Some.ensures) reads in
+    let would = variant_read _ _ _ over above _ _ _ _ outer c.in-Member.member c.in-Some.index _ lifted step (sym c.in-Some.ensures) reads in
+    let settings = c.read_tree.ensures.same ∙ c.next_member.ensures.same ∙ c.open_struct.ensures.same in
+    let p = err_from_is_err_and c.from_residual-in_err-next_member.result c.from_residual-in_err-next_member.ensures.1 in
+    rw (p.1, p.2)
+    (λ strict refused. stuck _ _ _ _ _ _ _ _ _ would (rw settings at (c.in_err-next_member.ensures.would (rw settings strict) refused inside.due)))
+
+-- a second entry came
+pub read_union-returns-in_default-2 : goal.read_union-returns-in_default-2
+read_union-returns-in_default-2 g t c =
+    let d = g.met.D.ShapeDeserializer in
+    let s0 = g.D.ShapeDeserializer.settings c.args.source.now in
+    let laws = d.lawful s0 in
+    let over = d.lifted_lawful s0 in
+    let counts = d.counts s0 in
+    let above = d.above s0 in
+    let same = itself (g.D.ShapeDeserializer.wire s0) in
+    let outer = site_of c.args.schema.now in
+    let begun = begin_union _ _ _ laws laws same _ _ _ _ c.requires.place c.in_ok-open_struct.ensures.ok in
+    let lifted = begin_union _ _ _ laws over above _ _ _ _ c.requires.place c.in_ok-open_struct.ensures.ok in
+    let step = rw (c.in-Member.is, c.open_struct.ensures.same) at (c.in_ok-member.ensures.ok begun.due) in
+    let reads = rw (c.next_member.ensures.same, c.open_struct.ensures.same) at c.in_ok-value.ensures.ok in
+    let inside = variant_read _ _ _ laws same _ _ _ _ outer c.in-Member.member c.in-Some.index _ begun step (sym c.in-Some.ensures) reads in
+    let would = variant_read _ _ _ over above _ _ _ _ outer c.in-Member.member c.in-Some.index _ lifted step (sym c.in-Some.ensures) reads in
+    let settings = c.read_tree.ensures.same ∙ c.next_member.ensures.same ∙ c.open_struct.ensures.same in
+    let next = rw settings at (c.in_ok-next_member.ensures.ok inside.due) in
+    record {
+      same = c.fail-in_default-2.ensures.same ∙ c.next_member-2.ensures.same ∙ settings;
+      ok = tt;
+      refused = λ fault. no_end _ _ _ laws same _ _ _ outer _ _ c.in_default-2.not-End c.requires.place inside next;
+      would = λ strict fault. no_end _ _ _ over above _ _ _ outer _ _ c.in_default-2.not-End c.requires.place would next;
+      failed = ((λ is. absurd (is_not_failed is)), λ failed. absurd (had_not_failed _ _ _ _ c.in_ok-open_struct.was c.open_struct.ensures.conduct failed));
+      readable = is_not_unwritable;
+      deep = λ is. absurd (is_not_deep is);
+      input = ap (λ s. s.input) c.fail-in_default-2.ensures.fails ∙ step_input _ _ _ outer _ next ∙ inside.input;
+      counted = λ strict before. refusal_counted (g.D.ShapeDeserializer.wire s0) (g.D.ShapeDeserializer.state c.next_member-2.new.self) _ c.fail-in_default-2.ensures.fails (member_counted _ (counts strict) _ _ _ outer next (value_counted _ (counts strict) _ _ _ _ _ reads (step_counted _ (counts strict) _ _ _ _ _ step.2 (entry_counted _ (counts strict) _ _ _ _ _ _ c.in_ok-open_struct.ensures.ok before))));
+    }
+
+-- the union ended behind its variant
+pub read_union-returns-clause-ok : goal.read_union-returns-clause-ok
+read_union-returns-clause-ok g t c =
+    let d = g.met.D.ShapeDeserializer in
+    let s0 = g.D.ShapeDeserializer.settings c.args.source.now in
+    let laws = d.lawful s0 in
+    let over = d.lifted_lawful s0 in
+    let above = d.above s0 in
+    let same = itself (g.D.ShapeDeserializer.wire s0) in
+    let outer = site_of c.args.schema.now in
+    let begun = begin_union _ _ _ laws laws same _ _ _ _ c.requires.place c.in_ok-open_struct.ensures.ok in
+    let lifted = begin_union _ _ _ laws over above _ _ _ _ c.requires.place c.in_ok-open_struct.ensures.ok in
+    let step = rw (c.in-Member.is, c.open_struct.ensures.same) at (c.in_ok-member.ensures.ok begun.due) in
+    let reads = rw (c.next_member.ensures.same, c.open_struct.ensures.same) at c.in_ok-value.ensures.ok in
+    let inside = variant_read _ _ _ laws same _ _ _ _ outer c.in-Member.member c.in-Some.index _ begun step (sym c.in-Some.ensures) reads in
+    let would = variant_read _ _ _ over above _ _ _ _ outer c.in-Member.member c.in-Some.index _ lifted step (sym c.in-Some.ensures) reads in
+    let settings = c.read_tree.ensures.same ∙ c.next_member.ensures.same ∙ c.open_struct.ensures.same in
+    let leaves = rw (c.in-End.is, settings) at (c.in_ok-next_member.ensures.ok inside.due) in
+    IfOk-weaker c.union.result _ _ (λ u made. rw made (end _ _ _ _ _ _ _ _ _ _ _ inside leaves refl)) c.union.ensures.ok

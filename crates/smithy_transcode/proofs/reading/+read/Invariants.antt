@@ -1,8 +1,9 @@
 use Rattle.std.proofs.Common.{◌≡◌, map, ◌+◌, ◌*◌, ◌-◌}
-use Rattle.smithy_schema.specs.Reading.{depth, in_structure, in_list, IsCounted}
+use Rattle.smithy_schema.specs.Reading.{depth, in_structure, in_list, in_map, IsCounted}
 use Rattle.smithy_schema.specs.Table.{kind_of, is_sparse}
 use Rattle.smithy_transcode.proofs.ReadStructures.{structure_value}
 use Rattle.smithy_transcode.proofs.ReadLists.{list_value}
+use Rattle.smithy_transcode.proofs.ReadMaps.{map_value}
 use Rattle.smithy_transcode.proofs.ReadContainers.{InContainer}
 use Rattle.smithy_transcode.proofs.reading.+read.Given as goal
 
@@ -54,6 +55,34 @@ invariant-read_list-loop-elements g l =
 
 abbrev pub decreases-read_list-loop-elements : goal.decreases-read_list-loop-elements
 decreases-read_list-loop-elements g l =
+    let d = g.D.ShapeDeserializer in
+    let s = d.state l.source in
+    (d.wire (d.settings l.source)).left s.input s.at s.inner.mark
+
+abbrev pub decreases-read_union : goal.decreases-read_union
+decreases-read_union g l =
+    let d = g.D.ShapeDeserializer in
+    2 * (d.max_depth (d.settings l.source.now) - depth (d.state l.source.now))
+
+abbrev pub decreases-read_map : goal.decreases-read_map
+decreases-read_map g l =
+    let d = g.D.ShapeDeserializer in
+    2 * (d.max_depth (d.settings l.source.now) - depth (d.state l.source.now))
+
+-- the entries that were read, in both readings
+abbrev pub invariant-read_map-loop-entries : goal.invariant-read_map-loop-entries
+invariant-read_map-loop-entries g l =
+    let d = g.D.ShapeDeserializer in
+    let c = d.settings l.fn.source in
+    record {
+      same : d.settings l.source ≡ d.settings l.fn.source;
+      inside : InContainer (d.wire c) (d.wire c) (d.max_depth c) (d.state l.fn.source) (d.state l.source) l.schema.shapes.now l.schema.place in_map (map_value (is_sparse (kind_of l.schema.shapes.now l.schema.place)) (g.T.Tree.view_entries l.entries));
+      would : InContainer (d.wire c) (d.lifted c) (d.max_depth c) (d.state l.fn.source) (d.state l.source) l.schema.shapes.now l.schema.place in_map (map_value (is_sparse (kind_of l.schema.shapes.now l.schema.place)) (g.T.Tree.view_entries l.entries));
+      counted : d.is_strict c → IsCounted (d.wire c) (d.state l.fn.source) → IsCounted (d.wire c) (d.state l.source);
+    }
+
+abbrev pub decreases-read_map-loop-entries : goal.decreases-read_map-loop-entries
+decreases-read_map-loop-entries g l =
     let d = g.D.ShapeDeserializer in
     let s = d.state l.source in
     (d.wire (d.settings l.source)).left s.input s.at s.inner.mark

@@ -1,7 +1,7 @@
 use Rattle.std.proofs.Common.{◌∙◌}
 use Rattle.smithy_json_codec.specs.Cursor.{cursor_of, reading_settings_of}
 use Rattle.smithy_cbor_codec.specs.Cursor.{cursor_of as cbor_cursor_of, reading_settings_of as cbor_settings_of}
-use Rattle.smithy_transcode.specs.Private.CompactValue.{compact_view as view}
+use Rattle.smithy_transcode.specs.Private.Tree.{compact_view as view}
 use Rattle.smithy_transcode.proofs.Begun.{json_begins, cbor_begins, read_is_spelled, unread_spells_nothing, unread_spells_nothing_at_any_depth, deep_opens}
 use Rattle.smithy_transcode.proofs.Mapped.{mapped_ok}
 use Rattle.smithy_transcode.proofs.transcoding.read_body.Goals as goal

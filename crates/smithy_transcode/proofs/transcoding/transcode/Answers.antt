@@ -1,4 +1,4 @@
-use Rattle.smithy_transcode.specs.Private.CompactValue.{compact_view as view}
+use Rattle.smithy_transcode.specs.Private.Tree.{compact_view as view}
 use Rattle.smithy_transcode.proofs.Transcodings.{spelled_is_small, written, refused}
 use Rattle.smithy_transcode.proofs.transcoding.transcode.Goals as goal
 

@@ -4,7 +4,7 @@ use Rattle.smithy_json_codec.specs.Serializing.{state_of}
 use Rattle.smithy_json_codec.specs.Settings.{Settings}
 use Rattle.smithy_json_codec.specs.Writing.{fresh_state}
 use Rattle.smithy_cbor_codec.specs.Serializing.{state_of as cbor_state_of}
-use Rattle.smithy_transcode.specs.Private.CompactValue.{compact_view as view}
+use Rattle.smithy_transcode.specs.Private.Tree.{compact_view as view}
 use Rattle.smithy_transcode.proofs.Bodies.{json_body, json_adds, json_is_body, cbor_body, cbor_adds, cbor_is_body}
 use Rattle.smithy_transcode.proofs.Mapped.{mapped_ok}
 use Rattle.smithy_transcode.proofs.transcoding.write_body.Goals as goal

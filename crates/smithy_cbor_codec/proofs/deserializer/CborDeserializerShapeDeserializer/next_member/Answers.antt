@@ -7,7 +7,7 @@ use Rattle.smithy_cbor_codec.specs.Cursor.{cursor_of, reading_settings_of}
 use Rattle.smithy_cbor_codec.specs.Settings.{without_limits}
 use Rattle.smithy_cbor_codec.specs.Standing.{cbor_relations}
 use Rattle.smithy_cbor_codec.proofs.DeserializerLemmas.{skip_place, skips_not, skips_same, skips_here, input_fault}
-use Rattle.smithy_cbor_codec.proofs.StructureStepsLemmas.{stays_undue, invalid_refused}
+use Rattle.smithy_cbor_codec.proofs.MemberStepLemmas.{stays_undue, invalid_refused}
 use Rattle.smithy_cbor_codec.proofs.deserializer.CborDeserializerShapeDeserializer.next_member.Goals as goal
 
 pub returns-then-not-self-clause-refused : goal.returns-then-not-self-clause-refused

@@ -1,13 +1,13 @@
-use Rattle.std.proofs.Common.{refl, sym, ap, subst, ◌∙◌, Err, rules}
+use Rattle.std.proofs.Common.{arith, refl, sym, ap, subst, ◌∙◌, Err}
 use Rattle.std.specs.Result.{IfOk}
 use Rattle.smithy_schema.specs.declared.error.SerdeError.TheVariants.{TooDeep}
 use Rattle.smithy_schema.specs.Site.{site_of}
-use Rattle.smithy_schema.specs.Reading.{CannotGoOn, MatchStep, passed_to}
+use Rattle.smithy_schema.specs.Reading.{depth, CannotGoOn, MatchStep, passed_to}
 use Rattle.smithy_json_codec.specs.Cursor.{cursor_of, reading_settings_of}
 use Rattle.smithy_json_codec.specs.Settings.{without_limits}
 use Rattle.smithy_json_codec.specs.Standing.{json_relations}
 use Rattle.smithy_json_codec.proofs.DeserializerLemmas.{error_of, skips_not, skips_never, skips_same, skips_here}
-use Rattle.smithy_json_codec.proofs.StructureStepsLemmas.{stays_undue, invalid_refused}
+use Rattle.smithy_json_codec.proofs.MemberStepLemmas.{stays_undue, reaches_behind, too_deep_behind}
 use Rattle.smithy_json_codec.specs.Deepest.{OpensTooDeep}
 use Rattle.smithy_json_codec.proofs.SkipStepOpeners.{reader_reaches}
 use Rattle.smithy_json_codec.proofs.deserializer.JsonDeserializerShapeDeserializer.next_member.Goals as goal
@@ -15,12 +15,12 @@ use Rattle.smithy_json_codec.proofs.deserializer.JsonDeserializerShapeDeserializ
 pub returns-then-not-self-clause-refused : goal.returns-then-not-self-clause-refused
 returns-then-not-self-clause-refused c =
     λ refused due. stays_undue (reading_settings_of c.args.self.now) (cursor_of c.args.self.now) c.args.schema.now.shapes.now c.args.schema.now.place due
-    (c.step_from.ensures.refused refused (reading_settings_of c.args.self.now))
+    (c.step_from.ensures.refused refused)
 
 pub returns-then-not-self-clause-would : goal.returns-then-not-self-clause-would
 returns-then-not-self-clause-would c =
     λ strict invalid due. stays_undue (without_limits (reading_settings_of c.args.self.now)) (cursor_of c.args.self.now) c.args.schema.now.shapes.now c.args.schema.now.place due
-    (c.step_from.ensures.refused (invalid_refused c.step_from.result invalid) (without_limits (reading_settings_of c.args.self.now)))
+    (c.step_from.ensures.would invalid)
 
 pub returns-in-Ok-clause-unread : goal.returns-in-Ok-clause-unread
 returns-in-Ok-clause-unread c = λ due e skips.
@@ -32,13 +32,13 @@ pub returns-in-Ok-clause-unread_refused : goal.returns-in-Ok-clause-unread_refus
 returns-in-Ok-clause-unread_refused c = λ refused due e skips.
     let same = skips_same (reading_settings_of c.args.self.now) (cursor_of c.args.self.now) c.depth.result _ c.depth.ensures c.in-Ok.end e c.in-Ok.ensures.ok skips in
     subst (λ e. CannotGoOn (json_relations (reading_settings_of c.args.self.now)) (passed_to (cursor_of c.args.self.now) e) c.args.schema.now.shapes.now c.args.schema.now.place) same
-    (c.step_from-in-Ok.ensures.refused refused (reading_settings_of c.args.self.now))
+    (c.step_from-in-Ok.ensures.refused refused)
 
 pub returns-in-Ok-clause-unread_would : goal.returns-in-Ok-clause-unread_would
 returns-in-Ok-clause-unread_would c = λ strict invalid due e skips.
     let same = skips_same (without_limits (reading_settings_of c.args.self.now)) (cursor_of c.args.self.now) c.depth.result _ c.depth.ensures c.in-Ok.end e c.in-Ok.ensures.ok skips in
     subst (λ e. CannotGoOn (json_relations (without_limits (reading_settings_of c.args.self.now))) (passed_to (cursor_of c.args.self.now) e) c.args.schema.now.shapes.now c.args.schema.now.place) same
-    (c.step_from-in-Ok.ensures.refused (invalid_refused c.step_from-in-Ok.result invalid) (without_limits (reading_settings_of c.args.self.now)))
+    (c.step_from-in-Ok.ensures.would invalid)
 
 pub returns-in-Ok-clause-unskipped : goal.returns-in-Ok-clause-unskipped
 returns-in-Ok-clause-unskipped c = λ due none.
@@ -58,11 +58,28 @@ returns-in-Err-clause-deep c = λ deep.
     reader_reaches (reading_settings_of c.args.self.now) (cursor_of c.args.self.now) c.depth.result c.args.self.now.walk.max_depth c.depth.ensures
     (c.in-Err.ensures.deep (ap Err (sym c.refuse-in-Err.ensures.error ∙ error_of c.refuse-in-Err.result TooDeep deep)))
 
-pub returns-in-Err-clause-unread_deep : goal.returns-in-Err-clause-unread_deep
-returns-in-Err-clause-unread_deep c = λ deep.
-    (search rules, skips_not (reading_settings_of c.args.self.now) (cursor_of c.args.self.now) c.depth.result c.depth.ensures refl c.in-Err.ensures.refused)
-
 pub returns-in-Err-clause-too_deep : goal.returns-in-Err-clause-too_deep
-returns-in-Err-clause-too_deep c = λ deep.
-    subst (λ n. OpensTooDeep c.args.self.now.walk.max_depth n c.args.self.now.walk.input.now c.args.self.now.walk.position) c.depth.ensures
-    (c.in-Err.ensures.too_deep (ap Err (sym c.refuse-in-Err.ensures.error ∙ error_of c.refuse-in-Err.result TooDeep deep)))
+returns-in-Err-clause-too_deep c = λ deep. (
+  c.args.self.now.walk.position,
+  omega arith,
+  subst (λ n. OpensTooDeep c.args.self.now.walk.max_depth n c.args.self.now.walk.input.now c.args.self.now.walk.position) c.depth.ensures
+      (c.in-Err.ensures.too_deep (ap Err (sym c.refuse-in-Err.ensures.error ∙ error_of c.refuse-in-Err.result TooDeep deep))),
+)
+
+-- behind a value that isn't due, or is skipped
+
+pub returns-then-not-self-clause-deep : goal.returns-then-not-self-clause-deep
+returns-then-not-self-clause-deep c = λ deep. c.step_from.ensures.deep deep
+
+pub returns-then-not-self-clause-too_deep : goal.returns-then-not-self-clause-too_deep
+returns-then-not-self-clause-too_deep c = λ deep. c.step_from.ensures.too_deep deep
+
+pub returns-in-Ok-clause-deep : goal.returns-in-Ok-clause-deep
+returns-in-Ok-clause-deep c = λ deep.
+    reaches_behind c.args.self.now.walk.input.now c.args.self.now.walk.max_depth c.depth.result c.args.self.now.walk.position c.in-Ok.end c.in-Ok.ensures.ok
+    c.args.self.now.walk.max_depth (depth (cursor_of c.args.self.now)) (c.step_from-in-Ok.ensures.deep deep)
+
+pub returns-in-Ok-clause-too_deep : goal.returns-in-Ok-clause-too_deep
+returns-in-Ok-clause-too_deep c = λ deep.
+    too_deep_behind c.args.self.now.walk.input.now c.args.self.now.walk.max_depth c.depth.result c.args.self.now.walk.position c.in-Ok.end c.in-Ok.ensures.ok
+    (OpensTooDeep c.args.self.now.walk.max_depth (depth (cursor_of c.args.self.now)) c.args.self.now.walk.input.now) (c.step_from-in-Ok.ensures.too_deep deep)

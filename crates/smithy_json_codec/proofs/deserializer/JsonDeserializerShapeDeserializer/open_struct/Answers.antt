@@ -1,33 +1,47 @@
-use Rattle.std.proofs.Common.{◌≡◌, rules}
+use Rattle.std.proofs.Common.{◌≡◌, true, false, sym, ◌∙◌, rules}
 use Rattle.smithy_json_codec.specs.Cursor.{cursor_of, reading_settings_of}
 use Rattle.smithy_json_codec.specs.Settings.{without_limits}
-use Rattle.smithy_json_codec.proofs.ReaderLemmas.{opens_structure, opens_no_structure}
+use Rattle.smithy_json_codec.proofs.ReaderLemmas.{opens_members, opens_no_members}
 use Rattle.smithy_json_codec.proofs.DeserializerLemmas.{empty_opens, not_empty}
 use Rattle.smithy_json_codec.specs.Standing.{fresh_mark}
 use Rattle.smithy_schema.specs.Reading.{depth}
 use Rattle.smithy_json_codec.proofs.deserializer.JsonDeserializerShapeDeserializer.open_struct.Goals as goal
+use Rattle.smithy_json_codec.proofs.deserializer.JsonDeserializerShapeDeserializer.open_struct.Goals.{else-is_empty-via-then-is_empty+else-is_structure, else-is_empty-via-else-is_empty}
 
-pub returns-then-is_empty-clause-deep : goal.returns-then-is_empty-clause-deep
-returns-then-is_empty-clause-deep c =
-    λ deep none. empty_opens (reading_settings_of c.args.self.now) (cursor_of c.args.self.now) c.args._schema.now.shapes.now c.args._schema.now.place c.requires.place (search rules) (search rules) none
+pub returns-then-is_structure-clause-deep : goal.returns-then-is_structure-clause-deep
+returns-then-is_structure-clause-deep c =
+    λ deep none. empty_opens (reading_settings_of c.args.self.now) (cursor_of c.args.self.now) c.args.schema.now.shapes.now c.args.schema.now.place
+    (c.is_structure.ensures.0 c.if-is_structure.true) (search rules) (search rules) none
 
 pub returns-in-Some-clause-deep : goal.returns-in-Some-clause-deep
 returns-in-Some-clause-deep c =
     let same : c.ready.new.self ≡ c.args.self.now.walk = c.in_ok-ready.ensures.ok in
     λ deep none. none c.in-Some.inside fresh_mark
-    (opens_structure (reading_settings_of c.args.self.now) c.args.self.now.walk.input.now c.args._schema.now.shapes.now c.args._schema.now.place c.requires.place (depth (cursor_of c.args.self.now)) c.args.self.now.walk.position c.in-Some.inside (rw same at c.in-Some.ensures.found))
+    (opens_members (reading_settings_of c.args.self.now) c.args.self.now.walk.input.now c.args.schema.now.shapes.now c.args.schema.now.place c.requires.place (depth (cursor_of c.args.self.now)) c.args.self.now.walk.position c.in-Some.inside (rw same at c.in-Some.ensures.found))
 
 pub returns-in-None-clause-refused : goal.returns-in-None-clause-refused
 returns-in-None-clause-refused c =
     let same : c.ready.new.self ≡ c.args.self.now.walk = c.in_ok-ready.ensures.ok in
-    λ fault due allows. opens_no_structure (reading_settings_of c.args.self.now) c.args.self.now.walk.input.now c.args._schema.now.shapes.now c.args._schema.now.place c.requires.place (depth (cursor_of c.args.self.now)) c.args.self.now.walk.position (rw same at c.in-None.ensures.none) (λ empty at. not_empty c.args.self.now.walk.input.now (search rules) empty)
+    λ fault due allows. opens_no_members (reading_settings_of c.args.self.now) c.args.self.now.walk.input.now c.args.schema.now.shapes.now c.args.schema.now.place c.requires.place (depth (cursor_of c.args.self.now)) c.args.self.now.walk.position (rw same at c.in-None.ensures.none)
+    (λ structure empty. elim c.else-is_empty.branch [
+      | else-is_empty-via-then-is_empty+else-is_structure w ↦ let clash : true ≡ false = sym (w.is_structure.ensures.1 structure) ∙ w.if-is_structure.false in cc
+      | else-is_empty-via-else-is_empty w ↦ not_empty c.args.self.now.walk.input.now (search rules) empty
+    ])
 
 pub returns-in-None-clause-would : goal.returns-in-None-clause-would
 returns-in-None-clause-would c =
     let same : c.ready.new.self ≡ c.args.self.now.walk = c.in_ok-ready.ensures.ok in
-    λ strict fault due. opens_no_structure (without_limits (reading_settings_of c.args.self.now)) c.args.self.now.walk.input.now c.args._schema.now.shapes.now c.args._schema.now.place c.requires.place (depth (cursor_of c.args.self.now)) c.args.self.now.walk.position (rw same at c.in-None.ensures.none) (λ empty at. not_empty c.args.self.now.walk.input.now (search rules) empty)
+    λ strict fault due. opens_no_members (without_limits (reading_settings_of c.args.self.now)) c.args.self.now.walk.input.now c.args.schema.now.shapes.now c.args.schema.now.place c.requires.place (depth (cursor_of c.args.self.now)) c.args.self.now.walk.position (rw same at c.in-None.ensures.none)
+    (λ structure empty. elim c.else-is_empty.branch [
+      | else-is_empty-via-then-is_empty+else-is_structure w ↦ let clash : true ≡ false = sym (w.is_structure.ensures.1 structure) ∙ w.if-is_structure.false in cc
+      | else-is_empty-via-else-is_empty w ↦ not_empty c.args.self.now.walk.input.now (search rules) empty
+    ])
 
 pub returns-in-None-clause-invalid : goal.returns-in-None-clause-invalid
 returns-in-None-clause-invalid c =
     let same : c.ready.new.self ≡ c.args.self.now.walk = c.in_ok-ready.ensures.ok in
-    λ fault due. opens_no_structure (reading_settings_of c.args.self.now) c.args.self.now.walk.input.now c.args._schema.now.shapes.now c.args._schema.now.place c.requires.place (depth (cursor_of c.args.self.now)) c.args.self.now.walk.position (rw same at c.in-None.ensures.none) (λ empty at. not_empty c.args.self.now.walk.input.now (search rules) empty)
+    λ fault due. opens_no_members (reading_settings_of c.args.self.now) c.args.self.now.walk.input.now c.args.schema.now.shapes.now c.args.schema.now.place c.requires.place (depth (cursor_of c.args.self.now)) c.args.self.now.walk.position (rw same at c.in-None.ensures.none)
+    (λ structure empty. elim c.else-is_empty.branch [
+      | else-is_empty-via-then-is_empty+else-is_structure w ↦ let clash : true ≡ false = sym (w.is_structure.ensures.1 structure) ∙ w.if-is_structure.false in cc
+      | else-is_empty-via-else-is_empty w ↦ not_empty c.args.self.now.walk.input.now (search rules) empty
+    ])

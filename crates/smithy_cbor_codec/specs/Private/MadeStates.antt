@@ -1,0 +1,46 @@
+-- What a call makes of the open containers and of the bytes.
+use Rattle.std.specs.Prelude.{◌≡◌, ℕ, List, [], ◌∷◌, ◌++◌, Result, Ok, Err, refl}
+use Rattle.std.proofs.Common.{sym, ◌∙◌, ap}
+use Rattle.smithy_schema.specs.declared.error.SerdeError.{SerdeError}
+use Rattle.smithy_schema.specs.Writing.{Event, begin_structure, end_structure, begin_list, end_list, begin_map, end_map, null_of, scalar_of, Open}
+use Rattle.cbor_item.specs.Head.{shortest_head}
+use Rattle.cbor_item.specs.WellFormed.{break}
+use Rattle.smithy_cbor.specs.Scalar.{null_value}
+use Rattle.smithy_cbor.specs.Written.{opening_bytes}
+use Rattle.smithy_cbor_codec.specs.Canonical.{scalar_bytes}
+use Rattle.smithy_cbor_codec.specs.Writing.{CborState, lead, made, where_taken}
+
+-- what is made has the open containers that it is told of
+made_frames : (e : Event) (s : CborState) (frames : List Open) → (made e s frames).frames ≡ frames
+made_frames (begin_structure site) s frames = refl
+made_frames end_structure s frames = refl
+made_frames (begin_list site length) s frames = refl
+made_frames end_list s frames = refl
+made_frames (begin_map site length) s frames = refl
+made_frames end_map s frames = refl
+made_frames (null_of site) s frames = refl
+made_frames (scalar_of site x) s frames = refl
+
+-- and its bytes begin with those before
+made_grows : (e : Event) (s : CborState) (frames : List Open) → (more : List ℕ) × ((made e s frames).out ≡ s.out ++ more)
+made_grows (begin_structure site) s frames = (lead s site.view ++ opening_bytes 5, refl)
+made_grows end_structure s frames = (break ∷ [], refl)
+made_grows (begin_list site length) s frames = (lead s site.view ++ opening_bytes 4, refl)
+made_grows end_list s frames = (break ∷ [], refl)
+made_grows (begin_map site length) s frames = (lead s site.view ++ opening_bytes 5, refl)
+made_grows end_map s frames = (break ∷ [], refl)
+made_grows (null_of site) s frames = (lead s site.view ++ shortest_head 7 null_value, refl)
+made_grows (scalar_of site x) s frames = (lead s site.view ++ scalar_bytes x, refl)
+
+-- the containers of the state that is made
+pub taken_frames : (e : Event) (s t : CborState) (frames : Result (List Open) SerdeError) → where_taken (made e s) frames ≡ Ok t → frames ≡ Ok t.frames
+taken_frames e s t (Ok frames) h = let is : made e s frames ≡ t = cc in ap Ok (sym (made_frames e s frames) ∙ ap (λ (x : CborState). x.frames) is)
+taken_frames e s t (Err error) h = absurd (let no : ◌≡◌ {A = Result CborState SerdeError} (Err error) (Ok t) = h in cc)
+
+-- and what it adds to the bytes
+pub taken_grows : (e : Event) (s t : CborState) (frames : Result (List Open) SerdeError) → where_taken (made e s) frames ≡ Ok t → (more : List ℕ) × (t.out ≡ s.out ++ more)
+taken_grows e s t (Ok frames) h =
+    let is : t ≡ made e s frames = cc in
+    let more = made_grows e s frames in
+    (more.0, ap (λ (x : CborState). x.out) is ∙ more.1)
+taken_grows e s t (Err error) h = absurd (let no : ◌≡◌ {A = Result CborState SerdeError} (Err error) (Ok t) = h in cc)

@@ -1,0 +1,168 @@
+-- Where a structure or a union goes on to, as the contract of reading says it.
+use Rattle.std.proofs.Common.{◌≡◌, ◌≤◌, ◌<◌, ◌+◌, ℕ, zero, suc, length, drop, List, [], ◌∷◌, Bool, true, false, Some, None, refl, sym, ap, subst, ◌∙◌, arith}
+use Rattle.std.proofs.lemmas.Bool.Decides.{nat_tests}
+use Rattle.std.specs.Prelude.{◌&&◌, is_none, Option, option_and_then, option_map, slice_get, cond, nat_lt}
+use Rattle.std.specs.List.{position_or_len}
+use Rattle.smithy_schema.specs.declared.place.Place.{Place}
+use Rattle.smithy_schema.specs.declared.read.Step.{Step}
+use Rattle.smithy_schema.specs.declared.read.Step.TheVariants.{Member as ToMember, Unknown, End}
+use Rattle.smithy_schema.specs.declared.schema.Schema.{Schema}
+use Rattle.smithy_schema.specs.Table.{Table, Kind, structure_of, union_of, members_of, IsStructure, HasMembers}
+use Rattle.smithy_schema.specs.Site.{Site, site_of, member_site, kind_at, site_of_member}
+use Rattle.smithy_schema.specs.Reading.{Cursor, depth, Steps, Leaves, MatchStep, CannotGoOn, passed_to, in_structure}
+use Rattle.smithy_json.specs.Tree.{nesting}
+use Rattle.smithy_json.specs.Unescape.{unescaped}
+use Rattle.smithy_json_codec.specs.Cursor.{inside_of}
+use Rattle.smithy_wire.specs.Walking.{gone_on_to}
+use Rattle.smithy_json_codec.specs.Settings.{Settings, kept, without_limits}
+use Rattle.smithy_json_codec.specs.Codec.{strict_settings}
+use Rattle.smithy_json_codec.specs.Meaning.{rules_of}
+use Rattle.smithy_json_codec.specs.Standing.{json_relations, FollowsInside}
+use Rattle.smithy_json_codec.specs.Private.PassedEntries.{type_name, StepsToMember, ClosesMembers, NoSkip, NoSkipWithin, NothingComes}
+use Rattle.smithy_json_codec.specs.Openers.{json_openers}
+use Rattle.smithy_json_codec.specs.Private.OpenersAtPlaces.{across_value}
+use Rattle.smithy_json_codec.specs.Private.MemberSteps.{EndsEmpty, StepsTo}
+use Rattle.smithy_json_codec.specs.Private.Skipping.{SkipsTo}
+use Rattle.smithy_json_codec.proofs.DeserializerLemmas.{kept_shallow, shallow_kept}
+use Rattle.smithy_json_codec.proofs.ReaderLemmas.{steps_to_member, closes_members, members_are_stuck}
+use Rattle.smithy_json_codec.proofs.SkippedValues.{skips_are}
+use Rattle.smithy_wire.specs.Rules.{position_in, is_mark}
+
+-- nothing is due, so that the cursor is as it is behind what was due
+pub undue : (c : Cursor) → c.due ≡ false → passed_to c c.at ≡ c
+undue c h = ap (λ (due : Bool). record c { due = due }) (sym h)
+
+-- ---- a member's name and its step
+
+first_within : {X : Type 0} (p : X → Bool) (xs : List X) (test : Bool) → nat_lt (position_or_len p xs) (length xs) ≡ test → (n : ℕ)
+    → cond test (Some (position_or_len p xs)) None ≡ Some n → n < length xs
+first_within p xs true less n h =
+    let same : position_or_len p xs ≡ n = cc in
+    subst (λ k. k < length xs) same (grind (arith, nat_tests, less))
+first_within p xs false less n h = absurd (let none : None ≡ Some n = h in cc)
+
+gets : {X : Type 0} (xs : List X) (n : ℕ) → n < length xs → slice_get xs n ≡ None → ⊥
+gets [] n within h = omega (arith, within)
+gets (x ∷ xs) zero within h = cc
+gets (x ∷ xs) (suc n) within h = gets xs n (omega (arith, within)) h
+
+no_site : {A B : Type 0} (f : A → B) (found : Option A) → option_map f found ≡ None → found ≡ None
+no_site f None h = refl
+no_site f (Some x) h = absurd (let none : Some (f x) ≡ None = h in cc)
+
+-- the position of a member is one of the members
+pub named_site : (o : Settings) (outer : Site) (name : List ℕ) (found : Option ℕ) → position_in (rules_of o) (kind_at outer) (Some name) ≡ found
+    → option_and_then (member_site outer) found ≡ None → found ≡ None
+named_site o outer name None is h = refl
+named_site o outer name (Some n) is h =
+    let members = members_of (kind_at outer) in
+    absurd (gets members n (first_within _ members _ refl n is) (no_site (site_of_member outer.table n) (slice_get members n) h))
+
+pub site_found : (o : Settings) (outer : Site) (found : Option ℕ) (s : Schema)
+    → option_and_then (member_site outer) found ≡ Some (site_of s) → (n : ℕ) × (found ≡ Some n) × (member_site outer n ≡ Some (site_of s))
+site_found o outer None s h = absurd (let none : None ≡ Some (site_of s) = h in cc)
+site_found o outer (Some n) s h = (n, refl, h)
+
+-- of the settings only those of names tell where a name leads
+pub leads_by_names : (o : Settings) (step : Step) (outer : Site) (name : List ℕ) → StepsTo step (strict_settings o.use_json_name) outer name → StepsTo step o outer name
+leads_by_names o (ToMember s) outer name h = h
+leads_by_names o Unknown outer name h = h
+leads_by_names o End outer name h = h
+
+-- a `__type` is a mark exactly where it names no member
+unnamed : (b : Bool) → b ≡ (true && (b && true))
+unnamed true = refl
+unnamed false = refl
+
+pub mark_is_unnamed : (o : Settings) (k : Kind) → HasMembers k → is_none (position_in (rules_of o) k (Some type_name)) ≡ is_mark (rules_of o) k (Some type_name)
+mark_is_unnamed o (structure_of members) h = unnamed (is_none (position_in (rules_of o) (structure_of members) (Some type_name)))
+mark_is_unnamed o (union_of members) h = unnamed (is_none (position_in (rules_of o) (union_of members) (Some type_name)))
+mark_is_unnamed o _ h = absurd h
+
+-- ---- which settings pass over what
+
+-- under limits that are kept what is skipped is skipped within them, and under others whatever its depth
+pub skips_within : (o : Settings) (input : List ℕ) (d greatest : ℕ) → o.limits ≡ kept → o.max_depth ≡ greatest → (c e : ℕ) → SkipsTo greatest d input c e → (json_relations o).skips input d c e
+skips_within o input d greatest limits most c e h =
+    (skips_are o input d c e).0 (h.tree, h.lies, shallow_kept o (d + nesting h.tree) limits (subst (λ n. d + nesting h.tree ≤ n) (sym most) h.shallow))
+
+pub skips_lifted : (o : Settings) (input : List ℕ) (d greatest : ℕ) (c e : ℕ) → SkipsTo greatest d input c e → (json_relations (without_limits o)).skips input d c e
+skips_lifted o input d greatest c e h = (skips_are (without_limits o) input d c e).0 (h.tree, h.lies, refl)
+
+pub unskipped_within : (o : Settings) (input : List ℕ) (d greatest : ℕ) → o.limits ≡ kept → o.max_depth ≡ greatest → (c : ℕ) → NoSkipWithin greatest d input c
+    → (e : ℕ) → (json_relations o).skips input d c e → ⊥
+unskipped_within o input d greatest limits most c none e skips =
+    let s = (skips_are o input d c e).1 skips in
+    none e (record { tree = s.0; lies = s.1; shallow = subst (λ n. d + nesting s.0 ≤ n) most (kept_shallow o (d + nesting s.0) limits s.2) })
+
+pub unskipped_lifted : (o : Settings) (input : List ℕ) (d : ℕ) (c : ℕ) → NoSkip d input c → (e : ℕ) → (json_relations (without_limits o)).skips input d c e → ⊥
+unskipped_lifted o input d c none e skips =
+    let s = (skips_are (without_limits o) input d c e).1 skips in
+    none (d + nesting s.0) e (record { tree = s.0; lies = s.1; shallow = omega arith })
+
+-- ---- steps and ends
+
+module _ (o : Settings) (c new : Cursor) (at : ℕ) (outer : Site) (kind : HasMembers (kind_at outer)) (marks : Bool) (marked : marks ≡ is_mark (rules_of o) (kind_at outer) (Some type_name))
+    (greatest : ℕ) (skips : (b e : ℕ) → SkipsTo greatest (depth c) c.input b e → (json_relations o).skips c.input (depth c) b e) where
+  member_comes : (value : ℕ) (raw name : List ℕ) → c.inner.within ≡ in_structure → c.failed ≡ false
+      → new ≡ gone_on_to c value (inside_of in_structure true) → unescaped raw ≡ Some name
+      → StepsToMember marks greatest (depth c) c.input at c.inner.mark.entered raw value → Steps (json_relations o) (passed_to c at) new outer.table outer.place (Some name)
+  member_comes value raw name within sound is some s = rw is (record {
+    steps = steps_to_member o c.input outer.table outer.place kind marks marked greatest (depth c) skips s.0 at c.inner.mark s.1 s.2 raw name value
+        s.3 s.4 some s.5 s.6;
+    input = refl;
+    within = sym within;
+    outer = refl;
+    due = refl;
+    failed = sound;
+  })
+
+  -- the step to a member, or to an unknown entry
+  pub steps_to : (value : ℕ) (raw name : List ℕ) (step : Step) → c.inner.within ≡ in_structure → c.failed ≡ false
+      → new ≡ gone_on_to c value (inside_of in_structure true) → unescaped raw ≡ Some name
+      → StepsToMember marks greatest (depth c) c.input at c.inner.mark.entered raw value → StepsTo step o outer name → MatchStep step (json_relations o) (passed_to c at) new outer
+  steps_to value raw name (ToMember s) within sound is some steps leads =
+      (name, leads.0, member_comes value raw name within sound is some steps, leads.1, leads.2)
+  steps_to value raw name Unknown within sound is some steps leads =
+      (name, member_comes value raw name within sound is some steps, leads)
+  steps_to value raw name End within sound is some steps leads = absurd leads
+
+  -- the bracket ends it
+  pub bracket_closes : (e : ℕ) → ClosesMembers marks greatest (depth c) c.input at c.inner.mark.entered e × FollowsInside (depth c) (drop e c.input)
+      → (json_relations o).closes c.input outer.table outer.place (depth c) at c.inner.mark e
+  bracket_closes e h =
+      let s = h.0 in
+      closes_members o c.input outer.table outer.place kind marks marked greatest (depth c) skips s.0 at c.inner.mark s.1 s.2 e s.3 s.4 h.1
+
+  -- neither a member nor the end comes
+  pub cannot_step : (Stays : ℕ → Type 0) → ((b : ℕ) → Stays b → (e : ℕ) → (json_relations o).skips c.input (depth c) b e → ⊥)
+      → NothingComes Stays marks greatest (depth c) c.input at c.inner.mark.entered → (IsStructure (kind_at outer) → EndsEmpty c → ⊥)
+      → CannotGoOn (json_relations o) (passed_to c at) outer.table outer.place
+  cannot_step Stays stays h full =
+      members_are_stuck o c.input outer.table outer.place kind marks marked greatest (depth c) skips Stays stays h.count at c.inner.mark h.place h.after h.passes
+      h.missing (λ structure' at_end empty inside. full structure' (at_end, empty, inside))
+
+-- the structure or union ends, in its bracket or in an empty input
+pub leaves_at : (o : Settings) (c new : Cursor) (at : ℕ) (outer : Site) (e : ℕ) → (json_relations o).closes c.input outer.table outer.place (depth c) at c.inner.mark e
+    → new.input ≡ c.input → new.at ≡ e → c.outer ≡ new.inner ∷ new.outer → new.due ≡ false → new.failed ≡ c.failed → c.failed ≡ false
+    → Leaves (json_relations o) (passed_to c at) new outer.table outer.place
+leaves_at o c new at outer e closes input place around due failed sound = record {
+  closes = rw place closes;
+  input = input;
+  outer = around;
+  due = due;
+  failed = failed ∙ sound;
+}
+
+-- what is too deep behind a value that is skipped is so from that value on
+module _ (input : List ℕ) (greatest held at end : ℕ) (skips : SkipsTo greatest held input at end) where
+  pub reaches_behind : (max d : ℕ) → max ≤ d + json_openers (drop end input) → max ≤ d + json_openers (drop at input)
+  reaches_behind max d deep = omega (arith, across_value input skips.tree at end skips.lies.0, deep)
+
+  pub too_deep_behind : (Opens : ℕ → Type 0) → (q : ℕ) × (end ≤ q) × Opens q → (q : ℕ) × (at ≤ q) × Opens q
+  too_deep_behind Opens h = (h.0, omega (arith, skips.lies.0.0, h.1), h.2)
+
+-- where nothing was due
+pub stays_undue : (o : Settings) (c : Cursor) (t : Table) (p : Place) → c.due ≡ false
+    → CannotGoOn (json_relations o) (passed_to c c.at) t p → CannotGoOn (json_relations o) c t p
+stays_undue o c t p due h = subst (λ x. CannotGoOn (json_relations o) x t p) (undue c due) h

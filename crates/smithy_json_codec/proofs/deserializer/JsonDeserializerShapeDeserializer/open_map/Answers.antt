@@ -1,0 +1,28 @@
+use Rattle.std.proofs.Common.{◌≡◌}
+use Rattle.smithy_json_codec.specs.Cursor.{cursor_of, reading_settings_of}
+use Rattle.smithy_json_codec.specs.Settings.{without_limits}
+use Rattle.smithy_json_codec.proofs.ReaderLemmas.{opens_map, opens_no_map}
+use Rattle.smithy_json_codec.specs.Standing.{fresh_mark}
+use Rattle.smithy_schema.specs.Reading.{depth}
+use Rattle.smithy_json_codec.proofs.deserializer.JsonDeserializerShapeDeserializer.open_map.Goals as goal
+
+pub returns-in-Some-clause-deep : goal.returns-in-Some-clause-deep
+returns-in-Some-clause-deep c =
+    let same : c.ready.new.self ≡ c.args.self.now.walk = c.in_ok-ready.ensures.ok in
+    λ deep none. none c.in-Some.inside fresh_mark
+    (opens_map (reading_settings_of c.args.self.now) c.args.self.now.walk.input.now c.args._schema.now.shapes.now c.args._schema.now.place c.requires.place (depth (cursor_of c.args.self.now)) c.args.self.now.walk.position c.in-Some.inside (rw same at c.in-Some.ensures.found))
+
+pub returns-in-None-clause-refused : goal.returns-in-None-clause-refused
+returns-in-None-clause-refused c =
+    let same : c.ready.new.self ≡ c.args.self.now.walk = c.in_ok-ready.ensures.ok in
+    λ fault due allows. opens_no_map (reading_settings_of c.args.self.now) c.args.self.now.walk.input.now c.args._schema.now.shapes.now c.args._schema.now.place c.requires.place (depth (cursor_of c.args.self.now)) c.args.self.now.walk.position (rw same at c.in-None.ensures.none)
+
+pub returns-in-None-clause-would : goal.returns-in-None-clause-would
+returns-in-None-clause-would c =
+    let same : c.ready.new.self ≡ c.args.self.now.walk = c.in_ok-ready.ensures.ok in
+    λ strict fault due. opens_no_map (without_limits (reading_settings_of c.args.self.now)) c.args.self.now.walk.input.now c.args._schema.now.shapes.now c.args._schema.now.place c.requires.place (depth (cursor_of c.args.self.now)) c.args.self.now.walk.position (rw same at c.in-None.ensures.none)
+
+pub returns-in-None-clause-invalid : goal.returns-in-None-clause-invalid
+returns-in-None-clause-invalid c =
+    let same : c.ready.new.self ≡ c.args.self.now.walk = c.in_ok-ready.ensures.ok in
+    λ fault due. opens_no_map (reading_settings_of c.args.self.now) c.args.self.now.walk.input.now c.args._schema.now.shapes.now c.args._schema.now.place c.requires.place (depth (cursor_of c.args.self.now)) c.args.self.now.walk.position (rw same at c.in-None.ensures.none)

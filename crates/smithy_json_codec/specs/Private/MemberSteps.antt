@@ -1,0 +1,28 @@
+-- Where a structure or a union goes on to, as private functions answer it.
+use Rattle.std.specs.Prelude.{◌≡◌, ◌<◌, ℕ, List, [], Bool, Some, None, is_none}
+use Rattle.smithy_schema.specs.declared.read.Step.{Step}
+use Rattle.smithy_schema.specs.declared.read.Step.TheVariants.{Member, Unknown, End}
+use Rattle.smithy_schema.specs.Reading.{Cursor, depth}
+use Rattle.smithy_schema.specs.Site.{Site, site_of, member_site, kind_at}
+use Rattle.smithy_json_codec.specs.Codec.{strict_settings}
+use Rattle.smithy_json_codec.specs.Settings.{Settings}
+use Rattle.smithy_json_codec.specs.Meaning.{rules_of}
+use Rattle.smithy_json_codec.specs.Standing.{end_mark}
+use Rattle.smithy_json_codec.specs.Private.PassedEntries.{type_name}
+use Rattle.smithy_wire.specs.Rules.{position_in}
+
+-- the structure was opened at the end of an empty input, and ends there
+abbrev pub EndsEmpty : Cursor → Type 0
+EndsEmpty c = (c.inner.mark ≡ end_mark) × (c.input ≡ []) × (0 < depth c)
+
+-- the step that this name makes
+abbrev pub StepsTo : Step → Settings → Site → List ℕ → Type 0
+StepsTo (Member s) o outer name =
+    (n : ℕ) × (position_in (rules_of o) (kind_at outer) (Some name) ≡ Some n) × (member_site outer n ≡ Some (site_of s))
+StepsTo Unknown o outer name = position_in (rules_of o) (kind_at outer) (Some name) ≡ None
+StepsTo End o outer name = ⊥
+
+-- no member has the name of a mark, so that each `__type` is one
+abbrev pub passes_marks : Bool → Site → Bool
+passes_marks use_json_name outer =
+    is_none (position_in (rules_of (strict_settings use_json_name)) (kind_at outer) (Some type_name))

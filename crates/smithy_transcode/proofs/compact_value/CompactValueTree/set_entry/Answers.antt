@@ -1,0 +1,12 @@
+use Rattle.std.proofs.Common.{◌∙◌, ap}
+use Rattle.std.proofs.lemmas.Result.{on_ok_weaker}
+use Rattle.smithy_transcode.proofs.ReadViews.{entry_views-insert}
+use Rattle.smithy_transcode.specs.Private.Tree.{compact_view, compact_entries}
+use Rattle.smithy_transcode.specs.Private.Entries.{kept_entries}
+use Rattle.smithy_transcode.proofs.compact_value.CompactValueTree.set_entry.Goals as goal
+
+pub returns-clause-ok : goal.returns-clause-ok
+returns-clause-ok c =
+    on_ok_weaker c.set.result
+    (λ set. ap compact_entries set ∙ entry_views-insert compact_view (kept_entries c.args.entries.now) c.args.key c.args.value)
+    c.set.ensures.ok

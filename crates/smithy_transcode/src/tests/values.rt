@@ -1,0 +1,32 @@
+//! A value that is read by one wire, and written by it again.
+
+use crate::{read_value, write_value};
+use smithy_json_codec::JsonCodec;
+use smithy_schema::{FinishSerializer, ShapeType, Shapes, TableText};
+use std::test::Fail;
+
+const TABLE: &[u8] =
+    b"map M U\nlist L M\nunion U\nmember n integer\nmember l L\nstructure S\nmember b boolean\nmember u U\n";
+
+#[test]
+fn a_value_is_written_as_it_was_read(rt: HostRuntime) -> Result<(), Fail> {
+    let shapes = Shapes::build(rt.alloc(), TableText::read(rt.alloc(), TABLE)?)?;
+    let Some(root) = shapes.find("S") else {
+        assert!(rt; false, "the table has no S");
+        return Ok(());
+    };
+    let schema = shapes.schema(root);
+    let ShapeType::Structure = schema.shape_type() else {
+        assert!(rt; false, "S is no structure");
+        return Ok(());
+    };
+    let input: &[u8] = b"{\"u\":{\"l\":[{\"b\":{\"n\":2},\"a\":{\"n\":1}},{}]},\"b\":true}";
+    let codec = JsonCodec::strict(false);
+    let mut source = codec.create_deserializer(rt.alloc(), input);
+    let value = read_value(rt.alloc(), &mut source, &schema)?;
+    let mut sink = codec.create_serializer(rt.alloc());
+    write_value(rt.alloc(), &mut sink, &schema, &value)?;
+    let output: &[u8] = b"{\"b\":true,\"u\":{\"l\":[{\"a\":{\"n\":1},\"b\":{\"n\":2}},{}]}}";
+    assert_eq!(rt; sink.finish()?.as_slice(), output);
+    Ok(())
+}
