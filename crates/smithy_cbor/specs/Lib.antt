@@ -1,6 +1,7 @@
 -- To be believed, in this order.
 pub mod Scalar
 pub mod Written
+pub mod ReadBack
 -- For contracts of the `Decoder`.
 pub mod DecoderView
 pub mod Kind

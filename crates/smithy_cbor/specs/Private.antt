@@ -1,2 +1,3 @@
 -- Words that private clauses cite.
 pub mod HeadNumber
+pub mod DecimalPlaces

@@ -10,6 +10,8 @@ use crate::error::{DecodeKind, DeserializeError};
 use cbor_item::{ItemError, item_type, skip_item};
 use std::alloc::Global;
 
+mod big_numbers;
+mod instants;
 mod numbers;
 mod opens;
 mod strings;

@@ -1,16 +1,25 @@
 //! Writing CBOR, value by value.
 
-ghost use Rattle.std.specs.Prelude.{◌≡◌, ◌++◌, ◌∷◌, [], List, ℕ, OnOk, OnErr, length};
+ghost use Rattle.std.specs.Prelude.{◌≡◌, ◌≤◌, ◌↔◌, ◌++◌, ◌∷◌, [], List, ℕ, OnOk, OnErr, IsErrOf, FitsSigned, length, take};
+ghost use Rattle.std.specs.Int.{w128};
 ghost use Rattle.cbor_item.specs.Head.{shortest_head};
 ghost use Rattle.cbor_item.specs.WellFormed.{break};
 ghost use Rattle.smithy_cbor.specs.Scalar.{null_value};
-ghost use Rattle.smithy_cbor.specs.Written.{integer_bytes, boolean_bytes, text_bytes, opening_bytes};
+ghost use Rattle.smithy_cbor.specs.ReadBack.{SaysBigInteger, SaysDecimal, SaysSeconds};
+ghost use Rattle.smithy_cbor.specs.Written.{integer_bytes, boolean_bytes, text_bytes, opening_bytes, byte_string_bytes, without_leading_zeros, magnitude_bytes, big_integer_bytes, decimal_fraction_bytes, epoch_seconds_bytes};
+ghost use Rattle.smithy_cbor.specs.declared.error.EncodeError.TheVariants.{TooWide};
+ghost use Rattle.smithy_texts.specs.Numeral.{number};
+ghost use Rattle.smithy_texts.specs.Decimal.{mantissa, net_exponent};
+ghost use Rattle.smithy_instants.specs.Instant.{seconds_of, subsecond_of};
 
+use crate::big_endian::without_leading_zeros;
+use crate::error::EncodeError;
 use crate::initial::{
-    ARRAY, BEGIN_ARRAY, BEGIN_MAP, BREAK, FALSE_BYTE, MAP, NEGATIVE, NULL_BYTE, TEXT, TRUE_BYTE,
-    UNSIGNED,
+    ARRAY, BEGIN_ARRAY, BEGIN_MAP, BREAK, BYTES, DECIMAL_FRACTION, EPOCH_SECONDS, FALSE_BYTE, MAP,
+    NEGATIVE, NEGATIVE_BIGNUM, NULL_BYTE, TAG, TEXT, TRUE_BYTE, UNSIGNED, UNSIGNED_BIGNUM,
 };
 use cbor_item::write_head;
+use smithy_types::{BigDecimal, BigInteger, Blob, DateTime};
 use std::alloc::AllocError;
 use std::marker::Model;
 
@@ -145,14 +154,176 @@ impl Encoder {
         ensures ok { OnOk result (self.new ≡ self.old ++ text_bytes x.now) }
         ensures err { OnErr result (self.new ≡ self.old) }
     {
+        self.string(TEXT, x.as_bytes())
+    }
+
+    /// Writes a byte string in one piece.
+    pub fn blob_bytes(&mut self, x: &[u8]) -> Result<(), AllocError>
+        ensures ok { OnOk result (self.new ≡ self.old ++ byte_string_bytes x.now) }
+        ensures err { OnErr result (self.new ≡ self.old) }
+    {
+        self.string(BYTES, x)
+    }
+
+    /// Writes a blob as a byte string in one piece.
+    pub fn blob(&mut self, x: &Blob) -> Result<(), AllocError>
+        ensures ok { OnOk result (self.new ≡ self.old ++ byte_string_bytes x.now) }
+        ensures err { OnErr result (self.new ≡ self.old) }
+    {
+        self.blob_bytes(x.as_ref())
+    }
+
+    /// Writes whole seconds after the epoch, under tag 1.
+    pub fn timestamp(&mut self, x: &DateTime) -> Result<(), AllocError>
+        requires { subsecond_of x.now ≡ 0 }
+        ensures ok { OnOk result (self.new ≡ self.old ++ epoch_seconds_bytes (seconds_of x.now)) }
+        ensures says { SaysSeconds (seconds_of x.now) (epoch_seconds_bytes (seconds_of x.now)) }
+        ensures err { OnErr result (self.new ≡ self.old) }
+    {
+        self.epoch_seconds(x.secs())
+    }
+
+    // Writes so many seconds after the epoch.
+    #[tactic(auto, using(crate::proofs::ReadBackLemmas::seconds_back))]
+    fn epoch_seconds(&mut self, x: i64) -> Result<(), AllocError>
+        ensures ok { OnOk result (self.new ≡ self.old ++ epoch_seconds_bytes x) }
+        ensures says { SaysSeconds x (epoch_seconds_bytes x) }
+        ensures err { OnErr result (self.new ≡ self.old) }
+    {
         let start = self.writer.len();
-        write_head(&mut self.writer, TEXT, x.len() as u64)?;
-        match self.writer.extend_from_slice(x.as_bytes()) {
-            Ok(()) => Ok(()),
-            Err(e) => {
-                self.writer.truncate(start);
-                Err(e)
-            }
+        self.tag(EPOCH_SECONDS)?;
+        let rest = self.long(x);
+        self.or_take_back(start, rest)
+    }
+
+    /// Writes a big integer: as an integer where it is one, else under tag 2 or 3.
+    pub fn big_integer(&mut self, x: &BigInteger) -> Result<(), EncodeError>
+        ensures ok { OnOk result (self.new ≡ self.old ++ big_integer_bytes (number x.now)) }
+        ensures says { OnOk result (SaysBigInteger (number x.now) (big_integer_bytes (number x.now))) }
+        ensures err { OnErr result (self.new ≡ self.old) }
+        ensures wide { IsErrOf result TooWide ↔ ¬ (FitsSigned w128 (number x.now)) }
+    {
+        match x.to_i128() {
+            Ok(value) => Ok(self.whole(value)?),
+            Err(_) => Err(EncodeError::TooWide),
         }
+    }
+
+    /// Writes a decimal fraction: tag 4 and an array of the exponent and the mantissa.
+    pub fn big_decimal(&mut self, x: &BigDecimal) -> Result<(), EncodeError>
+        ensures ok { OnOk result (self.new ≡ self.old ++ decimal_fraction_bytes (net_exponent x.now) (mantissa x.now)) }
+        ensures says { OnOk result (SaysDecimal (net_exponent x.now) (mantissa x.now) (decimal_fraction_bytes (net_exponent x.now) (mantissa x.now))) }
+        ensures err { OnErr result (self.new ≡ self.old) }
+        ensures wide { IsErrOf result TooWide ↔ ¬ (FitsSigned w128 (mantissa x.now)) }
+    {
+        match x.to_parts() {
+            Ok((mantissa, exponent)) => Ok(self.decimal(exponent, mantissa)?),
+            Err(_) => Err(EncodeError::TooWide),
+        }
+    }
+
+    // Writes a decimal fraction of these parts.
+    #[tactic(auto, using(crate::proofs::ReadBackLemmas::decimal_back))]
+    fn decimal(&mut self, exponent: i64, mantissa: i128) -> Result<(), AllocError>
+        ensures ok { OnOk result (self.new ≡ self.old ++ decimal_fraction_bytes exponent mantissa) }
+        ensures says { SaysDecimal exponent mantissa (decimal_fraction_bytes exponent mantissa) }
+        ensures err { OnErr result (self.new ≡ self.old) }
+    {
+        let start = self.writer.len();
+        self.tag(DECIMAL_FRACTION)?;
+        let rest = self.pair(exponent, mantissa);
+        self.or_take_back(start, rest)
+    }
+
+    // Writes the array of a decimal fraction.
+    fn pair(&mut self, exponent: i64, mantissa: i128) -> Result<(), AllocError>
+        ensures ok { OnOk result (self.new ≡ self.old ++ (shortest_head 4 2 ++ (integer_bytes exponent ++ big_integer_bytes mantissa))) }
+        ensures err { OnErr result (self.new ≡ self.old) }
+    {
+        let start = self.writer.len();
+        self.array(2)?;
+        let rest = self.parts(exponent, mantissa);
+        self.or_take_back(start, rest)
+    }
+
+    // Writes an exponent and a mantissa.
+    fn parts(&mut self, exponent: i64, mantissa: i128) -> Result<(), AllocError>
+        ensures ok { OnOk result (self.new ≡ self.old ++ (integer_bytes exponent ++ big_integer_bytes mantissa)) }
+        ensures err { OnErr result (self.new ≡ self.old) }
+    {
+        let start = self.writer.len();
+        self.long(exponent)?;
+        let rest = self.whole(mantissa);
+        self.or_take_back(start, rest)
+    }
+
+    // Writes a whole number.
+    #[tactic(auto, using(crate::proofs::ReadBackLemmas::big_integer_back))]
+    fn whole(&mut self, x: i128) -> Result<(), AllocError>
+        ensures ok { OnOk result (self.new ≡ self.old ++ big_integer_bytes x) }
+        ensures says { SaysBigInteger x (big_integer_bytes x) }
+        ensures err { OnErr result (self.new ≡ self.old) }
+    {
+        if x >= 0 {
+            self.magnitude(UNSIGNED, UNSIGNED_BIGNUM, x as u128)
+        } else {
+            self.magnitude(NEGATIVE, NEGATIVE_BIGNUM, x.unsigned_abs() - 1)
+        }
+    }
+
+    // Writes n under the major type where a head holds it, else its bytes under the tag.
+    fn magnitude(&mut self, major: u8, tag: u64, n: u128) -> Result<(), AllocError>
+        requires { major ≤ 7 }
+        ensures ok { OnOk result (self.new ≡ self.old ++ magnitude_bytes major tag n) }
+        ensures err { OnErr result (self.new ≡ self.old) }
+    {
+        if n < 0x1_0000_0000_0000_0000 {
+            write_head(&mut self.writer, major, n as u64)
+        } else {
+            self.bignum(tag, &n.to_be_bytes())
+        }
+    }
+
+    // Writes the number of the bytes under the tag.
+    fn bignum(&mut self, tag: u64, bytes: &[u8]) -> Result<(), AllocError>
+        ensures ok { OnOk result (self.new ≡ self.old ++ (shortest_head 6 tag ++ byte_string_bytes (without_leading_zeros bytes.now))) }
+        ensures err { OnErr result (self.new ≡ self.old) }
+    {
+        let start = self.writer.len();
+        self.tag(tag)?;
+        let rest = self.blob_bytes(without_leading_zeros(bytes));
+        self.or_take_back(start, rest)
+    }
+
+    // Begins an item under the tag.
+    fn tag(&mut self, number: u64) -> Result<(), AllocError>
+        ensures ok { OnOk result (self.new ≡ self.old ++ shortest_head 6 number) }
+        ensures err { OnErr result (self.new ≡ self.old) }
+    {
+        write_head(&mut self.writer, TAG, number)
+    }
+
+    // Writes a string of the major type in one piece.
+    fn string(&mut self, major: u8, bytes: &[u8]) -> Result<(), AllocError>
+        requires { major ≤ 7 }
+        ensures ok { OnOk result (self.new ≡ self.old ++ (shortest_head major (length bytes.now) ++ bytes.now)) }
+        ensures err { OnErr result (self.new ≡ self.old) }
+    {
+        let start = self.writer.len();
+        write_head(&mut self.writer, major, bytes.len() as u64)?;
+        let rest = self.writer.extend_from_slice(bytes);
+        self.or_take_back(start, rest)
+    }
+
+    // Takes back what was written from the offset on, where the rest was refused.
+    fn or_take_back(&mut self, start: usize, rest: Result<(), AllocError>) -> Result<(), AllocError>
+        ensures same { result ≡ rest }
+        ensures ok { OnOk rest (self.new ≡ self.old) }
+        ensures err { OnErr rest (self.new ≡ take start self.old) }
+    {
+        if rest.is_err() {
+            self.writer.truncate(start);
+        }
+        rest
     }
 }

@@ -6,6 +6,7 @@ ghost use Rattle.smithy_cbor.specs.declared.error.DecodeKind.TheVariants.{Unexpe
 
 use crate::CborType;
 use cbor_item::ItemError;
+use std::alloc::AllocError;
 use std::borrow::CowStr;
 use thiserror::Error;
 
@@ -128,5 +129,26 @@ impl DeserializeError {
         ensures { result ≡ record { kind = kind; at = Some at } }
     {
         DeserializeError { kind, at: Some(at) }
+    }
+}
+
+/// Why a big number could not be written.
+#[derive(Clone, Copy, Debug, PartialEq, Eq, Error)]
+pub enum EncodeError {
+    /// The number, or the mantissa of the decimal, leaves 128 bits.
+    #[error("TooWide")]
+    TooWide,
+    /// An allocation was refused.
+    #[error("NoMemory")]
+    NoMemory,
+}
+
+impl From<AllocError> for EncodeError {
+    ghost use Rattle.smithy_cbor.specs.declared.error.EncodeError.TheVariants.{NoMemory};
+
+    ghost from_gives = { λ e error. error ≡ NoMemory };
+
+    fn from(_: AllocError) -> EncodeError {
+        EncodeError::NoMemory
     }
 }

@@ -4,11 +4,15 @@ pub(crate) const UNSIGNED: u8 = 0;
 
 pub(crate) const NEGATIVE: u8 = 1;
 
+pub(crate) const BYTES: u8 = 2;
+
 pub(crate) const TEXT: u8 = 3;
 
 pub(crate) const ARRAY: u8 = 4;
 
 pub(crate) const MAP: u8 = 5;
+
+pub(crate) const TAG: u8 = 6;
 
 pub(crate) const SIMPLE: u8 = 7;
 
@@ -33,3 +37,12 @@ pub(crate) const FALSE: u64 = 20;
 pub(crate) const TRUE: u64 = 21;
 
 pub(crate) const NULL: u64 = 22;
+
+// The tags (section 3.4).
+pub(crate) const EPOCH_SECONDS: u64 = 1;
+
+pub(crate) const UNSIGNED_BIGNUM: u64 = 2;
+
+pub(crate) const NEGATIVE_BIGNUM: u64 = 3;
+
+pub(crate) const DECIMAL_FRACTION: u64 = 4;

@@ -1,5 +1,7 @@
 //! Rows of single calls.
 
+mod tagged;
+
 use crate::{CborType, DecodeKind, Decoder, DeserializeError, Encoder, set_optional};
 use std::alloc::Global;
 use std::borrow::CowStr;

@@ -120,7 +120,7 @@ impl Decoder<'_> {
     }
 
     // A refusal of a number that its type cannot hold.
-    fn out_of_range(&self) -> DeserializeError
+    pub(super) fn out_of_range(&self) -> DeserializeError
         ensures { result ≡ record { kind = OutOfRange; at = Some (position_of self.now) } }
     {
         DeserializeError::new(DecodeKind::OutOfRange, self.position)

@@ -10,6 +10,7 @@ ghost use Rattle.smithy_cbor.specs.Scalar.{boolean_item, false_value, true_value
 
 use super::Decoder;
 use crate::error::DeserializeError;
+use crate::heads::break_at;
 use crate::initial::{ARRAY, FALSE, MAP, NULL, SIMPLE, TRUE};
 use cbor_item::{Head, ItemError, read_head};
 
@@ -84,12 +85,11 @@ impl Decoder<'_> {
         ensures refused { IfErr result (IsRefusal (λ input at. IsKindOf (IsHeadFault IsBreakHead input at)) self.old) }
         ensures stays { OnErr result (self.new ≡ self.old) }
     {
-        match read_head(self.bytes, self.position) {
-            Ok(head) if is_break(head) => {
-                self.position += 1;
+        match break_at(self.bytes, self.position) {
+            Ok(end) => {
+                self.position = end;
                 Ok(())
             }
-            Ok(_) => Err(self.refused(ItemError::WrongType)),
             Err(e) => Err(self.refused(e)),
         }
     }
@@ -112,11 +112,4 @@ fn is_simple(head: Head, value: u64) -> bool
     ensures { IsTrue result ↔ IsSimpleHead value (head_read head) }
 {
     head.major == SIMPLE && head.argument == Some(value) && head.length == 1
-}
-
-// Whether the head is a break.
-fn is_break(head: Head) -> bool
-    ensures { IsTrue result ↔ IsBreakHead (head_read head) }
-{
-    head.major == SIMPLE && head.argument.is_none()
 }

@@ -1,0 +1,96 @@
+//! Decimal fractions at a place of an input (RFC 8949, section 3.4.4): the parts that stand there, of
+//! any size, and where the item ends.
+
+ghost use Rattle.std.specs.Prelude.{◌≡◌, ◌≤◌, ◌+◌, ◌∷◌, ℤ, ℕ, true, IfOk, IfErr, IfSome, FitsSigned, drop, length};
+ghost use Rattle.std.specs.Option.{SomeIff};
+ghost use Rattle.std.specs.Int.{w64, w128};
+ghost use Rattle.cbor_item.specs.WellFormed.{break};
+ghost use Rattle.smithy_texts.specs.Ranges.{is_exponent};
+ghost use Rattle.smithy_cbor.specs.Reading.{IsDecimalAt, AreParts, AreNoParts, AreNoPartsUntilBreak, IsNoPair, IsNoDecimal};
+ghost use Rattle.smithy_cbor.specs.Private.DecimalPlaces.{ArePartsUntilBreak, IsPairAt};
+
+use crate::heads::{break_at, tag_at};
+use crate::initial::{ARRAY, DECIMAL_FRACTION};
+use crate::tagged::{big_integer_at, integer_at};
+use cbor_item::{ItemError, read_head};
+
+/// Exponent, mantissa where 128 bits hold it, and where the item ends.
+type Parts = (i128, Option<i128>, usize);
+
+/// The decimal fraction that begins at the offset.
+pub(crate) fn decimal_at(input: &[u8], at: usize) -> Result<Parts, ItemError>
+    requires { at ≤ length input.now }
+    ensures found { IfOk result (λ r. (m : ℤ) × IsDecimalAt r.0 m input.now at r.2 × SomeIff r.1 (FitsSigned w128 m) m) }
+    ensures fits { IfOk result (λ r. FitsSigned w128 r.0) }
+    ensures refused { IfErr result (IsNoDecimal input.now at) }
+{
+    let body = tag_at(input, at, DECIMAL_FRACTION)?;
+    match pair_at(input, body) {
+        Ok(parts) => Ok(parts),
+        Err(e) => Err(e),
+    }
+}
+
+// The array of exponent and mantissa that begins at the offset.
+fn pair_at(input: &[u8], at: usize) -> Result<Parts, ItemError>
+    requires { at ≤ length input.now }
+    ensures found { IfOk result (λ r. (m : ℤ) × IsPairAt r.0 m input.now at r.2 × SomeIff r.1 (FitsSigned w128 m) m) }
+    ensures fits { IfOk result (λ r. FitsSigned w128 r.0) }
+    ensures refused { IfErr result (IsNoPair input.now at) }
+{
+    let head = match read_head(input, at) {
+        Ok(head) => head,
+        Err(e) => return Err(e),
+    };
+    let body = at + usize::from(head.length);
+    match (head.major, head.argument) {
+        (ARRAY, Some(count)) if count == 2 => parts_at(input, body),
+        (ARRAY, None) => parts_until_break(input, body),
+        _ => Err(ItemError::WrongType),
+    }
+}
+
+// The exponent and the mantissa that begin at the offset, and the break behind them.
+fn parts_until_break(input: &[u8], at: usize) -> Result<Parts, ItemError>
+    requires { at ≤ length input.now }
+    ensures found { IfOk result (λ r. (m : ℤ) × ArePartsUntilBreak r.0 m input.now at r.2 × SomeIff r.1 (FitsSigned w128 m) m) }
+    ensures fits { IfOk result (λ r. FitsSigned w128 r.0) }
+    ensures refused { IfErr result (AreNoPartsUntilBreak input.now at) }
+{
+    match parts_at(input, at) {
+        Ok((exponent, mantissa, end)) => match break_at(input, end) {
+            Ok(end) => Ok((exponent, mantissa, end)),
+            Err(e) => Err(e),
+        },
+        Err(e) => Err(e),
+    }
+}
+
+// The exponent and the mantissa that begin at the offset.
+fn parts_at(input: &[u8], at: usize) -> Result<Parts, ItemError>
+    requires { at ≤ length input.now }
+    ensures found { IfOk result (λ r. (m : ℤ) × AreParts r.0 m input.now at r.2 × SomeIff r.1 (FitsSigned w128 m) m) }
+    ensures fits { IfOk result (λ r. FitsSigned w128 r.0) }
+    ensures within { IfOk result (λ r. r.2 ≤ length input.now) }
+    ensures refused { IfErr result (AreNoParts input.now at) }
+{
+    match integer_at(input, at) {
+        Ok((exponent, next)) => match big_integer_at(input, next) {
+            Ok((mantissa, end)) => Ok((exponent, mantissa, end)),
+            Err(e) => Err(e),
+        },
+        Err(e) => Err(e),
+    }
+}
+
+/// The exponent, where it is within its limits.
+pub(crate) fn exponent_of(z: i128) -> Option<i64>
+    ensures value { SomeIff result (is_exponent z ≡ true) z }
+    ensures fits { IfSome result (FitsSigned w64) }
+{
+    if z.unsigned_abs() < 0x8000_0000_0000_0000 {
+        Some(z as i64)
+    } else {
+        None
+    }
+}

@@ -1,0 +1,44 @@
+//! Instants, in whole seconds.
+
+ghost use Rattle.std.specs.Prelude.{◌≡◌, ◌*ℤ◌, ℤ, pos, IfOk, IfErr, OnErr};
+
+use super::Decoder;
+use crate::error::{DecodeKind, DeserializeError};
+use crate::tagged::date_at;
+use smithy_types::DateTime;
+
+impl Decoder<'_> {
+    ghost use Rattle.smithy_cbor.specs.DecoderView.{position_of, Reads, IsRefusal};
+    ghost use Rattle.smithy_cbor.specs.Reading.{IsInstantAt, IsInstantFault};
+    ghost use Rattle.smithy_cbor.specs.declared.error.DecodeKind.TheVariants.{NotCarried};
+    ghost use Rattle.std.specs.Prelude.{Some};
+
+    /// Whole seconds after the epoch, under tag 1. A float there is not carried.
+    pub fn timestamp(&mut self) -> Result<DateTime, DeserializeError>
+        ensures read { IfOk result (λ d. Reads (IsInstantAt d) self.old self.new) }
+        ensures refused { IfErr result (IsRefusal IsInstantFault self.old) }
+        ensures stays { OnErr result (self.new ≡ self.old) }
+    {
+        let (seconds, end) = match date_at(self.bytes, self.position) {
+            Ok(found) => found,
+            Err(e) => return Err(self.refused(e)),
+        };
+        let Some(seconds) = seconds else {
+            return Err(self.not_carried());
+        };
+        match i64::try_from(seconds) {
+            Ok(seconds) => {
+                self.position = end;
+                Ok(DateTime::from_secs(seconds))
+            }
+            Err(_) => Err(self.out_of_range()),
+        }
+    }
+
+    // A refusal of a form that is not carried.
+    fn not_carried(&self) -> DeserializeError
+        ensures { result ≡ record { kind = NotCarried; at = Some (position_of self.now) } }
+    {
+        DeserializeError::new(DecodeKind::NotCarried, self.position)
+    }
+}
