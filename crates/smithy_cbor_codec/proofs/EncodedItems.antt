@@ -75,6 +75,9 @@ z_key = short_text (codes "z") (omega arith)
 abbrev pub l_key : Encoded
 l_key = short_text (codes "l") (omega arith)
 
+abbrev pub type_key : Encoded
+type_key = short_text (codes "__type") (omega arith)
+
 -- a byte that is no UTF-8 as a text
 abbrev pub no_text : Encoded
 no_text = short_text (0xff ∷ []) (omega arith)

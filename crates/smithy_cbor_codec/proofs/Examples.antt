@@ -37,6 +37,9 @@ named name shape = record { name = name; shape = shape }
 abbrev pub list_shape : Bool → Place → Shape
 list_shape is_sparse place = table.list (record { place = place; is_sparse = is_sparse; xml_name = None })
 
+abbrev pub map_shape : Bool → Place → Shape
+map_shape is_sparse place = table.map (record { place = place; is_sparse = is_sparse; key_name = None; value_name = None })
+
 -- structure S / member a long
 abbrev pub one_long : Table
 one_long = named (codes "S") (table.structure (plain_member (codes "a") long_place ∷ [])) ∷ []
@@ -72,6 +75,18 @@ lists_of_strings is_sparse = named (codes "Items") (list_shape is_sparse string_
 abbrev pub nodes : Table
 nodes = named (codes "Nodes") (list_shape false (shape_place 1))
     ∷ named (codes "Node") (table.structure (plain_member (codes "value") long_place ∷ plain_member (codes "nodes") (shape_place 0) ∷ [])) ∷ []
+
+-- map M long, sparse or not
+abbrev pub map_of_longs : Bool → Table
+map_of_longs is_sparse = named (codes "M") (map_shape is_sparse long_place) ∷ []
+
+-- union U / member a long / member b long
+abbrev pub two_variants : Table
+two_variants = named (codes "U") (table.union (plain_member (codes "a") long_place ∷ plain_member (codes "b") long_place ∷ [])) ∷ []
+
+-- union U / member __type long
+abbrev pub type_variant : Table
+type_variant = named (codes "U") (table.union (plain_member (codes "__type") long_place ∷ [])) ∷ []
 
 -- ---- items and values
 

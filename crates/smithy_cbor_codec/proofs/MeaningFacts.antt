@@ -1,11 +1,11 @@
 -- What items mean over small tables, by computing, and what stands close by and means nothing.
-use Rattle.std.proofs.Common.{◌≡◌, List, [], ◌∷◌, map, replicate, true, false, Some, None, refl, pos, neg_ℤ, ◌^◌, ◌-◌, codes}
+use Rattle.std.proofs.Common.{◌≡◌, ℕ, Option, List, [], ◌∷◌, map, replicate, true, false, Some, None, refl, pos, neg_ℤ, ◌^◌, ◌-◌, codes}
 use Rattle.smithy_schema.specs.Value as values
-use Rattle.smithy_schema.specs.Value.{null_element, no_values, no_member_values, member_value}
+use Rattle.smithy_schema.specs.Value.{Value, MapEntries, no_map_entries, map_entry, null_element, no_values, no_member_values, member_value}
 use Rattle.cbor_item.specs.Item.{definite, indefinite, Item, unsigned, negative, byte_string, array, map as map_item, tag, simple, float, no_items, no_pairs, pair}
 use Rattle.smithy_cbor_codec.specs.Meaning.{cbor_meaning}
 use Rattle.smithy_cbor_codec.proofs.OnLiterals.{smithy_cbor_codec_on_literals}
-use Rattle.smithy_cbor_codec.proofs.Examples.{whole_value, text_value, one_long, long_renamed, accented, one_string, three_members, lists_of_lists, lists_of_strings, nodes, long_place, string_place, a_text, chunked, null, undefined, an_array, a_map, items_of, alone, both, in_arrays, in_lists, empty_structure, first_alone, strict, means_at, would_mean_at, means_within}
+use Rattle.smithy_cbor_codec.proofs.Examples.{whole_value, text_value, one_long, long_renamed, accented, one_string, three_members, map_of_longs, two_variants, type_variant, lists_of_lists, lists_of_strings, nodes, long_place, string_place, a_text, chunked, null, undefined, an_array, a_map, items_of, alone, both, in_arrays, in_lists, empty_structure, first_alone, strict, means_at, would_mean_at, means_within}
 
 -- ---- members of a structure
 
@@ -171,6 +171,53 @@ pub other_containers : map (means_at nodes 1) (alone (codes "nodes") (an_array (
     ≡ None ∷ None ∷ Some (values.structure (member_value 1 (values.list (values.value empty_structure no_values)) no_member_values)) ∷ []
 unfolding smithy_cbor_codec_on_literals
 other_containers = refl
+
+-- ---- maps
+
+abbrev entries_of : List (List ℕ × Value) → MapEntries
+entries_of [] = no_map_entries
+entries_of (e ∷ es) = map_entry e.0 e.1 (entries_of es)
+
+abbrev map_value : List (List ℕ × Value) → Option Value
+map_value es = Some (values.map (entries_of es))
+
+-- {"b": 1, "a": 2}, {_ "a": 1, "a": 2}, {"__type": 1} and {}: by key in the order of its bytes, and the last of equal keys
+pub entries : map (means_at (map_of_longs false) 0) (both (codes "b") (unsigned 1) (codes "a") (unsigned 2) ∷ map_item indefinite (pair (a_text (codes "a")) (unsigned 1) (pair (a_text (codes "a")) (unsigned 2) no_pairs)) ∷ alone (codes "__type") (unsigned 1) ∷ a_map [] ∷ [])
+    ≡ map_value ((codes "a", whole_value (pos 2)) ∷ (codes "b", whole_value (pos 1)) ∷ []) ∷ map_value ((codes "a", whole_value (pos 2)) ∷ []) ∷ map_value ((codes "__type", whole_value (pos 1)) ∷ []) ∷ map_value [] ∷ []
+unfolding smithy_cbor_codec_on_literals
+entries = refl
+
+-- a null stands in a sparse map alone
+pub null_entries : map (λ is_sparse. means_at (map_of_longs is_sparse) 0 (alone (codes "a") null)) (true ∷ false ∷ [])
+    ≡ map_value ((codes "a", null_element) ∷ []) ∷ None ∷ []
+unfolding smithy_cbor_codec_on_literals
+null_entries = refl
+
+-- each of equal keys has to stand for a value, and each key is a text: {"a": "x", "a": 1}, {0: 1}, {h'61': 1}
+pub no_entries : map (means_at (map_of_longs true) 0) (both (codes "a") (a_text (codes "x")) (codes "a") (unsigned 1) ∷ a_map ((unsigned 0, unsigned 1) ∷ []) ∷ a_map ((byte_string definite (codes "a" ∷ []), unsigned 1) ∷ []) ∷ an_array [] ∷ null ∷ [])
+    ≡ replicate 5 None
+unfolding smithy_cbor_codec_on_literals
+no_entries = refl
+
+-- ---- unions, and marks
+
+-- {"b": 1}, {"z": null, "b": 1} and {"__type": [], "b": 1}
+pub variants : map (means_at two_variants 0) (alone (codes "b") (unsigned 1) ∷ both (codes "z") null (codes "b") (unsigned 1) ∷ both (codes "__type") (an_array []) (codes "b") (unsigned 1) ∷ [])
+    ≡ replicate 3 (Some (values.union 1 (whole_value (pos 1))))
+unfolding smithy_cbor_codec_on_literals
+variants = refl
+
+-- {}, {"a": null}, {"a": 1, "b": 1}, {"a": 1, "a": 1}, {"z": 1, "a": 1}, {"z": 1} and {"__type": 1}
+pub no_variants : map (means_at two_variants 0) (a_map [] ∷ alone (codes "a") null ∷ both (codes "a") (unsigned 1) (codes "b") (unsigned 1) ∷ both (codes "a") (unsigned 1) (codes "a") (unsigned 1) ∷ both (codes "z") (unsigned 1) (codes "a") (unsigned 1) ∷ alone (codes "z") (unsigned 1) ∷ alone (codes "__type") (unsigned 1) ∷ [])
+    ≡ replicate 7 None
+unfolding smithy_cbor_codec_on_literals
+no_variants = refl
+
+-- {"__type": 1}, where it names a member, and of a structure, where it names none
+pub types : (means_at type_variant 0 (alone (codes "__type") (unsigned 1)) ≡ Some (values.union 0 (whole_value (pos 1))))
+    × (means_at one_long 0 (both (codes "__type") (unsigned 1) (codes "a") (unsigned 1)) ≡ Some (first_alone (whole_value (pos 1))))
+unfolding smithy_cbor_codec_on_literals
+types = (refl, refl)
 
 -- ---- depth
 

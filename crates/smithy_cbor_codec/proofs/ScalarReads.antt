@@ -1,6 +1,7 @@
 -- What a reader finds at the place of a scalar stands there, and where it finds nothing, nothing does.
 use Rattle.std.proofs.Common.{◌≡◌, ◌≤◌, ◌⊎◌, ◌-◌, ◌^◌, ℕ, ℤ, List, length, Bool, true, false, subst, Option, Some, refl, sym, ◌∙◌, ap, inl, inr, drop, arith, ◌<◌, ◌++◌, ◌∷◌, []}
 use Rattle.std.specs.Prelude.{option_map, Result, Ok, Err, OnErr, IfOk, IfErr, IsOk, IsErr, IfSome, IfNone, IsSome, IsNone, slice_range, FitsSigned, pos, negsuc, neg_ℤ, int_le, int_lt}
+use Rattle.smithy_texts.specs.Base64Text.{are_bytes}
 use Rattle.smithy_texts.specs.Ranges.{fits_signed}
 use Rattle.smithy_schema.specs.declared.shape_type.Scalar.{Scalar}
 use Rattle.smithy_schema.specs.declared.shape_type.Scalar.TheVariants as scalars
@@ -8,20 +9,20 @@ use Rattle.smithy_schema.specs.declared.error.SerdeError.{SerdeError}
 use Rattle.smithy_schema.specs.declared.error.SerdeError.TheVariants.{InvalidInput, TooDeep, Unwritable, Failed, NoMemory}
 use Rattle.smithy_schema.specs.Table.{scalar_place}
 use Rattle.smithy_schema.specs.Site.{Site}
-use Rattle.smithy_schema.specs.Value.{ScalarValue, boolean, whole, text, Value, scalar_value, null_element}
+use Rattle.smithy_schema.specs.Value.{ScalarValue, boolean, whole, text, bytes, Value, scalar_value, null_element}
 use Rattle.smithy_schema.specs.Reading.{Cursor, depth, StandsNot, IsInvalid, ReadsScalar, passed_to, failed_at}
 use Rattle.smithy_schema.specs.Lemmas.Options.{same_some, made}
 use Rattle.smithy_schema.proofs.ScalarLemmas.{fits_more}
 use Rattle.cbor_item.specs.WellFormed.{IsItemAt, IsSimple}
 use Rattle.cbor_item.specs.Item.{Item, unsigned, negative, byte_string, text_string, array, map, tag, simple, float}
 use Rattle.smithy_cbor_codec.specs.Settings.{Settings, without_limits}
-use Rattle.smithy_cbor.specs.Scalar.{boolean_item, integer_of, text_of, false_value, true_value}
-use Rattle.smithy_cbor_codec.specs.Scalar.{boolean_of, whole_of, says}
+use Rattle.smithy_cbor.specs.Scalar.{boolean_item, integer_of, text_of, bytes_of, false_value, true_value}
+use Rattle.smithy_cbor_codec.specs.Scalar.{boolean_of, whole_of, blob_of, says}
 use Rattle.smithy_cbor_codec.specs.Laws.{lawful}
 use Rattle.smithy_cbor_codec.specs.Meaning.{node_of, rules_of}
 use Rattle.smithy_cbor_codec.specs.Standing.{Follows, cbor_frames, cbor_relations}
-use Rattle.smithy_cbor_codec.specs.Private.Fits.{boolean_is, whole_is}
-use Rattle.smithy_cbor_codec.specs.Private.ScalarAtPlace.{IsAt, IsWholeAt, HasTextAt}
+use Rattle.smithy_cbor_codec.specs.Private.Fits.{boolean_is, whole_is, blob_is}
+use Rattle.smithy_cbor_codec.specs.Private.ScalarAtPlace.{IsAt, IsWholeAt, HasTextAt, IsBlobAt}
 use Rattle.smithy_cbor_codec.specs.Private.ItemPlaces.{one_item, item_front}
 use Rattle.smithy_wire.specs.Node.{leaf}
 use Rattle.smithy_wire.specs.Rules.{answer_of, settled}
@@ -234,6 +235,36 @@ module _ (o : Settings) (c : Cursor) (site : Site) where
       let s = made (λ s. scalar_value (text s)) (text_of x) v (sym (settled_text x) ∙ means) in
       none s.0 e (record { found = x; stands = lies.1; is = s.1 }) lies.2)
 
+-- ---- bytes
+
+bytes_is_leaf : (x : Item) (b : List ℕ) → bytes_of x ≡ Some b → node_of x ≡ leaf x
+bytes_is_leaf (unsigned m) b is = cc
+bytes_is_leaf (negative m) b is = cc
+bytes_is_leaf (byte_string extent chunks) b is = refl
+bytes_is_leaf (text_string extent chunks) b is = cc
+bytes_is_leaf (array extent es) b is = cc
+bytes_is_leaf (map extent ps) b is = cc
+bytes_is_leaf (tag m x) b is = cc
+bytes_is_leaf (simple m) b is = cc
+bytes_is_leaf (float digits) b is = cc
+
+module _ (o : Settings) (c : Cursor) (site : Site) where
+  settled_blob : (x : Item) → settled o.limits null_element (says scalars.Blob site.place.time x) ≡ option_map (λ b. scalar_value (bytes b)) (blob_of x)
+  settled_blob x = settled_answer o.limits null_element (option_map (λ b. scalar_value (bytes b)) (blob_of x))
+
+  is_blob : (x : Item) (b : List ℕ) → bytes_of x ≡ Some b → are_bytes b ≡ true → option_map (λ b. scalar_value (bytes b)) (blob_of x) ≡ Some (scalar_value (bytes b))
+  is_blob x b is small = rw (is, small) refl
+
+  pub blob_stands : (b : List ℕ) (e : ℕ) → IsBlobAt b c.input c.at (depth c) e → Stands o c site scalars.Blob (bytes b) e
+  blob_stands b e h =
+      says_stands o c site scalars.Blob h.found (scalar_value (bytes b)) e (bytes_is_leaf h.found b h.is, h.stands, h.follows)
+      (settled_blob h.found ∙ is_blob h.found b h.is h.bytes)
+
+  pub no_blob_stands : ((b : List ℕ) (e : ℕ) → IsBlobAt b c.input c.at (depth c) e → ⊥) → StandsNot (cbor_relations o) c site.table (scalar_place scalars.Blob site.place.time)
+  no_blob_stands none = nothing_stands o c site scalars.Blob (λ x v e lies means.
+      let b = blob_is x v (sym (settled_blob x) ∙ means) in
+      none b.0 e (record { found = x; stands = lies.1; is = b.1; bytes = b.2; follows = lies.2 }))
+
 -- ---- the answer of a read
 
 -- a refusal of the input, by its error
@@ -295,3 +326,15 @@ module _ (o : Settings) (old : Cursor) (site : Site) (sound : old.failed ≡ fal
       takes_result (cbor_relations o) (cbor_relations (without_limits o)) (Unit {0}) site scalars.String (λ x. text (text_of x)) (lawful o) old sound due within new found result
       (if_ok found _ _ (λ r. text_stands o old site (text_of r.0) r.1) here) kind
       (λ invalid. let nothing = by_error found _ none invalid in (no_text_stands o old site nothing, no_text_stands (without_limits o) old site nothing))
+
+  -- of bytes
+  pub reads_blob : (new : Cursor) (found : Result (List ℕ × ℕ) SerdeError) (result : Result (List ℕ) SerdeError)
+      → IfOk found (λ r. IsBlobAt r.0 old.input old.at (depth old) r.1) → IfErr found (λ e. (e ≡ InvalidInput) ⊎ (e ≡ NoMemory))
+      → IfErr found (λ e. e ≡ InvalidInput → (b : List ℕ) (e : ℕ) → IsBlobAt b old.input old.at (depth old) e → ⊥)
+      → IfOk result (λ x. IfOk found (λ r. (r.0 ≡ x) × (new ≡ passed_to old r.1))) → (IsOk result → IsOk found)
+      → OnErr result (new ≡ failed_at old) → IfErr result (λ e. found ≡ Err e)
+      → ReadsScalar (cbor_relations o) (cbor_relations (without_limits o)) (Unit {0}) old new site scalars.Blob bytes result
+  reads_blob new found result here kind none =
+      takes_result (cbor_relations o) (cbor_relations (without_limits o)) (Unit {0}) site scalars.Blob bytes (lawful o) old sound due within new found result
+      (if_ok found _ _ (λ r. blob_stands o old site r.0 r.1) here) kind
+      (λ invalid. let nothing = by_error found _ none invalid in (no_blob_stands o old site nothing, no_blob_stands (without_limits o) old site nothing))

@@ -1,6 +1,6 @@
 -- The relations of reading at small inputs: what opens, what comes next and what a container ends with, and
 -- what doesn't.
-use Rattle.std.proofs.Common.{◌≡◌, inl, inr, ℕ, ◌-◌, List, [], ◌∷◌, map, take, true, false, Option, Some, None, refl, sym, ap, ◌∙◌, subst, arith, pos, codes, ◌≤◌}
+use Rattle.std.proofs.Common.{◌≡◌, inl, inr, ℕ, ◌-◌, List, [], ◌∷◌, ◌++◌, map, take, true, false, Option, Some, None, refl, sym, ap, ◌∙◌, subst, arith, pos, codes, ◌≤◌}
 use Rattle.std.specs.Prelude.{slice_range}
 use Rattle.smithy_schema.specs.declared.shape_type.Scalar.TheVariants as scalars
 use Rattle.smithy_schema.specs.Table.{Table, shape_place}
@@ -16,12 +16,13 @@ use Rattle.smithy_cbor_codec.specs.Meaning.{rules_of}
 use Rattle.smithy_cbor_codec.specs.Standing.{cbor_frames, cbor_relations, mark_with, end_mark, HasEntry, IsOver}
 use Rattle.smithy_cbor_codec.specs.Laws.{lawful}
 use Rattle.smithy_cbor_codec.specs.Private.ScalarAtPlace.{IsNullAt}
+use Rattle.smithy_cbor_codec.specs.Private.ContainerBytes.{opens_within}
 use Rattle.smithy_cbor_codec.specs.Private.ItemPlaces.{one_item}
 use Rattle.smithy_cbor_codec.specs.Private.PassedEntries.{HasKey}
 use Rattle.smithy_cbor_codec.proofs.OnLiterals.{smithy_cbor_codec_on_literals}
-use Rattle.smithy_cbor_codec.proofs.Examples.{whole_value, one_long, lists_of_strings, long_place, strict, empty_structure}
-use Rattle.smithy_cbor_codec.proofs.EncodedItems.{in_one_byte, a_key, z_key, no_text, small}
-use Rattle.smithy_cbor_codec.proofs.ReaderLemmas.{opens_list, steps_in_list, closes_list, list_is_stuck, opens_members, opens_empty, steps_to_member, closes_members, closes_empty, members_are_stuck}
+use Rattle.smithy_cbor_codec.proofs.Examples.{whole_value, one_long, map_of_longs, two_variants, lists_of_strings, long_place, strict, empty_structure}
+use Rattle.smithy_cbor_codec.proofs.EncodedItems.{in_one_byte, a_key, z_key, type_key, no_text, small}
+use Rattle.smithy_cbor_codec.proofs.ReaderLemmas.{opens_list, steps_in_list, closes_list, list_is_stuck, opens_no_map, steps_in_map, closes_map, map_is_stuck, opens_members, opens_no_members, opens_empty, steps_to_member, closes_members, closes_empty, members_are_stuck}
 use Rattle.smithy_cbor_codec.proofs.SkippedValues.{skips_are}
 use Rattle.smithy_wire.specs.Node.{leaf, missing}
 use Rattle.smithy_wire.specs.Readers.{stands_scalar}
@@ -189,6 +190,42 @@ pub begins_null : map (λ bytes. strictly.begins_null bytes 0) ((0xf6 ∷ []) �
     ≡ true ∷ false ∷ false ∷ false ∷ false ∷ false ∷ []
 begins_null = refl
 
+-- {"__type": 1, "a": 1}: the step passes the mark, whatever it holds, and goes on to the member
+pub mark_is_passed_over : strictly.steps (0xa2 ∷ 0x66 ∷ (codes "__type" ++ 0x01 ∷ 0x61 ∷ 0x61 ∷ 0x01 ∷ [])) one_long (shape_place 0) 1 1 (mark_with (Some 2)) (Some (codes "a")) 11 (mark_with (Some 0))
+unfolding smithy_cbor_codec_on_literals
+mark_is_passed_over =
+    steps_to_member strict (0xa2 ∷ 0x66 ∷ (codes "__type" ++ 0x01 ∷ 0x61 ∷ 0x61 ∷ 0x01 ∷ [])) one_long (shape_place 0) tt 1 1 (mark_with (Some 2)) (codes "a") 11 (mark_with (Some 0)) (
+      1,
+      9,
+      mark_with (Some 1),
+      (codes "__type", 8, 9, mark_with (Some 1), (inl (1, refl, refl), (type_key.item, (omega arith, type_key.is), refl)), inr (refl, record { found = unsigned 1; stands = (omega arith, (small 1 (omega arith)).is); follows = tt }), (refl, refl)),
+      (inl (0, refl, refl), (a_key.item, (omega arith, a_key.is), refl)),
+      (refl, no_null (0xa2 ∷ 0x66 ∷ (codes "__type" ++ 0x01 ∷ 0x61 ∷ 0x61 ∷ 0x01 ∷ [])) 11 1 refl),
+    )
+
+-- ---- entries of a map
+
+-- {"a": null}: an entry with its key, whose null is due, and the end behind it
+pub in_definite_map : strictly.steps (0xa1 ∷ 0x61 ∷ 0x61 ∷ 0xf6 ∷ []) (map_of_longs true) (shape_place 0) 1 1 (mark_with (Some 1)) (Some (codes "a")) 3 (mark_with (Some 0))
+    × strictly.closes (0xa1 ∷ 0x61 ∷ 0x61 ∷ 0xf6 ∷ []) (map_of_longs true) (shape_place 0) 1 4 (mark_with (Some 0)) 4
+unfolding smithy_cbor_codec_on_literals
+in_definite_map = (
+  steps_in_map strict (0xa1 ∷ 0x61 ∷ 0x61 ∷ 0xf6 ∷ []) (map_of_longs true) (shape_place 0) tt 1 1 (mark_with (Some 1)) (codes "a") 3 (mark_with (Some 0)) (inl (0, refl, refl), (a_key.item, (omega arith, a_key.is), refl)),
+  closes_map strict (0xa1 ∷ 0x61 ∷ 0x61 ∷ 0xf6 ∷ []) (map_of_longs true) (shape_place 0) tt 1 4 (mark_with (Some 0)) 4 (inl (refl, refl)) refl,
+)
+
+-- a key that isn't UTF-8 is none: a1 61 ff 01
+pub entry_without_key : StepsNot (0xa1 ∷ 0x61 ∷ 0xff ∷ 0x01 ∷ []) (map_of_longs true) 0 1 1 (mark_with (Some 1)) × ClosesNot (0xa1 ∷ 0x61 ∷ 0xff ∷ 0x01 ∷ []) (map_of_longs true) 0 1 1 (mark_with (Some 1))
+unfolding smithy_cbor_codec_on_literals
+entry_without_key =
+    map_is_stuck strict (0xa1 ∷ 0x61 ∷ 0xff ∷ 0x01 ∷ []) (map_of_longs true) (shape_place 0) tt 1 1 (mark_with (Some 1))
+    (λ text c n has. no_key (0xa1 ∷ 0x61 ∷ 0xff ∷ 0x01 ∷ []) 1 3 (mark_with (Some 1)) no_text.item (omega arith, no_text.is) refl text c n has)
+    (λ e over follows. going e over)
+  where
+    going : (e : ℕ) → IsOver (0xa1 ∷ 0x61 ∷ 0xff ∷ 0x01 ∷ []) 1 (mark_with (Some 1)) e → ⊥
+    going e (inl (due, at)) = cc
+    going e (inr (due, break, at)) = cc
+
 -- ---- what follows
 
 -- a number and {_ } with a byte behind them stand inside a container, and not outside of all
@@ -222,6 +259,14 @@ empty_input = (
   closes_empty strict [] one_long (shape_place 0) tt 1 0 end_mark refl refl refl (omega arith),
   (missing, ((refl, refl), refl), refl),
 )
+
+-- no union and no map opens there
+pub no_union_in_it : (b : ℕ) (m : Mark) → strictly.opens [] two_variants (shape_place 0) 0 0 b m → ⊥
+no_union_in_it =
+    opens_no_members strict [] two_variants (shape_place 0) tt 0 0 (λ due b h. let some = opens_within 5 due [] 0 b h in omega (arith, some)) (λ is empty. absurd is)
+
+pub no_map_in_it : (b : ℕ) (m : Mark) → strictly.opens [] (map_of_longs true) (shape_place 0) 0 0 b m → ⊥
+no_map_in_it = opens_no_map strict [] (map_of_longs true) (shape_place 0) tt 0 0 (λ due b h. let some = opens_within 5 due [] 0 b h in omega (arith, some))
 
 -- it steps to nothing, and holds neither a null nor what can be skipped
 pub nothing_in_it : StepsNot [] one_long 0 1 0 end_mark

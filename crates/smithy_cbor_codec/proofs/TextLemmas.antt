@@ -1,4 +1,4 @@
--- What stands at a place as a text, and where none does.
+-- What stands at a place as a text or as bytes, and where none does.
 use Rattle.std.proofs.Common.{◌≡◌, ℕ, suc, zero, List, [], ◌∷◌, ◌++◌, drop, sym, ◌∙◌, ap, subst, arith, refl, Some, None, Bool, true, false}
 use Rattle.std.specs.Prelude.{slice_range, All, IsUtf8, if◌then◌else◌}
 use Rattle.std.specs.List.{concat, list_all}
@@ -10,13 +10,14 @@ use Rattle.cbor_item.specs.declared.error.ItemError.TheVariants as item
 use Rattle.cbor_item.specs.Head.{HeadRead, BeginsWithHead}
 use Rattle.cbor_item.specs.Item.{Item, Extent, unsigned, negative, byte_string, text_string, array, map, tag, simple, float}
 use Rattle.cbor_item.specs.WellFormed.{IsItemAt, IsEncodingOf}
+use Rattle.cbor_item.specs.Fault.{IsStringFault}
 use Rattle.cbor_item.specs.Strings.{IsTextFault}
 use Rattle.cbor_item.proofs.FirstByte.{item_major, major_of, not_empty}
 use Rattle.cbor_item.proofs.HeadLemmas.{head_is_only}
 use Rattle.smithy_schema.specs.Lemmas.Options.{same_some}
 use Rattle.smithy_schema.specs.declared.error.SerdeError.TheVariants.{InvalidInput}
-use Rattle.smithy_cbor.specs.Scalar.{joined_text, text_of}
-use Rattle.smithy_cbor_codec.specs.Private.ScalarAtPlace.{HasTextAt, refusal_of}
+use Rattle.smithy_cbor.specs.Scalar.{joined_text, text_of, bytes_of}
+use Rattle.smithy_cbor_codec.specs.Private.ScalarAtPlace.{HasTextAt, IsBlobAt, refusal_of}
 use Rattle.smithy_cbor_codec.specs.Private.ItemPlaces.{item_front, one_item}
 
 -- ---- texts
@@ -87,3 +88,35 @@ pub one_text_at : (input : List ℕ) (at : ℕ) (text other : List ℕ) (e f : �
 one_text_at input at text other e f h k =
     let same = one_item h.found k.found input at e f h.stands k.stands in
     (same_some text other (sym h.is ∙ ap text_of same.0 ∙ k.is), same.1)
+
+-- ---- bytes
+
+-- an item that has bytes is a byte string
+bytes_is : (i : Item) (blob : List ℕ) → bytes_of i ≡ Some blob → (extent : Extent) × (chunks : List (List ℕ)) × (i ≡ byte_string extent chunks)
+bytes_is (byte_string extent chunks) blob h = (extent, chunks, refl)
+bytes_is (unsigned n) blob h = absurd (cc)
+bytes_is (negative n) blob h = absurd (cc)
+bytes_is (text_string extent chunks) blob h = absurd (cc)
+bytes_is (array extent is) blob h = absurd (cc)
+bytes_is (map extent ps) blob h = absurd (cc)
+bytes_is (tag n i) blob h = absurd (cc)
+bytes_is (simple n) blob h = absurd (cc)
+bytes_is (float digits) blob h = absurd (cc)
+
+bytes_major : (extent : Extent) (chunks : List (List ℕ)) → major_of (byte_string extent chunks) ≡ 2
+unfolding major_of
+bytes_major extent chunks = refl
+
+-- where no bytes can be read, for another cause than want of memory, none stand
+pub no_blob_at : (input : List ℕ) (at : ℕ) (error : ItemError) → refusal_of error ≡ InvalidInput → IsStringFault 2 input at error → (blob : List ℕ) (depth e : ℕ) → IsBlobAt blob input at depth e → ⊥
+no_blob_at input at item.Truncated told fault blob depth e h = fault.1.0 h.found e h.stands
+no_blob_at input at item.NotWellFormed told fault blob depth e h = fault.1.0 h.found e h.stands
+no_blob_at input at item.WrongType told fault blob depth e h =
+    let b = bytes_is h.found blob h.is in
+    fault.2 (major_at h.found input at e fault.0 h.stands fault.1 ∙ ap major_of b.2 ∙ bytes_major b.0 b.1)
+no_blob_at input at item.InvalidUtf8 told fault blob depth e h = absurd fault.1
+no_blob_at input at item.NoMemory told fault blob depth e h = absurd (cc)
+
+-- bytes that stand there have one end
+pub same_blob_end : (input : List ℕ) (at : ℕ) (blob : List ℕ) (x : Item) (depth e end : ℕ) → IsBlobAt blob input at depth e → IsItemAt x input at end → e ≡ end
+same_blob_end input at blob x depth e end h there = (one_item h.found x input at e end h.stands there).1

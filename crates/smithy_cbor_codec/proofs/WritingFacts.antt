@@ -5,11 +5,11 @@ use Rattle.smithy_schema.specs.declared.error.SerdeError.{SerdeError}
 use Rattle.smithy_schema.specs.declared.error.SerdeError.TheVariants.{Unwritable}
 use Rattle.smithy_schema.specs.Site.{Site, shape_site, site_of_member, nameless_site}
 use Rattle.smithy_schema.specs.Value as values
-use Rattle.smithy_schema.specs.Value.{whole, Value, null_element, no_values, no_member_values, member_value}
-use Rattle.smithy_schema.specs.Writing.{begin_structure, end_structure, begin_list, end_list, null_of, scalar_of, Open, open_structure, open_list, write}
+use Rattle.smithy_schema.specs.Value.{whole, text, Value, no_map_entries, map_entry, null_element, no_values, no_member_values, member_value}
+use Rattle.smithy_schema.specs.Writing.{begin_structure, end_structure, begin_list, end_list, begin_map, end_map, null_of, scalar_of, Open, open_structure, open_list, open_map_at_key, open_map_at_value, write}
 use Rattle.smithy_cbor_codec.specs.Openers.{cbor_openers}
 use Rattle.smithy_cbor_codec.specs.Writing.{CborState, fresh_state, cbor_after}
-use Rattle.smithy_cbor_codec.proofs.Examples.{whole_value, text_value, one_long, long_renamed, one_string, three_members, lists_of_lists, lists_of_strings, nodes, long_place, plain_member, in_lists, empty_structure, first_alone, written}
+use Rattle.smithy_cbor_codec.proofs.Examples.{whole_value, text_value, one_long, long_renamed, one_string, three_members, map_of_longs, two_variants, lists_of_lists, lists_of_strings, nodes, long_place, plain_member, in_lists, empty_structure, first_alone, written}
 
 -- ---- canonical encodings
 
@@ -38,6 +38,12 @@ pub lists : (written (lists_of_strings true) 0 (values.list no_values) ≡ 0x9f 
     × (written (lists_of_strings true) 0 x_and_null ≡ 0x9f ∷ 0x61 ∷ 0x78 ∷ 0xf6 ∷ 0xff ∷ [])
     × (written (lists_of_strings true) 1 (first_alone x_and_null) ≡ 0xbf ∷ 0x61 ∷ 0x69 ∷ 0x9f ∷ 0x61 ∷ 0x78 ∷ 0xf6 ∷ 0xff ∷ 0xff ∷ [])
 lists = (refl, refl, refl)
+
+-- {_ }, {_ "a": 1, "b": null} and {_ "b": 1}: the entries of a map in the order of its keys, and a union as its one member
+pub maps_and_unions : (written (map_of_longs true) 0 (values.map no_map_entries) ≡ 0xbf ∷ 0xff ∷ [])
+    × (written (map_of_longs true) 0 (values.map (map_entry (codes "a") (whole_value (pos 1)) (map_entry (codes "b") null_element no_map_entries))) ≡ 0xbf ∷ 0x61 ∷ 0x61 ∷ 0x01 ∷ 0x61 ∷ 0x62 ∷ 0xf6 ∷ 0xff ∷ [])
+    × (written two_variants 0 (values.union 1 (whole_value (pos 1))) ≡ 0xbf ∷ 0x61 ∷ 0x62 ∷ 0x01 ∷ 0xff ∷ [])
+maps_and_unions = (refl, refl, refl)
 
 -- {_ "a": 0, "s": "é", "i": [_ "x", "y"]}
 pub all_members : written three_members 1 (values.structure (member_value 0 (whole_value (pos 0)) (member_value 1 (text_value (0xc3 ∷ 0xa9 ∷ [])) (member_value 2 (values.list (values.value (text_value (codes "x")) (values.value (text_value (codes "y")) no_values))) no_member_values))))
@@ -98,6 +104,17 @@ pub ends : (cbor_after end_structure (inside (open_structure ∷ open_list ∷ [
     × (cbor_after end_structure (inside []) ≡ Err Unwritable)
     × (cbor_after end_list (inside []) ≡ Err Unwritable)
 ends = (refl, refl, refl, refl, refl, refl)
+
+-- in a map a key and its value come in turn, and no name of a member; an inner container is a value, too
+pub in_a_map : (cbor_after (scalar_of a_site (text (codes "k"))) (inside (open_map_at_key ∷ [])) ≡ made (0x61 ∷ 0x6b ∷ []) (open_map_at_value ∷ []))
+    × (cbor_after (scalar_of a_site (text (codes "v"))) (inside (open_map_at_value ∷ [])) ≡ made (0x61 ∷ 0x76 ∷ []) (open_map_at_key ∷ []))
+    × (cbor_after (begin_map a_site (Some 2)) (inside (open_map_at_value ∷ [])) ≡ made (0xbf ∷ []) (open_map_at_key ∷ open_map_at_key ∷ []))
+    × (cbor_after end_map (inside (open_map_at_key ∷ [])) ≡ made (0xff ∷ []) [])
+    × (cbor_after end_map (inside (open_map_at_value ∷ [])) ≡ Err Unwritable)
+    × (cbor_after (scalar_of a_site (whole (pos 1))) (inside (open_map_at_key ∷ [])) ≡ Err Unwritable)
+    × (cbor_after (begin_structure a_site) (inside (open_map_at_key ∷ [])) ≡ Err Unwritable)
+    × (cbor_after end_structure (inside (open_map_at_key ∷ [])) ≡ Err Unwritable)
+in_a_map = (refl, refl, refl, refl, refl, refl, refl, refl)
 
 -- ---- openers
 

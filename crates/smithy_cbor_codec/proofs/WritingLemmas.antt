@@ -3,9 +3,10 @@ use Rattle.std.proofs.Common.{◌≡◌, ℕ, List, [], ◌∷◌, ◌++◌, Som
 use Rattle.std.proofs.lemmas.List.{append-nil}
 use Rattle.smithy_schema.specs.declared.error.SerdeError.{SerdeError}
 use Rattle.smithy_schema.specs.Site.{Site, element_of, key_of, value_of, member_of}
-use Rattle.smithy_schema.specs.Value.{ScalarValue, boolean, whole, text, Value, scalar_value, list, map, structure, union, null_element, Values, no_values, value, MapEntries, no_map_entries, map_entry, MemberValues, no_member_values, member_value}
-use Rattle.smithy_schema.specs.Writing.{Event, run, write, and_run, events, element_events, entry_events, member_events, count_of, entry_count, begin_list, begin_map, begin_structure, null_of, scalar_of, end_list, end_map, end_structure, after_value, after_text, Open, open_structure, open_list, open_map_at_key, open_map_at_value}
+use Rattle.smithy_schema.specs.Value.{ScalarValue, text, Value, scalar_value, list, map, structure, union, null_element, Values, no_values, value, MapEntries, no_map_entries, map_entry, MemberValues, no_member_values, member_value}
+use Rattle.smithy_schema.specs.Writing.{Event, run, write, and_run, events, element_events, entry_events, member_events, count_of, entry_count, begin_list, begin_map, begin_structure, null_of, scalar_of, end_list, end_map, end_structure, after_value, Open, open_structure, open_list, open_map_at_key, open_map_at_value}
 use Rattle.smithy_schema.proofs.WritingLemmas.{child_written}
+use Rattle.smithy_schema.proofs.OpenLemmas.{scalar_taken}
 use Rattle.cbor_item.specs.Head.{shortest_head}
 use Rattle.cbor_item.specs.WellFormed.{break}
 use Rattle.smithy_cbor.specs.Scalar.{null_value}
@@ -45,20 +46,10 @@ group_entry o key x more = simp append_assoc
 group_member : (o key x more : List ℕ) → (o ++ (key ++ x)) ++ more ≡ o ++ (key ++ (x ++ more))
 group_member o key x more = simp append_assoc
 
--- a text is taken where a value is due
-text_taken : (frames after : List Open) → after_value frames ≡ Ok after → after_text frames ≡ Ok after
-text_taken [] after due = due
-text_taken (open_structure ∷ frames) after due = due
-text_taken (open_list ∷ frames) after due = due
-text_taken (open_map_at_key ∷ frames) after due = cc
-text_taken (open_map_at_value ∷ frames) after due = due
-
 -- a scalar is written where a value is due
 scalar_adds : (site : Site) (x : ScalarValue) (o : List ℕ) (frames after : List Open) → after_value frames ≡ Ok after
     → cbor_after (scalar_of site x) (state o frames) ≡ Ok (state (o ++ (lead (state o frames) site.view ++ scalar_bytes x)) after)
-scalar_adds site (boolean b) o frames after due = rw due refl
-scalar_adds site (whole n) o frames after due = rw due refl
-scalar_adds site (text s) o frames after due = rw (text_taken frames after due) refl
+scalar_adds site x o frames after due = rw (scalar_taken x frames after due) refl
 
 mutual
   -- where a value is due, it adds what stands before it, and its canonical encoding

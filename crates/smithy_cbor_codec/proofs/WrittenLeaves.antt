@@ -10,19 +10,19 @@ use Rattle.std.proofs.lemmas.Str.{is_utf8-from_IsUtf8}
 use Rattle.smithy_schema.specs.declared.shape_type.Scalar.{Scalar}
 use Rattle.smithy_schema.specs.declared.shape_type.Scalar.TheVariants as scalars
 use Rattle.smithy_schema.specs.declared.shape_type.TimestampFormat.{TimestampFormat}
-use Rattle.smithy_schema.specs.Value.{ScalarValue, boolean, whole, text, scalar_value}
+use Rattle.smithy_schema.specs.Value.{ScalarValue, boolean, whole, text, bytes, scalar_value}
 use Rattle.smithy_schema.specs.Fits.{is_of}
 use Rattle.smithy_texts.specs.Ranges.{fits_signed}
 use Rattle.smithy_schema.proofs.ScalarLemmas.{whole_fits}
 use Rattle.cbor_item.specs.Head.{width_limit, IsHead, narrowest, shortest_head}
-use Rattle.cbor_item.specs.Item.{definite, Item, unsigned, negative, text_string}
+use Rattle.cbor_item.specs.Item.{definite, Item, unsigned, negative, byte_string, text_string}
 use Rattle.smithy_cbor_codec.specs.Meaning.{rules_of}
 use Rattle.smithy_cbor.specs.Scalar.{boolean_item, integer_of, joined_text}
 use Rattle.smithy_cbor_codec.specs.Scalar.{says}
 use Rattle.smithy_cbor_codec.specs.Settings.{Settings}
 use Rattle.smithy_wire.specs.Rules.{means}
 use Rattle.smithy_cbor_codec.specs.Canonical.{scalar_bytes}
-use Rattle.smithy_cbor.specs.Written.{text_bytes}
+use Rattle.smithy_cbor.specs.Written.{text_bytes, byte_string_bytes}
 use Rattle.smithy_cbor_codec.proofs.WrittenPlaces.{item_bytes, IsEncoded, cbor_writes}
 use Rattle.smithy_wire.specs.Written.{Leaves, ReadsLeaves}
 use Rattle.smithy_wire.specs.Writes.{WritesLeaves}
@@ -34,10 +34,14 @@ integer_item (negsuc n) = negative n
 abbrev pub text_item : List ℕ → Item
 text_item s = text_string definite (s ∷ [])
 
+abbrev pub blob_item : List ℕ → Item
+blob_item b = byte_string definite (b ∷ [])
+
 abbrev pub leaf_of : Scalar → Option TimestampFormat → ScalarValue → Item
 leaf_of s time (boolean b) = boolean_item b
 leaf_of s time (whole n) = integer_item n
 leaf_of s time (text t) = text_item t
+leaf_of s time (bytes b) = blob_item b
 
 abbrev pub cbor_leaves : Leaves Item
 cbor_leaves = record { leaf_of = leaf_of; key_of = text_item }
@@ -59,6 +63,7 @@ scalar_means scalars.Short time (whole n) is = rw (number_back n, is) refl
 scalar_means scalars.Integer time (whole n) is = rw (number_back n, is) refl
 scalar_means scalars.Long time (whole n) is = rw (number_back n, is) refl
 scalar_means scalars.String time (text t) is = rw (chunk_text t is) refl
+scalar_means scalars.Blob time (bytes b) is = rw (append-nil b, is) refl
 scalar_means _ time _ is = cc
 
 pub cbor_reads_leaves : (c : Settings) → ReadsLeaves cbor_leaves (rules_of c)
@@ -88,10 +93,16 @@ text_is s short =
     let sum = length-append (shortest_head 3 (length s)) s in
     (refl, (text_bytes s, [], (shortest_head 3 (length s), shortest_is_head 3 (length s) (omega (arith, short, sum)), refl), refl, sym (append-nil (text_bytes s))))
 
+blob_is : (b : List ℕ) → IsEncoded (blob_item b)
+blob_is b short =
+    let sum = length-append (shortest_head 2 (length b)) b in
+    (refl, (byte_string_bytes b, [], (shortest_head 2 (length b), shortest_is_head 2 (length b) (omega (arith, short, sum)), refl), refl, sym (append-nil (byte_string_bytes b))))
+
 scalar_is : (s : Scalar) (time : Option TimestampFormat) (x : ScalarValue) → is_of s x ≡ true → cbor_writes.IsScalar (leaf_of s time x)
 scalar_is s time (boolean b) is = boolean_is b
 scalar_is s time (whole n) is = integer_is n (whole_fits s n is)
 scalar_is s time (text t) is = (refl, text_is t)
+scalar_is s time (bytes b) is = (refl, blob_is b)
 
 pub cbor_writes_leaves : WritesLeaves cbor_writes cbor_leaves
 cbor_writes_leaves = record { scalar_is = scalar_is; key_is = λ key utf8. text_is key }
@@ -103,3 +114,4 @@ scalar_is_written s time (boolean false) = refl
 scalar_is_written s time (whole (pos n)) = refl
 scalar_is_written s time (whole (negsuc n)) = refl
 scalar_is_written s time (text t) = refl
+scalar_is_written s time (bytes b) = refl

@@ -3,13 +3,13 @@
 use Rattle.std.specs.Prelude.{◌≡◌, ◌≤◌, ◌<◌, ◌-◌, ◌^◌, ℕ, zero, suc, length, drop, List, [], ◌∷◌, false, Option, Some, None, refl}
 use Rattle.std.proofs.Common.{sym, ap, arith, subst, inl, inr, length-drop}
 use Rattle.cbor_item.specs.Head.{shortest_head, MayBeIndefinite, BeginsWithHead}
-use Rattle.cbor_item.specs.Item.{Item, definite, unsigned, negative, text_string, simple}
+use Rattle.cbor_item.specs.Item.{Item, definite, unsigned, negative, byte_string, text_string, simple}
 use Rattle.cbor_item.specs.WellFormed.{IsEncodingOf, IsItemAt, break}
 use Rattle.cbor_item.proofs.HeadLemmas.{opening_begins as head_begins}
 use Rattle.smithy_cbor_codec.specs.Meaning.{node_of}
 use Rattle.smithy_cbor.specs.Reading.{OpensAt}
 use Rattle.smithy_cbor_codec.specs.Standing.{begins_with, null_byte, mark_with, HasEntry, Follows as Follows_at, major_in, Entry, cbor_frames}
-use Rattle.smithy_cbor.specs.Written.{text_bytes, opening_bytes}
+use Rattle.smithy_cbor.specs.Written.{text_bytes, byte_string_bytes, opening_bytes}
 use Rattle.smithy_cbor_codec.specs.Private.ItemPlaces.{item_at, item_ahead}
 use Rattle.smithy_cbor_codec.specs.Private.FirstBytes.{no_break_at}
 use Rattle.smithy_wire.specs.Node.{Form, as_array, as_object, leaf}
@@ -20,6 +20,7 @@ use Rattle.smithy_wire.specs.Writes.{Writes, IsKeyOf, Stand, Follows, WritesFram
 abbrev pub item_bytes : Item → List ℕ
 item_bytes (unsigned n) = shortest_head 0 n
 item_bytes (negative n) = shortest_head 1 n
+item_bytes (byte_string definite (b ∷ [])) = byte_string_bytes b
 item_bytes (text_string definite (s ∷ [])) = text_bytes s
 item_bytes (simple n) = shortest_head 7 n
 item_bytes _ = []

@@ -1,12 +1,13 @@
 -- What one item says as each kind.
-use Rattle.std.specs.Prelude.{◌==◌, ℕ, true, false, ℤ, Option, Some, None, option_map, option_and_then, if◌then◌else◌}
+use Rattle.std.specs.Prelude.{◌==◌, ℕ, List, true, false, ℤ, Option, Some, None, option_map, option_and_then, if◌then◌else◌}
+use Rattle.smithy_texts.specs.Base64Text.{are_bytes}
 use Rattle.smithy_texts.specs.Ranges.{fits_signed}
 use Rattle.smithy_schema.specs.declared.shape_type.Scalar.{Scalar}
 use Rattle.smithy_schema.specs.declared.shape_type.Scalar.TheVariants as scalars
 use Rattle.smithy_schema.specs.declared.shape_type.TimestampFormat.{TimestampFormat}
-use Rattle.smithy_schema.specs.Value.{boolean, whole, text, Value, scalar_value}
+use Rattle.smithy_schema.specs.Value.{boolean, whole, text, bytes, Value, scalar_value}
 use Rattle.cbor_item.specs.Item.{Item, simple}
-use Rattle.smithy_cbor.specs.Scalar.{false_value, true_value, integer_of, text_of}
+use Rattle.smithy_cbor.specs.Scalar.{false_value, true_value, integer_of, text_of, bytes_of}
 use Rattle.smithy_wire.specs.Rules.{Answer, answer_of}
 
 -- false or true
@@ -21,6 +22,10 @@ abbrev pub whole_of : ℕ → Item → Option Value
 whole_of bits x =
     option_and_then (λ (z : ℤ). if fits_signed bits z then Some (scalar_value (whole z)) else None) (integer_of x)
 
+-- the bytes of a byte string, each below 256 as in any input
+abbrev pub blob_of : Item → Option (List ℕ)
+blob_of x = option_and_then (λ b. if are_bytes b then Some b else None) (bytes_of x)
+
 -- what an item is as one kind
 abbrev pub says : Scalar → Option TimestampFormat → Item → Answer Value
 says scalars.Boolean time x = answer_of (boolean_of x)
@@ -29,3 +34,4 @@ says scalars.Short time x = answer_of (whole_of 16 x)
 says scalars.Integer time x = answer_of (whole_of 32 x)
 says scalars.Long time x = answer_of (whole_of 64 x)
 says scalars.String time x = answer_of (option_map (λ s. scalar_value (text s)) (text_of x))
+says scalars.Blob time x = answer_of (option_map (λ b. scalar_value (bytes b)) (blob_of x))

@@ -7,8 +7,9 @@ ghost use Rattle.smithy_wire.specs.Walking.{within_of, frame_of};
 
 use crate::members::{Next, next_in_map, next_present, step_to};
 use crate::places::{EntryOrEnd, array_at, entry_or_end, is_null_at, map_at, may_leave, null_end};
-use crate::values::{boolean_at, long_at, skipped_end, string_at};
+use crate::values::{blob_at, boolean_at, long_at, skipped_end, string_at};
 use smithy_schema::{Schema, SerdeError, ShapeDeserializer, ShapeType, Step};
+use smithy_types::Blob;
 use smithy_wire::{Frame, Mark, Walk, Within, byte_found, integer_found, short_found};
 use std::alloc::Global;
 
@@ -405,6 +406,17 @@ impl ShapeDeserializer for CborDeserializer<'_> {
     fn read_string(&mut self, _schema: &Schema<'_>) -> Result<String, SerdeError> {
         self.walk.ready()?;
         let found = string_at(
+            self.alloc,
+            self.walk.input,
+            self.walk.position,
+            self.walk.depth(),
+        );
+        self.walk.take_result(found)
+    }
+
+    fn read_blob(&mut self, _schema: &Schema<'_>) -> Result<Blob, SerdeError> {
+        self.walk.ready()?;
+        let found = blob_at(
             self.alloc,
             self.walk.input,
             self.walk.position,

@@ -37,7 +37,7 @@ pub(crate) fn step_to<'s>(schema: &Schema<'s>, name: &str) -> Step<'s>
     }
 }
 
-// Whether the key marks the variant of a union: a `__type` that names no member.
+// Whether the key is a mark, which says of what shape a value is: a `__type` that names no member.
 fn is_mark(schema: &Schema<'_>, key: &str) -> bool
     ensures { result ≡ is_mark (kind_at (site_of schema.now)) key.now }
 {

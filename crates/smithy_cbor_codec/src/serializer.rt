@@ -234,6 +234,13 @@ impl ShapeSerializer for CborSerializer {
         self.failed = false;
         Ok(())
     }
+
+    fn write_bytes(&mut self, schema: &Schema<'_>, value: &[u8]) -> Result<(), SerdeError> {
+        self.begin_value(schema)?;
+        self.encoder.blob_bytes(value)?;
+        self.failed = false;
+        Ok(())
+    }
 }
 
 impl FinishSerializer for CborSerializer {

@@ -1,18 +1,20 @@
-//! What stands at a place of an input: integers, texts, and what is skipped.
+//! What stands at a place of an input: integers, texts, bytes, and what is skipped.
 
-ghost use Rattle.std.specs.Prelude.{◌≡◌, ◌⊎◌, ◌≤◌, ℕ, ℤ, Bool, List, length, IfSome, IfNone, IfOk, IfErr, string_bytes};
-ghost use Rattle.std.specs.Cow.{cow_str_bytes};
+ghost use Rattle.std.specs.Prelude.{◌≡◌, ◌⊎◌, ◌≤◌, ℕ, ℤ, Bool, true, List, length, IfSome, IfNone, IfOk, IfErr, string_bytes};
+ghost use Rattle.std.specs.Cow.{cow_str_bytes, cow_slice_items};
+ghost use Rattle.smithy_texts.specs.Base64Text.{are_bytes};
 ghost use Rattle.smithy_schema.specs.declared.error.SerdeError.TheVariants.{InvalidInput, NoMemory};
 ghost use Rattle.smithy_cbor.specs.Scalar.{boolean_item};
 ghost use Rattle.smithy_cbor_codec.specs.Standing.{Follows};
-ghost use Rattle.smithy_cbor_codec.specs.Private.ScalarAtPlace.{IsAt, IsWholeAt, HasTextAt, refusal_of};
+ghost use Rattle.smithy_cbor_codec.specs.Private.ScalarAtPlace.{IsAt, IsWholeAt, HasTextAt, IsBlobAt, refusal_of};
 ghost use Rattle.smithy_cbor_codec.specs.Private.Skipping.{SkipsTo};
 
 use crate::places::{decoder_at, may_end};
-use cbor_item::{ItemError, skip_item, text_chunks};
+use cbor_item::{ItemError, byte_chunks, skip_item, text_chunks};
 use smithy_schema::SerdeError;
-use std::alloc::Global;
-use std::borrow::CowStr;
+use smithy_types::Blob;
+use std::alloc::{AllocError, Global};
+use std::borrow::{CowSlice, CowStr};
 
 // The refusal of what can't be read for the item's fault.
 fn refusal_of(error: ItemError) -> SerdeError
@@ -93,6 +95,60 @@ pub(crate) fn string_at(
         return Err(SerdeError::InvalidInput);
     }
     Ok((text.into_owned(alloc)?, end))
+}
+
+// Tells the proof that what a slice of bytes holds is below 256.
+#[inline(always)]
+fn holds_bytes(bytes: &[u8])
+    ensures { are_bytes bytes.now ≡ true }
+{}
+
+fn blob_of(bytes: Vec<u8>) -> Blob
+    ensures same { result ≡ bytes.items }
+    ensures bytes { are_bytes result ≡ true }
+{
+    holds_bytes(bytes.as_slice());
+    Blob::new(bytes)
+}
+
+// The bytes in memory of their own.
+fn owned_blob(alloc: Global, bytes: CowSlice<'_, u8>) -> Result<Blob, AllocError>
+    ensures same { IfOk result (λ blob. blob ≡ cow_slice_items bytes.entry) }
+    ensures bytes { IfOk result (λ blob. are_bytes blob ≡ true) }
+{
+    match bytes {
+        CowSlice::Borrowed(borrowed) => match Vec::from_slice(alloc, borrowed) {
+            Ok(owned) => Ok(blob_of(owned)),
+            Err(error) => Err(error),
+        },
+        CowSlice::Owned(owned) => Ok(blob_of(owned)),
+    }
+}
+
+// The bytes that stand there, with their end, where a value may end there.
+pub(crate) fn blob_at(
+    alloc: Global,
+    input: &[u8],
+    at: usize,
+    depth: usize,
+) -> Result<(Blob, usize), SerdeError>
+    requires { at ≤ length input.now }
+    ensures ok { IfOk result (λ r. IsBlobAt r.0 input.now at depth r.1) }
+    ensures none { IfErr result (λ error. error ≡ InvalidInput → (blob : List ℕ) (e : ℕ) → IsBlobAt blob input.now at depth e → ⊥) }
+    ensures kind { IfErr result (λ e. (e ≡ InvalidInput) ⊎ (e ≡ NoMemory)) }
+{
+    match byte_chunks(alloc, input, at) {
+        Ok((bytes, end)) => {
+            if !may_end(input, end, depth) {
+                return Err(SerdeError::InvalidInput);
+            }
+            match owned_blob(alloc, bytes) {
+                Ok(blob) => Ok((blob, end)),
+                Err(_) => Err(SerdeError::NoMemory),
+            }
+        }
+        Err(error) => Err(refusal_of(error)),
+    }
 }
 
 // The end of the item that stands there, where a value may end behind it.

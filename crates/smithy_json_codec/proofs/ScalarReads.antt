@@ -8,19 +8,19 @@ use Rattle.smithy_schema.specs.declared.error.SerdeError.{SerdeError}
 use Rattle.smithy_schema.specs.declared.error.SerdeError.TheVariants.{InvalidInput, NoMemory}
 use Rattle.smithy_schema.specs.Table.{scalar_place}
 use Rattle.smithy_schema.specs.Site.{Site}
-use Rattle.smithy_schema.specs.Value.{ScalarValue, boolean, whole, text, Value, scalar_value, null_element}
+use Rattle.smithy_schema.specs.Value.{ScalarValue, boolean, whole, text, bytes, Value, scalar_value, null_element}
 use Rattle.smithy_schema.specs.Reading.{Cursor, depth, StandsNot, IsInvalid, ReadsScalar, passed_to, failed_at}
 use Rattle.smithy_schema.specs.Lemmas.Options.{same_some, made}
 use Rattle.smithy_schema.proofs.ScalarLemmas.{fits_more}
 use Rattle.smithy_json.specs.Tree.{boolean as boolean_tree, number}
 use Rattle.smithy_json.specs.Number.{whole_number}
 use Rattle.smithy_json_codec.specs.Settings.{Settings, without_limits}
-use Rattle.smithy_json_codec.specs.Scalar.{JsonScalar, a_boolean, a_number, a_string, tree_of, boolean_of, whole_of, text_of, says}
+use Rattle.smithy_json_codec.specs.Scalar.{JsonScalar, a_boolean, a_number, a_string, tree_of, boolean_of, whole_of, text_of, bytes_of, says}
 use Rattle.smithy_json_codec.specs.Laws.{lawful}
 use Rattle.smithy_json_codec.specs.Meaning.{rules_of}
 use Rattle.smithy_json_codec.specs.Standing.{TreeLies, json_frames, json_relations}
 use Rattle.smithy_json_codec.specs.Private.Fits.{whole_is}
-use Rattle.smithy_json_codec.specs.Private.ScalarAtPlace.{WholeLies, TextLies}
+use Rattle.smithy_json_codec.specs.Private.ScalarAtPlace.{WholeLies, TextLies, BlobLies}
 use Rattle.smithy_wire.specs.Rules.{answer_of, settled}
 use Rattle.smithy_json_codec.specs.Private.ValuePlaces.{one_tree}
 use Rattle.smithy_wire.specs.Narrowing.{IsNarrowed, IsWider}
@@ -105,6 +105,24 @@ module _ (o : Settings) (c : Cursor) (site : Site) where
       by (a_number raw) v e lies means = cc
       by (a_string raw) v e lies means = let s = made (λ s. scalar_value (text s)) (text_of (a_string raw)) v means in none s.0 e (record { raw = raw; lies = lies; is = s.1 })
 
+-- ---- bytes
+
+module _ (o : Settings) (c : Cursor) (site : Site) where
+  settled_blob : (x : JsonScalar) → settled o.limits null_element (says scalars.Blob site.place.time x) ≡ option_map (λ b. scalar_value (bytes b)) (bytes_of x)
+  settled_blob x = settled_answer o.limits null_element (option_map (λ b. scalar_value (bytes b)) (bytes_of x))
+
+  pub blob_stands : (b : List ℕ) (e : ℕ) → BlobLies c.input c.at b e → Stands o c site scalars.Blob (bytes b) e
+  blob_stands b e h =
+      says_stands o c site scalars.Blob (a_string h.raw) (scalar_value (bytes b)) e h.lies (settled_blob (a_string h.raw) ∙ ap (option_map (λ b. scalar_value (bytes b))) h.is)
+
+  pub no_blob_stands : ((b : List ℕ) (e : ℕ) → BlobLies c.input c.at b e → ⊥) → StandsNot (json_relations o) c site.table (scalar_place scalars.Blob site.place.time)
+  no_blob_stands none = nothing_stands o c site scalars.Blob (λ x v e lies means. by x v e lies (sym (settled_blob x) ∙ means))
+    where
+      by : (x : JsonScalar) (v : Value) (e : ℕ) → TreeLies 1 (tree_of x) c.input c.at e → option_map (λ b. scalar_value (bytes b)) (bytes_of x) ≡ Some v → ⊥
+      by (a_boolean b) v e lies means = cc
+      by (a_number raw) v e lies means = cc
+      by (a_string raw) v e lies means = let b = made (λ b. scalar_value (bytes b)) (bytes_of (a_string raw)) v means in none b.0 e (record { raw = raw; lies = lies; is = b.1 })
+
 -- ---- the answer of a read
 
 module _ (o : Settings) (old : Cursor) (site : Site) (sound : old.failed ≡ false) (due : old.due ≡ true) (within : old.at ≤ length old.input) where
@@ -157,3 +175,15 @@ module _ (o : Settings) (old : Cursor) (site : Site) (sound : old.failed ≡ fal
       takes_result (json_relations o) (json_relations (without_limits o)) (Unit {0}) site scalars.String (λ x. text (text_of x)) (lawful o) old sound due within new found result
       (if_ok found _ _ (λ r. text_stands o old site (text_of r.0) r.1) here) kind
       (λ invalid. (no_text_stands o old site (none invalid), no_text_stands (without_limits o) old site (none invalid)))
+
+  -- of bytes
+  pub reads_blob : (new : Cursor) (found : Result (List ℕ × ℕ) SerdeError) (result : Result (List ℕ) SerdeError)
+      → IfOk found (λ r. BlobLies old.input old.at r.0 r.1) → IfErr found (λ e. (e ≡ InvalidInput) ⊎ (e ≡ NoMemory))
+      → (IsInvalid found → (b : List ℕ) (e : ℕ) → BlobLies old.input old.at b e → ⊥)
+      → IfOk result (λ x. IfOk found (λ r. (r.0 ≡ x) × (new ≡ passed_to old r.1))) → (IsOk result → IsOk found)
+      → OnErr result (new ≡ failed_at old) → IfErr result (λ e. found ≡ Err e)
+      → ReadsScalar (json_relations o) (json_relations (without_limits o)) (Unit {0}) old new site scalars.Blob bytes result
+  reads_blob new found result here kind none =
+      takes_result (json_relations o) (json_relations (without_limits o)) (Unit {0}) site scalars.Blob bytes (lawful o) old sound due within new found result
+      (if_ok found _ _ (λ r. blob_stands o old site r.0 r.1) here) kind
+      (λ invalid. (no_blob_stands o old site (none invalid), no_blob_stands (without_limits o) old site (none invalid)))

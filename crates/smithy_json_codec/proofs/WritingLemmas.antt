@@ -1,14 +1,15 @@
 -- A value adds its canonical text, whatever stands before it.
-use Rattle.std.proofs.Common.{◌≡◌, ℕ, List, [], ◌∷◌, ◌++◌, Bool, true, false, Result, Ok, refl, sym, ap, ◌∙◌, append_assoc, codes}
+use Rattle.std.proofs.Common.{◌≡◌, ℕ, List, [], ◌∷◌, ◌++◌, Bool, true, false, Option, Some, None, Result, Ok, refl, if◌then◌else◌, sym, ap, ◌∙◌, append_assoc, codes}
 use Rattle.std.proofs.lemmas.List.{append-nil}
+use Rattle.std.specs.Option.{option_map_or}
 use Rattle.smithy_schema.specs.declared.error.SerdeError.{SerdeError}
 use Rattle.smithy_schema.specs.Site.{Site, element_of, key_of, value_of, member_of}
-use Rattle.smithy_schema.specs.Value.{ScalarValue, boolean, whole, text, Value, scalar_value, list, map, structure, union, null_element, Values, no_values, value, MapEntries, no_map_entries, map_entry, MemberValues, no_member_values, member_value}
-use Rattle.smithy_schema.specs.Writing.{Event, run, write, and_run, events, element_events, entry_events, member_events, scalar_of, end_list, end_map, end_structure, after_value, after_begin, Open, open_structure, open_list, open_map_at_key, open_map_at_value}
+use Rattle.smithy_schema.specs.Value.{ScalarValue, text, text_in, Value, scalar_value, list, map, structure, union, null_element, Values, no_values, value, MapEntries, no_map_entries, map_entry, MemberValues, no_member_values, member_value}
+use Rattle.smithy_schema.specs.Writing.{Event, run, write, and_run, events, element_events, entry_events, member_events, scalar_of, end_list, end_map, end_structure, after_value, after_text, after_begin, Open, open_structure, open_list, open_map_at_key, open_map_at_value}
 use Rattle.smithy_schema.proofs.WritingLemmas.{child_written}
 use Rattle.smithy_json.specs.Ascii.{value_separator, begin_array, end_array, begin_object, end_object}
 use Rattle.smithy_json_codec.specs.Canonical.{scalar_text, name_text, key_text, canonical_json, more_elements, more_entries, more_members}
-use Rattle.smithy_json_codec.specs.Writing.{JsonState, lead, wrote, opened, where_taken, json_after}
+use Rattle.smithy_json_codec.specs.Writing.{JsonState, lead, is_key_due, key_wrote, wrote, opened, where_taken, json_after}
 
 abbrev pub state : Bool → List ℕ → Bool → List Open → JsonState
 state use_json_name out needs_comma frames = record {
@@ -21,7 +22,7 @@ state use_json_name out needs_comma frames = record {
 -- the calls of a first part, and then of a second
 step : (xs ys : List Event) (s s' : JsonState) (r : Result JsonState SerdeError)
     → run json_after xs s ≡ Ok s' → run json_after ys s' ≡ r → run json_after (xs ++ ys) s ≡ r
-step xs ys s s' r first then = child_written json_after xs ys s s' first ∙ then
+step xs ys s s' r first rest = child_written json_after xs ys s s' first ∙ rest
 
 -- the same bytes, in another grouping
 regroup : (b : Bool) (o p : List ℕ) (frames : List Open) (r : Result JsonState SerdeError)
@@ -68,13 +69,23 @@ text_adds b out next after same = ap (where_taken (state b out true)) same
 scalar_adds : (site : Site) (x : ScalarValue) (b : Bool) (o : List ℕ) (comma : Bool) (frames after : List Open) → after_value frames ≡ Ok after
     → json_after (scalar_of site x) (state b o comma frames)
     ≡ Ok (state b (o ++ (lead (state b o comma frames) site.view ++ scalar_text x)) true after)
-scalar_adds site (boolean x) b o comma frames after due = rw due refl
-scalar_adds site (whole n) b o comma frames after due = rw due refl
-scalar_adds site (text s) b o comma [] after due = text_adds b _ [] after due
-scalar_adds site (text s) b o comma (open_structure ∷ frames) after due = text_adds b _ (open_structure ∷ frames) after due
-scalar_adds site (text s) b o comma (open_list ∷ frames) after due = text_adds b _ (open_list ∷ frames) after due
-scalar_adds site (text s) b o comma (open_map_at_key ∷ frames) after due = cc
-scalar_adds site (text s) b o comma (open_map_at_value ∷ frames) after due = text_adds b _ (open_map_at_key ∷ frames) after due
+scalar_adds site x b o comma frames after due = from (text_in x) frames due
+  where
+    -- the state that it makes, by the text that it is
+    makes : Option (List ℕ) → List Open → List Open → JsonState
+    makes key frames next =
+        let s = state b o comma frames in
+        option_map_or (λ key. if is_key_due frames then key_wrote s key next else wrote s site.view (scalar_text x) next) key (wrote s site.view (scalar_text x) next)
+
+    from : (key : Option (List ℕ)) (frames : List Open) → after_value frames ≡ Ok after
+        → where_taken (makes key frames) (option_map_or (λ key. after_text frames) key (after_value frames))
+        ≡ Ok (state b (o ++ (lead (state b o comma frames) site.view ++ scalar_text x)) true after)
+    from None frames due = ap (where_taken (wrote (state b o comma frames) site.view (scalar_text x))) due
+    from (Some key) [] due = text_adds b _ [] after due
+    from (Some key) (open_structure ∷ frames) due = text_adds b _ (open_structure ∷ frames) after due
+    from (Some key) (open_list ∷ frames) due = text_adds b _ (open_list ∷ frames) after due
+    from (Some key) (open_map_at_key ∷ frames) due = cc
+    from (Some key) (open_map_at_value ∷ frames) due = text_adds b _ (open_map_at_key ∷ frames) after due
 
 -- a container begins where a value is due
 begins : (kind : Open) (make : List Open → JsonState) (frames after : List Open) → after_value frames ≡ Ok after

@@ -1,13 +1,22 @@
 -- What JSON writes for scalars and names: it means them, can be written, and is their canonical text.
-use Rattle.std.specs.Prelude.{◌≡◌, true, false, Option, refl}
+use Rattle.std.specs.Prelude.{◌≡◌, ℕ, List, [], ◌∷◌, Bool, true, false, Option, Some, refl, IsUtf8}
+use Rattle.std.specs.List.{list_all}
+use Rattle.std.proofs.Common.{subst, sym, ap, ◌∙◌}
+use Rattle.std.proofs.lemmas.Bool.{and_parts}
 use Rattle.std.specs.Fmt.{signed_decimal}
 use Rattle.smithy_schema.specs.declared.shape_type.Scalar.{Scalar}
 use Rattle.smithy_schema.specs.declared.shape_type.Scalar.TheVariants as scalars
 use Rattle.smithy_schema.specs.declared.shape_type.TimestampFormat.{TimestampFormat}
-use Rattle.smithy_schema.specs.Value.{ScalarValue, boolean, whole, text, scalar_value}
+use Rattle.smithy_schema.specs.Value.{ScalarValue, boolean, whole, text, bytes, scalar_value}
 use Rattle.smithy_schema.specs.Fits.{is_of}
-use Rattle.smithy_schema.proofs.ScalarLemmas.{whole_fits, text_is_utf8}
-use Rattle.smithy_json.specs.Escape.{escaped}
+use Rattle.smithy_schema.proofs.ScalarLemmas.{whole_fits, text_is_utf8, blob_is_bytes}
+use Rattle.smithy_texts.specs.Base64Text.{are_bytes, blob_text}
+use Rattle.smithy_texts.proofs.Base64Laws.{blob_back, blob_text_is_utf8, symbols_hold}
+use Rattle.smithy_texts.proofs.OnLiterals.{smithy_texts_on_literals}
+use Rattle.smithy_json.specs.Escape.{escaped, quoted}
+use Rattle.smithy_json.specs.Unescape.{unescaped}
+use Rattle.smithy_json.specs.Private.Chars.{is_plain}
+use Rattle.smithy_json.proofs.EscapeLemmas.{plain_byte}
 use Rattle.smithy_json.proofs.DecimalLemmas.{decimal_is_number, decimal_writes}
 use Rattle.smithy_json.proofs.QuotedLemmas.{quoted_is_string, unescaped_of_escaped}
 use Rattle.smithy_json_codec.specs.Meaning.{rules_of}
@@ -16,7 +25,7 @@ use Rattle.smithy_json_codec.specs.Settings.{Settings}
 use Rattle.smithy_wire.specs.Rules.{means}
 use Rattle.smithy_json_codec.specs.Canonical.{scalar_text}
 use Rattle.smithy_json_codec.proofs.WrittenPlaces.{leaf_bytes, json_writes}
-use Rattle.smithy_json.specs.Grammar.{IsValue}
+use Rattle.smithy_json.specs.Grammar.{IsValue, IsString}
 use Rattle.smithy_wire.specs.Written.{Leaves, ReadsLeaves}
 use Rattle.smithy_wire.specs.Writes.{WritesLeaves}
 
@@ -24,12 +33,31 @@ abbrev pub leaf_of : Scalar → Option TimestampFormat → ScalarValue → JsonS
 leaf_of s time (boolean b) = a_boolean b
 leaf_of s time (whole n) = a_number (signed_decimal n)
 leaf_of s time (text t) = a_string (escaped t)
+leaf_of s time (bytes b) = a_string (blob_text b)
 
 abbrev pub json_leaves : Leaves JsonScalar
 json_leaves = record {
   leaf_of = leaf_of;
   key_of = λ key. a_string (escaped key);
 }
+
+-- bytes that aren't escaped stay as they are
+plain_stays : (t : List ℕ) → list_all is_plain t ≡ true → escaped t ≡ t
+plain_stays [] h = refl
+plain_stays (b ∷ t) h =
+    let both = and_parts (is_plain b) (list_all is_plain t) h in
+    rw (plain_byte b both.0, plain_stays t both.1) refl
+
+-- base64 has no byte that is escaped
+blob_stays : (b : List ℕ) → are_bytes b ≡ true → escaped (blob_text b) ≡ blob_text b
+unfolding smithy_texts_on_literals
+blob_stays b h = plain_stays (blob_text b) (symbols_hold is_plain refl refl b h)
+
+blob_unescaped : (b : List ℕ) → are_bytes b ≡ true → unescaped (blob_text b) ≡ Some (blob_text b)
+blob_unescaped b h = ap unescaped (sym (blob_stays b h)) ∙ unescaped_of_escaped (blob_text b)
+
+blob_is_string : (b : List ℕ) → are_bytes b ≡ true → IsString (blob_text b) (leaf_bytes (a_string (blob_text b)))
+blob_is_string b h = subst (λ raw. IsString raw (leaf_bytes (a_string raw))) (blob_stays b h) (quoted_is_string (blob_text b) (blob_text_is_utf8 b))
 
 scalar_means : (s : Scalar) (time : Option TimestampFormat) (x : ScalarValue) → is_of s x ≡ true → says s time (leaf_of s time x) ≡ means (scalar_value x)
 scalar_means scalars.Boolean time (boolean b) is = refl
@@ -38,6 +66,7 @@ scalar_means scalars.Short time (whole n) is = rw (decimal_writes n (whole_fits 
 scalar_means scalars.Integer time (whole n) is = rw (decimal_writes n (whole_fits scalars.Integer n is), is) refl
 scalar_means scalars.Long time (whole n) is = rw (decimal_writes n is, is) refl
 scalar_means scalars.String time (text t) is = rw (unescaped_of_escaped t) refl
+scalar_means scalars.Blob time (bytes b) is = rw (blob_unescaped b is, blob_back b is) refl
 scalar_means _ time _ is = cc
 
 pub json_reads_leaves : (c : Settings) → ReadsLeaves json_leaves (rules_of c)
@@ -52,6 +81,7 @@ scalar_is s time (boolean true) is = refl
 scalar_is s time (boolean false) is = refl
 scalar_is s time (whole n) is = (refl, decimal_is_number n (whole_fits s n is))
 scalar_is s time (text t) is = quoted_is_string t (text_is_utf8 s t is)
+scalar_is s time (bytes b) is = blob_is_string b (blob_is_bytes s b is)
 
 pub json_writes_leaves : WritesLeaves json_writes json_leaves
 json_writes_leaves = record {
@@ -65,3 +95,4 @@ scalar_bytes s time (boolean true) = refl
 scalar_bytes s time (boolean false) = refl
 scalar_bytes s time (whole n) = refl
 scalar_bytes s time (text t) = refl
+scalar_bytes s time (bytes b) = refl

@@ -3,9 +3,10 @@ use Rattle.std.specs.Prelude.{ℕ, List, ℤ, Bool, Option, Some, None, option_m
 use Rattle.smithy_schema.specs.declared.shape_type.Scalar.{Scalar}
 use Rattle.smithy_schema.specs.declared.shape_type.Scalar.TheVariants as scalars
 use Rattle.smithy_schema.specs.declared.shape_type.TimestampFormat.{TimestampFormat}
-use Rattle.smithy_schema.specs.Value.{boolean as boolean_value, whole, text, Value, scalar_value}
+use Rattle.smithy_schema.specs.Value.{boolean as boolean_value, whole, text, bytes, Value, scalar_value}
 use Rattle.smithy_json.specs.Tree.{Json, boolean, number, string}
 use Rattle.smithy_json.specs.Number.{whole_number}
+use Rattle.smithy_texts.specs.Base64Text.{blob_of}
 use Rattle.smithy_texts.specs.Ranges.{fits_signed}
 use Rattle.smithy_json.specs.Unescape.{unescaped}
 use Rattle.smithy_wire.specs.Rules.{Answer, answer_of}
@@ -37,6 +38,10 @@ abbrev pub text_of : JsonScalar → Option (List ℕ)
 text_of (a_string raw) = unescaped raw
 text_of _ = None
 
+-- the bytes whose padded base64 is the text of a string
+abbrev pub bytes_of : JsonScalar → Option (List ℕ)
+bytes_of x = option_and_then blob_of (text_of x)
+
 -- what a scalar is as one kind
 abbrev pub says : Scalar → Option TimestampFormat → JsonScalar → Answer Value
 says scalars.Boolean time x = answer_of (boolean_of x)
@@ -45,3 +50,4 @@ says scalars.Short time x = answer_of (whole_of 16 x)
 says scalars.Integer time x = answer_of (whole_of 32 x)
 says scalars.Long time x = answer_of (whole_of 64 x)
 says scalars.String time x = answer_of (option_map (λ s. scalar_value (text s)) (text_of x))
+says scalars.Blob time x = answer_of (option_map (λ b. scalar_value (bytes b)) (bytes_of x))

@@ -1,8 +1,9 @@
 -- What each call of a serializer makes of its state.
 use Rattle.std.specs.Prelude.{ℕ, List, [], ◌∷◌, ◌++◌, Bool, true, false, if◌then◌else◌, Result, Ok, Err, codes}
+use Rattle.std.specs.Option.{option_map_or}
 use Rattle.smithy_schema.specs.declared.error.SerdeError.{SerdeError}
 use Rattle.smithy_schema.specs.Site.{View}
-use Rattle.smithy_schema.specs.Value.{ScalarValue, text}
+use Rattle.smithy_schema.specs.Value.{ScalarValue, text_in}
 use Rattle.smithy_schema.specs.Writing.{Event, Writer, begin_structure, end_structure, begin_list, end_list, begin_map, end_map, null_of, scalar_of, Open, open_structure, open_map_at_key, open_after}
 use Rattle.smithy_json.specs.Ascii.{value_separator, begin_array, end_array, begin_object, end_object}
 use Rattle.smithy_json_codec.specs.Canonical.{name_text, key_text, scalar_text}
@@ -55,9 +56,9 @@ key_wrote s key frames = record s {
 
 -- a scalar: a text is a key where one is due
 abbrev pub scalar_wrote : JsonState → View → ScalarValue → List Open → JsonState
-scalar_wrote s view (text key) frames =
-    if is_key_due s.frames then key_wrote s key frames else wrote s view (scalar_text (text key)) frames
-scalar_wrote s view x frames = wrote s view (scalar_text x) frames
+scalar_wrote s view x frames =
+    option_map_or (λ key. if is_key_due s.frames then key_wrote s key frames else wrote s view (scalar_text x) frames)
+    (text_in x) (wrote s view (scalar_text x) frames)
 
 -- the opening bracket of a container
 abbrev pub opened : JsonState → View → ℕ → List Open → JsonState

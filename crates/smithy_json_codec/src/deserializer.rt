@@ -2,9 +2,10 @@
 use crate::members::{Names, Next, next_present};
 use crate::places::{InList, InObject, byte_end, next_in_list, next_in_object, null_end};
 use crate::skip::skipped_end;
-use crate::texts::{owned_text, text_at};
+use crate::texts::{blob_at, owned_text, text_at};
 use crate::values::{begins_null, boolean_at, long_at};
 use smithy_schema::{Schema, SerdeError, ShapeDeserializer, ShapeType, Step, TimestampFormat};
+use smithy_types::Blob;
 use smithy_wire::{Frame, Mark, Walk, Within, byte_found, integer_found, short_found};
 use std::alloc::Global;
 
@@ -415,6 +416,12 @@ impl ShapeDeserializer for JsonDeserializer<'_> {
     fn read_string(&mut self, _schema: &Schema<'_>) -> Result<String, SerdeError> {
         self.walk.ready()?;
         let found = text_at(self.alloc, self.walk.input, self.walk.position);
+        self.walk.take_result(found)
+    }
+
+    fn read_blob(&mut self, _schema: &Schema<'_>) -> Result<Blob, SerdeError> {
+        self.walk.ready()?;
+        let found = blob_at(self.alloc, self.walk.input, self.walk.position);
         self.walk.take_result(found)
     }
 }

@@ -4,8 +4,9 @@ ghost use Rattle.smithy_schema.specs.declared.error.SerdeError.TheVariants.{Fail
 ghost use Rattle.smithy_schema.specs.Reading.{IsFault};
 ghost use Rattle.smithy_schema.specs.Site.{site_of};
 ghost use Rattle.smithy_schema.specs.Writing.{after_value, after_text, after_begin};
+ghost use Rattle.smithy_schema.specs.Value.{bytes as bytes_value};
 ghost use Rattle.smithy_json.specs.Escape.{quoted};
-ghost use Rattle.smithy_json_codec.specs.Canonical.{name_text, key_text};
+ghost use Rattle.smithy_json_codec.specs.Canonical.{name_text, key_text, scalar_text};
 ghost use Rattle.smithy_json_codec.specs.Serializing.{open_of, opens_of, state_of, has_failed};
 ghost use Rattle.smithy_json_codec.specs.Writing.{JsonState, fresh_state, comma_text, key_in, is_key_due, lead, wrote, key_wrote, opened, where_taken, json_after};
 
@@ -13,6 +14,7 @@ use crate::codec::JsonCodec;
 use itoa::Buffer;
 use smithy_json::push_escaped;
 use smithy_schema::{FinishSerializer, Schema, SerdeError, ShapeSerializer};
+use smithy_types::base64;
 use std::alloc::{AllocError, Global};
 
 /// A container that is open, and of a map what is due in it.
@@ -52,6 +54,17 @@ fn push_name(out: &mut Vec<u8>, name: &str) -> Result<(), AllocError>
 {
     push_quoted(out, name)?;
     out.push(b':')?;
+    Ok(())
+}
+
+// The base64 of bytes as a string: nothing in it is escaped.
+fn push_base64(out: &mut Vec<u8>, bytes: &[u8]) -> Result<(), AllocError>
+    ensures { OnOk result (out.new.items ≡ out.old.items ++ scalar_text (bytes_value bytes.now)) }
+{
+    let text = base64::encode(*out.allocator(), bytes)?;
+    out.push(b'"')?;
+    out.extend_from_slice(text.as_bytes())?;
+    out.push(b'"')?;
     Ok(())
 }
 
@@ -337,6 +350,18 @@ impl ShapeSerializer for JsonSerializer<'_> {
             Some(Container::MapAtKey) => self.write_key(value),
             _ => self.write_quoted(schema, value),
         }
+    }
+
+    fn write_bytes(&mut self, schema: &Schema<'_>, value: &[u8]) -> Result<(), SerdeError> {
+        if self.failed {
+            return Err(SerdeError::Failed);
+        }
+        self.failed = true;
+        self.begin(schema)?;
+        push_base64(&mut self.out, value)?;
+        self.needs_comma = true;
+        self.failed = false;
+        Ok(())
     }
 }
 

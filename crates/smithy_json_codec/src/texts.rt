@@ -1,14 +1,17 @@
-//! The texts that strings stand for.
-ghost use Rattle.std.specs.Prelude.{◌≡◌, ◌⊎◌, ◌≤◌, ℕ, List, length, Some, None, IfOk, IfErr, string_bytes};
+//! The texts that strings stand for, and the bytes that texts encode.
+ghost use Rattle.std.specs.Prelude.{◌≡◌, ◌⊎◌, ◌≤◌, ℕ, List, length, Some, None, IfOk, IfErr, option_and_then, string_bytes};
 ghost use Rattle.std.specs.Cow.{cow_str_bytes};
 ghost use Rattle.smithy_schema.specs.Reading.{IsInvalid};
 ghost use Rattle.smithy_schema.specs.declared.error.SerdeError.TheVariants.{InvalidInput, NoMemory};
+ghost use Rattle.smithy_texts.specs.Base64Text.{blob_of as base64_of};
 ghost use Rattle.smithy_json.specs.Unescape.{unescaped, has_escape};
-ghost use Rattle.smithy_json_codec.specs.Private.ScalarAtPlace.{TextLies};
+ghost use Rattle.smithy_json_codec.specs.Private.ScalarAtPlace.{TextLies, BlobLies};
 
 use crate::values::string_at;
 use smithy_json::{EscapeError, EscapedStr};
 use smithy_schema::SerdeError;
+use smithy_types::Blob;
+use smithy_types::base64::{DecodeError, decode};
 use std::alloc::Global;
 use std::borrow::CowStr;
 
@@ -73,6 +76,48 @@ pub(crate) fn text_at(alloc: Global, input: &[u8], at: usize) -> Result<(String,
     };
     match owned_text(alloc, string.text, string.has_escape) {
         Ok(text) => Ok((text, string.closing + 1)),
+        Err(error) => Err(error),
+    }
+}
+
+// The bytes whose base64 is the text.
+fn decoded(alloc: Global, text: &str) -> Result<Blob, SerdeError>
+    ensures ok { IfOk result (λ blob. base64_of text.now ≡ Some blob) }
+    ensures none { IsInvalid result → base64_of text.now ≡ None }
+    ensures kind { IfErr result (λ e. (e ≡ InvalidInput) ⊎ (e ≡ NoMemory)) }
+{
+    match decode(alloc, text) {
+        Ok(bytes) => Ok(Blob::new(bytes)),
+        Err(DecodeError::Invalid) => Err(SerdeError::InvalidInput),
+        Err(DecodeError::NoMemory) => Err(SerdeError::NoMemory),
+    }
+}
+
+// The bytes whose base64 is the text of a string.
+fn blob_of(alloc: Global, raw: &str, is_escaped: bool) -> Result<Blob, SerdeError>
+    requires { is_escaped ≡ has_escape raw.now }
+    ensures ok { IfOk result (λ blob. option_and_then base64_of (unescaped raw.now) ≡ Some blob) }
+    ensures none { IsInvalid result → option_and_then base64_of (unescaped raw.now) ≡ None }
+    ensures kind { IfErr result (λ e. (e ≡ InvalidInput) ⊎ (e ≡ NoMemory)) }
+{
+    match text_of(alloc, raw, is_escaped) {
+        Ok(text) => decoded(alloc, text.as_str()),
+        Err(error) => Err(error),
+    }
+}
+
+// The bytes that the string encodes which comes first behind blanks, with its end, where a value may end behind it.
+pub(crate) fn blob_at(alloc: Global, input: &[u8], at: usize) -> Result<(Blob, usize), SerdeError>
+    requires { at ≤ length input.now }
+    ensures found { IfOk result (λ r. BlobLies input.now at r.0 r.1) }
+    ensures none { IsInvalid result → (blob : List ℕ) (e : ℕ) → BlobLies input.now at blob e → ⊥ }
+    ensures kind { IfErr result (λ e. (e ≡ InvalidInput) ⊎ (e ≡ NoMemory)) }
+{
+    let Some(string) = string_at(input, at) else {
+        return Err(SerdeError::InvalidInput);
+    };
+    match blob_of(alloc, string.text, string.has_escape) {
+        Ok(blob) => Ok((blob, string.closing + 1)),
         Err(error) => Err(error),
     }
 }

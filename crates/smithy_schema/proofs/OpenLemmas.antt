@@ -1,9 +1,10 @@
 -- A value that is written leaves the containers open as any value does, whatever it is made of.
-use Rattle.std.proofs.Common.{◌≡◌, List, [], ◌∷◌, ◌++◌, Result, Ok, Err, refl, ◌∙◌, ap}
+use Rattle.std.proofs.Common.{◌≡◌, ℕ, List, [], ◌∷◌, ◌++◌, Option, Some, None, Result, Ok, Err, refl, ◌∙◌, ap}
+use Rattle.std.specs.Option.{option_map_or}
 use Rattle.smithy_schema.specs.declared.error.SerdeError.{SerdeError}
 use Rattle.smithy_schema.specs.Site.{Site, element_of, key_of, value_of, member_of}
-use Rattle.smithy_schema.specs.Value.{ScalarValue, boolean, whole, text, Value, scalar_value, list, map, structure, union, null_element, Values, no_values, value, MapEntries, no_map_entries, map_entry, MemberValues, no_member_values, member_value}
-use Rattle.smithy_schema.specs.Writing.{Event, Open, open_structure, open_list, open_map_at_key, open_map_at_value, scalar_of, end_structure, end_list, end_map, after_value, after_begin, open_after, and_run, run, events, element_events, entry_events, member_events}
+use Rattle.smithy_schema.specs.Value.{ScalarValue, text_in, Value, scalar_value, list, map, structure, union, null_element, Values, no_values, value, MapEntries, no_map_entries, map_entry, MemberValues, no_member_values, member_value}
+use Rattle.smithy_schema.specs.Writing.{Event, Open, open_structure, open_list, open_map_at_key, open_map_at_value, scalar_of, end_structure, end_list, end_map, after_value, after_text, after_scalar, after_begin, open_after, and_run, run, events, element_events, entry_events, member_events}
 use Rattle.smithy_schema.proofs.WritingLemmas.{child_written}
 
 -- what a begin, its children and an end come to, where the children leave the container as it is
@@ -16,19 +17,26 @@ around o end children os stays ends = from (after_value os)
     from (Ok outer) = child_written open_after children (end ∷ []) (o ∷ outer) (o ∷ outer) (stays outer) ∙ ap (and_run (λ os. Ok os)) (ends outer)
     from (Err e) = refl
 
-scalar_leaves : (site : Site) (x : ScalarValue) (os next : List Open) → after_value os ≡ Ok next → open_after (scalar_of site x) os ≡ Ok next
-scalar_leaves site (boolean b) os next h = h
-scalar_leaves site (whole n) os next h = h
-scalar_leaves site (text s) [] next h = h
-scalar_leaves site (text s) (open_structure ∷ os) next h = h
-scalar_leaves site (text s) (open_list ∷ os) next h = h
-scalar_leaves site (text s) (open_map_at_key ∷ os) next h = cc
-scalar_leaves site (text s) (open_map_at_value ∷ os) next h = h
+-- a text is taken where a value is due
+pub text_taken : (os next : List Open) → after_value os ≡ Ok next → after_text os ≡ Ok next
+text_taken [] next h = h
+text_taken (open_structure ∷ os) next h = h
+text_taken (open_list ∷ os) next h = h
+text_taken (open_map_at_key ∷ os) next h = cc
+text_taken (open_map_at_value ∷ os) next h = h
+
+-- and so is any scalar
+pub scalar_taken : (x : ScalarValue) (os next : List Open) → after_value os ≡ Ok next → after_scalar x os ≡ Ok next
+scalar_taken x os next h = from (text_in x)
+  where
+    from : (key : Option (List ℕ)) → option_map_or (λ key. after_text os) key (after_value os) ≡ Ok next
+    from None = h
+    from (Some key) = text_taken os next h
 
 mutual
   -- where a value is due, the calls of one leave the containers as one value does
   pub value_leaves : (v : Value) (site : Site) (os next : List Open) → after_value os ≡ Ok next → run open_after (events site v) os ≡ Ok next
-  value_leaves (scalar_value x) site os next h = ap (and_run (λ os. Ok os)) (scalar_leaves site x os next h)
+  value_leaves (scalar_value x) site os next h = ap (and_run (λ os. Ok os)) (scalar_taken x os next h)
   value_leaves null_element site os next h = ap (and_run (λ os. Ok os)) h
   value_leaves (list vs) site os next h =
       around open_list end_list (element_events (element_of site) vs) os (λ outer. elements_leave vs (element_of site) outer) (λ outer. refl) ∙ h

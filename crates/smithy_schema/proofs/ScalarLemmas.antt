@@ -4,11 +4,12 @@ use Rattle.std.specs.Prelude.{◌&&◌, neg_ℤ, int_le, int_lt}
 use Rattle.std.proofs.lemmas.Bool.{and_parts}
 use Rattle.std.proofs.lemmas.Int.{ints}
 use Rattle.std.proofs.lemmas.Str.{IsUtf8-from_is_utf8}
+use Rattle.smithy_texts.specs.Base64Text.{are_bytes}
 use Rattle.smithy_texts.specs.Ranges.{fits_signed}
 use Rattle.smithy_schema.specs.declared.shape_type.Scalar.{Scalar}
 use Rattle.smithy_schema.specs.declared.shape_type.Scalar.TheVariants as scalars
 use Rattle.smithy_schema.specs.Table.{Kind, scalar}
-use Rattle.smithy_schema.specs.Value.{ScalarValue, whole, text}
+use Rattle.smithy_schema.specs.Value.{ScalarValue, whole, text, bytes}
 use Rattle.smithy_schema.specs.Fits.{is_of, is_scalar_of}
 
 -- where a scalar value stands, the kind is one of scalars
@@ -41,3 +42,8 @@ whole_fits _ n h = cc
 pub text_is_utf8 : (s : Scalar) (t : List ℕ) → is_of s (text t) ≡ true → IsUtf8 t
 text_is_utf8 scalars.String t h = IsUtf8-from_is_utf8 t h
 text_is_utf8 _ t h = cc
+
+-- the bytes of any kind are below 256
+pub blob_is_bytes : (s : Scalar) (b : List ℕ) → is_of s (bytes b) ≡ true → are_bytes b ≡ true
+blob_is_bytes scalars.Blob b h = h
+blob_is_bytes _ b h = cc

@@ -190,9 +190,9 @@ equals_in_a_text = refl
 -- ---- refused declarations
 
 -- a target that no table can have yet
-pub no_blob_yet : table_of (lines ("structure S" ∷ "member a blob" ∷ [])) ≡ refused Fault.not_built 1
+pub no_big_integer_yet : table_of (lines ("structure S" ∷ "member a bigInteger" ∷ [])) ≡ refused Fault.not_built 1
 unfolding smithy_schema_on_literals
-no_blob_yet = refl
+no_big_integer_yet = refl
 
 -- nor can a union's member or a map's values have one
 pub no_document_yet : table_of (lines ("union U" ∷ "member a document" ∷ [])) ≡ refused Fault.not_built 1
@@ -224,7 +224,7 @@ unfolding smithy_schema_on_literals
 double_target = refl
 
 -- what isn't built comes before a float
-pub unbuilt_before_float : table_of (lines ("list L float" ∷ "map M blob" ∷ [])) ≡ refused Fault.not_built 2
+pub unbuilt_before_float : table_of (lines ("list L float" ∷ "map M bigDecimal" ∷ [])) ≡ refused Fault.not_built 2
 unfolding smithy_schema_on_literals
 unbuilt_before_float = refl
 

@@ -116,6 +116,7 @@ scalar_type scalars.Short = types.Short
 scalar_type scalars.Integer = types.Integer
 scalar_type scalars.Long = types.Long
 scalar_type scalars.String = types.String
+scalar_type scalars.Blob = types.Blob
 
 -- the kind without what is in it; a place of no declaration has none
 abbrev pub type_of : Kind → Option ShapeType

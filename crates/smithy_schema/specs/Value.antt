@@ -1,5 +1,5 @@
 -- The value that a body stands for, whichever wire carries it.
-use Rattle.std.specs.Prelude.{Bool, ℕ, suc, max, ℤ, List, [], ◌∷◌}
+use Rattle.std.specs.Prelude.{Bool, ℕ, suc, max, ℤ, List, [], ◌∷◌, Option, Some, None}
 use Rattle.std.specs.Ordering.{nat_cmp, match_ordering}
 use Rattle.std.specs.Cmp.Lexicographic.{slice_cmp}
 
@@ -10,6 +10,12 @@ pub data ScalarValue : Type 0 where
   whole : ℤ → ScalarValue
   -- in UTF-8
   text : List ℕ → ScalarValue
+  bytes : List ℕ → ScalarValue
+
+-- the text that a scalar is, if it is one
+abbrev pub text_in : ScalarValue → Option (List ℕ)
+text_in (text s) = Some s
+text_in _ = None
 
 mutual
   -- a value, which names no wire

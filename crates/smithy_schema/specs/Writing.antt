@@ -1,9 +1,10 @@
 -- What is written, call by call, and what a value adds.
 use Rattle.std.specs.Prelude.{◌≡◌, ℕ, suc, List, [], ◌∷◌, ◌++◌, Option, Some, Result, Ok, Err}
+use Rattle.std.specs.Option.{option_map_or}
 use Rattle.smithy_schema.specs.declared.error.SerdeError.{SerdeError}
 use Rattle.smithy_schema.specs.declared.error.SerdeError.TheVariants.{Unwritable}
 use Rattle.smithy_schema.specs.Site.{Site, element_of, key_of, value_of, member_of}
-use Rattle.smithy_schema.specs.Value.{ScalarValue, text, Value, scalar_value, list, map, structure, union, null_element, Values, no_values, value, MapEntries, no_map_entries, map_entry, MemberValues, no_member_values, member_value}
+use Rattle.smithy_schema.specs.Value.{ScalarValue, text, text_in, Value, scalar_value, list, map, structure, union, null_element, Values, no_values, value, MapEntries, no_map_entries, map_entry, MemberValues, no_member_values, member_value}
 
 -- one call of a serializer, with what its schema tells
 pub data Event : Type 0 where
@@ -99,8 +100,7 @@ after_text os = after_value os
 
 -- the same of any scalar
 abbrev pub after_scalar : ScalarValue → List Open → Result (List Open) SerdeError
-after_scalar (text s) os = after_text os
-after_scalar _ os = after_value os
+after_scalar x os = option_map_or (λ key. after_text os) (text_in x) (after_value os)
 
 -- once a container has begun, which is a value where it stands
 abbrev pub after_begin : Open → List Open → Result (List Open) SerdeError

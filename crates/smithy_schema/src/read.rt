@@ -3,13 +3,14 @@ ghost use Rattle.std.specs.Prelude.{◌≡◌, ◌≤◌, ℕ, length, Option, S
 ghost use Rattle.smithy_schema.specs.declared.place.Place.{Place};
 ghost use Rattle.smithy_schema.specs.declared.shape_type.Scalar.TheVariants as scalars;
 ghost use Rattle.smithy_schema.specs.Table.{Table, kind_of, IsStructure, HasMembers, IsList, IsMap};
-ghost use Rattle.smithy_schema.specs.Value.{Value, boolean, whole, text};
+ghost use Rattle.smithy_schema.specs.Value.{Value, boolean, whole, text, bytes};
 ghost use Rattle.smithy_schema.specs.Site.{site_of, kind_at};
 ghost use Rattle.smithy_schema.specs.Reading.{ReadsScalar, Cursor, depth, Relations, Mark, IsLawful, StandsFit, CountsOpeners, IsBelow, Conducts, Passes, Enters, Steps, Leaves, MatchStep, CannotGoOn, OpensNot, SkipsNot, NullsNot, ReachesDepth, null_is_due, IsRefused, IsInvalid, IsNoAnswer, failed_at, passed_to, in_structure, in_list, in_map};
 ghost use Rattle.smithy_schema.specs.declared.error.SerdeError.TheVariants.{TooDeep, NoMemory};
 
 use crate::error::SerdeError;
 use crate::schema::Schema;
+use smithy_types::Blob;
 
 /// Where a structure or a union goes on: to a member that the table knows, to another entry, or to its end.
 #[derive(Clone, Copy)]
@@ -221,6 +222,11 @@ pub trait ShapeDeserializer {
     fn read_string(&mut self, schema: &Schema<'_>) -> Result<String, SerdeError>
         ensures same { settings self.new ≡ settings self.old }
         ensures read { ReadsScalar (wire (settings self.old)) (lifted (settings self.old)) (is_strict (settings self.old)) (state self.old) (state self.new) (site_of schema.now) scalars.String (λ s. text (string_bytes s)) result };
+
+    /// Reads bytes.
+    fn read_blob(&mut self, schema: &Schema<'_>) -> Result<Blob, SerdeError>
+        ensures same { settings self.new ≡ settings self.old }
+        ensures read { ReadsScalar (wire (settings self.old)) (lifted (settings self.old)) (is_strict (settings self.old)) (state self.old) (state self.new) (site_of schema.now) scalars.Blob bytes result };
 
     // Each wire obeys the laws of reading, with its limits and with them lifted.
     ghost lawful: { (c : Settings) → IsLawful (wire c) };

@@ -17,6 +17,8 @@ pub enum Scalar {
     Long,
     /// A text of Unicode scalar values.
     String,
+    /// Any bytes.
+    Blob,
 }
 
 impl Scalar {
@@ -31,6 +33,7 @@ impl Scalar {
             Scalar::Integer => ShapeType::Integer,
             Scalar::Long => ShapeType::Long,
             Scalar::String => ShapeType::String,
+            Scalar::Blob => ShapeType::Blob,
         }
     }
 }
@@ -44,6 +47,7 @@ pub enum ShapeType {
     Integer,
     Long,
     String,
+    Blob,
     List,
     Map,
     Structure,

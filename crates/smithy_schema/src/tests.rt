@@ -33,7 +33,7 @@ const REFUSED: [(&str, TableFault); 43] = [
         TableFault::BadLine(2),
     ),
     ("structure S\nmember a long json=", TableFault::BadLine(2)),
-    ("structure S\nmember a blob", TableFault::NotBuilt(1)),
+    ("structure S\nmember a bigInteger", TableFault::NotBuilt(1)),
     ("list L long flat", TableFault::BadLine(1)),
     ("list L long sparse sparse", TableFault::BadLine(1)),
     ("union U\nmember a document", TableFault::NotBuilt(1)),

@@ -3,12 +3,13 @@ ghost use Rattle.std.specs.Prelude.{◌++◌, ◌≡◌, ◌≢◌, ◌↔◌, �
 ghost use Rattle.smithy_schema.specs.declared.error.SerdeError.{SerdeError};
 ghost use Rattle.smithy_schema.specs.declared.error.SerdeError.TheVariants.{Failed, NoMemory, Unwritable};
 ghost use Rattle.smithy_schema.specs.Site.{site_of};
-ghost use Rattle.smithy_schema.specs.Value.{boolean, whole, text};
+ghost use Rattle.smithy_schema.specs.Value.{boolean, whole, text, bytes};
 ghost use Rattle.smithy_schema.specs.Reading.{IsFault};
 ghost use Rattle.smithy_schema.specs.Writing.{Event, Writer, Open, IsNested, begin_structure, end_structure, begin_list as list_begins, end_list as list_ends, begin_map as map_begins, end_map as map_ends, null_of, scalar_of};
 
 use crate::error::SerdeError;
 use crate::schema::Schema;
+use smithy_types::Blob;
 
 /// A writer of one output, which is told of a value call by call, each with the schema of its place.
 ///
@@ -126,6 +127,23 @@ pub trait ShapeSerializer {
         ensures broken { IsErr result ↔ (failed self.new ≡ true) }
         ensures ok { OnOk result (after (scalar_of (site_of schema.now) (text value.now)) (state self.old) ≡ Ok (state self.new)) }
         ensures refused { IfErr result (λ e. IsFault e → after (scalar_of (site_of schema.now) (text value.now)) (state self.old) ≡ Err e) };
+
+    /// Writes bytes, which need not stand in a blob.
+    fn write_bytes(&mut self, schema: &Schema<'_>, value: &[u8]) -> Result<(), SerdeError>
+        ensures failed { IsErrOf result Failed ↔ (failed self.old ≡ true) }
+        ensures broken { IsErr result ↔ (failed self.new ≡ true) }
+        ensures ok { OnOk result (after (scalar_of (site_of schema.now) (bytes value.now)) (state self.old) ≡ Ok (state self.new)) }
+        ensures refused { IfErr result (λ e. IsFault e → after (scalar_of (site_of schema.now) (bytes value.now)) (state self.old) ≡ Err e) };
+
+    /// Writes the bytes of a blob.
+    fn write_blob(&mut self, schema: &Schema<'_>, value: &Blob) -> Result<(), SerdeError>
+        ensures failed { IsErrOf result Failed ↔ (failed self.old ≡ true) }
+        ensures broken { IsErr result ↔ (failed self.new ≡ true) }
+        ensures ok { OnOk result (after (scalar_of (site_of schema.now) (bytes value.now)) (state self.old) ≡ Ok (state self.new)) }
+        ensures refused { IfErr result (λ e. IsFault e → after (scalar_of (site_of schema.now) (bytes value.now)) (state self.old) ≡ Err e) }
+    {
+        self.write_bytes(schema, value.as_ref())
+    }
 
     // No call takes back a byte.
     ghost grows: { (e : Event) (s t : State) → after e s ≡ Ok t → (more : List ℕ) × (out t ≡ out s ++ more) };

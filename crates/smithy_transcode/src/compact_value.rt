@@ -8,6 +8,7 @@ use crate::compact_entries::CompactEntries;
 use crate::entry_iter::EntryIter;
 use crate::tree::{Part, Tree};
 use smithy_schema::SerdeError;
+use smithy_types::Blob;
 use std::alloc::Global;
 use std::collections::BTreeMap;
 
@@ -20,6 +21,8 @@ pub enum CompactValue {
     Whole(i64),
     /// A text.
     Text(String),
+    /// Any bytes.
+    Bytes(Blob),
     /// The elements of a list, in their order.
     List(Vec<CompactValue>),
     /// The entries of a map, in the order of their keys.
@@ -57,6 +60,10 @@ impl Tree for CompactValue {
 
     fn text(content: String) -> CompactValue {
         CompactValue::Text(content)
+    }
+
+    fn bytes(blob: Blob) -> CompactValue {
+        CompactValue::Bytes(blob)
     }
 
     fn null() -> CompactValue {
@@ -118,6 +125,7 @@ impl Tree for CompactValue {
             CompactValue::Boolean(value) => Part::Boolean(*value),
             CompactValue::Whole(number) => Part::Whole(i128::from(*number)),
             CompactValue::Text(content) => Part::Text(content.as_str()),
+            CompactValue::Bytes(blob) => Part::Bytes(blob.as_ref()),
             CompactValue::List(elements) => Part::List(elements.as_slice()),
             CompactValue::Map(entries) => Part::Map(EntryIter::Slice(entries.as_slice())),
             CompactValue::TreeMap(entries) => Part::Map(EntryIter::Map(entries.iter())),

@@ -64,6 +64,7 @@ pub(crate) fn read_tree<T: Tree, D: ShapeDeserializer>(
         ShapeType::Integer => Ok(T::whole(i64::from(source.read_integer(schema)?))),
         ShapeType::Long => Ok(T::whole(source.read_long(schema)?)),
         ShapeType::String => Ok(T::text(source.read_string(schema)?)),
+        ShapeType::Blob => Ok(T::bytes(source.read_blob(schema)?)),
         ShapeType::Structure => read_structure::<T, D>(alloc, source, schema),
         ShapeType::Union => read_union::<T, D>(alloc, source, schema),
         ShapeType::List => read_list::<T, D>(alloc, source, schema),

@@ -1,11 +1,12 @@
 //! A tree of values, as a reader builds it and a writer goes through it.
 ghost use Rattle.std.specs.Prelude.{◌≡◌, map as mapped, OnOk, IfOk, IfErr, string_bytes};
 ghost use Rattle.smithy_schema.specs.declared.error.SerdeError.TheVariants.{NoMemory};
-ghost use Rattle.smithy_schema.specs.Value.{Value, scalar_value, boolean, whole, text, list, map, structure, union, null_element, values_of, MapEntries, no_map_entries, put_entry, MemberValues, no_member_values, put_member};
+ghost use Rattle.smithy_schema.specs.Value.{Value, scalar_value, boolean, whole, text, bytes, list, map, structure, union, null_element, values_of, MapEntries, no_map_entries, put_entry, MemberValues, no_member_values, put_member};
 ghost use Rattle.smithy_transcode.specs.Private.Tree.{part_view};
 
 use crate::entry_iter::EntryIter;
 use smithy_schema::SerdeError;
+use smithy_types::Blob;
 use std::alloc::Global;
 
 /// What a tree is at its root.
@@ -17,6 +18,8 @@ pub enum Part<'v, T> {
     Whole(i128),
     /// A text.
     Text(&'v str),
+    /// Any bytes.
+    Bytes(&'v [u8]),
     /// The elements of a list, in their order.
     List(&'v [T]),
     /// The entries of a map, in the order of their keys.
@@ -52,6 +55,9 @@ pub trait Tree: Drop + Sized {
 
     fn text(content: String) -> Self
         ensures { view result ≡ scalar_value (text (string_bytes content)) };
+
+    fn bytes(blob: Blob) -> Self
+        ensures { view result ≡ scalar_value (bytes blob) };
 
     fn null() -> Self
         ensures { view result ≡ null_element };

@@ -6,6 +6,7 @@ ghost use Rattle.smithy_transcode.specs.View.{view as value_view, view_elements,
 use crate::entry_iter::EntryIter;
 use crate::tree::{Part, Tree};
 use smithy_schema::SerdeError;
+use smithy_types::Blob;
 use std::alloc::Global;
 use std::collections::BTreeMap;
 
@@ -18,6 +19,8 @@ pub enum Value {
     Whole(i128),
     /// A text.
     Text(String),
+    /// Any bytes.
+    Bytes(Vec<u8>),
     /// The elements of a list, in their order.
     List(Vec<Value>),
     /// The values of a map by their keys.
@@ -51,6 +54,10 @@ impl Tree for Value {
 
     fn text(content: String) -> Value {
         Value::Text(content)
+    }
+
+    fn bytes(blob: Blob) -> Value {
+        Value::Bytes(blob.into_inner())
     }
 
     fn null() -> Value {
@@ -108,6 +115,7 @@ impl Tree for Value {
             Value::Boolean(value) => Part::Boolean(*value),
             Value::Whole(number) => Part::Whole(*number),
             Value::Text(content) => Part::Text(content.as_str()),
+            Value::Bytes(content) => Part::Bytes(content.as_slice()),
             Value::List(elements) => Part::List(elements.as_slice()),
             Value::Map(entries) => Part::Map(EntryIter::Map(entries.iter())),
             Value::Structure(members) => Part::Structure(EntryIter::Map(members.iter())),

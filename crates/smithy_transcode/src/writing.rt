@@ -51,6 +51,7 @@ pub(crate) fn write_tree<T: Tree, S: ShapeSerializer>(
         Part::Boolean(value) => sink.write_boolean(schema, value),
         Part::Whole(number) => write_whole(sink, schema, number),
         Part::Text(content) => sink.write_string(schema, content),
+        Part::Bytes(content) => sink.write_bytes(schema, content),
         Part::List(elements) => write_list::<T, S>(alloc, sink, schema, elements),
         Part::Map(entries) => write_map::<T, S>(alloc, sink, schema, entries),
         Part::Structure(members) => write_structure::<T, S>(alloc, sink, schema, members),
@@ -78,6 +79,7 @@ fn write_whole<S: ShapeSerializer>(
         ShapeType::Long => sink.write_long(schema, number as i64),
         ShapeType::Boolean
         | ShapeType::String
+        | ShapeType::Blob
         | ShapeType::List
         | ShapeType::Map
         | ShapeType::Structure

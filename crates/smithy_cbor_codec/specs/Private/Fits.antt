@@ -10,13 +10,14 @@ use Rattle.smithy_schema.specs.declared.place.Place.{Place}
 use Rattle.smithy_schema.specs.declared.shape_type.Scalar.{Scalar}
 use Rattle.smithy_schema.specs.declared.shape_type.Scalar.TheVariants as scalars
 use Rattle.smithy_schema.specs.Table.{Table, scalar, kind_of}
-use Rattle.smithy_schema.specs.Value.{boolean, whole, text, Value, scalar_value, null_element}
+use Rattle.smithy_schema.specs.Value.{boolean, whole, text, bytes, Value, scalar_value, null_element}
 use Rattle.smithy_schema.specs.Fits.{is_of, Fits}
 use Rattle.smithy_schema.specs.Lemmas.Options.{same_some, step_apart, chosen, made}
 use Rattle.cbor_item.specs.Item.{Item, unsigned, negative, byte_string, text_string, array, map as map_item, tag, simple, float}
 use Rattle.smithy_cbor_codec.specs.Settings.{Settings}
-use Rattle.smithy_cbor.specs.Scalar.{false_value, true_value, boolean_item, integer_of, joined_text, text_of}
-use Rattle.smithy_cbor_codec.specs.Scalar.{boolean_of, whole_of, says}
+use Rattle.smithy_cbor.specs.Scalar.{false_value, true_value, boolean_item, integer_of, joined_text, text_of, bytes_of}
+use Rattle.smithy_cbor_codec.specs.Scalar.{boolean_of, whole_of, blob_of, says}
+use Rattle.smithy_texts.specs.Base64Text.{are_bytes}
 use Rattle.smithy_texts.specs.Ranges.{fits_signed}
 use Rattle.smithy_wire.specs.Rules.{settled}
 use Rattle.smithy_wire.specs.Readers.{settled_answer}
@@ -73,6 +74,15 @@ text_is_utf8 (float digits) s h = cc
 whole_fits : (bits : ℕ) (s : Scalar) → ((z : ℤ) → is_of s (whole z) ≡ fits_signed bits z) → (t : Table) (p : Place) (x : Item) (v : Value) → kind_of t p ≡ scalar s → whole_of bits x ≡ Some v → Fits t p v
 whole_fits bits s is t p x v kind h = let z = whole_is bits x v h in subst (Fits t p) z.3 (rw kind (is z.0 ∙ z.2))
 
+-- what is a blob is the bytes of a byte string
+pub blob_is : (x : Item) (v : Value) → option_map (λ b. scalar_value (bytes b)) (blob_of x) ≡ Some v
+    → (b : List ℕ) × (bytes_of x ≡ Some b) × (are_bytes b ≡ true) × (scalar_value (bytes b) ≡ v)
+blob_is x v h =
+    let b = made (λ b. scalar_value (bytes b)) (blob_of x) v h in
+    let found = step_apart (bytes_of x) (λ (b : List ℕ). cond (are_bytes b) (Some b) None) b.0 b.1 in
+    let small = chosen (are_bytes found.0) (Some found.0) b.0 found.2 in
+    (found.0, found.1, small.0, ap (λ b. scalar_value (bytes b)) (same_some found.0 b.0 small.1) ∙ b.2)
+
 -- a law of a wire
 pub says_fits : (c : Settings) (x : Item) (t : Table) (p : Place) (s : Scalar) (v : Value) → kind_of t p ≡ scalar s
     → settled c.limits null_element (says s p.time x) ≡ Some v → Fits t p v
@@ -90,3 +100,6 @@ says_fits c x t p scalars.Long v kind h =
 says_fits c x t p scalars.String v kind h =
     let s = made (λ s. scalar_value (text s)) (text_of x) v (sym (settled_answer c.limits null_element (option_map (λ s. scalar_value (text s)) (text_of x))) ∙ h) in
     subst (Fits t p) s.2 (rw kind (is_utf8-from_IsUtf8 s.0 (text_is_utf8 x s.0 s.1)))
+says_fits c x t p scalars.Blob v kind h =
+    let b = blob_is x v (sym (settled_answer c.limits null_element (option_map (λ b. scalar_value (bytes b)) (blob_of x))) ∙ h) in
+    subst (Fits t p) b.3 (rw kind b.2)

@@ -35,7 +35,7 @@ PairMissing input at due depth =
 
 -- ---- structures and unions
 
--- the key marks the variant of a union: a `__type` that names no member
+-- the key is a mark, which says of what shape a value is: a `__type` that names no member
 abbrev pub is_mark : Kind → List ℕ → Bool
 is_mark kind key = is_type_mark (position_named (λ (m : Member). m.name) (members_of kind) key) key
 

@@ -6,7 +6,8 @@ use Rattle.cbor_item.specs.Item.{Item}
 use Rattle.cbor_item.specs.WellFormed.{IsItemAt}
 use Rattle.smithy_schema.specs.declared.error.SerdeError.{SerdeError}
 use Rattle.smithy_schema.specs.declared.error.SerdeError.TheVariants.{InvalidInput, NoMemory}
-use Rattle.smithy_cbor.specs.Scalar.{integer_of, text_of}
+use Rattle.smithy_cbor.specs.Scalar.{integer_of, text_of, bytes_of}
+use Rattle.smithy_texts.specs.Base64Text.{are_bytes}
 use Rattle.smithy_texts.specs.Ranges.{fits_signed}
 use Rattle.smithy_cbor_codec.specs.Standing.{null_byte, begins_with, Follows}
 
@@ -40,3 +41,11 @@ pub record HasTextAt (text : List ℕ) (input : List ℕ) (at e : ℕ) : Type 0 
   pub found : Item
   pub stands : IsItemAt found input at e
   pub is : text_of found ≡ Some text
+
+-- a byte string of these bytes stands there, where a value may end behind it
+pub record IsBlobAt (blob : List ℕ) (input : List ℕ) (at depth e : ℕ) : Type 0 where
+  pub found : Item
+  pub stands : IsItemAt found input at e
+  pub is : bytes_of found ≡ Some blob
+  pub bytes : are_bytes blob ≡ true
+  pub follows : Follows depth input e

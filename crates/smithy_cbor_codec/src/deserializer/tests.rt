@@ -250,6 +250,24 @@ fn texts_are_utf8_chunk_by_chunk(rt: HostRuntime) -> Result<(), Fail> {
     Ok(())
 }
 
+#[test]
+fn bytes_are_read_in_one_piece_and_in_chunks(rt: HostRuntime) -> Result<(), Fail> {
+    let shapes = Shapes::build(rt.alloc(), TableText::read(rt.alloc(), TABLE)?)?;
+    let Some(root) = shapes.find("S") else {
+        return Ok(());
+    };
+    let schema = shapes.schema(root);
+    let codec = CborCodec::strict();
+    let mut whole = codec.create_deserializer(rt.alloc(), b"\x42\xfb\xff");
+    let blob = whole.read_blob(&schema)?;
+    assert_eq!(rt; blob.as_ref(), b"\xfb\xff".as_slice(), "in one piece");
+    let mut chunks = codec.create_deserializer(rt.alloc(), b"\x5f\x41\xfb\x40\x41\xff\xff");
+    let blob = chunks.read_blob(&schema)?;
+    assert_eq!(rt; blob.as_ref(), b"\xfb\xff".as_slice(), "in chunks");
+    assert_eq!(rt; chunks.position(), 7, "the offset behind them");
+    Ok(())
+}
+
 // So many structures, each in the last one's member.
 fn nested(alloc: Global, depth: usize) -> Result<Vec<u8>, Fail> {
     let mut input = Vec::new(alloc);
@@ -301,14 +319,15 @@ enum Call {
     Skip,
     Long,
     Text,
+    Bytes,
 }
 
-use Call::{List, Long, Null, Skip, Structure, Text};
+use Call::{Bytes, List, Long, Null, Skip, Structure, Text};
 
 #[derive(Clone, Copy)]
 struct Refused(&'static str, Call, &'static [u8]);
 
-const REFUSED: [Refused; 15] = [
+const REFUSED: [Refused; 20] = [
     Refused("an array is no structure", Structure, b"\x80"),
     Refused("a map is no list", List, b"\xa0"),
     Refused("nothing is no list", List, b""),
@@ -324,6 +343,11 @@ const REFUSED: [Refused; 15] = [
     Refused("a number is no text", Text, b"\x01"),
     Refused("a text that is not UTF-8", Text, b"\x61\xff"),
     Refused("a byte behind a text", Text, b"\x61a\x00"),
+    Refused("a text is no blob", Bytes, b"\x61a"),
+    Refused("a number is no blob", Bytes, b"\x01"),
+    Refused("a byte string that is cut off", Bytes, b"\x42\x01"),
+    Refused("a text among chunks of bytes", Bytes, b"\x5f\x61a\xff"),
+    Refused("a byte behind a byte string", Bytes, b"\x41\x01\x00"),
 ];
 
 fn make<R: ShapeDeserializer>(
@@ -348,6 +372,10 @@ fn make<R: ShapeDeserializer>(
             source.read_string(structure)?;
             Ok(())
         }
+        Bytes => {
+            source.read_blob(structure)?;
+            Ok(())
+        }
     }
 }
 
@@ -367,7 +395,7 @@ fn what_stands_otherwise_is_refused(rt: HostRuntime) -> Result<(), Fail> {
         let after = make(&mut source, &structure, &list, *call);
         assert_eq!(rt; after, Err(SerdeError::Failed), "{name}");
     }
-    for call in &[Structure, List, Null, Skip, Long, Text] {
+    for call in &[Structure, List, Null, Skip, Long, Text, Bytes] {
         let mut source = CborCodec::strict().create_deserializer(rt.alloc(), b"\x01");
         source.read_long(&structure)?;
         let answer = make(&mut source, &structure, &list, *call);

@@ -6,15 +6,17 @@ use Rattle.smithy_schema.specs.declared.place.Place.{Place}
 use Rattle.smithy_schema.specs.declared.shape_type.Scalar.{Scalar}
 use Rattle.smithy_schema.specs.declared.shape_type.Scalar.TheVariants as scalars
 use Rattle.smithy_schema.specs.Table.{Table, scalar, kind_of}
-use Rattle.smithy_schema.specs.Value.{boolean as boolean_value, whole, text, Value, scalar_value, null_element}
+use Rattle.smithy_schema.specs.Value.{boolean as boolean_value, whole, text, bytes, Value, scalar_value, null_element}
 use Rattle.smithy_schema.specs.Fits.{is_of, Fits}
 use Rattle.smithy_schema.specs.Reading.{Mark}
 use Rattle.smithy_schema.specs.Lemmas.Options.{same_some, step_apart, chosen, made}
 use Rattle.smithy_json.specs.Grammar.{IsStringText}
 use Rattle.smithy_json.specs.Number.{whole_number}
+use Rattle.smithy_texts.specs.Base64Text.{blob_of}
 use Rattle.smithy_texts.specs.Ranges.{fits_signed}
+use Rattle.smithy_texts.proofs.Base64Laws.{blob_is_bytes}
 use Rattle.smithy_json.proofs.TextLemmas.{unescaped_is_utf8}
-use Rattle.smithy_json_codec.specs.Scalar.{JsonScalar, a_boolean, a_number, a_string, boolean_of, whole_of, text_of, says}
+use Rattle.smithy_json_codec.specs.Scalar.{JsonScalar, a_boolean, a_number, a_string, boolean_of, whole_of, text_of, bytes_of, says}
 use Rattle.smithy_json_codec.specs.Settings.{Settings}
 use Rattle.smithy_json_codec.specs.Standing.{json_frames}
 use Rattle.smithy_wire.specs.Node.{as_object}
@@ -63,3 +65,7 @@ says_fits c i d x a e lies t p scalars.Long v kind h = whole_fits 64 scalars.Lon
 says_fits c i d x a e lies t p scalars.String v kind h =
     let s = made (λ s. scalar_value (text s)) (text_of x) v (sym (settled_answer c.limits null_element (option_map (λ s. scalar_value (text s)) (text_of x))) ∙ h) in
     subst (Fits t p) s.2 (rw kind (is_utf8-from_IsUtf8 s.0 (text_is_utf8 i d x a e lies s.0 s.1)))
+says_fits c i d x a e lies t p scalars.Blob v kind h =
+    let b = made (λ b. scalar_value (bytes b)) (bytes_of x) v (sym (settled_answer c.limits null_element (option_map (λ b. scalar_value (bytes b)) (bytes_of x))) ∙ h) in
+    let s = step_apart (text_of x) blob_of b.0 b.1 in
+    subst (Fits t p) b.2 (rw kind (blob_is_bytes s.0 b.0 s.2))

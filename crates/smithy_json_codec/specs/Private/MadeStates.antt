@@ -1,24 +1,27 @@
 -- What a call makes of the open containers and of the text.
-use Rattle.std.specs.Prelude.{◌≡◌, ℕ, List, [], ◌∷◌, ◌++◌, Bool, true, false, Result, Ok, Err, codes, refl, if◌then◌else◌}
+use Rattle.std.specs.Prelude.{◌≡◌, ℕ, List, [], ◌∷◌, ◌++◌, Bool, true, false, Option, Some, None, Result, Ok, Err, codes, refl, if◌then◌else◌}
+use Rattle.std.specs.Option.{option_map_or}
 use Rattle.std.proofs.Common.{sym, ◌∙◌, ap}
 use Rattle.smithy_schema.specs.declared.error.SerdeError.{SerdeError}
 use Rattle.smithy_schema.specs.Site.{View}
-use Rattle.smithy_schema.specs.Value.{boolean, whole, text}
+use Rattle.smithy_schema.specs.Value.{text_in}
 use Rattle.smithy_schema.specs.Writing.{Event, begin_structure, end_structure, begin_list, end_list, begin_map, end_map, null_of, scalar_of, Open}
 use Rattle.smithy_json.specs.Ascii.{begin_array, end_array, begin_object, end_object}
 use Rattle.smithy_json_codec.specs.Canonical.{name_text, scalar_text}
 use Rattle.smithy_json_codec.specs.Writing.{JsonState, comma_text, lead, key_wrote, wrote, is_key_due, made, where_taken}
 
--- a text has the containers that it is told of, as a key and as a value
-text_frames : (due : Bool) (s : JsonState) (view : View) (key : List ℕ) (frames : List Open)
-    → (if due then key_wrote s key frames else wrote s view (scalar_text (text key)) frames).frames ≡ frames
-text_frames true s view key frames = refl
-text_frames false s view key frames = refl
+-- a scalar has the containers that it is told of, as a key and as a value
+scalar_frames : (key : Option (List ℕ)) (due : Bool) (s : JsonState) (view : View) (bytes : List ℕ) (frames : List Open)
+    → (option_map_or (λ key. if due then key_wrote s key frames else wrote s view bytes frames) key (wrote s view bytes frames)).frames ≡ frames
+scalar_frames None due s view bytes frames = refl
+scalar_frames (Some key) true s view bytes frames = refl
+scalar_frames (Some key) false s view bytes frames = refl
 
-text_grows : (due : Bool) (s : JsonState) (view : View) (key : List ℕ) (frames : List Open)
-    → (more : List ℕ) × ((if due then key_wrote s key frames else wrote s view (scalar_text (text key)) frames).out ≡ s.out ++ more)
-text_grows true s view key frames = (comma_text s.needs_comma ++ name_text key, refl)
-text_grows false s view key frames = (lead s view ++ scalar_text (text key), refl)
+scalar_grows : (key : Option (List ℕ)) (due : Bool) (s : JsonState) (view : View) (bytes : List ℕ) (frames : List Open)
+    → (more : List ℕ) × ((option_map_or (λ key. if due then key_wrote s key frames else wrote s view bytes frames) key (wrote s view bytes frames)).out ≡ s.out ++ more)
+scalar_grows None due s view bytes frames = (lead s view ++ bytes, refl)
+scalar_grows (Some key) true s view bytes frames = (comma_text s.needs_comma ++ name_text key, refl)
+scalar_grows (Some key) false s view bytes frames = (lead s view ++ bytes, refl)
 
 -- what is made has the open containers that it is told of
 made_frames : (e : Event) (s : JsonState) (frames : List Open) → (made e s frames).frames ≡ frames
@@ -29,9 +32,7 @@ made_frames end_list s frames = refl
 made_frames (begin_map site length) s frames = refl
 made_frames end_map s frames = refl
 made_frames (null_of site) s frames = refl
-made_frames (scalar_of site (boolean b)) s frames = refl
-made_frames (scalar_of site (whole n)) s frames = refl
-made_frames (scalar_of site (text key)) s frames = text_frames (is_key_due s.frames) s site.view key frames
+made_frames (scalar_of site x) s frames = scalar_frames (text_in x) (is_key_due s.frames) s site.view (scalar_text x) frames
 
 -- and its text begins with the one before
 made_grows : (e : Event) (s : JsonState) (frames : List Open) → (more : List ℕ) × ((made e s frames).out ≡ s.out ++ more)
@@ -42,9 +43,7 @@ made_grows end_list s frames = (end_array ∷ [], refl)
 made_grows (begin_map site length) s frames = (lead s site.view ++ begin_object ∷ [], refl)
 made_grows end_map s frames = (end_object ∷ [], refl)
 made_grows (null_of site) s frames = (lead s site.view ++ codes "null", refl)
-made_grows (scalar_of site (boolean b)) s frames = (lead s site.view ++ scalar_text (boolean b), refl)
-made_grows (scalar_of site (whole n)) s frames = (lead s site.view ++ scalar_text (whole n), refl)
-made_grows (scalar_of site (text key)) s frames = text_grows (is_key_due s.frames) s site.view key frames
+made_grows (scalar_of site x) s frames = scalar_grows (text_in x) (is_key_due s.frames) s site.view (scalar_text x) frames
 
 -- the containers of the state that is made
 pub taken_frames : (e : Event) (s t : JsonState) (frames : Result (List Open) SerdeError) → where_taken (made e s) frames ≡ Ok t → frames ≡ Ok t.frames

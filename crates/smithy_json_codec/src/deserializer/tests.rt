@@ -27,6 +27,14 @@ fn values_are_read_call_by_call(rt: HostRuntime) -> Result<(), Fail> {
     let mut text = codec.create_deserializer(rt.alloc(), b"\"x\\n\"");
     let read = text.read_string(&schema)?;
     assert_eq!(rt; read.as_str(), "x\n", "a text with an escape");
+    let mut bytes = codec.create_deserializer(rt.alloc(), b"\"+\\/8=\" ");
+    let blob = bytes.read_blob(&schema)?;
+    assert_eq!(rt;
+        blob.as_ref(),
+        [0xfb, 0xff].as_slice(),
+        "base64 with an escape"
+    );
+    assert_eq!(rt; bytes.position(), 7, "the offset behind it");
     let mut null = codec.create_deserializer(rt.alloc(), b"null");
     assert!(rt; null.is_null(), "a null is due");
     assert!(rt; matches!(null.read_null(), Ok(())), "it is read");
@@ -76,14 +84,15 @@ enum Call {
     Skip,
     Long,
     Text,
+    Bytes,
 }
 
-use Call::{List, Long, Null, Skip, Structure, Text};
+use Call::{Bytes, List, Long, Null, Skip, Structure, Text};
 
 #[derive(Clone, Copy)]
 struct Refused(&'static str, Call, &'static [u8]);
 
-const REFUSED: [Refused; 15] = [
+const REFUSED: [Refused; 22] = [
     Refused("a list is no structure", Structure, b"[]"),
     Refused("blanks are no structure", Structure, b" "),
     Refused("a structure is no list", List, b"{}"),
@@ -99,6 +108,13 @@ const REFUSED: [Refused; 15] = [
     Refused("a number is no text", Text, b"1"),
     Refused("a text without its end", Text, b"\"a"),
     Refused("a lone surrogate is no text", Text, b"\"\\ud800\""),
+    Refused("a number is no blob", Bytes, b"1"),
+    Refused("a lone surrogate is no blob", Bytes, b"\"\\ud800\""),
+    Refused("base64 with left-over bits", Bytes, b"\"+/9=\""),
+    Refused("base64 without its padding", Bytes, b"\"+/8\""),
+    Refused("base64 with a blank", Bytes, b"\"+/8= \""),
+    Refused("base64 with an escaped line feed", Bytes, b"\"+/8=\\n\""),
+    Refused("base64 by the other alphabet", Bytes, b"\"-_8=\""),
 ];
 
 fn make<R: ShapeDeserializer>(
@@ -123,6 +139,10 @@ fn make<R: ShapeDeserializer>(
             source.read_string(structure)?;
             Ok(())
         }
+        Bytes => {
+            source.read_blob(structure)?;
+            Ok(())
+        }
     }
 }
 
@@ -143,7 +163,7 @@ fn what_stands_otherwise_is_refused(rt: HostRuntime) -> Result<(), Fail> {
         let after = make(&mut source, &structure, &list, *call);
         assert_eq!(rt; after, Err(SerdeError::Failed), "{name}");
     }
-    for call in &[Structure, List, Skip, Long, Text] {
+    for call in &[Structure, List, Skip, Long, Text, Bytes] {
         let mut source = codec.create_deserializer(rt.alloc(), b"1");
         source.read_long(&structure)?;
         let answer = make(&mut source, &structure, &list, *call);

@@ -2,6 +2,7 @@
 
 use crate::JsonCodec;
 use smithy_schema::{FinishSerializer, Schema, SerdeError, ShapeSerializer, Shapes, TableText};
+use smithy_types::Blob;
 use std::alloc::Global;
 use std::test::Fail;
 
@@ -28,11 +29,12 @@ enum Call {
     Null(At),
     Long(At, i64),
     Text(At, &'static str),
+    Bytes(At, &'static [u8]),
     Fail,
 }
 
 use At::{Member, Whole};
-use Call::{BeginList, BeginMap, BeginStruct, EndList, EndMap, EndStruct, Long, Null, Text};
+use Call::{BeginList, BeginMap, BeginStruct, Bytes, EndList, EndMap, EndStruct, Long, Null, Text};
 
 #[derive(Clone, Copy)]
 struct Row {
@@ -41,7 +43,7 @@ struct Row {
     answer: Result<&'static str, SerdeError>,
 }
 
-const ROWS: [Row; 17] = [
+const ROWS: [Row; 19] = [
     Row {
         name: "a structure without members",
         calls: &[BeginStruct(Whole), EndStruct],
@@ -97,6 +99,21 @@ const ROWS: [Row; 17] = [
             EndMap,
         ],
         answer: Ok("{\"k\":{},\"l\":null}"),
+    },
+    Row {
+        name: "bytes, and none",
+        calls: &[
+            BeginStruct(Whole),
+            Bytes(Member(0), b"\xfb\xff"),
+            Bytes(Member(1), b""),
+            EndStruct,
+        ],
+        answer: Ok("{\"a\":\"+/8=\",\"b\":\"\"}"),
+    },
+    Row {
+        name: "bytes in the place of a key",
+        calls: &[BeginMap(Whole), Bytes(Whole, b"k")],
+        answer: Err(SerdeError::Unwritable),
     },
     Row {
         name: "nothing at all",
@@ -164,7 +181,12 @@ fn schema(shapes: &Shapes, at: At) -> Result<Schema<'_>, SerdeError> {
     }
 }
 
-fn make<S: ShapeSerializer>(sink: &mut S, shapes: &Shapes, call: Call) -> Result<(), SerdeError> {
+fn make<S: ShapeSerializer>(
+    alloc: Global,
+    sink: &mut S,
+    shapes: &Shapes,
+    call: Call,
+) -> Result<(), SerdeError> {
     match call {
         BeginStruct(at) => sink.begin_struct(&schema(shapes, at)?),
         EndStruct => sink.end_struct(),
@@ -175,6 +197,10 @@ fn make<S: ShapeSerializer>(sink: &mut S, shapes: &Shapes, call: Call) -> Result
         Null(at) => sink.write_null(&schema(shapes, at)?),
         Long(at, number) => sink.write_long(&schema(shapes, at)?, number),
         Text(at, text) => sink.write_string(&schema(shapes, at)?, text),
+        Bytes(at, bytes) => {
+            let blob = Blob::new(Vec::from_slice(alloc, bytes)?);
+            sink.write_blob(&schema(shapes, at)?, &blob)
+        }
         Call::Fail => {
             sink.fail();
             Ok(())
@@ -186,7 +212,7 @@ fn written(alloc: Global, shapes: &Shapes, row: &Row) -> Result<Vec<u8>, SerdeEr
     let codec = JsonCodec::strict(false);
     let mut sink = codec.create_serializer(alloc);
     for call in row.calls {
-        make(&mut sink, shapes, *call)?;
+        make(alloc, &mut sink, shapes, *call)?;
     }
     sink.finish()
 }

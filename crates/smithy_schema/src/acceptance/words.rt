@@ -20,13 +20,15 @@ pub(crate) fn scalar_of(name: &str) -> Option<Scalar>
         Some(Scalar::Long)
     } else if name == "string" {
         Some(Scalar::String)
+    } else if name == "blob" {
+        Some(Scalar::Blob)
     } else {
         None
     }
 }
 
 /// The names of the scalars that no table can have yet.
-const UNBUILT_NAMES: [&str; 5] = ["blob", "timestamp", "bigInteger", "bigDecimal", "document"];
+const UNBUILT_NAMES: [&str; 4] = ["timestamp", "bigInteger", "bigDecimal", "document"];
 
 /// No table can have the scalar of that name yet.
 pub(crate) fn is_unbuilt_name(name: &str) -> bool

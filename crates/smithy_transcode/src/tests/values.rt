@@ -6,7 +6,7 @@ use smithy_schema::{FinishSerializer, ShapeType, Shapes, TableText};
 use std::test::Fail;
 
 const TABLE: &[u8] =
-    b"map M U\nlist L M\nunion U\nmember n integer\nmember l L\nstructure S\nmember b boolean\nmember u U\n";
+    b"map M U\nlist L M\nunion U\nmember n integer\nmember l L\nstructure S\nmember b boolean\nmember r blob\nmember u U\n";
 
 #[test]
 fn a_value_is_written_as_it_was_read(rt: HostRuntime) -> Result<(), Fail> {
@@ -20,13 +20,15 @@ fn a_value_is_written_as_it_was_read(rt: HostRuntime) -> Result<(), Fail> {
         assert!(rt; false, "S is no structure");
         return Ok(());
     };
-    let input: &[u8] = b"{\"u\":{\"l\":[{\"b\":{\"n\":2},\"a\":{\"n\":1}},{}]},\"b\":true}";
+    let input: &[u8] =
+        b"{\"u\":{\"l\":[{\"b\":{\"n\":2},\"a\":{\"n\":1}},{}]},\"r\":\"+\\/8=\",\"b\":true}";
     let codec = JsonCodec::strict(false);
     let mut source = codec.create_deserializer(rt.alloc(), input);
     let value = read_value(rt.alloc(), &mut source, &schema)?;
     let mut sink = codec.create_serializer(rt.alloc());
     write_value(rt.alloc(), &mut sink, &schema, &value)?;
-    let output: &[u8] = b"{\"b\":true,\"u\":{\"l\":[{\"a\":{\"n\":1},\"b\":{\"n\":2}},{}]}}";
+    let output: &[u8] =
+        b"{\"b\":true,\"r\":\"+/8=\",\"u\":{\"l\":[{\"a\":{\"n\":1},\"b\":{\"n\":2}},{}]}}";
     assert_eq!(rt; sink.finish()?.as_slice(), output);
     Ok(())
 }

@@ -1,4 +1,4 @@
-//! Runs over maps, unions, sparse collections and integers of each width.
+//! Runs over maps, unions, sparse collections, blobs and integers of each width.
 
 use super::{files_with, words_of};
 use crate::memory::{MemorySink, MemorySource};
@@ -8,6 +8,8 @@ use std::process::Abort;
 use std::test::Fail;
 
 const INTEGER: &str = "structure S\nmember a integer\n";
+
+const BLOB: &str = "structure S\nmember b blob\n";
 
 const MAP: &str = "map M integer\nstructure S\nmember m M\n";
 
@@ -20,10 +22,16 @@ const JSON_NAMED: &str = "union U\nmember s string json=__type\nstructure S\nmem
 
 /// A part of the PutItem call of Amazon DynamoDB.
 const PUT_ITEM: &str =
-    "map Attributes AttributeValue\nlist Values AttributeValue\nunion AttributeValue\nmember S string\nmember N string\nmember BOOL boolean\nmember NULL boolean\nmember M Attributes\nmember L Values\nstructure PutItemInput\nmember TableName string\nmember Item Attributes\n";
+    "map Attributes AttributeValue\nlist Values AttributeValue\nunion AttributeValue\nmember S string\nmember N string\nmember B blob\nmember BOOL boolean\nmember NULL boolean\nmember M Attributes\nmember L Values\nstructure PutItemInput\nmember TableName string\nmember Item Attributes\n";
 
 const ITEM: &[u8] =
     b"{\"TableName\":\"t\",\"Item\":{\"Id\":{\"S\":\"a\"},\"Tags\":{\"L\":[{\"N\":\"3\"},{\"BOOL\":true}]}}}";
+
+const ITEM_WITH_BYTES: &[u8] =
+    b"{\"TableName\":\"t\",\"Item\":{\"Id\":{\"S\":\"a\"},\"Raw\":{\"B\":\"+/8=\"}}}";
+
+const ENCODED_ITEM: &[u8] =
+    b"\xbf\x69TableName\x61t\x64Item\xbf\x62Id\xbf\x61S\x61a\xff\x63Raw\xbf\x61B\x42\xfb\xff\xff\xff\xff";
 
 const INVALID: &str = "smithy_transcode: invalid input\n";
 
@@ -40,7 +48,7 @@ struct ShapeRow(
     &'static str,
 );
 
-const SHAPE_ROWS: [ShapeRow; 36] = [
+const SHAPE_ROWS: [ShapeRow; 45] = [
     ShapeRow(
         "an integer to CBOR",
         "S json cbor",
@@ -357,9 +365,90 @@ const SHAPE_ROWS: [ShapeRow; 36] = [
         "smithy_transcode: table refused: BadLine 1\n",
     ),
     ShapeRow(
-        "a union that names a blob",
+        "base64 with an escape",
+        "S json json",
+        BLOB,
+        b"{\"b\":\"+\\/8=\"}",
+        0,
+        b"{\"b\":\"+/8=\"}",
+        "",
+    ),
+    ShapeRow(
+        "base64 to CBOR",
+        "S json cbor",
+        BLOB,
+        b"{\"b\":\"+\\/8=\"}",
+        0,
+        b"\xbf\x61b\x42\xfb\xff\xff",
+        "",
+    ),
+    ShapeRow(
+        "chunks of bytes",
+        "S cbor json",
+        BLOB,
+        b"\xbf\x61b\x5f\x41\xfb\x41\xff\xff\xff",
+        0,
+        b"{\"b\":\"+/8=\"}",
+        "",
+    ),
+    ShapeRow(
+        "left-over bits",
+        "S json json",
+        BLOB,
+        b"{\"b\":\"+/9=\"}",
+        10,
+        b"",
+        INVALID,
+    ),
+    ShapeRow(
+        "no padding",
+        "S json json",
+        BLOB,
+        b"{\"b\":\"+/8\"}",
+        10,
+        b"",
+        INVALID,
+    ),
+    ShapeRow(
+        "a blank in base64",
+        "S json json",
+        BLOB,
+        b"{\"b\":\"+/8= \"}",
+        10,
+        b"",
+        INVALID,
+    ),
+    ShapeRow(
+        "another alphabet",
+        "S json json",
+        BLOB,
+        b"{\"b\":\"-_8=\"}",
+        10,
+        b"",
+        INVALID,
+    ),
+    ShapeRow(
+        "an item with bytes to CBOR",
+        "PutItemInput json cbor",
+        PUT_ITEM,
+        ITEM_WITH_BYTES,
+        0,
+        ENCODED_ITEM,
+        "",
+    ),
+    ShapeRow(
+        "an item with bytes from CBOR",
+        "PutItemInput cbor json",
+        PUT_ITEM,
+        ENCODED_ITEM,
+        0,
+        ITEM_WITH_BYTES,
+        "",
+    ),
+    ShapeRow(
+        "a union that names a timestamp",
         "U json json",
-        "union U\nmember a blob\n",
+        "union U\nmember a timestamp\n",
         b"{}",
         30,
         b"",
