@@ -1,5 +1,5 @@
 -- A list that is written in part.
-use Rattle.std.proofs.Common.{arith, ◌≡◌, map, max, ◌<◌, ◌≤◌, ◌+◌, ℕ, suc, List, [], ◌∷◌, ◌++◌, Some, None, option_map, Ok, Err, Bool, true, length, drop, get_or, refl, ◌∙◌, ap, append_assoc, add-one, drop-cons}
+use Rattle.std.proofs.Common.{arith, ◌≡◌, map, max, ◌<◌, ◌≤◌, ◌+◌, ℕ, ℤ, suc, List, [], ◌∷◌, ◌++◌, Some, None, option_map, Ok, Err, Bool, true, length, drop, get_or, refl, ◌∙◌, ap, append_assoc, add-one, drop-cons}
 use Rattle.std.specs.Option.{option_map_or}
 use Rattle.std.proofs.Math.Nat.{le-max_left, le-max_right}
 use Rattle.smithy_schema.specs.declared.error.SerdeError.{SerdeError}
@@ -37,6 +37,12 @@ told f (v ∷ vs) = ap suc (told f vs)
 pub next_element : {T : Type 0} (f : T → Value) (vs : List T) (i : ℕ) (v : T) → i < length vs → v ≡ get_or vs i v → map f (drop i vs) ≡ f v ∷ map f (drop (i + 1) vs)
 next_element f vs i v within is =
     let first : drop i vs ≡ v ∷ drop (i + 1) vs = rw (drop-cons vs i v within, ← is, add-one) refl in
+    ap (map f) first
+
+-- the same of numbers, which are copied out
+pub next_number : (f : ℤ → Value) (ns : List ℤ) (i : ℕ) (d : ℤ) → i < length ns → map f (drop i ns) ≡ f (get_or ns i d) ∷ map f (drop (i + 1) ns)
+next_number f ns i d within =
+    let first : drop i ns ≡ get_or ns i d ∷ drop (i + 1) ns = rw (drop-cons ns i d within, add-one) refl in
     ap (map f) first
 
 -- the schema of the elements, which is handed to each

@@ -1,4 +1,5 @@
 -- Words that private clauses cite.
 pub mod Tree
+pub mod Elements
 pub mod Entries
 pub mod Order

@@ -1,9 +1,9 @@
 //! The tree of a transcoding, which keeps the members of a structure and the entries of a map in a vector.
-ghost use Rattle.std.specs.Prelude.{◌≡◌};
-ghost use Rattle.smithy_schema.specs.Value.{list, values_of};
-ghost use Rattle.smithy_transcode.specs.Private.Tree.{compact_view, compact_elements, compact_entries as compact_entry_views, compact_members};
+ghost use Rattle.smithy_transcode.specs.Private.Tree.{compact_view, compact_entries as compact_entry_views, compact_members};
 ghost use Rattle.smithy_transcode.specs.Private.Entries.{kept_entries};
+ghost use Rattle.smithy_transcode.specs.Private.Elements.{kept_elements};
 
+use crate::compact_elements::CompactElements;
 use crate::compact_entries::CompactEntries;
 use crate::entry_iter::EntryIter;
 use crate::tree::{Part, Tree};
@@ -25,6 +25,8 @@ pub enum CompactValue {
     Bytes(Blob),
     /// The elements of a list, in their order.
     List(Vec<CompactValue>),
+    /// The elements of a list of whole numbers, in their order.
+    Wholes(Vec<i64>),
     /// The entries of a map, in the order of their keys.
     Map(Vec<(String, CompactValue)>),
     /// The same, where many came out of order.
@@ -35,16 +37,22 @@ pub enum CompactValue {
     StructureMap(BTreeMap<u32, CompactValue>),
     /// The member of a union by its position, and its value.
     Union(u32, Box<CompactValue>),
+    /// The same where the value is a text, which needs no box.
+    UnionText(u32, String),
     /// A null among the elements of a sparse list or the values of a sparse map.
     Null,
 }
 
 impl Tree for CompactValue {
+    type Elements = CompactElements;
+
     type Entries = CompactEntries<String, CompactValue>;
 
     type Members = CompactEntries<u32, CompactValue>;
 
     ghost view = { compact_view };
+
+    ghost view_elements = { kept_elements };
 
     ghost view_entries = { λ m. compact_entry_views (kept_entries m) };
 
@@ -70,10 +78,24 @@ impl Tree for CompactValue {
         CompactValue::Null
     }
 
-    fn list(elements: Vec<CompactValue>) -> CompactValue
-        ensures { compact_view result ≡ list (values_of (compact_elements elements.items)) }
-    {
-        CompactValue::List(elements)
+    fn no_elements(alloc: Global) -> CompactElements {
+        CompactElements::new(alloc)
+    }
+
+    #[inline(always)]
+    fn push_element(
+        alloc: Global,
+        elements: &mut CompactElements,
+        value: CompactValue,
+    ) -> Result<(), SerdeError> {
+        elements.push(alloc, value)
+    }
+
+    fn list(elements: CompactElements) -> CompactValue {
+        match elements {
+            CompactElements::Wholes(numbers) => CompactValue::Wholes(numbers),
+            CompactElements::Values(values) => CompactValue::List(values),
+        }
     }
 
     fn no_entries(alloc: Global) -> CompactEntries<String, CompactValue> {
@@ -116,10 +138,15 @@ impl Tree for CompactValue {
         }
     }
 
+    #[inline(always)]
     fn union(alloc: Global, index: u32, value: CompactValue) -> Result<CompactValue, SerdeError> {
-        Ok(CompactValue::Union(index, Box::new(alloc, value)?))
+        match value {
+            CompactValue::Text(content) => Ok(CompactValue::UnionText(index, content)),
+            other => Ok(CompactValue::Union(index, Box::new(alloc, other)?)),
+        }
     }
 
+    #[inline(always)]
     fn part(&self) -> Part<'_, CompactValue> {
         match self {
             CompactValue::Boolean(value) => Part::Boolean(*value),
@@ -127,6 +154,7 @@ impl Tree for CompactValue {
             CompactValue::Text(content) => Part::Text(content.as_str()),
             CompactValue::Bytes(blob) => Part::Bytes(blob.as_ref()),
             CompactValue::List(elements) => Part::List(elements.as_slice()),
+            CompactValue::Wholes(numbers) => Part::Wholes(numbers.as_slice()),
             CompactValue::Map(entries) => Part::Map(EntryIter::Slice(entries.as_slice())),
             CompactValue::TreeMap(entries) => Part::Map(EntryIter::Map(entries.iter())),
             CompactValue::Structure(members) => {
@@ -134,6 +162,7 @@ impl Tree for CompactValue {
             }
             CompactValue::StructureMap(members) => Part::Structure(EntryIter::Map(members.iter())),
             CompactValue::Union(index, value) => Part::Union(*index, &**value),
+            CompactValue::UnionText(index, content) => Part::UnionText(*index, content.as_str()),
             CompactValue::Null => Part::Null,
         }
     }

@@ -1,6 +1,7 @@
 //! Values of any wire, their reading and writing, and the transcoding of one body.
 #![tactic(auto)]
 
+mod compact_elements;
 mod compact_entries;
 mod compact_value;
 mod entry_iter;

@@ -167,14 +167,14 @@ fn read_list<T: Tree, D: ShapeDeserializer>(
     let Some(element) = schema.member() else {
         unreachable!()
     };
-    let mut elements = Vec::new(alloc);
+    let mut elements = T::no_elements(alloc);
     while source.next_element()? {
         if sparse && source.is_null() {
             source.read_null()?;
-            elements.push(T::null())?;
+            T::push_element(alloc, &mut elements, T::null())?;
         } else {
             let item = read_tree::<T, D>(alloc, source, &element)?;
-            elements.push(item)?;
+            T::push_element(alloc, &mut elements, item)?;
         }
     }
     Ok(T::list(elements))

@@ -1,5 +1,5 @@
 //! A tree of values, as a reader builds it and a writer goes through it.
-ghost use Rattle.std.specs.Prelude.{◌≡◌, map as mapped, OnOk, IfOk, IfErr, string_bytes};
+ghost use Rattle.std.specs.Prelude.{◌≡◌, List, [], ◌∷◌, ◌++◌, OnOk, IfOk, IfErr, string_bytes};
 ghost use Rattle.smithy_schema.specs.declared.error.SerdeError.TheVariants.{NoMemory};
 ghost use Rattle.smithy_schema.specs.Value.{Value, scalar_value, boolean, whole, text, bytes, list, map, structure, union, null_element, values_of, MapEntries, no_map_entries, put_entry, MemberValues, no_member_values, put_member};
 ghost use Rattle.smithy_transcode.specs.Private.Tree.{part_view};
@@ -22,26 +22,35 @@ pub enum Part<'v, T> {
     Bytes(&'v [u8]),
     /// The elements of a list, in their order.
     List(&'v [T]),
+    /// The elements of a list of whole numbers, in their order.
+    Wholes(&'v [i64]),
     /// The entries of a map, in the order of their keys.
     Map(EntryIter<'v, String, T>),
     /// The members of a structure, in the order of their positions.
     Structure(EntryIter<'v, u32, T>),
     /// The member of a union by its position, and its value.
     Union(u32, &'v T),
+    /// The same where the value is a text.
+    UnionText(u32, &'v str),
     /// A null among the elements of a sparse list or the values of a sparse map.
     Null,
 }
 
 /// A tree that is built from its leaves on, and gone through from its root on.
 pub trait Tree: Drop + Sized {
+    /// The elements of a list that is half built.
+    type Elements: Drop;
+
     /// The entries of a map that is half built.
     type Entries: Drop;
 
     /// The members of a structure that is half built.
     type Members: Drop;
 
-    // What the tree, its entries and its members stand for.
+    // What the tree, its elements, its entries and its members stand for.
     ghost view: { Self → Value };
+
+    ghost view_elements: { Self.Elements → List Value };
 
     ghost view_entries: { Self.Entries → MapEntries };
 
@@ -62,8 +71,20 @@ pub trait Tree: Drop + Sized {
     fn null() -> Self
         ensures { view result ≡ null_element };
 
-    fn list(elements: Vec<Self>) -> Self
-        ensures { view result ≡ list (values_of (mapped view elements.items)) };
+    fn no_elements(alloc: Global) -> Self::Elements
+        ensures { view_elements result ≡ [] };
+
+    /// Puts an element behind all others.
+    fn push_element(
+        alloc: Global,
+        elements: &mut Self::Elements,
+        value: Self,
+    ) -> Result<(), SerdeError>
+        ensures ok { OnOk result (view_elements elements.new ≡ view_elements elements.old ++ view value ∷ []) }
+        ensures err { IfErr result (λ e. e ≡ NoMemory) };
+
+    fn list(elements: Self::Elements) -> Self
+        ensures { view result ≡ list (values_of (view_elements elements)) };
 
     fn no_entries(alloc: Global) -> Self::Entries
         ensures { view_entries result ≡ no_map_entries };

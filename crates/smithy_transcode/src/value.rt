@@ -1,7 +1,5 @@
 //! The value that a body stands for, whichever wire carries it, as a tree that is built and gone through.
-ghost use Rattle.std.specs.Prelude.{◌≡◌};
-ghost use Rattle.smithy_schema.specs.Value.{list, values_of};
-ghost use Rattle.smithy_transcode.specs.View.{view as value_view, view_elements, view_entries as value_entries, view_members as value_members};
+ghost use Rattle.smithy_transcode.specs.View.{view as value_view, view_elements as value_elements, view_entries as value_entries, view_members as value_members};
 
 use crate::entry_iter::EntryIter;
 use crate::tree::{Part, Tree};
@@ -34,11 +32,15 @@ pub enum Value {
 }
 
 impl Tree for Value {
+    type Elements = Vec<Value>;
+
     type Entries = BTreeMap<String, Value>;
 
     type Members = BTreeMap<u32, Value>;
 
     ghost view = { value_view };
+
+    ghost view_elements = { λ v. value_elements v.items };
 
     ghost view_entries = { λ m. value_entries m.entries };
 
@@ -64,9 +66,20 @@ impl Tree for Value {
         Value::Null
     }
 
-    fn list(elements: Vec<Value>) -> Value
-        ensures { value_view result ≡ list (values_of (view_elements elements.items)) }
-    {
+    fn no_elements(alloc: Global) -> Vec<Value> {
+        Vec::new(alloc)
+    }
+
+    fn push_element(
+        _alloc: Global,
+        elements: &mut Vec<Value>,
+        value: Value,
+    ) -> Result<(), SerdeError> {
+        elements.push(value)?;
+        Ok(())
+    }
+
+    fn list(elements: Vec<Value>) -> Value {
         Value::List(elements)
     }
 
@@ -110,6 +123,7 @@ impl Tree for Value {
         Ok(Value::Union(index, Box::new(alloc, value)?))
     }
 
+    #[inline(always)]
     fn part(&self) -> Part<'_, Value> {
         match self {
             Value::Boolean(value) => Part::Boolean(*value),

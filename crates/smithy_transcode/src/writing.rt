@@ -4,10 +4,10 @@ ghost use Rattle.smithy_schema.specs.declared.error.SerdeError.TheVariants.{Fail
 ghost use Rattle.smithy_schema.specs.Fits.{FitsOr, is_scalar_of};
 ghost use Rattle.smithy_schema.specs.Reading.{IsFault};
 ghost use Rattle.smithy_schema.specs.Site.{site_of, kind_at};
-ghost use Rattle.smithy_schema.specs.Value.{whole, list, map, structure, union, values_of};
+ghost use Rattle.smithy_schema.specs.Value.{scalar_value, whole, text, list, map, structure, union, values_of};
 ghost use Rattle.smithy_schema.specs.Writing.{write, scalar_of};
 ghost use Rattle.smithy_transcode.specs.View.{view};
-ghost use Rattle.smithy_transcode.specs.Private.Tree.{entries as entries_left, entry_views, member_views};
+ghost use Rattle.smithy_transcode.specs.Private.Tree.{entries as entries_left, entry_views, member_views, whole_values};
 
 use crate::entry_iter::EntryIter;
 use crate::tree::{Part, Tree};
@@ -35,6 +35,7 @@ pub fn write_value<S: ShapeSerializer>(
 
 // The same from any tree.
 #[cycle(write)]
+#[inline(always)]
 pub(crate) fn write_tree<T: Tree, S: ShapeSerializer>(
     alloc: Global,
     sink: &mut S,
@@ -53,9 +54,11 @@ pub(crate) fn write_tree<T: Tree, S: ShapeSerializer>(
         Part::Text(content) => sink.write_string(schema, content),
         Part::Bytes(content) => sink.write_bytes(schema, content),
         Part::List(elements) => write_list::<T, S>(alloc, sink, schema, elements),
+        Part::Wholes(numbers) => write_wholes(sink, schema, numbers),
         Part::Map(entries) => write_map::<T, S>(alloc, sink, schema, entries),
         Part::Structure(members) => write_structure::<T, S>(alloc, sink, schema, members),
         Part::Union(index, inner) => write_union::<T, S>(alloc, sink, schema, index, inner),
+        Part::UnionText(index, content) => write_union_text(sink, schema, index, content),
         Part::Null => sink.write_null(schema),
     }
 }
@@ -112,6 +115,30 @@ fn write_list<T: Tree, S: ShapeSerializer>(
     sink.end_list()
 }
 
+// The same of a list of whole numbers.
+#[inline(never)]
+fn write_wholes<S: ShapeSerializer>(
+    sink: &mut S,
+    schema: &Schema<'_>,
+    numbers: &[i64],
+) -> Result<(), SerdeError>
+    requires fits { FitsOr schema.now.shapes.now schema.now.place true (list (values_of (whole_values numbers.now))) }
+    ensures failed { IsErrOf result Failed ↔ (S.failed sink.old ≡ true) }
+    ensures broken { IsErr result ↔ (S.failed sink.new ≡ true) }
+    ensures ok { OnOk result (write S.after (site_of schema.now) (list (values_of (whole_values numbers.now))) (S.state sink.old) ≡ Ok (S.state sink.new)) }
+    ensures refused { IfErr result (λ e. IsFault e → write S.after (site_of schema.now) (list (values_of (whole_values numbers.now))) (S.state sink.old) ≡ Err e) }
+{
+    let Some(member) = schema.member() else {
+        unreachable!()
+    };
+    let element_schema = member.nameless();
+    sink.begin_list(schema, Some(numbers.len()))?;
+    for number in numbers {
+        write_whole(sink, &element_schema, i128::from(*number))?;
+    }
+    sink.end_list()
+}
+
 #[cycle(write)]
 #[inline(never)]
 fn write_structure<T: Tree, S: ShapeSerializer>(
@@ -157,6 +184,28 @@ fn write_union<T: Tree, S: ShapeSerializer>(
     };
     sink.begin_struct(schema)?;
     write_tree::<T, S>(alloc, sink, &member, value)?;
+    sink.end_struct()
+}
+
+// The same of a union whose value is a text.
+#[inline(never)]
+fn write_union_text<S: ShapeSerializer>(
+    sink: &mut S,
+    schema: &Schema<'_>,
+    position: u32,
+    content: &str,
+) -> Result<(), SerdeError>
+    requires fits { FitsOr schema.now.shapes.now schema.now.place true (union position (scalar_value (text content.now))) }
+    ensures failed { IsErrOf result Failed ↔ (S.failed sink.old ≡ true) }
+    ensures broken { IsErr result ↔ (S.failed sink.new ≡ true) }
+    ensures ok { OnOk result (write S.after (site_of schema.now) (union position (scalar_value (text content.now))) (S.state sink.old) ≡ Ok (S.state sink.new)) }
+    ensures refused { IfErr result (λ e. IsFault e → write S.after (site_of schema.now) (union position (scalar_value (text content.now))) (S.state sink.old) ≡ Err e) }
+{
+    let Some(member) = schema.member_at(position) else {
+        unreachable!()
+    };
+    sink.begin_struct(schema)?;
+    sink.write_string(&member, content)?;
     sink.end_struct()
 }
 

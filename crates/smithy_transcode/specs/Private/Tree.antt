@@ -1,5 +1,5 @@
 -- What a tree is at its root, and the tree of a transcoding, seen as the values that they stand for.
-use Rattle.std.specs.Prelude.{ℕ, List, map as mapped, String, string_bytes, box_value}
+use Rattle.std.specs.Prelude.{ℕ, ℤ, List, map as mapped, String, string_bytes, box_value}
 use Rattle.std.specs.declared.alloc.Global.{Global}
 use Rattle.smithy_schema.specs.Value.{Value, scalar_value, boolean, whole, text, bytes, list, map, structure, union, null_element, values_of, MapEntries, MemberValues}
 use Rattle.smithy_transcode.specs.View.{map_entries_of, member_values_of}
@@ -23,6 +23,13 @@ entry_views {T} view es = map_entries_of (mapped (λ (e : String Global × T). (
 abbrev pub member_views : {T : Type 0} → (T → Value) → List (ℕ × T) → MemberValues
 member_views {T} view ms = member_values_of (mapped (λ (m : ℕ × T). (m.0, view m.1)) ms)
 
+-- whole numbers as the values that they stand for
+abbrev pub whole_value : ℤ → Value
+whole_value n = scalar_value (whole n)
+
+abbrev pub whole_values : List ℤ → List Value
+whole_values ns = mapped whole_value ns
+
 -- the value of a tree, by its root
 abbrev pub part_view : {T : Type 0} → (T → Value) → Part T → Value
 part_view view (parts.Boolean b) = scalar_value (boolean b)
@@ -30,9 +37,11 @@ part_view view (parts.Whole n) = scalar_value (whole n)
 part_view view (parts.Text s) = scalar_value (text s.now)
 part_view view (parts.Bytes b) = scalar_value (bytes b.now)
 part_view view (parts.List vs) = list (values_of (mapped view vs.now))
+part_view view (parts.Wholes ns) = list (values_of (whole_values ns.now))
 part_view view (parts.Map es) = map (entry_views view (entries es))
 part_view view (parts.Structure members) = structure (member_views view (entries members))
 part_view view (parts.Union n v) = union n (view v.now)
+part_view view (parts.UnionText n s) = union n (scalar_value (text s.now))
 part_view view parts.Null = null_element
 
 -- ---- the tree of a transcoding
@@ -44,11 +53,13 @@ compact_step (CompactValue-F.Whole n) = scalar_value (whole n)
 compact_step (CompactValue-F.Text s) = scalar_value (text (string_bytes s))
 compact_step (CompactValue-F.Bytes b) = scalar_value (bytes b)
 compact_step (CompactValue-F.List v) = list (values_of v.items)
+compact_step (CompactValue-F.Wholes v) = list (values_of (whole_values v.items))
 compact_step (CompactValue-F.Map m) = map (map_entries_of m.items)
 compact_step (CompactValue-F.TreeMap m) = map (map_entries_of m.entries)
 compact_step (CompactValue-F.Structure m) = structure (member_values_of m.items)
 compact_step (CompactValue-F.StructureMap m) = structure (member_values_of m.entries)
 compact_step (CompactValue-F.Union n v) = union n (box_value v)
+compact_step (CompactValue-F.UnionText n s) = union n (scalar_value (text (string_bytes s)))
 compact_step CompactValue-F.Null = null_element
 
 abbrev pub compact_view : kept.CompactValue → Value

@@ -8,7 +8,6 @@ use Rattle.smithy_transcode.proofs.ReadStructures.{member_child, member_read, un
 use Rattle.smithy_transcode.proofs.ReadLists.{begin_list, element_read, null_read, element_refused, null_refused, element_place}
 use Rattle.smithy_transcode.proofs.ReadMaps.{begin_map, entry_read, null_entry_read, entry_refused, null_entry_refused, value_place, entry_falls}
 use Rattle.smithy_transcode.proofs.ReadUnions.{begin_union, variant_read, no_first, no_end, step_input, had_not_failed, union_has_members, is_not_failed, is_not_unwritable, is_not_deep}
-use Rattle.smithy_transcode.proofs.ReadViews.{map-push}
 use Rattle.smithy_transcode.proofs.reading.+read.Goals as goal
 use Rattle.smithy_transcode.proofs.reading.+read.Goals.{read_list-else-sparse-via-then-sparse+else-is_null, read_list-else-sparse-via-else-sparse, read_map-else-sparse-via-then-sparse+else-is_null, read_map-else-sparse-via-else-sparse}
 
@@ -218,8 +217,8 @@ read_list-loop-elements-init g t c =
     let same = itself (g.D.ShapeDeserializer.wire s0) in
     record {
       same = c.open_list.ensures.same;
-      inside = rw c.new-elements.ensures.items (begin_list _ _ _ laws laws same _ _ _ _ c.requires.place c.in_ok-open_list.ensures.ok);
-      would = rw c.new-elements.ensures.items (begin_list _ _ _ laws over above _ _ _ _ c.requires.place c.in_ok-open_list.ensures.ok);
+      inside = rw c.no_elements-elements.ensures (begin_list _ _ _ laws laws same _ _ _ _ c.requires.place c.in_ok-open_list.ensures.ok);
+      would = rw c.no_elements-elements.ensures (begin_list _ _ _ laws over above _ _ _ _ c.requires.place c.in_ok-open_list.ensures.ok);
       counted = λ strict before. entry_counted _ (counts strict) _ _ _ _ _ _ c.in_ok-open_list.ensures.ok before;
     }
 
@@ -306,9 +305,9 @@ read_list-loop-elements-preserved-then-is_null g t c =
     let passes = c.in_ok-read_null.ensures.passes (sym c.is_null.ensures ∙ c.if-is_null.true) in
     record {
       same = search rules;
-      inside = rw (c.in_ok-push.ensures.items, map-push g.T.Tree.view c.loop-elements.elements.items c.null.result, c.null.ensures)
+      inside = rw (c.in_ok-push_element.ensures.ok, c.null.ensures)
           (null_read _ _ _ laws same _ _ _ _ _ _ _ inside step (c.is_sparse-sparse.ensures.0 c.if-sparse.true) nulls passes);
-      would = rw (c.in_ok-push.ensures.items, map-push g.T.Tree.view c.loop-elements.elements.items c.null.result, c.null.ensures)
+      would = rw (c.in_ok-push_element.ensures.ok, c.null.ensures)
           (null_read _ _ _ over above _ _ _ _ _ _ _ would step (c.is_sparse-sparse.ensures.0 c.if-sparse.true) nulls passes);
       counted = λ strict before. null_counted _ (counts strict) _ _ nulls passes (step_counted _ (counts strict) _ _ _ _ _ step (c.loop-elements.invariant.counted strict before));
     }
@@ -375,9 +374,9 @@ read_list-loop-elements-preserved g t c =
     let reads = rw (c.next_element.ensures.same, c.loop-elements.invariant.same, place.0) at c.in_ok-item.ensures.ok in
     record {
       same = search rules;
-      inside = rw (c.in_ok-push-2.ensures.items, map-push g.T.Tree.view c.loop-elements.elements.items c.in_ok-item.item)
+      inside = rw c.in_ok-push_element-2.ensures.ok
           (element_read _ _ _ laws same _ _ _ _ _ _ c.in-Some.element.place _ _ _ inside step place.1 reads);
-      would = rw (c.in_ok-push-2.ensures.items, map-push g.T.Tree.view c.loop-elements.elements.items c.in_ok-item.item)
+      would = rw c.in_ok-push_element-2.ensures.ok
           (element_read _ _ _ over above _ _ _ _ _ _ c.in-Some.element.place _ _ _ would step place.1 reads);
       counted = λ strict before. value_counted _ (counts strict) _ _ _ _ _ reads (step_counted _ (counts strict) _ _ _ _ _ step (c.loop-elements.invariant.counted strict before));
     }

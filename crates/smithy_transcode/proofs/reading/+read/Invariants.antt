@@ -1,4 +1,4 @@
-use Rattle.std.proofs.Common.{◌≡◌, map, ◌+◌, ◌*◌, ◌-◌}
+use Rattle.std.proofs.Common.{◌≡◌, ◌+◌, ◌*◌, ◌-◌}
 use Rattle.smithy_schema.specs.Reading.{depth, in_structure, in_list, in_map, IsCounted}
 use Rattle.smithy_schema.specs.Table.{kind_of, is_sparse}
 use Rattle.smithy_transcode.proofs.ReadStructures.{structure_value}
@@ -48,8 +48,8 @@ invariant-read_list-loop-elements g l =
     let c = d.settings l.fn.source in
     record {
       same : d.settings l.source ≡ d.settings l.fn.source;
-      inside : InContainer (d.wire c) (d.wire c) (d.max_depth c) (d.state l.fn.source) (d.state l.source) l.schema.shapes.now l.schema.place in_list (list_value (is_sparse (kind_of l.schema.shapes.now l.schema.place)) (map g.T.Tree.view l.elements.items));
-      would : InContainer (d.wire c) (d.lifted c) (d.max_depth c) (d.state l.fn.source) (d.state l.source) l.schema.shapes.now l.schema.place in_list (list_value (is_sparse (kind_of l.schema.shapes.now l.schema.place)) (map g.T.Tree.view l.elements.items));
+      inside : InContainer (d.wire c) (d.wire c) (d.max_depth c) (d.state l.fn.source) (d.state l.source) l.schema.shapes.now l.schema.place in_list (list_value (is_sparse (kind_of l.schema.shapes.now l.schema.place)) (g.T.Tree.view_elements l.elements));
+      would : InContainer (d.wire c) (d.lifted c) (d.max_depth c) (d.state l.fn.source) (d.state l.source) l.schema.shapes.now l.schema.place in_list (list_value (is_sparse (kind_of l.schema.shapes.now l.schema.place)) (g.T.Tree.view_elements l.elements));
       counted : d.is_strict c → IsCounted (d.wire c) (d.state l.fn.source) → IsCounted (d.wire c) (d.state l.source);
     }
 

@@ -29,7 +29,7 @@ pub write_list-write_tree-requires : goal.write_list-write_tree-requires
 write_list-write_tree-requires g t c κs within =
     let next = lists.next_element g.T.Tree.view c.args.elements.now c.loop-element.element-index c.element-item.result c.loop-element-test.true c.element-item.is in
     let smaller = (lists.element_nests (mapped g.T.Tree.view c.args.elements.now) _ _ _ next c.loop-element.invariant.nests).0 in
-    (omega (arith, smaller, c.decreases), (search rules, (search rules, (search rules, (search rules, lists.element_fits (site_of c.args.schema.now) (site_of c.in-Some.member) (site_of c.nameless-element_schema.result) _ _ _ (inner_element (site_of c.args.schema.now) _ c.requires.fits.0 c.in-Some.ensures) c.nameless-element_schema.ensures next c.loop-element.invariant.fits)))))
+    (omega (arith, smaller, c.decreases), (search rules, (search rules, (search rules, (search rules, (search rules, lists.element_fits (site_of c.args.schema.now) (site_of c.in-Some.member) (site_of c.nameless-element_schema.result) _ _ _ (inner_element (site_of c.args.schema.now) _ c.requires.fits.0 c.in-Some.ensures) c.nameless-element_schema.ensures next c.loop-element.invariant.fits))))))
 
 pub write_list-returns-in_err-write_tree-clause-refused :
     goal.write_list-returns-in_err-write_tree-clause-refused
@@ -56,7 +56,7 @@ write_structure-write_tree-requires g t c κs within =
     let next = ap (member_views g.T.Tree.view) c.in-Some.ensures in
     let smaller = (structures.member_nests (member_views g.T.Tree.view (entries c.args.members)) _ _ _ _ next c.loop-position.invariant.nests).0 in
     let fits = structures.member_fits (site_of c.args.schema.now) (site_of c.in-Some-member_at.member_schema) c.in-Some.position.now (g.T.Tree.view c.in-Some.member.now) _ _ c.requires.fits.0 c.in-Some-member_at.ensures next c.loop-position.invariant.fits in
-    (omega (arith, smaller, c.decreases), (search rules, (search rules, (search rules, (search rules, fits)))))
+    (omega (arith, smaller, c.decreases), (search rules, (search rules, (search rules, (search rules, (search rules, fits))))))
 
 pub write_structure-loop-position-preserved : goal.write_structure-loop-position-preserved
 write_structure-loop-position-preserved g t c =
@@ -81,7 +81,7 @@ write_structure-returns-in_err-write_tree-clause-refused g t c =
 pub write_union-write_tree-requires : goal.write_union-write_tree-requires
 write_union-write_tree-requires g t c κs within =
     let fits = unions.variant_fits (site_of c.args.schema.now) (site_of c.in-Some.member) c.args.index (g.T.Tree.view c.args.value.now) c.requires.fits.0 c.in-Some.ensures c.requires.fits.1 in
-    (omega (arith, c.decreases), (search rules, (search rules, (search rules, (search rules, fits)))))
+    (omega (arith, c.decreases), (search rules, (search rules, (search rules, (search rules, (search rules, fits))))))
 
 pub write_union-returns-in_err-write_tree-clause-refused :
     goal.write_union-returns-in_err-write_tree-clause-refused
@@ -127,7 +127,7 @@ write_map-write_tree-requires g t c κs within =
     let inner = inner_value (site_of c.args.schema.now) (site_of c.in-Some-member.member) c.requires.fits.0 c.in-Some-member.ensures in
     let smaller = (maps.entry_nests (entry_views g.T.Tree.view (entries c.args.entries)) _ _ _ _ next c.loop-key.invariant.nests).0 in
     let fits = maps.value_fits (site_of c.args.schema.now) (site_of c.in-Some-member.member) (site_of c.nameless-value_schema.result) _ (g.T.Tree.view c.in-Some-next_entry.value.now) _ _ c.requires.fits.0 inner c.nameless-value_schema.ensures next c.loop-key.invariant.fits in
-    (omega (arith, smaller, c.decreases), (search rules, (search rules, (search rules, (search rules, fits)))))
+    (omega (arith, smaller, c.decreases), (search rules, (search rules, (search rules, (search rules, (search rules, fits))))))
 
 pub write_map-loop-key-preserved : goal.write_map-loop-key-preserved
 write_map-loop-key-preserved g t c =
