@@ -73,7 +73,7 @@ fn two_members<T: Tree>(alloc: Global) -> Result<T, SerdeError> {
     let mut members = T::no_members(alloc);
     T::set_member(alloc, &mut members, 2, T::null())?;
     T::set_member(alloc, &mut members, 0, T::whole(7))?;
-    T::set_member(alloc, &mut members, 2, T::list(Vec::new(alloc)))?;
+    T::set_member(alloc, &mut members, 2, T::list(T::no_elements(alloc)))?;
     Ok(T::structure(members))
 }
 
@@ -88,10 +88,12 @@ fn has_two_members<T: Tree>(tree: &T) -> bool {
     let Some((&2, elements)) = left.next_entry() else {
         return false;
     };
-    let Part::List(none) = elements.part() else {
-        return false;
+    let is_empty = match elements.part() {
+        Part::List(values) => values.is_empty(),
+        Part::Wholes(numbers) => numbers.is_empty(),
+        _ => false,
     };
-    matches!(number.part(), Part::Whole(7)) && none.is_empty() && left.next_entry().is_none()
+    matches!(number.part(), Part::Whole(7)) && is_empty && left.next_entry().is_none()
 }
 
 #[test]
@@ -100,6 +102,34 @@ fn a_tree_has_its_members_in_order(rt: HostRuntime) -> Result<(), Fail> {
     assert!(rt; has_two_members(&value), "the public value");
     let compact: CompactValue = two_members(rt.alloc())?;
     assert!(rt; has_two_members(&compact), "the compact value");
+    Ok(())
+}
+
+// A list of a number and a null.
+fn number_and_null<T: Tree>(alloc: Global) -> Result<T, SerdeError> {
+    let mut elements = T::no_elements(alloc);
+    T::push_element(alloc, &mut elements, T::whole(7))?;
+    T::push_element(alloc, &mut elements, T::null())?;
+    Ok(T::list(elements))
+}
+
+// Whether a tree is that list.
+fn has_number_and_null<T: Tree>(tree: &T) -> bool {
+    let Part::List(elements) = tree.part() else {
+        return false;
+    };
+    let [number, null] = elements else {
+        return false;
+    };
+    matches!(number.part(), Part::Whole(7)) && matches!(null.part(), Part::Null)
+}
+
+#[test]
+fn a_tree_has_its_elements_in_order(rt: HostRuntime) -> Result<(), Fail> {
+    let value: Value = number_and_null(rt.alloc())?;
+    assert!(rt; has_number_and_null(&value), "the public value");
+    let compact: CompactValue = number_and_null(rt.alloc())?;
+    assert!(rt; has_number_and_null(&compact), "the compact value");
     Ok(())
 }
 
