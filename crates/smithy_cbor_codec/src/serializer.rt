@@ -34,6 +34,7 @@ pub struct CborSerializer {
 }
 
 // Writes the name of a member; nothing for what has none.
+#[inline(never)]
 fn write_name(encoder: &mut Encoder, schema: &Schema<'_>) -> Result<(), AllocError>
     ensures { OnOk result (encoder.new ≡ encoder.old ++ key_bytes (site_of schema.now).view) }
 {
@@ -71,6 +72,7 @@ impl CborSerializer {
 
     // Begins the call of a value: with the name of a member. Where a map's key is due no value comes, and behind a map's
     // value a key is due.
+    #[inline(always)]
     fn begin_value(&mut self, schema: &Schema<'_>) -> Result<(), SerdeError>
         ensures failed { IsErrOf result Failed ↔ (has_failed self.old ≡ true) }
         ensures broken { has_failed self.new ≡ true }

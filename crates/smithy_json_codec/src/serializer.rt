@@ -69,6 +69,7 @@ fn push_base64(out: &mut Vec<u8>, bytes: &[u8]) -> Result<(), AllocError>
 }
 
 // The key of a member, with its colon; nothing for what has no name.
+#[inline(never)]
 fn push_key(out: &mut Vec<u8>, use_json_name: bool, schema: &Schema<'_>) -> Result<(), AllocError>
     ensures { OnOk result (out.new.items ≡ out.old.items ++ key_text use_json_name (site_of schema.now).view) }
 {
@@ -81,6 +82,7 @@ fn push_key(out: &mut Vec<u8>, use_json_name: bool, schema: &Schema<'_>) -> Resu
     push_name(out, member_name)
 }
 
+#[inline(always)]
 fn push_comma(out: &mut Vec<u8>, needs_comma: bool) -> Result<(), AllocError>
     ensures { OnOk result (out.new.items ≡ out.old.items ++ comma_text needs_comma) }
 {
@@ -92,6 +94,7 @@ fn push_comma(out: &mut Vec<u8>, needs_comma: bool) -> Result<(), AllocError>
 
 // Begins a value: with a comma where one is due, and the name of a member. Where a map's key is due no value comes, and
 // behind a map's value a key is due.
+#[inline(always)]
 fn begin_value(
     out: &mut Vec<u8>,
     stack: &mut Vec<Container>,
@@ -140,6 +143,7 @@ impl<'c> JsonSerializer<'c> {
     }
 
     // Begins a value as `begin_value` does.
+    #[inline(always)]
     fn begin(&mut self, schema: &Schema<'_>) -> Result<(), SerdeError>
         ensures same { (state_of self.new).use_json_name ≡ (state_of self.old).use_json_name }
         ensures broken { has_failed self.new ≡ has_failed self.old }

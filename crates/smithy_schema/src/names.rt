@@ -5,6 +5,9 @@ ghost use Rattle.smithy_schema.specs.Private.Order.{IsOrderOf};
 
 use std::alloc::{AllocError, Global};
 
+// So many names are looked through one by one, which takes less time than a search in their order.
+const FEW: usize = 8;
+
 /// Names by their positions, from 0.
 pub(crate) trait Named {
     ghost names: { Self → List (List ℕ) };
@@ -34,6 +37,9 @@ pub(crate) fn position_of<N: Named>(named: &N, order: &[usize], name: &str) -> O
     requires { IsOrderOf (N.names named.now) order.now }
     ensures { result ≡ first_position (λ n. bytes_eq n name.now) (N.names named.now) }
 {
+    if named.count() <= FEW {
+        return position_among_few(named, name);
+    }
     let mut low = 0;
     let mut high = order.len();
     while low < high {
@@ -49,6 +55,21 @@ pub(crate) fn position_of<N: Named>(named: &N, order: &[usize], name: &str) -> O
     } else {
         None
     }
+}
+
+// The first position of a name, whatever their order.
+fn position_among_few<N: Named>(named: &N, name: &str) -> Option<usize>
+    ensures { result ≡ first_position (λ n. bytes_eq n name.now) (N.names named.now) }
+{
+    let count = named.count();
+    let mut position = 0;
+    while position < count {
+        if named.name_at(position) == name {
+            return Some(position);
+        }
+        position += 1;
+    }
+    None
 }
 
 /// Whether two of the names are equal.
