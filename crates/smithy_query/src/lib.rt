@@ -6,4 +6,5 @@ mod percent;
 mod tests;
 mod writer;
 
+pub use percent::push_encoded;
 pub use writer::{QueryListWriter, QueryMapWriter, QueryValueWriter, QueryWriter};

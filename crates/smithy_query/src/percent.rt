@@ -22,3 +22,14 @@ pub(crate) fn append_encoded(out: &mut String, text: &str) -> Result<(), AllocEr
 {
     percent_encode(text.as_bytes(), FORM_SET).append_to(out)
 }
+
+/// Adds a text with its escapes to bytes, of which a part may stand where memory is refused.
+#[tactic(auto, using(crate::proofs::PercentLemmas::encode_form))]
+pub fn push_encoded(out: &mut Vec<u8>, text: &str) -> Result<(), AllocError>
+    ensures ok { OnOk result (out.new.items ≡ out.old.items ++ encoded text.now) }
+{
+    for piece in percent_encode(text.as_bytes(), FORM_SET) {
+        out.extend_from_slice(piece.as_bytes())?;
+    }
+    Ok(())
+}

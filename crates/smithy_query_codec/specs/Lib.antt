@@ -1,0 +1,13 @@
+-- to be believed, in this order
+pub mod Leaves
+pub mod Canonical
+pub mod Nulls
+pub mod Counts
+pub mod Distinct
+-- for contracts
+pub mod Writing
+pub mod Serializing
+-- that the calls of writing nest
+pub mod Nesting
+-- for private clauses, and for the laws
+pub mod Private

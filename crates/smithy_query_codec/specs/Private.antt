@@ -1,0 +1,2 @@
+-- for the laws of writing
+pub mod MadeStates
