@@ -1,9 +1,9 @@
 -- What contracts see of a serializer.
 use Rattle.std.specs.Prelude.{List, map as mapped, reverse, Bool, true, false, Option, Some, None}
 use Rattle.smithy_schema.specs.Writing.{Open, open_structure, open_list, open_map_at_key, open_map_at_value}
-use Rattle.smithy_query_codec.specs.declared.serializer.Container.{Container}
-use Rattle.smithy_query_codec.specs.declared.serializer.Container.TheVariants.{Structure, List as Listed, MapAtKey, MapAtValue}
-use Rattle.smithy_query_codec.specs.declared.serializer.OpenContainer.{OpenContainer}
+use Rattle.smithy_query_codec.specs.declared.containers.Container.{Container}
+use Rattle.smithy_query_codec.specs.declared.containers.Container.TheVariants.{Structure, List as Listed, MapAtKey, MapAtValue}
+use Rattle.smithy_query_codec.specs.declared.containers.OpenContainer.{OpenContainer}
 use Rattle.smithy_query_codec.specs.declared.serializer.QueryShapeSerializer.{QueryShapeSerializer}
 use Rattle.smithy_query_codec.specs.Leaves.{Stand, flat_member, member, neither}
 use Rattle.smithy_query_codec.specs.Writing.{Mark, QueryState}

@@ -15,12 +15,11 @@ use Rattle.smithy_json_codec.specs.Standing.{json_relations}
 use Rattle.smithy_cbor_codec.specs.Codec.{strict_settings as strict_cbor}
 use Rattle.smithy_cbor_codec.specs.Settings.{Settings as CborSettings, without_limits as without_cbor_limits}
 use Rattle.smithy_cbor_codec.specs.Standing.{cbor_relations}
-use Rattle.smithy_transcode.specs.declared.wire.Wire.{Wire}
-use Rattle.smithy_transcode.specs.declared.wire.Wire.TheVariants.{Json, Cbor}
+use Rattle.smithy_transcode.specs.Wires.{Wire, json, cbor}
 use Rattle.smithy_transcode.specs.Causes.{openers}
 use Rattle.smithy_transcode.specs.Spelling.{Spells}
 use Rattle.smithy_transcode.specs.Transcoding.{SpellNothing, SpellNothingAtAnyDepth}
-use Rattle.smithy_transcode.proofs.Spelled.{relations_of, lifted_of, StandsFirst, stands_is_spelled, spelled_stands, spelled_stands_at_any_depth, empty_is_spelled, openers_are}
+use Rattle.smithy_transcode.proofs.Spelled.{IsReadable, relations_of, lifted_of, StandsFirst, stands_is_spelled, spelled_stands, spelled_stands_at_any_depth, empty_is_spelled, openers_are}
 
 -- a reader with these relations stands at the start of a body of the root, whose schema is at hand
 pub record Begins (w : Wire) (r l : Relations) (max : ℕ) (old : Cursor) (s : Schema) (t : Table) (root : ℕ) (i : List ℕ) : Type 1 where
@@ -30,8 +29,9 @@ pub record Begins (w : Wire) (r l : Relations) (max : ℕ) (old : Cursor) (s : S
   pub fresh : old ≡ fresh_cursor i
   pub site : site_of s ≡ shape_site t root
   pub kind : IsStructure (kind_of t (shape_place root))
+  pub read : IsReadable w
 
-pub json_begins : (w : Wire) (b : Bool) (o : Settings) (old : Cursor) (s : Schema) (t : Table) (root : ℕ) (i : List ℕ) → w ≡ Json b → o ≡ strict_settings b
+pub json_begins : (w : Wire) (b : Bool) (o : Settings) (old : Cursor) (s : Schema) (t : Table) (root : ℕ) (i : List ℕ) → w ≡ json b → o ≡ strict_settings b
     → old ≡ fresh_cursor i → site_of s ≡ shape_site t root → IsStructure (kind_of t (shape_place root))
     → Begins w (json_relations o) (json_relations (without_limits o)) o.max_depth old s t root i
 json_begins w b o old s t root i wire same fresh site kind = record {
@@ -41,9 +41,10 @@ json_begins w b o old s t root i wire same fresh site kind = record {
   fresh = fresh;
   site = site;
   kind = kind;
+  read = subst IsReadable (sym wire) tt;
 }
 
-pub cbor_begins : (w : Wire) (o : CborSettings) (old : Cursor) (s : Schema) (t : Table) (root : ℕ) (i : List ℕ) → w ≡ Cbor → o ≡ strict_cbor
+pub cbor_begins : (w : Wire) (o : CborSettings) (old : Cursor) (s : Schema) (t : Table) (root : ℕ) (i : List ℕ) → w ≡ cbor → o ≡ strict_cbor
     → old ≡ fresh_cursor i → site_of s ≡ shape_site t root → IsStructure (kind_of t (shape_place root))
     → Begins w (cbor_relations o) (cbor_relations (without_cbor_limits o)) o.max_depth old s t root i
 cbor_begins w o old s t root i wire same fresh site kind = record {
@@ -53,6 +54,7 @@ cbor_begins w o old s t root i wire same fresh site kind = record {
   fresh = fresh;
   site = site;
   kind = kind;
+  read = subst IsReadable (sym wire) tt;
 }
 
 module _ {w : Wire} {r l : Relations} {max : ℕ} {old : Cursor} {s : Schema} {t : Table} {root : ℕ} {i : List ℕ} (begins : Begins w r l max old s t root i) where
@@ -68,7 +70,7 @@ module _ {w : Wire} {r l : Relations} {max : ℕ} {old : Cursor} {s : Schema} {t
       let here : Reads r old new t (shape_place root) v = subst (λ (x : Site). Reads r old new x.table x.place v) begins.site h in
       let first : Reads r (fresh_cursor i) new t (shape_place root) v = subst (λ c. Reads r c new t (shape_place root) v) begins.fresh here in
       let kept : Reads (relations_of w) (fresh_cursor i) new t (shape_place root) v = subst (λ z. Reads z (fresh_cursor i) new t (shape_place root) v) begins.keeps first in
-      stands_is_spelled w t root i v begins.kind (new.at, kept.stands)
+      stands_is_spelled w t root i v begins.read begins.kind (new.at, kept.stands)
 
   -- where nothing stands, nothing is spelled
   pub unread_spells_nothing : StandsNot r old s.shapes.now s.place → SpellNothing w t root i
@@ -85,7 +87,7 @@ module _ {w : Wire} {r l : Relations} {max : ℕ} {old : Cursor} {s : Schema} {t
   -- an input that spells nothing isn't empty
   spells_nothing_is_some : (j : List ℕ) → i ≡ j → SpellNothing w t root i → 0 < length j
   spells_nothing_is_some [] is nothing =
-      absurd (subst (λ j. SpellNothing w t root j) is nothing (structure no_member_values) (empty_is_spelled w t root begins.kind))
+      absurd (subst (λ j. SpellNothing w t root j) is nothing (structure no_member_values) (empty_is_spelled w t root begins.read begins.kind))
   spells_nothing_is_some (b ∷ j) is nothing = omega arith
 
   -- and where the greatest depth is reached, as many containers are open at once in the whole input
@@ -98,7 +100,7 @@ module _ {w : Wire} {r l : Relations} {max : ℕ} {old : Cursor} {s : Schema} {t
       let opened : max ≤ r.openers new.input = reaches_openers r max new some (counted start) reaches in
       let here : max ≤ r.openers i = subst (λ j. max ≤ r.openers j) whole opened in
       let kept : max ≤ (relations_of w).openers i = subst (λ (z : Relations). max ≤ z.openers i) begins.keeps here in
-      let bytes : max ≤ openers w i = subst (λ n. max ≤ n) (openers_are w i) kept in
+      let bytes : max ≤ openers w i = subst (λ n. max ≤ n) (openers_are w i begins.read) kept in
       subst (λ n. n ≤ openers w i) begins.greatest bytes
 
   pub deep_opens : {A : Type 0} (answer : Result A SerdeError) (new : Cursor) → (IsRefused answer → StandsNot r old s.shapes.now s.place) → new.input ≡ old.input

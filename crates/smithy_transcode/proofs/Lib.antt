@@ -6,6 +6,7 @@ mod Inner
 mod Lists
 pub mod Mapped
 mod Maps
+mod NullsHeld
 mod ReadContainers
 mod ReadLists
 mod ReadMaps
@@ -14,5 +15,5 @@ mod ReadUnions
 mod ReadViews
 pub mod Spelled
 mod Structures
-mod Transcodings
+pub mod Transcodings
 mod Unions

@@ -15,7 +15,7 @@ use Rattle.smithy_schema.proofs.WritingLemmas.{call_made, call_refused, child_wr
 abbrev pub list_rest : Site → List Value → List Event
 list_rest site vs = element_events (element_of site) (values_of vs) ++ end_list ∷ []
 
-count-elements : (vs : List Value) → count_of (values_of vs) ≡ length vs
+pub count-elements : (vs : List Value) → count_of (values_of vs) ≡ length vs
 count-elements [] = refl
 count-elements (v ∷ vs) = ap suc (count-elements vs)
 

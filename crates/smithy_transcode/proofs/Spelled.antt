@@ -11,46 +11,55 @@ use Rattle.smithy_cbor_codec.specs.Codec.{strict_settings as strict_cbor}
 use Rattle.smithy_cbor_codec.specs.Settings.{without_limits as without_cbor_limits}
 use Rattle.smithy_cbor_codec.specs.Standing.{cbor_relations}
 use Rattle.smithy_cbor_codec.proofs.SpellingLemmas.{stands_spells as cbor_stands_spells, spells_stands as cbor_spells_stands}
-use Rattle.smithy_transcode.specs.declared.wire.Wire.{Wire}
-use Rattle.smithy_transcode.specs.declared.wire.Wire.TheVariants.{Json, Cbor}
+use Rattle.smithy_transcode.specs.Wires.{Wire, json, cbor, query}
 use Rattle.smithy_transcode.specs.Spelling.{Spells, SpellsAtAnyDepth}
 use Rattle.smithy_transcode.specs.Causes.{openers}
 
--- the relations under which bodies are read
+-- bodies of the wire are read
+abbrev pub IsReadable : Wire → Type 0
+IsReadable (query action version) = ⊥
+IsReadable _ = Unit {0}
+
+-- the relations under which they are: those of CBOR stand for a form, which isn't
 abbrev pub relations_of : Wire → Relations
-relations_of (Json use_json_name) = json_relations (strict_settings use_json_name)
-relations_of Cbor = cbor_relations strict_cbor
+relations_of (json use_json_name) = json_relations (strict_settings use_json_name)
+relations_of _ = cbor_relations strict_cbor
 
 -- the same with the limits lifted
 abbrev pub lifted_of : Wire → Relations
-lifted_of (Json use_json_name) = json_relations (without_limits (strict_settings use_json_name))
-lifted_of Cbor = cbor_relations (without_cbor_limits strict_cbor)
+lifted_of (json use_json_name) = json_relations (without_limits (strict_settings use_json_name))
+lifted_of _ = cbor_relations (without_cbor_limits strict_cbor)
 
 -- a value of the place stands at the start
 abbrev pub StandsFirst : Relations → Table → ℕ → List ℕ → Value → Type 0
 StandsFirst w t root i v = (e : ℕ) × w.stands i t (shape_place root) 0 0 v e
 
-pub stands_is_spelled : (w : Wire) (t : Table) (root : ℕ) (i : List ℕ) (v : Value) → IsStructure (kind_of t (shape_place root))
+pub stands_is_spelled : (w : Wire) (t : Table) (root : ℕ) (i : List ℕ) (v : Value) → IsReadable w → IsStructure (kind_of t (shape_place root))
     → StandsFirst (relations_of w) t root i v → Spells w t root i v
-stands_is_spelled (Json b) t root i v kind h = stands_spells (strict_settings b) t (shape_place root) i v h.0 (structure_is_container (kind_of t (shape_place root)) kind) h.1
-stands_is_spelled Cbor t root i v kind h = cbor_stands_spells strict_cbor t (shape_place root) i v h.0 h.1
+stands_is_spelled (json b) t root i v read kind h = stands_spells (strict_settings b) t (shape_place root) i v h.0 (structure_is_container (kind_of t (shape_place root)) kind) h.1
+stands_is_spelled cbor t root i v read kind h = cbor_stands_spells strict_cbor t (shape_place root) i v h.0 h.1
+stands_is_spelled (query action version) t root i v read kind h = absurd read
 
 pub spelled_stands : (w : Wire) (t : Table) (root : ℕ) (i : List ℕ) (v : Value) → Spells w t root i v → StandsFirst (relations_of w) t root i v
-spelled_stands (Json b) t root i v h = spells_stands (strict_settings b) t (shape_place root) i v h
-spelled_stands Cbor t root i v h = cbor_spells_stands strict_cbor t (shape_place root) i v h
+spelled_stands (json b) t root i v h = spells_stands (strict_settings b) t (shape_place root) i v h
+spelled_stands cbor t root i v h = cbor_spells_stands strict_cbor t (shape_place root) i v h
+spelled_stands (query action version) t root i v h = absurd h
 
 pub spelled_stands_at_any_depth : (w : Wire) (t : Table) (root : ℕ) (i : List ℕ) (v : Value) → SpellsAtAnyDepth w t root i v
     → StandsFirst (lifted_of w) t root i v
-spelled_stands_at_any_depth (Json b) t root i v h = spells_stands (without_limits (strict_settings b)) t (shape_place root) i v h
-spelled_stands_at_any_depth Cbor t root i v h = cbor_spells_stands (without_cbor_limits strict_cbor) t (shape_place root) i v h
+spelled_stands_at_any_depth (json b) t root i v h = spells_stands (without_limits (strict_settings b)) t (shape_place root) i v h
+spelled_stands_at_any_depth cbor t root i v h = cbor_spells_stands (without_cbor_limits strict_cbor) t (shape_place root) i v h
+spelled_stands_at_any_depth (query action version) t root i v h = absurd h
 
 -- an empty input spells the structure without members
-pub empty_is_spelled : (w : Wire) (t : Table) (root : ℕ) → IsStructure (kind_of t (shape_place root))
+pub empty_is_spelled : (w : Wire) (t : Table) (root : ℕ) → IsReadable w → IsStructure (kind_of t (shape_place root))
     → Spells w t root [] (structure no_member_values)
-empty_is_spelled (Json b) t root kind = inr (refl, kind, refl, refl)
-empty_is_spelled Cbor t root kind = inr (refl, kind, refl, refl)
+empty_is_spelled (json b) t root read kind = inr (refl, kind, refl, refl)
+empty_is_spelled cbor t root read kind = inr (refl, kind, refl, refl)
+empty_is_spelled (query action version) t root read kind = absurd read
 
 -- what the relations count is what the bytes open
-pub openers_are : (w : Wire) (i : List ℕ) → (relations_of w).openers i ≡ openers w i
-openers_are (Json b) i = refl
-openers_are Cbor i = refl
+pub openers_are : (w : Wire) (i : List ℕ) → IsReadable w → (relations_of w).openers i ≡ openers w i
+openers_are (json b) i read = refl
+openers_are cbor i read = refl
+openers_are (query action version) i read = absurd read

@@ -1,5 +1,5 @@
 -- What the reading and the writing of one body say together.
-use Rattle.std.proofs.Common.{◌≡◌, ◌≤◌, ◌<◌, ◌^◌, length, ℕ, List, Result, Ok, Err, IsErrOf, refl, sym, ◌∙◌, ap, subst}
+use Rattle.std.proofs.Common.{◌≡◌, ◌≤◌, ◌<◌, ◌^◌, length, ℕ, List, All, Option, Some, None, Result, Ok, Err, IsErrOf, string_bytes, refl, sym, ◌∙◌, ap, subst}
 use Rattle.std.specs.declared.vec.Vec.{Vec}
 use Rattle.std.specs.declared.alloc.Global.{Global}
 use Rattle.smithy_schema.specs.Accepted.{IsAccepted}
@@ -7,7 +7,7 @@ use Rattle.smithy_schema.specs.declared.error.SerdeError.{SerdeError}
 use Rattle.smithy_schema.specs.declared.error.SerdeError.TheVariants as serde
 use Rattle.smithy_schema.specs.Fits.{Fits}
 use Rattle.smithy_schema.specs.Reading.{IsFault, IsRefused, IsInvalid}
-use Rattle.smithy_schema.specs.Table.{Table, shape_place}
+use Rattle.smithy_schema.specs.Table.{Table, IsStructure, kind_of, shape_place}
 use Rattle.smithy_schema.specs.Value.{Value, nesting}
 use Rattle.smithy_schema.specs.Site.{whole_view}
 use Rattle.smithy_json_codec.specs.Codec.{strict_settings}
@@ -16,66 +16,110 @@ use Rattle.smithy_json_codec.proofs.WrittenSpelling.{spelled_fits, shallow, cano
 use Rattle.smithy_cbor_codec.specs.Codec.{strict_settings as strict_cbor}
 use Rattle.smithy_cbor_codec.proofs.SpellingLemmas.{one_spelled as one_cbor_spelled}
 use Rattle.smithy_cbor_codec.proofs.WrittenSpelling.{spelled_fits as cbor_fits, shallow as cbor_shallow, canonical_spells as cbor_spells_again}
-use Rattle.smithy_transcode.specs.declared.wire.Wire.{Wire}
-use Rattle.smithy_transcode.specs.declared.wire.Wire.TheVariants.{Json, Cbor}
+use Rattle.smithy_transcode.specs.declared.wire.Unfit.{Unfit}
 use Rattle.smithy_transcode.specs.declared.wire.TranscodeError.{TranscodeError}
-use Rattle.smithy_transcode.specs.declared.wire.TranscodeError.TheVariants.{InvalidInput, TooDeep, NoMemory}
+use Rattle.smithy_transcode.specs.declared.wire.TranscodeError.TheVariants.{InvalidInput, TooDeep, Inexpressible, NoMemory}
+use Rattle.smithy_transcode.specs.Wires.{Wire, json, cbor, query, wire_of, unfit}
 use Rattle.smithy_transcode.specs.Causes.{openers}
 use Rattle.smithy_transcode.specs.Refusal.{Tells}
 use Rattle.smithy_transcode.specs.Spelling.{Spells, body}
-use Rattle.smithy_transcode.specs.Transcoding.{Transcodes, SpellNothing, SpellNothingAtAnyDepth, SpellsAlone}
+use Rattle.smithy_transcode.specs.declared.wire.Wire as kept
+use Rattle.smithy_transcode.specs.declared.wire.Wire.TheVariants as wires
+use Rattle.smithy_query_codec.proofs.ByteLemmas.{utf8_bytes}
+use Rattle.std.proofs.lemmas.Str.{IsUtf8-string_bytes}
+use Rattle.smithy_transcode.specs.Transcoding.{Transcodes, SpellNothing, SpellNothingAtAnyDepth, SpellsAlone, TellsAgain}
+use Rattle.smithy_transcode.specs.Private.Positions.{CanCount}
+use Rattle.smithy_transcode.proofs.Bodies.{form_tells}
 
 -- at most one value is spelled
-one_value : (w : Wire) (t : Table) (root : ℕ) (i : List ℕ) (v u : Value) → Spells w t root i v → Spells w t root i u → v ≡ u
-one_value (Json b) t root i v u h k = one_spelled (strict_settings b) t (shape_place root) i v u h k
-one_value Cbor t root i v u h k = one_cbor_spelled strict_cbor t (shape_place root) i v u h k
+pub one_value : (w : Wire) (t : Table) (root : ℕ) (i : List ℕ) (v u : Value) → Spells w t root i v → Spells w t root i u → v ≡ u
+one_value (json b) t root i v u h k = one_spelled (strict_settings b) t (shape_place root) i v u h k
+one_value cbor t root i v u h k = one_cbor_spelled strict_cbor t (shape_place root) i v u h k
+one_value (query action version) t root i v u h k = absurd h
 
 -- what is spelled is a value of the root, and nests no deeper than may be read
 pub spelled_is_small : (w : Wire) (t : Table) (root : ℕ) (i : List ℕ) (v : Value) → Spells w t root i v → Fits t (shape_place root) v × (nesting v ≤ 128)
-spelled_is_small (Json b) t root i v h =
+spelled_is_small (json b) t root i v h =
     (spelled_fits (strict_settings b) t (shape_place root) i v h, shallow (strict_settings b) t (shape_place root) i v refl h)
-spelled_is_small Cbor t root i v h =
+spelled_is_small cbor t root i v h =
     (cbor_fits strict_cbor t (shape_place root) i v h, cbor_shallow strict_cbor t (shape_place root) i v refl h)
+spelled_is_small (query action version) t root i v h = absurd h
 
--- and the body of such a value spells it, where its lengths fit into heads
-body_spells : (w : Wire) (t : Table) (root : ℕ) (v : Value) → IsAccepted t → Fits t (shape_place root) v → nesting v ≤ 128
-    → length (body w t root v) < 2 ^ 64 → Spells w t root (body w t root v) v
-body_spells (Json b) t root v accepted fits deep short = canonical_spells b t (shape_place root) whole_view v accepted fits deep
-body_spells Cbor t root v accepted fits deep short = cbor_spells_again t root v accepted fits deep short
+-- the action and the version of a form are texts of bytes
+abbrev HasByteTexts : Wire → Type 0
+HasByteTexts (query action version) = All (λ b. b < 256) action × All (λ b. b < 256) version
+HasByteTexts _ = Unit {0}
 
--- so the body of what one wire spells spells it in the other, and nothing else
-body_spells_alone : (from to : Wire) (t : Table) (root : ℕ) (i : List ℕ) (v : Value) → IsAccepted t → Spells from t root i v
-    → length (body to t root v) < 2 ^ 64 → SpellsAlone to t root (body to t root v) v
-body_spells_alone from to t root i v accepted h short =
+pub has_byte_texts : (w : kept.Wire) → HasByteTexts (wire_of w)
+has_byte_texts (wires.Json b) = tt
+has_byte_texts wires.Cbor = tt
+has_byte_texts (wires.Query action version) =
+    (utf8_bytes (string_bytes action) (IsUtf8-string_bytes action), utf8_bytes (string_bytes version) (IsUtf8-string_bytes version))
+
+spelled_alone : (w : Wire) (t : Table) (root : ℕ) (v : Value) → Spells w t root (body w t root v) v → SpellsAlone w t root (body w t root v) v
+spelled_alone w t root v spells = (spells, λ u other. one_value w t root (body w t root v) u v other spells)
+
+-- the body of what one wire spells tells it again in the other, where its lengths fit into heads
+body_tells : (from to : Wire) (t : Table) (root : ℕ) (i : List ℕ) (v : Value) → IsAccepted t → IsStructure (kind_of t (shape_place root)) → Spells from t root i v
+    → CanCount to v → HasByteTexts to → length (body to t root v) < 2 ^ 64 → TellsAgain to t root (body to t root v) v
+body_tells from (json b) t root i v accepted kind h counts texts short =
     let small = spelled_is_small from t root i v h in
-    let spells = body_spells to t root v accepted small.0 small.1 short in
-    (spells, λ u other. one_value to t root (body to t root v) u v other spells)
+    spelled_alone (json b) t root v (canonical_spells b t (shape_place root) whole_view v accepted small.0 small.1)
+body_tells from cbor t root i v accepted kind h counts texts short =
+    let small = spelled_is_small from t root i v h in
+    spelled_alone cbor t root v (cbor_spells_again t root v accepted small.0 small.1 short)
+body_tells from (query action version) t root i v accepted kind h counts texts short =
+    form_tells action version t root v accepted kind (spelled_is_small from t root i v h).0 counts texts.0 texts.1
+
+pub not_both : (o : Option Unfit) (u : Unfit) → o ≡ None → o ≡ Some u → ⊥
+not_both o u none some = let e : None ≡ Some u = sym none ∙ some in cc
+
+same_unfit : (o : Option Unfit) (u w : Unfit) → o ≡ Some u → o ≡ Some w → w ≡ u
+same_unfit o u w one other = let e : Some w ≡ Some u = sym other ∙ one in cc
 
 -- want of memory is an answer
 no_memory : (t : Table) (root : ℕ) (from : Wire) (i : List ℕ) (to : Wire) → Transcodes t root from i to (Err NoMemory)
 no_memory t root from i to = record {
   answers_ok = tt;
-  spelled_is_ok = λ v h. tt;
+  spelled_is_ok = λ v h fit. tt;
+  unfit_is_refused = λ v u h lack. tt;
+  answers_inexpressible = λ u h. absurd (let x : Err NoMemory ≡ Err (Inexpressible u) = h in cc);
   answers_invalid_input = λ h. absurd (let x : Err NoMemory ≡ Err InvalidInput = h in cc);
   answers_invalid_at_any_depth = λ h. absurd (let x : Err NoMemory ≡ Err InvalidInput = h in cc);
   answers_too_deep = λ h. absurd (let x : Err NoMemory ≡ Err TooDeep = h in cc);
 }
 
 -- the body of a spelled value is an answer
-pub written : (t : Table) (root : ℕ) (from : Wire) (i : List ℕ) (to : Wire) (v : Value) (out : Vec ℕ Global) → IsAccepted t → Spells from t root i v
-    → out.items ≡ body to t root v → length out.items < 2 ^ 64 → Transcodes t root from i to (Ok out)
-written t root from i to v out accepted spelled ok short = record {
+pub written : (t : Table) (root : ℕ) (from : Wire) (i : List ℕ) (to : Wire) (v : Value) (out : Vec ℕ Global) → IsAccepted t → IsStructure (kind_of t (shape_place root)) → Spells from t root i v
+    → unfit to v ≡ None → CanCount to v → HasByteTexts to → out.items ≡ body to t root v → length out.items < 2 ^ 64 → Transcodes t root from i to (Ok out)
+written t root from i to v out accepted kind spelled fit counts texts ok short = record {
   answers_ok = (
     v,
     spelled,
+    fit,
     ok,
-    subst (λ bytes. SpellsAlone to t root bytes v) (sym ok)
-        (body_spells_alone from to t root i v accepted spelled (subst (λ bytes. length bytes < 2 ^ 64) ok short)),
+    subst (λ bytes. TellsAgain to t root bytes v) (sym ok)
+        (body_tells from to t root i v accepted kind spelled counts texts (subst (λ bytes. length bytes < 2 ^ 64) ok short)),
   );
-  spelled_is_ok = λ u h. ok ∙ ap (body to t root) (one_value from t root i v u spelled h);
+  spelled_is_ok = λ u h fits. ok ∙ ap (body to t root) (one_value from t root i v u spelled h);
+  unfit_is_refused = λ u w h lack. absurd (not_both (unfit to v) w fit (ap (unfit to) (one_value from t root i v u spelled h) ∙ lack));
+  answers_inexpressible = λ u h. absurd (let e : Ok out ≡ Err (Inexpressible u) = h in cc);
   answers_invalid_input = λ h. absurd (let e : Ok out ≡ Err InvalidInput = h in cc);
   answers_invalid_at_any_depth = λ h. absurd (let e : Ok out ≡ Err InvalidInput = h in cc);
   answers_too_deep = λ h. absurd (let e : Ok out ≡ Err TooDeep = h in cc);
+}
+
+-- and so is what the wire can't express of it
+pub lacking : (t : Table) (root : ℕ) (from : Wire) (i : List ℕ) (to : Wire) (v : Value) (u : Unfit) → Spells from t root i v
+    → unfit to v ≡ Some u → Transcodes t root from i to (Err (Inexpressible u))
+lacking t root from i to v u spelled lack = record {
+  answers_ok = tt;
+  spelled_is_ok = λ w h fit. absurd (not_both (unfit to v) u (ap (unfit to) (one_value from t root i v w spelled h) ∙ fit) lack);
+  unfit_is_refused = λ w x h other. same_unfit (unfit to v) x u (ap (unfit to) (one_value from t root i v w spelled h) ∙ other) lack;
+  answers_inexpressible = λ w h. let same : u ≡ w = cc in (v, spelled, lack ∙ ap Some same);
+  answers_invalid_input = λ h. absurd (let e : Err (Inexpressible u) ≡ Err InvalidInput = h in cc);
+  answers_invalid_at_any_depth = λ h. absurd (let e : Err (Inexpressible u) ≡ Err InvalidInput = h in cc);
+  answers_too_deep = λ h. absurd (let e : Err (Inexpressible u) ≡ Err TooDeep = h in cc);
 }
 
 -- and so is a refusal of the input
@@ -84,14 +128,18 @@ told : (t : Table) (root : ℕ) (from : Wire) (i : List ℕ) (to : Wire) (e : Se
     → Transcodes t root from i to (Err refusal)
 told t root from i to serde.InvalidInput refusal tells nothing would deep = rw tells (record {
   answers_ok = tt;
-  spelled_is_ok = λ v h. absurd (nothing tt v h);
+  spelled_is_ok = λ v h fit. absurd (nothing tt v h);
+  unfit_is_refused = λ v u h lack. absurd (nothing tt v h);
+  answers_inexpressible = λ u h. absurd (let x : Err InvalidInput ≡ Err (Inexpressible u) = h in cc);
   answers_invalid_input = λ h. nothing tt;
   answers_invalid_at_any_depth = λ h. would refl;
   answers_too_deep = λ h. absurd (let x : Err InvalidInput ≡ Err TooDeep = h in cc);
 })
 told t root from i to serde.TooDeep refusal tells nothing would deep = rw tells (record {
   answers_ok = tt;
-  spelled_is_ok = λ v h. absurd (nothing tt v h);
+  spelled_is_ok = λ v h fit. absurd (nothing tt v h);
+  unfit_is_refused = λ v u h lack. absurd (nothing tt v h);
+  answers_inexpressible = λ u h. absurd (let x : Err TooDeep ≡ Err (Inexpressible u) = h in cc);
   answers_invalid_input = λ h. nothing tt;
   answers_invalid_at_any_depth = λ h. absurd (let x : Err TooDeep ≡ Err InvalidInput = h in cc);
   answers_too_deep = λ h. (nothing tt, deep refl);

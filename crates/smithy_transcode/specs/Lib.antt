@@ -1,4 +1,5 @@
 -- to be believed, in this order
+pub mod Wires
 pub mod Spelling
 pub mod Causes
 pub mod Transcoding

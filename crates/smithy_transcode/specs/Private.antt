@@ -3,3 +3,4 @@ pub mod Tree
 pub mod Elements
 pub mod Entries
 pub mod Order
+pub mod Positions

@@ -11,23 +11,26 @@ use Rattle.smithy_cbor_codec.specs.Canonical.{canonical_cbor}
 use Rattle.smithy_cbor_codec.specs.Codec.{strict_settings as strict_cbor}
 use Rattle.smithy_cbor_codec.specs.Settings.{without_limits as without_cbor_limits}
 use Rattle.smithy_cbor_codec.specs.Spelling.{cbor_spells}
-use Rattle.smithy_transcode.specs.declared.wire.Wire.{Wire}
-use Rattle.smithy_transcode.specs.declared.wire.Wire.TheVariants.{Json, Cbor}
+use Rattle.smithy_query_codec.specs.Canonical.{canonical_query}
+use Rattle.smithy_transcode.specs.Wires.{Wire, json, cbor, query}
 
--- the whole bytes spell the value of the root, which is a declaration of the table
+-- the whole bytes spell the value of the root, which is a declaration of the table; forms are not read
 abbrev pub Spells : Wire → Table → ℕ → List ℕ → Value → Type 0
-Spells (Json use_json_name) table root bytes v =
+Spells (json use_json_name) table root bytes v =
     json_spells (strict_settings use_json_name) table (shape_place root) bytes v
-Spells Cbor table root bytes v = cbor_spells strict_cbor table (shape_place root) bytes v
+Spells cbor table root bytes v = cbor_spells strict_cbor table (shape_place root) bytes v
+Spells (query action version) table root bytes v = ⊥
 
 -- the same for bodies of any depth
 abbrev pub SpellsAtAnyDepth : Wire → Table → ℕ → List ℕ → Value → Type 0
-SpellsAtAnyDepth (Json use_json_name) table root bytes v =
+SpellsAtAnyDepth (json use_json_name) table root bytes v =
     json_spells (without_limits (strict_settings use_json_name)) table (shape_place root) bytes v
-SpellsAtAnyDepth Cbor table root bytes v =
+SpellsAtAnyDepth cbor table root bytes v =
     cbor_spells (without_cbor_limits strict_cbor) table (shape_place root) bytes v
+SpellsAtAnyDepth (query action version) table root bytes v = ⊥
 
 -- the one body of a value of the root
 abbrev pub body : Wire → Table → ℕ → Value → List ℕ
-body (Json use_json_name) table root v = canonical_json use_json_name (shape_site table root) v
-body Cbor table root v = canonical_cbor (shape_site table root) v
+body (json use_json_name) table root v = canonical_json use_json_name (shape_site table root) v
+body cbor table root v = canonical_cbor (shape_site table root) v
+body (query action version) table root v = canonical_query action version (shape_site table root) v

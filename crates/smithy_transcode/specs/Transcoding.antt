@@ -1,12 +1,18 @@
 -- What `transcode` promises: the whole statement, for every table, root, pair of wires and input.
-use Rattle.std.specs.Prelude.{◌≡◌, ◌≤◌, ℕ, List, Result, Ok, Err, IfOk, IsErrOf}
+use Rattle.std.specs.Prelude.{◌≡◌, ◌≤◌, ℕ, List, Some, None, Result, Ok, Err, IfOk, IsErrOf}
 use Rattle.std.specs.declared.vec.Vec.{Vec}
 use Rattle.std.specs.declared.alloc.Global.{Global}
+use Rattle.smithy_schema.specs.Site.{shape_site}
 use Rattle.smithy_schema.specs.Table.{Table}
 use Rattle.smithy_schema.specs.Value.{Value}
-use Rattle.smithy_transcode.specs.declared.wire.Wire.{Wire}
+use Rattle.smithy_query.specs.Split.{pairs_of}
+use Rattle.smithy_query_codec.specs.Leaves.{Leaf, neither, leaves}
+use Rattle.smithy_query_codec.specs.Canonical.{leaves_pairs}
+use Rattle.smithy_query_codec.specs.Distinct.{HaveDistinctPaths, HaveDistinctTexts}
+use Rattle.smithy_transcode.specs.declared.wire.Unfit.{Unfit}
 use Rattle.smithy_transcode.specs.declared.wire.TranscodeError.{TranscodeError}
-use Rattle.smithy_transcode.specs.declared.wire.TranscodeError.TheVariants.{InvalidInput, TooDeep, NoMemory}
+use Rattle.smithy_transcode.specs.declared.wire.TranscodeError.TheVariants.{InvalidInput, TooDeep, Inexpressible, NoMemory}
+use Rattle.smithy_transcode.specs.Wires.{Wire, json, cbor, query, unfit}
 use Rattle.smithy_transcode.specs.Spelling.{Spells, SpellsAtAnyDepth, body}
 use Rattle.smithy_transcode.specs.Causes.{openers}
 
@@ -23,6 +29,19 @@ abbrev pub SpellsAlone : Wire → Table → ℕ → List ℕ → Value → Type 
 SpellsAlone wire table root bytes v =
     Spells wire table root bytes v × ((u : Value) → Spells wire table root bytes u → u ≡ v)
 
+-- the leaves of a value of the root, in a form
+abbrev pub root_leaves : Table → ℕ → Value → List Leaf
+root_leaves table root v = leaves (shape_site table root) neither v
+
+-- The bytes tell the value again: they spell it alone. A form is cut into Action, Version and the leaves of the value,
+-- of which no two have one path, not even as paths are written.
+abbrev pub TellsAgain : Wire → Table → ℕ → List ℕ → Value → Type 0
+TellsAgain (json use_json_name) table root bytes v = SpellsAlone (json use_json_name) table root bytes v
+TellsAgain cbor table root bytes v = SpellsAlone cbor table root bytes v
+TellsAgain (query action version) table root bytes v =
+    (pairs_of bytes ≡ leaves_pairs action version (root_leaves table root v))
+    × HaveDistinctPaths (root_leaves table root v) × HaveDistinctTexts (root_leaves table root v)
+
 -- an answer: the bytes, or why there are none
 abbrev pub Answer : Type 0
 Answer = Result (Vec ℕ Global) TranscodeError
@@ -30,19 +49,32 @@ Answer = Result (Vec ℕ Global) TranscodeError
 -- these bytes, or want of memory
 abbrev pub GivesOrNoMemory : List ℕ → Answer → Type 0
 GivesOrNoMemory bytes (Ok out) = out.items ≡ bytes
-GivesOrNoMemory bytes (Err InvalidInput) = ⊥
-GivesOrNoMemory bytes (Err TooDeep) = ⊥
 GivesOrNoMemory bytes (Err NoMemory) = Unit {0}
+GivesOrNoMemory bytes (Err _) = ⊥
+
+-- this want of the wire, or want of memory
+abbrev pub LacksOrNoMemory : Unfit → Answer → Type 0
+LacksOrNoMemory u (Ok out) = ⊥
+LacksOrNoMemory u (Err (Inexpressible w)) = w ≡ u
+LacksOrNoMemory u (Err NoMemory) = Unit {0}
+LacksOrNoMemory u (Err _) = ⊥
 
 -- What an answer says, where the root is a structure of the table.
 pub record Transcodes (table : Table) (root : ℕ) (from : Wire) (input : List ℕ) (to : Wire) (answer : Answer) : Type 0 where
-  -- Ok comes only where the whole input spells a value, and the output is its body, which spells that
-  -- value alone
+  -- Ok comes only where the whole input spells a value that the wanted wire can express, and the output is its body,
+  -- which tells that value again
   pub answers_ok : IfOk answer
-      (λ out. (v : Value) × Spells from table root input v × (out.items ≡ body to table root v)
-      × SpellsAlone to table root out.items v)
-  -- where the input spells a value, its body is the answer, want of memory aside
-  pub spelled_is_ok : (v : Value) → Spells from table root input v → GivesOrNoMemory (body to table root v) answer
+      (λ out. (v : Value) × Spells from table root input v × (unfit to v ≡ None)
+      × (out.items ≡ body to table root v) × TellsAgain to table root out.items v)
+  -- where the input spells such a value, its body is the answer, want of memory aside
+  pub spelled_is_ok : (v : Value) → Spells from table root input v → unfit to v ≡ None
+      → GivesOrNoMemory (body to table root v) answer
+  -- where it spells another, the answer says why the wire can't express it, want of memory aside
+  pub unfit_is_refused : (v : Value) (u : Unfit) → Spells from table root input v → unfit to v ≡ Some u
+      → LacksOrNoMemory u answer
+  -- and says so nowhere else
+  pub answers_inexpressible : (u : Unfit) → IsErrOf answer (Inexpressible u)
+      → (v : Value) × Spells from table root input v × (unfit to v ≡ Some u)
   -- each refusal of an input comes only where it spells nothing
   pub answers_invalid_input : IsErrOf answer InvalidInput → SpellNothing from table root input
   -- `InvalidInput` also only where no greater depth would help

@@ -8,6 +8,7 @@ use std::test::Fail;
 mod blobs;
 mod cbor;
 mod entries;
+mod forms;
 mod refusals;
 mod rows;
 mod scalars;
@@ -16,9 +17,12 @@ mod values;
 
 const TABLE: &[u8] = b"structure S\nmember a long\nmember b long\nmember s string\n";
 
-const WIRE: Wire = Wire::Json {
-    use_json_name: true,
-};
+// JSON, by the JSON names of members.
+fn json_names() -> Wire {
+    Wire::Json {
+        use_json_name: true,
+    }
+}
 
 #[derive(Clone, Copy)]
 struct Row {
@@ -169,9 +173,9 @@ fn bodies_are_transcoded_as_written(rt: HostRuntime) -> Result<(), Fail> {
             rt.alloc(),
             &shapes,
             root,
-            &WIRE,
+            &json_names(),
             row.input.as_bytes(),
-            &WIRE,
+            &json_names(),
         );
         match (answer, row.answer) {
             (Ok(body), Ok(text)) => assert_eq!(rt;
@@ -209,10 +213,24 @@ fn at_most_128_containers_are_open_at_once(rt: HostRuntime) -> Result<(), Fail> 
         return Ok(());
     };
     let deep = nested(rt.alloc(), 127)?;
-    let answer = transcode(rt.alloc(), &shapes, root, &WIRE, &deep, &WIRE);
+    let answer = transcode(
+        rt.alloc(),
+        &shapes,
+        root,
+        &json_names(),
+        &deep,
+        &json_names(),
+    );
     assert!(rt; matches!(answer, Ok(_)), "as deep as may be");
     let deeper = nested(rt.alloc(), 128)?;
-    let answer = transcode(rt.alloc(), &shapes, root, &WIRE, &deeper, &WIRE);
+    let answer = transcode(
+        rt.alloc(),
+        &shapes,
+        root,
+        &json_names(),
+        &deeper,
+        &json_names(),
+    );
     assert!(rt;
         matches!(answer, Err(TranscodeError::TooDeep)),
         "one deeper"

@@ -1,5 +1,5 @@
 //! One body from wire to wire.
-ghost use Rattle.std.specs.Prelude.{◌≡◌, ◌≤◌, ◌<◌, ◌^◌, length, IfOk, IfErr, IsErrOf};
+ghost use Rattle.std.specs.Prelude.{◌≡◌, ◌≤◌, ◌<◌, ◌^◌, length, None, IfOk, IfErr, IsErrOf};
 ghost use Rattle.smithy_schema.specs.Accepted.{IsAccepted};
 ghost use Rattle.smithy_schema.specs.Fits.{Fits};
 ghost use Rattle.smithy_schema.specs.Reading.{IsRefused, IsInvalid};
@@ -7,20 +7,26 @@ ghost use Rattle.smithy_schema.specs.Table.{IsStructure, kind_of, shape_place};
 ghost use Rattle.smithy_transcode.specs.Causes.{openers};
 ghost use Rattle.smithy_transcode.specs.Spelling.{Spells, body};
 ghost use Rattle.smithy_transcode.specs.Transcoding.{Transcodes, SpellNothing, SpellNothingAtAnyDepth};
+ghost use Rattle.smithy_transcode.specs.Wires.{wire_of, unfit as unfit_for};
+ghost use Rattle.smithy_transcode.specs.Private.Positions.{CanCount};
 ghost use Rattle.smithy_transcode.specs.Private.Tree.{compact_view as view};
 
 use crate::compact_value::CompactValue;
+use crate::expressing::unfit;
 use crate::reading::read_tree;
 use crate::refusal::refusal;
 use crate::whole_output::write_whole;
 use crate::wire::{TranscodeError, Wire};
 use smithy_cbor_codec::CborCodec;
 use smithy_json_codec::JsonCodec;
+use smithy_query_codec::QueryShapeSerializer;
 use smithy_schema::{SerdeError, ShapeRef, Shapes};
 use std::alloc::Global;
 
 /// Writes the value that the whole input spells in the wire `from`, in its one canonical body in the wire
 /// `to`. The root is a structure of the table. The whole value is read before anything is written.
+///
+/// Forms are not read: as `from` the wire answers `InvalidInput`.
 pub fn transcode(
     alloc: Global,
     shapes: &Shapes,
@@ -30,12 +36,15 @@ pub fn transcode(
     to: &Wire,
 ) -> Result<Vec<u8>, TranscodeError>
     requires root { IsStructure (kind_of shapes.now (shape_place root.0)) }
-    ensures { Transcodes shapes.now root.0 from.now input.now to.now result }
+    ensures { Transcodes shapes.now root.0 (wire_of from.now) input.now (wire_of to.now) result }
 {
     let value = match read_body(alloc, shapes, root, from, input) {
         Ok(value) => value,
         Err(error) => return Err(refusal(error)),
     };
+    if let Some(lacking) = unfit(&value, to) {
+        return Err(TranscodeError::Inexpressible(lacking));
+    }
     match write_body(alloc, shapes, root, to, &value) {
         Ok(body) => Ok(body),
         Err(error) => Err(refusal(error)),
@@ -52,10 +61,10 @@ fn read_body(
 ) -> Result<CompactValue, SerdeError>
     requires root { IsStructure (kind_of shapes.now (shape_place root.0)) }
     ensures accepted { IsAccepted shapes.now }
-    ensures ok { IfOk result (λ v. Spells from.now shapes.now root.0 input.now (view v)) }
-    ensures refused { IsRefused result → SpellNothing from.now shapes.now root.0 input.now }
-    ensures would { IsInvalid result → SpellNothingAtAnyDepth from.now shapes.now root.0 input.now }
-    ensures deep { IsErrOf result SerdeError.TooDeep → 128 ≤ openers from.now input.now }
+    ensures ok { IfOk result (λ v. Spells (wire_of from.now) shapes.now root.0 input.now (view v)) }
+    ensures refused { IsRefused result → SpellNothing (wire_of from.now) shapes.now root.0 input.now }
+    ensures would { IsInvalid result → SpellNothingAtAnyDepth (wire_of from.now) shapes.now root.0 input.now }
+    ensures deep { IsErrOf result SerdeError.TooDeep → 128 ≤ openers (wire_of from.now) input.now }
     ensures sound { IsErrOf result SerdeError.Failed → ⊥ }
     ensures readable { IsErrOf result SerdeError.Unwritable → ⊥ }
 {
@@ -69,6 +78,10 @@ fn read_body(
             let mut source = CborCodec::strict().create_deserializer(alloc, input);
             read_tree(alloc, &mut source, &schema)
         }
+        Wire::Query {
+            action: _,
+            version: _,
+        } => Err(SerdeError::InvalidInput),
     }
 }
 
@@ -82,7 +95,10 @@ fn write_body(
 ) -> Result<Vec<u8>, SerdeError>
     requires root { IsStructure (kind_of shapes.now (shape_place root.0)) }
     requires fits { Fits shapes.now (shape_place root.0) (view value.now) }
-    ensures ok { IfOk result (λ out. out.items ≡ body to.now shapes.now root.0 (view value.now)) }
+    requires fit { unfit_for (wire_of to.now) (view value.now) ≡ None }
+    requires positions { CanCount (wire_of to.now) (view value.now) }
+    requires accepted { IsAccepted shapes.now }
+    ensures ok { IfOk result (λ out. out.items ≡ body (wire_of to.now) shapes.now root.0 (view value.now)) }
     ensures short { IfOk result (λ out. length out.items < 2 ^ 64) }
     ensures err { IfErr result (λ e. e ≡ SerdeError.NoMemory) }
 {
@@ -95,6 +111,10 @@ fn write_body(
         }
         Wire::Cbor => {
             let sink = CborCodec::strict().create_serializer(alloc);
+            write_whole(alloc, sink, &schema, value)
+        }
+        Wire::Query { action, version } => {
+            let sink = QueryShapeSerializer::new(alloc, action.as_str(), version.as_str())?;
             write_whole(alloc, sink, &schema, value)
         }
     }

@@ -3,7 +3,7 @@
 use thiserror::Error;
 
 /// A form in which a value is carried.
-#[derive(Clone, Copy, Debug, PartialEq, Eq)]
+#[derive(Debug, Drop)]
 pub enum Wire {
     /// JSON (RFC 8259).
     Json {
@@ -12,6 +12,20 @@ pub enum Wire {
     },
     /// CBOR (RFC 8949).
     Cbor,
+    /// A form of AWS Query, which is written and not read.
+    Query {
+        /// The value of its pair `Action`.
+        action: String,
+        /// The value of its pair `Version`.
+        version: String,
+    },
+}
+
+/// What a wire can't express.
+#[derive(Clone, Copy, Debug, PartialEq, Eq)]
+pub enum Unfit {
+    /// A null among the elements of a list or the values of a map: no form has one.
+    Null,
 }
 
 /// Why a body was refused. `Display` writes the variant's name.
@@ -24,6 +38,9 @@ pub enum TranscodeError {
     /// once.
     #[error("TooDeep")]
     TooDeep,
+    /// The input spells a value of the root that the wanted wire can't express.
+    #[error("Inexpressible")]
+    Inexpressible(Unfit),
     /// An allocation was refused.
     #[error("NoMemory")]
     NoMemory,

@@ -11,4 +11,4 @@ after_weaker task old new P Q f a =
     let root = table.2 in
     let input = root.2 in
     let spelled = input.2 in
-    (a.0, a.1, (table.0, table.1, (root.0, root.1, (input.0, input.1, (spelled.0, spelled.1, spelled.2, f _ spelled.3)))))
+    (a.0, a.1, (table.0, table.1, (root.0, root.1, (input.0, input.1, (spelled.0, spelled.1, spelled.2, spelled.3, f _ spelled.4)))))

@@ -1,11 +1,13 @@
 -- What follows from what a status says: a run that is all in order is done, and one over a missing file isn't.
-use Rattle.std.proofs.Common.{◌≡◌, ◌<◌, ◌⊎◌, inl, inr, ℕ, length, List, Some, refl, sym, subst, arith}
+use Rattle.std.proofs.Common.{◌≡◌, ◌<◌, ◌⊎◌, inl, inr, ℕ, length, List, Some, refl, sym, subst, ap, ◌∙◌, arith}
 use Rattle.smithy_schema.specs.Table.{Table, IsStructure, kind_of, shape_place, declared_as}
 use Rattle.smithy_schema.specs.Acceptance.{accepted, table_of}
 use Rattle.smithy_schema.specs.Value.{Value}
 use Rattle.smithy_transcode.specs.Spelling.{Spells}
+use Rattle.smithy_transcode.specs.Wires.{unfit}
+use Rattle.smithy_transcode.proofs.Transcodings.{one_value, not_both}
 use Rattle.smithy_transcode_cli.specs.declared.status.Status.{Status}
-use Rattle.smithy_transcode_cli.specs.declared.status.Status.TheVariants.{Done, Usage, ReadFailed, WriteFailed, OutOfMemory, InvalidInput, TooDeep, TableRefused, NoSuchShape, NotAStructure, TooLong, NotBuilt}
+use Rattle.smithy_transcode_cli.specs.declared.status.Status.TheVariants.{Done, Usage, ReadFailed, WriteFailed, OutOfMemory, InvalidInput, TooDeep, Inexpressible, TableRefused, NoSuchShape, NotAStructure, TooLong, NotBuilt}
 use Rattle.smithy_transcode_cli.specs.Task.{Task}
 use Rattle.smithy_transcode_cli.specs.Outside.{Told, Outside, missing, Tells, GavePast}
 use Rattle.smithy_transcode_cli.specs.RunAnswer.{sources_of, IsLoaded, IsRead, AfterInput, IsInOrder, Says, longest_input}
@@ -52,13 +54,24 @@ module _ (task : Task) (old new : Outside) (text input : List ℕ) (table : Tabl
   complete_of Usage says = absurd says
   complete_of ReadFailed (inl first) = absurd (o.file_is_well (has_failed (old.files task.table_path) (new.files task.table_path) first.1))
   complete_of ReadFailed (inr after) = absurd (o.input_is_well (has_failed old.input new.input after.2.2.2.1))
-  complete_of WriteFailed says = absurd (o.out_is_well (has_failed old.out new.out says.2.2.2.2.3.0))
+  complete_of WriteFailed says = absurd (o.out_is_well (has_failed old.out new.out says.2.2.2.2.4.0))
   complete_of OutOfMemory says = inr refl
-  complete_of InvalidInput says = absurd (not_nothing says)
+  complete_of InvalidInput says =
+      let found = says.2.2 in
+      let read = found.2 in
+      absurd (not_nothing (says.0, says.1, (says.2.0, says.2.1, (found.0, found.1, (read.0, read.1, read.2.0)))))
   complete_of TooDeep says =
       let found = says.2.2 in
       let read = found.2 in
       absurd (not_nothing (says.0, says.1, (says.2.0, says.2.1, (found.0, found.1, (read.0, read.1, read.2.0)))))
+  complete_of (Inexpressible u) says =
+      let there = says.2 in
+      let found = there.2 in
+      let read = found.2 in
+      let t = same_table says.0 says.1 there.0 there.1 in
+      let spelled = spells_there there.0 found.0 read.0 t (same_root there.0 t found.0 found.1.named) read.1 in
+      let same : v ≡ read.2.0 = one_value task.from there.0 found.0 read.0 v read.2.0 spelled read.2.1 in
+      absurd (not_both (unfit task.to v) u o.fit (ap (unfit task.to) same ∙ read.2.2))
   complete_of (TableRefused fault) says =
       let after = says.1 in let same = accepted_there after.0 after.1 in let told = after.2.2 in absurd (cc (same, told))
   complete_of NoSuchShape says =
@@ -85,6 +98,7 @@ fault_of_missing task old new gone WriteFailed says = absurd (says.1.there gone)
 fault_of_missing task old new gone OutOfMemory says = inr refl
 fault_of_missing task old new gone InvalidInput says = absurd (says.1.there gone)
 fault_of_missing task old new gone TooDeep says = absurd (says.1.there gone)
+fault_of_missing task old new gone (Inexpressible u) says = absurd (says.1.there gone)
 fault_of_missing task old new gone (TableRefused fault) says = absurd (says.1.1.there gone)
 fault_of_missing task old new gone NoSuchShape says = absurd (says.1.1.there gone)
 fault_of_missing task old new gone NotAStructure says = absurd (says.1.1.there gone)

@@ -6,11 +6,12 @@ use Rattle.smithy_schema.specs.declared.fault.TableFault.{TableFault}
 use Rattle.smithy_schema.specs.Value.{Value}
 use Rattle.smithy_transcode.specs.Spelling.{Spells, body}
 use Rattle.smithy_transcode.specs.Causes.{openers}
-use Rattle.smithy_transcode.specs.Transcoding.{SpellNothing, SpellsAlone}
+use Rattle.smithy_transcode.specs.Transcoding.{SpellNothing, SpellNothingAtAnyDepth, TellsAgain}
+use Rattle.smithy_transcode.specs.Wires.{unfit}
 use Rattle.smithy_transcode_cli.specs.declared.status.Status.{Status}
-use Rattle.smithy_transcode_cli.specs.declared.status.Status.TheVariants.{Done, Usage, ReadFailed, WriteFailed, OutOfMemory, InvalidInput, TooDeep, TableRefused, NoSuchShape, NotAStructure, TooLong, NotBuilt}
-use Rattle.smithy_transcode_cli.specs.Command.{Transcode, command_of}
-use Rattle.smithy_transcode_cli.specs.Task.{Task, task_of, task_asked}
+use Rattle.smithy_transcode_cli.specs.declared.status.Status.TheVariants.{Done, Usage, ReadFailed, WriteFailed, OutOfMemory, InvalidInput, TooDeep, Inexpressible, TableRefused, NoSuchShape, NotAStructure, TooLong, NotBuilt}
+use Rattle.smithy_transcode_cli.specs.Command.{command_of}
+use Rattle.smithy_transcode_cli.specs.Task.{Task, task_asked}
 use Rattle.smithy_transcode_cli.specs.Status.{status_code}
 use Rattle.smithy_transcode_cli.specs.ErrorLine.{refusal_of, line_of, TookLine}
 use Rattle.smithy_transcode_cli.specs.Outside.{Told, Outside, OnlyErrMoved, missing, HasFailed, MetOneFault, MetNoFault, Tells, IsWhole, IsLonger, Gave, GavePast, IsAtEnd, Took, TookPrefix}
@@ -68,12 +69,12 @@ abbrev pub AfterInput : Task → Sources → Sources → (Table → ℕ → List
 AfterInput task old new P =
     AfterRoot task old (λ table root. (input : List ℕ) × IsRead input old.input new.input × P table root input)
 
--- the input spells a value, whose body spells that value alone, and P holds of the body
+-- the input spells a value that the wanted wire can express, whose body tells that value again, and P holds of the body
 abbrev pub AfterTranscoding : Task → Sources → Sources → (List ℕ → Type 0) → Type 0
 AfterTranscoding task old new P =
     AfterInput task old new
-    (λ table root input. (v : Value) × Spells task.from table root input v
-    × SpellsAlone task.to table root (body task.to table root v) v × P (body task.to table root v))
+    (λ table root input. (v : Value) × Spells task.from table root input v × (unfit task.to v ≡ None)
+    × TellsAgain task.to table root (body task.to table root v) v × P (body task.to table root v))
 
 -- ---- the statuses
 
@@ -94,10 +95,15 @@ Refuses task old new ReadFailed =
     ⊎ AfterRoot task old (λ table root. MetNoFault old.table new.table × MetOneFault old.input new.input)
 Refuses task old new WriteFailed = ⊥
 Refuses task old new OutOfMemory = Unit {0}
-Refuses task old new InvalidInput = AfterInput task old new (SpellNothing task.from)
+Refuses task old new InvalidInput =
+    AfterInput task old new
+    (λ table root input. SpellNothing task.from table root input × SpellNothingAtAnyDepth task.from table root input)
 Refuses task old new TooDeep =
     AfterInput task old new
     (λ table root input. SpellNothing task.from table root input × (128 ≤ openers task.from input))
+Refuses task old new (Inexpressible u) =
+    AfterInput task old new
+    (λ table root input. (v : Value) × Spells task.from table root input v × (unfit task.to v ≡ Some u))
 Refuses task old new (TableRefused fault) = BeforeInput old new (AfterLoad old (IsRefusal fault))
 Refuses task old new NoSuchShape =
     BeforeInput old new (AfterTable old (λ table. declared_as table task.root_name ≡ None))
@@ -129,6 +135,7 @@ pub record IsInOrder (task : Task) (old new : Outside) (text input : List ℕ)
   pub source : Tells old.input input
   pub input_is_within : length input ≤ longest_input
   pub spells : Spells task.from table root input v
+  pub fit : unfit task.to v ≡ None
   pub file_is_well : ¬ (HasFailed (old.files task.table_path) (new.files task.table_path))
   pub input_is_well : ¬ (HasFailed old.input new.input)
   pub out_is_well : ¬ (HasFailed old.out new.out)
@@ -152,9 +159,7 @@ pub record TaskAnswer (task : Task) (old new : Outside) (status : Status) : Type
 -- What a status says of the files, the input and the output.
 pub record StatusAnswer (words : List (List ℕ)) (old new : Outside) (status : Status) : Type 0 where
   pub is_usage : (status ≡ Usage) ↔ (command_of words ≡ None)
-  pub is_not_built : (c : Transcode) → command_of words ≡ Some c → task_of c ≡ None → status ≡ NotBuilt
-  pub answers : (c : Transcode) (task : Task) → command_of words ≡ Some c → task_of c ≡ Some task
-      → TaskAnswer task old new status
+  pub answers : (task : Task) → task_asked words ≡ Some task → TaskAnswer task old new status
   -- words that ask for no task move nothing but standard error
   pub only_for_a_task : task_asked words ≡ None → OnlyErrMoved old new
   pub nothing_is_held_back : status ≡ Done → new.out_holds_back ≡ false

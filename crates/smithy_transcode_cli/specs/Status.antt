@@ -7,7 +7,8 @@ use Rattle.smithy_transcode.specs.declared.wire.TranscodeError.TheVariants as er
 use Rattle.smithy_transcode_cli.specs.declared.outside.LoadFault.{LoadFault}
 use Rattle.smithy_transcode_cli.specs.declared.outside.LoadFault.TheVariants as load_faults
 use Rattle.smithy_transcode_cli.specs.declared.status.Status.{Status}
-use Rattle.smithy_transcode_cli.specs.declared.status.Status.TheVariants.{Done, Usage, ReadFailed, WriteFailed, OutOfMemory, InvalidInput, TooDeep, TableRefused, NoSuchShape, NotAStructure, TooLong, NotBuilt}
+use Rattle.smithy_transcode.specs.declared.wire.Unfit.TheVariants.{Null}
+use Rattle.smithy_transcode_cli.specs.declared.status.Status.TheVariants.{Done, Usage, ReadFailed, WriteFailed, OutOfMemory, InvalidInput, TooDeep, Inexpressible, TableRefused, NoSuchShape, NotAStructure, TooLong, NotBuilt}
 
 -- the number that the program ends with
 abbrev pub status_code : Status → ℕ
@@ -18,6 +19,7 @@ status_code WriteFailed = 7
 status_code OutOfMemory = 8
 status_code InvalidInput = 10
 status_code TooDeep = 11
+status_code (Inexpressible Null) = 15
 status_code (TableRefused fault) = 20
 status_code NoSuchShape = 21
 status_code NotAStructure = 22
@@ -36,8 +38,9 @@ status_of_table_fault (table_faults.NotBuilt n) = NotBuilt
 status_of_table_fault table_faults.NoMemory = OutOfMemory
 status_of_table_fault fault = TableRefused fault
 
--- where the input was refused
+-- where the input was refused, or the wanted wire can't express its value
 abbrev pub status_of_error : TranscodeError → Status
 status_of_error errors.InvalidInput = InvalidInput
 status_of_error errors.TooDeep = TooDeep
+status_of_error (errors.Inexpressible u) = Inexpressible u
 status_of_error errors.NoMemory = OutOfMemory

@@ -1,7 +1,7 @@
--- What a command asks for, where its wires are built.
-use Rattle.std.specs.Prelude.{ℕ, List, Option, Some, None, option_and_then, option_map, false, true}
-use Rattle.smithy_transcode.specs.declared.wire.Wire.{Wire}
-use Rattle.smithy_transcode.specs.declared.wire.Wire.TheVariants.{Json, Cbor}
+-- What a command asks for.
+use Rattle.std.specs.Prelude.{ℕ, List, Option, option_map, false, true}
+use Rattle.smithy_transcode.specs.Wires as wires
+use Rattle.smithy_transcode.specs.Wires.{Wire}
 use Rattle.smithy_transcode_cli.specs.Command.{NamedWire, json, json_name, cbor, query, Transcode, command_of}
 
 -- the body of this root, from wire to wire
@@ -11,20 +11,22 @@ pub record Task : Type 0 where
   pub from : Wire
   pub to : Wire
 
--- the wire of this name, where it is built
-abbrev pub built_wire : NamedWire → Option Wire
-built_wire json = Some (Json false)
-built_wire json_name = Some (Json true)
-built_wire cbor = Some Cbor
-built_wire (query action version) = None
+-- the wire of this name
+abbrev pub asked_wire : NamedWire → Wire
+asked_wire json = wires.json false
+asked_wire json_name = wires.json true
+asked_wire cbor = wires.cbor
+asked_wire (query action version) = wires.query action version
 
--- the task of a command, where both wires are built
-abbrev pub task_of : Transcode → Option Task
-task_of c =
-    option_and_then (λ from. option_map
-    (λ to. record { table_path = c.table_path; root_name = c.root_name; from = from; to = to }) (built_wire c.to))
-    (built_wire c.from)
+-- the task of a command
+abbrev pub task_of : Transcode → Task
+task_of c = record {
+  table_path = c.table_path;
+  root_name = c.root_name;
+  from = asked_wire c.from;
+  to = asked_wire c.to;
+}
 
 -- the task that words ask for
 abbrev pub task_asked : List (List ℕ) → Option Task
-task_asked words = option_and_then task_of (command_of words)
+task_asked words = option_map task_of (command_of words)

@@ -1,4 +1,5 @@
 -- What the types of a command stand for.
+use Rattle.smithy_transcode.specs.Wires.{wire_of}
 use Rattle.smithy_transcode_cli.specs.declared.words.WireWords.{WireWords}
 use Rattle.smithy_transcode_cli.specs.declared.words.WireWords.TheVariants.{Json, JsonName, Cbor, Query}
 use Rattle.smithy_transcode_cli.specs.declared.words.Command as kept_command
@@ -7,18 +8,18 @@ use Rattle.smithy_transcode_cli.specs.Command.{NamedWire, json, json_name, cbor,
 use Rattle.smithy_transcode_cli.specs.Task.{Task}
 
 -- the wire that the words name
-abbrev pub wire_of : WireWords → NamedWire
-wire_of Json = json
-wire_of JsonName = json_name
-wire_of Cbor = cbor
-wire_of (Query action version) = query action.now version.now
+abbrev pub named_wire : WireWords → NamedWire
+named_wire Json = json
+named_wire JsonName = json_name
+named_wire Cbor = cbor
+named_wire (Query action version) = query action.now version.now
 
 -- the command as plain data
 abbrev pub transcode_view : kept_command.Command → Transcode
 transcode_view c =
-    record { table_path = c.table.now; root_name = c.root.now; from = wire_of c.from; to = wire_of c.to }
+    record { table_path = c.table.now; root_name = c.root.now; from = named_wire c.from; to = named_wire c.to }
 
 -- the task as plain data
 abbrev pub task_view : kept_task.Task → Task
 task_view t =
-    record { table_path = t.table.now; root_name = t.root.now; from = t.from; to = t.to }
+    record { table_path = t.table.now; root_name = t.root.now; from = wire_of t.from; to = wire_of t.to }

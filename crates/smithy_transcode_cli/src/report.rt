@@ -9,6 +9,7 @@ use crate::status::Status;
 use crate::streams::{write_all, write_part};
 use itoa::Buffer;
 use smithy_schema::TableFault;
+use smithy_transcode::Unfit;
 
 // Writes the name of a fault, a space and its number.
 fn write_fault<E: Sink>(err: &mut E, name: &[u8], number: u64) -> Result<(), Failed>
@@ -58,6 +59,7 @@ fn write_text<E: Sink>(err: &mut E, status: Status) -> Result<(), Failed>
         Status::OutOfMemory => write_part(err, b"out of memory"),
         Status::InvalidInput => write_part(err, b"invalid input"),
         Status::TooDeep => write_part(err, b"too deep"),
+        Status::Inexpressible(Unfit::Null) => write_part(err, b"null not expressible"),
         Status::TableRefused(fault) => write_table_refused(err, fault),
         Status::NoSuchShape => write_part(err, b"no such shape"),
         Status::NotAStructure => write_part(err, b"not a structure"),

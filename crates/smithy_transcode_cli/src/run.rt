@@ -108,17 +108,19 @@ fn perform<F: Files, S: Source, K: Sink>(
     }
 }
 
-// The task that the words ask for, or the status of those that ask for none.
-fn task_asked(words: &[String]) -> Result<Task<'_>, Status>
+// The task that the words ask for, or why there is none.
+fn task_asked(alloc: Global, words: &[String]) -> Result<Task<'_>, Status>
     ensures task { IfOk result (λ task. task_asked (map string_bytes words.now) ≡ Some (task_view task)) }
-    ensures none { OnErr result (task_asked (map string_bytes words.now) ≡ None) }
     ensures usage { IfErr result (λ status. (status ≡ Status.Usage) ↔ (command_of (map string_bytes words.now) ≡ None)) }
-    ensures refused { IfErr result (λ status. (status ≡ Status.Usage) ⊎ (status ≡ Status.NotBuilt)) }
+    ensures refused { IfErr result (λ status. (status ≡ Status.Usage) ⊎ (status ≡ Status.OutOfMemory)) }
 {
     let Some(command) = Command::from_words(words) else {
         return Err(Status::Usage);
     };
-    Task::of_command(command).ok_or(Status::NotBuilt)
+    match Task::of_command(alloc, command) {
+        Ok(task) => Ok(task),
+        Err(_) => Err(Status::OutOfMemory),
+    }
 }
 
 // How a run with these words ends, whatever standard error tells before and behind it.
@@ -133,7 +135,7 @@ fn status_of<F: Files, S: Source, K: Sink>(
         (outside (F.told files.old) (S.told input.old) (K.told out.old) err (K.holds_back out.old) err_holds_back)
         (outside (F.told files.new) (S.told input.new) (K.told out.new) err_behind (K.holds_back out.new) err_holds_back_behind) result }
 {
-    let task = match task_asked(words) {
+    let task = match task_asked(alloc, words) {
         Ok(task) => task,
         Err(status) => return status,
     };

@@ -4,7 +4,7 @@ ghost use Rattle.smithy_transcode_cli.specs.Status.{status_code, status_of_load_
 
 use crate::outside::LoadFault;
 use smithy_schema::TableFault;
-use smithy_transcode::TranscodeError;
+use smithy_transcode::{TranscodeError, Unfit};
 
 /// How a run of the program ended.
 #[derive(Clone, Copy, Debug, PartialEq, Eq)]
@@ -23,6 +23,8 @@ pub enum Status {
     InvalidInput,
     /// The input nests too deep.
     TooDeep,
+    /// The input spells a value that the wanted wire can't express.
+    Inexpressible(Unfit),
     /// The table is refused, by this fault.
     TableRefused(TableFault),
     /// The table declares no such root.
@@ -48,6 +50,7 @@ impl Status {
             Status::OutOfMemory => 8,
             Status::InvalidInput => 10,
             Status::TooDeep => 11,
+            Status::Inexpressible(Unfit::Null) => 15,
             Status::TableRefused(_) => 20,
             Status::NoSuchShape => 21,
             Status::NotAStructure => 22,
@@ -88,6 +91,7 @@ impl From<TranscodeError> for Status {
         match error {
             TranscodeError::InvalidInput => Status::InvalidInput,
             TranscodeError::TooDeep => Status::TooDeep,
+            TranscodeError::Inexpressible(unfit) => Status::Inexpressible(unfit),
             TranscodeError::NoMemory => Status::OutOfMemory,
         }
     }

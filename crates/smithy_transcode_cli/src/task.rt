@@ -1,13 +1,15 @@
-//! What a command asks for, where its wires are built.
-ghost use Rattle.std.specs.Prelude.{◌≡◌, option_map};
-ghost use Rattle.smithy_transcode_cli.specs.Task.{built_wire, task_of};
-ghost use Rattle.smithy_transcode_cli.specs.Words.{wire_of, transcode_view, task_view};
+//! What a command asks for.
+ghost use Rattle.std.specs.Prelude.{◌≡◌, IfOk, string_bytes};
+ghost use Rattle.smithy_transcode.specs.Wires.{wire_of};
+ghost use Rattle.smithy_transcode_cli.specs.Task.{asked_wire, task_of};
+ghost use Rattle.smithy_transcode_cli.specs.Words.{named_wire, transcode_view, task_view};
 
 use crate::words::{Command, WireWords};
 use smithy_transcode::Wire;
+use std::alloc::{AllocError, Global};
 
 /// The transcoding of one body.
-#[derive(Clone, Copy)]
+#[derive(Drop)]
 pub struct Task<'a> {
     /// The path of the table.
     pub table: &'a str,
@@ -19,32 +21,44 @@ pub struct Task<'a> {
     pub to: Wire,
 }
 
-// The wire of the words, if it is built.
-fn built(words: WireWords<'_>) -> Option<Wire>
-    ensures { result ≡ built_wire (wire_of words.entry) }
+// The text of a word, as one of its own.
+fn owned(alloc: Global, word: &str) -> Result<String, AllocError>
+    ensures { IfOk result (λ text. string_bytes text ≡ word.now) }
+{
+    let mut text = String::new(alloc);
+    text.push_str(word)?;
+    Ok(text)
+}
+
+// The wire that the words name.
+fn asked(alloc: Global, words: WireWords<'_>) -> Result<Wire, AllocError>
+    ensures { IfOk result (λ wire. wire_of wire ≡ asked_wire (named_wire words.entry)) }
 {
     match words {
-        WireWords::Json => Some(Wire::Json {
+        WireWords::Json => Ok(Wire::Json {
             use_json_name: false,
         }),
-        WireWords::JsonName => Some(Wire::Json {
+        WireWords::JsonName => Ok(Wire::Json {
             use_json_name: true,
         }),
-        WireWords::Cbor => Some(Wire::Cbor),
-        WireWords::Query(_, _) => None,
+        WireWords::Cbor => Ok(Wire::Cbor),
+        WireWords::Query(action, version) => Ok(Wire::Query {
+            action: owned(alloc, action)?,
+            version: owned(alloc, version)?,
+        }),
     }
 }
 
 impl<'a> Task<'a> {
-    /// The task of a command, if both wires are built.
-    pub fn of_command(command: Command<'a>) -> Option<Task<'a>>
-        ensures { option_map task_view result ≡ task_of (transcode_view command.entry) }
+    /// The task of a command.
+    pub fn of_command(alloc: Global, command: Command<'a>) -> Result<Task<'a>, AllocError>
+        ensures { IfOk result (λ task. task_view task ≡ task_of (transcode_view command.entry)) }
     {
-        Some(Task {
+        Ok(Task {
             table: command.table,
             root: command.root,
-            from: built(command.from)?,
-            to: built(command.to)?,
+            from: asked(alloc, command.from)?,
+            to: asked(alloc, command.to)?,
         })
     }
 }

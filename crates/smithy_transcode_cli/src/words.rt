@@ -1,7 +1,7 @@
 //! The command that the words of the program are.
 ghost use Rattle.std.specs.Prelude.{◌≡◌, map, option_map, string_bytes};
 ghost use Rattle.smithy_transcode_cli.specs.Command.{command_of, transcode_of, wanted_wire, wire_named};
-ghost use Rattle.smithy_transcode_cli.specs.Words.{wire_of, transcode_view};
+ghost use Rattle.smithy_transcode_cli.specs.Words.{named_wire, transcode_view};
 
 /// A wire, as words name it.
 #[derive(Clone, Copy)]
@@ -31,7 +31,7 @@ pub struct Command<'a> {
 
 // json, json-name or cbor.
 fn single_wire<'a>(word: &str) -> Option<WireWords<'a>>
-    ensures { option_map wire_of result ≡ wire_named word.now }
+    ensures { option_map named_wire result ≡ wire_named word.now }
 {
     match word {
         "json" => Some(WireWords::Json),
@@ -43,7 +43,7 @@ fn single_wire<'a>(word: &str) -> Option<WireWords<'a>>
 
 // One of these, or `query ACTION VERSION`.
 fn output_wire(words: &[String]) -> Option<WireWords<'_>>
-    ensures { option_map wire_of result ≡ wanted_wire (map string_bytes words.now) }
+    ensures { option_map named_wire result ≡ wanted_wire (map string_bytes words.now) }
 {
     match words {
         [wire] => single_wire(wire.as_str()),

@@ -176,9 +176,7 @@ fn last_element(alloc: Global, schema: &Schema<'_>, input: &[u8]) -> Result<Opti
 #[test]
 fn structures_are_read_as_written(rt: HostRuntime) -> Result<(), Fail> {
     let shapes = Shapes::build(rt.alloc(), TableText::read(rt.alloc(), TABLE)?)?;
-    let Some(root) = shapes.find("S") else {
-        return Ok(());
-    };
+    let root = shapes.find("S").ok_or("the table has no S")?;
     let schema = shapes.schema(root);
     assert!(rt; schema.shape_type() == ShapeType::Structure);
     for row in &STRUCTURES {
@@ -200,9 +198,7 @@ fn structures_are_read_as_written(rt: HostRuntime) -> Result<(), Fail> {
 #[test]
 fn lists_are_read_as_written(rt: HostRuntime) -> Result<(), Fail> {
     let shapes = Shapes::build(rt.alloc(), TableText::read(rt.alloc(), TABLE)?)?;
-    let Some(root) = shapes.find("L") else {
-        return Ok(());
-    };
+    let root = shapes.find("L").ok_or("the table has no L")?;
     let schema = shapes.schema(root);
     assert!(rt; schema.shape_type() == ShapeType::List);
     for row in &LISTS {
@@ -228,9 +224,7 @@ fn lists_are_read_as_written(rt: HostRuntime) -> Result<(), Fail> {
 #[test]
 fn texts_are_utf8_chunk_by_chunk(rt: HostRuntime) -> Result<(), Fail> {
     let shapes = Shapes::build(rt.alloc(), TableText::read(rt.alloc(), TABLE)?)?;
-    let Some(root) = shapes.find("S") else {
-        return Ok(());
-    };
+    let root = shapes.find("S").ok_or("the table has no S")?;
     let schema = shapes.schema(root);
     let codec = CborCodec::strict();
     let mut whole = codec.create_deserializer(rt.alloc(), b"\x63h\xc3\xa9");
@@ -253,9 +247,7 @@ fn texts_are_utf8_chunk_by_chunk(rt: HostRuntime) -> Result<(), Fail> {
 #[test]
 fn bytes_are_read_in_one_piece_and_in_chunks(rt: HostRuntime) -> Result<(), Fail> {
     let shapes = Shapes::build(rt.alloc(), TableText::read(rt.alloc(), TABLE)?)?;
-    let Some(root) = shapes.find("S") else {
-        return Ok(());
-    };
+    let root = shapes.find("S").ok_or("the table has no S")?;
     let schema = shapes.schema(root);
     let codec = CborCodec::strict();
     let mut whole = codec.create_deserializer(rt.alloc(), b"\x42\xfb\xff");
@@ -297,9 +289,7 @@ fn open_all(
 #[test]
 fn at_most_128_containers_are_open_at_once(rt: HostRuntime) -> Result<(), Fail> {
     let shapes = Shapes::build(rt.alloc(), TableText::read(rt.alloc(), TABLE)?)?;
-    let Some(root) = shapes.find("S") else {
-        return Ok(());
-    };
+    let root = shapes.find("S").ok_or("the table has no S")?;
     let schema = shapes.schema(root);
     assert!(rt; schema.shape_type() == ShapeType::Structure);
     let input = nested(rt.alloc(), 129)?;
@@ -382,9 +372,8 @@ fn make<R: ShapeDeserializer>(
 #[test]
 fn what_stands_otherwise_is_refused(rt: HostRuntime) -> Result<(), Fail> {
     let shapes = Shapes::build(rt.alloc(), TableText::read(rt.alloc(), TABLE)?)?;
-    let (Some(structure), Some(list)) = (shapes.find("S"), shapes.find("L")) else {
-        return Ok(());
-    };
+    let structure = shapes.find("S").ok_or("the table has no S")?;
+    let list = shapes.find("L").ok_or("the table has no L")?;
     let (structure, list) = (shapes.schema(structure), shapes.schema(list));
     assert!(rt; structure.shape_type() == ShapeType::Structure);
     assert!(rt; list.shape_type() == ShapeType::List);
@@ -451,9 +440,8 @@ fn arrays(alloc: Global, front: &[u8], depth: usize) -> Result<Vec<u8>, Fail> {
 #[test]
 fn what_is_passed_over_may_nest_deeper(rt: HostRuntime) -> Result<(), Fail> {
     let shapes = Shapes::build(rt.alloc(), TableText::read(rt.alloc(), TABLE)?)?;
-    let (Some(structure), Some(list)) = (shapes.find("S"), shapes.find("N")) else {
-        return Ok(());
-    };
+    let structure = shapes.find("S").ok_or("the table has no S")?;
+    let list = shapes.find("N").ok_or("the table has no N")?;
     let (structure, list) = (shapes.schema(structure), shapes.schema(list));
     assert!(rt; structure.shape_type() == ShapeType::Structure);
     assert!(rt; list.shape_type() == ShapeType::List);

@@ -1,6 +1,6 @@
 //! Maps and unions, from each wire to the other.
 
-use super::rows::{CBOR, INVALID, JSON, Row, check};
+use super::rows::{CBOR, INVALID, JSON, Row, check, wire};
 use crate::{TranscodeError, transcode};
 use smithy_schema::{ShapeType, Shapes, TableText};
 use std::alloc::Global;
@@ -442,12 +442,13 @@ fn at_most_128_entries_are_open_at_once(rt: HostRuntime) -> Result<(), Fail> {
             return Ok(());
         };
         let deep = nested(rt.alloc(), part, 127, end)?;
-        match transcode(rt.alloc(), &shapes, root, &JSON, &deep, &JSON) {
+        let json = wire(rt.alloc(), JSON)?;
+        match transcode(rt.alloc(), &shapes, root, &json, &deep, &json) {
             Ok(body) => assert_eq!(rt; body.as_slice(), deep.as_slice(), "{name}"),
             Err(_) => assert!(rt; false, "{name}: as deep as may be"),
         }
         let deeper = nested(rt.alloc(), part, 128, end)?;
-        let answer = transcode(rt.alloc(), &shapes, root, &JSON, &deeper, &JSON);
+        let answer = transcode(rt.alloc(), &shapes, root, &json, &deeper, &json);
         assert!(rt;
             matches!(answer, Err(TranscodeError::TooDeep)),
             "{name}: one deeper"

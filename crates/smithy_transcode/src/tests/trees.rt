@@ -1,6 +1,6 @@
 //! The trees that values are read into.
 
-use super::WIRE;
+use super::json_names;
 use crate::compact_value::CompactValue;
 use crate::transcode;
 use crate::tree::{Part, Tree};
@@ -61,7 +61,14 @@ fn many_members_in_falling_order_are_written_in_order(rt: HostRuntime) -> Result
     };
     let input = falling(rt.alloc())?;
     let output = ascending(rt.alloc())?;
-    match transcode(rt.alloc(), &shapes, root, &WIRE, input.as_bytes(), &WIRE) {
+    match transcode(
+        rt.alloc(),
+        &shapes,
+        root,
+        &json_names(),
+        input.as_bytes(),
+        &json_names(),
+    ) {
         Ok(body) => assert_eq!(rt; body.as_slice(), output.as_bytes()),
         Err(error) => assert!(rt; false, "{error}"),
     }
@@ -218,7 +225,14 @@ fn many_keys_in_falling_order_are_written_in_order(rt: HostRuntime) -> Result<()
     };
     let input = falling_keys(rt.alloc())?;
     let output = ascending_keys(rt.alloc())?;
-    match transcode(rt.alloc(), &shapes, root, &WIRE, input.as_bytes(), &WIRE) {
+    match transcode(
+        rt.alloc(),
+        &shapes,
+        root,
+        &json_names(),
+        input.as_bytes(),
+        &json_names(),
+    ) {
         Ok(body) => assert_eq!(rt; body.as_slice(), output.as_bytes()),
         Err(error) => assert!(rt; false, "{error}"),
     }

@@ -5,11 +5,12 @@ use crate::report::report;
 use crate::run::run;
 use crate::status::Status;
 use smithy_schema::TableFault;
+use smithy_transcode::Unfit;
 use std::alloc::Global;
 use std::process::Abort;
 use std::test::Fail;
 
-const LINES: [(Status, &str); 21] = [
+const LINES: [(Status, &str); 22] = [
     (Status::Done, ""),
     (Status::Usage, "smithy_transcode: usage\n"),
     (Status::ReadFailed, "smithy_transcode: read failed\n"),
@@ -17,6 +18,10 @@ const LINES: [(Status, &str); 21] = [
     (Status::OutOfMemory, "smithy_transcode: out of memory\n"),
     (Status::InvalidInput, "smithy_transcode: invalid input\n"),
     (Status::TooDeep, "smithy_transcode: too deep\n"),
+    (
+        Status::Inexpressible(Unfit::Null),
+        "smithy_transcode: null not expressible\n",
+    ),
     (
         Status::TableRefused(TableFault::BadLine(3)),
         "smithy_transcode: table refused: BadLine 3\n",

@@ -85,7 +85,7 @@ const PROCESSES: [Process; 6] = [
         line: "smithy_transcode: invalid input\n",
     },
     Process {
-        name: "a wire that isn't built",
+        name: "a form",
         arguments: &[
             b"cli",
             b"transcode",
@@ -97,9 +97,9 @@ const PROCESSES: [Process; 6] = [
             b"1",
         ],
         input: b"{}",
-        status: 30,
-        output: b"",
-        line: "smithy_transcode: not built\n",
+        status: 0,
+        output: b"Action=Do&Version=1",
+        line: "",
     },
 ];
 

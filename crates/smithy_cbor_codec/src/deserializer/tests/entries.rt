@@ -159,9 +159,7 @@ fn last_under(
 #[test]
 fn maps_are_read_as_written(rt: HostRuntime) -> Result<(), Fail> {
     let shapes = Shapes::build(rt.alloc(), TableText::read(rt.alloc(), TABLE)?)?;
-    let Some(root) = shapes.find("M") else {
-        return Ok(());
-    };
+    let root = shapes.find("M").ok_or("the table has no M")?;
     let schema = shapes.schema(root);
     assert!(rt; schema.shape_type() == ShapeType::Map);
     for row in &MAPS {
@@ -322,9 +320,7 @@ fn seen(alloc: Global, schema: &Schema<'_>, input: &[u8]) -> Result<(u32, u32), 
 fn members_are_read_as_written(rt: HostRuntime) -> Result<(), Fail> {
     let shapes = Shapes::build(rt.alloc(), TableText::read(rt.alloc(), TABLE)?)?;
     for row in &MEMBERS {
-        let Some(root) = shapes.find(row.shape) else {
-            return Ok(());
-        };
+        let root = shapes.find(row.shape).ok_or("no such shape")?;
         let schema = shapes.schema(root);
         if has_members(&schema) {
             let answer = seen(rt.alloc(), &schema, row.input);
@@ -349,9 +345,7 @@ fn in_maps(alloc: Global, schema: &Schema<'_>, input: &[u8], depth: usize) -> Re
 #[test]
 fn at_most_128_maps_are_open_at_once(rt: HostRuntime) -> Result<(), Fail> {
     let shapes = Shapes::build(rt.alloc(), TableText::read(rt.alloc(), TABLE)?)?;
-    let Some(root) = shapes.find("N") else {
-        return Ok(());
-    };
+    let root = shapes.find("N").ok_or("the table has no N")?;
     let schema = shapes.schema(root);
     assert!(rt; schema.shape_type() == ShapeType::Map);
     let mut input = Vec::new(rt.alloc());

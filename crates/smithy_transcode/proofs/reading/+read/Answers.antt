@@ -58,43 +58,20 @@ read_structure-loop-members-preserved g t c =
 -- the structure ended
 pub read_structure-returns-in-End-clause-ok : goal.read_structure-returns-in-End-clause-ok
 read_structure-returns-in-End-clause-ok g t c =
-    let d = g.met.D.ShapeDeserializer in
-    let s0 = g.D.ShapeDeserializer.settings c.args.source.now in
-    let laws = d.lawful s0 in
-    let over = d.lifted_lawful s0 in
-    let above = d.above s0 in
-    let same = itself (g.D.ShapeDeserializer.wire s0) in
-    let outer = site_of c.args.schema.now in
     let inside = c.loop-members.invariant.inside in
-    let would = c.loop-members.invariant.would in
     rw c.structure.ensures
     (end _ _ _ _ _ _ _ _ _ _ _ inside (rw (c.in-End.is, c.loop-members.invariant.same) at (c.in_ok-member.ensures.ok inside.due)) refl)
 
 -- the structure can not go on
 pub read_structure-returns-in_err-member-clause-refused : goal.read_structure-returns-in_err-member-clause-refused
 read_structure-returns-in_err-member-clause-refused g t c =
-    let d = g.met.D.ShapeDeserializer in
-    let s0 = g.D.ShapeDeserializer.settings c.args.source.now in
-    let laws = d.lawful s0 in
-    let over = d.lifted_lawful s0 in
-    let above = d.above s0 in
-    let same = itself (g.D.ShapeDeserializer.wire s0) in
-    let outer = site_of c.args.schema.now in
     let inside = c.loop-members.invariant.inside in
-    let would = c.loop-members.invariant.would in
     let p = err_from_is_err_and c.from_residual-in_err-member.result c.from_residual-in_err-member.ensures.1 in
     rw (p.1, p.2)
     (λ refused. stuck _ _ _ _ _ _ _ _ _ inside (rw c.loop-members.invariant.same at (c.in_err-member.ensures.refused refused inside.due)))
 
 pub read_structure-returns-in_err-member-clause-would : goal.read_structure-returns-in_err-member-clause-would
 read_structure-returns-in_err-member-clause-would g t c =
-    let d = g.met.D.ShapeDeserializer in
-    let s0 = g.D.ShapeDeserializer.settings c.args.source.now in
-    let laws = d.lawful s0 in
-    let over = d.lifted_lawful s0 in
-    let above = d.above s0 in
-    let same = itself (g.D.ShapeDeserializer.wire s0) in
-    let outer = site_of c.args.schema.now in
     let inside = c.loop-members.invariant.inside in
     let would = c.loop-members.invariant.would in
     let p = err_from_is_err_and c.from_residual-in_err-member.result c.from_residual-in_err-member.ensures.1 in
@@ -104,29 +81,22 @@ read_structure-returns-in_err-member-clause-would g t c =
 -- the value of a member was refused
 pub read_structure-returns-in_err-value-in-Member-clause-refused : goal.read_structure-returns-in_err-value-in-Member-clause-refused
 read_structure-returns-in_err-value-in-Member-clause-refused g t c =
-    let d = g.met.D.ShapeDeserializer in
     let s0 = g.D.ShapeDeserializer.settings c.args.source.now in
-    let laws = d.lawful s0 in
-    let over = d.lifted_lawful s0 in
-    let above = d.above s0 in
-    let same = itself (g.D.ShapeDeserializer.wire s0) in
+    let laws = g.met.D.ShapeDeserializer.lawful s0 in
     let outer = site_of c.args.schema.now in
     let inside = c.loop-members.invariant.inside in
-    let would = c.loop-members.invariant.would in
     let step = rw (c.in-Member.is, c.loop-members.invariant.same) at (c.in_ok-member.ensures.ok inside.due) in
     let p = err_from_is_err_and c.from_residual-in_err-value-in-Member.result c.from_residual-in_err-value-in-Member.ensures.1 in
     rw (p.1, p.2)
-    (λ refused. member_refused _ _ _ laws same _ _ _ outer c.in-Member.member _ (structure_has_members _ c.requires.place) inside step
+    (λ refused. member_refused _ _ _ laws (itself (g.D.ShapeDeserializer.wire s0)) _ _ _ outer c.in-Member.member _ (structure_has_members _ c.requires.place) inside step
     (rw (c.next_member.ensures.same, c.loop-members.invariant.same) at (c.in_err-value-in-Member.ensures.refused refused)))
 
 pub read_structure-returns-in_err-value-in-Member-clause-would : goal.read_structure-returns-in_err-value-in-Member-clause-would
 read_structure-returns-in_err-value-in-Member-clause-would g t c =
     let d = g.met.D.ShapeDeserializer in
     let s0 = g.D.ShapeDeserializer.settings c.args.source.now in
-    let laws = d.lawful s0 in
     let over = d.lifted_lawful s0 in
     let above = d.above s0 in
-    let same = itself (g.D.ShapeDeserializer.wire s0) in
     let outer = site_of c.args.schema.now in
     let inside = c.loop-members.invariant.inside in
     let would = c.loop-members.invariant.would in
@@ -139,29 +109,22 @@ read_structure-returns-in_err-value-in-Member-clause-would g t c =
 -- an unknown entry can not be skipped
 pub read_structure-returns-in_err-skip_value-in-Unknown-clause-refused : goal.read_structure-returns-in_err-skip_value-in-Unknown-clause-refused
 read_structure-returns-in_err-skip_value-in-Unknown-clause-refused g t c =
-    let d = g.met.D.ShapeDeserializer in
     let s0 = g.D.ShapeDeserializer.settings c.args.source.now in
-    let laws = d.lawful s0 in
-    let over = d.lifted_lawful s0 in
-    let above = d.above s0 in
-    let same = itself (g.D.ShapeDeserializer.wire s0) in
+    let laws = g.met.D.ShapeDeserializer.lawful s0 in
     let outer = site_of c.args.schema.now in
     let inside = c.loop-members.invariant.inside in
-    let would = c.loop-members.invariant.would in
     let step = rw (c.in-Unknown.is, c.loop-members.invariant.same) at (c.in_ok-member.ensures.ok inside.due) in
     let p = err_from_is_err_and c.from_residual-in_err-skip_value-in-Unknown.result c.from_residual-in_err-skip_value-in-Unknown.ensures.1 in
     rw (p.1, p.2)
-    (λ refused. unknown_refused _ _ _ laws same _ _ _ outer _ c.requires.place inside step
+    (λ refused. unknown_refused _ _ _ laws (itself (g.D.ShapeDeserializer.wire s0)) _ _ _ outer _ c.requires.place inside step
     (rw (c.next_member.ensures.same, c.loop-members.invariant.same) at (c.in_err-skip_value-in-Unknown.ensures.refused refused step.1.due)))
 
 pub read_structure-returns-in_err-skip_value-in-Unknown-clause-would : goal.read_structure-returns-in_err-skip_value-in-Unknown-clause-would
 read_structure-returns-in_err-skip_value-in-Unknown-clause-would g t c =
     let d = g.met.D.ShapeDeserializer in
     let s0 = g.D.ShapeDeserializer.settings c.args.source.now in
-    let laws = d.lawful s0 in
     let over = d.lifted_lawful s0 in
     let above = d.above s0 in
-    let same = itself (g.D.ShapeDeserializer.wire s0) in
     let outer = site_of c.args.schema.now in
     let inside = c.loop-members.invariant.inside in
     let would = c.loop-members.invariant.would in
@@ -174,15 +137,10 @@ read_structure-returns-in_err-skip_value-in-Unknown-clause-would g t c =
 -- less is left to read
 pub read_structure-loop-members-smaller-in-Continue-branch-5 : goal.read_structure-loop-members-smaller-in-Continue-branch-5
 read_structure-loop-members-smaller-in-Continue-branch-5 g t c =
-    let d = g.met.D.ShapeDeserializer in
     let s0 = g.D.ShapeDeserializer.settings c.args.source.now in
-    let laws = d.lawful s0 in
-    let over = d.lifted_lawful s0 in
-    let above = d.above s0 in
-    let same = itself (g.D.ShapeDeserializer.wire s0) in
+    let laws = g.met.D.ShapeDeserializer.lawful s0 in
     let outer = site_of c.args.schema.now in
     let inside = c.loop-members.invariant.inside in
-    let would = c.loop-members.invariant.would in
     let step = rw (c.in-Member.is, c.loop-members.invariant.same) at (c.in_ok-member.ensures.ok inside.due) in
     let reads = rw (c.next_member.ensures.same, c.loop-members.invariant.same) at c.in_ok-value-in-Member.ensures.ok in
     rw (c.read_tree.ensures.same, c.next_member.ensures.same, c.loop-members.invariant.same)
@@ -194,12 +152,7 @@ read_structure-loop-members-smaller g t c =
     let d = g.met.D.ShapeDeserializer in
     let s0 = g.D.ShapeDeserializer.settings c.args.source.now in
     let laws = d.lawful s0 in
-    let over = d.lifted_lawful s0 in
-    let above = d.above s0 in
-    let same = itself (g.D.ShapeDeserializer.wire s0) in
-    let outer = site_of c.args.schema.now in
     let inside = c.loop-members.invariant.inside in
-    let would = c.loop-members.invariant.would in
     let step = rw (c.in-Unknown.is, c.loop-members.invariant.same) at (c.in_ok-member.ensures.ok inside.due) in
     let skips = rw (c.next_member.ensures.same, c.loop-members.invariant.same) at c.in_ok-skip_value-in-Unknown.ensures.ok in
     rw (c.skip_value.ensures.same, c.next_member.ensures.same, c.loop-members.invariant.same)
@@ -225,26 +178,13 @@ read_list-loop-elements-init g t c =
 -- the list can not go on
 pub read_list-returns-in_err-next_element-clause-refused : goal.read_list-returns-in_err-next_element-clause-refused
 read_list-returns-in_err-next_element-clause-refused g t c =
-    let d = g.met.D.ShapeDeserializer in
-    let s0 = g.D.ShapeDeserializer.settings c.args.source.now in
-    let laws = d.lawful s0 in
-    let over = d.lifted_lawful s0 in
-    let above = d.above s0 in
-    let same = itself (g.D.ShapeDeserializer.wire s0) in
     let inside = c.loop-elements.invariant.inside in
-    let would = c.loop-elements.invariant.would in
     let p = err_from_is_err_and c.from_residual-in_err-next_element.result c.from_residual-in_err-next_element.ensures.1 in
     rw (p.1, p.2)
     (λ refused. stuck _ _ _ _ _ _ _ _ _ inside (rw c.loop-elements.invariant.same at (c.in_err-next_element.ensures.refused refused inside.due c.args.schema.now.shapes.now c.args.schema.now.place c.requires.place)))
 
 pub read_list-returns-in_err-next_element-clause-would : goal.read_list-returns-in_err-next_element-clause-would
 read_list-returns-in_err-next_element-clause-would g t c =
-    let d = g.met.D.ShapeDeserializer in
-    let s0 = g.D.ShapeDeserializer.settings c.args.source.now in
-    let laws = d.lawful s0 in
-    let over = d.lifted_lawful s0 in
-    let above = d.above s0 in
-    let same = itself (g.D.ShapeDeserializer.wire s0) in
     let inside = c.loop-elements.invariant.inside in
     let would = c.loop-elements.invariant.would in
     let p = err_from_is_err_and c.from_residual-in_err-next_element.result c.from_residual-in_err-next_element.ensures.1 in
@@ -257,11 +197,8 @@ read_list-returns-in_err-read_null-clause-refused g t c =
     let d = g.met.D.ShapeDeserializer in
     let s0 = g.D.ShapeDeserializer.settings c.args.source.now in
     let laws = d.lawful s0 in
-    let over = d.lifted_lawful s0 in
-    let above = d.above s0 in
     let same = itself (g.D.ShapeDeserializer.wire s0) in
     let inside = c.loop-elements.invariant.inside in
-    let would = c.loop-elements.invariant.would in
     let step = rw (c.if-branch.true, c.loop-elements.invariant.same) at (c.in_ok-next_element.ensures.ok inside.due c.args.schema.now.shapes.now c.args.schema.now.place c.requires.place) in
     let place = element_place c.args.schema.now c.in-Some.element c.requires.place c.in-Some.ensures in
     let begins = rw (c.next_element.ensures.same, c.loop-elements.invariant.same) at (sym c.is_null.ensures ∙ c.if-is_null.true) in
@@ -274,10 +211,8 @@ pub read_list-returns-in_err-read_null-clause-would : goal.read_list-returns-in_
 read_list-returns-in_err-read_null-clause-would g t c =
     let d = g.met.D.ShapeDeserializer in
     let s0 = g.D.ShapeDeserializer.settings c.args.source.now in
-    let laws = d.lawful s0 in
     let over = d.lifted_lawful s0 in
     let above = d.above s0 in
-    let same = itself (g.D.ShapeDeserializer.wire s0) in
     let inside = c.loop-elements.invariant.inside in
     let would = c.loop-elements.invariant.would in
     let step = rw (c.if-branch.true, c.loop-elements.invariant.same) at (c.in_ok-next_element.ensures.ok inside.due c.args.schema.now.shapes.now c.args.schema.now.place c.requires.place) in
@@ -318,11 +253,8 @@ read_list-returns-in_err-item-clause-refused g t c =
     let d = g.met.D.ShapeDeserializer in
     let s0 = g.D.ShapeDeserializer.settings c.args.source.now in
     let laws = d.lawful s0 in
-    let over = d.lifted_lawful s0 in
-    let above = d.above s0 in
     let same = itself (g.D.ShapeDeserializer.wire s0) in
     let inside = c.loop-elements.invariant.inside in
-    let would = c.loop-elements.invariant.would in
     let step = rw (c.if-branch.true, c.loop-elements.invariant.same) at (c.in_ok-next_element.ensures.ok inside.due c.args.schema.now.shapes.now c.args.schema.now.place c.requires.place) in
     let place = element_place c.args.schema.now c.in-Some.element c.requires.place c.in-Some.ensures in
     let p = err_from_is_err_and c.from_residual-in_err-item.result c.from_residual-in_err-item.ensures.1 in
@@ -339,10 +271,8 @@ pub read_list-returns-in_err-item-clause-would : goal.read_list-returns-in_err-i
 read_list-returns-in_err-item-clause-would g t c =
     let d = g.met.D.ShapeDeserializer in
     let s0 = g.D.ShapeDeserializer.settings c.args.source.now in
-    let laws = d.lawful s0 in
     let over = d.lifted_lawful s0 in
     let above = d.above s0 in
-    let same = itself (g.D.ShapeDeserializer.wire s0) in
     let inside = c.loop-elements.invariant.inside in
     let would = c.loop-elements.invariant.would in
     let step = rw (c.if-branch.true, c.loop-elements.invariant.same) at (c.in_ok-next_element.ensures.ok inside.due c.args.schema.now.shapes.now c.args.schema.now.place c.requires.place) in
@@ -384,14 +314,7 @@ read_list-loop-elements-preserved g t c =
 -- the list ended
 pub read_list-returns-clause-ok : goal.read_list-returns-clause-ok
 read_list-returns-clause-ok g t c =
-    let d = g.met.D.ShapeDeserializer in
-    let s0 = g.D.ShapeDeserializer.settings c.args.source.now in
-    let laws = d.lawful s0 in
-    let over = d.lifted_lawful s0 in
-    let above = d.above s0 in
-    let same = itself (g.D.ShapeDeserializer.wire s0) in
     let inside = c.loop-elements.invariant.inside in
-    let would = c.loop-elements.invariant.would in
     rw c.list.ensures
     (end _ _ _ _ _ _ _ _ _ _ _ inside (rw (c.if-branch.false, c.loop-elements.invariant.same) at (c.in_ok-next_element.ensures.ok inside.due c.args.schema.now.shapes.now c.args.schema.now.place c.requires.place)) refl)
 
@@ -401,11 +324,7 @@ read_list-loop-elements-smaller-then-is_null g t c =
     let d = g.met.D.ShapeDeserializer in
     let s0 = g.D.ShapeDeserializer.settings c.args.source.now in
     let laws = d.lawful s0 in
-    let over = d.lifted_lawful s0 in
-    let above = d.above s0 in
-    let same = itself (g.D.ShapeDeserializer.wire s0) in
     let inside = c.loop-elements.invariant.inside in
-    let would = c.loop-elements.invariant.would in
     let step = rw (c.if-branch.true, c.loop-elements.invariant.same) at (c.in_ok-next_element.ensures.ok inside.due c.args.schema.now.shapes.now c.args.schema.now.place c.requires.place) in
     let nulls = rw (c.next_element.ensures.same, c.loop-elements.invariant.same) at (c.in_ok-read_null.ensures.ok (sym c.is_null.ensures ∙ c.if-is_null.true)) in
     let passes = c.in_ok-read_null.ensures.passes (sym c.is_null.ensures ∙ c.if-is_null.true) in
@@ -417,11 +336,7 @@ read_list-loop-elements-smaller g t c =
     let d = g.met.D.ShapeDeserializer in
     let s0 = g.D.ShapeDeserializer.settings c.args.source.now in
     let laws = d.lawful s0 in
-    let over = d.lifted_lawful s0 in
-    let above = d.above s0 in
-    let same = itself (g.D.ShapeDeserializer.wire s0) in
     let inside = c.loop-elements.invariant.inside in
-    let would = c.loop-elements.invariant.would in
     let step = rw (c.if-branch.true, c.loop-elements.invariant.same) at (c.in_ok-next_element.ensures.ok inside.due c.args.schema.now.shapes.now c.args.schema.now.place c.requires.place) in
     let place = element_place c.args.schema.now c.in-Some.element c.requires.place c.in-Some.ensures in
     let reads = rw (c.next_element.ensures.same, c.loop-elements.invariant.same, place.0) at c.in_ok-item.ensures.ok in
@@ -449,7 +364,6 @@ read_map-loop-entries-init g t c =
 pub read_map-returns-in_err-key-clause-refused : goal.read_map-returns-in_err-key-clause-refused
 read_map-returns-in_err-key-clause-refused g t c =
     let inside = c.loop-entries.invariant.inside in
-    let would = c.loop-entries.invariant.would in
     let p = err_from_is_err_and c.from_residual-in_err-key.result c.from_residual-in_err-key.ensures.1 in
     rw (p.1, p.2)
     (λ refused. stuck _ _ _ _ _ _ _ _ _ inside (rw c.loop-entries.invariant.same at (c.in_err-key.ensures.refused refused inside.due c.args.schema.now.shapes.now c.args.schema.now.place c.requires.place)))
@@ -468,11 +382,8 @@ read_map-returns-in_err-read_null-clause-refused g t c =
     let d = g.met.D.ShapeDeserializer in
     let s0 = g.D.ShapeDeserializer.settings c.args.source.now in
     let laws = d.lawful s0 in
-    let over = d.lifted_lawful s0 in
-    let above = d.above s0 in
     let same = itself (g.D.ShapeDeserializer.wire s0) in
     let inside = c.loop-entries.invariant.inside in
-    let would = c.loop-entries.invariant.would in
     let step = rw (c.in-Some-2.is, c.loop-entries.invariant.same) at (c.in_ok-key.ensures.ok inside.due c.args.schema.now.shapes.now c.args.schema.now.place c.requires.place) in
     let place = value_place c.args.schema.now c.in-Some.inner c.requires.place c.in-Some.ensures in
     let begins = rw (c.next_key.ensures.same, c.loop-entries.invariant.same) at (sym c.is_null.ensures ∙ c.if-is_null.true) in
@@ -485,10 +396,8 @@ pub read_map-returns-in_err-read_null-clause-would : goal.read_map-returns-in_er
 read_map-returns-in_err-read_null-clause-would g t c =
     let d = g.met.D.ShapeDeserializer in
     let s0 = g.D.ShapeDeserializer.settings c.args.source.now in
-    let laws = d.lawful s0 in
     let over = d.lifted_lawful s0 in
     let above = d.above s0 in
-    let same = itself (g.D.ShapeDeserializer.wire s0) in
     let inside = c.loop-entries.invariant.inside in
     let would = c.loop-entries.invariant.would in
     let step = rw (c.in-Some-2.is, c.loop-entries.invariant.same) at (c.in_ok-key.ensures.ok inside.due c.args.schema.now.shapes.now c.args.schema.now.place c.requires.place) in
@@ -529,11 +438,8 @@ read_map-returns-in_err-value-clause-refused g t c =
     let d = g.met.D.ShapeDeserializer in
     let s0 = g.D.ShapeDeserializer.settings c.args.source.now in
     let laws = d.lawful s0 in
-    let over = d.lifted_lawful s0 in
-    let above = d.above s0 in
     let same = itself (g.D.ShapeDeserializer.wire s0) in
     let inside = c.loop-entries.invariant.inside in
-    let would = c.loop-entries.invariant.would in
     let step = rw (c.in-Some-2.is, c.loop-entries.invariant.same) at (c.in_ok-key.ensures.ok inside.due c.args.schema.now.shapes.now c.args.schema.now.place c.requires.place) in
     let place = value_place c.args.schema.now c.in-Some.inner c.requires.place c.in-Some.ensures in
     let p = err_from_is_err_and c.from_residual-in_err-value.result c.from_residual-in_err-value.ensures.1 in
@@ -550,10 +456,8 @@ pub read_map-returns-in_err-value-clause-would : goal.read_map-returns-in_err-va
 read_map-returns-in_err-value-clause-would g t c =
     let d = g.met.D.ShapeDeserializer in
     let s0 = g.D.ShapeDeserializer.settings c.args.source.now in
-    let laws = d.lawful s0 in
     let over = d.lifted_lawful s0 in
     let above = d.above s0 in
-    let same = itself (g.D.ShapeDeserializer.wire s0) in
     let inside = c.loop-entries.invariant.inside in
     let would = c.loop-entries.invariant.would in
     let step = rw (c.in-Some-2.is, c.loop-entries.invariant.same) at (c.in_ok-key.ensures.ok inside.due c.args.schema.now.shapes.now c.args.schema.now.place c.requires.place) in
@@ -596,7 +500,6 @@ read_map-loop-entries-preserved g t c =
 pub read_map-returns-clause-ok : goal.read_map-returns-clause-ok
 read_map-returns-clause-ok g t c =
     let inside = c.loop-entries.invariant.inside in
-    let would = c.loop-entries.invariant.would in
     rw c.map.ensures
     (end _ _ _ _ _ _ _ _ _ _ _ inside (rw (c.in_default-2.is, c.loop-entries.invariant.same) at (c.in_ok-key.ensures.ok inside.due c.args.schema.now.shapes.now c.args.schema.now.place c.requires.place)) refl)
 
@@ -606,11 +509,7 @@ read_map-loop-entries-smaller-then-is_null g t c =
     let d = g.met.D.ShapeDeserializer in
     let s0 = g.D.ShapeDeserializer.settings c.args.source.now in
     let laws = d.lawful s0 in
-    let over = d.lifted_lawful s0 in
-    let above = d.above s0 in
-    let same = itself (g.D.ShapeDeserializer.wire s0) in
     let inside = c.loop-entries.invariant.inside in
-    let would = c.loop-entries.invariant.would in
     let step = rw (c.in-Some-2.is, c.loop-entries.invariant.same) at (c.in_ok-key.ensures.ok inside.due c.args.schema.now.shapes.now c.args.schema.now.place c.requires.place) in
     let nulls = rw (c.next_key.ensures.same, c.loop-entries.invariant.same) at (c.in_ok-read_null.ensures.ok (sym c.is_null.ensures ∙ c.if-is_null.true)) in
     let passes = c.in_ok-read_null.ensures.passes (sym c.is_null.ensures ∙ c.if-is_null.true) in
@@ -622,11 +521,7 @@ read_map-loop-entries-smaller g t c =
     let d = g.met.D.ShapeDeserializer in
     let s0 = g.D.ShapeDeserializer.settings c.args.source.now in
     let laws = d.lawful s0 in
-    let over = d.lifted_lawful s0 in
-    let above = d.above s0 in
-    let same = itself (g.D.ShapeDeserializer.wire s0) in
     let inside = c.loop-entries.invariant.inside in
-    let would = c.loop-entries.invariant.would in
     let step = rw (c.in-Some-2.is, c.loop-entries.invariant.same) at (c.in_ok-key.ensures.ok inside.due c.args.schema.now.shapes.now c.args.schema.now.place c.requires.place) in
     let place = value_place c.args.schema.now c.in-Some.inner c.requires.place c.in-Some.ensures in
     let reads = rw (c.next_key.ensures.same, c.loop-entries.invariant.same, place.0) at c.in_ok-value.ensures.ok in
@@ -636,15 +531,9 @@ read_map-loop-entries-smaller g t c =
 -- the union can not begin
 pub read_union-returns-in_err-member-clause-refused : goal.read_union-returns-in_err-member-clause-refused
 read_union-returns-in_err-member-clause-refused g t c =
-    let d = g.met.D.ShapeDeserializer in
     let s0 = g.D.ShapeDeserializer.settings c.args.source.now in
-    let laws = d.lawful s0 in
-    let over = d.lifted_lawful s0 in
-    let above = d.above s0 in
-    let same = itself (g.D.ShapeDeserializer.wire s0) in
-    let outer = site_of c.args.schema.now in
-    let begun = begin_union _ _ _ laws laws same _ _ _ _ c.requires.place c.in_ok-open_struct.ensures.ok in
-    let lifted = begin_union _ _ _ laws over above _ _ _ _ c.requires.place c.in_ok-open_struct.ensures.ok in
+    let laws = g.met.D.ShapeDeserializer.lawful s0 in
+    let begun = begin_union _ _ _ laws laws (itself (g.D.ShapeDeserializer.wire s0)) _ _ _ _ c.requires.place c.in_ok-open_struct.ensures.ok in
     let p = err_from_is_err_and c.from_residual-in_err-member.result c.from_residual-in_err-member.ensures.1 in
     rw (p.1, p.2)
     (λ refused. stuck _ _ _ _ _ _ _ _ _ begun (rw c.open_struct.ensures.same at (c.in_err-member.ensures.refused refused begun.due)))
@@ -657,7 +546,6 @@ read_union-returns-in_err-member-clause-would g t c =
     let over = d.lifted_lawful s0 in
     let above = d.above s0 in
     let same = itself (g.D.ShapeDeserializer.wire s0) in
-    let outer = site_of c.args.schema.now in
     let begun = begin_union _ _ _ laws laws same _ _ _ _ c.requires.place c.in_ok-open_struct.ensures.ok in
     let lifted = begin_union _ _ _ laws over above _ _ _ _ c.requires.place c.in_ok-open_struct.ensures.ok in
     let p = err_from_is_err_and c.from_residual-in_err-member.result c.from_residual-in_err-member.ensures.1 in
@@ -693,15 +581,11 @@ read_union-returns-in_default g t c =
 -- the value of the variant was refused
 pub read_union-returns-in_err-value-clause-refused : goal.read_union-returns-in_err-value-clause-refused
 read_union-returns-in_err-value-clause-refused g t c =
-    let d = g.met.D.ShapeDeserializer in
     let s0 = g.D.ShapeDeserializer.settings c.args.source.now in
-    let laws = d.lawful s0 in
-    let over = d.lifted_lawful s0 in
-    let above = d.above s0 in
+    let laws = g.met.D.ShapeDeserializer.lawful s0 in
     let same = itself (g.D.ShapeDeserializer.wire s0) in
     let outer = site_of c.args.schema.now in
     let begun = begin_union _ _ _ laws laws same _ _ _ _ c.requires.place c.in_ok-open_struct.ensures.ok in
-    let lifted = begin_union _ _ _ laws over above _ _ _ _ c.requires.place c.in_ok-open_struct.ensures.ok in
     let step = rw (c.in-Member.is, c.open_struct.ensures.same) at (c.in_ok-member.ensures.ok begun.due) in
     let p = err_from_is_err_and c.from_residual-in_err-value.result c.from_residual-in_err-value.ensures.1 in
     rw (p.1, p.2)
@@ -728,19 +612,14 @@ read_union-returns-in_err-value-clause-would g t c =
 -- the union can not go on behind the variant
 pub read_union-returns-in_err-next_member-clause-refused : goal.read_union-returns-in_err-next_member-clause-refused
 read_union-returns-in_err-next_member-clause-refused g t c =
-    let d = g.met.D.ShapeDeserializer in
     let s0 = g.D.ShapeDeserializer.settings c.args.source.now in
-    let laws = d.lawful s0 in
-    let over = d.lifted_lawful s0 in
-    let above = d.above s0 in
+    let laws = g.met.D.ShapeDeserializer.lawful s0 in
     let same = itself (g.D.ShapeDeserializer.wire s0) in
     let outer = site_of c.args.schema.now in
     let begun = begin_union _ _ _ laws laws same _ _ _ _ c.requires.place c.in_ok-open_struct.ensures.ok in
-    let lifted = begin_union _ _ _ laws over above _ _ _ _ c.requires.place c.in_ok-open_struct.ensures.ok in
     let step = rw (c.in-Member.is, c.open_struct.ensures.same) at (c.in_ok-member.ensures.ok begun.due) in
     let reads = rw (c.next_member.ensures.same, c.open_struct.ensures.same) at c.in_ok-value.ensures.ok in
     let inside = variant_read _ _ _ laws same _ _ _ _ outer c.in-Member.member c.in-Some.index _ begun step (sym c.in-Some.ensures) reads in
-    let would = variant_read _ _ _ over above _ _ _ _ outer c.in-Member.member c.in-Some.index _ lifted step (sym c.in-Some.ensures) reads in
     let settings = c.read_tree.ensures.same ∙ c.next_member.ensures.same ∙ c.open_struct.ensures.same in
     let p = err_from_is_err_and c.from_residual-in_err-next_member.result c.from_residual-in_err-next_member.ensures.1 in
     rw (p.1, p.2)
@@ -800,19 +679,14 @@ read_union-returns-in_default-2 g t c =
 -- the union ended behind its variant
 pub read_union-returns-clause-ok : goal.read_union-returns-clause-ok
 read_union-returns-clause-ok g t c =
-    let d = g.met.D.ShapeDeserializer in
     let s0 = g.D.ShapeDeserializer.settings c.args.source.now in
-    let laws = d.lawful s0 in
-    let over = d.lifted_lawful s0 in
-    let above = d.above s0 in
+    let laws = g.met.D.ShapeDeserializer.lawful s0 in
     let same = itself (g.D.ShapeDeserializer.wire s0) in
     let outer = site_of c.args.schema.now in
     let begun = begin_union _ _ _ laws laws same _ _ _ _ c.requires.place c.in_ok-open_struct.ensures.ok in
-    let lifted = begin_union _ _ _ laws over above _ _ _ _ c.requires.place c.in_ok-open_struct.ensures.ok in
     let step = rw (c.in-Member.is, c.open_struct.ensures.same) at (c.in_ok-member.ensures.ok begun.due) in
     let reads = rw (c.next_member.ensures.same, c.open_struct.ensures.same) at c.in_ok-value.ensures.ok in
     let inside = variant_read _ _ _ laws same _ _ _ _ outer c.in-Member.member c.in-Some.index _ begun step (sym c.in-Some.ensures) reads in
-    let would = variant_read _ _ _ over above _ _ _ _ outer c.in-Member.member c.in-Some.index _ lifted step (sym c.in-Some.ensures) reads in
     let settings = c.read_tree.ensures.same ∙ c.next_member.ensures.same ∙ c.open_struct.ensures.same in
     let leaves = rw (c.in-End.is, settings) at (c.in_ok-next_member.ensures.ok inside.due) in
     IfOk-weaker c.union.result _ _ (λ u made. rw made (end _ _ _ _ _ _ _ _ _ _ _ inside leaves refl)) c.union.ensures.ok

@@ -1,0 +1,277 @@
+//! Forms that are written call by call.
+
+use crate::QueryShapeSerializer;
+use smithy_schema::{FinishSerializer, Schema, SerdeError, ShapeSerializer, Shapes, TableText};
+use smithy_types::Blob;
+use std::alloc::Global;
+use std::test::Fail;
+
+const TABLE: &[u8] = b"list Items string xml=item
+map Tags Counts key=K value=V
+map Counts long
+structure S
+member a long
+member Name string xml=name
+member Items Items
+member Flat Items flat xml=flat
+member Tags Tags
+member Counts Counts flat
+";
+
+// Where a call's schema comes from: the structure, a member of it, or the value of a map that is a member, without its name.
+#[derive(Clone, Copy)]
+enum At {
+    Whole,
+    Member(u32),
+    ValueOf(u32),
+}
+
+#[derive(Clone, Copy)]
+enum Call {
+    BeginStruct(At),
+    EndStruct,
+    BeginList(At),
+    EndList,
+    BeginMap(At),
+    EndMap,
+    Null(At),
+    Boolean(At, bool),
+    Byte(At, i8),
+    Short(At, i16),
+    Integer(At, i32),
+    Long(At, i64),
+    Text(At, &'static str),
+    Bytes(At, &'static [u8]),
+    Fail,
+}
+
+use At::{Member, ValueOf, Whole};
+use Call::{
+    BeginList, BeginMap, BeginStruct, Boolean, Byte, Bytes, EndList, EndMap, EndStruct, Integer,
+    Long, Null, Short, Text,
+};
+
+#[derive(Clone, Copy)]
+struct Row {
+    name: &'static str,
+    calls: &'static [Call],
+    // behind Action and Version
+    answer: Result<&'static str, SerdeError>,
+}
+
+const ROWS: [Row; 20] = [
+    Row {
+        name: "nothing",
+        calls: &[],
+        answer: Ok(""),
+    },
+    Row {
+        name: "members by their names in a form, and a null",
+        calls: &[
+            BeginStruct(Whole),
+            Long(Member(0), -9_223_372_036_854_775_808),
+            Null(Member(0)),
+            Text(Member(1), "a b&=+~\u{e9}"),
+            EndStruct,
+        ],
+        answer: Ok("&a=-9223372036854775808&name=a%20b%26%3D%2B~%C3%A9"),
+    },
+    Row {
+        name: "scalars of every width, outside of a structure",
+        calls: &[
+            Boolean(Member(0), true),
+            Boolean(Member(0), false),
+            Byte(Member(0), -128),
+            Short(Member(0), 32_767),
+            Integer(Member(0), -1),
+            Bytes(Member(0), b"\xfb\xff"),
+        ],
+        answer: Ok("&a=true&a=false&a=-128&a=32767&a=-1&a=%2B%2F8%3D"),
+    },
+    Row {
+        name: "elements under their name",
+        calls: &[
+            BeginList(Member(2)),
+            Text(Whole, "x"),
+            Text(Member(1), "y"),
+            EndList,
+        ],
+        answer: Ok("&Items.item.1=x&Items.item.2=y"),
+    },
+    Row {
+        name: "elements of a flat member",
+        calls: &[BeginList(Member(3)), Text(Whole, "x"), EndList],
+        answer: Ok("&flat.1=x"),
+    },
+    Row {
+        name: "lists of members without elements",
+        calls: &[BeginList(Member(2)), EndList, BeginList(Member(3)), EndList],
+        answer: Ok("&Items=&flat="),
+    },
+    Row {
+        name: "lists in a list: an empty one writes nothing and has a position",
+        calls: &[
+            BeginList(Member(2)),
+            BeginList(Whole),
+            EndList,
+            BeginList(Whole),
+            Text(Whole, "x"),
+            EndList,
+            EndList,
+        ],
+        answer: Ok("&Items.item.2.member.1=x"),
+    },
+    Row {
+        name: "a list whose elements write nothing",
+        calls: &[BeginList(Member(2)), BeginStruct(Whole), EndStruct, EndList],
+        answer: Ok("&Items="),
+    },
+    Row {
+        name: "a map in a map, each with its names",
+        calls: &[
+            BeginMap(Member(4)),
+            Text(Whole, "k"),
+            BeginMap(ValueOf(4)),
+            Text(Whole, "l"),
+            Long(Whole, 1),
+            EndMap,
+            Text(Whole, "m"),
+            BeginMap(ValueOf(4)),
+            EndMap,
+            EndMap,
+        ],
+        answer: Ok(
+            "&Tags.entry.1.K=k&Tags.entry.1.V.entry.1.key=l&Tags.entry.1.V.entry.1.value=1&Tags.entry.2.K=m",
+        ),
+    },
+    Row {
+        name: "a flat map",
+        calls: &[BeginMap(Member(5)), Text(Whole, ""), Long(Whole, 1), EndMap],
+        answer: Ok("&Counts.1.key=&Counts.1.value=1"),
+    },
+    Row {
+        name: "a key under another schema has the map's name",
+        calls: &[
+            BeginMap(Member(5)),
+            Text(Member(1), "k"),
+            Text(Member(1), "v"),
+            EndMap,
+        ],
+        answer: Ok("&Counts.1.key=k&Counts.1.value=v"),
+    },
+    Row {
+        name: "a map without entries",
+        calls: &[BeginMap(Member(5)), EndMap],
+        answer: Ok(""),
+    },
+    Row {
+        name: "a null in a list",
+        calls: &[BeginList(Member(2)), Null(Whole)],
+        answer: Err(SerdeError::Unwritable),
+    },
+    Row {
+        name: "a null as a map's value",
+        calls: &[BeginMap(Member(5)), Text(Whole, "k"), Null(Whole)],
+        answer: Err(SerdeError::Unwritable),
+    },
+    Row {
+        name: "a scalar without a name",
+        calls: &[Long(Whole, 1)],
+        answer: Err(SerdeError::Unwritable),
+    },
+    Row {
+        name: "a number in the place of a key",
+        calls: &[BeginMap(Member(5)), Long(Member(0), 1)],
+        answer: Err(SerdeError::Unwritable),
+    },
+    Row {
+        name: "the end of a map behind a key",
+        calls: &[BeginMap(Member(5)), Text(Whole, "k"), EndMap],
+        answer: Err(SerdeError::Unwritable),
+    },
+    Row {
+        name: "the end of a list where a structure is open",
+        calls: &[BeginStruct(Whole), EndList],
+        answer: Err(SerdeError::Unwritable),
+    },
+    Row {
+        name: "the form is asked for while a list is open",
+        calls: &[BeginList(Member(2))],
+        answer: Err(SerdeError::Unwritable),
+    },
+    Row {
+        name: "any call of a serializer that failed",
+        calls: &[Call::Fail, BeginStruct(Whole)],
+        answer: Err(SerdeError::Failed),
+    },
+];
+
+fn schema(shapes: &Shapes, at: At) -> Result<Schema<'_>, SerdeError> {
+    let root = shapes.find("S").ok_or(SerdeError::InvalidInput)?;
+    let whole = shapes.schema(root);
+    match at {
+        Whole => Ok(whole),
+        Member(position) => whole.member_at(position).ok_or(SerdeError::InvalidInput),
+        ValueOf(position) => {
+            let map = whole.member_at(position).ok_or(SerdeError::InvalidInput)?;
+            let value = map.member().ok_or(SerdeError::InvalidInput)?;
+            Ok(value.nameless())
+        }
+    }
+}
+
+fn make<S: ShapeSerializer>(
+    alloc: Global,
+    sink: &mut S,
+    shapes: &Shapes,
+    call: Call,
+) -> Result<(), SerdeError> {
+    match call {
+        BeginStruct(at) => sink.begin_struct(&schema(shapes, at)?),
+        EndStruct => sink.end_struct(),
+        BeginList(at) => sink.begin_list(&schema(shapes, at)?, None),
+        EndList => sink.end_list(),
+        BeginMap(at) => sink.begin_map(&schema(shapes, at)?, None),
+        EndMap => sink.end_map(),
+        Null(at) => sink.write_null(&schema(shapes, at)?),
+        Boolean(at, value) => sink.write_boolean(&schema(shapes, at)?, value),
+        Byte(at, number) => sink.write_byte(&schema(shapes, at)?, number),
+        Short(at, number) => sink.write_short(&schema(shapes, at)?, number),
+        Integer(at, number) => sink.write_integer(&schema(shapes, at)?, number),
+        Long(at, number) => sink.write_long(&schema(shapes, at)?, number),
+        Text(at, text) => sink.write_string(&schema(shapes, at)?, text),
+        Bytes(at, bytes) => {
+            let blob = Blob::new(Vec::from_slice(alloc, bytes)?);
+            sink.write_blob(&schema(shapes, at)?, &blob)
+        }
+        Call::Fail => {
+            sink.fail();
+            Ok(())
+        }
+    }
+}
+
+fn written(alloc: Global, shapes: &Shapes, row: &Row) -> Result<Vec<u8>, SerdeError> {
+    let mut sink = QueryShapeSerializer::new(alloc, "Do It", "2011-06-15")?;
+    for call in row.calls {
+        make(alloc, &mut sink, shapes, *call)?;
+    }
+    sink.finish()
+}
+
+#[test]
+fn forms_are_written_as_the_calls_say(rt: HostRuntime) -> Result<(), Fail> {
+    let shapes = Shapes::build(rt.alloc(), TableText::read(rt.alloc(), TABLE)?)?;
+    for row in &ROWS {
+        match (written(rt.alloc(), &shapes, row), row.answer) {
+            (Ok(body), Ok(text)) => {
+                let mut whole = Vec::from_slice(rt.alloc(), b"Action=Do%20It&Version=2011-06-15")?;
+                whole.extend_from_slice(text.as_bytes())?;
+                assert_eq!(rt; body.as_slice(), whole.as_slice(), "{}", row.name);
+            }
+            (Err(error), Err(expected)) => assert_eq!(rt; error, expected, "{}", row.name),
+            _ => assert!(rt; false, "{}", row.name),
+        }
+    }
+    Ok(())
+}

@@ -1,0 +1,94 @@
+//! Whether a null element stands in a value.
+ghost use Rattle.std.specs.Prelude.{◌≡◌, ◌<◌, map as mapped, length, false};
+ghost use Rattle.smithy_schema.specs.Value.{values_of};
+ghost use Rattle.smithy_query_codec.specs.Nulls.{holds_null as null_in, elements_hold_null as null_in_elements, entries_hold_null as null_in_entries, members_hold_null as null_in_members};
+ghost use Rattle.smithy_query_codec.specs.Counts.{HasPositions, ElementsHavePositions, EntriesHavePositions, MembersHavePositions};
+ghost use Rattle.smithy_schema.specs.Writing.{count_of, entry_count};
+ghost use Rattle.smithy_transcode.specs.Private.Tree.{entries as entries_left, entry_views, member_views, whole_values};
+
+use crate::entry_iter::EntryIter;
+use crate::tree::{Part, Tree};
+
+// A null element stands in the value. Where none does, the whole value was gone through, and each of its lists and maps has
+// fewer than 2^64 parts, as they are in memory.
+#[cycle(nulls)]
+pub(crate) fn holds_null<T: Tree>(value: &T) -> bool
+    ensures null { result ≡ null_in (T.view value.now) }
+    ensures positions { result ≡ false → HasPositions (T.view value.now) }
+{
+    match value.part() {
+        Part::Boolean(_)
+        | Part::Whole(_)
+        | Part::Text(_)
+        | Part::Bytes(_)
+        | Part::UnionText(_, _) => false,
+        Part::List(elements) => elements_hold_null::<T>(elements),
+        Part::Wholes(numbers) => wholes_hold_null(numbers),
+        Part::Map(entries) => entries_hold_null::<T>(entries),
+        Part::Structure(members) => members_hold_null::<T>(members),
+        Part::Union(_, inner) => holds_null::<T>(inner),
+        Part::Null => true,
+    }
+}
+
+// The number of elements, which are in memory.
+fn count<T>(elements: &[T]) -> usize
+    ensures { result ≡ length elements.now }
+{
+    elements.len()
+}
+
+// Whole numbers hold none.
+fn wholes_hold_null(numbers: &[i64]) -> bool
+    ensures null { result ≡ null_in_elements (values_of (whole_values numbers.now)) }
+    ensures count { count_of (values_of (whole_values numbers.now)) < 18446744073709551616 }
+    ensures positions { ElementsHavePositions (values_of (whole_values numbers.now)) }
+{
+    let _count = count(numbers);
+    false
+}
+
+#[cycle(nulls)]
+fn elements_hold_null<T: Tree>(elements: &[T]) -> bool
+    ensures null { result ≡ null_in_elements (values_of (mapped T.view elements.now)) }
+    ensures count { count_of (values_of (mapped T.view elements.now)) < 18446744073709551616 }
+    ensures positions { result ≡ false → ElementsHavePositions (values_of (mapped T.view elements.now)) }
+{
+    let _count = count(elements);
+    for element in elements {
+        if holds_null::<T>(element) {
+            return true;
+        }
+    }
+    false
+}
+
+#[cycle(nulls)]
+fn entries_hold_null<T: Tree>(entries: EntryIter<'_, String, T>) -> bool
+    ensures null { result ≡ null_in_entries (entry_views T.view (entries_left entries.entry)) }
+    ensures count { entry_count (entry_views T.view (entries_left entries.entry)) < 18446744073709551616 }
+    ensures positions { result ≡ false → EntriesHavePositions (entry_views T.view (entries_left entries.entry)) }
+{
+    let _count = entries.len();
+    let mut left = entries;
+    while let Some((_, value)) = left.next_entry() {
+        if holds_null::<T>(value) {
+            return true;
+        }
+    }
+    false
+}
+
+#[cycle(nulls)]
+fn members_hold_null<T: Tree>(members: EntryIter<'_, u32, T>) -> bool
+    ensures null { result ≡ null_in_members (member_views T.view (entries_left members.entry)) }
+    ensures positions { result ≡ false → MembersHavePositions (member_views T.view (entries_left members.entry)) }
+{
+    let mut left = members;
+    while let Some((_, value)) = left.next_entry() {
+        if holds_null::<T>(value) {
+            return true;
+        }
+    }
+    false
+}
