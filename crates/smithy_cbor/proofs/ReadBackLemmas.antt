@@ -81,7 +81,7 @@ byte_string_encoded : (bytes : List ℕ) → length bytes < 2 ^ 64 → IsEncodin
 byte_string_encoded bytes short =
     (refl, (byte_string_bytes bytes, [], (shortest_head 2 (length bytes), shortest_is_head 2 (length bytes) short, refl), refl, sym (append-nil (byte_string_bytes bytes))))
 
-bignum_encoded : (number n : ℕ) → number < 2 ^ 64 → IsEncodingOf (tag number (byte_string definite (big_endian_bytes n ∷ []))) (bignum_bytes number n)
+pub bignum_encoded : (number n : ℕ) → number < 2 ^ 64 → IsEncodingOf (tag number (byte_string definite (big_endian_bytes n ∷ []))) (bignum_bytes number n)
 bignum_encoded number n fits = tag_encoded number (byte_string definite (big_endian_bytes n ∷ [])) (byte_string_bytes (big_endian_bytes n)) fits
     (byte_string_encoded (big_endian_bytes n) (omega (arith, big_endian_short n)))
 

@@ -196,7 +196,21 @@ impl Encoder {
         self.or_take_back(start, rest)
     }
 
-    /// Writes a big integer: as an integer where it is one, else under tag 2 or 3.
+    /// Writes a whole number: as an integer where a head holds it, else under tag 2 or 3.
+    #[tactic(auto, using(crate::proofs::ReadBackLemmas::big_integer_back))]
+    pub fn whole(&mut self, x: i128) -> Result<(), AllocError>
+        ensures ok { OnOk result (self.new ≡ self.old ++ big_integer_bytes x) }
+        ensures says { SaysBigInteger x (big_integer_bytes x) }
+        ensures err { OnErr result (self.new ≡ self.old) }
+    {
+        if x >= 0 {
+            self.magnitude(UNSIGNED, UNSIGNED_BIGNUM, x as u128)
+        } else {
+            self.magnitude(NEGATIVE, NEGATIVE_BIGNUM, x.unsigned_abs() - 1)
+        }
+    }
+
+    /// Writes a big integer as a whole number.
     pub fn big_integer(&mut self, x: &BigInteger) -> Result<(), EncodeError>
         ensures ok { OnOk result (self.new ≡ self.old ++ big_integer_bytes (number x.now)) }
         ensures says { OnOk result (SaysBigInteger (number x.now) (big_integer_bytes (number x.now))) }
@@ -210,21 +224,8 @@ impl Encoder {
     }
 
     /// Writes a decimal fraction: tag 4 and an array of the exponent and the mantissa.
-    pub fn big_decimal(&mut self, x: &BigDecimal) -> Result<(), EncodeError>
-        ensures ok { OnOk result (self.new ≡ self.old ++ decimal_fraction_bytes (net_exponent x.now) (mantissa x.now)) }
-        ensures says { OnOk result (SaysDecimal (net_exponent x.now) (mantissa x.now) (decimal_fraction_bytes (net_exponent x.now) (mantissa x.now))) }
-        ensures err { OnErr result (self.new ≡ self.old) }
-        ensures wide { IsErrOf result TooWide ↔ ¬ (FitsSigned w128 (mantissa x.now)) }
-    {
-        match x.to_parts() {
-            Ok((mantissa, exponent)) => Ok(self.decimal(exponent, mantissa)?),
-            Err(_) => Err(EncodeError::TooWide),
-        }
-    }
-
-    // Writes a decimal fraction of these parts.
     #[tactic(auto, using(crate::proofs::ReadBackLemmas::decimal_back))]
-    fn decimal(&mut self, exponent: i64, mantissa: i128) -> Result<(), AllocError>
+    pub fn decimal_fraction(&mut self, exponent: i64, mantissa: i128) -> Result<(), AllocError>
         ensures ok { OnOk result (self.new ≡ self.old ++ decimal_fraction_bytes exponent mantissa) }
         ensures says { SaysDecimal exponent mantissa (decimal_fraction_bytes exponent mantissa) }
         ensures err { OnErr result (self.new ≡ self.old) }
@@ -233,6 +234,19 @@ impl Encoder {
         self.tag(DECIMAL_FRACTION)?;
         let rest = self.pair(exponent, mantissa);
         self.or_take_back(start, rest)
+    }
+
+    /// Writes a big decimal as a decimal fraction.
+    pub fn big_decimal(&mut self, x: &BigDecimal) -> Result<(), EncodeError>
+        ensures ok { OnOk result (self.new ≡ self.old ++ decimal_fraction_bytes (net_exponent x.now) (mantissa x.now)) }
+        ensures says { OnOk result (SaysDecimal (net_exponent x.now) (mantissa x.now) (decimal_fraction_bytes (net_exponent x.now) (mantissa x.now))) }
+        ensures err { OnErr result (self.new ≡ self.old) }
+        ensures wide { IsErrOf result TooWide ↔ ¬ (FitsSigned w128 (mantissa x.now)) }
+    {
+        match x.to_parts() {
+            Ok((mantissa, exponent)) => Ok(self.decimal_fraction(exponent, mantissa)?),
+            Err(_) => Err(EncodeError::TooWide),
+        }
     }
 
     // Writes the array of a decimal fraction.
@@ -255,20 +269,6 @@ impl Encoder {
         self.long(exponent)?;
         let rest = self.whole(mantissa);
         self.or_take_back(start, rest)
-    }
-
-    // Writes a whole number.
-    #[tactic(auto, using(crate::proofs::ReadBackLemmas::big_integer_back))]
-    fn whole(&mut self, x: i128) -> Result<(), AllocError>
-        ensures ok { OnOk result (self.new ≡ self.old ++ big_integer_bytes x) }
-        ensures says { SaysBigInteger x (big_integer_bytes x) }
-        ensures err { OnErr result (self.new ≡ self.old) }
-    {
-        if x >= 0 {
-            self.magnitude(UNSIGNED, UNSIGNED_BIGNUM, x as u128)
-        } else {
-            self.magnitude(NEGATIVE, NEGATIVE_BIGNUM, x.unsigned_abs() - 1)
-        }
     }
 
     // Writes n under the major type where a head holds it, else its bytes under the tag.

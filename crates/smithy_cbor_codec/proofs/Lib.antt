@@ -20,3 +20,7 @@ pub mod SkippedValues
 pub mod DeserializerLemmas
 pub mod MemberStepLemmas
 pub mod ScalarReads
+pub mod BigNumberPlaces
+pub mod BigNumbers
+pub mod NumberWriting
+pub mod WideSlices

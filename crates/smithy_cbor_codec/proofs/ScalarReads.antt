@@ -1,34 +1,36 @@
 -- What a reader finds at the place of a scalar stands there, and where it finds nothing, nothing does.
-use Rattle.std.proofs.Common.{◌≡◌, ◌≤◌, ◌⊎◌, ◌-◌, ◌^◌, ℕ, ℤ, List, length, Bool, true, false, subst, Option, Some, refl, sym, ◌∙◌, ap, inl, inr, drop, arith, ◌<◌, ◌++◌, ◌∷◌, []}
-use Rattle.std.specs.Prelude.{option_map, Result, Ok, Err, OnErr, IfOk, IfErr, IsOk, IsErr, IfSome, IfNone, IsSome, IsNone, slice_range, FitsSigned, pos, negsuc, neg_ℤ, int_le, int_lt}
+use Rattle.std.proofs.Common.{◌≡◌, ◌≤◌, ◌⊎◌, ◌-◌, ◌^◌, ℕ, ℤ, List, length, Bool, true, false, subst, Option, Some, None, refl, sym, ◌∙◌, ap, inl, inr, drop, arith, ◌<◌, ◌++◌, ◌∷◌, []}
+use Rattle.std.specs.Prelude.{option_map, IsErrOf, Result, Ok, Err, OnErr, IfOk, IfErr, IsOk, IsErr, IfSome, IfNone, IsSome, IsNone, slice_range, FitsSigned, pos, negsuc, neg_ℤ, int_le, int_lt}
 use Rattle.smithy_texts.specs.Base64Text.{are_bytes}
 use Rattle.smithy_texts.specs.Ranges.{fits_signed}
 use Rattle.smithy_schema.specs.declared.shape_type.Scalar.{Scalar}
 use Rattle.smithy_schema.specs.declared.shape_type.Scalar.TheVariants as scalars
 use Rattle.smithy_schema.specs.declared.error.SerdeError.{SerdeError}
-use Rattle.smithy_schema.specs.declared.error.SerdeError.TheVariants.{InvalidInput, TooDeep, Unwritable, Failed, NoMemory}
+use Rattle.smithy_schema.specs.declared.error.SerdeError.TheVariants.{InvalidInput, TooDeep, TooWide, Unwritable, Failed, NoMemory}
 use Rattle.smithy_schema.specs.Table.{scalar_place}
 use Rattle.smithy_schema.specs.Site.{Site}
 use Rattle.smithy_schema.specs.Value.{ScalarValue, boolean, whole, text, bytes, Value, scalar_value, null_element}
-use Rattle.smithy_schema.specs.Reading.{Cursor, depth, StandsNot, IsInvalid, ReadsScalar, passed_to, failed_at}
+use Rattle.smithy_schema.specs.Reading.{Cursor, depth, StandsNot, IsInvalid, Exceeds, ReadsScalar, AnswersWide, passed_to, failed_at}
 use Rattle.smithy_schema.specs.Lemmas.Options.{same_some, made}
 use Rattle.smithy_schema.proofs.ScalarLemmas.{fits_more}
 use Rattle.cbor_item.specs.WellFormed.{IsItemAt, IsSimple}
 use Rattle.cbor_item.specs.Item.{Item, unsigned, negative, byte_string, text_string, array, map, tag, simple, float}
-use Rattle.smithy_cbor_codec.specs.Settings.{Settings, without_limits}
+use Rattle.smithy_cbor_codec.specs.Settings.{Settings, kept, without_limits}
 use Rattle.smithy_cbor.specs.Scalar.{boolean_item, integer_of, text_of, bytes_of, false_value, true_value}
 use Rattle.smithy_cbor_codec.specs.Scalar.{boolean_of, whole_of, blob_of, says}
 use Rattle.smithy_cbor_codec.specs.Laws.{lawful}
 use Rattle.smithy_cbor_codec.specs.Meaning.{node_of, rules_of}
 use Rattle.smithy_cbor_codec.specs.Standing.{Follows, cbor_frames, cbor_relations}
 use Rattle.smithy_cbor_codec.specs.Private.Fits.{boolean_is, whole_is, blob_is}
-use Rattle.smithy_cbor_codec.specs.Private.ScalarAtPlace.{IsAt, IsWholeAt, HasTextAt, IsBlobAt}
+use Rattle.smithy_cbor_codec.specs.Private.ScalarAtPlace.{IsAt, IsWholeAt, HasTextAt, IsBlobAt, MeansAt, ExceedsAt, NothingAt}
+use Rattle.smithy_cbor_codec.specs.Private.Wire.{cbor_is_wire}
 use Rattle.smithy_cbor_codec.specs.Private.ItemPlaces.{one_item, item_front}
 use Rattle.smithy_wire.specs.Node.{leaf}
-use Rattle.smithy_wire.specs.Rules.{answer_of, settled}
+use Rattle.smithy_wire.specs.Rules.{Answer, no_meaning, wide, answer_of, settled}
 use Rattle.smithy_wire.specs.Narrowing.{IsNarrowed, IsWider}
-use Rattle.smithy_wire.specs.Readers.{settled_answer, scalar_stands, stands_scalar}
-use Rattle.smithy_wire.proofs.ScalarReads.{takes, takes_result, narrow_found, narrow_none, if_some, if_none, if_ok}
+use Rattle.smithy_wire.specs.Readers.{settled_answer, scalar_stands, stands_scalar, scalar_exceeds, exceeds_scalar}
+use Rattle.smithy_wire.proofs.Bounds.{exceeds_not}
+use Rattle.smithy_wire.proofs.ScalarReads.{takes, takes_result, takes_big, answers_wide, narrow_found, narrow_none, if_some, if_none, if_ok}
 use Rattle.std.specs.Bool.{then_some}
 use Rattle.std.specs.Int.{w64}
 use Rattle.std.proofs.lemmas.Int.{ints}
@@ -50,7 +52,7 @@ long_fits (negsuc n) h =
     record { sfits = grind (arith, ints) }
 
 -- the head of an integer
-integer_head : (i : Item) (z : ℤ) (input : List ℕ) (at e : ℕ) → integer_of i ≡ Some z → IsItemAt i input at e
+pub integer_head : (i : Item) (z : ℤ) (input : List ℕ) (at e : ℕ) → integer_of i ≡ Some z → IsItemAt i input at e
     → (h : HeadRead) × BeginsWithHead (drop at input) h × IsInteger h
 integer_head (unsigned n) z input at e is there =
     let head = slice_range input at e in (
@@ -265,6 +267,35 @@ module _ (o : Settings) (c : Cursor) (site : Site) where
       let b = blob_is x v (sym (settled_blob x) ∙ means) in
       none b.0 e (record { found = x; stands = lies.1; is = b.1; bytes = b.2; follows = lies.2 }))
 
+-- ---- big numbers, by a kind whose meaning asks no time form
+
+module _ (o : Settings) (c : Cursor) (site : Site) (s : Scalar) (timeless : (x : Item) → says s site.place.time x ≡ says s None x) where
+  pub number_stands : (v : ScalarValue) (e : ℕ) → MeansAt s c.input c.at (depth c) v e → Stands o c site s v e
+  number_stands v e h =
+      says_stands o c site s h.found (scalar_value v) e h.lies (ap (settled o.limits null_element) (timeless h.found ∙ h.is))
+
+  pub number_exceeds : ExceedsAt s c.input c.at (depth c) → Exceeds (cbor_relations o) c site.table (scalar_place s site.place.time)
+  number_exceeds h = (
+    h.e,
+    scalar_exceeds cbor_frames (rules_of o) c.input site.table (scalar_place s site.place.time) s refl (depth c) c.at h.found h.e h.lies (timeless h.found ∙ h.is),
+  )
+
+  pub no_number_stands : NothingAt s c.input c.at (depth c) → StandsNot (cbor_relations o) c site.table (scalar_place s site.place.time)
+  no_number_stands none = nothing_stands o c site s (λ x v e lies means.
+      let nothing : None ≡ Some v = sym (ap (settled o.limits null_element) (timeless x ∙ none x e lies)) ∙ means in
+      cc)
+
+  pub no_number_exceeds : NothingAt s c.input c.at (depth c) → Exceeds (cbor_relations o) c site.table (scalar_place s site.place.time) → ⊥
+  no_number_exceeds none (e, there) =
+      let x = exceeds_scalar cbor_frames (rules_of o) c.input site.table (scalar_place s site.place.time) s refl (depth c) c.at e there in
+      let both : ◌≡◌ {A = Answer Value} no_meaning wide = sym (timeless x.0 ∙ none x.0 e x.1) ∙ x.2 in
+      cc
+
+  -- within the limits nothing stands where a number leaves them
+  pub exceeds_stands_not : o.limits ≡ kept → Exceeds (cbor_relations o) c site.table (scalar_place s site.place.time) → StandsNot (cbor_relations o) c site.table (scalar_place s site.place.time)
+  exceeds_stands_not keeps (e, there) v f stands =
+      exceeds_not cbor_frames (rules_of o) cbor_is_wire keeps c.input site.table (scalar_place s site.place.time) s refl (depth c) c.at e there v f stands
+
 -- ---- the answer of a read
 
 -- a refusal of the input, by its error
@@ -272,6 +303,7 @@ by_error : {A : Type 0} (found : Result A SerdeError) (Q : Type 0) → IfErr fou
 by_error (Ok x) Q h invalid = absurd invalid
 by_error (Err InvalidInput) Q h invalid = h refl
 by_error (Err TooDeep) Q h invalid = absurd invalid
+by_error (Err TooWide) Q h invalid = absurd invalid
 by_error (Err Unwritable) Q h invalid = absurd invalid
 by_error (Err Failed) Q h invalid = absurd invalid
 by_error (Err NoMemory) Q h invalid = absurd invalid
@@ -302,17 +334,17 @@ module _ (o : Settings) (old : Cursor) (site : Site) (sound : old.failed ≡ fal
 
   -- the same in fewer bits
   pub reads_narrow : (s : Scalar) (bits : ℕ) → 2 ^ (bits - 1) ≤ 2 ^ 63 → ((x : Item) → says s site.place.time x ≡ answer_of (whole_of bits x))
-      → (new : Cursor) (wide found : Option (ℤ × ℕ)) (result : Result ℤ SerdeError)
-      → IfSome wide (λ r. IsWholeAt 64 r.0 old.input old.at (depth old) r.1) → IfNone wide ((n : ℤ) (e : ℕ) → IsWholeAt 64 n old.input old.at (depth old) e → ⊥)
-      → IfSome found (IsNarrowed bits wide) → IfNone found (IsWider bits wide)
+      → (new : Cursor) (broad found : Option (ℤ × ℕ)) (result : Result ℤ SerdeError)
+      → IfSome broad (λ r. IsWholeAt 64 r.0 old.input old.at (depth old) r.1) → IfNone broad ((n : ℤ) (e : ℕ) → IsWholeAt 64 n old.input old.at (depth old) e → ⊥)
+      → IfSome found (IsNarrowed bits broad) → IfNone found (IsWider bits broad)
       → IfOk result (λ x. IfSome found (λ r. (r.0 ≡ x) × (new ≡ passed_to old r.1))) → (IsOk result → IsSome found) → (IsErr result → IsNone found)
       → OnErr result (new ≡ failed_at old) → IfErr result (λ e. e ≡ InvalidInput)
       → ReadsScalar (cbor_relations o) (cbor_relations (without_limits o)) (Unit {0}) old new site s whole result
-  reads_narrow s bits fewer says_whole new wide found result here none narrow wider =
+  reads_narrow s bits fewer says_whole new broad found result here none narrow wider =
       let At : ℕ → ℤ → ℕ → Type 0 = λ bits n e. IsWholeAt bits n old.input old.at (depth old) e in
       reads_whole s bits says_whole new found result
-      (narrow_found At bits wide found (λ n e h fits. record { found = h.found; stands = h.stands; is = h.is; fits = fits; follows = h.follows }) here narrow)
-      (narrow_none At bits wide found (λ n e h. (record { found = h.found; stands = h.stands; is = h.is; fits = fits_more bits 64 n fewer h.fits; follows = h.follows }, h.fits))
+      (narrow_found At bits broad found (λ n e h fits. record { found = h.found; stands = h.stands; is = h.is; fits = fits; follows = h.follows }) here narrow)
+      (narrow_none At bits broad found (λ n e h. (record { found = h.found; stands = h.stands; is = h.is; fits = fits_more bits 64 n fewer h.fits; follows = h.follows }, h.fits))
       (same_number old.input old.at (depth old)) here none wider)
 
   -- of a text
@@ -338,3 +370,25 @@ module _ (o : Settings) (old : Cursor) (site : Site) (sound : old.failed ≡ fal
       takes_result (cbor_relations o) (cbor_relations (without_limits o)) (Unit {0}) site scalars.Blob bytes (lawful o) old sound due within new found result
       (if_ok found _ _ (λ r. blob_stands o old site r.0 r.1) here) kind
       (λ invalid. let nothing = by_error found _ none invalid in (no_blob_stands o old site nothing, no_blob_stands (without_limits o) old site nothing))
+
+  -- of a big number
+  module _ (keeps : o.limits ≡ kept) (s : Scalar) (timeless : (x : Item) → says s site.place.time x ≡ says s None x) {A : Type 0} (value : A → ScalarValue)
+      (found : Result (A × ℕ) SerdeError) (result : Result A SerdeError)
+      (here : IfOk found (λ r. MeansAt s old.input old.at (depth old) (value r.0) r.1)) (kind : IfErr found (λ e. (e ≡ InvalidInput) ⊎ (e ≡ TooWide) ⊎ (e ≡ NoMemory)))
+      (none : IsInvalid found → NothingAt s old.input old.at (depth old)) where
+    pub reads_big : (new : Cursor) → (IsErrOf found TooWide → ExceedsAt s old.input old.at (depth old))
+        → IfOk result (λ x. IfOk found (λ r. (r.0 ≡ x) × (new ≡ passed_to old r.1))) → (IsOk result → IsOk found)
+        → OnErr result (new ≡ failed_at old) → IfErr result (λ e. found ≡ Err e)
+        → ReadsScalar (cbor_relations o) (cbor_relations (without_limits o)) (Unit {0}) old new site s value result
+    reads_big new leaves =
+        takes_big (cbor_relations o) (cbor_relations (without_limits o)) (Unit {0}) site s value (lawful o) old sound due within new found result
+        (if_ok found _ _ (λ r. number_stands o old site s timeless (value r.0) r.1) here) kind
+        (λ invalid. (no_number_stands o old site s timeless (none invalid), no_number_stands (without_limits o) old site s timeless (none invalid)))
+        (λ is. let there = number_exceeds o old site s timeless (leaves is) in (there, exceeds_stands_not o old site s timeless keeps there))
+
+    pub answers_big : (IsOk result → IsOk found) → IfErr result (λ e. found ≡ Err e) → AnswersWide (cbor_relations o) old site s result
+    answers_big =
+        answers_wide (cbor_relations o) (cbor_relations (without_limits o)) (Unit {0}) site s value (lawful o) old sound due within found result
+        (if_ok found _ _ (λ r. number_stands o old site s timeless (value r.0) r.1) here) kind
+        (exceeds_stands_not o old site s timeless keeps)
+        (λ invalid. no_number_exceeds o old site s timeless (none invalid))

@@ -1,9 +1,9 @@
 -- The bytes that CBOR writes for nodes, and that they lie as it frames them: shortest heads, and containers of
 -- indefinite length.
-use Rattle.std.specs.Prelude.{◌≡◌, ◌≤◌, ◌<◌, ◌-◌, ◌^◌, ℕ, zero, suc, length, drop, List, [], ◌∷◌, false, Option, Some, None, refl}
+use Rattle.std.specs.Prelude.{◌≡◌, ◌≤◌, ◌<◌, ◌-◌, ◌^◌, ℕ, zero, suc, length, drop, List, [], ◌∷◌, ◌++◌, false, Option, Some, None, refl}
 use Rattle.std.proofs.Common.{sym, ap, arith, subst, inl, inr, length-drop}
 use Rattle.cbor_item.specs.Head.{shortest_head, MayBeIndefinite, BeginsWithHead}
-use Rattle.cbor_item.specs.Item.{Item, definite, unsigned, negative, byte_string, text_string, simple}
+use Rattle.cbor_item.specs.Item.{Item, definite, unsigned, negative, byte_string, text_string, array, tag, simple, no_items, item}
 use Rattle.cbor_item.specs.WellFormed.{IsEncodingOf, IsItemAt, break}
 use Rattle.cbor_item.proofs.HeadLemmas.{opening_begins as head_begins}
 use Rattle.smithy_cbor_codec.specs.Meaning.{node_of}
@@ -17,12 +17,21 @@ use Rattle.smithy_wire.specs.Writes.{Writes, IsKeyOf, Stand, Follows, WritesFram
 
 -- ---- bytes
 
+-- of what a decimal fraction is made of
+abbrev pub part_bytes : Item → List ℕ
+part_bytes (unsigned n) = shortest_head 0 n
+part_bytes (negative n) = shortest_head 1 n
+part_bytes (tag n (byte_string definite (b ∷ []))) = shortest_head 6 n ++ byte_string_bytes b
+part_bytes _ = []
+
 abbrev pub item_bytes : Item → List ℕ
 item_bytes (unsigned n) = shortest_head 0 n
 item_bytes (negative n) = shortest_head 1 n
 item_bytes (byte_string definite (b ∷ [])) = byte_string_bytes b
 item_bytes (text_string definite (s ∷ [])) = text_bytes s
 item_bytes (simple n) = shortest_head 7 n
+item_bytes (tag n (byte_string definite (b ∷ []))) = shortest_head 6 n ++ byte_string_bytes b
+item_bytes (tag n (array definite (item x (item y no_items)))) = shortest_head 6 n ++ (shortest_head 4 2 ++ (part_bytes x ++ part_bytes y))
 item_bytes _ = []
 
 abbrev pub key_bytes : Option Item → List ℕ

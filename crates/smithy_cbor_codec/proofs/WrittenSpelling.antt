@@ -23,8 +23,8 @@ use Rattle.smithy_cbor_codec.proofs.WrittenLeaves.{cbor_leaves, cbor_reads_leave
 use Rattle.smithy_cbor_codec.proofs.WrittenPlaces.{cbor_writes, cbor_writes_frames}
 
 -- what is spelled is a value of the place
-pub spelled_fits : (c : Settings) (t : Table) (p : Place) (bytes : List ℕ) (v : Value) → cbor_spells c t p bytes v → Fits t p v
-spelled_fits c t p bytes v h = let s = spells_stands c t p bytes v h in (fit c).fits bytes t p 0 0 v s.0 s.1
+pub spelled_fits : (c : Settings) (t : Table) (p : Place) (bytes : List ℕ) (v : Value) → c.limits ≡ kept → cbor_spells c t p bytes v → Fits t p v
+spelled_fits c t p bytes v keeps h = let s = spells_stands c t p bytes v h in (fit c keeps).fits bytes t p 0 0 v s.0 s.1
 
 -- and nests no deeper than the greatest depth
 pub shallow : (c : Settings) (t : Table) (p : Place) (bytes : List ℕ) (v : Value) → c.limits ≡ kept → cbor_spells c t p bytes v → nesting v ≤ c.max_depth

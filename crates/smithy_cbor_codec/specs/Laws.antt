@@ -1,11 +1,15 @@
 -- The laws of reading, for CBOR.
+use Rattle.std.specs.Prelude.{◌≡◌}
 use Rattle.smithy_schema.specs.Reading.{IsLawful, StandsFit, CountsOpeners, IsBelow}
-use Rattle.smithy_cbor_codec.specs.Settings.{Settings, without_limits}
+use Rattle.smithy_cbor_codec.specs.Settings.{Settings, kept, without_limits}
 use Rattle.smithy_cbor_codec.specs.Meaning.{rules_of}
 use Rattle.smithy_cbor_codec.specs.Standing.{cbor_frames, cbor_relations}
 use Rattle.smithy_cbor_codec.specs.Private.Wire.{cbor_is_wire, cbor_bounds_openers}
 use Rattle.smithy_cbor_codec.specs.Private.Fits.{text_is_utf8, says_fits}
+use Rattle.smithy_schema.specs.Value.{null_element}
+use Rattle.smithy_cbor_codec.specs.Scalar.{says}
 use Rattle.smithy_wire.specs.Wire.{RulesFit}
+use Rattle.smithy_wire.proofs.Bounds.{settled_means}
 use Rattle.smithy_wire.specs.Laws as wire
 
 -- the relations obey their laws, whatever the settings
@@ -14,11 +18,15 @@ lawful c = wire.lawful cbor_frames (rules_of c) cbor_is_wire
 
 -- what scalars mean is of their kind, and keys are texts
 pub rules_fit : (c : Settings) → RulesFit cbor_frames (rules_of c)
-rules_fit c = record { says_fits = λ i d x a e lies. says_fits c x; key_fits = λ i b m key c n text entry. text_is_utf8 key text }
+rules_fit c = record {
+  says_fits = λ i d x a e lies t p s v kind keeps means.
+      says_fits x t p s v kind (settled_means c.limits null_element (says s p.time x) v keeps means);
+  key_fits = λ i b m key c n text entry. text_is_utf8 key text;
+}
 
--- so what stands is a value of its place
-pub fit : (c : Settings) → StandsFit (cbor_relations c)
-fit c = wire.stands_fit cbor_frames (rules_of c) (rules_fit c)
+-- so what stands within the limits is a value of its place
+pub fit : (c : Settings) → c.limits ≡ kept → StandsFit (cbor_relations c)
+fit c keeps = wire.stands_fit cbor_frames (rules_of c) keeps (rules_fit c)
 
 -- containers are counted
 pub counts : (c : Settings) → CountsOpeners (cbor_relations c)

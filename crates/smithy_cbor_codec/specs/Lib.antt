@@ -6,6 +6,7 @@ pub mod Meaning
 pub mod Spelling
 pub mod Canonical
 pub mod Openers
+pub mod Wide
 -- For contracts.
 pub mod Cursor
 pub mod Standing

@@ -1,14 +1,16 @@
 -- What one item says as each kind.
 use Rattle.std.specs.Prelude.{◌==◌, ℕ, List, true, false, ℤ, Option, Some, None, option_map, option_and_then, if◌then◌else◌}
 use Rattle.smithy_texts.specs.Base64Text.{are_bytes}
+use Rattle.smithy_texts.specs.Decimal.{DecimalForm}
 use Rattle.smithy_texts.specs.Ranges.{fits_signed}
 use Rattle.smithy_schema.specs.declared.shape_type.Scalar.{Scalar}
 use Rattle.smithy_schema.specs.declared.shape_type.Scalar.TheVariants as scalars
 use Rattle.smithy_schema.specs.declared.shape_type.TimestampFormat.{TimestampFormat}
 use Rattle.smithy_schema.specs.Value.{boolean, whole, text, bytes, Value, scalar_value}
 use Rattle.cbor_item.specs.Item.{Item, simple}
-use Rattle.smithy_cbor.specs.Scalar.{false_value, true_value, integer_of, text_of, bytes_of}
+use Rattle.smithy_cbor.specs.Scalar.{false_value, true_value, integer_of, text_of, bytes_of, big_integer_of, decimal_fraction_of}
 use Rattle.smithy_wire.specs.Rules.{Answer, answer_of}
+use Rattle.smithy_wire.specs.BigNumbers.{big_integer, big_decimal}
 
 -- false or true
 abbrev pub boolean_of : Item → Option Value
@@ -26,6 +28,11 @@ whole_of bits x =
 abbrev pub blob_of : Item → Option (List ℕ)
 blob_of x = option_and_then (λ b. if are_bytes b then Some b else None) (bytes_of x)
 
+-- the parts of a decimal fraction, whose exponent is written as it counts
+abbrev pub decimal_form_of : Item → Option DecimalForm
+decimal_form_of x =
+    option_map (λ (p : ℤ × ℤ). record { mantissa_part = p.1; written_part = p.0; net_part = p.0 }) (decimal_fraction_of x)
+
 -- what an item is as one kind
 abbrev pub says : Scalar → Option TimestampFormat → Item → Answer Value
 says scalars.Boolean time x = answer_of (boolean_of x)
@@ -35,3 +42,5 @@ says scalars.Integer time x = answer_of (whole_of 32 x)
 says scalars.Long time x = answer_of (whole_of 64 x)
 says scalars.String time x = answer_of (option_map (λ s. scalar_value (text s)) (text_of x))
 says scalars.Blob time x = answer_of (option_map (λ b. scalar_value (bytes b)) (blob_of x))
+says scalars.BigInteger time x = big_integer (big_integer_of x)
+says scalars.BigDecimal time x = big_decimal (decimal_form_of x)

@@ -6,6 +6,9 @@ pub record Settings : Type 0 where
   pub max_depth : ℕ
   pub limits : Limits
 
+abbrev pub keep_limits : Settings → Settings
+keep_limits c = record c { limits = kept }
+
 abbrev pub without_limits : Settings → Settings
 without_limits c = record c { limits = lifted }
 

@@ -1,12 +1,16 @@
 -- What each call of a serializer makes of its state.
-use Rattle.std.specs.Prelude.{ℕ, List, [], ◌∷◌, ◌++◌, Result, Ok, Err}
+use Rattle.std.specs.Prelude.{ℕ, List, [], ◌∷◌, ◌++◌, Bool, true, false, Result, Ok, Err}
 use Rattle.smithy_schema.specs.declared.error.SerdeError.{SerdeError}
+use Rattle.smithy_schema.specs.declared.error.SerdeError.TheVariants.{TooWide}
 use Rattle.smithy_schema.specs.Site.{View}
-use Rattle.smithy_schema.specs.Writing.{Event, Writer, begin_structure, end_structure, begin_list, end_list, begin_map, end_map, null_of, scalar_of, Open, open_structure, open_after}
+use Rattle.smithy_schema.specs.Writing.{Event, Writer, begin_structure, end_structure, begin_list, end_list, begin_map, end_map, null_of, scalar_of, big_integer_of, big_decimal_of, Open, open_structure, open_after}
 use Rattle.cbor_item.specs.Head.{shortest_head}
 use Rattle.cbor_item.specs.WellFormed.{break}
 use Rattle.smithy_cbor.specs.Scalar.{null_value}
-use Rattle.smithy_cbor.specs.Written.{opening_bytes}
+use Rattle.smithy_cbor.specs.Written.{opening_bytes, big_integer_bytes, decimal_fraction_bytes}
+use Rattle.smithy_texts.specs.Numeral.{number}
+use Rattle.smithy_texts.specs.Decimal.{mantissa, net_exponent}
+use Rattle.smithy_texts.specs.Ranges.{fits_signed}
 use Rattle.smithy_cbor_codec.specs.Canonical.{key_bytes, scalar_bytes}
 
 pub record CborState : Type 0 where
@@ -46,12 +50,28 @@ made (begin_map site length) s frames = wrote s site.view (opening_bytes 5) fram
 made end_map s frames = closed s frames
 made (null_of site) s frames = wrote s site.view (shortest_head 7 null_value) frames
 made (scalar_of site x) s frames = wrote s site.view (scalar_bytes x) frames
+made (big_integer_of site written) s frames = wrote s site.view (big_integer_bytes (number written)) frames
+made (big_decimal_of site written) s frames =
+    wrote s site.view (decimal_fraction_bytes (net_exponent written) (mantissa written)) frames
 
 -- the state that is made of the open containers, unless the call is refused
 abbrev pub where_taken : (List Open → CborState) → Result (List Open) SerdeError → Result CborState SerdeError
 where_taken make (Ok frames) = Ok (make frames)
 where_taken make (Err e) = Err e
 
--- a call is refused where no serializer takes it
+-- a big number or its mantissa has to be one of 128 bits; the exponent isn't tested, as the text that a decimal keeps
+-- has one within the limits
+abbrev pub is_in_width : Event → Bool
+is_in_width (big_integer_of site written) = fits_signed 128 (number written)
+is_in_width (big_decimal_of site written) = fits_signed 128 (mantissa written)
+is_in_width _ = true
+
+-- what is made, unless it is too wide
+abbrev pub where_in_width : Bool → Result CborState SerdeError → Result CborState SerdeError
+where_in_width true made_of = made_of
+where_in_width false (Ok s) = Err TooWide
+where_in_width false (Err e) = Err e
+
+-- a call is refused where no serializer takes it, and then where its number is too wide
 abbrev pub cbor_after : Writer CborState
-cbor_after e s = where_taken (made e s) (open_after e s.frames)
+cbor_after e s = where_in_width (is_in_width e) (where_taken (made e s) (open_after e s.frames))

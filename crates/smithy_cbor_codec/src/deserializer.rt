@@ -6,10 +6,11 @@ ghost use Rattle.smithy_cbor_codec.specs.Cursor.{inside_of, missing_frame};
 ghost use Rattle.smithy_wire.specs.Walking.{within_of, frame_of};
 
 use crate::members::{Next, next_in_map, next_present, step_to};
+use crate::numbers::{big_decimal_at, big_integer_at};
 use crate::places::{EntryOrEnd, array_at, entry_or_end, is_null_at, map_at, may_leave, null_end};
 use crate::values::{blob_at, boolean_at, long_at, skipped_end, string_at};
 use smithy_schema::{Schema, SerdeError, ShapeDeserializer, ShapeType, Step};
-use smithy_types::Blob;
+use smithy_types::{BigDecimal, BigInteger, Blob};
 use smithy_wire::{Frame, Mark, Walk, Within, byte_found, integer_found, short_found};
 use std::alloc::Global;
 
@@ -68,7 +69,7 @@ impl<'a> CborDeserializer<'a> {
     ghost use Rattle.smithy_schema.specs.Reading.{passed_to, in_structure, Conducts, MatchStep, CannotGoOn, IsRefused};
     ghost use Rattle.smithy_schema.specs.Table.{IsStructure, HasMembers};
     ghost use Rattle.smithy_schema.specs.Site.{site_of, kind_at};
-    ghost use Rattle.smithy_schema.specs.declared.error.SerdeError.TheVariants.{TooDeep};
+    ghost use Rattle.smithy_schema.specs.declared.error.SerdeError.TheVariants.{TooDeep, TooWide};
     ghost use Rattle.smithy_cbor_codec.specs.Cursor.{cursor_of, reading_settings_of};
     ghost use Rattle.smithy_cbor_codec.specs.Settings.{Settings};
     ghost use Rattle.smithy_cbor_codec.specs.Standing.{cbor_relations};
@@ -108,6 +109,7 @@ impl<'a> CborDeserializer<'a> {
         requires place { HasMembers (kind_at (site_of schema.now)) }
         ensures same { reading_settings_of self.new ≡ reading_settings_of self.old }
         ensures conduct { Conducts (cursor_of self.old) (cursor_of self.new) result }
+        ensures narrow { IsErrOf result TooWide → ⊥ }
         ensures ok { IfOk result (λ step. MatchStep step (cbor_relations (reading_settings_of self.old)) (passed_to (cursor_of self.old) at) (cursor_of self.new) (site_of schema.now)) }
         ensures refused { IsRefused result → (o : Settings) → CannotGoOn (cbor_relations o) (passed_to (cursor_of self.old) at) schema.now.shapes.now schema.now.place }
         ensures shallow { IsErrOf result TooDeep → ⊥ }
@@ -139,13 +141,13 @@ impl<'a> CborDeserializer<'a> {
 }
 
 impl ShapeDeserializer for CborDeserializer<'_> {
-    ghost use Rattle.std.specs.Prelude.{◌≡◌, ℕ, OnOk, IfOk, IsErr, IsErrOf, true, false};
+    ghost use Rattle.std.specs.Prelude.{◌≡◌, ℕ, OnOk, IfOk, IsErr, IsErrOf, true, false, refl};
     ghost use Rattle.smithy_schema.specs.Reading.{depth, in_structure, passed_to, null_is_due, Conducts, Passes, MatchStep, CannotGoOn, IsRefused, IsInvalid, IsNoAnswer, NullsNot, SkipsNot, ReachesDepth};
     ghost use Rattle.smithy_schema.specs.Table.{HasMembers};
     ghost use Rattle.smithy_schema.specs.Site.{site_of, kind_at};
-    ghost use Rattle.smithy_schema.specs.declared.error.SerdeError.TheVariants.{NoMemory, TooDeep};
+    ghost use Rattle.smithy_schema.specs.declared.error.SerdeError.TheVariants.{NoMemory, TooDeep, TooWide};
     ghost use Rattle.smithy_cbor_codec.specs.Cursor.{cursor_of, reading_settings_of};
-    ghost use Rattle.smithy_cbor_codec.specs.Settings.{Settings, without_limits};
+    ghost use Rattle.smithy_cbor_codec.specs.Settings.{Settings, keep_limits, without_limits};
     ghost use Rattle.smithy_cbor_codec.specs.Standing.{cbor_relations};
     ghost use Rattle.smithy_cbor_codec.specs.Laws.{lawful as cbor_is_lawful, fit as cbor_fits, counts as cbor_counts, above as limits_are_above};
 
@@ -157,22 +159,23 @@ impl ShapeDeserializer for CborDeserializer<'_> {
 
     ghost max_depth = { λ (c : Settings). c.max_depth };
 
-    ghost wire = { cbor_relations };
+    // A reader keeps the limits, whatever the settings say of them.
+    ghost wire = { λ c. cbor_relations (keep_limits c) };
 
     ghost lifted = { λ c. cbor_relations (without_limits c) };
 
     // The one maker gives settings of which all that is said of the lifted relations holds.
     ghost is_strict = { λ _. Unit {0} };
 
-    ghost lawful = { cbor_is_lawful };
+    ghost lawful = { λ c. cbor_is_lawful (keep_limits c) };
 
     ghost lifted_lawful = { λ c. cbor_is_lawful (without_limits c) };
 
-    ghost fit = { cbor_fits };
+    ghost fit = { λ c. cbor_fits (keep_limits c) refl };
 
-    ghost counts = { λ c _. cbor_counts c };
+    ghost counts = { λ c _. cbor_counts (keep_limits c) };
 
-    ghost above = { limits_are_above };
+    ghost above = { λ c. limits_are_above (keep_limits c) };
 
     fn position(&self) -> usize {
         self.walk.position
@@ -200,6 +203,7 @@ impl ShapeDeserializer for CborDeserializer<'_> {
         requires place { HasMembers (kind_at (site_of schema.now)) }
         ensures same { reading_settings_of self.new ≡ reading_settings_of self.old }
         ensures conduct { Conducts (cursor_of self.old) (cursor_of self.new) result }
+        ensures narrow { IsErrOf result TooWide → ⊥ }
         ensures ok { (cursor_of self.old).due ≡ false → IfOk result (λ step. MatchStep step (cbor_relations (reading_settings_of self.old)) (cursor_of self.old) (cursor_of self.new) (site_of schema.now)) }
         ensures refused { IsRefused result → (cursor_of self.old).due ≡ false
             → CannotGoOn (cbor_relations (reading_settings_of self.old)) (cursor_of self.old) schema.now.shapes.now schema.now.place }
@@ -319,6 +323,7 @@ impl ShapeDeserializer for CborDeserializer<'_> {
     fn read_null(&mut self) -> Result<(), SerdeError>
         ensures same { reading_settings_of self.new ≡ reading_settings_of self.old }
         ensures conduct { Conducts (cursor_of self.old) (cursor_of self.new) result }
+        ensures narrow { IsErrOf result TooWide → ⊥ }
         ensures memory { IsErrOf result NoMemory → ⊥ }
         ensures shallow { IsErrOf result TooDeep → ⊥ }
         ensures ok { null_is_due (cbor_relations (reading_settings_of self.old)) (cursor_of self.old) ≡ true → OnOk result ((cbor_relations (reading_settings_of self.old)).nulls (cursor_of self.old).input (depth (cursor_of self.old)) (cursor_of self.old).at (cursor_of self.new).at) }
@@ -348,6 +353,7 @@ impl ShapeDeserializer for CborDeserializer<'_> {
     fn skip_value(&mut self) -> Result<(), SerdeError>
         ensures same { reading_settings_of self.new ≡ reading_settings_of self.old }
         ensures conduct { Conducts (cursor_of self.old) (cursor_of self.new) result }
+        ensures narrow { IsErrOf result TooWide → ⊥ }
         ensures undue { (cursor_of self.old).due ≡ false → IsNoAnswer result }
         ensures ok { OnOk result ((cbor_relations (reading_settings_of self.old)).skips (cursor_of self.old).input (depth (cursor_of self.old)) (cursor_of self.old).at (cursor_of self.new).at) }
         ensures passes { OnOk result (Passes (cursor_of self.old) (cursor_of self.new)) }
@@ -417,6 +423,28 @@ impl ShapeDeserializer for CborDeserializer<'_> {
     fn read_blob(&mut self, _schema: &Schema<'_>) -> Result<Blob, SerdeError> {
         self.walk.ready()?;
         let found = blob_at(
+            self.alloc,
+            self.walk.input,
+            self.walk.position,
+            self.walk.depth(),
+        );
+        self.walk.take_result(found)
+    }
+
+    fn read_big_integer(&mut self, _schema: &Schema<'_>) -> Result<BigInteger, SerdeError> {
+        self.walk.ready()?;
+        let found = big_integer_at(
+            self.alloc,
+            self.walk.input,
+            self.walk.position,
+            self.walk.depth(),
+        );
+        self.walk.take_result(found)
+    }
+
+    fn read_big_decimal(&mut self, _schema: &Schema<'_>) -> Result<BigDecimal, SerdeError> {
+        self.walk.ready()?;
+        let found = big_decimal_at(
             self.alloc,
             self.walk.input,
             self.walk.position,

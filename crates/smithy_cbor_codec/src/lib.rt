@@ -4,6 +4,7 @@
 mod codec;
 mod deserializer;
 mod members;
+mod numbers;
 mod places;
 mod serializer;
 mod values;

@@ -1,16 +1,18 @@
 //! Writing a body as a schema directs.
-ghost use Rattle.std.specs.Prelude.{◌≡◌, ◌↔◌, ◌++◌, Ok, Err, true, false, OnOk, OnErr, IfErr, IsErr, IsErrOf};
-ghost use Rattle.smithy_schema.specs.declared.error.SerdeError.TheVariants.{Failed};
+ghost use Rattle.std.specs.Prelude.{◌⊎◌, ◌≡◌, ◌↔◌, ◌++◌, Ok, Err, true, false, OnOk, OnErr, IfErr, IsErr, IsErrOf};
+ghost use Rattle.smithy_schema.specs.declared.error.SerdeError.TheVariants.{Failed, NoMemory, TooWide};
+ghost use Rattle.smithy_cbor.specs.declared.error.EncodeError.TheVariants as encoding;
 ghost use Rattle.smithy_schema.specs.Reading.{IsFault};
 ghost use Rattle.smithy_schema.specs.Site.{site_of};
 ghost use Rattle.smithy_schema.specs.Writing.{after_value, after_text};
-ghost use Rattle.smithy_cbor.specs.Written.{text_bytes};
+ghost use Rattle.smithy_cbor.specs.Written.{text_bytes, big_integer_bytes};
 ghost use Rattle.smithy_cbor_codec.specs.Canonical.{key_bytes};
 ghost use Rattle.smithy_cbor_codec.specs.Serializing.{opens_of, state_of, has_failed};
 ghost use Rattle.smithy_cbor_codec.specs.Writing.{CborState, fresh_state, key_in, lead, cbor_after};
 
-use smithy_cbor::Encoder;
+use smithy_cbor::{EncodeError, Encoder};
 use smithy_schema::{FinishSerializer, Schema, SerdeError, ShapeSerializer};
+use smithy_types::{BigDecimal, BigInteger};
 use std::alloc::{AllocError, Global};
 
 // A container that is open, and of a map what is due in it.
@@ -41,6 +43,25 @@ fn write_name(encoder: &mut Encoder, schema: &Schema<'_>) -> Result<(), AllocErr
     match schema.member_name() {
         Some(name) => encoder.str(name),
         None => Ok(()),
+    }
+}
+
+// Writes a whole number.
+#[tactic(auto, using(crate::proofs::WrittenLeaves::long_is_integer))]
+fn write_whole(encoder: &mut Encoder, value: i64) -> Result<(), AllocError>
+    ensures { OnOk result (encoder.new ≡ encoder.old ++ big_integer_bytes value) }
+{
+    encoder.long(value)
+}
+
+// The refusal of a number that isn't written.
+fn refusal_of(error: EncodeError) -> SerdeError
+    ensures wide { result ≡ TooWide → error ≡ encoding.TooWide }
+    ensures kind { (result ≡ TooWide) ⊎ (result ≡ NoMemory) }
+{
+    match error {
+        EncodeError::TooWide => SerdeError::TooWide,
+        EncodeError::NoMemory => SerdeError::NoMemory,
     }
 }
 
@@ -225,7 +246,7 @@ impl ShapeSerializer for CborSerializer {
 
     fn write_long(&mut self, schema: &Schema<'_>, value: i64) -> Result<(), SerdeError> {
         self.begin_value(schema)?;
-        self.encoder.long(value)?;
+        write_whole(&mut self.encoder, value)?;
         self.failed = false;
         Ok(())
     }
@@ -242,6 +263,55 @@ impl ShapeSerializer for CborSerializer {
         self.encoder.blob_bytes(value)?;
         self.failed = false;
         Ok(())
+    }
+
+    fn write_i128(&mut self, schema: &Schema<'_>, value: i128) -> Result<(), SerdeError> {
+        self.begin_value(schema)?;
+        self.encoder.whole(value)?;
+        self.failed = false;
+        Ok(())
+    }
+
+    fn write_decimal(
+        &mut self,
+        schema: &Schema<'_>,
+        mantissa: i128,
+        exponent: i64,
+    ) -> Result<(), SerdeError> {
+        self.begin_value(schema)?;
+        self.encoder.decimal_fraction(exponent, mantissa)?;
+        self.failed = false;
+        Ok(())
+    }
+
+    fn write_big_integer(
+        &mut self,
+        schema: &Schema<'_>,
+        value: &BigInteger,
+    ) -> Result<(), SerdeError> {
+        self.begin_value(schema)?;
+        match self.encoder.big_integer(value) {
+            Ok(()) => {
+                self.failed = false;
+                Ok(())
+            }
+            Err(error) => Err(refusal_of(error)),
+        }
+    }
+
+    fn write_big_decimal(
+        &mut self,
+        schema: &Schema<'_>,
+        value: &BigDecimal,
+    ) -> Result<(), SerdeError> {
+        self.begin_value(schema)?;
+        match self.encoder.big_decimal(value) {
+            Ok(()) => {
+                self.failed = false;
+                Ok(())
+            }
+            Err(error) => Err(refusal_of(error)),
+        }
     }
 }
 

@@ -7,6 +7,7 @@ pub mod NumberLemmas
 pub mod NumberRestLemmas
 pub mod WholeLemmas
 pub mod NumberPlaceLemmas
+pub mod NumberTextLemmas
 pub mod RunValueLemmas
 pub mod LongLemmas
 pub mod UnescapeLemmas

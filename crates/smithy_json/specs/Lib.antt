@@ -13,6 +13,7 @@ pub mod Standing
 -- what contracts see of a type
 pub mod EscapedText
 pub mod Appending
+pub mod NumberText
 pub mod Writer
 -- for private clauses
 pub mod Private

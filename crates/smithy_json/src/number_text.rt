@@ -1,9 +1,10 @@
 //! Where the text of a number ends, and the whole number that it writes (RFC 8259, section 6).
 
-ghost use Rattle.std.specs.Prelude.{◌≡◌, ◌≤◌, ◌<◌, ◌+◌, ℕ, ℤ, length, drop, slice_range, is_some, IfSome, IfNone};
+ghost use Rattle.std.specs.Prelude.{◌≡◌, ◌↔◌, ◌≤◌, ◌<◌, ◌+◌, ℕ, ℤ, length, drop, slice_range, is_some, IsTrue, IfSome, IfNone};
 ghost use Rattle.smithy_json.specs.Ascii.{is_e};
 ghost use Rattle.smithy_json.specs.Grammar.{IsNumber};
 ghost use Rattle.smithy_json.specs.Number.{whole_number};
+ghost use Rattle.smithy_json.specs.NumberText.{is_number};
 ghost use Rattle.smithy_json.specs.Private.Numeral.{first_byte, digit_count, after_digits, after_minus, after_sign, after_int, after_frac, after_exp, after_whole, after_frac_and_exp, EndsAt, ReadsNatural, is_int_between, long_of};
 ghost use Rattle.smithy_json.specs.Standing.{StandsAt, IsLongAt};
 
@@ -151,6 +152,28 @@ pub fn scan_number(input: &[u8], at: usize) -> Option<ScannedNumber>
         end,
         is_whole: whole_end == end,
     })
+}
+
+// Whether nothing is left behind the number that begins the text.
+fn is_number_alone(text: &[u8]) -> bool
+    ensures { result ≡ is_number text.now }
+{
+    let Some(whole_end) = whole_end(text, 0) else {
+        return false;
+    };
+    match frac_and_exp_end(text, whole_end) {
+        Some(end) => end == text.len(),
+        None => false,
+    }
+}
+
+/// Whether the whole text is a number.
+#[tactic(auto, using(crate::proofs::NumberTextLemmas::tells_numbers))]
+pub fn is_number(text: &[u8]) -> bool
+    ensures test { result ≡ is_number text.now }
+    ensures grammar { IsTrue result ↔ IsNumber text.now }
+{
+    is_number_alone(text)
 }
 
 // The number of the digits that come at the offset, with their end. There is none where no digit

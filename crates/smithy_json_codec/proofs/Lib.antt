@@ -31,3 +31,5 @@ pub mod OpenersLemmas
 pub mod SkipStepOpeners
 pub mod DeepestLemmas
 pub mod ScalarReads
+pub mod NumberTexts
+pub mod WideSlices

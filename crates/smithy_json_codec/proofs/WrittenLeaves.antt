@@ -1,28 +1,35 @@
 -- What JSON writes for scalars and names: it means them, can be written, and is their canonical text.
-use Rattle.std.specs.Prelude.{◌≡◌, ℕ, List, [], ◌∷◌, Bool, true, false, Option, Some, refl, IsUtf8}
+use Rattle.std.specs.Prelude.{◌≡◌, ℕ, List, [], ◌∷◌, true, false, Option, Some, refl}
 use Rattle.std.specs.List.{list_all}
-use Rattle.std.proofs.Common.{subst, sym, ap, ◌∙◌}
+use Rattle.std.proofs.Common.{subst, sym, ap, ◌∙◌, arith, ◌<◌, ◌^◌, ℤ, pos, negsuc}
+use Rattle.std.specs.Prelude.{unsigned_abs}
+use Rattle.std.proofs.lemmas.Bool.Decides.{nat_tests}
 use Rattle.std.proofs.lemmas.Bool.{and_parts}
 use Rattle.std.specs.Fmt.{signed_decimal}
 use Rattle.smithy_schema.specs.declared.shape_type.Scalar.{Scalar}
 use Rattle.smithy_schema.specs.declared.shape_type.Scalar.TheVariants as scalars
 use Rattle.smithy_schema.specs.declared.shape_type.TimestampFormat.{TimestampFormat}
-use Rattle.smithy_schema.specs.Value.{ScalarValue, boolean, whole, text, bytes, scalar_value}
+use Rattle.smithy_schema.specs.Value.{ScalarValue, boolean, whole, text, bytes, decimal, scalar_value}
 use Rattle.smithy_schema.specs.Fits.{is_of}
-use Rattle.smithy_schema.proofs.ScalarLemmas.{whole_fits, text_is_utf8, blob_is_bytes}
+use Rattle.smithy_schema.proofs.ScalarLemmas.{whole_fits, decimal_fits, text_is_utf8, blob_is_bytes}
 use Rattle.smithy_texts.specs.Base64Text.{are_bytes, blob_text}
+use Rattle.smithy_texts.specs.Decimal.{DecimalForm, decimal_form, decimal_text, written_exponent, net_exponent}
+use Rattle.smithy_texts.specs.Ranges.{fits_signed, is_exponent}
+use Rattle.smithy_texts.proofs.WrittenNumerals.{integer_form_of_written, written_parts, small_exponent}
 use Rattle.smithy_texts.proofs.Base64Laws.{blob_back, blob_text_is_utf8, symbols_hold}
 use Rattle.smithy_texts.proofs.OnLiterals.{smithy_texts_on_literals}
-use Rattle.smithy_json.specs.Escape.{escaped, quoted}
+use Rattle.smithy_json.specs.Escape.{escaped}
 use Rattle.smithy_json.specs.Unescape.{unescaped}
 use Rattle.smithy_json.specs.Private.Chars.{is_plain}
 use Rattle.smithy_json.proofs.EscapeLemmas.{plain_byte}
-use Rattle.smithy_json.proofs.DecimalLemmas.{decimal_is_number, decimal_writes}
+use Rattle.smithy_json.proofs.DecimalLemmas.{decimal_is_number, decimal_writes, decimal_text_is_number}
 use Rattle.smithy_json.proofs.QuotedLemmas.{quoted_is_string, unescaped_of_escaped}
 use Rattle.smithy_json_codec.specs.Meaning.{rules_of}
-use Rattle.smithy_json_codec.specs.Scalar.{JsonScalar, a_boolean, a_number, a_string, tree_of, says}
+use Rattle.smithy_json_codec.specs.Scalar.{JsonScalar, a_boolean, a_number, a_string, tree_of, big_number, says}
 use Rattle.smithy_json_codec.specs.Settings.{Settings}
 use Rattle.smithy_wire.specs.Rules.{means}
+use Rattle.smithy_wire.specs.BigNumbers.{big_decimal}
+use Rattle.smithy_json_codec.proofs.NumberTexts.{form_is}
 use Rattle.smithy_json_codec.specs.Canonical.{scalar_text}
 use Rattle.smithy_json_codec.proofs.WrittenPlaces.{leaf_bytes, json_writes}
 use Rattle.smithy_json.specs.Grammar.{IsValue, IsString}
@@ -33,6 +40,7 @@ abbrev pub leaf_of : Scalar → Option TimestampFormat → ScalarValue → JsonS
 leaf_of s time (boolean b) = a_boolean b
 leaf_of s time (whole n) = a_number (signed_decimal n)
 leaf_of s time (text t) = a_string (escaped t)
+leaf_of s time (decimal m e) = a_number (decimal_text m e)
 leaf_of s time (bytes b) = a_string (blob_text b)
 
 abbrev pub json_leaves : Leaves JsonScalar
@@ -59,14 +67,34 @@ blob_unescaped b h = ap unescaped (sym (blob_stays b h)) ∙ unescaped_of_escape
 blob_is_string : (b : List ℕ) → are_bytes b ≡ true → IsString (blob_text b) (leaf_bytes (a_string (blob_text b)))
 blob_is_string b h = subst (λ raw. IsString raw (leaf_bytes (a_string raw))) (blob_stays b h) (quoted_is_string (blob_text b) (blob_text_is_utf8 b))
 
+-- a number of 128 bits has few digits
+small_whole : (n : ℤ) → fits_signed 128 n ≡ true → unsigned_abs n < 10 ^ 64
+small_whole (pos n) fits = let below : n < 2 ^ 127 = grind (arith, nat_tests) in omega arith
+small_whole (negsuc n) fits = let below : n < 2 ^ 127 = grind (arith, nat_tests) in omega arith
+
+-- the text of a decimal within its limits means it
+written_decimal_means : (m e : ℤ) → (fits_signed 128 m ≡ true) × (is_exponent e ≡ true) → big_number scalars.BigDecimal (decimal_text m e) ≡ means (scalar_value (decimal m e))
+written_decimal_means m e fits =
+    let w = written_parts m e (small_whole m fits.0) (small_exponent e fits.1) in
+    let t = decimal_text m e in
+    let Form : Type 0 = Option DecimalForm in
+    let form : ◌≡◌ {A = Form} (decimal_form t) (Some (record { mantissa_part = m; written_part = e; net_part = e })) =
+    form_is t w.form
+    ∙ ap (λ x. Some (record { mantissa_part = x; written_part = written_exponent t; net_part = net_exponent t })) w.mantissa_is
+    ∙ ap (λ x. Some (record { mantissa_part = m; written_part = x; net_part = net_exponent t })) w.written_is
+    ∙ ap (λ x. Some (record { mantissa_part = m; written_part = e; net_part = x })) w.net_is in
+    ap big_decimal form ∙ rw (fits.0, fits.1) refl
+
 scalar_means : (s : Scalar) (time : Option TimestampFormat) (x : ScalarValue) → is_of s x ≡ true → says s time (leaf_of s time x) ≡ means (scalar_value x)
 scalar_means scalars.Boolean time (boolean b) is = refl
 scalar_means scalars.Byte time (whole n) is = rw (decimal_writes n (whole_fits scalars.Byte n is), is) refl
 scalar_means scalars.Short time (whole n) is = rw (decimal_writes n (whole_fits scalars.Short n is), is) refl
 scalar_means scalars.Integer time (whole n) is = rw (decimal_writes n (whole_fits scalars.Integer n is), is) refl
-scalar_means scalars.Long time (whole n) is = rw (decimal_writes n is, is) refl
+scalar_means scalars.Long time (whole n) is = rw (decimal_writes n (whole_fits scalars.Long n is), is) refl
 scalar_means scalars.String time (text t) is = rw (unescaped_of_escaped t) refl
 scalar_means scalars.Blob time (bytes b) is = rw (blob_unescaped b is, blob_back b is) refl
+scalar_means scalars.BigInteger time (whole n) is = rw (integer_form_of_written n (small_whole n is), is) refl
+scalar_means scalars.BigDecimal time (decimal m e) is = written_decimal_means m e (decimal_fits scalars.BigDecimal m e is)
 scalar_means _ time _ is = cc
 
 pub json_reads_leaves : (c : Settings) → ReadsLeaves json_leaves (rules_of c)
@@ -81,6 +109,7 @@ scalar_is s time (boolean true) is = refl
 scalar_is s time (boolean false) is = refl
 scalar_is s time (whole n) is = (refl, decimal_is_number n (whole_fits s n is))
 scalar_is s time (text t) is = quoted_is_string t (text_is_utf8 s t is)
+scalar_is s time (decimal m e) is = let fits = decimal_fits s m e is in (refl, decimal_text_is_number m e fits.0 fits.1)
 scalar_is s time (bytes b) is = blob_is_string b (blob_is_bytes s b is)
 
 pub json_writes_leaves : WritesLeaves json_writes json_leaves
@@ -95,4 +124,5 @@ scalar_bytes s time (boolean true) = refl
 scalar_bytes s time (boolean false) = refl
 scalar_bytes s time (whole n) = refl
 scalar_bytes s time (text t) = refl
+scalar_bytes s time (decimal m e) = refl
 scalar_bytes s time (bytes b) = refl

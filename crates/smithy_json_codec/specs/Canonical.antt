@@ -2,8 +2,9 @@
 use Rattle.std.specs.Prelude.{ℕ, List, [], ◌∷◌, ◌++◌, Bool, true, false, Some, None, unwrap_or, codes, if◌then◌else◌}
 use Rattle.std.specs.Fmt.{signed_decimal}
 use Rattle.smithy_schema.specs.Site.{Site, View, element_of, value_of, member_of}
-use Rattle.smithy_schema.specs.Value.{ScalarValue, boolean, whole, text, bytes, Value, scalar_value, list, map, structure, union, null_element, Values, no_values, value, MapEntries, no_map_entries, map_entry, MemberValues, no_member_values, member_value}
+use Rattle.smithy_schema.specs.Value.{ScalarValue, boolean, whole, text, bytes, decimal, Value, scalar_value, list, map, structure, union, null_element, Values, no_values, value, MapEntries, no_map_entries, map_entry, MemberValues, no_member_values, member_value}
 use Rattle.smithy_texts.specs.Base64Text.{blob_text}
+use Rattle.smithy_texts.specs.Decimal.{decimal_text}
 use Rattle.smithy_json.specs.Ascii.{quotation_mark, value_separator, name_separator, begin_array, end_array, begin_object, end_object}
 use Rattle.smithy_json.specs.Escape.{quoted}
 
@@ -12,6 +13,7 @@ scalar_text (boolean true) = codes "true"
 scalar_text (boolean false) = codes "false"
 scalar_text (whole n) = signed_decimal n
 scalar_text (text s) = quoted s
+scalar_text (decimal m e) = decimal_text m e
 scalar_text (bytes b) = quotation_mark ∷ (blob_text b ++ quotation_mark ∷ [])
 
 -- the name of a member or the key of a map's entry, and a colon

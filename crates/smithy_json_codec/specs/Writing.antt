@@ -2,10 +2,12 @@
 use Rattle.std.specs.Prelude.{ℕ, List, [], ◌∷◌, ◌++◌, Bool, true, false, if◌then◌else◌, Result, Ok, Err, codes}
 use Rattle.std.specs.Option.{option_map_or}
 use Rattle.smithy_schema.specs.declared.error.SerdeError.{SerdeError}
+use Rattle.smithy_schema.specs.declared.error.SerdeError.TheVariants.{Unwritable}
 use Rattle.smithy_schema.specs.Site.{View}
 use Rattle.smithy_schema.specs.Value.{ScalarValue, text_in}
-use Rattle.smithy_schema.specs.Writing.{Event, Writer, begin_structure, end_structure, begin_list, end_list, begin_map, end_map, null_of, scalar_of, Open, open_structure, open_map_at_key, open_after}
+use Rattle.smithy_schema.specs.Writing.{Event, Writer, begin_structure, end_structure, begin_list, end_list, begin_map, end_map, null_of, scalar_of, big_integer_of, big_decimal_of, Open, open_structure, open_map_at_key, open_after}
 use Rattle.smithy_json.specs.Ascii.{value_separator, begin_array, end_array, begin_object, end_object}
+use Rattle.smithy_json.specs.NumberText.{is_number}
 use Rattle.smithy_json_codec.specs.Canonical.{name_text, key_text, scalar_text}
 
 pub record JsonState : Type 0 where
@@ -79,12 +81,20 @@ made (begin_map site length) s frames = opened s site.view begin_object frames
 made end_map s frames = closed s end_object frames
 made (null_of site) s frames = wrote s site.view (codes "null") frames
 made (scalar_of site x) s frames = scalar_wrote s site.view x frames
+made (big_integer_of site written) s frames = wrote s site.view written frames
+made (big_decimal_of site written) s frames = wrote s site.view written frames
 
 -- the state that is made of the open containers, unless the call is refused
 abbrev pub where_taken : (List Open → JsonState) → Result (List Open) SerdeError → Result JsonState SerdeError
 where_taken make (Ok frames) = Ok (make frames)
 where_taken make (Err e) = Err e
 
--- a call is refused where no serializer takes it
+-- the text of a big number is written as it stands, so it has to be a number of JSON
+abbrev pub is_writable : Event → Bool
+is_writable (big_integer_of site written) = is_number written
+is_writable (big_decimal_of site written) = is_number written
+is_writable _ = true
+
+-- a call is refused where no serializer takes it, and where JSON can't have its text
 abbrev pub json_after : Writer JsonState
-json_after e s = where_taken (made e s) (open_after e s.frames)
+json_after e s = if is_writable e then where_taken (made e s) (open_after e s.frames) else Err Unwritable

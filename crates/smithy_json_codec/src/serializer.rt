@@ -1,20 +1,23 @@
 //! Writing a body as a schema directs.
-ghost use Rattle.std.specs.Prelude.{◌≡◌, ◌↔◌, ◌∷◌, ◌++◌, Ok, Err, true, false, OnOk, IfErr, IsErr, IsErrOf};
-ghost use Rattle.smithy_schema.specs.declared.error.SerdeError.TheVariants.{Failed, NoMemory};
+ghost use Rattle.std.specs.Prelude.{if◌then◌else◌, ◌≡◌, ◌↔◌, ◌∷◌, ◌++◌, Ok, Err, true, false, OnOk, IfErr, IsErr, IsErrOf};
+ghost use Rattle.smithy_schema.specs.declared.error.SerdeError.TheVariants.{Failed, NoMemory, Unwritable};
 ghost use Rattle.smithy_schema.specs.Reading.{IsFault};
 ghost use Rattle.smithy_schema.specs.Site.{site_of};
 ghost use Rattle.smithy_schema.specs.Writing.{after_value, after_text, after_begin};
 ghost use Rattle.smithy_schema.specs.Value.{bytes as bytes_value};
+ghost use Rattle.smithy_texts.specs.Decimal.{exponent_text, decimal_text};
 ghost use Rattle.smithy_json.specs.Escape.{quoted};
+ghost use Rattle.smithy_json.specs.NumberText.{is_number};
 ghost use Rattle.smithy_json_codec.specs.Canonical.{name_text, key_text, scalar_text};
 ghost use Rattle.smithy_json_codec.specs.Serializing.{open_of, opens_of, state_of, has_failed};
 ghost use Rattle.smithy_json_codec.specs.Writing.{JsonState, fresh_state, comma_text, key_in, is_key_due, lead, wrote, key_wrote, opened, where_taken, json_after};
 
 use crate::codec::JsonCodec;
 use itoa::Buffer;
+use smithy_json::number_text::is_number;
 use smithy_json::push_escaped;
 use smithy_schema::{FinishSerializer, Schema, SerdeError, ShapeSerializer};
-use smithy_types::base64;
+use smithy_types::{BigDecimal, BigInteger, base64};
 use std::alloc::{AllocError, Global};
 
 /// A container that is open, and of a map what is due in it.
@@ -66,6 +69,28 @@ fn push_base64(out: &mut Vec<u8>, bytes: &[u8]) -> Result<(), AllocError>
     out.extend_from_slice(text.as_bytes())?;
     out.push(b'"')?;
     Ok(())
+}
+
+// The exponent of a decimal, where it isn't zero.
+fn push_exponent(out: &mut Vec<u8>, exponent: i64) -> Result<(), AllocError>
+    ensures { OnOk result (out.new.items ≡ out.old.items ++ exponent_text exponent) }
+{
+    if exponent == 0 {
+        return Ok(());
+    }
+    let mut buffer = Buffer::new();
+    out.push(b'e')?;
+    out.extend_from_slice(buffer.format(exponent).as_bytes())?;
+    Ok(())
+}
+
+// The text of a decimal.
+fn push_decimal(out: &mut Vec<u8>, mantissa: i128, exponent: i64) -> Result<(), AllocError>
+    ensures { OnOk result (out.new.items ≡ out.old.items ++ decimal_text mantissa exponent) }
+{
+    let mut buffer = Buffer::new();
+    out.extend_from_slice(buffer.format(mantissa).as_bytes())?;
+    push_exponent(out, exponent)
 }
 
 // The key of a member, with its colon; nothing for what has no name.
@@ -200,6 +225,23 @@ impl<'c> JsonSerializer<'c> {
         self.needs_comma = true;
         self.failed = false;
         Ok(())
+    }
+
+    // Writes the text of a number as it stands, where it is one of JSON.
+    fn write_number(&mut self, schema: &Schema<'_>, text: &str) -> Result<(), SerdeError>
+        ensures failed { IsErrOf result Failed ↔ (has_failed self.old ≡ true) }
+        ensures broken { IsErr result ↔ (has_failed self.new ≡ true) }
+        ensures ok { OnOk result ((if is_number text.now then where_taken (wrote (state_of self.old) (site_of schema.now).view text.now) (after_value (state_of self.old).frames) else Err Unwritable) ≡ Ok (state_of self.new)) }
+        ensures refused { IfErr result (λ e. IsFault e → (if is_number text.now then where_taken (wrote (state_of self.old) (site_of schema.now).view text.now) (after_value (state_of self.old).frames) else Err Unwritable) ≡ Err e) }
+    {
+        if self.failed {
+            return Err(SerdeError::Failed);
+        }
+        if !is_number(text.as_bytes()) {
+            self.failed = true;
+            return Err(SerdeError::Unwritable);
+        }
+        self.write_text(schema, text.as_bytes())
     }
 
     // Writes a text that is a value.
@@ -366,6 +408,44 @@ impl ShapeSerializer for JsonSerializer<'_> {
         self.needs_comma = true;
         self.failed = false;
         Ok(())
+    }
+
+    fn write_i128(&mut self, schema: &Schema<'_>, value: i128) -> Result<(), SerdeError> {
+        let mut buffer = Buffer::new();
+        self.write_text(schema, buffer.format(value).as_bytes())
+    }
+
+    fn write_decimal(
+        &mut self,
+        schema: &Schema<'_>,
+        mantissa: i128,
+        exponent: i64,
+    ) -> Result<(), SerdeError> {
+        if self.failed {
+            return Err(SerdeError::Failed);
+        }
+        self.failed = true;
+        self.begin(schema)?;
+        push_decimal(&mut self.out, mantissa, exponent)?;
+        self.needs_comma = true;
+        self.failed = false;
+        Ok(())
+    }
+
+    fn write_big_integer(
+        &mut self,
+        schema: &Schema<'_>,
+        value: &BigInteger,
+    ) -> Result<(), SerdeError> {
+        self.write_number(schema, value.as_ref())
+    }
+
+    fn write_big_decimal(
+        &mut self,
+        schema: &Schema<'_>,
+        value: &BigDecimal,
+    ) -> Result<(), SerdeError> {
+        self.write_number(schema, value.as_ref())
     }
 }
 

@@ -1,22 +1,25 @@
 -- The texts of values are texts of bytes.
-use Rattle.std.proofs.Common.{◌≡◌, ◌<◌, ◌^◌, ℕ, ℤ, suc, pos, negsuc, List, [], ◌∷◌, Bool, true, false, All, IsUtf8, nat_lt, cond, decimal, codes, refl, subst, arith, ⊎_elim}
+use Rattle.std.proofs.Common.{◌≡◌, ◌<◌, ◌^◌, ◌==◌, ℕ, ℤ, suc, pos, negsuc, unsigned_abs, List, [], ◌∷◌, Bool, true, false, All, IsUtf8, nat_lt, cond, decimal, codes, refl, subst, arith, ⊎_elim}
 use Rattle.std.specs.Fmt.{signed_decimal}
 use Rattle.std.specs.List.{list_all}
+use Rattle.std.specs.Str.{byte}
 use Rattle.std.proofs.lemmas.Bool.{and_parts}
 use Rattle.std.proofs.lemmas.Bool.Decides.{nat_tests}
 use Rattle.std.proofs.lemmas.List.Elements.{All-append, All-cons, All-nil}
 use Rattle.percent_encoding.proofs.PercentLemmas.{IsByte}
 use lib.Utf8.{scalar, scalars, encode, encodes, scalar_cases}
 use Rattle.smithy_texts.specs.Base64Text.{are_bytes, blob_text}
+use Rattle.smithy_texts.specs.Decimal.{exponent_text}
 use Rattle.smithy_texts.specs.Ranges.{fits_signed}
 use Rattle.smithy_texts.proofs.Base64Laws.{symbols_hold}
 use Rattle.smithy_texts.proofs.OnLiterals.{smithy_texts_on_literals}
+use Rattle.smithy_texts.proofs.WrittenNumerals.{small_exponent}
 use Rattle.smithy_schema.specs.declared.place.Place.{Place}
 use Rattle.smithy_schema.specs.Names.{is_name_byte}
 use Rattle.smithy_schema.specs.Table.{Table, Kind, kind_of}
-use Rattle.smithy_schema.specs.Value.{ScalarValue, boolean, whole, text, bytes, Value, scalar_value, list, map, structure, union, null_element, Values, no_values, value, MapEntries, no_map_entries, map_entry, MemberValues, no_member_values, member_value}
+use Rattle.smithy_schema.specs.Value.{ScalarValue, boolean, whole, text, bytes, decimal as decimal_value, Value, scalar_value, list, map, structure, union, null_element, Values, no_values, value, MapEntries, no_map_entries, map_entry, MemberValues, no_member_values, member_value}
 use Rattle.smithy_schema.specs.Fits.{FitsOr, ElementsFit, EntriesFit, MembersFit, is_scalar_of}
-use Rattle.smithy_schema.proofs.ScalarLemmas.{scalar_kind, whole_fits, text_is_utf8, blob_is_bytes}
+use Rattle.smithy_schema.proofs.ScalarLemmas.{scalar_kind, whole_fits, decimal_fits, text_is_utf8, blob_is_bytes}
 use Rattle.smithy_query_codec.specs.Leaves.{scalar_text}
 use Rattle.smithy_query_codec.proofs.PairLemmas.{each_all, each_weaker}
 use Rattle.smithy_query_codec.proofs.SegmentLemmas.{IsNameText, decimal_text}
@@ -70,15 +73,20 @@ name_byte_small b h = grind (arith, nat_tests)
 name_bytes : (s : List ℕ) → IsNameText s → All IsByte s
 name_bytes s h = each_all IsByte s (each_weaker (λ b. is_name_byte b ≡ true) IsByte name_byte_small s h)
 
-positive_fits : (n : ℕ) → fits_signed 64 (pos n) ≡ true → n < 2 ^ 64
-positive_fits n fits = let small : n < 2 ^ 63 = grind (arith, nat_tests) in omega arith
+-- a number of 128 bits has few digits
+few_digits : (z : ℤ) → fits_signed 128 z ≡ true → unsigned_abs z < 10 ^ 64
+few_digits (pos n) fits = let small : n < 2 ^ 127 = grind (arith, nat_tests) in omega arith
+few_digits (negsuc n) fits = let small : n < 2 ^ 127 = grind (arith, nat_tests) in omega arith
 
-negative_fits : (n : ℕ) → fits_signed 64 (negsuc n) ≡ true → suc n < 2 ^ 64
-negative_fits n fits = let small : n < 2 ^ 63 = grind (arith, nat_tests) in omega arith
+signed_bytes : (z : ℤ) → unsigned_abs z < 10 ^ 64 → All IsByte (signed_decimal z)
+signed_bytes (pos n) few = name_bytes (decimal n) (decimal_text n few)
+signed_bytes (negsuc n) few = All-cons IsByte 45 (decimal (suc n)) (omega arith) (name_bytes (decimal (suc n)) (decimal_text (suc n) few))
 
-whole_bytes : (z : ℤ) → fits_signed 64 z ≡ true → All IsByte (signed_decimal z)
-whole_bytes (pos n) fits = name_bytes (decimal n) (decimal_text n (positive_fits n fits))
-whole_bytes (negsuc n) fits = All-cons IsByte 45 (decimal (suc n)) (omega arith) (name_bytes (decimal (suc n)) (decimal_text (suc n) (negative_fits n fits)))
+exponent_bytes : (e : ℤ) → unsigned_abs e < 10 ^ 64 → All IsByte (exponent_text e)
+exponent_bytes (pos n) few =
+    chosen (n == 0) [] (byte "e" ∷ signed_decimal (pos n)) (λ none. All-nil IsByte)
+    (λ some. All-cons IsByte (byte "e") (signed_decimal (pos n)) (omega arith) (signed_bytes (pos n) few))
+exponent_bytes (negsuc n) few = All-cons IsByte (byte "e") (signed_decimal (negsuc n)) (omega arith) (signed_bytes (negsuc n) few)
 
 listed : (t : List ℕ) → list_all (λ b. nat_lt b 256) t ≡ true → All IsByte t
 listed [] h = All-nil IsByte
@@ -91,9 +99,13 @@ base64_bytes b h = listed (blob_text b) (symbols_hold (λ b. nat_lt b 256) refl 
 scalar_bytes : (k : Kind) (x : ScalarValue) → is_scalar_of k x ≡ true → All IsByte (scalar_text x)
 scalar_bytes k (boolean true) h = listed (codes "true") refl
 scalar_bytes k (boolean false) h = listed (codes "false") refl
-scalar_bytes k (whole n) h = let s = scalar_kind k (whole n) h in whole_bytes n (whole_fits s.0 n s.2)
+scalar_bytes k (whole n) h = let s = scalar_kind k (whole n) h in signed_bytes n (few_digits n (whole_fits s.0 n s.2))
 scalar_bytes k (text t) h = let s = scalar_kind k (text t) h in utf8_bytes t (text_is_utf8 s.0 t s.2)
 scalar_bytes k (bytes b) h = let s = scalar_kind k (bytes b) h in base64_bytes b (blob_is_bytes s.0 b s.2)
+scalar_bytes k (decimal_value m e) h =
+    let s = scalar_kind k (decimal_value m e) h in
+    let fits = decimal_fits s.0 m e s.2 in
+    All-append IsByte (signed_decimal m) (exponent_text e) (signed_bytes m (few_digits m fits.0)) (exponent_bytes e (small_exponent e fits.1))
 
 -- ---- any value
 

@@ -1,11 +1,11 @@
 -- Names that can stand in a path: none is empty, and none holds a point.
-use Rattle.std.proofs.Common.{◌≡◌, ◌≢◌, ◌<◌, ◌==◌, ℕ, List, [], ◌∷◌, length, true, false, decimal, arith}
+use Rattle.std.proofs.Common.{◌≡◌, ◌≢◌, ◌<◌, ◌^◌, ◌==◌, ℕ, List, [], ◌∷◌, length, true, false, decimal, arith}
 use Rattle.std.specs.List.{AllByRecursion, list_all}
 use Rattle.std.specs.Char.{digit_value}
 use Rattle.std.specs.Str.Parse.{AllDigits}
 use Rattle.std.proofs.lemmas.Bool.Decides.{nat_tests}
 use Rattle.std.proofs.lemmas.Bool.{and_parts}
-use Rattle.std.proofs.lemmas.Fmt.{decimal_nonempty, decimal_is_IsNumeral}
+use Rattle.std.proofs.lemmas.Fmt.{decimal_nonempty, decimal_is_IsNumeral_wide}
 use Rattle.smithy_query_codec.proofs.PairLemmas.{each_weaker}
 use Rattle.smithy_schema.specs.Names.{is_name_byte, is_query_name}
 
@@ -48,5 +48,5 @@ digits_in_name : (s : List ℕ) → AllDigits 10 s → IsNameText s
 digits_in_name [] h = tt
 digits_in_name (b ∷ s) h = (digit_in_name b h.0, digits_in_name s h.1)
 
-pub decimal_text : (n : ℕ) → n < 18446744073709551616 → IsNameText (decimal n)
-decimal_text n small = digits_in_name (decimal n) (decimal_is_IsNumeral n small).0.1
+pub decimal_text : (n : ℕ) → n < 10 ^ 64 → IsNameText (decimal n)
+decimal_text n small = digits_in_name (decimal n) (decimal_is_IsNumeral_wide n small).0.1

@@ -1,15 +1,15 @@
 -- Values of small tables and the forms that they are, by the definition and call by call.
-use Rattle.std.proofs.Common.{◌≡◌, ℕ, List, [], ◌∷◌, Bool, true, false, Option, Some, None, Ok, Err, codes, refl, pos, neg_ℤ, arith}
+use Rattle.std.proofs.Common.{◌≡◌, ◌^◌, ℕ, List, [], ◌∷◌, Bool, true, false, Option, Some, None, Ok, Err, codes, refl, pos, neg_ℤ, arith}
 use Rattle.smithy_schema.specs.declared.place.Place.{Place}
 use Rattle.smithy_schema.specs.declared.shape_type.Scalar.TheVariants as scalars
 use Rattle.smithy_schema.specs.declared.error.SerdeError.TheVariants.{Unwritable}
 use Rattle.smithy_schema.specs.Table as table
 use Rattle.smithy_schema.specs.Table.{Table, Member, Shape, Declaration, scalar_place, shape_place}
 use Rattle.smithy_schema.specs.Site.{shape_site, member_of}
-use Rattle.smithy_schema.specs.Value.{boolean, whole, text, bytes, Value, scalar_value, list, map, structure, union, null_element, no_values, value, no_map_entries, map_entry, no_member_values, member_value}
-use Rattle.smithy_schema.specs.Writing.{begin_map, end_map, scalar_of, open_map_at_value, run, write}
+use Rattle.smithy_schema.specs.Value.{boolean, whole, text, bytes, decimal, Value, scalar_value, list, map, structure, union, null_element, no_values, value, no_map_entries, map_entry, no_member_values, member_value}
+use Rattle.smithy_schema.specs.Writing.{begin_map, end_map, scalar_of, big_integer_of, big_decimal_of, open_list, open_map_at_value, run, write}
 use Rattle.smithy_query_codec.specs.Canonical.{canonical_query}
-use Rattle.smithy_query_codec.specs.Writing.{fresh_state, query_after}
+use Rattle.smithy_query_codec.specs.Writing.{QueryState, fresh_state, query_after}
 use Rattle.smithy_query_codec.specs.Distinct.{HaveDistinctTexts}
 use Rattle.smithy_query_codec.proofs.OnLiterals.{smithy_query_codec_on_literals}
 
@@ -40,6 +40,13 @@ scalars_table = named (codes "S") (table.structure (
     ∷ a_member (codes "s") None false string
     ∷ a_member (codes "t") None false (scalar_place scalars.Boolean None)
     ∷ a_member (codes "b") None false (scalar_place scalars.Blob None)
+    ∷ [])) ∷ []
+
+-- structure S / member i bigInteger / member d bigDecimal
+abbrev big_numbers_table : Table
+big_numbers_table = named (codes "S") (table.structure (
+    a_member (codes "i") None false (scalar_place scalars.BigInteger None)
+    ∷ a_member (codes "d") None false (scalar_place scalars.BigDecimal None)
     ∷ [])) ∷ []
 
 -- list L long / structure S / member l L flat xml=x
@@ -100,6 +107,27 @@ pub four_scalars : IsFormOf scalars_table 0
     (codes "Action=Do&Version=1&a=-7&s=a%20b%26%3D%2B&t=true&b=%2B%2F8%3D")
 unfolding smithy_query_codec_on_literals
 four_scalars = (refl, refl)
+
+-- big numbers have their canonical texts
+pub big_numbers : IsFormOf big_numbers_table 0
+    (structure (member_value 0 (scalar_value (whole (neg_ℤ (pos (2 ^ 127))))) (member_value 1 (scalar_value (decimal (pos 12300) (neg_ℤ (pos 4)))) no_member_values)))
+    (codes "Action=Do&Version=1&i=-170141183460469231731687303715884105728&d=12300e-4")
+unfolding smithy_query_codec_on_literals
+big_numbers = (refl, refl)
+
+-- an exponent of 0 isn't written
+pub a_decimal_without_an_exponent : IsFormOf big_numbers_table 0 (structure (member_value 1 (scalar_value (decimal (neg_ℤ (pos 5)) (pos 0))) no_member_values))
+    (codes "Action=Do&Version=1&d=-5")
+unfolding smithy_query_codec_on_literals
+a_decimal_without_an_exponent = (refl, refl)
+
+-- a text that a big number keeps is written as it is, and percent-encoded
+pub kept_texts : run query_after
+    (big_integer_of (member_of (shape_site big_numbers_table 0) 0) (codes "-007") ∷ big_decimal_of (member_of (shape_site big_numbers_table 0) 1) (codes "+007") ∷ [])
+    (fresh_state (codes "Do") (codes "1"))
+    ≡ Ok (record { out = codes "Action=Do&Version=1&i=-007&d=%2B007"; prefix = []; names = []; count = 0; opens = []; marks = [] })
+unfolding smithy_query_codec_on_literals
+kept_texts = refl
 
 -- {"l":[5,6]} and {"l":[]} of a flat member with a name of its own
 pub a_flat_list : IsFormOf flat_list 1 (structure (member_value 0 (list (value (scalar_value (whole (pos 5))) (value (scalar_value (whole (pos 6))) no_values))) no_member_values))
@@ -179,10 +207,31 @@ pub no_nameless_scalar : run query_after (scalar_of (shape_site scalars_table 0)
 unfolding smithy_query_codec_on_literals
 no_nameless_scalar = refl
 
+-- nor a big number by its text
+pub no_nameless_big_number : (run query_after (big_integer_of (shape_site big_numbers_table 0) (codes "1") ∷ []) (fresh_state [] []) ≡ Err Unwritable)
+    × (run query_after (big_decimal_of (shape_site big_numbers_table 0) (codes "1") ∷ []) (fresh_state [] []) ≡ Err Unwritable)
+unfolding smithy_query_codec_on_literals
+no_nameless_big_number = (refl, refl)
+
+-- an element past the greatest position, of whatever call
+abbrev past_all_positions : QueryState
+past_all_positions = record { out = []; prefix = []; names = []; count = 18446744073709551615; opens = open_list ∷ []; marks = [] }
+
+pub no_element_past_all_positions : (query_after (scalar_of (shape_site scalars_table 0) (decimal (pos 1) (pos 0))) past_all_positions ≡ Err Unwritable)
+    × (query_after (big_integer_of (shape_site scalars_table 0) (codes "1")) past_all_positions ≡ Err Unwritable)
+    × (query_after (big_decimal_of (shape_site scalars_table 0) (codes "1")) past_all_positions ≡ Err Unwritable)
+unfolding smithy_query_codec_on_literals
+no_element_past_all_positions = (refl, refl, refl)
+
 -- a number in a key's place, and the end of a map behind a key
 pub no_number_as_a_key : run query_after (begin_map (member_of (shape_site items_and_entries 2) 1) None ∷ scalar_of (shape_site scalars_table 0) (whole (pos 1)) ∷ []) (fresh_state [] []) ≡ Err Unwritable
 unfolding smithy_query_codec_on_literals
 no_number_as_a_key = refl
+
+pub no_big_number_as_a_key : (run query_after (begin_map (member_of (shape_site items_and_entries 2) 1) None ∷ big_integer_of (shape_site scalars_table 0) (codes "1") ∷ []) (fresh_state [] []) ≡ Err Unwritable)
+    × (run query_after (begin_map (member_of (shape_site items_and_entries 2) 1) None ∷ big_decimal_of (shape_site scalars_table 0) (codes "1") ∷ []) (fresh_state [] []) ≡ Err Unwritable)
+unfolding smithy_query_codec_on_literals
+no_big_number_as_a_key = (refl, refl)
 
 pub no_end_behind_a_key : run query_after (begin_map (member_of (shape_site items_and_entries 2) 1) None ∷ scalar_of (shape_site scalars_table 0) (text (codes "a")) ∷ end_map ∷ []) (fresh_state [] []) ≡ Err Unwritable
 unfolding smithy_query_codec_on_literals

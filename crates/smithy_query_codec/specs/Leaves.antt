@@ -3,9 +3,10 @@ use Rattle.std.specs.Prelude.{ℕ, suc, List, [], ◌∷◌, ◌++◌, map as ma
 use Rattle.std.specs.Option.{option_map_or}
 use Rattle.std.specs.Fmt.{signed_decimal}
 use Rattle.smithy_texts.specs.Base64Text.{blob_text}
+use Rattle.smithy_texts.specs.Decimal.{decimal_text}
 use Rattle.smithy_schema.specs.Table.{list_shape_of, map_shape_of, element_name_of, key_name_of, value_name_of}
 use Rattle.smithy_schema.specs.Site.{Site, View, kind_at, element_of, value_of, member_of}
-use Rattle.smithy_schema.specs.Value.{ScalarValue, boolean, whole, text, bytes, Value, scalar_value, list, map, structure, union, null_element, Values, no_values, value, MapEntries, no_map_entries, map_entry, MemberValues, no_member_values, member_value}
+use Rattle.smithy_schema.specs.Value.{ScalarValue, boolean, whole, text, bytes, decimal as decimal_value, Value, scalar_value, list, map, structure, union, null_element, Values, no_values, value, MapEntries, no_map_entries, map_entry, MemberValues, no_member_values, member_value}
 
 -- segments, outermost first
 abbrev pub Path : Type 0
@@ -74,6 +75,7 @@ scalar_text (boolean false) = codes "false"
 scalar_text (whole n) = signed_decimal n
 scalar_text (text s) = s
 scalar_text (bytes b) = blob_text b
+scalar_text (decimal_value m e) = decimal_text m e
 
 -- the leaves of an entry: its key, and those of its value
 abbrev pub entry_part : List ℕ → List ℕ → List ℕ → List Leaf → List Leaf

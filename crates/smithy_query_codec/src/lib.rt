@@ -3,6 +3,7 @@
 
 mod containers;
 mod names;
+mod numbers;
 mod path;
 mod serializer;
 

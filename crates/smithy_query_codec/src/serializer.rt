@@ -12,10 +12,11 @@ use crate::containers::{
     member_flatness, member_length, pass_key, pass_value, push_child,
 };
 use crate::names::{element_name, key_name, value_name};
+use crate::numbers::decimal_text;
 use crate::path::{front, push_head, push_inner, push_pair};
 use itoa::Buffer;
 use smithy_schema::{FinishSerializer, Schema, SerdeError, ShapeSerializer};
-use smithy_types::base64;
+use smithy_types::{BigDecimal, BigInteger, base64};
 use std::alloc::{AllocError, Global};
 
 /// Writes one form: Action, Version, and the leaves of a value, each as `&`, its path, `=` and its text.
@@ -355,6 +356,42 @@ impl ShapeSerializer for QueryShapeSerializer {
         let text = base64::encode(*self.out.allocator(), value)?;
         self.failed = false;
         self.write_text(schema, text.as_str())
+    }
+
+    fn write_i128(&mut self, schema: &Schema<'_>, value: i128) -> Result<(), SerdeError> {
+        let mut buffer = Buffer::new();
+        self.write_text(schema, buffer.format(value))
+    }
+
+    fn write_decimal(
+        &mut self,
+        schema: &Schema<'_>,
+        mantissa: i128,
+        exponent: i64,
+    ) -> Result<(), SerdeError> {
+        if self.failed {
+            return Err(SerdeError::Failed);
+        }
+        self.failed = true;
+        let text = decimal_text(*self.out.allocator(), mantissa, exponent)?;
+        self.failed = false;
+        self.write_text(schema, text.as_str())
+    }
+
+    fn write_big_integer(
+        &mut self,
+        schema: &Schema<'_>,
+        value: &BigInteger,
+    ) -> Result<(), SerdeError> {
+        self.write_text(schema, value.as_ref())
+    }
+
+    fn write_big_decimal(
+        &mut self,
+        schema: &Schema<'_>,
+        value: &BigDecimal,
+    ) -> Result<(), SerdeError> {
+        self.write_text(schema, value.as_ref())
     }
 }
 

@@ -5,7 +5,7 @@ use Rattle.smithy_schema.specs.declared.error.SerdeError.TheVariants.{Unwritable
 use Rattle.smithy_schema.specs.declared.shape_type.Scalar.TheVariants as scalars
 use Rattle.smithy_schema.specs.Table as table
 use Rattle.smithy_schema.specs.Table.{Table, Member, ListShape, MapShape, Kind, scalar, structure_of, union_of, list_of, map_of, nothing, kind_of, place_in, is_sparse, position_named, json_name_of, query_name_of, element_name_of, key_name_of, value_name_of, declared_as, scalar_place, shape_place}
-use Rattle.smithy_schema.specs.Value.{ScalarValue, boolean, Value, scalar_value, whole, text, bytes, list, map as map_value, structure, union, null_element, no_values, value, no_map_entries, map_entry, no_member_values, member_value}
+use Rattle.smithy_schema.specs.Value.{ScalarValue, boolean, Value, scalar_value, whole, text, bytes, decimal, list, map as map_value, structure, union, null_element, no_values, value, no_map_entries, map_entry, no_member_values, member_value}
 use Rattle.smithy_schema.specs.Fits.{is_of}
 use Rattle.smithy_schema.specs.Container.{Entry, container_of}
 use Rattle.smithy_schema.specs.Site.{Site, shape_site, member_site, element_site, inner_site, key_site, nameless_site, member_named, element_of, key_of, value_of, member_of}
@@ -279,7 +279,8 @@ pub widths : (map (is_of scalars.Byte) (ends_of (2 ^ 7)) ≡ false ∷ true ∷ 
     × (map (is_of scalars.Short) (ends_of (2 ^ 15)) ≡ false ∷ true ∷ true ∷ false ∷ [])
     × (map (is_of scalars.Integer) (ends_of (2 ^ 31)) ≡ false ∷ true ∷ true ∷ false ∷ [])
     × (map (is_of scalars.Long) (ends_of (2 ^ 63)) ≡ false ∷ true ∷ true ∷ false ∷ [])
-widths = (refl, refl, refl, refl)
+    × (map (is_of scalars.BigInteger) (ends_of (2 ^ 127)) ≡ false ∷ true ∷ true ∷ false ∷ [])
+widths = (refl, refl, refl, refl, refl)
 
 -- no kind has the values of another one
 pub other_kinds : map (λ s. is_of s (whole (pos 1))) (scalars.Boolean ∷ scalars.String ∷ scalars.Blob ∷ []) ≡ false ∷ false ∷ false ∷ []
@@ -291,6 +292,13 @@ other_values = refl
 -- a text is no bytes, and bytes are below 256
 pub blobs : map (is_of scalars.Blob) (bytes [] ∷ bytes (0 ∷ 255 ∷ []) ∷ bytes (0 ∷ 256 ∷ []) ∷ text (codes "AA==") ∷ []) ≡ true ∷ true ∷ false ∷ false ∷ []
 blobs = refl
+
+-- the exponent of a decimal has no least number of 64 bits, and a decimal is no whole number
+pub decimals : map (is_of scalars.BigDecimal)
+    (decimal (pos (2 ^ 127 - 1)) (pos (2 ^ 63 - 1)) ∷ decimal (neg_ℤ (pos (2 ^ 127))) (neg_ℤ (pos (2 ^ 63 - 1)))
+    ∷ decimal (pos (2 ^ 127)) (pos 0) ∷ decimal (pos 0) (neg_ℤ (pos (2 ^ 63))) ∷ whole (pos 1) ∷ [])
+    ≡ true ∷ true ∷ false ∷ false ∷ false ∷ []
+decimals = refl
 
 -- ---- the calls that write a value
 

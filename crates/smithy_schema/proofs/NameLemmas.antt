@@ -11,7 +11,7 @@ use Rattle.smithy_schema.specs.declared.shapes.Shape.{Shape}
 use Rattle.smithy_schema.specs.declared.shapes.Shape.TheVariants.{Structure, Union, List as Listed, Map}
 use Rattle.smithy_schema.specs.declared.shapes.Declaration.{Declaration}
 use Rattle.smithy_schema.specs.Table as table
-use Rattle.smithy_schema.specs.Table.{Kind, nothing, kind_of, kind_of_target, kind_of_shape, members_of}
+use Rattle.smithy_schema.specs.Table.{nothing, kind_of, kind_of_target, kind_of_shape, members_of}
 use Rattle.smithy_schema.specs.Accepted.{HaveTextNames}
 use Rattle.smithy_schema.specs.Views.{member_of, shape_of, declaration_of}
 

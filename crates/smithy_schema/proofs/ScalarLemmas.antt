@@ -5,11 +5,11 @@ use Rattle.std.proofs.lemmas.Bool.{and_parts}
 use Rattle.std.proofs.lemmas.Int.{ints}
 use Rattle.std.proofs.lemmas.Str.{IsUtf8-from_is_utf8}
 use Rattle.smithy_texts.specs.Base64Text.{are_bytes}
-use Rattle.smithy_texts.specs.Ranges.{fits_signed}
+use Rattle.smithy_texts.specs.Ranges.{fits_signed, is_exponent}
 use Rattle.smithy_schema.specs.declared.shape_type.Scalar.{Scalar}
 use Rattle.smithy_schema.specs.declared.shape_type.Scalar.TheVariants as scalars
 use Rattle.smithy_schema.specs.Table.{Kind, scalar}
-use Rattle.smithy_schema.specs.Value.{ScalarValue, whole, text, bytes}
+use Rattle.smithy_schema.specs.Value.{ScalarValue, whole, text, bytes, decimal}
 use Rattle.smithy_schema.specs.Fits.{is_of, is_scalar_of}
 
 -- where a scalar value stands, the kind is one of scalars
@@ -30,13 +30,19 @@ between p q n wider h =
 pub fits_more : (bits more : ℕ) (n : ℤ) → 2 ^ (bits - 1) ≤ 2 ^ (more - 1) → fits_signed bits n ≡ true → fits_signed more n ≡ true
 fits_more bits more n wider h = between (2 ^ (bits - 1)) (2 ^ (more - 1)) n wider h
 
--- a whole number of any kind fits 64 bits
-pub whole_fits : (s : Scalar) (n : ℤ) → is_of s (whole n) ≡ true → fits_signed 64 n ≡ true
-whole_fits scalars.Byte n h = fits_more 8 64 n (lit≤ tt) h
-whole_fits scalars.Short n h = fits_more 16 64 n (lit≤ tt) h
-whole_fits scalars.Integer n h = fits_more 32 64 n (lit≤ tt) h
-whole_fits scalars.Long n h = h
+-- a whole number of any kind fits 128 bits
+pub whole_fits : (s : Scalar) (n : ℤ) → is_of s (whole n) ≡ true → fits_signed 128 n ≡ true
+whole_fits scalars.Byte n h = fits_more 8 128 n (lit≤ tt) h
+whole_fits scalars.Short n h = fits_more 16 128 n (lit≤ tt) h
+whole_fits scalars.Integer n h = fits_more 32 128 n (lit≤ tt) h
+whole_fits scalars.Long n h = fits_more 64 128 n (lit≤ tt) h
+whole_fits scalars.BigInteger n h = h
 whole_fits _ n h = cc
+
+-- a decimal of any kind is within the limits of its parts
+pub decimal_fits : (s : Scalar) (m e : ℤ) → is_of s (decimal m e) ≡ true → (fits_signed 128 m ≡ true) × (is_exponent e ≡ true)
+decimal_fits scalars.BigDecimal m e h = and_parts (fits_signed 128 m) (is_exponent e) h
+decimal_fits _ m e h = cc
 
 -- a text of any kind is in UTF-8
 pub text_is_utf8 : (s : Scalar) (t : List ℕ) → is_of s (text t) ≡ true → IsUtf8 t

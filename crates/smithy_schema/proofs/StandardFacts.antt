@@ -190,9 +190,18 @@ equals_in_a_text = refl
 -- ---- refused declarations
 
 -- a target that no table can have yet
-pub no_big_integer_yet : table_of (lines ("structure S" ∷ "member a bigInteger" ∷ [])) ≡ refused Fault.not_built 1
+pub no_instant_yet : table_of (lines ("structure S" ∷ "member a timestamp" ∷ [])) ≡ refused Fault.not_built 1
 unfolding smithy_schema_on_literals
-no_big_integer_yet = refl
+no_instant_yet = refl
+
+-- big numbers are targets, and no names of declarations
+pub big_numbers_are_built : table_of (lines ("structure S" ∷ "member a bigInteger" ∷ "list L bigDecimal" ∷ "map M float" ∷ [])) ≡ refused Fault.float_shape 3
+unfolding smithy_schema_on_literals
+big_numbers_are_built = refl
+
+pub big_integer_is_reserved : table_of (lines ("structure S" ∷ "list bigInteger long" ∷ [])) ≡ refused Fault.duplicate_shape 2
+unfolding smithy_schema_on_literals
+big_integer_is_reserved = refl
 
 -- nor can a union's member or a map's values have one
 pub no_document_yet : table_of (lines ("union U" ∷ "member a document" ∷ [])) ≡ refused Fault.not_built 1
@@ -224,7 +233,7 @@ unfolding smithy_schema_on_literals
 double_target = refl
 
 -- what isn't built comes before a float
-pub unbuilt_before_float : table_of (lines ("list L float" ∷ "map M bigDecimal" ∷ [])) ≡ refused Fault.not_built 2
+pub unbuilt_before_float : table_of (lines ("list L float" ∷ "map M timestamp" ∷ [])) ≡ refused Fault.not_built 2
 unfolding smithy_schema_on_literals
 unbuilt_before_float = refl
 

@@ -1,11 +1,11 @@
 -- What a reader tells, the relations of a wire, the laws that they obey, and what a call does.
-use Rattle.std.specs.Prelude.{◌≡◌, ◌⊎◌, ◌↔◌, ◌<◌, ◌≤◌, ◌&&◌, ℕ, suc, ◌+◌, length, drop, List, [], ◌∷◌, map, Option, Some, None, Bool, true, false, option_and_then, Result, Ok, Err, IsErrOf, OnErr, IfOk}
+use Rattle.std.specs.Prelude.{◌≡◌, ◌⊎◌, ◌↔◌, ◌<◌, ◌≤◌, ◌&&◌, ℕ, zero, suc, ◌+◌, length, drop, List, [], ◌∷◌, map, Option, Some, None, Bool, true, false, option_and_then, Result, Ok, Err, IsErrOf, OnErr, IfOk}
 use Rattle.smithy_schema.specs.declared.place.Place.{Place}
 use Rattle.smithy_schema.specs.declared.shape_type.Scalar.{Scalar}
 use Rattle.smithy_schema.specs.declared.read.Step.{Step}
 use Rattle.smithy_schema.specs.declared.read.Step.TheVariants.{Member as ToMember, Unknown, End}
 use Rattle.smithy_schema.specs.declared.error.SerdeError.{SerdeError}
-use Rattle.smithy_schema.specs.declared.error.SerdeError.TheVariants.{InvalidInput, TooDeep, Unwritable, Failed, NoMemory}
+use Rattle.smithy_schema.specs.declared.error.SerdeError.TheVariants.{InvalidInput, TooDeep, TooWide, Unwritable, Failed, NoMemory}
 use Rattle.smithy_schema.specs.Table.{Table, Kind, structure_of, union_of, list_of, map_of, kind_of, place_in, scalar_place, IsStructure, IsSparse}
 use Rattle.smithy_schema.specs.Value.{ScalarValue, Value, scalar_value}
 use Rattle.smithy_schema.specs.Fits.{Fits}
@@ -60,6 +60,8 @@ pub record Relations : Type 1 where
   pub stands : List ℕ → Table → Place → ℕ → ℕ → Value → ℕ → Type 0
   pub nulls : List ℕ → ℕ → ℕ → ℕ → Type 0
   pub skips : List ℕ → ℕ → ℕ → ℕ → Type 0
+  -- from a to e stands a big number of the place's kind that leaves the limits of the kind
+  pub exceeds : List ℕ → Table → Place → ℕ → ℕ → ℕ → Type 0
   -- a container of the place begins at a, and its inside at b with a mark
   pub opens : List ℕ → Table → Place → ℕ → ℕ → ℕ → Mark → Type 0
   -- from b on with a mark the next entry that isn't dropped has a key, or none in a list, and its
@@ -231,6 +233,7 @@ pub record IsBelow (w u : Relations) : Type 0 where
 abbrev pub IsFault : SerdeError → Type 0
 IsFault InvalidInput = Unit {0}
 IsFault TooDeep = Unit {0}
+IsFault TooWide = Unit {0}
 IsFault Unwritable = Unit {0}
 IsFault Failed = ⊥
 IsFault NoMemory = ⊥
@@ -244,6 +247,7 @@ abbrev pub IsInvalid : {A : Type 0} → Result A SerdeError → Type 0
 IsInvalid (Ok x) = ⊥
 IsInvalid (Err InvalidInput) = Unit {0}
 IsInvalid (Err TooDeep) = ⊥
+IsInvalid (Err TooWide) = ⊥
 IsInvalid (Err Unwritable) = ⊥
 IsInvalid (Err Failed) = ⊥
 IsInvalid (Err NoMemory) = ⊥
@@ -253,6 +257,7 @@ abbrev pub IsNoAnswer : {A : Type 0} → Result A SerdeError → Type 0
 IsNoAnswer (Ok x) = ⊥
 IsNoAnswer (Err InvalidInput) = Unit {0}
 IsNoAnswer (Err TooDeep) = ⊥
+IsNoAnswer (Err TooWide) = ⊥
 IsNoAnswer (Err Unwritable) = ⊥
 IsNoAnswer (Err Failed) = Unit {0}
 IsNoAnswer (Err NoMemory) = Unit {0}
@@ -289,14 +294,34 @@ pub record Reads (w : Relations) (old new : Cursor) (t : Table) (p : Place) (v :
 abbrev pub StandsNot : Relations → Cursor → Table → Place → Type 0
 StandsNot w c t p = (v : Value) (e : ℕ) → w.stands c.input t p (depth c) c.at v e → ⊥
 
+-- a big number that leaves the limits of the place's kind stands where the reader is
+abbrev pub Exceeds : Relations → Cursor → Table → Place → Type 0
+Exceeds w c t p = (e : ℕ) × w.exceeds c.input t p (depth c) c.at e
+
+-- the second place lies so many steps inside of the first, each to a member, an element or a map's value
+abbrev pub IsInside : Table → Place → ℕ → Place → Type 0
+IsInside t p zero q = q ≡ p
+IsInside t p (suc k) q = (child : Place) × (n : Option ℕ) × (place_in (kind_of t p) n ≡ Some child) × IsInside t child k q
+
+-- such a number stands where the reader is now, at a place as far inside of this one as the reader has gone
+abbrev pub ExceedsInside : Relations → Cursor → Cursor → Table → Place → Type 0
+ExceedsInside w old new t p = (q : Place) × (k : ℕ) × (depth new ≡ depth old + k) × IsInside t p k q × Exceeds w new t q
+
 -- What a read of one scalar kind says of its answer: by the relations w, and by u, those with the limits lifted.
 pub record ReadsScalar {A : Type 0} (w u : Relations) (is_strict : Type 0) (old new : Cursor) (site : Site) (s : Scalar) (value : A → ScalarValue) (result : Result A SerdeError) : Type 0 where
   pub conduct : Conducts old new result
   pub shallow : IsErrOf result TooDeep → ⊥
+  pub wide : IsErrOf result TooWide → Exceeds w old site.table (scalar_place s site.place.time)
   pub undue : old.due ≡ false → IsNoAnswer result
   pub ok : IfOk result (λ x. Reads w old new site.table (scalar_place s site.place.time) (scalar_value (value x)))
   pub refused : IsRefused result → old.due ≡ true → StandsNot w old site.table (scalar_place s site.place.time)
   pub would : is_strict → IsInvalid result → old.due ≡ true → StandsNot u old site.table (scalar_place s site.place.time)
+
+-- A read of a big number answers `TooWide` wherever one stands that leaves its limits, want of memory aside.
+abbrev pub AnswersWide : {A : Type 0} → Relations → Cursor → Site → Scalar → Result A SerdeError → Type 0
+AnswersWide w old site s result =
+    old.due ≡ true → old.failed ≡ false → Exceeds w old site.table (scalar_place s site.place.time)
+    → IsErrOf result TooWide ⊎ IsErrOf result NoMemory
 
 abbrev pub OpensNot : Relations → Cursor → Table → Place → Type 0
 OpensNot w c t p = (b : ℕ) (m : Mark) → w.opens c.input t p (depth c) c.at b m → ⊥

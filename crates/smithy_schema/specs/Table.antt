@@ -117,6 +117,8 @@ scalar_type scalars.Integer = types.Integer
 scalar_type scalars.Long = types.Long
 scalar_type scalars.String = types.String
 scalar_type scalars.Blob = types.Blob
+scalar_type scalars.BigInteger = types.BigInteger
+scalar_type scalars.BigDecimal = types.BigDecimal
 
 -- the kind without what is in it; a place of no declaration has none
 abbrev pub type_of : Kind → Option ShapeType

@@ -6,11 +6,13 @@ use Rattle.std.specs.Cmp.Lexicographic.{slice_cmp}
 -- a value without parts
 pub data ScalarValue : Type 0 where
   boolean : Bool → ScalarValue
-  -- of each integer kind
+  -- of each integer kind, big integers too
   whole : ℤ → ScalarValue
   -- in UTF-8
   text : List ℕ → ScalarValue
   bytes : List ℕ → ScalarValue
+  -- mantissa and exponent, as they are given: 12300 and -4 is another value than 123 and -2
+  decimal : ℤ → ℤ → ScalarValue
 
 -- the text that a scalar is, if it is one
 abbrev pub text_in : ScalarValue → Option (List ℕ)

@@ -19,6 +19,9 @@ pub data Event : Type 0 where
   null_of : Site → Event
   -- where a map's key is due, a text is that key
   scalar_of : Site → ScalarValue → Event
+  -- by the text that the number keeps
+  big_integer_of : Site → List ℕ → Event
+  big_decimal_of : Site → List ℕ → Event
 
 -- what an event makes of a serializer's state, or why it can't be written there
 abbrev pub Writer : Type 0 → Type 0
@@ -131,6 +134,8 @@ open_after (begin_map site n) os = after_begin open_map_at_key os
 open_after end_map os = after_end_map os
 open_after (null_of site) os = after_value os
 open_after (scalar_of site x) os = after_scalar x os
+open_after (big_integer_of site written) os = after_value os
+open_after (big_decimal_of site written) os = after_value os
 
 -- Each wire keeps its open containers by its calls, and refuses what no serializer takes.
 pub record IsNested {S : Type 0} (after : Writer S) (open_in : S → List Open) : Type 0 where

@@ -14,6 +14,9 @@ pub enum SerdeError {
     /// The call opens one container more than the codec's depth allows.
     #[error("TooDeep")]
     TooDeep,
+    /// A big number stands here that leaves the limits of its kind, or is to be written and leaves those of the wire.
+    #[error("TooWide")]
+    TooWide,
     /// The value or the state of the writer is one that the wire can't write.
     #[error("Unwritable")]
     Unwritable,

@@ -19,6 +19,10 @@ pub enum Scalar {
     String,
     /// Any bytes.
     Blob,
+    /// A whole number from -2^127 to 2^127-1.
+    BigInteger,
+    /// A mantissa from -2^127 to 2^127-1, times ten to an exponent from -(2^63-1) to 2^63-1.
+    BigDecimal,
 }
 
 impl Scalar {
@@ -34,6 +38,8 @@ impl Scalar {
             Scalar::Long => ShapeType::Long,
             Scalar::String => ShapeType::String,
             Scalar::Blob => ShapeType::Blob,
+            Scalar::BigInteger => ShapeType::BigInteger,
+            Scalar::BigDecimal => ShapeType::BigDecimal,
         }
     }
 }
@@ -48,6 +54,8 @@ pub enum ShapeType {
     Long,
     String,
     Blob,
+    BigInteger,
+    BigDecimal,
     List,
     Map,
     Structure,

@@ -19,7 +19,7 @@ const ACCEPTED: [&str; 11] = [
     "map M string value=v time=date-time sparse key=k\nstructure S\nmember m M flat",
 ];
 
-const REFUSED: [(&str, TableFault); 43] = [
+const REFUSED: [(&str, TableFault); 44] = [
     ("member a long", TableFault::BadLine(1)),
     (
         "structure S\nlist L long\nmember a long",
@@ -33,11 +33,15 @@ const REFUSED: [(&str, TableFault); 43] = [
         TableFault::BadLine(2),
     ),
     ("structure S\nmember a long json=", TableFault::BadLine(2)),
-    ("structure S\nmember a bigInteger", TableFault::NotBuilt(1)),
+    ("structure S\nmember a timestamp", TableFault::NotBuilt(1)),
     ("list L long flat", TableFault::BadLine(1)),
     ("list L long sparse sparse", TableFault::BadLine(1)),
     ("union U\nmember a document", TableFault::NotBuilt(1)),
     ("list L b\nmap M timestamp", TableFault::NotBuilt(2)),
+    (
+        "list L bigInteger\nmap bigDecimal bigDecimal",
+        TableFault::DuplicateShape(2),
+    ),
     ("union U a", TableFault::BadLine(1)),
     ("map M long flat", TableFault::BadLine(1)),
     ("map M long xml=x", TableFault::BadLine(1)),

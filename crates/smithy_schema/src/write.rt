@@ -3,13 +3,13 @@ ghost use Rattle.std.specs.Prelude.{◌++◌, ◌≡◌, ◌≢◌, ◌↔◌, �
 ghost use Rattle.smithy_schema.specs.declared.error.SerdeError.{SerdeError};
 ghost use Rattle.smithy_schema.specs.declared.error.SerdeError.TheVariants.{Failed, NoMemory, Unwritable};
 ghost use Rattle.smithy_schema.specs.Site.{site_of};
-ghost use Rattle.smithy_schema.specs.Value.{boolean, whole, text, bytes};
+ghost use Rattle.smithy_schema.specs.Value.{boolean, whole, text, bytes, decimal};
 ghost use Rattle.smithy_schema.specs.Reading.{IsFault};
-ghost use Rattle.smithy_schema.specs.Writing.{Event, Writer, Open, IsNested, begin_structure, end_structure, begin_list as list_begins, end_list as list_ends, begin_map as map_begins, end_map as map_ends, null_of, scalar_of};
+ghost use Rattle.smithy_schema.specs.Writing.{Event, Writer, Open, IsNested, begin_structure, end_structure, begin_list as list_begins, end_list as list_ends, begin_map as map_begins, end_map as map_ends, null_of, scalar_of, big_integer_of, big_decimal_of};
 
 use crate::error::SerdeError;
 use crate::schema::Schema;
-use smithy_types::Blob;
+use smithy_types::{BigDecimal, BigInteger, Blob};
 
 /// A writer of one output, which is told of a value call by call, each with the schema of its place.
 ///
@@ -144,6 +144,48 @@ pub trait ShapeSerializer {
     {
         self.write_bytes(schema, value.as_ref())
     }
+
+    /// Writes a whole number of 128 bits, which need not stand in a text.
+    fn write_i128(&mut self, schema: &Schema<'_>, value: i128) -> Result<(), SerdeError>
+        ensures failed { IsErrOf result Failed ↔ (failed self.old ≡ true) }
+        ensures broken { IsErr result ↔ (failed self.new ≡ true) }
+        ensures ok { OnOk result (after (scalar_of (site_of schema.now) (whole value)) (state self.old) ≡ Ok (state self.new)) }
+        ensures refused { IfErr result (λ e. IsFault e → after (scalar_of (site_of schema.now) (whole value)) (state self.old) ≡ Err e) };
+
+    /// Writes the decimal number of a mantissa and a power of ten, which need not stand in a text.
+    fn write_decimal(
+        &mut self,
+        schema: &Schema<'_>,
+        mantissa: i128,
+        exponent: i64,
+    ) -> Result<(), SerdeError>
+        ensures failed { IsErrOf result Failed ↔ (failed self.old ≡ true) }
+        ensures broken { IsErr result ↔ (failed self.new ≡ true) }
+        ensures ok { OnOk result (after (scalar_of (site_of schema.now) (decimal mantissa exponent)) (state self.old) ≡ Ok (state self.new)) }
+        ensures refused { IfErr result (λ e. IsFault e → after (scalar_of (site_of schema.now) (decimal mantissa exponent)) (state self.old) ≡ Err e) };
+
+    /// Writes a whole number of any size, by the text that it keeps: `Unwritable` where the wire can't carry this text, and
+    /// `TooWide` where the number leaves what the wire can write.
+    fn write_big_integer(
+        &mut self,
+        schema: &Schema<'_>,
+        value: &BigInteger,
+    ) -> Result<(), SerdeError>
+        ensures failed { IsErrOf result Failed ↔ (failed self.old ≡ true) }
+        ensures broken { IsErr result ↔ (failed self.new ≡ true) }
+        ensures ok { OnOk result (after (big_integer_of (site_of schema.now) value.now) (state self.old) ≡ Ok (state self.new)) }
+        ensures refused { IfErr result (λ e. IsFault e → after (big_integer_of (site_of schema.now) value.now) (state self.old) ≡ Err e) };
+
+    /// The same of a decimal number.
+    fn write_big_decimal(
+        &mut self,
+        schema: &Schema<'_>,
+        value: &BigDecimal,
+    ) -> Result<(), SerdeError>
+        ensures failed { IsErrOf result Failed ↔ (failed self.old ≡ true) }
+        ensures broken { IsErr result ↔ (failed self.new ≡ true) }
+        ensures ok { OnOk result (after (big_decimal_of (site_of schema.now) value.now) (state self.old) ≡ Ok (state self.new)) }
+        ensures refused { IfErr result (λ e. IsFault e → after (big_decimal_of (site_of schema.now) value.now) (state self.old) ≡ Err e) };
 
     // No call takes back a byte.
     ghost grows: { (e : Event) (s t : State) → after e s ≡ Ok t → (more : List ℕ) × (out t ≡ out s ++ more) };

@@ -1,25 +1,26 @@
 -- A reader that begins a body, and what it reads there, as what the whole input spells.
 use Rattle.std.proofs.Common.{◌≡◌, ◌≤◌, ◌<◌, ℕ, List, Bool, [], ◌∷◌, length, Result, Ok, Err, IsErrOf, refl, sym, ◌∙◌, ap, subst, arith}
 use Rattle.smithy_schema.specs.declared.error.SerdeError.{SerdeError}
-use Rattle.smithy_schema.specs.declared.error.SerdeError.TheVariants.{InvalidInput, TooDeep, Unwritable, Failed, NoMemory}
+use Rattle.smithy_schema.specs.declared.error.SerdeError.TheVariants.{InvalidInput, TooDeep, TooWide, Unwritable, Failed, NoMemory}
 use Rattle.smithy_schema.specs.declared.schema.Schema.{Schema}
 use Rattle.smithy_schema.specs.Table.{Table, kind_of, shape_place, IsStructure}
 use Rattle.smithy_schema.specs.Site.{Site, site_of, shape_site}
 use Rattle.smithy_schema.specs.Value.{Value, structure, no_member_values}
-use Rattle.smithy_schema.specs.Reading.{Cursor, depth, Relations, Reads, StandsNot, ReachesDepth, IsCounted, IsRefused}
+use Rattle.smithy_schema.specs.Reading.{Cursor, depth, Relations, Reads, StandsNot, ReachesDepth, ExceedsInside, IsCounted, IsRefused}
 use Rattle.smithy_schema.proofs.CountLemmas.{starts_counted, reaches_openers}
 use Rattle.smithy_wire.specs.Walking.{fresh_cursor}
 use Rattle.smithy_json_codec.specs.Codec.{strict_settings}
-use Rattle.smithy_json_codec.specs.Settings.{Settings, without_limits}
+use Rattle.smithy_json_codec.specs.Settings.{Settings, keep_limits, without_limits}
 use Rattle.smithy_json_codec.specs.Standing.{json_relations}
 use Rattle.smithy_cbor_codec.specs.Codec.{strict_settings as strict_cbor}
-use Rattle.smithy_cbor_codec.specs.Settings.{Settings as CborSettings, without_limits as without_cbor_limits}
+use Rattle.smithy_cbor_codec.specs.Settings.{Settings as CborSettings, keep_limits as keep_cbor_limits, without_limits as without_cbor_limits}
 use Rattle.smithy_cbor_codec.specs.Standing.{cbor_relations}
 use Rattle.smithy_transcode.specs.Wires.{Wire, json, cbor}
-use Rattle.smithy_transcode.specs.Causes.{openers}
+use Rattle.smithy_transcode.specs.Causes.{openers, IsWide}
 use Rattle.smithy_transcode.specs.Spelling.{Spells}
-use Rattle.smithy_transcode.specs.Transcoding.{SpellNothing, SpellNothingAtAnyDepth}
-use Rattle.smithy_transcode.proofs.Spelled.{IsReadable, relations_of, lifted_of, StandsFirst, stands_is_spelled, spelled_stands, spelled_stands_at_any_depth, empty_is_spelled, openers_are}
+use Rattle.smithy_transcode.specs.Transcoding.{SpellNothing, SpellNothingWithoutLimits}
+use Rattle.smithy_transcode.proofs.WideBodies.{inside_is_wide}
+use Rattle.smithy_transcode.proofs.Spelled.{IsReadable, relations_of, lifted_of, StandsFirst, stands_is_spelled, spelled_stands, spelled_stands_without_limits, empty_is_spelled, openers_are}
 
 -- a reader with these relations stands at the start of a body of the root, whose schema is at hand
 pub record Begins (w : Wire) (r l : Relations) (max : ℕ) (old : Cursor) (s : Schema) (t : Table) (root : ℕ) (i : List ℕ) : Type 1 where
@@ -33,9 +34,9 @@ pub record Begins (w : Wire) (r l : Relations) (max : ℕ) (old : Cursor) (s : S
 
 pub json_begins : (w : Wire) (b : Bool) (o : Settings) (old : Cursor) (s : Schema) (t : Table) (root : ℕ) (i : List ℕ) → w ≡ json b → o ≡ strict_settings b
     → old ≡ fresh_cursor i → site_of s ≡ shape_site t root → IsStructure (kind_of t (shape_place root))
-    → Begins w (json_relations o) (json_relations (without_limits o)) o.max_depth old s t root i
+    → Begins w (json_relations (keep_limits o)) (json_relations (without_limits o)) o.max_depth old s t root i
 json_begins w b o old s t root i wire same fresh site kind = record {
-  keeps = ap json_relations same ∙ sym (ap relations_of wire);
+  keeps = ap (λ c. json_relations (keep_limits c)) same ∙ sym (ap relations_of wire);
   lifts = ap (λ c. json_relations (without_limits c)) same ∙ sym (ap lifted_of wire);
   greatest = ap (λ (c : Settings). c.max_depth) same;
   fresh = fresh;
@@ -46,9 +47,9 @@ json_begins w b o old s t root i wire same fresh site kind = record {
 
 pub cbor_begins : (w : Wire) (o : CborSettings) (old : Cursor) (s : Schema) (t : Table) (root : ℕ) (i : List ℕ) → w ≡ cbor → o ≡ strict_cbor
     → old ≡ fresh_cursor i → site_of s ≡ shape_site t root → IsStructure (kind_of t (shape_place root))
-    → Begins w (cbor_relations o) (cbor_relations (without_cbor_limits o)) o.max_depth old s t root i
+    → Begins w (cbor_relations (keep_cbor_limits o)) (cbor_relations (without_cbor_limits o)) o.max_depth old s t root i
 cbor_begins w o old s t root i wire same fresh site kind = record {
-  keeps = ap cbor_relations same ∙ sym (ap relations_of wire);
+  keeps = ap (λ c. cbor_relations (keep_cbor_limits c)) same ∙ sym (ap relations_of wire);
   lifts = ap (λ c. cbor_relations (without_cbor_limits c)) same ∙ sym (ap lifted_of wire);
   greatest = ap (λ (c : CborSettings). c.max_depth) same;
   fresh = fresh;
@@ -79,10 +80,10 @@ module _ {w : Wire} {r l : Relations} {max : ℕ} {old : Cursor} {s : Schema} {t
       stood (relations_of w) v kept (spelled_stands w t root i v h)
 
   -- and nothing of any depth, where nothing stands with the limits lifted
-  pub unread_spells_nothing_at_any_depth : StandsNot l old s.shapes.now s.place → SpellNothingAtAnyDepth w t root i
-  unread_spells_nothing_at_any_depth none v h =
+  pub unread_spells_nothing_without_limits : StandsNot l old s.shapes.now s.place → SpellNothingWithoutLimits w t root i
+  unread_spells_nothing_without_limits none v h =
       let lifted : StandsNot (lifted_of w) old s.shapes.now s.place = subst (λ z. StandsNot z old s.shapes.now s.place) begins.lifts none in
-      stood (lifted_of w) v lifted (spelled_stands_at_any_depth w t root i v h)
+      stood (lifted_of w) v lifted (spelled_stands_without_limits w t root i v h)
 
   -- an input that spells nothing isn't empty
   spells_nothing_is_some : (j : List ℕ) → i ≡ j → SpellNothing w t root i → 0 < length j
@@ -107,7 +108,17 @@ module _ {w : Wire} {r l : Relations} {max : ℕ} {old : Cursor} {s : Schema} {t
       → (IsCounted r old → IsCounted r new) → (IsErrOf answer TooDeep → ReachesDepth r max new) → IsErrOf answer TooDeep → 128 ≤ openers w i
   deep_opens (Ok x) new refused unmoved counted deep is = absurd (let both : Ok x ≡ Err TooDeep = is in cc)
   deep_opens (Err TooDeep) new refused unmoved counted deep is = opens_as_many new (refused tt) unmoved counted (deep is)
+  deep_opens (Err TooWide) new refused unmoved counted deep is = absurd (let both : Err TooWide ≡ Err TooDeep = is in cc)
   deep_opens (Err InvalidInput) new refused unmoved counted deep is = absurd (let both : Err InvalidInput ≡ Err TooDeep = is in cc)
   deep_opens (Err Unwritable) new refused unmoved counted deep is = absurd (let both : Err Unwritable ≡ Err TooDeep = is in cc)
   deep_opens (Err Failed) new refused unmoved counted deep is = absurd (let both : Err Failed ≡ Err TooDeep = is in cc)
   deep_opens (Err NoMemory) new refused unmoved counted deep is = absurd (let both : Err NoMemory ≡ Err TooDeep = is in cc)
+
+  -- where a number left its limits, the input has one that does
+  pub exceeds_is_wide : {A : Type 0} (answer : Result A SerdeError) (new : Cursor) → new.input ≡ old.input → (IsErrOf answer TooWide → ExceedsInside r old new s.shapes.now s.place)
+      → IsErrOf answer TooWide → IsWide w t i
+  exceeds_is_wide answer new unmoved wide is =
+      let whole : new.input ≡ i = unmoved ∙ ap (λ (c : Cursor). c.input) begins.fresh in
+      let here : ExceedsInside r old new t (shape_place root) = subst (λ (x : Site). ExceedsInside r old new x.table x.place) begins.site (wide is) in
+      let kept : ExceedsInside (relations_of w) old new t (shape_place root) = subst (λ z. ExceedsInside z old new t (shape_place root)) begins.keeps here in
+      subst (λ j. IsWide w t j) whole (inside_is_wide w t root old new begins.read begins.kind kept)

@@ -13,6 +13,8 @@ mod ReadMaps
 mod ReadStructures
 mod ReadUnions
 mod ReadViews
+mod ReadWide
+mod WideBodies
 pub mod Spelled
 mod Structures
 pub mod Transcodings

@@ -12,7 +12,7 @@ use Rattle.smithy_cbor_codec.specs.Settings.{without_limits as without_cbor_limi
 use Rattle.smithy_cbor_codec.specs.Standing.{cbor_relations}
 use Rattle.smithy_cbor_codec.proofs.SpellingLemmas.{stands_spells as cbor_stands_spells, spells_stands as cbor_spells_stands}
 use Rattle.smithy_transcode.specs.Wires.{Wire, json, cbor, query}
-use Rattle.smithy_transcode.specs.Spelling.{Spells, SpellsAtAnyDepth}
+use Rattle.smithy_transcode.specs.Spelling.{Spells, SpellsWithoutLimits}
 use Rattle.smithy_transcode.specs.Causes.{openers}
 
 -- bodies of the wire are read
@@ -45,11 +45,11 @@ spelled_stands (json b) t root i v h = spells_stands (strict_settings b) t (shap
 spelled_stands cbor t root i v h = cbor_spells_stands strict_cbor t (shape_place root) i v h
 spelled_stands (query action version) t root i v h = absurd h
 
-pub spelled_stands_at_any_depth : (w : Wire) (t : Table) (root : ℕ) (i : List ℕ) (v : Value) → SpellsAtAnyDepth w t root i v
+pub spelled_stands_without_limits : (w : Wire) (t : Table) (root : ℕ) (i : List ℕ) (v : Value) → SpellsWithoutLimits w t root i v
     → StandsFirst (lifted_of w) t root i v
-spelled_stands_at_any_depth (json b) t root i v h = spells_stands (without_limits (strict_settings b)) t (shape_place root) i v h
-spelled_stands_at_any_depth cbor t root i v h = cbor_spells_stands (without_cbor_limits strict_cbor) t (shape_place root) i v h
-spelled_stands_at_any_depth (query action version) t root i v h = absurd h
+spelled_stands_without_limits (json b) t root i v h = spells_stands (without_limits (strict_settings b)) t (shape_place root) i v h
+spelled_stands_without_limits cbor t root i v h = cbor_spells_stands (without_cbor_limits strict_cbor) t (shape_place root) i v h
+spelled_stands_without_limits (query action version) t root i v h = absurd h
 
 -- an empty input spells the structure without members
 pub empty_is_spelled : (w : Wire) (t : Table) (root : ℕ) → IsReadable w → IsStructure (kind_of t (shape_place root))

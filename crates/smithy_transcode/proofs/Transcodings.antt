@@ -18,16 +18,16 @@ use Rattle.smithy_cbor_codec.proofs.SpellingLemmas.{one_spelled as one_cbor_spel
 use Rattle.smithy_cbor_codec.proofs.WrittenSpelling.{spelled_fits as cbor_fits, shallow as cbor_shallow, canonical_spells as cbor_spells_again}
 use Rattle.smithy_transcode.specs.declared.wire.Unfit.{Unfit}
 use Rattle.smithy_transcode.specs.declared.wire.TranscodeError.{TranscodeError}
-use Rattle.smithy_transcode.specs.declared.wire.TranscodeError.TheVariants.{InvalidInput, TooDeep, Inexpressible, NoMemory}
+use Rattle.smithy_transcode.specs.declared.wire.TranscodeError.TheVariants.{InvalidInput, TooDeep, TooWide, Inexpressible, NoMemory}
 use Rattle.smithy_transcode.specs.Wires.{Wire, json, cbor, query, wire_of, unfit}
-use Rattle.smithy_transcode.specs.Causes.{openers}
+use Rattle.smithy_transcode.specs.Causes.{openers, IsWide}
 use Rattle.smithy_transcode.specs.Refusal.{Tells}
 use Rattle.smithy_transcode.specs.Spelling.{Spells, body}
 use Rattle.smithy_transcode.specs.declared.wire.Wire as kept
 use Rattle.smithy_transcode.specs.declared.wire.Wire.TheVariants as wires
 use Rattle.smithy_query_codec.proofs.ByteLemmas.{utf8_bytes}
 use Rattle.std.proofs.lemmas.Str.{IsUtf8-string_bytes}
-use Rattle.smithy_transcode.specs.Transcoding.{Transcodes, SpellNothing, SpellNothingAtAnyDepth, SpellsAlone, TellsAgain}
+use Rattle.smithy_transcode.specs.Transcoding.{Transcodes, SpellNothing, SpellNothingWithoutLimits, SpellsAlone, TellsAgain}
 use Rattle.smithy_transcode.specs.Private.Positions.{CanCount}
 use Rattle.smithy_transcode.proofs.Bodies.{form_tells}
 
@@ -40,9 +40,9 @@ one_value (query action version) t root i v u h k = absurd h
 -- what is spelled is a value of the root, and nests no deeper than may be read
 pub spelled_is_small : (w : Wire) (t : Table) (root : ℕ) (i : List ℕ) (v : Value) → Spells w t root i v → Fits t (shape_place root) v × (nesting v ≤ 128)
 spelled_is_small (json b) t root i v h =
-    (spelled_fits (strict_settings b) t (shape_place root) i v h, shallow (strict_settings b) t (shape_place root) i v refl h)
+    (spelled_fits (strict_settings b) t (shape_place root) i v refl h, shallow (strict_settings b) t (shape_place root) i v refl h)
 spelled_is_small cbor t root i v h =
-    (cbor_fits strict_cbor t (shape_place root) i v h, cbor_shallow strict_cbor t (shape_place root) i v refl h)
+    (cbor_fits strict_cbor t (shape_place root) i v refl h, cbor_shallow strict_cbor t (shape_place root) i v refl h)
 spelled_is_small (query action version) t root i v h = absurd h
 
 -- the action and the version of a form are texts of bytes
@@ -85,8 +85,9 @@ no_memory t root from i to = record {
   unfit_is_refused = λ v u h lack. tt;
   answers_inexpressible = λ u h. absurd (let x : Err NoMemory ≡ Err (Inexpressible u) = h in cc);
   answers_invalid_input = λ h. absurd (let x : Err NoMemory ≡ Err InvalidInput = h in cc);
-  answers_invalid_at_any_depth = λ h. absurd (let x : Err NoMemory ≡ Err InvalidInput = h in cc);
+  answers_invalid_without_limits = λ h. absurd (let x : Err NoMemory ≡ Err InvalidInput = h in cc);
   answers_too_deep = λ h. absurd (let x : Err NoMemory ≡ Err TooDeep = h in cc);
+  answers_too_wide = λ h. absurd (let x : Err NoMemory ≡ Err TooWide = h in cc);
 }
 
 -- the body of a spelled value is an answer
@@ -105,8 +106,9 @@ written t root from i to v out accepted kind spelled fit counts texts ok short =
   unfit_is_refused = λ u w h lack. absurd (not_both (unfit to v) w fit (ap (unfit to) (one_value from t root i v u spelled h) ∙ lack));
   answers_inexpressible = λ u h. absurd (let e : Ok out ≡ Err (Inexpressible u) = h in cc);
   answers_invalid_input = λ h. absurd (let e : Ok out ≡ Err InvalidInput = h in cc);
-  answers_invalid_at_any_depth = λ h. absurd (let e : Ok out ≡ Err InvalidInput = h in cc);
+  answers_invalid_without_limits = λ h. absurd (let e : Ok out ≡ Err InvalidInput = h in cc);
   answers_too_deep = λ h. absurd (let e : Ok out ≡ Err TooDeep = h in cc);
+  answers_too_wide = λ h. absurd (let e : Ok out ≡ Err TooWide = h in cc);
 }
 
 -- and so is what the wire can't express of it
@@ -118,38 +120,51 @@ lacking t root from i to v u spelled lack = record {
   unfit_is_refused = λ w x h other. same_unfit (unfit to v) x u (ap (unfit to) (one_value from t root i v w spelled h) ∙ other) lack;
   answers_inexpressible = λ w h. let same : u ≡ w = cc in (v, spelled, lack ∙ ap Some same);
   answers_invalid_input = λ h. absurd (let e : Err (Inexpressible u) ≡ Err InvalidInput = h in cc);
-  answers_invalid_at_any_depth = λ h. absurd (let e : Err (Inexpressible u) ≡ Err InvalidInput = h in cc);
+  answers_invalid_without_limits = λ h. absurd (let e : Err (Inexpressible u) ≡ Err InvalidInput = h in cc);
   answers_too_deep = λ h. absurd (let e : Err (Inexpressible u) ≡ Err TooDeep = h in cc);
+  answers_too_wide = λ h. absurd (let e : Err (Inexpressible u) ≡ Err TooWide = h in cc);
 }
 
 -- and so is a refusal of the input
 told : (t : Table) (root : ℕ) (from : Wire) (i : List ℕ) (to : Wire) (e : SerdeError) (refusal : TranscodeError) → Tells e refusal
-    → (IsFault e → SpellNothing from t root i) → (e ≡ serde.InvalidInput → SpellNothingAtAnyDepth from t root i) → (e ≡ serde.TooDeep → 128 ≤ openers from i)
+    → (IsFault e → SpellNothing from t root i) → (e ≡ serde.InvalidInput → SpellNothingWithoutLimits from t root i) → (e ≡ serde.TooDeep → 128 ≤ openers from i) → (e ≡ serde.TooWide → IsWide from t i)
     → Transcodes t root from i to (Err refusal)
-told t root from i to serde.InvalidInput refusal tells nothing would deep = rw tells (record {
+told t root from i to serde.InvalidInput refusal tells nothing would deep wide = rw tells (record {
   answers_ok = tt;
   spelled_is_ok = λ v h fit. absurd (nothing tt v h);
   unfit_is_refused = λ v u h lack. absurd (nothing tt v h);
   answers_inexpressible = λ u h. absurd (let x : Err InvalidInput ≡ Err (Inexpressible u) = h in cc);
   answers_invalid_input = λ h. nothing tt;
-  answers_invalid_at_any_depth = λ h. would refl;
+  answers_invalid_without_limits = λ h. would refl;
   answers_too_deep = λ h. absurd (let x : Err InvalidInput ≡ Err TooDeep = h in cc);
+  answers_too_wide = λ h. absurd (let x : Err InvalidInput ≡ Err TooWide = h in cc);
 })
-told t root from i to serde.TooDeep refusal tells nothing would deep = rw tells (record {
+told t root from i to serde.TooDeep refusal tells nothing would deep wide = rw tells (record {
   answers_ok = tt;
   spelled_is_ok = λ v h fit. absurd (nothing tt v h);
   unfit_is_refused = λ v u h lack. absurd (nothing tt v h);
   answers_inexpressible = λ u h. absurd (let x : Err TooDeep ≡ Err (Inexpressible u) = h in cc);
   answers_invalid_input = λ h. nothing tt;
-  answers_invalid_at_any_depth = λ h. absurd (let x : Err TooDeep ≡ Err InvalidInput = h in cc);
+  answers_invalid_without_limits = λ h. absurd (let x : Err TooDeep ≡ Err InvalidInput = h in cc);
   answers_too_deep = λ h. (nothing tt, deep refl);
+  answers_too_wide = λ h. absurd (let x : Err TooDeep ≡ Err TooWide = h in cc);
 })
-told t root from i to serde.NoMemory refusal tells nothing would deep = rw tells (no_memory t root from i to)
-told t root from i to serde.Unwritable refusal tells nothing would deep = absurd tells
-told t root from i to serde.Failed refusal tells nothing would deep = absurd tells
+told t root from i to serde.TooWide refusal tells nothing would deep wide = rw tells (record {
+  answers_ok = tt;
+  spelled_is_ok = λ v h fit. absurd (nothing tt v h);
+  unfit_is_refused = λ v u h lack. absurd (nothing tt v h);
+  answers_inexpressible = λ u h. absurd (let x : Err TooWide ≡ Err (Inexpressible u) = h in cc);
+  answers_invalid_input = λ h. nothing tt;
+  answers_invalid_without_limits = λ h. absurd (let x : Err TooWide ≡ Err InvalidInput = h in cc);
+  answers_too_deep = λ h. absurd (let x : Err TooWide ≡ Err TooDeep = h in cc);
+  answers_too_wide = λ h. (nothing tt, wide refl);
+})
+told t root from i to serde.NoMemory refusal tells nothing would deep wide = rw tells (no_memory t root from i to)
+told t root from i to serde.Unwritable refusal tells nothing would deep wide = absurd tells
+told t root from i to serde.Failed refusal tells nothing would deep wide = absurd tells
 
 pub refused : {A : Type 0} (t : Table) (root : ℕ) (from : Wire) (i : List ℕ) (to : Wire) (r : Result A SerdeError) (e : SerdeError) (refusal : TranscodeError) → r ≡ Err e → Tells e refusal
-    → (IsRefused r → SpellNothing from t root i) → (IsInvalid r → SpellNothingAtAnyDepth from t root i) → (IsErrOf r serde.TooDeep → 128 ≤ openers from i)
+    → (IsRefused r → SpellNothing from t root i) → (IsInvalid r → SpellNothingWithoutLimits from t root i) → (IsErrOf r serde.TooDeep → 128 ≤ openers from i) → (IsErrOf r serde.TooWide → IsWide from t i)
     → Transcodes t root from i to (Err refusal)
-refused t root from i to r e refusal is tells nothing would deep =
-    told t root from i to e refusal tells (λ fault. nothing (rw is fault)) (λ invalid. would (rw (is, invalid) tt)) (λ depth. deep (is ∙ ap Err depth))
+refused t root from i to r e refusal is tells nothing would deep wide =
+    told t root from i to e refusal tells (λ fault. nothing (rw is fault)) (λ invalid. would (rw (is, invalid) tt)) (λ depth. deep (is ∙ ap Err depth)) (λ width. wide (is ∙ ap Err width))

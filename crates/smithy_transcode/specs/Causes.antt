@@ -1,7 +1,12 @@
 -- What the bytes of an input say of why it is refused, wire by wire.
-use Rattle.std.specs.Prelude.{ℕ, List}
+use Rattle.std.specs.Prelude.{◌≡◌, ℕ, List, Option, Some}
+use Rattle.smithy_schema.specs.declared.place.Place.{Place}
+use Rattle.smithy_schema.specs.declared.shape_type.Scalar.{Scalar}
+use Rattle.smithy_schema.specs.Table.{Table, scalar, kind_of, place_in}
 use Rattle.smithy_json_codec.specs.Openers.{json_openers}
+use Rattle.smithy_json_codec.specs.Wide.{IsWideJson}
 use Rattle.smithy_cbor_codec.specs.Openers.{cbor_openers}
+use Rattle.smithy_cbor_codec.specs.Wide.{IsWideCbor}
 use Rattle.smithy_transcode.specs.Wires.{Wire, json, cbor, query}
 
 -- how many containers may be open at once, by the bytes alone
@@ -9,3 +14,21 @@ abbrev pub openers : Wire → List ℕ → ℕ
 openers (json use_json_name) bytes = json_openers bytes
 openers cbor bytes = cbor_openers bytes
 openers (query action version) bytes = 0
+
+-- some slice of the bytes is, as a big number of this kind, one that leaves the limits of the kind; of forms nothing is read
+abbrev pub HasWide : Wire → Scalar → List ℕ → Type 0
+HasWide (json use_json_name) s bytes = IsWideJson s bytes
+HasWide cbor s bytes = IsWideCbor s bytes
+HasWide (query action version) s bytes = ⊥
+
+-- the place is that of a member, of an element or of a map's value in the table
+abbrev pub IsChildPlace : Table → Place → Type 0
+IsChildPlace table q = (p : Place) × (n : Option ℕ) × (place_in (kind_of table p) n ≡ Some q)
+
+-- a member, an element or a value of a map in the table has the scalar as its target
+abbrev pub HasTarget : Table → Scalar → Type 0
+HasTarget table s = (place : Place) × IsChildPlace table place × (kind_of table place ≡ scalar s)
+
+-- the bytes have a big number of a kind that the table has, and it leaves the limits of the kind
+abbrev pub IsWide : Wire → Table → List ℕ → Type 0
+IsWide wire table bytes = (s : Scalar) × HasTarget table s × HasWide wire s bytes

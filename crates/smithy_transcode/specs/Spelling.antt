@@ -21,13 +21,13 @@ Spells (json use_json_name) table root bytes v =
 Spells cbor table root bytes v = cbor_spells strict_cbor table (shape_place root) bytes v
 Spells (query action version) table root bytes v = ⊥
 
--- the same for bodies of any depth
-abbrev pub SpellsAtAnyDepth : Wire → Table → ℕ → List ℕ → Value → Type 0
-SpellsAtAnyDepth (json use_json_name) table root bytes v =
+-- the same without the limits on depth and on the size of numbers
+abbrev pub SpellsWithoutLimits : Wire → Table → ℕ → List ℕ → Value → Type 0
+SpellsWithoutLimits (json use_json_name) table root bytes v =
     json_spells (without_limits (strict_settings use_json_name)) table (shape_place root) bytes v
-SpellsAtAnyDepth cbor table root bytes v =
+SpellsWithoutLimits cbor table root bytes v =
     cbor_spells (without_cbor_limits strict_cbor) table (shape_place root) bytes v
-SpellsAtAnyDepth (query action version) table root bytes v = ⊥
+SpellsWithoutLimits (query action version) table root bytes v = ⊥
 
 -- the one body of a value of the root
 abbrev pub body : Wire → Table → ℕ → Value → List ℕ

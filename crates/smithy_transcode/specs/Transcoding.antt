@@ -11,18 +11,18 @@ use Rattle.smithy_query_codec.specs.Canonical.{leaves_pairs}
 use Rattle.smithy_query_codec.specs.Distinct.{HaveDistinctPaths, HaveDistinctTexts}
 use Rattle.smithy_transcode.specs.declared.wire.Unfit.{Unfit}
 use Rattle.smithy_transcode.specs.declared.wire.TranscodeError.{TranscodeError}
-use Rattle.smithy_transcode.specs.declared.wire.TranscodeError.TheVariants.{InvalidInput, TooDeep, Inexpressible, NoMemory}
+use Rattle.smithy_transcode.specs.declared.wire.TranscodeError.TheVariants.{InvalidInput, TooDeep, TooWide, Inexpressible, NoMemory}
 use Rattle.smithy_transcode.specs.Wires.{Wire, json, cbor, query, unfit}
-use Rattle.smithy_transcode.specs.Spelling.{Spells, SpellsAtAnyDepth, body}
-use Rattle.smithy_transcode.specs.Causes.{openers}
+use Rattle.smithy_transcode.specs.Spelling.{Spells, SpellsWithoutLimits, body}
+use Rattle.smithy_transcode.specs.Causes.{openers, IsWide}
 
 -- the bytes spell no value of the root
 abbrev pub SpellNothing : Wire → Table → ℕ → List ℕ → Type 0
 SpellNothing wire table root bytes = (v : Value) → Spells wire table root bytes v → ⊥
 
--- they spell none of any depth
-abbrev pub SpellNothingAtAnyDepth : Wire → Table → ℕ → List ℕ → Type 0
-SpellNothingAtAnyDepth wire table root bytes = (v : Value) → SpellsAtAnyDepth wire table root bytes v → ⊥
+-- they spell none without the limits either
+abbrev pub SpellNothingWithoutLimits : Wire → Table → ℕ → List ℕ → Type 0
+SpellNothingWithoutLimits wire table root bytes = (v : Value) → SpellsWithoutLimits wire table root bytes v → ⊥
 
 -- the bytes spell the value of the root, and no other
 abbrev pub SpellsAlone : Wire → Table → ℕ → List ℕ → Value → Type 0
@@ -77,8 +77,10 @@ pub record Transcodes (table : Table) (root : ℕ) (from : Wire) (input : List �
       → (v : Value) × Spells from table root input v × (unfit to v ≡ Some u)
   -- each refusal of an input comes only where it spells nothing
   pub answers_invalid_input : IsErrOf answer InvalidInput → SpellNothing from table root input
-  -- `InvalidInput` also only where no greater depth would help
-  pub answers_invalid_at_any_depth : IsErrOf answer InvalidInput → SpellNothingAtAnyDepth from table root input
+  -- `InvalidInput` also only where it wouldn't spell one without the limits on depth and on the size of numbers
+  pub answers_invalid_without_limits : IsErrOf answer InvalidInput → SpellNothingWithoutLimits from table root input
   -- and `TooDeep` only where 128 containers are open at once, or more
   pub answers_too_deep : IsErrOf answer TooDeep
       → SpellNothing from table root input × (128 ≤ openers from input)
+  -- and `TooWide` only where a big number leaves the limits of its kind
+  pub answers_too_wide : IsErrOf answer TooWide → SpellNothing from table root input × IsWide from table input

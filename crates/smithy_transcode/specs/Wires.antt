@@ -22,5 +22,6 @@ wire_of (wires.Query action version) = query (string_bytes action) (string_bytes
 
 -- why the wire can't express the value, where it can't: no form can where a null element stands in it
 abbrev pub unfit : Wire → Value → Option Unfit
+unfit (json use_json_name) v = None
+unfit cbor v = None
 unfit (query action version) v = if holds_null v then Some Null else None
-unfit _ v = None

@@ -17,12 +17,16 @@ use std::collections::BTreeMap;
 pub enum CompactValue {
     /// False or true.
     Boolean(bool),
-    /// A whole number.
+    /// A whole number of 64 bits.
     Whole(i64),
+    /// Another whole number. What is rare is behind a box, so that values take 32 bytes.
+    Large(Box<i128>),
     /// A text.
     Text(String),
     /// Any bytes.
     Bytes(Blob),
+    /// A mantissa, times ten to an exponent.
+    Decimal(Box<(i128, i64)>),
     /// The elements of a list, in their order.
     List(Vec<CompactValue>),
     /// The elements of a list of whole numbers, in their order.
@@ -66,12 +70,24 @@ impl Tree for CompactValue {
         CompactValue::Whole(number)
     }
 
+    fn big_integer(alloc: Global, number: i128) -> Result<CompactValue, SerdeError> {
+        match i64::try_from(number) {
+            Ok(small) => Ok(CompactValue::Whole(small)),
+            Err(_) => Ok(CompactValue::Large(Box::new(alloc, number)?)),
+        }
+    }
+
     fn text(content: String) -> CompactValue {
         CompactValue::Text(content)
     }
 
     fn bytes(blob: Blob) -> CompactValue {
         CompactValue::Bytes(blob)
+    }
+
+    fn decimal(alloc: Global, mantissa: i128, exponent: i64) -> Result<CompactValue, SerdeError> {
+        let parts = (mantissa, exponent);
+        Ok(CompactValue::Decimal(Box::new(alloc, parts)?))
     }
 
     fn null() -> CompactValue {
@@ -151,8 +167,10 @@ impl Tree for CompactValue {
         match self {
             CompactValue::Boolean(value) => Part::Boolean(*value),
             CompactValue::Whole(number) => Part::Whole(i128::from(*number)),
+            CompactValue::Large(number) => Part::Whole(**number),
             CompactValue::Text(content) => Part::Text(content.as_str()),
             CompactValue::Bytes(blob) => Part::Bytes(blob.as_ref()),
+            CompactValue::Decimal(parts) => Part::Decimal(parts.0, parts.1),
             CompactValue::List(elements) => Part::List(elements.as_slice()),
             CompactValue::Wholes(numbers) => Part::Wholes(numbers.as_slice()),
             CompactValue::Map(entries) => Part::Map(EntryIter::Slice(entries.as_slice())),

@@ -2,7 +2,7 @@
 ghost use Rattle.std.specs.Prelude.{◌≡◌, ◌↔◌, true, IfOk, IsErrOf};
 ghost use Rattle.smithy_schema.specs.Table.{IsStructure, IsUnion, IsList, IsMap};
 ghost use Rattle.smithy_schema.specs.Site.{site_of, kind_at};
-ghost use Rattle.smithy_schema.specs.Reading.{Reads, StandsNot, IsRefused, IsInvalid, ReachesDepth, IsCounted};
+ghost use Rattle.smithy_schema.specs.Reading.{Reads, StandsNot, IsRefused, IsInvalid, ReachesDepth, ExceedsInside, IsCounted};
 ghost use Rattle.smithy_transcode.specs.View.{view};
 
 use crate::tree::Tree;
@@ -31,6 +31,9 @@ pub fn read_value<D: ShapeDeserializer>(
     // `TooDeep`: where the reader failed, the bytes from there on reach the greatest depth.
     ensures deep { IsErrOf result SerdeError.TooDeep → ReachesDepth (D.wire (D.settings source.old)) (D.max_depth (D.settings source.old)) (D.state source.new) }
 
+    // `TooWide`: where it failed, a big number leaves the limits of the kind that is due there.
+    ensures wide { IsErrOf result SerdeError.TooWide → ExceedsInside (D.wire (D.settings source.old)) (D.state source.old) (D.state source.new) schema.now.shapes.now schema.now.place }
+
     // Whatever it answers.
     ensures input { (D.state source.new).input ≡ (D.state source.old).input }
     ensures counted { D.is_strict (D.settings source.old) → IsCounted (D.wire (D.settings source.old)) (D.state source.old) → IsCounted (D.wire (D.settings source.old)) (D.state source.new) }
@@ -54,6 +57,7 @@ pub(crate) fn read_tree<T: Tree, D: ShapeDeserializer>(
     ensures failed { IsErrOf result SerdeError.Failed ↔ ((D.state source.old).failed ≡ true) }
     ensures readable { IsErrOf result SerdeError.Unwritable → ⊥ }
     ensures deep { IsErrOf result SerdeError.TooDeep → ReachesDepth (D.wire (D.settings source.old)) (D.max_depth (D.settings source.old)) (D.state source.new) }
+    ensures wide { IsErrOf result SerdeError.TooWide → ExceedsInside (D.wire (D.settings source.old)) (D.state source.old) (D.state source.new) schema.now.shapes.now schema.now.place }
     ensures input { (D.state source.new).input ≡ (D.state source.old).input }
     ensures counted { D.is_strict (D.settings source.old) → IsCounted (D.wire (D.settings source.old)) (D.state source.old) → IsCounted (D.wire (D.settings source.old)) (D.state source.new) }
 {
@@ -65,6 +69,14 @@ pub(crate) fn read_tree<T: Tree, D: ShapeDeserializer>(
         ShapeType::Long => Ok(T::whole(source.read_long(schema)?)),
         ShapeType::String => Ok(T::text(source.read_string(schema)?)),
         ShapeType::Blob => Ok(T::bytes(source.read_blob(schema)?)),
+        ShapeType::BigInteger => match source.read_big_integer(schema)?.to_i128() {
+            Ok(number) => T::big_integer(alloc, number),
+            Err(_) => unreachable!(),
+        },
+        ShapeType::BigDecimal => match source.read_big_decimal(schema)?.to_parts() {
+            Ok((mantissa, exponent)) => T::decimal(alloc, mantissa, exponent),
+            Err(_) => unreachable!(),
+        },
         ShapeType::Structure => read_structure::<T, D>(alloc, source, schema),
         ShapeType::Union => read_union::<T, D>(alloc, source, schema),
         ShapeType::List => read_list::<T, D>(alloc, source, schema),
@@ -88,6 +100,7 @@ fn read_structure<T: Tree, D: ShapeDeserializer>(
     ensures failed { IsErrOf result SerdeError.Failed ↔ ((D.state source.old).failed ≡ true) }
     ensures readable { IsErrOf result SerdeError.Unwritable → ⊥ }
     ensures deep { IsErrOf result SerdeError.TooDeep → ReachesDepth (D.wire (D.settings source.old)) (D.max_depth (D.settings source.old)) (D.state source.new) }
+    ensures wide { IsErrOf result SerdeError.TooWide → ExceedsInside (D.wire (D.settings source.old)) (D.state source.old) (D.state source.new) schema.now.shapes.now schema.now.place }
     ensures input { (D.state source.new).input ≡ (D.state source.old).input }
     ensures counted { D.is_strict (D.settings source.old) → IsCounted (D.wire (D.settings source.old)) (D.state source.old) → IsCounted (D.wire (D.settings source.old)) (D.state source.new) }
 {
@@ -124,6 +137,7 @@ fn read_union<T: Tree, D: ShapeDeserializer>(
     ensures failed { IsErrOf result SerdeError.Failed ↔ ((D.state source.old).failed ≡ true) }
     ensures readable { IsErrOf result SerdeError.Unwritable → ⊥ }
     ensures deep { IsErrOf result SerdeError.TooDeep → ReachesDepth (D.wire (D.settings source.old)) (D.max_depth (D.settings source.old)) (D.state source.new) }
+    ensures wide { IsErrOf result SerdeError.TooWide → ExceedsInside (D.wire (D.settings source.old)) (D.state source.old) (D.state source.new) schema.now.shapes.now schema.now.place }
     ensures input { (D.state source.new).input ≡ (D.state source.old).input }
     ensures counted { D.is_strict (D.settings source.old) → IsCounted (D.wire (D.settings source.old)) (D.state source.old) → IsCounted (D.wire (D.settings source.old)) (D.state source.new) }
 {
@@ -159,6 +173,7 @@ fn read_list<T: Tree, D: ShapeDeserializer>(
     ensures failed { IsErrOf result SerdeError.Failed ↔ ((D.state source.old).failed ≡ true) }
     ensures readable { IsErrOf result SerdeError.Unwritable → ⊥ }
     ensures deep { IsErrOf result SerdeError.TooDeep → ReachesDepth (D.wire (D.settings source.old)) (D.max_depth (D.settings source.old)) (D.state source.new) }
+    ensures wide { IsErrOf result SerdeError.TooWide → ExceedsInside (D.wire (D.settings source.old)) (D.state source.old) (D.state source.new) schema.now.shapes.now schema.now.place }
     ensures input { (D.state source.new).input ≡ (D.state source.old).input }
     ensures counted { D.is_strict (D.settings source.old) → IsCounted (D.wire (D.settings source.old)) (D.state source.old) → IsCounted (D.wire (D.settings source.old)) (D.state source.new) }
 {
@@ -196,6 +211,7 @@ fn read_map<T: Tree, D: ShapeDeserializer>(
     ensures failed { IsErrOf result SerdeError.Failed ↔ ((D.state source.old).failed ≡ true) }
     ensures readable { IsErrOf result SerdeError.Unwritable → ⊥ }
     ensures deep { IsErrOf result SerdeError.TooDeep → ReachesDepth (D.wire (D.settings source.old)) (D.max_depth (D.settings source.old)) (D.state source.new) }
+    ensures wide { IsErrOf result SerdeError.TooWide → ExceedsInside (D.wire (D.settings source.old)) (D.state source.old) (D.state source.new) schema.now.shapes.now schema.now.place }
     ensures input { (D.state source.new).input ≡ (D.state source.old).input }
     ensures counted { D.is_strict (D.settings source.old) → IsCounted (D.wire (D.settings source.old)) (D.state source.old) → IsCounted (D.wire (D.settings source.old)) (D.state source.new) }
 {

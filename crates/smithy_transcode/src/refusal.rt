@@ -14,6 +14,7 @@ pub(crate) fn refusal(error: SerdeError) -> TranscodeError
     match error {
         SerdeError::InvalidInput => TranscodeError::InvalidInput,
         SerdeError::TooDeep => TranscodeError::TooDeep,
+        SerdeError::TooWide => TranscodeError::TooWide,
         SerdeError::NoMemory => TranscodeError::NoMemory,
         SerdeError::Failed | SerdeError::Unwritable => unreachable!(),
     }

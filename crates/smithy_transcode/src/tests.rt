@@ -5,6 +5,7 @@ use smithy_schema::{Shapes, TableText};
 use std::alloc::Global;
 use std::test::Fail;
 
+mod big_numbers;
 mod blobs;
 mod cbor;
 mod entries;

@@ -4,9 +4,9 @@ ghost use Rattle.smithy_schema.specs.Accepted.{IsAccepted};
 ghost use Rattle.smithy_schema.specs.Fits.{Fits};
 ghost use Rattle.smithy_schema.specs.Reading.{IsRefused, IsInvalid};
 ghost use Rattle.smithy_schema.specs.Table.{IsStructure, kind_of, shape_place};
-ghost use Rattle.smithy_transcode.specs.Causes.{openers};
+ghost use Rattle.smithy_transcode.specs.Causes.{openers, IsWide};
 ghost use Rattle.smithy_transcode.specs.Spelling.{Spells, body};
-ghost use Rattle.smithy_transcode.specs.Transcoding.{Transcodes, SpellNothing, SpellNothingAtAnyDepth};
+ghost use Rattle.smithy_transcode.specs.Transcoding.{Transcodes, SpellNothing, SpellNothingWithoutLimits};
 ghost use Rattle.smithy_transcode.specs.Wires.{wire_of, unfit as unfit_for};
 ghost use Rattle.smithy_transcode.specs.Private.Positions.{CanCount};
 ghost use Rattle.smithy_transcode.specs.Private.Tree.{compact_view as view};
@@ -63,8 +63,9 @@ fn read_body(
     ensures accepted { IsAccepted shapes.now }
     ensures ok { IfOk result (λ v. Spells (wire_of from.now) shapes.now root.0 input.now (view v)) }
     ensures refused { IsRefused result → SpellNothing (wire_of from.now) shapes.now root.0 input.now }
-    ensures would { IsInvalid result → SpellNothingAtAnyDepth (wire_of from.now) shapes.now root.0 input.now }
+    ensures would { IsInvalid result → SpellNothingWithoutLimits (wire_of from.now) shapes.now root.0 input.now }
     ensures deep { IsErrOf result SerdeError.TooDeep → 128 ≤ openers (wire_of from.now) input.now }
+    ensures wide { IsErrOf result SerdeError.TooWide → IsWide (wire_of from.now) shapes.now input.now }
     ensures sound { IsErrOf result SerdeError.Failed → ⊥ }
     ensures readable { IsErrOf result SerdeError.Unwritable → ⊥ }
 {

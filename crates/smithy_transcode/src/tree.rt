@@ -1,7 +1,7 @@
 //! A tree of values, as a reader builds it and a writer goes through it.
 ghost use Rattle.std.specs.Prelude.{◌≡◌, List, [], ◌∷◌, ◌++◌, OnOk, IfOk, IfErr, string_bytes};
 ghost use Rattle.smithy_schema.specs.declared.error.SerdeError.TheVariants.{NoMemory};
-ghost use Rattle.smithy_schema.specs.Value.{Value, scalar_value, boolean, whole, text, bytes, list, map, structure, union, null_element, values_of, MapEntries, no_map_entries, put_entry, MemberValues, no_member_values, put_member};
+ghost use Rattle.smithy_schema.specs.Value.{Value, scalar_value, boolean, whole, text, bytes, decimal, list, map, structure, union, null_element, values_of, MapEntries, no_map_entries, put_entry, MemberValues, no_member_values, put_member};
 ghost use Rattle.smithy_transcode.specs.Private.Tree.{part_view};
 
 use crate::entry_iter::EntryIter;
@@ -20,6 +20,8 @@ pub enum Part<'v, T> {
     Text(&'v str),
     /// Any bytes.
     Bytes(&'v [u8]),
+    /// A mantissa, times ten to an exponent.
+    Decimal(i128, i64),
     /// The elements of a list, in their order.
     List(&'v [T]),
     /// The elements of a list of whole numbers, in their order.
@@ -62,11 +64,19 @@ pub trait Tree: Drop + Sized {
     fn whole(number: i64) -> Self
         ensures { view result ≡ scalar_value (whole number) };
 
+    fn big_integer(alloc: Global, number: i128) -> Result<Self, SerdeError>
+        ensures ok { IfOk result (λ n. view n ≡ scalar_value (whole number)) }
+        ensures err { IfErr result (λ e. e ≡ NoMemory) };
+
     fn text(content: String) -> Self
         ensures { view result ≡ scalar_value (text (string_bytes content)) };
 
     fn bytes(blob: Blob) -> Self
         ensures { view result ≡ scalar_value (bytes blob) };
+
+    fn decimal(alloc: Global, mantissa: i128, exponent: i64) -> Result<Self, SerdeError>
+        ensures ok { IfOk result (λ n. view n ≡ scalar_value (decimal mantissa exponent)) }
+        ensures err { IfErr result (λ e. e ≡ NoMemory) };
 
     fn null() -> Self
         ensures { view result ≡ null_element };

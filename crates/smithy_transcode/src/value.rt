@@ -19,6 +19,8 @@ pub enum Value {
     Text(String),
     /// Any bytes.
     Bytes(Vec<u8>),
+    /// A mantissa, times ten to an exponent, as they were given.
+    Decimal(i128, i64),
     /// The elements of a list, in their order.
     List(Vec<Value>),
     /// The values of a map by their keys.
@@ -54,12 +56,20 @@ impl Tree for Value {
         Value::Whole(i128::from(number))
     }
 
+    fn big_integer(_alloc: Global, number: i128) -> Result<Value, SerdeError> {
+        Ok(Value::Whole(number))
+    }
+
     fn text(content: String) -> Value {
         Value::Text(content)
     }
 
     fn bytes(blob: Blob) -> Value {
         Value::Bytes(blob.into_inner())
+    }
+
+    fn decimal(_alloc: Global, mantissa: i128, exponent: i64) -> Result<Value, SerdeError> {
+        Ok(Value::Decimal(mantissa, exponent))
     }
 
     fn null() -> Value {
@@ -130,6 +140,7 @@ impl Tree for Value {
             Value::Whole(number) => Part::Whole(*number),
             Value::Text(content) => Part::Text(content.as_str()),
             Value::Bytes(content) => Part::Bytes(content.as_slice()),
+            Value::Decimal(mantissa, exponent) => Part::Decimal(*mantissa, *exponent),
             Value::List(elements) => Part::List(elements.as_slice()),
             Value::Map(entries) => Part::Map(EntryIter::Map(entries.iter())),
             Value::Structure(members) => Part::Structure(EntryIter::Map(members.iter())),

@@ -38,6 +38,10 @@ pub enum TranscodeError {
     /// once.
     #[error("TooDeep")]
     TooDeep,
+    /// The input spells no value of the root, and holds a big number of a kind that the table has, which leaves the limits
+    /// of the kind.
+    #[error("TooWide")]
+    TooWide,
     /// The input spells a value of the root that the wanted wire can't express.
     #[error("Inexpressible")]
     Inexpressible(Unfit),

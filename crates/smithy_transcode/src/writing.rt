@@ -53,6 +53,7 @@ pub(crate) fn write_tree<T: Tree, S: ShapeSerializer>(
         Part::Whole(number) => write_whole(sink, schema, number),
         Part::Text(content) => sink.write_string(schema, content),
         Part::Bytes(content) => sink.write_bytes(schema, content),
+        Part::Decimal(mantissa, exponent) => sink.write_decimal(schema, mantissa, exponent),
         Part::List(elements) => write_list::<T, S>(alloc, sink, schema, elements),
         Part::Wholes(numbers) => write_wholes(sink, schema, numbers),
         Part::Map(entries) => write_map::<T, S>(alloc, sink, schema, entries),
@@ -80,9 +81,11 @@ fn write_whole<S: ShapeSerializer>(
         ShapeType::Short => sink.write_short(schema, number as i16),
         ShapeType::Integer => sink.write_integer(schema, number as i32),
         ShapeType::Long => sink.write_long(schema, number as i64),
+        ShapeType::BigInteger => sink.write_i128(schema, number),
         ShapeType::Boolean
         | ShapeType::String
         | ShapeType::Blob
+        | ShapeType::BigDecimal
         | ShapeType::List
         | ShapeType::Map
         | ShapeType::Structure

@@ -7,7 +7,7 @@ use Rattle.smithy_transcode.specs.Spelling.{Spells}
 use Rattle.smithy_transcode.specs.Wires.{unfit}
 use Rattle.smithy_transcode.proofs.Transcodings.{one_value, not_both}
 use Rattle.smithy_transcode_cli.specs.declared.status.Status.{Status}
-use Rattle.smithy_transcode_cli.specs.declared.status.Status.TheVariants.{Done, Usage, ReadFailed, WriteFailed, OutOfMemory, InvalidInput, TooDeep, Inexpressible, TableRefused, NoSuchShape, NotAStructure, TooLong, NotBuilt}
+use Rattle.smithy_transcode_cli.specs.declared.status.Status.TheVariants.{Done, Usage, ReadFailed, WriteFailed, OutOfMemory, InvalidInput, TooDeep, TooWide, Inexpressible, TableRefused, NoSuchShape, NotAStructure, TooLong, NotBuilt}
 use Rattle.smithy_transcode_cli.specs.Task.{Task}
 use Rattle.smithy_transcode_cli.specs.Outside.{Told, Outside, missing, Tells, GavePast}
 use Rattle.smithy_transcode_cli.specs.RunAnswer.{sources_of, IsLoaded, IsRead, AfterInput, IsInOrder, Says, longest_input}
@@ -64,6 +64,10 @@ module _ (task : Task) (old new : Outside) (text input : List ℕ) (table : Tabl
       let found = says.2.2 in
       let read = found.2 in
       absurd (not_nothing (says.0, says.1, (says.2.0, says.2.1, (found.0, found.1, (read.0, read.1, read.2.0)))))
+  complete_of TooWide says =
+      let found = says.2.2 in
+      let read = found.2 in
+      absurd (not_nothing (says.0, says.1, (says.2.0, says.2.1, (found.0, found.1, (read.0, read.1, read.2.0)))))
   complete_of (Inexpressible u) says =
       let there = says.2 in
       let found = there.2 in
@@ -98,6 +102,7 @@ fault_of_missing task old new gone WriteFailed says = absurd (says.1.there gone)
 fault_of_missing task old new gone OutOfMemory says = inr refl
 fault_of_missing task old new gone InvalidInput says = absurd (says.1.there gone)
 fault_of_missing task old new gone TooDeep says = absurd (says.1.there gone)
+fault_of_missing task old new gone TooWide says = absurd (says.1.there gone)
 fault_of_missing task old new gone (Inexpressible u) says = absurd (says.1.there gone)
 fault_of_missing task old new gone (TableRefused fault) says = absurd (says.1.1.there gone)
 fault_of_missing task old new gone NoSuchShape says = absurd (says.1.1.there gone)

@@ -1,14 +1,19 @@
--- What a refused table says.
-use Rattle.std.proofs.Common.{◌≡◌, ◌∙◌, ℕ, List, refl}
+-- What a refused table says, and a refused body.
+use Rattle.std.proofs.Common.{◌≡◌, ◌∙◌, ℕ, List, Err, refl}
 use Rattle.smithy_schema.specs.declared.fault.TableFault.{TableFault}
 use Rattle.smithy_schema.specs.declared.fault.TableFault.TheVariants.{BadLine, NotBuilt, FloatShape, UnknownTarget, UnknownTimeFormat, DuplicateShape, NameClash, QueryName, KeyValueName, TooMany, NoMemory}
 use Rattle.smithy_schema.specs.Decl.{Decl}
 use Rattle.smithy_schema.specs.TableText.{Lines, declarations, declarations_of}
-use Rattle.smithy_schema.specs.Acceptance.{refused, bad_line, build_of, table_of}
+use Rattle.smithy_schema.specs.Table.{Table}
+use Rattle.smithy_schema.specs.Acceptance.{accepted, refused, bad_line, build_of, table_of}
 use Rattle.smithy_schema.specs.DeclViews.{IsRefusedBy, IsLineFault}
+use Rattle.smithy_transcode.specs.declared.wire.TranscodeError.{TranscodeError}
+use Rattle.smithy_transcode.specs.declared.wire.TranscodeError.TheVariants as errors
+use Rattle.smithy_transcode.specs.Transcoding.{Transcodes}
+use Rattle.smithy_transcode_cli.specs.Task.{Task}
 use Rattle.smithy_transcode_cli.specs.Outside.{Told}
-use Rattle.smithy_transcode_cli.specs.Status.{status_of_table_fault}
-use Rattle.smithy_transcode_cli.specs.RunAnswer.{IsLoaded}
+use Rattle.smithy_transcode_cli.specs.Status.{status_of_table_fault, status_of_error}
+use Rattle.smithy_transcode_cli.specs.RunAnswer.{Sources, IsLoaded, IsRoot, IsRead, Refuses}
 use Rattle.smithy_transcode_cli.specs.Private.Stages.{FailsToLoad}
 
 table_of_bad_line : (text : List ℕ) (n : ℕ) → declarations_of text ≡ Lines.bad_line n → table_of text ≡ refused bad_line n
@@ -46,3 +51,14 @@ build_fails old new text decls (QueryName n) loaded e r = (text, loaded, (_, n, 
 build_fails old new text decls (KeyValueName n) loaded e r = (text, loaded, (_, n, table_of_declarations text decls e ∙ r, refl))
 build_fails old new text decls (TooMany n) loaded e r = (text, loaded, (_, n, table_of_declarations text decls e ∙ r, refl))
 build_fails old new text decls NoMemory loaded e r = tt
+
+-- a body that spells nothing, or what the wanted wire can't express
+module _ (task : Task) (old new : Sources) (text input : List ℕ) (table : Table) (root : ℕ) (loaded : IsLoaded text old.table) (is : table_of text ≡ accepted table)
+    (there : IsRoot task table root) (read : IsRead input old.input new.input) where
+  pub transcode_fails : (error : TranscodeError) → Transcodes table root task.from input task.to (Err error) → Refuses task old new (status_of_error error)
+  transcode_fails errors.InvalidInput told =
+      (text, loaded, (table, is, (root, there, (input, read, (told.answers_invalid_input refl, told.answers_invalid_without_limits refl)))))
+  transcode_fails errors.TooDeep told = (text, loaded, (table, is, (root, there, (input, read, told.answers_too_deep refl))))
+  transcode_fails errors.TooWide told = (text, loaded, (table, is, (root, there, (input, read, told.answers_too_wide refl))))
+  transcode_fails (errors.Inexpressible u) told = (text, loaded, (table, is, (root, there, (input, read, told.answers_inexpressible u refl))))
+  transcode_fails errors.NoMemory told = tt

@@ -5,11 +5,11 @@ use Rattle.smithy_schema.specs.Acceptance.{Fault, not_built, TableAnswer, accept
 use Rattle.smithy_schema.specs.declared.fault.TableFault.{TableFault}
 use Rattle.smithy_schema.specs.Value.{Value}
 use Rattle.smithy_transcode.specs.Spelling.{Spells, body}
-use Rattle.smithy_transcode.specs.Causes.{openers}
-use Rattle.smithy_transcode.specs.Transcoding.{SpellNothing, SpellNothingAtAnyDepth, TellsAgain}
+use Rattle.smithy_transcode.specs.Causes.{openers, IsWide}
+use Rattle.smithy_transcode.specs.Transcoding.{SpellNothing, SpellNothingWithoutLimits, TellsAgain}
 use Rattle.smithy_transcode.specs.Wires.{unfit}
 use Rattle.smithy_transcode_cli.specs.declared.status.Status.{Status}
-use Rattle.smithy_transcode_cli.specs.declared.status.Status.TheVariants.{Done, Usage, ReadFailed, WriteFailed, OutOfMemory, InvalidInput, TooDeep, Inexpressible, TableRefused, NoSuchShape, NotAStructure, TooLong, NotBuilt}
+use Rattle.smithy_transcode_cli.specs.declared.status.Status.TheVariants.{Done, Usage, ReadFailed, WriteFailed, OutOfMemory, InvalidInput, TooDeep, TooWide, Inexpressible, TableRefused, NoSuchShape, NotAStructure, TooLong, NotBuilt}
 use Rattle.smithy_transcode_cli.specs.Command.{command_of}
 use Rattle.smithy_transcode_cli.specs.Task.{Task, task_asked}
 use Rattle.smithy_transcode_cli.specs.Status.{status_code}
@@ -97,10 +97,13 @@ Refuses task old new WriteFailed = ⊥
 Refuses task old new OutOfMemory = Unit {0}
 Refuses task old new InvalidInput =
     AfterInput task old new
-    (λ table root input. SpellNothing task.from table root input × SpellNothingAtAnyDepth task.from table root input)
+    (λ table root input. SpellNothing task.from table root input × SpellNothingWithoutLimits task.from table root input)
 Refuses task old new TooDeep =
     AfterInput task old new
     (λ table root input. SpellNothing task.from table root input × (128 ≤ openers task.from input))
+Refuses task old new TooWide =
+    AfterInput task old new
+    (λ table root input. SpellNothing task.from table root input × IsWide task.from table input)
 Refuses task old new (Inexpressible u) =
     AfterInput task old new
     (λ table root input. (v : Value) × Spells task.from table root input v × (unfit task.to v ≡ Some u))

@@ -59,6 +59,7 @@ fn write_text<E: Sink>(err: &mut E, status: Status) -> Result<(), Failed>
         Status::OutOfMemory => write_part(err, b"out of memory"),
         Status::InvalidInput => write_part(err, b"invalid input"),
         Status::TooDeep => write_part(err, b"too deep"),
+        Status::TooWide => write_part(err, b"number too wide"),
         Status::Inexpressible(Unfit::Null) => write_part(err, b"null not expressible"),
         Status::TableRefused(fault) => write_table_refused(err, fault),
         Status::NoSuchShape => write_part(err, b"no such shape"),

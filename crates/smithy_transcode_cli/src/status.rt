@@ -23,6 +23,8 @@ pub enum Status {
     InvalidInput,
     /// The input nests too deep.
     TooDeep,
+    /// A big number of the input leaves the limits of its kind.
+    TooWide,
     /// The input spells a value that the wanted wire can't express.
     Inexpressible(Unfit),
     /// The table is refused, by this fault.
@@ -50,6 +52,7 @@ impl Status {
             Status::OutOfMemory => 8,
             Status::InvalidInput => 10,
             Status::TooDeep => 11,
+            Status::TooWide => 12,
             Status::Inexpressible(Unfit::Null) => 15,
             Status::TableRefused(_) => 20,
             Status::NoSuchShape => 21,
@@ -91,6 +94,7 @@ impl From<TranscodeError> for Status {
         match error {
             TranscodeError::InvalidInput => Status::InvalidInput,
             TranscodeError::TooDeep => Status::TooDeep,
+            TranscodeError::TooWide => Status::TooWide,
             TranscodeError::Inexpressible(unfit) => Status::Inexpressible(unfit),
             TranscodeError::NoMemory => Status::OutOfMemory,
         }

@@ -46,7 +46,7 @@ module _ {L : Type 0} (w : Frames L) (r : Rules L) (keeps : r.limits ≡ kept) (
 
   leaf_nests : (p : Place) (k : Kind) (d : ℕ) (x : L) (a e : ℕ) (v : Value) → w.scalar i d x a e → kind_of t p ≡ k → leaf_meaning r k p.time x ≡ Some v
       → nesting v ≤ left d
-  leaf_nests p (scalar s) d x a e v lies kind h = scalar_is_flat t p s v (left d) kind (fits.says_fits i d x a e lies t p s v kind h)
+  leaf_nests p (scalar s) d x a e v lies kind h = scalar_is_flat t p s v (left d) kind (fits.says_fits i d x a e lies t p s v kind keeps h)
   leaf_nests p _ d x a e v lies kind h = cc
 
   mutual

@@ -1,14 +1,14 @@
 -- A read of a scalar: what was found stands there, and where nothing was found nothing stands.
 use Rattle.std.proofs.Common.{◌≡◌, ◌≤◌, ℕ, ℤ, length, Bool, true, false, Option, Some, None, refl, sym, ◌∙◌, ap, subst, arith, ◌⊎◌, inl, inr}
-use Rattle.std.specs.Prelude.{Result, Ok, Err, OnErr, IfOk, IfErr, IsOk, IsErr, IfSome, IfNone, IsSome, IsNone, if◌then◌else◌}
+use Rattle.std.specs.Prelude.{IsErrOf, Result, Ok, Err, OnErr, IfOk, IfErr, IsOk, IsErr, IfSome, IfNone, IsSome, IsNone, if◌then◌else◌}
 use Rattle.smithy_texts.specs.Ranges.{fits_signed}
 use Rattle.smithy_schema.specs.declared.shape_type.Scalar.{Scalar}
 use Rattle.smithy_schema.specs.declared.error.SerdeError.{SerdeError}
-use Rattle.smithy_schema.specs.declared.error.SerdeError.TheVariants.{InvalidInput, Failed, NoMemory}
+use Rattle.smithy_schema.specs.declared.error.SerdeError.TheVariants.{InvalidInput, TooWide, Failed, NoMemory}
 use Rattle.smithy_schema.specs.Table.{scalar_place}
 use Rattle.smithy_schema.specs.Site.{Site}
 use Rattle.smithy_schema.specs.Value.{ScalarValue, scalar_value}
-use Rattle.smithy_schema.specs.Reading.{Cursor, depth, Relations, IsLawful, StandsNot, IsInvalid, ReadsScalar, failed_at, passed_to}
+use Rattle.smithy_schema.specs.Reading.{Cursor, depth, Relations, IsLawful, StandsNot, IsInvalid, Exceeds, ReadsScalar, AnswersWide, failed_at, passed_to}
 use Rattle.smithy_wire.specs.Narrowing.{IsNarrowed, IsWider}
 
 -- what holds of an answer, said in other words
@@ -49,6 +49,7 @@ module _ {A : Type 0} (w u : Relations) (is_strict : Type 0) (site : Site) (s : 
       within = rw stays within;
     };
     shallow = λ h. cc;
+    wide = λ h. cc;
     undue = λ h. tt;
     ok = tt;
     refused = λ fault. absurd fault;
@@ -67,6 +68,7 @@ module _ {A : Type 0} (w u : Relations) (is_strict : Type 0) (site : Site) (s : 
       within = rw stays within;
     };
     shallow = λ h. cc;
+    wide = λ h. cc;
     undue = λ h. tt;
     ok = tt;
     refused = λ fault due. (none due).0;
@@ -84,9 +86,29 @@ module _ {A : Type 0} (w u : Relations) (is_strict : Type 0) (site : Site) (s : 
       within = rw stays within;
     };
     shallow = λ h. cc;
+    wide = λ h. cc;
     undue = λ h. tt;
     ok = tt;
     refused = λ fault. absurd fault;
+    would = λ strict fault. absurd fault;
+  }
+
+  -- a number that leaves its limits
+  pub exceeds_limits : (old new : Cursor) → new ≡ failed_at old → old.at ≤ length old.input → old.failed ≡ false → old.due ≡ true
+      → Exceeds w old site.table (scalar_place s site.place.time) → StandsNot w old site.table (scalar_place s site.place.time) → Says old new (Err TooWide)
+  exceeds_limits old new stays within sound due there none = record {
+    conduct = record {
+      failed = (λ h. cc, λ h. absurd (let both : true ≡ false = sym h ∙ sound in cc));
+      stays = stays;
+      readable = λ h. cc;
+      ahead = rw stays (omega arith);
+      within = rw stays within;
+    };
+    shallow = λ h. cc;
+    wide = λ h. there;
+    undue = λ h. absurd (let both : true ≡ false = sym due ∙ h in cc);
+    ok = tt;
+    refused = λ fault due. none;
     would = λ strict fault. absurd fault;
   }
 
@@ -118,6 +140,7 @@ module _ {A : Type 0} (w u : Relations) (is_strict : Type 0) (site : Site) (s : 
             within = ends.1;
           };
           shallow = λ h. cc;
+          wide = λ h. cc;
           undue = λ h. absurd (let both : true ≡ false = sym due ∙ h in cc);
           ok = record { stands = stands; passes = record { input = refl; inner = refl; outer = refl; due = refl; failed = sound } };
           refused = λ fault. absurd fault;
@@ -149,6 +172,54 @@ module _ {A : Type 0} (w u : Relations) (is_strict : Type 0) (site : Site) (s : 
         by : (g ≡ InvalidInput) ⊎ (g ≡ NoMemory) → Says old new (Err e)
         by (inl is) = rw (← same, is) (refuses old new stays within sound (λ due. none (rw is tt)))
         by (inr is) = rw (← same, is) (runs_out old new stays within sound)
+
+    -- the same of a big number, which may leave its limits
+    pub takes_big : (new : Cursor) (found : Result (A × ℕ) SerdeError) (result : Result A SerdeError) → IfOk found (λ r. Stands r.0 r.1)
+        → IfErr found (λ e. (e ≡ InvalidInput) ⊎ (e ≡ TooWide) ⊎ (e ≡ NoMemory)) → (IsInvalid found → NoneStands old)
+        → (IsErrOf found TooWide → Exceeds w old site.table (scalar_place s site.place.time) × StandsNot w old site.table (scalar_place s site.place.time))
+        → IfOk result (λ x. IfOk found (λ r. (r.0 ≡ x) × (new ≡ passed_to old r.1))) → (IsOk result → IsOk found)
+        → OnErr result (new ≡ failed_at old) → IfErr result (λ e. found ≡ Err e) → Says old new result
+    takes_big new (Ok r) (Ok x) stands kind none wide taken some stays error = subst (λ y. Says old new (Ok y)) taken.0 (reads new r.0 r.1 stands taken.1)
+    takes_big new (Err e) (Ok x) stands kind none wide taken some stays error = absurd (let no' = some refl in cc)
+    takes_big new (Ok r) (Err e) stands kind none wide taken some stays error = absurd (let no' : ◌≡◌ {A = Result (A × ℕ) SerdeError} (Ok r) (Err e) = error in cc)
+    takes_big new (Err g) (Err e) stands kind none wide taken some stays error = by kind
+      where
+        same : g ≡ e
+        same = cc
+
+        by : (g ≡ InvalidInput) ⊎ (g ≡ TooWide) ⊎ (g ≡ NoMemory) → Says old new (Err e)
+        by (inl is) = rw (← same, is) (refuses old new stays within sound (λ due. none (rw is tt)))
+        by (inr (inl is)) = let there = wide (ap Err is) in rw (← same, is) (exceeds_limits old new stays within sound due there.0 there.1)
+        by (inr (inr is)) = rw (← same, is) (runs_out old new stays within sound)
+
+    -- it answers so wherever a number does
+    pub answers_wide : (found : Result (A × ℕ) SerdeError) (result : Result A SerdeError) → IfOk found (λ r. Stands r.0 r.1)
+        → IfErr found (λ e. (e ≡ InvalidInput) ⊎ (e ≡ TooWide) ⊎ (e ≡ NoMemory)) → (Exceeds w old site.table (scalar_place s site.place.time) → StandsNot w old site.table (scalar_place s site.place.time))
+        → (IsInvalid found → Exceeds w old site.table (scalar_place s site.place.time) → ⊥) → (IsOk result → IsOk found) → IfErr result (λ e. found ≡ Err e)
+        → AnswersWide w old site s result
+    answers_wide (Ok r) (Ok x) stands kind not' none some error due' sound' there = absurd (not' there (scalar_value (value r.0)) r.1 stands)
+    answers_wide (Err e) (Ok x) stands kind not' none some error due' sound' there = absurd (let no' = some refl in cc)
+    answers_wide (Ok r) (Err e) stands kind not' none some error due' sound' there = absurd (let no' : ◌≡◌ {A = Result (A × ℕ) SerdeError} (Ok r) (Err e) = error in cc)
+    answers_wide (Err g) (Err e) stands kind not' none some error due' sound' there = by kind
+      where
+        same : g ≡ e
+        same = cc
+
+        by : (g ≡ InvalidInput) ⊎ (g ≡ TooWide) ⊎ (g ≡ NoMemory) → IsErrOf {T = A} (Err e) TooWide ⊎ IsErrOf {T = A} (Err e) NoMemory
+        by (inl is) = absurd (none (rw is tt) there)
+        by (inr (inl is)) = inl (ap Err (sym same ∙ is))
+        by (inr (inr is)) = inr (ap Err (sym same ∙ is))
+
+-- a reader that isn't ready has nothing to answer
+pub not_ready_wide : {A : Type 0} (w : Relations) (old : Cursor) (site : Site) (s : Scalar) (result : Result A SerdeError) (e : SerdeError)
+    → ◌≡◌ {A = Result Unit SerdeError} (Err e) (if old.failed then Err Failed else (if old.due then Ok tt else Err InvalidInput)) → AnswersWide w old site s result
+not_ready_wide w old site s result e answer due sound there = by old.failed old.due due sound answer
+  where
+    by : (failed due : Bool) → due ≡ true → failed ≡ false → ◌≡◌ {A = Result Unit SerdeError} (Err e) (if failed then Err Failed else (if due then Ok tt else Err InvalidInput))
+        → IsErrOf result TooWide ⊎ IsErrOf result NoMemory
+    by true due is no' answer = cc
+    by false false is no' answer = cc
+    by false true is no' answer = cc
 
 -- ---- whole numbers of fewer bits
 

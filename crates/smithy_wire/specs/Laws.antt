@@ -2,6 +2,7 @@
 use Rattle.std.specs.Prelude.{◌≡◌, ◌⊎◌, ◌<◌, ◌≤◌, ℕ, zero, suc, length, drop, List, Option, Some, true, false, refl}
 use Rattle.std.proofs.Common.{sym, ◌∙◌, ap, arith, subst, inl, inr}
 use Rattle.smithy_schema.specs.declared.place.Place.{Place}
+use Rattle.smithy_schema.specs.Limits.{kept}
 use Rattle.smithy_schema.specs.Table.{Table, Kind, kind_of, IsStructure}
 use Rattle.smithy_schema.specs.Value.{Value}
 use Rattle.smithy_schema.specs.Reading.{Mark, Child, child_value, child_null, child_unknown, IsChild, IsLawful, StandsFit, CountsOpeners, IsBelow}
@@ -117,9 +118,9 @@ module _ {L : Type 0} (w : Frames L) (r : Rules L) (wire : IsWire w) where
         (w.over_mark, inr (structure', wire.empty_is_over, refl, refl), inr (structure', wire.empty_is_over, refl, refl, omega arith));
   }
 
--- where what scalars mean is a value of their kind, what stands is a value of its place
-pub stands_fit : {L : Type 0} (w : Frames L) (r : Rules L) → RulesFit w r → StandsFit (relations w r)
-stands_fit w r fits = record { fits = λ i t p d a v e h. meaning_fits w r fits i t d h.0 p v a e h.1 h.2 }
+-- where what scalars mean is a value of their kind, what stands within the limits is a value of its place
+pub stands_fit : {L : Type 0} (w : Frames L) (r : Rules L) → r.limits ≡ kept → RulesFit w r → StandsFit (relations w r)
+stands_fit w r keeps fits = record { fits = λ i t p d a v e h. meaning_fits w r keeps fits i t d h.0 p v a e h.1 h.2 }
 
 -- what holds with the limits kept holds with them lifted
 pub lifted_is_above : {L : Type 0} (w : Frames L) (r : Rules L) → IsBelow (relations w r) (relations w (lift r))

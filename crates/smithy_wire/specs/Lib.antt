@@ -1,6 +1,7 @@
 -- to be believed, in this order: what a body means, whichever wire carries it
 pub mod Node
 pub mod Rules
+pub mod BigNumbers
 pub mod Meaning
 -- how a wire frames its nodes, and the relations of reading that follow
 pub mod Frames

@@ -1,17 +1,22 @@
 -- What a node means at a place of a table, whichever wire it came from.
-use Rattle.std.specs.Prelude.{ℕ, suc, List, [], ◌∷◌, Bool, true, false, Option, Some, None, option_and_then, if◌then◌else◌}
+use Rattle.std.specs.Prelude.{◌≡◌, ℕ, suc, List, [], ◌∷◌, Bool, true, false, Option, Some, None, option_and_then, if◌then◌else◌}
 use Rattle.smithy_schema.specs.declared.place.Place.{Place}
 use Rattle.smithy_schema.specs.declared.shape_type.TimestampFormat.{TimestampFormat}
 use Rattle.smithy_schema.specs.Table.{Table, Kind, scalar, structure_of, union_of, list_of, map_of, kind_of, place_in}
 use Rattle.smithy_schema.specs.Value.{Value, structure, no_member_values, null_element}
 use Rattle.smithy_schema.specs.Container.{Entry, container_of}
 use Rattle.smithy_wire.specs.Node.{Form, as_array, as_object, Node, null_node, leaf, container, missing, Nodes, no_nodes, node, is_null}
-use Rattle.smithy_wire.specs.Rules.{settled, Rules, at_depth, may_skip, key_text, position_in, is_absent}
+use Rattle.smithy_wire.specs.Rules.{settled, wide, Rules, at_depth, may_skip, key_text, position_in, is_absent}
 
 -- what a scalar of the body means as a kind
 abbrev pub leaf_meaning : {L : Type 0} → Rules L → Kind → Option TimestampFormat → L → Option Value
 leaf_meaning r (scalar s) time x = settled r.limits null_element (r.says s time x)
 leaf_meaning r _ time x = None
+
+-- as the kind, the scalar is a big number that leaves the limits of the kind
+abbrev pub IsTooWide : {L : Type 0} → Rules L → Kind → Option TimestampFormat → L → Type 0
+IsTooWide r (scalar s) time x = r.says s time x ≡ wide
+IsTooWide r _ time x = ⊥
 
 -- lists are arrays, and structures, unions and maps are objects
 abbrev pub is_in : Kind → Form → Bool

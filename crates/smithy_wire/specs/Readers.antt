@@ -11,8 +11,8 @@ use Rattle.smithy_schema.specs.Container.{container_of}
 use Rattle.smithy_schema.specs.Reading.{Mark}
 use Rattle.smithy_schema.specs.Lemmas.Options.{chosen}
 use Rattle.smithy_wire.specs.Node.{Form, Node, null_node, leaf, container, missing}
-use Rattle.smithy_wire.specs.Rules.{settled, answer_of, Rules, is_shallow, at_depth, key_text, position_in, drops_null, is_mark}
-use Rattle.smithy_wire.specs.Meaning.{leaf_meaning, is_in, missing_meaning, meaning, entries}
+use Rattle.smithy_wire.specs.Rules.{settled, answer_of, wide, Rules, is_shallow, at_depth, key_text, position_in, drops_null, is_mark}
+use Rattle.smithy_wire.specs.Meaning.{leaf_meaning, IsTooWide, is_in, missing_meaning, meaning, entries}
 use Rattle.smithy_wire.specs.Frames.{Frames, Lies, IsTold, Drops, DropsAll, StepsIn, EndsIn, relations}
 use Rattle.smithy_wire.specs.Wire.{IsWire}
 use Rattle.smithy_wire.specs.Lemmas.Nodes.{one_node}
@@ -52,6 +52,14 @@ module _ {L : Type 0} (w : Frames L) (r : Rules L) (i : List ℕ) (t : Table) (p
         of missing lies means =
             let none : at_depth r (suc d) (missing_meaning (scalar s)) ≡ Some v = ap (λ k. at_depth r (suc d) (missing_meaning k)) (sym kind) ∙ means in
             absurd (let no' = (chosen (is_shallow r (suc d)) None v none).1 in cc)
+
+    -- what is too wide as the kind exceeds its limits there
+    pub scalar_exceeds : (a : ℕ) (x : L) (e : ℕ) → w.scalar i d x a e → r.says s p.time x ≡ wide → (relations w r).exceeds i t p d a e
+    scalar_exceeds a x e lies says = (x, lies, subst (λ k. IsTooWide r k p.time x) (sym kind) says)
+
+    -- and nothing else does
+    pub exceeds_scalar : (a e : ℕ) → (relations w r).exceeds i t p d a e → (x : L) × w.scalar i d x a e × (r.says s p.time x ≡ wide)
+    exceeds_scalar a e (x, lies, says) = (x, lies, subst (λ k. IsTooWide r k p.time x) kind says)
 
   -- ---- containers
 

@@ -36,6 +36,11 @@ abbrev pub answer_of : {A : Type 0} → Option A → Answer A
 answer_of None = no_meaning
 answer_of (Some v) = means v
 
+-- a number means its value within the limits of its kind, and beyond them it is wide
+abbrev pub bounded : {A B : Type 0} → (A → Bool) → (A → B) → Option A → Answer B
+bounded fits value_of None = no_meaning
+bounded fits value_of (Some n) = if fits n then means (value_of n) else wide
+
 -- what a wire and its settings decide
 pub record Rules (L : Type 0) : Type 0 where
   -- ---- the wire

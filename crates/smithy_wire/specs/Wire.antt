@@ -2,6 +2,7 @@
 use Rattle.std.specs.Prelude.{◌≡◌, ◌⊎◌, ◌<◌, ◌≤◌, ℕ, suc, length, drop, List, [], Option, Some, true, false, IsUtf8}
 use Rattle.smithy_schema.specs.declared.place.Place.{Place}
 use Rattle.smithy_schema.specs.declared.shape_type.Scalar.{Scalar}
+use Rattle.smithy_schema.specs.Limits.{kept}
 use Rattle.smithy_schema.specs.Table.{Table, scalar, kind_of}
 use Rattle.smithy_schema.specs.Value.{Value, null_element}
 use Rattle.smithy_schema.specs.Fits.{Fits}
@@ -65,11 +66,12 @@ pub record BoundsOpeners {L : Type 0} (w : Frames L) : Type 0 where
       → w.openers (drop c i) ≤ w.openers (drop b i)
   pub end_takes_one : (s : Form) (i : List ℕ) (b : ℕ) (m : Mark) (e : ℕ) → w.ends s i b m e → w.openers (drop e i) ≤ suc (w.openers (drop b i))
 
--- What a scalar that lies somewhere means as a kind is a value of it, and the text of a key is in UTF-8. Where the
--- limits are lifted the first may be false: what is too wide then means a null.
+-- What a scalar that lies somewhere means as a kind is a value of it, with the limits kept: where they are lifted, what is
+-- too wide means a null. And the text of a key is in UTF-8.
 pub record RulesFit {L : Type 0} (w : Frames L) (r : Rules L) : Type 0 where
   pub says_fits : (i : List ℕ) (d : ℕ) (x : L) (a e : ℕ) → w.scalar i d x a e
       → (t : Table) (p : Place) (s : Scalar) (v : Value) → kind_of t p ≡ scalar s
+      → r.limits ≡ kept
       → settled r.limits null_element (r.says s p.time x) ≡ Some v → Fits t p v
   pub key_fits : (i : List ℕ) (b : ℕ) (m : Mark) (key : L) (c : ℕ) (n : Mark) (text : List ℕ)
       → w.entry as_object i b m (Some key) c n → r.text_of key ≡ Some text → IsUtf8 text

@@ -124,6 +124,64 @@ fn other_forms_are_read(rt: HostRuntime) -> Result<(), Fail> {
     Ok(())
 }
 
+/// A whole number, and its canonical bytes.
+#[derive(Clone, Copy)]
+struct WholeNumber(i128, &'static [u8]);
+
+const WHOLE_NUMBERS: [WholeNumber; 5] = [
+    WholeNumber(-42, b"\x38\x29"),
+    WholeNumber(
+        18446744073709551616,
+        b"\xc2\x49\x01\x00\x00\x00\x00\x00\x00\x00\x00",
+    ),
+    WholeNumber(
+        -18446744073709551616,
+        b"\x3b\xff\xff\xff\xff\xff\xff\xff\xff",
+    ),
+    WholeNumber(
+        i128::MAX,
+        b"\xc2\x50\x7f\xff\xff\xff\xff\xff\xff\xff\xff\xff\xff\xff\xff\xff\xff\xff",
+    ),
+    WholeNumber(
+        i128::MIN,
+        b"\xc3\x50\x7f\xff\xff\xff\xff\xff\xff\xff\xff\xff\xff\xff\xff\xff\xff\xff",
+    ),
+];
+
+/// An exponent, a mantissa, and the canonical bytes of their decimal fraction.
+#[derive(Clone, Copy)]
+struct Fraction(i64, i128, &'static [u8]);
+
+const FRACTIONS: [Fraction; 4] = [
+    Fraction(-2, 27315, b"\xc4\x82\x21\x19\x6a\xb3"),
+    Fraction(0, -5, b"\xc4\x82\x00\x24"),
+    Fraction(
+        i64::MAX,
+        1,
+        b"\xc4\x82\x1b\x7f\xff\xff\xff\xff\xff\xff\xff\x01",
+    ),
+    Fraction(
+        0,
+        -18446744073709551617,
+        b"\xc4\x82\x00\xc3\x49\x01\x00\x00\x00\x00\x00\x00\x00\x00",
+    ),
+];
+
+#[test]
+fn numbers_are_written_by_their_parts(rt: HostRuntime) -> Result<(), Fail> {
+    for WholeNumber(number, bytes) in &WHOLE_NUMBERS {
+        let mut encoder = Encoder::new(Vec::new(rt.alloc()));
+        encoder.whole(*number)?;
+        assert_eq!(rt; encoder.into_writer().as_slice(), *bytes, "{number}");
+    }
+    for Fraction(exponent, mantissa, bytes) in &FRACTIONS {
+        let mut encoder = Encoder::new(Vec::new(rt.alloc()));
+        encoder.decimal_fraction(*exponent, *mantissa)?;
+        assert_eq!(rt; encoder.into_writer().as_slice(), *bytes, "{mantissa}");
+    }
+    Ok(())
+}
+
 #[test]
 fn a_number_beyond_128_bits_is_not_written(rt: HostRuntime) -> Result<(), Fail> {
     let text = "170141183460469231731687303715884105728";

@@ -17,7 +17,7 @@ use Rattle.smithy_cbor_codec.specs.Private.Entries.{no_due, same_due}
 
 -- ---- the head
 
-same_head : (s : List ℕ) (h k : HeadRead) → 0 < h.length → BeginsWithHead s h → BeginsWithHead s k → h ≡ k
+pub same_head : (s : List ℕ) (h k : HeadRead) → 0 < h.length → BeginsWithHead s h → BeginsWithHead s k → h ≡ k
 same_head [] h k some p q = let within : h.length ≤ 0 = p.0 in absurd (omega (arith, within, some))
 same_head (b ∷ s) h k some p q = head_is_only b s h p ∙ sym (head_is_only b s k q)
 

@@ -2,7 +2,7 @@
 use Rattle.std.specs.Prelude.{◌≡◌, ◌==◌, ℕ, ℤ, List, [], ◌∷◌, Some, None, Bool, true, false, IsUtf8, refl, option_map, cond}
 use Rattle.std.specs.List.{list_all, concat}
 use Rattle.std.specs.Str.{is_utf8}
-use Rattle.std.proofs.Common.{sym, ◌∙◌, ap, subst, arith}
+use Rattle.std.proofs.Common.{◌∙◌, ap, subst, arith}
 use Rattle.std.proofs.lemmas.Bool.{and_parts}
 use Rattle.std.proofs.lemmas.Bool.Decides.{nat_tests}
 use Rattle.std.proofs.lemmas.Str.{IsUtf8-append, IsUtf8-nil, IsUtf8-from_is_utf8, is_utf8-from_IsUtf8}
@@ -10,17 +10,16 @@ use Rattle.smithy_schema.specs.declared.place.Place.{Place}
 use Rattle.smithy_schema.specs.declared.shape_type.Scalar.{Scalar}
 use Rattle.smithy_schema.specs.declared.shape_type.Scalar.TheVariants as scalars
 use Rattle.smithy_schema.specs.Table.{Table, scalar, kind_of}
-use Rattle.smithy_schema.specs.Value.{boolean, whole, text, bytes, Value, scalar_value, null_element}
+use Rattle.smithy_schema.specs.Value.{boolean, whole, text, bytes, Value, scalar_value}
 use Rattle.smithy_schema.specs.Fits.{is_of, Fits}
 use Rattle.smithy_schema.specs.Lemmas.Options.{same_some, step_apart, chosen, made}
 use Rattle.cbor_item.specs.Item.{Item, unsigned, negative, byte_string, text_string, array, map as map_item, tag, simple, float}
-use Rattle.smithy_cbor_codec.specs.Settings.{Settings}
-use Rattle.smithy_cbor.specs.Scalar.{false_value, true_value, boolean_item, integer_of, joined_text, text_of, bytes_of}
-use Rattle.smithy_cbor_codec.specs.Scalar.{boolean_of, whole_of, blob_of, says}
+use Rattle.smithy_cbor.specs.Scalar.{false_value, true_value, boolean_item, integer_of, joined_text, text_of, bytes_of, big_integer_of}
+use Rattle.smithy_cbor_codec.specs.Scalar.{boolean_of, whole_of, blob_of, decimal_form_of, says}
 use Rattle.smithy_texts.specs.Base64Text.{are_bytes}
 use Rattle.smithy_texts.specs.Ranges.{fits_signed}
-use Rattle.smithy_wire.specs.Rules.{settled}
-use Rattle.smithy_wire.specs.Readers.{settled_answer}
+use Rattle.smithy_wire.specs.Rules.{means}
+use Rattle.smithy_wire.proofs.Bounds.{answer_means, big_integer_fits, big_decimal_fits}
 
 -- what is a whole number is an integer that fits its bits
 pub whole_is : (bits : ℕ) (x : Item) (v : Value) → whole_of bits x ≡ Some v → (z : ℤ) × (integer_of x ≡ Some z) × (fits_signed bits z ≡ true) × (scalar_value (whole z) ≡ v)
@@ -84,22 +83,24 @@ blob_is x v h =
     (found.0, found.1, small.0, ap (λ b. scalar_value (bytes b)) (same_some found.0 b.0 small.1) ∙ b.2)
 
 -- a law of a wire
-pub says_fits : (c : Settings) (x : Item) (t : Table) (p : Place) (s : Scalar) (v : Value) → kind_of t p ≡ scalar s
-    → settled c.limits null_element (says s p.time x) ≡ Some v → Fits t p v
-says_fits c x t p scalars.Boolean v kind h =
-    let b = boolean_is x v (sym (settled_answer c.limits null_element (boolean_of x)) ∙ h) in
+pub says_fits : (x : Item) (t : Table) (p : Place) (s : Scalar) (v : Value) → kind_of t p ≡ scalar s
+    → says s p.time x ≡ means v → Fits t p v
+says_fits x t p scalars.Boolean v kind h =
+    let b = boolean_is x v (answer_means (boolean_of x) v h) in
     subst (Fits t p) b.2 (rw kind refl)
-says_fits c x t p scalars.Byte v kind h =
-    whole_fits 8 scalars.Byte (λ z. refl) t p x v kind (sym (settled_answer c.limits null_element (whole_of 8 x)) ∙ h)
-says_fits c x t p scalars.Short v kind h =
-    whole_fits 16 scalars.Short (λ z. refl) t p x v kind (sym (settled_answer c.limits null_element (whole_of 16 x)) ∙ h)
-says_fits c x t p scalars.Integer v kind h =
-    whole_fits 32 scalars.Integer (λ z. refl) t p x v kind (sym (settled_answer c.limits null_element (whole_of 32 x)) ∙ h)
-says_fits c x t p scalars.Long v kind h =
-    whole_fits 64 scalars.Long (λ z. refl) t p x v kind (sym (settled_answer c.limits null_element (whole_of 64 x)) ∙ h)
-says_fits c x t p scalars.String v kind h =
-    let s = made (λ s. scalar_value (text s)) (text_of x) v (sym (settled_answer c.limits null_element (option_map (λ s. scalar_value (text s)) (text_of x))) ∙ h) in
+says_fits x t p scalars.Byte v kind h =
+    whole_fits 8 scalars.Byte (λ z. refl) t p x v kind (answer_means (whole_of 8 x) v h)
+says_fits x t p scalars.Short v kind h =
+    whole_fits 16 scalars.Short (λ z. refl) t p x v kind (answer_means (whole_of 16 x) v h)
+says_fits x t p scalars.Integer v kind h =
+    whole_fits 32 scalars.Integer (λ z. refl) t p x v kind (answer_means (whole_of 32 x) v h)
+says_fits x t p scalars.Long v kind h =
+    whole_fits 64 scalars.Long (λ z. refl) t p x v kind (answer_means (whole_of 64 x) v h)
+says_fits x t p scalars.String v kind h =
+    let s = made (λ s. scalar_value (text s)) (text_of x) v (answer_means (option_map (λ s. scalar_value (text s)) (text_of x)) v h) in
     subst (Fits t p) s.2 (rw kind (is_utf8-from_IsUtf8 s.0 (text_is_utf8 x s.0 s.1)))
-says_fits c x t p scalars.Blob v kind h =
-    let b = blob_is x v (sym (settled_answer c.limits null_element (option_map (λ b. scalar_value (bytes b)) (blob_of x))) ∙ h) in
+says_fits x t p scalars.Blob v kind h =
+    let b = blob_is x v (answer_means (option_map (λ b. scalar_value (bytes b)) (blob_of x)) v h) in
     subst (Fits t p) b.3 (rw kind b.2)
+says_fits x t p scalars.BigInteger v kind h = big_integer_fits t p (big_integer_of x) v kind h
+says_fits x t p scalars.BigDecimal v kind h = big_decimal_fits t p (decimal_form_of x) v kind h

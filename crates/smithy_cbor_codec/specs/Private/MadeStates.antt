@@ -2,11 +2,13 @@
 use Rattle.std.specs.Prelude.{◌≡◌, ℕ, List, [], ◌∷◌, ◌++◌, Result, Ok, Err, refl}
 use Rattle.std.proofs.Common.{sym, ◌∙◌, ap}
 use Rattle.smithy_schema.specs.declared.error.SerdeError.{SerdeError}
-use Rattle.smithy_schema.specs.Writing.{Event, begin_structure, end_structure, begin_list, end_list, begin_map, end_map, null_of, scalar_of, Open}
+use Rattle.smithy_schema.specs.Writing.{Event, begin_structure, end_structure, begin_list, end_list, begin_map, end_map, null_of, scalar_of, big_integer_of, big_decimal_of, Open}
 use Rattle.cbor_item.specs.Head.{shortest_head}
 use Rattle.cbor_item.specs.WellFormed.{break}
 use Rattle.smithy_cbor.specs.Scalar.{null_value}
-use Rattle.smithy_cbor.specs.Written.{opening_bytes}
+use Rattle.smithy_cbor.specs.Written.{opening_bytes, big_integer_bytes, decimal_fraction_bytes}
+use Rattle.smithy_texts.specs.Numeral.{number}
+use Rattle.smithy_texts.specs.Decimal.{mantissa, net_exponent}
 use Rattle.smithy_cbor_codec.specs.Canonical.{scalar_bytes}
 use Rattle.smithy_cbor_codec.specs.Writing.{CborState, lead, made, where_taken}
 
@@ -20,6 +22,8 @@ made_frames (begin_map site length) s frames = refl
 made_frames end_map s frames = refl
 made_frames (null_of site) s frames = refl
 made_frames (scalar_of site x) s frames = refl
+made_frames (big_integer_of site written) s frames = refl
+made_frames (big_decimal_of site written) s frames = refl
 
 -- and its bytes begin with those before
 made_grows : (e : Event) (s : CborState) (frames : List Open) → (more : List ℕ) × ((made e s frames).out ≡ s.out ++ more)
@@ -31,6 +35,8 @@ made_grows (begin_map site length) s frames = (lead s site.view ++ opening_bytes
 made_grows end_map s frames = (break ∷ [], refl)
 made_grows (null_of site) s frames = (lead s site.view ++ shortest_head 7 null_value, refl)
 made_grows (scalar_of site x) s frames = (lead s site.view ++ scalar_bytes x, refl)
+made_grows (big_integer_of site written) s frames = (lead s site.view ++ big_integer_bytes (number written), refl)
+made_grows (big_decimal_of site written) s frames = (lead s site.view ++ decimal_fraction_bytes (net_exponent written) (mantissa written), refl)
 
 -- the containers of the state that is made
 pub taken_frames : (e : Event) (s t : CborState) (frames : Result (List Open) SerdeError) → where_taken (made e s) frames ≡ Ok t → frames ≡ Ok t.frames

@@ -1,15 +1,21 @@
 -- The null, the integer or the text that stands at a place, as private functions answer it.
-use Rattle.std.specs.Prelude.{◌≡◌, ℕ, suc, ℤ, List, drop, Some, true}
+use Rattle.std.specs.Prelude.{◌≡◌, ℕ, suc, ℤ, List, drop, Some, None, true}
+use Rattle.smithy_cbor.specs.declared.error.DecodeKind.{DecodeKind}
+use Rattle.smithy_cbor.specs.declared.error.DecodeKind.TheVariants as kinds
+use Rattle.smithy_schema.specs.declared.shape_type.Scalar.{Scalar}
+use Rattle.smithy_schema.specs.Value.{ScalarValue, scalar_value}
+use Rattle.smithy_cbor_codec.specs.Scalar.{says}
+use Rattle.smithy_wire.specs.Rules.{means, no_meaning, wide}
 use Rattle.cbor_item.specs.declared.error.ItemError.{ItemError}
 use Rattle.cbor_item.specs.declared.error.ItemError.TheVariants as item
 use Rattle.cbor_item.specs.Item.{Item}
 use Rattle.cbor_item.specs.WellFormed.{IsItemAt}
 use Rattle.smithy_schema.specs.declared.error.SerdeError.{SerdeError}
-use Rattle.smithy_schema.specs.declared.error.SerdeError.TheVariants.{InvalidInput, NoMemory}
+use Rattle.smithy_schema.specs.declared.error.SerdeError.TheVariants.{InvalidInput, TooWide, NoMemory}
 use Rattle.smithy_cbor.specs.Scalar.{integer_of, text_of, bytes_of}
 use Rattle.smithy_texts.specs.Base64Text.{are_bytes}
 use Rattle.smithy_texts.specs.Ranges.{fits_signed}
-use Rattle.smithy_cbor_codec.specs.Standing.{null_byte, begins_with, Follows}
+use Rattle.smithy_cbor_codec.specs.Standing.{null_byte, begins_with, Follows, cbor_frames}
 
 -- the refusal of what isn't read for the item's fault
 abbrev pub refusal_of : ItemError → SerdeError
@@ -49,3 +55,26 @@ pub record IsBlobAt (blob : List ℕ) (input : List ℕ) (at depth e : ℕ) : Ty
   pub is : bytes_of found ≡ Some blob
   pub bytes : are_bytes blob ≡ true
   pub follows : Follows depth input e
+
+-- the refusal of a big number that a decoder doesn't read
+abbrev pub number_refusal : DecodeKind → SerdeError
+number_refusal kinds.TooWide = TooWide
+number_refusal kinds.NoMemory = NoMemory
+number_refusal _ = InvalidInput
+
+-- as a kind without time forms, this value stands there, where a value may end behind it
+pub record MeansAt (s : Scalar) (input : List ℕ) (at depth : ℕ) (v : ScalarValue) (e : ℕ) : Type 0 where
+  pub found : Item
+  pub lies : cbor_frames.scalar input depth found at e
+  pub is : says s None found ≡ means (scalar_value v)
+
+-- or a number that leaves the limits of the kind
+pub record ExceedsAt (s : Scalar) (input : List ℕ) (at depth : ℕ) : Type 0 where
+  pub found : Item
+  pub e : ℕ
+  pub lies : cbor_frames.scalar input depth found at e
+  pub is : says s None found ≡ wide
+
+-- whatever stands there is nothing of the kind
+abbrev pub NothingAt : Scalar → List ℕ → ℕ → ℕ → Type 0
+NothingAt s input at depth = (x : Item) (e : ℕ) → cbor_frames.scalar input depth x at e → says s None x ≡ no_meaning

@@ -260,6 +260,32 @@ fn bytes_are_read_in_one_piece_and_in_chunks(rt: HostRuntime) -> Result<(), Fail
     Ok(())
 }
 
+#[test]
+fn big_numbers_are_read_in_every_form(rt: HostRuntime) -> Result<(), Fail> {
+    let shapes = Shapes::build(rt.alloc(), TableText::read(rt.alloc(), TABLE)?)?;
+    let root = shapes.find("S").ok_or("the table has no S")?;
+    let schema = shapes.schema(root);
+    let codec = CborCodec::strict();
+    let mut plain = codec.create_deserializer(rt.alloc(), b"\x20");
+    let number = plain.read_big_integer(&schema)?;
+    assert_eq!(rt; number.as_ref(), "-1", "an integer");
+    let mut above = codec.create_deserializer(rt.alloc(), b"\xc2\x4a\x00\x01\0\0\0\0\0\0\0\0");
+    let number = above.read_big_integer(&schema)?;
+    assert_eq!(rt;
+        number.as_ref(),
+        "18446744073709551616",
+        "a bignum with a leading zero"
+    );
+    assert_eq!(rt; above.position(), 12, "the offset behind it");
+    let mut below = codec.create_deserializer(rt.alloc(), b"\xc3\x41\x02");
+    let number = below.read_big_integer(&schema)?;
+    assert_eq!(rt; number.as_ref(), "-3", "a negative bignum");
+    let mut decimal = codec.create_deserializer(rt.alloc(), b"\xc4\x82\x23\x19\x30\x0c");
+    let number = decimal.read_big_decimal(&schema)?;
+    assert_eq!(rt; number.as_ref(), "12300e-4", "a decimal fraction");
+    Ok(())
+}
+
 // So many structures, each in the last one's member.
 fn nested(alloc: Global, depth: usize) -> Result<Vec<u8>, Fail> {
     let mut input = Vec::new(alloc);
@@ -310,14 +336,16 @@ enum Call {
     Long,
     Text,
     Bytes,
+    BigWhole,
+    Big,
 }
 
-use Call::{Bytes, List, Long, Null, Skip, Structure, Text};
+use Call::{Big, BigWhole, Bytes, List, Long, Null, Skip, Structure, Text};
 
 #[derive(Clone, Copy)]
 struct Refused(&'static str, Call, &'static [u8]);
 
-const REFUSED: [Refused; 20] = [
+const REFUSED: [Refused; 27] = [
     Refused("an array is no structure", Structure, b"\x80"),
     Refused("a map is no list", List, b"\xa0"),
     Refused("nothing is no list", List, b""),
@@ -338,6 +366,13 @@ const REFUSED: [Refused; 20] = [
     Refused("a byte string that is cut off", Bytes, b"\x42\x01"),
     Refused("a text among chunks of bytes", Bytes, b"\x5f\x61a\xff"),
     Refused("a byte behind a byte string", Bytes, b"\x41\x01\x00"),
+    Refused("a text is no big integer", BigWhole, b"\x611"),
+    Refused("a decimal is no big integer", BigWhole, b"\xc4\x82\x00\x01"),
+    Refused("a bignum over an integer", BigWhole, b"\xc2\x01"),
+    Refused("a bignum in chunks", BigWhole, b"\xc2\x5f\x41\x01\xff"),
+    Refused("a bignum that is cut off", BigWhole, b"\xc3\x42\x01"),
+    Refused("a decimal of one part", Big, b"\xc4\x81\x00"),
+    Refused("a decimal of three parts", Big, b"\xc4\x83\x00\x01\x02"),
 ];
 
 fn make<R: ShapeDeserializer>(
@@ -366,6 +401,14 @@ fn make<R: ShapeDeserializer>(
             source.read_blob(structure)?;
             Ok(())
         }
+        BigWhole => {
+            source.read_big_integer(structure)?;
+            Ok(())
+        }
+        Big => {
+            source.read_big_decimal(structure)?;
+            Ok(())
+        }
     }
 }
 
@@ -384,7 +427,9 @@ fn what_stands_otherwise_is_refused(rt: HostRuntime) -> Result<(), Fail> {
         let after = make(&mut source, &structure, &list, *call);
         assert_eq!(rt; after, Err(SerdeError::Failed), "{name}");
     }
-    for call in &[Structure, List, Null, Skip, Long, Text, Bytes] {
+    for call in &[
+        Structure, List, Null, Skip, Long, Text, Bytes, BigWhole, Big,
+    ] {
         let mut source = CborCodec::strict().create_deserializer(rt.alloc(), b"\x01");
         source.read_long(&structure)?;
         let answer = make(&mut source, &structure, &list, *call);
@@ -470,5 +515,49 @@ fn a_null_is_told_and_read(rt: HostRuntime) -> Result<(), Fail> {
     assert!(rt; source.is_null());
     assert_eq!(rt; source.read_null(), Ok(()), "a null");
     assert_eq!(rt; source.position(), 1);
+    Ok(())
+}
+
+#[derive(Clone, Copy)]
+struct Wide(&'static str, Call, &'static [u8]);
+
+const WIDE: [Wide; 4] = [
+    Wide(
+        "2^127",
+        BigWhole,
+        b"\xc2\x50\x80\0\0\0\0\0\0\0\0\0\0\0\0\0\0\0",
+    ),
+    Wide(
+        "-2^127 - 1",
+        BigWhole,
+        b"\xc3\x50\x80\0\0\0\0\0\0\0\0\0\0\0\0\0\0\0",
+    ),
+    Wide(
+        "a mantissa of 2^127",
+        Big,
+        b"\xc4\x82\x00\xc2\x50\x80\0\0\0\0\0\0\0\0\0\0\0\0\0\0\0",
+    ),
+    Wide(
+        "an exponent of 2^63",
+        Big,
+        b"\xc4\x82\x1b\x80\0\0\0\0\0\0\0\x01",
+    ),
+];
+
+#[test]
+fn what_leaves_its_limits_is_too_wide(rt: HostRuntime) -> Result<(), Fail> {
+    let shapes = Shapes::build(rt.alloc(), TableText::read(rt.alloc(), TABLE)?)?;
+    let structure = shapes.find("S").ok_or("the table has no S")?;
+    let list = shapes.find("L").ok_or("the table has no L")?;
+    let (structure, list) = (shapes.schema(structure), shapes.schema(list));
+    assert!(rt; structure.shape_type() == ShapeType::Structure);
+    assert!(rt; list.shape_type() == ShapeType::List);
+    for Wide(name, call, input) in &WIDE {
+        let mut source = CborCodec::strict().create_deserializer(rt.alloc(), input);
+        let answer = make(&mut source, &structure, &list, *call);
+        assert_eq!(rt; answer, Err(SerdeError::TooWide), "{name}");
+        let after = make(&mut source, &structure, &list, *call);
+        assert_eq!(rt; after, Err(SerdeError::Failed), "{name}");
+    }
     Ok(())
 }

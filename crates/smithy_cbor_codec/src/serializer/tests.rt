@@ -1,8 +1,10 @@
 //! Bodies that are written call by call.
 
 use crate::CborCodec;
-use smithy_schema::{FinishSerializer, Schema, SerdeError, ShapeSerializer, Shapes, TableText};
-use smithy_types::Blob;
+use smithy_schema::{
+    FinishSerializer, Schema, SerdeError, ShapeDeserializer, ShapeSerializer, Shapes, TableText,
+};
+use smithy_types::{BigDecimal, BigInteger, BigNumberError, Blob};
 use std::alloc::Global;
 use std::test::Fail;
 
@@ -30,11 +32,18 @@ enum Call {
     Long(At, i64),
     Text(At, &'static str),
     Bytes(At, &'static [u8]),
+    BigWhole(At, &'static str),
+    Big(At, &'static str),
+    Whole128(At, i128),
+    Decimal(At, i128, i64),
     Fail,
 }
 
 use At::{Member, Whole};
-use Call::{BeginList, BeginMap, BeginStruct, Bytes, EndList, EndMap, EndStruct, Long, Null, Text};
+use Call::{
+    BeginList, BeginMap, BeginStruct, Big, BigWhole, Bytes, Decimal, EndList, EndMap, EndStruct,
+    Long, Null, Text, Whole128,
+};
 
 #[derive(Clone, Copy)]
 struct Row {
@@ -43,7 +52,7 @@ struct Row {
     answer: Result<&'static [u8], SerdeError>,
 }
 
-const ROWS: [Row; 20] = [
+const ROWS: [Row; 28] = [
     Row {
         name: "a structure without members",
         calls: &[BeginStruct(Whole), EndStruct],
@@ -167,6 +176,80 @@ const ROWS: [Row; 20] = [
         answer: Err(SerdeError::Unwritable),
     },
     Row {
+        name: "big integers in the shortest form",
+        calls: &[
+            BeginStruct(Whole),
+            BigWhole(Member(0), "0018446744073709551615"),
+            BigWhole(Member(1), "-18446744073709551617"),
+            EndStruct,
+        ],
+        answer: Ok(
+            b"\xbf\x61a\x1b\xff\xff\xff\xff\xff\xff\xff\xff\x61b\xc3\x49\x01\0\0\0\0\0\0\0\0\xff",
+        ),
+    },
+    Row {
+        name: "a decimal keeps its zeros",
+        calls: &[BeginStruct(Whole), Big(Member(0), "1.2300"), EndStruct],
+        answer: Ok(b"\xbf\x61a\xc4\x82\x23\x19\x30\x0c\xff"),
+    },
+    Row {
+        name: "a big integer beyond 128 bits",
+        calls: &[
+            BeginStruct(Whole),
+            BigWhole(Member(0), "170141183460469231731687303715884105728"),
+        ],
+        answer: Err(SerdeError::TooWide),
+    },
+    Row {
+        name: "a mantissa beyond 128 bits",
+        calls: &[
+            BeginStruct(Whole),
+            Big(Member(0), "17014118346046923173168730371588410572.8"),
+        ],
+        answer: Err(SerdeError::TooWide),
+    },
+    Row {
+        name: "a big integer in the place of a key",
+        calls: &[
+            BeginMap(Whole),
+            BigWhole(Whole, "170141183460469231731687303715884105728"),
+        ],
+        answer: Err(SerdeError::Unwritable),
+    },
+    Row {
+        name: "whole numbers of 128 bits",
+        calls: &[
+            BeginList(Whole),
+            Whole128(Whole, i128::MIN),
+            Whole128(Whole, i128::MAX),
+            Whole128(Whole, -100),
+            EndList,
+        ],
+        answer: Ok(
+            b"\x9f\xc3\x50\x7f\xff\xff\xff\xff\xff\xff\xff\xff\xff\xff\xff\xff\xff\xff\xff\xc2\x50\x7f\xff\xff\xff\xff\xff\xff\xff\xff\xff\xff\xff\xff\xff\xff\xff\x38\x63\xff",
+        ),
+    },
+    Row {
+        name: "decimals by their parts, the exponent first",
+        calls: &[
+            BeginStruct(Whole),
+            Decimal(Member(0), 27315, -2),
+            BeginList(Member(1)),
+            Decimal(Whole, 5, 0),
+            Decimal(Whole, -18446744073709551617, 9223372036854775807),
+            EndList,
+            EndStruct,
+        ],
+        answer: Ok(
+            b"\xbf\x61a\xc4\x82\x21\x19\x6a\xb3\x61b\x9f\xc4\x82\x00\x05\xc4\x82\x1b\x7f\xff\xff\xff\xff\xff\xff\xff\xc3\x49\x01\0\0\0\0\0\0\0\0\xff\xff",
+        ),
+    },
+    Row {
+        name: "a decimal in the place of a key",
+        calls: &[BeginMap(Whole), Decimal(Whole, 5, 0)],
+        answer: Err(SerdeError::Unwritable),
+    },
+    Row {
         name: "nothing at all",
         calls: &[],
         answer: Ok(b""),
@@ -202,6 +285,11 @@ fn schema(shapes: &Shapes, at: At) -> Result<Schema<'_>, SerdeError> {
     }
 }
 
+// What a test says of a text that is no number.
+fn text_refused(_: BigNumberError) -> SerdeError {
+    SerdeError::InvalidInput
+}
+
 fn make<S: ShapeSerializer>(
     alloc: Global,
     sink: &mut S,
@@ -221,6 +309,18 @@ fn make<S: ShapeSerializer>(
         Bytes(at, bytes) => {
             let blob = Blob::new(Vec::from_slice(alloc, bytes)?);
             sink.write_blob(&schema(shapes, at)?, &blob)
+        }
+        BigWhole(at, text) => {
+            let number = BigInteger::from_str(alloc, text).map_err(text_refused)?;
+            sink.write_big_integer(&schema(shapes, at)?, &number)
+        }
+        Big(at, text) => {
+            let number = BigDecimal::from_str(alloc, text).map_err(text_refused)?;
+            sink.write_big_decimal(&schema(shapes, at)?, &number)
+        }
+        Whole128(at, number) => sink.write_i128(&schema(shapes, at)?, number),
+        Decimal(at, mantissa, exponent) => {
+            sink.write_decimal(&schema(shapes, at)?, mantissa, exponent)
         }
         Call::Fail => {
             sink.fail();
@@ -258,4 +358,25 @@ fn after_a_refused_call_each_other_is_refused(rt: HostRuntime) {
     assert_eq!(rt; sink.end_struct(), Err(SerdeError::Unwritable));
     assert_eq!(rt; sink.end_struct(), Err(SerdeError::Failed));
     assert!(rt; matches!(sink.finish(), Err(SerdeError::Failed)));
+}
+
+#[test]
+fn parts_of_numbers_are_read_back(rt: HostRuntime) -> Result<(), Fail> {
+    let shapes = Shapes::build(rt.alloc(), TableText::read(rt.alloc(), TABLE)?)?;
+    let root = shapes.find("S").ok_or("the table has no S")?;
+    let schema = shapes.schema(root);
+    let codec = CborCodec::strict();
+    let mut whole = codec.create_serializer(rt.alloc());
+    whole.write_i128(&schema, i128::MIN)?;
+    let body = whole.finish()?;
+    let mut source = codec.create_deserializer(rt.alloc(), body.as_slice());
+    let number = source.read_big_integer(&schema)?;
+    assert_eq!(rt; number.as_ref(), "-170141183460469231731687303715884105728");
+    let mut decimal = codec.create_serializer(rt.alloc());
+    decimal.write_decimal(&schema, -12300, -4)?;
+    let body = decimal.finish()?;
+    let mut source = codec.create_deserializer(rt.alloc(), body.as_slice());
+    let number = source.read_big_decimal(&schema)?;
+    assert_eq!(rt; number.as_ref(), "-12300e-4");
+    Ok(())
 }

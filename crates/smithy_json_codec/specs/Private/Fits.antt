@@ -1,27 +1,27 @@
 -- What a scalar of JSON means at a place is a value of the place.
-use Rattle.std.specs.Prelude.{◌≡◌, ℕ, ℤ, List, Some, None, true, IsUtf8, refl, option_map, if◌then◌else◌}
+use Rattle.std.specs.Prelude.{◌≡◌, ℕ, ℤ, List, Option, Some, None, true, IsUtf8, refl, option_map, if◌then◌else◌}
 use Rattle.std.proofs.Common.{sym, ◌∙◌, subst}
 use Rattle.std.proofs.lemmas.Str.{is_utf8-from_IsUtf8}
 use Rattle.smithy_schema.specs.declared.place.Place.{Place}
 use Rattle.smithy_schema.specs.declared.shape_type.Scalar.{Scalar}
 use Rattle.smithy_schema.specs.declared.shape_type.Scalar.TheVariants as scalars
 use Rattle.smithy_schema.specs.Table.{Table, scalar, kind_of}
-use Rattle.smithy_schema.specs.Value.{boolean as boolean_value, whole, text, bytes, Value, scalar_value, null_element}
+use Rattle.smithy_schema.specs.Value.{boolean as boolean_value, whole, text, bytes, Value, scalar_value}
 use Rattle.smithy_schema.specs.Fits.{is_of, Fits}
 use Rattle.smithy_schema.specs.Reading.{Mark}
 use Rattle.smithy_schema.specs.Lemmas.Options.{same_some, step_apart, chosen, made}
 use Rattle.smithy_json.specs.Grammar.{IsStringText}
 use Rattle.smithy_json.specs.Number.{whole_number}
 use Rattle.smithy_texts.specs.Base64Text.{blob_of}
+use Rattle.smithy_texts.specs.Decimal.{integer_form, decimal_form}
 use Rattle.smithy_texts.specs.Ranges.{fits_signed}
 use Rattle.smithy_texts.proofs.Base64Laws.{blob_is_bytes}
 use Rattle.smithy_json.proofs.TextLemmas.{unescaped_is_utf8}
-use Rattle.smithy_json_codec.specs.Scalar.{JsonScalar, a_boolean, a_number, a_string, boolean_of, whole_of, text_of, bytes_of, says}
-use Rattle.smithy_json_codec.specs.Settings.{Settings}
+use Rattle.smithy_json_codec.specs.Scalar.{JsonScalar, a_boolean, a_number, a_string, boolean_of, whole_of, text_of, bytes_of, number_text, number_says, says}
 use Rattle.smithy_json_codec.specs.Standing.{json_frames}
 use Rattle.smithy_wire.specs.Node.{as_object}
-use Rattle.smithy_wire.specs.Rules.{settled}
-use Rattle.smithy_wire.specs.Readers.{settled_answer}
+use Rattle.smithy_wire.specs.Rules.{means}
+use Rattle.smithy_wire.proofs.Bounds.{answer_means, big_integer_fits, big_decimal_fits}
 
 -- the number that a text writes fits its bits
 pub whole_is : (bits : ℕ) (raw : List ℕ) (v : Value) → whole_of bits (a_number raw) ≡ Some v → (z : ℤ) × (v ≡ scalar_value (whole z)) × (whole_number raw ≡ Some z) × (fits_signed bits z ≡ true)
@@ -54,18 +54,27 @@ key_fits i b m (a_string raw) c n s (name, is, mark, names) h =
     let same : raw ≡ name = cc in
     unescaped_is_utf8 raw s (subst IsStringText (sym same) names.2.2.4.2).0 h
 
--- what a scalar means fits its place, with the limits kept or lifted
-pub says_fits : (c : Settings) (i : List ℕ) (d : ℕ) (x : JsonScalar) (a e : ℕ) → json_frames.scalar i d x a e
-    → (t : Table) (p : Place) (s : Scalar) (v : Value) → kind_of t p ≡ scalar s → settled c.limits null_element (says s p.time x) ≡ Some v → Fits t p v
-says_fits c i d x a e lies t p scalars.Boolean v kind h = boolean_fits t p x v kind (sym (settled_answer c.limits null_element (boolean_of x)) ∙ h)
-says_fits c i d x a e lies t p scalars.Byte v kind h = whole_fits 8 scalars.Byte (λ z. refl) t p x v kind (sym (settled_answer c.limits null_element (whole_of 8 x)) ∙ h)
-says_fits c i d x a e lies t p scalars.Short v kind h = whole_fits 16 scalars.Short (λ z. refl) t p x v kind (sym (settled_answer c.limits null_element (whole_of 16 x)) ∙ h)
-says_fits c i d x a e lies t p scalars.Integer v kind h = whole_fits 32 scalars.Integer (λ z. refl) t p x v kind (sym (settled_answer c.limits null_element (whole_of 32 x)) ∙ h)
-says_fits c i d x a e lies t p scalars.Long v kind h = whole_fits 64 scalars.Long (λ z. refl) t p x v kind (sym (settled_answer c.limits null_element (whole_of 64 x)) ∙ h)
-says_fits c i d x a e lies t p scalars.String v kind h =
-    let s = made (λ s. scalar_value (text s)) (text_of x) v (sym (settled_answer c.limits null_element (option_map (λ s. scalar_value (text s)) (text_of x))) ∙ h) in
+-- a big number is within the limits of its kind
+number_fits : (t : Table) (p : Place) (s : Scalar) (o : Option (List ℕ)) (v : Value) → kind_of t p ≡ scalar s → number_says s o ≡ means v → Fits t p v
+number_fits t p s None v kind h = cc
+number_fits t p scalars.BigInteger (Some raw) v kind h = big_integer_fits t p (integer_form raw) v kind h
+number_fits t p scalars.BigDecimal (Some raw) v kind h = big_decimal_fits t p (decimal_form raw) v kind h
+number_fits t p _ (Some raw) v kind h = cc
+
+-- what a scalar means is a value of its kind
+pub says_fits : (i : List ℕ) (d : ℕ) (x : JsonScalar) (a e : ℕ) → json_frames.scalar i d x a e
+    → (t : Table) (p : Place) (s : Scalar) (v : Value) → kind_of t p ≡ scalar s → says s p.time x ≡ means v → Fits t p v
+says_fits i d x a e lies t p scalars.Boolean v kind h = boolean_fits t p x v kind (answer_means (boolean_of x) v h)
+says_fits i d x a e lies t p scalars.Byte v kind h = whole_fits 8 scalars.Byte (λ z. refl) t p x v kind (answer_means (whole_of 8 x) v h)
+says_fits i d x a e lies t p scalars.Short v kind h = whole_fits 16 scalars.Short (λ z. refl) t p x v kind (answer_means (whole_of 16 x) v h)
+says_fits i d x a e lies t p scalars.Integer v kind h = whole_fits 32 scalars.Integer (λ z. refl) t p x v kind (answer_means (whole_of 32 x) v h)
+says_fits i d x a e lies t p scalars.Long v kind h = whole_fits 64 scalars.Long (λ z. refl) t p x v kind (answer_means (whole_of 64 x) v h)
+says_fits i d x a e lies t p scalars.String v kind h =
+    let s = made (λ s. scalar_value (text s)) (text_of x) v (answer_means (option_map (λ s. scalar_value (text s)) (text_of x)) v h) in
     subst (Fits t p) s.2 (rw kind (is_utf8-from_IsUtf8 s.0 (text_is_utf8 i d x a e lies s.0 s.1)))
-says_fits c i d x a e lies t p scalars.Blob v kind h =
-    let b = made (λ b. scalar_value (bytes b)) (bytes_of x) v (sym (settled_answer c.limits null_element (option_map (λ b. scalar_value (bytes b)) (bytes_of x))) ∙ h) in
+says_fits i d x a e lies t p scalars.Blob v kind h =
+    let b = made (λ b. scalar_value (bytes b)) (bytes_of x) v (answer_means (option_map (λ b. scalar_value (bytes b)) (bytes_of x)) v h) in
     let s = step_apart (text_of x) blob_of b.0 b.1 in
     subst (Fits t p) b.2 (rw kind (blob_is_bytes s.0 b.0 s.2))
+says_fits i d x a e lies t p scalars.BigInteger v kind h = number_fits t p scalars.BigInteger (number_text x) v kind h
+says_fits i d x a e lies t p scalars.BigDecimal v kind h = number_fits t p scalars.BigDecimal (number_text x) v kind h

@@ -5,7 +5,7 @@ use Rattle.std.proofs.Common.{sym, ◌∙◌, ap}
 use Rattle.smithy_schema.specs.declared.error.SerdeError.{SerdeError}
 use Rattle.smithy_schema.specs.Site.{View}
 use Rattle.smithy_schema.specs.Value.{text_in}
-use Rattle.smithy_schema.specs.Writing.{Event, begin_structure, end_structure, begin_list, end_list, begin_map, end_map, null_of, scalar_of, Open}
+use Rattle.smithy_schema.specs.Writing.{Event, begin_structure, end_structure, begin_list, end_list, begin_map, end_map, null_of, scalar_of, big_integer_of, big_decimal_of, Open}
 use Rattle.smithy_json.specs.Ascii.{begin_array, end_array, begin_object, end_object}
 use Rattle.smithy_json_codec.specs.Canonical.{name_text, scalar_text}
 use Rattle.smithy_json_codec.specs.Writing.{JsonState, comma_text, lead, key_wrote, wrote, is_key_due, made, where_taken}
@@ -32,6 +32,8 @@ made_frames end_list s frames = refl
 made_frames (begin_map site length) s frames = refl
 made_frames end_map s frames = refl
 made_frames (null_of site) s frames = refl
+made_frames (big_integer_of site written) s frames = refl
+made_frames (big_decimal_of site written) s frames = refl
 made_frames (scalar_of site x) s frames = scalar_frames (text_in x) (is_key_due s.frames) s site.view (scalar_text x) frames
 
 -- and its text begins with the one before
@@ -43,6 +45,8 @@ made_grows end_list s frames = (end_array ∷ [], refl)
 made_grows (begin_map site length) s frames = (lead s site.view ++ begin_object ∷ [], refl)
 made_grows end_map s frames = (end_object ∷ [], refl)
 made_grows (null_of site) s frames = (lead s site.view ++ codes "null", refl)
+made_grows (big_integer_of site written) s frames = (lead s site.view ++ written, refl)
+made_grows (big_decimal_of site written) s frames = (lead s site.view ++ written, refl)
 made_grows (scalar_of site x) s frames = scalar_grows (text_in x) (is_key_due s.frames) s site.view (scalar_text x) frames
 
 -- the containers of the state that is made

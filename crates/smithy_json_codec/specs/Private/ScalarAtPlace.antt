@@ -1,11 +1,14 @@
 -- The scalar that lies at a place, as private functions answer it.
-use Rattle.std.specs.Prelude.{◌≡◌, ℕ, ℤ, List, Some, true}
+use Rattle.std.specs.Prelude.{◌≡◌, ℕ, ℤ, List, Some, None, true}
 use Rattle.smithy_texts.specs.Ranges.{fits_signed}
 use Rattle.smithy_json.specs.Tree.{number, string}
 use Rattle.smithy_json.specs.Number.{whole_number}
 use Rattle.smithy_json.specs.Unescape.{unescaped}
-use Rattle.smithy_json_codec.specs.Scalar.{a_string, bytes_of}
+use Rattle.smithy_schema.specs.declared.shape_type.Scalar.{Scalar}
+use Rattle.smithy_schema.specs.Value.{ScalarValue, scalar_value}
+use Rattle.smithy_json_codec.specs.Scalar.{JsonScalar, a_string, tree_of, bytes_of, number_text, says}
 use Rattle.smithy_json_codec.specs.Standing.{TreeLies}
+use Rattle.smithy_wire.specs.Rules.{means, no_meaning, wide}
 
 -- a whole number of so many bits lies there
 pub record WholeLies (bits : ℕ) (input : List ℕ) (at : ℕ) (n : ℤ) (e : ℕ) : Type 0 where
@@ -25,3 +28,26 @@ pub record BlobLies (input : List ℕ) (at : ℕ) (blob : List ℕ) (e : ℕ) : 
   pub raw : List ℕ
   pub lies : TreeLies 1 (string raw) input at e
   pub is : bytes_of (a_string raw) ≡ Some blob
+
+-- a number or a string that has this text lies there
+pub record NumberTextLies (input : List ℕ) (at : ℕ) (text : List ℕ) (e : ℕ) : Type 0 where
+  pub found : JsonScalar
+  pub lies : TreeLies 1 (tree_of found) input at e
+  pub is : number_text found ≡ Some text
+
+-- as a kind without time forms, this value lies there
+pub record MeansAt (s : Scalar) (input : List ℕ) (at : ℕ) (v : ScalarValue) (e : ℕ) : Type 0 where
+  pub found : JsonScalar
+  pub lies : TreeLies 1 (tree_of found) input at e
+  pub is : says s None found ≡ means (scalar_value v)
+
+-- or a number that leaves the limits of the kind
+pub record ExceedsAt (s : Scalar) (input : List ℕ) (at : ℕ) : Type 0 where
+  pub found : JsonScalar
+  pub e : ℕ
+  pub lies : TreeLies 1 (tree_of found) input at e
+  pub is : says s None found ≡ wide
+
+-- whatever lies there is nothing of the kind
+abbrev pub NothingAt : Scalar → List ℕ → ℕ → Type 0
+NothingAt s input at = (x : JsonScalar) (e : ℕ) → TreeLies 1 (tree_of x) input at e → says s None x ≡ no_meaning

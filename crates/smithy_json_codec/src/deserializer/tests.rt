@@ -33,6 +33,13 @@ fn values_are_read_call_by_call(rt: HostRuntime) -> Result<(), Fail> {
         "base64 with an escape"
     );
     assert_eq!(rt; bytes.position(), 7, "the offset behind it");
+    let mut whole = codec.create_deserializer(rt.alloc(), b"\"007\"");
+    let number = whole.read_big_integer(&schema)?;
+    assert_eq!(rt; number.as_ref(), "007", "a big integer by its text");
+    let mut decimal = codec.create_deserializer(rt.alloc(), b" 1.2300e+2 ");
+    let number = decimal.read_big_decimal(&schema)?;
+    assert_eq!(rt; number.as_ref(), "1.2300e+2", "a decimal by its text");
+    assert_eq!(rt; decimal.position(), 10, "the offset behind it");
     let mut null = codec.create_deserializer(rt.alloc(), b"null");
     assert!(rt; null.is_null(), "a null is due");
     assert!(rt; matches!(null.read_null(), Ok(())), "it is read");
@@ -81,14 +88,16 @@ enum Call {
     Long,
     Text,
     Bytes,
+    BigWhole,
+    Big,
 }
 
-use Call::{Bytes, List, Long, Null, Skip, Structure, Text};
+use Call::{Big, BigWhole, Bytes, List, Long, Null, Skip, Structure, Text};
 
 #[derive(Clone, Copy)]
 struct Refused(&'static str, Call, &'static [u8]);
 
-const REFUSED: [Refused; 22] = [
+const REFUSED: [Refused; 28] = [
     Refused("a list is no structure", Structure, b"[]"),
     Refused("blanks are no structure", Structure, b" "),
     Refused("a structure is no list", List, b"{}"),
@@ -111,6 +120,12 @@ const REFUSED: [Refused; 22] = [
     Refused("base64 with a blank", Bytes, b"\"+/8= \""),
     Refused("base64 with an escaped line feed", Bytes, b"\"+/8=\\n\""),
     Refused("base64 by the other alphabet", Bytes, b"\"-_8=\""),
+    Refused("a fraction is no big integer", BigWhole, b"1.0"),
+    Refused("an exponent is no big integer", BigWhole, b"1e2"),
+    Refused("a list is no big integer", BigWhole, b"[]"),
+    Refused("a text that is no number", Big, b"\"1.2.3\""),
+    Refused("a null is no decimal", Big, b"null"),
+    Refused("a number with a blank in a text", Big, b"\" 1\""),
 ];
 
 fn make<R: ShapeDeserializer>(
@@ -139,6 +154,14 @@ fn make<R: ShapeDeserializer>(
             source.read_blob(structure)?;
             Ok(())
         }
+        BigWhole => {
+            source.read_big_integer(structure)?;
+            Ok(())
+        }
+        Big => {
+            source.read_big_decimal(structure)?;
+            Ok(())
+        }
     }
 }
 
@@ -158,7 +181,7 @@ fn what_stands_otherwise_is_refused(rt: HostRuntime) -> Result<(), Fail> {
         let after = make(&mut source, &structure, &list, *call);
         assert_eq!(rt; after, Err(SerdeError::Failed), "{name}");
     }
-    for call in &[Structure, List, Skip, Long, Text, Bytes] {
+    for call in &[Structure, List, Skip, Long, Text, Bytes, BigWhole, Big] {
         let mut source = codec.create_deserializer(rt.alloc(), b"1");
         source.read_long(&structure)?;
         let answer = make(&mut source, &structure, &list, *call);
@@ -319,5 +342,51 @@ fn at_most_128_containers_are_open_at_once(rt: HostRuntime) -> Result<(), Fail> 
         Err(SerdeError::InvalidInput),
         "the end at the greatest depth"
     );
+    Ok(())
+}
+
+#[derive(Clone, Copy)]
+struct Wide(&'static str, Call, &'static [u8]);
+
+const WIDE: [Wide; 5] = [
+    Wide(
+        "2^127",
+        BigWhole,
+        b"170141183460469231731687303715884105728",
+    ),
+    Wide(
+        "2^127 as a text",
+        BigWhole,
+        b"\"170141183460469231731687303715884105728\"",
+    ),
+    Wide(
+        "-2^127 - 1",
+        BigWhole,
+        b"-170141183460469231731687303715884105729",
+    ),
+    Wide(
+        "a mantissa of 2^127",
+        Big,
+        b"17014118346046923173168730371588410572.8",
+    ),
+    Wide("an exponent of 2^63", Big, b"1e9223372036854775808"),
+];
+
+#[test]
+fn what_leaves_its_limits_is_too_wide(rt: HostRuntime) -> Result<(), Fail> {
+    let shapes = Shapes::build(rt.alloc(), TableText::read(rt.alloc(), NESTED)?)?;
+    let structure = shapes.find("S").ok_or("the table has no S")?;
+    let list = shapes.find("L").ok_or("the table has no L")?;
+    let (structure, list) = (shapes.schema(structure), shapes.schema(list));
+    assert!(rt; structure.shape_type() == ShapeType::Structure);
+    assert!(rt; list.shape_type() == ShapeType::List);
+    let codec = JsonCodec::strict(false);
+    for Wide(name, call, input) in &WIDE {
+        let mut source = codec.create_deserializer(rt.alloc(), input);
+        let answer = make(&mut source, &structure, &list, *call);
+        assert_eq!(rt; answer, Err(SerdeError::TooWide), "{name}");
+        let after = make(&mut source, &structure, &list, *call);
+        assert_eq!(rt; after, Err(SerdeError::Failed), "{name}");
+    }
     Ok(())
 }

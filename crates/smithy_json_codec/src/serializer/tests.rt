@@ -1,8 +1,10 @@
 //! Bodies that are written call by call.
 
 use crate::JsonCodec;
-use smithy_schema::{FinishSerializer, Schema, SerdeError, ShapeSerializer, Shapes, TableText};
-use smithy_types::Blob;
+use smithy_schema::{
+    FinishSerializer, Schema, SerdeError, ShapeDeserializer, ShapeSerializer, Shapes, TableText,
+};
+use smithy_types::{BigDecimal, BigInteger, BigNumberError, Blob};
 use std::alloc::Global;
 use std::test::Fail;
 
@@ -30,11 +32,18 @@ enum Call {
     Long(At, i64),
     Text(At, &'static str),
     Bytes(At, &'static [u8]),
+    BigWhole(At, &'static str),
+    Big(At, &'static str),
+    Whole128(At, i128),
+    Decimal(At, i128, i64),
     Fail,
 }
 
 use At::{Member, Whole};
-use Call::{BeginList, BeginMap, BeginStruct, Bytes, EndList, EndMap, EndStruct, Long, Null, Text};
+use Call::{
+    BeginList, BeginMap, BeginStruct, Big, BigWhole, Bytes, Decimal, EndList, EndMap, EndStruct,
+    Long, Null, Text, Whole128,
+};
 
 #[derive(Clone, Copy)]
 struct Row {
@@ -43,7 +52,7 @@ struct Row {
     answer: Result<&'static str, SerdeError>,
 }
 
-const ROWS: [Row; 19] = [
+const ROWS: [Row; 26] = [
     Row {
         name: "a structure without members",
         calls: &[BeginStruct(Whole), EndStruct],
@@ -116,6 +125,61 @@ const ROWS: [Row; 19] = [
         answer: Err(SerdeError::Unwritable),
     },
     Row {
+        name: "big numbers by their texts",
+        calls: &[
+            BeginStruct(Whole),
+            BigWhole(Member(0), "170141183460469231731687303715884105728"),
+            Big(Member(1), "1.2300E+2"),
+            EndStruct,
+        ],
+        answer: Ok("{\"a\":170141183460469231731687303715884105728,\"b\":1.2300E+2}"),
+    },
+    Row {
+        name: "a big integer whose text is no JSON number",
+        calls: &[BeginStruct(Whole), BigWhole(Member(0), "007")],
+        answer: Err(SerdeError::Unwritable),
+    },
+    Row {
+        name: "a decimal whose text is no JSON number",
+        calls: &[BeginStruct(Whole), Big(Member(0), "-00.5")],
+        answer: Err(SerdeError::Unwritable),
+    },
+    Row {
+        name: "a big integer in the place of a key",
+        calls: &[BeginMap(Whole), BigWhole(Whole, "1")],
+        answer: Err(SerdeError::Unwritable),
+    },
+    Row {
+        name: "whole numbers of 128 bits",
+        calls: &[
+            BeginStruct(Whole),
+            Whole128(Member(0), i128::MIN),
+            Whole128(Member(1), i128::MAX),
+            EndStruct,
+        ],
+        answer: Ok(
+            "{\"a\":-170141183460469231731687303715884105728,\"b\":170141183460469231731687303715884105727}",
+        ),
+    },
+    Row {
+        name: "decimals by their parts, and no exponent of 0",
+        calls: &[
+            BeginStruct(Whole),
+            Decimal(Member(0), -12300, -4),
+            BeginList(Member(1)),
+            Decimal(Whole, 5, 0),
+            Decimal(Whole, 0, 9223372036854775807),
+            EndList,
+            EndStruct,
+        ],
+        answer: Ok("{\"a\":-12300e-4,\"b\":[5,0e9223372036854775807]}"),
+    },
+    Row {
+        name: "a decimal in the place of a key",
+        calls: &[BeginMap(Whole), Decimal(Whole, 5, 0)],
+        answer: Err(SerdeError::Unwritable),
+    },
+    Row {
         name: "nothing at all",
         calls: &[],
         answer: Ok(""),
@@ -181,6 +245,11 @@ fn schema(shapes: &Shapes, at: At) -> Result<Schema<'_>, SerdeError> {
     }
 }
 
+// What a test says of a text that is no number.
+fn text_refused(_: BigNumberError) -> SerdeError {
+    SerdeError::InvalidInput
+}
+
 fn make<S: ShapeSerializer>(
     alloc: Global,
     sink: &mut S,
@@ -200,6 +269,18 @@ fn make<S: ShapeSerializer>(
         Bytes(at, bytes) => {
             let blob = Blob::new(Vec::from_slice(alloc, bytes)?);
             sink.write_blob(&schema(shapes, at)?, &blob)
+        }
+        BigWhole(at, text) => {
+            let number = BigInteger::from_str(alloc, text).map_err(text_refused)?;
+            sink.write_big_integer(&schema(shapes, at)?, &number)
+        }
+        Big(at, text) => {
+            let number = BigDecimal::from_str(alloc, text).map_err(text_refused)?;
+            sink.write_big_decimal(&schema(shapes, at)?, &number)
+        }
+        Whole128(at, number) => sink.write_i128(&schema(shapes, at)?, number),
+        Decimal(at, mantissa, exponent) => {
+            sink.write_decimal(&schema(shapes, at)?, mantissa, exponent)
         }
         Call::Fail => {
             sink.fail();
@@ -232,5 +313,26 @@ fn bodies_are_written_as_the_calls_say(rt: HostRuntime) -> Result<(), Fail> {
             _ => assert!(rt; false, "{}", row.name),
         }
     }
+    Ok(())
+}
+
+#[test]
+fn parts_of_numbers_are_read_back(rt: HostRuntime) -> Result<(), Fail> {
+    let shapes = Shapes::build(rt.alloc(), TableText::read(rt.alloc(), TABLE)?)?;
+    let root = shapes.find("S").ok_or("the table has no S")?;
+    let schema = shapes.schema(root);
+    let codec = JsonCodec::strict(false);
+    let mut whole = codec.create_serializer(rt.alloc());
+    whole.write_i128(&schema, i128::MIN)?;
+    let body = whole.finish()?;
+    let mut source = codec.create_deserializer(rt.alloc(), body.as_slice());
+    let number = source.read_big_integer(&schema)?;
+    assert_eq!(rt; number.as_ref(), "-170141183460469231731687303715884105728");
+    let mut decimal = codec.create_serializer(rt.alloc());
+    decimal.write_decimal(&schema, -12300, -4)?;
+    let body = decimal.finish()?;
+    let mut source = codec.create_deserializer(rt.alloc(), body.as_slice());
+    let number = source.read_big_decimal(&schema)?;
+    assert_eq!(rt; number.as_ref(), "-12300e-4");
     Ok(())
 }

@@ -4,7 +4,7 @@ use Rattle.std.proofs.Common.{sym, ◌∙◌, ap}
 use Rattle.std.proofs.lemmas.List.{append-nil}
 use Rattle.smithy_schema.specs.declared.error.SerdeError.{SerdeError}
 use Rattle.smithy_schema.specs.declared.error.SerdeError.TheVariants.{Unwritable}
-use Rattle.smithy_schema.specs.Writing.{Event, begin_structure, end_structure, begin_list, end_list, begin_map, end_map, null_of, scalar_of, Open}
+use Rattle.smithy_schema.specs.Writing.{Event, begin_structure, end_structure, begin_list, end_list, begin_map, end_map, null_of, scalar_of, big_integer_of, big_decimal_of, Open}
 use Rattle.smithy_query.specs.Form.{pair_text}
 use Rattle.smithy_query_codec.specs.Leaves.{scalar_text}
 use Rattle.smithy_query_codec.specs.Writing.{Mark, QueryState, child_prefix, closed, empty_leaf, made, allowed, where_taken}
@@ -27,6 +27,8 @@ made_opens (begin_map site length) s opens = refl
 made_opens end_map s opens = closed_opens s s.marks opens
 made_opens (null_of site) s opens = refl
 made_opens (scalar_of site x) s opens = refl
+made_opens (big_integer_of site written) s opens = refl
+made_opens (big_decimal_of site written) s opens = refl
 
 -- and its text begins with the one before
 made_grows : (e : Event) (s : QueryState) (opens : List Open) → (more : List ℕ) × ((made e s opens).out ≡ s.out ++ more)
@@ -38,6 +40,8 @@ made_grows (begin_map site length) s opens = ([], sym (append-nil s.out))
 made_grows end_map s opens = ([], closed_out s s.marks opens ∙ sym (append-nil s.out))
 made_grows (null_of site) s opens = ([], sym (append-nil s.out))
 made_grows (scalar_of site x) s opens = (pair_text (child_prefix s site.view) (scalar_text x), refl)
+made_grows (big_integer_of site written) s opens = (pair_text (child_prefix s site.view) written, refl)
+made_grows (big_decimal_of site written) s opens = (pair_text (child_prefix s site.view) written, refl)
 
 -- the containers of the state that is made
 pub taken_opens : (e : Event) (s t : QueryState) (can : Bool) (opens : Result (List Open) SerdeError)

@@ -2,7 +2,7 @@
 
 use crate::QueryShapeSerializer;
 use smithy_schema::{FinishSerializer, Schema, SerdeError, ShapeSerializer, Shapes, TableText};
-use smithy_types::Blob;
+use smithy_types::{BigDecimal, BigInteger, BigNumberError, Blob};
 use std::alloc::Global;
 use std::test::Fail;
 
@@ -42,13 +42,17 @@ enum Call {
     Long(At, i64),
     Text(At, &'static str),
     Bytes(At, &'static [u8]),
+    Wide(At, i128),
+    Decimal(At, i128, i64),
+    KeptInteger(At, &'static str),
+    KeptDecimal(At, &'static str),
     Fail,
 }
 
 use At::{Member, ValueOf, Whole};
 use Call::{
-    BeginList, BeginMap, BeginStruct, Boolean, Byte, Bytes, EndList, EndMap, EndStruct, Integer,
-    Long, Null, Short, Text,
+    BeginList, BeginMap, BeginStruct, Boolean, Byte, Bytes, Decimal, EndList, EndMap, EndStruct,
+    Integer, KeptDecimal, KeptInteger, Long, Null, Short, Text, Wide,
 };
 
 #[derive(Clone, Copy)]
@@ -59,7 +63,7 @@ struct Row {
     answer: Result<&'static str, SerdeError>,
 }
 
-const ROWS: [Row; 20] = [
+const ROWS: [Row; 32] = [
     Row {
         name: "nothing",
         calls: &[],
@@ -87,6 +91,78 @@ const ROWS: [Row; 20] = [
             Bytes(Member(0), b"\xfb\xff"),
         ],
         answer: Ok("&a=true&a=false&a=-128&a=32767&a=-1&a=%2B%2F8%3D"),
+    },
+    Row {
+        name: "whole numbers of 128 bits",
+        calls: &[
+            Wide(
+                Member(0),
+                -170_141_183_460_469_231_731_687_303_715_884_105_728,
+            ),
+            Wide(Member(0), 0),
+            Wide(
+                Member(0),
+                170_141_183_460_469_231_731_687_303_715_884_105_727,
+            ),
+        ],
+        answer: Ok(
+            "&a=-170141183460469231731687303715884105728&a=0&a=170141183460469231731687303715884105727",
+        ),
+    },
+    Row {
+        name: "decimals: an exponent of 0 isn't written",
+        calls: &[
+            Decimal(Member(0), 12_300, -4),
+            Decimal(Member(0), -5, 0),
+            Decimal(Member(0), 0, 2),
+        ],
+        answer: Ok("&a=12300e-4&a=-5&a=0e2"),
+    },
+    Row {
+        name: "decimals: the least and the greatest parts",
+        calls: &[
+            Decimal(
+                Member(0),
+                -170_141_183_460_469_231_731_687_303_715_884_105_728,
+                -9_223_372_036_854_775_808,
+            ),
+            Decimal(
+                Member(0),
+                170_141_183_460_469_231_731_687_303_715_884_105_727,
+                9_223_372_036_854_775_807,
+            ),
+        ],
+        answer: Ok(
+            "&a=-170141183460469231731687303715884105728e-9223372036854775808&a=170141183460469231731687303715884105727e9223372036854775807",
+        ),
+    },
+    Row {
+        name: "big numbers by the texts that they keep",
+        calls: &[
+            KeptInteger(Member(0), "-007"),
+            KeptInteger(Member(0), "170141183460469231731687303715884105728"),
+            KeptDecimal(Member(0), "+007"),
+            KeptDecimal(Member(0), "1.2300E+2"),
+        ],
+        answer: Ok("&a=-007&a=170141183460469231731687303715884105728&a=%2B007&a=1.2300E%2B2"),
+    },
+    Row {
+        name: "big numbers as elements and as values of a map",
+        calls: &[
+            BeginList(Member(2)),
+            KeptInteger(Whole, "1"),
+            KeptDecimal(Whole, "2.0"),
+            Wide(Whole, 3),
+            Decimal(Whole, 4, -1),
+            EndList,
+            BeginMap(Member(5)),
+            Text(Whole, "k"),
+            KeptInteger(Whole, "5"),
+            EndMap,
+        ],
+        answer: Ok(
+            "&Items.item.1=1&Items.item.2=2.0&Items.item.3=3&Items.item.4=4e-1&Counts.1.key=k&Counts.1.value=5",
+        ),
     },
     Row {
         name: "elements under their name",
@@ -180,6 +256,41 @@ const ROWS: [Row; 20] = [
         answer: Err(SerdeError::Unwritable),
     },
     Row {
+        name: "a whole number of 128 bits without a name",
+        calls: &[Wide(Whole, 1)],
+        answer: Err(SerdeError::Unwritable),
+    },
+    Row {
+        name: "a decimal without a name",
+        calls: &[Decimal(Whole, 1, 0)],
+        answer: Err(SerdeError::Unwritable),
+    },
+    Row {
+        name: "the text of a big integer without a name",
+        calls: &[KeptInteger(Whole, "1")],
+        answer: Err(SerdeError::Unwritable),
+    },
+    Row {
+        name: "the text of a big decimal without a name",
+        calls: &[KeptDecimal(Whole, "1")],
+        answer: Err(SerdeError::Unwritable),
+    },
+    Row {
+        name: "the text of a big integer in the place of a key",
+        calls: &[BeginMap(Member(5)), KeptInteger(Member(0), "1")],
+        answer: Err(SerdeError::Unwritable),
+    },
+    Row {
+        name: "the text of a big decimal in the place of a key",
+        calls: &[BeginMap(Member(5)), KeptDecimal(Member(0), "1")],
+        answer: Err(SerdeError::Unwritable),
+    },
+    Row {
+        name: "a big number after a call that failed",
+        calls: &[Call::Fail, KeptDecimal(Member(0), "1")],
+        answer: Err(SerdeError::Failed),
+    },
+    Row {
         name: "a number in the place of a key",
         calls: &[BeginMap(Member(5)), Long(Member(0), 1)],
         answer: Err(SerdeError::Unwritable),
@@ -220,6 +331,11 @@ fn schema(shapes: &Shapes, at: At) -> Result<Schema<'_>, SerdeError> {
     }
 }
 
+// What a test says of a text that is no number.
+fn text_refused(_: BigNumberError) -> SerdeError {
+    SerdeError::InvalidInput
+}
+
 fn make<S: ShapeSerializer>(
     alloc: Global,
     sink: &mut S,
@@ -243,6 +359,18 @@ fn make<S: ShapeSerializer>(
         Bytes(at, bytes) => {
             let blob = Blob::new(Vec::from_slice(alloc, bytes)?);
             sink.write_blob(&schema(shapes, at)?, &blob)
+        }
+        Wide(at, number) => sink.write_i128(&schema(shapes, at)?, number),
+        Decimal(at, mantissa, exponent) => {
+            sink.write_decimal(&schema(shapes, at)?, mantissa, exponent)
+        }
+        KeptInteger(at, text) => {
+            let number = BigInteger::from_str(alloc, text).map_err(text_refused)?;
+            sink.write_big_integer(&schema(shapes, at)?, &number)
+        }
+        KeptDecimal(at, text) => {
+            let number = BigDecimal::from_str(alloc, text).map_err(text_refused)?;
+            sink.write_big_decimal(&schema(shapes, at)?, &number)
         }
         Call::Fail => {
             sink.fail();

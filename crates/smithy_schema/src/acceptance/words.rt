@@ -22,13 +22,17 @@ pub(crate) fn scalar_of(name: &str) -> Option<Scalar>
         Some(Scalar::String)
     } else if name == "blob" {
         Some(Scalar::Blob)
+    } else if name == "bigInteger" {
+        Some(Scalar::BigInteger)
+    } else if name == "bigDecimal" {
+        Some(Scalar::BigDecimal)
     } else {
         None
     }
 }
 
 /// The names of the scalars that no table can have yet.
-const UNBUILT_NAMES: [&str; 4] = ["timestamp", "bigInteger", "bigDecimal", "document"];
+const UNBUILT_NAMES: [&str; 2] = ["timestamp", "document"];
 
 /// No table can have the scalar of that name yet.
 pub(crate) fn is_unbuilt_name(name: &str) -> bool

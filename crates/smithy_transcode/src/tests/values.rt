@@ -6,7 +6,7 @@ use smithy_schema::{FinishSerializer, ShapeType, Shapes, TableText};
 use std::test::Fail;
 
 const TABLE: &[u8] =
-    b"map M U\nlist L M\nunion U\nmember n integer\nmember l L\nstructure S\nmember b boolean\nmember r blob\nmember u U\n";
+    b"map M U\nlist L M\nunion U\nmember n integer\nmember l L\nstructure S\nmember b boolean\nmember r blob\nmember u U\nmember i bigInteger\nmember d bigDecimal\n";
 
 #[test]
 fn a_value_is_written_as_it_was_read(rt: HostRuntime) -> Result<(), Fail> {
@@ -21,14 +21,14 @@ fn a_value_is_written_as_it_was_read(rt: HostRuntime) -> Result<(), Fail> {
         return Ok(());
     };
     let input: &[u8] =
-        b"{\"u\":{\"l\":[{\"b\":{\"n\":2},\"a\":{\"n\":1}},{}]},\"r\":\"+\\/8=\",\"b\":true}";
+        b"{\"u\":{\"l\":[{\"b\":{\"n\":2},\"a\":{\"n\":1}},{}]},\"r\":\"+\\/8=\",\"b\":true,\"d\":\"2.50\",\"i\":\"007\"}";
     let codec = JsonCodec::strict(false);
     let mut source = codec.create_deserializer(rt.alloc(), input);
     let value = read_value(rt.alloc(), &mut source, &schema)?;
     let mut sink = codec.create_serializer(rt.alloc());
     write_value(rt.alloc(), &mut sink, &schema, &value)?;
     let output: &[u8] =
-        b"{\"b\":true,\"r\":\"+/8=\",\"u\":{\"l\":[{\"a\":{\"n\":1},\"b\":{\"n\":2}},{}]}}";
+        b"{\"b\":true,\"r\":\"+/8=\",\"u\":{\"l\":[{\"a\":{\"n\":1},\"b\":{\"n\":2}},{}]},\"i\":7,\"d\":250e-2}";
     assert_eq!(rt; sink.finish()?.as_slice(), output);
     Ok(())
 }

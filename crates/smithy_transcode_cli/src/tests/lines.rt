@@ -10,7 +10,7 @@ use std::alloc::Global;
 use std::process::Abort;
 use std::test::Fail;
 
-const LINES: [(Status, &str); 22] = [
+const LINES: [(Status, &str); 23] = [
     (Status::Done, ""),
     (Status::Usage, "smithy_transcode: usage\n"),
     (Status::ReadFailed, "smithy_transcode: read failed\n"),
@@ -18,6 +18,7 @@ const LINES: [(Status, &str); 22] = [
     (Status::OutOfMemory, "smithy_transcode: out of memory\n"),
     (Status::InvalidInput, "smithy_transcode: invalid input\n"),
     (Status::TooDeep, "smithy_transcode: too deep\n"),
+    (Status::TooWide, "smithy_transcode: number too wide\n"),
     (
         Status::Inexpressible(Unfit::Null),
         "smithy_transcode: null not expressible\n",

@@ -9,6 +9,8 @@ use std::test::Fail;
 
 const INTEGER: &str = "structure S\nmember a integer\n";
 
+const BIG: &str = "structure S\nmember d bigDecimal\nmember i bigInteger\nmember b blob\n";
+
 const BLOB: &str = "structure S\nmember b blob\n";
 
 const MAP: &str = "map M integer\nstructure S\nmember m M\n";
@@ -48,7 +50,7 @@ struct ShapeRow(
     &'static str,
 );
 
-const SHAPE_ROWS: [ShapeRow; 45] = [
+const SHAPE_ROWS: [ShapeRow; 51] = [
     ShapeRow(
         "an integer to CBOR",
         "S json cbor",
@@ -444,6 +446,60 @@ const SHAPE_ROWS: [ShapeRow; 45] = [
         0,
         ITEM_WITH_BYTES,
         "",
+    ),
+    ShapeRow(
+        "a decimal keeps its zeros",
+        "S json json",
+        BIG,
+        b"{\"d\":1.2300}",
+        0,
+        b"{\"d\":12300e-4}",
+        "",
+    ),
+    ShapeRow(
+        "the same to CBOR",
+        "S json cbor",
+        BIG,
+        b"{\"d\":1.2300}",
+        0,
+        b"\xbf\x61d\xc4\x82\x23\x19\x30\x0c\xff",
+        "",
+    ),
+    ShapeRow(
+        "a big integer to CBOR",
+        "S json cbor",
+        BIG,
+        b"{\"i\":18446744073709551616}",
+        0,
+        b"\xbf\x61i\xc2\x49\x01\0\0\0\0\0\0\0\0\xff",
+        "",
+    ),
+    ShapeRow(
+        "a big integer that is too wide",
+        "S json json",
+        BIG,
+        b"{\"i\":170141183460469231731687303715884105728}",
+        12,
+        b"",
+        "smithy_transcode: number too wide\n",
+    ),
+    ShapeRow(
+        "bytes beside big numbers",
+        "S json cbor",
+        BIG,
+        b"{\"b\":\"+\\/8=\"}",
+        0,
+        b"\xbf\x61b\x42\xfb\xff\xff",
+        "",
+    ),
+    ShapeRow(
+        "bits that are left over",
+        "S json json",
+        BIG,
+        b"{\"b\":\"+/9=\"}",
+        10,
+        b"",
+        INVALID,
     ),
     ShapeRow(
         "a union that names a timestamp",

@@ -2,6 +2,7 @@
 use Rattle.std.specs.Prelude.{◌≡◌, ℕ, suc, List, [], ◌∷◌, ◌++◌, Option, Some, None, Bool, true, false, refl, option_and_then, option_map, cond, if◌then◌else◌, IsUtf8}
 use Rattle.std.proofs.Common.{sym, ◌∙◌, ap, subst}
 use Rattle.smithy_schema.specs.declared.place.Place.{Place}
+use Rattle.smithy_schema.specs.Limits.{kept}
 use Rattle.smithy_schema.specs.Table.{Table, Member, ListShape, MapShape, Kind, scalar, structure_of, union_of, list_of, map_of, kind_of, place_in}
 use Rattle.smithy_schema.specs.Value.{Value, list, map, structure, union, values_of, MapEntries, put_entry, MemberValues, no_member_values}
 use Rattle.smithy_schema.specs.Container.{folded, is_type_mark, element_of, entry_step, member_step, members_from, container_of}
@@ -127,9 +128,9 @@ holding t p _ f within kind = cc
 
 -- ---- a node
 
-module _ {L : Type 0} (w : Frames L) (r : Rules L) (fits : RulesFit w r) (i : List ℕ) (t : Table) where
+module _ {L : Type 0} (w : Frames L) (r : Rules L) (keeps : r.limits ≡ kept) (fits : RulesFit w r) (i : List ℕ) (t : Table) where
   leaf_fits : (p : Place) (k : Kind) (d : ℕ) (x : L) (a e : ℕ) (v : Value) → w.scalar i d x a e → kind_of t p ≡ k → leaf_meaning r k p.time x ≡ Some v → Fits t p v
-  leaf_fits p (scalar s) d x a e v lies kind h = fits.says_fits i d x a e lies t p s v kind h
+  leaf_fits p (scalar s) d x a e v lies kind h = fits.says_fits i d x a e lies t p s v kind keeps h
   leaf_fits p _ d x a e v lies kind h = cc
 
   -- the text of a key is in UTF-8

@@ -1,4 +1,4 @@
-use Rattle.std.proofs.Common.{subst}
+use Rattle.std.proofs.Common.{refl, subst}
 use Rattle.smithy_schema.specs.Fits.{Fits}
 use Rattle.smithy_schema.specs.Site.{Site}
 use Rattle.smithy_json_codec.specs.Cursor.{reading_settings_of}
@@ -11,10 +11,10 @@ pub expressible-requires-clause-fits : goal.expressible-requires-clause-fits
 expressible-requires-clause-fits g c =
     let v = view c.in_ok-value.value in
     subst (λ (x : Site). Fits x.table x.place v) c.schema-schema.ensures.site
-    ((fit (reading_settings_of c.create_deserializer-source.result)).fits _ _ _ _ _ v _ c.in_ok-value.ensures.ok.stands)
+    ((fit (reading_settings_of c.create_deserializer-source.result) refl).fits _ _ _ _ _ v _ c.in_ok-value.ensures.ok.stands)
 
 pub expressible-requires-2-clause-fits : goal.expressible-requires-2-clause-fits
 expressible-requires-2-clause-fits g c =
     let v = view c.in_ok-value.value in
     subst (λ (x : Site). Fits x.table x.place v) c.schema-schema.ensures.site
-    ((fit (reading_settings_of c.create_deserializer-source.result)).fits _ _ _ _ _ v _ c.in_ok-value.ensures.ok.stands)
+    ((fit (reading_settings_of c.create_deserializer-source.result) refl).fits _ _ _ _ _ v _ c.in_ok-value.ensures.ok.stands)

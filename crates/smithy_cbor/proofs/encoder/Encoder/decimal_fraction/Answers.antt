@@ -6,7 +6,7 @@ use Rattle.std.proofs.lemmas.Int.{to_z-of_z}
 use Rattle.cbor_item.specs.Head.{shortest_head}
 use Rattle.smithy_cbor.specs.Written.{integer_bytes, big_integer_bytes}
 use Rattle.smithy_cbor.proofs.WrittenLemmas.{two_writes}
-use Rattle.smithy_cbor.proofs.encoder.Encoder.decimal.Goals as goal
+use Rattle.smithy_cbor.proofs.encoder.Encoder.decimal_fraction.Goals as goal
 
 pub returns-clause-ok : goal.returns-clause-ok
 returns-clause-ok c =

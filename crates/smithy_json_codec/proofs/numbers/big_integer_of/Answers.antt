@@ -1,0 +1,21 @@
+use Rattle.std.proofs.Common.{ap, subst, ◌≡◌}
+use Rattle.smithy_texts.specs.Numeral.{number}
+use Rattle.smithy_schema.specs.declared.shape_type.Scalar.TheVariants as scalars
+use Rattle.smithy_schema.specs.Value.{whole, scalar_value}
+use Rattle.smithy_wire.specs.Rules.{means, wide}
+use Rattle.smithy_wire.specs.BigNumbers.{big_integer}
+use Rattle.smithy_json_codec.specs.Scalar.{big_number}
+use Rattle.smithy_json_codec.proofs.NumberTexts.{integer_means, integer_exceeds}
+use Rattle.smithy_json_codec.proofs.numbers.big_integer_of.Goals as goal
+
+pub returns-in-Ok-to_i128-clause-ok : goal.returns-in-Ok-to_i128-clause-ok
+returns-in-Ok-to_i128-clause-ok c = subst (λ t. big_number scalars.BigInteger t ≡ means (scalar_value (whole (number c.in-Ok.number)))) c.in-Ok.ensures.ok
+    (integer_means c.in-Ok.number (number c.in-Ok.number) c.in-Ok-to_i128.ensures.form c.in-Ok-to_i128.ensures.value.0)
+
+pub returns-in-Err-to_i128-clause-wide : goal.returns-in-Err-to_i128-clause-wide
+returns-in-Err-to_i128-clause-wide c = λ is.
+    subst (λ t. big_number scalars.BigInteger t ≡ wide) c.in-Ok.ensures.ok
+    (integer_exceeds c.in-Ok.number (number c.in-Ok.number) c.in-Err-to_i128.ensures.form c.in-Err-to_i128.ensures.value)
+
+pub returns-in-Err-InvalidFormat-clause-none : goal.returns-in-Err-InvalidFormat-clause-none
+returns-in-Err-InvalidFormat-clause-none c = λ invalid. ap big_integer (c.in-Err-InvalidFormat.ensures.err c.in-Err-InvalidFormat.field-0-is)

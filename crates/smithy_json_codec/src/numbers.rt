@@ -1,0 +1,142 @@
+//! Big numbers: the text of a number or a string, and what it is as one.
+
+ghost use Rattle.std.specs.Prelude.{◌≡◌, ◌⊎◌, ◌≤◌, ℕ, List, length, None, IfSome, IfNone, IfOk, IfErr, IsErrOf, FitsSigned};
+ghost use Rattle.std.specs.Cow.{cow_str_bytes};
+ghost use Rattle.std.specs.Int.{w128};
+ghost use Rattle.smithy_schema.specs.Reading.{IsInvalid};
+ghost use Rattle.smithy_schema.specs.declared.error.SerdeError.TheVariants.{InvalidInput, TooWide, NoMemory};
+ghost use Rattle.smithy_schema.specs.declared.shape_type.Scalar.TheVariants as scalars;
+ghost use Rattle.smithy_schema.specs.Value.{whole, decimal, scalar_value};
+ghost use Rattle.smithy_texts.specs.Numeral.{number as number_of};
+ghost use Rattle.smithy_texts.specs.Decimal.{mantissa, net_exponent};
+ghost use Rattle.smithy_json.specs.Tree.{number};
+ghost use Rattle.smithy_json_codec.specs.Scalar.{big_number};
+ghost use Rattle.smithy_json_codec.specs.Standing.{TreeLies};
+ghost use Rattle.smithy_json_codec.specs.Private.ScalarAtPlace.{NumberTextLies, MeansAt, ExceedsAt, NothingAt};
+ghost use Rattle.smithy_wire.specs.Rules.{means, no_meaning, wide};
+
+use crate::texts::text_of;
+use crate::values::string_at;
+use smithy_json::number_text::scan_number;
+use smithy_json::scan::skip_blanks;
+use smithy_schema::SerdeError;
+use smithy_types::{BigDecimal, BigInteger, BigNumberError};
+use std::alloc::Global;
+use std::borrow::CowStr;
+use std::str;
+
+// The text of the number that comes first behind blanks, with its end, where a value may end behind it.
+fn number_at<'a>(input: &'a [u8], at: usize) -> Option<(&'a str, usize)>
+    requires { at ≤ length input.now }
+    ensures found { IfSome result (λ r. TreeLies 1 (number r.0.now) input.now at r.1) }
+    ensures none { IfNone result ((raw : List ℕ) (e : ℕ) → TreeLies 1 (number raw) input.now at e → ⊥) }
+{
+    let start = skip_blanks(input, at);
+    let number = scan_number(input, start)?;
+    let text = unsafe { str::from_utf8_unchecked(&input[start..number.end]) };
+    Some((text, number.end))
+}
+
+// The text of the number or the string that comes first behind blanks, with its end, where a value may end behind it.
+fn number_text_at<'a>(
+    alloc: Global,
+    input: &'a [u8],
+    at: usize,
+) -> Result<(CowStr<'a, Global>, usize), SerdeError>
+    requires { at ≤ length input.now }
+    ensures found { IfOk result (λ r. NumberTextLies input.now at (cow_str_bytes r.0) r.1) }
+    ensures none { IsInvalid result → (text : List ℕ) (e : ℕ) → NumberTextLies input.now at text e → ⊥ }
+    ensures kind { IfErr result (λ e. (e ≡ InvalidInput) ⊎ (e ≡ NoMemory)) }
+{
+    if let Some((text, end)) = number_at(input, at) {
+        return Ok((CowStr::Borrowed(text), end));
+    }
+    let Some(string) = string_at(input, at) else {
+        return Err(SerdeError::InvalidInput);
+    };
+    match text_of(alloc, string.text, string.has_escape) {
+        Ok(text) => Ok((text, string.closing + 1)),
+        Err(error) => Err(error),
+    }
+}
+
+// The whole number that a text writes, where 128 bits hold it.
+fn big_integer_of(alloc: Global, text: &str) -> Result<BigInteger, SerdeError>
+    ensures ok { IfOk result (λ n. big_number scalars.BigInteger text.now ≡ means (scalar_value (whole (number_of n)))) }
+    ensures fits { IfOk result (λ n. FitsSigned w128 (number_of n)) }
+    ensures none { IsInvalid result → big_number scalars.BigInteger text.now ≡ no_meaning }
+    ensures wide { IsErrOf result TooWide → big_number scalars.BigInteger text.now ≡ wide }
+    ensures kind { IfErr result (λ e. (e ≡ InvalidInput) ⊎ (e ≡ TooWide) ⊎ (e ≡ NoMemory)) }
+{
+    match BigInteger::from_str(alloc, text) {
+        Ok(number) => match number.to_i128() {
+            Ok(_) => Ok(number),
+            Err(_) => Err(SerdeError::TooWide),
+        },
+        Err(BigNumberError::InvalidFormat) => Err(SerdeError::InvalidInput),
+        Err(_) => Err(SerdeError::NoMemory),
+    }
+}
+
+// The decimal number that a text writes, where its parts are within their limits.
+fn big_decimal_of(alloc: Global, text: &str) -> Result<BigDecimal, SerdeError>
+    ensures ok { IfOk result (λ n. big_number scalars.BigDecimal text.now ≡ means (scalar_value (decimal (mantissa n) (net_exponent n)))) }
+    ensures fits { IfOk result (λ n. FitsSigned w128 (mantissa n)) }
+    ensures none { IsInvalid result → big_number scalars.BigDecimal text.now ≡ no_meaning }
+    ensures wide { IsErrOf result TooWide → big_number scalars.BigDecimal text.now ≡ wide }
+    ensures kind { IfErr result (λ e. (e ≡ InvalidInput) ⊎ (e ≡ TooWide) ⊎ (e ≡ NoMemory)) }
+{
+    match BigDecimal::from_str(alloc, text) {
+        Ok(number) => match number.to_parts() {
+            Ok(_) => Ok(number),
+            Err(_) => Err(SerdeError::TooWide),
+        },
+        Err(BigNumberError::InvalidFormat) => Err(SerdeError::InvalidInput),
+        Err(BigNumberError::ExponentOutOfRange) => Err(SerdeError::TooWide),
+        Err(BigNumberError::NoMemory) => Err(SerdeError::NoMemory),
+    }
+}
+
+// The whole number that comes first behind blanks, with its end, where a value may end behind it.
+pub(crate) fn big_integer_at(
+    alloc: Global,
+    input: &[u8],
+    at: usize,
+) -> Result<(BigInteger, usize), SerdeError>
+    requires { at ≤ length input.now }
+    ensures found { IfOk result (λ r. MeansAt scalars.BigInteger input.now at (whole (number_of r.0)) r.1) }
+    ensures fits { IfOk result (λ r. FitsSigned w128 (number_of r.0)) }
+    ensures none { IsInvalid result → NothingAt scalars.BigInteger input.now at }
+    ensures wide { IsErrOf result TooWide → ExceedsAt scalars.BigInteger input.now at }
+    ensures kind { IfErr result (λ e. (e ≡ InvalidInput) ⊎ (e ≡ TooWide) ⊎ (e ≡ NoMemory)) }
+{
+    match number_text_at(alloc, input, at) {
+        Ok((text, end)) => match big_integer_of(alloc, text.as_str()) {
+            Ok(number) => Ok((number, end)),
+            Err(error) => Err(error),
+        },
+        Err(error) => Err(error),
+    }
+}
+
+// The decimal number that comes first behind blanks, with its end, where a value may end behind it.
+pub(crate) fn big_decimal_at(
+    alloc: Global,
+    input: &[u8],
+    at: usize,
+) -> Result<(BigDecimal, usize), SerdeError>
+    requires { at ≤ length input.now }
+    ensures found { IfOk result (λ r. MeansAt scalars.BigDecimal input.now at (decimal (mantissa r.0) (net_exponent r.0)) r.1) }
+    ensures fits { IfOk result (λ r. FitsSigned w128 (mantissa r.0)) }
+    ensures none { IsInvalid result → NothingAt scalars.BigDecimal input.now at }
+    ensures wide { IsErrOf result TooWide → ExceedsAt scalars.BigDecimal input.now at }
+    ensures kind { IfErr result (λ e. (e ≡ InvalidInput) ⊎ (e ≡ TooWide) ⊎ (e ≡ NoMemory)) }
+{
+    match number_text_at(alloc, input, at) {
+        Ok((text, end)) => match big_decimal_of(alloc, text.as_str()) {
+            Ok(number) => Ok((number, end)),
+            Err(error) => Err(error),
+        },
+        Err(error) => Err(error),
+    }
+}
