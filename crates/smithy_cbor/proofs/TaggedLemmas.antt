@@ -16,7 +16,7 @@ use Rattle.cbor_item.proofs.HeadLemmas.{head_is_some}
 use Rattle.cbor_item.proofs.JoinLemmas.{range_parts}
 use Rattle.cbor_item.proofs.StringLemmas.{head_is}
 use Rattle.smithy_cbor.specs.Scalar.{integer_of, big_endian, bignum, big_integer_of}
-use Rattle.smithy_cbor.specs.Reading.{IsIntegerAt, IsBigIntegerAt, AreSecondsAt, OpensAt, OpensBignum, IsBytesFault, IsNoBigInteger}
+use Rattle.smithy_cbor.specs.Reading.{IsIntegerAt, IsBigIntegerAt, IsDateAt, OpensAt, OpensBignum, IsBytesFault, IsNoBigInteger}
 use Rattle.smithy_cbor.specs.Private.HeadNumber.{number_of}
 use Rattle.smithy_cbor.proofs.HeadLemmas.{integer_there}
 
@@ -102,7 +102,7 @@ float_there h input at end inside begins type long ends = go h.argument h.length
 -- what stands under tag 1
 pub date_there : (input : List ℕ) (at body end : ℕ) (s : Option ℤ) → OpensAt 6 (Some 1) input at body
     → MatchOption s ((digits : List ℕ) × IsItemAt (float digits) input body end) (λ seconds. IsIntegerAt seconds input body end)
-    → MatchOption s ((digits : List ℕ) × IsItemAt (tag 1 (float digits)) input at end) (λ seconds. AreSecondsAt seconds input at end)
+    → IsDateAt s input at end
 date_there input at body end None opens (digits, there) = (digits, tag_there 1 (float digits) input at body end opens there)
 date_there input at body end (Some seconds) opens (i, there, is) = (tag 1 i, tag_there 1 i input at body end opens there, is)
 

@@ -1,5 +1,5 @@
 -- What a read finds at a place of an input, and why it finds nothing.
-use Rattle.std.specs.Prelude.{◌≡◌, ◌≢◌, ◌⊎◌, ◌<◌, ◌-◌, ℕ, ℤ, pos, ◌*ℤ◌, true, List, All, IsUtf8, Option, Some, None, drop, FitsSigned}
+use Rattle.std.specs.Prelude.{◌≡◌, ◌≢◌, ◌⊎◌, ◌<◌, ◌-◌, ℕ, ℤ, pos, ◌*ℤ◌, true, List, All, IsUtf8, Option, Some, None, MatchOption, drop, FitsSigned}
 use Rattle.std.specs.List.{concat}
 use Rattle.std.specs.Int.{Width, w64, w128}
 use Rattle.std.specs.Fmt.{signed_decimal}
@@ -86,6 +86,12 @@ IsDecimalAt exponent mantissa input at end =
 abbrev pub AreSecondsAt : ℤ → List ℕ → ℕ → ℕ → Type 0
 AreSecondsAt seconds input at end =
     (i : Item) × IsItemAt i input at end × (epoch_seconds_of i ≡ Some seconds)
+
+-- a date stands there, of so many seconds or of a float
+abbrev pub IsDateAt : Option ℤ → List ℕ → ℕ → ℕ → Type 0
+IsDateAt seconds input at end =
+    MatchOption seconds ((digits : List ℕ) × IsItemAt (tag 1 (float digits)) input at end)
+    (λ s. AreSecondsAt s input at end)
 
 -- a number of 128 bits stands there, and this is its text
 abbrev pub IsBigIntegerText : List ℕ → List ℕ → ℕ → ℕ → Type 0

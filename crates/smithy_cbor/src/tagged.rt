@@ -5,10 +5,10 @@ ghost use Rattle.std.specs.Prelude.{◌≡◌, ◌≤◌, ℤ, ℕ, List, [], �
 ghost use Rattle.std.specs.Option.{SomeIff};
 ghost use Rattle.std.specs.Int.{w128};
 ghost use Rattle.cbor_item.specs.Head.{BeginsWithHead};
-ghost use Rattle.cbor_item.specs.Item.{definite, byte_string, tag, float};
+ghost use Rattle.cbor_item.specs.Item.{definite, byte_string, float};
 ghost use Rattle.cbor_item.specs.WellFormed.{IsItemAt};
 ghost use Rattle.smithy_cbor.specs.Scalar.{big_endian};
-ghost use Rattle.smithy_cbor.specs.Reading.{IsIntegerAt, IsBigIntegerAt, IsInteger, IsHeadFault, IsBytesFault, IsNoBigInteger, AreSecondsAt, IsNoDate, IsSeconds};
+ghost use Rattle.smithy_cbor.specs.Reading.{IsIntegerAt, IsBigIntegerAt, IsInteger, IsHeadFault, IsBytesFault, IsNoBigInteger, IsDateAt, IsNoDate, IsSeconds};
 ghost use Rattle.smithy_cbor.specs.Private.HeadNumber.{number_of};
 
 use crate::big_endian::big_endian;
@@ -62,9 +62,7 @@ pub(crate) fn big_integer_at(input: &[u8], at: usize) -> Result<(Option<i128>, u
 /// The date under tag 1 that begins at the offset: no seconds where they are a float.
 pub(crate) fn date_at(input: &[u8], at: usize) -> Result<(Option<i128>, usize), ItemError>
     requires { at ≤ length input.now }
-    ensures found { IfOk result (λ r. MatchOption r.0
-        ((digits : List ℕ) × IsItemAt (tag 1 (float digits)) input.now at r.1)
-        (λ seconds. AreSecondsAt seconds input.now at r.1)) }
+    ensures found { IfOk result (λ r. IsDateAt r.0 input.now at r.1) }
     ensures refused { IfErr result (IsNoDate input.now at) }
 {
     let body = tag_at(input, at, EPOCH_SECONDS)?;

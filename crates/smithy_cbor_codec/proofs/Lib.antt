@@ -2,6 +2,7 @@ mod OnLiterals
 mod Examples
 mod EncodedItems
 mod MeaningFacts
+mod InstantFacts
 mod SpellingFacts
 mod WritingFacts
 mod StandingFacts
@@ -23,4 +24,6 @@ pub mod ScalarReads
 pub mod BigNumberPlaces
 pub mod BigNumbers
 pub mod NumberWriting
+pub mod InstantPlaces
+pub mod InstantWriting
 pub mod WideSlices

@@ -6,11 +6,11 @@ use Rattle.smithy_texts.specs.Ranges.{fits_signed}
 use Rattle.smithy_schema.specs.declared.shape_type.Scalar.{Scalar}
 use Rattle.smithy_schema.specs.declared.shape_type.Scalar.TheVariants as scalars
 use Rattle.smithy_schema.specs.declared.error.SerdeError.{SerdeError}
-use Rattle.smithy_schema.specs.declared.error.SerdeError.TheVariants.{InvalidInput, TooDeep, TooWide, Unwritable, Failed, NoMemory}
+use Rattle.smithy_schema.specs.declared.error.SerdeError.TheVariants.{InvalidInput, TooDeep, TooWide, NotCarried, Unwritable, Failed, NoMemory}
 use Rattle.smithy_schema.specs.Table.{scalar_place}
 use Rattle.smithy_schema.specs.Site.{Site}
-use Rattle.smithy_schema.specs.Value.{ScalarValue, boolean, whole, text, bytes, Value, scalar_value, null_element}
-use Rattle.smithy_schema.specs.Reading.{Cursor, depth, StandsNot, IsInvalid, Exceeds, ReadsScalar, AnswersWide, passed_to, failed_at}
+use Rattle.smithy_schema.specs.Value.{ScalarValue, boolean, whole, text, bytes, instant, Value, scalar_value, null_element}
+use Rattle.smithy_schema.specs.Reading.{Cursor, depth, StandsNot, IsInvalid, Exceeds, Uncarried, ReadsScalar, AnswersWide, AnswersUncarried, passed_to, failed_at}
 use Rattle.smithy_schema.specs.Lemmas.Options.{same_some, made}
 use Rattle.smithy_schema.proofs.ScalarLemmas.{fits_more}
 use Rattle.cbor_item.specs.WellFormed.{IsItemAt, IsSimple}
@@ -22,15 +22,15 @@ use Rattle.smithy_cbor_codec.specs.Laws.{lawful}
 use Rattle.smithy_cbor_codec.specs.Meaning.{node_of, rules_of}
 use Rattle.smithy_cbor_codec.specs.Standing.{Follows, cbor_frames, cbor_relations}
 use Rattle.smithy_cbor_codec.specs.Private.Fits.{boolean_is, whole_is, blob_is}
-use Rattle.smithy_cbor_codec.specs.Private.ScalarAtPlace.{IsAt, IsWholeAt, HasTextAt, IsBlobAt, MeansAt, ExceedsAt, NothingAt}
+use Rattle.smithy_cbor_codec.specs.Private.ScalarAtPlace.{IsAt, IsWholeAt, HasTextAt, IsBlobAt, MeansAt, ExceedsAt, UncarriedAt, NothingAt}
 use Rattle.smithy_cbor_codec.specs.Private.Wire.{cbor_is_wire}
 use Rattle.smithy_cbor_codec.specs.Private.ItemPlaces.{one_item, item_front}
 use Rattle.smithy_wire.specs.Node.{leaf}
-use Rattle.smithy_wire.specs.Rules.{Answer, no_meaning, wide, answer_of, settled}
+use Rattle.smithy_wire.specs.Rules.{Answer, no_meaning, wide, uncarried, answer_of, settled}
 use Rattle.smithy_wire.specs.Narrowing.{IsNarrowed, IsWider}
-use Rattle.smithy_wire.specs.Readers.{settled_answer, scalar_stands, stands_scalar, scalar_exceeds, exceeds_scalar}
-use Rattle.smithy_wire.proofs.Bounds.{exceeds_not}
-use Rattle.smithy_wire.proofs.ScalarReads.{takes, takes_result, takes_big, answers_wide, narrow_found, narrow_none, if_some, if_none, if_ok}
+use Rattle.smithy_wire.specs.Readers.{settled_answer, scalar_stands, stands_scalar, scalar_exceeds, exceeds_scalar, scalar_uncarried, uncarried_scalar}
+use Rattle.smithy_wire.proofs.Bounds.{exceeds_not, uncarried_not}
+use Rattle.smithy_wire.proofs.ScalarReads.{takes, takes_result, takes_big, answers_wide, takes_carried, answers_uncarried, narrow_found, narrow_none, if_some, if_none, if_ok}
 use Rattle.std.specs.Bool.{then_some}
 use Rattle.std.specs.Int.{w64}
 use Rattle.std.proofs.lemmas.Int.{ints}
@@ -44,7 +44,7 @@ use Rattle.smithy_cbor_codec.proofs.HeadFaults.{no_wanted_head}
 -- ---- where an integer stands
 
 -- what is a long fits 64 bits
-long_fits : (z : ℤ) → fits_signed 64 z ≡ true → FitsSigned w64 z
+pub long_fits : (z : ℤ) → fits_signed 64 z ≡ true → FitsSigned w64 z
 long_fits (pos n) h =
     record { sfits = ltb-true _ _ (and_parts (int_le (neg_ℤ (pos (2 ^ 63))) (pos n)) (int_lt (pos n) (pos (2 ^ 63))) h).1 }
 long_fits (negsuc n) h =
@@ -267,7 +267,7 @@ module _ (o : Settings) (c : Cursor) (site : Site) where
       let b = blob_is x v (sym (settled_blob x) ∙ means) in
       none b.0 e (record { found = x; stands = lies.1; is = b.1; bytes = b.2; follows = lies.2 }))
 
--- ---- big numbers, by a kind whose meaning asks no time form
+-- ---- big numbers and instants, by a kind whose meaning asks no time form
 
 module _ (o : Settings) (c : Cursor) (site : Site) (s : Scalar) (timeless : (x : Item) → says s site.place.time x ≡ says s None x) where
   pub number_stands : (v : ScalarValue) (e : ℕ) → MeansAt s c.input c.at (depth c) v e → Stands o c site s v e
@@ -296,7 +296,30 @@ module _ (o : Settings) (c : Cursor) (site : Site) (s : Scalar) (timeless : (x :
   exceeds_stands_not keeps (e, there) v f stands =
       exceeds_not cbor_frames (rules_of o) cbor_is_wire keeps c.input site.table (scalar_place s site.place.time) s refl (depth c) c.at e there v f stands
 
+  pub not_carried : UncarriedAt s c.input c.at (depth c) → Uncarried (cbor_relations o) c site.table (scalar_place s site.place.time)
+  not_carried h = (
+    h.e,
+    scalar_uncarried cbor_frames (rules_of o) c.input site.table (scalar_place s site.place.time) s refl (depth c) c.at h.found h.e h.lies (timeless h.found ∙ h.is),
+  )
+
+  pub all_carried : NothingAt s c.input c.at (depth c) → Uncarried (cbor_relations o) c site.table (scalar_place s site.place.time) → ⊥
+  all_carried none (e, there) =
+      let x = uncarried_scalar cbor_frames (rules_of o) c.input site.table (scalar_place s site.place.time) s refl (depth c) c.at e there in
+      let both : ◌≡◌ {A = Answer Value} no_meaning uncarried = sym (timeless x.0 ∙ none x.0 e x.1) ∙ x.2 in
+      cc
+
+  -- nor where something isn't carried
+  pub uncarried_stands_not : o.limits ≡ kept → Uncarried (cbor_relations o) c site.table (scalar_place s site.place.time) → StandsNot (cbor_relations o) c site.table (scalar_place s site.place.time)
+  uncarried_stands_not keeps (e, there) v f stands =
+      uncarried_not cbor_frames (rules_of o) cbor_is_wire keeps c.input site.table (scalar_place s site.place.time) s refl (depth c) c.at e there v f stands
+
 -- ---- the answer of a read
+
+-- what takes no memory doesn't want for it
+with_memory : {A : Type 0} (found : Result A SerdeError) → IfErr found (λ e. (e ≡ InvalidInput) ⊎ (e ≡ NotCarried)) → IfErr found (λ e. (e ≡ InvalidInput) ⊎ (e ≡ NotCarried) ⊎ (e ≡ NoMemory))
+with_memory (Ok x) kind = tt
+with_memory (Err e) (inl is) = inl is
+with_memory (Err e) (inr is) = inr (inl is)
 
 -- a refusal of the input, by its error
 by_error : {A : Type 0} (found : Result A SerdeError) (Q : Type 0) → IfErr found (λ e. e ≡ InvalidInput → Q) → IsInvalid found → Q
@@ -304,6 +327,7 @@ by_error (Ok x) Q h invalid = absurd invalid
 by_error (Err InvalidInput) Q h invalid = h refl
 by_error (Err TooDeep) Q h invalid = absurd invalid
 by_error (Err TooWide) Q h invalid = absurd invalid
+by_error (Err NotCarried) Q h invalid = absurd invalid
 by_error (Err Unwritable) Q h invalid = absurd invalid
 by_error (Err Failed) Q h invalid = absurd invalid
 by_error (Err NoMemory) Q h invalid = absurd invalid
@@ -392,3 +416,41 @@ module _ (o : Settings) (old : Cursor) (site : Site) (sound : old.failed ≡ fal
         (if_ok found _ _ (λ r. number_stands o old site s timeless (value r.0) r.1) here) kind
         (exceeds_stands_not o old site s timeless keeps)
         (λ invalid. no_number_exceeds o old site s timeless (none invalid))
+
+  -- of an instant
+  module _ (keeps : o.limits ≡ kept) (found : Result (ℤ × ℕ) SerdeError) (result : Result ℤ SerdeError)
+      (here : IfOk found (λ r. MeansAt scalars.Timestamp old.input old.at (depth old) (instant r.0) r.1)) (kind : IfErr found (λ e. (e ≡ InvalidInput) ⊎ (e ≡ NotCarried)))
+      (none : IsInvalid found → NothingAt scalars.Timestamp old.input old.at (depth old)) where
+    pub reads_instant : (new : Cursor) → (IsErrOf found NotCarried → UncarriedAt scalars.Timestamp old.input old.at (depth old))
+        → IfOk result (λ x. IfOk found (λ r. (r.0 ≡ x) × (new ≡ passed_to old r.1))) → (IsOk result → IsOk found)
+        → OnErr result (new ≡ failed_at old) → IfErr result (λ e. found ≡ Err e)
+        → ReadsScalar (cbor_relations o) (cbor_relations (without_limits o)) (Unit {0}) old new site scalars.Timestamp instant result
+    reads_instant new floats =
+        takes_carried (cbor_relations o) (cbor_relations (without_limits o)) (Unit {0}) site scalars.Timestamp instant (lawful o) old sound due within new found result
+        (if_ok found _ _ (λ r. number_stands o old site scalars.Timestamp (λ x. refl) (instant r.0) r.1) here) (with_memory found kind)
+        (λ invalid. (no_number_stands o old site scalars.Timestamp (λ x. refl) (none invalid), no_number_stands (without_limits o) old site scalars.Timestamp (λ x. refl) (none invalid)))
+        (λ is. let there = not_carried o old site scalars.Timestamp (λ x. refl) (floats is) in (there, uncarried_stands_not o old site scalars.Timestamp (λ x. refl) keeps there))
+
+    pub answers_instant : (IsOk result → IsOk found) → IfErr result (λ e. found ≡ Err e) → AnswersUncarried (cbor_relations o) old site scalars.Timestamp result
+    answers_instant =
+        answers_uncarried (cbor_relations o) (cbor_relations (without_limits o)) (Unit {0}) site scalars.Timestamp instant (lawful o) old sound due within found result
+        (if_ok found _ _ (λ r. number_stands o old site scalars.Timestamp (λ x. refl) (instant r.0) r.1) here) (with_memory found kind)
+        (uncarried_stands_not o old site scalars.Timestamp (λ x. refl) keeps)
+        (λ invalid. all_carried o old site scalars.Timestamp (λ x. refl) (none invalid))
+
+-- a read of an instant takes no memory
+pub no_memory_taken : (found : Result (ℤ × ℕ) SerdeError) (result : Result ℤ SerdeError) → IfErr found (λ e. (e ≡ InvalidInput) ⊎ (e ≡ NotCarried)) → IfErr result (λ e. found ≡ Err e)
+    → IsErrOf result NoMemory → ⊥
+no_memory_taken found (Ok x) kind error is = cc
+no_memory_taken (Ok r) (Err e) kind error is = absurd (let no' : ◌≡◌ {A = Result (ℤ × ℕ) SerdeError} (Ok r) (Err e) = error in cc)
+no_memory_taken (Err g) (Err e) kind error is = by kind
+  where
+    same : g ≡ e
+    same = cc
+
+    memory : e ≡ NoMemory
+    memory = cc
+
+    by : (g ≡ InvalidInput) ⊎ (g ≡ NotCarried) → ⊥
+    by (inl invalid) = let both : InvalidInput ≡ NoMemory = sym invalid ∙ same ∙ memory in cc
+    by (inr other) = let both : NotCarried ≡ NoMemory = sym other ∙ same ∙ memory in cc

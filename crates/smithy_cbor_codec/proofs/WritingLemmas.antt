@@ -1,7 +1,9 @@
--- A value adds its canonical encoding, whatever stands before it.
-use Rattle.std.proofs.Common.{◌≡◌, ℕ, List, [], ◌∷◌, ◌++◌, Some, Result, Ok, refl, sym, ap, ◌∙◌, append_assoc}
+-- A value whose instants are whole seconds adds its canonical encoding, whatever stands before it.
+use Rattle.std.proofs.Common.{◌≡◌, ℕ, List, [], ◌∷◌, ◌++◌, true, Some, Result, Ok, refl, sym, ap, ◌∙◌, append_assoc}
 use Rattle.std.proofs.lemmas.List.{append-nil}
 use Rattle.smithy_schema.specs.declared.error.SerdeError.{SerdeError}
+use Rattle.std.proofs.lemmas.Bool.{and_parts}
+use Rattle.smithy_schema.specs.ScalarTest.{scalars_pass, elements_pass, entries_pass, members_pass}
 use Rattle.smithy_schema.specs.Site.{Site, element_of, key_of, value_of, member_of}
 use Rattle.smithy_schema.specs.Value.{ScalarValue, text, Value, scalar_value, list, map, structure, union, null_element, Values, no_values, value, MapEntries, no_map_entries, map_entry, MemberValues, no_member_values, member_value}
 use Rattle.smithy_schema.specs.Writing.{Event, run, write, and_run, events, element_events, entry_events, member_events, count_of, entry_count, begin_list, begin_map, begin_structure, null_of, scalar_of, end_list, end_map, end_structure, after_value, Open, open_structure, open_list, open_map_at_key, open_map_at_value}
@@ -11,7 +13,7 @@ use Rattle.cbor_item.specs.Head.{shortest_head}
 use Rattle.cbor_item.specs.WellFormed.{break}
 use Rattle.smithy_cbor.specs.Scalar.{null_value}
 use Rattle.smithy_cbor.specs.Written.{text_bytes, opening_bytes}
-use Rattle.smithy_cbor_codec.specs.Canonical.{scalar_bytes, key_bytes, canonical_cbor, element_bytes, entry_bytes, member_bytes}
+use Rattle.smithy_cbor_codec.specs.Canonical.{scalar_bytes, cbor_holds, key_bytes, canonical_cbor, element_bytes, entry_bytes, member_bytes}
 use Rattle.smithy_cbor_codec.specs.Writing.{CborState, lead, cbor_after}
 
 abbrev pub state : List ℕ → List Open → CborState
@@ -46,95 +48,98 @@ group_entry o key x more = simp append_assoc
 group_member : (o key x more : List ℕ) → (o ++ (key ++ x)) ++ more ≡ o ++ (key ++ (x ++ more))
 group_member o key x more = simp append_assoc
 
--- a scalar is written where a value is due
-scalar_adds : (site : Site) (x : ScalarValue) (o : List ℕ) (frames after : List Open) → after_value frames ≡ Ok after
+-- a scalar that CBOR holds is written where a value is due
+scalar_adds : (site : Site) (x : ScalarValue) (o : List ℕ) (frames after : List Open) → cbor_holds site.place.time x ≡ true → after_value frames ≡ Ok after
     → cbor_after (scalar_of site x) (state o frames) ≡ Ok (state (o ++ (lead (state o frames) site.view ++ scalar_bytes x)) after)
-scalar_adds site x o frames after due = rw (scalar_taken x frames after due) refl
+scalar_adds site x o frames after held due = rw (held, scalar_taken x frames after due) refl
 
 mutual
   -- where a value is due, it adds what stands before it, and its canonical encoding
-  pub value_adds : (site : Site) (v : Value) (o : List ℕ) (frames after : List Open) → after_value frames ≡ Ok after
+  pub value_adds : (site : Site) (v : Value) (o : List ℕ) (frames after : List Open) → scalars_pass cbor_holds site v ≡ true → after_value frames ≡ Ok after
       → write cbor_after site v (state o frames)
       ≡ Ok (state (o ++ (lead (state o frames) site.view ++ canonical_cbor site v)) after)
-  value_adds site (scalar_value x) o frames after due =
-      first (scalar_of site x) [] (state o frames) (state (o ++ (lead (state o frames) site.view ++ scalar_bytes x)) after) _ (scalar_adds site x o frames after due) refl
-  value_adds site null_element o frames after due =
+  value_adds site (scalar_value x) o frames after held due =
+      first (scalar_of site x) [] (state o frames) (state (o ++ (lead (state o frames) site.view ++ scalar_bytes x)) after) _ (scalar_adds site x o frames after held due) refl
+  value_adds site null_element o frames after held due =
       first (null_of site) [] (state o frames) (state (o ++ (lead (state o frames) site.view ++ shortest_head 7 null_value)) after) _ (rw due refl) refl
-  value_adds site (list vs) o frames after due =
+  value_adds site (list vs) o frames after held due =
       let before = lead (state o frames) site.view in
       let child = element_of site in
       let front = o ++ (before ++ opening_bytes 4) in
       regroup _ _ after _
       (first (begin_list site (Some (count_of vs))) (element_events child vs ++ end_list ∷ []) (state o frames) (state front (open_list ∷ after)) _ (rw due refl)
       (step (element_events child vs) (end_list ∷ []) _ _ _
-      (elements_add child vs front after)
+      (elements_add child vs front after held)
       refl))
       (group_container o before (opening_bytes 4) (element_bytes child vs) (break ∷ []))
-  value_adds site (map es) o frames after due =
+  value_adds site (map es) o frames after held due =
       let before = lead (state o frames) site.view in
       let child = value_of site in
       let front = o ++ (before ++ opening_bytes 5) in
       regroup _ _ after _
       (first (begin_map site (Some (entry_count es))) (entry_events (key_of site) child es ++ end_map ∷ []) (state o frames) (state front (open_map_at_key ∷ after)) _ (rw due refl)
       (step (entry_events (key_of site) child es) (end_map ∷ []) _ _ _
-      (entries_add (key_of site) child es front after)
+      (entries_add (key_of site) child es front after held)
       refl))
       (group_container o before (opening_bytes 5) (entry_bytes child es) (break ∷ []))
-  value_adds site (structure ms) o frames after due =
+  value_adds site (structure ms) o frames after held due =
       let before = lead (state o frames) site.view in
       let front = o ++ (before ++ opening_bytes 5) in
       regroup _ _ after _
       (first (begin_structure site) (member_events site ms ++ end_structure ∷ []) (state o frames) (state front (open_structure ∷ after)) _ (rw due refl)
       (step (member_events site ms) (end_structure ∷ []) _ _ _
-      (members_add site ms front after)
+      (members_add site ms front after held)
       refl))
       (group_container o before (opening_bytes 5) (member_bytes site ms) (break ∷ []))
-  value_adds site (union n v) o frames after due =
+  value_adds site (union n v) o frames after held due =
       let before = lead (state o frames) site.view in
       let child = member_of site n in
       let front = o ++ (before ++ opening_bytes 5) in
       regroup _ _ after _
       (first (begin_structure site) (events child v ++ end_structure ∷ []) (state o frames) (state front (open_structure ∷ after)) _ (rw due refl)
       (step (events child v) (end_structure ∷ []) _ _ _
-      (value_adds child v front (open_structure ∷ after) (open_structure ∷ after) refl)
+      (value_adds child v front (open_structure ∷ after) (open_structure ∷ after) held refl)
       refl))
       (group_union o before (opening_bytes 5) (key_bytes child.view) (canonical_cbor child v) (break ∷ []))
 
   -- elements add their encodings
-  pub elements_add : (site : Site) (vs : Values) (o : List ℕ) (frames : List Open)
+  pub elements_add : (site : Site) (vs : Values) (o : List ℕ) (frames : List Open) → elements_pass cbor_holds site vs ≡ true
       → run cbor_after (element_events site vs) (state o (open_list ∷ frames))
       ≡ Ok (state (o ++ element_bytes site vs) (open_list ∷ frames))
-  elements_add site no_values o frames = regroup _ _ (open_list ∷ frames) _ refl (sym (append-nil o))
-  elements_add site (value v vs) o frames =
+  elements_add site no_values o frames held = regroup _ _ (open_list ∷ frames) _ refl (sym (append-nil o))
+  elements_add site (value v vs) o frames held =
+      let parts = and_parts (scalars_pass cbor_holds site v) (elements_pass cbor_holds site vs) held in
       regroup _ _ (open_list ∷ frames) _
       (step (events site v) (element_events site vs) _ _ _
-      (value_adds site v o (open_list ∷ frames) (open_list ∷ frames) refl)
-      (elements_add site vs (o ++ canonical_cbor site v) frames))
+      (value_adds site v o (open_list ∷ frames) (open_list ∷ frames) parts.0 refl)
+      (elements_add site vs (o ++ canonical_cbor site v) frames parts.1))
       (append_assoc o (canonical_cbor site v) (element_bytes site vs))
 
   -- entries add their keys and encodings
-  pub entries_add : (key_site site : Site) (es : MapEntries) (o : List ℕ) (frames : List Open)
+  pub entries_add : (key_site site : Site) (es : MapEntries) (o : List ℕ) (frames : List Open) → entries_pass cbor_holds site es ≡ true
       → run cbor_after (entry_events key_site site es) (state o (open_map_at_key ∷ frames))
       ≡ Ok (state (o ++ entry_bytes site es) (open_map_at_key ∷ frames))
-  entries_add key_site site no_map_entries o frames = regroup _ _ (open_map_at_key ∷ frames) _ refl (sym (append-nil o))
-  entries_add key_site site (map_entry key v es) o frames =
+  entries_add key_site site no_map_entries o frames held = regroup _ _ (open_map_at_key ∷ frames) _ refl (sym (append-nil o))
+  entries_add key_site site (map_entry key v es) o frames held =
+      let parts = and_parts (scalars_pass cbor_holds site v) (entries_pass cbor_holds site es) held in
       regroup _ _ (open_map_at_key ∷ frames) _
       (first (scalar_of key_site (text key)) (events site v ++ entry_events key_site site es) (state o (open_map_at_key ∷ frames)) (state (o ++ text_bytes key) (open_map_at_value ∷ frames)) _ refl
       (step (events site v) (entry_events key_site site es) _ _ _
-      (value_adds site v (o ++ text_bytes key) (open_map_at_value ∷ frames) (open_map_at_key ∷ frames) refl)
-      (entries_add key_site site es ((o ++ text_bytes key) ++ canonical_cbor site v) frames)))
+      (value_adds site v (o ++ text_bytes key) (open_map_at_value ∷ frames) (open_map_at_key ∷ frames) parts.0 refl)
+      (entries_add key_site site es ((o ++ text_bytes key) ++ canonical_cbor site v) frames parts.1)))
       (group_entry o (text_bytes key) (canonical_cbor site v) (entry_bytes site es))
 
   -- members add their names and encodings
-  pub members_add : (site : Site) (ms : MemberValues) (o : List ℕ) (frames : List Open)
+  pub members_add : (site : Site) (ms : MemberValues) (o : List ℕ) (frames : List Open) → members_pass cbor_holds site ms ≡ true
       → run cbor_after (member_events site ms) (state o (open_structure ∷ frames))
       ≡ Ok (state (o ++ member_bytes site ms) (open_structure ∷ frames))
-  members_add site no_member_values o frames = regroup _ _ (open_structure ∷ frames) _ refl (sym (append-nil o))
-  members_add site (member_value n v ms) o frames =
+  members_add site no_member_values o frames held = regroup _ _ (open_structure ∷ frames) _ refl (sym (append-nil o))
+  members_add site (member_value n v ms) o frames held =
       let child = member_of site n in
       let key = key_bytes child.view in
+      let parts = and_parts (scalars_pass cbor_holds child v) (members_pass cbor_holds site ms) held in
       regroup _ _ (open_structure ∷ frames) _
       (step (events child v) (member_events site ms) _ _ _
-      (value_adds child v o (open_structure ∷ frames) (open_structure ∷ frames) refl)
-      (members_add site ms (o ++ (key ++ canonical_cbor child v)) frames))
+      (value_adds child v o (open_structure ∷ frames) (open_structure ∷ frames) parts.0 refl)
+      (members_add site ms (o ++ (key ++ canonical_cbor child v)) frames parts.1))
       (group_member o key (canonical_cbor child v) (member_bytes site ms))

@@ -1,5 +1,5 @@
--- What CBOR writes for scalars and names: it means them, can be written, and is their canonical encoding.
-use Rattle.std.specs.Prelude.{◌≡◌, ℕ, ℤ, pos, negsuc, nat_lt, if◌then◌else◌, option_map, Bool, List, [], ◌∷◌, ◌++◌, true, false, Option, Some, refl}
+-- What CBOR writes for scalars that it holds and for names: it means them, can be written, and is their canonical encoding.
+use Rattle.std.specs.Prelude.{◌≡◌, ◌==◌, ◌*ℤ◌, ℕ, ℤ, pos, negsuc, nat_lt, if◌then◌else◌, option_map, Bool, List, [], ◌∷◌, ◌++◌, true, false, Option, Some, refl}
 use Rattle.std.specs.Prelude.{FitsSigned}
 use Rattle.std.specs.Int.{w64}
 use Rattle.std.specs.Str.{is_utf8}
@@ -11,24 +11,26 @@ use Rattle.std.proofs.lemmas.Str.{is_utf8-from_IsUtf8}
 use Rattle.smithy_schema.specs.declared.shape_type.Scalar.{Scalar}
 use Rattle.smithy_schema.specs.declared.shape_type.Scalar.TheVariants as scalars
 use Rattle.smithy_schema.specs.declared.shape_type.TimestampFormat.{TimestampFormat}
-use Rattle.smithy_schema.specs.Value.{ScalarValue, boolean, whole, text, bytes, decimal, scalar_value}
+use Rattle.smithy_schema.specs.Value.{ScalarValue, boolean, whole, text, bytes, decimal, instant, scalar_value}
 use Rattle.smithy_schema.specs.Fits.{is_of}
 use Rattle.smithy_texts.specs.Decimal.{DecimalForm}
 use Rattle.smithy_texts.specs.Ranges.{fits_signed, is_exponent}
-use Rattle.smithy_schema.proofs.ScalarLemmas.{fits_more, decimal_fits}
+use Rattle.smithy_schema.proofs.ScalarLemmas.{fits_more, decimal_fits, instant_fits}
+use Rattle.smithy_schema.proofs.InstantLemmas.{whole_seconds}
+use Rattle.smithy_instants.specs.Instant.{nanos_per_second, seconds_of, subsecond_of, is_instant}
 use Rattle.cbor_item.specs.Head.{width_limit, IsHead, narrowest, shortest_head}
 use Rattle.cbor_item.specs.Item.{definite, Item, unsigned, negative, byte_string, text_string, array, tag, no_items, item}
 use Rattle.cbor_item.specs.WellFormed.{IsEncodingOf, AreEncodingsOf}
 use Rattle.smithy_cbor.proofs.ReadBackLemmas.{big_endian_back, bignum_encoded}
 use Rattle.smithy_cbor_codec.specs.Meaning.{node_of, rules_of}
 use Rattle.smithy_cbor.specs.Scalar.{boolean_item, integer_of, big_integer_of, both, decimal_fraction_of, joined_text}
-use Rattle.smithy_cbor_codec.specs.Scalar.{decimal_form_of, says}
+use Rattle.smithy_cbor_codec.specs.Scalar.{decimal_form_of, date_says, timestamp_says, says}
 use Rattle.smithy_cbor_codec.specs.Settings.{Settings}
-use Rattle.smithy_wire.specs.Rules.{means}
+use Rattle.smithy_wire.specs.Rules.{means, no_meaning}
 use Rattle.smithy_wire.specs.BigNumbers.{big_decimal}
 use Rattle.smithy_wire.specs.Node.{leaf}
-use Rattle.smithy_cbor_codec.specs.Canonical.{scalar_bytes}
-use Rattle.smithy_cbor.specs.Written.{integer_bytes, big_endian_bytes, bignum_bytes, big_integer_bytes, text_bytes, byte_string_bytes}
+use Rattle.smithy_cbor_codec.specs.Canonical.{scalar_bytes, cbor_holds}
+use Rattle.smithy_cbor.specs.Written.{integer_bytes, big_endian_bytes, bignum_bytes, big_integer_bytes, epoch_seconds_bytes, text_bytes, byte_string_bytes}
 use Rattle.smithy_cbor_codec.proofs.WrittenPlaces.{part_bytes, item_bytes, IsEncoded, cbor_writes}
 use Rattle.smithy_wire.specs.Written.{Leaves, ReadsLeaves}
 use Rattle.smithy_wire.specs.Writes.{WritesLeaves}
@@ -49,6 +51,10 @@ whole_item (negsuc n) = magnitude_item (negative n) 3 n
 abbrev pub decimal_item : ℤ → ℤ → Item
 decimal_item m e = tag 4 (array definite (item (integer_item e) (item (whole_item m) no_items)))
 
+-- so many seconds after the epoch
+abbrev pub date_item : ℤ → Item
+date_item s = tag 1 (integer_item s)
+
 abbrev pub text_item : List ℕ → Item
 text_item s = text_string definite (s ∷ [])
 
@@ -61,9 +67,10 @@ leaf_of s time (whole n) = whole_item n
 leaf_of s time (decimal m e) = decimal_item m e
 leaf_of s time (text t) = text_item t
 leaf_of s time (bytes b) = blob_item b
+leaf_of s time (instant n) = date_item (seconds_of n)
 
 abbrev pub cbor_leaves : Leaves Item
-cbor_leaves = record { leaf_of = leaf_of; key_of = text_item }
+cbor_leaves = record { leaf_of = leaf_of; key_of = text_item; holds = cbor_holds }
 
 -- an integer is the number for which it is written
 number_back : (n : ℤ) → integer_of (integer_item n) ≡ Some n
@@ -118,18 +125,31 @@ decimal_means m e fits =
     ap (option_map (λ (p : ℤ × ℤ). record { mantissa_part = p.1; written_part = p.0; net_part = p.0 })) (fraction_back m e fits.0) in
     ap big_decimal form ∙ rw (fits.0, fits.1) refl
 
-scalar_means : (s : Scalar) (time : Option TimestampFormat) (x : ScalarValue) → is_of s x ≡ true → says s time (leaf_of s time x) ≡ means (scalar_value x)
-scalar_means scalars.Boolean time (boolean true) is = refl
-scalar_means scalars.Boolean time (boolean false) is = refl
-scalar_means scalars.Byte time (whole n) is = rw (short_back n (fits_more 8 64 n (lit≤ tt) is), is) refl
-scalar_means scalars.Short time (whole n) is = rw (short_back n (fits_more 16 64 n (lit≤ tt) is), is) refl
-scalar_means scalars.Integer time (whole n) is = rw (short_back n (fits_more 32 64 n (lit≤ tt) is), is) refl
-scalar_means scalars.Long time (whole n) is = rw (short_back n is, is) refl
-scalar_means scalars.BigInteger time (whole n) is = rw (whole_back n is, is) refl
-scalar_means scalars.BigDecimal time (decimal m e) is = decimal_means m e (decimal_fits scalars.BigDecimal m e is)
-scalar_means scalars.String time (text t) is = rw (chunk_text t is) refl
-scalar_means scalars.Blob time (bytes b) is = rw (append-nil b, is) refl
-scalar_means _ time _ is = cc
+-- a date of whole seconds is the instant for which it is written
+date_item_says : (s : ℤ) → timestamp_says (date_item s) ≡ date_says (Some s)
+date_item_says (pos n) = refl
+date_item_says (negsuc n) = refl
+
+instant_means : (n : ℤ) → is_instant n ≡ true → (subsecond_of n == 0) ≡ true → timestamp_says (date_item (seconds_of n)) ≡ means (scalar_value (instant n))
+instant_means n is held =
+    let whole : subsecond_of n ≡ 0 = grind (arith, nat_tests) in
+    date_item_says (seconds_of n)
+    ∙ ap (λ b. if b then means (scalar_value (instant (seconds_of n *ℤ pos nanos_per_second))) else no_meaning) is
+    ∙ ap (λ z. means (scalar_value (instant z))) (whole_seconds n whole)
+
+scalar_means : (s : Scalar) (time : Option TimestampFormat) (x : ScalarValue) → is_of s x ≡ true → cbor_holds time x ≡ true → says s time (leaf_of s time x) ≡ means (scalar_value x)
+scalar_means scalars.Boolean time (boolean true) is held = refl
+scalar_means scalars.Boolean time (boolean false) is held = refl
+scalar_means scalars.Byte time (whole n) is held = rw (short_back n (fits_more 8 64 n (lit≤ tt) is), is) refl
+scalar_means scalars.Short time (whole n) is held = rw (short_back n (fits_more 16 64 n (lit≤ tt) is), is) refl
+scalar_means scalars.Integer time (whole n) is held = rw (short_back n (fits_more 32 64 n (lit≤ tt) is), is) refl
+scalar_means scalars.Long time (whole n) is held = rw (short_back n is, is) refl
+scalar_means scalars.BigInteger time (whole n) is held = rw (whole_back n is, is) refl
+scalar_means scalars.BigDecimal time (decimal m e) is held = decimal_means m e (decimal_fits scalars.BigDecimal m e is)
+scalar_means scalars.String time (text t) is held = rw (chunk_text t is) refl
+scalar_means scalars.Blob time (bytes b) is held = rw (append-nil b, is) refl
+scalar_means scalars.Timestamp time (instant n) is held = instant_means n is held
+scalar_means _ time _ is held = cc
 
 pub cbor_reads_leaves : (c : Settings) → ReadsLeaves cbor_leaves (rules_of c)
 cbor_reads_leaves c = record { scalar_means = scalar_means; key_means = λ key utf8. chunk_text key (is_utf8-from_IsUtf8 key utf8) }
@@ -193,15 +213,25 @@ blob_is b short =
     let sum = length-append (shortest_head 2 (length b)) b in
     (refl, (byte_string_bytes b, [], (shortest_head 2 (length b), shortest_is_head 2 (length b) (omega (arith, short, sum)), refl), refl, sym (append-nil (byte_string_bytes b))))
 
+-- so many seconds of 64 bits are encoded as a date
+date_is : (s : ℤ) → fits_signed 64 s ≡ true → IsEncoded (date_item s)
+date_is (pos n) fits short =
+    let below : n < 2 ^ 63 = grind (arith, nat_tests) in
+    (shortest_head 0 n, shortest_is_head 0 n (omega arith), (shortest_head 6 1, shortest_is_head 6 1 (omega arith), refl))
+date_is (negsuc n) fits short =
+    let below : n < 2 ^ 63 = grind (arith, nat_tests) in
+    (shortest_head 1 n, shortest_is_head 1 n (omega arith), (shortest_head 6 1, shortest_is_head 6 1 (omega arith), refl))
+
 scalar_is : (s : Scalar) (time : Option TimestampFormat) (x : ScalarValue) → is_of s x ≡ true → cbor_writes.IsScalar (leaf_of s time x)
 scalar_is s time (boolean b) is = boolean_is b
 scalar_is s time (whole n) is = integer_is n
 scalar_is s time (decimal m e) is = (refl, decimal_is m e (decimal_fits s m e is).1)
 scalar_is s time (text t) is = (refl, text_is t)
 scalar_is s time (bytes b) is = (refl, blob_is b)
+scalar_is s time (instant n) is = (refl, date_is (seconds_of n) (instant_fits s n is))
 
 pub cbor_writes_leaves : WritesLeaves cbor_writes cbor_leaves
-cbor_writes_leaves = record { scalar_is = scalar_is; key_is = λ key utf8. text_is key }
+cbor_writes_leaves = record { scalar_is = λ s time x is held. scalar_is s time x is; key_is = λ key utf8. text_is key }
 
 magnitude_bytes_of : (t : Bool) (short : Item) (spelled : List ℕ) (number n : ℕ) → spelled ≡ part_bytes short
     → (if t then spelled else bignum_bytes number n) ≡ part_bytes (if t then short else tag number (byte_string definite (big_endian_bytes n ∷ [])))
@@ -216,6 +246,10 @@ exponent_bytes : (e : ℤ) → integer_bytes e ≡ part_bytes (integer_item e)
 exponent_bytes (pos n) = refl
 exponent_bytes (negsuc n) = refl
 
+date_bytes : (s : ℤ) → epoch_seconds_bytes s ≡ item_bytes (date_item s)
+date_bytes (pos n) = refl
+date_bytes (negsuc n) = refl
+
 -- the canonical encoding of a scalar is what is written for it
 pub scalar_is_written : (s : Scalar) (time : Option TimestampFormat) (x : ScalarValue) → scalar_bytes x ≡ item_bytes (leaf_of s time x)
 scalar_is_written s time (boolean true) = refl
@@ -224,6 +258,7 @@ scalar_is_written s time (whole n) = whole_bytes n ∙ (whole_is_leaf n).1
 scalar_is_written s time (decimal m e) = ap (λ r. shortest_head 6 4 ++ (shortest_head 4 2 ++ r)) (ap (λ r. r ++ big_integer_bytes m) (exponent_bytes e) ∙ ap (λ r. part_bytes (integer_item e) ++ r) (whole_bytes m))
 scalar_is_written s time (text t) = refl
 scalar_is_written s time (bytes b) = refl
+scalar_is_written s time (instant n) = date_bytes (seconds_of n)
 
 -- a number of 64 bits is written as an integer, whatever its kind
 big_is_short : (short other : List ℕ) (n : ℕ) → n < 2 ^ 64 → (if nat_lt n (2 ^ 64) then short else other) ≡ short

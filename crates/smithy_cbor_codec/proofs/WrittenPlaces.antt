@@ -31,6 +31,8 @@ item_bytes (byte_string definite (b ∷ [])) = byte_string_bytes b
 item_bytes (text_string definite (s ∷ [])) = text_bytes s
 item_bytes (simple n) = shortest_head 7 n
 item_bytes (tag n (byte_string definite (b ∷ []))) = shortest_head 6 n ++ byte_string_bytes b
+item_bytes (tag n (unsigned m)) = shortest_head 6 n ++ shortest_head 0 m
+item_bytes (tag n (negative m)) = shortest_head 6 n ++ shortest_head 1 m
 item_bytes (tag n (array definite (item x (item y no_items)))) = shortest_head 6 n ++ (shortest_head 4 2 ++ (part_bytes x ++ part_bytes y))
 item_bytes _ = []
 

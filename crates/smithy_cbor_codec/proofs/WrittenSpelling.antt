@@ -1,12 +1,13 @@
--- The canonical encoding of a value spells the value, and what is spelled fits its place and is shallow.
-use Rattle.std.proofs.Common.{◌≡◌, ◌≤◌, ◌<◌, ◌^◌, ℕ, List, length, arith, subst, sym}
+-- The canonical encoding of a value that CBOR holds spells the value, and what is spelled fits its place and is shallow.
+use Rattle.std.proofs.Common.{◌≡◌, ◌≤◌, ◌<◌, ◌^◌, ℕ, List, length, true, arith, subst, sym}
 use Rattle.smithy_schema.specs.declared.place.Place.{Place}
 use Rattle.smithy_schema.specs.Table.{Table, Member, shape_place}
 use Rattle.smithy_schema.specs.Accepted.{IsAccepted}
 use Rattle.smithy_schema.specs.Fits.{Fits}
+use Rattle.smithy_schema.specs.ScalarTest.{scalars_pass}
 use Rattle.smithy_schema.specs.Site.{whole_view, shape_site}
 use Rattle.smithy_schema.specs.Value.{Value, nesting}
-use Rattle.smithy_cbor_codec.specs.Canonical.{canonical_cbor}
+use Rattle.smithy_cbor_codec.specs.Canonical.{cbor_holds, canonical_cbor}
 use Rattle.smithy_cbor_codec.specs.Codec.{strict_settings}
 use Rattle.smithy_cbor_codec.specs.Laws.{rules_fit, fit}
 use Rattle.smithy_cbor_codec.specs.Meaning.{rules_of}
@@ -33,13 +34,13 @@ shallow c t p bytes v keeps h =
     omega (arith, stands_within_depth cbor_frames (rules_of c) keeps (rules_fit c) bytes t p 0 0 v s.0 s.1)
 
 -- the body of a declaration, where the value nests no deeper than may be read and a head can say its lengths
-pub canonical_spells : (t : Table) (root : ℕ) (v : Value) → IsAccepted t → Fits t (shape_place root) v → nesting v ≤ 128
+pub canonical_spells : (t : Table) (root : ℕ) (v : Value) → IsAccepted t → Fits t (shape_place root) v → scalars_pass cbor_holds (shape_site t root) v ≡ true → nesting v ≤ 128
     → length (canonical_cbor (shape_site t root) v) < 2 ^ 64 → cbor_spells strict_settings t (shape_place root) (canonical_cbor (shape_site t root) v) v
-canonical_spells t root v accepted fits deep short =
+canonical_spells t root v accepted fits held deep short =
     let p = shape_place root in
     let same = same_bytes t p whole_view v fits in
     let bytes = body_of cbor_writes cbor_leaves (λ (m : Member). m.name) t p v in
     subst (λ bytes. cbor_spells strict_settings t p bytes v) (sym same)
     (stands_spells strict_settings t p bytes v (length bytes)
-    (written_stands cbor_writes cbor_frames cbor_leaves (rules_of strict_settings) cbor_writes_frames cbor_writes_leaves (cbor_reads_leaves strict_settings) t p v
-    (named_by_name t accepted) fits deep (subst (λ (bytes : List ℕ). length bytes < 2 ^ 64) same short)))
+    (written_stands cbor_writes cbor_frames cbor_leaves (rules_of strict_settings) cbor_writes_frames cbor_writes_leaves (cbor_reads_leaves strict_settings) t p whole_view v
+    (named_by_name t accepted) fits held deep (subst (λ (bytes : List ℕ). length bytes < 2 ^ 64) same short)))

@@ -1,11 +1,13 @@
 -- The one encoding in which a value is written.
-use Rattle.std.specs.Prelude.{ℕ, List, [], ◌∷◌, ◌++◌, Some, None}
+use Rattle.std.specs.Prelude.{ℕ, ◌==◌, List, [], ◌∷◌, ◌++◌, Bool, true, Option, Some, None}
+use Rattle.smithy_instants.specs.Instant.{seconds_of, subsecond_of}
+use Rattle.smithy_schema.specs.declared.shape_type.TimestampFormat.{TimestampFormat}
 use Rattle.smithy_schema.specs.Site.{Site, View, element_of, value_of, member_of}
-use Rattle.smithy_schema.specs.Value.{ScalarValue, boolean, whole, text, bytes, decimal, Value, scalar_value, list, map, structure, union, null_element, Values, no_values, value, MapEntries, no_map_entries, map_entry, MemberValues, no_member_values, member_value}
+use Rattle.smithy_schema.specs.Value.{ScalarValue, boolean, whole, text, bytes, decimal, instant, Value, scalar_value, list, map, structure, union, null_element, Values, no_values, value, MapEntries, no_map_entries, map_entry, MemberValues, no_member_values, member_value}
 use Rattle.cbor_item.specs.Head.{shortest_head}
 use Rattle.cbor_item.specs.WellFormed.{break}
 use Rattle.smithy_cbor.specs.Scalar.{null_value}
-use Rattle.smithy_cbor.specs.Written.{big_integer_bytes, decimal_fraction_bytes, boolean_bytes, text_bytes, byte_string_bytes, opening_bytes}
+use Rattle.smithy_cbor.specs.Written.{big_integer_bytes, decimal_fraction_bytes, epoch_seconds_bytes, boolean_bytes, text_bytes, byte_string_bytes, opening_bytes}
 
 abbrev pub scalar_bytes : ScalarValue → List ℕ
 scalar_bytes (boolean b) = boolean_bytes b
@@ -13,6 +15,12 @@ scalar_bytes (whole n) = big_integer_bytes n
 scalar_bytes (decimal m e) = decimal_fraction_bytes e m
 scalar_bytes (text s) = text_bytes s
 scalar_bytes (bytes b) = byte_string_bytes b
+scalar_bytes (instant n) = epoch_seconds_bytes (seconds_of n)
+
+-- what is written for a scalar stands for exactly it: an instant is one of whole seconds, and no other is written
+abbrev pub cbor_holds : Option TimestampFormat → ScalarValue → Bool
+cbor_holds time (instant n) = subsecond_of n == 0
+cbor_holds time _ = true
 
 -- what stands before the value of a member: its name, where it has one
 abbrev pub key_bytes : View → List ℕ

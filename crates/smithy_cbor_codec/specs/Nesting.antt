@@ -1,10 +1,10 @@
 -- The calls of a serializer nest, and its bytes grow.
-use Rattle.std.specs.Prelude.{◌≡◌, List, ℕ, ◌++◌, Bool, true, false, Result, Ok, Err}
+use Rattle.std.specs.Prelude.{◌≡◌, List, ℕ, ◌++◌, Bool, true, false, Result, Ok, Err, refl}
 use Rattle.std.proofs.Common.{ap}
 use Rattle.smithy_schema.specs.declared.error.SerdeError.{SerdeError}
 use Rattle.smithy_schema.specs.declared.error.SerdeError.TheVariants.{Unwritable}
 use Rattle.smithy_schema.specs.Writing.{Event, IsNested, open_after}
-use Rattle.smithy_cbor_codec.specs.Writing.{CborState, made, where_taken, is_in_width, where_in_width, cbor_after}
+use Rattle.smithy_cbor_codec.specs.Writing.{CborState, made, where_taken, is_writable, where_writable, is_in_width, where_in_width, cbor_after}
 use Rattle.smithy_cbor_codec.specs.Private.MadeStates.{taken_frames, taken_grows}
 
 -- what is written is what is made, and what no serializer takes is refused so
@@ -18,13 +18,29 @@ stopped true r h = h
 stopped false (Ok s) h = cc
 stopped false (Err e) h = h
 
+was_writable : (b : Bool) (r : Result CborState SerdeError) (t : CborState) → where_writable b r ≡ Ok t → r ≡ Ok t
+was_writable true r t h = h
+was_writable false r t h = cc
+
+refused : (b : Bool) (r : Result CborState SerdeError) → r ≡ Err Unwritable → where_writable b r ≡ Err Unwritable
+refused true r h = h
+refused false r h = refl
+
+-- what a call makes is what is made of the open containers
+made_there : (e : Event) (s t : CborState) → cbor_after e s ≡ Ok t → where_taken (made e s) (open_after e s.frames) ≡ Ok t
+made_there e s t h =
+    let taken = where_taken (made e s) (open_after e s.frames) in
+    was_writable (is_writable e) taken t (written (is_in_width e) (where_writable (is_writable e) taken) t h)
+
 -- the open containers are those of any serializer, and where none takes a call this one refuses it
 pub cbor_nests : IsNested cbor_after (λ (s : CborState). s.frames)
 cbor_nests = record {
-  goes = λ e s t h. taken_frames e s t (open_after e s.frames) (written (is_in_width e) (where_taken (made e s) (open_after e s.frames)) t h);
-  stops = λ e s h. stopped (is_in_width e) (where_taken (made e s) (open_after e s.frames)) (ap (where_taken (made e s)) h);
+  goes = λ e s t h. taken_frames e s t (open_after e s.frames) (made_there e s t h);
+  stops = λ e s h.
+      let taken = where_taken (made e s) (open_after e s.frames) in
+      stopped (is_in_width e) (where_writable (is_writable e) taken) (refused (is_writable e) taken (ap (where_taken (made e s)) h));
 }
 
 -- no call takes back a byte
 pub cbor_grows : (e : Event) (s t : CborState) → cbor_after e s ≡ Ok t → (more : List ℕ) × (t.out ≡ s.out ++ more)
-cbor_grows e s t h = taken_grows e s t (open_after e s.frames) (written (is_in_width e) (where_taken (made e s) (open_after e s.frames)) t h)
+cbor_grows e s t h = taken_grows e s t (open_after e s.frames) (made_there e s t h)

@@ -1,7 +1,7 @@
 -- What each call of a serializer makes of its state.
-use Rattle.std.specs.Prelude.{ℕ, List, [], ◌∷◌, ◌++◌, Bool, true, false, Result, Ok, Err}
+use Rattle.std.specs.Prelude.{ℕ, List, [], ◌∷◌, ◌++◌, Bool, true, false, if◌then◌else◌, Result, Ok, Err}
 use Rattle.smithy_schema.specs.declared.error.SerdeError.{SerdeError}
-use Rattle.smithy_schema.specs.declared.error.SerdeError.TheVariants.{TooWide}
+use Rattle.smithy_schema.specs.declared.error.SerdeError.TheVariants.{TooWide, Unwritable}
 use Rattle.smithy_schema.specs.Site.{View}
 use Rattle.smithy_schema.specs.Writing.{Event, Writer, begin_structure, end_structure, begin_list, end_list, begin_map, end_map, null_of, scalar_of, big_integer_of, big_decimal_of, Open, open_structure, open_after}
 use Rattle.cbor_item.specs.Head.{shortest_head}
@@ -11,7 +11,7 @@ use Rattle.smithy_cbor.specs.Written.{opening_bytes, big_integer_bytes, decimal_
 use Rattle.smithy_texts.specs.Numeral.{number}
 use Rattle.smithy_texts.specs.Decimal.{mantissa, net_exponent}
 use Rattle.smithy_texts.specs.Ranges.{fits_signed}
-use Rattle.smithy_cbor_codec.specs.Canonical.{key_bytes, scalar_bytes}
+use Rattle.smithy_cbor_codec.specs.Canonical.{key_bytes, scalar_bytes, cbor_holds}
 
 pub record CborState : Type 0 where
   -- the bytes so far
@@ -59,6 +59,11 @@ abbrev pub where_taken : (List Open → CborState) → Result (List Open) SerdeE
 where_taken make (Ok frames) = Ok (make frames)
 where_taken make (Err e) = Err e
 
+-- an instant has to be one of whole seconds
+abbrev pub is_writable : Event → Bool
+is_writable (scalar_of site x) = cbor_holds site.place.time x
+is_writable _ = true
+
 -- a big number or its mantissa has to be one of 128 bits; the exponent isn't tested, as the text that a decimal keeps
 -- has one within the limits
 abbrev pub is_in_width : Event → Bool
@@ -72,6 +77,11 @@ where_in_width true made_of = made_of
 where_in_width false (Ok s) = Err TooWide
 where_in_width false (Err e) = Err e
 
--- a call is refused where no serializer takes it, and then where its number is too wide
+-- what is made, unless CBOR can't write it
+abbrev pub where_writable : Bool → Result CborState SerdeError → Result CborState SerdeError
+where_writable can made_of = if can then made_of else Err Unwritable
+
+-- a call is refused where no serializer takes it or its instant isn't one of whole seconds, and then where its number is too
+-- wide
 abbrev pub cbor_after : Writer CborState
-cbor_after e s = where_in_width (is_in_width e) (where_taken (made e s) (open_after e s.frames))
+cbor_after e s = where_in_width (is_in_width e) (where_writable (is_writable e) (where_taken (made e s) (open_after e s.frames)))

@@ -5,12 +5,13 @@ ghost use Rattle.smithy_schema.specs.Site.{site_of, kind_at};
 ghost use Rattle.smithy_cbor_codec.specs.Cursor.{inside_of, missing_frame};
 ghost use Rattle.smithy_wire.specs.Walking.{within_of, frame_of};
 
+use crate::instants::instant_at;
 use crate::members::{Next, next_in_map, next_present, step_to};
 use crate::numbers::{big_decimal_at, big_integer_at};
 use crate::places::{EntryOrEnd, array_at, entry_or_end, is_null_at, map_at, may_leave, null_end};
 use crate::values::{blob_at, boolean_at, long_at, skipped_end, string_at};
 use smithy_schema::{Schema, SerdeError, ShapeDeserializer, ShapeType, Step};
-use smithy_types::{BigDecimal, BigInteger, Blob};
+use smithy_types::{BigDecimal, BigInteger, Blob, DateTime};
 use smithy_wire::{Frame, Mark, Walk, Within, byte_found, integer_found, short_found};
 use std::alloc::Global;
 
@@ -66,10 +67,10 @@ fn missing() -> Frame
 
 impl<'a> CborDeserializer<'a> {
     ghost use Rattle.std.specs.Prelude.{◌≡◌, ◌≤◌, ◌↔◌, length, IsTrue, IfOk, IsErrOf, false};
-    ghost use Rattle.smithy_schema.specs.Reading.{passed_to, in_structure, Conducts, MatchStep, CannotGoOn, IsRefused};
+    ghost use Rattle.smithy_schema.specs.Reading.{passed_to, in_structure, Conducts, MatchStep, CannotGoOn, RefusesNoScalar, IsRefused};
     ghost use Rattle.smithy_schema.specs.Table.{IsStructure, HasMembers};
     ghost use Rattle.smithy_schema.specs.Site.{site_of, kind_at};
-    ghost use Rattle.smithy_schema.specs.declared.error.SerdeError.TheVariants.{TooDeep, TooWide};
+    ghost use Rattle.smithy_schema.specs.declared.error.SerdeError.TheVariants.{TooDeep};
     ghost use Rattle.smithy_cbor_codec.specs.Cursor.{cursor_of, reading_settings_of};
     ghost use Rattle.smithy_cbor_codec.specs.Settings.{Settings};
     ghost use Rattle.smithy_cbor_codec.specs.Standing.{cbor_relations};
@@ -109,7 +110,7 @@ impl<'a> CborDeserializer<'a> {
         requires place { HasMembers (kind_at (site_of schema.now)) }
         ensures same { reading_settings_of self.new ≡ reading_settings_of self.old }
         ensures conduct { Conducts (cursor_of self.old) (cursor_of self.new) result }
-        ensures narrow { IsErrOf result TooWide → ⊥ }
+        ensures narrow { RefusesNoScalar result }
         ensures ok { IfOk result (λ step. MatchStep step (cbor_relations (reading_settings_of self.old)) (passed_to (cursor_of self.old) at) (cursor_of self.new) (site_of schema.now)) }
         ensures refused { IsRefused result → (o : Settings) → CannotGoOn (cbor_relations o) (passed_to (cursor_of self.old) at) schema.now.shapes.now schema.now.place }
         ensures shallow { IsErrOf result TooDeep → ⊥ }
@@ -142,10 +143,12 @@ impl<'a> CborDeserializer<'a> {
 
 impl ShapeDeserializer for CborDeserializer<'_> {
     ghost use Rattle.std.specs.Prelude.{◌≡◌, ℕ, OnOk, IfOk, IsErr, IsErrOf, true, false, refl};
-    ghost use Rattle.smithy_schema.specs.Reading.{depth, in_structure, passed_to, null_is_due, Conducts, Passes, MatchStep, CannotGoOn, IsRefused, IsInvalid, IsNoAnswer, NullsNot, SkipsNot, ReachesDepth};
+    ghost use Rattle.smithy_schema.specs.Reading.{depth, in_structure, passed_to, null_is_due, Conducts, Passes, MatchStep, CannotGoOn, RefusesNoScalar, ReadsScalar, AnswersUncarried, IsRefused, IsInvalid, IsNoAnswer, NullsNot, SkipsNot, ReachesDepth};
     ghost use Rattle.smithy_schema.specs.Table.{HasMembers};
     ghost use Rattle.smithy_schema.specs.Site.{site_of, kind_at};
-    ghost use Rattle.smithy_schema.specs.declared.error.SerdeError.TheVariants.{NoMemory, TooDeep, TooWide};
+    ghost use Rattle.smithy_schema.specs.declared.error.SerdeError.TheVariants.{NoMemory, TooDeep};
+    ghost use Rattle.smithy_schema.specs.declared.shape_type.Scalar.TheVariants as scalars;
+    ghost use Rattle.smithy_schema.specs.Value.{instant};
     ghost use Rattle.smithy_cbor_codec.specs.Cursor.{cursor_of, reading_settings_of};
     ghost use Rattle.smithy_cbor_codec.specs.Settings.{Settings, keep_limits, without_limits};
     ghost use Rattle.smithy_cbor_codec.specs.Standing.{cbor_relations};
@@ -203,7 +206,7 @@ impl ShapeDeserializer for CborDeserializer<'_> {
         requires place { HasMembers (kind_at (site_of schema.now)) }
         ensures same { reading_settings_of self.new ≡ reading_settings_of self.old }
         ensures conduct { Conducts (cursor_of self.old) (cursor_of self.new) result }
-        ensures narrow { IsErrOf result TooWide → ⊥ }
+        ensures narrow { RefusesNoScalar result }
         ensures ok { (cursor_of self.old).due ≡ false → IfOk result (λ step. MatchStep step (cbor_relations (reading_settings_of self.old)) (cursor_of self.old) (cursor_of self.new) (site_of schema.now)) }
         ensures refused { IsRefused result → (cursor_of self.old).due ≡ false
             → CannotGoOn (cbor_relations (reading_settings_of self.old)) (cursor_of self.old) schema.now.shapes.now schema.now.place }
@@ -323,7 +326,7 @@ impl ShapeDeserializer for CborDeserializer<'_> {
     fn read_null(&mut self) -> Result<(), SerdeError>
         ensures same { reading_settings_of self.new ≡ reading_settings_of self.old }
         ensures conduct { Conducts (cursor_of self.old) (cursor_of self.new) result }
-        ensures narrow { IsErrOf result TooWide → ⊥ }
+        ensures narrow { RefusesNoScalar result }
         ensures memory { IsErrOf result NoMemory → ⊥ }
         ensures shallow { IsErrOf result TooDeep → ⊥ }
         ensures ok { null_is_due (cbor_relations (reading_settings_of self.old)) (cursor_of self.old) ≡ true → OnOk result ((cbor_relations (reading_settings_of self.old)).nulls (cursor_of self.old).input (depth (cursor_of self.old)) (cursor_of self.old).at (cursor_of self.new).at) }
@@ -353,7 +356,7 @@ impl ShapeDeserializer for CborDeserializer<'_> {
     fn skip_value(&mut self) -> Result<(), SerdeError>
         ensures same { reading_settings_of self.new ≡ reading_settings_of self.old }
         ensures conduct { Conducts (cursor_of self.old) (cursor_of self.new) result }
-        ensures narrow { IsErrOf result TooWide → ⊥ }
+        ensures narrow { RefusesNoScalar result }
         ensures undue { (cursor_of self.old).due ≡ false → IsNoAnswer result }
         ensures ok { OnOk result ((cbor_relations (reading_settings_of self.old)).skips (cursor_of self.old).input (depth (cursor_of self.old)) (cursor_of self.old).at (cursor_of self.new).at) }
         ensures passes { OnOk result (Passes (cursor_of self.old) (cursor_of self.new)) }
@@ -450,6 +453,18 @@ impl ShapeDeserializer for CborDeserializer<'_> {
             self.walk.position,
             self.walk.depth(),
         );
+        self.walk.take_result(found)
+    }
+
+    // It takes no memory.
+    fn read_timestamp(&mut self, _schema: &Schema<'_>) -> Result<DateTime, SerdeError>
+        ensures same { reading_settings_of self.new ≡ reading_settings_of self.old }
+        ensures read { ReadsScalar (cbor_relations (keep_limits (reading_settings_of self.old))) (cbor_relations (without_limits (reading_settings_of self.old))) (Unit {0}) (cursor_of self.old) (cursor_of self.new) (site_of _schema.now) scalars.Timestamp instant result }
+        ensures uncarried { AnswersUncarried (cbor_relations (keep_limits (reading_settings_of self.old))) (cursor_of self.old) (site_of _schema.now) scalars.Timestamp result }
+        ensures memory { IsErrOf result NoMemory → ⊥ }
+    {
+        self.walk.ready()?;
+        let found = instant_at(self.walk.input, self.walk.position, self.walk.depth());
         self.walk.take_result(found)
     }
 }

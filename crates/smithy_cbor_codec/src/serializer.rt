@@ -12,7 +12,7 @@ ghost use Rattle.smithy_cbor_codec.specs.Writing.{CborState, fresh_state, key_in
 
 use smithy_cbor::{EncodeError, Encoder};
 use smithy_schema::{FinishSerializer, Schema, SerdeError, ShapeSerializer};
-use smithy_types::{BigDecimal, BigInteger};
+use smithy_types::{BigDecimal, BigInteger, DateTime};
 use std::alloc::{AllocError, Global};
 
 // A container that is open, and of a map what is due in it.
@@ -312,6 +312,17 @@ impl ShapeSerializer for CborSerializer {
             }
             Err(error) => Err(refusal_of(error)),
         }
+    }
+
+    fn write_timestamp(&mut self, schema: &Schema<'_>, value: &DateTime) -> Result<(), SerdeError> {
+        if value.has_subsec_nanos() {
+            self.begin()?;
+            return Err(SerdeError::Unwritable);
+        }
+        self.begin_value(schema)?;
+        self.encoder.timestamp(value)?;
+        self.failed = false;
+        Ok(())
     }
 }
 

@@ -36,7 +36,7 @@ first_is_no_zero : (n : ℕ) → 0 < n → n < 10 ^ 64 → 48 < get_or (decimal 
 first_is_no_zero n some small = (decimal_by_steps_wide (λ m ds. (0 < length ds) × (0 < m → 48 < get_or ds 0 0)) (λ m l. (omega arith, λ a. omega arith))
     (λ m ds l h. (omega (arith, length-append ds ((48 + m % 10) ∷ [])), λ a. omega (arith, get_or_append_left ds ((48 + m % 10) ∷ []) 0 0 h.0, h.1 (omega arith)))) n small).1 some
 
-decimal_is_int : (n : ℕ) → n < 10 ^ 64 → IsInt (decimal n)
+pub decimal_is_int : (n : ℕ) → n < 10 ^ 64 → IsInt (decimal n)
 decimal_is_int zero small = subst IsInt (sym (decimal_digit 0 (omega arith))) (omega arith, omega arith)
 decimal_is_int (suc n) small =
     int_from (decimal (suc n)) (first_is_no_zero (suc n) (omega arith) small) (are_digits (decimal (suc n)) (decimal_is_IsNumeral_wide (suc n) small).0.1)

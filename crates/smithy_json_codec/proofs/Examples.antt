@@ -138,12 +138,12 @@ means_within max_depth t root x = json_meaning (record (strict false) { max_dept
 
 -- the canonical text of a value of the declaration
 abbrev pub written : Table → ℕ → Value → List ℕ
-written t root v = canonical_json false (shape_site t root) v
+written t root v = canonical_json (strict false) (shape_site t root) v
 
 -- the canonical text of what a tree means, read and written by one kind of names or the other
 abbrev pub rewritten_by : Bool → Bool → Table → ℕ → Json → Option (List ℕ)
 rewritten_by from to t root x =
-    option_map (canonical_json to (shape_site t root)) (json_meaning (strict from) t (shape_place root) 0 x)
+    option_map (canonical_json (strict to) (shape_site t root)) (json_meaning (strict from) t (shape_place root) 0 x)
 
 abbrev pub rewritten : Table → ℕ → Json → Option (List ℕ)
 rewritten = rewritten_by false false

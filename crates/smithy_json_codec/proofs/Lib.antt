@@ -1,6 +1,7 @@
 mod Examples
 mod StandardFacts
 mod MeaningFacts
+mod InstantFacts
 mod StandingFacts
 mod WritingFacts
 mod EntryFacts
@@ -22,6 +23,7 @@ pub mod DeserializerLemmas
 pub mod MemberStepLemmas
 pub mod PassedEntryLemmas
 pub mod WritingLemmas
+pub mod InstantTexts
 pub mod WrittenLeaves
 pub mod WrittenPlaces
 pub mod WrittenBody
@@ -32,4 +34,6 @@ pub mod SkipStepOpeners
 pub mod DeepestLemmas
 pub mod ScalarReads
 pub mod NumberTexts
+pub mod InstantPlaces
+pub mod InstantWriting
 pub mod WideSlices

@@ -5,41 +5,48 @@ use Rattle.smithy_texts.specs.Ranges.{fits_signed}
 use Rattle.smithy_schema.specs.declared.shape_type.Scalar.{Scalar}
 use Rattle.smithy_schema.specs.declared.shape_type.Scalar.TheVariants as scalars
 use Rattle.smithy_schema.specs.declared.error.SerdeError.{SerdeError}
-use Rattle.smithy_schema.specs.declared.error.SerdeError.TheVariants.{InvalidInput, TooWide, NoMemory}
+use Rattle.smithy_schema.specs.declared.error.SerdeError.TheVariants.{InvalidInput, TooWide, NotCarried, NoMemory}
+use Rattle.smithy_schema.specs.declared.shape_type.TimestampFormat.{TimestampFormat}
+use Rattle.smithy_schema.specs.declared.shape_type.TimestampFormat.TheVariants.{EpochSeconds}
+use Rattle.smithy_schema.specs.TimeForms.{form_or}
 use Rattle.smithy_schema.specs.Table.{scalar_place}
 use Rattle.smithy_schema.specs.Site.{Site}
-use Rattle.smithy_schema.specs.Value.{ScalarValue, boolean, whole, text, bytes, Value, scalar_value, null_element}
-use Rattle.smithy_schema.specs.Reading.{Cursor, depth, StandsNot, IsInvalid, Exceeds, ReadsScalar, AnswersWide, passed_to, failed_at}
+use Rattle.smithy_schema.specs.Value.{ScalarValue, boolean, whole, text, bytes, instant, Value, scalar_value, null_element}
+use Rattle.smithy_schema.specs.Reading.{Cursor, depth, StandsNot, IsInvalid, Exceeds, Uncarried, ReadsScalar, AnswersWide, AnswersUncarried, passed_to, failed_at}
 use Rattle.smithy_schema.specs.Lemmas.Options.{same_some, made}
 use Rattle.smithy_schema.proofs.ScalarLemmas.{fits_more}
 use Rattle.smithy_json.specs.Tree.{boolean as boolean_tree, number}
 use Rattle.smithy_json.specs.Number.{whole_number}
 use Rattle.smithy_json_codec.specs.Settings.{Settings, kept, without_limits}
-use Rattle.smithy_json_codec.specs.Scalar.{JsonScalar, a_boolean, a_number, a_string, tree_of, boolean_of, whole_of, text_of, bytes_of, says}
+use Rattle.smithy_json_codec.specs.Scalar.{JsonScalar, a_boolean, a_number, a_string, tree_of, boolean_of, whole_of, text_of, bytes_of, timestamp_says, says}
 use Rattle.smithy_json_codec.specs.Laws.{lawful}
 use Rattle.smithy_json_codec.specs.Meaning.{rules_of}
 use Rattle.smithy_json_codec.specs.Standing.{TreeLies, json_frames, json_relations}
 use Rattle.smithy_json_codec.specs.Private.Fits.{whole_is}
-use Rattle.smithy_json_codec.specs.Private.ScalarAtPlace.{WholeLies, TextLies, BlobLies, MeansAt, ExceedsAt, NothingAt}
+use Rattle.smithy_json_codec.specs.Private.ScalarAtPlace.{WholeLies, TextLies, BlobLies, MeansAt, ExceedsAt, NothingAt, InstantLies, UncarriedLies, NoInstantLies}
 use Rattle.smithy_json_codec.specs.Private.Wire.{json_is_wire}
-use Rattle.smithy_wire.specs.Rules.{Answer, no_meaning, wide, answer_of, settled}
+use Rattle.smithy_wire.specs.Rules.{Answer, no_meaning, wide, uncarried, answer_of, settled}
 use Rattle.smithy_json_codec.specs.Private.ValuePlaces.{one_tree}
 use Rattle.smithy_wire.specs.Narrowing.{IsNarrowed, IsWider}
-use Rattle.smithy_wire.specs.Readers.{settled_answer, scalar_stands, stands_scalar, scalar_exceeds, exceeds_scalar}
-use Rattle.smithy_wire.proofs.Bounds.{exceeds_not}
-use Rattle.smithy_wire.proofs.ScalarReads.{takes, takes_result, takes_big, answers_wide, narrow_found, narrow_none, if_some, if_none, if_ok}
+use Rattle.smithy_wire.specs.Readers.{settled_answer, scalar_stands, stands_scalar, scalar_exceeds, exceeds_scalar, scalar_uncarried, uncarried_scalar}
+use Rattle.smithy_wire.proofs.Bounds.{exceeds_not, uncarried_not}
+use Rattle.smithy_wire.proofs.ScalarReads.{takes, takes_result, takes_big, answers_wide, takes_carried, answers_uncarried, narrow_found, narrow_none, if_some, if_none, if_ok}
+
+-- the form of instants at a site
+abbrev pub form_at : Settings → Site → TimestampFormat
+form_at o site = form_or o.default_timestamp_format site.place.time
 
 module _ (o : Settings) (c : Cursor) (site : Site) (s : Scalar) where
   abbrev pub Stands : ScalarValue → ℕ → Type 0
   Stands v e = (json_relations o).stands c.input site.table (scalar_place s site.place.time) (depth c) c.at (scalar_value v) e
 
   -- what a scalar that lies there says stands there
-  says_stands : (x : JsonScalar) (v : Value) (e : ℕ) → TreeLies 1 (tree_of x) c.input c.at e → settled o.limits null_element (says s site.place.time x) ≡ Some v
+  says_stands : (x : JsonScalar) (v : Value) (e : ℕ) → TreeLies 1 (tree_of x) c.input c.at e → settled o.limits null_element (says s (form_at o site) x) ≡ Some v
       → (json_relations o).stands c.input site.table (scalar_place s site.place.time) (depth c) c.at v e
   says_stands x v e lies means = scalar_stands json_frames (rules_of o) c.input site.table (scalar_place s site.place.time) s refl (depth c) c.at v e (x, lies, means)
 
   -- and nothing else does
-  nothing_stands : ((x : JsonScalar) (v : Value) (e : ℕ) → TreeLies 1 (tree_of x) c.input c.at e → settled o.limits null_element (says s site.place.time x) ≡ Some v → ⊥)
+  nothing_stands : ((x : JsonScalar) (v : Value) (e : ℕ) → TreeLies 1 (tree_of x) c.input c.at e → settled o.limits null_element (says s (form_at o site) x) ≡ Some v → ⊥)
       → StandsNot (json_relations o) c site.table (scalar_place s site.place.time)
   nothing_stands none v e stands =
       let x = stands_scalar json_frames (rules_of o) c.input site.table (scalar_place s site.place.time) s refl (depth c) c.at v e stands in
@@ -48,7 +55,7 @@ module _ (o : Settings) (c : Cursor) (site : Site) (s : Scalar) where
 -- ---- booleans
 
 module _ (o : Settings) (c : Cursor) (site : Site) where
-  settled_boolean : (x : JsonScalar) → settled o.limits null_element (says scalars.Boolean site.place.time x) ≡ boolean_of x
+  settled_boolean : (x : JsonScalar) → settled o.limits null_element (says scalars.Boolean (form_at o site) x) ≡ boolean_of x
   settled_boolean x = settled_answer o.limits null_element (boolean_of x)
 
   pub boolean_stands : (b : Bool) (e : ℕ) → TreeLies 1 (boolean_tree b) c.input c.at e → Stands o c site scalars.Boolean (boolean b) e
@@ -64,8 +71,8 @@ module _ (o : Settings) (c : Cursor) (site : Site) where
 
 -- ---- a kind of whole numbers of so many bits
 
-module _ (o : Settings) (c : Cursor) (site : Site) (s : Scalar) (bits : ℕ) (says_whole : (x : JsonScalar) → says s site.place.time x ≡ answer_of (whole_of bits x)) where
-  settled_whole : (x : JsonScalar) → settled o.limits null_element (says s site.place.time x) ≡ whole_of bits x
+module _ (o : Settings) (c : Cursor) (site : Site) (s : Scalar) (bits : ℕ) (says_whole : (x : JsonScalar) → says s (form_at o site) x ≡ answer_of (whole_of bits x)) where
+  settled_whole : (x : JsonScalar) → settled o.limits null_element (says s (form_at o site) x) ≡ whole_of bits x
   settled_whole x = ap (settled o.limits null_element) (says_whole x) ∙ settled_answer o.limits null_element (whole_of bits x)
 
   is_whole : (raw : List ℕ) (n : ℤ) → whole_number raw ≡ Some n → fits_signed bits n ≡ true → whole_of bits (a_number raw) ≡ Some (scalar_value (whole n))
@@ -92,7 +99,7 @@ same_number input at n m e f h k =
 -- ---- texts
 
 module _ (o : Settings) (c : Cursor) (site : Site) where
-  settled_text : (x : JsonScalar) → settled o.limits null_element (says scalars.String site.place.time x) ≡ option_map (λ s. scalar_value (text s)) (text_of x)
+  settled_text : (x : JsonScalar) → settled o.limits null_element (says scalars.String (form_at o site) x) ≡ option_map (λ s. scalar_value (text s)) (text_of x)
   settled_text x = settled_answer o.limits null_element (option_map (λ s. scalar_value (text s)) (text_of x))
 
   pub text_stands : (t : List ℕ) (e : ℕ) → TextLies c.input c.at t e → Stands o c site scalars.String (text t) e
@@ -110,7 +117,7 @@ module _ (o : Settings) (c : Cursor) (site : Site) where
 -- ---- bytes
 
 module _ (o : Settings) (c : Cursor) (site : Site) where
-  settled_blob : (x : JsonScalar) → settled o.limits null_element (says scalars.Blob site.place.time x) ≡ option_map (λ b. scalar_value (bytes b)) (bytes_of x)
+  settled_blob : (x : JsonScalar) → settled o.limits null_element (says scalars.Blob (form_at o site) x) ≡ option_map (λ b. scalar_value (bytes b)) (bytes_of x)
   settled_blob x = settled_answer o.limits null_element (option_map (λ b. scalar_value (bytes b)) (bytes_of x))
 
   pub blob_stands : (b : List ℕ) (e : ℕ) → BlobLies c.input c.at b e → Stands o c site scalars.Blob (bytes b) e
@@ -127,7 +134,7 @@ module _ (o : Settings) (c : Cursor) (site : Site) where
 
 -- ---- big numbers, by a kind whose meaning asks no time form
 
-module _ (o : Settings) (c : Cursor) (site : Site) (s : Scalar) (timeless : (x : JsonScalar) → says s site.place.time x ≡ says s None x) where
+module _ (o : Settings) (c : Cursor) (site : Site) (s : Scalar) (timeless : (x : JsonScalar) → says s (form_at o site) x ≡ says s EpochSeconds x) where
   pub number_stands : (v : ScalarValue) (e : ℕ) → MeansAt s c.input c.at v e → Stands o c site s v e
   number_stands v e h =
       says_stands o c site s h.found (scalar_value v) e h.lies (ap (settled o.limits null_element) (timeless h.found ∙ h.is))
@@ -154,6 +161,35 @@ module _ (o : Settings) (c : Cursor) (site : Site) (s : Scalar) (timeless : (x :
   exceeds_stands_not keeps (e, there) v f stands =
       exceeds_not json_frames (rules_of o) json_is_wire keeps c.input site.table (scalar_place s site.place.time) s refl (depth c) c.at e there v f stands
 
+-- ---- instants
+
+module _ (o : Settings) (c : Cursor) (site : Site) where
+  pub instant_stands : (n : ℤ) (e : ℕ) → InstantLies (form_at o site) c.input c.at n e → Stands o c site scalars.Timestamp (instant n) e
+  instant_stands n e h = says_stands o c site scalars.Timestamp h.found (scalar_value (instant n)) e h.lies (ap (settled o.limits null_element) h.is)
+
+  pub instant_uncarried : UncarriedLies (form_at o site) c.input c.at → Uncarried (json_relations o) c site.table (scalar_place scalars.Timestamp site.place.time)
+  instant_uncarried h = (
+    h.e,
+    scalar_uncarried json_frames (rules_of o) c.input site.table (scalar_place scalars.Timestamp site.place.time) scalars.Timestamp refl (depth c) c.at h.found h.e h.lies h.is,
+  )
+
+  pub no_instant_stands : NoInstantLies (form_at o site) c.input c.at → StandsNot (json_relations o) c site.table (scalar_place scalars.Timestamp site.place.time)
+  no_instant_stands none = nothing_stands o c site scalars.Timestamp (λ x v e lies means.
+      let nothing : None ≡ Some v = sym (ap (settled o.limits null_element) (none x e lies)) ∙ means in
+      cc)
+
+  pub all_carried : NoInstantLies (form_at o site) c.input c.at → Uncarried (json_relations o) c site.table (scalar_place scalars.Timestamp site.place.time) → ⊥
+  all_carried none (e, there) =
+      let x = uncarried_scalar json_frames (rules_of o) c.input site.table (scalar_place scalars.Timestamp site.place.time) scalars.Timestamp refl (depth c) c.at e there in
+      let both : ◌≡◌ {A = Answer Value} no_meaning uncarried = sym (none x.0 e x.1) ∙ x.2 in
+      cc
+
+  -- within the limits nothing stands where a number isn't carried
+  pub uncarried_stands_not : o.limits ≡ kept → Uncarried (json_relations o) c site.table (scalar_place scalars.Timestamp site.place.time)
+      → StandsNot (json_relations o) c site.table (scalar_place scalars.Timestamp site.place.time)
+  uncarried_stands_not keeps (e, there) v f stands =
+      uncarried_not json_frames (rules_of o) json_is_wire keeps c.input site.table (scalar_place scalars.Timestamp site.place.time) scalars.Timestamp refl (depth c) c.at e there v f stands
+
 -- ---- the answer of a read
 
 module _ (o : Settings) (old : Cursor) (site : Site) (sound : old.failed ≡ false) (due : old.due ≡ true) (within : old.at ≤ length old.input) where
@@ -169,7 +205,7 @@ module _ (o : Settings) (old : Cursor) (site : Site) (sound : old.failed ≡ fal
       (if_none found _ _ (λ nothing. (no_boolean_stands o old site nothing, no_boolean_stands (without_limits o) old site nothing)) none)
 
   -- of a kind of whole numbers of so many bits
-  pub reads_whole : (s : Scalar) (bits : ℕ) → ((x : JsonScalar) → says s site.place.time x ≡ answer_of (whole_of bits x))
+  pub reads_whole : (s : Scalar) (bits : ℕ) → ((x : JsonScalar) → says s (form_at o site) x ≡ answer_of (whole_of bits x))
       → (new : Cursor) (found : Option (ℤ × ℕ)) (result : Result ℤ SerdeError)
       → IfSome found (λ r. WholeLies bits old.input old.at r.0 r.1) → IfNone found ((n : ℤ) (e : ℕ) → WholeLies bits old.input old.at n e → ⊥)
       → IfOk result (λ x. IfSome found (λ r. (r.0 ≡ x) × (new ≡ passed_to old r.1))) → (IsOk result → IsSome found) → (IsErr result → IsNone found)
@@ -181,7 +217,7 @@ module _ (o : Settings) (old : Cursor) (site : Site) (sound : old.failed ≡ fal
       (if_none found _ _ (λ nothing. (no_whole_stands o old site s bits says_whole nothing, no_whole_stands (without_limits o) old site s bits says_whole nothing)) none)
 
   -- the same in fewer bits
-  pub reads_narrow : (s : Scalar) (bits : ℕ) → 2 ^ (bits - 1) ≤ 2 ^ 63 → ((x : JsonScalar) → says s site.place.time x ≡ answer_of (whole_of bits x))
+  pub reads_narrow : (s : Scalar) (bits : ℕ) → 2 ^ (bits - 1) ≤ 2 ^ 63 → ((x : JsonScalar) → says s (form_at o site) x ≡ answer_of (whole_of bits x))
       → (new : Cursor) (broad found : Option (ℤ × ℕ)) (result : Result ℤ SerdeError)
       → IfSome broad (λ r. WholeLies 64 old.input old.at r.0 r.1) → IfNone broad ((n : ℤ) (e : ℕ) → WholeLies 64 old.input old.at n e → ⊥)
       → IfSome found (IsNarrowed bits broad) → IfNone found (IsWider bits broad)
@@ -220,7 +256,7 @@ module _ (o : Settings) (old : Cursor) (site : Site) (sound : old.failed ≡ fal
       (λ invalid. (no_blob_stands o old site (none invalid), no_blob_stands (without_limits o) old site (none invalid)))
 
   -- of a big number
-  module _ (keeps : o.limits ≡ kept) (s : Scalar) (timeless : (x : JsonScalar) → says s site.place.time x ≡ says s None x) {A : Type 0} (value : A → ScalarValue)
+  module _ (keeps : o.limits ≡ kept) (s : Scalar) (timeless : (x : JsonScalar) → says s (form_at o site) x ≡ says s EpochSeconds x) {A : Type 0} (value : A → ScalarValue)
       (found : Result (A × ℕ) SerdeError) (result : Result A SerdeError)
       (here : IfOk found (λ r. MeansAt s old.input old.at (value r.0) r.1)) (kind : IfErr found (λ e. (e ≡ InvalidInput) ⊎ (e ≡ TooWide) ⊎ (e ≡ NoMemory)))
       (none : IsInvalid found → NothingAt s old.input old.at) where
@@ -240,3 +276,24 @@ module _ (o : Settings) (old : Cursor) (site : Site) (sound : old.failed ≡ fal
         (if_ok found _ _ (λ r. number_stands o old site s timeless (value r.0) r.1) here) kind
         (exceeds_stands_not o old site s timeless keeps)
         (λ invalid. no_number_exceeds o old site s timeless (none invalid))
+
+  -- of an instant
+  module _ (keeps : o.limits ≡ kept) (found : Result (ℤ × ℕ) SerdeError) (result : Result ℤ SerdeError)
+      (here : IfOk found (λ r. InstantLies (form_at o site) old.input old.at r.0 r.1)) (kind : IfErr found (λ e. (e ≡ InvalidInput) ⊎ (e ≡ NotCarried) ⊎ (e ≡ NoMemory)))
+      (none : IsInvalid found → NoInstantLies (form_at o site) old.input old.at) where
+    pub reads_instant : (new : Cursor) → (IsErrOf found NotCarried → UncarriedLies (form_at o site) old.input old.at)
+        → IfOk result (λ x. IfOk found (λ r. (r.0 ≡ x) × (new ≡ passed_to old r.1))) → (IsOk result → IsOk found)
+        → OnErr result (new ≡ failed_at old) → IfErr result (λ e. found ≡ Err e)
+        → ReadsScalar (json_relations o) (json_relations (without_limits o)) (Unit {0}) old new site scalars.Timestamp instant result
+    reads_instant new leaves =
+        takes_carried (json_relations o) (json_relations (without_limits o)) (Unit {0}) site scalars.Timestamp instant (lawful o) old sound due within new found result
+        (if_ok found _ _ (λ r. instant_stands o old site r.0 r.1) here) kind
+        (λ invalid. (no_instant_stands o old site (none invalid), no_instant_stands (without_limits o) old site (none invalid)))
+        (λ is. let there = instant_uncarried o old site (leaves is) in (there, uncarried_stands_not o old site keeps there))
+
+    pub answers_instant : (IsOk result → IsOk found) → IfErr result (λ e. found ≡ Err e) → AnswersUncarried (json_relations o) old site scalars.Timestamp result
+    answers_instant =
+        answers_uncarried (json_relations o) (json_relations (without_limits o)) (Unit {0}) site scalars.Timestamp instant (lawful o) old sound due within found result
+        (if_ok found _ _ (λ r. instant_stands o old site r.0 r.1) here) kind
+        (uncarried_stands_not o old site keeps)
+        (λ invalid. all_carried o old site (none invalid))

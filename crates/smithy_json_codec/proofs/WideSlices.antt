@@ -1,31 +1,55 @@
--- A number that leaves its limits somewhere is a slice of the input.
-use Rattle.std.proofs.Common.{◌≡◌, ℕ, List, [], ◌∷◌, ◌++◌, take, drop, Option, Some, None, refl, sym, ◌∙◌, ap, append_assoc, inl, inr}
+-- A number that leaves its limits somewhere, or isn't carried, is a slice of the input.
+use Rattle.std.proofs.Common.{◌≡◌, ℕ, ℤ, Bool, true, false, List, [], ◌∷◌, ◌++◌, take, drop, Option, Some, None, refl, sym, ◌∙◌, ap, subst, append_assoc, inl, inr}
+use Rattle.std.specs.Prelude.{if◌then◌else◌}
 use Rattle.std.proofs.lemmas.List.{take-append-drop}
 use Rattle.smithy_schema.specs.declared.shape_type.Scalar.{Scalar}
 use Rattle.smithy_schema.specs.declared.shape_type.Scalar.TheVariants as scalars
 use Rattle.smithy_schema.specs.declared.shape_type.TimestampFormat.{TimestampFormat}
+use Rattle.smithy_schema.specs.declared.shape_type.TimestampFormat.TheVariants.{EpochSeconds, DateTime, HttpDate}
+use Rattle.smithy_schema.specs.Value.{instant, scalar_value}
+use Rattle.smithy_instants.specs.Instant.{is_instant}
+use Rattle.smithy_instants.specs.Epoch.{epoch_nanos}
+use Rattle.smithy_texts.specs.Decimal.{integer_form, decimal_form}
 use Rattle.smithy_json.specs.Ascii.{quotation_mark}
-use Rattle.smithy_json_codec.specs.Scalar.{JsonScalar, a_boolean, a_number, a_string, tree_of, number_text, big_number, number_says, says}
+use Rattle.smithy_json.specs.Tree.{number}
+use Rattle.smithy_json_codec.specs.Scalar.{JsonScalar, a_boolean, a_number, a_string, tree_of, number_text, big_number, number_says, seconds_say, timestamp_says, says}
 use Rattle.smithy_json_codec.specs.Standing.{TreeLies}
+use Rattle.smithy_json_codec.specs.Uncarried.{IsUncarriedJson}
 use Rattle.smithy_json_codec.specs.Wide.{IsWideJson}
-use Rattle.smithy_wire.specs.Rules.{wide}
-use Rattle.smithy_wire.proofs.Bounds.{answer_not_wide}
+use Rattle.smithy_wire.specs.Rules.{means, no_meaning, wide, uncarried}
+use Rattle.smithy_wire.proofs.Bounds.{answer_not_wide, answer_is_carried, bounded_is_carried}
 
 text_wide : (s : Scalar) (o : Option (List ℕ)) → number_says s o ≡ wide → (t : List ℕ) × (o ≡ Some t) × (big_number s t ≡ wide)
 text_wide s None h = cc
 text_wide s (Some t) h = (t, refl, h)
 
+seconds_not_wide : (o : Option ℤ) → seconds_say o ≡ wide → ⊥
+seconds_not_wide None h = cc
+seconds_not_wide (Some n) h = not_wide (is_instant n) h
+  where
+    not_wide : (b : Bool) → (if b then means (scalar_value (instant n)) else no_meaning) ≡ wide → ⊥
+    not_wide true h = cc
+    not_wide false h = cc
+
+timestamp_not_wide : (form : TimestampFormat) (x : JsonScalar) → timestamp_says form x ≡ wide → ⊥
+timestamp_not_wide EpochSeconds (a_number raw) h = seconds_not_wide (epoch_nanos raw) h
+timestamp_not_wide EpochSeconds (a_boolean b) h = cc
+timestamp_not_wide EpochSeconds (a_string raw) h = cc
+timestamp_not_wide DateTime x h = answer_not_wide _ h
+timestamp_not_wide HttpDate x h = answer_not_wide _ h
+
 -- only the text of a big number is too wide
-wide_text : (s : Scalar) (time : Option TimestampFormat) (x : JsonScalar) → says s time x ≡ wide → (t : List ℕ) × (number_text x ≡ Some t) × (big_number s t ≡ wide)
-wide_text scalars.Boolean time x h = absurd (answer_not_wide _ h)
-wide_text scalars.Byte time x h = absurd (answer_not_wide _ h)
-wide_text scalars.Short time x h = absurd (answer_not_wide _ h)
-wide_text scalars.Integer time x h = absurd (answer_not_wide _ h)
-wide_text scalars.Long time x h = absurd (answer_not_wide _ h)
-wide_text scalars.String time x h = absurd (answer_not_wide _ h)
-wide_text scalars.Blob time x h = absurd (answer_not_wide _ h)
-wide_text scalars.BigInteger time x h = text_wide scalars.BigInteger (number_text x) h
-wide_text scalars.BigDecimal time x h = text_wide scalars.BigDecimal (number_text x) h
+wide_text : (s : Scalar) (form : TimestampFormat) (x : JsonScalar) → says s form x ≡ wide → (t : List ℕ) × (number_text x ≡ Some t) × (big_number s t ≡ wide)
+wide_text scalars.Boolean form x h = absurd (answer_not_wide _ h)
+wide_text scalars.Byte form x h = absurd (answer_not_wide _ h)
+wide_text scalars.Short form x h = absurd (answer_not_wide _ h)
+wide_text scalars.Integer form x h = absurd (answer_not_wide _ h)
+wide_text scalars.Long form x h = absurd (answer_not_wide _ h)
+wide_text scalars.String form x h = absurd (answer_not_wide _ h)
+wide_text scalars.Blob form x h = absurd (answer_not_wide _ h)
+wide_text scalars.Timestamp form x h = absurd (timestamp_not_wide form x h)
+wide_text scalars.BigInteger form x h = text_wide scalars.BigInteger (number_text x) h
+wide_text scalars.BigDecimal form x h = text_wide scalars.BigDecimal (number_text x) h
 
 number_parts : (i before raw rest : List ℕ) (a : ℕ) → drop a i ≡ before ++ (raw ++ rest) → i ≡ (take a i ++ before) ++ (raw ++ rest)
 number_parts i before raw rest a is = sym (take-append-drop a i) ∙ ap (λ s. take a i ++ s) is ∙ sym (append_assoc (take a i) before (raw ++ rest))
@@ -36,8 +60,8 @@ string_parts i before raw rest a q is = sym (take-append-drop a i) ∙ ap (λ s.
     regroup : (front before raw rest : List ℕ) (q : ℕ) → front ++ (before ++ ((q ∷ (raw ++ q ∷ [])) ++ rest)) ≡ (front ++ (before ++ q ∷ [])) ++ (raw ++ q ∷ rest)
     regroup front before raw rest q = simp append_assoc
 
-pub wide_slice : (s : Scalar) (time : Option TimestampFormat) (x : JsonScalar) (i : List ℕ) (a e : ℕ) → TreeLies 1 (tree_of x) i a e → says s time x ≡ wide → IsWideJson s i
-wide_slice s time x i a e lies leaves = by x lies (wide_text s time x leaves)
+pub wide_slice : (s : Scalar) (form : TimestampFormat) (x : JsonScalar) (i : List ℕ) (a e : ℕ) → TreeLies 1 (tree_of x) i a e → says s form x ≡ wide → IsWideJson s i
+wide_slice s form x i a e lies leaves = by x lies (wide_text s form x leaves)
   where
     by : (x : JsonScalar) → TreeLies 1 (tree_of x) i a e → (t : List ℕ) × (number_text x ≡ Some t) × (big_number s t ≡ wide) → IsWideJson s i
     by (a_boolean b) lies (t, is, leaves) = cc
@@ -63,4 +87,61 @@ wide_slice s time x i a e lies leaves = by x lies (wide_text s time x leaves)
           parts = string_parts i front.0 raw (drop e i) a quotation_mark (front.2 ∙ ap (λ s. front.0 ++ (s ++ drop e i)) front.4.0);
           is_text = inr is;
           leaves = leaves;
+        }
+
+-- ---- what isn't carried
+
+-- a number of seconds that isn't carried has no nanoseconds
+no_nanos : (o : Option ℤ) → seconds_say o ≡ uncarried → o ≡ None
+no_nanos None h = refl
+no_nanos (Some n) h = absurd (carried (is_instant n) h)
+  where
+    carried : (b : Bool) → (if b then means (scalar_value (instant n)) else no_meaning) ≡ uncarried → ⊥
+    carried true h = cc
+    carried false h = cc
+
+-- it is a number
+uncarried_number : (form : TimestampFormat) (x : JsonScalar) → timestamp_says form x ≡ uncarried → (raw : List ℕ) × (x ≡ a_number raw) × (epoch_nanos raw ≡ None)
+uncarried_number EpochSeconds (a_number raw) h = (raw, refl, no_nanos (epoch_nanos raw) h)
+uncarried_number EpochSeconds (a_boolean b) h = cc
+uncarried_number EpochSeconds (a_string raw) h = cc
+uncarried_number DateTime x h = absurd (answer_is_carried _ h)
+uncarried_number HttpDate x h = absurd (answer_is_carried _ h)
+
+number_is_carried : (s : Scalar) (o : Option (List ℕ)) → number_says s o ≡ uncarried → ⊥
+number_is_carried s None h = cc
+number_is_carried scalars.BigInteger (Some raw) h = bounded_is_carried _ _ (integer_form raw) h
+number_is_carried scalars.BigDecimal (Some raw) h = bounded_is_carried _ _ (decimal_form raw) h
+number_is_carried _ (Some raw) h = cc
+
+-- of an instant alone
+uncarried_kind : (s : Scalar) (form : TimestampFormat) (x : JsonScalar) → says s form x ≡ uncarried → (s ≡ scalars.Timestamp) × (timestamp_says form x ≡ uncarried)
+uncarried_kind scalars.Boolean form x h = absurd (answer_is_carried _ h)
+uncarried_kind scalars.Byte form x h = absurd (answer_is_carried _ h)
+uncarried_kind scalars.Short form x h = absurd (answer_is_carried _ h)
+uncarried_kind scalars.Integer form x h = absurd (answer_is_carried _ h)
+uncarried_kind scalars.Long form x h = absurd (answer_is_carried _ h)
+uncarried_kind scalars.String form x h = absurd (answer_is_carried _ h)
+uncarried_kind scalars.Blob form x h = absurd (answer_is_carried _ h)
+uncarried_kind scalars.Timestamp form x h = (refl, h)
+uncarried_kind scalars.BigInteger form x h = absurd (number_is_carried scalars.BigInteger (number_text x) h)
+uncarried_kind scalars.BigDecimal form x h = absurd (number_is_carried scalars.BigDecimal (number_text x) h)
+
+pub uncarried_slice : (s : Scalar) (form : TimestampFormat) (x : JsonScalar) (i : List ℕ) (a e : ℕ) → TreeLies 1 (tree_of x) i a e → says s form x ≡ uncarried
+    → (s ≡ scalars.Timestamp) × IsUncarriedJson i
+uncarried_slice s form x i a e lies h =
+    let (kind, says) = uncarried_kind s form x h in
+    let (raw, is, none) = uncarried_number form x says in
+    (kind, number_there raw none (subst (λ y. TreeLies 1 (tree_of y) i a e) is lies))
+  where
+    number_there : (raw : List ℕ) → epoch_nanos raw ≡ None → TreeLies 1 (number raw) i a e → IsUncarriedJson i
+    number_there raw none lies =
+        let front = lies.0.2 in
+        record {
+          before = take a i ++ front.0;
+          slice = raw;
+          behind = drop e i;
+          parts = number_parts i front.0 raw (drop e i) a (front.2 ∙ ap (λ s. front.0 ++ (s ++ drop e i)) front.4.0);
+          is_number = front.4.1;
+          no_nanos = none;
         }

@@ -1,19 +1,23 @@
--- A value adds its canonical text, whatever stands before it.
-use Rattle.std.proofs.Common.{◌≡◌, ℕ, List, [], ◌∷◌, ◌++◌, Bool, true, false, Option, Some, None, Result, Ok, refl, if◌then◌else◌, sym, ap, ◌∙◌, append_assoc, codes}
+-- A value that can be written adds its canonical text, whatever stands before it.
+use Rattle.std.proofs.Common.{◌≡◌, ℕ, List, [], ◌∷◌, ◌++◌, Bool, true, false, Option, Some, None, Result, Ok, Err, refl, if◌then◌else◌, sym, ap, ◌∙◌, append_assoc, codes}
 use Rattle.std.proofs.lemmas.List.{append-nil}
+use Rattle.std.proofs.lemmas.Bool.{and_parts}
 use Rattle.std.specs.Option.{option_map_or}
 use Rattle.smithy_schema.specs.declared.error.SerdeError.{SerdeError}
+use Rattle.smithy_schema.specs.declared.error.SerdeError.TheVariants.{Unwritable}
+use Rattle.smithy_schema.specs.ScalarTest.{scalars_pass, elements_pass, entries_pass, members_pass}
 use Rattle.smithy_schema.specs.Site.{Site, element_of, key_of, value_of, member_of}
 use Rattle.smithy_schema.specs.Value.{ScalarValue, text, text_in, Value, scalar_value, list, map, structure, union, null_element, Values, no_values, value, MapEntries, no_map_entries, map_entry, MemberValues, no_member_values, member_value}
 use Rattle.smithy_schema.specs.Writing.{Event, run, write, and_run, events, element_events, entry_events, member_events, scalar_of, end_list, end_map, end_structure, after_value, after_text, after_begin, Open, open_structure, open_list, open_map_at_key, open_map_at_value}
 use Rattle.smithy_schema.proofs.WritingLemmas.{child_written}
 use Rattle.smithy_json.specs.Ascii.{value_separator, begin_array, end_array, begin_object, end_object}
-use Rattle.smithy_json_codec.specs.Canonical.{scalar_text, name_text, key_text, canonical_json, more_elements, more_entries, more_members}
-use Rattle.smithy_json_codec.specs.Writing.{JsonState, lead, is_key_due, key_wrote, wrote, opened, where_taken, json_after}
+use Rattle.smithy_json_codec.specs.Canonical.{scalar_text, can_write, name_text, key_text, canonical_json, more_elements, more_entries, more_members}
+use Rattle.smithy_json_codec.specs.Settings.{Settings}
+use Rattle.smithy_json_codec.specs.Writing.{JsonState, lead, form_at, is_key_due, key_wrote, wrote, opened, where_taken, json_after}
 
-abbrev pub state : Bool → List ℕ → Bool → List Open → JsonState
-state use_json_name out needs_comma frames = record {
-  use_json_name = use_json_name;
+abbrev pub state : Settings → List ℕ → Bool → List Open → JsonState
+state settings out needs_comma frames = record {
+  settings = settings;
   out = out;
   needs_comma = needs_comma;
   frames = frames;
@@ -25,9 +29,9 @@ step : (xs ys : List Event) (s s' : JsonState) (r : Result JsonState SerdeError)
 step xs ys s s' r first rest = child_written json_after xs ys s s' first ∙ rest
 
 -- the same bytes, in another grouping
-regroup : (b : Bool) (o p : List ℕ) (frames : List Open) (r : Result JsonState SerdeError)
-    → r ≡ Ok (state b o true frames) → o ≡ p → r ≡ Ok (state b p true frames)
-regroup b o p frames r is same = rw (← same) is
+regroup : (c : Settings) (o p : List ℕ) (frames : List Open) (r : Result JsonState SerdeError)
+    → r ≡ Ok (state c o true frames) → o ≡ p → r ≡ Ok (state c p true frames)
+regroup c o p frames r is same = rw (← same) is
 
 -- the first call, and then the others
 first : (es : List Event) (s' : JsonState) (made r : Result JsonState SerdeError) → made ≡ Ok s' → run json_after es s' ≡ r → and_run (run json_after es) made ≡ r
@@ -61,31 +65,33 @@ group_more o key x more c = simp append_assoc
 group_member : (o key x more : List ℕ) (c : ℕ) → (o ++ c ∷ (key ++ x)) ++ more ≡ o ++ c ∷ (key ++ (x ++ more))
 group_member o key x more c = simp append_assoc
 
-text_adds : (b : Bool) (out : List ℕ) (next after : List Open) → ◌≡◌ {A = Result (List Open) SerdeError} (Ok next) (Ok after)
-    → ◌≡◌ {A = Result JsonState SerdeError} (Ok (state b out true next)) (Ok (state b out true after))
-text_adds b out next after same = ap (where_taken (state b out true)) same
+text_adds : (c : Settings) (out : List ℕ) (next after : List Open) → ◌≡◌ {A = Result (List Open) SerdeError} (Ok next) (Ok after)
+    → ◌≡◌ {A = Result JsonState SerdeError} (Ok (state c out true next)) (Ok (state c out true after))
+text_adds c out next after same = ap (where_taken (state c out true)) same
 
--- a scalar is written where a value is due
-scalar_adds : (site : Site) (x : ScalarValue) (b : Bool) (o : List ℕ) (comma : Bool) (frames after : List Open) → after_value frames ≡ Ok after
-    → json_after (scalar_of site x) (state b o comma frames)
-    ≡ Ok (state b (o ++ (lead (state b o comma frames) site.view ++ scalar_text x)) true after)
-scalar_adds site x b o comma frames after due = from (text_in x) frames due
+-- a scalar that can be written is, where a value is due
+scalar_adds : (site : Site) (x : ScalarValue) (c : Settings) (o : List ℕ) (comma : Bool) (frames after : List Open) → can_write c site.place.time x ≡ true → after_value frames ≡ Ok after
+    → json_after (scalar_of site x) (state c o comma frames)
+    ≡ Ok (state c (o ++ (lead (state c o comma frames) site.view ++ scalar_text (form_at (state c o comma frames) site) x)) true after)
+scalar_adds site x c o comma frames after can due =
+    ap (λ can. if can then where_taken (makes (text_in x) frames) (option_map_or (λ key. after_text frames) (text_in x) (after_value frames)) else Err Unwritable) can ∙ from (text_in x) frames due
   where
     -- the state that it makes, by the text that it is
     makes : Option (List ℕ) → List Open → List Open → JsonState
     makes key frames next =
-        let s = state b o comma frames in
-        option_map_or (λ key. if is_key_due frames then key_wrote s key next else wrote s site.view (scalar_text x) next) key (wrote s site.view (scalar_text x) next)
+        let s = state c o comma frames in
+        let bytes = scalar_text (form_at s site) x in
+        option_map_or (λ key. if is_key_due frames then key_wrote s key next else wrote s site.view bytes next) key (wrote s site.view bytes next)
 
     from : (key : Option (List ℕ)) (frames : List Open) → after_value frames ≡ Ok after
         → where_taken (makes key frames) (option_map_or (λ key. after_text frames) key (after_value frames))
-        ≡ Ok (state b (o ++ (lead (state b o comma frames) site.view ++ scalar_text x)) true after)
-    from None frames due = ap (where_taken (wrote (state b o comma frames) site.view (scalar_text x))) due
-    from (Some key) [] due = text_adds b _ [] after due
-    from (Some key) (open_structure ∷ frames) due = text_adds b _ (open_structure ∷ frames) after due
-    from (Some key) (open_list ∷ frames) due = text_adds b _ (open_list ∷ frames) after due
+        ≡ Ok (state c (o ++ (lead (state c o comma frames) site.view ++ scalar_text (form_at (state c o comma frames) site) x)) true after)
+    from None frames due = ap (where_taken (wrote (state c o comma frames) site.view (scalar_text (form_at (state c o comma frames) site) x))) due
+    from (Some key) [] due = text_adds c _ [] after due
+    from (Some key) (open_structure ∷ frames) due = text_adds c _ (open_structure ∷ frames) after due
+    from (Some key) (open_list ∷ frames) due = text_adds c _ (open_list ∷ frames) after due
     from (Some key) (open_map_at_key ∷ frames) due = cc
-    from (Some key) (open_map_at_value ∷ frames) due = text_adds b _ (open_map_at_key ∷ frames) after due
+    from (Some key) (open_map_at_value ∷ frames) due = text_adds c _ (open_map_at_key ∷ frames) after due
 
 -- a container begins where a value is due
 begins : (kind : Open) (make : List Open → JsonState) (frames after : List Open) → after_value frames ≡ Ok after
@@ -94,111 +100,117 @@ begins kind make frames after due = ap (λ r. where_taken make (and_run (λ oute
 
 mutual
   -- where a value is due, it adds what stands before it, and its canonical text
-  pub value_adds : (site : Site) (v : Value) (b : Bool) (o : List ℕ) (comma : Bool) (frames after : List Open) → after_value frames ≡ Ok after
-      → write json_after site v (state b o comma frames)
-      ≡ Ok (state b (o ++ (lead (state b o comma frames) site.view ++ canonical_json b site v)) true after)
-  value_adds site (scalar_value x) b o comma frames after due = ap (and_run (run json_after [])) (scalar_adds site x b o comma frames after due)
-  value_adds site null_element b o comma frames after due = ap (λ r. and_run (run json_after []) (where_taken (wrote (state b o comma frames) site.view (codes "null")) r)) due
-  value_adds site (list no_values) b o comma frames after due =
-      let before = lead (state b o comma frames) site.view in
-      regroup b _ _ after _
-      (first (end_list ∷ []) (state b (o ++ (before ++ begin_array ∷ [])) false (open_list ∷ after)) _ _ (begins open_list (opened (state b o comma frames) site.view begin_array) frames after due) refl)
+  pub value_adds : (site : Site) (v : Value) (c : Settings) (o : List ℕ) (comma : Bool) (frames after : List Open) → scalars_pass (can_write c) site v ≡ true → after_value frames ≡ Ok after
+      → write json_after site v (state c o comma frames)
+      ≡ Ok (state c (o ++ (lead (state c o comma frames) site.view ++ canonical_json c site v)) true after)
+  value_adds site (scalar_value x) c o comma frames after can due = ap (and_run (run json_after [])) (scalar_adds site x c o comma frames after can due)
+  value_adds site null_element c o comma frames after can due = ap (λ r. and_run (run json_after []) (where_taken (wrote (state c o comma frames) site.view (codes "null")) r)) due
+  value_adds site (list no_values) c o comma frames after can due =
+      let before = lead (state c o comma frames) site.view in
+      regroup c _ _ after _
+      (first (end_list ∷ []) (state c (o ++ (before ++ begin_array ∷ [])) false (open_list ∷ after)) _ _ (begins open_list (opened (state c o comma frames) site.view begin_array) frames after due) refl)
       (group_empty o before begin_array end_array)
-  value_adds site (list (value v vs)) b o comma frames after due =
-      let before = lead (state b o comma frames) site.view in
+  value_adds site (list (value v vs)) c o comma frames after can due =
+      let before = lead (state c o comma frames) site.view in
       let child = element_of site in
       let front = o ++ (before ++ begin_array ∷ []) in
-      regroup b _ _ after _
-      (first ((events child v ++ element_events child vs) ++ end_list ∷ []) (state b front false (open_list ∷ after)) _ _ (begins open_list (opened (state b o comma frames) site.view begin_array) frames after due)
+      let parts = and_parts (scalars_pass (can_write c) child v) (elements_pass (can_write c) child vs) can in
+      regroup c _ _ after _
+      (first ((events child v ++ element_events child vs) ++ end_list ∷ []) (state c front false (open_list ∷ after)) _ _ (begins open_list (opened (state c o comma frames) site.view begin_array) frames after due)
       (step (events child v ++ element_events child vs) (end_list ∷ []) _ _ _
       (step (events child v) (element_events child vs) _ _ _
-      (value_adds child v b front false (open_list ∷ after) (open_list ∷ after) refl)
-      (elements_add child vs b (front ++ canonical_json b child v) after))
+      (value_adds child v c front false (open_list ∷ after) (open_list ∷ after) parts.0 refl)
+      (elements_add child vs c (front ++ canonical_json c child v) after parts.1))
       refl))
-      (group_list o before (canonical_json b child v) (more_elements b child vs) begin_array end_array)
-  value_adds site (map no_map_entries) b o comma frames after due =
-      let before = lead (state b o comma frames) site.view in
-      regroup b _ _ after _
-      (first (end_map ∷ []) (state b (o ++ (before ++ begin_object ∷ [])) false (open_map_at_key ∷ after)) _ _ (begins open_map_at_key (opened (state b o comma frames) site.view begin_object) frames after due) refl)
+      (group_list o before (canonical_json c child v) (more_elements c child vs) begin_array end_array)
+  value_adds site (map no_map_entries) c o comma frames after can due =
+      let before = lead (state c o comma frames) site.view in
+      regroup c _ _ after _
+      (first (end_map ∷ []) (state c (o ++ (before ++ begin_object ∷ [])) false (open_map_at_key ∷ after)) _ _ (begins open_map_at_key (opened (state c o comma frames) site.view begin_object) frames after due) refl)
       (group_empty o before begin_object end_object)
-  value_adds site (map (map_entry key v es)) b o comma frames after due =
-      let before = lead (state b o comma frames) site.view in
+  value_adds site (map (map_entry key v es)) c o comma frames after can due =
+      let before = lead (state c o comma frames) site.view in
       let child = value_of site in
       let front = o ++ (before ++ begin_object ∷ []) in
-      regroup b _ _ after _
-      (first ((scalar_of (key_of site) (text key) ∷ (events child v ++ entry_events (key_of site) child es)) ++ end_map ∷ []) (state b front false (open_map_at_key ∷ after)) _ _ (begins open_map_at_key (opened (state b o comma frames) site.view begin_object) frames after due)
-      (step (scalar_of (key_of site) (text key) ∷ (events child v ++ entry_events (key_of site) child es)) (end_map ∷ []) (state b front false (open_map_at_key ∷ after)) _ _
-      (first (events child v ++ entry_events (key_of site) child es) (state b (front ++ name_text key) false (open_map_at_value ∷ after)) _ _ refl
+      let parts = and_parts (scalars_pass (can_write c) child v) (entries_pass (can_write c) child es) can in
+      regroup c _ _ after _
+      (first ((scalar_of (key_of site) (text key) ∷ (events child v ++ entry_events (key_of site) child es)) ++ end_map ∷ []) (state c front false (open_map_at_key ∷ after)) _ _ (begins open_map_at_key (opened (state c o comma frames) site.view begin_object) frames after due)
+      (step (scalar_of (key_of site) (text key) ∷ (events child v ++ entry_events (key_of site) child es)) (end_map ∷ []) (state c front false (open_map_at_key ∷ after)) _ _
+      (first (events child v ++ entry_events (key_of site) child es) (state c (front ++ name_text key) false (open_map_at_value ∷ after)) _ _ refl
       (step (events child v) (entry_events (key_of site) child es) _ _ _
-      (value_adds child v b (front ++ name_text key) false (open_map_at_value ∷ after) (open_map_at_key ∷ after) refl)
-      (entries_add (key_of site) child es b ((front ++ name_text key) ++ canonical_json b child v) after)))
+      (value_adds child v c (front ++ name_text key) false (open_map_at_value ∷ after) (open_map_at_key ∷ after) parts.0 refl)
+      (entries_add (key_of site) child es c ((front ++ name_text key) ++ canonical_json c child v) after parts.1)))
       refl))
-      (group_entry o before (name_text key) (canonical_json b child v) (more_entries b child es) begin_object end_object)
-  value_adds site (structure no_member_values) b o comma frames after due =
-      let before = lead (state b o comma frames) site.view in
-      regroup b _ _ after _
-      (first (end_structure ∷ []) (state b (o ++ (before ++ begin_object ∷ [])) false (open_structure ∷ after)) _ _ (begins open_structure (opened (state b o comma frames) site.view begin_object) frames after due) refl)
+      (group_entry o before (name_text key) (canonical_json c child v) (more_entries c child es) begin_object end_object)
+  value_adds site (structure no_member_values) c o comma frames after can due =
+      let before = lead (state c o comma frames) site.view in
+      regroup c _ _ after _
+      (first (end_structure ∷ []) (state c (o ++ (before ++ begin_object ∷ [])) false (open_structure ∷ after)) _ _ (begins open_structure (opened (state c o comma frames) site.view begin_object) frames after due) refl)
       (group_empty o before begin_object end_object)
-  value_adds site (structure (member_value n v ms)) b o comma frames after due =
-      let before = lead (state b o comma frames) site.view in
+  value_adds site (structure (member_value n v ms)) c o comma frames after can due =
+      let before = lead (state c o comma frames) site.view in
       let child = member_of site n in
-      let key = key_text b child.view in
+      let key = key_text c.use_json_name child.view in
       let front = o ++ (before ++ begin_object ∷ []) in
-      regroup b _ _ after _
-      (first ((events child v ++ member_events site ms) ++ end_structure ∷ []) (state b front false (open_structure ∷ after)) _ _ (begins open_structure (opened (state b o comma frames) site.view begin_object) frames after due)
+      let parts = and_parts (scalars_pass (can_write c) child v) (members_pass (can_write c) site ms) can in
+      regroup c _ _ after _
+      (first ((events child v ++ member_events site ms) ++ end_structure ∷ []) (state c front false (open_structure ∷ after)) _ _ (begins open_structure (opened (state c o comma frames) site.view begin_object) frames after due)
       (step (events child v ++ member_events site ms) (end_structure ∷ []) _ _ _
       (step (events child v) (member_events site ms) _ _ _
-      (value_adds child v b front false (open_structure ∷ after) (open_structure ∷ after) refl)
-      (members_add site ms b (front ++ (key ++ canonical_json b child v)) after))
+      (value_adds child v c front false (open_structure ∷ after) (open_structure ∷ after) parts.0 refl)
+      (members_add site ms c (front ++ (key ++ canonical_json c child v)) after parts.1))
       refl))
-      (group_structure o before key (canonical_json b child v) (more_members b site ms) begin_object end_object)
-  value_adds site (union n v) b o comma frames after due =
-      let before = lead (state b o comma frames) site.view in
+      (group_structure o before key (canonical_json c child v) (more_members c site ms) begin_object end_object)
+  value_adds site (union n v) c o comma frames after can due =
+      let before = lead (state c o comma frames) site.view in
       let child = member_of site n in
       let front = o ++ (before ++ begin_object ∷ []) in
-      regroup b _ _ after _
-      (first (events child v ++ end_structure ∷ []) (state b front false (open_structure ∷ after)) _ _ (begins open_structure (opened (state b o comma frames) site.view begin_object) frames after due)
+      regroup c _ _ after _
+      (first (events child v ++ end_structure ∷ []) (state c front false (open_structure ∷ after)) _ _ (begins open_structure (opened (state c o comma frames) site.view begin_object) frames after due)
       (step (events child v) (end_structure ∷ []) _ _ _
-      (value_adds child v b front false (open_structure ∷ after) (open_structure ∷ after) refl)
+      (value_adds child v c front false (open_structure ∷ after) (open_structure ∷ after) can refl)
       refl))
-      (group_union o before (key_text b child.view) (canonical_json b child v) begin_object end_object)
+      (group_union o before (key_text c.use_json_name child.view) (canonical_json c child v) begin_object end_object)
 
   -- further elements add their texts, each behind a comma
-  pub elements_add : (site : Site) (vs : Values) (b : Bool) (o : List ℕ) (frames : List Open)
-      → run json_after (element_events site vs) (state b o true (open_list ∷ frames))
-      ≡ Ok (state b (o ++ more_elements b site vs) true (open_list ∷ frames))
-  elements_add site no_values b o frames = regroup b _ _ (open_list ∷ frames) _ refl (sym (append-nil o))
-  elements_add site (value v vs) b o frames =
-      regroup b _ _ (open_list ∷ frames) _
+  pub elements_add : (site : Site) (vs : Values) (c : Settings) (o : List ℕ) (frames : List Open) → elements_pass (can_write c) site vs ≡ true
+      → run json_after (element_events site vs) (state c o true (open_list ∷ frames))
+      ≡ Ok (state c (o ++ more_elements c site vs) true (open_list ∷ frames))
+  elements_add site no_values c o frames can = regroup c _ _ (open_list ∷ frames) _ refl (sym (append-nil o))
+  elements_add site (value v vs) c o frames can =
+      let parts = and_parts (scalars_pass (can_write c) site v) (elements_pass (can_write c) site vs) can in
+      regroup c _ _ (open_list ∷ frames) _
       (step (events site v) (element_events site vs) _ _ _
-      (value_adds site v b o true (open_list ∷ frames) (open_list ∷ frames) refl)
-      (elements_add site vs b (o ++ value_separator ∷ canonical_json b site v) frames))
-      (group_element o (canonical_json b site v) (more_elements b site vs) value_separator)
+      (value_adds site v c o true (open_list ∷ frames) (open_list ∷ frames) parts.0 refl)
+      (elements_add site vs c (o ++ value_separator ∷ canonical_json c site v) frames parts.1))
+      (group_element o (canonical_json c site v) (more_elements c site vs) value_separator)
 
   -- further entries add their keys and texts, each behind a comma
-  pub entries_add : (key_site site : Site) (es : MapEntries) (b : Bool) (o : List ℕ) (frames : List Open)
-      → run json_after (entry_events key_site site es) (state b o true (open_map_at_key ∷ frames))
-      ≡ Ok (state b (o ++ more_entries b site es) true (open_map_at_key ∷ frames))
-  entries_add key_site site no_map_entries b o frames = regroup b _ _ (open_map_at_key ∷ frames) _ refl (sym (append-nil o))
-  entries_add key_site site (map_entry key v es) b o frames =
-      regroup b _ _ (open_map_at_key ∷ frames) _
-      (first (events site v ++ entry_events key_site site es) (state b (o ++ value_separator ∷ name_text key) false (open_map_at_value ∷ frames)) _ _ refl
+  pub entries_add : (key_site site : Site) (es : MapEntries) (c : Settings) (o : List ℕ) (frames : List Open) → entries_pass (can_write c) site es ≡ true
+      → run json_after (entry_events key_site site es) (state c o true (open_map_at_key ∷ frames))
+      ≡ Ok (state c (o ++ more_entries c site es) true (open_map_at_key ∷ frames))
+  entries_add key_site site no_map_entries c o frames can = regroup c _ _ (open_map_at_key ∷ frames) _ refl (sym (append-nil o))
+  entries_add key_site site (map_entry key v es) c o frames can =
+      let parts = and_parts (scalars_pass (can_write c) site v) (entries_pass (can_write c) site es) can in
+      regroup c _ _ (open_map_at_key ∷ frames) _
+      (first (events site v ++ entry_events key_site site es) (state c (o ++ value_separator ∷ name_text key) false (open_map_at_value ∷ frames)) _ _ refl
       (step (events site v) (entry_events key_site site es) _ _ _
-      (value_adds site v b (o ++ value_separator ∷ name_text key) false (open_map_at_value ∷ frames) (open_map_at_key ∷ frames) refl)
-      (entries_add key_site site es b ((o ++ value_separator ∷ name_text key) ++ canonical_json b site v) frames)))
-      (group_more o (name_text key) (canonical_json b site v) (more_entries b site es) value_separator)
+      (value_adds site v c (o ++ value_separator ∷ name_text key) false (open_map_at_value ∷ frames) (open_map_at_key ∷ frames) parts.0 refl)
+      (entries_add key_site site es c ((o ++ value_separator ∷ name_text key) ++ canonical_json c site v) frames parts.1)))
+      (group_more o (name_text key) (canonical_json c site v) (more_entries c site es) value_separator)
 
   -- further members add their names and texts, each behind a comma
-  pub members_add : (site : Site) (ms : MemberValues) (b : Bool) (o : List ℕ) (frames : List Open)
-      → run json_after (member_events site ms) (state b o true (open_structure ∷ frames))
-      ≡ Ok (state b (o ++ more_members b site ms) true (open_structure ∷ frames))
-  members_add site no_member_values b o frames =
-      regroup b _ _ (open_structure ∷ frames) _ refl (sym (append-nil o))
-  members_add site (member_value n v ms) b o frames =
+  pub members_add : (site : Site) (ms : MemberValues) (c : Settings) (o : List ℕ) (frames : List Open) → members_pass (can_write c) site ms ≡ true
+      → run json_after (member_events site ms) (state c o true (open_structure ∷ frames))
+      ≡ Ok (state c (o ++ more_members c site ms) true (open_structure ∷ frames))
+  members_add site no_member_values c o frames can =
+      regroup c _ _ (open_structure ∷ frames) _ refl (sym (append-nil o))
+  members_add site (member_value n v ms) c o frames can =
       let child = member_of site n in
-      let key = key_text b child.view in
-      regroup b _ _ (open_structure ∷ frames) _
+      let key = key_text c.use_json_name child.view in
+      let parts = and_parts (scalars_pass (can_write c) child v) (members_pass (can_write c) site ms) can in
+      regroup c _ _ (open_structure ∷ frames) _
       (step (events child v) (member_events site ms) _ _ _
-      (value_adds child v b o true (open_structure ∷ frames) (open_structure ∷ frames) refl)
-      (members_add site ms b (o ++ value_separator ∷ (key ++ canonical_json b child v)) frames))
-      (group_member o key (canonical_json b child v) (more_members b site ms) value_separator)
+      (value_adds child v c o true (open_structure ∷ frames) (open_structure ∷ frames) parts.0 refl)
+      (members_add site ms c (o ++ value_separator ∷ (key ++ canonical_json c child v)) frames parts.1))
+      (group_member o key (canonical_json c child v) (more_members c site ms) value_separator)

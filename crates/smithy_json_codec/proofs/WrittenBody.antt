@@ -7,33 +7,33 @@ use Rattle.smithy_schema.specs.Value.{Value, Values, no_values, value, MapEntrie
 use Rattle.smithy_schema.specs.Fits.{Fits}
 use Rattle.smithy_schema.proofs.SiteLemmas.{site_at}
 use Rattle.smithy_json_codec.specs.Canonical.{name_text, key_text, canonical_json, first_element, more_elements, first_entry, more_entries, first_member, more_members}
-use Rattle.smithy_json_codec.specs.Codec.{strict_settings}
-use Rattle.smithy_json_codec.specs.Settings.{name_of}
+use Rattle.smithy_schema.specs.TimeForms.{form_or}
+use Rattle.smithy_json_codec.specs.Settings.{Settings, name_of}
 use Rattle.smithy_wire.specs.Writes.{body_of}
 use Rattle.smithy_wire.proofs.CanonicalBody.{Canonical, IsWritten, same_body}
 use Rattle.smithy_json_codec.proofs.WrittenLeaves.{json_leaves, scalar_bytes}
 use Rattle.smithy_json_codec.proofs.WrittenPlaces.{separator, json_writes}
 
-module _ (b : Bool) where
+module _ (c : Settings) where
   abbrev elements : Bool → Site → Values → List ℕ
-  elements true = first_element b
-  elements false = more_elements b
+  elements true = first_element c
+  elements false = more_elements c
 
   abbrev entries : Bool → Site → MapEntries → List ℕ
-  entries true = first_entry b
-  entries false = more_entries b
+  entries true = first_entry c
+  entries false = more_entries c
 
   abbrev members : Bool → Site → MemberValues → List ℕ
-  members true = first_member b
-  members false = more_members b
+  members true = first_member c
+  members false = more_members c
 
   abbrev canonical : Canonical
   canonical = record {
-    body = canonical_json b;
+    body = canonical_json c;
     elements = elements;
     entries = entries;
     members = members;
-    key = λ is_first view. separator is_first ++ key_text b view;
+    key = λ is_first view. separator is_first ++ key_text c.use_json_name view;
   }
 
   no_element_is : (is_first : Bool) (site : Site) → elements is_first site no_values ≡ []
@@ -41,7 +41,7 @@ module _ (b : Bool) where
   no_element_is false site = refl
 
   element_is : (is_first : Bool) (site : Site) (v : Value) (vs : Values)
-      → elements is_first site (value v vs) ≡ (separator is_first ++ []) ++ (canonical_json b site v ++ more_elements b site vs)
+      → elements is_first site (value v vs) ≡ (separator is_first ++ []) ++ (canonical_json c site v ++ more_elements c site vs)
   element_is true site v vs = refl
   element_is false site v vs = refl
 
@@ -50,7 +50,7 @@ module _ (b : Bool) where
   no_map_entry_is false site = refl
 
   map_entry_is : (is_first : Bool) (site : Site) (key : List ℕ) (v : Value) (es : MapEntries)
-      → entries is_first site (map_entry key v es) ≡ (separator is_first ++ name_text key) ++ (canonical_json b site v ++ more_entries b site es)
+      → entries is_first site (map_entry key v es) ≡ (separator is_first ++ name_text key) ++ (canonical_json c site v ++ more_entries c site es)
   map_entry_is true site key v es = refl
   map_entry_is false site key v es = refl
 
@@ -60,13 +60,13 @@ module _ (b : Bool) where
 
   member_is : (is_first : Bool) (site : Site) (n : ℕ) (v : Value) (ms : MemberValues)
       → members is_first site (member_value n v ms)
-      ≡ (separator is_first ++ key_text b (member_of site n).view) ++ (canonical_json b (member_of site n) v ++ more_members b site ms)
+      ≡ (separator is_first ++ key_text c.use_json_name (member_of site n).view) ++ (canonical_json c (member_of site n) v ++ more_members c site ms)
   member_is true site n v ms = refl
   member_is false site n v ms = refl
 
-  is_written : IsWritten json_writes json_leaves (name_of (strict_settings b)) canonical
+  is_written : IsWritten json_writes (json_leaves c) (name_of c) canonical
   is_written = record {
-    scalar_is = λ s site x. scalar_bytes s site.place.time x;
+    scalar_is = λ s site x. scalar_bytes (form_or c.default_timestamp_format site.place.time) x;
     null_is = λ site. refl;
     list_is = λ site vs. refl;
     no_element_is = no_element_is;
@@ -82,5 +82,5 @@ module _ (b : Bool) where
   }
 
   pub same_text : (t : Table) (p : Place) (view : View) (v : Value) → Fits t p v
-      → canonical_json b (site_at t p view) v ≡ body_of json_writes json_leaves (name_of (strict_settings b)) t p v
-  same_text t p view v fits = same_body json_writes json_leaves (name_of (strict_settings b)) canonical is_written t v p view false fits
+      → canonical_json c (site_at t p view) v ≡ body_of json_writes (json_leaves c) (name_of c) t p v
+  same_text t p view v fits = same_body json_writes (json_leaves c) (name_of c) canonical is_written t v p view false fits

@@ -1,17 +1,19 @@
--- What JSON writes for scalars and names: it means them, can be written, and is their canonical text.
+-- What JSON writes for scalars that it holds and for names: it means them, can be written, and is their canonical text.
 use Rattle.std.specs.Prelude.{◌≡◌, ℕ, List, [], ◌∷◌, true, false, Option, Some, refl}
-use Rattle.std.specs.List.{list_all}
 use Rattle.std.proofs.Common.{subst, sym, ap, ◌∙◌, arith, ◌<◌, ◌^◌, ℤ, pos, negsuc}
 use Rattle.std.specs.Prelude.{unsigned_abs}
-use Rattle.std.proofs.lemmas.Bool.Decides.{nat_tests}
+use Rattle.std.specs.List.{list_all}
 use Rattle.std.proofs.lemmas.Bool.{and_parts}
+use Rattle.std.proofs.lemmas.Bool.Decides.{nat_tests}
 use Rattle.std.specs.Fmt.{signed_decimal}
 use Rattle.smithy_schema.specs.declared.shape_type.Scalar.{Scalar}
 use Rattle.smithy_schema.specs.declared.shape_type.Scalar.TheVariants as scalars
 use Rattle.smithy_schema.specs.declared.shape_type.TimestampFormat.{TimestampFormat}
-use Rattle.smithy_schema.specs.Value.{ScalarValue, boolean, whole, text, bytes, decimal, scalar_value}
+use Rattle.smithy_schema.specs.declared.shape_type.TimestampFormat.TheVariants.{EpochSeconds, DateTime, HttpDate}
+use Rattle.smithy_schema.specs.TimeForms.{form_or, form_holds}
+use Rattle.smithy_schema.specs.Value.{ScalarValue, boolean, whole, text, bytes, decimal, instant, scalar_value}
 use Rattle.smithy_schema.specs.Fits.{is_of}
-use Rattle.smithy_schema.proofs.ScalarLemmas.{whole_fits, decimal_fits, text_is_utf8, blob_is_bytes}
+use Rattle.smithy_schema.proofs.ScalarLemmas.{whole_fits, decimal_fits, instant_fits, text_is_utf8, blob_is_bytes}
 use Rattle.smithy_texts.specs.Base64Text.{are_bytes, blob_text}
 use Rattle.smithy_texts.specs.Decimal.{DecimalForm, decimal_form, decimal_text, written_exponent, net_exponent}
 use Rattle.smithy_texts.specs.Ranges.{fits_signed, is_exponent}
@@ -30,23 +32,27 @@ use Rattle.smithy_json_codec.specs.Settings.{Settings}
 use Rattle.smithy_wire.specs.Rules.{means}
 use Rattle.smithy_wire.specs.BigNumbers.{big_decimal}
 use Rattle.smithy_json_codec.proofs.NumberTexts.{form_is}
-use Rattle.smithy_json_codec.specs.Canonical.{scalar_text}
+use Rattle.smithy_json_codec.proofs.InstantTexts.{instant_leaf, instant_means, instant_is_value}
+use Rattle.smithy_json_codec.specs.Canonical.{scalar_text, json_holds}
 use Rattle.smithy_json_codec.proofs.WrittenPlaces.{leaf_bytes, json_writes}
 use Rattle.smithy_json.specs.Grammar.{IsValue, IsString}
 use Rattle.smithy_wire.specs.Written.{Leaves, ReadsLeaves}
 use Rattle.smithy_wire.specs.Writes.{WritesLeaves}
 
-abbrev pub leaf_of : Scalar → Option TimestampFormat → ScalarValue → JsonScalar
-leaf_of s time (boolean b) = a_boolean b
-leaf_of s time (whole n) = a_number (signed_decimal n)
-leaf_of s time (text t) = a_string (escaped t)
-leaf_of s time (decimal m e) = a_number (decimal_text m e)
-leaf_of s time (bytes b) = a_string (blob_text b)
+-- in this form of instants
+abbrev pub leaf_of : TimestampFormat → ScalarValue → JsonScalar
+leaf_of form (boolean b) = a_boolean b
+leaf_of form (whole n) = a_number (signed_decimal n)
+leaf_of form (text t) = a_string (escaped t)
+leaf_of form (decimal m e) = a_number (decimal_text m e)
+leaf_of form (bytes b) = a_string (blob_text b)
+leaf_of form (instant n) = instant_leaf form n
 
-abbrev pub json_leaves : Leaves JsonScalar
-json_leaves = record {
-  leaf_of = leaf_of;
+abbrev pub json_leaves : Settings → Leaves JsonScalar
+json_leaves c = record {
+  leaf_of = λ s time x. leaf_of (form_or c.default_timestamp_format time) x;
   key_of = λ key. a_string (escaped key);
+  holds = json_holds c;
 }
 
 -- bytes that aren't escaped stay as they are
@@ -85,44 +91,49 @@ written_decimal_means m e fits =
     ∙ ap (λ x. Some (record { mantissa_part = m; written_part = e; net_part = x })) w.net_is in
     ap big_decimal form ∙ rw (fits.0, fits.1) refl
 
-scalar_means : (s : Scalar) (time : Option TimestampFormat) (x : ScalarValue) → is_of s x ≡ true → says s time (leaf_of s time x) ≡ means (scalar_value x)
-scalar_means scalars.Boolean time (boolean b) is = refl
-scalar_means scalars.Byte time (whole n) is = rw (decimal_writes n (whole_fits scalars.Byte n is), is) refl
-scalar_means scalars.Short time (whole n) is = rw (decimal_writes n (whole_fits scalars.Short n is), is) refl
-scalar_means scalars.Integer time (whole n) is = rw (decimal_writes n (whole_fits scalars.Integer n is), is) refl
-scalar_means scalars.Long time (whole n) is = rw (decimal_writes n (whole_fits scalars.Long n is), is) refl
-scalar_means scalars.String time (text t) is = rw (unescaped_of_escaped t) refl
-scalar_means scalars.Blob time (bytes b) is = rw (blob_unescaped b is, blob_back b is) refl
-scalar_means scalars.BigInteger time (whole n) is = rw (integer_form_of_written n (small_whole n is), is) refl
-scalar_means scalars.BigDecimal time (decimal m e) is = written_decimal_means m e (decimal_fits scalars.BigDecimal m e is)
-scalar_means _ time _ is = cc
+scalar_means : (s : Scalar) (form : TimestampFormat) (x : ScalarValue) → is_of s x ≡ true → form_holds form x ≡ true → says s form (leaf_of form x) ≡ means (scalar_value x)
+scalar_means scalars.Boolean form (boolean b) is held = refl
+scalar_means scalars.Byte form (whole n) is held = rw (decimal_writes n (whole_fits scalars.Byte n is), is) refl
+scalar_means scalars.Short form (whole n) is held = rw (decimal_writes n (whole_fits scalars.Short n is), is) refl
+scalar_means scalars.Integer form (whole n) is held = rw (decimal_writes n (whole_fits scalars.Integer n is), is) refl
+scalar_means scalars.Long form (whole n) is held = rw (decimal_writes n (whole_fits scalars.Long n is), is) refl
+scalar_means scalars.String form (text t) is held = rw (unescaped_of_escaped t) refl
+scalar_means scalars.Blob form (bytes b) is held = rw (blob_unescaped b is, blob_back b is) refl
+scalar_means scalars.Timestamp form (instant n) is held = instant_means form n is held
+scalar_means scalars.BigInteger form (whole n) is held = rw (integer_form_of_written n (small_whole n is), is) refl
+scalar_means scalars.BigDecimal form (decimal m e) is held = written_decimal_means m e (decimal_fits scalars.BigDecimal m e is)
+scalar_means _ form _ is held = cc
 
-pub json_reads_leaves : (c : Settings) → ReadsLeaves json_leaves (rules_of c)
+pub json_reads_leaves : (c : Settings) → ReadsLeaves (json_leaves c) (rules_of c)
 json_reads_leaves c = record {
-  scalar_means = scalar_means;
+  scalar_means = λ s time x is held. scalar_means s (form_or c.default_timestamp_format time) x is held;
   key_means = λ key utf8. unescaped_of_escaped key;
 }
 
 -- a scalar and a name can be written
-scalar_is : (s : Scalar) (time : Option TimestampFormat) (x : ScalarValue) → is_of s x ≡ true → IsValue (tree_of (leaf_of s time x)) (leaf_bytes (leaf_of s time x))
-scalar_is s time (boolean true) is = refl
-scalar_is s time (boolean false) is = refl
-scalar_is s time (whole n) is = (refl, decimal_is_number n (whole_fits s n is))
-scalar_is s time (text t) is = quoted_is_string t (text_is_utf8 s t is)
-scalar_is s time (decimal m e) is = let fits = decimal_fits s m e is in (refl, decimal_text_is_number m e fits.0 fits.1)
-scalar_is s time (bytes b) is = blob_is_string b (blob_is_bytes s b is)
+scalar_is : (s : Scalar) (form : TimestampFormat) (x : ScalarValue) → is_of s x ≡ true → form_holds form x ≡ true → IsValue (tree_of (leaf_of form x)) (leaf_bytes (leaf_of form x))
+scalar_is s form (boolean true) is held = refl
+scalar_is s form (boolean false) is held = refl
+scalar_is s form (whole n) is held = (refl, decimal_is_number n (whole_fits s n is))
+scalar_is s form (text t) is held = quoted_is_string t (text_is_utf8 s t is)
+scalar_is s form (decimal m e) is held = let fits = decimal_fits s m e is in (refl, decimal_text_is_number m e fits.0 fits.1)
+scalar_is s form (bytes b) is held = blob_is_string b (blob_is_bytes s b is)
+scalar_is s form (instant n) is held = instant_is_value form n (instant_fits s n is) held
 
-pub json_writes_leaves : WritesLeaves json_writes json_leaves
-json_writes_leaves = record {
-  scalar_is = scalar_is;
+pub json_writes_leaves : (c : Settings) → WritesLeaves json_writes (json_leaves c)
+json_writes_leaves c = record {
+  scalar_is = λ s time x is held. scalar_is s (form_or c.default_timestamp_format time) x is held;
   key_is = λ key utf8. (escaped key, refl, (quoted_is_string key utf8).1);
 }
 
 -- the canonical text of a scalar is what is written for it
-pub scalar_bytes : (s : Scalar) (time : Option TimestampFormat) (x : ScalarValue) → scalar_text x ≡ leaf_bytes (leaf_of s time x)
-scalar_bytes s time (boolean true) = refl
-scalar_bytes s time (boolean false) = refl
-scalar_bytes s time (whole n) = refl
-scalar_bytes s time (text t) = refl
-scalar_bytes s time (decimal m e) = refl
-scalar_bytes s time (bytes b) = refl
+pub scalar_bytes : (form : TimestampFormat) (x : ScalarValue) → scalar_text form x ≡ leaf_bytes (leaf_of form x)
+scalar_bytes form (boolean true) = refl
+scalar_bytes form (boolean false) = refl
+scalar_bytes form (whole n) = refl
+scalar_bytes form (text t) = refl
+scalar_bytes form (decimal m e) = refl
+scalar_bytes form (bytes b) = refl
+scalar_bytes EpochSeconds (instant n) = refl
+scalar_bytes DateTime (instant n) = refl
+scalar_bytes HttpDate (instant n) = refl

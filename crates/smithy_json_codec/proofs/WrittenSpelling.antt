@@ -1,13 +1,14 @@
--- The canonical text of a value spells the value, and what is spelled fits its place and is shallow.
+-- The canonical text of a value that JSON holds spells the value, and what is spelled fits its place and is shallow.
 use Rattle.std.proofs.Common.{◌≡◌, ◌≤◌, ℕ, List, Bool, true, false, arith, subst, sym}
 use Rattle.smithy_schema.specs.declared.place.Place.{Place}
 use Rattle.smithy_schema.specs.Table.{Table}
 use Rattle.smithy_schema.specs.Accepted.{IsAccepted}
+use Rattle.smithy_schema.specs.ScalarTest.{scalars_pass}
 use Rattle.smithy_schema.specs.Site.{View}
 use Rattle.smithy_schema.specs.Value.{Value, nesting}
 use Rattle.smithy_schema.specs.Fits.{Fits}
 use Rattle.smithy_schema.proofs.SiteLemmas.{site_at}
-use Rattle.smithy_json_codec.specs.Canonical.{canonical_json}
+use Rattle.smithy_json_codec.specs.Canonical.{json_holds, canonical_json}
 use Rattle.smithy_json_codec.specs.Codec.{strict_settings}
 use Rattle.smithy_json_codec.specs.Laws.{rules_fit, fit}
 use Rattle.smithy_json_codec.specs.Meaning.{rules_of}
@@ -39,10 +40,11 @@ named true t accepted = named_by_json_name t accepted
 named false t accepted = named_by_name t accepted
 
 -- of an accepted table, where the value nests no deeper than may be read
-pub canonical_spells : (b : Bool) (t : Table) (p : Place) (view : View) (v : Value) → IsAccepted t → Fits t p v → nesting v ≤ 128
-    → json_spells (strict_settings b) t p (canonical_json b (site_at t p view) v) v
-canonical_spells b t p view v accepted fits deep =
+pub canonical_spells : (b : Bool) (t : Table) (p : Place) (view : View) (v : Value) → IsAccepted t → Fits t p v
+    → scalars_pass (json_holds (strict_settings b)) (site_at t p view) v ≡ true → nesting v ≤ 128
+    → json_spells (strict_settings b) t p (canonical_json (strict_settings b) (site_at t p view) v) v
+canonical_spells b t p view v accepted fits held deep =
     let c = strict_settings b in
-    subst (λ bytes. json_spells c t p bytes v) (sym (same_text b t p view v fits))
+    subst (λ bytes. json_spells c t p bytes v) (sym (same_text c t p view v fits))
     (stands_whole c t p _ v
-    (written_stands json_writes json_frames json_leaves (rules_of c) json_writes_frames json_writes_leaves (json_reads_leaves c) t p v (named b t accepted) fits deep tt))
+    (written_stands json_writes json_frames (json_leaves c) (rules_of c) json_writes_frames (json_writes_leaves c) (json_reads_leaves c) t p view v (named b t accepted) fits held deep tt))

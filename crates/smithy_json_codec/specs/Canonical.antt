@@ -1,20 +1,41 @@
 -- The one spelling in which a value is written.
-use Rattle.std.specs.Prelude.{ℕ, List, [], ◌∷◌, ◌++◌, Bool, true, false, Some, None, unwrap_or, codes, if◌then◌else◌}
+use Rattle.std.specs.Prelude.{ℕ, List, [], ◌∷◌, ◌++◌, Bool, true, false, Some, None, unwrap_or, Option, codes, if◌then◌else◌}
 use Rattle.std.specs.Fmt.{signed_decimal}
+use Rattle.smithy_schema.specs.declared.shape_type.TimestampFormat.{TimestampFormat}
+use Rattle.smithy_schema.specs.declared.shape_type.TimestampFormat.TheVariants.{EpochSeconds}
+use Rattle.smithy_schema.specs.TimeForms.{format_of, form_or, form_writes, form_holds}
 use Rattle.smithy_schema.specs.Site.{Site, View, element_of, value_of, member_of}
-use Rattle.smithy_schema.specs.Value.{ScalarValue, boolean, whole, text, bytes, decimal, Value, scalar_value, list, map, structure, union, null_element, Values, no_values, value, MapEntries, no_map_entries, map_entry, MemberValues, no_member_values, member_value}
+use Rattle.smithy_schema.specs.Value.{ScalarValue, boolean, whole, text, bytes, decimal, instant, Value, scalar_value, list, map, structure, union, null_element, Values, no_values, value, MapEntries, no_map_entries, map_entry, MemberValues, no_member_values, member_value}
 use Rattle.smithy_texts.specs.Base64Text.{blob_text}
 use Rattle.smithy_texts.specs.Decimal.{decimal_text}
+use Rattle.smithy_instants.specs.WrittenDate.{date_text}
 use Rattle.smithy_json.specs.Ascii.{quotation_mark, value_separator, name_separator, begin_array, end_array, begin_object, end_object}
+use Rattle.smithy_json_codec.specs.Settings.{Settings}
 use Rattle.smithy_json.specs.Escape.{quoted}
 
-abbrev pub scalar_text : ScalarValue → List ℕ
-scalar_text (boolean true) = codes "true"
-scalar_text (boolean false) = codes "false"
-scalar_text (whole n) = signed_decimal n
-scalar_text (text s) = quoted s
-scalar_text (decimal m e) = decimal_text m e
-scalar_text (bytes b) = quotation_mark ∷ (blob_text b ++ quotation_mark ∷ [])
+-- the text of an instant in its form: a number of seconds stands as it is, and a date is a string
+abbrev pub in_form : TimestampFormat → List ℕ → List ℕ
+in_form EpochSeconds t = t
+in_form form t = quoted t
+
+-- a scalar, where instants have this form
+abbrev pub scalar_text : TimestampFormat → ScalarValue → List ℕ
+scalar_text form (boolean true) = codes "true"
+scalar_text form (boolean false) = codes "false"
+scalar_text form (whole n) = signed_decimal n
+scalar_text form (text s) = quoted s
+scalar_text form (decimal m e) = decimal_text m e
+scalar_text form (bytes b) = quotation_mark ∷ (blob_text b ++ quotation_mark ∷ [])
+-- where the form can't write the instant, its text counts as empty
+scalar_text form (instant n) = in_form form (unwrap_or (date_text (format_of form) n) [])
+
+-- a scalar can be written at a place with this time form
+abbrev pub can_write : Settings → Option TimestampFormat → ScalarValue → Bool
+can_write c time x = form_writes (form_or c.default_timestamp_format time) x
+
+-- and what is written stands for exactly it
+abbrev pub json_holds : Settings → Option TimestampFormat → ScalarValue → Bool
+json_holds c time x = form_holds (form_or c.default_timestamp_format time) x
 
 -- the name of a member or the key of a map's entry, and a colon
 abbrev pub name_text : List ℕ → List ℕ
@@ -27,55 +48,56 @@ key_text use_json_name view = elim view.name [
   | Some name ↦ name_text (if use_json_name then unwrap_or view.json_name name else name)
 ]
 
--- Members in the table's order, elements in theirs and the entries of a map in that of its keys' bytes, with no white
--- space. A union is an object of its one member.
+-- Under some settings: members in the table's order, elements in theirs and the entries of a map in that of its keys' bytes,
+-- with no white space. A union is an object of its one member.
 abbrev mutual
-  pub canonical_json : Bool → Site → Value → List ℕ
-  canonical_json use_json_name site (scalar_value x) = scalar_text x
-  canonical_json use_json_name site (list vs) =
-      begin_array ∷ (first_element use_json_name (element_of site) vs ++ end_array ∷ [])
-  canonical_json use_json_name site (map es) =
-      begin_object ∷ (first_entry use_json_name (value_of site) es ++ end_object ∷ [])
-  canonical_json use_json_name site (structure ms) =
-      begin_object ∷ (first_member use_json_name site ms ++ end_object ∷ [])
-  canonical_json use_json_name site (union n v) =
+  pub canonical_json : Settings → Site → Value → List ℕ
+  canonical_json c site (scalar_value x) =
+      scalar_text (form_or c.default_timestamp_format site.place.time) x
+  canonical_json c site (list vs) =
+      begin_array ∷ (first_element c (element_of site) vs ++ end_array ∷ [])
+  canonical_json c site (map es) =
+      begin_object ∷ (first_entry c (value_of site) es ++ end_object ∷ [])
+  canonical_json c site (structure ms) =
+      begin_object ∷ (first_member c site ms ++ end_object ∷ [])
+  canonical_json c site (union n v) =
       begin_object
-      ∷ (key_text use_json_name (member_of site n).view
-      ++ (canonical_json use_json_name (member_of site n) v ++ end_object ∷ []))
-  canonical_json use_json_name site null_element = codes "null"
+      ∷ (key_text c.use_json_name (member_of site n).view
+      ++ (canonical_json c (member_of site n) v ++ end_object ∷ []))
+  canonical_json c site null_element = codes "null"
 
-  pub first_element : Bool → Site → Values → List ℕ
-  first_element use_json_name site no_values = []
-  first_element use_json_name site (value v vs) =
-      canonical_json use_json_name site v ++ more_elements use_json_name site vs
-
-  -- each after a comma
-  pub more_elements : Bool → Site → Values → List ℕ
-  more_elements use_json_name site no_values = []
-  more_elements use_json_name site (value v vs) =
-      value_separator ∷ (canonical_json use_json_name site v ++ more_elements use_json_name site vs)
-
-  pub first_entry : Bool → Site → MapEntries → List ℕ
-  first_entry use_json_name site no_map_entries = []
-  first_entry use_json_name site (map_entry key v es) =
-      name_text key ++ (canonical_json use_json_name site v ++ more_entries use_json_name site es)
+  pub first_element : Settings → Site → Values → List ℕ
+  first_element c site no_values = []
+  first_element c site (value v vs) =
+      canonical_json c site v ++ more_elements c site vs
 
   -- each after a comma
-  pub more_entries : Bool → Site → MapEntries → List ℕ
-  more_entries use_json_name site no_map_entries = []
-  more_entries use_json_name site (map_entry key v es) =
-      value_separator
-      ∷ (name_text key ++ (canonical_json use_json_name site v ++ more_entries use_json_name site es))
+  pub more_elements : Settings → Site → Values → List ℕ
+  more_elements c site no_values = []
+  more_elements c site (value v vs) =
+      value_separator ∷ (canonical_json c site v ++ more_elements c site vs)
 
-  pub first_member : Bool → Site → MemberValues → List ℕ
-  first_member use_json_name site no_member_values = []
-  first_member use_json_name site (member_value n v ms) =
-      key_text use_json_name (member_of site n).view
-      ++ (canonical_json use_json_name (member_of site n) v ++ more_members use_json_name site ms)
+  pub first_entry : Settings → Site → MapEntries → List ℕ
+  first_entry c site no_map_entries = []
+  first_entry c site (map_entry key v es) =
+      name_text key ++ (canonical_json c site v ++ more_entries c site es)
 
-  pub more_members : Bool → Site → MemberValues → List ℕ
-  more_members use_json_name site no_member_values = []
-  more_members use_json_name site (member_value n v ms) =
+  -- each after a comma
+  pub more_entries : Settings → Site → MapEntries → List ℕ
+  more_entries c site no_map_entries = []
+  more_entries c site (map_entry key v es) =
       value_separator
-      ∷ (key_text use_json_name (member_of site n).view
-      ++ (canonical_json use_json_name (member_of site n) v ++ more_members use_json_name site ms))
+      ∷ (name_text key ++ (canonical_json c site v ++ more_entries c site es))
+
+  pub first_member : Settings → Site → MemberValues → List ℕ
+  first_member c site no_member_values = []
+  first_member c site (member_value n v ms) =
+      key_text c.use_json_name (member_of site n).view
+      ++ (canonical_json c (member_of site n) v ++ more_members c site ms)
+
+  pub more_members : Settings → Site → MemberValues → List ℕ
+  more_members c site no_member_values = []
+  more_members c site (member_value n v ms) =
+      value_separator
+      ∷ (key_text c.use_json_name (member_of site n).view
+      ++ (canonical_json c (member_of site n) v ++ more_members c site ms))

@@ -8,6 +8,7 @@ use Rattle.smithy_json_codec.specs.Private.Wire.{json_is_wire, json_bounds_opene
 use Rattle.smithy_json_codec.specs.Private.Fits.{says_fits, key_fits}
 use Rattle.smithy_schema.specs.Value.{null_element}
 use Rattle.smithy_json_codec.specs.Scalar.{says}
+use Rattle.smithy_schema.specs.TimeForms.{form_or}
 use Rattle.smithy_wire.specs.Wire.{RulesFit}
 use Rattle.smithy_wire.proofs.Bounds.{settled_means}
 use Rattle.smithy_wire.specs.Laws as wire
@@ -20,7 +21,8 @@ lawful c = wire.lawful json_frames (rules_of c) json_is_wire
 pub rules_fit : (c : Settings) → RulesFit json_frames (rules_of c)
 rules_fit c = record {
   says_fits = λ i d x a e lies t p s v kind keeps means.
-      says_fits i d x a e lies t p s v kind (settled_means c.limits null_element (says s p.time x) v keeps means);
+      says_fits i d x a e lies t p s v kind (form_or c.default_timestamp_format p.time)
+      (settled_means c.limits null_element (says s (form_or c.default_timestamp_format p.time) x) v keeps means);
   key_fits = key_fits;
 }
 

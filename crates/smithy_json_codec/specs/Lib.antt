@@ -7,6 +7,7 @@ pub mod Spelling
 pub mod Canonical
 pub mod Openers
 pub mod Wide
+pub mod Uncarried
 -- for contracts
 pub mod Cursor
 pub mod Standing

@@ -2,6 +2,7 @@
 use Rattle.std.specs.Prelude.{ℕ, Option, Some, None, true, false}
 use Rattle.smithy_schema.specs.declared.place.Place.{Place}
 use Rattle.smithy_schema.specs.Table.{Table}
+use Rattle.smithy_schema.specs.TimeForms.{form_or}
 use Rattle.smithy_schema.specs.Value.{Value}
 use Rattle.smithy_json.specs.Tree.{Json, null, boolean, number, string, array, object, Elements, no_elements, element, Members, no_members, member}
 use Rattle.smithy_json_codec.specs.Settings.{Settings, name_of}
@@ -28,11 +29,12 @@ abbrev mutual
   member_nodes no_members = no_nodes
   member_nodes (member raw x ms) = node (Some (a_string raw)) (node_of x) (member_nodes ms)
 
--- the rules of JSON under some settings: a member that is null is dropped, and what is skipped counts as depth
+-- the rules of JSON under some settings: a member that is null is dropped, what is skipped counts as depth, and instants
+-- have the form of their place
 abbrev pub rules_of : Settings → Rules JsonScalar
 rules_of c = record {
   text_of = text_of;
-  says = says;
+  says = λ s time x. says s (form_or c.default_timestamp_format time) x;
   skips_count = true;
   name_of = name_of c;
   max_depth = c.max_depth;

@@ -19,10 +19,10 @@ stopped false r h = refl
 -- the open containers are those of any serializer, and where none takes a call this one refuses it
 pub json_nests : IsNested json_after (λ (s : JsonState). s.frames)
 json_nests = record {
-  goes = λ e s t h. taken_frames e s t (open_after e s.frames) (written (is_writable e) (where_taken (made e s) (open_after e s.frames)) t h);
-  stops = λ e s h. stopped (is_writable e) (where_taken (made e s) (open_after e s.frames)) (ap (where_taken (made e s)) h);
+  goes = λ e s t h. taken_frames e s t (open_after e s.frames) (written (is_writable s e) (where_taken (made e s) (open_after e s.frames)) t h);
+  stops = λ e s h. stopped (is_writable s e) (where_taken (made e s) (open_after e s.frames)) (ap (where_taken (made e s)) h);
 }
 
 -- no call takes back a byte
 pub json_grows : (e : Event) (s t : JsonState) → json_after e s ≡ Ok t → (more : List ℕ) × (t.out ≡ s.out ++ more)
-json_grows e s t h = taken_grows e s t (open_after e s.frames) (written (is_writable e) (where_taken (made e s) (open_after e s.frames)) t h)
+json_grows e s t h = taken_grows e s t (open_after e s.frames) (written (is_writable s e) (where_taken (made e s) (open_after e s.frames)) t h)

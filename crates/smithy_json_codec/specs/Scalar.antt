@@ -3,14 +3,19 @@ use Rattle.std.specs.Prelude.{ℕ, List, ℤ, Bool, Option, Some, None, option_m
 use Rattle.smithy_schema.specs.declared.shape_type.Scalar.{Scalar}
 use Rattle.smithy_schema.specs.declared.shape_type.Scalar.TheVariants as scalars
 use Rattle.smithy_schema.specs.declared.shape_type.TimestampFormat.{TimestampFormat}
-use Rattle.smithy_schema.specs.Value.{boolean as boolean_value, whole, text, bytes, Value, scalar_value}
+use Rattle.smithy_schema.specs.declared.shape_type.TimestampFormat.TheVariants.{EpochSeconds}
+use Rattle.smithy_schema.specs.TimeForms.{format_of}
+use Rattle.smithy_schema.specs.Value.{boolean as boolean_value, whole, text, bytes, instant, Value, scalar_value}
 use Rattle.smithy_json.specs.Tree.{Json, boolean, number, string}
 use Rattle.smithy_json.specs.Number.{whole_number}
 use Rattle.smithy_texts.specs.Base64Text.{blob_of}
 use Rattle.smithy_texts.specs.Decimal.{integer_form, decimal_form}
 use Rattle.smithy_texts.specs.Ranges.{fits_signed}
+use Rattle.smithy_instants.specs.Instant.{is_instant}
+use Rattle.smithy_instants.specs.Epoch.{epoch_nanos}
+use Rattle.smithy_instants.specs.DateText.{date_of}
 use Rattle.smithy_json.specs.Unescape.{unescaped}
-use Rattle.smithy_wire.specs.Rules.{Answer, no_meaning, answer_of}
+use Rattle.smithy_wire.specs.Rules.{Answer, means, no_meaning, uncarried, answer_of}
 use Rattle.smithy_wire.specs.BigNumbers.{big_integer, big_decimal}
 
 -- a boolean, the text of a number, what stands between the quotation marks of a string or a name
@@ -61,14 +66,31 @@ abbrev pub number_says : Scalar → Option (List ℕ) → Answer Value
 number_says s None = no_meaning
 number_says s (Some raw) = big_number s raw
 
--- what a scalar is as one kind
-abbrev pub says : Scalar → Option TimestampFormat → JsonScalar → Answer Value
-says scalars.Boolean time x = answer_of (boolean_of x)
-says scalars.Byte time x = answer_of (whole_of 8 x)
-says scalars.Short time x = answer_of (whole_of 16 x)
-says scalars.Integer time x = answer_of (whole_of 32 x)
-says scalars.Long time x = answer_of (whole_of 64 x)
-says scalars.String time x = answer_of (option_map (λ s. scalar_value (text s)) (text_of x))
-says scalars.Blob time x = answer_of (option_map (λ b. scalar_value (bytes b)) (bytes_of x))
-says scalars.BigInteger time x = number_says scalars.BigInteger (number_text x)
-says scalars.BigDecimal time x = number_says scalars.BigDecimal (number_text x)
+-- the instant of so many seconds, in nanoseconds where these are whole: another number of seconds isn't carried
+abbrev pub seconds_say : Option ℤ → Answer Value
+seconds_say None = uncarried
+seconds_say (Some n) = if is_instant n then means (scalar_value (instant n)) else no_meaning
+
+-- the instant of a text that is a date of the form
+abbrev pub date_says : TimestampFormat → Option (List ℕ) → Answer Value
+date_says form date =
+    answer_of (option_map (λ n. scalar_value (instant n)) (option_and_then (date_of (format_of form)) date))
+
+-- what a scalar is as an instant: a number of seconds, or a string that is a date
+abbrev pub timestamp_says : TimestampFormat → JsonScalar → Answer Value
+timestamp_says EpochSeconds (a_number raw) = seconds_say (epoch_nanos raw)
+timestamp_says EpochSeconds _ = no_meaning
+timestamp_says form x = date_says form (text_of x)
+
+-- what a scalar is as one kind, where instants have this form
+abbrev pub says : Scalar → TimestampFormat → JsonScalar → Answer Value
+says scalars.Boolean form x = answer_of (boolean_of x)
+says scalars.Byte form x = answer_of (whole_of 8 x)
+says scalars.Short form x = answer_of (whole_of 16 x)
+says scalars.Integer form x = answer_of (whole_of 32 x)
+says scalars.Long form x = answer_of (whole_of 64 x)
+says scalars.String form x = answer_of (option_map (λ s. scalar_value (text s)) (text_of x))
+says scalars.Blob form x = answer_of (option_map (λ b. scalar_value (bytes b)) (bytes_of x))
+says scalars.Timestamp form x = timestamp_says form x
+says scalars.BigInteger form x = number_says scalars.BigInteger (number_text x)
+says scalars.BigDecimal form x = number_says scalars.BigDecimal (number_text x)

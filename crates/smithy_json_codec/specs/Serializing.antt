@@ -4,6 +4,7 @@ use Rattle.smithy_schema.specs.Writing.{Open, open_structure, open_list, open_ma
 use Rattle.smithy_json_codec.specs.declared.serializer.Container.{Container}
 use Rattle.smithy_json_codec.specs.declared.serializer.Container.TheVariants.{Structure, List as Listed, MapAtKey, MapAtValue}
 use Rattle.smithy_json_codec.specs.declared.serializer.JsonSerializer.{JsonSerializer}
+use Rattle.smithy_json_codec.specs.Codec.{settings_of}
 use Rattle.smithy_json_codec.specs.Writing.{JsonState}
 
 abbrev pub open_of : Container → Open
@@ -19,7 +20,7 @@ opens_of stack = map open_of (reverse stack)
 -- what its calls depend on
 abbrev pub state_of : JsonSerializer → JsonState
 state_of s = record {
-  use_json_name = s.codec.now.use_json_name;
+  settings = settings_of s.codec.now;
   out = s.out.items;
   needs_comma = s.needs_comma;
   frames = opens_of s.stack.items;

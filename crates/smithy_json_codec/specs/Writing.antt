@@ -3,16 +3,18 @@ use Rattle.std.specs.Prelude.{ℕ, List, [], ◌∷◌, ◌++◌, Bool, true, fa
 use Rattle.std.specs.Option.{option_map_or}
 use Rattle.smithy_schema.specs.declared.error.SerdeError.{SerdeError}
 use Rattle.smithy_schema.specs.declared.error.SerdeError.TheVariants.{Unwritable}
-use Rattle.smithy_schema.specs.Site.{View}
+use Rattle.smithy_schema.specs.declared.shape_type.TimestampFormat.{TimestampFormat}
+use Rattle.smithy_schema.specs.Site.{Site, View}
 use Rattle.smithy_schema.specs.Value.{ScalarValue, text_in}
+use Rattle.smithy_schema.specs.TimeForms.{form_or}
 use Rattle.smithy_schema.specs.Writing.{Event, Writer, begin_structure, end_structure, begin_list, end_list, begin_map, end_map, null_of, scalar_of, big_integer_of, big_decimal_of, Open, open_structure, open_map_at_key, open_after}
 use Rattle.smithy_json.specs.Ascii.{value_separator, begin_array, end_array, begin_object, end_object}
 use Rattle.smithy_json.specs.NumberText.{is_number}
-use Rattle.smithy_json_codec.specs.Canonical.{name_text, key_text, scalar_text}
+use Rattle.smithy_json_codec.specs.Canonical.{name_text, key_text, scalar_text, can_write}
+use Rattle.smithy_json_codec.specs.Settings.{Settings}
 
 pub record JsonState : Type 0 where
-  -- members go by their JSON names, where they have one
-  pub use_json_name : Bool
+  pub settings : Settings
   -- the bytes so far
   pub out : List ℕ
   -- a comma stands before whatever comes next but an end: an entry has come in the innermost container or, outside
@@ -22,8 +24,8 @@ pub record JsonState : Type 0 where
   pub frames : List Open
 
 -- nothing is written yet
-abbrev pub fresh_state : Bool → JsonState
-fresh_state use_json_name = record { use_json_name = use_json_name; out = []; needs_comma = false; frames = [] }
+abbrev pub fresh_state : Settings → JsonState
+fresh_state settings = record { settings = settings; out = []; needs_comma = false; frames = [] }
 
 abbrev pub comma_text : Bool → List ℕ
 comma_text needs_comma = if needs_comma then value_separator ∷ [] else []
@@ -41,7 +43,7 @@ is_key_due _ = false
 
 -- what stands before a value
 abbrev pub lead : JsonState → View → List ℕ
-lead s view = comma_text s.needs_comma ++ key_in s.frames (key_text s.use_json_name view)
+lead s view = comma_text s.needs_comma ++ key_in s.frames (key_text s.settings.use_json_name view)
 
 -- the text of a value that is no container
 abbrev pub wrote : JsonState → View → List ℕ → List Open → JsonState
@@ -56,11 +58,16 @@ key_wrote s key frames = record s {
   frames = frames;
 }
 
+-- the form of instants at a site
+abbrev pub form_at : JsonState → Site → TimestampFormat
+form_at s site = form_or s.settings.default_timestamp_format site.place.time
+
 -- a scalar: a text is a key where one is due
-abbrev pub scalar_wrote : JsonState → View → ScalarValue → List Open → JsonState
-scalar_wrote s view x frames =
-    option_map_or (λ key. if is_key_due s.frames then key_wrote s key frames else wrote s view (scalar_text x) frames)
-    (text_in x) (wrote s view (scalar_text x) frames)
+abbrev pub scalar_wrote : JsonState → Site → ScalarValue → List Open → JsonState
+scalar_wrote s site x frames =
+    let bytes = scalar_text (form_at s site) x in
+    option_map_or (λ key. if is_key_due s.frames then key_wrote s key frames else wrote s site.view bytes frames)
+    (text_in x) (wrote s site.view bytes frames)
 
 -- the opening bracket of a container
 abbrev pub opened : JsonState → View → ℕ → List Open → JsonState
@@ -80,7 +87,7 @@ made end_list s frames = closed s end_array frames
 made (begin_map site length) s frames = opened s site.view begin_object frames
 made end_map s frames = closed s end_object frames
 made (null_of site) s frames = wrote s site.view (codes "null") frames
-made (scalar_of site x) s frames = scalar_wrote s site.view x frames
+made (scalar_of site x) s frames = scalar_wrote s site x frames
 made (big_integer_of site written) s frames = wrote s site.view written frames
 made (big_decimal_of site written) s frames = wrote s site.view written frames
 
@@ -89,12 +96,14 @@ abbrev pub where_taken : (List Open → JsonState) → Result (List Open) SerdeE
 where_taken make (Ok frames) = Ok (make frames)
 where_taken make (Err e) = Err e
 
--- the text of a big number is written as it stands, so it has to be a number of JSON
-abbrev pub is_writable : Event → Bool
-is_writable (big_integer_of site written) = is_number written
-is_writable (big_decimal_of site written) = is_number written
-is_writable _ = true
+-- the text of a big number is written as it stands, so it has to be a number of JSON; an instant has to be one that the form
+-- of its site can write
+abbrev pub is_writable : JsonState → Event → Bool
+is_writable s (scalar_of site x) = can_write s.settings site.place.time x
+is_writable s (big_integer_of site written) = is_number written
+is_writable s (big_decimal_of site written) = is_number written
+is_writable s _ = true
 
 -- a call is refused where no serializer takes it, and where JSON can't have its text
 abbrev pub json_after : Writer JsonState
-json_after e s = if is_writable e then where_taken (made e s) (open_after e s.frames) else Err Unwritable
+json_after e s = if is_writable s e then where_taken (made e s) (open_after e s.frames) else Err Unwritable

@@ -41,7 +41,7 @@ impl JsonCodec {
 
     /// A serializer that has written nothing yet. It takes no memory.
     pub fn create_serializer(&self, alloc: Global) -> JsonSerializer<'_>
-        ensures state { state_of result ≡ fresh_state (settings_of self.now).use_json_name }
+        ensures state { state_of result ≡ fresh_state (settings_of self.now) }
         ensures sound { has_failed result ≡ false }
     {
         JsonSerializer::new(self, alloc)

@@ -1,4 +1,5 @@
 //! The reader of JSON values that a schema directs.
+use crate::instants::{form_at, instant_at};
 use crate::members::{Names, Next, next_present};
 use crate::numbers::{big_decimal_at, big_integer_at};
 use crate::places::{InList, InObject, byte_end, next_in_list, next_in_object, null_end};
@@ -6,7 +7,7 @@ use crate::skip::skipped_end;
 use crate::texts::{blob_at, owned_text, text_at};
 use crate::values::{begins_null, boolean_at, long_at};
 use smithy_schema::{Schema, SerdeError, ShapeDeserializer, ShapeType, Step, TimestampFormat};
-use smithy_types::{BigDecimal, BigInteger, Blob};
+use smithy_types::{BigDecimal, BigInteger, Blob, DateTime};
 use smithy_wire::{Frame, Mark, Walk, Within, byte_found, integer_found, short_found};
 use std::alloc::Global;
 
@@ -63,10 +64,10 @@ fn missing() -> Frame
 
 impl<'a> JsonDeserializer<'a> {
     ghost use Rattle.std.specs.Prelude.{◌≡◌, ◌≤◌, ◌↔◌, ◌+◌, ℕ, length, drop, Some, IsTrue, IfOk, IsErrOf, false, codes};
-    ghost use Rattle.smithy_schema.specs.Reading.{passed_to, depth, in_structure, Conducts, MatchStep, CannotGoOn, IsRefused, IsInvalid};
+    ghost use Rattle.smithy_schema.specs.Reading.{passed_to, depth, in_structure, Conducts, MatchStep, CannotGoOn, RefusesNoScalar, IsRefused, IsInvalid};
     ghost use Rattle.smithy_schema.specs.Table.{IsStructure, HasMembers};
     ghost use Rattle.smithy_schema.specs.Site.{site_of, kind_at};
-    ghost use Rattle.smithy_schema.specs.declared.error.SerdeError.TheVariants.{TooDeep, TooWide};
+    ghost use Rattle.smithy_schema.specs.declared.error.SerdeError.TheVariants.{TooDeep};
     ghost use Rattle.smithy_json_codec.specs.Cursor.{cursor_of, reading_settings_of};
     ghost use Rattle.smithy_json_codec.specs.Deepest.{OpensTooDeep};
     ghost use Rattle.smithy_json_codec.specs.Openers.{json_openers};
@@ -118,7 +119,7 @@ impl<'a> JsonDeserializer<'a> {
         requires place { HasMembers (kind_at (site_of schema.now)) }
         ensures same { reading_settings_of self.new ≡ reading_settings_of self.old }
         ensures conduct { Conducts (cursor_of self.old) (cursor_of self.new) result }
-        ensures narrow { IsErrOf result TooWide → ⊥ }
+        ensures narrow { RefusesNoScalar result }
         ensures ok { IfOk result (λ step. MatchStep step (json_relations (reading_settings_of self.old)) (passed_to (cursor_of self.old) at) (cursor_of self.new) (site_of schema.now)) }
         ensures refused { IsRefused result → CannotGoOn (json_relations (reading_settings_of self.old)) (passed_to (cursor_of self.old) at) schema.now.shapes.now schema.now.place }
         ensures would { IsInvalid result → CannotGoOn (json_relations (without_limits (reading_settings_of self.old))) (passed_to (cursor_of self.old) at) schema.now.shapes.now schema.now.place }
@@ -159,10 +160,10 @@ impl<'a> JsonDeserializer<'a> {
 
 impl ShapeDeserializer for JsonDeserializer<'_> {
     ghost use Rattle.std.specs.Prelude.{◌≡◌, ◌≤◌, ℕ, true, false, refl, IfOk, IsOk, OnOk, IsErr, IsErrOf};
-    ghost use Rattle.smithy_schema.specs.Reading.{depth, in_structure, passed_to, Conducts, Passes, MatchStep, CannotGoOn, SkipsNot, NullsNot, ReachesDepth, null_is_due, IsRefused, IsInvalid, IsNoAnswer};
+    ghost use Rattle.smithy_schema.specs.Reading.{depth, in_structure, passed_to, Conducts, Passes, MatchStep, CannotGoOn, SkipsNot, NullsNot, ReachesDepth, null_is_due, RefusesNoScalar, IsRefused, IsInvalid, IsNoAnswer};
     ghost use Rattle.smithy_schema.specs.Table.{IsStructure, HasMembers};
     ghost use Rattle.smithy_schema.specs.Site.{site_of, kind_at};
-    ghost use Rattle.smithy_schema.specs.declared.error.SerdeError.TheVariants.{NoMemory, TooDeep, TooWide};
+    ghost use Rattle.smithy_schema.specs.declared.error.SerdeError.TheVariants.{NoMemory, TooDeep};
     ghost use Rattle.smithy_json_codec.specs.Cursor.{cursor_of, reading_settings_of};
     ghost use Rattle.smithy_json_codec.specs.Settings.{Settings, keep_limits, without_limits};
     ghost use Rattle.smithy_json_codec.specs.Standing.{json_relations};
@@ -219,7 +220,7 @@ impl ShapeDeserializer for JsonDeserializer<'_> {
         requires place { HasMembers (kind_at (site_of schema.now)) }
         ensures same { reading_settings_of self.new ≡ reading_settings_of self.old }
         ensures conduct { Conducts (cursor_of self.old) (cursor_of self.new) result }
-        ensures narrow { IsErrOf result TooWide → ⊥ }
+        ensures narrow { RefusesNoScalar result }
         ensures ok { (cursor_of self.old).due ≡ false → IfOk result (λ step. MatchStep step (json_relations (reading_settings_of self.old)) (cursor_of self.old) (cursor_of self.new) (site_of schema.now)) }
         ensures refused { IsRefused result → (cursor_of self.old).due ≡ false
             → CannotGoOn (json_relations (reading_settings_of self.old)) (cursor_of self.old) schema.now.shapes.now schema.now.place }
@@ -333,7 +334,7 @@ impl ShapeDeserializer for JsonDeserializer<'_> {
     fn read_null(&mut self) -> Result<(), SerdeError>
         ensures same { reading_settings_of self.new ≡ reading_settings_of self.old }
         ensures conduct { Conducts (cursor_of self.old) (cursor_of self.new) result }
-        ensures narrow { IsErrOf result TooWide → ⊥ }
+        ensures narrow { RefusesNoScalar result }
         ensures memory { IsErrOf result NoMemory → ⊥ }
         ensures shallow { IsErrOf result TooDeep → ⊥ }
         ensures ok { null_is_due (json_relations (reading_settings_of self.old)) (cursor_of self.old) ≡ true → OnOk result ((json_relations (reading_settings_of self.old)).nulls (cursor_of self.old).input (depth (cursor_of self.old)) (cursor_of self.old).at (cursor_of self.new).at) }
@@ -362,7 +363,7 @@ impl ShapeDeserializer for JsonDeserializer<'_> {
     fn skip_value(&mut self) -> Result<(), SerdeError>
         ensures same { reading_settings_of self.new ≡ reading_settings_of self.old }
         ensures conduct { Conducts (cursor_of self.old) (cursor_of self.new) result }
-        ensures narrow { IsErrOf result TooWide → ⊥ }
+        ensures narrow { RefusesNoScalar result }
         ensures memory { IsErrOf result NoMemory → ⊥ }
         ensures undue { (cursor_of self.old).due ≡ false → IsNoAnswer result }
         ensures ok { OnOk result ((json_relations (reading_settings_of self.old)).skips (cursor_of self.old).input (depth (cursor_of self.old)) (cursor_of self.old).at (cursor_of self.new).at) }
@@ -440,6 +441,13 @@ impl ShapeDeserializer for JsonDeserializer<'_> {
     fn read_big_decimal(&mut self, _schema: &Schema<'_>) -> Result<BigDecimal, SerdeError> {
         self.walk.ready()?;
         let found = big_decimal_at(self.alloc, self.walk.input, self.walk.position);
+        self.walk.take_result(found)
+    }
+
+    fn read_timestamp(&mut self, schema: &Schema<'_>) -> Result<DateTime, SerdeError> {
+        self.walk.ready()?;
+        let form = form_at(schema, self.default_timestamp_format);
+        let found = instant_at(self.alloc, self.walk.input, self.walk.position, form);
         self.walk.take_result(found)
     }
 }

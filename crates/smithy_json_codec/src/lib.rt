@@ -3,6 +3,7 @@
 
 mod codec;
 mod deserializer;
+mod instants;
 mod members;
 mod numbers;
 mod places;

@@ -2,7 +2,7 @@
 
 ghost use Rattle.std.specs.Prelude.{◌≡◌, ◌≢◌, ◌≤◌, ◌+◌, ◌↔◌, ℕ, length, drop, IfOk, IfErr, IsErrOf, IsTrue};
 ghost use Rattle.smithy_schema.specs.Reading.{IsInvalid, IsRefused};
-ghost use Rattle.smithy_schema.specs.declared.error.SerdeError.TheVariants.{Failed, TooDeep, TooWide, Unwritable};
+ghost use Rattle.smithy_schema.specs.declared.error.SerdeError.TheVariants.{Failed, TooDeep, TooWide, NotCarried, Unwritable};
 ghost use Rattle.smithy_schema.specs.Site.{site_of};
 ghost use Rattle.smithy_json_codec.specs.Codec.{strict_settings};
 ghost use Rattle.smithy_json_codec.specs.Deepest.{OpensTooDeep};
@@ -89,7 +89,7 @@ fn entry_at<'a>(
     ensures would { IsInvalid result → EntryMissing (NoSkip depth input.now) (passes_marks names.entry.use_json_name (site_of names.entry.schema.now)) depth input.now at entered }
     ensures sound { IfErr result (λ e. e ≢ Failed) }
     ensures readable { IfErr result (λ e. e ≢ Unwritable) }
-    ensures narrow { IfErr result (λ e. e ≢ TooWide) }
+    ensures narrow { IfErr result (λ e. (e ≢ TooWide) × (e ≢ NotCarried)) }
     ensures deep { IsErrOf result TooDeep → max_depth ≤ depth + json_openers (drop at input.now) }
     ensures too_deep { IsErrOf result TooDeep → (q : ℕ) × (at ≤ q) × OpensTooDeep max_depth depth input.now q }
 {
@@ -132,7 +132,7 @@ pub(crate) fn next_present<'a>(
     ensures would { IsInvalid result → NothingComes (NoSkip depth input.now) (passes_marks names.entry.use_json_name (site_of names.entry.schema.now)) max_depth depth input.now at entered }
     ensures sound { IfErr result (λ e. e ≢ Failed) }
     ensures readable { IfErr result (λ e. e ≢ Unwritable) }
-    ensures narrow { IfErr result (λ e. e ≢ TooWide) }
+    ensures narrow { IfErr result (λ e. (e ≢ TooWide) × (e ≢ NotCarried)) }
     ensures deep { IsErrOf result TooDeep → max_depth ≤ depth + json_openers (drop at input.now) }
     ensures too_deep { IsErrOf result TooDeep → (q : ℕ) × (at ≤ q) × OpensTooDeep max_depth depth input.now q }
 {

@@ -26,7 +26,7 @@ use std::borrow::CowStr;
 use std::str;
 
 // The text of the number that comes first behind blanks, with its end, where a value may end behind it.
-fn number_at<'a>(input: &'a [u8], at: usize) -> Option<(&'a str, usize)>
+pub(crate) fn number_at<'a>(input: &'a [u8], at: usize) -> Option<(&'a str, usize)>
     requires { at ≤ length input.now }
     ensures found { IfSome result (λ r. TreeLies 1 (number r.0.now) input.now at r.1) }
     ensures none { IfNone result ((raw : List ℕ) (e : ℕ) → TreeLies 1 (number raw) input.now at e → ⊥) }

@@ -1,23 +1,26 @@
 //! Writing a body as a schema directs.
-ghost use Rattle.std.specs.Prelude.{if◌then◌else◌, ◌≡◌, ◌↔◌, ◌∷◌, ◌++◌, Ok, Err, true, false, OnOk, IfErr, IsErr, IsErrOf};
+ghost use Rattle.std.specs.Prelude.{if◌then◌else◌, ◌≡◌, ◌↔◌, [], ◌∷◌, ◌++◌, Ok, Err, true, false, OnOk, IfErr, IsErr, IsErrOf};
 ghost use Rattle.smithy_schema.specs.declared.error.SerdeError.TheVariants.{Failed, NoMemory, Unwritable};
 ghost use Rattle.smithy_schema.specs.Reading.{IsFault};
 ghost use Rattle.smithy_schema.specs.Site.{site_of};
 ghost use Rattle.smithy_schema.specs.Writing.{after_value, after_text, after_begin};
-ghost use Rattle.smithy_schema.specs.Value.{bytes as bytes_value};
+ghost use Rattle.smithy_texts.specs.Base64Text.{blob_text};
+ghost use Rattle.smithy_json.specs.Ascii.{quotation_mark};
 ghost use Rattle.smithy_texts.specs.Decimal.{exponent_text, decimal_text};
 ghost use Rattle.smithy_json.specs.Escape.{quoted};
 ghost use Rattle.smithy_json.specs.NumberText.{is_number};
-ghost use Rattle.smithy_json_codec.specs.Canonical.{name_text, key_text, scalar_text};
+ghost use Rattle.smithy_json_codec.specs.Canonical.{in_form, name_text, key_text};
+ghost use Rattle.smithy_json_codec.specs.Codec.{settings_of};
 ghost use Rattle.smithy_json_codec.specs.Serializing.{open_of, opens_of, state_of, has_failed};
 ghost use Rattle.smithy_json_codec.specs.Writing.{JsonState, fresh_state, comma_text, key_in, is_key_due, lead, wrote, key_wrote, opened, where_taken, json_after};
 
 use crate::codec::JsonCodec;
+use crate::instants::form_at;
 use itoa::Buffer;
 use smithy_json::number_text::is_number;
 use smithy_json::push_escaped;
-use smithy_schema::{FinishSerializer, Schema, SerdeError, ShapeSerializer};
-use smithy_types::{BigDecimal, BigInteger, base64};
+use smithy_schema::{FinishSerializer, Schema, SerdeError, ShapeSerializer, TimestampFormat};
+use smithy_types::{BigDecimal, BigInteger, DateTime, base64};
 use std::alloc::{AllocError, Global};
 
 /// A container that is open, and of a map what is due in it.
@@ -62,7 +65,7 @@ fn push_name(out: &mut Vec<u8>, name: &str) -> Result<(), AllocError>
 
 // The base64 of bytes as a string: nothing in it is escaped.
 fn push_base64(out: &mut Vec<u8>, bytes: &[u8]) -> Result<(), AllocError>
-    ensures { OnOk result (out.new.items ≡ out.old.items ++ scalar_text (bytes_value bytes.now)) }
+    ensures { OnOk result (out.new.items ≡ out.old.items ++ quotation_mark ∷ (blob_text bytes.now ++ quotation_mark ∷ [])) }
 {
     let text = base64::encode(*out.allocator(), bytes)?;
     out.push(b'"')?;
@@ -155,7 +158,7 @@ fn begin_value(
 
 impl<'c> JsonSerializer<'c> {
     pub(crate) fn new(codec: &'c JsonCodec, alloc: Global) -> JsonSerializer<'c>
-        ensures state { state_of result ≡ fresh_state codec.now.use_json_name }
+        ensures state { state_of result ≡ fresh_state (settings_of codec.now) }
         ensures sound { has_failed result ≡ false }
     {
         JsonSerializer {
@@ -170,7 +173,7 @@ impl<'c> JsonSerializer<'c> {
     // Begins a value as `begin_value` does.
     #[inline(always)]
     fn begin(&mut self, schema: &Schema<'_>) -> Result<(), SerdeError>
-        ensures same { (state_of self.new).use_json_name ≡ (state_of self.old).use_json_name }
+        ensures same { (state_of self.new).settings ≡ (state_of self.old).settings }
         ensures broken { has_failed self.new ≡ has_failed self.old }
         ensures lead { OnOk result ((state_of self.new).out ≡ (state_of self.old).out ++ lead (state_of self.old) (site_of schema.now).view) }
         ensures taken { OnOk result (after_value (state_of self.old).frames ≡ Ok (state_of self.new).frames) }
@@ -260,6 +263,26 @@ impl<'c> JsonSerializer<'c> {
         self.needs_comma = true;
         self.failed = false;
         Ok(())
+    }
+
+    // Writes the text of an instant: a number of seconds, or a date as a string.
+    fn write_in_form(
+        &mut self,
+        schema: &Schema<'_>,
+        form: TimestampFormat,
+        text: &str,
+    ) -> Result<(), SerdeError>
+        ensures failed { IsErrOf result Failed ↔ (has_failed self.old ≡ true) }
+        ensures broken { IsErr result ↔ (has_failed self.new ≡ true) }
+        ensures ok { OnOk result (where_taken (wrote (state_of self.old) (site_of schema.now).view (in_form form text.now)) (after_value (state_of self.old).frames) ≡ Ok (state_of self.new)) }
+        ensures refused { IfErr result (λ e. IsFault e → after_value (state_of self.old).frames ≡ Err e) }
+    {
+        match form {
+            TimestampFormat::EpochSeconds => self.write_text(schema, text.as_bytes()),
+            TimestampFormat::DateTime | TimestampFormat::HttpDate => {
+                self.write_quoted(schema, text)
+            }
+        }
     }
 
     // Writes the key of an entry where one is due; its value is due then.
@@ -446,6 +469,20 @@ impl ShapeSerializer for JsonSerializer<'_> {
         value: &BigDecimal,
     ) -> Result<(), SerdeError> {
         self.write_number(schema, value.as_ref())
+    }
+
+    fn write_timestamp(&mut self, schema: &Schema<'_>, value: &DateTime) -> Result<(), SerdeError> {
+        if self.failed {
+            return Err(SerdeError::Failed);
+        }
+        let form = form_at(schema, self.codec.default_timestamp_format);
+        match form.text_of(*self.out.allocator(), value) {
+            Ok(text) => self.write_in_form(schema, form, text.as_str()),
+            Err(error) => {
+                self.failed = true;
+                Err(error)
+            }
+        }
     }
 }
 

@@ -1,7 +1,7 @@
 //! Where a value ends that is skipped.
 
 ghost use Rattle.std.specs.Prelude.{◌≡◌, ◌≢◌, ◌<◌, ◌≤◌, ◌+◌, ◌-◌, ℕ, List, length, get_or, drop, false, IfOk, IfErr, OnErr, IsErrOf, IfSome, IfNone};
-ghost use Rattle.smithy_schema.specs.declared.error.SerdeError.TheVariants.{TooDeep, TooWide, Unwritable};
+ghost use Rattle.smithy_schema.specs.declared.error.SerdeError.TheVariants.{TooDeep, TooWide, NotCarried, Unwritable};
 ghost use Rattle.smithy_schema.specs.Reading.{IsFault, IsInvalid};
 ghost use Rattle.smithy_json.specs.Ascii.{begin_array, begin_object};
 ghost use Rattle.smithy_json_codec.specs.Deepest.{OpensTooDeep};
@@ -134,7 +134,7 @@ pub(crate) fn skipped_end(
     ensures ok { IfOk result (λ e. SkipsTo max_depth depth input.now at e) }
     ensures fault { IfErr result IsFault }
     ensures readable { IfErr result (λ e. e ≢ Unwritable) }
-    ensures narrow { IfErr result (λ e. e ≢ TooWide) }
+    ensures narrow { IfErr result (λ e. (e ≢ TooWide) × (e ≢ NotCarried)) }
     ensures refused { OnErr result ((e : ℕ) → SkipsTo max_depth depth input.now at e → ⊥) }
     ensures would { IsInvalid result → (greatest e : ℕ) → SkipsTo greatest depth input.now at e → ⊥ }
     ensures deep { IsErrOf result TooDeep → max_depth ≤ depth + json_openers (drop at input.now) }
@@ -159,7 +159,7 @@ fn container_end(
     ensures ok { IfOk result (λ e. SkipsTo max_depth depth input.now at e) }
     ensures fault { IfErr result IsFault }
     ensures readable { IfErr result (λ e. e ≢ Unwritable) }
-    ensures narrow { IfErr result (λ e. e ≢ TooWide) }
+    ensures narrow { IfErr result (λ e. (e ≢ TooWide) × (e ≢ NotCarried)) }
     ensures refused { OnErr result ((e : ℕ) → SkipsTo max_depth depth input.now at e → ⊥) }
     ensures would { IsInvalid result → (greatest e : ℕ) → SkipsTo greatest depth input.now at e → ⊥ }
     ensures deep { IsErrOf result TooDeep → max_depth ≤ depth + json_openers (drop at input.now) }

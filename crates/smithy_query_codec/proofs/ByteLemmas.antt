@@ -1,5 +1,5 @@
 -- The texts of values are texts of bytes.
-use Rattle.std.proofs.Common.{◌≡◌, ◌<◌, ◌^◌, ◌==◌, ℕ, ℤ, suc, pos, negsuc, unsigned_abs, List, [], ◌∷◌, Bool, true, false, All, IsUtf8, nat_lt, cond, decimal, codes, refl, subst, arith, ⊎_elim}
+use Rattle.std.proofs.Common.{◌≡◌, ◌<◌, ◌^◌, ◌==◌, ℕ, ℤ, suc, pos, negsuc, unsigned_abs, List, [], ◌∷◌, Bool, true, false, Option, Some, None, unwrap_or, All, IsUtf8, nat_lt, cond, decimal, codes, refl, subst, arith, ⊎_elim}
 use Rattle.std.specs.Fmt.{signed_decimal}
 use Rattle.std.specs.List.{list_all}
 use Rattle.std.specs.Str.{byte}
@@ -14,12 +14,17 @@ use Rattle.smithy_texts.specs.Ranges.{fits_signed}
 use Rattle.smithy_texts.proofs.Base64Laws.{symbols_hold}
 use Rattle.smithy_texts.proofs.OnLiterals.{smithy_texts_on_literals}
 use Rattle.smithy_texts.proofs.WrittenNumerals.{small_exponent}
+use Rattle.smithy_instants.specs.Instant.{is_instant}
+use Rattle.smithy_instants.specs.WrittenDate.{date_text}
 use Rattle.smithy_schema.specs.declared.place.Place.{Place}
+use Rattle.smithy_schema.specs.declared.shape_type.TimestampFormat.{TimestampFormat}
+use Rattle.smithy_schema.specs.TimeForms.{format_of}
 use Rattle.smithy_schema.specs.Names.{is_name_byte}
 use Rattle.smithy_schema.specs.Table.{Table, Kind, kind_of}
-use Rattle.smithy_schema.specs.Value.{ScalarValue, boolean, whole, text, bytes, decimal as decimal_value, Value, scalar_value, list, map, structure, union, null_element, Values, no_values, value, MapEntries, no_map_entries, map_entry, MemberValues, no_member_values, member_value}
+use Rattle.smithy_schema.specs.Value.{ScalarValue, boolean, whole, text, bytes, decimal as decimal_value, instant, Value, scalar_value, list, map, structure, union, null_element, Values, no_values, value, MapEntries, no_map_entries, map_entry, MemberValues, no_member_values, member_value}
 use Rattle.smithy_schema.specs.Fits.{FitsOr, ElementsFit, EntriesFit, MembersFit, is_scalar_of}
-use Rattle.smithy_schema.proofs.ScalarLemmas.{scalar_kind, whole_fits, decimal_fits, text_is_utf8, blob_is_bytes}
+use Rattle.smithy_schema.proofs.ScalarLemmas.{scalar_kind, whole_fits, decimal_fits, text_is_utf8, blob_is_bytes, instant_fits}
+use Rattle.smithy_schema.proofs.InstantTexts.{instant_text_is_utf8}
 use Rattle.smithy_query_codec.specs.Leaves.{scalar_text}
 use Rattle.smithy_query_codec.proofs.PairLemmas.{each_all, each_weaker}
 use Rattle.smithy_query_codec.proofs.SegmentLemmas.{IsNameText, decimal_text}
@@ -96,23 +101,29 @@ base64_bytes : (b : List ℕ) → are_bytes b ≡ true → All IsByte (blob_text
 unfolding smithy_texts_on_literals
 base64_bytes b h = listed (blob_text b) (symbols_hold (λ b. nat_lt b 256) refl refl b h)
 
-scalar_bytes : (k : Kind) (x : ScalarValue) → is_scalar_of k x ≡ true → All IsByte (scalar_text x)
-scalar_bytes k (boolean true) h = listed (codes "true") refl
-scalar_bytes k (boolean false) h = listed (codes "false") refl
-scalar_bytes k (whole n) h = let s = scalar_kind k (whole n) h in signed_bytes n (few_digits n (whole_fits s.0 n s.2))
-scalar_bytes k (text t) h = let s = scalar_kind k (text t) h in utf8_bytes t (text_is_utf8 s.0 t s.2)
-scalar_bytes k (bytes b) h = let s = scalar_kind k (bytes b) h in base64_bytes b (blob_is_bytes s.0 b s.2)
-scalar_bytes k (decimal_value m e) h =
+-- the text of an instant, where there is one
+written_bytes : (form : TimestampFormat) (n : ℤ) → is_instant n ≡ true → (o : Option (List ℕ)) → date_text (format_of form) n ≡ o → All IsByte (unwrap_or o [])
+written_bytes form n h (Some t) is = utf8_bytes t (instant_text_is_utf8 form n t h is)
+written_bytes form n h None is = All-nil IsByte
+
+scalar_bytes : (k : Kind) (x : ScalarValue) (form : TimestampFormat) → is_scalar_of k x ≡ true → All IsByte (scalar_text form x)
+scalar_bytes k (boolean true) form h = listed (codes "true") refl
+scalar_bytes k (boolean false) form h = listed (codes "false") refl
+scalar_bytes k (whole n) form h = let s = scalar_kind k (whole n) h in signed_bytes n (few_digits n (whole_fits s.0 n s.2))
+scalar_bytes k (text t) form h = let s = scalar_kind k (text t) h in utf8_bytes t (text_is_utf8 s.0 t s.2)
+scalar_bytes k (bytes b) form h = let s = scalar_kind k (bytes b) h in base64_bytes b (blob_is_bytes s.0 b s.2)
+scalar_bytes k (decimal_value m e) form h =
     let s = scalar_kind k (decimal_value m e) h in
     let fits = decimal_fits s.0 m e s.2 in
     All-append IsByte (signed_decimal m) (exponent_text e) (signed_bytes m (few_digits m fits.0)) (exponent_bytes e (small_exponent e fits.1))
+scalar_bytes k (instant n) form h = let s = scalar_kind k (instant n) h in written_bytes form n (instant_fits s.0 n s.2) (date_text (format_of form) n) refl
 
 -- ---- any value
 
--- each text in a form of the value is one of bytes
+-- each text in a form of the value is one of bytes, in whichever time form
 abbrev mutual
   pub HasBytes : Value → Type 0
-  HasBytes (scalar_value x) = All IsByte (scalar_text x)
+  HasBytes (scalar_value x) = (form : TimestampFormat) → All IsByte (scalar_text form x)
   HasBytes (list vs) = ElementsHaveBytes vs
   HasBytes (map es) = EntriesHaveBytes es
   HasBytes (structure ms) = MembersHaveBytes ms
@@ -133,7 +144,7 @@ abbrev mutual
 
 mutual
   pub fit_has_bytes : (t : Table) (p : Place) (nulls : Bool) (v : Value) → FitsOr t p nulls v → HasBytes v
-  fit_has_bytes t p nulls (scalar_value x) h = scalar_bytes (kind_of t p) x h
+  fit_has_bytes t p nulls (scalar_value x) h = λ form. scalar_bytes (kind_of t p) x form h
   fit_has_bytes t p nulls null_element h = tt
   fit_has_bytes t p nulls (list vs) h = elements_have_bytes t (kind_of t p) vs h.1
   fit_has_bytes t p nulls (map es) h = entries_have_bytes t (kind_of t p) es h.1

@@ -14,3 +14,4 @@ pub mod PathTexts
 pub mod ReadableLeaves
 pub mod DistinctTexts
 pub mod WholeForms
+pub mod InstantWriting

@@ -1,16 +1,19 @@
 -- Values of small tables and the forms that they are, by the definition and call by call.
-use Rattle.std.proofs.Common.{◌≡◌, ◌^◌, ℕ, List, [], ◌∷◌, Bool, true, false, Option, Some, None, Ok, Err, codes, refl, pos, neg_ℤ, arith}
+use Rattle.std.proofs.Common.{◌≡◌, ◌^◌, ℕ, ℤ, List, [], ◌∷◌, Bool, true, false, Option, Some, None, Ok, Err, codes, refl, pos, neg_ℤ, arith}
 use Rattle.smithy_schema.specs.declared.place.Place.{Place}
 use Rattle.smithy_schema.specs.declared.shape_type.Scalar.TheVariants as scalars
+use Rattle.smithy_schema.specs.declared.shape_type.TimestampFormat.TheVariants.{EpochSeconds, HttpDate}
 use Rattle.smithy_schema.specs.declared.error.SerdeError.TheVariants.{Unwritable}
 use Rattle.smithy_schema.specs.Table as table
 use Rattle.smithy_schema.specs.Table.{Table, Member, Shape, Declaration, scalar_place, shape_place}
 use Rattle.smithy_schema.specs.Site.{shape_site, member_of}
-use Rattle.smithy_schema.specs.Value.{boolean, whole, text, bytes, decimal, Value, scalar_value, list, map, structure, union, null_element, no_values, value, no_map_entries, map_entry, no_member_values, member_value}
+use Rattle.smithy_schema.specs.Value.{boolean, whole, text, bytes, decimal, instant, Value, scalar_value, list, map, structure, union, null_element, no_values, value, no_map_entries, map_entry, no_member_values, member_value}
 use Rattle.smithy_schema.specs.Writing.{begin_map, end_map, scalar_of, big_integer_of, big_decimal_of, open_list, open_map_at_value, run, write}
 use Rattle.smithy_query_codec.specs.Canonical.{canonical_query}
 use Rattle.smithy_query_codec.specs.Writing.{QueryState, fresh_state, query_after}
 use Rattle.smithy_query_codec.specs.Distinct.{HaveDistinctTexts}
+use Rattle.smithy_query_codec.specs.Writable.{can_be_written}
+use Rattle.smithy_instants.proofs.OnLiterals.{smithy_instants_on_literals}
 use Rattle.smithy_query_codec.proofs.OnLiterals.{smithy_query_codec_on_literals}
 
 -- ---- tables
@@ -33,6 +36,9 @@ long = scalar_place scalars.Long None
 abbrev string : Place
 string = scalar_place scalars.String None
 
+abbrev instant_at : ℤ → Value
+instant_at n = scalar_value (instant n)
+
 -- structure S / member a long / member s string / member t boolean / member b blob
 abbrev scalars_table : Table
 scalars_table = named (codes "S") (table.structure (
@@ -47,6 +53,15 @@ abbrev big_numbers_table : Table
 big_numbers_table = named (codes "S") (table.structure (
     a_member (codes "i") None false (scalar_place scalars.BigInteger None)
     ∷ a_member (codes "d") None false (scalar_place scalars.BigDecimal None)
+    ∷ [])) ∷ []
+
+-- list L timestamp time=epoch-seconds / structure S / member a timestamp / member b timestamp time=http-date / member l L flat
+abbrev instants_table : Table
+instants_table = named (codes "L") (a_list None (scalar_place scalars.Timestamp (Some EpochSeconds)))
+    ∷ named (codes "S") (table.structure (
+    a_member (codes "a") None false (scalar_place scalars.Timestamp None)
+    ∷ a_member (codes "b") None false (scalar_place scalars.Timestamp (Some HttpDate))
+    ∷ a_member (codes "l") None true (shape_place 0)
     ∷ [])) ∷ []
 
 -- list L long / structure S / member l L flat xml=x
@@ -129,6 +144,13 @@ pub kept_texts : run query_after
 unfolding smithy_query_codec_on_literals
 kept_texts = refl
 
+-- instants in the form of their place, a date-time where it has none; a date leaves out what it has no room for
+pub instants : IsFormOf instants_table 1
+    (structure (member_value 0 (instant_at (pos 1_500_000_001)) (member_value 1 (instant_at (pos 1_500_000_001)) (member_value 2 (list (value (instant_at (pos 1_500_000_001)) no_values)) no_member_values))))
+    (codes "Action=Do&Version=1&a=1970-01-01T00%3A00%3A01.5Z&b=Thu%2C%2001%20Jan%201970%2000%3A00%3A01%20GMT&l.1=1.500000001")
+unfolding smithy_query_codec_on_literals smithy_instants_on_literals
+instants = (refl, refl)
+
 -- {"l":[5,6]} and {"l":[]} of a flat member with a name of its own
 pub a_flat_list : IsFormOf flat_list 1 (structure (member_value 0 (list (value (scalar_value (whole (pos 5))) (value (scalar_value (whole (pos 6))) no_values))) no_member_values))
     (codes "Action=Do&Version=1&x.1=5&x.2=6")
@@ -201,6 +223,23 @@ no_null_in_a_list = refl
 pub no_null_in_a_map : write query_after (shape_site items_and_entries 2) (structure (member_value 1 (map (map_entry (codes "a") null_element no_map_entries)) no_member_values)) (fresh_state [] []) ≡ Err Unwritable
 unfolding smithy_query_codec_on_literals
 no_null_in_a_map = refl
+
+-- the year 10000, which is written as seconds alone
+abbrev too_late : ℤ
+too_late = pos 253_402_300_800_000_000_000
+
+pub no_date_past_9999 : (write query_after (shape_site instants_table 1) (structure (member_value 0 (instant_at too_late) no_member_values)) (fresh_state [] []) ≡ Err Unwritable)
+    × (write query_after (shape_site instants_table 1) (structure (member_value 1 (instant_at too_late) no_member_values)) (fresh_state [] []) ≡ Err Unwritable)
+unfolding smithy_query_codec_on_literals smithy_instants_on_literals
+no_date_past_9999 = (refl, refl)
+
+-- which values have a form: a date past 9999 has none, nor has a null
+pub expressible : (can_be_written (shape_site instants_table 1) (structure (member_value 0 (instant_at too_late) no_member_values)) ≡ false)
+    × (can_be_written (shape_site instants_table 1) (structure (member_value 2 (list (value (instant_at too_late) no_values)) no_member_values)) ≡ true)
+    × (can_be_written (shape_site instants_table 1) (structure (member_value 0 (instant_at (pos 0)) (member_value 1 (instant_at (pos 0)) no_member_values))) ≡ true)
+    × (can_be_written (shape_site instants_table 1) (structure (member_value 2 (list (value null_element no_values)) no_member_values)) ≡ false)
+unfolding smithy_query_codec_on_literals smithy_instants_on_literals
+expressible = (refl, refl, refl, refl)
 
 -- a scalar without a name, outside every list and map
 pub no_nameless_scalar : run query_after (scalar_of (shape_site scalars_table 0) (whole (pos 1)) ∷ []) (fresh_state [] []) ≡ Err Unwritable

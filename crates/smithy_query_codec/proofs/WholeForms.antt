@@ -20,7 +20,7 @@ use Rattle.smithy_query.specs.Split.{pairs_of}
 use Rattle.smithy_query.proofs.SplitLemmas.{IsPathByte, IsReadable, pairs_of_form}
 use Rattle.smithy_query_codec.specs.Leaves.{Path, Leaf, neither, query_name, leaves, member_leaves}
 use Rattle.smithy_query_codec.specs.Canonical.{path_text, pair_of_leaf, leaves_form, leaves_pairs, canonical_query}
-use Rattle.smithy_query_codec.specs.Nulls.{holds_null}
+use Rattle.smithy_query_codec.specs.Writable.{can_be_written}
 use Rattle.smithy_query_codec.specs.Counts.{HasPositions}
 use Rattle.smithy_query_codec.specs.Distinct.{HaveDistinctPaths, HaveDistinctTexts}
 use Rattle.smithy_query_codec.specs.Writing.{QueryState, fresh_state, query_after}
@@ -43,17 +43,17 @@ no_name : (view : View) → view.name ≡ None → option_to_list (query_name vi
 no_name view nameless = ap (λ o. option_to_list (option_map (λ name. unwrap_or view.xml_name name) o)) nameless
 
 -- a fresh serializer writes the form of a structure that is no member's
-pub whole_form : (site : Site) (ms : MemberValues) (action version : List ℕ) → site.view.name ≡ None → HasForm site (structure ms) → holds_null (structure ms) ≡ false
+pub whole_form : (site : Site) (ms : MemberValues) (action version : List ℕ) → site.view.name ≡ None → HasForm site (structure ms) → can_be_written site (structure ms) ≡ true
     → write query_after site (structure ms) (fresh_state action version) ≡ Ok (whole_state (canonical_query action version site (structure ms)))
-whole_form site ms action version nameless h nulls =
-    value_adds site (structure ms) (form_head action version) [] [] 0 [] [] [] [] h nulls (no_name site.view nameless) tt tt refl refl
+whole_form site ms action version nameless h can =
+    value_adds site (structure ms) (form_head action version) [] [] 0 [] [] [] [] h can (no_name site.view nameless) tt tt refl refl
     ∙ ap (λ ls. Ok (whole_state (form_head action version ++ leaves_text ls))) (under-nil (member_leaves site ms))
 
--- and refuses it where a null stands in it
-pub no_form : (site : Site) (ms : MemberValues) (action version : List ℕ) → site.view.name ≡ None → HasForm site (structure ms) → holds_null (structure ms) ≡ true
+-- and refuses it where no form can express it
+pub no_form : (site : Site) (ms : MemberValues) (action version : List ℕ) → site.view.name ≡ None → HasForm site (structure ms) → can_be_written site (structure ms) ≡ false
     → write query_after site (structure ms) (fresh_state action version) ≡ Err Unwritable
-no_form site ms action version nameless h nulls =
-    value_refused site (structure ms) (form_head action version) [] [] 0 [] [] [] [] h nulls (no_name site.view nameless) tt tt refl refl
+no_form site ms action version nameless h cannot =
+    value_refused site (structure ms) (form_head action version) [] [] 0 [] [] [] [] h cannot (no_name site.view nameless) tt tt refl refl
 
 -- ---- reading back
 
@@ -101,16 +101,16 @@ module _ (t : Table) (accepted : IsAccepted t) (p : Place) (view : View) (ms : M
   readable : AllByRecursion IsReadableLeaf (leaves (site_at t p view) neither (structure ms))
   readable = leaves_readable (site_at t p view) neither (structure ms) has_form (fit_has_bytes t p false (structure ms) fits)
 
-  -- without a null it has its form
-  pub fit_is_written : (action version : List ℕ) → view.name ≡ None → holds_null (structure ms) ≡ false
+  -- what a form can express has its form
+  pub fit_is_written : (action version : List ℕ) → view.name ≡ None → can_be_written (site_at t p view) (structure ms) ≡ true
       → write query_after (site_at t p view) (structure ms) (fresh_state action version)
       ≡ Ok (whole_state (canonical_query action version (site_at t p view) (structure ms)))
-  fit_is_written action version nameless nulls = whole_form (site_at t p view) ms action version nameless has_form nulls
+  fit_is_written action version nameless can = whole_form (site_at t p view) ms action version nameless has_form can
 
-  -- with one it has none
-  pub fit_is_refused : (action version : List ℕ) → view.name ≡ None → holds_null (structure ms) ≡ true
+  -- what none can has none
+  pub fit_is_refused : (action version : List ℕ) → view.name ≡ None → can_be_written (site_at t p view) (structure ms) ≡ false
       → write query_after (site_at t p view) (structure ms) (fresh_state action version) ≡ Err Unwritable
-  fit_is_refused action version nameless nulls = no_form (site_at t p view) ms action version nameless has_form nulls
+  fit_is_refused action version nameless cannot = no_form (site_at t p view) ms action version nameless has_form cannot
 
   -- what is read is what was written
   pub fit_is_read : (action version : List ℕ) → All IsByte action → All IsByte version

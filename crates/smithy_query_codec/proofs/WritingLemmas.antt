@@ -1,5 +1,5 @@
--- A value without nulls adds its leaves, wherever it is written.
-use Rattle.std.proofs.Common.{◌≡◌, ◌≢◌, ◌<◌, ◌+◌, ◌==◌, ◌&&◌, ◌||◌, ℕ, suc, List, [], ◌∷◌, ◌++◌, length, take, drop, Bool, true, false, is_some, Option, Some, None, option_to_list, Result, Ok, if◌then◌else◌, refl, sym, ◌∙◌, ap, append_assoc, arith, codes, decimal}
+-- A value that a form can express adds its leaves, wherever it is written.
+use Rattle.std.proofs.Common.{◌≡◌, ◌≢◌, ◌<◌, ◌+◌, ◌==◌, ◌&&◌, ◌||◌, ℕ, suc, List, [], ◌∷◌, ◌++◌, length, take, drop, Bool, true, false, not, is_some, Option, Some, None, option_to_list, Result, Ok, if◌then◌else◌, refl, sym, ◌∙◌, ap, append_assoc, arith, codes, decimal}
 use Rattle.std.specs.Option.{option_map_or}
 use Rattle.std.proofs.lemmas.Bool.Decides.{nat_tests}
 use Rattle.std.proofs.lemmas.Bool.{lt-ltb}
@@ -8,13 +8,15 @@ use Rattle.std.proofs.Math.Seq.{take-append_seam, drop-append_seam, take-length}
 use Rattle.smithy_schema.specs.declared.error.SerdeError.{SerdeError}
 use Rattle.smithy_schema.specs.Site.{Site, View, element_of, key_of, value_of, member_of}
 use Rattle.smithy_schema.specs.Value.{ScalarValue, text, Value, scalar_value, list, map, structure, union, null_element, Values, no_values, value, MapEntries, no_map_entries, map_entry, MemberValues, no_member_values, member_value}
+use Rattle.smithy_schema.specs.ScalarTest.{scalars_pass, elements_pass, entries_pass, members_pass}
 use Rattle.smithy_schema.specs.Writing.{Event, Open, open_structure, open_list, open_map_at_key, open_map_at_value, begin_structure, begin_list, begin_map, scalar_of, end_structure, end_list, end_map, after_value, after_scalar, after_begin, and_run, run, write, events, element_events, entry_events, member_events, count_of, entry_count}
 use Rattle.smithy_schema.proofs.OpenLemmas.{scalar_taken}
 use Rattle.smithy_schema.proofs.WritingLemmas.{child_written, call_made}
 use Rattle.smithy_query.specs.Form.{pair_text}
-use Rattle.smithy_query_codec.specs.Leaves.{Path, Leaf, Stand, flat_member, member, neither, under, numbered, query_name, stand_of, element_name, key_name, value_name, inner_path, or_empty, scalar_text, leaves, element_leaves, entry_leaves, member_leaves}
+use Rattle.smithy_query_codec.specs.Leaves.{Path, Leaf, Stand, flat_member, member, neither, under, numbered, query_name, stand_of, element_name, key_name, value_name, inner_path, or_empty, scalar_text, form_at, leaves, element_leaves, entry_leaves, member_leaves}
 use Rattle.smithy_query_codec.specs.Canonical.{path_text}
 use Rattle.smithy_query_codec.specs.Nulls.{holds_null, elements_hold_null, entries_hold_null, members_hold_null}
+use Rattle.smithy_query_codec.specs.Writable.{can_write, can_be_written}
 use Rattle.smithy_query_codec.specs.Writing.{Mark, QueryState, child_path, child_stand, child_count, has_room, is_placed, takes_null, innermost_key, innermost_value, child_prefix, extended, member_length, opened, made, allowed, where_taken, query_after}
 use Rattle.smithy_query_codec.proofs.PathLemmas.{AreSegments, segments-append, extended_path, cut_path}
 use Rattle.smithy_query_codec.proofs.SegmentLemmas.{name_full, decimal_full}
@@ -86,13 +88,32 @@ member_placed os view (map es) h k = tt
 member_placed os view (structure ms) h k = tt
 member_placed os view (union n v) h k = tt
 
-pub first_false : (a b : Bool) → (a || b) ≡ false → a ≡ false
-first_false true b h = h
-first_false false b h = refl
+-- the parts of a list, a map or a structure can be expressed
+abbrev pub elements_can_be_written : Site → Values → Bool
+elements_can_be_written site vs = not (elements_hold_null vs) && elements_pass can_write site vs
 
-pub second_false : (a b : Bool) → (a || b) ≡ false → b ≡ false
-second_false true b h = absurd (let e : true ≡ false = h in cc)
-second_false false b h = h
+abbrev pub entries_can_be_written : Site → MapEntries → Bool
+entries_can_be_written site es = not (entries_hold_null es) && entries_pass can_write site es
+
+abbrev pub members_can_be_written : Site → MemberValues → Bool
+members_can_be_written site vs = not (members_hold_null vs) && members_pass can_write site vs
+
+-- both parts can be expressed where the two can
+split_true : (a b p q : Bool) → (not (a || b) && (p && q)) ≡ true → ((not a && p) ≡ true) × ((not b && q) ≡ true)
+split_true false b true q h = (refl, h)
+split_true false true false q h = absurd (let e : false ≡ true = h in cc)
+split_true false false false q h = absurd (let e : false ≡ true = h in cc)
+split_true true b p q h = absurd (let e : false ≡ true = h in cc)
+
+pub element_parts : (site : Site) (v : Value) (vs : Values) → elements_can_be_written site (value v vs) ≡ true → (can_be_written site v ≡ true) × (elements_can_be_written site vs ≡ true)
+element_parts site v vs h = split_true (holds_null v) (elements_hold_null vs) (scalars_pass can_write site v) (elements_pass can_write site vs) h
+
+pub entry_parts : (site : Site) (key : List ℕ) (v : Value) (es : MapEntries) → entries_can_be_written site (map_entry key v es) ≡ true → (can_be_written site v ≡ true) × (entries_can_be_written site es ≡ true)
+entry_parts site key v es h = split_true (holds_null v) (entries_hold_null es) (scalars_pass can_write site v) (entries_pass can_write site es) h
+
+pub member_parts : (site : Site) (n : ℕ) (v : Value) (vs : MemberValues) → members_can_be_written site (member_value n v vs) ≡ true
+    → (can_be_written (member_of site n) v ≡ true) × (members_can_be_written site vs ≡ true)
+member_parts site n v vs h = split_true (holds_null v) (members_hold_null vs) (scalars_pass can_write (member_of site n) v) (members_pass can_write site vs) h
 
 -- ---- what is taken
 
@@ -245,15 +266,16 @@ map_ends o path child inner names key val k n os ms ls full =
 
 scalar_adds : (site : Site) (x : ScalarValue) (o : List ℕ) (path : Path) (names : List ℕ) (c : ℕ) (os after : List Open) (ms : List Mark) (child : Path)
     → child_path os c (innermost_key names ms) (innermost_value names ms) site.view ≡ child → AreSegments (path ++ child)
-    → is_placed os site.view ≡ true → has_room os c ≡ true → after_value os ≡ Ok after
+    → can_write site.place.time x ≡ true → is_placed os site.view ≡ true → has_room os c ≡ true → after_value os ≡ Ok after
     → query_after (scalar_of site x) (at o path names c os ms)
-    ≡ Ok (at (o ++ leaves_text (under (path ++ child) (record { path = []; text = scalar_text x } ∷ []))) path names (child_count os c) after ms)
-scalar_adds site x o path names c os after ms child is full placed room taken =
+    ≡ Ok (at (o ++ leaves_text (under (path ++ child) (record { path = []; text = scalar_text (form_at site) x } ∷ []))) path names (child_count os c) after ms)
+scalar_adds site x o path names c os after ms child is full can placed room taken =
     let s = at o path names c os ms in
-    let allows = is_allowed (is_placed os site.view && has_room os c) (after_scalar x os) after (both_true _ _ placed room) (scalar_taken x os after taken) in
+    let text = scalar_text (form_at site) x in
+    let allows = is_allowed (can_write site.place.time x && (is_placed os site.view && has_room os c)) (after_scalar x os) after (both_true _ _ can (both_true _ _ placed room)) (scalar_taken x os after taken) in
     ap (where_taken (made (scalar_of site x) s)) allows
-    ∙ ap (λ more. Ok (at (o ++ pair_text (extended (path_text path) more) (scalar_text x)) path names (child_count os c) after ms)) is
-    ∙ ap (λ t. Ok (at (o ++ t) path names (child_count os c) after ms)) (scalar_leaf path child (scalar_text x) full)
+    ∙ ap (λ more. Ok (at (o ++ pair_text (extended (path_text path) more) text) path names (child_count os c) after ms)) is
+    ∙ ap (λ t. Ok (at (o ++ t) path names (child_count os c) after ms)) (scalar_leaf path child text full)
 
 pub key_adds : (site : Site) (key : List ℕ) (o : List ℕ) (path : Path) (names k v : List ℕ) (c : ℕ) (os : List Open) (m : Mark) (ms : List Mark)
     → m.names_length ≡ length names → m.key_length ≡ length k → AreSegments (path ++ decimal (suc c) ∷ k ∷ []) → has_room (open_map_at_key ∷ os) c ≡ true
@@ -273,15 +295,15 @@ key_adds site key o path names k v c os m ms before long full room =
 mutual
   -- a value adds its leaves under the path at which it stands
   pub value_adds : (site : Site) (v : Value) (o : List ℕ) (path : Path) (names : List ℕ) (c : ℕ) (os after : List Open) (ms : List Mark) (child : Path)
-      → HasForm site v → holds_null v ≡ false
+      → HasForm site v → can_be_written site v ≡ true
       → child_path os c (innermost_key names ms) (innermost_value names ms) site.view ≡ child → AreSegments (path ++ child)
       → Placed os site.view v → has_room os c ≡ true → after_value os ≡ Ok after
       → write query_after site v (at o path names c os ms)
       ≡ Ok (at (o ++ leaves_text (under (path ++ child) (leaves site (child_stand os site.view) v))) path names (child_count os c) after ms)
-  value_adds site (scalar_value x) o path names c os after ms child form nulls is full placed room taken =
-      ap (and_run (run query_after [])) (scalar_adds site x o path names c os after ms child is full placed room taken)
-  value_adds site null_element o path names c os after ms child form nulls is full placed room taken = absurd (let e : true ≡ false = nulls in cc)
-  value_adds site (list vs) o path names c os after ms child form nulls is full placed room taken =
+  value_adds site (scalar_value x) o path names c os after ms child form can is full placed room taken =
+      ap (and_run (run query_after [])) (scalar_adds site x o path names c os after ms child is full can placed room taken)
+  value_adds site null_element o path names c os after ms child form can is full placed room taken = absurd (let e : false ≡ true = can in cc)
+  value_adds site (list vs) o path names c os after ms child form can is full placed room taken =
       let stand = child_stand os site.view in
       let inner = inner_path stand (element_name site) in
       let inside = segments-append (path ++ child) inner full (inner_segments stand (element_name site) (name_full (element_name site) form.0)) in
@@ -289,9 +311,9 @@ mutual
       call_made query_after (begin_list site (Some (count_of vs))) (element_events (element_of site) vs ++ end_list ∷ []) (at o path names c os ms) _
       (list_begun site (Some (count_of vs)) o path names c os after ms child is full inside room taken)
       ∙ step (element_events (element_of site) vs) (end_list ∷ []) _ _ _
-      (elements_add (element_of site) vs o ((path ++ child) ++ inner) names 0 after (mark path (child_count os c) o (member_length stand (length (path_text (path ++ child)))) names 0) ms form.2 nulls inside small)
+      (elements_add (element_of site) vs o ((path ++ child) ++ inner) names 0 after (mark path (child_count os c) o (member_length stand (length (path_text (path ++ child)))) names 0) ms form.2 can inside small)
       (list_ends stand o path child inner names (child_count os c) (counted 0 vs) after ms _ inside)
-  value_adds site (map es) o path names c os after ms child form nulls is full placed room taken =
+  value_adds site (map es) o path names c os after ms child form can is full placed room taken =
       let inner = inner_path (child_stand os site.view) (codes "entry") in
       let inside = segments-append (path ++ child) inner full (inner_segments (child_stand os site.view) (codes "entry") entry_full) in
       let small : 0 + entry_count es < 18446744073709551616 = omega (arith, form.1) in
@@ -301,15 +323,15 @@ mutual
       (map_begun site (Some (entry_count es)) o path names c os after ms child is full inside room taken)
       ∙ step (entry_events (key_of site) (value_of site) es) (end_map ∷ []) _ _ _
       (entries_add (key_of site) (value_of site) es o ((path ++ child) ++ inner) names key val 0 after (mark path (child_count os c) o None names (length key)) ms refl refl
-      (name_full key form.0.key_fits) (name_full val form.0.value_fits) form.2 nulls inside small)
+      (name_full key form.0.key_fits) (name_full val form.0.value_fits) form.2 can inside small)
       (map_ends o path child inner names key val (child_count os c) (counted_entries 0 es) after ms _ inside)
-  value_adds site (structure vs) o path names c os after ms child form nulls is full placed room taken =
+  value_adds site (structure vs) o path names c os after ms child form can is full placed room taken =
       call_made query_after (begin_structure site) (member_events site vs ++ end_structure ∷ []) (at o path names c os ms) _
       (structure_begun site o path names c os after ms child is full room taken)
       ∙ step (member_events site vs) (end_structure ∷ []) _ _ _
-      (members_add site vs o (path ++ child) names 0 after (mark path (child_count os c) o None names 0 ∷ ms) form nulls full)
+      (members_add site vs o (path ++ child) names 0 after (mark path (child_count os c) o None names 0 ∷ ms) form can full)
       (structure_ends o _ path child names (child_count os c) 0 after ms full)
-  value_adds site (union n v) o path names c os after ms child form nulls is full placed room taken =
+  value_adds site (union n v) o path names c os after ms child form can is full placed room taken =
       let inner = member_of site n in
       let name = option_to_list (query_name inner.view) in
       let segment : AreSegments name = rw form.0.1 (name_full form.0.0 form.0.2, tt) in
@@ -318,35 +340,35 @@ mutual
       (structure_begun site o path names c os after ms child is full room taken)
       ∙ step (events inner v) (end_structure ∷ []) _ _ _
       (value_adds inner v o (path ++ child) names 0 (open_structure ∷ after) (open_structure ∷ after) marks name
-      form.2 nulls refl (segments-append (path ++ child) name full segment) (member_placed (open_structure ∷ after) inner.view v (ap is_some form.0.1) form.1) refl refl)
+      form.2 can refl (segments-append (path ++ child) name full segment) (member_placed (open_structure ∷ after) inner.view v (ap is_some form.0.1) form.1) refl refl)
       (structure_ends o _ path child names (child_count os c) 0 after ms full)
       ∙ ap (λ xs. Ok (at (o ++ leaves_text xs) path names (child_count os c) after ms)) (sym (under-under (path ++ child) name (leaves inner (stand_of inner.view) v)))
 
   pub elements_add : (site : Site) (vs : Values) (o : List ℕ) (path : Path) (names : List ℕ) (c : ℕ) (os : List Open) (m : Mark) (ms : List Mark)
-      → ElementsHaveForm site vs → elements_hold_null vs ≡ false → AreSegments path → c + count_of vs < 18446744073709551616
+      → ElementsHaveForm site vs → elements_can_be_written site vs ≡ true → AreSegments path → c + count_of vs < 18446744073709551616
       → run query_after (element_events site vs) (at o path names c (open_list ∷ os) (m ∷ ms))
       ≡ Ok (at (o ++ leaves_text (under path (numbered (suc c) (element_leaves site vs)))) path names (counted c vs) (open_list ∷ os) (m ∷ ms))
-  elements_add site no_values o path names c os m ms form nulls full small = ap (λ t. Ok (at t path names c (open_list ∷ os) (m ∷ ms))) (sym (append-nil o))
-  elements_add site (value v vs) o path names c os m ms form nulls full small =
+  elements_add site no_values o path names c os m ms form can full small = ap (λ t. Ok (at t path names c (open_list ∷ os) (m ∷ ms))) (sym (append-nil o))
+  elements_add site (value v vs) o path names c os m ms form can full small =
       let here : c < 18446744073709551615 = omega (arith, small) in
       let less : suc c + count_of vs < 18446744073709551616 = omega (arith, small) in
       let segment : AreSegments (decimal (suc c) ∷ []) = (decimal_full (suc c) (omega (arith, here)), tt) in
       let rest = numbered (suc (suc c)) (element_leaves site vs) in
       regroup _ _ path names (counted (suc c) vs) (open_list ∷ os) (m ∷ ms) _
       (step (events site v) (element_events site vs) _ _ _
-      (value_adds site v o path names c (open_list ∷ os) (open_list ∷ os) (m ∷ ms) (decimal (suc c) ∷ []) form.0 (first_false (holds_null v) (elements_hold_null vs) nulls) refl
+      (value_adds site v o path names c (open_list ∷ os) (open_list ∷ os) (m ∷ ms) (decimal (suc c) ∷ []) form.0 (element_parts site v vs can).0 refl
       (segments-append path _ full segment) (part_placed (open_list ∷ os) site.view v refl refl) (lt-ltb c 18446744073709551615 here) refl)
-      (elements_add site vs _ path names (suc c) os m ms form.1 (second_false (holds_null v) (elements_hold_null vs) nulls) full less))
+      (elements_add site vs _ path names (suc c) os m ms form.1 (element_parts site v vs can).1 full less))
       (grouped o path (decimal (suc c) ∷ []) (leaves site neither v) rest)
 
   pub entries_add : (key_site site : Site) (es : MapEntries) (o : List ℕ) (path : Path) (names key val : List ℕ) (c : ℕ) (os : List Open) (m : Mark) (ms : List Mark)
       → m.names_length ≡ length names → m.key_length ≡ length key → key ≢ [] → val ≢ []
-      → EntriesHaveForm site es → entries_hold_null es ≡ false → AreSegments path → c + entry_count es < 18446744073709551616
+      → EntriesHaveForm site es → entries_can_be_written site es ≡ true → AreSegments path → c + entry_count es < 18446744073709551616
       → run query_after (entry_events key_site site es) (at o path ((names ++ key) ++ val) c (open_map_at_key ∷ os) (m ∷ ms))
       ≡ Ok (at (o ++ leaves_text (under path (numbered (suc c) (entry_leaves key val site es)))) path ((names ++ key) ++ val) (counted_entries c es) (open_map_at_key ∷ os) (m ∷ ms))
-  entries_add key_site site no_map_entries o path names key val c os m ms before long kf vf form nulls full small =
+  entries_add key_site site no_map_entries o path names key val c os m ms before long kf vf form can full small =
       ap (λ t. Ok (at t path ((names ++ key) ++ val) c (open_map_at_key ∷ os) (m ∷ ms))) (sym (append-nil o))
-  entries_add key_site site (map_entry k v es) o path names key val c os m ms before long kf vf form nulls full small =
+  entries_add key_site site (map_entry k v es) o path names key val c os m ms before long kf vf form can full small =
       let here : c < 18446744073709551615 = omega (arith, small) in
       let less : suc c + entry_count es < 18446744073709551616 = omega (arith, small) in
       let number = decimal_full (suc c) (omega (arith, here)) in
@@ -358,23 +380,23 @@ mutual
       (call_made query_after (scalar_of key_site (text k)) (events site v ++ entry_events key_site site es) (at o path all c (open_map_at_key ∷ os) (m ∷ ms)) _
       (key_adds key_site k o path names key val c os m ms before long key_path (lt-ltb c 18446744073709551615 here))
       ∙ step (events site v) (entry_events key_site site es) _ _ _
-      (value_adds site v _ path all (suc c) (open_map_at_value ∷ os) (open_map_at_key ∷ os) (m ∷ ms) (decimal (suc c) ∷ val ∷ []) form.0 (first_false (holds_null v) (entries_hold_null es) nulls)
+      (value_adds site v _ path all (suc c) (open_map_at_value ∷ os) (open_map_at_key ∷ os) (m ∷ ms) (decimal (suc c) ∷ val ∷ []) form.0 (entry_parts site k v es can).0
       (ap (λ x. decimal (suc c) ∷ x ∷ []) named) value_path (part_placed (open_map_at_value ∷ os) site.view v refl refl) refl refl)
-      (entries_add key_site site es _ path names key val (suc c) os m ms before long kf vf form.1 (second_false (holds_null v) (entries_hold_null es) nulls) full less))
+      (entries_add key_site site es _ path names key val (suc c) os m ms before long kf vf form.1 (entry_parts site k v es can).1 full less))
       (entry_grouped o path (decimal (suc c)) key val k (leaves site neither v) (numbered (suc (suc c)) (entry_leaves key val site es)))
 
   pub members_add : (site : Site) (vs : MemberValues) (o : List ℕ) (path : Path) (names : List ℕ) (c : ℕ) (os : List Open) (ms : List Mark)
-      → MembersHaveForm site vs → members_hold_null vs ≡ false → AreSegments path
+      → MembersHaveForm site vs → members_can_be_written site vs ≡ true → AreSegments path
       → run query_after (member_events site vs) (at o path names c (open_structure ∷ os) ms)
       ≡ Ok (at (o ++ leaves_text (under path (member_leaves site vs))) path names c (open_structure ∷ os) ms)
-  members_add site no_member_values o path names c os ms form nulls full = ap (λ t. Ok (at t path names c (open_structure ∷ os) ms)) (sym (append-nil o))
-  members_add site (member_value n v vs) o path names c os ms form nulls full =
+  members_add site no_member_values o path names c os ms form can full = ap (λ t. Ok (at t path names c (open_structure ∷ os) ms)) (sym (append-nil o))
+  members_add site (member_value n v vs) o path names c os ms form can full =
       let child = member_of site n in
       let name = option_to_list (query_name child.view) in
       let segment : AreSegments name = rw form.0.1 (name_full form.0.0 form.0.2, tt) in
       regroup _ _ path names c (open_structure ∷ os) ms _
       (step (events child v) (member_events site vs) _ _ _
-      (value_adds child v o path names c (open_structure ∷ os) (open_structure ∷ os) ms name form.2 (first_false (holds_null v) (members_hold_null vs) nulls) refl
+      (value_adds child v o path names c (open_structure ∷ os) (open_structure ∷ os) ms name form.2 (member_parts site n v vs can).0 refl
       (segments-append path name full segment) (member_placed (open_structure ∷ os) child.view v (ap is_some form.0.1) form.1) refl refl)
-      (members_add site vs _ path names c os ms form.3 (second_false (holds_null v) (members_hold_null vs) nulls) full))
+      (members_add site vs _ path names c os ms form.3 (member_parts site n v vs can).1 full))
       (grouped o path name (leaves child (stand_of child.view) v) (member_leaves site vs))

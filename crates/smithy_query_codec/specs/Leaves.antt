@@ -4,9 +4,13 @@ use Rattle.std.specs.Option.{option_map_or}
 use Rattle.std.specs.Fmt.{signed_decimal}
 use Rattle.smithy_texts.specs.Base64Text.{blob_text}
 use Rattle.smithy_texts.specs.Decimal.{decimal_text}
+use Rattle.smithy_instants.specs.WrittenDate.{date_text}
+use Rattle.smithy_schema.specs.declared.shape_type.TimestampFormat.{TimestampFormat}
+use Rattle.smithy_schema.specs.declared.shape_type.TimestampFormat.TheVariants.{DateTime}
+use Rattle.smithy_schema.specs.TimeForms.{format_of, form_or}
 use Rattle.smithy_schema.specs.Table.{list_shape_of, map_shape_of, element_name_of, key_name_of, value_name_of}
 use Rattle.smithy_schema.specs.Site.{Site, View, kind_at, element_of, value_of, member_of}
-use Rattle.smithy_schema.specs.Value.{ScalarValue, boolean, whole, text, bytes, decimal as decimal_value, Value, scalar_value, list, map, structure, union, null_element, Values, no_values, value, MapEntries, no_map_entries, map_entry, MemberValues, no_member_values, member_value}
+use Rattle.smithy_schema.specs.Value.{ScalarValue, boolean, whole, text, bytes, decimal as decimal_value, instant, Value, scalar_value, list, map, structure, union, null_element, Values, no_values, value, MapEntries, no_map_entries, map_entry, MemberValues, no_member_values, member_value}
 
 -- segments, outermost first
 abbrev pub Path : Type 0
@@ -68,14 +72,20 @@ or_empty member (l ∷ leaves) = l ∷ leaves
 or_empty flat_member [] = leaf [] ∷ []
 or_empty flat_member (l ∷ leaves) = l ∷ leaves
 
--- the text of a scalar, before it is percent-encoded
-abbrev pub scalar_text : ScalarValue → List ℕ
-scalar_text (boolean true) = codes "true"
-scalar_text (boolean false) = codes "false"
-scalar_text (whole n) = signed_decimal n
-scalar_text (text s) = s
-scalar_text (bytes b) = blob_text b
-scalar_text (decimal_value m e) = decimal_text m e
+-- the text of a scalar, before it is percent-encoded, where instants have this form
+abbrev pub scalar_text : TimestampFormat → ScalarValue → List ℕ
+scalar_text form (boolean true) = codes "true"
+scalar_text form (boolean false) = codes "false"
+scalar_text form (whole n) = signed_decimal n
+scalar_text form (text s) = s
+scalar_text form (bytes b) = blob_text b
+scalar_text form (decimal_value m e) = decimal_text m e
+-- where the form can't write the instant, its text counts as empty
+scalar_text form (instant n) = unwrap_or (date_text (format_of form) n) []
+
+-- the form of instants at a site: a date-time where it has none
+abbrev pub form_at : Site → TimestampFormat
+form_at site = form_or DateTime site.place.time
 
 -- the leaves of an entry: its key, and those of its value
 abbrev pub entry_part : List ℕ → List ℕ → List ℕ → List Leaf → List Leaf
@@ -86,7 +96,7 @@ entry_part key_name value_name key leaves =
 -- counted from 1. A union is a structure of its one member. Paths begin at the value.
 abbrev mutual
   pub leaves : Site → Stand → Value → List Leaf
-  leaves site stand (scalar_value x) = leaf (scalar_text x) ∷ []
+  leaves site stand (scalar_value x) = leaf (scalar_text (form_at site) x) ∷ []
   leaves site stand (list vs) =
       or_empty stand (under (inner_path stand (element_name site)) (numbered 1 (element_leaves (element_of site) vs)))
   leaves site stand (map es) =

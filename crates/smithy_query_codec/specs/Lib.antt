@@ -2,6 +2,7 @@
 pub mod Leaves
 pub mod Canonical
 pub mod Nulls
+pub mod Writable
 pub mod Counts
 pub mod Distinct
 -- for contracts

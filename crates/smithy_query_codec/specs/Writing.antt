@@ -7,7 +7,8 @@ use Rattle.smithy_schema.specs.declared.error.SerdeError.TheVariants.{Unwritable
 use Rattle.smithy_schema.specs.Site.{Site, View}
 use Rattle.smithy_schema.specs.Writing.{Event, Writer, begin_structure, end_structure, begin_list, end_list, begin_map, end_map, null_of, scalar_of, big_integer_of, big_decimal_of, Open, open_structure, open_list, open_map_at_key, open_map_at_value, open_after}
 use Rattle.smithy_query.specs.Form.{pair_text, form_head}
-use Rattle.smithy_query_codec.specs.Leaves.{Path, Stand, flat_member, member, neither, query_name, stand_of, element_name, key_name, value_name, inner_path, scalar_text}
+use Rattle.smithy_query_codec.specs.Leaves.{Path, Stand, flat_member, member, neither, query_name, stand_of, element_name, key_name, value_name, inner_path, scalar_text, form_at}
+use Rattle.smithy_query_codec.specs.Writable.{can_write}
 
 -- what was there before a container was begun, for when it ends
 pub record Mark : Type 0 where
@@ -197,7 +198,7 @@ made end_list s opens = list_closed s opens
 made (begin_map site length) s opens = map_opened s site opens
 made end_map s opens = closed s s.marks opens
 made (null_of site) s opens = record s { opens = opens }
-made (scalar_of site x) s opens = wrote s site.view (scalar_text x) opens
+made (scalar_of site x) s opens = wrote s site.view (scalar_text (form_at site) x) opens
 made (big_integer_of site written) s opens = wrote s site.view written opens
 made (big_decimal_of site written) s opens = wrote s site.view written opens
 
@@ -209,7 +210,8 @@ can_take (begin_structure site) s = has_room s.opens s.count
 can_take (begin_list site length) s = has_room s.opens s.count
 can_take (begin_map site length) s = has_room s.opens s.count
 can_take (null_of site) s = takes_null s.opens
-can_take (scalar_of site x) s = is_placed s.opens site.view && has_room s.opens s.count
+can_take (scalar_of site x) s =
+    can_write site.place.time x && (is_placed s.opens site.view && has_room s.opens s.count)
 can_take (big_integer_of site written) s = is_placed s.opens site.view && has_room s.opens s.count
 can_take (big_decimal_of site written) s = is_placed s.opens site.view && has_room s.opens s.count
 can_take _ s = true

@@ -4,6 +4,7 @@ ghost use Rattle.smithy_schema.specs.declared.error.SerdeError.TheVariants.{Fail
 ghost use Rattle.smithy_schema.specs.Reading.{IsFault};
 ghost use Rattle.smithy_schema.specs.Site.{site_of};
 ghost use Rattle.smithy_schema.specs.Writing.{after_value, after_text};
+ghost use Rattle.smithy_query_codec.specs.Leaves.{form_at};
 ghost use Rattle.smithy_query_codec.specs.Writing.{QueryState, fresh_state, child_count, child_prefix, has_room as is_room, is_placed as is_place, is_key_due as is_key_place, wrote, allowed, where_taken, query_after};
 ghost use Rattle.smithy_query_codec.specs.Serializing.{mark_of, state_of, has_failed};
 
@@ -15,8 +16,8 @@ use crate::names::{element_name, key_name, value_name};
 use crate::numbers::decimal_text;
 use crate::path::{front, push_head, push_inner, push_pair};
 use itoa::Buffer;
-use smithy_schema::{FinishSerializer, Schema, SerdeError, ShapeSerializer};
-use smithy_types::{BigDecimal, BigInteger, base64};
+use smithy_schema::{FinishSerializer, Schema, SerdeError, ShapeSerializer, TimestampFormat};
+use smithy_types::{BigDecimal, BigInteger, DateTime, base64};
 use std::alloc::{AllocError, Global};
 
 /// Writes one form: Action, Version, and the leaves of a value, each as `&`, its path, `=` and its text.
@@ -32,6 +33,15 @@ pub struct QueryShapeSerializer {
     stack: Vec<OpenContainer>,
     // From the beginning of a call until it is done, and for good where it is refused.
     failed: bool,
+}
+
+// The form of instants at a place: a date-time where it has none.
+fn form_at(schema: &Schema<'_>) -> TimestampFormat
+    ensures { result ≡ form_at (site_of schema.now) }
+{
+    schema
+        .timestamp_format()
+        .unwrap_or(TimestampFormat::DateTime)
 }
 
 impl QueryShapeSerializer {
@@ -392,6 +402,17 @@ impl ShapeSerializer for QueryShapeSerializer {
         value: &BigDecimal,
     ) -> Result<(), SerdeError> {
         self.write_text(schema, value.as_ref())
+    }
+
+    fn write_timestamp(&mut self, schema: &Schema<'_>, value: &DateTime) -> Result<(), SerdeError> {
+        if self.failed {
+            return Err(SerdeError::Failed);
+        }
+        self.failed = true;
+        let form = form_at(schema);
+        let text = form.text_of(*self.out.allocator(), value)?;
+        self.failed = false;
+        self.write_text(schema, text.as_str())
     }
 }
 

@@ -18,3 +18,6 @@ pub mod NamedLemmas
 pub mod SiteLemmas
 mod MembersLemmas
 pub mod ScalarLemmas
+pub mod TimeFormLemmas
+pub mod InstantLemmas
+pub mod InstantTexts

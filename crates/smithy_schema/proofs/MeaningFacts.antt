@@ -1,11 +1,18 @@
 -- Examples of what entries mean together, and of tables and views, by computing.
-use Rattle.std.proofs.Common.{◌≡◌, ℕ, List, [], ◌∷◌, map, Bool, true, false, Option, Some, None, option_map, refl, pos, neg_ℤ, codes, ◌+◌, ◌-◌, ◌^◌, Result, Ok, Err}
+use Rattle.std.proofs.Common.{◌≡◌, ℕ, ℤ, List, [], ◌∷◌, map, Bool, true, false, Option, Some, None, option_map, refl, pos, neg_ℤ, codes, ◌+◌, ◌-◌, ◌*◌, ◌^◌, Result, Ok, Err}
 use Rattle.smithy_schema.specs.declared.error.SerdeError.{SerdeError}
 use Rattle.smithy_schema.specs.declared.error.SerdeError.TheVariants.{Unwritable}
+use Rattle.smithy_schema.specs.declared.place.Place.{Place}
 use Rattle.smithy_schema.specs.declared.shape_type.Scalar.TheVariants as scalars
+use Rattle.smithy_schema.specs.declared.shape_type.TimestampFormat.{TimestampFormat}
+use Rattle.smithy_schema.specs.declared.shape_type.TimestampFormat.TheVariants.{EpochSeconds, DateTime, HttpDate}
+use Rattle.smithy_instants.specs.declared.format.Format.TheVariants as formats
+use Rattle.smithy_instants.proofs.OnLiterals.{smithy_instants_on_literals}
+use Rattle.smithy_schema.specs.TimeForms.{format_of, form_or, form_writes, form_holds}
+use Rattle.smithy_schema.specs.ScalarTest.{scalars_pass}
 use Rattle.smithy_schema.specs.Table as table
 use Rattle.smithy_schema.specs.Table.{Table, Member, ListShape, MapShape, Kind, scalar, structure_of, union_of, list_of, map_of, nothing, kind_of, place_in, is_sparse, position_named, json_name_of, query_name_of, element_name_of, key_name_of, value_name_of, declared_as, scalar_place, shape_place}
-use Rattle.smithy_schema.specs.Value.{ScalarValue, boolean, Value, scalar_value, whole, text, bytes, decimal, list, map as map_value, structure, union, null_element, no_values, value, no_map_entries, map_entry, no_member_values, member_value}
+use Rattle.smithy_schema.specs.Value.{ScalarValue, boolean, Value, scalar_value, whole, text, bytes, decimal, instant, list, map as map_value, structure, union, null_element, no_values, value, no_map_entries, map_entry, no_member_values, member_value}
 use Rattle.smithy_schema.specs.Fits.{is_of}
 use Rattle.smithy_schema.specs.Container.{Entry, container_of}
 use Rattle.smithy_schema.specs.Site.{Site, shape_site, member_site, element_site, inner_site, key_site, nameless_site, member_named, element_of, key_of, value_of, member_of}
@@ -299,6 +306,64 @@ pub decimals : map (is_of scalars.BigDecimal)
     ∷ decimal (pos (2 ^ 127)) (pos 0) ∷ decimal (pos 0) (neg_ℤ (pos (2 ^ 63))) ∷ whole (pos 1) ∷ [])
     ≡ true ∷ true ∷ false ∷ false ∷ false ∷ []
 decimals = refl
+
+-- the seconds of an instant, rounded down, are a number of 64 bits, and an instant is no whole number
+pub instants : map (is_of scalars.Timestamp)
+    (instant (pos (2 ^ 63 * 1_000_000_000 - 1)) ∷ instant (neg_ℤ (pos (2 ^ 63 * 1_000_000_000))) ∷ instant (neg_ℤ (pos 1))
+    ∷ instant (pos (2 ^ 63 * 1_000_000_000)) ∷ instant (neg_ℤ (pos (2 ^ 63 * 1_000_000_000 + 1))) ∷ whole (pos 1) ∷ [])
+    ≡ true ∷ true ∷ true ∷ false ∷ false ∷ false ∷ []
+instants = refl
+
+pub no_instants : map (λ s. is_of s (instant (pos 1))) (scalars.Long ∷ scalars.BigInteger ∷ scalars.BigDecimal ∷ scalars.String ∷ []) ≡ false ∷ false ∷ false ∷ false ∷ []
+no_instants = refl
+
+-- ---- time forms, and tests of the scalars of a value
+
+-- each form as one of texts, and the one that counts at a place
+pub forms : (map format_of (EpochSeconds ∷ DateTime ∷ HttpDate ∷ []) ≡ formats.EpochSeconds ∷ formats.DateTime ∷ formats.HttpDate ∷ [])
+    × (map (form_or DateTime) (None ∷ Some HttpDate ∷ Some EpochSeconds ∷ []) ≡ DateTime ∷ HttpDate ∷ EpochSeconds ∷ [])
+forms = (refl, refl)
+
+-- of a date the year is from 0 to 9999; a date-time holds microseconds, an http-date seconds, and seconds any instant
+pub written_in_forms : map (λ form. map (λ n. form_writes form (instant n)) (pos 1 ∷ pos 253_402_300_800_000_000_000 ∷ neg_ℤ (pos 62_167_219_200_000_000_001) ∷ []))
+    (EpochSeconds ∷ DateTime ∷ HttpDate ∷ []) ≡ (true ∷ true ∷ true ∷ []) ∷ (true ∷ false ∷ false ∷ []) ∷ (true ∷ false ∷ false ∷ []) ∷ []
+unfolding smithy_instants_on_literals
+written_in_forms = refl
+
+pub held_by_forms : map (λ form. map (λ n. form_holds form (instant n)) (pos 1_000_000_000 ∷ pos 1_000 ∷ pos 1 ∷ pos 253_402_300_800_000_000_000 ∷ []))
+    (EpochSeconds ∷ DateTime ∷ HttpDate ∷ [])
+    ≡ (true ∷ true ∷ true ∷ true ∷ []) ∷ (true ∷ true ∷ false ∷ false ∷ []) ∷ (true ∷ false ∷ false ∷ false ∷ []) ∷ []
+unfolding smithy_instants_on_literals
+held_by_forms = refl
+
+abbrev of_place : List ℕ → Place → Member
+of_place name place = record { name = name; json_name = None; xml_name = None; is_flat = false; place = place }
+
+abbrev in_form : Option TimestampFormat → Place
+in_form time = scalar_place scalars.Timestamp time
+
+-- structure S / member e timestamp / member h timestamp time=http-date / member l L / member m M / member u U;
+-- list L timestamp time=date-time; map M timestamp time=http-date; union U / member h timestamp time=http-date
+abbrev timed : Table
+timed =
+    map (λ shape. record { name = []; shape = shape })
+    (table.structure (of_place (codes "e") (in_form None) ∷ of_place (codes "h") (in_form (Some HttpDate)) ∷ of_place (codes "l") (shape_place 1) ∷ of_place (codes "m") (shape_place 2) ∷ of_place (codes "u") (shape_place 3) ∷ [])
+    ∷ table.list (record { place = in_form (Some DateTime); is_sparse = true; xml_name = None })
+    ∷ table.map (record { place = in_form (Some HttpDate); is_sparse = false; key_name = None; value_name = None })
+    ∷ table.union (of_place (codes "h") (in_form (Some HttpDate)) ∷ []) ∷ [])
+
+-- every instant is tested by the form of its own place: one of a nanosecond past its second stands at a place without a form alone
+abbrev instant_at : ℤ → Value
+instant_at n = scalar_value (instant n)
+
+pub tested : map (λ (m : ℕ × Value). scalars_pass (λ time x. form_holds (form_or EpochSeconds time) x) (shape_site timed 0) (structure (member_value m.0 m.1 no_member_values)))
+    ((0, instant_at (pos 1)) ∷ (1, instant_at (pos 1)) ∷ (1, instant_at (pos 0))
+    ∷ (2, list (value (instant_at (pos 1_000)) (value null_element no_values))) ∷ (2, list (value (instant_at (pos 0)) (value (instant_at (pos 1)) no_values)))
+    ∷ (3, map_value (map_entry [] (instant_at (pos 1_000)) no_map_entries)) ∷ (3, map_value (map_entry [] (instant_at (pos 0)) no_map_entries))
+    ∷ (4, union 0 (instant_at (pos 1_000))) ∷ (4, union 0 (instant_at (pos 0))) ∷ [])
+    ≡ true ∷ false ∷ true ∷ true ∷ false ∷ false ∷ true ∷ false ∷ true ∷ []
+unfolding smithy_instants_on_literals
+tested = refl
 
 -- ---- the calls that write a value
 

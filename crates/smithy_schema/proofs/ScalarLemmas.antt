@@ -6,10 +6,11 @@ use Rattle.std.proofs.lemmas.Int.{ints}
 use Rattle.std.proofs.lemmas.Str.{IsUtf8-from_is_utf8}
 use Rattle.smithy_texts.specs.Base64Text.{are_bytes}
 use Rattle.smithy_texts.specs.Ranges.{fits_signed, is_exponent}
+use Rattle.smithy_instants.specs.Instant.{is_instant}
 use Rattle.smithy_schema.specs.declared.shape_type.Scalar.{Scalar}
 use Rattle.smithy_schema.specs.declared.shape_type.Scalar.TheVariants as scalars
 use Rattle.smithy_schema.specs.Table.{Kind, scalar}
-use Rattle.smithy_schema.specs.Value.{ScalarValue, whole, text, bytes, decimal}
+use Rattle.smithy_schema.specs.Value.{ScalarValue, whole, text, bytes, decimal, instant}
 use Rattle.smithy_schema.specs.Fits.{is_of, is_scalar_of}
 
 -- where a scalar value stands, the kind is one of scalars
@@ -43,6 +44,11 @@ whole_fits _ n h = cc
 pub decimal_fits : (s : Scalar) (m e : ℤ) → is_of s (decimal m e) ≡ true → (fits_signed 128 m ≡ true) × (is_exponent e ≡ true)
 decimal_fits scalars.BigDecimal m e h = and_parts (fits_signed 128 m) (is_exponent e) h
 decimal_fits _ m e h = cc
+
+-- the seconds of an instant of any kind fit 64 bits
+pub instant_fits : (s : Scalar) (n : ℤ) → is_of s (instant n) ≡ true → is_instant n ≡ true
+instant_fits scalars.Timestamp n h = h
+instant_fits _ n h = cc
 
 -- a text of any kind is in UTF-8
 pub text_is_utf8 : (s : Scalar) (t : List ℕ) → is_of s (text t) ≡ true → IsUtf8 t

@@ -190,9 +190,18 @@ equals_in_a_text = refl
 -- ---- refused declarations
 
 -- a target that no table can have yet
-pub no_instant_yet : table_of (lines ("structure S" ∷ "member a timestamp" ∷ [])) ≡ refused Fault.not_built 1
+pub no_document_yet : table_of (lines ("structure S" ∷ "member a document" ∷ [])) ≡ refused Fault.not_built 1
 unfolding smithy_schema_on_literals
-no_instant_yet = refl
+no_document_yet = refl
+
+-- instants are targets, with a time form or with none, and no names of declarations
+pub instants_are_built : table_of (lines ("structure S" ∷ "member a timestamp" ∷ "list L timestamp time=http-date" ∷ "map M float" ∷ [])) ≡ refused Fault.float_shape 3
+unfolding smithy_schema_on_literals
+instants_are_built = refl
+
+pub timestamp_is_reserved : table_of (lines ("structure S" ∷ "union timestamp" ∷ [])) ≡ refused Fault.duplicate_shape 2
+unfolding smithy_schema_on_literals
+timestamp_is_reserved = refl
 
 -- big numbers are targets, and no names of declarations
 pub big_numbers_are_built : table_of (lines ("structure S" ∷ "member a bigInteger" ∷ "list L bigDecimal" ∷ "map M float" ∷ [])) ≡ refused Fault.float_shape 3
@@ -204,13 +213,13 @@ unfolding smithy_schema_on_literals
 big_integer_is_reserved = refl
 
 -- nor can a union's member or a map's values have one
-pub no_document_yet : table_of (lines ("union U" ∷ "member a document" ∷ [])) ≡ refused Fault.not_built 1
+pub no_variant_yet : table_of (lines ("union U" ∷ "member a document" ∷ [])) ≡ refused Fault.not_built 1
 unfolding smithy_schema_on_literals
-no_document_yet = refl
+no_variant_yet = refl
 
-pub no_timestamp_yet : table_of (lines ("structure S" ∷ "map M timestamp" ∷ [])) ≡ refused Fault.not_built 2
+pub no_value_yet : table_of (lines ("structure S" ∷ "map M document" ∷ [])) ≡ refused Fault.not_built 2
 unfolding smithy_schema_on_literals
-no_timestamp_yet = refl
+no_value_yet = refl
 
 -- a target that is neither a scalar nor declared
 pub no_such_target : table_of (lines ("structure S" ∷ "member a b" ∷ [])) ≡ refused Fault.unknown_target 1
@@ -233,7 +242,7 @@ unfolding smithy_schema_on_literals
 double_target = refl
 
 -- what isn't built comes before a float
-pub unbuilt_before_float : table_of (lines ("list L float" ∷ "map M timestamp" ∷ [])) ≡ refused Fault.not_built 2
+pub unbuilt_before_float : table_of (lines ("list L float" ∷ "map M document" ∷ [])) ≡ refused Fault.not_built 2
 unfolding smithy_schema_on_literals
 unbuilt_before_float = refl
 

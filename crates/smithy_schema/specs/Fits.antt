@@ -6,11 +6,12 @@ use Rattle.std.specs.Cmp.Lexicographic.{slice_cmp}
 use Rattle.std.specs.Str.{is_utf8}
 use Rattle.smithy_texts.specs.Base64Text.{are_bytes}
 use Rattle.smithy_texts.specs.Ranges.{fits_signed, is_exponent}
+use Rattle.smithy_instants.specs.Instant.{is_instant}
 use Rattle.smithy_schema.specs.declared.place.Place.{Place}
 use Rattle.smithy_schema.specs.declared.shape_type.Scalar.{Scalar}
 use Rattle.smithy_schema.specs.declared.shape_type.Scalar.TheVariants as scalars
 use Rattle.smithy_schema.specs.Table.{Table, Kind, scalar, kind_of, place_in, is_sparse, IsList, IsMap, IsStructure, IsUnion}
-use Rattle.smithy_schema.specs.Value.{ScalarValue, boolean, whole, text, bytes, decimal, Value, scalar_value, list, map, structure, union, null_element, Values, no_values, value, MapEntries, no_map_entries, map_entry, MemberValues, no_member_values, member_value}
+use Rattle.smithy_schema.specs.Value.{ScalarValue, boolean, whole, text, bytes, decimal, instant, Value, scalar_value, list, map, structure, union, null_element, Values, no_values, value, MapEntries, no_map_entries, map_entry, MemberValues, no_member_values, member_value}
 
 -- the scalar values of a kind
 abbrev pub is_of : Scalar → ScalarValue → Bool
@@ -21,6 +22,7 @@ is_of scalars.Integer (whole n) = fits_signed 32 n
 is_of scalars.Long (whole n) = fits_signed 64 n
 is_of scalars.String (text s) = is_utf8 s
 is_of scalars.Blob (bytes b) = are_bytes b
+is_of scalars.Timestamp (instant n) = is_instant n
 is_of scalars.BigInteger (whole n) = fits_signed 128 n
 is_of scalars.BigDecimal (decimal m e) = fits_signed 128 m && is_exponent e
 is_of _ _ = false

@@ -13,6 +13,8 @@ pub mod Limits
 pub mod Site
 pub mod Reading
 pub mod Writing
+pub mod TimeForms
+pub mod ScalarTest
 -- what the types of the program stand for
 pub mod Views
 pub mod DeclViews

@@ -12,12 +12,12 @@ abbrev pub scalar_names : List (List ℕ × Scalar)
 scalar_names =
     (codes "boolean", scalars.Boolean) ∷ (codes "byte", scalars.Byte) ∷ (codes "short", scalars.Short)
     ∷ (codes "integer", scalars.Integer) ∷ (codes "long", scalars.Long) ∷ (codes "string", scalars.String)
-    ∷ (codes "blob", scalars.Blob) ∷ (codes "bigInteger", scalars.BigInteger)
-    ∷ (codes "bigDecimal", scalars.BigDecimal) ∷ []
+    ∷ (codes "blob", scalars.Blob) ∷ (codes "timestamp", scalars.Timestamp)
+    ∷ (codes "bigInteger", scalars.BigInteger) ∷ (codes "bigDecimal", scalars.BigDecimal) ∷ []
 
 -- the names of the scalars that a table can't have yet
 abbrev pub unbuilt_names : List (List ℕ)
-unbuilt_names = codes "timestamp" ∷ codes "document" ∷ []
+unbuilt_names = codes "document" ∷ []
 
 -- the names of the scalars that no table can have
 abbrev pub float_names : List (List ℕ)

@@ -5,7 +5,7 @@ use Rattle.smithy_schema.specs.declared.shape_type.Scalar.{Scalar}
 use Rattle.smithy_schema.specs.declared.read.Step.{Step}
 use Rattle.smithy_schema.specs.declared.read.Step.TheVariants.{Member as ToMember, Unknown, End}
 use Rattle.smithy_schema.specs.declared.error.SerdeError.{SerdeError}
-use Rattle.smithy_schema.specs.declared.error.SerdeError.TheVariants.{InvalidInput, TooDeep, TooWide, Unwritable, Failed, NoMemory}
+use Rattle.smithy_schema.specs.declared.error.SerdeError.TheVariants.{InvalidInput, TooDeep, TooWide, NotCarried, Unwritable, Failed, NoMemory}
 use Rattle.smithy_schema.specs.Table.{Table, Kind, structure_of, union_of, list_of, map_of, kind_of, place_in, scalar_place, IsStructure, IsSparse}
 use Rattle.smithy_schema.specs.Value.{ScalarValue, Value, scalar_value}
 use Rattle.smithy_schema.specs.Fits.{Fits}
@@ -62,6 +62,8 @@ pub record Relations : Type 1 where
   pub skips : List ℕ → ℕ → ℕ → ℕ → Type 0
   -- from a to e stands a big number of the place's kind that leaves the limits of the kind
   pub exceeds : List ℕ → Table → Place → ℕ → ℕ → ℕ → Type 0
+  -- from a to e stands what the place's kind can't carry
+  pub uncarried : List ℕ → Table → Place → ℕ → ℕ → ℕ → Type 0
   -- a container of the place begins at a, and its inside at b with a mark
   pub opens : List ℕ → Table → Place → ℕ → ℕ → ℕ → Mark → Type 0
   -- from b on with a mark the next entry that isn't dropped has a key, or none in a list, and its
@@ -234,6 +236,7 @@ abbrev pub IsFault : SerdeError → Type 0
 IsFault InvalidInput = Unit {0}
 IsFault TooDeep = Unit {0}
 IsFault TooWide = Unit {0}
+IsFault NotCarried = Unit {0}
 IsFault Unwritable = Unit {0}
 IsFault Failed = ⊥
 IsFault NoMemory = ⊥
@@ -248,6 +251,7 @@ IsInvalid (Ok x) = ⊥
 IsInvalid (Err InvalidInput) = Unit {0}
 IsInvalid (Err TooDeep) = ⊥
 IsInvalid (Err TooWide) = ⊥
+IsInvalid (Err NotCarried) = ⊥
 IsInvalid (Err Unwritable) = ⊥
 IsInvalid (Err Failed) = ⊥
 IsInvalid (Err NoMemory) = ⊥
@@ -258,9 +262,14 @@ IsNoAnswer (Ok x) = ⊥
 IsNoAnswer (Err InvalidInput) = Unit {0}
 IsNoAnswer (Err TooDeep) = ⊥
 IsNoAnswer (Err TooWide) = ⊥
+IsNoAnswer (Err NotCarried) = ⊥
 IsNoAnswer (Err Unwritable) = ⊥
 IsNoAnswer (Err Failed) = Unit {0}
 IsNoAnswer (Err NoMemory) = Unit {0}
+
+-- no scalar is refused: neither one that leaves the limits of its kind nor one that the kind can't carry
+abbrev pub RefusesNoScalar : {A : Type 0} → Result A SerdeError → Type 0
+RefusesNoScalar result = (IsErrOf result TooWide → ⊥) × (IsErrOf result NotCarried → ⊥)
 
 -- the cursor after a refusal: it stays where it is, and has failed
 abbrev pub failed_at : Cursor → Cursor
@@ -298,6 +307,10 @@ StandsNot w c t p = (v : Value) (e : ℕ) → w.stands c.input t p (depth c) c.a
 abbrev pub Exceeds : Relations → Cursor → Table → Place → Type 0
 Exceeds w c t p = (e : ℕ) × w.exceeds c.input t p (depth c) c.at e
 
+-- what the place's kind can't carry stands where the reader is
+abbrev pub Uncarried : Relations → Cursor → Table → Place → Type 0
+Uncarried w c t p = (e : ℕ) × w.uncarried c.input t p (depth c) c.at e
+
 -- the second place lies so many steps inside of the first, each to a member, an element or a map's value
 abbrev pub IsInside : Table → Place → ℕ → Place → Type 0
 IsInside t p zero q = q ≡ p
@@ -307,11 +320,16 @@ IsInside t p (suc k) q = (child : Place) × (n : Option ℕ) × (place_in (kind_
 abbrev pub ExceedsInside : Relations → Cursor → Cursor → Table → Place → Type 0
 ExceedsInside w old new t p = (q : Place) × (k : ℕ) × (depth new ≡ depth old + k) × IsInside t p k q × Exceeds w new t q
 
+-- the same of what the place's kind can't carry
+abbrev pub UncarriedInside : Relations → Cursor → Cursor → Table → Place → Type 0
+UncarriedInside w old new t p = (q : Place) × (k : ℕ) × (depth new ≡ depth old + k) × IsInside t p k q × Uncarried w new t q
+
 -- What a read of one scalar kind says of its answer: by the relations w, and by u, those with the limits lifted.
 pub record ReadsScalar {A : Type 0} (w u : Relations) (is_strict : Type 0) (old new : Cursor) (site : Site) (s : Scalar) (value : A → ScalarValue) (result : Result A SerdeError) : Type 0 where
   pub conduct : Conducts old new result
   pub shallow : IsErrOf result TooDeep → ⊥
   pub wide : IsErrOf result TooWide → Exceeds w old site.table (scalar_place s site.place.time)
+  pub uncarried : IsErrOf result NotCarried → Uncarried w old site.table (scalar_place s site.place.time)
   pub undue : old.due ≡ false → IsNoAnswer result
   pub ok : IfOk result (λ x. Reads w old new site.table (scalar_place s site.place.time) (scalar_value (value x)))
   pub refused : IsRefused result → old.due ≡ true → StandsNot w old site.table (scalar_place s site.place.time)
@@ -322,6 +340,13 @@ abbrev pub AnswersWide : {A : Type 0} → Relations → Cursor → Site → Scal
 AnswersWide w old site s result =
     old.due ≡ true → old.failed ≡ false → Exceeds w old site.table (scalar_place s site.place.time)
     → IsErrOf result TooWide ⊎ IsErrOf result NoMemory
+
+-- A read of a kind that can't carry all that is written like it answers `NotCarried` wherever such a thing stands, want of
+-- memory aside.
+abbrev pub AnswersUncarried : {A : Type 0} → Relations → Cursor → Site → Scalar → Result A SerdeError → Type 0
+AnswersUncarried w old site s result =
+    old.due ≡ true → old.failed ≡ false → Uncarried w old site.table (scalar_place s site.place.time)
+    → IsErrOf result NotCarried ⊎ IsErrOf result NoMemory
 
 abbrev pub OpensNot : Relations → Cursor → Table → Place → Type 0
 OpensNot w c t p = (b : ℕ) (m : Mark) → w.opens c.input t p (depth c) c.at b m → ⊥

@@ -117,6 +117,7 @@ scalar_type scalars.Integer = types.Integer
 scalar_type scalars.Long = types.Long
 scalar_type scalars.String = types.String
 scalar_type scalars.Blob = types.Blob
+scalar_type scalars.Timestamp = types.Timestamp
 scalar_type scalars.BigInteger = types.BigInteger
 scalar_type scalars.BigDecimal = types.BigDecimal
 

@@ -13,6 +13,8 @@ pub data ScalarValue : Type 0 where
   bytes : List ℕ → ScalarValue
   -- mantissa and exponent, as they are given: 12300 and -4 is another value than 123 and -2
   decimal : ℤ → ℤ → ScalarValue
+  -- in nanoseconds from 1970-01-01T00:00:00Z on
+  instant : ℤ → ScalarValue
 
 -- the text that a scalar is, if it is one
 abbrev pub text_in : ScalarValue → Option (List ℕ)

@@ -17,6 +17,9 @@ pub enum SerdeError {
     /// A big number stands here that leaves the limits of its kind, or is to be written and leaves those of the wire.
     #[error("TooWide")]
     TooWide,
+    /// What stands here is a number that a timestamp doesn't carry, as a float or a part of a nanosecond.
+    #[error("NotCarried")]
+    NotCarried,
     /// The value or the state of the writer is one that the wire can't write.
     #[error("Unwritable")]
     Unwritable,

@@ -17,6 +17,7 @@ mod shapes;
 mod table_text;
 #[cfg(test)]
 mod tests;
+mod time_forms;
 mod write;
 
 pub use decl::{Decl, MemberDecl};

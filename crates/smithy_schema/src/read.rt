@@ -7,14 +7,14 @@ ghost use Rattle.smithy_texts.specs.Decimal.{mantissa, net_exponent};
 ghost use Rattle.smithy_schema.specs.declared.place.Place.{Place};
 ghost use Rattle.smithy_schema.specs.declared.shape_type.Scalar.TheVariants as scalars;
 ghost use Rattle.smithy_schema.specs.Table.{Table, kind_of, IsStructure, HasMembers, IsList, IsMap};
-ghost use Rattle.smithy_schema.specs.Value.{Value, boolean, whole, text, bytes, decimal};
+ghost use Rattle.smithy_schema.specs.Value.{Value, boolean, whole, text, bytes, decimal, instant};
 ghost use Rattle.smithy_schema.specs.Site.{site_of, kind_at};
-ghost use Rattle.smithy_schema.specs.Reading.{ReadsScalar, AnswersWide, Cursor, depth, Relations, Mark, IsLawful, StandsFit, CountsOpeners, IsBelow, Conducts, Passes, Enters, Steps, Leaves, MatchStep, CannotGoOn, OpensNot, SkipsNot, NullsNot, ReachesDepth, null_is_due, IsRefused, IsInvalid, IsNoAnswer, failed_at, passed_to, in_structure, in_list, in_map};
-ghost use Rattle.smithy_schema.specs.declared.error.SerdeError.TheVariants.{TooDeep, TooWide, NoMemory};
+ghost use Rattle.smithy_schema.specs.Reading.{ReadsScalar, AnswersWide, AnswersUncarried, RefusesNoScalar, Cursor, depth, Relations, Mark, IsLawful, StandsFit, CountsOpeners, IsBelow, Conducts, Passes, Enters, Steps, Leaves, MatchStep, CannotGoOn, OpensNot, SkipsNot, NullsNot, ReachesDepth, null_is_due, IsRefused, IsInvalid, IsNoAnswer, failed_at, passed_to, in_structure, in_list, in_map};
+ghost use Rattle.smithy_schema.specs.declared.error.SerdeError.TheVariants.{TooDeep, NoMemory};
 
 use crate::error::SerdeError;
 use crate::schema::Schema;
-use smithy_types::{BigDecimal, BigInteger, Blob};
+use smithy_types::{BigDecimal, BigInteger, Blob, DateTime};
 
 /// Where a structure or a union goes on: to a member that the table knows, to another entry, or to its end.
 #[derive(Clone, Copy)]
@@ -68,7 +68,7 @@ pub trait ShapeDeserializer {
         requires place { HasMembers (kind_at (site_of schema.now)) }
         ensures same { settings self.new ≡ settings self.old }
         ensures conduct { Conducts (state self.old) (state self.new) result }
-        ensures narrow { IsErrOf result TooWide → ⊥ }
+        ensures narrow { RefusesNoScalar result }
         ensures undue { (state self.old).due ≡ false → IsNoAnswer result }
         ensures ok { OnOk result (Enters (wire (settings self.old)) (max_depth (settings self.old)) (state self.old) (state self.new) schema.now.shapes.now schema.now.place in_structure) }
         ensures refused { IsRefused result → (state self.old).due ≡ true → (wire (settings self.old)).allows (depth (state self.old))
@@ -88,7 +88,7 @@ pub trait ShapeDeserializer {
         requires place { HasMembers (kind_at (site_of schema.now)) }
         ensures same { settings self.new ≡ settings self.old }
         ensures conduct { Conducts (state self.old) (state self.new) result }
-        ensures narrow { IsErrOf result TooWide → ⊥ }
+        ensures narrow { RefusesNoScalar result }
         ensures ok { (state self.old).due ≡ false → IfOk result (λ step. MatchStep step (wire (settings self.old)) (state self.old) (state self.new) (site_of schema.now)) }
         ensures refused { IsRefused result → (state self.old).due ≡ false
             → CannotGoOn (wire (settings self.old)) (state self.old) schema.now.shapes.now schema.now.place }
@@ -108,7 +108,7 @@ pub trait ShapeDeserializer {
         requires place { IsList (kind_at (site_of schema.now)) }
         ensures same { settings self.new ≡ settings self.old }
         ensures conduct { Conducts (state self.old) (state self.new) result }
-        ensures narrow { IsErrOf result TooWide → ⊥ }
+        ensures narrow { RefusesNoScalar result }
         ensures undue { (state self.old).due ≡ false → IsNoAnswer result }
         ensures ok { OnOk result (Enters (wire (settings self.old)) (max_depth (settings self.old)) (state self.old) (state self.new) schema.now.shapes.now schema.now.place in_list) }
         ensures refused { IsRefused result → (state self.old).due ≡ true → (wire (settings self.old)).allows (depth (state self.old))
@@ -126,7 +126,7 @@ pub trait ShapeDeserializer {
         requires within { (state self.old).inner.within ≡ in_list }
         ensures same { settings self.new ≡ settings self.old }
         ensures conduct { Conducts (state self.old) (state self.new) result }
-        ensures narrow { IsErrOf result TooWide → ⊥ }
+        ensures narrow { RefusesNoScalar result }
         ensures memory { IsErrOf result NoMemory → ⊥ }
         ensures shallow { IsErrOf result TooDeep → ⊥ }
         ensures unread { (state self.old).due ≡ true → IsNoAnswer result }
@@ -142,7 +142,7 @@ pub trait ShapeDeserializer {
         requires place { IsMap (kind_at (site_of schema.now)) }
         ensures same { settings self.new ≡ settings self.old }
         ensures conduct { Conducts (state self.old) (state self.new) result }
-        ensures narrow { IsErrOf result TooWide → ⊥ }
+        ensures narrow { RefusesNoScalar result }
         ensures undue { (state self.old).due ≡ false → IsNoAnswer result }
         ensures ok { OnOk result (Enters (wire (settings self.old)) (max_depth (settings self.old)) (state self.old) (state self.new) schema.now.shapes.now schema.now.place in_map) }
         ensures refused { IsRefused result → (state self.old).due ≡ true → (wire (settings self.old)).allows (depth (state self.old))
@@ -160,7 +160,7 @@ pub trait ShapeDeserializer {
         requires within { (state self.old).inner.within ≡ in_map }
         ensures same { settings self.new ≡ settings self.old }
         ensures conduct { Conducts (state self.old) (state self.new) result }
-        ensures narrow { IsErrOf result TooWide → ⊥ }
+        ensures narrow { RefusesNoScalar result }
         ensures shallow { IsErrOf result TooDeep → ⊥ }
         ensures unread { (state self.old).due ≡ true → IsNoAnswer result }
         ensures ok { (state self.old).due ≡ false → (t : Table) (p : Place) → IsMap (kind_of t p)
@@ -179,7 +179,7 @@ pub trait ShapeDeserializer {
     fn read_null(&mut self) -> Result<(), SerdeError>
         ensures same { settings self.new ≡ settings self.old }
         ensures conduct { Conducts (state self.old) (state self.new) result }
-        ensures narrow { IsErrOf result TooWide → ⊥ }
+        ensures narrow { RefusesNoScalar result }
         ensures memory { IsErrOf result NoMemory → ⊥ }
         ensures shallow { IsErrOf result TooDeep → ⊥ }
         ensures ok { null_is_due (wire (settings self.old)) (state self.old) ≡ true → OnOk result ((wire (settings self.old)).nulls (state self.old).input (depth (state self.old)) (state self.old).at (state self.new).at) }
@@ -192,7 +192,7 @@ pub trait ShapeDeserializer {
     fn skip_value(&mut self) -> Result<(), SerdeError>
         ensures same { settings self.new ≡ settings self.old }
         ensures conduct { Conducts (state self.old) (state self.new) result }
-        ensures narrow { IsErrOf result TooWide → ⊥ }
+        ensures narrow { RefusesNoScalar result }
         ensures undue { (state self.old).due ≡ false → IsNoAnswer result }
         ensures ok { OnOk result ((wire (settings self.old)).skips (state self.old).input (depth (state self.old)) (state self.old).at (state self.new).at) }
         ensures passes { OnOk result (Passes (state self.old) (state self.new)) }
@@ -255,6 +255,13 @@ pub trait ShapeDeserializer {
         ensures read { ReadsScalar (wire (settings self.old)) (lifted (settings self.old)) (is_strict (settings self.old)) (state self.old) (state self.new) (site_of schema.now) scalars.BigDecimal (λ n. decimal (mantissa n) (net_exponent n)) result }
         ensures wide { AnswersWide (wire (settings self.old)) (state self.old) (site_of schema.now) scalars.BigDecimal result }
         ensures fits { IfOk result (λ n. FitsSigned w128 (mantissa n)) };
+
+    /// Reads an instant, in the form of its place where the wire has forms. `NotCarried` comes exactly where a number stands
+    /// that the wire's instants don't carry.
+    fn read_timestamp(&mut self, schema: &Schema<'_>) -> Result<DateTime, SerdeError>
+        ensures same { settings self.new ≡ settings self.old }
+        ensures read { ReadsScalar (wire (settings self.old)) (lifted (settings self.old)) (is_strict (settings self.old)) (state self.old) (state self.new) (site_of schema.now) scalars.Timestamp instant result }
+        ensures uncarried { AnswersUncarried (wire (settings self.old)) (state self.old) (site_of schema.now) scalars.Timestamp result };
 
     // Each wire obeys the laws of reading, with its limits and with them lifted.
     ghost lawful: { (c : Settings) → IsLawful (wire c) };

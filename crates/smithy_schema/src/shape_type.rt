@@ -19,6 +19,8 @@ pub enum Scalar {
     String,
     /// Any bytes.
     Blob,
+    /// An instant, whose seconds from 1970-01-01T00:00:00Z on, rounded down, are a number of 64 bits.
+    Timestamp,
     /// A whole number from -2^127 to 2^127-1.
     BigInteger,
     /// A mantissa from -2^127 to 2^127-1, times ten to an exponent from -(2^63-1) to 2^63-1.
@@ -38,6 +40,7 @@ impl Scalar {
             Scalar::Long => ShapeType::Long,
             Scalar::String => ShapeType::String,
             Scalar::Blob => ShapeType::Blob,
+            Scalar::Timestamp => ShapeType::Timestamp,
             Scalar::BigInteger => ShapeType::BigInteger,
             Scalar::BigDecimal => ShapeType::BigDecimal,
         }
@@ -54,6 +57,7 @@ pub enum ShapeType {
     Long,
     String,
     Blob,
+    Timestamp,
     BigInteger,
     BigDecimal,
     List,

@@ -5,8 +5,9 @@ use crate::{
 use std::alloc::Global;
 use std::test::Fail;
 
-const ACCEPTED: [&str; 11] = [
+const ACCEPTED: [&str; 12] = [
     "",
+    "structure S\nmember a timestamp\nmember b timestamp time=http-date\nlist L timestamp time=epoch-seconds",
     "structure S\nmember a long",
     "list L L\nstructure S\nmember l L",
     "structure S\r\nmember a string\r\n",
@@ -19,7 +20,7 @@ const ACCEPTED: [&str; 11] = [
     "map M string value=v time=date-time sparse key=k\nstructure S\nmember m M flat",
 ];
 
-const REFUSED: [(&str, TableFault); 44] = [
+const REFUSED: [(&str, TableFault); 45] = [
     ("member a long", TableFault::BadLine(1)),
     (
         "structure S\nlist L long\nmember a long",
@@ -33,11 +34,15 @@ const REFUSED: [(&str, TableFault); 44] = [
         TableFault::BadLine(2),
     ),
     ("structure S\nmember a long json=", TableFault::BadLine(2)),
-    ("structure S\nmember a timestamp", TableFault::NotBuilt(1)),
+    ("structure S\nmember a document", TableFault::NotBuilt(1)),
     ("list L long flat", TableFault::BadLine(1)),
     ("list L long sparse sparse", TableFault::BadLine(1)),
     ("union U\nmember a document", TableFault::NotBuilt(1)),
-    ("list L b\nmap M timestamp", TableFault::NotBuilt(2)),
+    ("list L b\nmap M document", TableFault::NotBuilt(2)),
+    (
+        "list L timestamp\nlist timestamp timestamp",
+        TableFault::DuplicateShape(2),
+    ),
     (
         "list L bigInteger\nmap bigDecimal bigDecimal",
         TableFault::DuplicateShape(2),
@@ -234,9 +239,11 @@ fn a_fault_is_known_by_its_name_and_number(rt: HostRuntime) -> Result<(), Fail> 
     Ok(())
 }
 
-const ERRORS: [(SerdeError, &str); 5] = [
+const ERRORS: [(SerdeError, &str); 7] = [
     (SerdeError::InvalidInput, "InvalidInput"),
     (SerdeError::TooDeep, "TooDeep"),
+    (SerdeError::TooWide, "TooWide"),
+    (SerdeError::NotCarried, "NotCarried"),
     (SerdeError::Unwritable, "Unwritable"),
     (SerdeError::Failed, "Failed"),
     (SerdeError::NoMemory, "NoMemory"),
@@ -317,7 +324,7 @@ fn tells_of_members_and_elements(rt: HostRuntime) -> Result<(), Fail> {
 fn tells_of_options(rt: HostRuntime) -> Result<(), Fail> {
     let shapes = table_of(
         rt.alloc(),
-        "structure S\nmember a L json=x xml=y flat time=http-date\nlist L string sparse xml=z time=date-time",
+        "structure S\nmember a L json=x xml=y flat time=http-date\nlist L timestamp sparse xml=z time=date-time",
     )?;
     let Some(root) = shapes.find("S") else {
         assert!(rt; false, "the root");
@@ -344,6 +351,7 @@ fn tells_of_options(rt: HostRuntime) -> Result<(), Fail> {
     assert_eq!(rt; element.xml_name(), Some("z"));
     assert!(rt; matches!(element.json_name(), None), "no JSON name");
     assert_eq!(rt; element.timestamp_format(), Some(TimestampFormat::DateTime));
+    assert_eq!(rt; element.shape_type(), ShapeType::Timestamp);
     Ok(())
 }
 

@@ -1,12 +1,13 @@
 -- A reader that begins a body, and what it reads there, as what the whole input spells.
 use Rattle.std.proofs.Common.{◌≡◌, ◌≤◌, ◌<◌, ℕ, List, Bool, [], ◌∷◌, length, Result, Ok, Err, IsErrOf, refl, sym, ◌∙◌, ap, subst, arith}
 use Rattle.smithy_schema.specs.declared.error.SerdeError.{SerdeError}
-use Rattle.smithy_schema.specs.declared.error.SerdeError.TheVariants.{InvalidInput, TooDeep, TooWide, Unwritable, Failed, NoMemory}
+use Rattle.smithy_schema.specs.declared.error.SerdeError.TheVariants.{InvalidInput, TooDeep, TooWide, NotCarried, Unwritable, Failed, NoMemory}
+use Rattle.smithy_schema.specs.declared.place.Place.{Place}
 use Rattle.smithy_schema.specs.declared.schema.Schema.{Schema}
 use Rattle.smithy_schema.specs.Table.{Table, kind_of, shape_place, IsStructure}
 use Rattle.smithy_schema.specs.Site.{Site, site_of, shape_site}
 use Rattle.smithy_schema.specs.Value.{Value, structure, no_member_values}
-use Rattle.smithy_schema.specs.Reading.{Cursor, depth, Relations, Reads, StandsNot, ReachesDepth, ExceedsInside, IsCounted, IsRefused}
+use Rattle.smithy_schema.specs.Reading.{Cursor, depth, Relations, Reads, StandsNot, ReachesDepth, ExceedsInside, UncarriedInside, IsCounted, IsRefused}
 use Rattle.smithy_schema.proofs.CountLemmas.{starts_counted, reaches_openers}
 use Rattle.smithy_wire.specs.Walking.{fresh_cursor}
 use Rattle.smithy_json_codec.specs.Codec.{strict_settings}
@@ -16,10 +17,10 @@ use Rattle.smithy_cbor_codec.specs.Codec.{strict_settings as strict_cbor}
 use Rattle.smithy_cbor_codec.specs.Settings.{Settings as CborSettings, keep_limits as keep_cbor_limits, without_limits as without_cbor_limits}
 use Rattle.smithy_cbor_codec.specs.Standing.{cbor_relations}
 use Rattle.smithy_transcode.specs.Wires.{Wire, json, cbor}
-use Rattle.smithy_transcode.specs.Causes.{openers, IsWide}
+use Rattle.smithy_transcode.specs.Causes.{openers, IsWide, IsUncarried}
 use Rattle.smithy_transcode.specs.Spelling.{Spells}
 use Rattle.smithy_transcode.specs.Transcoding.{SpellNothing, SpellNothingWithoutLimits}
-use Rattle.smithy_transcode.proofs.WideBodies.{inside_is_wide}
+use Rattle.smithy_transcode.proofs.WideBodies.{inside_is_wide, inside_is_uncarried}
 use Rattle.smithy_transcode.proofs.Spelled.{IsReadable, relations_of, lifted_of, StandsFirst, stands_is_spelled, spelled_stands, spelled_stands_without_limits, empty_is_spelled, openers_are}
 
 -- a reader with these relations stands at the start of a body of the root, whose schema is at hand
@@ -59,6 +60,14 @@ cbor_begins w o old s t root i wire same fresh site kind = record {
 }
 
 module _ {w : Wire} {r l : Relations} {max : ℕ} {old : Cursor} {s : Schema} {t : Table} {root : ℕ} {i : List ℕ} (begins : Begins w r l max old s t root i) where
+  -- what holds of the relations and the schema at hand holds of those of the wire and of the root
+  at_root : (P : Relations → Table → Place → Type 0) → P r s.shapes.now s.place → P (relations_of w) t (shape_place root)
+  at_root P h = subst (λ z. P z t (shape_place root)) begins.keeps (subst (λ (x : Site). P r x.table x.place) begins.site h)
+
+  -- the input is the whole one
+  whole_input : (new : Cursor) → new.input ≡ old.input → new.input ≡ i
+  whole_input new unmoved = unmoved ∙ ap (λ (c : Cursor). c.input) begins.fresh
+
   stood : (z : Relations) → (v : Value) → StandsNot z old s.shapes.now s.place → StandsFirst z t root i v → ⊥
   stood z v none h =
       let here : StandsNot z old t (shape_place root) = subst (λ (x : Site). StandsNot z old x.table x.place) begins.site none in
@@ -95,7 +104,7 @@ module _ {w : Wire} {r l : Relations} {max : ℕ} {old : Cursor} {s : Schema} {t
   opens_as_many : (new : Cursor) → StandsNot r old s.shapes.now s.place → new.input ≡ old.input → (IsCounted r old → IsCounted r new)
       → ReachesDepth r max new → 128 ≤ openers w i
   opens_as_many new none unmoved counted reaches =
-      let whole : new.input ≡ i = unmoved ∙ ap (λ (c : Cursor). c.input) begins.fresh in
+      let whole = whole_input new unmoved in
       let start : IsCounted r old = starts_counted r old (ap (λ (c : Cursor). c.at) begins.fresh) (ap depth begins.fresh) in
       let some : 0 < length new.input = subst (λ j. 0 < length j) (sym whole) (spells_nothing_is_some i refl (unread_spells_nothing none)) in
       let opened : max ≤ r.openers new.input = reaches_openers r max new some (counted start) reaches in
@@ -109,6 +118,7 @@ module _ {w : Wire} {r l : Relations} {max : ℕ} {old : Cursor} {s : Schema} {t
   deep_opens (Ok x) new refused unmoved counted deep is = absurd (let both : Ok x ≡ Err TooDeep = is in cc)
   deep_opens (Err TooDeep) new refused unmoved counted deep is = opens_as_many new (refused tt) unmoved counted (deep is)
   deep_opens (Err TooWide) new refused unmoved counted deep is = absurd (let both : Err TooWide ≡ Err TooDeep = is in cc)
+  deep_opens (Err NotCarried) new refused unmoved counted deep is = absurd (let both : Err NotCarried ≡ Err TooDeep = is in cc)
   deep_opens (Err InvalidInput) new refused unmoved counted deep is = absurd (let both : Err InvalidInput ≡ Err TooDeep = is in cc)
   deep_opens (Err Unwritable) new refused unmoved counted deep is = absurd (let both : Err Unwritable ≡ Err TooDeep = is in cc)
   deep_opens (Err Failed) new refused unmoved counted deep is = absurd (let both : Err Failed ≡ Err TooDeep = is in cc)
@@ -118,7 +128,12 @@ module _ {w : Wire} {r l : Relations} {max : ℕ} {old : Cursor} {s : Schema} {t
   pub exceeds_is_wide : {A : Type 0} (answer : Result A SerdeError) (new : Cursor) → new.input ≡ old.input → (IsErrOf answer TooWide → ExceedsInside r old new s.shapes.now s.place)
       → IsErrOf answer TooWide → IsWide w t i
   exceeds_is_wide answer new unmoved wide is =
-      let whole : new.input ≡ i = unmoved ∙ ap (λ (c : Cursor). c.input) begins.fresh in
-      let here : ExceedsInside r old new t (shape_place root) = subst (λ (x : Site). ExceedsInside r old new x.table x.place) begins.site (wide is) in
-      let kept : ExceedsInside (relations_of w) old new t (shape_place root) = subst (λ z. ExceedsInside z old new t (shape_place root)) begins.keeps here in
-      subst (λ j. IsWide w t j) whole (inside_is_wide w t root old new begins.read begins.kind kept)
+      let inside = at_root (λ z x p. ExceedsInside z old new x p) (wide is) in
+      subst (λ j. IsWide w t j) (whole_input new unmoved) (inside_is_wide w t root old new begins.read begins.kind inside)
+
+  -- and where one wasn't carried, the input has one that isn't
+  pub uncarried_is_told : {A : Type 0} (answer : Result A SerdeError) (new : Cursor) → new.input ≡ old.input → (IsErrOf answer NotCarried → UncarriedInside r old new s.shapes.now s.place)
+      → IsErrOf answer NotCarried → IsUncarried w t i
+  uncarried_is_told answer new unmoved uncarried is =
+      let inside = at_root (λ z x p. UncarriedInside z old new x p) (uncarried is) in
+      subst (λ j. IsUncarried w t j) (whole_input new unmoved) (inside_is_uncarried w t root old new begins.read begins.kind inside)

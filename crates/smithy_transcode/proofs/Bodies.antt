@@ -1,16 +1,24 @@
 -- That a fresh serializer of a wire takes a value of the root, and has then its body.
-use Rattle.std.proofs.Common.{◌≡◌, ◌<◌, List, [], ◌++◌, All, Bool, true, false, Some, None, Ok, ℕ, if◌then◌else◌, refl, sym, ◌∙◌, ap, subst}
+use Rattle.std.proofs.Common.{◌≡◌, ◌<◌, ◌&&◌, List, [], ◌++◌, All, Bool, true, false, not, Some, None, Result, Ok, Err, IfOk, ℕ, if◌then◌else◌, refl, sym, ◌∙◌, ap, subst}
+use Rattle.std.specs.declared.vec.Vec.{Vec}
+use Rattle.std.specs.declared.alloc.Global.{Global}
+use Rattle.smithy_schema.specs.declared.error.SerdeError.{SerdeError}
 use Rattle.smithy_schema.specs.declared.schema.Schema.{Schema}
 use Rattle.smithy_schema.specs.declared.place.Place.{Place}
+use Rattle.smithy_schema.specs.declared.shape_type.TimestampFormat.TheVariants.{EpochSeconds, DateTime}
 use Rattle.smithy_schema.specs.Accepted.{IsAccepted}
 use Rattle.smithy_schema.specs.Fits.{Fits}
 use Rattle.smithy_schema.specs.Lemmas.Kinds.{no_list_and_structure, map_kind, union_kind}
 use Rattle.smithy_schema.proofs.ScalarLemmas.{scalar_kind}
+use Rattle.smithy_schema.proofs.TimeFormLemmas.{held_writes, more_pass}
+use Rattle.smithy_schema.specs.ScalarTest.{scalars_pass}
+use Rattle.smithy_schema.specs.TimeForms.{form_or}
 use Rattle.smithy_schema.specs.Table.{Table, IsStructure, kind_of, shape_place}
 use Rattle.smithy_schema.specs.Site.{Site, View, whole_view, site_of, shape_site}
 use Rattle.smithy_schema.specs.Value.{Value, scalar_value, list, map, structure, union, null_element, MemberValues}
 use Rattle.smithy_schema.specs.Writing.{write}
-use Rattle.smithy_json_codec.specs.Canonical.{canonical_json, key_text}
+use Rattle.smithy_json_codec.specs.Canonical.{canonical_json, key_text, json_holds, can_write as json_can_write}
+use Rattle.smithy_json_codec.specs.Codec.{strict_settings}
 use Rattle.smithy_json_codec.specs.Writing.{JsonState, json_after, fresh_state}
 use Rattle.smithy_json_codec.proofs.WritingLemmas.{state, value_adds}
 use Rattle.smithy_cbor_codec.specs.Canonical.{canonical_cbor}
@@ -18,36 +26,76 @@ use Rattle.smithy_cbor_codec.specs.Writing.{CborState, cbor_after, fresh_state a
 use Rattle.smithy_cbor_codec.proofs.WritingLemmas.{value_adds as cbor_value_adds}
 use Rattle.smithy_query_codec.specs.Nulls.{holds_null}
 use Rattle.smithy_query_codec.specs.Counts.{HasPositions}
+use Rattle.smithy_query_codec.specs.Writable.{can_write, can_be_written, query_holds}
 use Rattle.smithy_query_codec.specs.Writing.{QueryState, query_after, fresh_state as fresh_form}
 use Rattle.smithy_query_codec.proofs.WholeForms.{whole_state, fit_is_written, fit_is_read, fit_is_distinct}
-use Rattle.smithy_transcode.specs.declared.wire.Unfit.TheVariants.{Null}
-use Rattle.smithy_transcode.specs.Wires.{Wire, json, cbor, query, unfit}
+use Rattle.smithy_transcode.specs.declared.wire.Unfit.TheVariants.{Null, Instant}
+use Rattle.smithy_transcode.specs.Wires.{Wire, json, cbor, query, has_nulls, has_scalar, unfit}
 use Rattle.smithy_transcode.specs.Transcoding.{TellsAgain}
 use Rattle.smithy_transcode.specs.Spelling.{body}
+
+-- what is put out once a state is reached is that state's text
+pub reached : {S : Type 0} (r : Result (Vec ℕ Global) SerdeError) (Reaches : S → Type 0) (text : S → List ℕ)
+    → IfOk r (λ out. (s : S) → Reaches s → out.items ≡ text s)
+    → (s : S) (bytes : List ℕ) → Reaches s → text s ≡ bytes → IfOk r (λ out. out.items ≡ bytes)
+reached (Ok out) Reaches text gives s bytes adds is = gives s adds ∙ is
+reached (Err e) Reaches text gives s bytes adds is = tt
+
+-- ---- what a wire can express
+
+-- a value that a wire can express holds no null where the wire has none, and the wire holds its scalars
+parts_of : (stands null held : Bool) → (if not stands && null then Some Null else if held then None else Some Instant) ≡ None
+    → ((not stands && null) ≡ false) × (held ≡ true)
+parts_of stands null held fit = from (not stands && null) held fit
+  where
+    from : (null held : Bool) → (if null then Some Null else if held then None else Some Instant) ≡ None → (null ≡ false) × (held ≡ true)
+    from true held h = absurd (let e : Some Null ≡ None = h in cc)
+    from false true h = (refl, refl)
+    from false false h = absurd (let e : Some Instant ≡ None = h in cc)
+
+pub all_held : (w : Wire) (t : Table) (root : ℕ) (v : Value) → unfit w t root v ≡ None → scalars_pass (has_scalar w) (shape_site t root) v ≡ true
+all_held w t root v fit = (parts_of (has_nulls w) (holds_null v) (scalars_pass (has_scalar w) (shape_site t root) v) fit).1
+
+-- ---- JSON
 
 no_key : (b : Bool) (view : View) → view.name ≡ None → key_text b view ≡ []
 no_key b view nameless = rw nameless refl
 
-abbrev pub json_body : Bool → Site → Value → JsonState
-json_body b site v = state b (canonical_json b site v) true []
+-- what JSON holds can be written
+pub json_takes : (b : Bool) (site : Site) (v : Value) → scalars_pass (has_scalar (json b)) site v ≡ true → scalars_pass (json_can_write (strict_settings b)) site v ≡ true
+json_takes b site v held =
+    more_pass (json_holds (strict_settings b)) (json_can_write (strict_settings b)) (λ time x holds. held_writes (form_or EpochSeconds time) x holds) v site held
 
-pub json_adds : (b : Bool) (site : Site) (v : Value) (s : JsonState) → s ≡ fresh_state b → site.view.name ≡ None
-    → write json_after site v s ≡ Ok (json_body b site v)
-json_adds b site v s fresh nameless =
+abbrev pub json_body : Bool → Site → Value → JsonState
+json_body b site v = state (strict_settings b) (canonical_json (strict_settings b) site v) true []
+
+pub json_adds : (b : Bool) (site : Site) (v : Value) (s : JsonState) → s ≡ fresh_state (strict_settings b) → site.view.name ≡ None
+    → scalars_pass (has_scalar (json b)) site v ≡ true → write json_after site v s ≡ Ok (json_body b site v)
+json_adds b site v s fresh nameless held =
+    let c = strict_settings b in
     ap (write json_after site v) fresh
-    ∙ value_adds site v b [] false [] [] refl
-    ∙ ap (λ key. Ok (state b (key ++ canonical_json b site v) true [])) (no_key b site.view nameless)
+    ∙ value_adds site v c [] false [] [] (json_takes b site v held) refl
+    ∙ ap (λ key. Ok (state c (key ++ canonical_json c site v) true [])) (no_key b site.view nameless)
+
+-- ---- CBOR
 
 abbrev pub cbor_body : Site → Value → CborState
 cbor_body site v = record { out = canonical_cbor site v; frames = [] }
 
-pub cbor_adds : (site : Site) (v : Value) (s : CborState) → s ≡ fresh_cbor_state → write cbor_after site v s ≡ Ok (cbor_body site v)
-cbor_adds site v s fresh = ap (write cbor_after site v) fresh ∙ cbor_value_adds site v [] [] [] refl
+pub cbor_adds : (site : Site) (v : Value) (s : CborState) → s ≡ fresh_cbor_state → scalars_pass (has_scalar cbor) site v ≡ true
+    → write cbor_after site v s ≡ Ok (cbor_body site v)
+cbor_adds site v s fresh held = ap (write cbor_after site v) fresh ∙ cbor_value_adds site v [] [] [] held refl
 
--- which is the body of the root, at the schema of the root
+-- ---- the body of the root, at the schema of the root
+
+pub root_held : (w x : Wire) (s : Schema) (t : Table) (root : ℕ) (v : Value) → w ≡ x → site_of s ≡ shape_site t root
+    → unfit w t root v ≡ None → scalars_pass (has_scalar x) (site_of s) v ≡ true
+root_held w x s t root v wire site fit =
+    ap (λ y. scalars_pass (has_scalar x) y v) site ∙ ap (λ y. scalars_pass (has_scalar y) (shape_site t root) v) (sym wire) ∙ all_held w t root v fit
+
 pub json_is_body : (w : Wire) (b : Bool) (s : Schema) (t : Table) (root : ℕ) (v : Value) → w ≡ json b → site_of s ≡ shape_site t root
-    → canonical_json b (site_of s) v ≡ body w t root v
-json_is_body w b s t root v wire site = ap (λ x. canonical_json b x v) site ∙ sym (ap (λ x. body x t root v) wire)
+    → canonical_json (strict_settings b) (site_of s) v ≡ body w t root v
+json_is_body w b s t root v wire site = ap (λ x. canonical_json (strict_settings b) x v) site ∙ sym (ap (λ x. body x t root v) wire)
 
 pub cbor_is_body : (w : Wire) (s : Schema) (t : Table) (root : ℕ) (v : Value) → w ≡ cbor → site_of s ≡ shape_site t root
     → canonical_cbor (site_of s) v ≡ body w t root v
@@ -55,13 +103,15 @@ cbor_is_body w s t root v wire site = ap (λ x. canonical_cbor x v) site ∙ sym
 
 -- ---- forms
 
--- a value that a form can express holds no null
-pub no_null : (action version : List ℕ) (v : Value) → unfit (query action version) v ≡ None → holds_null v ≡ false
-no_null action version v fit = from (holds_null v) fit
+-- a value that a form can express can be written
+pub form_takes : (action version : List ℕ) (t : Table) (root : ℕ) (v : Value) → unfit (query action version) t root v ≡ None → can_be_written (shape_site t root) v ≡ true
+form_takes action version t root v fit =
+    let parts = parts_of (has_nulls (query action version)) (holds_null v) (scalars_pass (has_scalar (query action version)) (shape_site t root) v) fit in
+    let written = more_pass query_holds can_write (λ time x holds. held_writes (form_or DateTime time) x holds) v (shape_site t root) parts.1 in
+    both_true (holds_null v) (scalars_pass can_write (shape_site t root) v) parts.0 written
   where
-    from : (null : Bool) → (if null then Some Null else None) ≡ None → null ≡ false
-    from true h = absurd (let e : Some Null ≡ None = h in cc)
-    from false h = refl
+    both_true : (null can : Bool) → null ≡ false → can ≡ true → (not null && can) ≡ true
+    both_true null can clear written = rw (clear, written) refl
 
 -- what is a structure by its place is one
 structure_of_kind : (t : Table) (p : Place) (v : Value) → IsStructure (kind_of t p) → Fits t p v → (ms : MemberValues) × (v ≡ structure ms)
@@ -76,16 +126,16 @@ abbrev pub form_state : Wire → Table → ℕ → Value → QueryState
 form_state w t root v = whole_state (body w t root v)
 
 pub form_adds : (action version : List ℕ) (site : Site) (t : Table) (root : ℕ) (v : Value) (s : QueryState) → site ≡ shape_site t root → s ≡ fresh_form action version
-    → IsAccepted t → IsStructure (kind_of t (shape_place root)) → Fits t (shape_place root) v → HasPositions v → holds_null v ≡ false
+    → IsAccepted t → IsStructure (kind_of t (shape_place root)) → Fits t (shape_place root) v → HasPositions v → can_be_written (shape_site t root) v ≡ true
     → write query_after site v s ≡ Ok (form_state (query action version) t root v)
-form_adds action version site t root v s at_root fresh accepted kind fits short nulls =
+form_adds action version site t root v s at_root fresh accepted kind fits short can =
     let ms = structure_of_kind t (shape_place root) v kind fits in
     let fits_whole : Fits t (shape_place root) (structure ms.0) = subst (Fits t (shape_place root)) ms.1 fits in
     let short_whole : HasPositions (structure ms.0) = subst HasPositions ms.1 short in
-    let nulls_whole : holds_null (structure ms.0) ≡ false = subst (λ u. holds_null u ≡ false) ms.1 nulls in
+    let can_whole : can_be_written (shape_site t root) (structure ms.0) ≡ true = subst (λ u. can_be_written (shape_site t root) u ≡ true) ms.1 can in
     ap (λ x. write query_after x v s) at_root ∙ ap (write query_after (shape_site t root) v) fresh
     ∙ subst (λ u. write query_after (shape_site t root) u (fresh_form action version) ≡ Ok (form_state (query action version) t root u)) (sym ms.1)
-    (fit_is_written t accepted (shape_place root) whole_view ms.0 fits_whole short_whole action version refl nulls_whole)
+    (fit_is_written t accepted (shape_place root) whole_view ms.0 fits_whole short_whole action version refl can_whole)
 
 -- a form tells its value again
 pub form_tells : (action version : List ℕ) (t : Table) (root : ℕ) (v : Value) → IsAccepted t → IsStructure (kind_of t (shape_place root)) → Fits t (shape_place root) v → HasPositions v

@@ -3,6 +3,7 @@ pub mod Bodies
 mod CompactVariants
 mod EntryOrder
 mod Inner
+mod InstantsHeld
 mod Lists
 pub mod Mapped
 mod Maps

@@ -1,5 +1,5 @@
--- A scalar that is due: where a reader fails at a number that leaves its limits, and what is read of one.
-use Rattle.std.proofs.Common.{◌≡◌, ℕ, suc, List, length, Option, Some, None, Result, Ok, Err, IsErrOf, refl, sym, ◌∙◌, ap, subst, arith}
+-- A scalar that is due: where a reader fails at one that leaves its limits or isn't carried, and what is read of one.
+use Rattle.std.proofs.Common.{◌≡◌, ℕ, suc, ◌+◌, List, length, Option, Some, None, Result, Ok, Err, IsErrOf, refl, sym, ◌∙◌, ap, subst, arith}
 use Rattle.std.specs.Option.{option_map_or}
 use Rattle.smithy_schema.specs.declared.place.Place.{Place}
 use Rattle.smithy_schema.specs.declared.schema.Schema.{Schema}
@@ -11,28 +11,43 @@ use Rattle.smithy_schema.specs.declared.shape_type.Scalar.TheVariants as scalars
 use Rattle.smithy_schema.specs.declared.shape_type.ShapeType.{ShapeType}
 use Rattle.smithy_schema.specs.declared.shape_type.ShapeType.TheVariants as types
 use Rattle.smithy_schema.specs.declared.error.SerdeError.{SerdeError}
-use Rattle.smithy_schema.specs.declared.error.SerdeError.TheVariants.{InvalidInput, TooWide}
+use Rattle.smithy_schema.specs.declared.error.SerdeError.TheVariants.{InvalidInput, TooWide, NotCarried}
 use Rattle.smithy_schema.specs.Table.{Table, Shape, structure, union, list, map, kind_of, kind_of_shape, kind_of_target, shape_declared, type_of, scalar_type, nothing, place_in, scalar_place}
 use Rattle.smithy_schema.specs.Site.{Site, site_of, kind_at}
 use Rattle.smithy_schema.specs.Value.{ScalarValue, Value, scalar_value}
-use Rattle.smithy_schema.specs.Reading.{Cursor, Within, depth, Relations, Child, Steps, MatchStep, Exceeds, ExceedsInside, Reads, ReadsScalar, Conducts, failed_at}
+use Rattle.smithy_schema.specs.Reading.{Cursor, Within, depth, Relations, Child, Steps, MatchStep, IsInside, Reads, Conducts, failed_at}
 use Rattle.smithy_transcode.proofs.ReadContainers.{InContainer}
 use Rattle.smithy_transcode.proofs.ReadStructures.{site_told}
 
--- what leaves its limits in a child, for which the reader is one deeper, does so inside of the whole
-pub inside_child : (w u : Relations) (max : ℕ) (s0 s s1 c : Cursor) (t : Table) (p q : Place) (k : Within) (worth : List Child → Option Value) (key : Option (List ℕ)) (n : Option ℕ)
-    → InContainer w u max s0 s t p k worth → Steps w s s1 t p key → place_in (kind_of t p) n ≡ Some q → ExceedsInside w s1 c t q → ExceedsInside w s0 c t p
-inside_child w u max s0 s s1 c t p q k worth key n inside steps is (r, m, gone, within, there) =
+-- ---- where a reader fails
+
+-- what a wire says of the bytes between two positions, at a place inside so many containers: of what leaves its limits, or
+-- of what isn't carried
+abbrev pub Lying : Type 1
+Lying = List ℕ → Table → Place → ℕ → ℕ → ℕ → Type 0
+
+-- such a thing stands where the reader is
+abbrev pub StandsAs : Lying → Cursor → Table → Place → Type 0
+StandsAs lies c t p = (e : ℕ) × lies c.input t p (depth c) c.at e
+
+-- it does now, at a place as far inside of this one as the reader has gone
+abbrev pub StandsInside : Lying → Cursor → Cursor → Table → Place → Type 0
+StandsInside lies old new t p = (q : Place) × (k : ℕ) × (depth new ≡ depth old + k) × IsInside t p k q × StandsAs lies new t q
+
+-- what stands inside of a child, for which the reader is one deeper, stands inside of the whole
+pub inside_child : (lies : Lying) (w u : Relations) (max : ℕ) (s0 s s1 c : Cursor) (t : Table) (p q : Place) (k : Within) (worth : List Child → Option Value) (key : Option (List ℕ)) (n : Option ℕ)
+    → InContainer w u max s0 s t p k worth → Steps w s s1 t p key → place_in (kind_of t p) n ≡ Some q → StandsInside lies s1 c t q → StandsInside lies s0 c t p
+inside_child lies w u max s0 s s1 c t p q k worth key n inside steps is (r, m, gone, within, there) =
     let deeper : depth s1 ≡ suc (depth s0) = ap length (steps.outer ∙ inside.outer) in
     (r, suc m, omega (arith, gone, deeper), (q, n, is, within), there)
 
 -- in a member
-pub inside_member : (w u : Relations) (max : ℕ) (s0 s s1 c : Cursor) (o : Site) (m : Schema) (k : Within) (worth : List Child → Option Value)
-    → InContainer w u max s0 s o.table o.place k worth → MatchStep (ToMember m) w s s1 o → ExceedsInside w s1 c m.shapes.now m.place → ExceedsInside w s0 c o.table o.place
-inside_member w u max s0 s s1 c o m k worth inside step there =
+pub inside_member : (lies : Lying) (w u : Relations) (max : ℕ) (s0 s s1 c : Cursor) (o : Site) (m : Schema) (k : Within) (worth : List Child → Option Value)
+    → InContainer w u max s0 s o.table o.place k worth → MatchStep (ToMember m) w s s1 o → StandsInside lies s1 c m.shapes.now m.place → StandsInside lies s0 c o.table o.place
+inside_member lies w u max s0 s s1 c o m k worth inside step there =
     let told = site_told o step.1 (site_of m) step.4 in
-    inside_child w u max s0 s s1 c o.table o.place m.place k worth (Some step.0) (Some step.1) inside step.2 told.1
-    (subst (λ t. ExceedsInside w s1 c t m.place) told.0 there)
+    inside_child lies w u max s0 s s1 c o.table o.place m.place k worth (Some step.0) (Some step.1) inside step.2 told.1
+    (subst (λ t. StandsInside lies s1 c t m.place) told.0 there)
 
 -- ---- the place of a scalar
 
@@ -46,6 +61,7 @@ scalar_back types.String = Some scalars.String
 scalar_back types.Blob = Some scalars.Blob
 scalar_back types.BigInteger = Some scalars.BigInteger
 scalar_back types.BigDecimal = Some scalars.BigDecimal
+scalar_back types.Timestamp = Some scalars.Timestamp
 scalar_back types.Structure = None
 scalar_back types.Union = None
 scalar_back types.List = None
@@ -65,6 +81,7 @@ back_is scalars.String = refl
 back_is scalars.Blob = refl
 back_is scalars.BigInteger = refl
 back_is scalars.BigDecimal = refl
+back_is scalars.Timestamp = refl
 
 shape_none : (o : Option Shape) → back (type_of (option_map_or kind_of_shape o nothing)) ≡ None
 shape_none None = refl
@@ -85,30 +102,27 @@ target_told t (Declared r) s h =
 place_told : (t : Table) (p : Place) (s : Scalar) → Some (scalar_type s) ≡ type_of (kind_of t p) → p ≡ scalar_place s p.time
 place_told t p s h = ap (λ (x : Target). record { target = x; time = p.time }) (target_told t p.target s h)
 
--- a read of a scalar fails where its number leaves its limits
-pub scalar_inside : {A B : Type 0} (w u : Relations) (strict : Type 0) (old new : Cursor) (site : Site) (s : Scalar) (value : A → ScalarValue) (result : Result A SerdeError) (e : SerdeError)
-    → result ≡ Err e → ReadsScalar w u strict old new site s value result → Some (scalar_type s) ≡ type_of (kind_at site)
-    → IsErrOf {T = B} {E = SerdeError} (Err e) TooWide → ExceedsInside w old new site.table site.place
-scalar_inside {A} {B} w u strict old new site s value result e is read kind wide =
-    let place = place_told site.table site.place s kind in
-    let same : e ≡ TooWide = error_is wide in
-    let fails : ◌≡◌ {A = Result A SerdeError} result (Err TooWide) = is ∙ ap Err same in
-    let there = read.wide fails in
-    let stays : new ≡ failed_at old = stays_as result TooWide fails read.conduct in
+-- a read of a scalar fails where it stands, as what a refusal says of it
+pub scalar_inside : {A B : Type 0} (lies : Lying) (old new : Cursor) (site : Site) (s : Scalar) (result : Result A SerdeError) (e f : SerdeError)
+    → result ≡ Err e → Conducts old new result → (IsErrOf result f → StandsAs lies old site.table (scalar_place s site.place.time)) → Some (scalar_type s) ≡ type_of (kind_at site)
+    → IsErrOf {T = B} {E = SerdeError} (Err e) f → StandsInside lies old new site.table site.place
+scalar_inside {A} {B} lies old new site s result e f is conduct told kind refused =
+    let fails : ◌≡◌ {A = Result A SerdeError} result (Err f) = is ∙ ap Err (error_is refused) in
+    let stays : new ≡ failed_at old = stays_as result fails conduct in
     let level : depth new ≡ depth old = ap depth stays in (
       scalar_place s site.place.time,
       0,
       omega (arith, level),
-      sym place,
-      subst (λ c. Exceeds w c site.table (scalar_place s site.place.time)) (sym stays) there,
+      sym (place_told site.table site.place s kind),
+      subst (λ c. StandsAs lies c site.table (scalar_place s site.place.time)) (sym stays) (told fails),
     )
   where
-    error_is : IsErrOf {T = B} {E = SerdeError} (Err e) TooWide → e ≡ TooWide
-    error_is h = let both : ◌≡◌ {A = Result B SerdeError} (Err e) (Err TooWide) = h in cc
+    error_is : IsErrOf {T = B} {E = SerdeError} (Err e) f → e ≡ f
+    error_is h = let both : ◌≡◌ {A = Result B SerdeError} (Err e) (Err f) = h in cc
 
-    stays_as : (r : Result A SerdeError) (f : SerdeError) → r ≡ Err f → Conducts old new r → new ≡ failed_at old
-    stays_as (Ok x) f is conduct = cc
-    stays_as (Err g) f is conduct = conduct.stays
+    stays_as : (r : Result A SerdeError) → r ≡ Err f → Conducts old new r → new ≡ failed_at old
+    stays_as (Ok x) is conduct = cc
+    stays_as (Err g) is conduct = conduct.stays
 
 -- what is read of a scalar is the tree of it
 pub scalar_read : (w : Relations) (old new : Cursor) (site : Site) (s : Scalar) (x y : ScalarValue) (v : Value) → Some (scalar_type s) ≡ type_of (kind_at site)
@@ -118,5 +132,8 @@ scalar_read w old new site s x y v kind reads same is =
     (subst (λ (p : Place). Reads w old new site.table p (scalar_value x)) (sym (place_told site.table site.place s kind)) reads)
 
 -- `InvalidInput` is no other refusal
+pub is_not_uncarried : {A : Type 0} → IsErrOf {T = A} {E = SerdeError} (Err InvalidInput) NotCarried → ⊥
+is_not_uncarried is = cc
+
 pub is_not_wide : {A : Type 0} → IsErrOf {T = A} {E = SerdeError} (Err InvalidInput) TooWide → ⊥
 is_not_wide is = cc

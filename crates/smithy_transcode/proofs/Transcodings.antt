@@ -1,15 +1,16 @@
 -- What the reading and the writing of one body say together.
-use Rattle.std.proofs.Common.{◌≡◌, ◌≤◌, ◌<◌, ◌^◌, length, ℕ, List, All, Option, Some, None, Result, Ok, Err, IsErrOf, string_bytes, refl, sym, ◌∙◌, ap, subst}
+use Rattle.std.proofs.Common.{◌≡◌, ◌≤◌, ◌<◌, ◌^◌, length, ℕ, List, All, true, false, Option, Some, None, Result, Ok, Err, IsErrOf, string_bytes, refl, sym, ◌∙◌, ap, subst}
 use Rattle.std.specs.declared.vec.Vec.{Vec}
 use Rattle.std.specs.declared.alloc.Global.{Global}
 use Rattle.smithy_schema.specs.Accepted.{IsAccepted}
+use Rattle.smithy_schema.specs.declared.schema.Schema.{Schema}
 use Rattle.smithy_schema.specs.declared.error.SerdeError.{SerdeError}
 use Rattle.smithy_schema.specs.declared.error.SerdeError.TheVariants as serde
-use Rattle.smithy_schema.specs.Fits.{Fits}
+use Rattle.smithy_schema.specs.Fits.{Fits, FitsOr}
 use Rattle.smithy_schema.specs.Reading.{IsFault, IsRefused, IsInvalid}
 use Rattle.smithy_schema.specs.Table.{Table, IsStructure, kind_of, shape_place}
 use Rattle.smithy_schema.specs.Value.{Value, nesting}
-use Rattle.smithy_schema.specs.Site.{whole_view}
+use Rattle.smithy_schema.specs.Site.{Site, whole_view, site_of, shape_site}
 use Rattle.smithy_json_codec.specs.Codec.{strict_settings}
 use Rattle.smithy_json_codec.proofs.SpellingLemmas.{one_spelled}
 use Rattle.smithy_json_codec.proofs.WrittenSpelling.{spelled_fits, shallow, canonical_spells}
@@ -18,9 +19,9 @@ use Rattle.smithy_cbor_codec.proofs.SpellingLemmas.{one_spelled as one_cbor_spel
 use Rattle.smithy_cbor_codec.proofs.WrittenSpelling.{spelled_fits as cbor_fits, shallow as cbor_shallow, canonical_spells as cbor_spells_again}
 use Rattle.smithy_transcode.specs.declared.wire.Unfit.{Unfit}
 use Rattle.smithy_transcode.specs.declared.wire.TranscodeError.{TranscodeError}
-use Rattle.smithy_transcode.specs.declared.wire.TranscodeError.TheVariants.{InvalidInput, TooDeep, TooWide, Inexpressible, NoMemory}
-use Rattle.smithy_transcode.specs.Wires.{Wire, json, cbor, query, wire_of, unfit}
-use Rattle.smithy_transcode.specs.Causes.{openers, IsWide}
+use Rattle.smithy_transcode.specs.declared.wire.TranscodeError.TheVariants.{InvalidInput, TooDeep, TooWide, NotCarried, Inexpressible, NoMemory}
+use Rattle.smithy_transcode.specs.Wires.{Wire, json, cbor, query, wire_of, unfit_at, unfit}
+use Rattle.smithy_transcode.specs.Causes.{openers, IsWide, IsUncarried}
 use Rattle.smithy_transcode.specs.Refusal.{Tells}
 use Rattle.smithy_transcode.specs.Spelling.{Spells, body}
 use Rattle.smithy_transcode.specs.declared.wire.Wire as kept
@@ -29,7 +30,8 @@ use Rattle.smithy_query_codec.proofs.ByteLemmas.{utf8_bytes}
 use Rattle.std.proofs.lemmas.Str.{IsUtf8-string_bytes}
 use Rattle.smithy_transcode.specs.Transcoding.{Transcodes, SpellNothing, SpellNothingWithoutLimits, SpellsAlone, TellsAgain}
 use Rattle.smithy_transcode.specs.Private.Positions.{CanCount}
-use Rattle.smithy_transcode.proofs.Bodies.{form_tells}
+use Rattle.smithy_transcode.proofs.Bodies.{all_held, form_tells}
+use Rattle.smithy_transcode.proofs.Lists.{fits_or_null}
 
 -- at most one value is spelled
 pub one_value : (w : Wire) (t : Table) (root : ℕ) (i : List ℕ) (v u : Value) → Spells w t root i v → Spells w t root i u → v ≡ u
@@ -59,17 +61,28 @@ has_byte_texts (wires.Query action version) =
 spelled_alone : (w : Wire) (t : Table) (root : ℕ) (v : Value) → Spells w t root (body w t root v) v → SpellsAlone w t root (body w t root v) v
 spelled_alone w t root v spells = (spells, λ u other. one_value w t root (body w t root v) u v other spells)
 
--- the body of what one wire spells tells it again in the other, where its lengths fit into heads
+-- the body of what one wire spells tells it again in the other, which can express it, where its lengths fit into heads
 body_tells : (from to : Wire) (t : Table) (root : ℕ) (i : List ℕ) (v : Value) → IsAccepted t → IsStructure (kind_of t (shape_place root)) → Spells from t root i v
-    → CanCount to v → HasByteTexts to → length (body to t root v) < 2 ^ 64 → TellsAgain to t root (body to t root v) v
-body_tells from (json b) t root i v accepted kind h counts texts short =
+    → unfit to t root v ≡ None → CanCount to v → HasByteTexts to → length (body to t root v) < 2 ^ 64 → TellsAgain to t root (body to t root v) v
+body_tells from (json b) t root i v accepted kind h fit counts texts short =
     let small = spelled_is_small from t root i v h in
-    spelled_alone (json b) t root v (canonical_spells b t (shape_place root) whole_view v accepted small.0 small.1)
-body_tells from cbor t root i v accepted kind h counts texts short =
+    spelled_alone (json b) t root v (canonical_spells b t (shape_place root) whole_view v accepted small.0 (all_held (json b) t root v fit) small.1)
+body_tells from cbor t root i v accepted kind h fit counts texts short =
     let small = spelled_is_small from t root i v h in
-    spelled_alone cbor t root v (cbor_spells_again t root v accepted small.0 small.1 short)
-body_tells from (query action version) t root i v accepted kind h counts texts short =
+    spelled_alone cbor t root v (cbor_spells_again t root v accepted small.0 (all_held cbor t root v fit) small.1 short)
+body_tells from (query action version) t root i v accepted kind h fit counts texts short =
     form_tells action version t root v accepted kind (spelled_is_small from t root i v h).0 counts texts.0 texts.1
+
+-- ---- at the schema of the root
+
+pub fits_at_root : (s : Schema) (t : Table) (root : ℕ) (v : Value) → site_of s ≡ shape_site t root → Fits t (shape_place root) v → FitsOr s.shapes.now s.place true v
+fits_at_root s t root v site fits = subst (λ (x : Site). FitsOr x.table x.place true v) (sym site) (fits_or_null t (shape_place root) false v fits)
+
+pub unfit_at_root : (w : Wire) (s : Schema) (t : Table) (root : ℕ) (v : Value) (found is : Option Unfit) → site_of s ≡ shape_site t root
+    → found ≡ unfit_at w (site_of s) v → found ≡ is → unfit w t root v ≡ is
+unfit_at_root w s t root v found is site told same = ap (λ x. unfit_at w x v) (sym site) ∙ sym told ∙ same
+
+-- ---- answers
 
 pub not_both : (o : Option Unfit) (u : Unfit) → o ≡ None → o ≡ Some u → ⊥
 not_both o u none some = let e : None ≡ Some u = sym none ∙ some in cc
@@ -88,11 +101,12 @@ no_memory t root from i to = record {
   answers_invalid_without_limits = λ h. absurd (let x : Err NoMemory ≡ Err InvalidInput = h in cc);
   answers_too_deep = λ h. absurd (let x : Err NoMemory ≡ Err TooDeep = h in cc);
   answers_too_wide = λ h. absurd (let x : Err NoMemory ≡ Err TooWide = h in cc);
+  answers_not_carried = λ h. absurd (let x : Err NoMemory ≡ Err NotCarried = h in cc);
 }
 
 -- the body of a spelled value is an answer
 pub written : (t : Table) (root : ℕ) (from : Wire) (i : List ℕ) (to : Wire) (v : Value) (out : Vec ℕ Global) → IsAccepted t → IsStructure (kind_of t (shape_place root)) → Spells from t root i v
-    → unfit to v ≡ None → CanCount to v → HasByteTexts to → out.items ≡ body to t root v → length out.items < 2 ^ 64 → Transcodes t root from i to (Ok out)
+    → unfit to t root v ≡ None → CanCount to v → HasByteTexts to → out.items ≡ body to t root v → length out.items < 2 ^ 64 → Transcodes t root from i to (Ok out)
 written t root from i to v out accepted kind spelled fit counts texts ok short = record {
   answers_ok = (
     v,
@@ -100,36 +114,38 @@ written t root from i to v out accepted kind spelled fit counts texts ok short =
     fit,
     ok,
     subst (λ bytes. TellsAgain to t root bytes v) (sym ok)
-        (body_tells from to t root i v accepted kind spelled counts texts (subst (λ bytes. length bytes < 2 ^ 64) ok short)),
+        (body_tells from to t root i v accepted kind spelled fit counts texts (subst (λ bytes. length bytes < 2 ^ 64) ok short)),
   );
   spelled_is_ok = λ u h fits. ok ∙ ap (body to t root) (one_value from t root i v u spelled h);
-  unfit_is_refused = λ u w h lack. absurd (not_both (unfit to v) w fit (ap (unfit to) (one_value from t root i v u spelled h) ∙ lack));
+  unfit_is_refused = λ u w h lack. absurd (not_both (unfit to t root v) w fit (ap (unfit to t root) (one_value from t root i v u spelled h) ∙ lack));
   answers_inexpressible = λ u h. absurd (let e : Ok out ≡ Err (Inexpressible u) = h in cc);
   answers_invalid_input = λ h. absurd (let e : Ok out ≡ Err InvalidInput = h in cc);
   answers_invalid_without_limits = λ h. absurd (let e : Ok out ≡ Err InvalidInput = h in cc);
   answers_too_deep = λ h. absurd (let e : Ok out ≡ Err TooDeep = h in cc);
   answers_too_wide = λ h. absurd (let e : Ok out ≡ Err TooWide = h in cc);
+  answers_not_carried = λ h. absurd (let e : Ok out ≡ Err NotCarried = h in cc);
 }
 
 -- and so is what the wire can't express of it
 pub lacking : (t : Table) (root : ℕ) (from : Wire) (i : List ℕ) (to : Wire) (v : Value) (u : Unfit) → Spells from t root i v
-    → unfit to v ≡ Some u → Transcodes t root from i to (Err (Inexpressible u))
+    → unfit to t root v ≡ Some u → Transcodes t root from i to (Err (Inexpressible u))
 lacking t root from i to v u spelled lack = record {
   answers_ok = tt;
-  spelled_is_ok = λ w h fit. absurd (not_both (unfit to v) u (ap (unfit to) (one_value from t root i v w spelled h) ∙ fit) lack);
-  unfit_is_refused = λ w x h other. same_unfit (unfit to v) x u (ap (unfit to) (one_value from t root i v w spelled h) ∙ other) lack;
+  spelled_is_ok = λ w h fit. absurd (not_both (unfit to t root v) u (ap (unfit to t root) (one_value from t root i v w spelled h) ∙ fit) lack);
+  unfit_is_refused = λ w x h other. same_unfit (unfit to t root v) x u (ap (unfit to t root) (one_value from t root i v w spelled h) ∙ other) lack;
   answers_inexpressible = λ w h. let same : u ≡ w = cc in (v, spelled, lack ∙ ap Some same);
   answers_invalid_input = λ h. absurd (let e : Err (Inexpressible u) ≡ Err InvalidInput = h in cc);
   answers_invalid_without_limits = λ h. absurd (let e : Err (Inexpressible u) ≡ Err InvalidInput = h in cc);
   answers_too_deep = λ h. absurd (let e : Err (Inexpressible u) ≡ Err TooDeep = h in cc);
   answers_too_wide = λ h. absurd (let e : Err (Inexpressible u) ≡ Err TooWide = h in cc);
+  answers_not_carried = λ h. absurd (let e : Err (Inexpressible u) ≡ Err NotCarried = h in cc);
 }
 
 -- and so is a refusal of the input
 told : (t : Table) (root : ℕ) (from : Wire) (i : List ℕ) (to : Wire) (e : SerdeError) (refusal : TranscodeError) → Tells e refusal
-    → (IsFault e → SpellNothing from t root i) → (e ≡ serde.InvalidInput → SpellNothingWithoutLimits from t root i) → (e ≡ serde.TooDeep → 128 ≤ openers from i) → (e ≡ serde.TooWide → IsWide from t i)
+    → (IsFault e → SpellNothing from t root i) → (e ≡ serde.InvalidInput → SpellNothingWithoutLimits from t root i) → (e ≡ serde.TooDeep → 128 ≤ openers from i) → (e ≡ serde.TooWide → IsWide from t i) → (e ≡ serde.NotCarried → IsUncarried from t i)
     → Transcodes t root from i to (Err refusal)
-told t root from i to serde.InvalidInput refusal tells nothing would deep wide = rw tells (record {
+told t root from i to serde.InvalidInput refusal tells nothing would deep wide uncarried = rw tells (record {
   answers_ok = tt;
   spelled_is_ok = λ v h fit. absurd (nothing tt v h);
   unfit_is_refused = λ v u h lack. absurd (nothing tt v h);
@@ -138,8 +154,9 @@ told t root from i to serde.InvalidInput refusal tells nothing would deep wide =
   answers_invalid_without_limits = λ h. would refl;
   answers_too_deep = λ h. absurd (let x : Err InvalidInput ≡ Err TooDeep = h in cc);
   answers_too_wide = λ h. absurd (let x : Err InvalidInput ≡ Err TooWide = h in cc);
+  answers_not_carried = λ h. absurd (let x : Err InvalidInput ≡ Err NotCarried = h in cc);
 })
-told t root from i to serde.TooDeep refusal tells nothing would deep wide = rw tells (record {
+told t root from i to serde.TooDeep refusal tells nothing would deep wide uncarried = rw tells (record {
   answers_ok = tt;
   spelled_is_ok = λ v h fit. absurd (nothing tt v h);
   unfit_is_refused = λ v u h lack. absurd (nothing tt v h);
@@ -148,8 +165,9 @@ told t root from i to serde.TooDeep refusal tells nothing would deep wide = rw t
   answers_invalid_without_limits = λ h. absurd (let x : Err TooDeep ≡ Err InvalidInput = h in cc);
   answers_too_deep = λ h. (nothing tt, deep refl);
   answers_too_wide = λ h. absurd (let x : Err TooDeep ≡ Err TooWide = h in cc);
+  answers_not_carried = λ h. absurd (let x : Err TooDeep ≡ Err NotCarried = h in cc);
 })
-told t root from i to serde.TooWide refusal tells nothing would deep wide = rw tells (record {
+told t root from i to serde.TooWide refusal tells nothing would deep wide uncarried = rw tells (record {
   answers_ok = tt;
   spelled_is_ok = λ v h fit. absurd (nothing tt v h);
   unfit_is_refused = λ v u h lack. absurd (nothing tt v h);
@@ -158,13 +176,26 @@ told t root from i to serde.TooWide refusal tells nothing would deep wide = rw t
   answers_invalid_without_limits = λ h. absurd (let x : Err TooWide ≡ Err InvalidInput = h in cc);
   answers_too_deep = λ h. absurd (let x : Err TooWide ≡ Err TooDeep = h in cc);
   answers_too_wide = λ h. (nothing tt, wide refl);
+  answers_not_carried = λ h. absurd (let x : Err TooWide ≡ Err NotCarried = h in cc);
 })
-told t root from i to serde.NoMemory refusal tells nothing would deep wide = rw tells (no_memory t root from i to)
-told t root from i to serde.Unwritable refusal tells nothing would deep wide = absurd tells
-told t root from i to serde.Failed refusal tells nothing would deep wide = absurd tells
+told t root from i to serde.NotCarried refusal tells nothing would deep wide uncarried = rw tells (record {
+  answers_ok = tt;
+  spelled_is_ok = λ v h fit. absurd (nothing tt v h);
+  unfit_is_refused = λ v u h lack. absurd (nothing tt v h);
+  answers_inexpressible = λ u h. absurd (let x : Err NotCarried ≡ Err (Inexpressible u) = h in cc);
+  answers_invalid_input = λ h. nothing tt;
+  answers_invalid_without_limits = λ h. absurd (let x : Err NotCarried ≡ Err InvalidInput = h in cc);
+  answers_too_deep = λ h. absurd (let x : Err NotCarried ≡ Err TooDeep = h in cc);
+  answers_too_wide = λ h. absurd (let x : Err NotCarried ≡ Err TooWide = h in cc);
+  answers_not_carried = λ h. (nothing tt, uncarried refl);
+})
+told t root from i to serde.NoMemory refusal tells nothing would deep wide uncarried = rw tells (no_memory t root from i to)
+told t root from i to serde.Unwritable refusal tells nothing would deep wide uncarried = absurd tells
+told t root from i to serde.Failed refusal tells nothing would deep wide uncarried = absurd tells
 
 pub refused : {A : Type 0} (t : Table) (root : ℕ) (from : Wire) (i : List ℕ) (to : Wire) (r : Result A SerdeError) (e : SerdeError) (refusal : TranscodeError) → r ≡ Err e → Tells e refusal
-    → (IsRefused r → SpellNothing from t root i) → (IsInvalid r → SpellNothingWithoutLimits from t root i) → (IsErrOf r serde.TooDeep → 128 ≤ openers from i) → (IsErrOf r serde.TooWide → IsWide from t i)
+    → (IsRefused r → SpellNothing from t root i) → (IsInvalid r → SpellNothingWithoutLimits from t root i) → (IsErrOf r serde.TooDeep → 128 ≤ openers from i) → (IsErrOf r serde.TooWide → IsWide from t i) → (IsErrOf r serde.NotCarried → IsUncarried from t i)
     → Transcodes t root from i to (Err refusal)
-refused t root from i to r e refusal is tells nothing would deep wide =
+refused t root from i to r e refusal is tells nothing would deep wide uncarried =
     told t root from i to e refusal tells (λ fault. nothing (rw is fault)) (λ invalid. would (rw (is, invalid) tt)) (λ depth. deep (is ∙ ap Err depth)) (λ width. wide (is ∙ ap Err width))
+    (λ other. uncarried (is ∙ ap Err other))

@@ -2,10 +2,13 @@
 use Rattle.std.specs.Prelude.{◌≡◌, ℕ, List, Option, Some}
 use Rattle.smithy_schema.specs.declared.place.Place.{Place}
 use Rattle.smithy_schema.specs.declared.shape_type.Scalar.{Scalar}
+use Rattle.smithy_schema.specs.declared.shape_type.Scalar.TheVariants.{Timestamp}
 use Rattle.smithy_schema.specs.Table.{Table, scalar, kind_of, place_in}
 use Rattle.smithy_json_codec.specs.Openers.{json_openers}
+use Rattle.smithy_json_codec.specs.Uncarried.{IsUncarriedJson}
 use Rattle.smithy_json_codec.specs.Wide.{IsWideJson}
 use Rattle.smithy_cbor_codec.specs.Openers.{cbor_openers}
+use Rattle.smithy_cbor_codec.specs.Uncarried.{IsUncarriedCbor}
 use Rattle.smithy_cbor_codec.specs.Wide.{IsWideCbor}
 use Rattle.smithy_transcode.specs.Wires.{Wire, json, cbor, query}
 
@@ -21,6 +24,12 @@ HasWide (json use_json_name) s bytes = IsWideJson s bytes
 HasWide cbor s bytes = IsWideCbor s bytes
 HasWide (query action version) s bytes = ⊥
 
+-- some slice of the bytes is a number of seconds that no instant carries
+abbrev pub HasOtherSeconds : Wire → List ℕ → Type 0
+HasOtherSeconds (json use_json_name) bytes = IsUncarriedJson bytes
+HasOtherSeconds cbor bytes = IsUncarriedCbor bytes
+HasOtherSeconds (query action version) bytes = ⊥
+
 -- the place is that of a member, of an element or of a map's value in the table
 abbrev pub IsChildPlace : Table → Place → Type 0
 IsChildPlace table q = (p : Place) × (n : Option ℕ) × (place_in (kind_of table p) n ≡ Some q)
@@ -32,3 +41,7 @@ HasTarget table s = (place : Place) × IsChildPlace table place × (kind_of tabl
 -- the bytes have a big number of a kind that the table has, and it leaves the limits of the kind
 abbrev pub IsWide : Wire → Table → List ℕ → Type 0
 IsWide wire table bytes = (s : Scalar) × HasTarget table s × HasWide wire s bytes
+
+-- the table has instants, and the bytes have a number of seconds that none carries
+abbrev pub IsUncarried : Wire → Table → List ℕ → Type 0
+IsUncarried wire table bytes = HasTarget table Timestamp × HasOtherSeconds wire bytes

@@ -21,7 +21,8 @@ Spells (json use_json_name) table root bytes v =
 Spells cbor table root bytes v = cbor_spells strict_cbor table (shape_place root) bytes v
 Spells (query action version) table root bytes v = ⊥
 
--- the same without the limits on depth and on the size of numbers
+-- the same without the limits on depth and on the size of numbers, and with each number of seconds that isn't carried taken
+-- for a null
 abbrev pub SpellsWithoutLimits : Wire → Table → ℕ → List ℕ → Value → Type 0
 SpellsWithoutLimits (json use_json_name) table root bytes v =
     json_spells (without_limits (strict_settings use_json_name)) table (shape_place root) bytes v
@@ -31,6 +32,6 @@ SpellsWithoutLimits (query action version) table root bytes v = ⊥
 
 -- the one body of a value of the root
 abbrev pub body : Wire → Table → ℕ → Value → List ℕ
-body (json use_json_name) table root v = canonical_json use_json_name (shape_site table root) v
+body (json use_json_name) table root v = canonical_json (strict_settings use_json_name) (shape_site table root) v
 body cbor table root v = canonical_cbor (shape_site table root) v
 body (query action version) table root v = canonical_query action version (shape_site table root) v

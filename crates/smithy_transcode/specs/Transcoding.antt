@@ -11,10 +11,10 @@ use Rattle.smithy_query_codec.specs.Canonical.{leaves_pairs}
 use Rattle.smithy_query_codec.specs.Distinct.{HaveDistinctPaths, HaveDistinctTexts}
 use Rattle.smithy_transcode.specs.declared.wire.Unfit.{Unfit}
 use Rattle.smithy_transcode.specs.declared.wire.TranscodeError.{TranscodeError}
-use Rattle.smithy_transcode.specs.declared.wire.TranscodeError.TheVariants.{InvalidInput, TooDeep, TooWide, Inexpressible, NoMemory}
+use Rattle.smithy_transcode.specs.declared.wire.TranscodeError.TheVariants.{InvalidInput, TooDeep, TooWide, NotCarried, Inexpressible, NoMemory}
 use Rattle.smithy_transcode.specs.Wires.{Wire, json, cbor, query, unfit}
 use Rattle.smithy_transcode.specs.Spelling.{Spells, SpellsWithoutLimits, body}
-use Rattle.smithy_transcode.specs.Causes.{openers, IsWide}
+use Rattle.smithy_transcode.specs.Causes.{openers, IsWide, IsUncarried}
 
 -- the bytes spell no value of the root
 abbrev pub SpellNothing : Wire → Table → ℕ → List ℕ → Type 0
@@ -64,23 +64,26 @@ pub record Transcodes (table : Table) (root : ℕ) (from : Wire) (input : List �
   -- Ok comes only where the whole input spells a value that the wanted wire can express, and the output is its body,
   -- which tells that value again
   pub answers_ok : IfOk answer
-      (λ out. (v : Value) × Spells from table root input v × (unfit to v ≡ None)
+      (λ out. (v : Value) × Spells from table root input v × (unfit to table root v ≡ None)
       × (out.items ≡ body to table root v) × TellsAgain to table root out.items v)
   -- where the input spells such a value, its body is the answer, want of memory aside
-  pub spelled_is_ok : (v : Value) → Spells from table root input v → unfit to v ≡ None
+  pub spelled_is_ok : (v : Value) → Spells from table root input v → unfit to table root v ≡ None
       → GivesOrNoMemory (body to table root v) answer
   -- where it spells another, the answer says why the wire can't express it, want of memory aside
-  pub unfit_is_refused : (v : Value) (u : Unfit) → Spells from table root input v → unfit to v ≡ Some u
+  pub unfit_is_refused : (v : Value) (u : Unfit) → Spells from table root input v → unfit to table root v ≡ Some u
       → LacksOrNoMemory u answer
   -- and says so nowhere else
   pub answers_inexpressible : (u : Unfit) → IsErrOf answer (Inexpressible u)
-      → (v : Value) × Spells from table root input v × (unfit to v ≡ Some u)
+      → (v : Value) × Spells from table root input v × (unfit to table root v ≡ Some u)
   -- each refusal of an input comes only where it spells nothing
   pub answers_invalid_input : IsErrOf answer InvalidInput → SpellNothing from table root input
-  -- `InvalidInput` also only where it wouldn't spell one without the limits on depth and on the size of numbers
+  -- `InvalidInput` also only where it wouldn't spell one without the limits on depth, on the size of numbers and on what is
+  -- carried
   pub answers_invalid_without_limits : IsErrOf answer InvalidInput → SpellNothingWithoutLimits from table root input
   -- and `TooDeep` only where 128 containers are open at once, or more
   pub answers_too_deep : IsErrOf answer TooDeep
       → SpellNothing from table root input × (128 ≤ openers from input)
   -- and `TooWide` only where a big number leaves the limits of its kind
   pub answers_too_wide : IsErrOf answer TooWide → SpellNothing from table root input × IsWide from table input
+  -- and `NotCarried` only where a number of seconds isn't carried as an instant
+  pub answers_not_carried : IsErrOf answer NotCarried → SpellNothing from table root input × IsUncarried from table input

@@ -1,7 +1,7 @@
 -- The value that a tree of the program stands for.
 use Rattle.std.specs.Prelude.{ℕ, List, [], ◌∷◌, map as mapped, String, string_bytes, box_value}
 use Rattle.std.specs.declared.alloc.Global.{Global}
-use Rattle.smithy_schema.specs.Value.{boolean, whole, text, bytes, decimal, Value, scalar_value, list, map, structure, union, null_element, values_of, MapEntries, no_map_entries, map_entry, MemberValues, no_member_values, member_value}
+use Rattle.smithy_schema.specs.Value.{boolean, whole, text, bytes, decimal, instant, Value, scalar_value, list, map, structure, union, null_element, values_of, MapEntries, no_map_entries, map_entry, MemberValues, no_member_values, member_value}
 use Rattle.smithy_transcode.specs.declared.value.Value as kept
 use Rattle.smithy_transcode.specs.declared.value.Value.TheOpen.{Value-F}
 
@@ -22,6 +22,7 @@ view_step (Value-F.Whole n) = scalar_value (whole n)
 view_step (Value-F.Text s) = scalar_value (text (string_bytes s))
 view_step (Value-F.Bytes v) = scalar_value (bytes v.items)
 view_step (Value-F.Decimal m e) = scalar_value (decimal m e)
+view_step (Value-F.Timestamp d) = scalar_value (instant d)
 view_step (Value-F.List v) = list (values_of v.items)
 view_step (Value-F.Map m) = map (map_entries_of m.entries)
 view_step (Value-F.Structure m) = structure (member_values_of m.entries)

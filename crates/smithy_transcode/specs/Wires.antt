@@ -1,11 +1,19 @@
 -- The wires, as plain data, and what one of them can't carry.
-use Rattle.std.specs.Prelude.{ℕ, List, Bool, Option, Some, None, string_bytes, if◌then◌else◌}
-use Rattle.smithy_schema.specs.Value.{Value}
+use Rattle.std.specs.Prelude.{ℕ, List, Bool, true, false, ◌&&◌, not, Option, Some, None, string_bytes, if◌then◌else◌}
+use Rattle.smithy_schema.specs.declared.shape_type.TimestampFormat.{TimestampFormat}
+use Rattle.smithy_schema.specs.ScalarTest.{scalars_pass}
+use Rattle.smithy_schema.specs.Site.{Site, shape_site}
+use Rattle.smithy_schema.specs.Table.{Table}
+use Rattle.smithy_schema.specs.Value.{ScalarValue, Value}
+use Rattle.smithy_json_codec.specs.Canonical.{json_holds}
+use Rattle.smithy_json_codec.specs.Codec.{strict_settings}
+use Rattle.smithy_cbor_codec.specs.Canonical.{cbor_holds}
 use Rattle.smithy_query_codec.specs.Nulls.{holds_null}
+use Rattle.smithy_query_codec.specs.Writable.{query_holds}
 use Rattle.smithy_transcode.specs.declared.wire.Wire as kept
 use Rattle.smithy_transcode.specs.declared.wire.Wire.TheVariants as wires
 use Rattle.smithy_transcode.specs.declared.wire.Unfit.{Unfit}
-use Rattle.smithy_transcode.specs.declared.wire.Unfit.TheVariants.{Null}
+use Rattle.smithy_transcode.specs.declared.wire.Unfit.TheVariants.{Null, Instant}
 
 pub data Wire : Type 0 where
   -- members go by their JSON names, where they have one
@@ -20,8 +28,25 @@ wire_of (wires.Json use_json_name) = json use_json_name
 wire_of wires.Cbor = cbor
 wire_of (wires.Query action version) = query (string_bytes action) (string_bytes version)
 
--- why the wire can't express the value, where it can't: no form can where a null element stands in it
-abbrev pub unfit : Wire → Value → Option Unfit
-unfit (json use_json_name) v = None
-unfit cbor v = None
-unfit (query action version) v = if holds_null v then Some Null else None
+-- null elements have a spelling: in no form
+abbrev pub has_nulls : Wire → Bool
+has_nulls (query action version) = false
+has_nulls _ = true
+
+-- what is written for a scalar at a place with this time form stands for exactly it
+abbrev pub has_scalar : Wire → Option TimestampFormat → ScalarValue → Bool
+has_scalar (json use_json_name) time x = json_holds (strict_settings use_json_name) time x
+has_scalar cbor time x = cbor_holds time x
+has_scalar (query action version) time x = query_holds time x
+
+-- Why the wire can't express the value of a site, where it can't: a null element stands in it, or else an instant that the
+-- wire doesn't hold at its place.
+abbrev pub unfit_at : Wire → Site → Value → Option Unfit
+unfit_at wire site v =
+    if not (has_nulls wire) && holds_null v then Some Null
+    else if scalars_pass (has_scalar wire) site v then None
+    else Some Instant
+
+-- the same of a value of the root
+abbrev pub unfit : Wire → Table → ℕ → Value → Option Unfit
+unfit wire table root v = unfit_at wire (shape_site table root) v

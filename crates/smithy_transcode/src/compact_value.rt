@@ -8,7 +8,7 @@ use crate::compact_entries::CompactEntries;
 use crate::entry_iter::EntryIter;
 use crate::tree::{Part, Tree};
 use smithy_schema::SerdeError;
-use smithy_types::Blob;
+use smithy_types::{Blob, DateTime};
 use std::alloc::Global;
 use std::collections::BTreeMap;
 
@@ -27,6 +27,8 @@ pub enum CompactValue {
     Bytes(Blob),
     /// A mantissa, times ten to an exponent.
     Decimal(Box<(i128, i64)>),
+    /// An instant.
+    Timestamp(DateTime),
     /// The elements of a list, in their order.
     List(Vec<CompactValue>),
     /// The elements of a list of whole numbers, in their order.
@@ -88,6 +90,10 @@ impl Tree for CompactValue {
     fn decimal(alloc: Global, mantissa: i128, exponent: i64) -> Result<CompactValue, SerdeError> {
         let parts = (mantissa, exponent);
         Ok(CompactValue::Decimal(Box::new(alloc, parts)?))
+    }
+
+    fn timestamp(value: DateTime) -> CompactValue {
+        CompactValue::Timestamp(value)
     }
 
     fn null() -> CompactValue {
@@ -171,6 +177,7 @@ impl Tree for CompactValue {
             CompactValue::Text(content) => Part::Text(content.as_str()),
             CompactValue::Bytes(blob) => Part::Bytes(blob.as_ref()),
             CompactValue::Decimal(parts) => Part::Decimal(parts.0, parts.1),
+            CompactValue::Timestamp(value) => Part::Timestamp(*value),
             CompactValue::List(elements) => Part::List(elements.as_slice()),
             CompactValue::Wholes(numbers) => Part::Wholes(numbers.as_slice()),
             CompactValue::Map(entries) => Part::Map(EntryIter::Slice(entries.as_slice())),

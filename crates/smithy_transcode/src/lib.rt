@@ -6,6 +6,7 @@ mod compact_entries;
 mod compact_value;
 mod entry_iter;
 mod expressing;
+mod instants;
 mod nulls;
 mod reading;
 mod refusal;

@@ -22,6 +22,7 @@ pub(crate) fn holds_null<T: Tree>(value: &T) -> bool
         | Part::Text(_)
         | Part::Bytes(_)
         | Part::Decimal(_, _)
+        | Part::Timestamp(_)
         | Part::UnionText(_, _) => false,
         Part::List(elements) => elements_hold_null::<T>(elements),
         Part::Wholes(numbers) => wholes_hold_null(numbers),

@@ -2,7 +2,7 @@
 ghost use Rattle.std.specs.Prelude.{◌≡◌, ◌↔◌, true, IfOk, IsErrOf};
 ghost use Rattle.smithy_schema.specs.Table.{IsStructure, IsUnion, IsList, IsMap};
 ghost use Rattle.smithy_schema.specs.Site.{site_of, kind_at};
-ghost use Rattle.smithy_schema.specs.Reading.{Reads, StandsNot, IsRefused, IsInvalid, ReachesDepth, ExceedsInside, IsCounted};
+ghost use Rattle.smithy_schema.specs.Reading.{Reads, StandsNot, IsRefused, IsInvalid, ReachesDepth, ExceedsInside, UncarriedInside, IsCounted};
 ghost use Rattle.smithy_transcode.specs.View.{view};
 
 use crate::tree::Tree;
@@ -34,6 +34,9 @@ pub fn read_value<D: ShapeDeserializer>(
     // `TooWide`: where it failed, a big number leaves the limits of the kind that is due there.
     ensures wide { IsErrOf result SerdeError.TooWide → ExceedsInside (D.wire (D.settings source.old)) (D.state source.old) (D.state source.new) schema.now.shapes.now schema.now.place }
 
+    // `NotCarried`: where it failed stands what the kind that is due there can't carry.
+    ensures uncarried { IsErrOf result SerdeError.NotCarried → UncarriedInside (D.wire (D.settings source.old)) (D.state source.old) (D.state source.new) schema.now.shapes.now schema.now.place }
+
     // Whatever it answers.
     ensures input { (D.state source.new).input ≡ (D.state source.old).input }
     ensures counted { D.is_strict (D.settings source.old) → IsCounted (D.wire (D.settings source.old)) (D.state source.old) → IsCounted (D.wire (D.settings source.old)) (D.state source.new) }
@@ -58,6 +61,7 @@ pub(crate) fn read_tree<T: Tree, D: ShapeDeserializer>(
     ensures readable { IsErrOf result SerdeError.Unwritable → ⊥ }
     ensures deep { IsErrOf result SerdeError.TooDeep → ReachesDepth (D.wire (D.settings source.old)) (D.max_depth (D.settings source.old)) (D.state source.new) }
     ensures wide { IsErrOf result SerdeError.TooWide → ExceedsInside (D.wire (D.settings source.old)) (D.state source.old) (D.state source.new) schema.now.shapes.now schema.now.place }
+    ensures uncarried { IsErrOf result SerdeError.NotCarried → UncarriedInside (D.wire (D.settings source.old)) (D.state source.old) (D.state source.new) schema.now.shapes.now schema.now.place }
     ensures input { (D.state source.new).input ≡ (D.state source.old).input }
     ensures counted { D.is_strict (D.settings source.old) → IsCounted (D.wire (D.settings source.old)) (D.state source.old) → IsCounted (D.wire (D.settings source.old)) (D.state source.new) }
 {
@@ -77,6 +81,7 @@ pub(crate) fn read_tree<T: Tree, D: ShapeDeserializer>(
             Ok((mantissa, exponent)) => T::decimal(alloc, mantissa, exponent),
             Err(_) => unreachable!(),
         },
+        ShapeType::Timestamp => Ok(T::timestamp(source.read_timestamp(schema)?)),
         ShapeType::Structure => read_structure::<T, D>(alloc, source, schema),
         ShapeType::Union => read_union::<T, D>(alloc, source, schema),
         ShapeType::List => read_list::<T, D>(alloc, source, schema),
@@ -101,6 +106,7 @@ fn read_structure<T: Tree, D: ShapeDeserializer>(
     ensures readable { IsErrOf result SerdeError.Unwritable → ⊥ }
     ensures deep { IsErrOf result SerdeError.TooDeep → ReachesDepth (D.wire (D.settings source.old)) (D.max_depth (D.settings source.old)) (D.state source.new) }
     ensures wide { IsErrOf result SerdeError.TooWide → ExceedsInside (D.wire (D.settings source.old)) (D.state source.old) (D.state source.new) schema.now.shapes.now schema.now.place }
+    ensures uncarried { IsErrOf result SerdeError.NotCarried → UncarriedInside (D.wire (D.settings source.old)) (D.state source.old) (D.state source.new) schema.now.shapes.now schema.now.place }
     ensures input { (D.state source.new).input ≡ (D.state source.old).input }
     ensures counted { D.is_strict (D.settings source.old) → IsCounted (D.wire (D.settings source.old)) (D.state source.old) → IsCounted (D.wire (D.settings source.old)) (D.state source.new) }
 {
@@ -138,6 +144,7 @@ fn read_union<T: Tree, D: ShapeDeserializer>(
     ensures readable { IsErrOf result SerdeError.Unwritable → ⊥ }
     ensures deep { IsErrOf result SerdeError.TooDeep → ReachesDepth (D.wire (D.settings source.old)) (D.max_depth (D.settings source.old)) (D.state source.new) }
     ensures wide { IsErrOf result SerdeError.TooWide → ExceedsInside (D.wire (D.settings source.old)) (D.state source.old) (D.state source.new) schema.now.shapes.now schema.now.place }
+    ensures uncarried { IsErrOf result SerdeError.NotCarried → UncarriedInside (D.wire (D.settings source.old)) (D.state source.old) (D.state source.new) schema.now.shapes.now schema.now.place }
     ensures input { (D.state source.new).input ≡ (D.state source.old).input }
     ensures counted { D.is_strict (D.settings source.old) → IsCounted (D.wire (D.settings source.old)) (D.state source.old) → IsCounted (D.wire (D.settings source.old)) (D.state source.new) }
 {
@@ -174,6 +181,7 @@ fn read_list<T: Tree, D: ShapeDeserializer>(
     ensures readable { IsErrOf result SerdeError.Unwritable → ⊥ }
     ensures deep { IsErrOf result SerdeError.TooDeep → ReachesDepth (D.wire (D.settings source.old)) (D.max_depth (D.settings source.old)) (D.state source.new) }
     ensures wide { IsErrOf result SerdeError.TooWide → ExceedsInside (D.wire (D.settings source.old)) (D.state source.old) (D.state source.new) schema.now.shapes.now schema.now.place }
+    ensures uncarried { IsErrOf result SerdeError.NotCarried → UncarriedInside (D.wire (D.settings source.old)) (D.state source.old) (D.state source.new) schema.now.shapes.now schema.now.place }
     ensures input { (D.state source.new).input ≡ (D.state source.old).input }
     ensures counted { D.is_strict (D.settings source.old) → IsCounted (D.wire (D.settings source.old)) (D.state source.old) → IsCounted (D.wire (D.settings source.old)) (D.state source.new) }
 {
@@ -212,6 +220,7 @@ fn read_map<T: Tree, D: ShapeDeserializer>(
     ensures readable { IsErrOf result SerdeError.Unwritable → ⊥ }
     ensures deep { IsErrOf result SerdeError.TooDeep → ReachesDepth (D.wire (D.settings source.old)) (D.max_depth (D.settings source.old)) (D.state source.new) }
     ensures wide { IsErrOf result SerdeError.TooWide → ExceedsInside (D.wire (D.settings source.old)) (D.state source.old) (D.state source.new) schema.now.shapes.now schema.now.place }
+    ensures uncarried { IsErrOf result SerdeError.NotCarried → UncarriedInside (D.wire (D.settings source.old)) (D.state source.old) (D.state source.new) schema.now.shapes.now schema.now.place }
     ensures input { (D.state source.new).input ≡ (D.state source.old).input }
     ensures counted { D.is_strict (D.settings source.old) → IsCounted (D.wire (D.settings source.old)) (D.state source.old) → IsCounted (D.wire (D.settings source.old)) (D.state source.new) }
 {

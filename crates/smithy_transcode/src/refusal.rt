@@ -15,6 +15,7 @@ pub(crate) fn refusal(error: SerdeError) -> TranscodeError
         SerdeError::InvalidInput => TranscodeError::InvalidInput,
         SerdeError::TooDeep => TranscodeError::TooDeep,
         SerdeError::TooWide => TranscodeError::TooWide,
+        SerdeError::NotCarried => TranscodeError::NotCarried,
         SerdeError::NoMemory => TranscodeError::NoMemory,
         SerdeError::Failed | SerdeError::Unwritable => unreachable!(),
     }

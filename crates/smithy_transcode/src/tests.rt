@@ -10,6 +10,8 @@ mod blobs;
 mod cbor;
 mod entries;
 mod forms;
+mod instant_places;
+mod instants;
 mod refusals;
 mod rows;
 mod scalars;

@@ -4,7 +4,7 @@ ghost use Rattle.smithy_schema.specs.Accepted.{IsAccepted};
 ghost use Rattle.smithy_schema.specs.Fits.{Fits};
 ghost use Rattle.smithy_schema.specs.Reading.{IsRefused, IsInvalid};
 ghost use Rattle.smithy_schema.specs.Table.{IsStructure, kind_of, shape_place};
-ghost use Rattle.smithy_transcode.specs.Causes.{openers, IsWide};
+ghost use Rattle.smithy_transcode.specs.Causes.{openers, IsWide, IsUncarried};
 ghost use Rattle.smithy_transcode.specs.Spelling.{Spells, body};
 ghost use Rattle.smithy_transcode.specs.Transcoding.{Transcodes, SpellNothing, SpellNothingWithoutLimits};
 ghost use Rattle.smithy_transcode.specs.Wires.{wire_of, unfit as unfit_for};
@@ -42,7 +42,7 @@ pub fn transcode(
         Ok(value) => value,
         Err(error) => return Err(refusal(error)),
     };
-    if let Some(lacking) = unfit(&value, to) {
+    if let Some(lacking) = unfit(&shapes.schema(root), &value, to) {
         return Err(TranscodeError::Inexpressible(lacking));
     }
     match write_body(alloc, shapes, root, to, &value) {
@@ -66,6 +66,7 @@ fn read_body(
     ensures would { IsInvalid result → SpellNothingWithoutLimits (wire_of from.now) shapes.now root.0 input.now }
     ensures deep { IsErrOf result SerdeError.TooDeep → 128 ≤ openers (wire_of from.now) input.now }
     ensures wide { IsErrOf result SerdeError.TooWide → IsWide (wire_of from.now) shapes.now input.now }
+    ensures uncarried { IsErrOf result SerdeError.NotCarried → IsUncarried (wire_of from.now) shapes.now input.now }
     ensures sound { IsErrOf result SerdeError.Failed → ⊥ }
     ensures readable { IsErrOf result SerdeError.Unwritable → ⊥ }
 {
@@ -96,7 +97,7 @@ fn write_body(
 ) -> Result<Vec<u8>, SerdeError>
     requires root { IsStructure (kind_of shapes.now (shape_place root.0)) }
     requires fits { Fits shapes.now (shape_place root.0) (view value.now) }
-    requires fit { unfit_for (wire_of to.now) (view value.now) ≡ None }
+    requires fit { unfit_for (wire_of to.now) shapes.now root.0 (view value.now) ≡ None }
     requires positions { CanCount (wire_of to.now) (view value.now) }
     requires accepted { IsAccepted shapes.now }
     ensures ok { IfOk result (λ out. out.items ≡ body (wire_of to.now) shapes.now root.0 (view value.now)) }

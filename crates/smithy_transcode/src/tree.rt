@@ -1,12 +1,12 @@
 //! A tree of values, as a reader builds it and a writer goes through it.
 ghost use Rattle.std.specs.Prelude.{◌≡◌, List, [], ◌∷◌, ◌++◌, OnOk, IfOk, IfErr, string_bytes};
 ghost use Rattle.smithy_schema.specs.declared.error.SerdeError.TheVariants.{NoMemory};
-ghost use Rattle.smithy_schema.specs.Value.{Value, scalar_value, boolean, whole, text, bytes, decimal, list, map, structure, union, null_element, values_of, MapEntries, no_map_entries, put_entry, MemberValues, no_member_values, put_member};
+ghost use Rattle.smithy_schema.specs.Value.{Value, scalar_value, boolean, whole, text, bytes, decimal, instant, list, map, structure, union, null_element, values_of, MapEntries, no_map_entries, put_entry, MemberValues, no_member_values, put_member};
 ghost use Rattle.smithy_transcode.specs.Private.Tree.{part_view};
 
 use crate::entry_iter::EntryIter;
 use smithy_schema::SerdeError;
-use smithy_types::Blob;
+use smithy_types::{Blob, DateTime};
 use std::alloc::Global;
 
 /// What a tree is at its root.
@@ -22,6 +22,8 @@ pub enum Part<'v, T> {
     Bytes(&'v [u8]),
     /// A mantissa, times ten to an exponent.
     Decimal(i128, i64),
+    /// An instant.
+    Timestamp(DateTime),
     /// The elements of a list, in their order.
     List(&'v [T]),
     /// The elements of a list of whole numbers, in their order.
@@ -77,6 +79,9 @@ pub trait Tree: Drop + Sized {
     fn decimal(alloc: Global, mantissa: i128, exponent: i64) -> Result<Self, SerdeError>
         ensures ok { IfOk result (λ n. view n ≡ scalar_value (decimal mantissa exponent)) }
         ensures err { IfErr result (λ e. e ≡ NoMemory) };
+
+    fn timestamp(value: DateTime) -> Self
+        ensures { view result ≡ scalar_value (instant value) };
 
     fn null() -> Self
         ensures { view result ≡ null_element };

@@ -4,7 +4,7 @@ ghost use Rattle.smithy_transcode.specs.View.{view as value_view, view_elements 
 use crate::entry_iter::EntryIter;
 use crate::tree::{Part, Tree};
 use smithy_schema::SerdeError;
-use smithy_types::Blob;
+use smithy_types::{Blob, DateTime};
 use std::alloc::Global;
 use std::collections::BTreeMap;
 
@@ -21,6 +21,8 @@ pub enum Value {
     Bytes(Vec<u8>),
     /// A mantissa, times ten to an exponent, as they were given.
     Decimal(i128, i64),
+    /// An instant.
+    Timestamp(DateTime),
     /// The elements of a list, in their order.
     List(Vec<Value>),
     /// The values of a map by their keys.
@@ -70,6 +72,10 @@ impl Tree for Value {
 
     fn decimal(_alloc: Global, mantissa: i128, exponent: i64) -> Result<Value, SerdeError> {
         Ok(Value::Decimal(mantissa, exponent))
+    }
+
+    fn timestamp(value: DateTime) -> Value {
+        Value::Timestamp(value)
     }
 
     fn null() -> Value {
@@ -141,6 +147,7 @@ impl Tree for Value {
             Value::Text(content) => Part::Text(content.as_str()),
             Value::Bytes(content) => Part::Bytes(content.as_slice()),
             Value::Decimal(mantissa, exponent) => Part::Decimal(*mantissa, *exponent),
+            Value::Timestamp(value) => Part::Timestamp(*value),
             Value::List(elements) => Part::List(elements.as_slice()),
             Value::Map(entries) => Part::Map(EntryIter::Map(entries.iter())),
             Value::Structure(members) => Part::Structure(EntryIter::Map(members.iter())),

@@ -26,6 +26,8 @@ pub enum Wire {
 pub enum Unfit {
     /// A null among the elements of a list or the values of a map: no form has one.
     Null,
+    /// An instant that the wire doesn't hold in the time form of its place.
+    Instant,
 }
 
 /// Why a body was refused. `Display` writes the variant's name.
@@ -42,6 +44,10 @@ pub enum TranscodeError {
     /// of the kind.
     #[error("TooWide")]
     TooWide,
+    /// The input spells no value of the root, the table has instants, and the input holds a number of seconds that isn't
+    /// carried as one.
+    #[error("NotCarried")]
+    NotCarried,
     /// The input spells a value of the root that the wanted wire can't express.
     #[error("Inexpressible")]
     Inexpressible(Unfit),

@@ -54,6 +54,7 @@ pub(crate) fn write_tree<T: Tree, S: ShapeSerializer>(
         Part::Text(content) => sink.write_string(schema, content),
         Part::Bytes(content) => sink.write_bytes(schema, content),
         Part::Decimal(mantissa, exponent) => sink.write_decimal(schema, mantissa, exponent),
+        Part::Timestamp(value) => sink.write_timestamp(schema, &value),
         Part::List(elements) => write_list::<T, S>(alloc, sink, schema, elements),
         Part::Wholes(numbers) => write_wholes(sink, schema, numbers),
         Part::Map(entries) => write_map::<T, S>(alloc, sink, schema, entries),
@@ -86,6 +87,7 @@ fn write_whole<S: ShapeSerializer>(
         | ShapeType::String
         | ShapeType::Blob
         | ShapeType::BigDecimal
+        | ShapeType::Timestamp
         | ShapeType::List
         | ShapeType::Map
         | ShapeType::Structure

@@ -1,5 +1,5 @@
 -- What follows from what a status says: a run that is all in order is done, and one over a missing file isn't.
-use Rattle.std.proofs.Common.{◌≡◌, ◌<◌, ◌⊎◌, inl, inr, ℕ, length, List, Some, refl, sym, subst, ap, ◌∙◌, arith}
+use Rattle.std.proofs.Common.{◌≡◌, ◌<◌, ◌⊎◌, inl, inr, ℕ, length, List, Some, None, refl, sym, subst, ap, ◌∙◌, arith}
 use Rattle.smithy_schema.specs.Table.{Table, IsStructure, kind_of, shape_place, declared_as}
 use Rattle.smithy_schema.specs.Acceptance.{accepted, table_of}
 use Rattle.smithy_schema.specs.Value.{Value}
@@ -7,7 +7,7 @@ use Rattle.smithy_transcode.specs.Spelling.{Spells}
 use Rattle.smithy_transcode.specs.Wires.{unfit}
 use Rattle.smithy_transcode.proofs.Transcodings.{one_value, not_both}
 use Rattle.smithy_transcode_cli.specs.declared.status.Status.{Status}
-use Rattle.smithy_transcode_cli.specs.declared.status.Status.TheVariants.{Done, Usage, ReadFailed, WriteFailed, OutOfMemory, InvalidInput, TooDeep, TooWide, Inexpressible, TableRefused, NoSuchShape, NotAStructure, TooLong, NotBuilt}
+use Rattle.smithy_transcode_cli.specs.declared.status.Status.TheVariants.{Done, Usage, ReadFailed, WriteFailed, OutOfMemory, InvalidInput, TooDeep, TooWide, NotCarried, Inexpressible, TableRefused, NoSuchShape, NotAStructure, TooLong, NotBuilt}
 use Rattle.smithy_transcode_cli.specs.Task.{Task}
 use Rattle.smithy_transcode_cli.specs.Outside.{Told, Outside, missing, Tells, GavePast}
 use Rattle.smithy_transcode_cli.specs.RunAnswer.{sources_of, IsLoaded, IsRead, AfterInput, IsInOrder, Says, longest_input}
@@ -41,6 +41,11 @@ module _ (task : Task) (old new : Outside) (text input : List ℕ) (table : Tabl
       subst (λ (bs : List ℕ). Spells task.from other n bs v) (sym (read.whole input o.source))
       (subst (λ (m : ℕ). Spells task.from other m input v) r (subst (λ (u : Table). Spells task.from u root input v) t o.spells))
 
+  -- and the wanted wire can express it there
+  fit_there : (other : Table) (n : ℕ) → table ≡ other → root ≡ n → unfit task.to other n v ≡ None
+  fit_there other n t r =
+      subst (λ (m : ℕ). unfit task.to other m v ≡ None) r (subst (λ (u : Table). unfit task.to u root v ≡ None) t o.fit)
+
   not_nothing : AfterInput task (sources_of task old) (sources_of task new) (λ other n bytes. (w : Value) → Spells task.from other n bytes w → ⊥) → ⊥
   not_nothing after =
       let there = after.2 in
@@ -68,14 +73,19 @@ module _ (task : Task) (old new : Outside) (text input : List ℕ) (table : Tabl
       let found = says.2.2 in
       let read = found.2 in
       absurd (not_nothing (says.0, says.1, (says.2.0, says.2.1, (found.0, found.1, (read.0, read.1, read.2.0)))))
+  complete_of NotCarried says =
+      let found = says.2.2 in
+      let read = found.2 in
+      absurd (not_nothing (says.0, says.1, (says.2.0, says.2.1, (found.0, found.1, (read.0, read.1, read.2.0)))))
   complete_of (Inexpressible u) says =
       let there = says.2 in
       let found = there.2 in
       let read = found.2 in
       let t = same_table says.0 says.1 there.0 there.1 in
-      let spelled = spells_there there.0 found.0 read.0 t (same_root there.0 t found.0 found.1.named) read.1 in
+      let r = same_root there.0 t found.0 found.1.named in
+      let spelled = spells_there there.0 found.0 read.0 t r read.1 in
       let same : v ≡ read.2.0 = one_value task.from there.0 found.0 read.0 v read.2.0 spelled read.2.1 in
-      absurd (not_both (unfit task.to v) u o.fit (ap (unfit task.to) same ∙ read.2.2))
+      absurd (not_both (unfit task.to there.0 found.0 v) u (fit_there there.0 found.0 t r) (ap (unfit task.to there.0 found.0) same ∙ read.2.2))
   complete_of (TableRefused fault) says =
       let after = says.1 in let same = accepted_there after.0 after.1 in let told = after.2.2 in absurd (cc (same, told))
   complete_of NoSuchShape says =
@@ -103,6 +113,7 @@ fault_of_missing task old new gone OutOfMemory says = inr refl
 fault_of_missing task old new gone InvalidInput says = absurd (says.1.there gone)
 fault_of_missing task old new gone TooDeep says = absurd (says.1.there gone)
 fault_of_missing task old new gone TooWide says = absurd (says.1.there gone)
+fault_of_missing task old new gone NotCarried says = absurd (says.1.there gone)
 fault_of_missing task old new gone (Inexpressible u) says = absurd (says.1.there gone)
 fault_of_missing task old new gone (TableRefused fault) says = absurd (says.1.1.there gone)
 fault_of_missing task old new gone NoSuchShape says = absurd (says.1.1.there gone)

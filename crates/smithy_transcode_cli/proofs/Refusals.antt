@@ -60,5 +60,6 @@ module _ (task : Task) (old new : Sources) (text input : List ℕ) (table : Tabl
       (text, loaded, (table, is, (root, there, (input, read, (told.answers_invalid_input refl, told.answers_invalid_without_limits refl)))))
   transcode_fails errors.TooDeep told = (text, loaded, (table, is, (root, there, (input, read, told.answers_too_deep refl))))
   transcode_fails errors.TooWide told = (text, loaded, (table, is, (root, there, (input, read, told.answers_too_wide refl))))
+  transcode_fails errors.NotCarried told = (text, loaded, (table, is, (root, there, (input, read, told.answers_not_carried refl))))
   transcode_fails (errors.Inexpressible u) told = (text, loaded, (table, is, (root, there, (input, read, told.answers_inexpressible u refl))))
   transcode_fails errors.NoMemory told = tt

@@ -5,8 +5,8 @@ use Rattle.smithy_schema.specs.Acceptance.{Fault, bad_line, not_built, float_sha
 use Rattle.smithy_schema.specs.declared.fault.TableFault.{TableFault}
 use Rattle.smithy_schema.specs.declared.fault.TableFault.TheVariants as table_faults
 use Rattle.smithy_transcode_cli.specs.declared.status.Status.{Status}
-use Rattle.smithy_transcode.specs.declared.wire.Unfit.TheVariants.{Null}
-use Rattle.smithy_transcode_cli.specs.declared.status.Status.TheVariants.{Done, Usage, ReadFailed, WriteFailed, OutOfMemory, InvalidInput, TooDeep, TooWide, Inexpressible, TableRefused, NoSuchShape, NotAStructure, TooLong, NotBuilt}
+use Rattle.smithy_transcode.specs.declared.wire.Unfit.TheVariants.{Null, Instant}
+use Rattle.smithy_transcode_cli.specs.declared.status.Status.TheVariants.{Done, Usage, ReadFailed, WriteFailed, OutOfMemory, InvalidInput, TooDeep, TooWide, NotCarried, Inexpressible, TableRefused, NoSuchShape, NotAStructure, TooLong, NotBuilt}
 use Rattle.smithy_transcode_cli.specs.Outside.{Told, MetOneFault, MetNoFault, Took, TookPrefix}
 
 -- the name of a fault
@@ -50,7 +50,9 @@ text_of OutOfMemory = codes "out of memory"
 text_of InvalidInput = codes "invalid input"
 text_of TooDeep = codes "too deep"
 text_of TooWide = codes "number too wide"
+text_of NotCarried = codes "not carried"
 text_of (Inexpressible Null) = codes "null not expressible"
+text_of (Inexpressible Instant) = codes "instant not expressible"
 text_of (TableRefused fault) =
     codes "table refused: " ++ option_map_or refusal_text (refusal_of fault) []
 text_of NoSuchShape = codes "no such shape"

@@ -5,11 +5,11 @@ use Rattle.smithy_schema.specs.Acceptance.{Fault, not_built, TableAnswer, accept
 use Rattle.smithy_schema.specs.declared.fault.TableFault.{TableFault}
 use Rattle.smithy_schema.specs.Value.{Value}
 use Rattle.smithy_transcode.specs.Spelling.{Spells, body}
-use Rattle.smithy_transcode.specs.Causes.{openers, IsWide}
+use Rattle.smithy_transcode.specs.Causes.{openers, IsWide, IsUncarried}
 use Rattle.smithy_transcode.specs.Transcoding.{SpellNothing, SpellNothingWithoutLimits, TellsAgain}
 use Rattle.smithy_transcode.specs.Wires.{unfit}
 use Rattle.smithy_transcode_cli.specs.declared.status.Status.{Status}
-use Rattle.smithy_transcode_cli.specs.declared.status.Status.TheVariants.{Done, Usage, ReadFailed, WriteFailed, OutOfMemory, InvalidInput, TooDeep, TooWide, Inexpressible, TableRefused, NoSuchShape, NotAStructure, TooLong, NotBuilt}
+use Rattle.smithy_transcode_cli.specs.declared.status.Status.TheVariants.{Done, Usage, ReadFailed, WriteFailed, OutOfMemory, InvalidInput, TooDeep, TooWide, NotCarried, Inexpressible, TableRefused, NoSuchShape, NotAStructure, TooLong, NotBuilt}
 use Rattle.smithy_transcode_cli.specs.Command.{command_of}
 use Rattle.smithy_transcode_cli.specs.Task.{Task, task_asked}
 use Rattle.smithy_transcode_cli.specs.Status.{status_code}
@@ -73,7 +73,7 @@ AfterInput task old new P =
 abbrev pub AfterTranscoding : Task → Sources → Sources → (List ℕ → Type 0) → Type 0
 AfterTranscoding task old new P =
     AfterInput task old new
-    (λ table root input. (v : Value) × Spells task.from table root input v × (unfit task.to v ≡ None)
+    (λ table root input. (v : Value) × Spells task.from table root input v × (unfit task.to table root v ≡ None)
     × TellsAgain task.to table root (body task.to table root v) v × P (body task.to table root v))
 
 -- ---- the statuses
@@ -104,9 +104,12 @@ Refuses task old new TooDeep =
 Refuses task old new TooWide =
     AfterInput task old new
     (λ table root input. SpellNothing task.from table root input × IsWide task.from table input)
+Refuses task old new NotCarried =
+    AfterInput task old new
+    (λ table root input. SpellNothing task.from table root input × IsUncarried task.from table input)
 Refuses task old new (Inexpressible u) =
     AfterInput task old new
-    (λ table root input. (v : Value) × Spells task.from table root input v × (unfit task.to v ≡ Some u))
+    (λ table root input. (v : Value) × Spells task.from table root input v × (unfit task.to table root v ≡ Some u))
 Refuses task old new (TableRefused fault) = BeforeInput old new (AfterLoad old (IsRefusal fault))
 Refuses task old new NoSuchShape =
     BeforeInput old new (AfterTable old (λ table. declared_as table task.root_name ≡ None))
@@ -138,7 +141,7 @@ pub record IsInOrder (task : Task) (old new : Outside) (text input : List ℕ)
   pub source : Tells old.input input
   pub input_is_within : length input ≤ longest_input
   pub spells : Spells task.from table root input v
-  pub fit : unfit task.to v ≡ None
+  pub fit : unfit task.to table root v ≡ None
   pub file_is_well : ¬ (HasFailed (old.files task.table_path) (new.files task.table_path))
   pub input_is_well : ¬ (HasFailed old.input new.input)
   pub out_is_well : ¬ (HasFailed old.out new.out)

@@ -7,8 +7,8 @@ use Rattle.smithy_transcode.specs.declared.wire.TranscodeError.TheVariants as er
 use Rattle.smithy_transcode_cli.specs.declared.outside.LoadFault.{LoadFault}
 use Rattle.smithy_transcode_cli.specs.declared.outside.LoadFault.TheVariants as load_faults
 use Rattle.smithy_transcode_cli.specs.declared.status.Status.{Status}
-use Rattle.smithy_transcode.specs.declared.wire.Unfit.TheVariants.{Null}
-use Rattle.smithy_transcode_cli.specs.declared.status.Status.TheVariants.{Done, Usage, ReadFailed, WriteFailed, OutOfMemory, InvalidInput, TooDeep, TooWide, Inexpressible, TableRefused, NoSuchShape, NotAStructure, TooLong, NotBuilt}
+use Rattle.smithy_transcode.specs.declared.wire.Unfit.TheVariants.{Null, Instant}
+use Rattle.smithy_transcode_cli.specs.declared.status.Status.TheVariants.{Done, Usage, ReadFailed, WriteFailed, OutOfMemory, InvalidInput, TooDeep, TooWide, NotCarried, Inexpressible, TableRefused, NoSuchShape, NotAStructure, TooLong, NotBuilt}
 
 -- the number that the program ends with
 abbrev pub status_code : Status → ℕ
@@ -20,7 +20,9 @@ status_code OutOfMemory = 8
 status_code InvalidInput = 10
 status_code TooDeep = 11
 status_code TooWide = 12
+status_code NotCarried = 13
 status_code (Inexpressible Null) = 15
+status_code (Inexpressible Instant) = 16
 status_code (TableRefused fault) = 20
 status_code NoSuchShape = 21
 status_code NotAStructure = 22
@@ -44,5 +46,6 @@ abbrev pub status_of_error : TranscodeError → Status
 status_of_error errors.InvalidInput = InvalidInput
 status_of_error errors.TooDeep = TooDeep
 status_of_error errors.TooWide = TooWide
+status_of_error errors.NotCarried = NotCarried
 status_of_error (errors.Inexpressible u) = Inexpressible u
 status_of_error errors.NoMemory = OutOfMemory

@@ -25,6 +25,8 @@ pub enum Status {
     TooDeep,
     /// A big number of the input leaves the limits of its kind.
     TooWide,
+    /// The input holds a number of seconds that isn't carried as an instant.
+    NotCarried,
     /// The input spells a value that the wanted wire can't express.
     Inexpressible(Unfit),
     /// The table is refused, by this fault.
@@ -53,7 +55,9 @@ impl Status {
             Status::InvalidInput => 10,
             Status::TooDeep => 11,
             Status::TooWide => 12,
+            Status::NotCarried => 13,
             Status::Inexpressible(Unfit::Null) => 15,
+            Status::Inexpressible(Unfit::Instant) => 16,
             Status::TableRefused(_) => 20,
             Status::NoSuchShape => 21,
             Status::NotAStructure => 22,
@@ -95,6 +99,7 @@ impl From<TranscodeError> for Status {
             TranscodeError::InvalidInput => Status::InvalidInput,
             TranscodeError::TooDeep => Status::TooDeep,
             TranscodeError::TooWide => Status::TooWide,
+            TranscodeError::NotCarried => Status::NotCarried,
             TranscodeError::Inexpressible(unfit) => Status::Inexpressible(unfit),
             TranscodeError::NoMemory => Status::OutOfMemory,
         }

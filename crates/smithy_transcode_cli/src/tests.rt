@@ -1,5 +1,6 @@
 //! Runs over objects in memory.
 mod adapters;
+mod instants;
 mod library;
 mod lines;
 mod options;

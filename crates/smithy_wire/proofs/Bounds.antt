@@ -1,4 +1,4 @@
--- What is known of an answer where it means something, and of a number where it is wide.
+-- What is known of an answer where it means something, where it is wide and where it isn't carried.
 use Rattle.std.specs.Prelude.{◌≡◌, ◌&&◌, ℕ, ℤ, List, Bool, true, false, Option, Some, None, refl, if◌then◌else◌}
 use Rattle.std.proofs.Common.{sym, ◌∙◌, ap, subst}
 use Rattle.std.proofs.lemmas.Bool.{and_parts}
@@ -14,7 +14,7 @@ use Rattle.smithy_schema.specs.Limits.{Limits, kept, lifted}
 use Rattle.smithy_wire.specs.Rules.{Answer, means, no_meaning, wide, uncarried, settled, answer_of, bounded, Rules}
 use Rattle.smithy_wire.specs.Frames.{Frames, relations}
 use Rattle.smithy_wire.specs.Wire.{IsWire}
-use Rattle.smithy_wire.specs.Readers.{stands_scalar, exceeds_scalar}
+use Rattle.smithy_wire.specs.Readers.{stands_scalar, exceeds_scalar, uncarried_scalar}
 use Rattle.smithy_wire.specs.BigNumbers.{big_integer, is_in_limits, big_decimal}
 
 -- within the limits only a meaning gives a value
@@ -29,6 +29,11 @@ settled_means lifted null answer v keeps h = cc
 pub wide_is_nothing : {A : Type 0} (limits : Limits) (null : A) (answer : Answer A) (v : A) → limits ≡ kept → answer ≡ wide → settled limits null answer ≡ Some v → ⊥
 wide_is_nothing {A} limits null answer v keeps is h =
     let both : ◌≡◌ {A = Answer A} (means v) wide = sym (settled_means limits null answer v keeps h) ∙ is in cc
+
+-- nor does what isn't carried
+pub uncarried_is_nothing : {A : Type 0} (limits : Limits) (null : A) (answer : Answer A) (v : A) → limits ≡ kept → answer ≡ uncarried → settled limits null answer ≡ Some v → ⊥
+uncarried_is_nothing {A} limits null answer v keeps is h =
+    let both : ◌≡◌ {A = Answer A} (means v) uncarried = sym (settled_means limits null answer v keeps h) ∙ is in cc
 
 module _ {A B : Type 0} (fits : A → Bool) (value_of : A → B) where
   -- a number within its limits, and one beyond them
@@ -68,6 +73,11 @@ pub answer_means : {A : Type 0} (o : Option A) (v : A) → answer_of o ≡ means
 answer_means None v h = cc
 answer_means (Some u) v h = let same : u ≡ v = cc in ap Some same
 
+-- what means something where a test passes, and nothing where it doesn't
+pub chosen_answer : {A : Type 0} (b : Bool) (u v : A) → (if b then means u else no_meaning) ≡ means v → (b ≡ true) × (u ≡ v)
+chosen_answer true u v h = (refl, cc)
+chosen_answer false u v h = cc
+
 -- what means something as a big number is a value of its kind
 pub big_integer_fits : (t : Table) (p : Place) (o : Option ℤ) (v : Value) → kind_of t p ≡ scalar scalars.BigInteger → big_integer o ≡ means v → Fits t p v
 big_integer_fits t p o v kind h =
@@ -87,6 +97,19 @@ pub answer_not_wide : {A : Type 0} (o : Option A) → answer_of o ≡ wide → �
 answer_not_wide None h = cc
 answer_not_wide (Some v) h = cc
 
+-- and is carried, as every number is that may leave its limits
+pub answer_is_carried : {A : Type 0} (o : Option A) → answer_of o ≡ uncarried → ⊥
+answer_is_carried None h = cc
+answer_is_carried (Some v) h = cc
+
+chosen_is_carried : {B : Type 0} (b : Bool) (u : B) → (if b then means u else wide) ≡ uncarried → ⊥
+chosen_is_carried true u h = cc
+chosen_is_carried false u h = cc
+
+pub bounded_is_carried : {A B : Type 0} (fits : A → Bool) (value_of : A → B) (o : Option A) → bounded fits value_of o ≡ uncarried → ⊥
+bounded_is_carried fits value_of None h = cc
+bounded_is_carried fits value_of (Some n) h = chosen_is_carried (fits n) (value_of n) h
+
 -- ---- where a number leaves its limits
 
 -- with the limits kept nothing stands there
@@ -97,3 +120,12 @@ exceeds_not w r wire keeps i t p s kind d a e exceeds v f stands =
     let y = stands_scalar w r i t p s kind d a v f stands in
     let same = (wire.same_scalar i d x.0 y.0 a e f x.1 y.1).0 in
     wide_is_nothing r.limits null_element (r.says s p.time x.0) v keeps x.2 (ap (λ z. settled r.limits null_element (r.says s p.time z)) same ∙ y.2)
+
+-- nor where the kind can't carry what is there
+pub uncarried_not : {L : Type 0} (w : Frames L) (r : Rules L) → IsWire w → r.limits ≡ kept → (i : List ℕ) (t : Table) (p : Place) (s : Scalar) → kind_of t p ≡ scalar s → (d a e : ℕ)
+    → (relations w r).uncarried i t p d a e → (v : Value) (f : ℕ) → (relations w r).stands i t p d a v f → ⊥
+uncarried_not w r wire keeps i t p s kind d a e there v f stands =
+    let x = uncarried_scalar w r i t p s kind d a e there in
+    let y = stands_scalar w r i t p s kind d a v f stands in
+    let same = (wire.same_scalar i d x.0 y.0 a e f x.1 y.1).0 in
+    uncarried_is_nothing r.limits null_element (r.says s p.time x.0) v keeps x.2 (ap (λ z. settled r.limits null_element (r.says s p.time z)) same ∙ y.2)

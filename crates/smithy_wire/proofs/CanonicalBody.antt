@@ -13,7 +13,7 @@ use Rattle.smithy_schema.proofs.SiteLemmas.{site_at, element_site_at, value_site
 use Rattle.smithy_wire.specs.Node.{as_array, as_object}
 use Rattle.smithy_wire.specs.Written.{Leaves, scalar_node, child_place, name_at, element_nodes, entry_nodes, member_nodes}
 use Rattle.smithy_wire.specs.Writes.{Writes, bytes_of, nodes_bytes, body_of}
-use Rattle.smithy_wire.proofs.WrittenMeaning.{IsMember, structure_member, member_place, member_name, variant_member}
+use Rattle.smithy_wire.proofs.WrittenMeaning.{IsMember, structure_member, member_place, member_name, member_site, variant_member}
 
 -- what a wire defines: the bytes of a value at a site, and of its children from the first or another on
 pub record Canonical : Type 0 where
@@ -44,11 +44,6 @@ pub record IsWritten {L : Type 0} (w : Writes L) (l : Leaves L) (name_of : Membe
       → c.members is_first site (member_value n v ms) ≡ c.key is_first (member_of site n).view ++ (c.body (member_of site n) v ++ c.members false site ms)
   pub key_is : (is_first : Bool) (n : ℕ) (m : Member) → c.key is_first (member_view n m) ≡ w.entry_bytes as_object is_first (Some (l.key_of (name_of m)))
 
--- the site of a member of a structure or a union
-site_of_member : (t : Table) (p : Place) (view : View) (n : ℕ) (m : Member) → IsMember (kind_of t p) n m
-    → member_of (site_at t p view) n ≡ site_at t m.place (member_view n m)
-site_of_member t p view n m is = rw is.found refl
-
 -- an entry, those behind it, and the end of their container
 entry_is : (entries key key' child child' more end rest : List ℕ) → entries ≡ key ++ (child ++ more) → key ≡ key' → child ≡ child' → more ++ end ≡ rest
     → entries ++ end ≡ key' ++ (child' ++ rest)
@@ -66,13 +61,13 @@ module _ {L : Type 0} (w : Writes L) (l : Leaves L) (name_of : Member → List �
   name_is : (is_first : Bool) (p : Place) (view : View) (n : ℕ) (m : Member) → IsMember (kind_of t p) n m
       → c.key is_first (member_of (site_at t p view) n).view ≡ name_bytes is_first p n
   name_is is_first p view n m is =
-      ap (λ (s : Site). c.key is_first s.view) (site_of_member t p view n m is) ∙ law.key_is is_first n m
+      ap (λ (s : Site). c.key is_first s.view) (member_site t p view n m is) ∙ law.key_is is_first n m
       ∙ sym (ap (λ key. w.entry_bytes as_object is_first (Some (l.key_of key))) (member_name name_of (kind_of t p) n m is))
 
   child_is : (p : Place) (view : View) (n : ℕ) (m : Member) (v : Value) → IsMember (kind_of t p) n m → Same (site_at t m.place (member_view n m)) m.place v
       → c.body (member_of (site_at t p view) n) v ≡ body_of w l name_of t (child_place (kind_of t p) (Some n) p) v
   child_is p view n m v is same =
-      ap (λ s. c.body s v) (site_of_member t p view n m is) ∙ same ∙ sym (ap (λ q. body_of w l name_of t q v) (member_place (kind_of t p) n m p is))
+      ap (λ s. c.body s v) (member_site t p view n m is) ∙ same ∙ sym (ap (λ q. body_of w l name_of t q v) (member_place (kind_of t p) n m p is))
 
   mutual
     pub same_body : (v : Value) (p : Place) (view : View) (nulls : Bool) → FitsOr t p nulls v → Same (site_at t p view) p v

@@ -8,7 +8,7 @@ use Rattle.smithy_schema.specs.Table as table
 use Rattle.smithy_schema.specs.Table.{Table, Member, Shape, scalar_place, shape_place, kind_of}
 use Rattle.smithy_schema.specs.Value.{ScalarValue, whole, text, Value, scalar_value, list, map, structure, union, null_element, no_values, value, no_map_entries, map_entry, no_member_values, member_value}
 use Rattle.smithy_wire.specs.Node.{as_array, as_object, Node, null_node, leaf, container, missing, Nodes, no_nodes, node}
-use Rattle.smithy_wire.specs.Rules.{Answer, means, no_meaning, Rules, is_mark, is_dropped}
+use Rattle.smithy_wire.specs.Rules.{Answer, means, no_meaning, wide, uncarried, settled, Rules, is_mark, is_dropped}
 use Rattle.smithy_wire.specs.Meaning.{meaning}
 use Rattle.smithy_wire.specs.Written.{Leaves, written_node}
 
@@ -86,6 +86,13 @@ type_is x = (codes "__type", x)
 abbrev whole_value : ℕ → Value
 whole_value n = scalar_value (whole (pos n))
 
+-- ---- answers
+
+-- within the limits a meaning alone gives a value; without them what is too wide or isn't carried gives a null, too
+pub answers : list_map (λ limits. list_map (settled limits null_element) (means (whole_value 1) ∷ no_meaning ∷ wide ∷ uncarried ∷ [])) (kept ∷ lifted ∷ [])
+    ≡ (Some (whole_value 1) ∷ None ∷ None ∷ None ∷ []) ∷ (Some (whole_value 1) ∷ None ∷ Some null_element ∷ Some null_element ∷ []) ∷ []
+answers = refl
+
 -- ---- unions
 
 -- exactly one member that isn't null; other nulls don't count, whichever key they have
@@ -152,7 +159,7 @@ other_maps = (refl, refl, refl)
 -- ---- what is written
 
 abbrev leaves : Leaves Atom
-leaves = record { leaf_of = leaf_of; key_of = a_text }
+leaves = record { leaf_of = leaf_of; key_of = a_text; holds = λ time x. true }
   where
     leaf_of : Scalar → Option TimestampFormat → ScalarValue → Atom
     leaf_of s time (whole n) = a_number n

@@ -4,11 +4,11 @@ use Rattle.std.specs.Prelude.{IsErrOf, Result, Ok, Err, OnErr, IfOk, IfErr, IsOk
 use Rattle.smithy_texts.specs.Ranges.{fits_signed}
 use Rattle.smithy_schema.specs.declared.shape_type.Scalar.{Scalar}
 use Rattle.smithy_schema.specs.declared.error.SerdeError.{SerdeError}
-use Rattle.smithy_schema.specs.declared.error.SerdeError.TheVariants.{InvalidInput, TooWide, Failed, NoMemory}
+use Rattle.smithy_schema.specs.declared.error.SerdeError.TheVariants.{InvalidInput, TooWide, NotCarried, Failed, NoMemory}
 use Rattle.smithy_schema.specs.Table.{scalar_place}
 use Rattle.smithy_schema.specs.Site.{Site}
 use Rattle.smithy_schema.specs.Value.{ScalarValue, scalar_value}
-use Rattle.smithy_schema.specs.Reading.{Cursor, depth, Relations, IsLawful, StandsNot, IsInvalid, Exceeds, ReadsScalar, AnswersWide, failed_at, passed_to}
+use Rattle.smithy_schema.specs.Reading.{Cursor, depth, Relations, IsLawful, StandsNot, IsInvalid, Exceeds, Uncarried, ReadsScalar, AnswersWide, AnswersUncarried, failed_at, passed_to}
 use Rattle.smithy_wire.specs.Narrowing.{IsNarrowed, IsWider}
 
 -- what holds of an answer, said in other words
@@ -50,6 +50,7 @@ module _ {A : Type 0} (w u : Relations) (is_strict : Type 0) (site : Site) (s : 
     };
     shallow = λ h. cc;
     wide = λ h. cc;
+    uncarried = λ h. cc;
     undue = λ h. tt;
     ok = tt;
     refused = λ fault. absurd fault;
@@ -69,6 +70,7 @@ module _ {A : Type 0} (w u : Relations) (is_strict : Type 0) (site : Site) (s : 
     };
     shallow = λ h. cc;
     wide = λ h. cc;
+    uncarried = λ h. cc;
     undue = λ h. tt;
     ok = tt;
     refused = λ fault due. (none due).0;
@@ -87,6 +89,7 @@ module _ {A : Type 0} (w u : Relations) (is_strict : Type 0) (site : Site) (s : 
     };
     shallow = λ h. cc;
     wide = λ h. cc;
+    uncarried = λ h. cc;
     undue = λ h. tt;
     ok = tt;
     refused = λ fault. absurd fault;
@@ -106,6 +109,27 @@ module _ {A : Type 0} (w u : Relations) (is_strict : Type 0) (site : Site) (s : 
     };
     shallow = λ h. cc;
     wide = λ h. there;
+    uncarried = λ h. cc;
+    undue = λ h. absurd (let both : true ≡ false = sym due ∙ h in cc);
+    ok = tt;
+    refused = λ fault due. none;
+    would = λ strict fault. absurd fault;
+  }
+
+  -- what the kind can't carry
+  pub carries_not : (old new : Cursor) → new ≡ failed_at old → old.at ≤ length old.input → old.failed ≡ false → old.due ≡ true
+      → Uncarried w old site.table (scalar_place s site.place.time) → StandsNot w old site.table (scalar_place s site.place.time) → Says old new (Err NotCarried)
+  carries_not old new stays within sound due there none = record {
+    conduct = record {
+      failed = (λ h. cc, λ h. absurd (let both : true ≡ false = sym h ∙ sound in cc));
+      stays = stays;
+      readable = λ h. cc;
+      ahead = rw stays (omega arith);
+      within = rw stays within;
+    };
+    shallow = λ h. cc;
+    wide = λ h. cc;
+    uncarried = λ h. there;
     undue = λ h. absurd (let both : true ≡ false = sym due ∙ h in cc);
     ok = tt;
     refused = λ fault due. none;
@@ -141,6 +165,7 @@ module _ {A : Type 0} (w u : Relations) (is_strict : Type 0) (site : Site) (s : 
           };
           shallow = λ h. cc;
           wide = λ h. cc;
+          uncarried = λ h. cc;
           undue = λ h. absurd (let both : true ≡ false = sym due ∙ h in cc);
           ok = record { stands = stands; passes = record { input = refl; inner = refl; outer = refl; due = refl; failed = sound } };
           refused = λ fault. absurd fault;
@@ -173,42 +198,75 @@ module _ {A : Type 0} (w u : Relations) (is_strict : Type 0) (site : Site) (s : 
         by (inl is) = rw (← same, is) (refuses old new stays within sound (λ due. none (rw is tt)))
         by (inr is) = rw (← same, is) (runs_out old new stays within sound)
 
-    -- the same of a big number, which may leave its limits
+    -- the same of a kind that has a refusal of its own, by something that stands there
+    takes_own : (own : SerdeError) (There : Type 0) (new : Cursor) (found : Result (A × ℕ) SerdeError) (result : Result A SerdeError)
+        → (new ≡ failed_at old → There → StandsNot w old site.table (scalar_place s site.place.time) → Says old new (Err own)) → IfOk found (λ r. Stands r.0 r.1)
+        → IfErr found (λ e. (e ≡ InvalidInput) ⊎ (e ≡ own) ⊎ (e ≡ NoMemory)) → (IsInvalid found → NoneStands old)
+        → (IsErrOf found own → There × StandsNot w old site.table (scalar_place s site.place.time))
+        → IfOk result (λ x. IfOk found (λ r. (r.0 ≡ x) × (new ≡ passed_to old r.1))) → (IsOk result → IsOk found)
+        → OnErr result (new ≡ failed_at old) → IfErr result (λ e. found ≡ Err e) → Says old new result
+    takes_own own There new (Ok r) (Ok x) says stands kind none cause taken some stays error = subst (λ y. Says old new (Ok y)) taken.0 (reads new r.0 r.1 stands taken.1)
+    takes_own own There new (Err e) (Ok x) says stands kind none cause taken some stays error = absurd (let no' = some refl in cc)
+    takes_own own There new (Ok r) (Err e) says stands kind none cause taken some stays error = absurd (let no' : ◌≡◌ {A = Result (A × ℕ) SerdeError} (Ok r) (Err e) = error in cc)
+    takes_own own There new (Err g) (Err e) says stands kind none cause taken some stays error = by kind
+      where
+        same : g ≡ e
+        same = cc
+
+        by : (g ≡ InvalidInput) ⊎ (g ≡ own) ⊎ (g ≡ NoMemory) → Says old new (Err e)
+        by (inl is) = rw (← same, is) (refuses old new stays within sound (λ due. none (rw is tt)))
+        by (inr (inl is)) = let there = cause (ap Err is) in rw (← same, is) (says stays there.0 there.1)
+        by (inr (inr is)) = rw (← same, is) (runs_out old new stays within sound)
+
+    -- it answers so wherever such a thing stands
+    answers_own : (own : SerdeError) (There : Type 0) (found : Result (A × ℕ) SerdeError) (result : Result A SerdeError) → IfOk found (λ r. Stands r.0 r.1)
+        → IfErr found (λ e. (e ≡ InvalidInput) ⊎ (e ≡ own) ⊎ (e ≡ NoMemory)) → (There → StandsNot w old site.table (scalar_place s site.place.time))
+        → (IsInvalid found → There → ⊥) → (IsOk result → IsOk found) → IfErr result (λ e. found ≡ Err e) → There
+        → IsErrOf result own ⊎ IsErrOf result NoMemory
+    answers_own own There (Ok r) (Ok x) stands kind not' none some error there = absurd (not' there (scalar_value (value r.0)) r.1 stands)
+    answers_own own There (Err e) (Ok x) stands kind not' none some error there = absurd (let no' = some refl in cc)
+    answers_own own There (Ok r) (Err e) stands kind not' none some error there = absurd (let no' : ◌≡◌ {A = Result (A × ℕ) SerdeError} (Ok r) (Err e) = error in cc)
+    answers_own own There (Err g) (Err e) stands kind not' none some error there = by kind
+      where
+        same : g ≡ e
+        same = cc
+
+        by : (g ≡ InvalidInput) ⊎ (g ≡ own) ⊎ (g ≡ NoMemory) → IsErrOf {T = A} (Err e) own ⊎ IsErrOf {T = A} (Err e) NoMemory
+        by (inl is) = absurd (none (rw is tt) there)
+        by (inr (inl is)) = inl (ap Err (sym same ∙ is))
+        by (inr (inr is)) = inr (ap Err (sym same ∙ is))
+
+    -- of a big number, which may leave its limits
     pub takes_big : (new : Cursor) (found : Result (A × ℕ) SerdeError) (result : Result A SerdeError) → IfOk found (λ r. Stands r.0 r.1)
         → IfErr found (λ e. (e ≡ InvalidInput) ⊎ (e ≡ TooWide) ⊎ (e ≡ NoMemory)) → (IsInvalid found → NoneStands old)
         → (IsErrOf found TooWide → Exceeds w old site.table (scalar_place s site.place.time) × StandsNot w old site.table (scalar_place s site.place.time))
         → IfOk result (λ x. IfOk found (λ r. (r.0 ≡ x) × (new ≡ passed_to old r.1))) → (IsOk result → IsOk found)
         → OnErr result (new ≡ failed_at old) → IfErr result (λ e. found ≡ Err e) → Says old new result
-    takes_big new (Ok r) (Ok x) stands kind none wide taken some stays error = subst (λ y. Says old new (Ok y)) taken.0 (reads new r.0 r.1 stands taken.1)
-    takes_big new (Err e) (Ok x) stands kind none wide taken some stays error = absurd (let no' = some refl in cc)
-    takes_big new (Ok r) (Err e) stands kind none wide taken some stays error = absurd (let no' : ◌≡◌ {A = Result (A × ℕ) SerdeError} (Ok r) (Err e) = error in cc)
-    takes_big new (Err g) (Err e) stands kind none wide taken some stays error = by kind
-      where
-        same : g ≡ e
-        same = cc
+    takes_big new found result =
+        takes_own TooWide (Exceeds w old site.table (scalar_place s site.place.time)) new found result (λ stays there none. exceeds_limits old new stays within sound due there none)
 
-        by : (g ≡ InvalidInput) ⊎ (g ≡ TooWide) ⊎ (g ≡ NoMemory) → Says old new (Err e)
-        by (inl is) = rw (← same, is) (refuses old new stays within sound (λ due. none (rw is tt)))
-        by (inr (inl is)) = let there = wide (ap Err is) in rw (← same, is) (exceeds_limits old new stays within sound due there.0 there.1)
-        by (inr (inr is)) = rw (← same, is) (runs_out old new stays within sound)
-
-    -- it answers so wherever a number does
     pub answers_wide : (found : Result (A × ℕ) SerdeError) (result : Result A SerdeError) → IfOk found (λ r. Stands r.0 r.1)
         → IfErr found (λ e. (e ≡ InvalidInput) ⊎ (e ≡ TooWide) ⊎ (e ≡ NoMemory)) → (Exceeds w old site.table (scalar_place s site.place.time) → StandsNot w old site.table (scalar_place s site.place.time))
         → (IsInvalid found → Exceeds w old site.table (scalar_place s site.place.time) → ⊥) → (IsOk result → IsOk found) → IfErr result (λ e. found ≡ Err e)
         → AnswersWide w old site s result
-    answers_wide (Ok r) (Ok x) stands kind not' none some error due' sound' there = absurd (not' there (scalar_value (value r.0)) r.1 stands)
-    answers_wide (Err e) (Ok x) stands kind not' none some error due' sound' there = absurd (let no' = some refl in cc)
-    answers_wide (Ok r) (Err e) stands kind not' none some error due' sound' there = absurd (let no' : ◌≡◌ {A = Result (A × ℕ) SerdeError} (Ok r) (Err e) = error in cc)
-    answers_wide (Err g) (Err e) stands kind not' none some error due' sound' there = by kind
-      where
-        same : g ≡ e
-        same = cc
+    answers_wide found result stands kind not' none some error due' sound' there =
+        answers_own TooWide (Exceeds w old site.table (scalar_place s site.place.time)) found result stands kind not' none some error there
 
-        by : (g ≡ InvalidInput) ⊎ (g ≡ TooWide) ⊎ (g ≡ NoMemory) → IsErrOf {T = A} (Err e) TooWide ⊎ IsErrOf {T = A} (Err e) NoMemory
-        by (inl is) = absurd (none (rw is tt) there)
-        by (inr (inl is)) = inl (ap Err (sym same ∙ is))
-        by (inr (inr is)) = inr (ap Err (sym same ∙ is))
+    -- of a kind that can't carry all that is written like it
+    pub takes_carried : (new : Cursor) (found : Result (A × ℕ) SerdeError) (result : Result A SerdeError) → IfOk found (λ r. Stands r.0 r.1)
+        → IfErr found (λ e. (e ≡ InvalidInput) ⊎ (e ≡ NotCarried) ⊎ (e ≡ NoMemory)) → (IsInvalid found → NoneStands old)
+        → (IsErrOf found NotCarried → Uncarried w old site.table (scalar_place s site.place.time) × StandsNot w old site.table (scalar_place s site.place.time))
+        → IfOk result (λ x. IfOk found (λ r. (r.0 ≡ x) × (new ≡ passed_to old r.1))) → (IsOk result → IsOk found)
+        → OnErr result (new ≡ failed_at old) → IfErr result (λ e. found ≡ Err e) → Says old new result
+    takes_carried new found result =
+        takes_own NotCarried (Uncarried w old site.table (scalar_place s site.place.time)) new found result (λ stays there none. carries_not old new stays within sound due there none)
+
+    pub answers_uncarried : (found : Result (A × ℕ) SerdeError) (result : Result A SerdeError) → IfOk found (λ r. Stands r.0 r.1)
+        → IfErr found (λ e. (e ≡ InvalidInput) ⊎ (e ≡ NotCarried) ⊎ (e ≡ NoMemory)) → (Uncarried w old site.table (scalar_place s site.place.time) → StandsNot w old site.table (scalar_place s site.place.time))
+        → (IsInvalid found → Uncarried w old site.table (scalar_place s site.place.time) → ⊥) → (IsOk result → IsOk found) → IfErr result (λ e. found ≡ Err e)
+        → AnswersUncarried w old site s result
+    answers_uncarried found result stands kind not' none some error due' sound' there =
+        answers_own NotCarried (Uncarried w old site.table (scalar_place s site.place.time)) found result stands kind not' none some error there
 
 -- a reader that isn't ready has nothing to answer
 pub not_ready_wide : {A : Type 0} (w : Relations) (old : Cursor) (site : Site) (s : Scalar) (result : Result A SerdeError) (e : SerdeError)

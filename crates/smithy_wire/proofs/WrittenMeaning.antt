@@ -1,18 +1,22 @@
--- The node as which a value of a place is written means the value, at each depth that leaves room for it.
+-- The node as which a value of a place is written means the value, where the wire holds its scalars and the depth leaves
+-- room for it.
 use Rattle.std.specs.Prelude.{◌≡◌, ◌≤◌, ◌+◌, ℕ, suc, List, Bool, true, false, Option, Some, None, option_and_then, slice_get, refl, if◌then◌else◌}
 use Rattle.std.proofs.Common.{sym, ap, ◌∙◌, arith, subst}
+use Rattle.std.proofs.lemmas.Bool.{and_parts}
 use Rattle.std.proofs.lemmas.Bool.Decides.{nat_tests}
 use Rattle.smithy_schema.specs.declared.place.Place.{Place}
 use Rattle.smithy_schema.specs.Limits.{Limits, kept, lifted, is_within}
 use Rattle.smithy_schema.specs.Table.{Table, Member, ListShape, MapShape, Kind, structure_of, union_of, list_of, map_of, kind_of, members_of, place_in}
 use Rattle.smithy_schema.specs.Value.{ScalarValue, Value, scalar_value, list, map, structure, union, null_element, Values, no_values, value, MapEntries, no_map_entries, map_entry, MemberValues, no_member_values, member_value, nesting, elements_nesting, entries_nesting, members_nesting}
+use Rattle.smithy_schema.specs.Site.{View, member_view, element_view, value_view, nameless, member_of}
+use Rattle.smithy_schema.specs.ScalarTest.{scalars_pass, elements_pass, entries_pass, members_pass}
 use Rattle.smithy_schema.specs.Container.{Entry, element_of, container_of}
 use Rattle.smithy_schema.specs.Fits.{FitsOr, ElementsFit, EntriesFit, MembersFit, Fits}
 use Rattle.smithy_schema.proofs.ChildLemmas.{SayElements, list_said, SayEntries, map_said, Sets, SayMembers, structure_said, union_said}
 use Rattle.smithy_schema.proofs.NamedLemmas.{named_itself}
 use Rattle.smithy_schema.specs.Lemmas.Kinds.{list_kind, map_kind, structure_kind, union_kind}
 use Rattle.smithy_schema.proofs.ScalarLemmas.{scalar_kind}
-use Rattle.smithy_schema.proofs.SiteLemmas.{element_fit, entry_fit, member_fit, variant_fit}
+use Rattle.smithy_schema.proofs.SiteLemmas.{site_at, element_site_at, value_site_at, element_fit, entry_fit, member_fit, variant_fit}
 use Rattle.smithy_wire.specs.Node.{Form, as_array, as_object, Node, container, Nodes, no_nodes, node, is_null}
 use Rattle.smithy_wire.specs.Rules.{settled, Rules, position_in}
 use Rattle.smithy_wire.specs.Meaning.{leaf_meaning, is_in, entry_at, meaning, entries}
@@ -41,6 +45,11 @@ member_place k n m other is = rw is.placed refl
 
 pub member_name : (name_of : Member → List ℕ) (k : Kind) (n : ℕ) (m : Member) → IsMember k n m → name_at name_of k n ≡ name_of m
 member_name name_of k n m is = rw is.found refl
+
+-- and its site
+pub member_site : (t : Table) (p : Place) (view : View) (n : ℕ) (m : Member) → IsMember (kind_of t p) n m
+    → member_of (site_at t p view) n ≡ site_at t m.place (member_view n m)
+member_site t p view n m is = rw is.found refl
 
 -- the member of a union whose value fits
 pub variant_member : (t : Table) (k : Kind) (members : List Member) (n : ℕ) (v : Value) → k ≡ union_of members
@@ -71,11 +80,11 @@ module _ {L : Type 0} (l : Leaves L) (r : Rules L) (reads : ReadsLeaves l r) (t 
   not_null p (union n v) fits = refl
   not_null p null_element fits = cc
 
-  scalar_says : (p : Place) (nulls : Bool) (d : ℕ) (x : ScalarValue) → Fits t p (scalar_value x) → Says nulls d p (scalar_value x)
-  scalar_says p nulls d x fits =
+  scalar_says : (p : Place) (nulls : Bool) (d : ℕ) (x : ScalarValue) → Fits t p (scalar_value x) → l.holds p.time x ≡ true → Says nulls d p (scalar_value x)
+  scalar_says p nulls d x fits held =
       let s = scalar_kind (kind_of t p) x fits in
       ap (λ k. element_of nulls (is_null (scalar_node l k p.time x)) (meaning r t p d (scalar_node l k p.time x))) s.1
-      ∙ (ap (λ k. leaf_meaning r k p.time (l.leaf_of s.0 p.time x)) s.1 ∙ ap (settled r.limits null_element) (reads.scalar_means s.0 p.time x s.2))
+      ∙ (ap (λ k. leaf_meaning r k p.time (l.leaf_of s.0 p.time x)) s.1 ∙ ap (settled r.limits null_element) (reads.scalar_means s.0 p.time x s.2 held))
 
   -- ---- containers
 
@@ -112,63 +121,75 @@ module _ {L : Type 0} (l : Leaves L) (r : Rules L) (reads : ReadsLeaves l r) (t 
       })
 
   mutual
-    value_says : (v : Value) (p : Place) (nulls : Bool) (d : ℕ) → FitsOr t p nulls v → d + nesting v ≤ r.max_depth → Says nulls d p v
-    value_says (scalar_value x) p nulls d fits deep = scalar_says p nulls d x fits
-    value_says null_element p nulls d fits deep = rw fits refl
-    value_says (list vs) p nulls d fits deep =
+    value_says : (v : Value) (p : Place) (view : View) (nulls : Bool) (d : ℕ) → FitsOr t p nulls v → scalars_pass l.holds (site_at t p view) v ≡ true
+        → d + nesting v ≤ r.max_depth → Says nulls d p v
+    value_says (scalar_value x) p view nulls d fits held deep = scalar_says p nulls d x fits held
+    value_says null_element p view nulls d fits held deep = rw fits refl
+    value_says (list vs) p view nulls d fits held deep =
         let c = list_kind (kind_of t p) fits.0 in
-        let said = elements_say vs p c.0 (suc d) c.1 (subst (λ k. ElementsFit t k vs) c.1 fits.1) (omega (arith, deep)) in
+        let all = subst (λ site. elements_pass l.holds site vs ≡ true) (element_site_at t p view c.0 c.1) held in
+        let said = elements_say vs p c.0 (nameless (element_view c.0)) (suc d) c.1 (subst (λ k. ElementsFit t k vs) c.1 fits.1) all (omega (arith, deep)) in
         container_means p (list_of c.0) as_array d (element_nodes l r.name_of t (child_place (kind_of t p) None p) vs) (list vs) c.1 refl (omega (arith, deep))
         (subst (λ q. container_of (list_of c.0) (entries r t p as_array (suc d) (element_nodes l r.name_of t q vs)) ≡ Some (list vs))
         (sym (ap (λ k. child_place k None p) c.1)) (list_said c.0 vs _ said))
-    value_says (map es) p nulls d fits deep =
+    value_says (map es) p view nulls d fits held deep =
         let c = map_kind (kind_of t p) fits.0 in
-        let said = entries_say es p c.0 (suc d) c.1 (subst (λ k. EntriesFit t k es) c.1 fits.1) (omega (arith, deep)) in
+        let all = subst (λ site. entries_pass l.holds site es ≡ true) (value_site_at t p view c.0 c.1) held in
+        let said = entries_say es p c.0 (nameless (value_view c.0)) (suc d) c.1 (subst (λ k. EntriesFit t k es) c.1 fits.1) all (omega (arith, deep)) in
         container_means p (map_of c.0) as_object d (entry_nodes l r.name_of t (child_place (kind_of t p) None p) es) (map es) c.1 refl (omega (arith, deep))
         (subst (λ q. container_of (map_of c.0) (entries r t p as_object (suc d) (entry_nodes l r.name_of t q es)) ≡ Some (map es))
         (sym (ap (λ k. child_place k None p) c.1)) (map_said c.0 es _ fits.2 said))
-    value_says (union n v) p nulls d fits deep =
+    value_says (union n v) p view nulls d fits held deep =
         let s = union_kind (kind_of t p) fits.0 in
         let m = variant_member t (kind_of t p) s.0 n v s.1 fits.1 in
-        let mean = says_alone (is_null (node_at m.0.place v)) (meaning r t m.0.place (suc d) (node_at m.0.place v)) v (value_says v m.0.place false (suc d) m.2 (omega (arith, deep))) in
+        let one = subst (λ site. scalars_pass l.holds site v ≡ true) (member_site t p view n m.0 m.1) held in
+        let mean = says_alone (is_null (node_at m.0.place v)) (meaning r t m.0.place (suc d) (node_at m.0.place v)) v
+        (value_says v m.0.place (member_view n m.0) false (suc d) m.2 one (omega (arith, deep))) in
         container_means p (union_of s.0) as_object d
         (node (Some (l.key_of (name_at r.name_of (kind_of t p) n))) (node_at (child_place (kind_of t p) (Some n) p) v) no_nodes) (union n v) s.1 refl (omega (arith, deep))
         (union_said s.0 n v _ (member_sets p n m.0 (suc d) v m.1 m.2 mean))
-    value_says (structure ms) p nulls d fits deep =
+    value_says (structure ms) p view nulls d fits held deep =
         let s = structure_kind (kind_of t p) fits.0 in
-        let said = members_say ms p s.0 (suc d) s.1 (subst (λ k. MembersFit t k ms) s.1 fits.1) (omega (arith, deep)) in
+        let said = members_say ms p view s.0 (suc d) s.1 (subst (λ k. MembersFit t k ms) s.1 fits.1) held (omega (arith, deep)) in
         container_means p (structure_of s.0) as_object d (member_nodes l r.name_of t p ms) (structure ms) s.1 refl (omega (arith, deep))
         (structure_said s.0 ms _ fits.2 said)
 
-    elements_say : (vs : Values) (p : Place) (c : ListShape) (d : ℕ) → kind_of t p ≡ list_of c → ElementsFit t (list_of c) vs
-        → d + elements_nesting vs ≤ r.max_depth → SayElements c.is_sparse vs (entries r t p as_array d (element_nodes l r.name_of t c.place vs))
-    elements_say no_values p c d kind fits deep = tt
-    elements_say (value v vs) p c d kind fits deep =
-        let x = node_at c.place v in (
+    elements_say : (vs : Values) (p : Place) (c : ListShape) (view : View) (d : ℕ) → kind_of t p ≡ list_of c → ElementsFit t (list_of c) vs
+        → elements_pass l.holds (site_at t c.place view) vs ≡ true → d + elements_nesting vs ≤ r.max_depth → SayElements c.is_sparse vs (entries r t p as_array d (element_nodes l r.name_of t c.place vs))
+    elements_say no_values p c view d kind fits held deep = tt
+    elements_say (value v vs) p c view d kind fits held deep =
+        let x = node_at c.place v in
+        let parts = and_parts (scalars_pass l.holds (site_at t c.place view) v) (elements_pass l.holds (site_at t c.place view) vs) held in (
           ap (λ k. element_of c.is_sparse (is_null x) (option_and_then (λ q. meaning r t q d x) (place_in k (position_in r k None)))) kind
-              ∙ value_says v c.place c.is_sparse d (element_fit t c v vs fits) (omega (arith, deep)),
-          elements_say vs p c d kind fits.1 (omega (arith, deep)),
+              ∙ value_says v c.place view c.is_sparse d (element_fit t c v vs fits) parts.0 (omega (arith, deep)),
+          elements_say vs p c view d kind fits.1 parts.1 (omega (arith, deep)),
         )
 
-    entries_say : (es : MapEntries) (p : Place) (c : MapShape) (d : ℕ) → kind_of t p ≡ map_of c → EntriesFit t (map_of c) es
-        → d + entries_nesting es ≤ r.max_depth → SayEntries c.is_sparse es (entries r t p as_object d (entry_nodes l r.name_of t c.place es))
-    entries_say no_map_entries p c d kind fits deep = tt
-    entries_say (map_entry key v es) p c d kind fits deep =
-        let x = node_at c.place v in (
+    entries_say : (es : MapEntries) (p : Place) (c : MapShape) (view : View) (d : ℕ) → kind_of t p ≡ map_of c → EntriesFit t (map_of c) es
+        → entries_pass l.holds (site_at t c.place view) es ≡ true → d + entries_nesting es ≤ r.max_depth → SayEntries c.is_sparse es (entries r t p as_object d (entry_nodes l r.name_of t c.place es))
+    entries_say no_map_entries p c view d kind fits held deep = tt
+    entries_say (map_entry key v es) p c view d kind fits held deep =
+        let x = node_at c.place v in
+        let parts = and_parts (scalars_pass l.holds (site_at t c.place view) v) (entries_pass l.holds (site_at t c.place view) es) held in (
           reads.key_means key fits.0,
           ap (λ k. element_of c.is_sparse (is_null x) (option_and_then (λ q. meaning r t q d x) (place_in k (position_in r k (r.text_of (l.key_of key)))))) kind
-              ∙ value_says v c.place c.is_sparse d (entry_fit t c key v es fits) (omega (arith, deep)),
-          entries_say es p c d kind fits.2 (omega (arith, deep)),
+              ∙ value_says v c.place view c.is_sparse d (entry_fit t c key v es fits) parts.0 (omega (arith, deep)),
+          entries_say es p c view d kind fits.2 parts.1 (omega (arith, deep)),
         )
 
-    members_say : (ms : MemberValues) (p : Place) (members : List Member) (d : ℕ) → kind_of t p ≡ structure_of members → MembersFit t (structure_of members) ms
-        → d + members_nesting ms ≤ r.max_depth → SayMembers ms (entries r t p as_object d (member_nodes l r.name_of t p ms))
-    members_say no_member_values p members d kind fits deep = tt
-    members_say (member_value n v ms) p members d kind fits deep =
+    members_say : (ms : MemberValues) (p : Place) (view : View) (members : List Member) (d : ℕ) → kind_of t p ≡ structure_of members
+        → MembersFit t (structure_of members) ms → members_pass l.holds (site_at t p view) ms ≡ true → d + members_nesting ms ≤ r.max_depth → SayMembers ms (entries r t p as_object d (member_nodes l r.name_of t p ms))
+    members_say no_member_values p view members d kind fits held deep = tt
+    members_say (member_value n v ms) p view members d kind fits held deep =
         let m = member_fit t members n v ms fits in
-        let mean = says_alone (is_null (node_at m.0.place v)) (meaning r t m.0.place d (node_at m.0.place v)) v (value_says v m.0.place false d m.2 (omega (arith, deep))) in
-        (member_sets p n m.0 d v (structure_member (kind_of t p) members n m.0 kind m.1) m.2 mean, members_say ms p members d kind fits.1 (omega (arith, deep)))
+        let is = structure_member (kind_of t p) members n m.0 kind m.1 in
+        let parts = and_parts (scalars_pass l.holds (member_of (site_at t p view) n) v) (members_pass l.holds (site_at t p view) ms) held in
+        let one = subst (λ site. scalars_pass l.holds site v ≡ true) (member_site t p view n m.0 is) parts.0 in
+        let mean = says_alone (is_null (node_at m.0.place v)) (meaning r t m.0.place d (node_at m.0.place v)) v
+        (value_says v m.0.place (member_view n m.0) false d m.2 one (omega (arith, deep))) in
+        (member_sets p n m.0 d v is m.2 mean, members_say ms p view members d kind fits.1 parts.1 (omega (arith, deep)))
 
   -- at its place, so many containers deep
-  pub node_means : (p : Place) (d : ℕ) (v : Value) → Fits t p v → d + nesting v ≤ r.max_depth → meaning r t p d (written_node l r.name_of t p v) ≡ Some v
-  node_means p d v fits deep = says_alone (is_null (node_at p v)) (meaning r t p d (node_at p v)) v (value_says v p false d fits deep)
+  pub node_means : (p : Place) (view : View) (d : ℕ) (v : Value) → Fits t p v → scalars_pass l.holds (site_at t p view) v ≡ true → d + nesting v ≤ r.max_depth
+      → meaning r t p d (written_node l r.name_of t p v) ≡ Some v
+  node_means p view d v fits held deep = says_alone (is_null (node_at p v)) (meaning r t p d (node_at p v)) v (value_says v p view false d fits held deep)

@@ -5,7 +5,7 @@ use Rattle.smithy_schema.specs.Table.{Kind, kind_of, IsStructure}
 use Rattle.smithy_schema.specs.Reading.{Mark, Relations}
 use Rattle.smithy_wire.specs.Node.{Form, as_array, as_object, Node, null_node, leaf, container, missing, Nodes, no_nodes, node}
 use Rattle.smithy_wire.specs.Rules.{Rules, is_shallow, may_skip, key_text, position_in, drops_null, is_mark, is_dropped}
-use Rattle.smithy_wire.specs.Meaning.{IsTooWide, is_in, meaning}
+use Rattle.smithy_wire.specs.Meaning.{IsTooWide, IsUncarried, is_in, meaning}
 
 -- what a wire tells of bytes
 pub record Frames (L : Type 0) : Type 1 where
@@ -96,6 +96,7 @@ relations {L = L} w r = record {
   nulls = λ i d a e. w.null i d a e;
   skips = λ i d a e. (x : Node L) × Lies w i d x a e × (may_skip r d x ≡ true);
   exceeds = λ i t p d a e. (x : L) × w.scalar i d x a e × IsTooWide r (kind_of t p) p.time x;
+  uncarried = λ i t p d a e. (x : L) × w.scalar i d x a e × IsUncarried r (kind_of t p) p.time x;
   opens = λ i t p d a b m.
       ((f : Form) × (is_in (kind_of t p) f ≡ true) × w.opens f i a b m)
       ⊎ (IsStructure (kind_of t p) × w.is_over i a × (b ≡ a) × (m ≡ w.over_mark));

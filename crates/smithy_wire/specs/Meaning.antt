@@ -6,7 +6,7 @@ use Rattle.smithy_schema.specs.Table.{Table, Kind, scalar, structure_of, union_o
 use Rattle.smithy_schema.specs.Value.{Value, structure, no_member_values, null_element}
 use Rattle.smithy_schema.specs.Container.{Entry, container_of}
 use Rattle.smithy_wire.specs.Node.{Form, as_array, as_object, Node, null_node, leaf, container, missing, Nodes, no_nodes, node, is_null}
-use Rattle.smithy_wire.specs.Rules.{settled, wide, Rules, at_depth, may_skip, key_text, position_in, is_absent}
+use Rattle.smithy_wire.specs.Rules.{settled, wide, uncarried, Rules, at_depth, may_skip, key_text, position_in, is_absent}
 
 -- what a scalar of the body means as a kind
 abbrev pub leaf_meaning : {L : Type 0} → Rules L → Kind → Option TimestampFormat → L → Option Value
@@ -17,6 +17,11 @@ leaf_meaning r _ time x = None
 abbrev pub IsTooWide : {L : Type 0} → Rules L → Kind → Option TimestampFormat → L → Type 0
 IsTooWide r (scalar s) time x = r.says s time x ≡ wide
 IsTooWide r _ time x = ⊥
+
+-- the kind can't carry the scalar
+abbrev pub IsUncarried : {L : Type 0} → Rules L → Kind → Option TimestampFormat → L → Type 0
+IsUncarried r (scalar s) time x = r.says s time x ≡ uncarried
+IsUncarried r _ time x = ⊥
 
 -- lists are arrays, and structures, unions and maps are objects
 abbrev pub is_in : Kind → Form → Bool

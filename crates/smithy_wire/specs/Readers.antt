@@ -11,8 +11,8 @@ use Rattle.smithy_schema.specs.Container.{container_of}
 use Rattle.smithy_schema.specs.Reading.{Mark}
 use Rattle.smithy_schema.specs.Lemmas.Options.{chosen}
 use Rattle.smithy_wire.specs.Node.{Form, Node, null_node, leaf, container, missing}
-use Rattle.smithy_wire.specs.Rules.{settled, answer_of, wide, Rules, is_shallow, at_depth, key_text, position_in, drops_null, is_mark}
-use Rattle.smithy_wire.specs.Meaning.{leaf_meaning, IsTooWide, is_in, missing_meaning, meaning, entries}
+use Rattle.smithy_wire.specs.Rules.{settled, answer_of, wide, uncarried, Rules, is_shallow, at_depth, key_text, position_in, drops_null, is_mark}
+use Rattle.smithy_wire.specs.Meaning.{leaf_meaning, IsTooWide, IsUncarried, is_in, missing_meaning, meaning, entries}
 use Rattle.smithy_wire.specs.Frames.{Frames, Lies, IsTold, Drops, DropsAll, StepsIn, EndsIn, relations}
 use Rattle.smithy_wire.specs.Wire.{IsWire}
 use Rattle.smithy_wire.specs.Lemmas.Nodes.{one_node}
@@ -60,6 +60,13 @@ module _ {L : Type 0} (w : Frames L) (r : Rules L) (i : List ℕ) (t : Table) (p
     -- and nothing else does
     pub exceeds_scalar : (a e : ℕ) → (relations w r).exceeds i t p d a e → (x : L) × w.scalar i d x a e × (r.says s p.time x ≡ wide)
     exceeds_scalar a e (x, lies, says) = (x, lies, subst (λ k. IsTooWide r k p.time x) kind says)
+
+    -- the same of what the kind can't carry
+    pub scalar_uncarried : (a : ℕ) (x : L) (e : ℕ) → w.scalar i d x a e → r.says s p.time x ≡ uncarried → (relations w r).uncarried i t p d a e
+    scalar_uncarried a x e lies says = (x, lies, subst (λ k. IsUncarried r k p.time x) (sym kind) says)
+
+    pub uncarried_scalar : (a e : ℕ) → (relations w r).uncarried i t p d a e → (x : L) × w.scalar i d x a e × (r.says s p.time x ≡ uncarried)
+    uncarried_scalar a e (x, lies, says) = (x, lies, subst (λ k. IsUncarried r k p.time x) kind says)
 
   -- ---- containers
 

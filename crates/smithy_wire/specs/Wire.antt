@@ -67,7 +67,7 @@ pub record BoundsOpeners {L : Type 0} (w : Frames L) : Type 0 where
   pub end_takes_one : (s : Form) (i : List ℕ) (b : ℕ) (m : Mark) (e : ℕ) → w.ends s i b m e → w.openers (drop e i) ≤ suc (w.openers (drop b i))
 
 -- What a scalar that lies somewhere means as a kind is a value of it, with the limits kept: where they are lifted, what is
--- too wide means a null. And the text of a key is in UTF-8.
+-- too wide or isn't carried means a null. And the text of a key is in UTF-8.
 pub record RulesFit {L : Type 0} (w : Frames L) (r : Rules L) : Type 0 where
   pub says_fits : (i : List ℕ) (d : ℕ) (x : L) (a e : ℕ) → w.scalar i d x a e
       → (t : Table) (p : Place) (s : Scalar) (v : Value) → kind_of t p ≡ scalar s

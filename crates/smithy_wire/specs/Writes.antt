@@ -96,7 +96,8 @@ pub record WritesFrames {L : Type 0} (w : Writes L) (frames : Frames L) : Type 0
   pub entry_follows : (f : Form) (key : Option L) (r : List ℕ) → w.MayFollow (w.entry_bytes f false key ++ r)
   pub ending_follows : (f : Form) (r : List ℕ) → w.MayFollow (w.ending f ++ r)
 
--- what it has for scalars and keys can be written
+-- what it has for scalars that it holds and for keys can be written
 pub record WritesLeaves {L : Type 0} (w : Writes L) (l : Leaves L) : Type 0 where
-  pub scalar_is : (s : Scalar) (time : Option TimestampFormat) (x : ScalarValue) → is_of s x ≡ true → w.IsScalar (l.leaf_of s time x)
+  pub scalar_is : (s : Scalar) (time : Option TimestampFormat) (x : ScalarValue) → is_of s x ≡ true → l.holds time x ≡ true
+      → w.IsScalar (l.leaf_of s time x)
   pub key_is : (key : List ℕ) → IsUtf8 key → w.IsKey (l.key_of key)

@@ -1,5 +1,5 @@
 -- The node as which a value is written at a place of a table, whichever wire carries it.
-use Rattle.std.specs.Prelude.{◌≡◌, ℕ, List, [], true, false, Option, Some, None, map as list_map, slice_get, unwrap_or, IsUtf8}
+use Rattle.std.specs.Prelude.{◌≡◌, ℕ, List, [], Bool, true, false, Option, Some, None, map as list_map, slice_get, unwrap_or, IsUtf8}
 use Rattle.std.specs.Option.{option_map_or}
 use Rattle.smithy_schema.specs.declared.place.Place.{Place}
 use Rattle.smithy_schema.specs.declared.shape_type.Scalar.{Scalar}
@@ -15,6 +15,8 @@ use Rattle.smithy_wire.specs.Rules.{means, Rules}
 pub record Leaves (L : Type 0) : Type 0 where
   pub leaf_of : Scalar → Option TimestampFormat → ScalarValue → L
   pub key_of : List ℕ → L
+  -- what is written for the scalar stands for exactly it
+  pub holds : Option TimestampFormat → ScalarValue → Bool
 
 -- ---- the node
 
@@ -68,7 +70,8 @@ pub record AreNamed (name_of : Member → List ℕ) (t : Table) : Type 0 where
   pub names_differ : (at : Place) → has_equal_texts (list_map name_of (members_of (kind_of t at))) ≡ false
   pub names_are_texts : (at : Place) (n : ℕ) (m : Member) → slice_get (members_of (kind_of t at)) n ≡ Some m → IsUtf8 (name_of m)
 
--- what a wire proves: a scalar and a key mean what they were written for
+-- what a wire proves: a scalar that it holds and a key mean what they were written for
 pub record ReadsLeaves {L : Type 0} (l : Leaves L) (r : Rules L) : Type 0 where
-  pub scalar_means : (s : Scalar) (time : Option TimestampFormat) (x : ScalarValue) → is_of s x ≡ true → r.says s time (l.leaf_of s time x) ≡ means (scalar_value x)
+  pub scalar_means : (s : Scalar) (time : Option TimestampFormat) (x : ScalarValue) → is_of s x ≡ true → l.holds time x ≡ true
+      → r.says s time (l.leaf_of s time x) ≡ means (scalar_value x)
   pub key_means : (key : List ℕ) → IsUtf8 key → r.text_of (l.key_of key) ≡ Some key

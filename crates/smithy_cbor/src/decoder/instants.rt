@@ -1,6 +1,6 @@
-//! Instants, in whole seconds.
+//! Dates and instants, in whole seconds.
 
-ghost use Rattle.std.specs.Prelude.{◌≡◌, ◌*ℤ◌, ℤ, pos, IfOk, IfErr, OnErr};
+ghost use Rattle.std.specs.Prelude.{◌≡◌, IfOk, IfErr, OnErr};
 
 use super::Decoder;
 use crate::error::{DecodeKind, DeserializeError};
@@ -9,9 +9,24 @@ use smithy_types::DateTime;
 
 impl Decoder<'_> {
     ghost use Rattle.smithy_cbor.specs.DecoderView.{position_of, Reads, IsRefusal};
-    ghost use Rattle.smithy_cbor.specs.Reading.{IsInstantAt, IsInstantFault};
+    ghost use Rattle.smithy_cbor.specs.Reading.{IsDateAt, IsNoDate, IsInstantAt, IsInstantFault, IsKindOf};
     ghost use Rattle.smithy_cbor.specs.declared.error.DecodeKind.TheVariants.{NotCarried};
     ghost use Rattle.std.specs.Prelude.{Some};
+
+    /// The seconds of a date, under tag 1, and none where they are a float: it is passed all the same.
+    pub fn date(&mut self) -> Result<Option<i128>, DeserializeError>
+        ensures read { IfOk result (λ seconds. Reads (IsDateAt seconds) self.old self.new) }
+        ensures refused { IfErr result (IsRefusal (λ input at. IsKindOf (IsNoDate input at)) self.old) }
+        ensures stays { OnErr result (self.new ≡ self.old) }
+    {
+        match date_at(self.bytes, self.position) {
+            Ok((seconds, end)) => {
+                self.position = end;
+                Ok(seconds)
+            }
+            Err(e) => Err(self.refused(e)),
+        }
+    }
 
     /// Whole seconds after the epoch, under tag 1. A float there is not carried.
     pub fn timestamp(&mut self) -> Result<DateTime, DeserializeError>

@@ -255,11 +255,41 @@ fn an_instant_is_written_and_read(rt: HostRuntime) -> Result<(), Fail> {
     Ok(())
 }
 
+/// The bytes of a date and its seconds, which a float has none of.
+#[derive(Clone, Copy)]
+struct Date(&'static [u8], Option<i128>);
+
+const DATES: [Date; 6] = [
+    Date(b"\xc1\x00", Some(0)),
+    Date(b"\xc1\x20", Some(-1)),
+    Date(
+        b"\xc1\x1b\xff\xff\xff\xff\xff\xff\xff\xff",
+        Some(18446744073709551615),
+    ),
+    Date(
+        b"\xc1\x3b\xff\xff\xff\xff\xff\xff\xff\xff",
+        Some(-18446744073709551616),
+    ),
+    Date(b"\xc1\xf9\x00\x00", None),
+    Date(b"\xc1\xfb\x41\xd4\x52\xd9\xe8\x20\x00\x00", None),
+];
+
+#[test]
+fn a_date_is_passed_even_where_it_is_a_float(rt: HostRuntime) -> Result<(), Fail> {
+    for Date(bytes, seconds) in &DATES {
+        let mut decoder = Decoder::new(bytes);
+        assert_eq!(rt; decoder.date()?, *seconds);
+        assert_eq!(rt; decoder.position(), bytes.len());
+    }
+    Ok(())
+}
+
 #[derive(Clone, Copy)]
 enum Read {
     Blob,
     BigInteger,
     BigDecimal,
+    Date,
     Timestamp,
 }
 
@@ -267,7 +297,7 @@ enum Read {
 #[derive(Clone, Copy)]
 struct Refused(Read, &'static [u8], &'static str);
 
-const REFUSED: [Refused; 48] = [
+const REFUSED: [Refused; 53] = [
     Refused(Read::BigInteger, b"", "Truncated"),
     Refused(Read::BigInteger, b"\x1c", "NotWellFormed"),
     Refused(Read::BigInteger, b"\x61a", "WrongType"),
@@ -331,6 +361,11 @@ const REFUSED: [Refused; 48] = [
     Refused(Read::Blob, b"\x42\x01", "Truncated"),
     Refused(Read::Blob, b"\x5f\x41\x01", "Truncated"),
     Refused(Read::Blob, b"\x5f\x61a\xff", "NotWellFormed"),
+    Refused(Read::Date, b"", "Truncated"),
+    Refused(Read::Date, b"\x00", "WrongType"),
+    Refused(Read::Date, b"\xc1\x1c", "NotWellFormed"),
+    Refused(Read::Date, b"\xc1\x61a", "WrongType"),
+    Refused(Read::Date, b"\xc1\xf9\x00", "Truncated"),
     Refused(Read::Timestamp, b"", "Truncated"),
     Refused(Read::Timestamp, b"\x00", "WrongType"),
     Refused(Read::Timestamp, b"\xc0\x00", "WrongType"),
@@ -363,6 +398,7 @@ fn refusal_of(alloc: Global, decoder: &mut Decoder<'_>, read: Read) -> Option<De
         Read::Blob => decoder.blob(alloc).err(),
         Read::BigInteger => decoder.big_integer(alloc).err(),
         Read::BigDecimal => decoder.big_decimal(alloc).err(),
+        Read::Date => decoder.date().err(),
         Read::Timestamp => decoder.timestamp().err(),
     }
 }

@@ -1,5 +1,5 @@
 -- What an item says as a kind is a value of the kind.
-use Rattle.std.specs.Prelude.{◌≡◌, ◌==◌, ℕ, ℤ, List, [], ◌∷◌, Some, None, Bool, true, false, IsUtf8, refl, option_map, cond}
+use Rattle.std.specs.Prelude.{◌≡◌, ◌==◌, ◌*ℤ◌, ℕ, ℤ, pos, negsuc, Option, List, [], ◌∷◌, Some, None, Bool, true, false, IsUtf8, refl, option_map, cond}
 use Rattle.std.specs.List.{list_all, concat}
 use Rattle.std.specs.Str.{is_utf8}
 use Rattle.std.proofs.Common.{◌∙◌, ap, subst, arith}
@@ -10,16 +10,18 @@ use Rattle.smithy_schema.specs.declared.place.Place.{Place}
 use Rattle.smithy_schema.specs.declared.shape_type.Scalar.{Scalar}
 use Rattle.smithy_schema.specs.declared.shape_type.Scalar.TheVariants as scalars
 use Rattle.smithy_schema.specs.Table.{Table, scalar, kind_of}
-use Rattle.smithy_schema.specs.Value.{boolean, whole, text, bytes, Value, scalar_value}
+use Rattle.smithy_schema.specs.Value.{boolean, whole, text, bytes, instant, Value, scalar_value}
 use Rattle.smithy_schema.specs.Fits.{is_of, Fits}
 use Rattle.smithy_schema.specs.Lemmas.Options.{same_some, step_apart, chosen, made}
 use Rattle.cbor_item.specs.Item.{Item, unsigned, negative, byte_string, text_string, array, map as map_item, tag, simple, float}
 use Rattle.smithy_cbor.specs.Scalar.{false_value, true_value, boolean_item, integer_of, joined_text, text_of, bytes_of, big_integer_of}
-use Rattle.smithy_cbor_codec.specs.Scalar.{boolean_of, whole_of, blob_of, decimal_form_of, says}
+use Rattle.smithy_cbor_codec.specs.Scalar.{boolean_of, whole_of, blob_of, decimal_form_of, date_says, seconds_say, timestamp_says, says}
 use Rattle.smithy_texts.specs.Base64Text.{are_bytes}
 use Rattle.smithy_texts.specs.Ranges.{fits_signed}
-use Rattle.smithy_wire.specs.Rules.{means}
-use Rattle.smithy_wire.proofs.Bounds.{answer_means, big_integer_fits, big_decimal_fits}
+use Rattle.smithy_instants.specs.Instant.{nanos_per_second}
+use Rattle.smithy_schema.proofs.InstantLemmas.{seconds_are_instant}
+use Rattle.smithy_wire.specs.Rules.{Answer, means, no_meaning}
+use Rattle.smithy_wire.proofs.Bounds.{answer_means, chosen_answer, big_integer_fits, big_decimal_fits}
 
 -- what is a whole number is an integer that fits its bits
 pub whole_is : (bits : ℕ) (x : Item) (v : Value) → whole_of bits x ≡ Some v → (z : ℤ) × (integer_of x ≡ Some z) × (fits_signed bits z ≡ true) × (scalar_value (whole z) ≡ v)
@@ -82,6 +84,39 @@ blob_is x v h =
     let small = chosen (are_bytes found.0) (Some found.0) b.0 found.2 in
     (found.0, found.1, small.0, ap (λ b. scalar_value (bytes b)) (same_some found.0 b.0 small.1) ∙ b.2)
 
+-- an instant has seconds of 64 bits
+date_fits : (t : Table) (p : Place) (o : Option ℤ) (v : Value) → kind_of t p ≡ scalar scalars.Timestamp → date_says o ≡ means v → Fits t p v
+date_fits t p None v kind h = cc
+date_fits t p (Some s) v kind h =
+    let size = chosen_answer (fits_signed 64 s) (scalar_value (instant (s *ℤ pos nanos_per_second))) v h in
+    subst (Fits t p) size.1 (rw kind (seconds_are_instant s size.0))
+
+seconds_fit : (t : Table) (p : Place) (x : Item) (v : Value) → kind_of t p ≡ scalar scalars.Timestamp → seconds_say x ≡ means v → Fits t p v
+seconds_fit t p (float digits) v kind h = cc
+seconds_fit t p (unsigned n) v kind h = date_fits t p (Some (pos n)) v kind h
+seconds_fit t p (negative n) v kind h = date_fits t p (Some (negsuc n)) v kind h
+seconds_fit t p (byte_string extent chunks) v kind h = cc
+seconds_fit t p (text_string extent chunks) v kind h = cc
+seconds_fit t p (array extent is) v kind h = cc
+seconds_fit t p (map_item extent ps) v kind h = cc
+seconds_fit t p (tag n x) v kind h = cc
+seconds_fit t p (simple n) v kind h = cc
+
+tagged_means : (b : Bool) (a : Answer Value) (v : Value) → cond b a no_meaning ≡ means v → a ≡ means v
+tagged_means true a v h = h
+tagged_means false a v h = cc
+
+timestamp_fits : (t : Table) (p : Place) (x : Item) (v : Value) → kind_of t p ≡ scalar scalars.Timestamp → timestamp_says x ≡ means v → Fits t p v
+timestamp_fits t p (tag n x) v kind h = seconds_fit t p x v kind (tagged_means (n == 1) (seconds_say x) v h)
+timestamp_fits t p (unsigned n) v kind h = cc
+timestamp_fits t p (negative n) v kind h = cc
+timestamp_fits t p (byte_string extent chunks) v kind h = cc
+timestamp_fits t p (text_string extent chunks) v kind h = cc
+timestamp_fits t p (array extent is) v kind h = cc
+timestamp_fits t p (map_item extent ps) v kind h = cc
+timestamp_fits t p (simple n) v kind h = cc
+timestamp_fits t p (float digits) v kind h = cc
+
 -- a law of a wire
 pub says_fits : (x : Item) (t : Table) (p : Place) (s : Scalar) (v : Value) → kind_of t p ≡ scalar s
     → says s p.time x ≡ means v → Fits t p v
@@ -102,5 +137,6 @@ says_fits x t p scalars.String v kind h =
 says_fits x t p scalars.Blob v kind h =
     let b = blob_is x v (answer_means (option_map (λ b. scalar_value (bytes b)) (blob_of x)) v h) in
     subst (Fits t p) b.3 (rw kind b.2)
+says_fits x t p scalars.Timestamp v kind h = timestamp_fits t p x v kind h
 says_fits x t p scalars.BigInteger v kind h = big_integer_fits t p (big_integer_of x) v kind h
 says_fits x t p scalars.BigDecimal v kind h = big_decimal_fits t p (decimal_form_of x) v kind h

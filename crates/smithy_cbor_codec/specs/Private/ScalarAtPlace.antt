@@ -5,7 +5,7 @@ use Rattle.smithy_cbor.specs.declared.error.DecodeKind.TheVariants as kinds
 use Rattle.smithy_schema.specs.declared.shape_type.Scalar.{Scalar}
 use Rattle.smithy_schema.specs.Value.{ScalarValue, scalar_value}
 use Rattle.smithy_cbor_codec.specs.Scalar.{says}
-use Rattle.smithy_wire.specs.Rules.{means, no_meaning, wide}
+use Rattle.smithy_wire.specs.Rules.{means, no_meaning, wide, uncarried}
 use Rattle.cbor_item.specs.declared.error.ItemError.{ItemError}
 use Rattle.cbor_item.specs.declared.error.ItemError.TheVariants as item
 use Rattle.cbor_item.specs.Item.{Item}
@@ -74,6 +74,13 @@ pub record ExceedsAt (s : Scalar) (input : List ℕ) (at depth : ℕ) : Type 0 w
   pub e : ℕ
   pub lies : cbor_frames.scalar input depth found at e
   pub is : says s None found ≡ wide
+
+-- or what the kind can't carry
+pub record UncarriedAt (s : Scalar) (input : List ℕ) (at depth : ℕ) : Type 0 where
+  pub found : Item
+  pub e : ℕ
+  pub lies : cbor_frames.scalar input depth found at e
+  pub is : says s None found ≡ uncarried
 
 -- whatever stands there is nothing of the kind
 abbrev pub NothingAt : Scalar → List ℕ → ℕ → ℕ → Type 0

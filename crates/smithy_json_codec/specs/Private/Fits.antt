@@ -1,12 +1,15 @@
 -- What a scalar of JSON means at a place is a value of the place.
-use Rattle.std.specs.Prelude.{◌≡◌, ℕ, ℤ, List, Option, Some, None, true, IsUtf8, refl, option_map, if◌then◌else◌}
+use Rattle.std.specs.Prelude.{◌≡◌, ℕ, ℤ, List, Option, Some, None, true, IsUtf8, refl, option_map, option_and_then, if◌then◌else◌}
 use Rattle.std.proofs.Common.{sym, ◌∙◌, subst}
 use Rattle.std.proofs.lemmas.Str.{is_utf8-from_IsUtf8}
 use Rattle.smithy_schema.specs.declared.place.Place.{Place}
 use Rattle.smithy_schema.specs.declared.shape_type.Scalar.{Scalar}
 use Rattle.smithy_schema.specs.declared.shape_type.Scalar.TheVariants as scalars
+use Rattle.smithy_schema.specs.declared.shape_type.TimestampFormat.{TimestampFormat}
+use Rattle.smithy_schema.specs.declared.shape_type.TimestampFormat.TheVariants.{EpochSeconds, DateTime, HttpDate}
+use Rattle.smithy_schema.specs.TimeForms.{format_of}
 use Rattle.smithy_schema.specs.Table.{Table, scalar, kind_of}
-use Rattle.smithy_schema.specs.Value.{boolean as boolean_value, whole, text, bytes, Value, scalar_value}
+use Rattle.smithy_schema.specs.Value.{boolean as boolean_value, whole, text, bytes, instant, Value, scalar_value}
 use Rattle.smithy_schema.specs.Fits.{is_of, Fits}
 use Rattle.smithy_schema.specs.Reading.{Mark}
 use Rattle.smithy_schema.specs.Lemmas.Options.{same_some, step_apart, chosen, made}
@@ -16,12 +19,16 @@ use Rattle.smithy_texts.specs.Base64Text.{blob_of}
 use Rattle.smithy_texts.specs.Decimal.{integer_form, decimal_form}
 use Rattle.smithy_texts.specs.Ranges.{fits_signed}
 use Rattle.smithy_texts.proofs.Base64Laws.{blob_is_bytes}
+use Rattle.smithy_schema.proofs.InstantLemmas.{date_is_instant}
+use Rattle.smithy_instants.specs.Instant.{is_instant}
+use Rattle.smithy_instants.specs.Epoch.{epoch_nanos}
+use Rattle.smithy_instants.specs.DateText.{date_of}
 use Rattle.smithy_json.proofs.TextLemmas.{unescaped_is_utf8}
-use Rattle.smithy_json_codec.specs.Scalar.{JsonScalar, a_boolean, a_number, a_string, boolean_of, whole_of, text_of, bytes_of, number_text, number_says, says}
+use Rattle.smithy_json_codec.specs.Scalar.{JsonScalar, a_boolean, a_number, a_string, boolean_of, whole_of, text_of, bytes_of, number_text, number_says, seconds_say, date_says, timestamp_says, says}
 use Rattle.smithy_json_codec.specs.Standing.{json_frames}
 use Rattle.smithy_wire.specs.Node.{as_object}
 use Rattle.smithy_wire.specs.Rules.{means}
-use Rattle.smithy_wire.proofs.Bounds.{answer_means, big_integer_fits, big_decimal_fits}
+use Rattle.smithy_wire.proofs.Bounds.{chosen_answer, answer_means, big_integer_fits, big_decimal_fits}
 
 -- the number that a text writes fits its bits
 pub whole_is : (bits : ℕ) (raw : List ℕ) (v : Value) → whole_of bits (a_number raw) ≡ Some v → (z : ℤ) × (v ≡ scalar_value (whole z)) × (whole_number raw ≡ Some z) × (fits_signed bits z ≡ true)
@@ -61,20 +68,44 @@ number_fits t p scalars.BigInteger (Some raw) v kind h = big_integer_fits t p (i
 number_fits t p scalars.BigDecimal (Some raw) v kind h = big_decimal_fits t p (decimal_form raw) v kind h
 number_fits t p _ (Some raw) v kind h = cc
 
+-- an instant has seconds of 64 bits
+instant_fits : (t : Table) (p : Place) (n : ℤ) (v : Value) → kind_of t p ≡ scalar scalars.Timestamp → is_instant n ≡ true → scalar_value (instant n) ≡ v → Fits t p v
+instant_fits t p n v kind is same = subst (Fits t p) same (rw kind is)
+
+seconds_fit : (t : Table) (p : Place) (o : Option ℤ) (v : Value) → kind_of t p ≡ scalar scalars.Timestamp → seconds_say o ≡ means v → Fits t p v
+seconds_fit t p None v kind h = cc
+seconds_fit t p (Some n) v kind h =
+    let size = chosen_answer (is_instant n) (scalar_value (instant n)) v h in
+    instant_fits t p n v kind size.0 size.1
+
+date_fits : (t : Table) (p : Place) (form : TimestampFormat) (o : Option (List ℕ)) (v : Value) → kind_of t p ≡ scalar scalars.Timestamp → date_says form o ≡ means v → Fits t p v
+date_fits t p form o v kind h =
+    let n = made (λ n. scalar_value (instant n)) (option_and_then (date_of (format_of form)) o) v (answer_means (option_map (λ n. scalar_value (instant n)) (option_and_then (date_of (format_of form)) o)) v h) in
+    let text = step_apart o (date_of (format_of form)) n.0 n.1 in
+    instant_fits t p n.0 v kind (date_is_instant form text.0 n.0 text.2) n.2
+
+timestamp_fits : (t : Table) (p : Place) (form : TimestampFormat) (x : JsonScalar) (v : Value) → kind_of t p ≡ scalar scalars.Timestamp → timestamp_says form x ≡ means v → Fits t p v
+timestamp_fits t p EpochSeconds (a_number raw) v kind h = seconds_fit t p (epoch_nanos raw) v kind h
+timestamp_fits t p EpochSeconds (a_boolean b) v kind h = cc
+timestamp_fits t p EpochSeconds (a_string raw) v kind h = cc
+timestamp_fits t p DateTime x v kind h = date_fits t p DateTime (text_of x) v kind h
+timestamp_fits t p HttpDate x v kind h = date_fits t p HttpDate (text_of x) v kind h
+
 -- what a scalar means is a value of its kind
 pub says_fits : (i : List ℕ) (d : ℕ) (x : JsonScalar) (a e : ℕ) → json_frames.scalar i d x a e
-    → (t : Table) (p : Place) (s : Scalar) (v : Value) → kind_of t p ≡ scalar s → says s p.time x ≡ means v → Fits t p v
-says_fits i d x a e lies t p scalars.Boolean v kind h = boolean_fits t p x v kind (answer_means (boolean_of x) v h)
-says_fits i d x a e lies t p scalars.Byte v kind h = whole_fits 8 scalars.Byte (λ z. refl) t p x v kind (answer_means (whole_of 8 x) v h)
-says_fits i d x a e lies t p scalars.Short v kind h = whole_fits 16 scalars.Short (λ z. refl) t p x v kind (answer_means (whole_of 16 x) v h)
-says_fits i d x a e lies t p scalars.Integer v kind h = whole_fits 32 scalars.Integer (λ z. refl) t p x v kind (answer_means (whole_of 32 x) v h)
-says_fits i d x a e lies t p scalars.Long v kind h = whole_fits 64 scalars.Long (λ z. refl) t p x v kind (answer_means (whole_of 64 x) v h)
-says_fits i d x a e lies t p scalars.String v kind h =
+    → (t : Table) (p : Place) (s : Scalar) (v : Value) → kind_of t p ≡ scalar s → (form : TimestampFormat) → says s form x ≡ means v → Fits t p v
+says_fits i d x a e lies t p scalars.Boolean v kind form h = boolean_fits t p x v kind (answer_means (boolean_of x) v h)
+says_fits i d x a e lies t p scalars.Byte v kind form h = whole_fits 8 scalars.Byte (λ z. refl) t p x v kind (answer_means (whole_of 8 x) v h)
+says_fits i d x a e lies t p scalars.Short v kind form h = whole_fits 16 scalars.Short (λ z. refl) t p x v kind (answer_means (whole_of 16 x) v h)
+says_fits i d x a e lies t p scalars.Integer v kind form h = whole_fits 32 scalars.Integer (λ z. refl) t p x v kind (answer_means (whole_of 32 x) v h)
+says_fits i d x a e lies t p scalars.Long v kind form h = whole_fits 64 scalars.Long (λ z. refl) t p x v kind (answer_means (whole_of 64 x) v h)
+says_fits i d x a e lies t p scalars.String v kind form h =
     let s = made (λ s. scalar_value (text s)) (text_of x) v (answer_means (option_map (λ s. scalar_value (text s)) (text_of x)) v h) in
     subst (Fits t p) s.2 (rw kind (is_utf8-from_IsUtf8 s.0 (text_is_utf8 i d x a e lies s.0 s.1)))
-says_fits i d x a e lies t p scalars.Blob v kind h =
+says_fits i d x a e lies t p scalars.Blob v kind form h =
     let b = made (λ b. scalar_value (bytes b)) (bytes_of x) v (answer_means (option_map (λ b. scalar_value (bytes b)) (bytes_of x)) v h) in
     let s = step_apart (text_of x) blob_of b.0 b.1 in
     subst (Fits t p) b.2 (rw kind (blob_is_bytes s.0 b.0 s.2))
-says_fits i d x a e lies t p scalars.BigInteger v kind h = number_fits t p scalars.BigInteger (number_text x) v kind h
-says_fits i d x a e lies t p scalars.BigDecimal v kind h = number_fits t p scalars.BigDecimal (number_text x) v kind h
+says_fits i d x a e lies t p scalars.Timestamp v kind form h = timestamp_fits t p form x v kind h
+says_fits i d x a e lies t p scalars.BigInteger v kind form h = number_fits t p scalars.BigInteger (number_text x) v kind h
+says_fits i d x a e lies t p scalars.BigDecimal v kind form h = number_fits t p scalars.BigDecimal (number_text x) v kind h

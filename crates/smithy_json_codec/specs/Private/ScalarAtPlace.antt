@@ -5,10 +5,12 @@ use Rattle.smithy_json.specs.Tree.{number, string}
 use Rattle.smithy_json.specs.Number.{whole_number}
 use Rattle.smithy_json.specs.Unescape.{unescaped}
 use Rattle.smithy_schema.specs.declared.shape_type.Scalar.{Scalar}
-use Rattle.smithy_schema.specs.Value.{ScalarValue, scalar_value}
-use Rattle.smithy_json_codec.specs.Scalar.{JsonScalar, a_string, tree_of, bytes_of, number_text, says}
+use Rattle.smithy_schema.specs.declared.shape_type.TimestampFormat.{TimestampFormat}
+use Rattle.smithy_schema.specs.declared.shape_type.TimestampFormat.TheVariants.{EpochSeconds}
+use Rattle.smithy_schema.specs.Value.{ScalarValue, instant, scalar_value}
+use Rattle.smithy_json_codec.specs.Scalar.{JsonScalar, a_string, tree_of, bytes_of, number_text, timestamp_says, says}
 use Rattle.smithy_json_codec.specs.Standing.{TreeLies}
-use Rattle.smithy_wire.specs.Rules.{means, no_meaning, wide}
+use Rattle.smithy_wire.specs.Rules.{means, no_meaning, wide, uncarried}
 
 -- a whole number of so many bits lies there
 pub record WholeLies (bits : ℕ) (input : List ℕ) (at : ℕ) (n : ℤ) (e : ℕ) : Type 0 where
@@ -39,15 +41,32 @@ pub record NumberTextLies (input : List ℕ) (at : ℕ) (text : List ℕ) (e : �
 pub record MeansAt (s : Scalar) (input : List ℕ) (at : ℕ) (v : ScalarValue) (e : ℕ) : Type 0 where
   pub found : JsonScalar
   pub lies : TreeLies 1 (tree_of found) input at e
-  pub is : says s None found ≡ means (scalar_value v)
+  pub is : says s EpochSeconds found ≡ means (scalar_value v)
 
 -- or a number that leaves the limits of the kind
 pub record ExceedsAt (s : Scalar) (input : List ℕ) (at : ℕ) : Type 0 where
   pub found : JsonScalar
   pub e : ℕ
   pub lies : TreeLies 1 (tree_of found) input at e
-  pub is : says s None found ≡ wide
+  pub is : says s EpochSeconds found ≡ wide
 
 -- whatever lies there is nothing of the kind
 abbrev pub NothingAt : Scalar → List ℕ → ℕ → Type 0
-NothingAt s input at = (x : JsonScalar) (e : ℕ) → TreeLies 1 (tree_of x) input at e → says s None x ≡ no_meaning
+NothingAt s input at = (x : JsonScalar) (e : ℕ) → TreeLies 1 (tree_of x) input at e → says s EpochSeconds x ≡ no_meaning
+
+-- in this form, this instant lies there
+pub record InstantLies (form : TimestampFormat) (input : List ℕ) (at : ℕ) (n : ℤ) (e : ℕ) : Type 0 where
+  pub found : JsonScalar
+  pub lies : TreeLies 1 (tree_of found) input at e
+  pub is : timestamp_says form found ≡ means (scalar_value (instant n))
+
+-- or a number that isn't carried
+pub record UncarriedLies (form : TimestampFormat) (input : List ℕ) (at : ℕ) : Type 0 where
+  pub found : JsonScalar
+  pub e : ℕ
+  pub lies : TreeLies 1 (tree_of found) input at e
+  pub is : timestamp_says form found ≡ uncarried
+
+-- whatever lies there is no instant
+abbrev pub NoInstantLies : TimestampFormat → List ℕ → ℕ → Type 0
+NoInstantLies form input at = (x : JsonScalar) (e : ℕ) → TreeLies 1 (tree_of x) input at e → timestamp_says form x ≡ no_meaning

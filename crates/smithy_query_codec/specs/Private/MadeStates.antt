@@ -6,7 +6,7 @@ use Rattle.smithy_schema.specs.declared.error.SerdeError.{SerdeError}
 use Rattle.smithy_schema.specs.declared.error.SerdeError.TheVariants.{Unwritable}
 use Rattle.smithy_schema.specs.Writing.{Event, begin_structure, end_structure, begin_list, end_list, begin_map, end_map, null_of, scalar_of, big_integer_of, big_decimal_of, Open}
 use Rattle.smithy_query.specs.Form.{pair_text}
-use Rattle.smithy_query_codec.specs.Leaves.{scalar_text}
+use Rattle.smithy_query_codec.specs.Leaves.{scalar_text, form_at}
 use Rattle.smithy_query_codec.specs.Writing.{Mark, QueryState, child_prefix, closed, empty_leaf, made, allowed, where_taken}
 
 closed_opens : (s : QueryState) (marks : List Mark) (opens : List Open) → (closed s marks opens).opens ≡ opens
@@ -39,7 +39,7 @@ made_grows end_list s opens = (empty_leaf s s.marks, closed_out (record s { out 
 made_grows (begin_map site length) s opens = ([], sym (append-nil s.out))
 made_grows end_map s opens = ([], closed_out s s.marks opens ∙ sym (append-nil s.out))
 made_grows (null_of site) s opens = ([], sym (append-nil s.out))
-made_grows (scalar_of site x) s opens = (pair_text (child_prefix s site.view) (scalar_text x), refl)
+made_grows (scalar_of site x) s opens = (pair_text (child_prefix s site.view) (scalar_text (form_at site) x), refl)
 made_grows (big_integer_of site written) s opens = (pair_text (child_prefix s site.view) written, refl)
 made_grows (big_decimal_of site written) s opens = (pair_text (child_prefix s site.view) written, refl)
 

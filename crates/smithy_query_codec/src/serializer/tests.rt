@@ -2,7 +2,7 @@
 
 use crate::QueryShapeSerializer;
 use smithy_schema::{FinishSerializer, Schema, SerdeError, ShapeSerializer, Shapes, TableText};
-use smithy_types::{BigDecimal, BigInteger, BigNumberError, Blob};
+use smithy_types::{BigDecimal, BigInteger, BigNumberError, Blob, ConversionError, DateTime};
 use std::alloc::Global;
 use std::test::Fail;
 
@@ -16,6 +16,11 @@ member Items Items
 member Flat Items flat xml=flat
 member Tags Tags
 member Counts Counts flat
+member Seconds timestamp time=epoch-seconds
+member Http timestamp time=http-date
+member When timestamp xml=when
+member Days Days
+list Days timestamp time=http-date
 ";
 
 // Where a call's schema comes from: the structure, a member of it, or the value of a map that is a member, without its name.
@@ -46,13 +51,15 @@ enum Call {
     Decimal(At, i128, i64),
     KeptInteger(At, &'static str),
     KeptDecimal(At, &'static str),
+    // by its nanoseconds
+    Instant(At, i128),
     Fail,
 }
 
 use At::{Member, ValueOf, Whole};
 use Call::{
     BeginList, BeginMap, BeginStruct, Boolean, Byte, Bytes, Decimal, EndList, EndMap, EndStruct,
-    Integer, KeptDecimal, KeptInteger, Long, Null, Short, Text, Wide,
+    Instant, Integer, KeptDecimal, KeptInteger, Long, Null, Short, Text, Wide,
 };
 
 #[derive(Clone, Copy)]
@@ -63,7 +70,7 @@ struct Row {
     answer: Result<&'static str, SerdeError>,
 }
 
-const ROWS: [Row; 32] = [
+const ROWS: [Row; 40] = [
     Row {
         name: "nothing",
         calls: &[],
@@ -163,6 +170,71 @@ const ROWS: [Row; 32] = [
         answer: Ok(
             "&Items.item.1=1&Items.item.2=2.0&Items.item.3=3&Items.item.4=4e-1&Counts.1.key=k&Counts.1.value=5",
         ),
+    },
+    Row {
+        name: "instants in the form of their member, and as a date-time where it has none",
+        calls: &[
+            Instant(Member(6), 1_500_000_000),
+            Instant(Member(7), 1_398_796_238_999_999_999),
+            Instant(Member(8), 482_196_050_520_000_000),
+            Instant(Member(0), 0),
+        ],
+        answer: Ok(
+            "&Seconds=1.5&Http=Tue%2C%2029%20Apr%202014%2018%3A30%3A38%20GMT&when=1985-04-12T23%3A20%3A50.52Z&a=1970-01-01T00%3A00%3A00Z",
+        ),
+    },
+    Row {
+        name: "the ends of dates, and seconds past them",
+        calls: &[
+            Instant(Member(8), -62_167_219_200_000_000_000),
+            Instant(Member(8), 253_402_300_799_999_999_999),
+            Instant(Member(6), 253_402_300_800_000_000_000),
+            Instant(Member(6), -9_223_372_036_854_775_808_000_000_000),
+        ],
+        answer: Ok(
+            "&when=0000-01-01T00%3A00%3A00Z&when=9999-12-31T23%3A59%3A59.999999Z&Seconds=253402300800&Seconds=-9223372036854775808",
+        ),
+    },
+    Row {
+        name: "instants as elements, in the form of the place that is handed in",
+        calls: &[
+            BeginList(Member(9)),
+            Instant(ValueOf(9), 0),
+            Instant(Member(6), 1),
+            EndList,
+        ],
+        answer: Ok(
+            "&Days.member.1=Thu%2C%2001%20Jan%201970%2000%3A00%3A00%20GMT&Days.member.2=0.000000001",
+        ),
+    },
+    Row {
+        name: "a year past the last of dates",
+        calls: &[Instant(Member(8), 253_402_300_800_000_000_000)],
+        answer: Err(SerdeError::Unwritable),
+    },
+    Row {
+        name: "a year before the first of dates",
+        calls: &[Instant(Member(7), -62_167_219_200_000_000_001)],
+        answer: Err(SerdeError::Unwritable),
+    },
+    Row {
+        name: "an instant without a name",
+        calls: &[Instant(Whole, 0)],
+        answer: Err(SerdeError::Unwritable),
+    },
+    Row {
+        name: "an instant in the place of a key",
+        calls: &[BeginMap(Member(5)), Instant(Member(8), 0)],
+        answer: Err(SerdeError::Unwritable),
+    },
+    Row {
+        name: "any call after an instant that can't be written",
+        calls: &[
+            Instant(Member(8), 0),
+            Call::Fail,
+            Instant(Member(8), 253_402_300_800_000_000_000),
+        ],
+        answer: Err(SerdeError::Failed),
     },
     Row {
         name: "elements under their name",
@@ -336,6 +408,11 @@ fn text_refused(_: BigNumberError) -> SerdeError {
     SerdeError::InvalidInput
 }
 
+// What a test says of seconds past those of an instant.
+fn seconds_refused(_: ConversionError) -> SerdeError {
+    SerdeError::InvalidInput
+}
+
 fn make<S: ShapeSerializer>(
     alloc: Global,
     sink: &mut S,
@@ -371,6 +448,10 @@ fn make<S: ShapeSerializer>(
         KeptDecimal(at, text) => {
             let number = BigDecimal::from_str(alloc, text).map_err(text_refused)?;
             sink.write_big_decimal(&schema(shapes, at)?, &number)
+        }
+        Instant(at, nanos) => {
+            let instant = DateTime::from_nanos(nanos).map_err(seconds_refused)?;
+            sink.write_timestamp(&schema(shapes, at)?, &instant)
         }
         Call::Fail => {
             sink.fail();

@@ -22,6 +22,8 @@ pub(crate) fn scalar_of(name: &str) -> Option<Scalar>
         Some(Scalar::String)
     } else if name == "blob" {
         Some(Scalar::Blob)
+    } else if name == "timestamp" {
+        Some(Scalar::Timestamp)
     } else if name == "bigInteger" {
         Some(Scalar::BigInteger)
     } else if name == "bigDecimal" {
@@ -32,7 +34,7 @@ pub(crate) fn scalar_of(name: &str) -> Option<Scalar>
 }
 
 /// The names of the scalars that no table can have yet.
-const UNBUILT_NAMES: [&str; 2] = ["timestamp", "document"];
+const UNBUILT_NAMES: [&str; 1] = ["document"];
 
 /// No table can have the scalar of that name yet.
 pub(crate) fn is_unbuilt_name(name: &str) -> bool

@@ -1,7 +1,7 @@
 -- What a tree is at its root, and the tree of a transcoding, seen as the values that they stand for.
 use Rattle.std.specs.Prelude.{ℕ, ℤ, List, map as mapped, String, string_bytes, box_value}
 use Rattle.std.specs.declared.alloc.Global.{Global}
-use Rattle.smithy_schema.specs.Value.{Value, scalar_value, boolean, whole, text, bytes, decimal, list, map, structure, union, null_element, values_of, MapEntries, MemberValues}
+use Rattle.smithy_schema.specs.Value.{Value, scalar_value, boolean, whole, text, bytes, decimal, instant, list, map, structure, union, null_element, values_of, MapEntries, MemberValues}
 use Rattle.smithy_transcode.specs.View.{map_entries_of, member_values_of}
 use Rattle.smithy_transcode.specs.declared.compact_value.CompactValue as kept
 use Rattle.smithy_transcode.specs.declared.compact_value.CompactValue.TheOpen.{CompactValue-F}
@@ -37,6 +37,7 @@ part_view view (parts.Whole n) = scalar_value (whole n)
 part_view view (parts.Text s) = scalar_value (text s.now)
 part_view view (parts.Bytes b) = scalar_value (bytes b.now)
 part_view view (parts.Decimal m e) = scalar_value (decimal m e)
+part_view view (parts.Timestamp d) = scalar_value (instant d)
 part_view view (parts.List vs) = list (values_of (mapped view vs.now))
 part_view view (parts.Wholes ns) = list (values_of (whole_values ns.now))
 part_view view (parts.Map es) = map (entry_views view (entries es))
@@ -55,6 +56,7 @@ compact_step (CompactValue-F.Large n) = scalar_value (whole (box_value n))
 compact_step (CompactValue-F.Text s) = scalar_value (text (string_bytes s))
 compact_step (CompactValue-F.Bytes b) = scalar_value (bytes b)
 compact_step (CompactValue-F.Decimal p) = scalar_value (decimal (box_value p).0 (box_value p).1)
+compact_step (CompactValue-F.Timestamp d) = scalar_value (instant d)
 compact_step (CompactValue-F.List v) = list (values_of v.items)
 compact_step (CompactValue-F.Wholes v) = list (values_of (whole_values v.items))
 compact_step (CompactValue-F.Map m) = map (map_entries_of m.items)

@@ -1,6 +1,6 @@
 //! What a reader that has failed answers, and how the refusals of a transcoding are printed.
 
-use crate::{TranscodeError, read_value};
+use crate::{TranscodeError, Unfit, read_value};
 use smithy_cbor_codec::CborCodec;
 use smithy_json_codec::JsonCodec;
 use smithy_schema::{SerdeError, ShapeDeserializer, Shapes, TableText};
@@ -9,9 +9,15 @@ use std::test::Fail;
 #[derive(Clone, Copy)]
 struct ErrorName(TranscodeError, &'static str);
 
-const ERROR_NAMES: [ErrorName; 3] = [
+const ERROR_NAMES: [ErrorName; 6] = [
     ErrorName(TranscodeError::InvalidInput, "InvalidInput"),
     ErrorName(TranscodeError::TooDeep, "TooDeep"),
+    ErrorName(TranscodeError::TooWide, "TooWide"),
+    ErrorName(TranscodeError::NotCarried, "NotCarried"),
+    ErrorName(
+        TranscodeError::Inexpressible(Unfit::Instant),
+        "Inexpressible",
+    ),
     ErrorName(TranscodeError::NoMemory, "NoMemory"),
 ];
 

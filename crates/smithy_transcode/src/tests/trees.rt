@@ -6,6 +6,7 @@ use crate::transcode;
 use crate::tree::{Part, Tree};
 use crate::value::Value;
 use smithy_schema::{SerdeError, ShapeType, Shapes, TableText};
+use smithy_types::DateTime;
 use std::alloc::Global;
 use std::test::Fail;
 
@@ -181,6 +182,42 @@ fn a_tree_has_its_entries_in_order(rt: HostRuntime) -> Result<(), Fail> {
     assert!(rt; has_two_entries(&value), "the public value");
     let compact: CompactValue = two_entries(rt.alloc())?;
     assert!(rt; has_two_entries(&compact), "the compact value");
+    Ok(())
+}
+
+// A map of an instant.
+fn one_instant<T: Tree>(alloc: Global, value: DateTime) -> Result<T, SerdeError> {
+    let mut entries = T::no_entries(alloc);
+    T::set_entry(
+        alloc,
+        &mut entries,
+        "a".to_string(alloc)?,
+        T::timestamp(value),
+    )?;
+    Ok(T::map(entries))
+}
+
+// Whether a tree is that map.
+fn has_one_instant<T: Tree>(tree: &T, value: DateTime) -> bool {
+    let Part::Map(mut left) = tree.part() else {
+        return false;
+    };
+    let Some((_, kept)) = left.next_entry() else {
+        return false;
+    };
+    let Part::Timestamp(instant) = kept.part() else {
+        return false;
+    };
+    instant == value && left.next_entry().is_none()
+}
+
+#[test]
+fn a_tree_keeps_an_instant(rt: HostRuntime) -> Result<(), Fail> {
+    let instant = DateTime::from_nanos(-9_223_372_036_854_775_808_000_000_000)?;
+    let value: Value = one_instant(rt.alloc(), instant)?;
+    assert!(rt; has_one_instant(&value, instant), "the public value");
+    let compact: CompactValue = one_instant(rt.alloc(), instant)?;
+    assert!(rt; has_one_instant(&compact, instant), "the compact value");
     Ok(())
 }
 

@@ -10,7 +10,7 @@ use std::alloc::Global;
 use std::process::Abort;
 use std::test::Fail;
 
-const LINES: [(Status, &str); 23] = [
+const LINES: [(Status, &str); 25] = [
     (Status::Done, ""),
     (Status::Usage, "smithy_transcode: usage\n"),
     (Status::ReadFailed, "smithy_transcode: read failed\n"),
@@ -19,9 +19,14 @@ const LINES: [(Status, &str); 23] = [
     (Status::InvalidInput, "smithy_transcode: invalid input\n"),
     (Status::TooDeep, "smithy_transcode: too deep\n"),
     (Status::TooWide, "smithy_transcode: number too wide\n"),
+    (Status::NotCarried, "smithy_transcode: not carried\n"),
     (
         Status::Inexpressible(Unfit::Null),
         "smithy_transcode: null not expressible\n",
+    ),
+    (
+        Status::Inexpressible(Unfit::Instant),
+        "smithy_transcode: instant not expressible\n",
     ),
     (
         Status::TableRefused(TableFault::BadLine(3)),

@@ -342,7 +342,7 @@ pub const ROWS: [Row; 39] = [
     Row {
         name: "a target that isn't built",
         words: "transcode t S json json",
-        table: "structure S\nmember a timestamp\n",
+        table: "structure S\nmember a document\n",
         input: b"{\"z\":[1], \"a\" : 7}",
         files_fail: 0,
         input_fail: 0,

@@ -35,19 +35,19 @@ const ITEM_WITH_BYTES: &[u8] =
 const ENCODED_ITEM: &[u8] =
     b"\xbf\x69TableName\x61t\x64Item\xbf\x62Id\xbf\x61S\x61a\xff\x63Raw\xbf\x61B\x42\xfb\xff\xff\xff\xff";
 
-const INVALID: &str = "smithy_transcode: invalid input\n";
+pub const INVALID: &str = "smithy_transcode: invalid input\n";
 
 /// A run over a table at the path `t`: its name, the words behind the path, the table, the input, the status, the
 /// output, and the line on standard error.
 #[derive(Clone, Copy)]
-struct ShapeRow(
-    &'static str,
-    &'static str,
-    &'static str,
-    &'static [u8],
-    u8,
-    &'static [u8],
-    &'static str,
+pub struct ShapeRow(
+    pub &'static str,
+    pub &'static str,
+    pub &'static str,
+    pub &'static [u8],
+    pub u8,
+    pub &'static [u8],
+    pub &'static str,
 );
 
 const SHAPE_ROWS: [ShapeRow; 51] = [
@@ -502,9 +502,9 @@ const SHAPE_ROWS: [ShapeRow; 51] = [
         INVALID,
     ),
     ShapeRow(
-        "a union that names a timestamp",
+        "a union that names a document",
         "U json json",
-        "union U\nmember a timestamp\n",
+        "union U\nmember a document\n",
         b"{}",
         30,
         b"",
@@ -512,8 +512,8 @@ const SHAPE_ROWS: [ShapeRow; 51] = [
     ),
 ];
 
-// Checks one row: the status, and what was written, on standard error too.
-fn check(rt: &impl Abort, alloc: Global, row: &ShapeRow) -> Result<(), Fail> {
+/// Checks one row: the status, and what was written, on standard error too.
+pub fn check(rt: &impl Abort, alloc: Global, row: &ShapeRow) -> Result<(), Fail> {
     let ShapeRow(name, words, table, input, status, output, line) = *row;
     let words = words_of(alloc, format!(in alloc; "transcode t {words}")?.as_str())?;
     let mut files = files_with(alloc, table.as_bytes().to_vec(alloc)?, 0)?;

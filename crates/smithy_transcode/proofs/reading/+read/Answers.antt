@@ -9,7 +9,7 @@ use Rattle.smithy_transcode.proofs.ReadStructures.{member_child, member_read, un
 use Rattle.smithy_transcode.proofs.ReadLists.{begin_list, element_read, null_read, element_refused, null_refused, element_place}
 use Rattle.smithy_transcode.proofs.ReadMaps.{begin_map, entry_read, null_entry_read, entry_refused, null_entry_refused, value_place, entry_falls}
 use Rattle.smithy_transcode.proofs.ReadUnions.{begin_union, variant_read, no_first, no_end, step_input, had_not_failed, union_has_members, is_not_failed, is_not_unwritable, is_not_deep}
-use Rattle.smithy_transcode.proofs.ReadWide.{inside_child, inside_member, is_not_wide, scalar_inside, scalar_read}
+use Rattle.smithy_transcode.proofs.ReadWide.{inside_child, inside_member, is_not_uncarried, is_not_wide, scalar_inside, scalar_read}
 use Rattle.smithy_transcode.proofs.reading.+read.Goals as goal
 use Rattle.smithy_transcode.proofs.reading.+read.Goals.{read_list-else-sparse-via-then-sparse+else-is_null, read_list-else-sparse-via-else-sparse, read_map-else-sparse-via-then-sparse+else-is_null, read_map-else-sparse-via-else-sparse}
 
@@ -477,6 +477,7 @@ read_union-returns-in_default g t c =
       readable = is_not_unwritable;
       deep = λ is. absurd (is_not_deep is);
       wide = λ is. absurd (is_not_wide is);
+      uncarried = λ is. absurd (is_not_uncarried is);
       input = ap (λ s. s.input) c.fail.ensures.fails ∙ step_input _ _ _ outer _ step ∙ begun.input;
       counted = λ strict before. refusal_counted (g.D.ShapeDeserializer.wire s0) (g.D.ShapeDeserializer.state c.next_member.new.self) _ c.fail.ensures.fails (member_counted _ (counts strict) _ _ _ outer step (entry_counted _ (counts strict) _ _ _ _ _ _ c.in_ok-open_struct.ensures.ok before));
     }
@@ -573,6 +574,7 @@ read_union-returns-in_default-2 g t c =
       readable = is_not_unwritable;
       deep = λ is. absurd (is_not_deep is);
       wide = λ is. absurd (is_not_wide is);
+      uncarried = λ is. absurd (is_not_uncarried is);
       input = ap (λ s. s.input) c.fail-in_default-2.ensures.fails ∙ step_input _ _ _ outer _ next ∙ inside.input;
       counted = λ strict before. refusal_counted (g.D.ShapeDeserializer.wire s0) (g.D.ShapeDeserializer.state c.next_member-2.new.self) _ c.fail-in_default-2.ensures.fails (member_counted _ (counts strict) _ _ _ outer next (value_counted _ (counts strict) _ _ _ _ _ reads (step_counted _ (counts strict) _ _ _ _ _ step.2 (entry_counted _ (counts strict) _ _ _ _ _ _ c.in_ok-open_struct.ensures.ok before))));
     }
@@ -592,7 +594,7 @@ read_union-returns-clause-ok g t c =
     let leaves = rw (c.in-End.is, settings) at (c.in_ok-next_member.ensures.ok inside.due) in
     IfOk-weaker c.union.result _ _ (λ u made. rw made (end _ _ _ _ _ _ _ _ _ _ _ inside leaves refl)) c.union.ensures.ok
 
--- a number in a child leaves its limits
+-- in a child, a number leaves its limits, or what stands there isn't carried
 pub read_structure-returns-in_err-value-in-Member-clause-wide : goal.read_structure-returns-in_err-value-in-Member-clause-wide
 read_structure-returns-in_err-value-in-Member-clause-wide g t c =
     let outer = site_of c.args.schema.now in
@@ -600,7 +602,16 @@ read_structure-returns-in_err-value-in-Member-clause-wide g t c =
     let step = rw (c.in-Member.is, c.loop-members.invariant.same) at (c.in_ok-member.ensures.ok inside.due) in
     let p = err_from_is_err_and c.from_residual-in_err-value-in-Member.result c.from_residual-in_err-value-in-Member.ensures.1 in
     rw (p.1, p.2)
-    (λ is. inside_member _ _ _ _ _ _ (g.D.ShapeDeserializer.state c.read_tree.new.source) outer c.in-Member.member _ _ inside step (rw (c.next_member.ensures.same, c.loop-members.invariant.same) at (c.in_err-value-in-Member.ensures.wide is)))
+    (λ is. inside_member (g.D.ShapeDeserializer.wire (g.D.ShapeDeserializer.settings c.args.source.now)).exceeds _ _ _ _ _ _ (g.D.ShapeDeserializer.state c.read_tree.new.source) outer c.in-Member.member _ _ inside step (rw (c.next_member.ensures.same, c.loop-members.invariant.same) at (c.in_err-value-in-Member.ensures.wide is)))
+
+pub read_structure-returns-in_err-value-in-Member-clause-uncarried : goal.read_structure-returns-in_err-value-in-Member-clause-uncarried
+read_structure-returns-in_err-value-in-Member-clause-uncarried g t c =
+    let outer = site_of c.args.schema.now in
+    let inside = c.loop-members.invariant.inside in
+    let step = rw (c.in-Member.is, c.loop-members.invariant.same) at (c.in_ok-member.ensures.ok inside.due) in
+    let p = err_from_is_err_and c.from_residual-in_err-value-in-Member.result c.from_residual-in_err-value-in-Member.ensures.1 in
+    rw (p.1, p.2)
+    (λ is. inside_member (g.D.ShapeDeserializer.wire (g.D.ShapeDeserializer.settings c.args.source.now)).uncarried _ _ _ _ _ _ (g.D.ShapeDeserializer.state c.read_tree.new.source) outer c.in-Member.member _ _ inside step (rw (c.next_member.ensures.same, c.loop-members.invariant.same) at (c.in_err-value-in-Member.ensures.uncarried is)))
 
 pub read_union-returns-in_err-value-clause-wide : goal.read_union-returns-in_err-value-clause-wide
 read_union-returns-in_err-value-clause-wide g t c =
@@ -610,7 +621,17 @@ read_union-returns-in_err-value-clause-wide g t c =
     let step = rw (c.in-Member.is, c.open_struct.ensures.same) at (c.in_ok-member.ensures.ok begun.due) in
     let p = err_from_is_err_and c.from_residual-in_err-value.result c.from_residual-in_err-value.ensures.1 in
     rw (p.1, p.2)
-    (λ is. inside_member _ _ _ _ _ _ (g.D.ShapeDeserializer.state c.read_tree.new.source) outer c.in-Member.member _ _ begun step (rw (c.next_member.ensures.same, c.open_struct.ensures.same) at (c.in_err-value.ensures.wide is)))
+    (λ is. inside_member (g.D.ShapeDeserializer.wire (g.D.ShapeDeserializer.settings c.args.source.now)).exceeds _ _ _ _ _ _ (g.D.ShapeDeserializer.state c.read_tree.new.source) outer c.in-Member.member _ _ begun step (rw (c.next_member.ensures.same, c.open_struct.ensures.same) at (c.in_err-value.ensures.wide is)))
+
+pub read_union-returns-in_err-value-clause-uncarried : goal.read_union-returns-in_err-value-clause-uncarried
+read_union-returns-in_err-value-clause-uncarried g t c =
+    let laws = g.met.D.ShapeDeserializer.lawful (g.D.ShapeDeserializer.settings c.args.source.now) in
+    let outer = site_of c.args.schema.now in
+    let begun = begin_union _ _ _ laws laws (itself _) _ _ _ _ c.requires.place c.in_ok-open_struct.ensures.ok in
+    let step = rw (c.in-Member.is, c.open_struct.ensures.same) at (c.in_ok-member.ensures.ok begun.due) in
+    let p = err_from_is_err_and c.from_residual-in_err-value.result c.from_residual-in_err-value.ensures.1 in
+    rw (p.1, p.2)
+    (λ is. inside_member (g.D.ShapeDeserializer.wire (g.D.ShapeDeserializer.settings c.args.source.now)).uncarried _ _ _ _ _ _ (g.D.ShapeDeserializer.state c.read_tree.new.source) outer c.in-Member.member _ _ begun step (rw (c.next_member.ensures.same, c.open_struct.ensures.same) at (c.in_err-value.ensures.uncarried is)))
 
 pub read_list-returns-in_err-item-clause-wide : goal.read_list-returns-in_err-item-clause-wide
 read_list-returns-in_err-item-clause-wide g t c =
@@ -619,7 +640,16 @@ read_list-returns-in_err-item-clause-wide g t c =
     let place = element_place c.args.schema.now c.in-Some.element c.requires.place c.in-Some.ensures in
     let p = err_from_is_err_and c.from_residual-in_err-item.result c.from_residual-in_err-item.ensures.1 in
     rw (p.1, p.2)
-    (λ is. inside_child _ _ _ _ _ _ (g.D.ShapeDeserializer.state c.read_tree.new.source) _ _ _ _ _ _ None inside step place.1 (rw (c.next_element.ensures.same, c.loop-elements.invariant.same, place.0) at (c.in_err-item.ensures.wide is)))
+    (λ is. inside_child (g.D.ShapeDeserializer.wire (g.D.ShapeDeserializer.settings c.args.source.now)).exceeds _ _ _ _ _ _ (g.D.ShapeDeserializer.state c.read_tree.new.source) _ _ _ _ _ _ None inside step place.1 (rw (c.next_element.ensures.same, c.loop-elements.invariant.same, place.0) at (c.in_err-item.ensures.wide is)))
+
+pub read_list-returns-in_err-item-clause-uncarried : goal.read_list-returns-in_err-item-clause-uncarried
+read_list-returns-in_err-item-clause-uncarried g t c =
+    let inside = c.loop-elements.invariant.inside in
+    let step = rw (c.if-branch.true, c.loop-elements.invariant.same) at (c.in_ok-next_element.ensures.ok inside.due c.args.schema.now.shapes.now c.args.schema.now.place c.requires.place) in
+    let place = element_place c.args.schema.now c.in-Some.element c.requires.place c.in-Some.ensures in
+    let p = err_from_is_err_and c.from_residual-in_err-item.result c.from_residual-in_err-item.ensures.1 in
+    rw (p.1, p.2)
+    (λ is. inside_child (g.D.ShapeDeserializer.wire (g.D.ShapeDeserializer.settings c.args.source.now)).uncarried _ _ _ _ _ _ (g.D.ShapeDeserializer.state c.read_tree.new.source) _ _ _ _ _ _ None inside step place.1 (rw (c.next_element.ensures.same, c.loop-elements.invariant.same, place.0) at (c.in_err-item.ensures.uncarried is)))
 
 pub read_map-returns-in_err-value-clause-wide : goal.read_map-returns-in_err-value-clause-wide
 read_map-returns-in_err-value-clause-wide g t c =
@@ -628,53 +658,117 @@ read_map-returns-in_err-value-clause-wide g t c =
     let place = value_place c.args.schema.now c.in-Some.inner c.requires.place c.in-Some.ensures in
     let p = err_from_is_err_and c.from_residual-in_err-value.result c.from_residual-in_err-value.ensures.1 in
     rw (p.1, p.2)
-    (λ is. inside_child _ _ _ _ _ _ (g.D.ShapeDeserializer.state c.read_tree.new.source) _ _ _ _ _ _ None inside step place.1 (rw (c.next_key.ensures.same, c.loop-entries.invariant.same, place.0) at (c.in_err-value.ensures.wide is)))
+    (λ is. inside_child (g.D.ShapeDeserializer.wire (g.D.ShapeDeserializer.settings c.args.source.now)).exceeds _ _ _ _ _ _ (g.D.ShapeDeserializer.state c.read_tree.new.source) _ _ _ _ _ _ None inside step place.1 (rw (c.next_key.ensures.same, c.loop-entries.invariant.same, place.0) at (c.in_err-value.ensures.wide is)))
 
--- the number that is due leaves its limits
+pub read_map-returns-in_err-value-clause-uncarried : goal.read_map-returns-in_err-value-clause-uncarried
+read_map-returns-in_err-value-clause-uncarried g t c =
+    let inside = c.loop-entries.invariant.inside in
+    let step = rw (c.in-Some-2.is, c.loop-entries.invariant.same) at (c.in_ok-key.ensures.ok inside.due c.args.schema.now.shapes.now c.args.schema.now.place c.requires.place) in
+    let place = value_place c.args.schema.now c.in-Some.inner c.requires.place c.in-Some.ensures in
+    let p = err_from_is_err_and c.from_residual-in_err-value.result c.from_residual-in_err-value.ensures.1 in
+    rw (p.1, p.2)
+    (λ is. inside_child (g.D.ShapeDeserializer.wire (g.D.ShapeDeserializer.settings c.args.source.now)).uncarried _ _ _ _ _ _ (g.D.ShapeDeserializer.state c.read_tree.new.source) _ _ _ _ _ _ None inside step place.1 (rw (c.next_key.ensures.same, c.loop-entries.invariant.same, place.0) at (c.in_err-value.ensures.uncarried is)))
+
+-- what is due leaves its limits, or isn't carried
 pub read_tree-returns-in_err-read_boolean-in-Boolean-clause-wide : goal.read_tree-returns-in_err-read_boolean-in-Boolean-clause-wide
 read_tree-returns-in_err-read_boolean-in-Boolean-clause-wide g t c =
     let p = err_from_is_err_and c.from_residual.result c.from_residual.ensures.1 in
-    rw (p.1, p.2) (scalar_inside _ _ _ _ _ (site_of c.args.schema.now) scalars.Boolean _ _ _ refl c.in_err-read_boolean-in-Boolean.ensures.read (ap Some (sym c.in-Boolean.is) ∙ c.shape_type.ensures))
+    rw (p.1, p.2) (scalar_inside (g.D.ShapeDeserializer.wire (g.D.ShapeDeserializer.settings c.args.source.now)).exceeds _ _ (site_of c.args.schema.now) scalars.Boolean _ _ _ refl c.in_err-read_boolean-in-Boolean.ensures.read.conduct c.in_err-read_boolean-in-Boolean.ensures.read.wide (ap Some (sym c.in-Boolean.is) ∙ c.shape_type.ensures))
+
+pub read_tree-returns-in_err-read_boolean-in-Boolean-clause-uncarried : goal.read_tree-returns-in_err-read_boolean-in-Boolean-clause-uncarried
+read_tree-returns-in_err-read_boolean-in-Boolean-clause-uncarried g t c =
+    let p = err_from_is_err_and c.from_residual.result c.from_residual.ensures.1 in
+    rw (p.1, p.2) (scalar_inside (g.D.ShapeDeserializer.wire (g.D.ShapeDeserializer.settings c.args.source.now)).uncarried _ _ (site_of c.args.schema.now) scalars.Boolean _ _ _ refl c.in_err-read_boolean-in-Boolean.ensures.read.conduct c.in_err-read_boolean-in-Boolean.ensures.read.uncarried (ap Some (sym c.in-Boolean.is) ∙ c.shape_type.ensures))
 
 pub read_tree-returns-in_err-read_byte-in-Byte-clause-wide : goal.read_tree-returns-in_err-read_byte-in-Byte-clause-wide
 read_tree-returns-in_err-read_byte-in-Byte-clause-wide g t c =
     let p = err_from_is_err_and c.from_residual-in_err-read_byte-in-Byte.result c.from_residual-in_err-read_byte-in-Byte.ensures.1 in
-    rw (p.1, p.2) (scalar_inside _ _ _ _ _ (site_of c.args.schema.now) scalars.Byte _ _ _ refl c.in_err-read_byte-in-Byte.ensures.read (ap Some (sym c.in-Byte.is) ∙ c.shape_type.ensures))
+    rw (p.1, p.2) (scalar_inside (g.D.ShapeDeserializer.wire (g.D.ShapeDeserializer.settings c.args.source.now)).exceeds _ _ (site_of c.args.schema.now) scalars.Byte _ _ _ refl c.in_err-read_byte-in-Byte.ensures.read.conduct c.in_err-read_byte-in-Byte.ensures.read.wide (ap Some (sym c.in-Byte.is) ∙ c.shape_type.ensures))
+
+pub read_tree-returns-in_err-read_byte-in-Byte-clause-uncarried : goal.read_tree-returns-in_err-read_byte-in-Byte-clause-uncarried
+read_tree-returns-in_err-read_byte-in-Byte-clause-uncarried g t c =
+    let p = err_from_is_err_and c.from_residual-in_err-read_byte-in-Byte.result c.from_residual-in_err-read_byte-in-Byte.ensures.1 in
+    rw (p.1, p.2) (scalar_inside (g.D.ShapeDeserializer.wire (g.D.ShapeDeserializer.settings c.args.source.now)).uncarried _ _ (site_of c.args.schema.now) scalars.Byte _ _ _ refl c.in_err-read_byte-in-Byte.ensures.read.conduct c.in_err-read_byte-in-Byte.ensures.read.uncarried (ap Some (sym c.in-Byte.is) ∙ c.shape_type.ensures))
 
 pub read_tree-returns-in_err-read_short-in-Short-clause-wide : goal.read_tree-returns-in_err-read_short-in-Short-clause-wide
 read_tree-returns-in_err-read_short-in-Short-clause-wide g t c =
     let p = err_from_is_err_and c.from_residual-in_err-read_short-in-Short.result c.from_residual-in_err-read_short-in-Short.ensures.1 in
-    rw (p.1, p.2) (scalar_inside _ _ _ _ _ (site_of c.args.schema.now) scalars.Short _ _ _ refl c.in_err-read_short-in-Short.ensures.read (ap Some (sym c.in-Short.is) ∙ c.shape_type.ensures))
+    rw (p.1, p.2) (scalar_inside (g.D.ShapeDeserializer.wire (g.D.ShapeDeserializer.settings c.args.source.now)).exceeds _ _ (site_of c.args.schema.now) scalars.Short _ _ _ refl c.in_err-read_short-in-Short.ensures.read.conduct c.in_err-read_short-in-Short.ensures.read.wide (ap Some (sym c.in-Short.is) ∙ c.shape_type.ensures))
+
+pub read_tree-returns-in_err-read_short-in-Short-clause-uncarried : goal.read_tree-returns-in_err-read_short-in-Short-clause-uncarried
+read_tree-returns-in_err-read_short-in-Short-clause-uncarried g t c =
+    let p = err_from_is_err_and c.from_residual-in_err-read_short-in-Short.result c.from_residual-in_err-read_short-in-Short.ensures.1 in
+    rw (p.1, p.2) (scalar_inside (g.D.ShapeDeserializer.wire (g.D.ShapeDeserializer.settings c.args.source.now)).uncarried _ _ (site_of c.args.schema.now) scalars.Short _ _ _ refl c.in_err-read_short-in-Short.ensures.read.conduct c.in_err-read_short-in-Short.ensures.read.uncarried (ap Some (sym c.in-Short.is) ∙ c.shape_type.ensures))
 
 pub read_tree-returns-in_err-read_integer-in-Integer-clause-wide : goal.read_tree-returns-in_err-read_integer-in-Integer-clause-wide
 read_tree-returns-in_err-read_integer-in-Integer-clause-wide g t c =
     let p = err_from_is_err_and c.from_residual-in_err-read_integer-in-Integer.result c.from_residual-in_err-read_integer-in-Integer.ensures.1 in
-    rw (p.1, p.2) (scalar_inside _ _ _ _ _ (site_of c.args.schema.now) scalars.Integer _ _ _ refl c.in_err-read_integer-in-Integer.ensures.read (ap Some (sym c.in-Integer.is) ∙ c.shape_type.ensures))
+    rw (p.1, p.2) (scalar_inside (g.D.ShapeDeserializer.wire (g.D.ShapeDeserializer.settings c.args.source.now)).exceeds _ _ (site_of c.args.schema.now) scalars.Integer _ _ _ refl c.in_err-read_integer-in-Integer.ensures.read.conduct c.in_err-read_integer-in-Integer.ensures.read.wide (ap Some (sym c.in-Integer.is) ∙ c.shape_type.ensures))
+
+pub read_tree-returns-in_err-read_integer-in-Integer-clause-uncarried : goal.read_tree-returns-in_err-read_integer-in-Integer-clause-uncarried
+read_tree-returns-in_err-read_integer-in-Integer-clause-uncarried g t c =
+    let p = err_from_is_err_and c.from_residual-in_err-read_integer-in-Integer.result c.from_residual-in_err-read_integer-in-Integer.ensures.1 in
+    rw (p.1, p.2) (scalar_inside (g.D.ShapeDeserializer.wire (g.D.ShapeDeserializer.settings c.args.source.now)).uncarried _ _ (site_of c.args.schema.now) scalars.Integer _ _ _ refl c.in_err-read_integer-in-Integer.ensures.read.conduct c.in_err-read_integer-in-Integer.ensures.read.uncarried (ap Some (sym c.in-Integer.is) ∙ c.shape_type.ensures))
 
 pub read_tree-returns-in_err-read_long-in-Long-clause-wide : goal.read_tree-returns-in_err-read_long-in-Long-clause-wide
 read_tree-returns-in_err-read_long-in-Long-clause-wide g t c =
     let p = err_from_is_err_and c.from_residual-in_err-read_long-in-Long.result c.from_residual-in_err-read_long-in-Long.ensures.1 in
-    rw (p.1, p.2) (scalar_inside _ _ _ _ _ (site_of c.args.schema.now) scalars.Long _ _ _ refl c.in_err-read_long-in-Long.ensures.read (ap Some (sym c.in-Long.is) ∙ c.shape_type.ensures))
+    rw (p.1, p.2) (scalar_inside (g.D.ShapeDeserializer.wire (g.D.ShapeDeserializer.settings c.args.source.now)).exceeds _ _ (site_of c.args.schema.now) scalars.Long _ _ _ refl c.in_err-read_long-in-Long.ensures.read.conduct c.in_err-read_long-in-Long.ensures.read.wide (ap Some (sym c.in-Long.is) ∙ c.shape_type.ensures))
+
+pub read_tree-returns-in_err-read_long-in-Long-clause-uncarried : goal.read_tree-returns-in_err-read_long-in-Long-clause-uncarried
+read_tree-returns-in_err-read_long-in-Long-clause-uncarried g t c =
+    let p = err_from_is_err_and c.from_residual-in_err-read_long-in-Long.result c.from_residual-in_err-read_long-in-Long.ensures.1 in
+    rw (p.1, p.2) (scalar_inside (g.D.ShapeDeserializer.wire (g.D.ShapeDeserializer.settings c.args.source.now)).uncarried _ _ (site_of c.args.schema.now) scalars.Long _ _ _ refl c.in_err-read_long-in-Long.ensures.read.conduct c.in_err-read_long-in-Long.ensures.read.uncarried (ap Some (sym c.in-Long.is) ∙ c.shape_type.ensures))
 
 pub read_tree-returns-in_err-read_string-in-String-clause-wide : goal.read_tree-returns-in_err-read_string-in-String-clause-wide
 read_tree-returns-in_err-read_string-in-String-clause-wide g t c =
     let p = err_from_is_err_and c.from_residual-in_err-read_string-in-String.result c.from_residual-in_err-read_string-in-String.ensures.1 in
-    rw (p.1, p.2) (scalar_inside _ _ _ _ _ (site_of c.args.schema.now) scalars.String _ _ _ refl c.in_err-read_string-in-String.ensures.read (ap Some (sym c.in-String.is) ∙ c.shape_type.ensures))
+    rw (p.1, p.2) (scalar_inside (g.D.ShapeDeserializer.wire (g.D.ShapeDeserializer.settings c.args.source.now)).exceeds _ _ (site_of c.args.schema.now) scalars.String _ _ _ refl c.in_err-read_string-in-String.ensures.read.conduct c.in_err-read_string-in-String.ensures.read.wide (ap Some (sym c.in-String.is) ∙ c.shape_type.ensures))
+
+pub read_tree-returns-in_err-read_string-in-String-clause-uncarried : goal.read_tree-returns-in_err-read_string-in-String-clause-uncarried
+read_tree-returns-in_err-read_string-in-String-clause-uncarried g t c =
+    let p = err_from_is_err_and c.from_residual-in_err-read_string-in-String.result c.from_residual-in_err-read_string-in-String.ensures.1 in
+    rw (p.1, p.2) (scalar_inside (g.D.ShapeDeserializer.wire (g.D.ShapeDeserializer.settings c.args.source.now)).uncarried _ _ (site_of c.args.schema.now) scalars.String _ _ _ refl c.in_err-read_string-in-String.ensures.read.conduct c.in_err-read_string-in-String.ensures.read.uncarried (ap Some (sym c.in-String.is) ∙ c.shape_type.ensures))
 
 pub read_tree-returns-in_err-read_blob-in-Blob-clause-wide : goal.read_tree-returns-in_err-read_blob-in-Blob-clause-wide
 read_tree-returns-in_err-read_blob-in-Blob-clause-wide g t c =
     let p = err_from_is_err_and c.from_residual-in_err-read_blob-in-Blob.result c.from_residual-in_err-read_blob-in-Blob.ensures.1 in
-    rw (p.1, p.2) (scalar_inside _ _ _ _ _ (site_of c.args.schema.now) scalars.Blob _ _ _ refl c.in_err-read_blob-in-Blob.ensures.read (ap Some (sym c.in-Blob.is) ∙ c.shape_type.ensures))
+    rw (p.1, p.2) (scalar_inside (g.D.ShapeDeserializer.wire (g.D.ShapeDeserializer.settings c.args.source.now)).exceeds _ _ (site_of c.args.schema.now) scalars.Blob _ _ _ refl c.in_err-read_blob-in-Blob.ensures.read.conduct c.in_err-read_blob-in-Blob.ensures.read.wide (ap Some (sym c.in-Blob.is) ∙ c.shape_type.ensures))
+
+pub read_tree-returns-in_err-read_blob-in-Blob-clause-uncarried : goal.read_tree-returns-in_err-read_blob-in-Blob-clause-uncarried
+read_tree-returns-in_err-read_blob-in-Blob-clause-uncarried g t c =
+    let p = err_from_is_err_and c.from_residual-in_err-read_blob-in-Blob.result c.from_residual-in_err-read_blob-in-Blob.ensures.1 in
+    rw (p.1, p.2) (scalar_inside (g.D.ShapeDeserializer.wire (g.D.ShapeDeserializer.settings c.args.source.now)).uncarried _ _ (site_of c.args.schema.now) scalars.Blob _ _ _ refl c.in_err-read_blob-in-Blob.ensures.read.conduct c.in_err-read_blob-in-Blob.ensures.read.uncarried (ap Some (sym c.in-Blob.is) ∙ c.shape_type.ensures))
 
 pub read_tree-returns-in_err-read_big_integer-in-BigInteger-clause-wide : goal.read_tree-returns-in_err-read_big_integer-in-BigInteger-clause-wide
 read_tree-returns-in_err-read_big_integer-in-BigInteger-clause-wide g t c =
     let p = err_from_is_err_and c.from_residual-in_err-read_big_integer-in-BigInteger.result c.from_residual-in_err-read_big_integer-in-BigInteger.ensures.1 in
-    rw (p.1, p.2) (scalar_inside _ _ _ _ _ (site_of c.args.schema.now) scalars.BigInteger _ _ _ refl c.in_err-read_big_integer-in-BigInteger.ensures.read (ap Some (sym c.in-BigInteger.is) ∙ c.shape_type.ensures))
+    rw (p.1, p.2) (scalar_inside (g.D.ShapeDeserializer.wire (g.D.ShapeDeserializer.settings c.args.source.now)).exceeds _ _ (site_of c.args.schema.now) scalars.BigInteger _ _ _ refl c.in_err-read_big_integer-in-BigInteger.ensures.read.conduct c.in_err-read_big_integer-in-BigInteger.ensures.read.wide (ap Some (sym c.in-BigInteger.is) ∙ c.shape_type.ensures))
+
+pub read_tree-returns-in_err-read_big_integer-in-BigInteger-clause-uncarried : goal.read_tree-returns-in_err-read_big_integer-in-BigInteger-clause-uncarried
+read_tree-returns-in_err-read_big_integer-in-BigInteger-clause-uncarried g t c =
+    let p = err_from_is_err_and c.from_residual-in_err-read_big_integer-in-BigInteger.result c.from_residual-in_err-read_big_integer-in-BigInteger.ensures.1 in
+    rw (p.1, p.2) (scalar_inside (g.D.ShapeDeserializer.wire (g.D.ShapeDeserializer.settings c.args.source.now)).uncarried _ _ (site_of c.args.schema.now) scalars.BigInteger _ _ _ refl c.in_err-read_big_integer-in-BigInteger.ensures.read.conduct c.in_err-read_big_integer-in-BigInteger.ensures.read.uncarried (ap Some (sym c.in-BigInteger.is) ∙ c.shape_type.ensures))
 
 pub read_tree-returns-in_err-read_big_decimal-in-BigDecimal-clause-wide : goal.read_tree-returns-in_err-read_big_decimal-in-BigDecimal-clause-wide
 read_tree-returns-in_err-read_big_decimal-in-BigDecimal-clause-wide g t c =
     let p = err_from_is_err_and c.from_residual-in_err-read_big_decimal-in-BigDecimal.result c.from_residual-in_err-read_big_decimal-in-BigDecimal.ensures.1 in
-    rw (p.1, p.2) (scalar_inside _ _ _ _ _ (site_of c.args.schema.now) scalars.BigDecimal _ _ _ refl c.in_err-read_big_decimal-in-BigDecimal.ensures.read (ap Some (sym c.in-BigDecimal.is) ∙ c.shape_type.ensures))
+    rw (p.1, p.2) (scalar_inside (g.D.ShapeDeserializer.wire (g.D.ShapeDeserializer.settings c.args.source.now)).exceeds _ _ (site_of c.args.schema.now) scalars.BigDecimal _ _ _ refl c.in_err-read_big_decimal-in-BigDecimal.ensures.read.conduct c.in_err-read_big_decimal-in-BigDecimal.ensures.read.wide (ap Some (sym c.in-BigDecimal.is) ∙ c.shape_type.ensures))
+
+pub read_tree-returns-in_err-read_big_decimal-in-BigDecimal-clause-uncarried : goal.read_tree-returns-in_err-read_big_decimal-in-BigDecimal-clause-uncarried
+read_tree-returns-in_err-read_big_decimal-in-BigDecimal-clause-uncarried g t c =
+    let p = err_from_is_err_and c.from_residual-in_err-read_big_decimal-in-BigDecimal.result c.from_residual-in_err-read_big_decimal-in-BigDecimal.ensures.1 in
+    rw (p.1, p.2) (scalar_inside (g.D.ShapeDeserializer.wire (g.D.ShapeDeserializer.settings c.args.source.now)).uncarried _ _ (site_of c.args.schema.now) scalars.BigDecimal _ _ _ refl c.in_err-read_big_decimal-in-BigDecimal.ensures.read.conduct c.in_err-read_big_decimal-in-BigDecimal.ensures.read.uncarried (ap Some (sym c.in-BigDecimal.is) ∙ c.shape_type.ensures))
+
+pub read_tree-returns-in_err-read_timestamp-in-Timestamp-clause-wide : goal.read_tree-returns-in_err-read_timestamp-in-Timestamp-clause-wide
+read_tree-returns-in_err-read_timestamp-in-Timestamp-clause-wide g t c =
+    let p = err_from_is_err_and c.from_residual-in_err-read_timestamp-in-Timestamp.result c.from_residual-in_err-read_timestamp-in-Timestamp.ensures.1 in
+    rw (p.1, p.2) (scalar_inside (g.D.ShapeDeserializer.wire (g.D.ShapeDeserializer.settings c.args.source.now)).exceeds _ _ (site_of c.args.schema.now) scalars.Timestamp _ _ _ refl c.in_err-read_timestamp-in-Timestamp.ensures.read.conduct c.in_err-read_timestamp-in-Timestamp.ensures.read.wide (ap Some (sym c.in-Timestamp.is) ∙ c.shape_type.ensures))
+
+pub read_tree-returns-in_err-read_timestamp-in-Timestamp-clause-uncarried : goal.read_tree-returns-in_err-read_timestamp-in-Timestamp-clause-uncarried
+read_tree-returns-in_err-read_timestamp-in-Timestamp-clause-uncarried g t c =
+    let p = err_from_is_err_and c.from_residual-in_err-read_timestamp-in-Timestamp.result c.from_residual-in_err-read_timestamp-in-Timestamp.ensures.1 in
+    rw (p.1, p.2) (scalar_inside (g.D.ShapeDeserializer.wire (g.D.ShapeDeserializer.settings c.args.source.now)).uncarried _ _ (site_of c.args.schema.now) scalars.Timestamp _ _ _ refl c.in_err-read_timestamp-in-Timestamp.ensures.read.conduct c.in_err-read_timestamp-in-Timestamp.ensures.read.uncarried (ap Some (sym c.in-Timestamp.is) ∙ c.shape_type.ensures))
 
 -- a decimal was read
 pub read_tree-returns-in-Ok-to_parts-clause-ok : goal.read_tree-returns-in-Ok-to_parts-clause-ok

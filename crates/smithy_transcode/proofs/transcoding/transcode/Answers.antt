@@ -1,25 +1,30 @@
-use Rattle.std.proofs.Common.{sym, ◌∙◌}
 use Rattle.smithy_transcode.specs.Private.Tree.{compact_view as view}
 use Rattle.smithy_transcode.specs.Wires.{wire_of}
-use Rattle.smithy_transcode.proofs.Transcodings.{spelled_is_small, has_byte_texts, written, lacking, refused}
+use Rattle.smithy_transcode.proofs.Transcodings.{spelled_is_small, fits_at_root, unfit_at_root, has_byte_texts, written, lacking, refused}
 use Rattle.smithy_transcode.proofs.transcoding.transcode.Goals as goal
 
 pub returns-in-Err : goal.returns-in-Err
 returns-in-Err c =
     refused c.args.shapes.now c.args.root.0 (wire_of c.args.from.now) c.args.input.now (wire_of c.args.to.now) c.read_body.result c.in-Err.error c.refusal.result c.in-Err.is c.refusal.ensures
-    c.read_body.ensures.refused c.read_body.ensures.would c.read_body.ensures.deep c.read_body.ensures.wide
+    c.read_body.ensures.refused c.read_body.ensures.would c.read_body.ensures.deep c.read_body.ensures.wide c.read_body.ensures.uncarried
 
 pub returns-in-Some : goal.returns-in-Some
 returns-in-Some c =
     lacking c.args.shapes.now c.args.root.0 (wire_of c.args.from.now) c.args.input.now (wire_of c.args.to.now) (view c.in-Ok.value) c.in-Some.lacking c.in-Ok.ensures.ok
-    (sym c.unfit.ensures.unfit ∙ c.in-Some.is)
+    (unfit_at_root (wire_of c.args.to.now) c.schema.result c.args.shapes.now c.args.root.0 (view c.in-Ok.value) c.unfit.result _ c.schema.ensures.site c.unfit.ensures.unfit c.in-Some.is)
+
+pub unfit-requires : goal.unfit-requires
+unfit-requires c =
+    let small = spelled_is_small (wire_of c.args.from.now) c.args.shapes.now c.args.root.0 c.args.input.now (view c.in-Ok.value) c.in-Ok.ensures.ok in
+    record { fits = fits_at_root c.schema.result c.args.shapes.now c.args.root.0 (view c.in-Ok.value) c.schema.ensures.site small.0 }
 
 pub write_body-requires-clause-fits : goal.write_body-requires-clause-fits
 write_body-requires-clause-fits c =
     (spelled_is_small (wire_of c.args.from.now) c.args.shapes.now c.args.root.0 c.args.input.now (view c.in-Ok.value) c.in-Ok.ensures.ok).0
 
 pub write_body-requires-clause-fit : goal.write_body-requires-clause-fit
-write_body-requires-clause-fit c = sym c.unfit.ensures.unfit ∙ c.in_default.is
+write_body-requires-clause-fit c =
+    unfit_at_root (wire_of c.args.to.now) c.schema.result c.args.shapes.now c.args.root.0 (view c.in-Ok.value) c.unfit.result _ c.schema.ensures.site c.unfit.ensures.unfit c.in_default.is
 
 pub write_body-requires-clause-positions : goal.write_body-requires-clause-positions
 write_body-requires-clause-positions c = c.unfit.ensures.positions c.in_default.is
@@ -30,5 +35,6 @@ write_body-requires-clause-accepted c = c.in-Ok.ensures.accepted
 pub returns-in-Ok-write_body : goal.returns-in-Ok-write_body
 returns-in-Ok-write_body c =
     written c.args.shapes.now c.args.root.0 (wire_of c.args.from.now) c.args.input.now (wire_of c.args.to.now) (view c.in-Ok.value) c.in-Ok-write_body.body
-    c.in-Ok.ensures.accepted c.requires.root c.in-Ok.ensures.ok (sym c.unfit.ensures.unfit ∙ c.in_default.is) (c.unfit.ensures.positions c.in_default.is)
+    c.in-Ok.ensures.accepted c.requires.root c.in-Ok.ensures.ok
+    (unfit_at_root (wire_of c.args.to.now) c.schema.result c.args.shapes.now c.args.root.0 (view c.in-Ok.value) c.unfit.result _ c.schema.ensures.site c.unfit.ensures.unfit c.in_default.is) (c.unfit.ensures.positions c.in_default.is)
     (has_byte_texts c.args.to.now) c.in-Ok-write_body.ensures.ok c.in-Ok-write_body.ensures.short

@@ -1,44 +1,46 @@
 use Rattle.std.proofs.Common.{◌≡◌, None, string_bytes, refl, ◌∙◌, ap, subst}
 use Rattle.smithy_schema.specs.Site.{Site, site_of}
 use Rattle.smithy_json_codec.specs.Serializing.{state_of}
-use Rattle.smithy_json_codec.specs.Settings.{Settings}
 use Rattle.smithy_json_codec.specs.Writing.{fresh_state}
 use Rattle.smithy_cbor_codec.specs.Serializing.{state_of as cbor_state_of}
 use Rattle.smithy_query_codec.specs.Serializing.{state_of as form_of}
-use Rattle.smithy_transcode.specs.Wires.{wire_of, query, unfit}
+use Rattle.smithy_transcode.specs.Wires.{wire_of, json, cbor, query, unfit}
 use Rattle.smithy_transcode.specs.Private.Positions.{CanCount}
 use Rattle.smithy_transcode.specs.Private.Tree.{compact_view as view}
-use Rattle.smithy_transcode.proofs.Bodies.{json_body, json_adds, json_is_body, cbor_body, cbor_adds, cbor_is_body, no_null, form_state, form_adds, same_fresh, form_is_body}
-use Rattle.smithy_transcode.proofs.Mapped.{mapped_ok}
+use Rattle.smithy_transcode.proofs.Bodies.{reached, root_held, json_body, json_adds, json_is_body, cbor_body, cbor_adds, cbor_is_body, form_takes, form_state, form_adds, same_fresh, form_is_body}
 use Rattle.smithy_transcode.proofs.transcoding.write_body.Goals as goal
 
 pub write_whole-requires-clause-taken : goal.write_whole-requires-clause-taken
 write_whole-requires-clause-taken c =
     let site = site_of c.schema-schema.result in
-    let fresh = c.create_serializer-sink.ensures.state ∙ ap (λ (s : Settings). fresh_state s.use_json_name) c.strict-codec.ensures in
+    let fresh = c.create_serializer-sink.ensures.state ∙ ap fresh_state c.strict-codec.ensures in
     let nameless = ap (λ (s : Site). s.view.name) c.schema-schema.ensures.site in
-    (json_body c.in-Json.use_json_name site (view c.args.value.now), json_adds c.in-Json.use_json_name site (view c.args.value.now) (state_of c.create_serializer-sink.result) fresh nameless, refl)
+    let held = root_held (wire_of c.args.to.now) (json c.in-Json.use_json_name) c.schema-schema.result c.args.shapes.now c.args.root.0 (view c.args.value.now) (ap wire_of c.in-Json.is) c.schema-schema.ensures.site c.requires.fit in
+    (json_body c.in-Json.use_json_name site (view c.args.value.now), json_adds c.in-Json.use_json_name site (view c.args.value.now) (state_of c.create_serializer-sink.result) fresh nameless held, refl)
 
 pub returns-in-Json-clause-ok : goal.returns-in-Json-clause-ok
 returns-in-Json-clause-ok c =
     let site = site_of c.schema-schema.result in
-    let fresh = c.create_serializer-sink.ensures.state ∙ ap (λ (s : Settings). fresh_state s.use_json_name) c.strict-codec.ensures in
+    let fresh = c.create_serializer-sink.ensures.state ∙ ap fresh_state c.strict-codec.ensures in
     let nameless = ap (λ (s : Site). s.view.name) c.schema-schema.ensures.site in
-    let adds = json_adds c.in-Json.use_json_name site (view c.args.value.now) (state_of c.create_serializer-sink.result) fresh nameless in
+    let held = root_held (wire_of c.args.to.now) (json c.in-Json.use_json_name) c.schema-schema.result c.args.shapes.now c.args.root.0 (view c.args.value.now) (ap wire_of c.in-Json.is) c.schema-schema.ensures.site c.requires.fit in
+    let adds = json_adds c.in-Json.use_json_name site (view c.args.value.now) (state_of c.create_serializer-sink.result) fresh nameless held in
     let is = json_is_body (wire_of c.args.to.now) c.in-Json.use_json_name c.schema-schema.result c.args.shapes.now c.args.root.0 (view c.args.value.now) (ap wire_of c.in-Json.is) c.schema-schema.ensures.site in
-    mapped_ok c.write_whole.result _ _ (λ out h. h (json_body c.in-Json.use_json_name site (view c.args.value.now)) adds ∙ is) c.write_whole.ensures.ok
+    reached c.write_whole.result _ _ c.write_whole.ensures.ok (json_body c.in-Json.use_json_name site (view c.args.value.now)) _ adds is
 
 pub write_whole-requires-in-Cbor-clause-taken : goal.write_whole-requires-in-Cbor-clause-taken
 write_whole-requires-in-Cbor-clause-taken c =
     let site = site_of c.schema-schema.result in
-    (cbor_body site (view c.args.value.now), cbor_adds site (view c.args.value.now) (cbor_state_of c.create_serializer-sink-in-Cbor.result) c.create_serializer-sink-in-Cbor.ensures.state, refl)
+    let held = root_held (wire_of c.args.to.now) cbor c.schema-schema.result c.args.shapes.now c.args.root.0 (view c.args.value.now) (ap wire_of c.in-Cbor.is) c.schema-schema.ensures.site c.requires.fit in
+    (cbor_body site (view c.args.value.now), cbor_adds site (view c.args.value.now) (cbor_state_of c.create_serializer-sink-in-Cbor.result) c.create_serializer-sink-in-Cbor.ensures.state held, refl)
 
 pub returns-in-Cbor-clause-ok : goal.returns-in-Cbor-clause-ok
 returns-in-Cbor-clause-ok c =
     let site = site_of c.schema-schema.result in
-    let adds = cbor_adds site (view c.args.value.now) (cbor_state_of c.create_serializer-sink-in-Cbor.result) c.create_serializer-sink-in-Cbor.ensures.state in
+    let held = root_held (wire_of c.args.to.now) cbor c.schema-schema.result c.args.shapes.now c.args.root.0 (view c.args.value.now) (ap wire_of c.in-Cbor.is) c.schema-schema.ensures.site c.requires.fit in
+    let adds = cbor_adds site (view c.args.value.now) (cbor_state_of c.create_serializer-sink-in-Cbor.result) c.create_serializer-sink-in-Cbor.ensures.state held in
     let is = cbor_is_body (wire_of c.args.to.now) c.schema-schema.result c.args.shapes.now c.args.root.0 (view c.args.value.now) (ap wire_of c.in-Cbor.is) c.schema-schema.ensures.site in
-    mapped_ok c.write_whole-in-Cbor.result _ _ (λ out h. h (cbor_body site (view c.args.value.now)) adds ∙ is) c.write_whole-in-Cbor.ensures.ok
+    reached c.write_whole-in-Cbor.result _ _ c.write_whole-in-Cbor.ensures.ok (cbor_body site (view c.args.value.now)) _ adds is
 
 pub write_whole-requires-in-Query-clause-taken : goal.write_whole-requires-in-Query-clause-taken
 write_whole-requires-in-Query-clause-taken c =
@@ -46,11 +48,11 @@ write_whole-requires-in-Query-clause-taken c =
     let action = string_bytes c.in-Query.action in
     let version = string_bytes c.in-Query.version in
     let counts = subst (λ w. CanCount w v) (ap wire_of c.in-Query.is) c.requires.positions in
-    let clear = no_null action version v (subst (λ w. unfit w v ≡ None) (ap wire_of c.in-Query.is) c.requires.fit) in
+    let can = form_takes action version c.args.shapes.now c.args.root.0 v (subst (λ w. unfit w c.args.shapes.now c.args.root.0 v ≡ None) (ap wire_of c.in-Query.is) c.requires.fit) in
     let fresh = c.in_ok-sink-in-Query.ensures.state ∙ same_fresh _ action _ version c.as_str.ensures.value c.as_str-in-Query.ensures.value in (
       form_state (query action version) c.args.shapes.now c.args.root.0 v,
       form_adds action version (site_of c.schema-schema.result) c.args.shapes.now c.args.root.0 v (form_of c.in_ok-sink-in-Query.sink) c.schema-schema.ensures.site fresh
-          c.requires.accepted c.requires.root c.requires.fits counts clear,
+          c.requires.accepted c.requires.root c.requires.fits counts can,
       refl,
     )
 
@@ -60,9 +62,9 @@ returns-in_ok-sink-in-Query-clause-ok c =
     let action = string_bytes c.in-Query.action in
     let version = string_bytes c.in-Query.version in
     let counts = subst (λ w. CanCount w v) (ap wire_of c.in-Query.is) c.requires.positions in
-    let clear = no_null action version v (subst (λ w. unfit w v ≡ None) (ap wire_of c.in-Query.is) c.requires.fit) in
+    let can = form_takes action version c.args.shapes.now c.args.root.0 v (subst (λ w. unfit w c.args.shapes.now c.args.root.0 v ≡ None) (ap wire_of c.in-Query.is) c.requires.fit) in
     let fresh = c.in_ok-sink-in-Query.ensures.state ∙ same_fresh _ action _ version c.as_str.ensures.value c.as_str-in-Query.ensures.value in
     let adds = form_adds action version (site_of c.schema-schema.result) c.args.shapes.now c.args.root.0 v (form_of c.in_ok-sink-in-Query.sink) c.schema-schema.ensures.site fresh
-    c.requires.accepted c.requires.root c.requires.fits counts clear in
+    c.requires.accepted c.requires.root c.requires.fits counts can in
     let is = form_is_body (wire_of c.args.to.now) action version c.args.shapes.now c.args.root.0 v (ap wire_of c.in-Query.is) in
-    mapped_ok c.write_whole-in-Query.result _ _ (λ out h. h (form_state (query action version) c.args.shapes.now c.args.root.0 v) adds ∙ is) c.write_whole-in-Query.ensures.ok
+    reached c.write_whole-in-Query.result _ _ c.write_whole-in-Query.ensures.ok (form_state (query action version) c.args.shapes.now c.args.root.0 v) _ adds is

@@ -1,0 +1,27 @@
+use Rattle.std.proofs.Common.{Err, ◌∙◌, ap}
+use Rattle.smithy_schema.specs.declared.error.SerdeError.TheVariants.{NotCarried}
+use Rattle.smithy_schema.specs.declared.shape_type.TimestampFormat.TheVariants.{EpochSeconds}
+use Rattle.smithy_json_codec.specs.Scalar.{a_number, timestamp_says}
+use Rattle.smithy_json_codec.specs.Private.Wire.{json_is_wire}
+use Rattle.smithy_json_codec.proofs.DeserializerLemmas.{error_of}
+use Rattle.smithy_json_codec.proofs.InstantPlaces.{no_seconds_lie}
+use Rattle.smithy_json_codec.proofs.instants.seconds_at.Goals as goal
+
+pub returns-in_default-clause-none : goal.returns-in_default-clause-none
+returns-in_default-clause-none c = λ invalid. no_seconds_lie c.args.input.now c.args.at c.in_default.ensures.none
+
+pub returns-in-Ok-clause-found : goal.returns-in-Ok-clause-found
+returns-in-Ok-clause-found c = record { found = a_number _; lies = c.in-Some.ensures.found; is = c.in-Ok.ensures.ok }
+
+pub returns-in-Err-clause-none : goal.returns-in-Err-clause-none
+returns-in-Err-clause-none c = λ invalid x e lies.
+    let same = (json_is_wire.same_scalar c.args.input.now 0 x (a_number c.in-Some.seconds.now) c.args.at e _ lies c.in-Some.ensures.found).0 in
+    ap (timestamp_says EpochSeconds) same ∙ c.in-Err.ensures.none invalid
+
+pub returns-in-Err-clause-uncarried : goal.returns-in-Err-clause-uncarried
+returns-in-Err-clause-uncarried c = λ is. record {
+  found = a_number _;
+  e = c.in-Some.end;
+  lies = c.in-Some.ensures.found;
+  is = c.in-Err.ensures.uncarried (ap Err (error_of c.in-Err.error NotCarried is));
+}

@@ -1,0 +1,437 @@
+//! Instants from CBOR to each wire, and in lists, maps and unions.
+
+use super::instants::{INSTANT, INSTANTS, NOT_CARRIED};
+use super::rows::{CBOR, INVALID, JSON, Named, Row, check};
+use crate::{TranscodeError, Unfit};
+use std::test::Fail;
+
+const FORM: Named = Named::Query("Do", "1");
+
+const PLACES: &[u8] =
+    b"list L timestamp time=http-date\nlist D timestamp\nlist N timestamp sparse time=date-time\nmap M timestamp time=date-time\nunion U\nmember t timestamp\nmember h timestamp time=http-date\nstructure S\nmember l L\nmember d D\nmember n N\nmember m M\nmember u U\nmember i S\n";
+
+const NULL: Result<&'static [u8], TranscodeError> = Err(TranscodeError::Inexpressible(Unfit::Null));
+
+const ITEMS: [Row; 23] = [
+    Row(
+        "a date of CBOR",
+        INSTANTS,
+        CBOR,
+        JSON,
+        b"\xbf\x61e\xc1\0\xff",
+        Ok(b"{\"e\":\"1970-01-01T00:00:00Z\"}"),
+    ),
+    Row(
+        "heads of other widths",
+        INSTANTS,
+        CBOR,
+        CBOR,
+        b"\xbf\x61h\xda\0\0\0\x01\x1b\0\0\0\0\0\0\0\x01\xff",
+        Ok(b"\xbf\x61h\xc1\x01\xff"),
+    ),
+    Row(
+        "year 10000 as a date-time",
+        INSTANTS,
+        CBOR,
+        JSON,
+        b"\xbf\x61e\xc1\x1b\0\0\0\x3a\xff\xf4\x41\x80\xff",
+        INSTANT,
+    ),
+    Row(
+        "the same to CBOR",
+        INSTANTS,
+        CBOR,
+        CBOR,
+        b"\xbf\x61e\xc1\x1b\0\0\0\x3a\xff\xf4\x41\x80\xff",
+        Ok(b"\xbf\x61e\xc1\x1b\0\0\0\x3a\xff\xf4\x41\x80\xff"),
+    ),
+    Row(
+        "year 10000 in seconds",
+        INSTANTS,
+        CBOR,
+        JSON,
+        b"\xbf\x61t\xc1\x1b\0\0\0\x3a\xff\xf4\x41\x80\xff",
+        Ok(b"{\"t\":253402300800}"),
+    ),
+    Row(
+        "the same to a form",
+        INSTANTS,
+        CBOR,
+        FORM,
+        b"\xbf\x61t\xc1\x1b\0\0\0\x3a\xff\xf4\x41\x80\xff",
+        INSTANT,
+    ),
+    Row(
+        "the first second of year 0",
+        INSTANTS,
+        CBOR,
+        JSON,
+        b"\xbf\x61h\xc1\x3b\0\0\0\x0e\x79\x74\x7b\xff\xff",
+        Ok(b"{\"h\":\"Sat, 01 Jan 0000 00:00:00 GMT\"}"),
+    ),
+    Row(
+        "one second before year 0",
+        INSTANTS,
+        CBOR,
+        JSON,
+        b"\xbf\x61h\xc1\x3b\0\0\0\x0e\x79\x74\x7c\0\xff",
+        INSTANT,
+    ),
+    Row(
+        "the greatest seconds",
+        INSTANTS,
+        CBOR,
+        JSON,
+        b"\xbf\x61t\xc1\x1b\x7f\xff\xff\xff\xff\xff\xff\xff\xff",
+        Ok(b"{\"t\":9223372036854775807}"),
+    ),
+    Row(
+        "one second more",
+        INSTANTS,
+        CBOR,
+        JSON,
+        b"\xbf\x61t\xc1\x1b\x80\0\0\0\0\0\0\0\xff",
+        INVALID,
+    ),
+    Row(
+        "the least seconds",
+        INSTANTS,
+        CBOR,
+        JSON,
+        b"\xbf\x61t\xc1\x3b\x7f\xff\xff\xff\xff\xff\xff\xff\xff",
+        Ok(b"{\"t\":-9223372036854775808}"),
+    ),
+    Row(
+        "one second less",
+        INSTANTS,
+        CBOR,
+        CBOR,
+        b"\xbf\x61t\xc1\x3b\x80\0\0\0\0\0\0\0\xff",
+        INVALID,
+    ),
+    Row(
+        "a float of 64 bits",
+        INSTANTS,
+        CBOR,
+        JSON,
+        b"\xbf\x61t\xc1\xfb\0\0\0\0\0\0\0\0\xff",
+        NOT_CARRIED,
+    ),
+    Row(
+        "a float of 16 bits",
+        INSTANTS,
+        CBOR,
+        CBOR,
+        b"\xbf\x61e\xc1\xf9\x3c\0\xff",
+        NOT_CARRIED,
+    ),
+    Row(
+        "a float under a wider head of the tag",
+        INSTANTS,
+        CBOR,
+        JSON,
+        b"\xbf\x61h\xd8\x01\xfa\x3f\x80\0\0\xff",
+        NOT_CARRIED,
+    ),
+    Row(
+        "a float in an input that ends behind it",
+        INSTANTS,
+        CBOR,
+        JSON,
+        b"\xbf\x61t\xc1\xf9\x3c\0",
+        NOT_CARRIED,
+    ),
+    Row(
+        "a float that is cut off",
+        INSTANTS,
+        CBOR,
+        JSON,
+        b"\xbf\x61t\xc1\xf9\x3c",
+        INVALID,
+    ),
+    Row(
+        "a float without the tag",
+        INSTANTS,
+        CBOR,
+        JSON,
+        b"\xbf\x61t\xf9\x3c\0\xff",
+        INVALID,
+    ),
+    Row(
+        "an integer without the tag",
+        INSTANTS,
+        CBOR,
+        JSON,
+        b"\xbf\x61t\0\xff",
+        INVALID,
+    ),
+    Row(
+        "a bignum of seconds",
+        INSTANTS,
+        CBOR,
+        JSON,
+        b"\xbf\x61t\xc1\xc2\x41\x01\xff",
+        INVALID,
+    ),
+    Row(
+        "a date as a text",
+        INSTANTS,
+        CBOR,
+        JSON,
+        b"\xbf\x61e\xc0\x741970-01-01T00:00:00Z\xff",
+        INVALID,
+    ),
+    Row(
+        "a null is absent",
+        INSTANTS,
+        CBOR,
+        CBOR,
+        b"\xbf\x61t\xf6\xff",
+        Ok(b"\xbf\xff"),
+    ),
+    Row(
+        "an unknown member may be a float",
+        INSTANTS,
+        CBOR,
+        JSON,
+        b"\xbf\x61z\xc1\xf9\x3c\0\x61t\xc1\x20\xff",
+        Ok(b"{\"t\":-1}"),
+    ),
+];
+
+const PLACED: [Row; 27] = [
+    Row(
+        "a list of http-dates",
+        PLACES,
+        JSON,
+        JSON,
+        b"{\"l\":[\"Wed, 21 Oct 2015 07:28:00 GMT\"]}",
+        Ok(b"{\"l\":[\"Wed, 21 Oct 2015 07:28:00 GMT\"]}"),
+    ),
+    Row(
+        "seconds in a list of http-dates",
+        PLACES,
+        JSON,
+        JSON,
+        b"{\"l\":[0]}",
+        INVALID,
+    ),
+    Row(
+        "half a second in a list of http-dates",
+        PLACES,
+        JSON,
+        JSON,
+        b"{\"l\":[\"Wed, 21 Oct 2015 07:28:00 GMT\",\"Wed, 21 Oct 2015 07:28:00.5 GMT\"]}",
+        INSTANT,
+    ),
+    Row(
+        "a list of the wire's own form",
+        PLACES,
+        JSON,
+        JSON,
+        b"{\"d\":[1.5,0]}",
+        Ok(b"{\"d\":[1.5,0]}"),
+    ),
+    Row(
+        "the same to a form",
+        PLACES,
+        JSON,
+        FORM,
+        b"{\"d\":[1.5,0]}",
+        Ok(
+            b"Action=Do&Version=1&d.member.1=1970-01-01T00%3A00%3A01.5Z&d.member.2=1970-01-01T00%3A00%3A00Z",
+        ),
+    ),
+    Row(
+        "the same to CBOR",
+        PLACES,
+        JSON,
+        CBOR,
+        b"{\"d\":[1.5,0]}",
+        INSTANT,
+    ),
+    Row(
+        "an element that isn't carried",
+        PLACES,
+        JSON,
+        JSON,
+        b"{\"d\":[0,1e-10]}",
+        NOT_CARRIED,
+    ),
+    Row(
+        "a float in a list",
+        PLACES,
+        CBOR,
+        JSON,
+        b"\xbf\x61d\x81\xc1\xf9\x3c\0\xff",
+        NOT_CARRIED,
+    ),
+    Row(
+        "a null among dates",
+        PLACES,
+        JSON,
+        CBOR,
+        b"{\"n\":[null,\"1970-01-01T00:00:00Z\"]}",
+        Ok(b"\xbf\x61n\x9f\xf6\xc1\0\xff\xff"),
+    ),
+    Row(
+        "year 10000 behind another element",
+        PLACES,
+        CBOR,
+        JSON,
+        b"\xbf\x61n\x83\xf6\xc1\0\xc1\x1b\0\0\0\x3a\xff\xf4\x41\x80\xff",
+        INSTANT,
+    ),
+    Row(
+        "a null before a nanosecond, to a form",
+        PLACES,
+        JSON,
+        FORM,
+        b"{\"n\":[null,\"1970-01-01T00:00:00.000000001Z\"]}",
+        NULL,
+    ),
+    Row(
+        "a nanosecond before a null, to a form",
+        PLACES,
+        JSON,
+        FORM,
+        b"{\"n\":[\"1970-01-01T00:00:00.000000001Z\",null]}",
+        NULL,
+    ),
+    Row(
+        "the same to CBOR",
+        PLACES,
+        JSON,
+        CBOR,
+        b"{\"n\":[\"1970-01-01T00:00:00.000000001Z\",null]}",
+        INSTANT,
+    ),
+    Row(
+        "a map of date-times",
+        PLACES,
+        JSON,
+        JSON,
+        b"{\"m\":{\"b\":\"1970-01-01T00:00:00Z\",\"a\":\"2000-02-29T00:00:00.5Z\"}}",
+        Ok(b"{\"m\":{\"a\":\"2000-02-29T00:00:00.5Z\",\"b\":\"1970-01-01T00:00:00Z\"}}"),
+    ),
+    Row(
+        "the same to a form",
+        PLACES,
+        JSON,
+        FORM,
+        b"{\"m\":{\"b\":\"1970-01-01T00:00:00Z\"}}",
+        Ok(b"Action=Do&Version=1&m.entry.1.key=b&m.entry.1.value=1970-01-01T00%3A00%3A00Z"),
+    ),
+    Row(
+        "a nanosecond in a map",
+        PLACES,
+        JSON,
+        JSON,
+        b"{\"m\":{\"b\":\"1970-01-01T00:00:00Z\",\"a\":\"1970-01-01T00:00:00.000000001Z\"}}",
+        INSTANT,
+    ),
+    Row(
+        "year 10000 in a map",
+        PLACES,
+        CBOR,
+        JSON,
+        b"\xbf\x61m\xa1\x61a\xc1\x1b\0\0\0\x3a\xff\xf4\x41\x80\xff",
+        INSTANT,
+    ),
+    Row(
+        "the same to CBOR",
+        PLACES,
+        CBOR,
+        CBOR,
+        b"\xbf\x61m\xa1\x61a\xc1\x1b\0\0\0\x3a\xff\xf4\x41\x80\xff",
+        Ok(b"\xbf\x61m\xbf\x61a\xc1\x1b\0\0\0\x3a\xff\xf4\x41\x80\xff\xff"),
+    ),
+    Row(
+        "a float in a map",
+        PLACES,
+        CBOR,
+        JSON,
+        b"\xbf\x61m\xa1\x61a\xc1\xfb\0\0\0\0\0\0\0\0\xff",
+        NOT_CARRIED,
+    ),
+    Row(
+        "a union of the wire's own form",
+        PLACES,
+        JSON,
+        JSON,
+        b"{\"u\":{\"t\":0.25}}",
+        Ok(b"{\"u\":{\"t\":0.25}}"),
+    ),
+    Row(
+        "the same to a form",
+        PLACES,
+        JSON,
+        FORM,
+        b"{\"u\":{\"t\":0.25}}",
+        Ok(b"Action=Do&Version=1&u.t=1970-01-01T00%3A00%3A00.25Z"),
+    ),
+    Row(
+        "the same to CBOR",
+        PLACES,
+        JSON,
+        CBOR,
+        b"{\"u\":{\"t\":0.25}}",
+        INSTANT,
+    ),
+    Row(
+        "a union of an http-date",
+        PLACES,
+        JSON,
+        CBOR,
+        b"{\"u\":{\"h\":\"Thu, 01 Jan 1970 00:00:00 GMT\"}}",
+        Ok(b"\xbf\x61u\xbf\x61h\xc1\0\xff\xff"),
+    ),
+    Row(
+        "a quarter of a second of an http-date in a union",
+        PLACES,
+        JSON,
+        JSON,
+        b"{\"u\":{\"h\":\"Thu, 01 Jan 1970 00:00:00.25 GMT\"}}",
+        INSTANT,
+    ),
+    Row(
+        "a member of a union that isn't carried",
+        PLACES,
+        JSON,
+        JSON,
+        b"{\"u\":{\"t\":1e-10}}",
+        NOT_CARRIED,
+    ),
+    Row(
+        "half a second further in",
+        PLACES,
+        JSON,
+        CBOR,
+        b"{\"i\":{\"i\":{\"d\":[0.5]}}}",
+        INSTANT,
+    ),
+    Row(
+        "the same to JSON",
+        PLACES,
+        JSON,
+        JSON,
+        b"{\"i\":{\"i\":{\"d\":[0.5]}}}",
+        Ok(b"{\"i\":{\"i\":{\"d\":[0.5]}}}"),
+    ),
+];
+
+#[test]
+fn dates_of_cbor_go_to_each_wire(rt: HostRuntime) -> Result<(), Fail> {
+    for row in &ITEMS {
+        check(&rt, rt.alloc(), row)?;
+    }
+    Ok(())
+}
+
+#[test]
+fn instants_have_the_form_of_their_place(rt: HostRuntime) -> Result<(), Fail> {
+    for row in &PLACED {
+        check(&rt, rt.alloc(), row)?;
+    }
+    Ok(())
+}
