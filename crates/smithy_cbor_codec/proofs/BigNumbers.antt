@@ -13,7 +13,7 @@ use Rattle.smithy_texts.proofs.WrittenNumerals.{fits_signed-wide, small_wide, sm
 use Rattle.smithy_schema.specs.declared.shape_type.Scalar.{Scalar}
 use Rattle.smithy_schema.specs.declared.shape_type.Scalar.TheVariants as scalars
 use Rattle.smithy_schema.specs.declared.error.SerdeError.{SerdeError}
-use Rattle.smithy_schema.specs.declared.error.SerdeError.TheVariants.{InvalidInput, TooDeep, TooWide, NotCarried, Unwritable, Failed, NoMemory}
+use Rattle.smithy_schema.specs.declared.error.SerdeError.TheVariants.{InvalidInput, TooDeep, TooWide, NotCarried, Unsupported, Unwritable, Failed, NoMemory}
 use Rattle.smithy_schema.specs.Reading.{IsInvalid}
 use Rattle.smithy_schema.specs.Value.{whole, decimal, Value, scalar_value}
 use Rattle.cbor_item.specs.declared.error.ItemError.{ItemError}
@@ -189,6 +189,7 @@ invalid_is A InvalidInput h = refl
 invalid_is A TooDeep h = absurd h
 invalid_is A TooWide h = absurd h
 invalid_is A NotCarried h = absurd h
+invalid_is A Unsupported h = absurd h
 invalid_is A Unwritable h = absurd h
 invalid_is A Failed h = absurd h
 invalid_is A NoMemory h = absurd h

@@ -46,7 +46,7 @@ pub bytes : map (λ n. scalar_bytes (instant n)) (pos 1_000_000_000 ∷ neg_ℤ 
     ≡ (0xc1 ∷ 0x01 ∷ []) ∷ (0xc1 ∷ 0x20 ∷ []) ∷ (0xc1 ∷ 0x1a ∷ 0x59 ∷ 0x1b ∷ 0x38 ∷ 0x7d ∷ []) ∷ []
 bytes = refl
 
-pub held : map (λ n. cbor_holds None (instant n)) (pos 0 ∷ pos 1_000_000_000 ∷ pos 1 ∷ neg_ℤ (pos 1) ∷ pos 1_500_000_000 ∷ []) ≡ true ∷ true ∷ false ∷ false ∷ false ∷ []
+pub held : map (λ n. cbor_holds.scalar None (instant n)) (pos 0 ∷ pos 1_000_000_000 ∷ pos 1 ∷ neg_ℤ (pos 1) ∷ pos 1_500_000_000 ∷ []) ≡ true ∷ true ∷ false ∷ false ∷ false ∷ []
 held = refl
 
 pub no_fractions : (cbor_after (scalar_of (member_of (shape_site timed 0) 0) (instant (pos 1))) fresh_state ≡ Err Unwritable)

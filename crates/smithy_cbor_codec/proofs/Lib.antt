@@ -3,6 +3,7 @@ mod Examples
 mod EncodedItems
 mod MeaningFacts
 mod InstantFacts
+mod DocumentFacts
 mod SpellingFacts
 mod WritingFacts
 mod StandingFacts
@@ -26,4 +27,5 @@ pub mod BigNumbers
 pub mod NumberWriting
 pub mod InstantPlaces
 pub mod InstantWriting
+pub mod DocumentReads
 pub mod WideSlices

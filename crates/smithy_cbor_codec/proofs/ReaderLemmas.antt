@@ -22,9 +22,9 @@ use Rattle.smithy_cbor_codec.proofs.EntryLemmas.{over_by_due, key_by_due, one_ke
 use Rattle.smithy_cbor_codec.proofs.SkippedValues.{skips_are}
 use Rattle.smithy_wire.specs.Node.{as_array, as_object}
 use Rattle.smithy_wire.specs.Frames.{IsTold, Drops, DropsAll}
-use Rattle.smithy_wire.specs.Rules.{is_mark, key_text}
+use Rattle.smithy_wire.specs.Rules.{is_mark, key_text, position_in}
 use Rattle.smithy_wire.specs.Readers.{opens_not, cannot_go_on}
-use Rattle.smithy_wire.specs.Entries.{drop_is, mark_is_dropped, null_is_dropped, step_to_entry, close_at_end, list_drops_nothing, step_to_element, close_list, map_drops_nothing, step_to_key, close_map}
+use Rattle.smithy_wire.specs.Entries.{drops_each, drop_is, mark_is_dropped, null_is_dropped, step_to_entry, close_at_end, list_drops_nothing, step_to_element, close_list, map_drops_nothing, step_to_key, close_map}
 use Rattle.smithy_wire.specs.Lemmas.Places.{members_are_object, list_is_array, map_is_object}
 
 -- ---- a list at a place
@@ -131,7 +131,8 @@ module _ (o : Settings) (i : List ℕ) (t : Table) (p : Place) (kind : HasMember
   one_passes : (b : ℕ) (m : Mark) (s : List ℕ) (c f : ℕ) (n : Mark) → HasKey i b m s c n → IsPassed (kind_of t p) i d s c f
       → Drops cbor_frames (rules_of o) (kind_of t p) as_object i d b m f n
   one_passes b m s c f n (entry, (k, there, is)) (inl null) =
-      null_is_dropped cbor_frames (rules_of o) i t p d (λ q. refl) kind b m (Some k) c n f (entry, (k, there, refl)) (told_as (text_of k) s is) null
+      null_is_dropped cbor_frames (rules_of o) i t p d kind b m (Some k) c n f (entry, (k, there, refl)) (told_as (text_of k) s is)
+      (drops_each (rules_of o) (λ q. refl) (kind_of t p) kind (position_in (rules_of o) (kind_of t p) (text_of k))) null
   one_passes b m s c f n (entry, (k, there, is)) (inr (mark, skipped)) =
       mark_is_dropped cbor_frames (rules_of o) i t p d as_object b m (Some k) c n f (entry, (k, there, refl)) (told_as (text_of k) s is)
       (ap (is_mark (rules_of o) (kind_of t p)) is ∙ (sym (mark_is o (kind_of t p) kind s) ∙ mark)) ((skips_are o i d c f).0 skipped)
@@ -150,15 +151,15 @@ module _ (o : Settings) (i : List ℕ) (t : Table) (p : Place) (kind : HasMember
   steps_to_member b m s c n (count, at, k, passes, key, (unmarked, real)) =
       let (j, same, all) = drops_all count b (mark_with m.due) m at k refl passes in
       let here = key_by_due i at k j s c n same key in
-      step_to_entry cbor_frames (rules_of o) i t p d (λ q. refl) kind count b m at j (Some here.1.0) (Some s) c n all (here.0, (here.1.0, here.1.1, refl)) here.1.2 tt
-      (sym (mark_is o (kind_of t p) kind s) ∙ unmarked) real
+      step_to_entry cbor_frames (rules_of o) i t p d kind count b m at j (Some here.1.0) (Some s) c n all (here.0, (here.1.0, here.1.1, refl)) here.1.2 tt
+      (sym (mark_is o (kind_of t p) kind s) ∙ unmarked) (λ e null. absurd (real e null))
 
   -- or it ends
   pub closes_members : (b : ℕ) (m : Mark) (e : ℕ) → ClosesMembers (kind_of t p) i d b (mark_with m.due) e → FollowsInside d i e
       → (cbor_relations o).closes i t p d b m e
   closes_members b m e (count, at, k, passes, over) follows =
       let (j, same, all) = drops_all count b (mark_with m.due) m at k refl passes in
-      close_at_end cbor_frames (rules_of o) i t p d (λ q. refl) kind count b m at j e all (over_by_due i at k j e same over) follows
+      close_at_end cbor_frames (rules_of o) i t p d kind count b m at j e all (over_by_due i at k j e same over) follows
 
   -- a null is skipped, too
   null_skips : (c e : ℕ) → IsNullAt i c d e → SkipsTo i c d e

@@ -3,7 +3,7 @@ use Rattle.std.proofs.Common.{◌≡◌, ◌↔◌, ℕ, List, length, Some, ref
 use Rattle.std.specs.List.{slice_range}
 use Rattle.std.proofs.lemmas.List.{take_rest}
 use Rattle.smithy_schema.specs.declared.place.Place.{Place}
-use Rattle.smithy_schema.specs.Table.{Table, Kind, scalar, structure_of, union_of, list_of, map_of, nothing, kind_of, IsStructure}
+use Rattle.smithy_schema.specs.Table.{Table, Kind, scalar, document, structure_of, union_of, list_of, map_of, nothing, kind_of, IsStructure}
 use Rattle.smithy_schema.specs.Value.{Value, structure, no_member_values}
 use Rattle.smithy_schema.specs.Lemmas.Options.{same_some, chosen}
 use Rattle.cbor_item.specs.Item.{Item}
@@ -13,11 +13,11 @@ use Rattle.cbor_item.proofs.OneItem.{same_item}
 use Rattle.smithy_cbor_codec.specs.Settings.{Settings, is_shallow}
 use Rattle.smithy_cbor_codec.specs.Meaning.{node_of, rules_of, cbor_meaning}
 use Rattle.smithy_cbor_codec.specs.Spelling.{cbor_spells}
-use Rattle.smithy_cbor_codec.specs.Standing.{cbor_frames, cbor_relations}
+use Rattle.smithy_cbor_codec.specs.Standing.{Follows, cbor_frames, cbor_relations}
 use Rattle.smithy_cbor_codec.specs.Private.NodePlaces.{item_lies, lies_item, lies_full}
 use Rattle.smithy_wire.specs.Node.{Node, null_node, leaf, container, missing}
 use Rattle.smithy_wire.specs.Meaning.{missing_meaning, meaning}
-use Rattle.smithy_wire.specs.Frames.{Lies}
+use Rattle.smithy_wire.specs.Frames.{Lies, EndsAs}
 use Rattle.smithy_wire.specs.Wire.{no_value}
 use Rattle.smithy_wire.specs.Lemmas.Nodes.{sort_of}
 
@@ -36,6 +36,7 @@ standing_encodes x i e h end =
 -- what is missing is a structure without members
 missing_says : (k : Kind) → IsStructure k → missing_meaning k ≡ Some (structure no_member_values)
 missing_says (scalar s) h = absurd h
+missing_says document h = absurd h
 missing_says (structure_of members) h = refl
 missing_says (union_of members) h = absurd h
 missing_says (list_of l) h = absurd h
@@ -44,24 +45,30 @@ missing_says nothing h = absurd h
 
 missing_is : (k : Kind) (v : Value) → missing_meaning k ≡ Some v → IsStructure k × (v ≡ structure no_member_values)
 missing_is (scalar s) v h = cc
+missing_is document v h = cc
 missing_is (structure_of members) v h = (tt, sym (same_some (structure no_member_values) v h))
 missing_is (union_of members) v h = cc
 missing_is (list_of l) v h = cc
 missing_is (map_of m) v h = cc
 missing_is nothing v h = cc
 
+-- a document ends where a value may
+pub ends_as : (k : Kind) (i : List ℕ) (d e : ℕ) → Follows d i e → EndsAs cbor_frames k i d e
+ends_as document i d e follows = follows
+ends_as _ i d e follows = tt
+
 -- what the input spells stands at its start
 pub spells_stands : (c : Settings) (t : Table) (p : Place) (i : List ℕ) (v : Value) → cbor_spells c t p i v
     → (e : ℕ) × (cbor_relations c).stands i t p 0 0 v e
 spells_stands c t p i v (inl h) =
-    (length i, (node_of h.0, item_lies 0 h.0 i 0 (length i) (encoding_stands h.0 i h.1) refl, h.2))
+    (length i, (node_of h.0, item_lies 0 h.0 i 0 (length i) (encoding_stands h.0 i h.1) refl, h.2, ends_as (kind_of t p) i 0 (length i) refl))
 spells_stands c t p i v (inr h) =
-    (0, (missing, ((h.0, refl), refl), rw h.2 (missing_says (kind_of t p) h.1 ∙ ap Some (sym h.3))))
+    (0, (missing, ((h.0, refl), refl), rw h.2 (missing_says (kind_of t p) h.1 ∙ ap Some (sym h.3)), ends_as (kind_of t p) i 0 0 (sym (ap length h.0))))
 
 -- what stands at the start of the input is spelled by it
 pub stands_spells : (c : Settings) (t : Table) (p : Place) (i : List ℕ) (v : Value) (e : ℕ)
     → (cbor_relations c).stands i t p 0 0 v e → cbor_spells c t p i v
-stands_spells c t p i v e (y, lies, means) = of y lies means
+stands_spells c t p i v e (y, lies, means, ends) = of y lies means
   where
     there : (y : Node Item) → (sort_of y ≡ no_value → ⊥) → Lies cbor_frames i 0 y 0 e → meaning (rules_of c) t p 0 y ≡ Some v → cbor_spells c t p i v
     there y is lies means =

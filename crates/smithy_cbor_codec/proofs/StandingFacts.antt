@@ -236,7 +236,7 @@ pub byte_behind : strictly.stands (0x01 ∷ 0x00 ∷ []) one_long long_place 1 0
     × (strictly.skips (0x01 ∷ 0x00 ∷ []) 0 0 1 → ⊥)
     × (strictly.closes (0xbf ∷ 0xff ∷ 0x00 ∷ []) one_long (shape_place 0) 1 1 (mark_with None) 2 → ⊥)
 byte_behind = (
-  (leaf (unsigned 1), (refl, (omega arith, (small 1 (omega arith)).is), tt), refl),
+  (leaf (unsigned 1), (refl, (omega arith, (small 1 (omega arith)).is), tt), refl, tt),
   (skips_are strict (0x01 ∷ 0x00 ∷ []) 1 0 1).0 (record { found = unsigned 1; stands = (omega arith, (small 1 (omega arith)).is); follows = tt }),
   closes_members strict (0xbf ∷ 0xff ∷ 0x00 ∷ []) one_long (shape_place 0) tt 2 1 (mark_with None) 2 (0, 1, mark_with None, (refl, refl), inr (refl, refl, refl)) tt,
   λ v h. let wrong : ◌≡◌ {A = ℕ} 1 2 = (stands_scalar cbor_frames (rules_of strict) (0x01 ∷ 0x00 ∷ []) one_long long_place scalars.Long refl 0 0 v 1 h).1.2 in absurd (omega arith),
@@ -257,7 +257,7 @@ pub empty_input : strictly.opens [] one_long (shape_place 0) 0 0 0 end_mark
 empty_input = (
   opens_empty strict [] one_long (shape_place 0) tt 0 0 refl refl,
   closes_empty strict [] one_long (shape_place 0) tt 1 0 end_mark refl refl refl (omega arith),
-  (missing, ((refl, refl), refl), refl),
+  (missing, ((refl, refl), refl), refl, tt),
 )
 
 -- no union and no map opens there

@@ -1,11 +1,11 @@
--- A value whose instants are whole seconds adds its canonical encoding, whatever stands before it.
+-- A value that CBOR holds adds its canonical encoding, whatever stands before it.
 use Rattle.std.proofs.Common.{◌≡◌, ℕ, List, [], ◌∷◌, ◌++◌, true, Some, Result, Ok, refl, sym, ap, ◌∙◌, append_assoc}
 use Rattle.std.proofs.lemmas.List.{append-nil}
 use Rattle.smithy_schema.specs.declared.error.SerdeError.{SerdeError}
 use Rattle.std.proofs.lemmas.Bool.{and_parts}
 use Rattle.smithy_schema.specs.ScalarTest.{scalars_pass, elements_pass, entries_pass, members_pass}
 use Rattle.smithy_schema.specs.Site.{Site, element_of, key_of, value_of, member_of}
-use Rattle.smithy_schema.specs.Value.{ScalarValue, text, Value, scalar_value, list, map, structure, union, null_element, Values, no_values, value, MapEntries, no_map_entries, map_entry, MemberValues, no_member_values, member_value}
+use Rattle.smithy_schema.specs.Value.{ScalarValue, text, Value, scalar_value, list, map, structure, union, null_element, document_value, Values, no_values, value, MapEntries, no_map_entries, map_entry, MemberValues, no_member_values, member_value}
 use Rattle.smithy_schema.specs.Writing.{Event, run, write, and_run, events, element_events, entry_events, member_events, count_of, entry_count, begin_list, begin_map, begin_structure, null_of, scalar_of, end_list, end_map, end_structure, after_value, Open, open_structure, open_list, open_map_at_key, open_map_at_value}
 use Rattle.smithy_schema.proofs.WritingLemmas.{child_written}
 use Rattle.smithy_schema.proofs.OpenLemmas.{scalar_taken}
@@ -49,7 +49,7 @@ group_member : (o key x more : List ℕ) → (o ++ (key ++ x)) ++ more ≡ o ++ 
 group_member o key x more = simp append_assoc
 
 -- a scalar that CBOR holds is written where a value is due
-scalar_adds : (site : Site) (x : ScalarValue) (o : List ℕ) (frames after : List Open) → cbor_holds site.place.time x ≡ true → after_value frames ≡ Ok after
+scalar_adds : (site : Site) (x : ScalarValue) (o : List ℕ) (frames after : List Open) → cbor_holds.scalar site.place.time x ≡ true → after_value frames ≡ Ok after
     → cbor_after (scalar_of site x) (state o frames) ≡ Ok (state (o ++ (lead (state o frames) site.view ++ scalar_bytes x)) after)
 scalar_adds site x o frames after held due = rw (held, scalar_taken x frames after due) refl
 
@@ -60,6 +60,7 @@ mutual
       ≡ Ok (state (o ++ (lead (state o frames) site.view ++ canonical_cbor site v)) after)
   value_adds site (scalar_value x) o frames after held due =
       first (scalar_of site x) [] (state o frames) (state (o ++ (lead (state o frames) site.view ++ scalar_bytes x)) after) _ (scalar_adds site x o frames after held due) refl
+  value_adds site (document_value d) o frames after held due = cc
   value_adds site null_element o frames after held due =
       first (null_of site) [] (state o frames) (state (o ++ (lead (state o frames) site.view ++ shortest_head 7 null_value)) after) _ (rw due refl) refl
   value_adds site (list vs) o frames after held due =

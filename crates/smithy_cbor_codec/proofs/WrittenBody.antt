@@ -24,6 +24,7 @@ canonical = record {
 is_written : IsWritten cbor_writes cbor_leaves (λ m. m.name) canonical
 is_written = record {
   scalar_is = λ s site x. scalar_is_written s site.place.time x;
+  document_is = λ site d. refl;
   null_is = λ site. refl;
   list_is = λ site vs. refl;
   no_element_is = λ is_first site. refl;

@@ -137,7 +137,7 @@ instant_means n is held =
     ∙ ap (λ b. if b then means (scalar_value (instant (seconds_of n *ℤ pos nanos_per_second))) else no_meaning) is
     ∙ ap (λ z. means (scalar_value (instant z))) (whole_seconds n whole)
 
-scalar_means : (s : Scalar) (time : Option TimestampFormat) (x : ScalarValue) → is_of s x ≡ true → cbor_holds time x ≡ true → says s time (leaf_of s time x) ≡ means (scalar_value x)
+scalar_means : (s : Scalar) (time : Option TimestampFormat) (x : ScalarValue) → is_of s x ≡ true → cbor_holds.scalar time x ≡ true → says s time (leaf_of s time x) ≡ means (scalar_value x)
 scalar_means scalars.Boolean time (boolean true) is held = refl
 scalar_means scalars.Boolean time (boolean false) is held = refl
 scalar_means scalars.Byte time (whole n) is held = rw (short_back n (fits_more 8 64 n (lit≤ tt) is), is) refl

@@ -42,5 +42,5 @@ canonical_spells t root v accepted fits held deep short =
     let bytes = body_of cbor_writes cbor_leaves (λ (m : Member). m.name) t p v in
     subst (λ bytes. cbor_spells strict_settings t p bytes v) (sym same)
     (stands_spells strict_settings t p bytes v (length bytes)
-    (written_stands cbor_writes cbor_frames cbor_leaves (rules_of strict_settings) cbor_writes_frames cbor_writes_leaves (cbor_reads_leaves strict_settings) t p whole_view v
+    (written_stands cbor_writes cbor_frames cbor_leaves (rules_of strict_settings) cbor_writes_frames cbor_writes_leaves (cbor_reads_leaves strict_settings) (λ documents. cc) t p whole_view v
     (named_by_name t accepted) fits held deep (subst (λ (bytes : List ℕ). length bytes < 2 ^ 64) same short)))

@@ -1,9 +1,10 @@
 -- The one encoding in which a value is written.
-use Rattle.std.specs.Prelude.{ℕ, ◌==◌, List, [], ◌∷◌, ◌++◌, Bool, true, Option, Some, None}
+use Rattle.std.specs.Prelude.{ℕ, ◌==◌, List, [], ◌∷◌, ◌++◌, Bool, true, false, Option, Some, None}
 use Rattle.smithy_instants.specs.Instant.{seconds_of, subsecond_of}
 use Rattle.smithy_schema.specs.declared.shape_type.TimestampFormat.{TimestampFormat}
+use Rattle.smithy_schema.specs.ScalarTest.{ValueTest}
 use Rattle.smithy_schema.specs.Site.{Site, View, element_of, value_of, member_of}
-use Rattle.smithy_schema.specs.Value.{ScalarValue, boolean, whole, text, bytes, decimal, instant, Value, scalar_value, list, map, structure, union, null_element, Values, no_values, value, MapEntries, no_map_entries, map_entry, MemberValues, no_member_values, member_value}
+use Rattle.smithy_schema.specs.Value.{ScalarValue, boolean, whole, text, bytes, decimal, instant, Value, scalar_value, list, map, structure, union, null_element, document_value, Values, no_values, value, MapEntries, no_map_entries, map_entry, MemberValues, no_member_values, member_value}
 use Rattle.cbor_item.specs.Head.{shortest_head}
 use Rattle.cbor_item.specs.WellFormed.{break}
 use Rattle.smithy_cbor.specs.Scalar.{null_value}
@@ -18,9 +19,13 @@ scalar_bytes (bytes b) = byte_string_bytes b
 scalar_bytes (instant n) = epoch_seconds_bytes (seconds_of n)
 
 -- what is written for a scalar stands for exactly it: an instant is one of whole seconds, and no other is written
-abbrev pub cbor_holds : Option TimestampFormat → ScalarValue → Bool
-cbor_holds time (instant n) = subsecond_of n == 0
-cbor_holds time _ = true
+abbrev pub is_held : Option TimestampFormat → ScalarValue → Bool
+is_held time (instant n) = subsecond_of n == 0
+is_held time _ = true
+
+-- no document is written
+abbrev pub cbor_holds : ValueTest
+cbor_holds = record { scalar = is_held; documents = false }
 
 -- what stands before the value of a member: its name, where it has one
 abbrev pub key_bytes : View → List ℕ
@@ -30,7 +35,7 @@ key_bytes view = elim view.name [
 ]
 
 -- Containers of indefinite length; members in the table's order, elements in theirs and the entries of a map in that
--- of its keys' bytes. A union is a map of its one member.
+-- of its keys' bytes. A union is a map of its one member. There is no encoding of a document.
 abbrev mutual
   pub canonical_cbor : Site → Value → List ℕ
   canonical_cbor site (scalar_value x) = scalar_bytes x
@@ -40,6 +45,7 @@ abbrev mutual
   canonical_cbor site (union n v) =
       opening_bytes 5 ++ (key_bytes (member_of site n).view ++ (canonical_cbor (member_of site n) v ++ break ∷ []))
   canonical_cbor site null_element = shortest_head 7 null_value
+  canonical_cbor site (document_value d) = []
 
   pub element_bytes : Site → Values → List ℕ
   element_bytes site no_values = []

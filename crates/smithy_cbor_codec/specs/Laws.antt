@@ -16,11 +16,12 @@ use Rattle.smithy_wire.specs.Laws as wire
 pub lawful : (c : Settings) → IsLawful (cbor_relations c)
 lawful c = wire.lawful cbor_frames (rules_of c) cbor_is_wire
 
--- what scalars mean is of their kind, and keys are texts
+-- what scalars mean is of their kind, no document is carried, and keys are texts
 pub rules_fit : (c : Settings) → RulesFit cbor_frames (rules_of c)
 rules_fit c = record {
   says_fits = λ i d x a e lies t p s v kind keeps means.
       says_fits x t p s v kind (settled_means c.limits null_element (says s p.time x) v keeps means);
+  document_fits = λ i d x a e lies says v carried means. cc;
   key_fits = λ i b m key c n text entry. text_is_utf8 key text;
 }
 

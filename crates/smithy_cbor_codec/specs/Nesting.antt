@@ -4,10 +4,20 @@ use Rattle.std.proofs.Common.{ap}
 use Rattle.smithy_schema.specs.declared.error.SerdeError.{SerdeError}
 use Rattle.smithy_schema.specs.declared.error.SerdeError.TheVariants.{Unwritable}
 use Rattle.smithy_schema.specs.Writing.{Event, IsNested, open_after}
-use Rattle.smithy_cbor_codec.specs.Writing.{CborState, made, where_taken, is_writable, where_writable, is_in_width, where_in_width, cbor_after}
+use Rattle.smithy_cbor_codec.specs.Writing.{CborState, made, where_taken, is_writable, where_writable, is_in_width, where_in_width, is_supported, where_supported, cbor_after}
 use Rattle.smithy_cbor_codec.specs.Private.MadeStates.{taken_frames, taken_grows}
 
 -- what is written is what is made, and what no serializer takes is refused so
+was_supported : (b : Bool) (r : Result CborState SerdeError) (t : CborState) → where_supported b r ≡ Ok t → r ≡ Ok t
+was_supported true r t h = h
+was_supported false (Ok s) t h = cc
+was_supported false (Err e) t h = cc
+
+supported_or_not : (b : Bool) (r : Result CborState SerdeError) → r ≡ Err Unwritable → where_supported b r ≡ Err Unwritable
+supported_or_not true r h = h
+supported_or_not false (Ok s) h = cc
+supported_or_not false (Err e) h = cc
+
 written : (b : Bool) (r : Result CborState SerdeError) (t : CborState) → where_in_width b r ≡ Ok t → r ≡ Ok t
 written true r t h = h
 written false (Ok s) t h = cc
@@ -30,7 +40,9 @@ refused false r h = refl
 made_there : (e : Event) (s t : CborState) → cbor_after e s ≡ Ok t → where_taken (made e s) (open_after e s.frames) ≡ Ok t
 made_there e s t h =
     let taken = where_taken (made e s) (open_after e s.frames) in
-    was_writable (is_writable e) taken t (written (is_in_width e) (where_writable (is_writable e) taken) t h)
+    let writable = where_writable (is_writable e) taken in
+    was_writable (is_writable e) taken t
+    (written (is_in_width e) writable t (was_supported (is_supported e) (where_in_width (is_in_width e) writable) t h))
 
 -- the open containers are those of any serializer, and where none takes a call this one refuses it
 pub cbor_nests : IsNested cbor_after (λ (s : CborState). s.frames)
@@ -38,7 +50,9 @@ cbor_nests = record {
   goes = λ e s t h. taken_frames e s t (open_after e s.frames) (made_there e s t h);
   stops = λ e s h.
       let taken = where_taken (made e s) (open_after e s.frames) in
-      stopped (is_in_width e) (where_writable (is_writable e) taken) (refused (is_writable e) taken (ap (where_taken (made e s)) h));
+      let writable = where_writable (is_writable e) taken in
+      supported_or_not (is_supported e) (where_in_width (is_in_width e) writable)
+      (stopped (is_in_width e) writable (refused (is_writable e) taken (ap (where_taken (made e s)) h)));
 }
 
 -- no call takes back a byte

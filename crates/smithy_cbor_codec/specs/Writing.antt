@@ -1,9 +1,9 @@
 -- What each call of a serializer makes of its state.
 use Rattle.std.specs.Prelude.{ℕ, List, [], ◌∷◌, ◌++◌, Bool, true, false, if◌then◌else◌, Result, Ok, Err}
 use Rattle.smithy_schema.specs.declared.error.SerdeError.{SerdeError}
-use Rattle.smithy_schema.specs.declared.error.SerdeError.TheVariants.{TooWide, Unwritable}
+use Rattle.smithy_schema.specs.declared.error.SerdeError.TheVariants.{TooWide, Unsupported, Unwritable}
 use Rattle.smithy_schema.specs.Site.{View}
-use Rattle.smithy_schema.specs.Writing.{Event, Writer, begin_structure, end_structure, begin_list, end_list, begin_map, end_map, null_of, scalar_of, big_integer_of, big_decimal_of, Open, open_structure, open_after}
+use Rattle.smithy_schema.specs.Writing.{Event, Writer, begin_structure, end_structure, begin_list, end_list, begin_map, end_map, null_of, scalar_of, big_integer_of, big_decimal_of, document_of, Open, open_structure, open_after}
 use Rattle.cbor_item.specs.Head.{shortest_head}
 use Rattle.cbor_item.specs.WellFormed.{break}
 use Rattle.smithy_cbor.specs.Scalar.{null_value}
@@ -53,6 +53,7 @@ made (scalar_of site x) s frames = wrote s site.view (scalar_bytes x) frames
 made (big_integer_of site written) s frames = wrote s site.view (big_integer_bytes (number written)) frames
 made (big_decimal_of site written) s frames =
     wrote s site.view (decimal_fraction_bytes (net_exponent written) (mantissa written)) frames
+made (document_of site d) s frames = record s { frames = frames }
 
 -- the state that is made of the open containers, unless the call is refused
 abbrev pub where_taken : (List Open → CborState) → Result (List Open) SerdeError → Result CborState SerdeError
@@ -61,7 +62,7 @@ where_taken make (Err e) = Err e
 
 -- an instant has to be one of whole seconds
 abbrev pub is_writable : Event → Bool
-is_writable (scalar_of site x) = cbor_holds site.place.time x
+is_writable (scalar_of site x) = cbor_holds.scalar site.place.time x
 is_writable _ = true
 
 -- a big number or its mantissa has to be one of 128 bits; the exponent isn't tested, as the text that a decimal keeps
@@ -77,11 +78,24 @@ where_in_width true made_of = made_of
 where_in_width false (Ok s) = Err TooWide
 where_in_width false (Err e) = Err e
 
+-- no document is written
+abbrev pub is_supported : Event → Bool
+is_supported (document_of site d) = cbor_holds.documents
+is_supported _ = true
+
+-- what is made, unless CBOR has no such call
+abbrev pub where_supported : Bool → Result CborState SerdeError → Result CborState SerdeError
+where_supported true made_of = made_of
+where_supported false (Ok s) = Err Unsupported
+where_supported false (Err e) = Err e
+
 -- what is made, unless CBOR can't write it
 abbrev pub where_writable : Bool → Result CborState SerdeError → Result CborState SerdeError
 where_writable can made_of = if can then made_of else Err Unwritable
 
 -- a call is refused where no serializer takes it or its instant isn't one of whole seconds, and then where its number is too
--- wide
+-- wide or where it is that of a document
 abbrev pub cbor_after : Writer CborState
-cbor_after e s = where_in_width (is_in_width e) (where_writable (is_writable e) (where_taken (made e s) (open_after e s.frames)))
+cbor_after e s =
+    where_supported (is_supported e)
+    (where_in_width (is_in_width e) (where_writable (is_writable e) (where_taken (made e s) (open_after e s.frames))))

@@ -5,13 +5,14 @@ ghost use Rattle.smithy_schema.specs.Site.{site_of, kind_at};
 ghost use Rattle.smithy_cbor_codec.specs.Cursor.{inside_of, missing_frame};
 ghost use Rattle.smithy_wire.specs.Walking.{within_of, frame_of};
 
+use crate::documents::document_refusal;
 use crate::instants::instant_at;
 use crate::members::{Next, next_in_map, next_present, step_to};
 use crate::numbers::{big_decimal_at, big_integer_at};
 use crate::places::{EntryOrEnd, array_at, entry_or_end, is_null_at, map_at, may_leave, null_end};
 use crate::values::{blob_at, boolean_at, long_at, skipped_end, string_at};
 use smithy_schema::{Schema, SerdeError, ShapeDeserializer, ShapeType, Step};
-use smithy_types::{BigDecimal, BigInteger, Blob, DateTime};
+use smithy_types::{BigDecimal, BigInteger, Blob, DateTime, Document};
 use smithy_wire::{Frame, Mark, Walk, Within, byte_found, integer_found, short_found};
 use std::alloc::Global;
 
@@ -142,11 +143,11 @@ impl<'a> CborDeserializer<'a> {
 }
 
 impl ShapeDeserializer for CborDeserializer<'_> {
-    ghost use Rattle.std.specs.Prelude.{◌≡◌, ℕ, OnOk, IfOk, IsErr, IsErrOf, true, false, refl};
-    ghost use Rattle.smithy_schema.specs.Reading.{depth, in_structure, passed_to, null_is_due, Conducts, Passes, MatchStep, CannotGoOn, RefusesNoScalar, ReadsScalar, AnswersUncarried, IsRefused, IsInvalid, IsNoAnswer, NullsNot, SkipsNot, ReachesDepth};
+    ghost use Rattle.std.specs.Prelude.{◌≡◌, ℕ, OnOk, IfOk, IsOk, IsErr, IsErrOf, true, false, refl};
+    ghost use Rattle.smithy_schema.specs.Reading.{depth, in_structure, passed_to, null_is_due, Conducts, Passes, MatchStep, CannotGoOn, RefusesNoScalar, ReadsScalar, ReadsDocument, AnswersUncarried, IsRefused, IsInvalid, IsNoAnswer, NullsNot, SkipsNot, ReachesDepth};
     ghost use Rattle.smithy_schema.specs.Table.{HasMembers};
     ghost use Rattle.smithy_schema.specs.Site.{site_of, kind_at};
-    ghost use Rattle.smithy_schema.specs.declared.error.SerdeError.TheVariants.{NoMemory, TooDeep};
+    ghost use Rattle.smithy_schema.specs.declared.error.SerdeError.TheVariants.{NoMemory, NotCarried, TooDeep};
     ghost use Rattle.smithy_schema.specs.declared.shape_type.Scalar.TheVariants as scalars;
     ghost use Rattle.smithy_schema.specs.Value.{instant};
     ghost use Rattle.smithy_cbor_codec.specs.Cursor.{cursor_of, reading_settings_of};
@@ -466,6 +467,24 @@ impl ShapeDeserializer for CborDeserializer<'_> {
         self.walk.ready()?;
         let found = instant_at(self.walk.input, self.walk.position, self.walk.depth());
         self.walk.take_result(found)
+    }
+
+    // CBOR carries no documents: wherever an item stands, none is carried.
+    fn read_document(&mut self, _schema: &Schema<'_>) -> Result<Document, SerdeError>
+        ensures same { reading_settings_of self.new ≡ reading_settings_of self.old }
+        ensures read { ReadsDocument (cbor_relations (keep_limits (reading_settings_of self.old))) (cbor_relations (without_limits (reading_settings_of self.old))) (Unit {0}) (reading_settings_of self.old).max_depth (cursor_of self.old) (cursor_of self.new) (site_of _schema.now) result }
+        ensures never { IsOk result → ⊥ }
+        ensures lies { IsErrOf result NotCarried → (e : ℕ) × (cbor_relations (reading_settings_of self.old)).skips (cursor_of self.old).input (depth (cursor_of self.old)) (cursor_of self.old).at e }
+        ensures nothing { IsInvalid result → (cursor_of self.old).due ≡ true → SkipsNot (cbor_relations (reading_settings_of self.old)) (cursor_of self.old) }
+    {
+        self.walk.ready()?;
+        let error = document_refusal(
+            self.alloc,
+            self.walk.input,
+            self.walk.position,
+            self.walk.depth(),
+        );
+        Err(self.walk.refuse(error))
     }
 }
 

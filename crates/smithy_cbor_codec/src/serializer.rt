@@ -12,7 +12,7 @@ ghost use Rattle.smithy_cbor_codec.specs.Writing.{CborState, fresh_state, key_in
 
 use smithy_cbor::{EncodeError, Encoder};
 use smithy_schema::{FinishSerializer, Schema, SerdeError, ShapeSerializer};
-use smithy_types::{BigDecimal, BigInteger, DateTime};
+use smithy_types::{BigDecimal, BigInteger, DateTime, Document};
 use std::alloc::{AllocError, Global};
 
 // A container that is open, and of a map what is due in it.
@@ -323,6 +323,21 @@ impl ShapeSerializer for CborSerializer {
         self.encoder.timestamp(value)?;
         self.failed = false;
         Ok(())
+    }
+
+    // CBOR has no documents. It takes no memory.
+    fn write_document(
+        &mut self,
+        _schema: &Schema<'_>,
+        _value: &Document,
+    ) -> Result<(), SerdeError> {
+        self.begin()?;
+        match self.stack.last() {
+            Some(Container::MapAtKey) => Err(SerdeError::Unwritable),
+            Some(Container::MapAtValue | Container::Structure | Container::List) | None => {
+                Err(SerdeError::Unsupported)
+            }
+        }
     }
 }
 

@@ -3,6 +3,7 @@ pub mod LiteralLemmas
 pub mod CharsLemmas
 pub mod LaneLemmas
 pub mod StringLemmas
+pub mod AsciiRunLemmas
 pub mod NumberLemmas
 pub mod NumberRestLemmas
 pub mod WholeLemmas
@@ -16,6 +17,7 @@ pub mod EscapeLemmas
 pub mod EscapingLemmas
 pub mod TextLemmas
 pub mod DecimalLemmas
+pub mod HeldNumberLemmas
 pub mod QuotedLemmas
 pub mod PlaceLemmas
 pub mod AppendingLemmas

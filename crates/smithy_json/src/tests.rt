@@ -1,5 +1,7 @@
 //! Single calls, as rows of a table.
 
+mod held_numbers;
+
 use crate::escape::{escape_string, push_escaped};
 use crate::escape_error::EscapeError;
 use crate::number_text::{read_long, scan_number};
@@ -17,7 +19,7 @@ struct StringRow {
     closing: Option<usize>,
 }
 
-const STRINGS: [StringRow; 12] = [
+const STRINGS: [StringRow; 15] = [
     StringRow {
         name: "the empty string",
         input: b"\"\"",
@@ -52,6 +54,21 @@ const STRINGS: [StringRow; 12] = [
         name: "a long run",
         input: b"\"0123456789012345678901234567890123456789\"",
         closing: Some(41),
+    },
+    StringRow {
+        name: "a character of two bytes behind a long run",
+        input: b"\"0123456789012345678901234567890123456789\xc3\xa9\\n\"",
+        closing: Some(45),
+    },
+    StringRow {
+        name: "half a character behind a long run",
+        input: b"\"0123456789012345678901234567890123456789\xc3\"",
+        closing: None,
+    },
+    StringRow {
+        name: "the first byte that is no ASCII",
+        input: b"\"\x7f\x80\"",
+        closing: None,
     },
     StringRow {
         name: "half a character",

@@ -51,23 +51,23 @@ HasCome (k ∷ ks) false entered i a p =
 
 module _ (i : List ℕ) (a : ℕ) where
   -- past a whole value
-  passed : (ks : List Bool) (p f : ℕ) (x : Json) → IsDueInside ks i a p → TreeLies 1 x i p f → HasCome ks false true i a f
+  pub passed : (ks : List Bool) (p f : ℕ) (x : Json) → IsDueInside ks i a p → TreeLies 1 x i p f → HasCome ks false true i a f
   passed [] p f x due lies = tt
   passed (k ∷ ks) p f x (q, b, count, r, outer, o, entries, begins) lies =
       (q, b, suc count, outer, o, (r, p, x, entries, begins, lies), refl)
 
   -- into a container
-  entered : (k : Bool) (ks : List Bool) (p b : ℕ) → IsDueInside ks i a p → Lies (IsByte (opening k)) i p b → HasCome (k ∷ ks) false false i a b
+  pub entered : (k : Bool) (ks : List Bool) (p b : ℕ) → IsDueInside ks i a p → Lies (IsByte (opening k)) i p b → HasCome (k ∷ ks) false false i a b
   entered k ks p b due o = (p, b, 0, due, o, refl, refl)
 
   -- to the value of an entry
-  gone_on : (k : Bool) (ks : List Bool) (some : Bool) (p c : ℕ) → HasCome (k ∷ ks) false some i a p → ValueBegins i p k some c
+  pub gone_on : (k : Bool) (ks : List Bool) (some : Bool) (p c : ℕ) → HasCome (k ∷ ks) false some i a p → ValueBegins i p k some c
       → IsDueInside (k ∷ ks) i a c
   gone_on k ks some p c (q, b, count, outer, o, entries, is) begins =
       (q, b, count, p, outer, o, entries, subst (λ y. ValueBegins i p k y c) is begins)
 
   -- out of a container
-  left : (k : Bool) (ks : List Bool) (some : Bool) (p n f : ℕ) → HasCome (k ∷ ks) false some i a p
+  pub left : (k : Bool) (ks : List Bool) (some : Bool) (p n f : ℕ) → HasCome (k ∷ ks) false some i a p
       → ClosesBy (closing k) i p n f → suc (length ks) ≤ n → HasCome ks false true i a f
   left k [] some p n f h closes deep = tt
   left k (j ∷ ks) some p n f (q, b, count, outer, o, entries, is) closes deep =

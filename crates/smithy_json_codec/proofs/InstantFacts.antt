@@ -1,5 +1,5 @@
 -- What a scalar is as an instant, which instants are written and how, by computing.
-use Rattle.std.proofs.Common.{◌≡◌, ℤ, [], ◌∷◌, map, true, false, Option, Some, None, Ok, Err, refl, pos, neg_ℤ, codes}
+use Rattle.std.proofs.Common.{◌≡◌, ℤ, [], ◌∷◌, map, true, false, Option, Some, None, Err, refl, pos, neg_ℤ, codes}
 use Rattle.std.specs.Char.{encode_utf8}
 use Rattle.smithy_schema.specs.declared.error.SerdeError.TheVariants.{Unwritable}
 use Rattle.smithy_schema.specs.declared.shape_type.Scalar.TheVariants as scalars
@@ -83,8 +83,8 @@ unfolding smithy_instants_on_literals
 written_at_places = refl
 
 -- the year 10000, and half a second
-pub tests : (map (λ time. can_write dated time (instant (pos 253_402_300_800_000_000_000))) (None ∷ Some EpochSeconds ∷ Some HttpDate ∷ []) ≡ false ∷ true ∷ false ∷ [])
-    × (map (λ time. json_holds dated time (instant (pos 500_000_000))) (None ∷ Some EpochSeconds ∷ Some HttpDate ∷ []) ≡ true ∷ true ∷ false ∷ [])
+pub tests : (map (λ time. (can_write dated).scalar time (instant (pos 253_402_300_800_000_000_000))) (None ∷ Some EpochSeconds ∷ Some HttpDate ∷ []) ≡ false ∷ true ∷ false ∷ [])
+    × (map (λ time. (json_holds dated).scalar time (instant (pos 500_000_000))) (None ∷ Some EpochSeconds ∷ Some HttpDate ∷ []) ≡ true ∷ true ∷ false ∷ [])
 unfolding smithy_instants_on_literals
 tests = (refl, refl)
 

@@ -1,5 +1,5 @@
 -- What JSON writes for an instant, and that it is read as the instant.
-use Rattle.std.proofs.Common.{◌≡◌, ◌<◌, ◌^◌, ℕ, suc, ℤ, pos, negsuc, List, [], ◌∷◌, ◌++◌, length, Bool, true, false, Option, Some, None, refl, sym, ◌∙◌, ap, subst, arith, cond, ◌⊎◌, inl, inr, append_assoc, decimal, IsUtf8}
+use Rattle.std.proofs.Common.{◌≡◌, ◌<◌, ◌^◌, ℕ, ℤ, List, [], ◌∷◌, ◌++◌, length, Bool, true, false, Option, Some, None, refl, sym, ◌∙◌, ap, arith, cond, ◌⊎◌, inl, inr, append_assoc, decimal, IsUtf8}
 use Rattle.std.specs.Prelude.{◌/◌, ◌%◌, nat_eq, unsigned_abs, is_some, option_map, option_and_then, unwrap_or}
 use Rattle.std.specs.Char.{is_ascii_digit, IsAsciiDigit}
 use Rattle.std.specs.Fmt.{sign_text}
@@ -17,14 +17,14 @@ use Rattle.smithy_instants.proofs.FractionTexts.{fraction_is}
 use Rattle.smithy_instants.proofs.ReadBack.{written_reads}
 use Rattle.smithy_schema.specs.declared.shape_type.TimestampFormat.{TimestampFormat}
 use Rattle.smithy_schema.specs.declared.shape_type.TimestampFormat.TheVariants.{EpochSeconds, DateTime, HttpDate}
-use Rattle.smithy_schema.specs.TimeForms.{format_of, form_writes, form_holds}
+use Rattle.smithy_schema.specs.TimeForms.{format_of, form_holds}
 use Rattle.smithy_schema.specs.Value.{instant, scalar_value}
 use Rattle.smithy_schema.proofs.InstantTexts.{instant_text_is_utf8}
 use Rattle.smithy_schema.proofs.TimeFormLemmas.{held_writes}
-use Rattle.smithy_json.specs.Ascii.{minus_sign, decimal_point}
+use Rattle.smithy_json.specs.Ascii.{minus_sign}
 use Rattle.smithy_json.specs.Escape.{escaped}
 use Rattle.smithy_json.specs.Unescape.{unescaped}
-use Rattle.smithy_json.specs.Grammar.{AreDigits, IsFrac, IsInt, IsNumber, IsValue}
+use Rattle.smithy_json.specs.Grammar.{IsFrac, IsInt, IsNumber, IsValue}
 use Rattle.smithy_json.proofs.DecimalLemmas.{decimal_is_int}
 use Rattle.smithy_json.proofs.QuotedLemmas.{quoted_is_string, unescaped_of_escaped}
 use Rattle.smithy_json_codec.specs.Scalar.{JsonScalar, a_number, a_string, tree_of, seconds_say, date_says, timestamp_says}

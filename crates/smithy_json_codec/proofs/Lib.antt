@@ -2,6 +2,7 @@ mod Examples
 mod StandardFacts
 mod MeaningFacts
 mod InstantFacts
+mod DocumentFacts
 mod StandingFacts
 mod WritingFacts
 mod EntryFacts
@@ -26,12 +27,22 @@ pub mod WritingLemmas
 pub mod InstantTexts
 pub mod WrittenLeaves
 pub mod WrittenPlaces
+pub mod DocumentTexts
+pub mod WrittenDocuments
 pub mod WrittenBody
 pub mod WrittenSpelling
 mod OpenersFacts
 pub mod OpenersLemmas
 pub mod SkipStepOpeners
 pub mod DeepestLemmas
+pub mod OpenDocumentLemmas
+pub mod DocumentWalk
+pub mod DocumentSteps
+pub mod DocumentVariants
+pub mod DocumentFrames
+pub mod DocumentScalars
+pub mod DocumentReads
+pub mod HeldNumbers
 pub mod ScalarReads
 pub mod NumberTexts
 pub mod InstantPlaces

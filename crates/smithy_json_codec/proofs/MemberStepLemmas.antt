@@ -1,13 +1,18 @@
 -- Where a structure or a union goes on to, as the contract of reading says it.
 use Rattle.std.proofs.Common.{◌≡◌, ◌≤◌, ◌<◌, ◌+◌, ℕ, zero, suc, length, drop, List, [], ◌∷◌, Bool, true, false, Some, None, refl, sym, ap, subst, ◌∙◌, arith}
 use Rattle.std.proofs.lemmas.Bool.Decides.{nat_tests}
-use Rattle.std.specs.Prelude.{◌&&◌, is_none, Option, option_and_then, option_map, slice_get, cond, nat_lt}
+use Rattle.std.specs.Prelude.{◌↔◌, ◌&&◌, not, is_none, IsTrue, Option, option_and_then, option_map, slice_get, cond, nat_lt}
 use Rattle.std.specs.List.{position_or_len}
+use Rattle.std.specs.Option.{option_map_or}
 use Rattle.smithy_schema.specs.declared.place.Place.{Place}
+use Rattle.smithy_schema.specs.declared.place.Target.{Target}
+use Rattle.smithy_schema.specs.declared.place.Target.TheVariants.{Simple, Document, Declared}
 use Rattle.smithy_schema.specs.declared.read.Step.{Step}
 use Rattle.smithy_schema.specs.declared.read.Step.TheVariants.{Member as ToMember, Unknown, End}
 use Rattle.smithy_schema.specs.declared.schema.Schema.{Schema}
-use Rattle.smithy_schema.specs.Table.{Table, Kind, structure_of, union_of, members_of, IsStructure, HasMembers}
+use Rattle.smithy_schema.specs.Table.{Table, Member, Kind, structure_of, union_of, members_of, member_place, kind_of, kind_of_target, is_document_target, is_document_place, IsDocument, IsStructure, HasMembers}
+use Rattle.smithy_schema.specs.Lemmas.Kinds.{document_place_is}
+use Rattle.smithy_schema.specs.Lemmas.Options.{same_some, made}
 use Rattle.smithy_schema.specs.Site.{Site, site_of, member_site, kind_at, site_of_member}
 use Rattle.smithy_schema.specs.Reading.{Cursor, depth, Steps, Leaves, MatchStep, CannotGoOn, passed_to, in_structure}
 use Rattle.smithy_json.specs.Tree.{nesting}
@@ -18,15 +23,15 @@ use Rattle.smithy_json_codec.specs.Settings.{Settings, kept, without_limits}
 use Rattle.smithy_json_codec.specs.Codec.{strict_settings}
 use Rattle.smithy_json_codec.specs.Meaning.{rules_of}
 use Rattle.smithy_json_codec.specs.Standing.{json_relations, FollowsInside}
-use Rattle.smithy_json_codec.specs.Private.PassedEntries.{type_name, StepsToMember, ClosesMembers, NoSkip, NoSkipWithin, NothingComes}
+use Rattle.smithy_json_codec.specs.Private.PassedEntries.{type_name, Passing, IsNoMark, StepsToMember, ClosesMembers, NoSkip, NoSkipWithin, NothingComes}
 use Rattle.smithy_json_codec.specs.Openers.{json_openers}
 use Rattle.smithy_json_codec.specs.Private.OpenersAtPlaces.{across_value}
-use Rattle.smithy_json_codec.specs.Private.MemberSteps.{EndsEmpty, StepsTo}
+use Rattle.smithy_json_codec.specs.Private.MemberSteps.{EndsEmpty, StepsTo, passing, passes_null, passes_marks}
 use Rattle.smithy_json_codec.specs.Private.Skipping.{SkipsTo}
 use Rattle.smithy_json_codec.proofs.DeserializerLemmas.{kept_shallow, shallow_kept}
 use Rattle.smithy_json_codec.proofs.ReaderLemmas.{steps_to_member, closes_members, members_are_stuck}
 use Rattle.smithy_json_codec.proofs.SkippedValues.{skips_are}
-use Rattle.smithy_wire.specs.Rules.{position_in, is_mark}
+use Rattle.smithy_wire.specs.Rules.{position_in, drops_null, is_mark}
 
 -- nothing is due, so that the cursor is as it is behind what was due
 pub undue : (c : Cursor) → c.due ≡ false → passed_to c c.at ≡ c
@@ -79,6 +84,64 @@ mark_is_unnamed o (structure_of members) h = unnamed (is_none (position_in (rule
 mark_is_unnamed o (union_of members) h = unnamed (is_none (position_in (rules_of o) (union_of members) (Some type_name)))
 mark_is_unnamed o _ h = absurd h
 
+-- a null is passed over exactly where it is dropped
+pub null_is_unkept : (o : Settings) (outer : Site) → HasMembers (kind_at outer) → (text : List ℕ)
+    → passes_null o.use_json_name outer text ≡ drops_null (rules_of o) (kind_at outer) (position_in (rules_of o) (kind_at outer) (Some text))
+null_is_unkept o outer has text = by (kind_at outer) has (position_in (rules_of o) (kind_at outer) (Some text))
+  where
+    by : (k : Kind) → HasMembers k → (n : Option ℕ) → not (option_map_or is_document_place (member_place (members_of k) n) false) ≡ drops_null (rules_of o) k n
+    by (structure_of members) h n = refl
+    by (union_of members) h n = refl
+    by _ h n = absurd h
+
+-- where the target says so, a document stands
+target_is_document : (t : Table) (target : Target) → is_document_target target ≡ true → IsDocument (kind_of_target t target)
+target_is_document t (Simple s) h = cc
+target_is_document t Document h = tt
+target_is_document t (Declared r) h = cc
+
+document_test : (t : Table) (p : Place) (b : Bool) → IsTrue b ↔ IsDocument (kind_of t p) → not b ≡ not (is_document_place p)
+document_test t p true h = ap not (sym (document_place_is t p (h.0 refl)))
+document_test t p false h = by (is_document_place p) refl
+  where
+    by : (test : Bool) → is_document_place p ≡ test → not false ≡ not (is_document_place p)
+    by true is = absurd (let clash : false ≡ true = h.1 (target_is_document t p.target is) in cc)
+    by false is = ap not (sym is)
+
+-- a null is passed over where its member is no document
+pub member_passes_null : (use_json_name : Bool) (outer : Site) (name : List ℕ) (s : Schema) (b : Bool)
+    → (n : ℕ) × (position_in (rules_of (strict_settings use_json_name)) (kind_at outer) (Some name) ≡ Some n) × (member_site outer n ≡ Some (site_of s))
+    → IsTrue b ↔ IsDocument (kind_at (site_of s)) → not b ≡ passes_null use_json_name outer name
+member_passes_null use_json_name outer name s b (n, position, site) test =
+    let members = members_of (kind_at outer) in
+    let m = made (site_of_member outer.table n) (slice_get members n) (site_of s) site in
+    let place : member_place members (Some n) ≡ Some m.0.place = ap (option_map (λ (x : Member). x.place)) m.1 in
+    let here : IsTrue b ↔ IsDocument (kind_of outer.table m.0.place) = subst (λ (x : Site). IsTrue b ↔ IsDocument (kind_at x)) (sym m.2) test in
+    document_test outer.table m.0.place b here
+    ∙ sym (ap (λ found. not (option_map_or is_document_place (member_place members found) false)) position
+    ∙ ap (λ found. not (option_map_or is_document_place found false)) place)
+
+pub unknown_passes_null : (use_json_name : Bool) (outer : Site) (name : List ℕ) → position_in (rules_of (strict_settings use_json_name)) (kind_at outer) (Some name) ≡ None
+    → true ≡ passes_null use_json_name outer name
+unknown_passes_null use_json_name outer name none =
+    sym (ap (λ found. not (option_map_or is_document_place (member_place (members_of (kind_at outer)) found) false)) none)
+
+-- so under a name that is a mark each is
+pub mark_passes_null : (use_json_name : Bool) (outer : Site) → passes_marks use_json_name outer ≡ true → passes_null use_json_name outer type_name ≡ true
+mark_passes_null use_json_name outer is = by (position_in (rules_of (strict_settings use_json_name)) (kind_at outer) (Some type_name)) refl
+  where
+    by : (found : Option ℕ) → position_in (rules_of (strict_settings use_json_name)) (kind_at outer) (Some type_name) ≡ found → passes_null use_json_name outer type_name ≡ true
+    by None none = sym (unknown_passes_null use_json_name outer type_name none)
+    by (Some n) named = absurd (let clash : false ≡ true = sym (ap is_none named) ∙ is in cc)
+
+-- so under a name whose null isn't passed over comes no mark
+pub no_mark_kept : (use_json_name : Bool) (outer : Site) (raw text : List ℕ) → unescaped raw ≡ Some text → passes_null use_json_name outer text ≡ false
+    → IsNoMark (passing use_json_name outer) raw
+no_mark_kept use_json_name outer raw text is stays marks mark =
+    let same = same_some text type_name (sym is ∙ mark) in
+    let clash : false ≡ true = sym stays ∙ ap (passes_null use_json_name outer) same ∙ mark_passes_null use_json_name outer marks in
+    cc
+
 -- ---- which settings pass over what
 
 -- under limits that are kept what is skipped is skipped within them, and under others whatever its depth
@@ -102,13 +165,13 @@ unskipped_lifted o input d c none e skips =
 
 -- ---- steps and ends
 
-module _ (o : Settings) (c new : Cursor) (at : ℕ) (outer : Site) (kind : HasMembers (kind_at outer)) (marks : Bool) (marked : marks ≡ is_mark (rules_of o) (kind_at outer) (Some type_name))
-    (greatest : ℕ) (skips : (b e : ℕ) → SkipsTo greatest (depth c) c.input b e → (json_relations o).skips c.input (depth c) b e) where
+module _ (o : Settings) (c new : Cursor) (at : ℕ) (outer : Site) (kind : HasMembers (kind_at outer)) (passing : Passing) (marked : passing.marks ≡ is_mark (rules_of o) (kind_at outer) (Some type_name))
+    (dropped : (text : List ℕ) → passing.nulls text ≡ drops_null (rules_of o) (kind_at outer) (position_in (rules_of o) (kind_at outer) (Some text))) (greatest : ℕ) (skips : (b e : ℕ) → SkipsTo greatest (depth c) c.input b e → (json_relations o).skips c.input (depth c) b e) where
   member_comes : (value : ℕ) (raw name : List ℕ) → c.inner.within ≡ in_structure → c.failed ≡ false
       → new ≡ gone_on_to c value (inside_of in_structure true) → unescaped raw ≡ Some name
-      → StepsToMember marks greatest (depth c) c.input at c.inner.mark.entered raw value → Steps (json_relations o) (passed_to c at) new outer.table outer.place (Some name)
+      → StepsToMember passing greatest (depth c) c.input at c.inner.mark.entered raw value → Steps (json_relations o) (passed_to c at) new outer.table outer.place (Some name)
   member_comes value raw name within sound is some s = rw is (record {
-    steps = steps_to_member o c.input outer.table outer.place kind marks marked greatest (depth c) skips s.0 at c.inner.mark s.1 s.2 raw name value
+    steps = steps_to_member o c.input outer.table outer.place kind passing marked dropped greatest (depth c) skips s.0 at c.inner.mark s.1 s.2 raw name value
         s.3 s.4 some s.5 s.6;
     input = refl;
     within = sym within;
@@ -120,7 +183,7 @@ module _ (o : Settings) (c new : Cursor) (at : ℕ) (outer : Site) (kind : HasMe
   -- the step to a member, or to an unknown entry
   pub steps_to : (value : ℕ) (raw name : List ℕ) (step : Step) → c.inner.within ≡ in_structure → c.failed ≡ false
       → new ≡ gone_on_to c value (inside_of in_structure true) → unescaped raw ≡ Some name
-      → StepsToMember marks greatest (depth c) c.input at c.inner.mark.entered raw value → StepsTo step o outer name → MatchStep step (json_relations o) (passed_to c at) new outer
+      → StepsToMember passing greatest (depth c) c.input at c.inner.mark.entered raw value → StepsTo step o outer name → MatchStep step (json_relations o) (passed_to c at) new outer
   steps_to value raw name (ToMember s) within sound is some steps leads =
       (name, leads.0, member_comes value raw name within sound is some steps, leads.1, leads.2)
   steps_to value raw name Unknown within sound is some steps leads =
@@ -128,18 +191,18 @@ module _ (o : Settings) (c new : Cursor) (at : ℕ) (outer : Site) (kind : HasMe
   steps_to value raw name End within sound is some steps leads = absurd leads
 
   -- the bracket ends it
-  pub bracket_closes : (e : ℕ) → ClosesMembers marks greatest (depth c) c.input at c.inner.mark.entered e × FollowsInside (depth c) (drop e c.input)
+  pub bracket_closes : (e : ℕ) → ClosesMembers passing greatest (depth c) c.input at c.inner.mark.entered e × FollowsInside (depth c) (drop e c.input)
       → (json_relations o).closes c.input outer.table outer.place (depth c) at c.inner.mark e
   bracket_closes e h =
       let s = h.0 in
-      closes_members o c.input outer.table outer.place kind marks marked greatest (depth c) skips s.0 at c.inner.mark s.1 s.2 e s.3 s.4 h.1
+      closes_members o c.input outer.table outer.place kind passing marked dropped greatest (depth c) skips s.0 at c.inner.mark s.1 s.2 e s.3 s.4 h.1
 
   -- neither a member nor the end comes
   pub cannot_step : (Stays : ℕ → Type 0) → ((b : ℕ) → Stays b → (e : ℕ) → (json_relations o).skips c.input (depth c) b e → ⊥)
-      → NothingComes Stays marks greatest (depth c) c.input at c.inner.mark.entered → (IsStructure (kind_at outer) → EndsEmpty c → ⊥)
+      → NothingComes Stays passing greatest (depth c) c.input at c.inner.mark.entered → (IsStructure (kind_at outer) → EndsEmpty c → ⊥)
       → CannotGoOn (json_relations o) (passed_to c at) outer.table outer.place
   cannot_step Stays stays h full =
-      members_are_stuck o c.input outer.table outer.place kind marks marked greatest (depth c) skips Stays stays h.count at c.inner.mark h.place h.after h.passes
+      members_are_stuck o c.input outer.table outer.place kind passing marked dropped greatest (depth c) skips Stays stays h.count at c.inner.mark h.place h.after h.passes
       h.missing (λ structure' at_end empty inside. full structure' (at_end, empty, inside))
 
 -- the structure or union ends, in its bracket or in an empty input

@@ -1,5 +1,6 @@
 -- What comes behind entries that are passed over.
-use Rattle.std.proofs.Common.{◌≡◌, ◌<◌, ◌≤◌, ◌+◌, ℕ, zero, suc, length, List, drop, Bool, true, Some, refl, arith, inl, inr}
+use Rattle.std.proofs.Common.{◌≡◌, ◌<◌, ◌≤◌, ◌+◌, ℕ, zero, suc, length, List, drop, Bool, true, false, Some, refl, sym, ◌∙◌, ap, arith, inl, inr}
+use Rattle.smithy_schema.specs.Lemmas.Options.{same_some}
 use Rattle.smithy_json_codec.specs.declared.members.Next.{Next}
 use Rattle.smithy_json_codec.specs.declared.members.Next.TheVariants.{Member, End}
 use Rattle.smithy_json.specs.Tree.{null}
@@ -10,22 +11,22 @@ use Rattle.smithy_json_codec.specs.Standing.{Names, TreeLies}
 use Rattle.smithy_json_codec.specs.Private.NamePlaces.{names_ahead}
 use Rattle.smithy_json_codec.specs.Private.OpenersAtPlaces.{across_value, across_name}
 use Rattle.smithy_json_codec.specs.Private.Skipping.{SkipsTo}
-use Rattle.smithy_json_codec.specs.Private.PassedEntries.{type_name, IsPassed, Passes, PassesTo, StepsToMember, ClosesMembers, IsKept, IsNext, EntryMissing, NothingComes}
+use Rattle.smithy_json_codec.specs.Private.PassedEntries.{type_name, Passing, NoNull, IsPassed, Passes, PassesTo, StepsToMember, ClosesMembers, IsKept, IsNext, EntryMissing, NothingComes}
 
-module _ (marks : Bool) (greatest depth : ℕ) (input : List ℕ) where
+module _ (passing : Passing) (greatest depth : ℕ) (input : List ℕ) where
   -- one more at the end
-  passes_one : (k : ℕ) (b : ℕ) (m : Bool) (c : ℕ) (n : Bool) (raw : List ℕ) (d e : ℕ) → Passes marks greatest depth k input b m c n → Names n input c raw d
-      → IsPassed marks greatest depth input raw d e → Passes marks greatest depth (suc k) input b m e true
+  passes_one : (k : ℕ) (b : ℕ) (m : Bool) (c : ℕ) (n : Bool) (raw : List ℕ) (d e : ℕ) → Passes passing greatest depth k input b m c n → Names n input c raw d
+      → IsPassed passing greatest depth input raw d e → Passes passing greatest depth (suc k) input b m e true
   passes_one zero b m c n raw d e h k l = (raw, d, e, rw (h.0, h.1) k, l, (refl, refl))
   passes_one (suc j) b m c n raw d e h k l = (h.0, h.1, h.2, h.3, h.4, passes_one j h.2 true c n raw d e h.5 k l)
 
   -- the value of an entry lies ahead, and as many containers open from its end on at most as from its start on
-  passed_ahead : (raw : List ℕ) (c e : ℕ) → IsPassed marks greatest depth input raw c e → (c ≤ e) × (json_openers (drop e input) ≤ json_openers (drop c input))
+  passed_ahead : (raw : List ℕ) (c e : ℕ) → IsPassed passing greatest depth input raw c e → (c ≤ e) × (json_openers (drop e input) ≤ json_openers (drop c input))
   passed_ahead raw c e (inl null_value) = (null_value.0.0.0, across_value input null c e null_value.0.0)
   passed_ahead raw c e (inr mark) = (mark.2.lies.0.0, across_value input mark.2.tree c e mark.2.lies.0)
 
   -- and so do entries that are passed over
-  pub passes_ahead : (k : ℕ) (b : ℕ) (m : Bool) (c : ℕ) (n : Bool) → Passes marks greatest depth k input b m c n
+  pub passes_ahead : (k : ℕ) (b : ℕ) (m : Bool) (c : ℕ) (n : Bool) → Passes passing greatest depth k input b m c n
       → (b ≤ c) × (json_openers (drop c input) ≤ json_openers (drop b input))
   passes_ahead zero b m c n h = (omega (arith, h.0), rw h.0 (omega arith))
   passes_ahead (suc k) b m c n h =
@@ -34,26 +35,34 @@ module _ (marks : Bool) (greatest depth : ℕ) (input : List ℕ) where
       (omega (arith, names_ahead input m b h.0 h.1 h.3, value.0, rest.0), omega (arith, across_name input m b h.0 h.1 h.3, value.1, rest.1))
 
   -- an entry that is passed over ends further on, in the input
-  passed_end : (raw : List ℕ) (c e : ℕ) → IsPassed marks greatest depth input raw c e → e ≤ length input
+  passed_end : (raw : List ℕ) (c e : ℕ) → IsPassed passing greatest depth input raw c e → e ≤ length input
   passed_end raw c e (inl null_value) = null_value.0.0.1
   passed_end raw c e (inr mark) = mark.2.lies.0.1
 
-  pub passed_further : (b : ℕ) (m : Bool) (e : ℕ) → PassesTo marks greatest depth input b m e → (b < e) × (e ≤ length input)
+  pub passed_further : (b : ℕ) (m : Bool) (e : ℕ) → PassesTo passing greatest depth input b m e → (b < e) × (e ≤ length input)
   passed_further b m e h =
       (omega (arith, names_ahead input m b h.raw h.value h.names, (passed_ahead h.raw h.value e h.passed).0), passed_end h.raw h.value e h.passed)
 
   -- ---- one entry, by its name and its value's place
 
   module _ (at : ℕ) (entered : Bool) (raw : List ℕ) (value : ℕ) (names : Names entered input at raw value) where
-    pub null_passes : (text : List ℕ) → unescaped raw ≡ Some text → (e : ℕ) → TreeLies 1 null input value e → PassesTo marks greatest depth input at entered e
-    null_passes text is e lies = record { raw = raw; value = value; names = names; passed = inl (lies, (text, is)) }
+    pub null_passes : (text : List ℕ) → unescaped raw ≡ Some text → passing.nulls text ≡ true → (e : ℕ) → TreeLies 1 null input value e
+        → PassesTo passing greatest depth input at entered e
+    null_passes text is passes e lies = record { raw = raw; value = value; names = names; passed = inl (lies, (text, is, passes)) }
+
+    -- a null under another name stays
+    pub null_kept : (text : List ℕ) → unescaped raw ≡ Some text → passing.nulls text ≡ false → NoNull passing input raw value
+    null_kept text is stays e lies (other, same, passes) =
+        let one = same_some text other (sym is ∙ same) in
+        let clash : true ≡ false = sym passes ∙ (ap passing.nulls (sym one) ∙ stays) in
+        cc
 
     -- a mark is passed over where its value may be skipped, and stays where it may not
-    module _ (passes_marks : marks ≡ true) (is : unescaped raw ≡ Some type_name) where
-      pub mark_passes : (e : ℕ) → SkipsTo greatest depth input value e → PassesTo marks greatest depth input at entered e
+    module _ (passes_marks : passing.marks ≡ true) (is : unescaped raw ≡ Some type_name) where
+      pub mark_passes : (e : ℕ) → SkipsTo greatest depth input value e → PassesTo passing greatest depth input at entered e
       mark_passes e skips = record { raw = raw; value = value; names = names; passed = inr (passes_marks, is, skips) }
 
-      pub mark_stays : ((e : ℕ) → TreeLies 1 null input value e → ⊥) → (Stays : ℕ → Type 0) → Stays value → EntryMissing Stays marks depth input at entered
+      pub mark_stays : NoNull passing input raw value → (Stays : ℕ → Type 0) → Stays value → EntryMissing Stays passing depth input at entered
       mark_stays no_null Stays stays = inr (inr (record {
         raw = raw;
         value = value;
@@ -72,27 +81,27 @@ module _ (marks : Bool) (greatest depth : ℕ) (input : List ℕ) where
 
   -- ---- the place of a member's value, and of an end
 
-  pub value_place : (b : ℕ) (m : Bool) (raw : List ℕ) (c : ℕ) → StepsToMember marks greatest depth input b m raw c → (b ≤ c) × (c ≤ length input)
+  pub value_place : (b : ℕ) (m : Bool) (raw : List ℕ) (c : ℕ) → StepsToMember passing greatest depth input b m raw c → (b ≤ c) × (c ≤ length input)
   value_place b m raw c s =
       let ahead = passes_ahead s.0 b m s.1 s.2 s.3 in
       let further = names_ahead input s.2 s.1 raw c s.4 in
       (omega (arith, ahead.0, further), s.4.2.1)
 
-  pub end_place : (b : ℕ) (m : Bool) (e : ℕ) → ClosesMembers marks greatest depth input b m e → (b ≤ e) × (e ≤ length input)
+  pub end_place : (b : ℕ) (m : Bool) (e : ℕ) → ClosesMembers passing greatest depth input b m e → (b ≤ e) × (e ≤ length input)
   end_place b m e s =
       let ahead = passes_ahead s.0 b m s.1 s.2 s.3 in
       (omega (arith, ahead.0, s.4.0), s.4.1)
 
-  module _ (at : ℕ) (entered : Bool) (count place : ℕ) (after : Bool) (passes : Passes marks greatest depth count input at entered place after) where
+  module _ (at : ℕ) (entered : Bool) (count place : ℕ) (after : Bool) (passes : Passes passing greatest depth count input at entered place after) where
     -- one more is passed over
-    pub passed : (e : ℕ) → PassesTo marks greatest depth input place after e → (count : ℕ) × Passes marks greatest depth count input at entered e true
+    pub passed : (e : ℕ) → PassesTo passing greatest depth input place after e → (count : ℕ) × Passes passing greatest depth count input at entered e true
     passed e h = (suc count, passes_one count at entered place after h.raw h.value e passes h.names h.passed)
 
-    pub kept : (next : Next) → IsKept marks depth input place after next → IsNext marks greatest depth input at entered next
+    pub kept : (next : Next) → IsKept passing depth input place after next → IsNext passing greatest depth input at entered next
     kept (Member text c) h = (h.0, h.1, (count, place, after, passes, h.2, h.3, h.4))
     kept (End e) h = ((count, place, after, passes, h.0), h.1)
 
-    pub nothing_kept : (Stays : ℕ → Type 0) → EntryMissing Stays marks depth input place after → NothingComes Stays marks greatest depth input at entered
+    pub nothing_kept : (Stays : ℕ → Type 0) → EntryMissing Stays passing depth input place after → NothingComes Stays passing greatest depth input at entered
     nothing_kept Stays h = record { count = count; place = place; after = after; passes = passes; missing = h }
 
     pub too_deep_from : (Opens : ℕ → Type 0) → (q : ℕ) × (place ≤ q) × Opens q → (q : ℕ) × (at ≤ q) × Opens q

@@ -4,24 +4,24 @@ use Rattle.std.specs.Str.{bytes_eq}
 use Rattle.std.proofs.lemmas.Slice.Eq.{bytes_eq-Decides}
 use Rattle.std.specs.Option.{option_and_then}
 use Rattle.smithy_schema.specs.declared.place.Place.{Place}
-use Rattle.smithy_schema.specs.Table.{Table, Kind, structure_of, kind_of, IsList, IsMap, IsStructure, HasMembers}
+use Rattle.smithy_schema.specs.Table.{Table, Kind, structure_of, union_of, kind_of, IsList, IsMap, IsStructure, HasMembers}
 use Rattle.smithy_schema.specs.Reading.{Mark}
 use Rattle.smithy_schema.specs.Lemmas.Kinds.{no_list_and_structure}
 use Rattle.smithy_json.specs.Ascii.{begin_array, end_array, begin_object, end_object}
 use Rattle.smithy_json.specs.Tree.{null}
 use Rattle.smithy_json.specs.Unescape.{unescaped}
-use Rattle.smithy_json_codec.specs.Scalar.{a_string, text_of}
+use Rattle.smithy_json_codec.specs.Scalar.{JsonScalar, a_string, text_of}
 use Rattle.smithy_json_codec.specs.Settings.{Settings}
 use Rattle.smithy_json_codec.specs.Meaning.{rules_of}
 use Rattle.smithy_json_codec.specs.Standing.{Lies, FollowsInside, TreeLies, IsByte, IsSeparated, Names, fresh_mark, end_mark, entry_mark, json_frames, json_relations}
-use Rattle.smithy_json_codec.specs.Private.PassedEntries.{type_name, IsNoMark, IsPassed, Passes, EntryMissing}
+use Rattle.smithy_json_codec.specs.Private.PassedEntries.{type_name, Passing, NoNull, IsNoMark, IsPassed, Passes, EntryMissing}
 use Rattle.smithy_json_codec.specs.Private.Skipping.{SkipsTo}
 use Rattle.smithy_json_codec.specs.Private.Wire.{json_is_wire}
 use Rattle.smithy_wire.specs.Node.{as_array, as_object}
 use Rattle.smithy_wire.specs.Frames.{IsTold, Drops, DropsAll}
-use Rattle.smithy_wire.specs.Rules.{is_mark, key_text}
+use Rattle.smithy_wire.specs.Rules.{Rules, position_in, drops_null, is_mark, key_text}
 use Rattle.smithy_wire.specs.Readers.{opens_not, cannot_go_on}
-use Rattle.smithy_wire.specs.Entries.{other_is_no_mark, drop_is, mark_is_dropped, null_is_dropped, step_to_entry, close_at_end, list_drops_nothing, step_to_element, map_drops_nothing, step_to_key}
+use Rattle.smithy_wire.specs.Entries.{other_is_no_mark, member_is_no_mark, drop_is, mark_is_dropped, null_is_dropped, step_to_entry, close_at_end, list_drops_nothing, step_to_element, map_drops_nothing, step_to_key}
 use Rattle.smithy_wire.specs.Lemmas.Places.{members_are_object, list_is_array, map_is_object}
 -- what stands behind white space, in Private: a byte, a name and a value are determined, with their ends
 pub use Rattle.smithy_json_codec.specs.Private.Lexical.{past_ws, ws_boundary, value_begins}
@@ -93,6 +93,19 @@ module _ (o : Settings) (i : List ℕ) (t : Table) (p : Place) (kind : IsMap (ki
 
 -- ---- a structure or a union at a place
 
+-- under a mark a null is dropped, as no member has this name
+unnamed_drops_null : (r : Rules JsonScalar) (k : Kind) (position : Option ℕ) → HasMembers k → position ≡ None → drops_null r k position ≡ true
+unnamed_drops_null r (structure_of members) position h is = rw is refl
+unnamed_drops_null r (union_of members) position h is = rw is refl
+unnamed_drops_null r _ position h is = absurd h
+
+mark_drops_null : (r : Rules JsonScalar) (k : Kind) (text : List ℕ) → HasMembers k → is_mark r k (Some text) ≡ true → drops_null r k (position_in r k (Some text)) ≡ true
+mark_drops_null r k text h is = by (position_in r k (Some text)) refl
+  where
+    by : (position : Option ℕ) → position_in r k (Some text) ≡ position → drops_null r k (position_in r k (Some text)) ≡ true
+    by None same = unnamed_drops_null r k (position_in r k (Some text)) h same
+    by (Some n) same = absurd (let clash : true ≡ false = sym is ∙ member_is_no_mark r k text n same in cc)
+
 module _ (o : Settings) (i : List ℕ) (t : Table) (p : Place) (kind : HasMembers (kind_of t p)) where
   -- with its bracket it opens
   pub opens_members : (d a b : ℕ) → Lies (IsByte begin_object) i a b → (json_relations o).opens i t p d a b fresh_mark
@@ -105,19 +118,21 @@ module _ (o : Settings) (i : List ℕ) (t : Table) (p : Place) (kind : HasMember
       opens_not json_frames (rules_of o) i t p json_is_wire as_object (members_are_object (kind_of t p) kind) d a (λ b m h. none b h.1)
       (λ structure' over. full structure' over.0)
 
-  -- Marks are passed over exactly where there are some, and what is passed over inside so many containers is skipped.
-  module _ (marks : Bool) (marked : marks ≡ is_mark (rules_of o) (kind_of t p) (Some type_name)) (greatest d : ℕ)
+  -- Marks and nulls are passed over exactly where they are dropped, and what is passed over inside so many containers is skipped.
+  module _ (passing : Passing) (marked : passing.marks ≡ is_mark (rules_of o) (kind_of t p) (Some type_name))
+      (dropped : (text : List ℕ) → passing.nulls text ≡ drops_null (rules_of o) (kind_of t p) (position_in (rules_of o) (kind_of t p) (Some text))) (greatest d : ℕ)
       (skips : (c e : ℕ) → SkipsTo greatest d i c e → (json_relations o).skips i d c e) where
-    one_passes : (b : ℕ) (m : Mark) (raw : List ℕ) (c e : ℕ) → Names m.entered i b raw c → IsPassed marks greatest d i raw c e
+    one_passes : (b : ℕ) (m : Mark) (raw : List ℕ) (c e : ℕ) → Names m.entered i b raw c → IsPassed passing greatest d i raw c e
         → Drops json_frames (rules_of o) (kind_of t p) as_object i d b m e entry_mark
     one_passes b m raw c e names (inl (null_lies, text)) =
-        null_is_dropped json_frames (rules_of o) i t p d (λ q. refl) kind b m (Some (a_string raw)) c entry_mark e (raw, refl, refl, names) (rw text.1 tt) null_lies
+        null_is_dropped json_frames (rules_of o) i t p d kind b m (Some (a_string raw)) c entry_mark e (raw, refl, refl, names) (rw text.1 tt)
+        (rw text.1 (sym (dropped text.0) ∙ text.2)) null_lies
     one_passes b m raw c e names (inr (passes, is, skipped)) =
         mark_is_dropped json_frames (rules_of o) i t p d as_object b m (Some (a_string raw)) c entry_mark e (raw, refl, refl, names) (rw is tt)
         (rw is (sym marked ∙ passes)) (skips c e skipped)
 
     -- what is passed over is dropped
-    drops_all : (count b : ℕ) (m : Mark) (e : ℕ) (after : Bool) → Passes marks greatest d count i b m.entered e after
+    drops_all : (count b : ℕ) (m : Mark) (e : ℕ) (after : Bool) → Passes passing greatest d count i b m.entered e after
         → (n : Mark) × (n.entered ≡ after) × DropsAll json_frames (rules_of o) (kind_of t p) as_object count i d b m e n
     drops_all zero b m e after h = (m, h.1, (h.0, refl))
     drops_all (suc count) b m e after h =
@@ -125,35 +140,44 @@ module _ (o : Settings) (i : List ℕ) (t : Table) (p : Place) (kind : HasMember
         (rest.0, rest.1, (h.2, entry_mark, one_passes b m h.0 h.1 h.2 h.3 h.4, rest.2))
 
     -- a name that is no mark as it is read is none
-    no_mark : (raw s : List ℕ) → unescaped raw ≡ Some s → IsNoMark marks raw → is_mark (rules_of o) (kind_of t p) (Some s) ≡ false
-    no_mark raw s is other = by (bytes_eq s type_name) refl marks refl
+    no_mark : (raw s : List ℕ) → unescaped raw ≡ Some s → IsNoMark passing raw → is_mark (rules_of o) (kind_of t p) (Some s) ≡ false
+    no_mark raw s is other = by (bytes_eq s type_name) refl passing.marks refl
       where
-        by : (same : Bool) → bytes_eq s type_name ≡ same → (passes : Bool) → marks ≡ passes → is_mark (rules_of o) (kind_of t p) (Some s) ≡ false
+        by : (same : Bool) → bytes_eq s type_name ≡ same → (passes : Bool) → passing.marks ≡ passes → is_mark (rules_of o) (kind_of t p) (Some s) ≡ false
         by false differ passes may = other_is_no_mark (rules_of o) (kind_of t p) s differ
         by true same true may = absurd (other may (is ∙ ap Some ((bytes_eq-Decides s type_name).0 same)))
         by true same false may =
             ap (λ x. is_mark (rules_of o) (kind_of t p) (Some x)) ((bytes_eq-Decides s type_name).0 same) ∙ sym marked ∙ may
 
-    -- behind what is passed over comes a name with a text, which is no mark, and its value isn't null
-    pub steps_to_member : (k b : ℕ) (m : Mark) (at : ℕ) (after : Bool) (raw s : List ℕ) (c : ℕ) → Passes marks greatest d k i b m.entered at after
-        → Names after i at raw c → unescaped raw ≡ Some s → IsNoMark marks raw → ((e : ℕ) → TreeLies 1 null i c e → ⊥)
+    -- under a name whose null isn't passed over none is dropped
+    null_stays : (raw s : List ℕ) (c : ℕ) → unescaped raw ≡ Some s → NoNull passing i raw c → (e : ℕ) → TreeLies 1 null i c e
+        → drops_null (rules_of o) (kind_of t p) (position_in (rules_of o) (kind_of t p) (Some s)) ≡ false
+    null_stays raw s c is real e lies = by (passing.nulls s) refl
+      where
+        by : (passes : Bool) → passing.nulls s ≡ passes → drops_null (rules_of o) (kind_of t p) (position_in (rules_of o) (kind_of t p) (Some s)) ≡ false
+        by true passes = absurd (real e lies (s, is, passes))
+        by false passes = sym (dropped s) ∙ passes
+
+    -- behind what is passed over comes a name with a text, which is no mark, and its value is no null that is passed over
+    pub steps_to_member : (k b : ℕ) (m : Mark) (at : ℕ) (after : Bool) (raw s : List ℕ) (c : ℕ) → Passes passing greatest d k i b m.entered at after
+        → Names after i at raw c → unescaped raw ≡ Some s → IsNoMark passing raw → NoNull passing i raw c
         → (json_relations o).steps i t p d b m (Some s) c entry_mark
     steps_to_member k b m at after raw s c passes names some other real =
         let passed = drops_all k b m at after passes in
-        step_to_entry json_frames (rules_of o) i t p d (λ q. refl) kind k b m at passed.0 (Some (a_string raw)) (Some s) c entry_mark passed.2
-        (raw, refl, refl, subst (λ entered. Names entered i at raw c) (sym passed.1) names) some tt (no_mark raw s some other) real
+        step_to_entry json_frames (rules_of o) i t p d kind k b m at passed.0 (Some (a_string raw)) (Some s) c entry_mark passed.2
+        (raw, refl, refl, subst (λ entered. Names entered i at raw c) (sym passed.1) names) some tt (no_mark raw s some other) (null_stays raw s c some real)
 
     -- behind what is passed over it ends
-    pub closes_members : (k b : ℕ) (m : Mark) (at : ℕ) (after : Bool) (e : ℕ) → Passes marks greatest d k i b m.entered at after → Lies (IsByte end_object) i at e
+    pub closes_members : (k b : ℕ) (m : Mark) (at : ℕ) (after : Bool) (e : ℕ) → Passes passing greatest d k i b m.entered at after → Lies (IsByte end_object) i at e
         → FollowsInside d (drop e i) → (json_relations o).closes i t p d b m e
     closes_members k b m at after e passes h follows =
         let passed = drops_all k b m at after passes in
-        close_at_end json_frames (rules_of o) i t p d (λ q. refl) kind k b m at passed.0 e passed.2 h follows
+        close_at_end json_frames (rules_of o) i t p d kind k b m at passed.0 e passed.2 h follows
 
     -- a mark stays only where its value can't be skipped
     module _ (Stays : ℕ → Type 0) (stays_unskipped : (c : ℕ) → Stays c → (e : ℕ) → (json_relations o).skips i d c e → ⊥) where
       -- where no entry is, no name with a text comes that is handed on
-      no_entry_told : (at : ℕ) (entered : Bool) → EntryMissing Stays marks d i at entered → (raw : List ℕ) (c : ℕ) → Names entered i at raw c
+      no_entry_told : (at : ℕ) (entered : Bool) → EntryMissing Stays passing d i at entered → (raw : List ℕ) (c : ℕ) → Names entered i at raw c
           → IsTold as_object (unescaped raw) → is_mark (rules_of o) (kind_of t p) (unescaped raw) ≡ false → ⊥
       no_entry_told at entered (inl (nameless, open_ended)) raw c names told unmarked = nameless raw c names
       no_entry_told at entered (inr (inl (other, e, name, wordless))) raw c names told unmarked =
@@ -165,7 +189,7 @@ module _ (o : Settings) (i : List ℕ) (t : Table) (p : Place) (kind : HasMember
           let clash : true ≡ false = sym mark.passes_marks ∙ marked ∙ sym (ap (is_mark (rules_of o) (kind_of t p)) text) ∙ unmarked in cc
 
       -- nor one that is dropped
-      no_entry_dropped : (at : ℕ) (j : Mark) → EntryMissing Stays marks d i at j.entered → (e : ℕ) (n : Mark)
+      no_entry_dropped : (at : ℕ) (j : Mark) → EntryMissing Stays passing d i at j.entered → (e : ℕ) (n : Mark)
           → Drops json_frames (rules_of o) (kind_of t p) as_object i d at j e n → ⊥
       no_entry_dropped at j (inl (nameless, open_ended)) e n drop = nameless drop.entry.0 drop.at drop.entry.3
       no_entry_dropped at j (inr (inl (other, f, name, wordless))) e n drop =
@@ -177,23 +201,25 @@ module _ (o : Settings) (i : List ℕ) (t : Table) (p : Place) (kind : HasMember
         where
           by : json_frames.null i d drop.at e ⊎ ((is_mark (rules_of o) (kind_of t p) (key_text (rules_of o) as_object drop.key) ≡ true) × (json_relations o).skips i d drop.at e)
               → drop.at ≡ mark.value → ⊥
-          by (inl null_lies) there = mark.no_null e (subst (λ c. TreeLies 1 null i c e) there null_lies)
+          by (inl null_lies) there =
+              mark.no_null e (subst (λ c. TreeLies 1 null i c e) there null_lies)
+              (type_name, mark.is_mark, dropped type_name ∙ mark_drops_null (rules_of o) (kind_of t p) type_name kind (sym marked ∙ mark.passes_marks))
           by (inr (is, skipped)) there = stays_unskipped mark.value mark.stays e (subst (λ c. (json_relations o).skips i d c e) there skipped)
 
       -- nor the end
-      no_entry_ends : (at : ℕ) (entered : Bool) → EntryMissing Stays marks d i at entered → (e : ℕ) → Lies (IsByte end_object) i at e → FollowsInside d (drop e i) → ⊥
+      no_entry_ends : (at : ℕ) (entered : Bool) → EntryMissing Stays passing d i at entered → (e : ℕ) → Lies (IsByte end_object) i at e → FollowsInside d (drop e i) → ⊥
       no_entry_ends at entered (inl (nameless, open_ended)) e lies follows = open_ended e (lies, follows)
       no_entry_ends at entered (inr (inl (other, c, name, wordless))) e lies follows = names_or_end i entered at other c e name lies
       no_entry_ends at entered (inr (inr mark)) e lies follows = names_or_end i entered at mark.raw mark.value e mark.names lies
 
       -- where behind what is passed over neither such a name nor the end comes, it can't go on
-      pub members_are_stuck : (k b : ℕ) (m : Mark) (at : ℕ) (after : Bool) → Passes marks greatest d k i b m.entered at after → EntryMissing Stays marks d i at after
+      pub members_are_stuck : (k b : ℕ) (m : Mark) (at : ℕ) (after : Bool) → Passes passing greatest d k i b m.entered at after → EntryMissing Stays passing d i at after
           → (IsStructure (kind_of t p) → m ≡ end_mark → i ≡ [] → 0 < d → ⊥)
           → ((key : Option (List ℕ)) (c : ℕ) (n : Mark) → (json_relations o).steps i t p d b m key c n → ⊥)
           × ((e : ℕ) → (json_relations o).closes i t p d b m e → ⊥)
       members_are_stuck k b m at after passes missing full =
           let passed = drops_all k b m at after passes in
-          let stuck = subst (λ entered. EntryMissing Stays marks d i at entered) (sym passed.1) missing in
+          let stuck = subst (λ entered. EntryMissing Stays passing d i at entered) (sym passed.1) missing in
           cannot_go_on json_frames (rules_of o) i t p json_is_wire as_object (members_are_object (kind_of t p) kind) d k b m at passed.0 passed.2
           (λ key c n entry told unmarked stays. no_entry_told at passed.0.entered stuck entry.0 c entry.3
           (subst (λ k. IsTold as_object (option_and_then text_of k)) entry.1 told)

@@ -2,7 +2,7 @@
 use Rattle.std.proofs.Common.{◌≡◌, ◌↔◌, ℕ, zero, suc, length, List, [], drop, Some, refl, sym, ◌∙◌, ap, arith, inl, inr}
 use Rattle.std.proofs.lemmas.List.{drop_all}
 use Rattle.smithy_schema.specs.declared.place.Place.{Place}
-use Rattle.smithy_schema.specs.Table.{Table, Kind, structure_of, kind_of, IsStructure}
+use Rattle.smithy_schema.specs.Table.{Table, Kind, document, structure_of, kind_of, IsStructure}
 use Rattle.smithy_schema.specs.Value.{Value, structure, no_member_values}
 use Rattle.smithy_schema.specs.Reading.{IsContainer}
 use Rattle.smithy_schema.specs.Lemmas.Options.{same_some, chosen}
@@ -20,10 +20,10 @@ use Rattle.smithy_json_codec.specs.Private.ValuePlaces.{one_tree}
 use Rattle.smithy_json_codec.specs.Private.NodePlaces.{tree_lies, lies_tree, lies_full}
 use Rattle.smithy_wire.specs.Node.{Node, null_node, leaf, container, missing}
 use Rattle.smithy_wire.specs.Meaning.{missing_meaning, meaning}
-use Rattle.smithy_wire.specs.Frames.{Lies}
+use Rattle.smithy_wire.specs.Frames.{Lies, EndsAs}
 use Rattle.smithy_wire.specs.Wire.{no_value}
 use Rattle.smithy_wire.specs.Lemmas.Nodes.{sort_of}
-use Rattle.smithy_wire.specs.Lemmas.Places.{leaf_means_nothing}
+use Rattle.smithy_wire.specs.Lemmas.Places.{null_is_no_container, leaf_means_nothing}
 
 -- ---- texts
 
@@ -66,17 +66,23 @@ missing_is : (k : Kind) (v : Value) → missing_meaning k ≡ Some v → IsStruc
 missing_is (structure_of members) v h = (tt, sym (same_some (structure no_member_values) v h))
 missing_is _ v h = cc
 
+-- behind it comes only white space, as behind a document
+ends_alone : (k : Kind) (i : List ℕ) (e : ℕ) → IsWs (drop e i) → EndsAs json_frames k i 0 e
+ends_alone document i e h = h
+ends_alone _ i e h = tt
+
 -- what the input spells stands at its start
 pub spells_stands : (c : Settings) (t : Table) (p : Place) (i : List ℕ) (v : Value) → json_spells c t p i v
     → (e : ℕ) × (json_relations c).stands i t p 0 0 v e
-spells_stands c t p i v (inl h) = let l = text_lies i h.0 h.1 in (l.0, (node_of h.0, tree_lies 0 h.0 i 0 l.0 l.1, h.2))
+spells_stands c t p i v (inl h) = let l = text_lies i h.0 h.1 in (l.0, (node_of h.0, tree_lies 0 h.0 i 0 l.0 l.1, h.2, ends_alone (kind_of t p) i l.0 l.2))
 spells_stands c t p i v (inr h) =
-    (0, (missing, ((h.0, refl), refl), rw h.2 (missing_says (kind_of t p) h.1 ∙ ap Some (sym h.3))))
+    let means : meaning (rules_of c) t p 0 missing ≡ Some v = rw h.2 (missing_says (kind_of t p) h.1 ∙ ap Some (sym h.3)) in
+    (0, (missing, ((h.0, refl), refl), means, ends_alone (kind_of t p) i 0 (rw h.0 tt)))
 
 -- what stands at the start of the input, with only white space behind it, is spelled by it
 stands_alone : (c : Settings) (t : Table) (p : Place) (i : List ℕ) (v : Value) (e : ℕ)
     → ((x : Json) → TreeLies 0 x i 0 e → json_meaning c t p 0 x ≡ Some v → IsWs (drop e i)) → (json_relations c).stands i t p 0 0 v e → json_spells c t p i v
-stands_alone c t p i v e behind (y, lies, means) = of y lies means
+stands_alone c t p i v e behind (y, lies, means, ends) = of y lies means
   where
     there : (y : Node JsonScalar) → (sort_of y ≡ no_value → ⊥) → Lies json_frames i 0 y 0 e → meaning (rules_of c) t p 0 y ≡ Some v → json_spells c t p i v
     there y is lies means =
@@ -101,7 +107,7 @@ stands_whole c t p i v h =
 -- behind a container outside of all others comes only white space
 behind_container : (c : Settings) (t : Table) (p : Place) (i : List ℕ) (v : Value) (e : ℕ) (x : Json) → IsContainer (kind_of t p)
     → TreeLies 0 x i 0 e → json_meaning c t p 0 x ≡ Some v → IsWs (drop e i)
-behind_container c t p i v e null box lies means = cc
+behind_container c t p i v e null box lies means = absurd (null_is_no_container (rules_of c) t p 0 v box means)
 behind_container c t p i v e (boolean b) box lies means = absurd (leaf_means_nothing (rules_of c) t p 0 (a_boolean b) v box means)
 behind_container c t p i v e (number raw) box lies means = absurd (leaf_means_nothing (rules_of c) t p 0 (a_number raw) v box means)
 behind_container c t p i v e (string raw) box lies means = absurd (leaf_means_nothing (rules_of c) t p 0 (a_string raw) v box means)

@@ -11,10 +11,17 @@ use Rattle.smithy_instants.specs.Instant.{is_instant}
 use Rattle.smithy_instants.specs.Epoch.{epoch_nanos}
 use Rattle.smithy_texts.specs.Decimal.{integer_form, decimal_form}
 use Rattle.smithy_json.specs.Ascii.{quotation_mark}
+use Rattle.smithy_json.specs.HeldNumber.{number_of}
 use Rattle.smithy_json.specs.Tree.{number}
-use Rattle.smithy_json_codec.specs.Scalar.{JsonScalar, a_boolean, a_number, a_string, tree_of, number_text, big_number, number_says, seconds_say, timestamp_says, says}
-use Rattle.smithy_json_codec.specs.Standing.{TreeLies}
-use Rattle.smithy_json_codec.specs.Uncarried.{IsUncarriedJson}
+use Rattle.smithy_schema.specs.declared.place.Place.{Place}
+use Rattle.smithy_schema.specs.Table.{Table, document, kind_of}
+use Rattle.smithy_types.specs.declared.number.Number.{Number}
+use Rattle.smithy_wire.specs.Frames.{UncarriedAt}
+use Rattle.smithy_json_codec.specs.Scalar.{JsonScalar, a_boolean, a_number, a_string, tree_of, number_text, big_number, number_says, seconds_say, timestamp_says, says, held_says, document_says}
+use Rattle.smithy_json_codec.specs.Standing.{TreeLies, json_frames, json_relations}
+use Rattle.smithy_json_codec.specs.Meaning.{rules_of}
+use Rattle.smithy_json_codec.specs.Settings.{Settings}
+use Rattle.smithy_json_codec.specs.Uncarried.{IsUncarriedJson, HoldsOtherNumber}
 use Rattle.smithy_json_codec.specs.Wide.{IsWideJson}
 use Rattle.smithy_wire.specs.Rules.{means, no_meaning, wide, uncarried}
 use Rattle.smithy_wire.proofs.Bounds.{answer_not_wide, answer_is_carried, bounded_is_carried}
@@ -145,3 +152,39 @@ uncarried_slice s form x i a e lies h =
           is_number = front.4.1;
           no_nanos = none;
         }
+
+-- ---- in documents
+
+-- a scalar that no document carries is a number that none holds
+other_number : (x : JsonScalar) → document_says x ≡ uncarried → (raw : List ℕ) × (x ≡ a_number raw) × (number_of raw ≡ None)
+other_number (a_boolean b) h = cc
+other_number (a_number raw) h = (raw, refl, by (number_of raw) h)
+  where
+    by : (o : Option Number) → held_says o ≡ uncarried → o ≡ None
+    by None h = refl
+    by (Some n) h = cc
+other_number (a_string raw) h = absurd (answer_is_carried _ h)
+
+pub other_slice : (x : JsonScalar) (i : List ℕ) (a e : ℕ) → TreeLies 1 (tree_of x) i a e → document_says x ≡ uncarried → HoldsOtherNumber i
+other_slice x i a e lies h =
+    let (raw, is, none) = other_number x h in
+    number_there raw none (subst (λ y. TreeLies 1 (tree_of y) i a e) is lies)
+  where
+    number_there : (raw : List ℕ) → number_of raw ≡ None → TreeLies 1 (number raw) i a e → HoldsOtherNumber i
+    number_there raw none lies =
+        let front = lies.0.2 in
+        record {
+          before = take a i ++ front.0;
+          slice = raw;
+          behind = drop e i;
+          parts = number_parts i front.0 raw (drop e i) a (front.2 ∙ ap (λ s. front.0 ++ (s ++ drop e i)) front.4.0);
+          is_number = front.4.1;
+          not_held = none;
+        }
+
+-- so what isn't carried at a place of documents holds such a number
+pub uncarried_document : (c : Settings) (i : List ℕ) (t : Table) (p : Place) → kind_of t p ≡ document → (d a e : ℕ) → (json_relations c).uncarried i t p d a e → HoldsOtherNumber i
+uncarried_document c i t p kind d a e h = by (subst (λ k. UncarriedAt json_frames (rules_of c) k p.time i d a e) kind h)
+  where
+    by : UncarriedAt json_frames (rules_of c) document p.time i d a e → HoldsOtherNumber i
+    by (n, b, x, ahead, lies, says) = other_slice x i b e lies says

@@ -1,6 +1,8 @@
 -- The canonical texts of values over small tables.
 use Rattle.std.proofs.Common.{◌≡◌, [], ◌∷◌, ◌++◌, map, true, false, Some, refl, pos, neg_ℤ, ◌^◌, ◌-◌, codes, replicate}
 use Rattle.std.specs.Fmt.{digits}
+use Rattle.smithy_types.specs.Document as documents
+use Rattle.smithy_types.specs.Document.{no_documents, item, no_properties, property}
 use Rattle.smithy_schema.specs.Value as values
 use Rattle.smithy_schema.specs.Value.{null_element, no_values}
 use Rattle.smithy_json.specs.Ascii.{begin_array, end_array}
@@ -36,6 +38,18 @@ numbers = refl
 pub elements : written (lists_of_lists true) 1 (first_alone (values.list (values.value (values.list no_values) (values.value null_element (values.value (in_lists 1 (values.list no_values)) no_values)))))
     ≡ codes "{\"l\":[[],null,[[]]]}"
 elements = refl
+
+-- {"\"":[null,true,-2^63,2^64-1],"b":"\n"}: no property is left out, and names and texts are escaped
+pub free_values : written one_long 0 (first_alone (values.document_value (documents.object (property (codes "\"") (documents.array (item documents.null (item (documents.boolean true) (item (documents.number (neg_ℤ (pos (2 ^ 63)))) (item (documents.number (pos (2 ^ 64 - 1))) no_documents))))) (property (codes "b") (documents.text (0x0a ∷ [])) no_properties)))))
+    ≡ codes "{\"a\":{\"\\\"\":[null,true,-9223372036854775808,18446744073709551615],\"b\":\"\\n\"}}"
+unfolding digits
+free_values = refl
+
+-- documents without parts
+pub small_free_values : map (λ d. written one_long 0 (values.document_value d)) (documents.null ∷ documents.boolean false ∷ documents.number (pos 0) ∷ documents.text [] ∷ documents.array no_documents ∷ documents.object no_properties ∷ [])
+    ≡ codes "null" ∷ codes "false" ∷ codes "0" ∷ codes "\"\"" ∷ codes "[]" ∷ codes "{}" ∷ []
+unfolding digits
+small_free_values = refl
 
 -- structures in a list in a structure
 pub inner_structures : rewritten nodes 1 (both (codes "nodes") (array (element (alone (codes "value") (number (codes "1"))) (element (object no_members) (element (alone (codes "nodes") (array no_elements)) no_elements)))) (codes "value") (number (codes "-2")))

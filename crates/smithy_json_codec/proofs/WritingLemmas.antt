@@ -7,11 +7,11 @@ use Rattle.smithy_schema.specs.declared.error.SerdeError.{SerdeError}
 use Rattle.smithy_schema.specs.declared.error.SerdeError.TheVariants.{Unwritable}
 use Rattle.smithy_schema.specs.ScalarTest.{scalars_pass, elements_pass, entries_pass, members_pass}
 use Rattle.smithy_schema.specs.Site.{Site, element_of, key_of, value_of, member_of}
-use Rattle.smithy_schema.specs.Value.{ScalarValue, text, text_in, Value, scalar_value, list, map, structure, union, null_element, Values, no_values, value, MapEntries, no_map_entries, map_entry, MemberValues, no_member_values, member_value}
+use Rattle.smithy_schema.specs.Value.{ScalarValue, text, text_in, Value, scalar_value, list, map, structure, union, null_element, document_value, Values, no_values, value, MapEntries, no_map_entries, map_entry, MemberValues, no_member_values, member_value}
 use Rattle.smithy_schema.specs.Writing.{Event, run, write, and_run, events, element_events, entry_events, member_events, scalar_of, end_list, end_map, end_structure, after_value, after_text, after_begin, Open, open_structure, open_list, open_map_at_key, open_map_at_value}
 use Rattle.smithy_schema.proofs.WritingLemmas.{child_written}
 use Rattle.smithy_json.specs.Ascii.{value_separator, begin_array, end_array, begin_object, end_object}
-use Rattle.smithy_json_codec.specs.Canonical.{scalar_text, can_write, name_text, key_text, canonical_json, more_elements, more_entries, more_members}
+use Rattle.smithy_json_codec.specs.Canonical.{scalar_text, document_text, can_write, name_text, key_text, canonical_json, more_elements, more_entries, more_members}
 use Rattle.smithy_json_codec.specs.Settings.{Settings}
 use Rattle.smithy_json_codec.specs.Writing.{JsonState, lead, form_at, is_key_due, key_wrote, wrote, opened, where_taken, json_after}
 
@@ -70,7 +70,7 @@ text_adds : (c : Settings) (out : List ℕ) (next after : List Open) → ◌≡�
 text_adds c out next after same = ap (where_taken (state c out true)) same
 
 -- a scalar that can be written is, where a value is due
-scalar_adds : (site : Site) (x : ScalarValue) (c : Settings) (o : List ℕ) (comma : Bool) (frames after : List Open) → can_write c site.place.time x ≡ true → after_value frames ≡ Ok after
+scalar_adds : (site : Site) (x : ScalarValue) (c : Settings) (o : List ℕ) (comma : Bool) (frames after : List Open) → (can_write c).scalar site.place.time x ≡ true → after_value frames ≡ Ok after
     → json_after (scalar_of site x) (state c o comma frames)
     ≡ Ok (state c (o ++ (lead (state c o comma frames) site.view ++ scalar_text (form_at (state c o comma frames) site) x)) true after)
 scalar_adds site x c o comma frames after can due =
@@ -105,6 +105,7 @@ mutual
       ≡ Ok (state c (o ++ (lead (state c o comma frames) site.view ++ canonical_json c site v)) true after)
   value_adds site (scalar_value x) c o comma frames after can due = ap (and_run (run json_after [])) (scalar_adds site x c o comma frames after can due)
   value_adds site null_element c o comma frames after can due = ap (λ r. and_run (run json_after []) (where_taken (wrote (state c o comma frames) site.view (codes "null")) r)) due
+  value_adds site (document_value d) c o comma frames after can due = ap (λ r. and_run (run json_after []) (where_taken (wrote (state c o comma frames) site.view (document_text d)) r)) due
   value_adds site (list no_values) c o comma frames after can due =
       let before = lead (state c o comma frames) site.view in
       regroup c _ _ after _

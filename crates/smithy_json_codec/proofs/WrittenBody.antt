@@ -11,6 +11,7 @@ use Rattle.smithy_schema.specs.TimeForms.{form_or}
 use Rattle.smithy_json_codec.specs.Settings.{Settings, name_of}
 use Rattle.smithy_wire.specs.Writes.{body_of}
 use Rattle.smithy_wire.proofs.CanonicalBody.{Canonical, IsWritten, same_body}
+use Rattle.smithy_json_codec.proofs.WrittenDocuments.{document_bytes}
 use Rattle.smithy_json_codec.proofs.WrittenLeaves.{json_leaves, scalar_bytes}
 use Rattle.smithy_json_codec.proofs.WrittenPlaces.{separator, json_writes}
 
@@ -67,6 +68,7 @@ module _ (c : Settings) where
   is_written : IsWritten json_writes (json_leaves c) (name_of c) canonical
   is_written = record {
     scalar_is = λ s site x. scalar_bytes (form_or c.default_timestamp_format site.place.time) x;
+    document_is = λ site d. document_bytes c d;
     null_is = λ site. refl;
     list_is = λ site vs. refl;
     no_element_is = no_element_is;

@@ -15,12 +15,13 @@ use Rattle.smithy_json_codec.specs.Meaning.{rules_of}
 use Rattle.smithy_json_codec.specs.Settings.{Settings, kept, name_of}
 use Rattle.smithy_json_codec.specs.Spelling.{json_spells}
 use Rattle.smithy_json_codec.specs.Standing.{json_frames}
-use Rattle.smithy_wire.specs.Written.{AreNamed}
+use Rattle.smithy_wire.specs.Written.{TellsApart}
 use Rattle.smithy_wire.proofs.AcceptedNames.{named_by_name, named_by_json_name}
 use Rattle.smithy_wire.proofs.NestedMeaning.{stands_within_depth}
 use Rattle.smithy_wire.proofs.ReadBack.{written_stands}
 use Rattle.smithy_json_codec.proofs.SpellingLemmas.{spells_stands, stands_whole}
 use Rattle.smithy_json_codec.proofs.WrittenBody.{same_text}
+use Rattle.smithy_json_codec.proofs.WrittenDocuments.{json_reads_documents, json_writes_documents}
 use Rattle.smithy_json_codec.proofs.WrittenLeaves.{json_leaves, json_reads_leaves, json_writes_leaves}
 use Rattle.smithy_json_codec.proofs.WrittenPlaces.{json_writes, json_writes_frames}
 
@@ -34,8 +35,8 @@ shallow c t p bytes v keeps h =
     let s = spells_stands c t p bytes v h in
     omega (arith, stands_within_depth json_frames (rules_of c) keeps (rules_fit c) bytes t p 0 0 v s.0 s.1)
 
--- an accepted table names its members, whichever names are used
-named : (b : Bool) (t : Table) → IsAccepted t → AreNamed (name_of (strict_settings b)) t
+-- an accepted table names its members, whichever names are used, and tells nulls from documents
+named : (b : Bool) (t : Table) → IsAccepted t → TellsApart (name_of (strict_settings b)) t
 named true t accepted = named_by_json_name t accepted
 named false t accepted = named_by_name t accepted
 
@@ -47,4 +48,4 @@ canonical_spells b t p view v accepted fits held deep =
     let c = strict_settings b in
     subst (λ bytes. json_spells c t p bytes v) (sym (same_text c t p view v fits))
     (stands_whole c t p _ v
-    (written_stands json_writes json_frames (json_leaves c) (rules_of c) json_writes_frames (json_writes_leaves c) (json_reads_leaves c) t p view v (named b t accepted) fits held deep tt))
+    (written_stands json_writes json_frames (json_leaves c) (rules_of c) json_writes_frames (json_writes_leaves c) (json_reads_leaves c) (λ held. (json_writes_documents c, json_reads_documents c)) t p view v (named b t accepted) fits held deep tt))

@@ -1,17 +1,20 @@
 -- The one spelling in which a value is written.
-use Rattle.std.specs.Prelude.{ℕ, List, [], ◌∷◌, ◌++◌, Bool, true, false, Some, None, unwrap_or, Option, codes, if◌then◌else◌}
+use Rattle.std.specs.Prelude.{ℕ, ℤ, List, [], ◌∷◌, ◌++◌, Bool, true, false, Some, None, unwrap_or, codes, if◌then◌else◌}
 use Rattle.std.specs.Fmt.{signed_decimal}
+use Rattle.smithy_types.specs.Document.{Document}
 use Rattle.smithy_schema.specs.declared.shape_type.TimestampFormat.{TimestampFormat}
 use Rattle.smithy_schema.specs.declared.shape_type.TimestampFormat.TheVariants.{EpochSeconds}
 use Rattle.smithy_schema.specs.TimeForms.{format_of, form_or, form_writes, form_holds}
+use Rattle.smithy_schema.specs.ScalarTest.{ValueTest}
 use Rattle.smithy_schema.specs.Site.{Site, View, element_of, value_of, member_of}
-use Rattle.smithy_schema.specs.Value.{ScalarValue, boolean, whole, text, bytes, decimal, instant, Value, scalar_value, list, map, structure, union, null_element, Values, no_values, value, MapEntries, no_map_entries, map_entry, MemberValues, no_member_values, member_value}
+use Rattle.smithy_schema.specs.Value.{ScalarValue, boolean, whole, text, bytes, decimal, instant, Value, scalar_value, list, map, structure, union, null_element, document_value, Values, no_values, value, MapEntries, no_map_entries, map_entry, MemberValues, no_member_values, member_value}
 use Rattle.smithy_texts.specs.Base64Text.{blob_text}
 use Rattle.smithy_texts.specs.Decimal.{decimal_text}
 use Rattle.smithy_instants.specs.WrittenDate.{date_text}
 use Rattle.smithy_json.specs.Ascii.{quotation_mark, value_separator, name_separator, begin_array, end_array, begin_object, end_object}
-use Rattle.smithy_json_codec.specs.Settings.{Settings}
+use Rattle.smithy_json.specs.DocumentText.{document_text_by}
 use Rattle.smithy_json.specs.Escape.{quoted}
+use Rattle.smithy_json_codec.specs.Settings.{Settings}
 
 -- the text of an instant in its form: a number of seconds stands as it is, and a date is a string
 abbrev pub in_form : TimestampFormat → List ℕ → List ℕ
@@ -29,13 +32,23 @@ scalar_text form (bytes b) = quotation_mark ∷ (blob_text b ++ quotation_mark �
 -- where the form can't write the instant, its text counts as empty
 scalar_text form (instant n) = in_form form (unwrap_or (date_text (format_of form) n) [])
 
--- a scalar can be written at a place with this time form
-abbrev pub can_write : Settings → Option TimestampFormat → ScalarValue → Bool
-can_write c time x = form_writes (form_or c.default_timestamp_format time) x
+-- a document, of whose numbers each is its whole number in decimal
+abbrev pub document_text : Document ℤ → List ℕ
+document_text d = document_text_by signed_decimal d
+
+-- a scalar can be written at a place with its time form, and so can each document
+abbrev pub can_write : Settings → ValueTest
+can_write c = record {
+  scalar = λ time x. form_writes (form_or c.default_timestamp_format time) x;
+  documents = true;
+}
 
 -- and what is written stands for exactly it
-abbrev pub json_holds : Settings → Option TimestampFormat → ScalarValue → Bool
-json_holds c time x = form_holds (form_or c.default_timestamp_format time) x
+abbrev pub json_holds : Settings → ValueTest
+json_holds c = record {
+  scalar = λ time x. form_holds (form_or c.default_timestamp_format time) x;
+  documents = true;
+}
 
 -- the name of a member or the key of a map's entry, and a colon
 abbrev pub name_text : List ℕ → List ℕ
@@ -48,8 +61,8 @@ key_text use_json_name view = elim view.name [
   | Some name ↦ name_text (if use_json_name then unwrap_or view.json_name name else name)
 ]
 
--- Under some settings: members in the table's order, elements in theirs and the entries of a map in that of its keys' bytes,
--- with no white space. A union is an object of its one member.
+-- Under some settings: members in the table's order, elements in theirs, and the entries of a map and the properties of a
+-- document in that of their names' bytes, with no white space. A union is an object of its one member.
 abbrev mutual
   pub canonical_json : Settings → Site → Value → List ℕ
   canonical_json c site (scalar_value x) =
@@ -65,6 +78,7 @@ abbrev mutual
       ∷ (key_text c.use_json_name (member_of site n).view
       ++ (canonical_json c (member_of site n) v ++ end_object ∷ []))
   canonical_json c site null_element = codes "null"
+  canonical_json c site (document_value d) = document_text d
 
   pub first_element : Settings → Site → Values → List ℕ
   first_element c site no_values = []

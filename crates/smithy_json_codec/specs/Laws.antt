@@ -1,13 +1,24 @@
 -- The laws of reading, for JSON.
-use Rattle.std.specs.Prelude.{◌≡◌}
+use Rattle.std.specs.Prelude.{◌≡◌, ◌↔◌, ℕ, List, [], option_map}
+use Rattle.std.proofs.Common.{◌∙◌, ap}
+use Rattle.smithy_types.specs.Document.{Document, whole_document}
+use Rattle.smithy_types.specs.declared.number.Number.{Number}
+use Rattle.smithy_schema.specs.declared.place.Place.{Place}
+use Rattle.smithy_schema.specs.Table.{Table, document, kind_of}
+use Rattle.smithy_json.specs.Tree.{Json}
+use Rattle.smithy_json.specs.DocumentMeaning.{document_meaning}
 use Rattle.smithy_schema.specs.Reading.{IsLawful, StandsFit, CountsOpeners, IsBelow}
 use Rattle.smithy_json_codec.specs.Settings.{Settings, kept, without_limits}
-use Rattle.smithy_json_codec.specs.Meaning.{rules_of}
+use Rattle.smithy_json_codec.specs.Meaning.{rules_of, json_meaning}
 use Rattle.smithy_json_codec.specs.Standing.{json_frames, json_relations}
 use Rattle.smithy_json_codec.specs.Private.Wire.{json_is_wire, json_bounds_openers}
+use Rattle.smithy_json_codec.specs.Documents.{depth_limit, DocumentStands}
+use Rattle.smithy_json_codec.specs.Private.DocumentNodes as documents
+use Rattle.smithy_json_codec.specs.Private.DocumentNodes.{says_document}
 use Rattle.smithy_json_codec.specs.Private.Fits.{says_fits, key_fits}
-use Rattle.smithy_schema.specs.Value.{null_element}
-use Rattle.smithy_json_codec.specs.Scalar.{says}
+use Rattle.smithy_schema.specs.Value.{document_value, null_element}
+use Rattle.smithy_schema.specs.Lemmas.Options.{same_some}
+use Rattle.smithy_json_codec.specs.Scalar.{document_says, says}
 use Rattle.smithy_schema.specs.TimeForms.{form_or}
 use Rattle.smithy_wire.specs.Wire.{RulesFit}
 use Rattle.smithy_wire.proofs.Bounds.{settled_means}
@@ -23,6 +34,9 @@ rules_fit c = record {
   says_fits = λ i d x a e lies t p s v kind keeps means.
       says_fits i d x a e lies t p s v kind (form_or c.default_timestamp_format p.time)
       (settled_means c.limits null_element (says s (form_or c.default_timestamp_format p.time) x) v keeps means);
+  document_fits = λ i d x a e lies says v carried means.
+      let same : document_says ≡ says = same_some document_says says carried in
+      says_document i d x a e lies v (ap (λ s. s x) same ∙ means);
   key_fits = key_fits;
 }
 
@@ -37,3 +51,14 @@ counts c = wire.counts_openers json_frames (rules_of c) json_bounds_openers
 -- what holds within the limits holds without them
 pub above : (c : Settings) → IsBelow (json_relations c) (json_relations (without_limits c))
 above c = wire.lifted_is_above json_frames (rules_of c)
+
+-- From a to e stands a document where a tree lies there that means it inside so many containers, and behind it comes what may
+-- follow a container.
+pub documents_are : (c : Settings) (i : List ℕ) (d a : ℕ) (x : Document Number) (e : ℕ)
+    → (json_relations c).documents i d a x e ↔ DocumentStands (depth_limit c.limits c.max_depth) d i a x e
+documents_are = documents.documents_are
+
+-- and where one is due, a tree means what it means as a document, each number as its whole number alone
+pub means_document : (c : Settings) (t : Table) (p : Place) → kind_of t p ≡ document → (d : ℕ) (x : Json)
+    → json_meaning c t p d x ≡ option_map (λ u. document_value (whole_document u)) (document_meaning (depth_limit c.limits c.max_depth) d x)
+means_document c t p kind d x = documents.means_document_of c [] d 0 t p kind x

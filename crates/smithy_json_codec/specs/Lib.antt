@@ -14,6 +14,7 @@ pub mod Standing
 pub mod Writing
 pub mod Serializing
 pub mod Deepest
+pub mod Documents
 -- the laws of reading, and that the calls of writing nest
 pub mod Laws
 pub mod Nesting

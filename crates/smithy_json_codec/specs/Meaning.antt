@@ -1,12 +1,12 @@
 -- What a JSON value means at a place of a table: what its node means under the rules of JSON.
-use Rattle.std.specs.Prelude.{ℕ, Option, Some, None, true, false}
+use Rattle.std.specs.Prelude.{ℕ, Option, Some, None, true}
 use Rattle.smithy_schema.specs.declared.place.Place.{Place}
-use Rattle.smithy_schema.specs.Table.{Table}
+use Rattle.smithy_schema.specs.Table.{Table, is_document_place}
 use Rattle.smithy_schema.specs.TimeForms.{form_or}
 use Rattle.smithy_schema.specs.Value.{Value}
 use Rattle.smithy_json.specs.Tree.{Json, null, boolean, number, string, array, object, Elements, no_elements, element, Members, no_members, member}
 use Rattle.smithy_json_codec.specs.Settings.{Settings, name_of}
-use Rattle.smithy_json_codec.specs.Scalar.{JsonScalar, a_boolean, a_number, a_string, text_of, says}
+use Rattle.smithy_json_codec.specs.Scalar.{JsonScalar, a_boolean, a_number, a_string, text_of, says, document_says}
 use Rattle.smithy_wire.specs.Node.{Node, null_node, leaf, container, as_array, as_object, Nodes, no_nodes, node}
 use Rattle.smithy_wire.specs.Rules.{Rules}
 use Rattle.smithy_wire.specs.Meaning.{meaning}
@@ -29,17 +29,18 @@ abbrev mutual
   member_nodes no_members = no_nodes
   member_nodes (member raw x ms) = node (Some (a_string raw)) (node_of x) (member_nodes ms)
 
--- the rules of JSON under some settings: a member that is null is dropped, what is skipped counts as depth, and instants
--- have the form of their place
+-- the rules of JSON under some settings: a member that is null is dropped, unless it is a document, what is skipped counts as
+-- depth, and instants have the form of their place
 abbrev pub rules_of : Settings → Rules JsonScalar
 rules_of c = record {
   text_of = text_of;
   says = λ s time x. says s (form_or c.default_timestamp_format time) x;
+  documents = Some document_says;
   skips_count = true;
   name_of = name_of c;
   max_depth = c.max_depth;
   limits = c.limits;
-  keeps_null = λ place. false;
+  keeps_null = is_document_place;
   may_skip_scalar = λ x. true;
 }
 

@@ -13,11 +13,13 @@ pub mod OpenersAtPlaces
 pub mod Wire
 pub mod NodePlaces
 pub mod Fits
+pub mod DocumentNodes
 -- for the laws of writing
 pub mod MadeStates
 -- for the clauses of private functions
 pub mod NextInContainer
 pub mod ScalarAtPlace
 pub mod Skipping
+pub mod OpenDocuments
 pub mod PassedEntries
 pub mod MemberSteps

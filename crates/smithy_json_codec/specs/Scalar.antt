@@ -6,7 +6,11 @@ use Rattle.smithy_schema.specs.declared.shape_type.TimestampFormat.{TimestampFor
 use Rattle.smithy_schema.specs.declared.shape_type.TimestampFormat.TheVariants.{EpochSeconds}
 use Rattle.smithy_schema.specs.TimeForms.{format_of}
 use Rattle.smithy_schema.specs.Value.{boolean as boolean_value, whole, text, bytes, instant, Value, scalar_value}
+use Rattle.smithy_types.specs.Document as documents
+use Rattle.smithy_types.specs.Document.{Document}
+use Rattle.smithy_types.specs.declared.number.Number.{Number}
 use Rattle.smithy_json.specs.Tree.{Json, boolean, number, string}
+use Rattle.smithy_json.specs.HeldNumber.{number_of}
 use Rattle.smithy_json.specs.Number.{whole_number}
 use Rattle.smithy_texts.specs.Base64Text.{blob_of}
 use Rattle.smithy_texts.specs.Decimal.{integer_form, decimal_form}
@@ -94,3 +98,14 @@ says scalars.Blob form x = answer_of (option_map (λ b. scalar_value (bytes b)) 
 says scalars.Timestamp form x = timestamp_says form x
 says scalars.BigInteger form x = number_says scalars.BigInteger (number_text x)
 says scalars.BigDecimal form x = number_says scalars.BigDecimal (number_text x)
+
+-- what a number is as a document: another one than a document holds isn't carried
+abbrev pub held_says : Option Number → Answer (Document Number)
+held_says None = uncarried
+held_says (Some n) = means (documents.number n)
+
+-- what a scalar is as a document
+abbrev pub document_says : JsonScalar → Answer (Document Number)
+document_says (a_boolean b) = means (documents.boolean b)
+document_says (a_number raw) = held_says (number_of raw)
+document_says (a_string raw) = answer_of (option_map documents.text (unescaped raw))

@@ -7,10 +7,10 @@ use Rattle.smithy_schema.specs.declared.shape_type.TimestampFormat.{TimestampFor
 use Rattle.smithy_schema.specs.Site.{Site, View}
 use Rattle.smithy_schema.specs.Value.{ScalarValue, text_in}
 use Rattle.smithy_schema.specs.TimeForms.{form_or}
-use Rattle.smithy_schema.specs.Writing.{Event, Writer, begin_structure, end_structure, begin_list, end_list, begin_map, end_map, null_of, scalar_of, big_integer_of, big_decimal_of, Open, open_structure, open_map_at_key, open_after}
+use Rattle.smithy_schema.specs.Writing.{Event, Writer, begin_structure, end_structure, begin_list, end_list, begin_map, end_map, null_of, scalar_of, big_integer_of, big_decimal_of, document_of, Open, open_structure, open_map_at_key, open_after}
 use Rattle.smithy_json.specs.Ascii.{value_separator, begin_array, end_array, begin_object, end_object}
 use Rattle.smithy_json.specs.NumberText.{is_number}
-use Rattle.smithy_json_codec.specs.Canonical.{name_text, key_text, scalar_text, can_write}
+use Rattle.smithy_json_codec.specs.Canonical.{name_text, key_text, scalar_text, document_text, can_write}
 use Rattle.smithy_json_codec.specs.Settings.{Settings}
 
 pub record JsonState : Type 0 where
@@ -90,6 +90,7 @@ made (null_of site) s frames = wrote s site.view (codes "null") frames
 made (scalar_of site x) s frames = scalar_wrote s site x frames
 made (big_integer_of site written) s frames = wrote s site.view written frames
 made (big_decimal_of site written) s frames = wrote s site.view written frames
+made (document_of site d) s frames = wrote s site.view (document_text d) frames
 
 -- the state that is made of the open containers, unless the call is refused
 abbrev pub where_taken : (List Open → JsonState) → Result (List Open) SerdeError → Result JsonState SerdeError
@@ -99,7 +100,7 @@ where_taken make (Err e) = Err e
 -- the text of a big number is written as it stands, so it has to be a number of JSON; an instant has to be one that the form
 -- of its site can write
 abbrev pub is_writable : JsonState → Event → Bool
-is_writable s (scalar_of site x) = can_write s.settings site.place.time x
+is_writable s (scalar_of site x) = (can_write s.settings).scalar site.place.time x
 is_writable s (big_integer_of site written) = is_number written
 is_writable s (big_decimal_of site written) = is_number written
 is_writable s _ = true

@@ -1,4 +1,5 @@
 //! The reader of JSON values that a schema directs.
+use crate::documents::standing_document_at;
 use crate::instants::{form_at, instant_at};
 use crate::members::{Names, Next, next_present};
 use crate::numbers::{big_decimal_at, big_integer_at};
@@ -7,7 +8,7 @@ use crate::skip::skipped_end;
 use crate::texts::{blob_at, owned_text, text_at};
 use crate::values::{begins_null, boolean_at, long_at};
 use smithy_schema::{Schema, SerdeError, ShapeDeserializer, ShapeType, Step, TimestampFormat};
-use smithy_types::{BigDecimal, BigInteger, Blob, DateTime};
+use smithy_types::{BigDecimal, BigInteger, Blob, DateTime, Document};
 use smithy_wire::{Frame, Mark, Walk, Within, byte_found, integer_found, short_found};
 use std::alloc::Global;
 
@@ -160,14 +161,15 @@ impl<'a> JsonDeserializer<'a> {
 
 impl ShapeDeserializer for JsonDeserializer<'_> {
     ghost use Rattle.std.specs.Prelude.{◌≡◌, ◌≤◌, ℕ, true, false, refl, IfOk, IsOk, OnOk, IsErr, IsErrOf};
-    ghost use Rattle.smithy_schema.specs.Reading.{depth, in_structure, passed_to, Conducts, Passes, MatchStep, CannotGoOn, SkipsNot, NullsNot, ReachesDepth, null_is_due, RefusesNoScalar, IsRefused, IsInvalid, IsNoAnswer};
+    ghost use Rattle.smithy_schema.specs.Reading.{depth, in_structure, passed_to, ReadsDocument, Conducts, Passes, MatchStep, CannotGoOn, SkipsNot, NullsNot, ReachesDepth, null_is_due, RefusesNoScalar, IsRefused, IsInvalid, IsNoAnswer};
     ghost use Rattle.smithy_schema.specs.Table.{IsStructure, HasMembers};
     ghost use Rattle.smithy_schema.specs.Site.{site_of, kind_at};
-    ghost use Rattle.smithy_schema.specs.declared.error.SerdeError.TheVariants.{NoMemory, TooDeep};
+    ghost use Rattle.smithy_schema.specs.declared.error.SerdeError.TheVariants.{NoMemory, NotCarried, TooDeep};
     ghost use Rattle.smithy_json_codec.specs.Cursor.{cursor_of, reading_settings_of};
     ghost use Rattle.smithy_json_codec.specs.Settings.{Settings, keep_limits, without_limits};
     ghost use Rattle.smithy_json_codec.specs.Standing.{json_relations};
     ghost use Rattle.smithy_json_codec.specs.Deepest.{OpensTooDeep};
+    ghost use Rattle.smithy_json_codec.specs.Documents.{MeetsOtherNumber, OpensDocumentTooDeep};
     ghost use Rattle.smithy_json_codec.specs.Laws.{lawful as json_is_lawful, fit as json_fits, counts as json_counts, above as limits_are_above};
 
     ghost Settings = { Settings };
@@ -450,8 +452,30 @@ impl ShapeDeserializer for JsonDeserializer<'_> {
         let found = instant_at(self.alloc, self.walk.input, self.walk.position, form);
         self.walk.take_result(found)
     }
+
+    fn read_document(&mut self, _schema: &Schema<'_>) -> Result<Document, SerdeError>
+        ensures same { reading_settings_of self.new ≡ reading_settings_of self.old }
+        ensures read { ReadsDocument (json_relations (reading_settings_of self.old)) (json_relations (without_limits (reading_settings_of self.old))) (Unit {0}) (reading_settings_of self.old).max_depth (cursor_of self.old) (cursor_of self.new) (site_of _schema.now) result }
+
+        // It is too deep only by a value of the document inside of as many containers as may be, and isn't carried only by
+        // a number of the document that none holds.
+        ensures too_deep { IsErrOf result TooDeep → OpensDocumentTooDeep (reading_settings_of self.old).max_depth (depth (cursor_of self.old)) (cursor_of self.old).input (cursor_of self.old).at }
+        ensures other_number { IsErrOf result NotCarried → MeetsOtherNumber (cursor_of self.old).input (cursor_of self.old).at }
+    {
+        self.walk.ready()?;
+        let found = standing_document_at(
+            self.alloc,
+            self.walk.input,
+            self.walk.position,
+            self.walk.depth(),
+            self.walk.max_depth,
+        );
+        self.walk.take_result(found)
+    }
 }
 
+#[cfg(test)]
+mod document_tests;
 #[cfg(test)]
 mod entry_tests;
 #[cfg(test)]

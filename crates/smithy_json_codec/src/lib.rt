@@ -3,6 +3,7 @@
 
 mod codec;
 mod deserializer;
+mod documents;
 mod instants;
 mod members;
 mod numbers;

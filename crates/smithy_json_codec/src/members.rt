@@ -2,23 +2,24 @@
 
 ghost use Rattle.std.specs.Prelude.{◌≡◌, ◌≢◌, ◌≤◌, ◌+◌, ◌↔◌, ℕ, length, drop, IfOk, IfErr, IsErrOf, IsTrue};
 ghost use Rattle.smithy_schema.specs.Reading.{IsInvalid, IsRefused};
-ghost use Rattle.smithy_schema.specs.declared.error.SerdeError.TheVariants.{Failed, TooDeep, TooWide, NotCarried, Unwritable};
-ghost use Rattle.smithy_schema.specs.Site.{site_of};
+ghost use Rattle.smithy_schema.specs.declared.error.SerdeError.TheVariants.{Failed, TooDeep, TooWide, NotCarried, Unsupported, Unwritable};
+ghost use Rattle.smithy_schema.specs.Site.{site_of, kind_at};
+ghost use Rattle.smithy_schema.specs.Table.{IsDocument};
 ghost use Rattle.smithy_json_codec.specs.Codec.{strict_settings};
 ghost use Rattle.smithy_json_codec.specs.Deepest.{OpensTooDeep};
 ghost use Rattle.smithy_json_codec.specs.Openers.{json_openers};
-ghost use Rattle.smithy_json_codec.specs.Private.MemberSteps.{StepsTo, passes_marks};
+ghost use Rattle.smithy_json_codec.specs.Private.MemberSteps.{StepsTo, passing, passes_marks, passes_null};
 ghost use Rattle.smithy_json_codec.specs.Private.PassedEntries.{type_name, IsEntry, IsNext, EntryMissing, NothingComes, NoSkip, NoSkipWithin};
 
 use crate::places::{InObject, next_in_object, null_end};
 use crate::skip::{GREATEST_DEPTH, skipped_end};
 use crate::texts::text_of;
-use smithy_schema::{Schema, SerdeError, Step};
+use smithy_schema::{Schema, SerdeError, ShapeType, Step};
 use std::alloc::Global;
 use std::borrow::CowStr;
 
-// A member that isn't null, by the text of its name and the offset of its value, or the end of the
-// object.
+// A member that isn't passed over, by the text of its name and the offset of its value, or the end of
+// the object.
 #[derive(Drop)]
 pub(crate) enum Next<'a> {
     Member(CowStr<'a, Global>, usize),
@@ -30,6 +31,13 @@ pub(crate) enum Next<'a> {
 enum Entry<'a> {
     Passed(usize),
     Kept(Next<'a>),
+}
+
+// Whether a document stands at the place.
+fn is_document(schema: &Schema<'_>) -> bool
+    ensures { IsTrue result ↔ IsDocument (kind_at (site_of schema.now)) }
+{
+    schema.shape_type() == ShapeType::Document
 }
 
 /// The names by which the members of a structure or a union are found.
@@ -55,6 +63,17 @@ impl<'s> Names<'_, 's> {
         }
     }
 
+    // Whether a null under this name is passed over: it names no member of documents.
+    fn passes_null(&self, name: &str) -> bool
+        ensures { result ≡ passes_null self.now.use_json_name (site_of self.now.schema.now) name.now }
+    {
+        match self.step_to(name) {
+            Step::Member(member) => !is_document(&member),
+            Step::Unknown => true,
+            Step::End => true,
+        }
+    }
+
     // Whether each `__type` is a mark: where no member has this name.
     fn passes_marks(&self) -> bool
         ensures { result ≡ passes_marks self.now.use_json_name (site_of self.now.schema.now) }
@@ -71,7 +90,8 @@ fn is_type_name(name: &str) -> bool
     name == "__type"
 }
 
-// What comes next in the object in whose inside the offset lies: nulls and marks are passed over.
+// What comes next in the object in whose inside the offset lies: marks are passed over, and nulls that
+// are no documents.
 fn entry_at<'a>(
     alloc: Global,
     input: &'a [u8],
@@ -84,11 +104,12 @@ fn entry_at<'a>(
     requires within { at ≤ length input.now }
     requires shallow { depth ≤ max_depth }
     requires greatest { max_depth ≤ GREATEST_DEPTH }
-    ensures ok { IfOk result (IsEntry (passes_marks names.entry.use_json_name (site_of names.entry.schema.now)) max_depth depth input.now at entered) }
-    ensures refused { IsRefused result → EntryMissing (NoSkipWithin max_depth depth input.now) (passes_marks names.entry.use_json_name (site_of names.entry.schema.now)) depth input.now at entered }
-    ensures would { IsInvalid result → EntryMissing (NoSkip depth input.now) (passes_marks names.entry.use_json_name (site_of names.entry.schema.now)) depth input.now at entered }
+    ensures ok { IfOk result (IsEntry (passing names.entry.use_json_name (site_of names.entry.schema.now)) max_depth depth input.now at entered) }
+    ensures refused { IsRefused result → EntryMissing (NoSkipWithin max_depth depth input.now) (passing names.entry.use_json_name (site_of names.entry.schema.now)) depth input.now at entered }
+    ensures would { IsInvalid result → EntryMissing (NoSkip depth input.now) (passing names.entry.use_json_name (site_of names.entry.schema.now)) depth input.now at entered }
     ensures sound { IfErr result (λ e. e ≢ Failed) }
     ensures readable { IfErr result (λ e. e ≢ Unwritable) }
+    ensures supported { IfErr result (λ e. e ≢ Unsupported) }
     ensures narrow { IfErr result (λ e. (e ≢ TooWide) × (e ≢ NotCarried)) }
     ensures deep { IsErrOf result TooDeep → max_depth ≤ depth + json_openers (drop at input.now) }
     ensures too_deep { IsErrOf result TooDeep → (q : ℕ) × (at ≤ q) × OpensTooDeep max_depth depth input.now q }
@@ -103,7 +124,10 @@ fn entry_at<'a>(
         Err(error) => return Err(error),
     };
     if let Some(end) = null_end(input, name.end) {
-        return Ok(Entry::Passed(end));
+        if names.passes_null(text.as_str()) {
+            return Ok(Entry::Passed(end));
+        }
+        return Ok(Entry::Kept(Next::Member(text, name.end)));
     }
     if !is_type_name(text.as_str()) || !names.passes_marks() {
         return Ok(Entry::Kept(Next::Member(text, name.end)));
@@ -127,11 +151,12 @@ pub(crate) fn next_present<'a>(
     requires within { at ≤ length input.now }
     requires shallow { depth ≤ max_depth }
     requires greatest { max_depth ≤ GREATEST_DEPTH }
-    ensures ok { IfOk result (IsNext (passes_marks names.entry.use_json_name (site_of names.entry.schema.now)) max_depth depth input.now at entered) }
-    ensures refused { IsRefused result → NothingComes (NoSkipWithin max_depth depth input.now) (passes_marks names.entry.use_json_name (site_of names.entry.schema.now)) max_depth depth input.now at entered }
-    ensures would { IsInvalid result → NothingComes (NoSkip depth input.now) (passes_marks names.entry.use_json_name (site_of names.entry.schema.now)) max_depth depth input.now at entered }
+    ensures ok { IfOk result (IsNext (passing names.entry.use_json_name (site_of names.entry.schema.now)) max_depth depth input.now at entered) }
+    ensures refused { IsRefused result → NothingComes (NoSkipWithin max_depth depth input.now) (passing names.entry.use_json_name (site_of names.entry.schema.now)) max_depth depth input.now at entered }
+    ensures would { IsInvalid result → NothingComes (NoSkip depth input.now) (passing names.entry.use_json_name (site_of names.entry.schema.now)) max_depth depth input.now at entered }
     ensures sound { IfErr result (λ e. e ≢ Failed) }
     ensures readable { IfErr result (λ e. e ≢ Unwritable) }
+    ensures supported { IfErr result (λ e. e ≢ Unsupported) }
     ensures narrow { IfErr result (λ e. (e ≢ TooWide) × (e ≢ NotCarried)) }
     ensures deep { IsErrOf result TooDeep → max_depth ≤ depth + json_openers (drop at input.now) }
     ensures too_deep { IsErrOf result TooDeep → (q : ℕ) × (at ≤ q) × OpensTooDeep max_depth depth input.now q }

@@ -5,11 +5,13 @@ ghost use Rattle.smithy_schema.specs.Reading.{IsFault};
 ghost use Rattle.smithy_schema.specs.Site.{site_of};
 ghost use Rattle.smithy_schema.specs.Writing.{after_value, after_text, after_begin};
 ghost use Rattle.smithy_texts.specs.Base64Text.{blob_text};
+ghost use Rattle.smithy_types.specs.Document.{whole_document};
+ghost use Rattle.smithy_types.specs.DocumentView.{document_view};
 ghost use Rattle.smithy_json.specs.Ascii.{quotation_mark};
 ghost use Rattle.smithy_texts.specs.Decimal.{exponent_text, decimal_text};
 ghost use Rattle.smithy_json.specs.Escape.{quoted};
 ghost use Rattle.smithy_json.specs.NumberText.{is_number};
-ghost use Rattle.smithy_json_codec.specs.Canonical.{in_form, name_text, key_text};
+ghost use Rattle.smithy_json_codec.specs.Canonical.{in_form, document_text, name_text, key_text};
 ghost use Rattle.smithy_json_codec.specs.Codec.{settings_of};
 ghost use Rattle.smithy_json_codec.specs.Serializing.{open_of, opens_of, state_of, has_failed};
 ghost use Rattle.smithy_json_codec.specs.Writing.{JsonState, fresh_state, comma_text, key_in, is_key_due, lead, wrote, key_wrote, opened, where_taken, json_after};
@@ -18,9 +20,9 @@ use crate::codec::JsonCodec;
 use crate::instants::form_at;
 use itoa::Buffer;
 use smithy_json::number_text::is_number;
-use smithy_json::push_escaped;
+use smithy_json::{push_document, push_escaped};
 use smithy_schema::{FinishSerializer, Schema, SerdeError, ShapeSerializer, TimestampFormat};
-use smithy_types::{BigDecimal, BigInteger, DateTime, base64};
+use smithy_types::{BigDecimal, BigInteger, DateTime, Document, base64};
 use std::alloc::{AllocError, Global};
 
 /// A container that is open, and of a map what is due in it.
@@ -94,6 +96,13 @@ fn push_decimal(out: &mut Vec<u8>, mantissa: i128, exponent: i64) -> Result<(), 
     let mut buffer = Buffer::new();
     out.extend_from_slice(buffer.format(mantissa).as_bytes())?;
     push_exponent(out, exponent)
+}
+
+// The text of a document, in which each number is its whole number.
+fn push_whole_document(out: &mut Vec<u8>, document: &Document) -> Result<(), AllocError>
+    ensures { OnOk result (out.new.items ≡ out.old.items ++ document_text (whole_document (document_view document.now))) }
+{
+    push_document(out, document)
 }
 
 // The key of a member, with its colon; nothing for what has no name.
@@ -483,6 +492,18 @@ impl ShapeSerializer for JsonSerializer<'_> {
                 Err(error)
             }
         }
+    }
+
+    fn write_document(&mut self, schema: &Schema<'_>, value: &Document) -> Result<(), SerdeError> {
+        if self.failed {
+            return Err(SerdeError::Failed);
+        }
+        self.failed = true;
+        self.begin(schema)?;
+        push_whole_document(&mut self.out, value)?;
+        self.needs_comma = true;
+        self.failed = false;
+        Ok(())
     }
 }
 

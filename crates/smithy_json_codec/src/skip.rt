@@ -1,10 +1,11 @@
 //! Where a value ends that is skipped.
 
-ghost use Rattle.std.specs.Prelude.{◌≡◌, ◌≢◌, ◌<◌, ◌≤◌, ◌+◌, ◌-◌, ℕ, List, length, get_or, drop, false, IfOk, IfErr, OnErr, IsErrOf, IfSome, IfNone};
-ghost use Rattle.smithy_schema.specs.declared.error.SerdeError.TheVariants.{TooDeep, TooWide, NotCarried, Unwritable};
+ghost use Rattle.std.specs.Prelude.{◌≡◌, ◌≢◌, ◌<◌, ◌≤◌, ◌+◌, ◌-◌, ℕ, List, length, get_or, drop, false, IfOk, IfErr, OnErr, IsErrOf, IfSome, IfNone, MatchBool};
+ghost use Rattle.smithy_schema.specs.declared.error.SerdeError.TheVariants.{TooDeep, TooWide, NotCarried, Unsupported, Unwritable};
 ghost use Rattle.smithy_schema.specs.Reading.{IsFault, IsInvalid};
 ghost use Rattle.smithy_json.specs.Ascii.{begin_array, begin_object};
 ghost use Rattle.smithy_json_codec.specs.Deepest.{OpensTooDeep};
+ghost use Rattle.smithy_json_codec.specs.Documents.{ValueOpens};
 ghost use Rattle.smithy_json_codec.specs.Openers.{json_openers};
 ghost use Rattle.smithy_json_codec.specs.Private.NextInContainer.{IsFirstByte};
 ghost use Rattle.smithy_json_codec.specs.Private.Skipping.{SkipsTo, ScalarLies, NoValueLies, BeginsAs, GoesOnInside, IsNextStep};
@@ -60,6 +61,14 @@ fn beginning_of(input: &[u8], at: usize) -> Option<Beginning>
     }
     let end = scalar_end(input, start, first)?;
     Some(Beginning::Scalar(end))
+}
+
+/// Whether a value begins behind blanks: an object or an array, or a scalar that lies there whole.
+pub(crate) fn begins_value(input: &[u8], at: usize) -> bool
+    requires { at ≤ length input.now }
+    ensures { MatchBool result (ValueOpens input.now at) (NoValueLies input.now at) }
+{
+    beginning_of(input, at).is_some()
 }
 
 // How the object or the array goes on in whose inside the offset lies.
@@ -134,6 +143,7 @@ pub(crate) fn skipped_end(
     ensures ok { IfOk result (λ e. SkipsTo max_depth depth input.now at e) }
     ensures fault { IfErr result IsFault }
     ensures readable { IfErr result (λ e. e ≢ Unwritable) }
+    ensures supported { IfErr result (λ e. e ≢ Unsupported) }
     ensures narrow { IfErr result (λ e. (e ≢ TooWide) × (e ≢ NotCarried)) }
     ensures refused { OnErr result ((e : ℕ) → SkipsTo max_depth depth input.now at e → ⊥) }
     ensures would { IsInvalid result → (greatest e : ℕ) → SkipsTo greatest depth input.now at e → ⊥ }
@@ -159,6 +169,7 @@ fn container_end(
     ensures ok { IfOk result (λ e. SkipsTo max_depth depth input.now at e) }
     ensures fault { IfErr result IsFault }
     ensures readable { IfErr result (λ e. e ≢ Unwritable) }
+    ensures supported { IfErr result (λ e. e ≢ Unsupported) }
     ensures narrow { IfErr result (λ e. (e ≢ TooWide) × (e ≢ NotCarried)) }
     ensures refused { OnErr result ((e : ℕ) → SkipsTo max_depth depth input.now at e → ⊥) }
     ensures would { IsInvalid result → (greatest e : ℕ) → SkipsTo greatest depth input.now at e → ⊥ }

@@ -1,7 +1,6 @@
 pub mod ScalarScans
 pub mod TreeTokens
 pub mod ScanLemmas
-pub mod NumberLemmas
 pub mod LongScans
 pub mod RunLemmas
 pub mod EpochNumbers

@@ -1,13 +1,12 @@
 -- A whole number of 64 bits that stands at an offset is scanned as its token.
-use Rattle.std.proofs.Common.{◌≡◌, ◌+◌, ◌-◌, ◌<◌, ℕ, suc, List, ◌∷◌, ◌++◌, length, drop, slice_range, slice_index, Bool, true, cond, ◌==◌, Some, None, option_and_then, ℤ, pos, negsuc, unsigned_abs, sym, ap, ◌∙◌, arith}
-use Rattle.std.proofs.lemmas.Bool.Decides.{nat_tests}
+use Rattle.std.proofs.Common.{◌≡◌, ◌+◌, ◌-◌, ◌<◌, ℕ, suc, List, ◌∷◌, ◌++◌, length, drop, slice_range, slice_index, Bool, cond, ◌==◌, Some, None, option_and_then, ℤ, unsigned_abs, sym, ap, ◌∙◌, arith}
 use Rattle.std.proofs.lemmas.List.{drop_more, length-drop, length-take-le}
 use Rattle.std.specs.Option.{option_map_or}
 use Rattle.smithy_json.specs.Ascii.{minus_sign}
 use Rattle.smithy_texts.specs.Numeral.{begins_with}
-use Rattle.smithy_texts.specs.Ranges.{fits_signed}
 use Rattle.smithy_json.specs.Standing.{IsLongAt}
 use Rattle.smithy_json.proofs.SliceLemmas.{drop-slice}
+use Rattle.smithy_json.proofs.HeldNumberLemmas.{long_held}
 use Rattle.smithy_types.specs.declared.number.Number.{Number}
 use Rattle.smithy_types.specs.declared.number.Number.TheVariants.{PosInt, NegInt}
 use Rattle.smithy_json.specs.HeldNumber.{can_be_held, held_as, number_of}
@@ -16,10 +15,6 @@ use Rattle.smithy_json_tokens.specs.TokenRules.{scanned, scan_value, scan_number
 use Rattle.smithy_json_tokens.specs.Private.Scans.{BeginsNumber}
 use Rattle.smithy_json_tokens.proofs.DecimalLemmas.{number_is_decimal}
 use Rattle.smithy_json_tokens.proofs.ScalarScans.{number_front, number_scan, number_scans}
-
-long_held : (z : ℤ) → fits_signed 64 z ≡ true → can_be_held z ≡ true
-long_held (pos n) h = grind (arith, nat_tests)
-long_held (negsuc n) h = grind (arith, nat_tests)
 
 same_first : (b c : ℕ) (s t : List ℕ) → b ∷ s ≡ c ∷ t → b ≡ c
 same_first b c s t e = cc

@@ -9,7 +9,7 @@ use Rattle.smithy_schema.specs.Table.{Table, Member, ListShape, MapShape, kind_o
 use Rattle.smithy_schema.specs.Accepted.{AreAcceptedMembers, IsAccepted}
 use Rattle.smithy_schema.specs.Names.{is_query_name}
 use Rattle.smithy_schema.specs.Site.{Site, View, member_view, element_view, value_view, nameless, member_of}
-use Rattle.smithy_schema.specs.Value.{Value, scalar_value, list, map, structure, union, null_element, Values, no_values, value, MapEntries, no_map_entries, map_entry, MemberValues, no_member_values, member_value}
+use Rattle.smithy_schema.specs.Value.{Value, scalar_value, list, map, structure, union, null_element, document_value, Values, no_values, value, MapEntries, no_map_entries, map_entry, MemberValues, no_member_values, member_value}
 use Rattle.smithy_schema.specs.Fits.{FitsOr, ElementsFit, EntriesFit, MembersFit, AscendFrom}
 use Rattle.smithy_schema.specs.Lemmas.Kinds.{list_kind, map_kind, structure_kind, union_kind}
 use Rattle.smithy_schema.proofs.SiteLemmas.{site_at, element_site_at, value_site_at, member_site_at, variant_site_at, element_fit, entry_fit, member_fit, variant_fit}
@@ -28,6 +28,7 @@ no_null t p (list vs) fits = tt
 no_null t p (map es) fits = tt
 no_null t p (structure ms) fits = tt
 no_null t p (union n v) fits = tt
+no_null t p (document_value d) fits = tt
 no_null t p null_element fits = absurd (let e : false ≡ true = fits in cc)
 
 each_true : {X : Type 0} (f : X → List ℕ) (xs : List X) (n : ℕ) (x : X) → list_all is_query_name (mapped f xs) ≡ true → slice_get xs n ≡ Some x → is_query_name (f x) ≡ true
@@ -79,6 +80,7 @@ module _ (t : Table) (accepted : IsAccepted t) where
     pub fit_has_form : (p : Place) (view : View) (nulls : Bool) (v : Value) → FitsOr t p nulls v → HasPositions v → HasForm (site_at t p view) v
     fit_has_form p view nulls (scalar_value x) fits ex = tt
     fit_has_form p view nulls null_element fits ex = tt
+    fit_has_form p view nulls (document_value d) fits ex = tt
     fit_has_form p view nulls (list vs) fits ex =
         let l = list_kind (kind_of t p) fits.0 in
         let inner = subst (λ k. ElementsFit t k vs) l.1 fits.1 in (

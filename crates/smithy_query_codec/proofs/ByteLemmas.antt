@@ -21,7 +21,7 @@ use Rattle.smithy_schema.specs.declared.shape_type.TimestampFormat.{TimestampFor
 use Rattle.smithy_schema.specs.TimeForms.{format_of}
 use Rattle.smithy_schema.specs.Names.{is_name_byte}
 use Rattle.smithy_schema.specs.Table.{Table, Kind, kind_of}
-use Rattle.smithy_schema.specs.Value.{ScalarValue, boolean, whole, text, bytes, decimal as decimal_value, instant, Value, scalar_value, list, map, structure, union, null_element, Values, no_values, value, MapEntries, no_map_entries, map_entry, MemberValues, no_member_values, member_value}
+use Rattle.smithy_schema.specs.Value.{ScalarValue, boolean, whole, text, bytes, decimal as decimal_value, instant, Value, scalar_value, list, map, structure, union, null_element, document_value, Values, no_values, value, MapEntries, no_map_entries, map_entry, MemberValues, no_member_values, member_value}
 use Rattle.smithy_schema.specs.Fits.{FitsOr, ElementsFit, EntriesFit, MembersFit, is_scalar_of}
 use Rattle.smithy_schema.proofs.ScalarLemmas.{scalar_kind, whole_fits, decimal_fits, text_is_utf8, blob_is_bytes, instant_fits}
 use Rattle.smithy_schema.proofs.InstantTexts.{instant_text_is_utf8}
@@ -129,6 +129,7 @@ abbrev mutual
   HasBytes (structure ms) = MembersHaveBytes ms
   HasBytes (union n v) = HasBytes v
   HasBytes null_element = Unit {0}
+  HasBytes (document_value d) = Unit {0}
 
   pub ElementsHaveBytes : Values → Type 0
   ElementsHaveBytes no_values = Unit {0}
@@ -146,6 +147,7 @@ mutual
   pub fit_has_bytes : (t : Table) (p : Place) (nulls : Bool) (v : Value) → FitsOr t p nulls v → HasBytes v
   fit_has_bytes t p nulls (scalar_value x) h = λ form. scalar_bytes (kind_of t p) x form h
   fit_has_bytes t p nulls null_element h = tt
+  fit_has_bytes t p nulls (document_value d) h = tt
   fit_has_bytes t p nulls (list vs) h = elements_have_bytes t (kind_of t p) vs h.1
   fit_has_bytes t p nulls (map es) h = entries_have_bytes t (kind_of t p) es h.1
   fit_has_bytes t p nulls (structure ms) h = members_have_bytes t (kind_of t p) ms h.1

@@ -5,7 +5,7 @@ use Rattle.std.specs.List.{AllByRecursion}
 use Rattle.std.proofs.lemmas.List.{append_cancel_left}
 use Rattle.std.proofs.lemmas.Fmt.{decimal_injective}
 use Rattle.smithy_schema.specs.Site.{Site, element_of, value_of, member_of}
-use Rattle.smithy_schema.specs.Value.{Value, scalar_value, list, map, structure, union, null_element, Values, no_values, value, MapEntries, no_map_entries, map_entry, MemberValues, no_member_values, member_value}
+use Rattle.smithy_schema.specs.Value.{Value, scalar_value, list, map, structure, union, null_element, document_value, Values, no_values, value, MapEntries, no_map_entries, map_entry, MemberValues, no_member_values, member_value}
 use Rattle.smithy_schema.specs.Writing.{count_of, entry_count}
 use Rattle.smithy_query_codec.specs.Leaves.{Path, Leaf, Stand, flat_member, member, neither, under, numbered, query_name, stand_of, element_name, key_name, value_name, inner_path, or_empty, entry_part, leaves, element_leaves, entry_leaves, member_leaves}
 use Rattle.smithy_query_codec.proofs.Forms.{names_of, HasForm, ElementsHaveForm, EntriesHaveForm, MembersHaveForm}
@@ -130,6 +130,7 @@ mutual
   pub leaves_distinct : (site : Site) (stand : Stand) (v : Value) → HasForm site v → Pairwise Differ (leaves site stand v)
   leaves_distinct site stand (scalar_value x) h = (tt, tt)
   leaves_distinct site stand null_element h = tt
+  leaves_distinct site stand (document_value d) h = tt
   leaves_distinct site stand (list vs) h =
       let small : 1 + length (element_leaves (element_of site) vs) ≤ 18446744073709551616 = omega (arith, h.1, length_elements (element_of site) vs) in
       or_empty_distinct stand _

@@ -4,7 +4,7 @@ use Rattle.std.specs.Prelude.{◌≡◌, ◌≢◌, ◌<◌, ℕ, List, [], ◌+
 use Rattle.std.specs.List.{AllByRecursion}
 use Rattle.smithy_schema.specs.Names.{is_query_name}
 use Rattle.smithy_schema.specs.Site.{Site, element_of, value_of, member_of}
-use Rattle.smithy_schema.specs.Value.{Value, scalar_value, list, map, structure, union, null_element, Values, no_values, value, MapEntries, no_map_entries, map_entry, MemberValues, no_member_values, member_value}
+use Rattle.smithy_schema.specs.Value.{Value, scalar_value, list, map, structure, union, null_element, document_value, Values, no_values, value, MapEntries, no_map_entries, map_entry, MemberValues, no_member_values, member_value}
 use Rattle.smithy_schema.specs.Writing.{count_of, entry_count}
 use Rattle.smithy_query_codec.specs.Leaves.{query_name, element_name, key_name, value_name}
 
@@ -41,6 +41,7 @@ abbrev mutual
   HasForm site (structure ms) = MembersHaveForm site ms
   HasForm site (union n v) = HasOwnName (member_of site n) [] × IsNoNull v × HasForm (member_of site n) v
   HasForm site null_element = Unit {0}
+  HasForm site (document_value d) = Unit {0}
 
   pub ElementsHaveForm : Site → Values → Type 0
   ElementsHaveForm site no_values = Unit {0}

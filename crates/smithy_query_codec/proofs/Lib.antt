@@ -1,12 +1,13 @@
 pub mod OnLiterals
 mod StandardFacts
+mod DocumentFacts
 pub mod PairLemmas
 pub mod PathLemmas
 pub mod SegmentLemmas
 pub mod LeafLemmas
 pub mod Forms
 pub mod WritingLemmas
-pub mod NullLemmas
+pub mod RefusalLemmas
 pub mod AcceptedForms
 pub mod ByteLemmas
 pub mod DistinctLemmas

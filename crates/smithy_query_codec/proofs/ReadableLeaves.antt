@@ -5,7 +5,7 @@ use Rattle.std.proofs.lemmas.List.Elements.{All-nil}
 use Rattle.percent_encoding.proofs.PercentLemmas.{IsByte}
 use Rattle.smithy_schema.specs.Names.{is_query_name}
 use Rattle.smithy_schema.specs.Site.{Site, element_of, value_of, member_of}
-use Rattle.smithy_schema.specs.Value.{Value, scalar_value, list, map, structure, union, null_element, Values, no_values, value, MapEntries, no_map_entries, map_entry, MemberValues, no_member_values, member_value}
+use Rattle.smithy_schema.specs.Value.{Value, scalar_value, list, map, structure, union, null_element, document_value, Values, no_values, value, MapEntries, no_map_entries, map_entry, MemberValues, no_member_values, member_value}
 use Rattle.smithy_query_codec.specs.Leaves.{Path, Leaf, Stand, flat_member, member, neither, under, numbered, query_name, stand_of, element_name, key_name, value_name, inner_path, or_empty, form_at, leaves, element_leaves, entry_leaves, member_leaves}
 use Rattle.smithy_query_codec.proofs.Forms.{HasForm, ElementsHaveForm, EntriesHaveForm, MembersHaveForm}
 use Rattle.smithy_query_codec.proofs.ByteLemmas.{HasBytes, ElementsHaveBytes, EntriesHaveBytes, MembersHaveBytes}
@@ -54,6 +54,7 @@ mutual
   pub leaves_readable : (site : Site) (stand : Stand) (v : Value) → HasForm site v → HasBytes v → AreReadable (leaves site stand v)
   leaves_readable site stand (scalar_value x) h b = ((tt, b (form_at site)), tt)
   leaves_readable site stand null_element h b = tt
+  leaves_readable site stand (document_value d) h b = tt
   leaves_readable site stand (list vs) h b =
       let small : 1 + length (element_leaves (element_of site) vs) ≤ 18446744073709551616 = omega (arith, h.1, length_elements (element_of site) vs) in
       readable_or_empty stand _

@@ -1,12 +1,12 @@
 -- The form of a whole value: what a fresh serializer writes, how it is read back, and that its paths are distinct.
-use Rattle.std.proofs.Common.{◌≡◌, ℕ, List, [], ◌∷◌, ◌++◌, All, map as mapped, true, false, None, Ok, Err, option_to_list, option_map, unwrap_or, codes, refl, ap, ◌∙◌, arith}
+use Rattle.std.proofs.Common.{◌≡◌, ℕ, List, [], ◌∷◌, ◌++◌, All, map as mapped, true, false, Some, None, Ok, Err, option_to_list, option_map, unwrap_or, codes, refl, ap, ◌∙◌, arith}
 use Rattle.std.specs.List.{AllByRecursion}
 use Rattle.std.specs.Str.{byte}
 use Rattle.std.proofs.lemmas.Bool.Decides.{nat_tests}
 use Rattle.std.proofs.lemmas.List.Elements.{All-append, All-cons, All-nil}
 use Rattle.percent_encoding.proofs.PercentLemmas.{IsByte}
 use Rattle.smithy_schema.specs.declared.place.Place.{Place}
-use Rattle.smithy_schema.specs.declared.error.SerdeError.TheVariants.{Unwritable}
+use Rattle.smithy_schema.specs.declared.error.SerdeError.{SerdeError}
 use Rattle.smithy_schema.specs.Table.{Table}
 use Rattle.smithy_schema.specs.Names.{is_name_byte}
 use Rattle.smithy_schema.specs.Accepted.{IsAccepted}
@@ -21,6 +21,7 @@ use Rattle.smithy_query.proofs.SplitLemmas.{IsPathByte, IsReadable, pairs_of_for
 use Rattle.smithy_query_codec.specs.Leaves.{Path, Leaf, neither, query_name, leaves, member_leaves}
 use Rattle.smithy_query_codec.specs.Canonical.{path_text, pair_of_leaf, leaves_form, leaves_pairs, canonical_query}
 use Rattle.smithy_query_codec.specs.Writable.{can_be_written}
+use Rattle.smithy_query_codec.specs.Refusals.{refusal_of}
 use Rattle.smithy_query_codec.specs.Counts.{HasPositions}
 use Rattle.smithy_query_codec.specs.Distinct.{HaveDistinctPaths, HaveDistinctTexts}
 use Rattle.smithy_query_codec.specs.Writing.{QueryState, fresh_state, query_after}
@@ -29,7 +30,7 @@ use Rattle.smithy_query_codec.proofs.ByteLemmas.{fit_has_bytes}
 use Rattle.smithy_query_codec.proofs.DistinctTexts.{distinct_paths, distinct_texts}
 use Rattle.smithy_query_codec.proofs.Forms.{HasForm}
 use Rattle.smithy_query_codec.proofs.LeafLemmas.{leaves_text, under-nil}
-use Rattle.smithy_query_codec.proofs.NullLemmas.{value_refused}
+use Rattle.smithy_query_codec.proofs.RefusalLemmas.{value_refused}
 use Rattle.smithy_query_codec.proofs.ReadableLeaves.{IsReadableLeaf, leaves_readable}
 use Rattle.smithy_query_codec.proofs.SegmentLemmas.{IsNameText}
 use Rattle.smithy_query_codec.proofs.WritingLemmas.{at, value_adds}
@@ -50,10 +51,10 @@ whole_form site ms action version nameless h can =
     ∙ ap (λ ls. Ok (whole_state (form_head action version ++ leaves_text ls))) (under-nil (member_leaves site ms))
 
 -- and refuses it where no form can express it
-pub no_form : (site : Site) (ms : MemberValues) (action version : List ℕ) → site.view.name ≡ None → HasForm site (structure ms) → can_be_written site (structure ms) ≡ false
-    → write query_after site (structure ms) (fresh_state action version) ≡ Err Unwritable
-no_form site ms action version nameless h cannot =
-    value_refused site (structure ms) (form_head action version) [] [] 0 [] [] [] [] h cannot (no_name site.view nameless) tt tt refl refl
+pub no_form : (site : Site) (ms : MemberValues) (action version : List ℕ) (e : SerdeError) → site.view.name ≡ None → HasForm site (structure ms) → refusal_of site (structure ms) ≡ Some e
+    → write query_after site (structure ms) (fresh_state action version) ≡ Err e
+no_form site ms action version e nameless h refused =
+    value_refused site (structure ms) (form_head action version) [] [] 0 [] [] [] [] e h refused (no_name site.view nameless) tt tt refl refl
 
 -- ---- reading back
 
@@ -108,9 +109,9 @@ module _ (t : Table) (accepted : IsAccepted t) (p : Place) (view : View) (ms : M
   fit_is_written action version nameless can = whole_form (site_at t p view) ms action version nameless has_form can
 
   -- what none can has none
-  pub fit_is_refused : (action version : List ℕ) → view.name ≡ None → can_be_written (site_at t p view) (structure ms) ≡ false
-      → write query_after (site_at t p view) (structure ms) (fresh_state action version) ≡ Err Unwritable
-  fit_is_refused action version nameless cannot = no_form (site_at t p view) ms action version nameless has_form cannot
+  pub fit_is_refused : (action version : List ℕ) (e : SerdeError) → view.name ≡ None → refusal_of (site_at t p view) (structure ms) ≡ Some e
+      → write query_after (site_at t p view) (structure ms) (fresh_state action version) ≡ Err e
+  fit_is_refused action version e nameless refused = no_form (site_at t p view) ms action version e nameless has_form refused
 
   -- what is read is what was written
   pub fit_is_read : (action version : List ℕ) → All IsByte action → All IsByte version

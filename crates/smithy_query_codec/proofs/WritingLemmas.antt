@@ -7,7 +7,7 @@ use Rattle.std.proofs.lemmas.List.{append-nil, length-append}
 use Rattle.std.proofs.Math.Seq.{take-append_seam, drop-append_seam, take-length}
 use Rattle.smithy_schema.specs.declared.error.SerdeError.{SerdeError}
 use Rattle.smithy_schema.specs.Site.{Site, View, element_of, key_of, value_of, member_of}
-use Rattle.smithy_schema.specs.Value.{ScalarValue, text, Value, scalar_value, list, map, structure, union, null_element, Values, no_values, value, MapEntries, no_map_entries, map_entry, MemberValues, no_member_values, member_value}
+use Rattle.smithy_schema.specs.Value.{ScalarValue, text, Value, scalar_value, list, map, structure, union, null_element, document_value, Values, no_values, value, MapEntries, no_map_entries, map_entry, MemberValues, no_member_values, member_value}
 use Rattle.smithy_schema.specs.ScalarTest.{scalars_pass, elements_pass, entries_pass, members_pass}
 use Rattle.smithy_schema.specs.Writing.{Event, Open, open_structure, open_list, open_map_at_key, open_map_at_value, begin_structure, begin_list, begin_map, scalar_of, end_structure, end_list, end_map, after_value, after_scalar, after_begin, and_run, run, write, events, element_events, entry_events, member_events, count_of, entry_count}
 use Rattle.smithy_schema.proofs.OpenLemmas.{scalar_taken}
@@ -68,12 +68,14 @@ counted_entries c (map_entry key v es) = counted_entries (suc c) es
 abbrev pub Placed : List Open → View → Value → Type 0
 Placed os view (scalar_value x) = is_placed os view ≡ true
 Placed os view null_element = takes_null os ≡ false
+Placed os view (document_value d) = is_placed os view ≡ true
 Placed os view _ = Unit {0}
 
 -- a part of a list or a map may
 pub part_placed : (os : List Open) (view : View) (v : Value) → is_placed os view ≡ true → takes_null os ≡ false → Placed os view v
 part_placed os view (scalar_value x) h k = h
 part_placed os view null_element h k = k
+part_placed os view (document_value d) h k = h
 part_placed os view (list vs) h k = tt
 part_placed os view (map es) h k = tt
 part_placed os view (structure ms) h k = tt
@@ -83,6 +85,7 @@ part_placed os view (union n v) h k = tt
 pub member_placed : (os : List Open) (view : View) (v : Value) → is_placed os view ≡ true → IsNoNull v → Placed os view v
 member_placed os view (scalar_value x) h k = h
 member_placed os view null_element h k = absurd k
+member_placed os view (document_value d) h k = h
 member_placed os view (list vs) h k = tt
 member_placed os view (map es) h k = tt
 member_placed os view (structure ms) h k = tt
@@ -120,7 +123,7 @@ member_parts site n v vs h = split_true (holds_null v) (members_hold_null vs) (s
 is_allowed : (can : Bool) (r : Result (List Open) SerdeError) (after : List Open) → can ≡ true → r ≡ Ok after → allowed can r ≡ Ok after
 is_allowed can r after h k = ap (λ b. allowed b r) h ∙ k
 
-both_true : (a b : Bool) → a ≡ true → b ≡ true → (a && b) ≡ true
+pub both_true : (a b : Bool) → a ≡ true → b ≡ true → (a && b) ≡ true
 both_true a b h k = rw (h, k) refl
 
 begins : (kind : Open) (can : Bool) (os after : List Open) → can ≡ true → after_value os ≡ Ok after → allowed can (after_begin kind os) ≡ Ok (kind ∷ after)
@@ -266,13 +269,13 @@ map_ends o path child inner names key val k n os ms ls full =
 
 scalar_adds : (site : Site) (x : ScalarValue) (o : List ℕ) (path : Path) (names : List ℕ) (c : ℕ) (os after : List Open) (ms : List Mark) (child : Path)
     → child_path os c (innermost_key names ms) (innermost_value names ms) site.view ≡ child → AreSegments (path ++ child)
-    → can_write site.place.time x ≡ true → is_placed os site.view ≡ true → has_room os c ≡ true → after_value os ≡ Ok after
+    → can_write.scalar site.place.time x ≡ true → is_placed os site.view ≡ true → has_room os c ≡ true → after_value os ≡ Ok after
     → query_after (scalar_of site x) (at o path names c os ms)
     ≡ Ok (at (o ++ leaves_text (under (path ++ child) (record { path = []; text = scalar_text (form_at site) x } ∷ []))) path names (child_count os c) after ms)
 scalar_adds site x o path names c os after ms child is full can placed room taken =
     let s = at o path names c os ms in
     let text = scalar_text (form_at site) x in
-    let allows = is_allowed (can_write site.place.time x && (is_placed os site.view && has_room os c)) (after_scalar x os) after (both_true _ _ can (both_true _ _ placed room)) (scalar_taken x os after taken) in
+    let allows = is_allowed (can_write.scalar site.place.time x && (is_placed os site.view && has_room os c)) (after_scalar x os) after (both_true _ _ can (both_true _ _ placed room)) (scalar_taken x os after taken) in
     ap (where_taken (made (scalar_of site x) s)) allows
     ∙ ap (λ more. Ok (at (o ++ pair_text (extended (path_text path) more) text) path names (child_count os c) after ms)) is
     ∙ ap (λ t. Ok (at (o ++ t) path names (child_count os c) after ms)) (scalar_leaf path child text full)
@@ -303,6 +306,7 @@ mutual
   value_adds site (scalar_value x) o path names c os after ms child form can is full placed room taken =
       ap (and_run (run query_after [])) (scalar_adds site x o path names c os after ms child is full can placed room taken)
   value_adds site null_element o path names c os after ms child form can is full placed room taken = absurd (let e : false ≡ true = can in cc)
+  value_adds site (document_value d) o path names c os after ms child form can is full placed room taken = absurd (let e : false ≡ true = can in cc)
   value_adds site (list vs) o path names c os after ms child form can is full placed room taken =
       let stand = child_stand os site.view in
       let inner = inner_path stand (element_name site) in

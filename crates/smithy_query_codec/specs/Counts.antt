@@ -1,6 +1,6 @@
 -- That each part of a value has a position.
 use Rattle.std.specs.Prelude.{◌<◌}
-use Rattle.smithy_schema.specs.Value.{Value, scalar_value, list, map, structure, union, null_element, Values, no_values, value, MapEntries, no_map_entries, map_entry, MemberValues, no_member_values, member_value}
+use Rattle.smithy_schema.specs.Value.{Value, scalar_value, list, map, structure, union, null_element, document_value, Values, no_values, value, MapEntries, no_map_entries, map_entry, MemberValues, no_member_values, member_value}
 use Rattle.smithy_schema.specs.Writing.{count_of, entry_count}
 
 -- each list and map in the value has fewer than 2^64 parts
@@ -12,6 +12,7 @@ abbrev mutual
   HasPositions (structure ms) = MembersHavePositions ms
   HasPositions (union n v) = HasPositions v
   HasPositions null_element = Unit {0}
+  HasPositions (document_value d) = Unit {0}
 
   pub ElementsHavePositions : Values → Type 0
   ElementsHavePositions no_values = Unit {0}

@@ -10,7 +10,7 @@ use Rattle.smithy_schema.specs.declared.shape_type.TimestampFormat.TheVariants.{
 use Rattle.smithy_schema.specs.TimeForms.{format_of, form_or}
 use Rattle.smithy_schema.specs.Table.{list_shape_of, map_shape_of, element_name_of, key_name_of, value_name_of}
 use Rattle.smithy_schema.specs.Site.{Site, View, kind_at, element_of, value_of, member_of}
-use Rattle.smithy_schema.specs.Value.{ScalarValue, boolean, whole, text, bytes, decimal as decimal_value, instant, Value, scalar_value, list, map, structure, union, null_element, Values, no_values, value, MapEntries, no_map_entries, map_entry, MemberValues, no_member_values, member_value}
+use Rattle.smithy_schema.specs.Value.{ScalarValue, boolean, whole, text, bytes, decimal as decimal_value, instant, Value, scalar_value, list, map, structure, union, null_element, document_value, Values, no_values, value, MapEntries, no_map_entries, map_entry, MemberValues, no_member_values, member_value}
 
 -- segments, outermost first
 abbrev pub Path : Type 0
@@ -106,8 +106,9 @@ abbrev mutual
   leaves site stand (union n v) =
       under (option_to_list (query_name (member_of site n).view))
       (leaves (member_of site n) (stand_of (member_of site n).view) v)
-  -- a form has none
+  -- a form has neither
   leaves site stand null_element = []
+  leaves site stand (document_value d) = []
 
   -- of each element
   pub element_leaves : Site → Values → List (List Leaf)

@@ -3,6 +3,7 @@ pub mod Leaves
 pub mod Canonical
 pub mod Nulls
 pub mod Writable
+pub mod Refusals
 pub mod Counts
 pub mod Distinct
 -- for contracts

@@ -1,6 +1,6 @@
--- The values that no form can express.
+-- The values that hold a null element, which no form can express.
 use Rattle.std.specs.Prelude.{Bool, true, false, ◌||◌}
-use Rattle.smithy_schema.specs.Value.{Value, scalar_value, list, map, structure, union, null_element, Values, no_values, value, MapEntries, no_map_entries, map_entry, MemberValues, no_member_values, member_value}
+use Rattle.smithy_schema.specs.Value.{Value, scalar_value, list, map, structure, union, null_element, document_value, Values, no_values, value, MapEntries, no_map_entries, map_entry, MemberValues, no_member_values, member_value}
 
 -- a null element stands in the value
 abbrev mutual
@@ -11,6 +11,7 @@ abbrev mutual
   holds_null (structure ms) = members_hold_null ms
   holds_null (union n v) = holds_null v
   holds_null null_element = true
+  holds_null (document_value d) = false
 
   pub elements_hold_null : Values → Bool
   elements_hold_null no_values = false

@@ -1,20 +1,20 @@
--- The values that can be written to a form: those without a null, and of instants those that their time forms can write.
-use Rattle.std.specs.Prelude.{Bool, ◌&&◌, not, Option}
-use Rattle.smithy_schema.specs.declared.shape_type.TimestampFormat.{TimestampFormat}
+-- The values that can be written to a form: those without a null and without a document, and of instants those that their time
+-- forms can write.
+use Rattle.std.specs.Prelude.{Bool, false, ◌&&◌, not}
 use Rattle.smithy_schema.specs.declared.shape_type.TimestampFormat.TheVariants.{DateTime}
 use Rattle.smithy_schema.specs.Site.{Site}
-use Rattle.smithy_schema.specs.Value.{ScalarValue, Value}
+use Rattle.smithy_schema.specs.Value.{Value}
 use Rattle.smithy_schema.specs.TimeForms.{form_or, form_writes, form_holds}
-use Rattle.smithy_schema.specs.ScalarTest.{scalars_pass}
+use Rattle.smithy_schema.specs.ScalarTest.{ValueTest, scalars_pass}
 use Rattle.smithy_query_codec.specs.Nulls.{holds_null}
 
--- a scalar can be written at a place with this time form
-abbrev pub can_write : Option TimestampFormat → ScalarValue → Bool
-can_write time x = form_writes (form_or DateTime time) x
+-- a scalar can be written at a place with this time form, and no document anywhere
+abbrev pub can_write : ValueTest
+can_write = record { scalar = λ time x. form_writes (form_or DateTime time) x; documents = false }
 
 -- and what is written stands for exactly it
-abbrev pub query_holds : Option TimestampFormat → ScalarValue → Bool
-query_holds time x = form_holds (form_or DateTime time) x
+abbrev pub query_holds : ValueTest
+query_holds = record { scalar = λ time x. form_holds (form_or DateTime time) x; documents = false }
 
 -- the value at the site can be written
 abbrev pub can_be_written : Site → Value → Bool

@@ -3,9 +3,9 @@ use Rattle.std.specs.Prelude.{ℕ, suc, ◌==◌, ◌&&◌, nat_lt, List, [], �
 use Rattle.std.specs.Option.{option_map_or}
 use Rattle.std.specs.Str.{byte}
 use Rattle.smithy_schema.specs.declared.error.SerdeError.{SerdeError}
-use Rattle.smithy_schema.specs.declared.error.SerdeError.TheVariants.{Unwritable}
+use Rattle.smithy_schema.specs.declared.error.SerdeError.TheVariants.{Unsupported, Unwritable}
 use Rattle.smithy_schema.specs.Site.{Site, View}
-use Rattle.smithy_schema.specs.Writing.{Event, Writer, begin_structure, end_structure, begin_list, end_list, begin_map, end_map, null_of, scalar_of, big_integer_of, big_decimal_of, Open, open_structure, open_list, open_map_at_key, open_map_at_value, open_after}
+use Rattle.smithy_schema.specs.Writing.{Event, Writer, begin_structure, end_structure, begin_list, end_list, begin_map, end_map, null_of, scalar_of, big_integer_of, big_decimal_of, document_of, Open, open_structure, open_list, open_map_at_key, open_map_at_value, open_after}
 use Rattle.smithy_query.specs.Form.{pair_text, form_head}
 use Rattle.smithy_query_codec.specs.Leaves.{Path, Stand, flat_member, member, neither, query_name, stand_of, element_name, key_name, value_name, inner_path, scalar_text, form_at}
 use Rattle.smithy_query_codec.specs.Writable.{can_write}
@@ -201,6 +201,7 @@ made (null_of site) s opens = record s { opens = opens }
 made (scalar_of site x) s opens = wrote s site.view (scalar_text (form_at site) x) opens
 made (big_integer_of site written) s opens = wrote s site.view written opens
 made (big_decimal_of site written) s opens = wrote s site.view written opens
+made (document_of site d) s opens = record s { opens = opens }
 
 -- ---- what is refused
 
@@ -211,9 +212,10 @@ can_take (begin_list site length) s = has_room s.opens s.count
 can_take (begin_map site length) s = has_room s.opens s.count
 can_take (null_of site) s = takes_null s.opens
 can_take (scalar_of site x) s =
-    can_write site.place.time x && (is_placed s.opens site.view && has_room s.opens s.count)
+    can_write.scalar site.place.time x && (is_placed s.opens site.view && has_room s.opens s.count)
 can_take (big_integer_of site written) s = is_placed s.opens site.view && has_room s.opens s.count
 can_take (big_decimal_of site written) s = is_placed s.opens site.view && has_room s.opens s.count
+can_take (document_of site d) s = is_placed s.opens site.view && has_room s.opens s.count
 can_take _ s = true
 
 abbrev pub allowed : Bool → Result (List Open) SerdeError → Result (List Open) SerdeError
@@ -224,5 +226,17 @@ abbrev pub where_taken : (List Open → QueryState) → Result (List Open) Serde
 where_taken make (Ok opens) = Ok (make opens)
 where_taken make (Err e) = Err e
 
+-- no document is written
+abbrev pub is_supported : Event → Bool
+is_supported (document_of site d) = can_write.documents
+is_supported _ = true
+
+-- what is made, unless a form has no such call
+abbrev pub where_supported : Bool → Result QueryState SerdeError → Result QueryState SerdeError
+where_supported true made_of = made_of
+where_supported false (Ok s) = Err Unsupported
+where_supported false (Err e) = Err e
+
+-- a call is refused where a form can't take it there, and then where it is that of a document
 abbrev pub query_after : Writer QueryState
-query_after e s = where_taken (made e s) (allowed (can_take e s) (open_after e s.opens))
+query_after e s = where_supported (is_supported e) (where_taken (made e s) (allowed (can_take e s) (open_after e s.opens)))

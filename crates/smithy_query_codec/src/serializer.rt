@@ -17,7 +17,7 @@ use crate::numbers::decimal_text;
 use crate::path::{front, push_head, push_inner, push_pair};
 use itoa::Buffer;
 use smithy_schema::{FinishSerializer, Schema, SerdeError, ShapeSerializer, TimestampFormat};
-use smithy_types::{BigDecimal, BigInteger, DateTime, base64};
+use smithy_types::{BigDecimal, BigInteger, DateTime, Document, base64};
 use std::alloc::{AllocError, Global};
 
 /// Writes one form: Action, Version, and the leaves of a value, each as `&`, its path, `=` and its text.
@@ -413,6 +413,24 @@ impl ShapeSerializer for QueryShapeSerializer {
         let text = form.text_of(*self.out.allocator(), value)?;
         self.failed = false;
         self.write_text(schema, text.as_str())
+    }
+
+    // A form has no documents. It takes no memory.
+    fn write_document(&mut self, schema: &Schema<'_>, _value: &Document) -> Result<(), SerdeError> {
+        if self.failed {
+            return Err(SerdeError::Failed);
+        }
+        self.failed = true;
+        if !is_placed(&self.stack, schema) {
+            return Err(SerdeError::Unwritable);
+        }
+        if !has_room(&self.stack, self.count) {
+            return Err(SerdeError::Unwritable);
+        }
+        if is_key_due(&self.stack) {
+            return Err(SerdeError::Unwritable);
+        }
+        Err(SerdeError::Unsupported)
     }
 }
 

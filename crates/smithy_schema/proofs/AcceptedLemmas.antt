@@ -1,8 +1,9 @@
 -- Declarations that pass every test are an accepted table.
 use Rattle.std.proofs.Common.{◌≡◌, ◌≢◌, ℕ, ◌+◌, ◌-◌, ◌<◌, ◌≤◌, List, [], ◌∷◌, map, length, take, get_or, Bool, true, false, not, cond, ltb, ◌&&◌, ◌||◌, Option, Some, None, refl, sym, ap, ◌∙◌, arith, subst, suc, zero, eqb, inl, inr}
+use Rattle.std.specs.Prelude.{codes}
 use Rattle.std.specs.Str.{bytes_eq}
 use Rattle.std.specs.Option.{option_map, option_map_or, option_or, is_some, unwrap_or}
-use Rattle.std.specs.List.{list_any, list_all, position, find, enumerate_from, slice_get}
+use Rattle.std.specs.List.{AllByRecursion, list_any, list_all, position, find, enumerate_from, slice_get}
 use Rattle.std.proofs.lemmas.Bool.{true≢false, cases_Bool, and_parts}
 use Rattle.std.proofs.lemmas.Bool.Decides.{nat_tests}
 use Rattle.std.proofs.lemmas.List.{length-map, get_or-map, get_or-take, length-take}
@@ -10,14 +11,16 @@ use Rattle.std.proofs.lemmas.List.Folds.{list_any_at, list_any_none, Any-from_li
 use Rattle.std.proofs.lemmas.Simd.{map-map}
 use Rattle.smithy_schema.specs.declared.place.Place.{Place}
 use Rattle.smithy_schema.specs.declared.place.Target.{Target}
-use Rattle.smithy_schema.specs.declared.place.Target.TheVariants.{Simple, Declared}
+use Rattle.smithy_schema.specs.declared.place.Target.TheVariants.{Simple, Document, Declared}
 use Rattle.smithy_schema.specs.declared.shape_type.Scalar.{Scalar}
+use Rattle.smithy_schema.specs.declared.shape_type.ShapeRef.{ShapeRef}
 use Rattle.smithy_schema.specs.Table as table
-use Rattle.smithy_schema.specs.Table.{Kind, scalar, structure_of, nothing, kind_of_shape, kind_of, kind_of_target, place_in, list_shape_of, map_shape_of, element_name_of, IsClosed}
-use Rattle.smithy_schema.specs.Names.{scalar_names, named, is_reserved, has_equal_texts, is_query_name}
+use Rattle.smithy_schema.specs.Table.{Kind, scalar, document, structure_of, nothing, kind_of_shape, kind_of, kind_of_target, place_in, list_shape_of, map_shape_of, element_name_of, is_document_target, IsDocument, IsSparse, IsClosed}
+use Rattle.smithy_schema.specs.Names.{simple_targets, named, is_document_name, is_reserved, has_equal_texts, is_query_name}
 use Rattle.smithy_schema.specs.Decl.{PlaceWords, MemberDecl, MapDecl, Form, structure, union, list, map as map_form, Decl}
-use Rattle.smithy_schema.specs.Acceptance.{Fault, Test, tests, members_of, place_of_member, place_of_elements, place_of_values, places_of, query_names_of, element_name_of as written_name_of, key_name_of, value_name_of, is_declared, place_of, member_of, list_shape_of as shape_of_list, map_shape_of as shape_of_map, shape_of, table_from, json_name_of, query_name_of, has_unknown_target, has_unknown_shape, is_duplicate, has_clash, has_unfit_name, has_one_entry_name, has_key_value_name, is_too_many, first_failing, first_fault}
+use Rattle.smithy_schema.specs.Acceptance.{Fault, Test, tests, members_of, place_of_member, place_of_elements, place_of_values, places_of, query_names_of, element_name_of as written_name_of, key_name_of, value_name_of, is_declared, place_of, member_of, list_shape_of as shape_of_list, map_shape_of as shape_of_map, shape_of, table_from, json_name_of, query_name_of, has_unknown_target, has_unknown_shape, is_duplicate, has_clash, has_unfit_name, has_one_entry_name, has_key_value_name, has_sparse_documents, is_sparse_document, is_too_many, first_failing, first_fault}
 use Rattle.smithy_schema.specs.Accepted.{AreAcceptedMembers, AreAcceptedNames, HaveTextNames, IsAccepted}
+use Rattle.smithy_schema.specs.Lemmas.Kinds.{document_target_is}
 use Rattle.smithy_schema.proofs.OrderLemmas.{first_of, false_if, not_both, no_equal_texts, le_or_lt}
 
 -- ---- each declaration passes each test
@@ -50,6 +53,7 @@ pub record Passes (ds : List Decl) : Type 0 where
   pub distinct : (i : ℕ) (d : Decl) → i < length ds → has_clash ds (1 + i) (get_or ds i d) ≡ false
   pub fit : (i : ℕ) (d : Decl) → i < length ds → has_unfit_name ds (1 + i) (get_or ds i d) ≡ false
   pub told_apart : (i : ℕ) (d : Decl) → i < length ds → has_key_value_name ds (1 + i) (get_or ds i d) ≡ false
+  pub dense : (i : ℕ) (d : Decl) → i < length ds → is_sparse_document ds (1 + i) (get_or ds i d) ≡ false
   pub few : (i : ℕ) (d : Decl) → i < length ds → is_too_many ds (1 + i) (get_or ds i d) ≡ false
 
 abbrev EachPasses : List Decl → List (Fault × Test) → Type 0
@@ -65,8 +69,17 @@ each_passes ds (t ∷ ts) none =
 pub passes : (ds : List Decl) → first_fault ds tests ≡ None → Passes ds
 passes ds none =
     let all = each_passes ds tests none in
-    let behind_places = all.1.1.1.1 in
-    record { known = all.1.1.0; single = behind_places.0; distinct = behind_places.1.0; fit = behind_places.1.1.0; told_apart = behind_places.1.1.1.0; few = behind_places.1.1.1.1.0 }
+    let behind_places = all.1.1.1 in
+    let behind_names = behind_places.1.1.1 in
+    record {
+      known = all.1.0;
+      single = behind_places.0;
+      distinct = behind_places.1.0;
+      fit = behind_places.1.1.0;
+      told_apart = behind_names.0;
+      dense = behind_names.1.0;
+      few = behind_names.1.1.0;
+    }
 
 or_false : (a b : Bool) → a || b ≡ false → (a ≡ false) × (b ≡ false)
 or_false true b h = absurd (true≢false h)
@@ -160,7 +173,7 @@ abbrev to_declaration : List Decl → Decl → table.Declaration
 to_declaration ds d = record { name = d.name; shape = shape_of ds d.form }
 
 -- a fact of each kind that the table can have
-module _ (ds : List Decl) (P : Kind → Type 0) (of_scalar : (s : Scalar) → P (scalar s)) (of_nothing : P nothing)
+module _ (ds : List Decl) (P : Kind → Type 0) (of_scalar : (s : Scalar) → P (scalar s)) (of_document : P document) (of_nothing : P nothing)
     (of_form : (n : ℕ) (d : Decl) → n < length ds → get_or ds n d ≡ d → P (kind_of_shape (shape_of ds d.form))) where
   of_found : (n : ℕ) (o : Option Decl) → slice_get ds n ≡ o → P (option_map_or kind_of_shape (option_map (λ (d : table.Declaration). d.shape) (option_map (to_declaration ds) o)) nothing)
   of_found n None found = of_nothing
@@ -168,6 +181,7 @@ module _ (ds : List Decl) (P : Kind → Type 0) (of_scalar : (s : Scalar) → P 
 
   of_target : (target : Target) → P (kind_of_target (table_from ds) target)
   of_target (Simple s) = of_scalar s
+  of_target Document = of_document
   of_target (Declared r) =
       let Q : Option table.Declaration → Type 0 = λ o. P (option_map_or kind_of_shape (option_map (λ (d : table.Declaration). d.shape) o) nothing) in
       subst Q (sym (slice_get-map (to_declaration ds) ds r.0)) (of_found r.0 (slice_get ds r.0) refl)
@@ -176,7 +190,7 @@ module _ (ds : List Decl) (P : Kind → Type 0) (of_scalar : (s : Scalar) → P 
   of_place at = of_target at.target
 
 members_in_table : (ds : List Decl) → Passes ds → (at : Place) → AreAcceptedMembers (table.members_of (kind_of (table_from ds) at))
-members_in_table ds p = of_place ds (λ kind. AreAcceptedMembers (table.members_of kind)) (λ s. no_members) no_members (λ n d within is.
+members_in_table ds p = of_place ds (λ kind. AreAcceptedMembers (table.members_of kind)) (λ s. no_members) no_members no_members (λ n d within is.
     form_accepted ds (1 + n) d d.form
     (ap (λ (d : Decl). ltb 65535 (length (members_of d.form))) (sym is) ∙ (or_false (ltb 65535 (length (members_of (get_or ds n d).form))) (eqb (1 + n) 65536) (p.few n d within)).0)
     (ap (λ d. has_clash ds (1 + n) d) (sym is) ∙ p.distinct n d within)
@@ -201,6 +215,7 @@ element_fits ds (list k) fit l found =
 elements_in_table : (ds : List Decl) → Passes ds → (at : Place) (l : table.ListShape) → list_shape_of (kind_of (table_from ds) at) ≡ Some l → is_query_name (element_name_of l) ≡ true
 elements_in_table ds p = of_place ds (λ kind. (l : table.ListShape) → list_shape_of kind ≡ Some l → is_query_name (element_name_of l) ≡ true)
     (λ s l found. absurd (let e : None ≡ Some l = found in cc)) (λ l found. absurd (let e : None ≡ Some l = found in cc))
+    (λ l found. absurd (let e : None ≡ Some l = found in cc))
     (λ n d within is. element_fits ds d.form (ap (λ d. has_unfit_name ds (1 + n) d) (sym is) ∙ p.fit n d within))
 
 -- ---- keys and values of maps
@@ -228,11 +243,17 @@ entry_names_accepted ds (map_form k) fit apart m found =
 entry_names_in_table : (ds : List Decl) → Passes ds → (at : Place) (m : table.MapShape) → map_shape_of (kind_of (table_from ds) at) ≡ Some m → AreAcceptedNames m
 entry_names_in_table ds p = of_place ds (λ kind. (m : table.MapShape) → map_shape_of kind ≡ Some m → AreAcceptedNames m)
     (λ s m found. absurd (let e : None ≡ Some m = found in cc)) (λ m found. absurd (let e : None ≡ Some m = found in cc))
+    (λ m found. absurd (let e : None ≡ Some m = found in cc))
     (λ n d within is. entry_names_accepted ds d.form
     (ap (λ d. has_unfit_name ds (1 + n) d) (sym is) ∙ p.fit n d within)
     (ap (λ d. has_key_value_name ds (1 + n) d) (sym is) ∙ p.told_apart n d within))
 
 -- ---- targets
+
+-- a scalar or a document
+abbrev IsSimple : Target → Type 0
+IsSimple (Declared r) = ⊥
+IsSimple _ = Unit {0}
 
 shape_is_something : (s : table.Shape) → kind_of_shape s ≢ nothing
 shape_is_something (table.Shape.structure ms) e = cc
@@ -252,17 +273,51 @@ declared_is_something ds m within none =
     shape_is_something (shape_of ds (get_or ds m some_decl).form)
     (sym (ap (λ o. option_map_or kind_of_shape (option_map (λ (d : table.Declaration). d.shape) o) nothing) found) ∙ none)
 
-named_is_something : (ds : List Decl) (target : List ℕ) (o : Option Scalar) → not (is_some o) && not (is_declared ds target) ≡ false
-    → kind_of_target (table_from ds) (unwrap_or (option_map Simple o) (Declared (record { 0 = unwrap_or (position (λ (d : Decl). bytes_eq d.name target) ds) 0 }))) ≢ nothing
-named_is_something ds target (Some s) known none = let e : scalar s ≡ nothing = none in cc
-named_is_something ds target None known none =
+-- a name of no declaration, with what it names
+record IsNamed (name : List ℕ) (t : Target) : Type 0 where
+  is_simple : IsSimple t
+  names_documents : is_document_target t ≡ true → name ≡ codes "document"
+
+scalar_named : (name : List ℕ) (s : Scalar) → IsNamed name (Simple s)
+scalar_named name s = record { is_simple = tt; names_documents = λ is. cc }
+
+each_named : AllByRecursion (λ (p : List ℕ × Target). IsNamed p.0 p.1) simple_targets
+each_named =
+    let one : (name : List ℕ) (s : Scalar) → IsNamed name (Simple s) = scalar_named in
+    let documents : IsNamed (codes "document") Document = record { is_simple = tt; names_documents = λ is. refl } in
+    (one _ _, (one _ _, (one _ _, (one _ _, (one _ _, (one _ _, (one _ _, (one _ _, (one _ _, (one _ _, (documents, tt)))))))))))
+
+abbrev FoundNamed : List ℕ → Target → Type 0
+FoundNamed word t = (name : List ℕ) × IsNamed name t × (bytes_eq word name ≡ true)
+
+one_named : (b : Bool) (p : List ℕ × Target) (o : Option (List ℕ × Target)) (word : List ℕ) (t : Target) → bytes_eq word p.0 ≡ b → IsNamed p.0 p.1
+    → (option_map (λ (q : List ℕ × Target). q.1) o ≡ Some t → FoundNamed word t) → option_map (λ (q : List ℕ × Target). q.1) (cond b (Some p) o) ≡ Some t → FoundNamed word t
+one_named true p o word t is named more found = (p.0, subst (IsNamed p.0) (some_equal p.1 t found) named, is)
+one_named false p o word t is named more found = more found
+
+found_named : (names : List (List ℕ × Target)) → AllByRecursion (λ (p : List ℕ × Target). IsNamed p.0 p.1) names → (word : List ℕ) (t : Target) → named names word ≡ Some t
+    → FoundNamed word t
+found_named [] all word t found = absurd (let e : None ≡ Some t = found in cc)
+found_named (p ∷ ps) all word t found =
+    one_named (bytes_eq word p.0) p (find (λ (q : List ℕ × Target). bytes_eq word q.0) ps) word t refl all.0 (λ more. found_named ps all.1 word t more) found
+
+simple_is_something : (ds : List Decl) (t : Target) → IsSimple t → kind_of_target (table_from ds) t ≢ nothing
+simple_is_something ds (Simple s) is none = let e : scalar s ≡ nothing = none in cc
+simple_is_something ds Document is none = let e : document ≡ nothing = none in cc
+simple_is_something ds (Declared r) is none = absurd is
+
+named_is_something : (ds : List Decl) (target : List ℕ) (o : Option Target) → ((t : Target) → o ≡ Some t → IsSimple t) → not (is_some o) && not (is_declared ds target) ≡ false
+    → kind_of_target (table_from ds) (unwrap_or o (Declared (record { 0 = unwrap_or (position (λ (d : Decl). bytes_eq d.name target) ds) 0 }))) ≢ nothing
+named_is_something ds target (Some t) simple known none = simple_is_something ds t (simple t refl) none
+named_is_something ds target None simple known none =
     let any = Any-from_list_any (λ (d : Decl). bytes_eq d.name target) ds (not_false (is_declared ds target) known) in
     let first = first_of (λ (d : Decl). bytes_eq d.name target) ds any.0 any.1 any.2 (ap (λ (d : Decl). bytes_eq d.name target) any.3 ∙ any.4) in
     declared_is_something ds first.0 (omega (arith, first.1, any.2))
     (ap (λ o. kind_of_target (table_from ds) (Declared (record { 0 = unwrap_or o 0 }))) (sym first.2) ∙ none)
 
 known_is_something : (ds : List Decl) (p : PlaceWords) → has_unknown_target ds p ≡ false → kind_of (table_from ds) (place_of ds p) ≢ nothing
-known_is_something ds p known = named_is_something ds p.target (named scalar_names p.target) known
+known_is_something ds p known =
+    named_is_something ds p.target (named simple_targets p.target) (λ t is. (found_named simple_targets each_named p.target t is).1.is_simple) known
 
 some_place : PlaceWords
 some_place = record { target = []; time = None }
@@ -304,8 +359,39 @@ place_known ds (map_form m) known inner n found = only_place_known ds (place_of_
 closed : (ds : List Decl) → Passes ds → IsClosed (table_from ds)
 closed ds p outer inner n = of_place ds (λ kind. place_in kind n ≡ Some inner → kind_of (table_from ds) inner ≢ nothing)
     (λ s found. absurd (let e : None ≡ Some inner = found in cc)) (λ found. absurd (let e : None ≡ Some inner = found in cc))
+    (λ found. absurd (let e : None ≡ Some inner = found in cc))
     (λ k d within is found. place_known ds d.form
     (ap (λ d. has_unknown_shape ds (1 + k) d) (sym is) ∙ p.known k d within) inner n found) outer
+
+-- ---- sparse lists and maps
+
+named_is_no_document : (ds : List Decl) (word : List ℕ) (o : Option Target) (other : ShapeRef) → named simple_targets word ≡ o → is_document_name word ≡ false
+    → IsDocument (kind_of_target (table_from ds) (unwrap_or o (Declared other))) → ⊥
+named_is_no_document ds word None other found unnamed is = let no' = document_target_is (table_from ds) (Declared other) is in cc
+named_is_no_document ds word (Some t) other found unnamed is =
+    let n = found_named simple_targets each_named word t found in
+    not_both (is_document_name word) (ap (bytes_eq word) (sym (n.1.names_documents (document_target_is (table_from ds) t is))) ∙ n.2) unnamed
+
+-- the place of what a sparse list or map has
+dense_place : (ds : List Decl) (p : PlaceWords) (sparse : Bool) (inner : Place) → sparse && is_document_name p.target ≡ false → sparse ≡ true
+    → Some (place_of ds p) ≡ Some inner → IsDocument (kind_of (table_from ds) inner) → ⊥
+dense_place ds p false inner dense sparse found is = cc
+dense_place ds p true inner dense sparse found is =
+    named_is_no_document ds p.target (named simple_targets p.target) _ refl dense
+    (subst (λ q. IsDocument (kind_of (table_from ds) q)) (sym (some_equal (place_of ds p) inner found)) is)
+
+form_is_dense : (ds : List Decl) (form : Form) → has_sparse_documents form ≡ false → (inner : Place) (n : Option ℕ) → IsSparse (kind_of_shape (shape_of ds form))
+    → place_in (kind_of_shape (shape_of ds form)) n ≡ Some inner → IsDocument (kind_of (table_from ds) inner) → ⊥
+form_is_dense ds (structure ms) dense inner n sparse found is = sparse
+form_is_dense ds (union ms) dense inner n sparse found is = sparse
+form_is_dense ds (list l) dense inner n sparse found is = dense_place ds (place_of_elements l) l.is_sparse inner dense sparse found is
+form_is_dense ds (map_form m) dense inner n sparse found is = dense_place ds (place_of_values m) m.is_sparse inner dense sparse found is
+
+dense : (ds : List Decl) → Passes ds → (at inner : Place) (n : Option ℕ) → IsSparse (kind_of (table_from ds) at) → place_in (kind_of (table_from ds) at) n ≡ Some inner
+    → IsDocument (kind_of (table_from ds) inner) → ⊥
+dense ds p at inner n = of_place ds (λ kind. IsSparse kind → place_in kind n ≡ Some inner → IsDocument (kind_of (table_from ds) inner) → ⊥)
+    (λ s sparse found is. sparse) (λ sparse found is. sparse) (λ sparse found is. sparse)
+    (λ k d within is. form_is_dense ds d.form (ap (λ d. is_sparse_document ds (1 + k) d) (sym is) ∙ p.dense k d within) inner n) at
 
 pub accepted_table : (ds : List Decl) → first_fault ds tests ≡ None
     → ((at : Place) → HaveTextNames (table.members_of (kind_of (table_from ds) at))) → IsAccepted (table_from ds)
@@ -320,4 +406,5 @@ accepted_table ds none texts =
       members_are_accepted = members_in_table ds p;
       element_names_fit = elements_in_table ds p;
       entry_names_are_accepted = entry_names_in_table ds p;
+      sparse_without_documents = dense ds p;
     }

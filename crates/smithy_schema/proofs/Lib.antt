@@ -3,6 +3,7 @@ mod OnLiterals
 mod Closed
 mod Positions
 mod MeaningFacts
+mod DocumentFacts
 pub mod WritingLemmas
 pub mod OpenLemmas
 mod TableTextLemmas
@@ -12,6 +13,7 @@ mod BuildLemmas
 mod AcceptedLemmas
 mod NameLemmas
 pub mod ChildLemmas
+pub mod DocumentLemmas
 pub mod NestingLemmas
 pub mod CountLemmas
 pub mod NamedLemmas

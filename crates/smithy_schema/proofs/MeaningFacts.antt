@@ -356,7 +356,7 @@ timed =
 abbrev instant_at : ℤ → Value
 instant_at n = scalar_value (instant n)
 
-pub tested : map (λ (m : ℕ × Value). scalars_pass (λ time x. form_holds (form_or EpochSeconds time) x) (shape_site timed 0) (structure (member_value m.0 m.1 no_member_values)))
+pub tested : map (λ (m : ℕ × Value). scalars_pass (record { scalar = λ time x. form_holds (form_or EpochSeconds time) x; documents = true }) (shape_site timed 0) (structure (member_value m.0 m.1 no_member_values)))
     ((0, instant_at (pos 1)) ∷ (1, instant_at (pos 1)) ∷ (1, instant_at (pos 0))
     ∷ (2, list (value (instant_at (pos 1_000)) (value null_element no_values))) ∷ (2, list (value (instant_at (pos 0)) (value (instant_at (pos 1)) no_values)))
     ∷ (3, map_value (map_entry [] (instant_at (pos 1_000)) no_map_entries)) ∷ (3, map_value (map_entry [] (instant_at (pos 0)) no_map_entries))

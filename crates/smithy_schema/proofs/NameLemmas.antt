@@ -5,7 +5,7 @@ use Rattle.std.specs.Option.{option_map_or}
 use Rattle.std.proofs.lemmas.Str.{IsUtf8-string_bytes}
 use Rattle.smithy_schema.specs.declared.place.Place.{Place}
 use Rattle.smithy_schema.specs.declared.place.Target.{Target}
-use Rattle.smithy_schema.specs.declared.place.Target.TheVariants.{Simple, Declared}
+use Rattle.smithy_schema.specs.declared.place.Target.TheVariants.{Simple, Document, Declared}
 use Rattle.smithy_schema.specs.declared.members.MemberShape.{MemberShape}
 use Rattle.smithy_schema.specs.declared.shapes.Shape.{Shape}
 use Rattle.smithy_schema.specs.declared.shapes.Shape.TheVariants.{Structure, Union, List as Listed, Map}
@@ -37,6 +37,7 @@ declared_have (d ∷ ds) (suc n) = declared_have ds n
 
 target_has : (ds : List Declaration) (target : Target) → HaveTextNames (members_of (kind_of_target (map declaration_of ds) target))
 target_has ds (Simple s) = tt
+target_has ds Document = tt
 target_has ds (Declared r) = declared_have ds r.0
 
 pub names_are_texts : (ds : List Declaration) (at : Place) → HaveTextNames (members_of (kind_of (map declaration_of ds) at))

@@ -3,7 +3,7 @@ use Rattle.std.proofs.Common.{◌≡◌, ℕ, List, [], ◌∷◌, ◌++◌, Opt
 use Rattle.std.specs.Option.{option_map_or}
 use Rattle.smithy_schema.specs.declared.error.SerdeError.{SerdeError}
 use Rattle.smithy_schema.specs.Site.{Site, element_of, key_of, value_of, member_of}
-use Rattle.smithy_schema.specs.Value.{ScalarValue, text_in, Value, scalar_value, list, map, structure, union, null_element, Values, no_values, value, MapEntries, no_map_entries, map_entry, MemberValues, no_member_values, member_value}
+use Rattle.smithy_schema.specs.Value.{ScalarValue, text_in, Value, scalar_value, list, map, structure, union, null_element, document_value, Values, no_values, value, MapEntries, no_map_entries, map_entry, MemberValues, no_member_values, member_value}
 use Rattle.smithy_schema.specs.Writing.{Event, Open, open_structure, open_list, open_map_at_key, open_map_at_value, end_structure, end_list, end_map, after_value, after_text, after_scalar, after_begin, open_after, and_run, run, events, element_events, entry_events, member_events}
 use Rattle.smithy_schema.proofs.WritingLemmas.{child_written}
 
@@ -38,6 +38,7 @@ mutual
   pub value_leaves : (v : Value) (site : Site) (os next : List Open) → after_value os ≡ Ok next → run open_after (events site v) os ≡ Ok next
   value_leaves (scalar_value x) site os next h = ap (and_run (λ os. Ok os)) (scalar_taken x os next h)
   value_leaves null_element site os next h = ap (and_run (λ os. Ok os)) h
+  value_leaves (document_value d) site os next h = ap (and_run (λ os. Ok os)) h
   value_leaves (list vs) site os next h =
       around open_list end_list (element_events (element_of site) vs) os (λ outer. elements_leave vs (element_of site) outer) (λ outer. refl) ∙ h
   value_leaves (map es) site os next h =

@@ -189,10 +189,21 @@ equals_in_a_text = refl
 
 -- ---- refused declarations
 
--- a target that no table can have yet
-pub no_document_yet : table_of (lines ("structure S" ∷ "member a document" ∷ [])) ≡ refused Fault.not_built 1
+-- documents are targets of members, lists and maps, and no names of declarations
+pub documents_are_built : table_of (lines ("union U" ∷ "member a document" ∷ "list L document" ∷ "map M document" ∷ "map N float" ∷ [])) ≡ refused Fault.float_shape 4
 unfolding smithy_schema_on_literals
-no_document_yet = refl
+documents_are_built = refl
+
+pub document_is_reserved : table_of (lines ("structure S" ∷ "union document" ∷ [])) ≡ refused Fault.duplicate_shape 2
+unfolding smithy_schema_on_literals
+document_is_reserved = refl
+
+-- neither a list nor a map of them is sparse, which is tested behind the names of keys and values
+pub sparse_documents : list_map (λ ls. table_of (lines ls))
+    (("structure S" ∷ "list L document sparse" ∷ []) ∷ ("list L document" ∷ "list K string sparse" ∷ "map M document sparse" ∷ []) ∷ ("list L document sparse" ∷ "map M long key=k value=k" ∷ []) ∷ [])
+    ≡ refused Fault.sparse_document 2 ∷ refused Fault.sparse_document 3 ∷ refused Fault.key_value_name 2 ∷ []
+unfolding smithy_schema_on_literals
+sparse_documents = refl
 
 -- instants are targets, with a time form or with none, and no names of declarations
 pub instants_are_built : table_of (lines ("structure S" ∷ "member a timestamp" ∷ "list L timestamp time=http-date" ∷ "map M float" ∷ [])) ≡ refused Fault.float_shape 3
@@ -211,15 +222,6 @@ big_numbers_are_built = refl
 pub big_integer_is_reserved : table_of (lines ("structure S" ∷ "list bigInteger long" ∷ [])) ≡ refused Fault.duplicate_shape 2
 unfolding smithy_schema_on_literals
 big_integer_is_reserved = refl
-
--- nor can a union's member or a map's values have one
-pub no_variant_yet : table_of (lines ("union U" ∷ "member a document" ∷ [])) ≡ refused Fault.not_built 1
-unfolding smithy_schema_on_literals
-no_variant_yet = refl
-
-pub no_value_yet : table_of (lines ("structure S" ∷ "map M document" ∷ [])) ≡ refused Fault.not_built 2
-unfolding smithy_schema_on_literals
-no_value_yet = refl
 
 -- a target that is neither a scalar nor declared
 pub no_such_target : table_of (lines ("structure S" ∷ "member a b" ∷ [])) ≡ refused Fault.unknown_target 1
@@ -240,11 +242,6 @@ float_target = refl
 pub double_target : table_of (lines ("structure S" ∷ "list L double" ∷ [])) ≡ refused Fault.float_shape 2
 unfolding smithy_schema_on_literals
 double_target = refl
-
--- what isn't built comes before a float
-pub unbuilt_before_float : table_of (lines ("list L float" ∷ "map M document" ∷ [])) ≡ refused Fault.not_built 2
-unfolding smithy_schema_on_literals
-unbuilt_before_float = refl
 
 -- a time form that is none, whatever the target is
 pub no_such_time_format : table_of (lines ("structure S" ∷ "member a long time=http-date" ∷ "list L string time=http" ∷ [])) ≡ refused Fault.unknown_time_format 2

@@ -10,9 +10,9 @@ use Rattle.smithy_instants.specs.WrittenDate.{day_of, date_text, holds}
 use Rattle.smithy_schema.specs.declared.shape_type.TimestampFormat.{TimestampFormat}
 use Rattle.smithy_schema.specs.declared.shape_type.TimestampFormat.TheVariants.{EpochSeconds, DateTime, HttpDate}
 use Rattle.smithy_schema.specs.Site.{Site, element_of, value_of, member_of}
-use Rattle.smithy_schema.specs.Value.{ScalarValue, instant, Value, scalar_value, list, map, structure, union, null_element, Values, no_values, value, MapEntries, no_map_entries, map_entry, MemberValues, no_member_values, member_value}
+use Rattle.smithy_schema.specs.Value.{ScalarValue, instant, Value, scalar_value, list, map, structure, union, null_element, document_value, Values, no_values, value, MapEntries, no_map_entries, map_entry, MemberValues, no_member_values, member_value}
 use Rattle.smithy_schema.specs.TimeForms.{form_writes, form_holds}
-use Rattle.smithy_schema.specs.ScalarTest.{scalars_pass, elements_pass, entries_pass, members_pass}
+use Rattle.smithy_schema.specs.ScalarTest.{ValueTest, scalars_pass, elements_pass, entries_pass, members_pass}
 
 -- ---- forms
 
@@ -35,7 +35,8 @@ held_writes form _ h = refl
 both : (a b c d : Bool) → (a ≡ true → c ≡ true) → (b ≡ true → d ≡ true) → (a && b) ≡ true → (c && d) ≡ true
 both a b c d first second h = let parts = and_parts a b h in rw (first parts.0, second parts.1) refl
 
-module _ (P Q : Option TimestampFormat → ScalarValue → Bool) (more : (time : Option TimestampFormat) (x : ScalarValue) → P time x ≡ true → Q time x ≡ true) where
+module _ (P Q : ValueTest) (more : (time : Option TimestampFormat) (x : ScalarValue) → P.scalar time x ≡ true → Q.scalar time x ≡ true)
+    (documents : P.documents ≡ true → Q.documents ≡ true) where
   mutual
     pub more_pass : (v : Value) (site : Site) → scalars_pass P site v ≡ true → scalars_pass Q site v ≡ true
     more_pass (scalar_value x) site h = more site.place.time x h
@@ -44,6 +45,7 @@ module _ (P Q : Option TimestampFormat → ScalarValue → Bool) (more : (time :
     more_pass (structure ms) site h = more_members_pass ms site h
     more_pass (union n v) site h = more_pass v (member_of site n) h
     more_pass null_element site h = refl
+    more_pass (document_value d) site h = documents h
 
     more_elements_pass : (vs : Values) (site : Site) → elements_pass P site vs ≡ true → elements_pass Q site vs ≡ true
     more_elements_pass no_values site h = refl
@@ -56,3 +58,47 @@ module _ (P Q : Option TimestampFormat → ScalarValue → Bool) (more : (time :
     more_members_pass : (ms : MemberValues) (site : Site) → members_pass P site ms ≡ true → members_pass Q site ms ≡ true
     more_members_pass no_member_values site h = refl
     more_members_pass (member_value n v ms) site h = both _ _ _ _ (more_pass v (member_of site n)) (more_members_pass ms site) h
+
+-- ---- two tests at once
+
+abbrev both_tests : ValueTest → ValueTest → ValueTest
+both_tests P Q = record { scalar = λ time x. P.scalar time x && Q.scalar time x; documents = P.documents && Q.documents }
+
+and_true : (a b : Bool) → a ≡ true → b ≡ true → (a && b) ≡ true
+and_true a b h k = rw (h, k) refl
+
+module _ (P Q : ValueTest) where
+  abbrev R : ValueTest
+  R = both_tests P Q
+
+  mutual
+    -- a value that passes each of them passes both
+    pub both_pass : (v : Value) (site : Site) → scalars_pass P site v ≡ true → scalars_pass Q site v ≡ true → scalars_pass R site v ≡ true
+    both_pass (scalar_value x) site h k = and_true (P.scalar site.place.time x) (Q.scalar site.place.time x) h k
+    both_pass (list vs) site h k = both_elements_pass vs (element_of site) h k
+    both_pass (map es) site h k = both_entries_pass es (value_of site) h k
+    both_pass (structure ms) site h k = both_members_pass ms site h k
+    both_pass (union n v) site h k = both_pass v (member_of site n) h k
+    both_pass null_element site h k = refl
+    both_pass (document_value d) site h k = and_true P.documents Q.documents h k
+
+    both_elements_pass : (vs : Values) (site : Site) → elements_pass P site vs ≡ true → elements_pass Q site vs ≡ true → elements_pass R site vs ≡ true
+    both_elements_pass no_values site h k = refl
+    both_elements_pass (value v vs) site h k =
+        let x = and_parts (scalars_pass P site v) (elements_pass P site vs) h in
+        let y = and_parts (scalars_pass Q site v) (elements_pass Q site vs) k in
+        and_true _ _ (both_pass v site x.0 y.0) (both_elements_pass vs site x.1 y.1)
+
+    both_entries_pass : (es : MapEntries) (site : Site) → entries_pass P site es ≡ true → entries_pass Q site es ≡ true → entries_pass R site es ≡ true
+    both_entries_pass no_map_entries site h k = refl
+    both_entries_pass (map_entry key v es) site h k =
+        let x = and_parts (scalars_pass P site v) (entries_pass P site es) h in
+        let y = and_parts (scalars_pass Q site v) (entries_pass Q site es) k in
+        and_true _ _ (both_pass v site x.0 y.0) (both_entries_pass es site x.1 y.1)
+
+    both_members_pass : (ms : MemberValues) (site : Site) → members_pass P site ms ≡ true → members_pass Q site ms ≡ true → members_pass R site ms ≡ true
+    both_members_pass no_member_values site h k = refl
+    both_members_pass (member_value n v ms) site h k =
+        let x = and_parts (scalars_pass P (member_of site n) v) (members_pass P site ms) h in
+        let y = and_parts (scalars_pass Q (member_of site n) v) (members_pass Q site ms) k in
+        and_true _ _ (both_pass v (member_of site n) x.0 y.0) (both_members_pass ms site x.1 y.1)

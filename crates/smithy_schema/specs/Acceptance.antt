@@ -4,9 +4,9 @@ use Rattle.std.specs.List.{list_all, list_any, enumerate_from}
 use Rattle.std.specs.Option.{option_map_or, option_or}
 use Rattle.smithy_schema.specs.declared.place.Place.{Place}
 use Rattle.smithy_schema.specs.declared.place.Target.{Target}
-use Rattle.smithy_schema.specs.declared.place.Target.TheVariants.{Simple, Declared}
+use Rattle.smithy_schema.specs.declared.place.Target.TheVariants.{Declared}
 use Rattle.smithy_schema.specs.Table.{Member, Shape, Table, ListShape, MapShape}
-use Rattle.smithy_schema.specs.Names.{scalar_names, time_formats, named, is_scalar_name, is_unbuilt_name, is_float_name, is_time_format, is_reserved, has_equal_texts, is_query_name}
+use Rattle.smithy_schema.specs.Names.{simple_targets, time_formats, named, is_simple_name, is_document_name, is_float_name, is_time_format, is_reserved, has_equal_texts, is_query_name}
 use Rattle.smithy_schema.specs.Decl.{PlaceWords, MemberDecl, ListDecl, MapDecl, Form, structure, union, list, map, Decl}
 use Rattle.smithy_schema.specs.TableText.{Lines, declarations, declarations_of}
 
@@ -65,10 +65,10 @@ query_names_of form = list_map query_name_of (members_of form)
 
 -- ---- the table
 
--- a scalar, or the first declaration of that name
+-- a scalar or a document, or the first declaration of that name
 abbrev pub target_of : List Decl → List ℕ → Target
 target_of decls name =
-    unwrap_or (option_map Simple (named scalar_names name))
+    unwrap_or (named simple_targets name)
     (Declared (record { 0 = unwrap_or (position (λ (d : Decl). bytes_eq d.name name) decls) 0 }))
 
 -- the place that words name
@@ -116,17 +116,13 @@ table_from decls = list_map (λ (d : Decl). record { name = d.name; shape = shap
 
 -- ---- the tests of a place
 
--- the target is a scalar that no table can have yet
-abbrev pub has_unbuilt_target : PlaceWords → Bool
-has_unbuilt_target p = is_unbuilt_name p.target
-
 -- the target is `float` or `double`
 abbrev pub has_float_target : PlaceWords → Bool
 has_float_target p = is_float_name p.target
 
--- the target is neither a scalar nor declared
+-- the target is neither a scalar, nor a document, nor declared
 abbrev pub has_unknown_target : List Decl → PlaceWords → Bool
-has_unknown_target decls p = not (is_scalar_name p.target) && not (is_declared decls p.target)
+has_unknown_target decls p = not (is_simple_name p.target) && not (is_declared decls p.target)
 
 -- the time form is none of the three, whatever the target is
 abbrev pub has_unknown_time : PlaceWords → Bool
@@ -137,10 +133,6 @@ has_unknown_time p = option_map_or (λ word. not (is_time_format word)) p.time f
 -- a test of one declaration, which may look at all of them and at its own number
 abbrev pub Test : Type 0
 Test = List Decl → ℕ → Decl → Bool
-
--- a place whose target no table can have yet
-abbrev pub has_unbuilt_shape : Test
-has_unbuilt_shape decls n d = list_any has_unbuilt_target (places_of d.form)
 
 -- a place of a float
 abbrev pub has_float_shape : Test
@@ -154,7 +146,7 @@ has_unknown_shape decls n d = list_any (has_unknown_target decls) (places_of d.f
 abbrev pub has_unknown_time_format : Test
 has_unknown_time_format decls n d = list_any has_unknown_time (places_of d.form)
 
--- the name of an earlier declaration, or of a scalar
+-- the name of an earlier declaration, of a scalar, or of documents
 abbrev pub is_duplicate : Test
 is_duplicate decls n d = is_reserved d.name || is_declared (take (n - 1) decls) d.name
 
@@ -178,6 +170,16 @@ has_one_entry_name _ = false
 abbrev pub has_key_value_name : Test
 has_key_value_name decls n d = has_one_entry_name d.form
 
+-- a sparse list or map of documents
+abbrev pub has_sparse_documents : Form → Bool
+has_sparse_documents (list l) = l.is_sparse && is_document_name l.target
+has_sparse_documents (map m) = m.is_sparse && is_document_name m.target
+has_sparse_documents _ = false
+
+-- the same as a test
+abbrev pub is_sparse_document : Test
+is_sparse_document decls n d = has_sparse_documents d.form
+
 -- too many members, or one declaration too many
 abbrev pub is_too_many : Test
 is_too_many decls n d = nat_lt 65535 (length (members_of d.form)) || n == 65536
@@ -186,15 +188,16 @@ is_too_many decls n d = nat_lt 65535 (length (members_of d.form)) || n == 65536
 
 -- why declarations, or a line, are no table
 pub data Fault : Type 0 where
-  bad_line not_built float_shape unknown_target unknown_time_format duplicate_shape name_clash : Fault
-  query_name key_value_name too_many : Fault
+  bad_line float_shape unknown_target unknown_time_format duplicate_shape name_clash : Fault
+  query_name key_value_name sparse_document too_many : Fault
 
 -- the tests after the lines, in the order in which they are made
 abbrev pub tests : List (Fault × Test)
 tests =
-    (not_built, has_unbuilt_shape) ∷ (float_shape, has_float_shape) ∷ (unknown_target, has_unknown_shape)
+    (float_shape, has_float_shape) ∷ (unknown_target, has_unknown_shape)
     ∷ (unknown_time_format, has_unknown_time_format) ∷ (duplicate_shape, is_duplicate) ∷ (name_clash, has_clash)
-    ∷ (query_name, has_unfit_name) ∷ (key_value_name, has_key_value_name) ∷ (too_many, is_too_many) ∷ []
+    ∷ (query_name, has_unfit_name) ∷ (key_value_name, has_key_value_name) ∷ (sparse_document, is_sparse_document)
+    ∷ (too_many, is_too_many) ∷ []
 
 -- a table, or a fault with the number of its line or declaration, from 1
 pub data TableAnswer : Type 0 where

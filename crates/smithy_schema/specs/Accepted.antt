@@ -1,8 +1,8 @@
 -- What holds of each table that was accepted.
-use Rattle.std.specs.Prelude.{◌≡◌, ◌≤◌, List, map, length, true, false, Some, bytes_eq, IsUtf8}
+use Rattle.std.specs.Prelude.{◌≡◌, ◌≤◌, ℕ, List, map, length, true, false, Option, Some, bytes_eq, IsUtf8}
 use Rattle.std.specs.List.{AllByRecursion, list_all, list_any}
 use Rattle.smithy_schema.specs.declared.place.Place.{Place}
-use Rattle.smithy_schema.specs.Table.{Table, Declaration, Member, ListShape, MapShape, kind_of, members_of, list_shape_of, map_shape_of, json_name_of, query_name_of, element_name_of, key_name_of, value_name_of, IsClosed}
+use Rattle.smithy_schema.specs.Table.{Table, Declaration, Member, ListShape, MapShape, kind_of, place_in, IsDocument, IsSparse, members_of, list_shape_of, map_shape_of, json_name_of, query_name_of, element_name_of, key_name_of, value_name_of, IsClosed}
 use Rattle.smithy_schema.specs.Names.{has_equal_texts, is_query_name, is_reserved}
 
 -- the members of a structure or a union: no two have one name, one JSON name or one name in a form
@@ -35,3 +35,5 @@ pub record IsAccepted (table : Table) : Type 0 where
       → is_query_name (element_name_of l) ≡ true
   pub entry_names_are_accepted : (at : Place) (m : MapShape) → map_shape_of (kind_of table at) ≡ Some m
       → AreAcceptedNames m
+  pub sparse_without_documents : (at inner : Place) (n : Option ℕ) → IsSparse (kind_of table at)
+      → place_in (kind_of table at) n ≡ Some inner → IsDocument (kind_of table inner) → ⊥

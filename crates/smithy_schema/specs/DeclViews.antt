@@ -4,11 +4,11 @@ use Rattle.smithy_schema.specs.declared.decl.MemberDecl as kept_member
 use Rattle.smithy_schema.specs.declared.decl.Decl as kept
 use Rattle.smithy_schema.specs.declared.decl.Decl.TheVariants.{Structure, Union, List, Map}
 use Rattle.smithy_schema.specs.declared.fault.TableFault.{TableFault}
-use Rattle.smithy_schema.specs.declared.fault.TableFault.TheVariants.{BadLine, NotBuilt, FloatShape, UnknownTarget, UnknownTimeFormat, DuplicateShape, NameClash, QueryName, KeyValueName, TooMany, NoMemory}
+use Rattle.smithy_schema.specs.declared.fault.TableFault.TheVariants.{BadLine, FloatShape, UnknownTarget, UnknownTimeFormat, DuplicateShape, NameClash, QueryName, KeyValueName, SparseDocument, TooMany, NoMemory}
 use Rattle.smithy_schema.specs.declared.acceptance.places.PlaceWords as kept_place
 use Rattle.smithy_schema.specs.Decl.{PlaceWords, MemberDecl, structure, union, list, map, Decl}
 use Rattle.smithy_schema.specs.TableText.{Lines}
-use Rattle.smithy_schema.specs.Acceptance.{TableAnswer, refused, bad_line, not_built, float_shape, unknown_target, unknown_time_format, duplicate_shape, name_clash, query_name, key_value_name, too_many}
+use Rattle.smithy_schema.specs.Acceptance.{TableAnswer, refused, bad_line, float_shape, unknown_target, unknown_time_format, duplicate_shape, name_clash, query_name, key_value_name, sparse_document, too_many}
 
 -- the place that the program's words name
 abbrev pub place_words_of : kept_place.PlaceWords → PlaceWords
@@ -58,7 +58,6 @@ decl_of (Map name target sparse key value time) = record {
 -- the fault is the answer, or memory ran out, which no clause can rule out
 abbrev pub IsRefusedBy : TableAnswer → TableFault → Type 0
 IsRefusedBy answer (BadLine n) = answer ≡ refused bad_line n
-IsRefusedBy answer (NotBuilt n) = answer ≡ refused not_built n
 IsRefusedBy answer (FloatShape n) = answer ≡ refused float_shape n
 IsRefusedBy answer (UnknownTarget n) = answer ≡ refused unknown_target n
 IsRefusedBy answer (UnknownTimeFormat n) = answer ≡ refused unknown_time_format n
@@ -66,6 +65,7 @@ IsRefusedBy answer (DuplicateShape n) = answer ≡ refused duplicate_shape n
 IsRefusedBy answer (NameClash n) = answer ≡ refused name_clash n
 IsRefusedBy answer (QueryName n) = answer ≡ refused query_name n
 IsRefusedBy answer (KeyValueName n) = answer ≡ refused key_value_name n
+IsRefusedBy answer (SparseDocument n) = answer ≡ refused sparse_document n
 IsRefusedBy answer (TooMany n) = answer ≡ refused too_many n
 IsRefusedBy answer NoMemory = Unit {0}
 

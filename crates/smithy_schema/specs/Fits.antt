@@ -10,8 +10,9 @@ use Rattle.smithy_instants.specs.Instant.{is_instant}
 use Rattle.smithy_schema.specs.declared.place.Place.{Place}
 use Rattle.smithy_schema.specs.declared.shape_type.Scalar.{Scalar}
 use Rattle.smithy_schema.specs.declared.shape_type.Scalar.TheVariants as scalars
-use Rattle.smithy_schema.specs.Table.{Table, Kind, scalar, kind_of, place_in, is_sparse, IsList, IsMap, IsStructure, IsUnion}
-use Rattle.smithy_schema.specs.Value.{ScalarValue, boolean, whole, text, bytes, decimal, instant, Value, scalar_value, list, map, structure, union, null_element, Values, no_values, value, MapEntries, no_map_entries, map_entry, MemberValues, no_member_values, member_value}
+use Rattle.smithy_schema.specs.Table.{Table, Kind, scalar, kind_of, place_in, is_sparse, IsDocument, IsList, IsMap, IsStructure, IsUnion}
+use Rattle.smithy_schema.specs.Documents.{DocumentFits}
+use Rattle.smithy_schema.specs.Value.{ScalarValue, boolean, whole, text, bytes, decimal, instant, Value, scalar_value, list, map, structure, union, null_element, document_value, Values, no_values, value, MapEntries, no_map_entries, map_entry, MemberValues, no_member_values, member_value}
 
 -- the scalar values of a kind
 abbrev pub is_of : Scalar → ScalarValue → Bool
@@ -60,6 +61,7 @@ abbrev mutual
       IsUnion (kind_of table place)
       × ((inner : Place) × (place_in (kind_of table place) (Some n) ≡ Some inner) × FitsOr table inner false v)
   FitsOr table place nulls null_element = nulls ≡ true
+  FitsOr table place nulls (document_value d) = IsDocument (kind_of table place) × DocumentFits d
 
   -- the elements of a list: a null stands only where it is sparse
   pub ElementsFit : Table → Kind → Values → Type 0

@@ -1,5 +1,6 @@
 -- to be believed, in this order
 pub mod Table
+pub mod Documents
 pub mod Value
 pub mod Fits
 pub mod Container

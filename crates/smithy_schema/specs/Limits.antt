@@ -1,4 +1,4 @@
--- The limits on depth and on the size of numbers, under which a wire is read.
+-- The limits on depth, on the size of numbers and on what is carried, under which a wire is read.
 use Rattle.std.specs.Prelude.{ℕ, nat_le, Bool, true}
 
 -- the limits are kept, or lifted

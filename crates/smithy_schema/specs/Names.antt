@@ -2,22 +2,21 @@
 use Rattle.std.specs.Prelude.{◌==◌, ◌||◌, ◌&&◌, ℕ, List, [], ◌∷◌, length, find, Bool, false, not, Option, option_map, is_some, codes, bytes_eq}
 use Rattle.std.specs.List.{list_all, list_any}
 use Rattle.std.specs.Char.{is_ascii_alphanumeric}
-use Rattle.smithy_schema.specs.declared.shape_type.Scalar.{Scalar}
+use Rattle.smithy_schema.specs.declared.place.Target.{Target}
+use Rattle.smithy_schema.specs.declared.place.Target.TheVariants.{Simple, Document}
 use Rattle.smithy_schema.specs.declared.shape_type.Scalar.TheVariants as scalars
 use Rattle.smithy_schema.specs.declared.shape_type.TimestampFormat.{TimestampFormat}
 use Rattle.smithy_schema.specs.declared.shape_type.TimestampFormat.TheVariants.{EpochSeconds, DateTime, HttpDate}
 
--- the scalars by their names
-abbrev pub scalar_names : List (List ℕ × Scalar)
-scalar_names =
-    (codes "boolean", scalars.Boolean) ∷ (codes "byte", scalars.Byte) ∷ (codes "short", scalars.Short)
-    ∷ (codes "integer", scalars.Integer) ∷ (codes "long", scalars.Long) ∷ (codes "string", scalars.String)
-    ∷ (codes "blob", scalars.Blob) ∷ (codes "timestamp", scalars.Timestamp)
-    ∷ (codes "bigInteger", scalars.BigInteger) ∷ (codes "bigDecimal", scalars.BigDecimal) ∷ []
-
--- the names of the scalars that a table can't have yet
-abbrev pub unbuilt_names : List (List ℕ)
-unbuilt_names = codes "document" ∷ []
+-- the targets that no declaration gives, by their names: scalars and documents
+abbrev pub simple_targets : List (List ℕ × Target)
+simple_targets =
+    (codes "boolean", Simple scalars.Boolean) ∷ (codes "byte", Simple scalars.Byte)
+    ∷ (codes "short", Simple scalars.Short) ∷ (codes "integer", Simple scalars.Integer)
+    ∷ (codes "long", Simple scalars.Long) ∷ (codes "string", Simple scalars.String)
+    ∷ (codes "blob", Simple scalars.Blob) ∷ (codes "timestamp", Simple scalars.Timestamp)
+    ∷ (codes "bigInteger", Simple scalars.BigInteger) ∷ (codes "bigDecimal", Simple scalars.BigDecimal)
+    ∷ (codes "document", Document) ∷ []
 
 -- the names of the scalars that no table can have
 abbrev pub float_names : List (List ℕ)
@@ -32,13 +31,13 @@ time_formats =
 abbrev pub named : {X : Type 0} → List (List ℕ × X) → List ℕ → Option X
 named names name = option_map (λ p. p.1) (find (λ p. bytes_eq name p.0) names)
 
--- the name is that of a scalar
-abbrev pub is_scalar_name : List ℕ → Bool
-is_scalar_name name = is_some (named scalar_names name)
+-- the name is that of a scalar or of documents
+abbrev pub is_simple_name : List ℕ → Bool
+is_simple_name name = is_some (named simple_targets name)
 
--- the name is that of a scalar which no target can be yet
-abbrev pub is_unbuilt_name : List ℕ → Bool
-is_unbuilt_name name = list_any (bytes_eq name) unbuilt_names
+-- the name is that of documents
+abbrev pub is_document_name : List ℕ → Bool
+is_document_name name = bytes_eq name (codes "document")
 
 -- the name is that of a scalar which no target can be
 abbrev pub is_float_name : List ℕ → Bool
@@ -46,7 +45,7 @@ is_float_name name = list_any (bytes_eq name) float_names
 
 -- no declaration may have the name
 abbrev pub is_reserved : List ℕ → Bool
-is_reserved name = is_scalar_name name || is_unbuilt_name name || is_float_name name
+is_reserved name = is_simple_name name || is_float_name name
 
 -- the word is that of a time form
 abbrev pub is_time_format : List ℕ → Bool

@@ -1,13 +1,17 @@
 -- What a reader tells, the relations of a wire, the laws that they obey, and what a call does.
 use Rattle.std.specs.Prelude.{◌≡◌, ◌⊎◌, ◌↔◌, ◌<◌, ◌≤◌, ◌&&◌, ℕ, zero, suc, ◌+◌, length, drop, List, [], ◌∷◌, map, Option, Some, None, Bool, true, false, option_and_then, Result, Ok, Err, IsErrOf, OnErr, IfOk}
+use Rattle.smithy_types.specs.Document.{Document, whole_document}
+use Rattle.smithy_types.specs.DocumentView.{document_view}
+use Rattle.smithy_types.specs.declared.number.Number.{Number}
+use Rattle.smithy_types.specs.declared.document.Document as kept_document
 use Rattle.smithy_schema.specs.declared.place.Place.{Place}
 use Rattle.smithy_schema.specs.declared.shape_type.Scalar.{Scalar}
 use Rattle.smithy_schema.specs.declared.read.Step.{Step}
 use Rattle.smithy_schema.specs.declared.read.Step.TheVariants.{Member as ToMember, Unknown, End}
 use Rattle.smithy_schema.specs.declared.error.SerdeError.{SerdeError}
-use Rattle.smithy_schema.specs.declared.error.SerdeError.TheVariants.{InvalidInput, TooDeep, TooWide, NotCarried, Unwritable, Failed, NoMemory}
-use Rattle.smithy_schema.specs.Table.{Table, Kind, structure_of, union_of, list_of, map_of, kind_of, place_in, scalar_place, IsStructure, IsSparse}
-use Rattle.smithy_schema.specs.Value.{ScalarValue, Value, scalar_value}
+use Rattle.smithy_schema.specs.declared.error.SerdeError.TheVariants.{InvalidInput, TooDeep, TooWide, NotCarried, Unsupported, Unwritable, Failed, NoMemory}
+use Rattle.smithy_schema.specs.Table.{Table, Kind, structure_of, union_of, list_of, map_of, kind_of, place_in, scalar_place, document_place, IsStructure, IsSparse, IsDocument}
+use Rattle.smithy_schema.specs.Value.{ScalarValue, Value, scalar_value, document_value}
 use Rattle.smithy_schema.specs.Fits.{Fits}
 use Rattle.smithy_schema.specs.Container.{Entry, container_of}
 use Rattle.smithy_schema.specs.Site.{Site, site_of, member_site}
@@ -58,11 +62,13 @@ pub record Relations : Type 1 where
   pub position : Table → Place → List ℕ → Option ℕ
   -- from a to e stands a value of the place, a null, something that is skipped
   pub stands : List ℕ → Table → Place → ℕ → ℕ → Value → ℕ → Type 0
+  -- from a to e stands this document, each number in its variant, wherever one is due
+  pub documents : List ℕ → ℕ → ℕ → Document Number → ℕ → Type 0
   pub nulls : List ℕ → ℕ → ℕ → ℕ → Type 0
   pub skips : List ℕ → ℕ → ℕ → ℕ → Type 0
   -- from a to e stands a big number of the place's kind that leaves the limits of the kind
   pub exceeds : List ℕ → Table → Place → ℕ → ℕ → ℕ → Type 0
-  -- from a to e stands what the place's kind can't carry
+  -- from a to e stands what the place's kind can't carry; of a document, e ends a part that no document carries
   pub uncarried : List ℕ → Table → Place → ℕ → ℕ → ℕ → Type 0
   -- a container of the place begins at a, and its inside at b with a mark
   pub opens : List ℕ → Table → Place → ℕ → ℕ → ℕ → Mark → Type 0
@@ -114,11 +120,13 @@ entry_of (child_unknown key) = record {
 abbrev pub named : Relations → Table → Place → Option (List ℕ) → Option ℕ
 named w t p key = option_and_then (w.position t p) key
 
--- from c to f is this child, behind a step with the key: only a structure has entries that name no member
+-- From c to f is this child, behind a step with the key: only a structure has entries that name no member. A null of a sparse
+-- list or map is no value.
 abbrev pub IsChild : Relations → List ℕ → Table → Place → ℕ → Option (List ℕ) → Child → ℕ → ℕ → Type 0
 IsChild w i t p d key (child_value k n v) c f =
     (k ≡ key) × (n ≡ named w t p key)
     × ((q : Place) × (place_in (kind_of t p) n ≡ Some q) × w.stands i t q d c v f)
+    × (IsSparse (kind_of t p) → w.begins_null i c ≡ false)
 IsChild w i t p d key (child_null k) c f = (k ≡ key) × IsSparse (kind_of t p) × w.nulls i d c f
 IsChild w i t p d key (child_unknown k) c f =
     (k ≡ key) × IsStructure (kind_of t p) × (named w t p key ≡ None) × w.skips i d c f
@@ -185,10 +193,11 @@ pub record IsLawful (w : Relations) : Type 0 where
       → w.steps i t p d b m key c n → w.closes i t p d b m e → ⊥
   pub same_null : (i : List ℕ) (d a e f : ℕ) → w.nulls i d a e → w.nulls i d a f → e ≡ f
   pub same_skip : (i : List ℕ) (d a e f : ℕ) → w.skips i d a e → w.skips i d a f → e ≡ f
-  -- a null can be told from a value by how it begins
+  -- a null is told by how it begins
   pub null_begins : (i : List ℕ) (d a e : ℕ) → w.nulls i d a e → w.begins_null i a ≡ true
+  -- and where one begins no value stands, unless a document is due
   pub value_begins : (i : List ℕ) (t : Table) (p : Place) (d a : ℕ) (v : Value) (e : ℕ)
-      → w.stands i t p d a v e → w.begins_null i a ≡ false
+      → w.stands i t p d a v e → IsDocument (kind_of t p) ⊎ (w.begins_null i a ≡ false)
   -- an empty input opens and ends a structure at position 0
   pub empty_structure : (t : Table) (p : Place) (d : ℕ) → IsStructure (kind_of t p)
       → (m : Mark) × w.opens [] t p d 0 0 m × w.closes [] t p (suc d) 0 m 0
@@ -237,6 +246,7 @@ IsFault InvalidInput = Unit {0}
 IsFault TooDeep = Unit {0}
 IsFault TooWide = Unit {0}
 IsFault NotCarried = Unit {0}
+IsFault Unsupported = Unit {0}
 IsFault Unwritable = Unit {0}
 IsFault Failed = ⊥
 IsFault NoMemory = ⊥
@@ -252,6 +262,7 @@ IsInvalid (Err InvalidInput) = Unit {0}
 IsInvalid (Err TooDeep) = ⊥
 IsInvalid (Err TooWide) = ⊥
 IsInvalid (Err NotCarried) = ⊥
+IsInvalid (Err Unsupported) = ⊥
 IsInvalid (Err Unwritable) = ⊥
 IsInvalid (Err Failed) = ⊥
 IsInvalid (Err NoMemory) = ⊥
@@ -263,6 +274,7 @@ IsNoAnswer (Err InvalidInput) = Unit {0}
 IsNoAnswer (Err TooDeep) = ⊥
 IsNoAnswer (Err TooWide) = ⊥
 IsNoAnswer (Err NotCarried) = ⊥
+IsNoAnswer (Err Unsupported) = ⊥
 IsNoAnswer (Err Unwritable) = ⊥
 IsNoAnswer (Err Failed) = Unit {0}
 IsNoAnswer (Err NoMemory) = Unit {0}
@@ -282,6 +294,7 @@ pub record Conducts {A : Type 0} (old new : Cursor) (result : Result A SerdeErro
   pub stays : OnErr result (new ≡ failed_at old)
   -- reading has no fault of writing
   pub readable : IsErrOf result Unwritable → ⊥
+  pub supported : IsErrOf result Unsupported → ⊥
   -- positions never fall, and never pass the end
   pub ahead : old.at ≤ new.at
   pub within : new.at ≤ length new.input
@@ -324,6 +337,10 @@ ExceedsInside w old new t p = (q : Place) × (k : ℕ) × (depth new ≡ depth o
 abbrev pub UncarriedInside : Relations → Cursor → Cursor → Table → Place → Type 0
 UncarriedInside w old new t p = (q : Place) × (k : ℕ) × (depth new ≡ depth old + k) × IsInside t p k q × Uncarried w new t q
 
+-- so many containers are open at once from here on, by the bytes alone
+abbrev pub ReachesDepth : Relations → ℕ → Cursor → Type 0
+ReachesDepth w max c = max ≤ depth c + w.openers (drop c.at c.input)
+
 -- What a read of one scalar kind says of its answer: by the relations w, and by u, those with the limits lifted.
 pub record ReadsScalar {A : Type 0} (w u : Relations) (is_strict : Type 0) (old new : Cursor) (site : Site) (s : Scalar) (value : A → ScalarValue) (result : Result A SerdeError) : Type 0 where
   pub conduct : Conducts old new result
@@ -334,6 +351,19 @@ pub record ReadsScalar {A : Type 0} (w u : Relations) (is_strict : Type 0) (old 
   pub ok : IfOk result (λ x. Reads w old new site.table (scalar_place s site.place.time) (scalar_value (value x)))
   pub refused : IsRefused result → old.due ≡ true → StandsNot w old site.table (scalar_place s site.place.time)
   pub would : is_strict → IsInvalid result → old.due ≡ true → StandsNot u old site.table (scalar_place s site.place.time)
+
+-- What a read of a document says of its answer: by the relations w, and by u, those with the limits lifted. It is too deep only
+-- where the bytes from there on reach the greatest depth, as each part of a document is counted.
+pub record ReadsDocument (w u : Relations) (is_strict : Type 0) (max : ℕ) (old new : Cursor) (site : Site) (result : Result kept_document.Document SerdeError) : Type 0 where
+  pub conduct : Conducts old new result
+  pub deep : IsErrOf result TooDeep → ReachesDepth w max old
+  pub narrow : IsErrOf result TooWide → ⊥
+  pub uncarried : IsErrOf result NotCarried → Uncarried w old site.table (document_place site.place.time)
+  pub undue : old.due ≡ false → IsNoAnswer result
+  pub ok : IfOk result (λ x. Reads w old new site.table (document_place site.place.time) (document_value (whole_document (document_view x))))
+  pub variants : IfOk result (λ x. w.documents old.input (depth old) old.at (document_view x) new.at)
+  pub refused : IsRefused result → old.due ≡ true → StandsNot w old site.table (document_place site.place.time)
+  pub would : is_strict → IsInvalid result → old.due ≡ true → StandsNot u old site.table (document_place site.place.time)
 
 -- A read of a big number answers `TooWide` wherever one stands that leaves its limits, want of memory aside.
 abbrev pub AnswersWide : {A : Type 0} → Relations → Cursor → Site → Scalar → Result A SerdeError → Type 0
@@ -356,10 +386,6 @@ SkipsNot w c = (e : ℕ) → w.skips c.input (depth c) c.at e → ⊥
 
 abbrev pub NullsNot : Relations → Cursor → Type 0
 NullsNot w c = (e : ℕ) → w.nulls c.input (depth c) c.at e → ⊥
-
--- so many containers are open at once from here on, by the bytes alone
-abbrev pub ReachesDepth : Relations → ℕ → Cursor → Type 0
-ReachesDepth w max c = max ≤ depth c + w.openers (drop c.at c.input)
 
 -- of an input that isn't empty: with those that the bytes from here on open at most, no more containers
 -- are open at once than the whole input opens

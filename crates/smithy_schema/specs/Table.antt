@@ -3,7 +3,7 @@ use Rattle.std.specs.Prelude.{◌≡◌, ◌≢◌, ℕ, List, [], Bool, true, f
 use Rattle.std.specs.Option.{option_map_or}
 use Rattle.smithy_schema.specs.declared.place.Place.{Place}
 use Rattle.smithy_schema.specs.declared.place.Target.{Target}
-use Rattle.smithy_schema.specs.declared.place.Target.TheVariants.{Simple, Declared}
+use Rattle.smithy_schema.specs.declared.place.Target.TheVariants.{Simple, Document, Declared}
 use Rattle.smithy_schema.specs.declared.shape_type.Scalar.{Scalar}
 use Rattle.smithy_schema.specs.declared.shape_type.Scalar.TheVariants as scalars
 use Rattle.smithy_schema.specs.declared.shape_type.ShapeType.{ShapeType}
@@ -74,6 +74,8 @@ declared_as table name = first_position (λ (d : Declaration). bytes_eq d.name n
 -- what stands at a place
 pub data Kind : Type 0 where
   scalar : Scalar → Kind
+  -- open content, which no shape describes
+  document : Kind
   structure_of : List Member → Kind
   union_of : List Member → Kind
   list_of : ListShape → Kind
@@ -94,6 +96,7 @@ shape_declared table n = option_map (λ (d : Declaration). d.shape) (slice_get t
 -- what stands where this is the target: nothing where no declaration has the number
 abbrev pub kind_of_target : Table → Target → Kind
 kind_of_target table (Simple s) = scalar s
+kind_of_target table Document = document
 kind_of_target table (Declared r) = option_map_or kind_of_shape (shape_declared table r.0) nothing
 
 -- what stands at a place of the table
@@ -103,6 +106,10 @@ kind_of table place = kind_of_target table place.target
 -- the place of a scalar with a time form, or with none
 abbrev pub scalar_place : Scalar → Option TimestampFormat → Place
 scalar_place s time = record { target = Simple s; time = time }
+
+-- the place of a document with a time form, which is nothing to it, or with none
+abbrev pub document_place : Option TimestampFormat → Place
+document_place time = record { target = Document; time = time }
 
 -- the place of a declaration as a whole
 abbrev pub shape_place : ℕ → Place
@@ -124,6 +131,7 @@ scalar_type scalars.BigDecimal = types.BigDecimal
 -- the kind without what is in it; a place of no declaration has none
 abbrev pub type_of : Kind → Option ShapeType
 type_of (scalar s) = Some (scalar_type s)
+type_of document = Some types.Document
 type_of (structure_of members) = Some types.Structure
 type_of (union_of members) = Some types.Union
 type_of (list_of l) = Some types.List
@@ -158,6 +166,24 @@ place_in (union_of members) n = member_place members n
 place_in (list_of l) n = Some l.place
 place_in (map_of m) n = Some m.place
 place_in _ n = None
+
+-- a document stands there
+abbrev pub IsDocument : Kind → Type 0
+IsDocument document = Unit {0}
+IsDocument _ = ⊥
+
+-- one thing where a document stands, and another elsewhere
+abbrev pub where_document : {A : Type 0} → Kind → A → A → A
+where_document document here elsewhere = here
+where_document _ here elsewhere = elsewhere
+
+-- a document is due at the place, whichever table it is of
+abbrev pub is_document_target : Target → Bool
+is_document_target Document = true
+is_document_target _ = false
+
+abbrev pub is_document_place : Place → Bool
+is_document_place place = is_document_target place.target
 
 -- a structure stands there
 abbrev pub IsStructure : Kind → Type 0

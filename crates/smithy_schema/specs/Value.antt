@@ -2,6 +2,8 @@
 use Rattle.std.specs.Prelude.{Bool, ℕ, suc, max, ℤ, List, [], ◌∷◌, Option, Some, None}
 use Rattle.std.specs.Ordering.{nat_cmp, match_ordering}
 use Rattle.std.specs.Cmp.Lexicographic.{slice_cmp}
+use Rattle.smithy_types.specs.Document.{Document}
+use Rattle.smithy_schema.specs.Documents.{document_nesting}
 
 -- a value without parts
 pub data ScalarValue : Type 0 where
@@ -33,6 +35,8 @@ mutual
     union : ℕ → Value → Value
     -- a null among the elements of a sparse list or the values of a sparse map
     null_element : Value
+    -- a document, of whose numbers the whole number alone counts
+    document_value : Document ℤ → Value
 
   -- the elements of a list, in order
   pub data Values : Type 0 where
@@ -69,7 +73,7 @@ put_entry key v (map_entry at w rest) =
     (map_entry at v rest) (map_entry at w (put_entry key v rest))
 
 abbrev mutual
-  -- how deep containers nest: 0 for a scalar and a null, else one more than the deepest child
+  -- how deep containers and documents nest: 0 for a scalar and a null, else one more than the deepest child
   pub nesting : Value → ℕ
   nesting (scalar_value x) = 0
   nesting (list vs) = suc (elements_nesting vs)
@@ -77,6 +81,7 @@ abbrev mutual
   nesting (structure ms) = suc (members_nesting ms)
   nesting (union n v) = suc (nesting v)
   nesting null_element = 0
+  nesting (document_value d) = document_nesting d
 
   -- the greatest of the children
   pub elements_nesting : Values → ℕ

@@ -1,10 +1,11 @@
 -- What is written, call by call, and what a value adds.
-use Rattle.std.specs.Prelude.{◌≡◌, ℕ, suc, List, [], ◌∷◌, ◌++◌, Option, Some, Result, Ok, Err}
+use Rattle.std.specs.Prelude.{◌≡◌, ℕ, ℤ, suc, List, [], ◌∷◌, ◌++◌, Option, Some, Result, Ok, Err}
 use Rattle.std.specs.Option.{option_map_or}
+use Rattle.smithy_types.specs.Document.{Document}
 use Rattle.smithy_schema.specs.declared.error.SerdeError.{SerdeError}
 use Rattle.smithy_schema.specs.declared.error.SerdeError.TheVariants.{Unwritable}
 use Rattle.smithy_schema.specs.Site.{Site, element_of, key_of, value_of, member_of}
-use Rattle.smithy_schema.specs.Value.{ScalarValue, text, text_in, Value, scalar_value, list, map, structure, union, null_element, Values, no_values, value, MapEntries, no_map_entries, map_entry, MemberValues, no_member_values, member_value}
+use Rattle.smithy_schema.specs.Value.{ScalarValue, text, text_in, Value, scalar_value, list, map, structure, union, null_element, document_value, Values, no_values, value, MapEntries, no_map_entries, map_entry, MemberValues, no_member_values, member_value}
 
 -- one call of a serializer, with what its schema tells
 pub data Event : Type 0 where
@@ -22,6 +23,8 @@ pub data Event : Type 0 where
   -- by the text that the number keeps
   big_integer_of : Site → List ℕ → Event
   big_decimal_of : Site → List ℕ → Event
+  -- by the whole numbers of its numbers
+  document_of : Site → Document ℤ → Event
 
 -- what an event makes of a serializer's state, or why it can't be written there
 abbrev pub Writer : Type 0 → Type 0
@@ -49,7 +52,7 @@ entry_count (map_entry key v es) = suc (entry_count es)
 
 -- the calls that write a value: a container is what it begins with, its children, and its end
 abbrev mutual
-  -- a scalar is one call
+  -- a scalar is one call, and so is a document
   pub events : Site → Value → List Event
   events site (scalar_value x) = scalar_of site x ∷ []
   events site (list vs) =
@@ -59,6 +62,7 @@ abbrev mutual
   events site (structure ms) = begin_structure site ∷ (member_events site ms ++ end_structure ∷ [])
   events site (union n v) = begin_structure site ∷ (events (member_of site n) v ++ end_structure ∷ [])
   events site null_element = null_of site ∷ []
+  events site (document_value d) = document_of site d ∷ []
 
   -- the elements in order, each at the same site
   pub element_events : Site → Values → List Event
@@ -136,6 +140,7 @@ open_after (null_of site) os = after_value os
 open_after (scalar_of site x) os = after_scalar x os
 open_after (big_integer_of site written) os = after_value os
 open_after (big_decimal_of site written) os = after_value os
+open_after (document_of site d) os = after_value os
 
 -- Each wire keeps its open containers by its calls, and refuses what no serializer takes.
 pub record IsNested {S : Type 0} (after : Writer S) (open_in : S → List Open) : Type 0 where

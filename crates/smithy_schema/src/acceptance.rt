@@ -1,8 +1,8 @@
 //! The tests that declarations have to pass to be a table.
 ghost use Rattle.std.specs.Prelude.{◌≡◌, ◌+◌, ◌&&◌, [], take, map, not, IfOk, IfErr, OnOk, None};
 ghost use Rattle.std.specs.List.{list_any, list_all};
-ghost use Rattle.smithy_schema.specs.Names.{is_scalar_name, is_query_name};
-ghost use Rattle.smithy_schema.specs.Acceptance.{refused, has_unknown_time, is_duplicate, is_declared, has_clash as has_clash_of_members, has_unfit_name, has_one_entry_name, query_name_of, places_of, first_failing, first_fault, tests, build_of};
+ghost use Rattle.smithy_schema.specs.Names.{is_simple_name, is_query_name};
+ghost use Rattle.smithy_schema.specs.Acceptance.{refused, has_unknown_time, is_duplicate, is_declared, has_clash as has_clash_of_members, has_unfit_name, has_one_entry_name, has_sparse_documents, query_name_of, places_of, first_failing, first_fault, tests, build_of};
 ghost use Rattle.smithy_schema.specs.DeclViews.{decl_of, member_decl_of, place_words_of, IsRefusedBy};
 ghost use Rattle.smithy_schema.specs.Private.DeclNames.{declared_name};
 ghost use Rattle.smithy_schema.specs.Private.Order.{IsOrderOf};
@@ -18,9 +18,7 @@ use crate::names::{Named, has_clash, position_of};
 use names::{DeclaredNames, JsonNames, MemberNames, QueryNames, given_or};
 use places::{PlaceWords, Places};
 use std::alloc::{AllocError, Global};
-use words::{
-    is_float_name, is_query_name, is_reserved, is_unbuilt_name, scalar_of, time_format_of,
-};
+use words::{is_float_name, is_query_name, is_reserved, simple_target, time_format_of};
 
 /// The most declarations of a table, and members of a declaration.
 const LIMIT: usize = 65_535;
@@ -28,7 +26,6 @@ const LIMIT: usize = 65_535;
 /// A test that each declaration has to pass.
 #[derive(Clone, Copy)]
 pub(crate) enum Test {
-    NotBuilt,
     FloatShape,
     UnknownTarget,
     UnknownTimeFormat,
@@ -36,12 +33,12 @@ pub(crate) enum Test {
     NameClash,
     QueryName,
     KeyValueName,
+    SparseDocument,
     TooMany,
 }
 
 /// The tests in the order in which they are made.
 const TESTS: [Test; 9] = [
-    Test::NotBuilt,
     Test::FloatShape,
     Test::UnknownTarget,
     Test::UnknownTimeFormat,
@@ -49,13 +46,13 @@ const TESTS: [Test; 9] = [
     Test::NameClash,
     Test::QueryName,
     Test::KeyValueName,
+    Test::SparseDocument,
     Test::TooMany,
 ];
 
 /// A test that each place of a declaration has to pass.
 #[derive(Clone, Copy)]
 pub(crate) enum PlaceTest {
-    UnbuiltTarget,
     FloatTarget,
     UnknownTarget,
     UnknownTime,
@@ -107,7 +104,6 @@ impl Test {
         ensures { IfOk result (λ fails. fails ≡ test_of self (map decl_of decls.now) (position + 1) (decl_of decl.now)) }
     {
         match self {
-            Test::NotBuilt => Ok(PlaceTest::UnbuiltTarget.fails_at_some(decls, order, decl)),
             Test::FloatShape => Ok(PlaceTest::FloatTarget.fails_at_some(decls, order, decl)),
             Test::UnknownTarget => Ok(PlaceTest::UnknownTarget.fails_at_some(decls, order, decl)),
             Test::UnknownTimeFormat => Ok(PlaceTest::UnknownTime.fails_at_some(decls, order, decl)),
@@ -115,6 +111,7 @@ impl Test {
             Test::NameClash => has_clash_of_members(alloc, decl),
             Test::QueryName => Ok(has_unfit_name(decl)),
             Test::KeyValueName => Ok(has_one_entry_name(decl)),
+            Test::SparseDocument => Ok(has_sparse_documents(decl)),
             Test::TooMany => Ok(decl.members().len() > LIMIT || position == LIMIT),
         }
     }
@@ -124,7 +121,6 @@ impl Test {
         ensures { IsRefusedBy (refused (fault_of self) number) result }
     {
         match self {
-            Test::NotBuilt => TableFault::NotBuilt(number),
             Test::FloatShape => TableFault::FloatShape(number),
             Test::UnknownTarget => TableFault::UnknownTarget(number),
             Test::UnknownTimeFormat => TableFault::UnknownTimeFormat(number),
@@ -132,6 +128,7 @@ impl Test {
             Test::NameClash => TableFault::NameClash(number),
             Test::QueryName => TableFault::QueryName(number),
             Test::KeyValueName => TableFault::KeyValueName(number),
+            Test::SparseDocument => TableFault::SparseDocument(number),
             Test::TooMany => TableFault::TooMany(number),
         }
     }
@@ -158,7 +155,6 @@ impl PlaceTest {
         ensures { result ≡ place_test_of self (map decl_of decls.now) (place_words_of place.entry) }
     {
         match self {
-            PlaceTest::UnbuiltTarget => is_unbuilt_name(place.target),
             PlaceTest::FloatTarget => is_float_name(place.target),
             PlaceTest::UnknownTarget => is_unknown(decls, order, place.target),
             PlaceTest::UnknownTime => has_unknown_time(place),
@@ -176,15 +172,15 @@ fn has_unknown_time(place: PlaceWords<'_>) -> bool
     }
 }
 
-// The target is neither a scalar nor a declared name.
+// The target is neither a scalar, nor a document, nor a declared name.
 fn is_unknown(decls: &[Decl], order: &[usize], target: &str) -> bool
     requires { IsOrderOf (map declared_name decls.now) order.now }
-    ensures { result ≡ (not (is_scalar_name target.now) && not (is_declared (map decl_of decls.now) target.now)) }
+    ensures { result ≡ (not (is_simple_name target.now) && not (is_declared (map decl_of decls.now) target.now)) }
 {
-    scalar_of(target).is_none() && position_of(&DeclaredNames(decls), order, target).is_none()
+    simple_target(target).is_none() && position_of(&DeclaredNames(decls), order, target).is_none()
 }
 
-// The name is that of a scalar or of a declaration before that position.
+// The name is reserved, or that of a declaration before that position.
 fn is_duplicate(decls: &[Decl], order: &[usize], position: usize, decl: &Decl) -> bool
     requires { IsOrderOf (map declared_name decls.now) order.now }
     ensures { result ≡ is_duplicate (map decl_of decls.now) (position + 1) (decl_of decl.now) }
@@ -247,6 +243,17 @@ fn has_one_entry_name(decl: &Decl) -> bool
 {
     match decl {
         Decl::Map { key, value, .. } => given_or(key, "key") == given_or(value, "value"),
+        _ => false,
+    }
+}
+
+// A sparse list or map has documents.
+fn has_sparse_documents(decl: &Decl) -> bool
+    ensures { result ≡ has_sparse_documents (decl_of decl.now).form }
+{
+    match decl {
+        Decl::List { target, sparse, .. } => *sparse && target.as_str() == "document",
+        Decl::Map { target, sparse, .. } => *sparse && target.as_str() == "document",
         _ => false,
     }
 }

@@ -11,7 +11,7 @@ ghost use Rattle.smithy_schema.specs.Private.Placed.{members_with, declaration_w
 use crate::acceptance::check;
 use crate::acceptance::names::DeclaredNames;
 use crate::acceptance::places::{PlaceWords, Places};
-use crate::acceptance::words::{scalar_of, time_format_of};
+use crate::acceptance::words::{simple_target, time_format_of};
 use crate::decl::{Decl, MemberDecl};
 use crate::fault::TableFault;
 use crate::members::{MemberList, MemberShape};
@@ -91,14 +91,14 @@ fn place_of(decls: &[Decl], order: &[usize], place: PlaceWords<'_>) -> Place
     }
 }
 
-// The scalar or the declaration of that name.
+// The scalar, the document or the declaration of that name.
 fn target_of(decls: &[Decl], order: &[usize], name: &str) -> Target
     requires few { length decls.now ≤ 65535 }
     requires in_order { IsOrderOf (map declared_name decls.now) order.now }
     ensures { result ≡ target_of (map decl_of decls.now) name.now }
 {
-    match scalar_of(name) {
-        Some(scalar) => Target::Simple(scalar),
+    match simple_target(name) {
+        Some(target) => target,
         None => Target::Declared(ShapeRef(number_of(decls, order, name))),
     }
 }

@@ -11,15 +11,19 @@ pub enum SerdeError {
     /// No value of the wanted kind stands here, no value is due, or one was left unread.
     #[error("InvalidInput")]
     InvalidInput,
-    /// The call opens one container more than the codec's depth allows.
+    /// The call opens one container more than the codec's depth allows, or reads a document that nests deeper.
     #[error("TooDeep")]
     TooDeep,
     /// A big number stands here that leaves the limits of its kind, or is to be written and leaves those of the wire.
     #[error("TooWide")]
     TooWide,
-    /// What stands here is a number that a timestamp doesn't carry, as a float or a part of a nanosecond.
+    /// What stands here is a number that a timestamp or a document doesn't carry, as a float or a part of a nanosecond, or it
+    /// is a document where the wire carries none.
     #[error("NotCarried")]
     NotCarried,
+    /// The wire writes no documents.
+    #[error("Unsupported")]
+    Unsupported,
     /// The value or the state of the writer is one that the wire can't write.
     #[error("Unwritable")]
     Unwritable,

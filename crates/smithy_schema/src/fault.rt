@@ -12,19 +12,16 @@ pub enum TableFault {
     /// The line is of no form, or a `member` line without a structure or a union before it.
     #[error("BadLine")]
     BadLine(u64),
-    /// The declaration uses an item that no table can have yet.
-    #[error("NotBuilt")]
-    NotBuilt(u64),
     /// A target is `float` or `double`.
     #[error("FloatShape")]
     FloatShape(u64),
-    /// A target is neither a scalar nor a declared name.
+    /// A target is neither a scalar, nor `document`, nor a declared name.
     #[error("UnknownTarget")]
     UnknownTarget(u64),
     /// A `time` is none of the three time forms.
     #[error("UnknownTimeFormat")]
     UnknownTimeFormat(u64),
-    /// The name is that of an earlier declaration, of a scalar, or `float` or `double`.
+    /// The name is that of an earlier declaration, of a scalar, or `document`, `float` or `double`.
     #[error("DuplicateShape")]
     DuplicateShape(u64),
     /// Two members have equal names, equal JSON names or equal names in a form.
@@ -36,6 +33,9 @@ pub enum TableFault {
     /// The keys and the values of a map have one name in a form.
     #[error("KeyValueName")]
     KeyValueName(u64),
+    /// A sparse list or map has the target `document`.
+    #[error("SparseDocument")]
+    SparseDocument(u64),
     /// The declaration has more than 65,535 members, or is number 65,536.
     #[error("TooMany")]
     TooMany(u64),

@@ -7,6 +7,8 @@ use crate::shape_type::{Scalar, ShapeRef, TimestampFormat};
 pub enum Target {
     /// A scalar.
     Simple(Scalar),
+    /// A document: open content, which no shape describes.
+    Document,
     /// The declaration of that number.
     Declared(ShapeRef),
 }

@@ -9,12 +9,12 @@ ghost use Rattle.smithy_schema.specs.declared.shape_type.Scalar.TheVariants as s
 ghost use Rattle.smithy_schema.specs.Table.{Table, kind_of, IsStructure, HasMembers, IsList, IsMap};
 ghost use Rattle.smithy_schema.specs.Value.{Value, boolean, whole, text, bytes, decimal, instant};
 ghost use Rattle.smithy_schema.specs.Site.{site_of, kind_at};
-ghost use Rattle.smithy_schema.specs.Reading.{ReadsScalar, AnswersWide, AnswersUncarried, RefusesNoScalar, Cursor, depth, Relations, Mark, IsLawful, StandsFit, CountsOpeners, IsBelow, Conducts, Passes, Enters, Steps, Leaves, MatchStep, CannotGoOn, OpensNot, SkipsNot, NullsNot, ReachesDepth, null_is_due, IsRefused, IsInvalid, IsNoAnswer, failed_at, passed_to, in_structure, in_list, in_map};
+ghost use Rattle.smithy_schema.specs.Reading.{ReadsScalar, ReadsDocument, AnswersWide, AnswersUncarried, RefusesNoScalar, Cursor, depth, Relations, Mark, IsLawful, StandsFit, CountsOpeners, IsBelow, Conducts, Passes, Enters, Steps, Leaves, MatchStep, CannotGoOn, OpensNot, SkipsNot, NullsNot, ReachesDepth, null_is_due, IsRefused, IsInvalid, IsNoAnswer, failed_at, passed_to, in_structure, in_list, in_map};
 ghost use Rattle.smithy_schema.specs.declared.error.SerdeError.TheVariants.{TooDeep, NoMemory};
 
 use crate::error::SerdeError;
 use crate::schema::Schema;
-use smithy_types::{BigDecimal, BigInteger, Blob, DateTime};
+use smithy_types::{BigDecimal, BigInteger, Blob, DateTime, Document};
 
 /// Where a structure or a union goes on: to a member that the table knows, to another entry, or to its end.
 #[derive(Clone, Copy)]
@@ -46,7 +46,7 @@ pub trait ShapeDeserializer {
     // The relations of the wire.
     ghost wire: { Settings → Relations };
 
-    // The same with the limits lifted on depth and on the size of numbers.
+    // The same with the limits lifted on depth, on the size of numbers and on what is carried.
     ghost lifted: { Settings → Relations };
 
     // The settings are among those for which a refusal by `InvalidInput` speaks of the lifted relations.
@@ -81,8 +81,8 @@ pub trait ShapeDeserializer {
         ensures deep { IsErrOf result TooDeep → OpensNot (wire (settings self.old)) (state self.old) schema.now.shapes.now schema.now.place → ⊥ };
 
     /// Goes on in the structure or the union, which is the one of this schema: to an entry whose value is due then, or
-    /// to the end. Entries with a null are passed over, and each `__type` that names no member. A value that is still
-    /// due is skipped first.
+    /// to the end. Entries with a null are passed over, but for documents where the wire has a null document, and each
+    /// `__type` that names no member. A value that is still due is skipped first.
     fn next_member<'s>(&mut self, schema: &Schema<'s>) -> Result<Step<'s>, SerdeError>
         requires within { (state self.old).inner.within ≡ in_structure }
         requires place { HasMembers (kind_at (site_of schema.now)) }
@@ -262,6 +262,12 @@ pub trait ShapeDeserializer {
         ensures same { settings self.new ≡ settings self.old }
         ensures read { ReadsScalar (wire (settings self.old)) (lifted (settings self.old)) (is_strict (settings self.old)) (state self.old) (state self.new) (site_of schema.now) scalars.Timestamp instant result }
         ensures uncarried { AnswersUncarried (wire (settings self.old)) (state self.old) (site_of schema.now) scalars.Timestamp result };
+
+    /// Reads a document, in which each value counts as depth, scalars too. `NotCarried` comes only where a number stands in it
+    /// that a document doesn't carry, or where the wire carries no documents.
+    fn read_document(&mut self, schema: &Schema<'_>) -> Result<Document, SerdeError>
+        ensures same { settings self.new ≡ settings self.old }
+        ensures read { ReadsDocument (wire (settings self.old)) (lifted (settings self.old)) (is_strict (settings self.old)) (max_depth (settings self.old)) (state self.old) (state self.new) (site_of schema.now) result };
 
     // Each wire obeys the laws of reading, with its limits and with them lifted.
     ghost lawful: { (c : Settings) → IsLawful (wire c) };

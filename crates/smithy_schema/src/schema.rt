@@ -48,6 +48,7 @@ impl<'a> Schema<'a> {
         let shapes = self.shapes;
         match self.place.target {
             Target::Simple(scalar) => scalar.shape_type(),
+            Target::Document => ShapeType::Document,
             Target::Declared(shape) => match shapes.shape_at(shape) {
                 Some(Shape::Structure(_)) => ShapeType::Structure,
                 Some(Shape::Union(_)) => ShapeType::Union,
@@ -185,6 +186,7 @@ impl<'a> Schema<'a> {
         let shapes = self.shapes;
         match self.place.target {
             Target::Simple(_) => None,
+            Target::Document => None,
             Target::Declared(shape) => match shapes.list_at(shape) {
                 Some(list) => Some(Schema {
                     shapes,
@@ -204,6 +206,7 @@ impl<'a> Schema<'a> {
         let shapes = self.shapes;
         match self.place.target {
             Target::Simple(_) => None,
+            Target::Document => None,
             Target::Declared(shape) => match shapes.map_at(shape) {
                 Some(map) => Some(Schema {
                     shapes,
@@ -223,6 +226,7 @@ impl<'a> Schema<'a> {
         let shapes = self.shapes;
         match self.place.target {
             Target::Simple(_) => None,
+            Target::Document => None,
             Target::Declared(shape) => match shapes.map_at(shape) {
                 Some(_) => Some(Schema {
                     shapes,
@@ -245,6 +249,7 @@ impl<'a> Schema<'a> {
         let shapes = self.shapes;
         match self.place.target {
             Target::Simple(_) => None,
+            Target::Document => None,
             Target::Declared(shape) => match shapes.member_at(shape, position) {
                 Some(member) => Some(Schema {
                     shapes,
@@ -281,6 +286,7 @@ impl<'a> Schema<'a> {
         let shapes = self.shapes;
         match self.place.target {
             Target::Simple(_) => None,
+            Target::Document => None,
             Target::Declared(shape) => shapes.members_at(shape),
         }
     }
@@ -292,6 +298,7 @@ impl<'a> Schema<'a> {
         let shapes = self.shapes;
         match self.place.target {
             Target::Simple(_) => false,
+            Target::Document => false,
             Target::Declared(shape) => match shapes.shape_at(shape) {
                 Some(Shape::List(list)) => list.sparse,
                 Some(Shape::Map(map)) => map.sparse,

@@ -60,6 +60,7 @@ pub enum ShapeType {
     Timestamp,
     BigInteger,
     BigDecimal,
+    Document,
     List,
     Map,
     Structure,

@@ -5,9 +5,10 @@ use crate::{
 use std::alloc::Global;
 use std::test::Fail;
 
-const ACCEPTED: [&str; 12] = [
+const ACCEPTED: [&str; 13] = [
     "",
     "structure S\nmember a timestamp\nmember b timestamp time=http-date\nlist L timestamp time=epoch-seconds",
+    "structure S\nmember a document time=http-date\nlist L document\nmap M document\nlist K L sparse",
     "structure S\nmember a long",
     "list L L\nstructure S\nmember l L",
     "structure S\r\nmember a string\r\n",
@@ -20,7 +21,7 @@ const ACCEPTED: [&str; 12] = [
     "map M string value=v time=date-time sparse key=k\nstructure S\nmember m M flat",
 ];
 
-const REFUSED: [(&str, TableFault); 45] = [
+const REFUSED: [(&str, TableFault); 46] = [
     ("member a long", TableFault::BadLine(1)),
     (
         "structure S\nlist L long\nmember a long",
@@ -34,11 +35,18 @@ const REFUSED: [(&str, TableFault); 45] = [
         TableFault::BadLine(2),
     ),
     ("structure S\nmember a long json=", TableFault::BadLine(2)),
-    ("structure S\nmember a document", TableFault::NotBuilt(1)),
+    ("list L document sparse", TableFault::SparseDocument(1)),
+    (
+        "list L document\nlist K long sparse\nmap M document sparse",
+        TableFault::SparseDocument(3),
+    ),
     ("list L long flat", TableFault::BadLine(1)),
     ("list L long sparse sparse", TableFault::BadLine(1)),
-    ("union U\nmember a document", TableFault::NotBuilt(1)),
-    ("list L b\nmap M document", TableFault::NotBuilt(2)),
+    (
+        "list L document sparse\nmap M long key=k value=k",
+        TableFault::KeyValueName(2),
+    ),
+    ("structure S\nunion document", TableFault::DuplicateShape(2)),
     (
         "list L timestamp\nlist timestamp timestamp",
         TableFault::DuplicateShape(2),
@@ -189,7 +197,11 @@ fn refuses_65536_declarations(rt: HostRuntime) -> Result<(), Fail> {
 // A fault, its name, and another fault: the same of another number, where it has one.
 const FAULTS: [(TableFault, &str, TableFault); 11] = [
     (TableFault::BadLine(3), "BadLine", TableFault::BadLine(4)),
-    (TableFault::NotBuilt(3), "NotBuilt", TableFault::NotBuilt(4)),
+    (
+        TableFault::SparseDocument(3),
+        "SparseDocument",
+        TableFault::SparseDocument(4),
+    ),
     (
         TableFault::FloatShape(3),
         "FloatShape",
@@ -239,11 +251,12 @@ fn a_fault_is_known_by_its_name_and_number(rt: HostRuntime) -> Result<(), Fail> 
     Ok(())
 }
 
-const ERRORS: [(SerdeError, &str); 7] = [
+const ERRORS: [(SerdeError, &str); 8] = [
     (SerdeError::InvalidInput, "InvalidInput"),
     (SerdeError::TooDeep, "TooDeep"),
     (SerdeError::TooWide, "TooWide"),
     (SerdeError::NotCarried, "NotCarried"),
+    (SerdeError::Unsupported, "Unsupported"),
     (SerdeError::Unwritable, "Unwritable"),
     (SerdeError::Failed, "Failed"),
     (SerdeError::NoMemory, "NoMemory"),
@@ -421,4 +434,26 @@ fn tells_of_the_members_of_a_union(rt: HostRuntime) -> Result<(), Fail> {
 
 fn index_of(member: Option<Schema<'_>>) -> Option<u32> {
     member?.member_index()
+}
+
+#[test]
+fn tells_of_documents(rt: HostRuntime) -> Result<(), Fail> {
+    let shapes = table_of(
+        rt.alloc(),
+        "map M document\nstructure S\nmember d document time=http-date",
+    )?;
+    assert_eq!(rt; shapes.len(), 2);
+    let Some(value) = shapes.schema(ShapeRef(0)).member() else {
+        assert!(rt; false, "a value");
+        return Ok(());
+    };
+    assert_eq!(rt; value.shape_type(), ShapeType::Document);
+    let Some(member) = shapes.schema(ShapeRef(1)).member_schema("d") else {
+        assert!(rt; false, "a member");
+        return Ok(());
+    };
+    assert_eq!(rt; member.shape_type(), ShapeType::Document);
+    assert!(rt; !member.is_sparse(), "not sparse");
+    assert!(rt; matches!(member.member(), None), "no elements");
+    Ok(())
 }

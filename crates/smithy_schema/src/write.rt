@@ -1,15 +1,17 @@
 //! Writing a value as a schema directs.
 ghost use Rattle.std.specs.Prelude.{◌++◌, ◌≡◌, ◌≢◌, ◌↔◌, ℕ, List, [], Option, Bool, true, IfOk, IfErr, OnOk, IsErr, IsErrOf, Result, Ok, Err};
+ghost use Rattle.smithy_types.specs.Document.{whole_document};
+ghost use Rattle.smithy_types.specs.DocumentView.{document_view};
 ghost use Rattle.smithy_schema.specs.declared.error.SerdeError.{SerdeError};
 ghost use Rattle.smithy_schema.specs.declared.error.SerdeError.TheVariants.{Failed, NoMemory, Unwritable};
 ghost use Rattle.smithy_schema.specs.Site.{site_of};
 ghost use Rattle.smithy_schema.specs.Value.{boolean, whole, text, bytes, decimal, instant};
 ghost use Rattle.smithy_schema.specs.Reading.{IsFault};
-ghost use Rattle.smithy_schema.specs.Writing.{Event, Writer, Open, IsNested, begin_structure, end_structure, begin_list as list_begins, end_list as list_ends, begin_map as map_begins, end_map as map_ends, null_of, scalar_of, big_integer_of, big_decimal_of};
+ghost use Rattle.smithy_schema.specs.Writing.{Event, Writer, Open, IsNested, begin_structure, end_structure, begin_list as list_begins, end_list as list_ends, begin_map as map_begins, end_map as map_ends, null_of, scalar_of, big_integer_of, big_decimal_of, document_of};
 
 use crate::error::SerdeError;
 use crate::schema::Schema;
-use smithy_types::{BigDecimal, BigInteger, Blob, DateTime};
+use smithy_types::{BigDecimal, BigInteger, Blob, DateTime, Document};
 
 /// A writer of one output, which is told of a value call by call, each with the schema of its place.
 ///
@@ -193,6 +195,13 @@ pub trait ShapeSerializer {
         ensures broken { IsErr result ↔ (failed self.new ≡ true) }
         ensures ok { OnOk result (after (scalar_of (site_of schema.now) (instant value.now)) (state self.old) ≡ Ok (state self.new)) }
         ensures refused { IfErr result (λ e. IsFault e → after (scalar_of (site_of schema.now) (instant value.now)) (state self.old) ≡ Err e) };
+
+    /// Writes a document: `Unsupported` where the wire writes none.
+    fn write_document(&mut self, schema: &Schema<'_>, value: &Document) -> Result<(), SerdeError>
+        ensures failed { IsErrOf result Failed ↔ (failed self.old ≡ true) }
+        ensures broken { IsErr result ↔ (failed self.new ≡ true) }
+        ensures ok { OnOk result (after (document_of (site_of schema.now) (whole_document (document_view value.now))) (state self.old) ≡ Ok (state self.new)) }
+        ensures refused { IfErr result (λ e. IsFault e → after (document_of (site_of schema.now) (whole_document (document_view value.now))) (state self.old) ≡ Err e) };
 
     // No call takes back a byte.
     ghost grows: { (e : Event) (s t : State) → after e s ≡ Ok t → (more : List ℕ) × (out t ≡ out s ++ more) };

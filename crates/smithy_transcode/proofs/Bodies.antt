@@ -15,8 +15,9 @@ use Rattle.smithy_schema.specs.ScalarTest.{scalars_pass}
 use Rattle.smithy_schema.specs.TimeForms.{form_or}
 use Rattle.smithy_schema.specs.Table.{Table, IsStructure, kind_of, shape_place}
 use Rattle.smithy_schema.specs.Site.{Site, View, whole_view, site_of, shape_site}
-use Rattle.smithy_schema.specs.Value.{Value, scalar_value, list, map, structure, union, null_element, MemberValues}
+use Rattle.smithy_schema.specs.Value.{Value, scalar_value, list, map, structure, union, null_element, document_value, MemberValues}
 use Rattle.smithy_schema.specs.Writing.{write}
+use Rattle.smithy_wire.specs.Lemmas.Places.{document_kind}
 use Rattle.smithy_json_codec.specs.Canonical.{canonical_json, key_text, json_holds, can_write as json_can_write}
 use Rattle.smithy_json_codec.specs.Codec.{strict_settings}
 use Rattle.smithy_json_codec.specs.Writing.{JsonState, json_after, fresh_state}
@@ -29,8 +30,8 @@ use Rattle.smithy_query_codec.specs.Counts.{HasPositions}
 use Rattle.smithy_query_codec.specs.Writable.{can_write, can_be_written, query_holds}
 use Rattle.smithy_query_codec.specs.Writing.{QueryState, query_after, fresh_state as fresh_form}
 use Rattle.smithy_query_codec.proofs.WholeForms.{whole_state, fit_is_written, fit_is_read, fit_is_distinct}
-use Rattle.smithy_transcode.specs.declared.wire.Unfit.TheVariants.{Null, Instant}
-use Rattle.smithy_transcode.specs.Wires.{Wire, json, cbor, query, has_nulls, has_scalar, unfit}
+use Rattle.smithy_transcode.specs.declared.wire.Unfit.TheVariants.{Document, Null, Instant}
+use Rattle.smithy_transcode.specs.Wires.{Wire, json, cbor, query, has_nulls, holds, holds_document, unfit}
 use Rattle.smithy_transcode.specs.Transcoding.{TellsAgain}
 use Rattle.smithy_transcode.specs.Spelling.{body}
 
@@ -43,18 +44,22 @@ reached (Err e) Reaches text gives s bytes adds is = tt
 
 -- ---- what a wire can express
 
--- a value that a wire can express holds no null where the wire has none, and the wire holds its scalars
-parts_of : (stands null held : Bool) → (if not stands && null then Some Null else if held then None else Some Instant) ≡ None
-    → ((not stands && null) ≡ false) × (held ≡ true)
-parts_of stands null held fit = from (not stands && null) held fit
-  where
-    from : (null held : Bool) → (if null then Some Null else if held then None else Some Instant) ≡ None → (null ≡ false) × (held ≡ true)
-    from true held h = absurd (let e : Some Null ≡ None = h in cc)
-    from false true h = (refl, refl)
-    from false false h = absurd (let e : Some Instant ≡ None = h in cc)
+-- a value that a wire can express holds no null where the wire has none, and passes its test
+parts_of : (document null passes : Bool) → (if document then Some Document else if null then Some Null else if passes then None else Some Instant) ≡ None
+    → (null ≡ false) × (passes ≡ true)
+parts_of true null passes h = absurd (let e : Some Document ≡ None = h in cc)
+parts_of false true passes h = absurd (let e : Some Null ≡ None = h in cc)
+parts_of false false true h = (refl, refl)
+parts_of false false false h = absurd (let e : Some Instant ≡ None = h in cc)
 
-pub all_held : (w : Wire) (t : Table) (root : ℕ) (v : Value) → unfit w t root v ≡ None → scalars_pass (has_scalar w) (shape_site t root) v ≡ true
-all_held w t root v fit = (parts_of (has_nulls w) (holds_null v) (scalars_pass (has_scalar w) (shape_site t root) v) fit).1
+fit_parts : (w : Wire) (t : Table) (root : ℕ) (v : Value) → unfit w t root v ≡ None
+    → ((not (has_nulls w) && holds_null v) ≡ false) × (scalars_pass (holds w) (shape_site t root) v ≡ true)
+fit_parts w t root v fit =
+    let site = shape_site t root in
+    parts_of (not (holds w).documents && holds_document site v) (not (has_nulls w) && holds_null v) (scalars_pass (holds w) site v) fit
+
+pub all_held : (w : Wire) (t : Table) (root : ℕ) (v : Value) → unfit w t root v ≡ None → scalars_pass (holds w) (shape_site t root) v ≡ true
+all_held w t root v fit = (fit_parts w t root v fit).1
 
 -- ---- JSON
 
@@ -62,15 +67,15 @@ no_key : (b : Bool) (view : View) → view.name ≡ None → key_text b view ≡
 no_key b view nameless = rw nameless refl
 
 -- what JSON holds can be written
-pub json_takes : (b : Bool) (site : Site) (v : Value) → scalars_pass (has_scalar (json b)) site v ≡ true → scalars_pass (json_can_write (strict_settings b)) site v ≡ true
+pub json_takes : (b : Bool) (site : Site) (v : Value) → scalars_pass (holds (json b)) site v ≡ true → scalars_pass (json_can_write (strict_settings b)) site v ≡ true
 json_takes b site v held =
-    more_pass (json_holds (strict_settings b)) (json_can_write (strict_settings b)) (λ time x holds. held_writes (form_or EpochSeconds time) x holds) v site held
+    more_pass (json_holds (strict_settings b)) (json_can_write (strict_settings b)) (λ time x held. held_writes (form_or EpochSeconds time) x held) (λ documents. documents) v site held
 
 abbrev pub json_body : Bool → Site → Value → JsonState
 json_body b site v = state (strict_settings b) (canonical_json (strict_settings b) site v) true []
 
 pub json_adds : (b : Bool) (site : Site) (v : Value) (s : JsonState) → s ≡ fresh_state (strict_settings b) → site.view.name ≡ None
-    → scalars_pass (has_scalar (json b)) site v ≡ true → write json_after site v s ≡ Ok (json_body b site v)
+    → scalars_pass (holds (json b)) site v ≡ true → write json_after site v s ≡ Ok (json_body b site v)
 json_adds b site v s fresh nameless held =
     let c = strict_settings b in
     ap (write json_after site v) fresh
@@ -82,16 +87,16 @@ json_adds b site v s fresh nameless held =
 abbrev pub cbor_body : Site → Value → CborState
 cbor_body site v = record { out = canonical_cbor site v; frames = [] }
 
-pub cbor_adds : (site : Site) (v : Value) (s : CborState) → s ≡ fresh_cbor_state → scalars_pass (has_scalar cbor) site v ≡ true
+pub cbor_adds : (site : Site) (v : Value) (s : CborState) → s ≡ fresh_cbor_state → scalars_pass (holds cbor) site v ≡ true
     → write cbor_after site v s ≡ Ok (cbor_body site v)
 cbor_adds site v s fresh held = ap (write cbor_after site v) fresh ∙ cbor_value_adds site v [] [] [] held refl
 
 -- ---- the body of the root, at the schema of the root
 
 pub root_held : (w x : Wire) (s : Schema) (t : Table) (root : ℕ) (v : Value) → w ≡ x → site_of s ≡ shape_site t root
-    → unfit w t root v ≡ None → scalars_pass (has_scalar x) (site_of s) v ≡ true
+    → unfit w t root v ≡ None → scalars_pass (holds x) (site_of s) v ≡ true
 root_held w x s t root v wire site fit =
-    ap (λ y. scalars_pass (has_scalar x) y v) site ∙ ap (λ y. scalars_pass (has_scalar y) (shape_site t root) v) (sym wire) ∙ all_held w t root v fit
+    ap (λ y. scalars_pass (holds x) y v) site ∙ ap (λ y. scalars_pass (holds y) (shape_site t root) v) (sym wire) ∙ all_held w t root v fit
 
 pub json_is_body : (w : Wire) (b : Bool) (s : Schema) (t : Table) (root : ℕ) (v : Value) → w ≡ json b → site_of s ≡ shape_site t root
     → canonical_json (strict_settings b) (site_of s) v ≡ body w t root v
@@ -106,8 +111,8 @@ cbor_is_body w s t root v wire site = ap (λ x. canonical_cbor x v) site ∙ sym
 -- a value that a form can express can be written
 pub form_takes : (action version : List ℕ) (t : Table) (root : ℕ) (v : Value) → unfit (query action version) t root v ≡ None → can_be_written (shape_site t root) v ≡ true
 form_takes action version t root v fit =
-    let parts = parts_of (has_nulls (query action version)) (holds_null v) (scalars_pass (has_scalar (query action version)) (shape_site t root) v) fit in
-    let written = more_pass query_holds can_write (λ time x holds. held_writes (form_or DateTime time) x holds) v (shape_site t root) parts.1 in
+    let parts = fit_parts (query action version) t root v fit in
+    let written = more_pass query_holds can_write (λ time x held. held_writes (form_or DateTime time) x held) (λ documents. documents) v (shape_site t root) parts.1 in
     both_true (holds_null v) (scalars_pass can_write (shape_site t root) v) parts.0 written
   where
     both_true : (null can : Bool) → null ≡ false → can ≡ true → (not null && can) ≡ true
@@ -121,6 +126,7 @@ structure_of_kind t p (list vs) kind fits = absurd (no_list_and_structure (kind_
 structure_of_kind t p (map es) kind fits = absurd (let k = map_kind (kind_of t p) fits.0 in subst IsStructure k.1 kind)
 structure_of_kind t p (union n v) kind fits = absurd (let k = union_kind (kind_of t p) fits.0 in subst IsStructure k.1 kind)
 structure_of_kind t p null_element kind fits = absurd (let e : false ≡ true = fits in cc)
+structure_of_kind t p (document_value d) kind fits = absurd (subst IsStructure (document_kind (kind_of t p) fits.0) kind)
 
 abbrev pub form_state : Wire → Table → ℕ → Value → QueryState
 form_state w t root v = whole_state (body w t root v)

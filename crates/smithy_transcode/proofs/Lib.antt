@@ -3,7 +3,8 @@ pub mod Bodies
 mod CompactVariants
 mod EntryOrder
 mod Inner
-mod InstantsHeld
+mod Unfits
+mod ValuesPass
 mod Lists
 pub mod Mapped
 mod Maps
@@ -20,3 +21,11 @@ pub mod Spelled
 mod Structures
 pub mod Transcodings
 mod Unions
+-- laws over all inputs: equal bodies, and how many values an input spells
+pub mod Laws
+mod CountingNodes
+mod CountingDocuments
+mod CountingContainers
+mod CountingValues
+mod CountingFacts
+pub mod Counting

@@ -7,7 +7,7 @@ use Rattle.smithy_schema.specs.declared.place.Place.{Place}
 use Rattle.smithy_schema.specs.Table.{Table, Kind, list_of, list_shape_of, place_in}
 use Rattle.smithy_schema.specs.Site.{Site, kind_at, element_site, nameless_site, site_of_element, element_of}
 use Rattle.smithy_schema.specs.Fits.{FitsOr, ElementsFit}
-use Rattle.smithy_schema.specs.Value.{Value, scalar_value, list, map as mapped, structure, union, null_element, values_of, nesting, elements_nesting}
+use Rattle.smithy_schema.specs.Value.{Value, scalar_value, list, map as mapped, structure, union, null_element, document_value, values_of, nesting, elements_nesting}
 use Rattle.smithy_schema.specs.Writing.{Event, Writer, write, run, count_of, element_events, begin_list, end_list}
 use Rattle.smithy_schema.proofs.WritingLemmas.{call_made, call_refused, child_written, child_refused}
 
@@ -74,6 +74,7 @@ fits_or_null table place nulls (mapped es) fits = fits
 fits_or_null table place nulls (structure ms) fits = fits
 fits_or_null table place nulls (union n v) fits = fits
 fits_or_null table place nulls null_element fits = refl
+fits_or_null table place nulls (document_value d) fits = fits
 
 pub element_fits : (site member child : Site) (v : Value) (vs ws : List Value) → Some member ≡ element_site site → child ≡ nameless_site member → vs ≡ v ∷ ws
     → ElementsFit site.table (kind_at site) (values_of vs) → FitsOr child.table child.place true v

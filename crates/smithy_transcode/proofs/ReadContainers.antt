@@ -90,9 +90,9 @@ not_both (structure_of members) h l = l
 not_both (union_of members) h l = l
 not_both _ h l = h
 
--- a null is no value
-null_or_value : (w : Relations) → IsLawful w → (i : List ℕ) (t : Table) (p : Place) (d a : ℕ) (v : Value) (e f : ℕ) → w.stands i t p d a v e → w.nulls i d a f → ⊥
-null_or_value w laws i t p d a v e f stands nulls = let both : true ≡ false = sym (laws.null_begins i d a f nulls) ∙ laws.value_begins i t p d a v e stands in cc
+-- no null stands where none begins
+pub no_null_begins : (w : Relations) → IsLawful w → (i : List ℕ) (d a f : ℕ) → w.begins_null i a ≡ false → w.nulls i d a f → ⊥
+no_null_begins w laws i d a f none nulls = let both : true ≡ false = sym (laws.null_begins i d a f nulls) ∙ none in cc
 
 -- a child and its end are determined by the step
 pub same_child : (w : Relations) → IsLawful w → (i : List ℕ) (t : Table) (p : Place) (d : ℕ) (key : Option (List ℕ)) (x y : Child) (c f g : ℕ)
@@ -103,9 +103,9 @@ same_child w laws i t p d key (child_value a m v) (child_value b n u) c f g h k 
     let moved : w.stands i t k.2.0 d c v f = subst (λ q. w.stands i t q d c v f) places h.2.2 in
     let values : v ≡ u = laws.same_value i t k.2.0 d c v u f g moved k.2.2 in
     (ap (λ z. child_value z m v) (h.0 ∙ sym k.0) ∙ ap (λ z. child_value b z v) positions ∙ ap (child_value b n) values, laws.same_end i t k.2.0 d c v u f g moved k.2.2)
-same_child w laws i t p d key (child_value a m v) (child_null b) c f g h k = absurd (null_or_value w laws i t h.2.0 d c v f g h.2.2 k.2)
+same_child w laws i t p d key (child_value a m v) (child_null b) c f g h k = absurd (no_null_begins w laws i d c g (h.3 k.1) k.2)
 same_child w laws i t p d key (child_value a m v) (child_unknown b) c f g h k = absurd (no_place _ (structure_has_members _ k.1) h.2.0 (ap (place_in (kind_of t p)) (sym (h.1 ∙ k.2)) ∙ h.2.1))
-same_child w laws i t p d key (child_null a) (child_value b n u) c f g h k = absurd (null_or_value w laws i t k.2.0 d c u g f k.2.2 h.2)
+same_child w laws i t p d key (child_null a) (child_value b n u) c f g h k = absurd (no_null_begins w laws i d c f (k.3 h.1) h.2)
 same_child w laws i t p d key (child_null a) (child_null b) c f g h k = (ap child_null (h.0 ∙ sym k.0), laws.same_null i d c f g h.2 k.2)
 same_child w laws i t p d key (child_null a) (child_unknown b) c f g h k = absurd (not_both _ (structure_has_members _ k.1) h.1)
 same_child w laws i t p d key (child_unknown a) (child_value b n u) c f g h k = absurd (no_place _ (structure_has_members _ h.1) k.2.0 (ap (place_in (kind_of t p)) (sym (k.1 ∙ h.2)) ∙ k.2.1))
@@ -133,7 +133,8 @@ named_above w u below t p (Some key) = below.position t p key
 
 -- a child on one wire is a child on the other
 child_above : (w u : Relations) → IsBelow w u → (i : List ℕ) (t : Table) (p : Place) (d : ℕ) (key : Option (List ℕ)) (x : Child) (c f : ℕ) → IsChild w i t p d key x c f → IsChild u i t p d key x c f
-child_above w u below i t p d key (child_value k n v) c f h = (h.0, h.1 ∙ named_above w u below t p key, (h.2.0, h.2.1, below.stands i t h.2.0 d c v f h.2.2))
+child_above w u below i t p d key (child_value k n v) c f h =
+    (h.0, h.1 ∙ named_above w u below t p key, (h.2.0, h.2.1, below.stands i t h.2.0 d c v f h.2.2), λ sparse. sym (below.begins_null i c) ∙ h.3 sparse)
 child_above w u below i t p d key (child_null k) c f h = (h.0, h.1, below.nulls i d c f h.2)
 child_above w u below i t p d key (child_unknown k) c f h = (h.0, h.1, sym (named_above w u below t p key) ∙ h.2, below.skips i d c f h.3)
 

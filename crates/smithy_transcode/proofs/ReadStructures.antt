@@ -5,7 +5,7 @@ use Rattle.std.proofs.lemmas.Option.{slice_get_past}
 use Rattle.smithy_schema.specs.declared.place.Place.{Place}
 use Rattle.smithy_schema.specs.declared.schema.Schema.{Schema}
 use Rattle.smithy_schema.specs.declared.read.Step.TheVariants.{Member as ToMember, Unknown}
-use Rattle.smithy_schema.specs.Table.{Table, Kind, structure_of, union_of, kind_of, place_in, members_of, Member, IsStructure, HasMembers}
+use Rattle.smithy_schema.specs.Table.{Table, Kind, structure_of, union_of, kind_of, place_in, members_of, Member, IsStructure, HasMembers, IsSparse}
 use Rattle.smithy_schema.specs.Site.{Site, site_of, site_of_member, member_site, kind_at}
 use Rattle.smithy_schema.specs.Value.{Value, MemberValues, no_member_values, put_member, structure}
 use Rattle.smithy_schema.specs.Container.{members_from, container_of}
@@ -48,13 +48,19 @@ pub site_told : (o : Site) (n : ℕ) (s : Site) → member_site o n ≡ Some s
     → (s.table ≡ o.table) × (place_in (kind_at o) (Some n) ≡ Some s.place) × (s.view.index ≡ Some n)
 site_told o n s h = told_in (kind_at o) o.table n s h
 
+-- what has members isn't sparse
+not_sparse : (k : Kind) (t : Table) (n : ℕ) (s : Site) → option_map (site_of_member t n) (slice_get (members_of k) n) ≡ Some s → IsSparse k → ⊥
+not_sparse (structure_of ms) t n s h sparse = sparse
+not_sparse (union_of ms) t n s h sparse = sparse
+not_sparse _ t n s h sparse = no_member t n s h
+
 -- the child that a member step leads to
 pub member_child : (w : Relations) (s s1 : Cursor) (o : Site) (m : Schema) (n : ℕ) (v : Value) (f : ℕ) → (step : MatchStep (ToMember m) w s s1 o) → (site_of m).view.index ≡ Some n
     → w.stands s1.input m.shapes.now m.place (depth s1) s1.at v f → IsChild w s1.input o.table o.place (depth s1) (Some step.0) (child_value (Some step.0) (Some n) v) s1.at f
 member_child w s s1 o m n v f step index stands =
     let told = site_told o step.1 (site_of m) step.4 in
     let same : Some step.1 ≡ Some n = sym told.2 ∙ index in
-    (refl, sym same ∙ sym step.3, (m.place, rw same at told.1, rw told.0 at stands))
+    (refl, sym same ∙ sym step.3, (m.place, rw same at told.1, rw told.0 at stands), λ sparse. absurd (not_sparse (kind_at o) o.table step.1 (site_of m) step.4 sparse))
 
 pub member_read : (w u : Relations) (max : ℕ) → IsLawful u → IsBelow w u → (s0 s s1 s2 : Cursor) (o : Site) (m : Schema) (fs : MemberValues) (n : ℕ) (v : Value)
     → InContainer w u max s0 s o.table o.place in_structure (structure_value fs) → MatchStep (ToMember m) w s s1 o → (site_of m).view.index ≡ Some n → Reads w s1 s2 m.shapes.now m.place v

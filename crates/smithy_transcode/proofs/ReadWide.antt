@@ -1,21 +1,22 @@
--- A scalar that is due: where a reader fails at one that leaves its limits or isn't carried, and what is read of one.
-use Rattle.std.proofs.Common.{◌≡◌, ℕ, suc, ◌+◌, List, length, Option, Some, None, Result, Ok, Err, IsErrOf, refl, sym, ◌∙◌, ap, subst, arith}
+-- A scalar or a document that is due: where a reader fails at one that leaves its limits or isn't carried, and what is read of one.
+use Rattle.std.proofs.Common.{◌≡◌, ℕ, suc, ◌+◌, List, length, Option, Some, None, true, Result, Ok, Err, IsErrOf, refl, sym, ◌∙◌, ap, subst, arith}
 use Rattle.std.specs.Option.{option_map_or}
 use Rattle.smithy_schema.specs.declared.place.Place.{Place}
 use Rattle.smithy_schema.specs.declared.schema.Schema.{Schema}
 use Rattle.smithy_schema.specs.declared.read.Step.TheVariants.{Member as ToMember}
 use Rattle.smithy_schema.specs.declared.place.Target.{Target}
-use Rattle.smithy_schema.specs.declared.place.Target.TheVariants.{Simple, Declared}
+use Rattle.smithy_schema.specs.declared.place.Target.TheVariants.{Simple, Document, Declared}
 use Rattle.smithy_schema.specs.declared.shape_type.Scalar.{Scalar}
 use Rattle.smithy_schema.specs.declared.shape_type.Scalar.TheVariants as scalars
 use Rattle.smithy_schema.specs.declared.shape_type.ShapeType.{ShapeType}
 use Rattle.smithy_schema.specs.declared.shape_type.ShapeType.TheVariants as types
 use Rattle.smithy_schema.specs.declared.error.SerdeError.{SerdeError}
-use Rattle.smithy_schema.specs.declared.error.SerdeError.TheVariants.{InvalidInput, TooWide, NotCarried}
-use Rattle.smithy_schema.specs.Table.{Table, Shape, structure, union, list, map, kind_of, kind_of_shape, kind_of_target, shape_declared, type_of, scalar_type, nothing, place_in, scalar_place}
+use Rattle.smithy_schema.specs.declared.error.SerdeError.TheVariants.{InvalidInput, TooDeep, TooWide, NotCarried, Unsupported}
+use Rattle.smithy_schema.specs.Table.{Table, Shape, structure, union, list, map, Kind, scalar, document, structure_of, union_of, list_of, map_of, nothing, kind_of, kind_of_shape, kind_of_target, shape_declared, type_of, scalar_type, place_in, scalar_place, document_place, is_document_target, IsDocument}
 use Rattle.smithy_schema.specs.Site.{Site, site_of, kind_at}
 use Rattle.smithy_schema.specs.Value.{ScalarValue, Value, scalar_value}
-use Rattle.smithy_schema.specs.Reading.{Cursor, Within, depth, Relations, Child, Steps, MatchStep, IsInside, Reads, Conducts, failed_at}
+use Rattle.smithy_schema.specs.Reading.{Cursor, Within, depth, Relations, Child, Steps, MatchStep, IsInside, Reads, StandsNot, ReachesDepth, Conducts, failed_at}
+use Rattle.smithy_schema.specs.Lemmas.Kinds.{document_target_is}
 use Rattle.smithy_transcode.proofs.ReadContainers.{InContainer}
 use Rattle.smithy_transcode.proofs.ReadStructures.{site_told}
 
@@ -62,6 +63,7 @@ scalar_back types.Blob = Some scalars.Blob
 scalar_back types.BigInteger = Some scalars.BigInteger
 scalar_back types.BigDecimal = Some scalars.BigDecimal
 scalar_back types.Timestamp = Some scalars.Timestamp
+scalar_back types.Document = None
 scalar_back types.Structure = None
 scalar_back types.Union = None
 scalar_back types.List = None
@@ -94,6 +96,7 @@ target_told : (t : Table) (x : Target) (s : Scalar) → Some (scalar_type s) ≡
 target_told t (Simple r) s h =
     let same : Some s ≡ Some r = sym (back_is s) ∙ ap back h ∙ back_is r in
     cc
+target_told t Document s h = let none : Some s ≡ None = sym (back_is s) ∙ ap back h in cc
 target_told t (Declared r) s h =
     let none : Some s ≡ None = sym (back_is s) ∙ ap back h ∙ shape_none (shape_declared t r.0) in
     cc
@@ -102,27 +105,52 @@ target_told t (Declared r) s h =
 place_told : (t : Table) (p : Place) (s : Scalar) → Some (scalar_type s) ≡ type_of (kind_of t p) → p ≡ scalar_place s p.time
 place_told t p s h = ap (λ (x : Target). record { target = x; time = p.time }) (target_told t p.target s h)
 
--- a read of a scalar fails where it stands, as what a refusal says of it
+-- ---- the place of a document
+
+kind_of_document : (k : Kind) → Some types.Document ≡ type_of k → IsDocument k
+kind_of_document document h = tt
+kind_of_document (scalar s) h = absurd (let none : None ≡ Some s = ap back h ∙ back_is s in cc)
+kind_of_document (structure_of members) h = cc
+kind_of_document (union_of members) h = cc
+kind_of_document (list_of l) h = cc
+kind_of_document (map_of m) h = cc
+kind_of_document nothing h = cc
+
+document_target : (x : Target) → is_document_target x ≡ true → x ≡ Document
+document_target (Simple s) h = cc
+document_target Document h = refl
+document_target (Declared r) h = cc
+
+-- what stands where the type is that of documents
+document_told : (t : Table) (p : Place) → Some types.Document ≡ type_of (kind_of t p) → p ≡ document_place p.time
+document_told t p h =
+    ap (λ (x : Target). record { target = x; time = p.time }) (document_target p.target (document_target_is t p.target (kind_of_document (kind_of t p) h)))
+
+-- ---- what a read of one says
+
+error_is : {B : Type 0} (e f : SerdeError) → IsErrOf {T = B} {E = SerdeError} (Err e) f → e ≡ f
+error_is {B} e f h = let both : ◌≡◌ {A = Result B SerdeError} (Err e) (Err f) = h in cc
+
+stays_as : {A : Type 0} (old new : Cursor) (r : Result A SerdeError) (f : SerdeError) → r ≡ Err f → Conducts old new r → new ≡ failed_at old
+stays_as old new (Ok x) f is conduct = cc
+stays_as old new (Err g) f is conduct = conduct.stays
+
+-- a read of what is due fails where it stands, as what a refusal says of it
+inside_here : {A B : Type 0} (lies : Lying) (old new : Cursor) (t : Table) (p q : Place) (result : Result A SerdeError) (e f : SerdeError)
+    → p ≡ q → result ≡ Err e → Conducts old new result → (IsErrOf result f → StandsAs lies old t q)
+    → IsErrOf {T = B} {E = SerdeError} (Err e) f → StandsInside lies old new t p
+inside_here {A} {B} lies old new t p q result e f here is conduct told refused =
+    let fails : ◌≡◌ {A = Result A SerdeError} result (Err f) = is ∙ ap Err (error_is {B = B} e f refused) in
+    let stays : new ≡ failed_at old = stays_as old new result f fails conduct in
+    let level : depth new ≡ depth old = ap depth stays in
+    (q, 0, omega (arith, level), sym here, subst (λ c. StandsAs lies c t q) (sym stays) (told fails))
+
+-- of a scalar
 pub scalar_inside : {A B : Type 0} (lies : Lying) (old new : Cursor) (site : Site) (s : Scalar) (result : Result A SerdeError) (e f : SerdeError)
     → result ≡ Err e → Conducts old new result → (IsErrOf result f → StandsAs lies old site.table (scalar_place s site.place.time)) → Some (scalar_type s) ≡ type_of (kind_at site)
     → IsErrOf {T = B} {E = SerdeError} (Err e) f → StandsInside lies old new site.table site.place
-scalar_inside {A} {B} lies old new site s result e f is conduct told kind refused =
-    let fails : ◌≡◌ {A = Result A SerdeError} result (Err f) = is ∙ ap Err (error_is refused) in
-    let stays : new ≡ failed_at old = stays_as result fails conduct in
-    let level : depth new ≡ depth old = ap depth stays in (
-      scalar_place s site.place.time,
-      0,
-      omega (arith, level),
-      sym (place_told site.table site.place s kind),
-      subst (λ c. StandsAs lies c site.table (scalar_place s site.place.time)) (sym stays) (told fails),
-    )
-  where
-    error_is : IsErrOf {T = B} {E = SerdeError} (Err e) f → e ≡ f
-    error_is h = let both : ◌≡◌ {A = Result B SerdeError} (Err e) (Err f) = h in cc
-
-    stays_as : (r : Result A SerdeError) → r ≡ Err f → Conducts old new r → new ≡ failed_at old
-    stays_as (Ok x) is conduct = cc
-    stays_as (Err g) is conduct = conduct.stays
+scalar_inside lies old new site s result e f is conduct told kind =
+    inside_here lies old new site.table site.place (scalar_place s site.place.time) result e f (place_told site.table site.place s kind) is conduct told
 
 -- what is read of a scalar is the tree of it
 pub scalar_read : (w : Relations) (old new : Cursor) (site : Site) (s : Scalar) (x y : ScalarValue) (v : Value) → Some (scalar_type s) ≡ type_of (kind_at site)
@@ -131,9 +159,40 @@ scalar_read w old new site s x y v kind reads same is =
     subst (λ (u : Value). Reads w old new site.table site.place u) (ap scalar_value same ∙ sym is)
     (subst (λ (p : Place). Reads w old new site.table p (scalar_value x)) (sym (place_told site.table site.place s kind)) reads)
 
+-- what is read of a document is the tree of it
+pub document_read : (w : Relations) (old new : Cursor) (site : Site) (u v : Value) → Some types.Document ≡ type_of (kind_at site)
+    → Reads w old new site.table (document_place site.place.time) u → v ≡ u → Reads w old new site.table site.place v
+document_read w old new site u v kind reads is =
+    subst (λ (x : Value). Reads w old new site.table site.place x) (sym is)
+    (subst (λ (p : Place). Reads w old new site.table p u) (sym (document_told site.table site.place kind)) reads)
+
+-- nothing stands at a document's place where none is read
+pub document_refused : (w : Relations) (old : Cursor) (site : Site) → Some types.Document ≡ type_of (kind_at site)
+    → StandsNot w old site.table (document_place site.place.time) → StandsNot w old site.table site.place
+document_refused w old site kind none =
+    subst (λ (p : Place). StandsNot w old site.table p) (sym (document_told site.table site.place kind)) none
+
+-- a document fails where it stands
+pub document_inside : {A B : Type 0} (lies : Lying) (old new : Cursor) (site : Site) (result : Result A SerdeError) (e f : SerdeError)
+    → result ≡ Err e → Conducts old new result → (IsErrOf result f → StandsAs lies old site.table (document_place site.place.time)) → Some types.Document ≡ type_of (kind_at site)
+    → IsErrOf {T = B} {E = SerdeError} (Err e) f → StandsInside lies old new site.table site.place
+document_inside lies old new site result e f is conduct told kind =
+    inside_here lies old new site.table site.place (document_place site.place.time) result e f (document_told site.table site.place kind) is conduct told
+
+-- and reaches the greatest depth from where it stays
+pub document_deep : {A B : Type 0} (w : Relations) (max : ℕ) (old new : Cursor) (result : Result A SerdeError) (e : SerdeError)
+    → result ≡ Err e → Conducts old new result → (IsErrOf result TooDeep → ReachesDepth w max old)
+    → IsErrOf {T = B} {E = SerdeError} (Err e) TooDeep → ReachesDepth w max new
+document_deep {A} {B} w max old new result e is conduct told refused =
+    let fails : ◌≡◌ {A = Result A SerdeError} result (Err TooDeep) = is ∙ ap Err (error_is {B = B} e TooDeep refused) in
+    subst (ReachesDepth w max) (sym (stays_as old new result TooDeep fails conduct)) (told fails)
+
 -- `InvalidInput` is no other refusal
 pub is_not_uncarried : {A : Type 0} → IsErrOf {T = A} {E = SerdeError} (Err InvalidInput) NotCarried → ⊥
 is_not_uncarried is = cc
 
 pub is_not_wide : {A : Type 0} → IsErrOf {T = A} {E = SerdeError} (Err InvalidInput) TooWide → ⊥
 is_not_wide is = cc
+
+pub is_not_unsupported : {A : Type 0} → IsErrOf {T = A} {E = SerdeError} (Err InvalidInput) Unsupported → ⊥
+is_not_unsupported is = cc

@@ -190,6 +190,7 @@ told t root from i to serde.NotCarried refusal tells nothing would deep wide unc
   answers_not_carried = λ h. (nothing tt, uncarried refl);
 })
 told t root from i to serde.NoMemory refusal tells nothing would deep wide uncarried = rw tells (no_memory t root from i to)
+told t root from i to serde.Unsupported refusal tells nothing would deep wide uncarried = absurd tells
 told t root from i to serde.Unwritable refusal tells nothing would deep wide uncarried = absurd tells
 told t root from i to serde.Failed refusal tells nothing would deep wide uncarried = absurd tells
 

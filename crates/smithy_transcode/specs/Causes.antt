@@ -1,11 +1,11 @@
 -- What the bytes of an input say of why it is refused, wire by wire.
-use Rattle.std.specs.Prelude.{◌≡◌, ℕ, List, Option, Some}
+use Rattle.std.specs.Prelude.{◌≡◌, ◌⊎◌, ℕ, List, Option, Some}
 use Rattle.smithy_schema.specs.declared.place.Place.{Place}
 use Rattle.smithy_schema.specs.declared.shape_type.Scalar.{Scalar}
 use Rattle.smithy_schema.specs.declared.shape_type.Scalar.TheVariants.{Timestamp}
-use Rattle.smithy_schema.specs.Table.{Table, scalar, kind_of, place_in}
+use Rattle.smithy_schema.specs.Table.{Table, Kind, scalar, document, kind_of, place_in}
 use Rattle.smithy_json_codec.specs.Openers.{json_openers}
-use Rattle.smithy_json_codec.specs.Uncarried.{IsUncarriedJson}
+use Rattle.smithy_json_codec.specs.Uncarried.{IsUncarriedJson, HoldsOtherNumber}
 use Rattle.smithy_json_codec.specs.Wide.{IsWideJson}
 use Rattle.smithy_cbor_codec.specs.Openers.{cbor_openers}
 use Rattle.smithy_cbor_codec.specs.Uncarried.{IsUncarriedCbor}
@@ -30,18 +30,28 @@ HasOtherSeconds (json use_json_name) bytes = IsUncarriedJson bytes
 HasOtherSeconds cbor bytes = IsUncarriedCbor bytes
 HasOtherSeconds (query action version) bytes = ⊥
 
+-- Some slice of the bytes is what no document carries: in JSON a number with a fraction or an exponent, or outside of -2^63 to
+-- 2^64-1. CBOR carries no documents, whatever the bytes are.
+abbrev pub HasNoDocument : Wire → List ℕ → Type 0
+HasNoDocument (json use_json_name) bytes = HoldsOtherNumber bytes
+HasNoDocument cbor bytes = Unit {0}
+HasNoDocument (query action version) bytes = ⊥
+
 -- the place is that of a member, of an element or of a map's value in the table
 abbrev pub IsChildPlace : Table → Place → Type 0
 IsChildPlace table q = (p : Place) × (n : Option ℕ) × (place_in (kind_of table p) n ≡ Some q)
 
--- a member, an element or a value of a map in the table has the scalar as its target
-abbrev pub HasTarget : Table → Scalar → Type 0
-HasTarget table s = (place : Place) × IsChildPlace table place × (kind_of table place ≡ scalar s)
+-- a member, an element or a value of a map in the table has a target of this kind
+abbrev pub HasTarget : Table → Kind → Type 0
+HasTarget table kind = (place : Place) × IsChildPlace table place × (kind_of table place ≡ kind)
 
 -- the bytes have a big number of a kind that the table has, and it leaves the limits of the kind
 abbrev pub IsWide : Wire → Table → List ℕ → Type 0
-IsWide wire table bytes = (s : Scalar) × HasTarget table s × HasWide wire s bytes
+IsWide wire table bytes = (s : Scalar) × HasTarget table (scalar s) × HasWide wire s bytes
 
--- the table has instants, and the bytes have a number of seconds that none carries
+-- the table has instants, and the bytes have a number of seconds that none carries; or it has documents, and the bytes have
+-- what none carries
 abbrev pub IsUncarried : Wire → Table → List ℕ → Type 0
-IsUncarried wire table bytes = HasTarget table Timestamp × HasOtherSeconds wire bytes
+IsUncarried wire table bytes =
+    (HasTarget table (scalar Timestamp) × HasOtherSeconds wire bytes)
+    ⊎ (HasTarget table document × HasNoDocument wire bytes)

@@ -4,3 +4,4 @@ pub mod Elements
 pub mod Entries
 pub mod Order
 pub mod Positions
+pub mod ValueTest

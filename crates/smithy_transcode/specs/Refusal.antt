@@ -5,12 +5,13 @@ use Rattle.smithy_schema.specs.declared.error.SerdeError.TheVariants as serde
 use Rattle.smithy_transcode.specs.declared.wire.TranscodeError.{TranscodeError}
 use Rattle.smithy_transcode.specs.declared.wire.TranscodeError.TheVariants.{InvalidInput, TooDeep, TooWide, NotCarried, NoMemory}
 
--- the same; no transcoding ends with one of the other two
+-- the same; no transcoding ends with one of the other three
 abbrev pub Tells : SerdeError → TranscodeError → Type 0
 Tells serde.InvalidInput refusal = refusal ≡ InvalidInput
 Tells serde.TooDeep refusal = refusal ≡ TooDeep
 Tells serde.TooWide refusal = refusal ≡ TooWide
 Tells serde.NotCarried refusal = refusal ≡ NotCarried
 Tells serde.NoMemory refusal = refusal ≡ NoMemory
+Tells serde.Unsupported refusal = ⊥
 Tells serde.Unwritable refusal = ⊥
 Tells serde.Failed refusal = ⊥

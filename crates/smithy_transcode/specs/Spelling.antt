@@ -21,8 +21,8 @@ Spells (json use_json_name) table root bytes v =
 Spells cbor table root bytes v = cbor_spells strict_cbor table (shape_place root) bytes v
 Spells (query action version) table root bytes v = ⊥
 
--- the same without the limits on depth and on the size of numbers, and with each number of seconds that isn't carried taken
--- for a null
+-- the same without the limits on depth and on the size of numbers, and with what isn't carried taken for a null: a number of
+-- seconds, a number in a document, in CBOR whatever stands for a document
 abbrev pub SpellsWithoutLimits : Wire → Table → ℕ → List ℕ → Value → Type 0
 SpellsWithoutLimits (json use_json_name) table root bytes v =
     json_spells (without_limits (strict_settings use_json_name)) table (shape_place root) bytes v

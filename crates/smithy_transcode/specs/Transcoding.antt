@@ -85,5 +85,5 @@ pub record Transcodes (table : Table) (root : ℕ) (from : Wire) (input : List �
       → SpellNothing from table root input × (128 ≤ openers from input)
   -- and `TooWide` only where a big number leaves the limits of its kind
   pub answers_too_wide : IsErrOf answer TooWide → SpellNothing from table root input × IsWide from table input
-  -- and `NotCarried` only where a number of seconds isn't carried as an instant
+  -- and `NotCarried` only where a number of seconds isn't carried as an instant, or a part of a document
   pub answers_not_carried : IsErrOf answer NotCarried → SpellNothing from table root input × IsUncarried from table input

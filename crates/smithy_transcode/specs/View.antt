@@ -1,7 +1,9 @@
 -- The value that a tree of the program stands for.
 use Rattle.std.specs.Prelude.{ℕ, List, [], ◌∷◌, map as mapped, String, string_bytes, box_value}
 use Rattle.std.specs.declared.alloc.Global.{Global}
-use Rattle.smithy_schema.specs.Value.{boolean, whole, text, bytes, decimal, instant, Value, scalar_value, list, map, structure, union, null_element, values_of, MapEntries, no_map_entries, map_entry, MemberValues, no_member_values, member_value}
+use Rattle.smithy_types.specs.Document.{whole_document}
+use Rattle.smithy_types.specs.DocumentView.{document_view}
+use Rattle.smithy_schema.specs.Value.{boolean, whole, text, bytes, decimal, instant, Value, scalar_value, list, map, structure, union, null_element, document_value, values_of, MapEntries, no_map_entries, map_entry, MemberValues, no_member_values, member_value}
 use Rattle.smithy_transcode.specs.declared.value.Value as kept
 use Rattle.smithy_transcode.specs.declared.value.Value.TheOpen.{Value-F}
 
@@ -28,6 +30,7 @@ view_step (Value-F.Map m) = map (map_entries_of m.entries)
 view_step (Value-F.Structure m) = structure (member_values_of m.entries)
 view_step (Value-F.Union n v) = union n (box_value v)
 view_step Value-F.Null = null_element
+view_step (Value-F.Document d) = document_value (whole_document (document_view d))
 
 abbrev pub view : kept.Value → Value
 view = kept.fold-Value Value view_step

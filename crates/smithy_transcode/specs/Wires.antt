@@ -1,10 +1,9 @@
 -- The wires, as plain data, and what one of them can't carry.
 use Rattle.std.specs.Prelude.{ℕ, List, Bool, true, false, ◌&&◌, not, Option, Some, None, string_bytes, if◌then◌else◌}
-use Rattle.smithy_schema.specs.declared.shape_type.TimestampFormat.{TimestampFormat}
-use Rattle.smithy_schema.specs.ScalarTest.{scalars_pass}
+use Rattle.smithy_schema.specs.ScalarTest.{ValueTest, no_documents, scalars_pass}
 use Rattle.smithy_schema.specs.Site.{Site, shape_site}
 use Rattle.smithy_schema.specs.Table.{Table}
-use Rattle.smithy_schema.specs.Value.{ScalarValue, Value}
+use Rattle.smithy_schema.specs.Value.{Value}
 use Rattle.smithy_json_codec.specs.Canonical.{json_holds}
 use Rattle.smithy_json_codec.specs.Codec.{strict_settings}
 use Rattle.smithy_cbor_codec.specs.Canonical.{cbor_holds}
@@ -13,7 +12,7 @@ use Rattle.smithy_query_codec.specs.Writable.{query_holds}
 use Rattle.smithy_transcode.specs.declared.wire.Wire as kept
 use Rattle.smithy_transcode.specs.declared.wire.Wire.TheVariants as wires
 use Rattle.smithy_transcode.specs.declared.wire.Unfit.{Unfit}
-use Rattle.smithy_transcode.specs.declared.wire.Unfit.TheVariants.{Null, Instant}
+use Rattle.smithy_transcode.specs.declared.wire.Unfit.TheVariants.{Document, Null, Instant}
 
 pub data Wire : Type 0 where
   -- members go by their JSON names, where they have one
@@ -33,18 +32,23 @@ abbrev pub has_nulls : Wire → Bool
 has_nulls (query action version) = false
 has_nulls _ = true
 
--- what is written for a scalar at a place with this time form stands for exactly it
-abbrev pub has_scalar : Wire → Option TimestampFormat → ScalarValue → Bool
-has_scalar (json use_json_name) time x = json_holds (strict_settings use_json_name) time x
-has_scalar cbor time x = cbor_holds time x
-has_scalar (query action version) time x = query_holds time x
+-- what is written for a scalar at a place with this time form stands for exactly it, and whether documents have a spelling
+abbrev pub holds : Wire → ValueTest
+holds (json use_json_name) = json_holds (strict_settings use_json_name)
+holds cbor = cbor_holds
+holds (query action version) = query_holds
 
--- Why the wire can't express the value of a site, where it can't: a null element stands in it, or else an instant that the
--- wire doesn't hold at its place.
+-- a document stands in the value of a site
+abbrev pub holds_document : Site → Value → Bool
+holds_document site v = not (scalars_pass no_documents site v)
+
+-- Why the wire can't express the value of a site, where it can't: a document stands in it and the wire has none, or else a
+-- null element in the same way, or else an instant that the wire doesn't hold at its place.
 abbrev pub unfit_at : Wire → Site → Value → Option Unfit
 unfit_at wire site v =
-    if not (has_nulls wire) && holds_null v then Some Null
-    else if scalars_pass (has_scalar wire) site v then None
+    if not (holds wire).documents && holds_document site v then Some Document
+    else if not (has_nulls wire) && holds_null v then Some Null
+    else if scalars_pass (holds wire) site v then None
     else Some Instant
 
 -- the same of a value of the root

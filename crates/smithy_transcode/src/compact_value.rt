@@ -8,7 +8,7 @@ use crate::compact_entries::CompactEntries;
 use crate::entry_iter::EntryIter;
 use crate::tree::{Part, Tree};
 use smithy_schema::SerdeError;
-use smithy_types::{Blob, DateTime};
+use smithy_types::{Blob, DateTime, Document};
 use std::alloc::Global;
 use std::collections::BTreeMap;
 
@@ -47,6 +47,8 @@ pub enum CompactValue {
     UnionText(u32, String),
     /// A null among the elements of a sparse list or the values of a sparse map.
     Null,
+    /// A document. Of its numbers the whole number alone counts.
+    Document(Box<Document>),
 }
 
 impl Tree for CompactValue {
@@ -98,6 +100,10 @@ impl Tree for CompactValue {
 
     fn null() -> CompactValue {
         CompactValue::Null
+    }
+
+    fn document(alloc: Global, value: Document) -> Result<CompactValue, SerdeError> {
+        Ok(CompactValue::Document(Box::new(alloc, value)?))
     }
 
     fn no_elements(alloc: Global) -> CompactElements {
@@ -189,6 +195,7 @@ impl Tree for CompactValue {
             CompactValue::Union(index, value) => Part::Union(*index, &**value),
             CompactValue::UnionText(index, content) => Part::UnionText(*index, content.as_str()),
             CompactValue::Null => Part::Null,
+            CompactValue::Document(value) => Part::Document(&**value),
         }
     }
 }

@@ -1,16 +1,17 @@
 //! What a wire can't express.
-ghost use Rattle.std.specs.Prelude.{◌≡◌, None, true};
+ghost use Rattle.std.specs.Prelude.{◌≡◌, ◌&&◌, not, None, true, false};
 ghost use Rattle.smithy_schema.specs.Fits.{Fits, FitsOr};
 ghost use Rattle.smithy_schema.specs.Site.{site_of};
 ghost use Rattle.smithy_schema.specs.Table.{IsStructure, kind_of, shape_place};
+ghost use Rattle.smithy_query_codec.specs.Nulls.{holds_null as null_in};
 ghost use Rattle.smithy_transcode.specs.View.{view};
-ghost use Rattle.smithy_transcode.specs.Wires.{wire_of, has_nulls as nulls_stand, unfit as unfit_for, unfit_at};
+ghost use Rattle.smithy_transcode.specs.Wires.{wire_of, has_nulls, holds_document, unfit as unfit_for, unfit_at};
 ghost use Rattle.smithy_transcode.specs.Private.Positions.{CanCount};
 
-use crate::instants::holds_instants;
 use crate::nulls::holds_null;
 use crate::tree::Tree;
 use crate::value::Value;
+use crate::value_test::{InstantTest, ValueTest, test_of, value_passes};
 use crate::wire::{Unfit, Wire};
 use smithy_schema::{Schema, ShapeRef, Shapes};
 
@@ -23,30 +24,51 @@ pub fn expressible(shapes: &Shapes, root: ShapeRef, value: &Value, to: &Wire) ->
     unfit::<Value>(&shapes.schema(root), value, to)
 }
 
-// Null elements have a spelling in the wire.
-fn has_nulls(wire: &Wire) -> bool
-    ensures { result ≡ nulls_stand (wire_of wire.now) }
+// A document stands in the value, and none passes the test of the wire.
+fn lacks_document<T: Tree>(schema: &Schema<'_>, value: &T, test: ValueTest) -> bool
+    requires fits { FitsOr schema.now.shapes.now schema.now.place true (T.view value.now) }
+    ensures { result ≡ (not test.documents && holds_document (site_of schema.now) (T.view value.now)) }
 {
-    match wire {
-        Wire::Json { use_json_name: _ } | Wire::Cbor => true,
+    let without_documents = ValueTest {
+        instants: InstantTest::Any,
+        documents: false,
+    };
+    !test.documents && !value_passes::<T>(schema, value, without_documents)
+}
+
+// A null stands in the value, and the wire has none. Only where a form is wanted, the value is gone through for nulls.
+fn lacks_null<T: Tree>(value: &T, to: &Wire) -> bool
+    ensures null { result ≡ (not (has_nulls (wire_of to.now)) && null_in (T.view value.now)) }
+    ensures positions { result ≡ false → CanCount (wire_of to.now) (T.view value.now) }
+{
+    match to {
+        Wire::Json { use_json_name: _ } | Wire::Cbor => false,
         Wire::Query {
             action: _,
             version: _,
-        } => false,
+        } => holds_null::<T>(value),
     }
 }
 
-// The same of any tree. Only where a form is wanted, the value is gone through for nulls.
+// Why the wire can't express a value of any tree. Where it can, and no form is wanted, the value is gone through once.
 pub(crate) fn unfit<T: Tree>(schema: &Schema<'_>, value: &T, to: &Wire) -> Option<Unfit>
     requires fits { FitsOr schema.now.shapes.now schema.now.place true (T.view value.now) }
     ensures unfit { result ≡ unfit_at (wire_of to.now) (site_of schema.now) (T.view value.now) }
     ensures positions { result ≡ None → CanCount (wire_of to.now) (T.view value.now) }
 {
-    if !has_nulls(to) && holds_null::<T>(value) {
-        return Some(Unfit::Null);
+    let test = test_of(to);
+    if value_passes::<T>(schema, value, test) {
+        return if lacks_null::<T>(value, to) {
+            Some(Unfit::Null)
+        } else {
+            None
+        };
     }
-    if holds_instants::<T>(schema, value, to) {
-        None
+    if lacks_document::<T>(schema, value, test) {
+        return Some(Unfit::Document);
+    }
+    if lacks_null::<T>(value, to) {
+        Some(Unfit::Null)
     } else {
         Some(Unfit::Instant)
     }

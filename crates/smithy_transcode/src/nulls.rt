@@ -23,7 +23,8 @@ pub(crate) fn holds_null<T: Tree>(value: &T) -> bool
         | Part::Bytes(_)
         | Part::Decimal(_, _)
         | Part::Timestamp(_)
-        | Part::UnionText(_, _) => false,
+        | Part::UnionText(_, _)
+        | Part::Document(_) => false,
         Part::List(elements) => elements_hold_null::<T>(elements),
         Part::Wholes(numbers) => wholes_hold_null(numbers),
         Part::Map(entries) => entries_hold_null::<T>(entries),

@@ -26,6 +26,7 @@ pub fn read_value<D: ShapeDeserializer>(
     ensures refused { IsRefused result → StandsNot (D.wire (D.settings source.old)) (D.state source.old) schema.now.shapes.now schema.now.place }
     ensures would { D.is_strict (D.settings source.old) → IsInvalid result → StandsNot (D.lifted (D.settings source.old)) (D.state source.old) schema.now.shapes.now schema.now.place }
     ensures failed { IsErrOf result SerdeError.Failed ↔ ((D.state source.old).failed ≡ true) }
+    ensures supported { IsErrOf result SerdeError.Unsupported → ⊥ }
     ensures readable { IsErrOf result SerdeError.Unwritable → ⊥ }
 
     // `TooDeep`: where the reader failed, the bytes from there on reach the greatest depth.
@@ -58,6 +59,7 @@ pub(crate) fn read_tree<T: Tree, D: ShapeDeserializer>(
     ensures refused { IsRefused result → StandsNot (D.wire (D.settings source.old)) (D.state source.old) schema.now.shapes.now schema.now.place }
     ensures would { D.is_strict (D.settings source.old) → IsInvalid result → StandsNot (D.lifted (D.settings source.old)) (D.state source.old) schema.now.shapes.now schema.now.place }
     ensures failed { IsErrOf result SerdeError.Failed ↔ ((D.state source.old).failed ≡ true) }
+    ensures supported { IsErrOf result SerdeError.Unsupported → ⊥ }
     ensures readable { IsErrOf result SerdeError.Unwritable → ⊥ }
     ensures deep { IsErrOf result SerdeError.TooDeep → ReachesDepth (D.wire (D.settings source.old)) (D.max_depth (D.settings source.old)) (D.state source.new) }
     ensures wide { IsErrOf result SerdeError.TooWide → ExceedsInside (D.wire (D.settings source.old)) (D.state source.old) (D.state source.new) schema.now.shapes.now schema.now.place }
@@ -82,6 +84,7 @@ pub(crate) fn read_tree<T: Tree, D: ShapeDeserializer>(
             Err(_) => unreachable!(),
         },
         ShapeType::Timestamp => Ok(T::timestamp(source.read_timestamp(schema)?)),
+        ShapeType::Document => T::document(alloc, source.read_document(schema)?),
         ShapeType::Structure => read_structure::<T, D>(alloc, source, schema),
         ShapeType::Union => read_union::<T, D>(alloc, source, schema),
         ShapeType::List => read_list::<T, D>(alloc, source, schema),
@@ -103,6 +106,7 @@ fn read_structure<T: Tree, D: ShapeDeserializer>(
     ensures refused { IsRefused result → StandsNot (D.wire (D.settings source.old)) (D.state source.old) schema.now.shapes.now schema.now.place }
     ensures would { D.is_strict (D.settings source.old) → IsInvalid result → StandsNot (D.lifted (D.settings source.old)) (D.state source.old) schema.now.shapes.now schema.now.place }
     ensures failed { IsErrOf result SerdeError.Failed ↔ ((D.state source.old).failed ≡ true) }
+    ensures supported { IsErrOf result SerdeError.Unsupported → ⊥ }
     ensures readable { IsErrOf result SerdeError.Unwritable → ⊥ }
     ensures deep { IsErrOf result SerdeError.TooDeep → ReachesDepth (D.wire (D.settings source.old)) (D.max_depth (D.settings source.old)) (D.state source.new) }
     ensures wide { IsErrOf result SerdeError.TooWide → ExceedsInside (D.wire (D.settings source.old)) (D.state source.old) (D.state source.new) schema.now.shapes.now schema.now.place }
@@ -141,6 +145,7 @@ fn read_union<T: Tree, D: ShapeDeserializer>(
     ensures refused { IsRefused result → StandsNot (D.wire (D.settings source.old)) (D.state source.old) schema.now.shapes.now schema.now.place }
     ensures would { D.is_strict (D.settings source.old) → IsInvalid result → StandsNot (D.lifted (D.settings source.old)) (D.state source.old) schema.now.shapes.now schema.now.place }
     ensures failed { IsErrOf result SerdeError.Failed ↔ ((D.state source.old).failed ≡ true) }
+    ensures supported { IsErrOf result SerdeError.Unsupported → ⊥ }
     ensures readable { IsErrOf result SerdeError.Unwritable → ⊥ }
     ensures deep { IsErrOf result SerdeError.TooDeep → ReachesDepth (D.wire (D.settings source.old)) (D.max_depth (D.settings source.old)) (D.state source.new) }
     ensures wide { IsErrOf result SerdeError.TooWide → ExceedsInside (D.wire (D.settings source.old)) (D.state source.old) (D.state source.new) schema.now.shapes.now schema.now.place }
@@ -178,6 +183,7 @@ fn read_list<T: Tree, D: ShapeDeserializer>(
     ensures refused { IsRefused result → StandsNot (D.wire (D.settings source.old)) (D.state source.old) schema.now.shapes.now schema.now.place }
     ensures would { D.is_strict (D.settings source.old) → IsInvalid result → StandsNot (D.lifted (D.settings source.old)) (D.state source.old) schema.now.shapes.now schema.now.place }
     ensures failed { IsErrOf result SerdeError.Failed ↔ ((D.state source.old).failed ≡ true) }
+    ensures supported { IsErrOf result SerdeError.Unsupported → ⊥ }
     ensures readable { IsErrOf result SerdeError.Unwritable → ⊥ }
     ensures deep { IsErrOf result SerdeError.TooDeep → ReachesDepth (D.wire (D.settings source.old)) (D.max_depth (D.settings source.old)) (D.state source.new) }
     ensures wide { IsErrOf result SerdeError.TooWide → ExceedsInside (D.wire (D.settings source.old)) (D.state source.old) (D.state source.new) schema.now.shapes.now schema.now.place }
@@ -217,6 +223,7 @@ fn read_map<T: Tree, D: ShapeDeserializer>(
     ensures refused { IsRefused result → StandsNot (D.wire (D.settings source.old)) (D.state source.old) schema.now.shapes.now schema.now.place }
     ensures would { D.is_strict (D.settings source.old) → IsInvalid result → StandsNot (D.lifted (D.settings source.old)) (D.state source.old) schema.now.shapes.now schema.now.place }
     ensures failed { IsErrOf result SerdeError.Failed ↔ ((D.state source.old).failed ≡ true) }
+    ensures supported { IsErrOf result SerdeError.Unsupported → ⊥ }
     ensures readable { IsErrOf result SerdeError.Unwritable → ⊥ }
     ensures deep { IsErrOf result SerdeError.TooDeep → ReachesDepth (D.wire (D.settings source.old)) (D.max_depth (D.settings source.old)) (D.state source.new) }
     ensures wide { IsErrOf result SerdeError.TooWide → ExceedsInside (D.wire (D.settings source.old)) (D.state source.old) (D.state source.new) schema.now.shapes.now schema.now.place }

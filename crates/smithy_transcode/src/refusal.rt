@@ -8,6 +8,7 @@ use smithy_schema::SerdeError;
 // The refusal of a transcoding. Its readers and serializers haven't failed before, and write what was read.
 pub(crate) fn refusal(error: SerdeError) -> TranscodeError
     requires sound { error ≢ SerdeError.Failed }
+    requires supported { error ≢ SerdeError.Unsupported }
     requires written { error ≢ SerdeError.Unwritable }
     ensures { Tells error result }
 {
@@ -17,6 +18,6 @@ pub(crate) fn refusal(error: SerdeError) -> TranscodeError
         SerdeError::TooWide => TranscodeError::TooWide,
         SerdeError::NotCarried => TranscodeError::NotCarried,
         SerdeError::NoMemory => TranscodeError::NoMemory,
-        SerdeError::Failed | SerdeError::Unwritable => unreachable!(),
+        SerdeError::Failed | SerdeError::Unsupported | SerdeError::Unwritable => unreachable!(),
     }
 }

@@ -8,6 +8,8 @@ use std::test::Fail;
 mod big_numbers;
 mod blobs;
 mod cbor;
+mod document_places;
+mod documents;
 mod entries;
 mod forms;
 mod instant_places;

@@ -68,6 +68,7 @@ fn read_body(
     ensures wide { IsErrOf result SerdeError.TooWide → IsWide (wire_of from.now) shapes.now input.now }
     ensures uncarried { IsErrOf result SerdeError.NotCarried → IsUncarried (wire_of from.now) shapes.now input.now }
     ensures sound { IsErrOf result SerdeError.Failed → ⊥ }
+    ensures supported { IsErrOf result SerdeError.Unsupported → ⊥ }
     ensures readable { IsErrOf result SerdeError.Unwritable → ⊥ }
 {
     let schema = shapes.schema(root);

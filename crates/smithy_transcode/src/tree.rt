@@ -1,12 +1,14 @@
 //! A tree of values, as a reader builds it and a writer goes through it.
 ghost use Rattle.std.specs.Prelude.{◌≡◌, List, [], ◌∷◌, ◌++◌, OnOk, IfOk, IfErr, string_bytes};
 ghost use Rattle.smithy_schema.specs.declared.error.SerdeError.TheVariants.{NoMemory};
-ghost use Rattle.smithy_schema.specs.Value.{Value, scalar_value, boolean, whole, text, bytes, decimal, instant, list, map, structure, union, null_element, values_of, MapEntries, no_map_entries, put_entry, MemberValues, no_member_values, put_member};
+ghost use Rattle.smithy_schema.specs.Value.{Value, scalar_value, boolean, whole, text, bytes, decimal, instant, list, map, structure, union, null_element, document_value, values_of, MapEntries, no_map_entries, put_entry, MemberValues, no_member_values, put_member};
+ghost use Rattle.smithy_types.specs.Document.{whole_document};
+ghost use Rattle.smithy_types.specs.DocumentView.{document_view};
 ghost use Rattle.smithy_transcode.specs.Private.Tree.{part_view};
 
 use crate::entry_iter::EntryIter;
 use smithy_schema::SerdeError;
-use smithy_types::{Blob, DateTime};
+use smithy_types::{Blob, DateTime, Document};
 use std::alloc::Global;
 
 /// What a tree is at its root.
@@ -38,6 +40,8 @@ pub enum Part<'v, T> {
     UnionText(u32, &'v str),
     /// A null among the elements of a sparse list or the values of a sparse map.
     Null,
+    /// A document.
+    Document(&'v Document),
 }
 
 /// A tree that is built from its leaves on, and gone through from its root on.
@@ -85,6 +89,10 @@ pub trait Tree: Drop + Sized {
 
     fn null() -> Self
         ensures { view result ≡ null_element };
+
+    fn document(alloc: Global, value: Document) -> Result<Self, SerdeError>
+        ensures ok { IfOk result (λ d. view d ≡ document_value (whole_document (document_view value))) }
+        ensures err { IfErr result (λ e. e ≡ NoMemory) };
 
     fn no_elements(alloc: Global) -> Self::Elements
         ensures { view_elements result ≡ [] };

@@ -4,7 +4,7 @@ ghost use Rattle.smithy_transcode.specs.View.{view as value_view, view_elements 
 use crate::entry_iter::EntryIter;
 use crate::tree::{Part, Tree};
 use smithy_schema::SerdeError;
-use smithy_types::{Blob, DateTime};
+use smithy_types::{Blob, DateTime, Document};
 use std::alloc::Global;
 use std::collections::BTreeMap;
 
@@ -33,6 +33,8 @@ pub enum Value {
     Union(u32, Box<Value>),
     /// A null among the elements of a sparse list or the values of a sparse map.
     Null,
+    /// A document. Of its numbers the whole number alone counts.
+    Document(Document),
 }
 
 impl Tree for Value {
@@ -80,6 +82,10 @@ impl Tree for Value {
 
     fn null() -> Value {
         Value::Null
+    }
+
+    fn document(_alloc: Global, value: Document) -> Result<Value, SerdeError> {
+        Ok(Value::Document(value))
     }
 
     fn no_elements(alloc: Global) -> Vec<Value> {
@@ -153,6 +159,7 @@ impl Tree for Value {
             Value::Structure(members) => Part::Structure(EntryIter::Map(members.iter())),
             Value::Union(index, value) => Part::Union(*index, &**value),
             Value::Null => Part::Null,
+            Value::Document(value) => Part::Document(value),
         }
     }
 }

@@ -24,6 +24,8 @@ pub enum Wire {
 /// What a wire can't express.
 #[derive(Clone, Copy, Debug, PartialEq, Eq)]
 pub enum Unfit {
+    /// A document: CBOR and forms have none.
+    Document,
     /// A null among the elements of a list or the values of a map: no form has one.
     Null,
     /// An instant that the wire doesn't hold in the time form of its place.
@@ -44,8 +46,8 @@ pub enum TranscodeError {
     /// of the kind.
     #[error("TooWide")]
     TooWide,
-    /// The input spells no value of the root, the table has instants, and the input holds a number of seconds that isn't
-    /// carried as one.
+    /// The input spells no value of the root. Either the table has instants, and the input holds a number of seconds that
+    /// isn't carried as one; or the table has documents, and the input is CBOR or holds a number that no document carries.
     #[error("NotCarried")]
     NotCarried,
     /// The input spells a value of the root that the wanted wire can't express.

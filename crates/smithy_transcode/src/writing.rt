@@ -62,6 +62,7 @@ pub(crate) fn write_tree<T: Tree, S: ShapeSerializer>(
         Part::Union(index, inner) => write_union::<T, S>(alloc, sink, schema, index, inner),
         Part::UnionText(index, content) => write_union_text(sink, schema, index, content),
         Part::Null => sink.write_null(schema),
+        Part::Document(value) => sink.write_document(schema, value),
     }
 }
 
@@ -88,6 +89,7 @@ fn write_whole<S: ShapeSerializer>(
         | ShapeType::Blob
         | ShapeType::BigDecimal
         | ShapeType::Timestamp
+        | ShapeType::Document
         | ShapeType::List
         | ShapeType::Map
         | ShapeType::Structure

@@ -7,7 +7,7 @@ use Rattle.smithy_transcode.specs.Spelling.{Spells}
 use Rattle.smithy_transcode.specs.Wires.{unfit}
 use Rattle.smithy_transcode.proofs.Transcodings.{one_value, not_both}
 use Rattle.smithy_transcode_cli.specs.declared.status.Status.{Status}
-use Rattle.smithy_transcode_cli.specs.declared.status.Status.TheVariants.{Done, Usage, ReadFailed, WriteFailed, OutOfMemory, InvalidInput, TooDeep, TooWide, NotCarried, Inexpressible, TableRefused, NoSuchShape, NotAStructure, TooLong, NotBuilt}
+use Rattle.smithy_transcode_cli.specs.declared.status.Status.TheVariants.{Done, Usage, ReadFailed, WriteFailed, OutOfMemory, InvalidInput, TooDeep, TooWide, NotCarried, Inexpressible, TableRefused, NoSuchShape, NotAStructure, TooLong}
 use Rattle.smithy_transcode_cli.specs.Task.{Task}
 use Rattle.smithy_transcode_cli.specs.Outside.{Told, Outside, missing, Tells, GavePast}
 use Rattle.smithy_transcode_cli.specs.RunAnswer.{sources_of, IsLoaded, IsRead, AfterInput, IsInOrder, Says, longest_input}
@@ -100,8 +100,6 @@ module _ (task : Task) (old new : Outside) (text input : List ℕ) (table : Tabl
   complete_of TooLong (inl first) = let more = first.1.1 text o.file in absurd (omega (arith, more, o.file_is_within))
   complete_of TooLong (inr after) =
       let more = past_limit longest_input old.input new.input input after.2.2.2 o.source in absurd (omega (arith, more, o.input_is_within))
-  complete_of NotBuilt says =
-      let after = says.1 in let same = accepted_there after.0 after.1 in let told = after.2.1 in absurd (cc (same, told))
 
 pub fault_of_missing : (task : Task) (old new : Outside) → (old.files task.table_path).content ≡ missing → (status : Status) → Says task old new status
     → (status ≡ ReadFailed) ⊎ (status ≡ OutOfMemory)
@@ -120,4 +118,3 @@ fault_of_missing task old new gone NoSuchShape says = absurd (says.1.1.there gon
 fault_of_missing task old new gone NotAStructure says = absurd (says.1.1.there gone)
 fault_of_missing task old new gone TooLong (inl first) = absurd (first.1.0 gone)
 fault_of_missing task old new gone TooLong (inr after) = absurd (after.1.there gone)
-fault_of_missing task old new gone NotBuilt says = absurd (says.1.1.there gone)

@@ -1,7 +1,7 @@
 -- What a refused table says, and a refused body.
 use Rattle.std.proofs.Common.{◌≡◌, ◌∙◌, ℕ, List, Err, refl}
 use Rattle.smithy_schema.specs.declared.fault.TableFault.{TableFault}
-use Rattle.smithy_schema.specs.declared.fault.TableFault.TheVariants.{BadLine, NotBuilt, FloatShape, UnknownTarget, UnknownTimeFormat, DuplicateShape, NameClash, QueryName, KeyValueName, TooMany, NoMemory}
+use Rattle.smithy_schema.specs.declared.fault.TableFault.TheVariants.{BadLine, FloatShape, UnknownTarget, UnknownTimeFormat, DuplicateShape, NameClash, QueryName, KeyValueName, SparseDocument, TooMany, NoMemory}
 use Rattle.smithy_schema.specs.Decl.{Decl}
 use Rattle.smithy_schema.specs.TableText.{Lines, declarations, declarations_of}
 use Rattle.smithy_schema.specs.Table.{Table}
@@ -26,7 +26,6 @@ table_of_declarations text decls e = rw (e, table_of) refl
 pub line_fails : (old new : Told) (text : List ℕ) (fault : TableFault) → IsLoaded text old → IsLineFault (declarations_of text) fault
     → FailsToLoad old new (status_of_table_fault fault)
 line_fails old new text (BadLine n) loaded e = (text, loaded, (bad_line, n, table_of_bad_line text n e, refl))
-line_fails old new text (NotBuilt n) loaded e = absurd e
 line_fails old new text (FloatShape n) loaded e = absurd e
 line_fails old new text (UnknownTarget n) loaded e = absurd e
 line_fails old new text (UnknownTimeFormat n) loaded e = absurd e
@@ -34,6 +33,7 @@ line_fails old new text (DuplicateShape n) loaded e = absurd e
 line_fails old new text (NameClash n) loaded e = absurd e
 line_fails old new text (QueryName n) loaded e = absurd e
 line_fails old new text (KeyValueName n) loaded e = absurd e
+line_fails old new text (SparseDocument n) loaded e = absurd e
 line_fails old new text (TooMany n) loaded e = absurd e
 line_fails old new text NoMemory loaded e = tt
 
@@ -41,7 +41,6 @@ line_fails old new text NoMemory loaded e = tt
 pub build_fails : (old new : Told) (text : List ℕ) (decls : List Decl) (fault : TableFault) → IsLoaded text old
     → declarations_of text ≡ declarations decls → IsRefusedBy (build_of decls) fault → FailsToLoad old new (status_of_table_fault fault)
 build_fails old new text decls (BadLine n) loaded e r = (text, loaded, (_, n, table_of_declarations text decls e ∙ r, refl))
-build_fails old new text decls (NotBuilt n) loaded e r = (text, loaded, n, table_of_declarations text decls e ∙ r)
 build_fails old new text decls (FloatShape n) loaded e r = (text, loaded, (_, n, table_of_declarations text decls e ∙ r, refl))
 build_fails old new text decls (UnknownTarget n) loaded e r = (text, loaded, (_, n, table_of_declarations text decls e ∙ r, refl))
 build_fails old new text decls (UnknownTimeFormat n) loaded e r = (text, loaded, (_, n, table_of_declarations text decls e ∙ r, refl))
@@ -49,6 +48,7 @@ build_fails old new text decls (DuplicateShape n) loaded e r = (text, loaded, (_
 build_fails old new text decls (NameClash n) loaded e r = (text, loaded, (_, n, table_of_declarations text decls e ∙ r, refl))
 build_fails old new text decls (QueryName n) loaded e r = (text, loaded, (_, n, table_of_declarations text decls e ∙ r, refl))
 build_fails old new text decls (KeyValueName n) loaded e r = (text, loaded, (_, n, table_of_declarations text decls e ∙ r, refl))
+build_fails old new text decls (SparseDocument n) loaded e r = (text, loaded, (_, n, table_of_declarations text decls e ∙ r, refl))
 build_fails old new text decls (TooMany n) loaded e r = (text, loaded, (_, n, table_of_declarations text decls e ∙ r, refl))
 build_fails old new text decls NoMemory loaded e r = tt
 

@@ -1,7 +1,7 @@
 -- What the number that a run ends with says of the outside.
 use Rattle.std.specs.Prelude.{◌≡◌, ◌≢◌, ◌⊎◌, ◌↔◌, ◌≤◌, ◌+◌, ℕ, List, length, Some, None, false}
 use Rattle.smithy_schema.specs.Table.{Table, IsStructure, kind_of, shape_place, declared_as}
-use Rattle.smithy_schema.specs.Acceptance.{Fault, not_built, TableAnswer, accepted, refused, table_of}
+use Rattle.smithy_schema.specs.Acceptance.{Fault, TableAnswer, accepted, refused, table_of}
 use Rattle.smithy_schema.specs.declared.fault.TableFault.{TableFault}
 use Rattle.smithy_schema.specs.Value.{Value}
 use Rattle.smithy_transcode.specs.Spelling.{Spells, body}
@@ -9,7 +9,7 @@ use Rattle.smithy_transcode.specs.Causes.{openers, IsWide, IsUncarried}
 use Rattle.smithy_transcode.specs.Transcoding.{SpellNothing, SpellNothingWithoutLimits, TellsAgain}
 use Rattle.smithy_transcode.specs.Wires.{unfit}
 use Rattle.smithy_transcode_cli.specs.declared.status.Status.{Status}
-use Rattle.smithy_transcode_cli.specs.declared.status.Status.TheVariants.{Done, Usage, ReadFailed, WriteFailed, OutOfMemory, InvalidInput, TooDeep, TooWide, NotCarried, Inexpressible, TableRefused, NoSuchShape, NotAStructure, TooLong, NotBuilt}
+use Rattle.smithy_transcode_cli.specs.declared.status.Status.TheVariants.{Done, Usage, ReadFailed, WriteFailed, OutOfMemory, InvalidInput, TooDeep, TooWide, NotCarried, Inexpressible, TableRefused, NoSuchShape, NotAStructure, TooLong}
 use Rattle.smithy_transcode_cli.specs.Command.{command_of}
 use Rattle.smithy_transcode_cli.specs.Task.{Task, task_asked}
 use Rattle.smithy_transcode_cli.specs.Status.{status_code}
@@ -119,8 +119,6 @@ Refuses task old new NotAStructure =
 Refuses task old new TooLong =
     BeforeInput old new ((old.table.content ≢ missing) × IsLonger longest_table old.table)
     ⊎ AfterRoot task old (λ table root. GavePast longest_input old.input new.input)
-Refuses task old new NotBuilt =
-    BeforeInput old new (AfterLoad old (λ answer. (n : ℕ) × (answer ≡ refused not_built n)))
 
 -- what a status says
 abbrev pub Says : Task → Outside → Outside → Status → Type 0

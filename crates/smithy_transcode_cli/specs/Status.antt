@@ -7,8 +7,8 @@ use Rattle.smithy_transcode.specs.declared.wire.TranscodeError.TheVariants as er
 use Rattle.smithy_transcode_cli.specs.declared.outside.LoadFault.{LoadFault}
 use Rattle.smithy_transcode_cli.specs.declared.outside.LoadFault.TheVariants as load_faults
 use Rattle.smithy_transcode_cli.specs.declared.status.Status.{Status}
-use Rattle.smithy_transcode.specs.declared.wire.Unfit.TheVariants.{Null, Instant}
-use Rattle.smithy_transcode_cli.specs.declared.status.Status.TheVariants.{Done, Usage, ReadFailed, WriteFailed, OutOfMemory, InvalidInput, TooDeep, TooWide, NotCarried, Inexpressible, TableRefused, NoSuchShape, NotAStructure, TooLong, NotBuilt}
+use Rattle.smithy_transcode.specs.declared.wire.Unfit.TheVariants.{Document, Null, Instant}
+use Rattle.smithy_transcode_cli.specs.declared.status.Status.TheVariants.{Done, Usage, ReadFailed, WriteFailed, OutOfMemory, InvalidInput, TooDeep, TooWide, NotCarried, Inexpressible, TableRefused, NoSuchShape, NotAStructure, TooLong}
 
 -- the number that the program ends with
 abbrev pub status_code : Status → ℕ
@@ -21,13 +21,13 @@ status_code InvalidInput = 10
 status_code TooDeep = 11
 status_code TooWide = 12
 status_code NotCarried = 13
+status_code (Inexpressible Document) = 14
 status_code (Inexpressible Null) = 15
 status_code (Inexpressible Instant) = 16
 status_code (TableRefused fault) = 20
 status_code NoSuchShape = 21
 status_code NotAStructure = 22
 status_code TooLong = 23
-status_code NotBuilt = 30
 
 -- where a file or the input wasn't read
 abbrev pub status_of_load_fault : LoadFault → Status
@@ -37,7 +37,6 @@ status_of_load_fault load_faults.NoMemory = OutOfMemory
 
 -- where a table was refused
 abbrev pub status_of_table_fault : TableFault → Status
-status_of_table_fault (table_faults.NotBuilt n) = NotBuilt
 status_of_table_fault table_faults.NoMemory = OutOfMemory
 status_of_table_fault fault = TableRefused fault
 

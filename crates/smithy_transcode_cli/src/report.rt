@@ -33,8 +33,8 @@ fn write_refusal<E: Sink>(err: &mut E, fault: TableFault) -> Result<(), Failed>
         TableFault::NameClash(n) => write_fault(err, b"NameClash", n),
         TableFault::QueryName(n) => write_fault(err, b"QueryName", n),
         TableFault::KeyValueName(n) => write_fault(err, b"KeyValueName", n),
+        TableFault::SparseDocument(n) => write_fault(err, b"SparseDocument", n),
         TableFault::TooMany(n) => write_fault(err, b"TooMany", n),
-        TableFault::NotBuilt(_) => Ok(()),
         TableFault::NoMemory => Ok(()),
     }
 }
@@ -61,13 +61,13 @@ fn write_text<E: Sink>(err: &mut E, status: Status) -> Result<(), Failed>
         Status::TooDeep => write_part(err, b"too deep"),
         Status::TooWide => write_part(err, b"number too wide"),
         Status::NotCarried => write_part(err, b"not carried"),
+        Status::Inexpressible(Unfit::Document) => write_part(err, b"document not expressible"),
         Status::Inexpressible(Unfit::Null) => write_part(err, b"null not expressible"),
         Status::Inexpressible(Unfit::Instant) => write_part(err, b"instant not expressible"),
         Status::TableRefused(fault) => write_table_refused(err, fault),
         Status::NoSuchShape => write_part(err, b"no such shape"),
         Status::NotAStructure => write_part(err, b"not a structure"),
         Status::TooLong => write_part(err, b"too long"),
-        Status::NotBuilt => write_part(err, b"not built"),
     }
 }
 

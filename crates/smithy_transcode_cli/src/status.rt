@@ -25,7 +25,7 @@ pub enum Status {
     TooDeep,
     /// A big number of the input leaves the limits of its kind.
     TooWide,
-    /// The input holds a number of seconds that isn't carried as an instant.
+    /// The input holds a number of seconds that isn't carried as an instant, or what isn't carried as a document.
     NotCarried,
     /// The input spells a value that the wanted wire can't express.
     Inexpressible(Unfit),
@@ -37,8 +37,6 @@ pub enum Status {
     NotAStructure,
     /// The table or the input is longer than its limit.
     TooLong,
-    /// What is asked for isn't built yet.
-    NotBuilt,
 }
 
 impl Status {
@@ -56,13 +54,13 @@ impl Status {
             Status::TooDeep => 11,
             Status::TooWide => 12,
             Status::NotCarried => 13,
+            Status::Inexpressible(Unfit::Document) => 14,
             Status::Inexpressible(Unfit::Null) => 15,
             Status::Inexpressible(Unfit::Instant) => 16,
             Status::TableRefused(_) => 20,
             Status::NoSuchShape => 21,
             Status::NotAStructure => 22,
             Status::TooLong => 23,
-            Status::NotBuilt => 30,
         }
     }
 }
@@ -84,7 +82,6 @@ impl From<TableFault> for Status {
 
     fn from(fault: TableFault) -> Self {
         match fault {
-            TableFault::NotBuilt(_) => Status::NotBuilt,
             TableFault::NoMemory => Status::OutOfMemory,
             fault => Status::TableRefused(fault),
         }

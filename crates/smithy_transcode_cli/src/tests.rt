@@ -1,5 +1,6 @@
 //! Runs over objects in memory.
 mod adapters;
+mod documents;
 mod instants;
 mod library;
 mod lines;
@@ -160,12 +161,13 @@ fn limits_are_exact(rt: HostRuntime) -> Result<(), Fail> {
     Ok(())
 }
 
-// A member `l` of so many lists, one in the other.
-fn nested(alloc: Global, depth: usize) -> Result<Vec<u8>, AllocError> {
+// A member `l` of so many arrays, one in the other, with these bytes in the innermost.
+fn nested(alloc: Global, depth: usize, inner: &[u8]) -> Result<Vec<u8>, AllocError> {
     let mut bytes = b"{\"l\":".to_vec(alloc)?;
     for _ in 0..depth {
         bytes.push(b'[')?;
     }
+    bytes.extend_from_slice(inner)?;
     for _ in 0..depth {
         bytes.push(b']')?;
     }
@@ -173,20 +175,45 @@ fn nested(alloc: Global, depth: usize) -> Result<Vec<u8>, AllocError> {
     Ok(bytes)
 }
 
+const LISTS: &str = "list L L\nstructure S\nmember l L\n";
+
+const DOCUMENT: &str = "structure S\nmember l document\n";
+
+const DEEP: &str = "smithy_transcode: too deep\n";
+
+/// A table, how many arrays there are, what is in the innermost, the status, and the line on standard error.
+#[derive(Clone, Copy)]
+struct Nesting(&'static str, usize, &'static [u8], u8, &'static str);
+
+const NESTINGS: [Nesting; 6] = [
+    Nesting(LISTS, 127, b"", 0, ""),
+    Nesting(LISTS, 128, b"", 11, DEEP),
+    // In a document each value counts.
+    Nesting(DOCUMENT, 127, b"", 0, ""),
+    Nesting(DOCUMENT, 128, b"", 11, DEEP),
+    Nesting(DOCUMENT, 126, b"1", 0, ""),
+    Nesting(DOCUMENT, 127, b"1", 11, DEEP),
+];
+
+// Checks a body of so many arrays.
+fn check_nesting(rt: &impl Abort, alloc: Global, row: &Nesting) -> Result<(), Fail> {
+    let Nesting(table, depth, inner, status, line) = *row;
+    let words = words_of(alloc, "transcode t S json json")?;
+    let mut files = files_with(alloc, table.as_bytes().to_vec(alloc)?, 0)?;
+    let bytes = nested(alloc, depth, inner)?;
+    let mut input = MemorySource::new(bytes, 4096, Vec::new(alloc));
+    let mut out = MemorySink::new(alloc, 4096, 4096, Vec::new(alloc))?;
+    let mut err = MemorySink::new(alloc, 4096, 4096, Vec::new(alloc))?;
+    let ended = run(alloc, &words, &mut files, &mut input, &mut out, &mut err);
+    assert_eq!(rt; ended, status, "{depth} arrays");
+    assert_eq!(rt; err.bytes.as_slice(), line.as_bytes(), "{depth} arrays");
+    Ok(())
+}
+
 #[test]
 fn nesting_is_limited(rt: HostRuntime) -> Result<(), Fail> {
-    let alloc = rt.alloc();
-    for (depth, status, line) in [(127, 0, ""), (128, 11, "smithy_transcode: too deep\n")] {
-        let words = words_of(alloc, "transcode t S json json")?;
-        let table = "list L L\nstructure S\nmember l L\n";
-        let mut files = files_with(alloc, table.as_bytes().to_vec(alloc)?, 0)?;
-        let bytes = nested(alloc, depth)?;
-        let mut input = MemorySource::new(bytes, 4096, Vec::new(alloc));
-        let mut out = MemorySink::new(alloc, 4096, 4096, Vec::new(alloc))?;
-        let mut err = MemorySink::new(alloc, 4096, 4096, Vec::new(alloc))?;
-        let ended = run(alloc, &words, &mut files, &mut input, &mut out, &mut err);
-        assert_eq!(rt; ended, status, "{depth} lists");
-        assert_eq!(rt; err.bytes.as_slice(), line.as_bytes(), "{depth} lists");
+    for row in &NESTINGS {
+        check_nesting(&rt, rt.alloc(), row)?;
     }
     Ok(())
 }

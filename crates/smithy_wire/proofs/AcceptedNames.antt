@@ -1,4 +1,5 @@
--- Members of an accepted table have names by which they can be written, in either way of naming them.
+-- Members of an accepted table have names by which they can be written, in either way of naming them, and nulls are told from
+-- documents.
 use Rattle.std.specs.Prelude.{◌≡◌, ℕ, zero, suc, List, [], ◌∷◌, Some, None, slice_get, IsUtf8}
 use Rattle.std.specs.List.{AllByRecursion}
 use Rattle.std.proofs.Common.{subst}
@@ -6,7 +7,7 @@ use Rattle.smithy_schema.specs.declared.place.Place.{Place}
 use Rattle.smithy_schema.specs.Table.{Table, Member, kind_of, members_of, json_name_of}
 use Rattle.smithy_schema.specs.Accepted.{IsAccepted}
 use Rattle.smithy_schema.specs.Lemmas.Options.{same_some}
-use Rattle.smithy_wire.specs.Written.{AreNamed}
+use Rattle.smithy_wire.specs.Written.{TellsApart}
 
 -- what holds of all holds of each
 each_has : {X : Type 0} (P : X → Type 0) (xs : List X) (n : ℕ) (x : X) → AllByRecursion P xs → slice_get xs n ≡ Some x → P x
@@ -20,14 +21,16 @@ module _ (t : Table) (accepted : IsAccepted t) where
   names_are_texts at n m found =
       each_has (λ (m : Member). IsUtf8 m.name × IsUtf8 (json_name_of m)) (members_of (kind_of t at)) n m (accepted.names_are_texts at) found
 
-  pub named_by_name : AreNamed (λ m. m.name) t
+  pub named_by_name : TellsApart (λ m. m.name) t
   named_by_name = record {
     names_differ = λ at. (accepted.members_are_accepted at).names_differ;
     names_are_texts = λ at n m found. (names_are_texts at n m found).0;
+    sparse_without_documents = accepted.sparse_without_documents;
   }
 
-  pub named_by_json_name : AreNamed json_name_of t
+  pub named_by_json_name : TellsApart json_name_of t
   named_by_json_name = record {
     names_differ = λ at. (accepted.members_are_accepted at).json_names_differ;
     names_are_texts = λ at n m found. (names_are_texts at n m found).1;
+    sparse_without_documents = accepted.sparse_without_documents;
   }

@@ -10,22 +10,15 @@ use Rattle.smithy_schema.specs.Table.{Table, scalar, kind_of}
 use Rattle.smithy_schema.specs.declared.shape_type.Scalar.{Scalar}
 use Rattle.smithy_schema.specs.Value.{whole, decimal, Value, scalar_value, null_element}
 use Rattle.smithy_schema.specs.Fits.{Fits}
-use Rattle.smithy_schema.specs.Limits.{Limits, kept, lifted}
+use Rattle.smithy_schema.specs.Limits.{Limits, kept}
 use Rattle.smithy_wire.specs.Rules.{Answer, means, no_meaning, wide, uncarried, settled, answer_of, bounded, Rules}
 use Rattle.smithy_wire.specs.Frames.{Frames, relations}
 use Rattle.smithy_wire.specs.Wire.{IsWire}
+pub use Rattle.smithy_wire.specs.Lemmas.Fitting.{settled_means}
 use Rattle.smithy_wire.specs.Readers.{stands_scalar, exceeds_scalar, uncarried_scalar}
 use Rattle.smithy_wire.specs.BigNumbers.{big_integer, is_in_limits, big_decimal}
 
--- within the limits only a meaning gives a value
-pub settled_means : {A : Type 0} (limits : Limits) (null : A) (answer : Answer A) (v : A) → limits ≡ kept → settled limits null answer ≡ Some v → answer ≡ means v
-settled_means kept null (means u) v keeps h = let same : u ≡ v = cc in rw same refl
-settled_means kept null no_meaning v keeps h = cc
-settled_means kept null wide v keeps h = cc
-settled_means kept null uncarried v keeps h = cc
-settled_means lifted null answer v keeps h = cc
-
--- and what is wide gives none
+-- within the limits what is wide gives no value
 pub wide_is_nothing : {A : Type 0} (limits : Limits) (null : A) (answer : Answer A) (v : A) → limits ≡ kept → answer ≡ wide → settled limits null answer ≡ Some v → ⊥
 wide_is_nothing {A} limits null answer v keeps is h =
     let both : ◌≡◌ {A = Answer A} (means v) wide = sym (settled_means limits null answer v keeps h) ∙ is in cc

@@ -1,17 +1,18 @@
 -- The body that a wire defines for a value at a site is the one that is written for the value's node.
-use Rattle.std.specs.Prelude.{◌≡◌, ℕ, List, [], ◌++◌, Bool, true, false, Some, None, refl}
+use Rattle.std.specs.Prelude.{◌≡◌, ℕ, ℤ, List, [], ◌++◌, Bool, true, false, Some, None, refl}
 use Rattle.std.proofs.Common.{sym, ap, ◌∙◌, subst, append_assoc}
+use Rattle.smithy_types.specs.Document.{Document}
 use Rattle.smithy_schema.specs.declared.place.Place.{Place}
 use Rattle.smithy_schema.specs.declared.shape_type.Scalar.{Scalar}
 use Rattle.smithy_schema.specs.Table.{Table, Member, ListShape, MapShape, structure_of, list_of, map_of, kind_of}
 use Rattle.smithy_schema.specs.Site.{Site, View, member_view, element_view, value_view, nameless, element_of, value_of, member_of}
-use Rattle.smithy_schema.specs.Value.{ScalarValue, Value, scalar_value, list, map, structure, union, null_element, Values, no_values, value, MapEntries, no_map_entries, map_entry, MemberValues, no_member_values, member_value}
+use Rattle.smithy_schema.specs.Value.{ScalarValue, Value, scalar_value, list, map, structure, union, null_element, document_value, Values, no_values, value, MapEntries, no_map_entries, map_entry, MemberValues, no_member_values, member_value}
 use Rattle.smithy_schema.specs.Fits.{FitsOr, ElementsFit, EntriesFit, MembersFit}
 use Rattle.smithy_schema.specs.Lemmas.Kinds.{list_kind, map_kind, structure_kind, union_kind}
 use Rattle.smithy_schema.proofs.ScalarLemmas.{scalar_kind}
 use Rattle.smithy_schema.proofs.SiteLemmas.{site_at, element_site_at, value_site_at, element_fit, entry_fit, member_fit}
 use Rattle.smithy_wire.specs.Node.{as_array, as_object}
-use Rattle.smithy_wire.specs.Written.{Leaves, scalar_node, child_place, name_at, element_nodes, entry_nodes, member_nodes}
+use Rattle.smithy_wire.specs.Written.{Leaves, written_document, scalar_node, child_place, name_at, element_nodes, entry_nodes, member_nodes}
 use Rattle.smithy_wire.specs.Writes.{Writes, bytes_of, nodes_bytes, body_of}
 use Rattle.smithy_wire.proofs.WrittenMeaning.{IsMember, structure_member, member_place, member_name, member_site, variant_member}
 
@@ -27,6 +28,7 @@ pub record Canonical : Type 0 where
 -- which are those that it writes
 pub record IsWritten {L : Type 0} (w : Writes L) (l : Leaves L) (name_of : Member → List ℕ) (c : Canonical) : Type 0 where
   pub scalar_is : (s : Scalar) (site : Site) (x : ScalarValue) → c.body site (scalar_value x) ≡ w.leaf_bytes (l.leaf_of s site.place.time x)
+  pub document_is : (site : Site) (v : Document ℤ) → c.body site (document_value v) ≡ bytes_of w (written_document l v)
   pub null_is : (site : Site) → c.body site null_element ≡ w.null_bytes
   pub list_is : (site : Site) (vs : Values) → c.body site (list vs) ≡ w.opening as_array ++ (c.elements true (element_of site) vs ++ w.ending as_array)
   pub no_element_is : (is_first : Bool) (site : Site) → c.elements is_first site no_values ≡ []
@@ -74,6 +76,7 @@ module _ {L : Type 0} (w : Writes L) (l : Leaves L) (name_of : Member → List �
     same_body (scalar_value x) p view nulls fits =
         let s = scalar_kind (kind_of t p) x fits in
         law.scalar_is s.0 (site_at t p view) x ∙ sym (ap (λ k. bytes_of w (scalar_node l k p.time x)) s.1)
+    same_body (document_value v) p view nulls fits = law.document_is (site_at t p view) v
     same_body null_element p view nulls fits = law.null_is (site_at t p view)
     same_body (list vs) p view nulls fits =
         let k = list_kind (kind_of t p) fits.0 in

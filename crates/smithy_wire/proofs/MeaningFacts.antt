@@ -32,6 +32,7 @@ abbrev rules : Limits → Rules Atom
 rules limits = record {
   text_of = text_of;
   says = says;
+  documents = None;
   skips_count = true;
   name_of = λ m. m.name;
   max_depth = 3;
@@ -159,7 +160,7 @@ other_maps = (refl, refl, refl)
 -- ---- what is written
 
 abbrev leaves : Leaves Atom
-leaves = record { leaf_of = leaf_of; key_of = a_text; holds = λ time x. true }
+leaves = record { leaf_of = leaf_of; key_of = a_text; holds = record { scalar = λ time x. true; documents = false } }
   where
     leaf_of : Scalar → Option TimestampFormat → ScalarValue → Atom
     leaf_of s time (whole n) = a_number n

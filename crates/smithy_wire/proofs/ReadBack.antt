@@ -2,9 +2,10 @@
 use Rattle.std.specs.Prelude.{◌≡◌, ◌≤◌, ℕ, length, List, Bool, true, false, None}
 use Rattle.std.proofs.Common.{sym, ap, arith, subst}
 use Rattle.std.proofs.lemmas.Bool.{and_parts}
+use Rattle.std.proofs.lemmas.List.{drop_all}
 use Rattle.smithy_schema.specs.declared.place.Place.{Place}
-use Rattle.smithy_schema.specs.Table.{Table, Member, ListShape, MapShape, structure_of, list_of, map_of, kind_of}
-use Rattle.smithy_schema.specs.Value.{Value, scalar_value, list, map, structure, union, null_element, Values, no_values, value, MapEntries, no_map_entries, map_entry, MemberValues, no_member_values, member_value, nesting}
+use Rattle.smithy_schema.specs.Table.{Table, Member, ListShape, MapShape, Kind, document, structure_of, list_of, map_of, kind_of}
+use Rattle.smithy_schema.specs.Value.{Value, scalar_value, list, map, structure, union, null_element, document_value, Values, no_values, value, MapEntries, no_map_entries, map_entry, MemberValues, no_member_values, member_value, nesting}
 use Rattle.smithy_schema.specs.Site.{View, member_view, element_view, value_view, nameless, member_of}
 use Rattle.smithy_schema.specs.ScalarTest.{scalars_pass, elements_pass, entries_pass, members_pass}
 use Rattle.smithy_schema.specs.Fits.{FitsOr, ElementsFit, EntriesFit, MembersFit, Fits}
@@ -13,13 +14,15 @@ use Rattle.smithy_schema.proofs.ScalarLemmas.{scalar_kind}
 use Rattle.smithy_schema.proofs.SiteLemmas.{site_at, element_site_at, value_site_at, element_fit, entry_fit, member_fit}
 use Rattle.smithy_wire.specs.Node.{as_array, as_object, Node}
 use Rattle.smithy_wire.specs.Rules.{Rules}
-use Rattle.smithy_wire.specs.Frames.{Frames, relations}
-use Rattle.smithy_wire.specs.Written.{Leaves, child_place, name_at, written_node, element_nodes, entry_nodes, member_nodes, AreNamed, ReadsLeaves}
-use Rattle.smithy_wire.specs.Writes.{Writes, body_of, IsWritable, AreWritable, WritesFrames, WritesLeaves}
+use Rattle.smithy_wire.specs.Frames.{Frames, EndsAs, relations}
+use Rattle.smithy_wire.specs.Written.{Leaves, child_place, name_at, written_node, element_nodes, entry_nodes, member_nodes, TellsApart, ReadsLeaves, ReadsDocuments}
+use Rattle.smithy_wire.specs.Writes.{Writes, body_of, IsWritable, AreWritable, WritesFrames, WritesLeaves, WritesDocuments}
+use Rattle.smithy_wire.proofs.WrittenDocuments.{written_node_is, document_writable}
 use Rattle.smithy_wire.proofs.WrittenMeaning.{IsMember, structure_member, member_place, member_name, member_site, variant_member, node_means}
 use Rattle.smithy_wire.proofs.WrittenPlaces.{body_lies}
 
-module _ {L : Type 0} (w : Writes L) (l : Leaves L) (leaves : WritesLeaves w l) (name_of : Member → List ℕ) (t : Table) (named : AreNamed name_of t) where
+module _ {L : Type 0} (w : Writes L) (l : Leaves L) (leaves : WritesLeaves w l) (docs : l.holds.documents ≡ true → WritesDocuments w l)
+    (name_of : Member → List ℕ) (t : Table) (named : TellsApart name_of t) where
   abbrev node_at : Place → Value → Node L
   node_at p v = written_node l name_of t p v
 
@@ -33,6 +36,8 @@ module _ {L : Type 0} (w : Writes L) (l : Leaves L) (leaves : WritesLeaves w l) 
         → IsWritable w (node_at p v)
     value_writable (scalar_value x) p view nulls fits held = let s = scalar_kind (kind_of t p) x fits in rw s.1 (leaves.scalar_is s.0 p.time x s.2 held)
     value_writable null_element p view nulls fits held = tt
+    value_writable (document_value v) p view nulls fits held =
+        subst (IsWritable w) (sym (written_node_is l v held)) (document_writable w l leaves (docs held) v fits.1)
     value_writable (list vs) p view nulls fits held =
         let c = list_kind (kind_of t p) fits.0 in
         let all = subst (λ site. elements_pass l.holds site vs ≡ true) (element_site_at t p view c.0 c.1) held in
@@ -82,14 +87,20 @@ module _ {L : Type 0} (w : Writes L) (l : Leaves L) (leaves : WritesLeaves w l) 
           members_writable ms p view members kind fits.1 parts.1,
         )
 
--- a value that fits its place, whose scalars the wire holds and that nests no deeper than may be read stands in the body
--- that is written for it
+-- the body ends where the input does, as a document ends
+body_ends : {L : Type 0} (w : Writes L) (frames : Frames L) → WritesFrames w frames → (k : Kind) (i : List ℕ) → EndsAs frames k i 0 (length i)
+body_ends w frames law document i = law.follows_lie i 0 (length i) (omega arith) (drop_all (length i) i (omega arith))
+body_ends w frames law _ i = tt
+
+-- a value that fits its place, whose scalars and documents the wire holds and that nests no deeper than may be read stands in
+-- the body that is written for it
 pub written_stands : {L : Type 0} (w : Writes L) (frames : Frames L) (l : Leaves L) (r : Rules L) → WritesFrames w frames → WritesLeaves w l → ReadsLeaves l r
-    → (t : Table) (p : Place) (view : View) (v : Value) → AreNamed r.name_of t → Fits t p v → scalars_pass l.holds (site_at t p view) v ≡ true
+    → (l.holds.documents ≡ true → WritesDocuments w l × ReadsDocuments l r) → (t : Table) (p : Place) (view : View) (v : Value) → TellsApart r.name_of t → Fits t p v → scalars_pass l.holds (site_at t p view) v ≡ true
     → nesting v ≤ r.max_depth → w.IsBody (body_of w l r.name_of t p v)
     → (relations frames r).stands (body_of w l r.name_of t p v) t p 0 0 v (length (body_of w l r.name_of t p v))
-written_stands w frames l r law leaves reads t p view v named fits held deep is_body = (
+written_stands w frames l r law leaves reads docs t p view v named fits held deep is_body = (
   written_node l r.name_of t p v,
-  body_lies w frames law (written_node l r.name_of t p v) (value_writable w l leaves r.name_of t named v p view false fits held) is_body,
-  node_means l r reads t named p view 0 v fits held (omega (arith, deep)),
+  body_lies w frames law (written_node l r.name_of t p v) (value_writable w l leaves (λ h. (docs h).0) r.name_of t named v p view false fits held) is_body,
+  node_means l r reads (λ h. (docs h).1) t named p view 0 v fits held (omega (arith, deep)),
+  body_ends w frames law (kind_of t p) (body_of w l r.name_of t p v),
 )

@@ -4,11 +4,11 @@ use Rattle.std.specs.Prelude.{IsErrOf, Result, Ok, Err, OnErr, IfOk, IfErr, IsOk
 use Rattle.smithy_texts.specs.Ranges.{fits_signed}
 use Rattle.smithy_schema.specs.declared.shape_type.Scalar.{Scalar}
 use Rattle.smithy_schema.specs.declared.error.SerdeError.{SerdeError}
-use Rattle.smithy_schema.specs.declared.error.SerdeError.TheVariants.{InvalidInput, TooWide, NotCarried, Failed, NoMemory}
+use Rattle.smithy_schema.specs.declared.error.SerdeError.TheVariants.{InvalidInput, TooWide, NotCarried, Unsupported, Unwritable, Failed, NoMemory}
 use Rattle.smithy_schema.specs.Table.{scalar_place}
 use Rattle.smithy_schema.specs.Site.{Site}
 use Rattle.smithy_schema.specs.Value.{ScalarValue, scalar_value}
-use Rattle.smithy_schema.specs.Reading.{Cursor, depth, Relations, IsLawful, StandsNot, IsInvalid, Exceeds, Uncarried, ReadsScalar, AnswersWide, AnswersUncarried, failed_at, passed_to}
+use Rattle.smithy_schema.specs.Reading.{Cursor, depth, Relations, IsLawful, StandsNot, IsInvalid, Exceeds, Uncarried, Conducts, ReadsScalar, AnswersWide, AnswersUncarried, failed_at, passed_to}
 use Rattle.smithy_wire.specs.Narrowing.{IsNarrowed, IsWider}
 
 -- what holds of an answer, said in other words
@@ -30,6 +30,45 @@ was_ready true due h = cc
 was_ready false true h = (refl, refl)
 was_ready false false h = cc
 
+-- ---- the conduct of a read
+
+-- the reader failed before
+pub fails_again : {A : Type 0} (old new : Cursor) → new ≡ failed_at old → old.at ≤ length old.input → old.failed ≡ true → Conducts {A = A} old new (Err Failed)
+fails_again old new stays within failed = record {
+  failed = (λ h. failed, λ h. refl);
+  stays = stays;
+  readable = λ h. cc;
+  supported = λ h. cc;
+  ahead = rw stays (omega arith);
+  within = rw stays within;
+}
+
+same_error : {A : Type 0} (e f : SerdeError) → ◌≡◌ {A = Result A SerdeError} (Err e) (Err f) → e ≡ f
+same_error e f h = cc
+
+-- a refusal that is neither an earlier failure nor a fault of writing
+pub conducts : {A : Type 0} (old new : Cursor) (e : SerdeError) → new ≡ failed_at old → old.at ≤ length old.input → old.failed ≡ false
+    → (e ≡ Failed → ⊥) → (e ≡ Unwritable → ⊥) → (e ≡ Unsupported → ⊥) → Conducts {A = A} old new (Err e)
+conducts old new e stays within sound unfailed readable supported = record {
+  failed = (λ h. absurd (unfailed (same_error e Failed h)), λ h. absurd (let both : true ≡ false = sym h ∙ sound in cc));
+  stays = stays;
+  readable = λ h. readable (same_error e Unwritable h);
+  supported = λ h. supported (same_error e Unsupported h);
+  ahead = rw stays (omega arith);
+  within = rw stays within;
+}
+
+-- a value was read
+pub goes_on : {A : Type 0} (old new : Cursor) (x : A) → old.failed ≡ false → old.at ≤ new.at → new.at ≤ length new.input → Conducts old new (Ok x)
+goes_on old new x sound ahead within = record {
+  failed = (λ h. cc, λ h. absurd (let both : true ≡ false = sym h ∙ sound in cc));
+  stays = tt;
+  readable = λ h. cc;
+  supported = λ h. cc;
+  ahead = ahead;
+  within = within;
+}
+
 module _ {A : Type 0} (w u : Relations) (is_strict : Type 0) (site : Site) (s : Scalar) (value : A → ScalarValue) where
   abbrev Says : Cursor → Cursor → Result A SerdeError → Type 0
   Says old new result = ReadsScalar w u is_strict old new site s value result
@@ -41,13 +80,7 @@ module _ {A : Type 0} (w u : Relations) (is_strict : Type 0) (site : Site) (s : 
   -- the reader failed before
   failed_before : (old new : Cursor) → new ≡ failed_at old → old.at ≤ length old.input → old.failed ≡ true → Says old new (Err Failed)
   failed_before old new stays within failed = record {
-    conduct = record {
-      failed = (λ h. failed, λ h. refl);
-      stays = stays;
-      readable = λ h. cc;
-      ahead = rw stays (omega arith);
-      within = rw stays within;
-    };
+    conduct = fails_again old new stays within failed;
     shallow = λ h. cc;
     wide = λ h. cc;
     uncarried = λ h. cc;
@@ -61,13 +94,7 @@ module _ {A : Type 0} (w u : Relations) (is_strict : Type 0) (site : Site) (s : 
   pub refuses : (old new : Cursor) → new ≡ failed_at old → old.at ≤ length old.input → old.failed ≡ false → (old.due ≡ true → NoneStands old)
       → Says old new (Err InvalidInput)
   refuses old new stays within sound none = record {
-    conduct = record {
-      failed = (λ h. cc, λ h. absurd (let both : true ≡ false = sym h ∙ sound in cc));
-      stays = stays;
-      readable = λ h. cc;
-      ahead = rw stays (omega arith);
-      within = rw stays within;
-    };
+    conduct = conducts old new InvalidInput stays within sound (λ h. cc) (λ h. cc) (λ h. cc);
     shallow = λ h. cc;
     wide = λ h. cc;
     uncarried = λ h. cc;
@@ -80,13 +107,7 @@ module _ {A : Type 0} (w u : Relations) (is_strict : Type 0) (site : Site) (s : 
   -- want of memory
   pub runs_out : (old new : Cursor) → new ≡ failed_at old → old.at ≤ length old.input → old.failed ≡ false → Says old new (Err NoMemory)
   runs_out old new stays within sound = record {
-    conduct = record {
-      failed = (λ h. cc, λ h. absurd (let both : true ≡ false = sym h ∙ sound in cc));
-      stays = stays;
-      readable = λ h. cc;
-      ahead = rw stays (omega arith);
-      within = rw stays within;
-    };
+    conduct = conducts old new NoMemory stays within sound (λ h. cc) (λ h. cc) (λ h. cc);
     shallow = λ h. cc;
     wide = λ h. cc;
     uncarried = λ h. cc;
@@ -100,13 +121,7 @@ module _ {A : Type 0} (w u : Relations) (is_strict : Type 0) (site : Site) (s : 
   pub exceeds_limits : (old new : Cursor) → new ≡ failed_at old → old.at ≤ length old.input → old.failed ≡ false → old.due ≡ true
       → Exceeds w old site.table (scalar_place s site.place.time) → StandsNot w old site.table (scalar_place s site.place.time) → Says old new (Err TooWide)
   exceeds_limits old new stays within sound due there none = record {
-    conduct = record {
-      failed = (λ h. cc, λ h. absurd (let both : true ≡ false = sym h ∙ sound in cc));
-      stays = stays;
-      readable = λ h. cc;
-      ahead = rw stays (omega arith);
-      within = rw stays within;
-    };
+    conduct = conducts old new TooWide stays within sound (λ h. cc) (λ h. cc) (λ h. cc);
     shallow = λ h. cc;
     wide = λ h. there;
     uncarried = λ h. cc;
@@ -120,13 +135,7 @@ module _ {A : Type 0} (w u : Relations) (is_strict : Type 0) (site : Site) (s : 
   pub carries_not : (old new : Cursor) → new ≡ failed_at old → old.at ≤ length old.input → old.failed ≡ false → old.due ≡ true
       → Uncarried w old site.table (scalar_place s site.place.time) → StandsNot w old site.table (scalar_place s site.place.time) → Says old new (Err NotCarried)
   carries_not old new stays within sound due there none = record {
-    conduct = record {
-      failed = (λ h. cc, λ h. absurd (let both : true ≡ false = sym h ∙ sound in cc));
-      stays = stays;
-      readable = λ h. cc;
-      ahead = rw stays (omega arith);
-      within = rw stays within;
-    };
+    conduct = conducts old new NotCarried stays within sound (λ h. cc) (λ h. cc) (λ h. cc);
     shallow = λ h. cc;
     wide = λ h. cc;
     uncarried = λ h. there;
@@ -156,13 +165,7 @@ module _ {A : Type 0} (w u : Relations) (is_strict : Type 0) (site : Site) (s : 
     reads new x e stands passed =
         let ends = laws.stands_within old.input site.table (scalar_place s site.place.time) (depth old) old.at (scalar_value (value x)) e stands in
         rw passed (record {
-          conduct = record {
-            failed = (λ h. cc, λ h. absurd (let both : true ≡ false = sym h ∙ sound in cc));
-            stays = tt;
-            readable = λ h. cc;
-            ahead = ends.0;
-            within = ends.1;
-          };
+          conduct = goes_on old (passed_to old e) x sound ends.0 ends.1;
           shallow = λ h. cc;
           wide = λ h. cc;
           uncarried = λ h. cc;

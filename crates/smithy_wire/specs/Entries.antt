@@ -1,5 +1,4 @@
--- How a reader goes on in a container: past what is dropped to an entry or the end, as the relations of reading say
--- it, where every null of a structure or a union is dropped.
+-- How a reader goes on in a container: past what is dropped to an entry or the end, as the relations of reading say it.
 use Rattle.std.specs.Prelude.{◌≡◌, ◌&&◌, ◌||◌, not, ℕ, List, Option, Some, None, is_none, Bool, true, false, refl, codes, bytes_eq}
 use Rattle.std.specs.Option.{option_map_or}
 use Rattle.std.proofs.Common.{sym, ◌∙◌, ap, inl, inr, ◌⊎◌}
@@ -114,25 +113,27 @@ module _ {L : Type 0} (w : Frames L) (r : Rules L) (i : List ℕ) (t : Table) (p
     dropped = dropped_by (is_absent r (kind_of t p) (key_text r f key) x) (is_mark r (kind_of t p) (key_text r f key)) (may_skip r d x) is may;
   }
 
-  module _ (none : (q : Place) → r.keeps_null q ≡ false) (has_members : HasMembers (kind_of t p)) where
-    -- a null under a key that is a text is dropped
+  module _ (has_members : HasMembers (kind_of t p)) where
+    -- a null under a key that is a text is dropped, where no member keeps it
     pub null_is_dropped : (b : ℕ) (m : Mark) (key : Option L) (at : ℕ) (n : Mark) (e : ℕ) → w.entry as_object i b m key at n
-        → IsTold as_object (key_text r as_object key) → w.null i d at e → Drops w r (kind_of t p) as_object i d b m e n
-    null_is_dropped b m key at n e entry told null = record {
+        → IsTold as_object (key_text r as_object key) → drops_null r (kind_of t p) (position_in r (kind_of t p) (key_text r as_object key)) ≡ true
+        → w.null i d at e → Drops w r (kind_of t p) as_object i d b m e n
+    null_is_dropped b m key at n e entry told drops null = record {
       key = key;
       at = at;
       child = null_node;
       entry = entry;
       told = told;
       lies = null;
-      dropped = rw (drops_each r none (kind_of t p) has_members (position_in r (kind_of t p) (key_text r as_object key))) refl;
+      dropped = rw drops refl;
     }
 
-    -- an entry behind dropped ones, with neither a mark nor a null, is a step
+    -- an entry behind dropped ones, with neither a mark nor a null that is dropped, is a step
     pub step_to_entry : (count b : ℕ) (m : Mark) (at : ℕ) (j : Mark) (key : Option L) (text : Option (List ℕ)) (c : ℕ) (n : Mark)
         → DropsAll w r (kind_of t p) as_object count i d b m at j → w.entry as_object i at j key c n → key_text r as_object key ≡ text → IsTold as_object text
-        → is_mark r (kind_of t p) text ≡ false → ((e : ℕ) → w.null i d c e → ⊥) → (relations w r).steps i t p d b m text c n
-    step_to_entry count b m at j key text c n drops entry names told unmarked real = (
+        → is_mark r (kind_of t p) text ≡ false → ((e : ℕ) → w.null i d c e → drops_null r (kind_of t p) (position_in r (kind_of t p) text) ≡ false)
+        → (relations w r).steps i t p d b m text c n
+    step_to_entry count b m at j key text c n drops entry names told unmarked stays = (
       as_object,
       members_are_object (kind_of t p) has_members,
       record {
@@ -145,7 +146,7 @@ module _ {L : Type 0} (w : Frames L) (r : Rules L) (i : List ℕ) (t : Table) (p
         told = told;
         names = names;
         unmarked = unmarked;
-        stays = λ e null. absurd (real e null);
+        stays = stays;
       },
     )
 

@@ -1,10 +1,14 @@
 -- How a wire frames its nodes: where arrays and objects open, go on and end. It knows no table and no value, and
 -- the relations of reading follow from it. Numbers are depths (of open containers) and positions in the input i.
-use Rattle.std.specs.Prelude.{◌≡◌, ◌⊎◌, ◌<◌, ℕ, zero, suc, List, Option, Some, None, Bool, true, false}
-use Rattle.smithy_schema.specs.Table.{Kind, kind_of, IsStructure}
+use Rattle.std.specs.Prelude.{◌≡◌, ◌⊎◌, ◌<◌, ◌≤◌, ℕ, zero, suc, List, Option, Some, None, Bool, true, false}
+use Rattle.smithy_types.specs.Document.{Document}
+use Rattle.smithy_types.specs.declared.number.Number.{Number}
+use Rattle.smithy_schema.specs.declared.shape_type.TimestampFormat.{TimestampFormat}
+use Rattle.smithy_schema.specs.Table.{Kind, document, kind_of, IsStructure}
 use Rattle.smithy_schema.specs.Reading.{Mark, Relations}
 use Rattle.smithy_wire.specs.Node.{Form, as_array, as_object, Node, null_node, leaf, container, missing, Nodes, no_nodes, node}
-use Rattle.smithy_wire.specs.Rules.{Rules, is_shallow, may_skip, key_text, position_in, drops_null, is_mark, is_dropped}
+use Rattle.smithy_wire.specs.Rules.{Answer, uncarried, Rules, is_shallow, may_skip, key_text, position_in, drops_null, is_mark, is_dropped}
+use Rattle.smithy_wire.specs.Documents.{held_document}
 use Rattle.smithy_wire.specs.Meaning.{IsTooWide, IsUncarried, is_in, meaning}
 
 -- what a wire tells of bytes
@@ -86,17 +90,39 @@ abbrev pub EndsIn : {L : Type 0} → Frames L → Rules L → Kind → Form → 
 EndsIn w r k f i d b m e =
     (count : ℕ) × (at : ℕ) × (j : Mark) × DropsAll w r k f count i d b m at j × w.ends f i at j e
 
+-- ---- documents
+
+-- a document inside so many containers ends as a container there does
+abbrev pub EndsAs : {L : Type 0} → Frames L → Kind → List ℕ → ℕ → ℕ → Type 0
+EndsAs w document i d e = w.follows i (suc d) e
+EndsAs w _ i d e = Unit {0}
+
+-- From a on lies a scalar that no document carries, and ends at e; where the wire carries no documents, whatever lies there
+-- is no document.
+abbrev pub LiesUncarried : {L : Type 0} → Frames L → Option (L → Answer (Document Number)) → List ℕ → ℕ → ℕ → Type 0
+LiesUncarried {L = L} w None i a e = Unit {0}
+LiesUncarried {L = L} w (Some says) i a e =
+    (d c : ℕ) × (x : L) × (a ≤ c) × w.scalar i d x c e × (says x ≡ uncarried)
+
+-- what a place of the kind can't carry: the scalar from a to e, or something in a document
+abbrev pub UncarriedAt : {L : Type 0} → Frames L → Rules L → Kind → Option TimestampFormat → List ℕ → ℕ → ℕ → ℕ → Type 0
+UncarriedAt {L = L} w r document time i d a e = LiesUncarried w r.documents i a e
+UncarriedAt {L = L} w r k time i d a e = (x : L) × w.scalar i d x a e × IsUncarried r k time x
+
 -- ---- the relations of reading, once for all wires
 
 abbrev pub relations : {L : Type 0} → Frames L → Rules L → Relations
 relations {L = L} w r = record {
   allows = λ d. is_shallow r (suc d) ≡ true;
   position = λ t p key. position_in r (kind_of t p) (Some key);
-  stands = λ i t p d a v e. (x : Node L) × Lies w i d x a e × (meaning r t p d x ≡ Some v);
+  stands = λ i t p d a v e.
+      (x : Node L) × Lies w i d x a e × (meaning r t p d x ≡ Some v) × EndsAs w (kind_of t p) i d e;
+  documents = λ i d a x e.
+      (y : Node L) × Lies w i d y a e × (held_document r d y ≡ Some x) × w.follows i (suc d) e;
   nulls = λ i d a e. w.null i d a e;
   skips = λ i d a e. (x : Node L) × Lies w i d x a e × (may_skip r d x ≡ true);
   exceeds = λ i t p d a e. (x : L) × w.scalar i d x a e × IsTooWide r (kind_of t p) p.time x;
-  uncarried = λ i t p d a e. (x : L) × w.scalar i d x a e × IsUncarried r (kind_of t p) p.time x;
+  uncarried = λ i t p d a e. UncarriedAt w r (kind_of t p) p.time i d a e;
   opens = λ i t p d a b m.
       ((f : Form) × (is_in (kind_of t p) f ≡ true) × w.opens f i a b m)
       ⊎ (IsStructure (kind_of t p) × w.is_over i a × (b ≡ a) × (m ≡ w.over_mark));

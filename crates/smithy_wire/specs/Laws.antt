@@ -1,9 +1,9 @@
 -- The laws of reading, once for all wires and kinds.
-use Rattle.std.specs.Prelude.{◌≡◌, ◌⊎◌, ◌<◌, ◌≤◌, ℕ, zero, suc, length, drop, List, Option, Some, true, false, refl}
+use Rattle.std.specs.Prelude.{◌≡◌, ◌⊎◌, ◌<◌, ◌≤◌, ℕ, zero, suc, length, drop, List, Option, Some, None, true, false, refl}
 use Rattle.std.proofs.Common.{sym, ◌∙◌, ap, arith, subst, inl, inr}
 use Rattle.smithy_schema.specs.declared.place.Place.{Place}
 use Rattle.smithy_schema.specs.Limits.{kept}
-use Rattle.smithy_schema.specs.Table.{Table, Kind, kind_of, IsStructure}
+use Rattle.smithy_schema.specs.Table.{Table, Kind, kind_of, IsStructure, IsDocument}
 use Rattle.smithy_schema.specs.Value.{Value}
 use Rattle.smithy_schema.specs.Reading.{Mark, Child, child_value, child_null, child_unknown, IsChild, IsLawful, StandsFit, CountsOpeners, IsBelow}
 use Rattle.smithy_schema.specs.Lemmas.Options.{same_some, chosen}
@@ -14,7 +14,8 @@ use Rattle.smithy_wire.specs.Frames.{Frames, Lies, DropsAll, StepsIn, EndsIn, re
 use Rattle.smithy_wire.specs.Wire.{no_value, IsBehind, IsWire, BoundsOpeners, RulesFit}
 use Rattle.smithy_wire.specs.Lemmas.Nodes.{sort_of, lies_begins, one_node, lies_behind, lies_ahead, takes_none, not_back}
 use Rattle.smithy_wire.specs.Lemmas.Determined.{one_form, same_step, same_close, step_or_close, no_step_over, no_end_over}
-use Rattle.smithy_wire.specs.Lemmas.Places.{null_means_nothing}
+use Rattle.smithy_wire.specs.Documents.{document_meaning}
+use Rattle.smithy_wire.specs.Lemmas.Places.{where_apart}
 use Rattle.smithy_wire.specs.Lemmas.Fitting.{meaning_fits}
 use Rattle.smithy_wire.specs.Lemmas.Lifting.{lifting_is_below}
 use Rattle.smithy_wire.specs.Lemmas.Containers.{folded_stands, stands_unfolded, is_missing, object_form}
@@ -36,14 +37,17 @@ module _ {L : Type 0} (w : Frames L) (r : Rules L) (wire : IsWire w) where
   skipped_is_there d (container f xs) h k = cc
   skipped_is_there d missing h k = cc
 
-  begins : (i : List ℕ) (t : Table) (p : Place) (d a : ℕ) (v : Value) (e : ℕ) (x : Node L) → Lies w i d x a e → meaning r t p d x ≡ Some v → w.begins_null i a ≡ false
-  begins i t p d a v e null_node lies means = absurd (null_means_nothing r t p d null_node v refl means)
-  begins i t p d a v e (leaf x) lies means = lies_begins w wire i d (leaf x) a e lies refl
-  begins i t p d a v e (container f xs) lies means = lies_begins w wire i d (container f xs) a e lies refl
-  begins i t p d a v e missing lies means = lies_begins w wire i d missing a e lies refl
+  begins : (i : List ℕ) (t : Table) (p : Place) (d a : ℕ) (v : Value) (e : ℕ) (x : Node L) → Lies w i d x a e → meaning r t p d x ≡ Some v
+      → IsDocument (kind_of t p) ⊎ (w.begins_null i a ≡ false)
+  begins i t p d a v e null_node lies means =
+      where_apart (kind_of t p) (document_meaning r d null_node) None v (IsDocument (kind_of t p) ⊎ (w.begins_null i a ≡ false)) means
+      (λ is there. inl (subst IsDocument (sym is) tt)) (λ none. cc)
+  begins i t p d a v e (leaf x) lies means = inr (lies_begins w wire i d (leaf x) a e lies refl)
+  begins i t p d a v e (container f xs) lies means = inr (lies_begins w wire i d (container f xs) a e lies refl)
+  begins i t p d a v e missing lies means = inr (lies_begins w wire i d missing a e lies refl)
 
   behind : (i : List ℕ) (t : Table) (p : Place) (d : ℕ) (key : Option (List ℕ)) (x : Child) (c e : ℕ) → IsChild (relations w r) i t p d key x c e → IsBehind w i c e
-  behind i t p d key (child_value k n v) c e (is, at, (q, there, (y, lies, means))) = lies_behind w wire i d y c e lies
+  behind i t p d key (child_value k n v) c e (is, at, (q, there, (y, lies, means, ends)), real) = lies_behind w wire i d y c e lies
   behind i t p d key (child_null k) c e (is, takes, lies) = let l = wire.null_ahead i d c e lies in (inl l.0, l.1)
   behind i t p d key (child_unknown k) c e (is, structure', none, (y, lies, may)) = lies_behind w wire i d y c e lies
 

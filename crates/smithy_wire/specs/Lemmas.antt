@@ -1,4 +1,5 @@
 pub mod Nodes
+pub mod Pairs
 pub mod Determined
 pub mod Places
 pub mod EntrySteps

@@ -2,6 +2,7 @@
 pub mod Node
 pub mod Rules
 pub mod BigNumbers
+pub mod Documents
 pub mod Meaning
 -- how a wire frames its nodes, and the relations of reading that follow
 pub mod Frames

@@ -2,11 +2,12 @@
 use Rattle.std.specs.Prelude.{◌≡◌, ℕ, suc, List, [], ◌∷◌, Bool, true, false, Option, Some, None, option_and_then, if◌then◌else◌}
 use Rattle.smithy_schema.specs.declared.place.Place.{Place}
 use Rattle.smithy_schema.specs.declared.shape_type.TimestampFormat.{TimestampFormat}
-use Rattle.smithy_schema.specs.Table.{Table, Kind, scalar, structure_of, union_of, list_of, map_of, kind_of, place_in}
+use Rattle.smithy_schema.specs.Table.{Table, Kind, scalar, structure_of, union_of, list_of, map_of, kind_of, place_in, where_document}
 use Rattle.smithy_schema.specs.Value.{Value, structure, no_member_values, null_element}
 use Rattle.smithy_schema.specs.Container.{Entry, container_of}
 use Rattle.smithy_wire.specs.Node.{Form, as_array, as_object, Node, null_node, leaf, container, missing, Nodes, no_nodes, node, is_null}
 use Rattle.smithy_wire.specs.Rules.{settled, wide, uncarried, Rules, at_depth, may_skip, key_text, position_in, is_absent}
+use Rattle.smithy_wire.specs.Documents.{document_meaning}
 
 -- what a scalar of the body means as a kind
 abbrev pub leaf_meaning : {L : Type 0} → Rules L → Kind → Option TimestampFormat → L → Option Value
@@ -48,13 +49,15 @@ entry_at r k f d key x mean = record {
 }
 
 abbrev mutual
-  -- the value that a node means at a place, inside so many containers
+  -- the value that a node means at a place, inside so many containers: where a document is due, what it means as one
   pub meaning : {L : Type 0} → Rules L → Table → Place → ℕ → Node L → Option Value
-  meaning r t p d null_node = None
-  meaning r t p d (leaf x) = leaf_meaning r (kind_of t p) p.time x
+  meaning r t p d null_node = where_document (kind_of t p) (document_meaning r d null_node) None
+  meaning r t p d (leaf x) =
+      where_document (kind_of t p) (document_meaning r d (leaf x)) (leaf_meaning r (kind_of t p) p.time x)
   meaning r t p d (container f xs) =
-      at_depth r (suc d)
-      (if is_in (kind_of t p) f then container_of (kind_of t p) (entries r t p f (suc d) xs) else None)
+      where_document (kind_of t p) (document_meaning r d (container f xs))
+      (at_depth r (suc d)
+      (if is_in (kind_of t p) f then container_of (kind_of t p) (entries r t p f (suc d) xs) else None))
   meaning r t p d missing = at_depth r (suc d) (missing_meaning (kind_of t p))
 
   -- the entries of a container

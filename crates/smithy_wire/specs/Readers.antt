@@ -1,22 +1,27 @@
 -- What a reader finds, as the relations of reading, and what it doesn't find: once for all wires.
-use Rattle.std.specs.Prelude.{◌≡◌, ◌<◌, ℕ, zero, suc, List, Option, Some, None, true, false, refl, if◌then◌else◌}
+use Rattle.std.specs.Prelude.{◌≡◌, ◌<◌, ◌≤◌, ℕ, zero, suc, List, Option, Some, None, option_map, option_and_then, true, false, refl, if◌then◌else◌}
 use Rattle.std.proofs.Common.{sym, ◌∙◌, ap, subst, inl, inr}
 use Rattle.smithy_schema.specs.declared.place.Place.{Place}
 use Rattle.smithy_schema.specs.declared.shape_type.Scalar.{Scalar}
 use Rattle.smithy_schema.specs.declared.shape_type.TimestampFormat.{TimestampFormat}
-use Rattle.smithy_schema.specs.Limits.{Limits}
-use Rattle.smithy_schema.specs.Table.{Table, scalar, kind_of, IsStructure}
-use Rattle.smithy_schema.specs.Value.{Value, null_element}
+use Rattle.smithy_schema.specs.Limits.{Limits, kept}
+use Rattle.smithy_types.specs.Document.{Document, whole_document}
+use Rattle.smithy_types.specs.declared.number.Number.{Number}
+use Rattle.smithy_schema.specs.Table.{Table, scalar, document, kind_of, where_document, IsStructure}
+use Rattle.smithy_schema.specs.Value.{Value, document_value, null_element}
 use Rattle.smithy_schema.specs.Container.{container_of}
 use Rattle.smithy_schema.specs.Reading.{Mark}
 use Rattle.smithy_schema.specs.Lemmas.Options.{chosen}
 use Rattle.smithy_wire.specs.Node.{Form, Node, null_node, leaf, container, missing}
-use Rattle.smithy_wire.specs.Rules.{settled, answer_of, wide, uncarried, Rules, is_shallow, at_depth, key_text, position_in, drops_null, is_mark}
-use Rattle.smithy_wire.specs.Meaning.{leaf_meaning, IsTooWide, IsUncarried, is_in, missing_meaning, meaning, entries}
-use Rattle.smithy_wire.specs.Frames.{Frames, Lies, IsTold, Drops, DropsAll, StepsIn, EndsIn, relations}
+use Rattle.smithy_wire.specs.Rules.{Answer, settled, answer_of, wide, uncarried, Rules, is_shallow, at_depth, key_text, position_in, drops_null, is_mark}
+use Rattle.smithy_wire.specs.Documents.{document_of, held_document, document_by, document_meaning}
+use Rattle.smithy_wire.specs.Meaning.{leaf_meaning, IsTooWide, is_in, missing_meaning, meaning, entries}
+use Rattle.smithy_wire.specs.Frames.{Frames, Lies, IsTold, Drops, DropsAll, StepsIn, EndsIn, EndsAs, LiesUncarried, UncarriedAt, relations}
 use Rattle.smithy_wire.specs.Wire.{IsWire}
 use Rattle.smithy_wire.specs.Lemmas.Nodes.{one_node}
 use Rattle.smithy_wire.specs.Lemmas.Determined.{is_droppable, one_form, droppable, handed_on}
+use Rattle.smithy_wire.specs.Lemmas.Places.{means_document}
+use Rattle.smithy_wire.specs.Lemmas.Fitting.{no_lifted_null}
 
 -- from a to e is a scalar that says v as a kind
 abbrev pub Says : {L : Type 0} → Frames L → Rules L → Scalar → Option TimestampFormat → List ℕ → ℕ → ℕ → Value → ℕ → Type 0
@@ -33,22 +38,29 @@ module _ {L : Type 0} (w : Frames L) (r : Rules L) (i : List ℕ) (t : Table) (p
   module _ (s : Scalar) (kind : kind_of t p ≡ scalar s) (d : ℕ) where
     -- what a scalar of the body says stands there
     pub scalar_stands : (a : ℕ) (v : Value) (e : ℕ) → Says w r s p.time i d a v e → (relations w r).stands i t p d a v e
-    scalar_stands a v e (x, lies, says) = (leaf x, lies, ap (λ k. leaf_meaning r k p.time x) kind ∙ says)
+    scalar_stands a v e (x, lies, says) = (
+      leaf x,
+      lies,
+      ap (λ k. where_document k (document_meaning r d (leaf x)) (leaf_meaning r k p.time x)) kind ∙ says,
+      subst (λ k. EndsAs w k i d e) (sym kind) tt,
+    )
 
     no_container : (f : Form) (v : Value) (o : Option Value) → at_depth r (suc d) (if is_in (scalar s) f then o else None) ≡ Some v → ⊥
     no_container f v o h = let none = (chosen (is_shallow r (suc d)) None v h).1 in cc
 
     -- and nothing else does
     pub stands_scalar : (a : ℕ) (v : Value) (e : ℕ) → (relations w r).stands i t p d a v e → Says w r s p.time i d a v e
-    stands_scalar a v e (x, lies, means) = of x lies means
+    stands_scalar a v e (x, lies, means, ends) = of x lies means
       where
         of : (x : Node L) → Lies w i d x a e → meaning r t p d x ≡ Some v → Says w r s p.time i d a v e
-        of null_node lies means = absurd (let none : None ≡ Some v = means in cc)
-        of (leaf x) lies means = (x, lies, ap (λ k. leaf_meaning r k p.time x) (sym kind) ∙ means)
+        of null_node lies means =
+            absurd (let none : None ≡ Some v = ap (λ k. where_document k (document_meaning r d null_node) None) (sym kind) ∙ means in cc)
+        of (leaf x) lies means =
+            (x, lies, ap (λ k. where_document k (document_meaning r d (leaf x)) (leaf_meaning r k p.time x)) (sym kind) ∙ means)
         of (container f xs) lies means =
             let es = entries r t p f (suc d) xs in
             absurd (no_container f v (container_of (kind_of t p) es)
-            (ap (λ k. at_depth r (suc d) (if is_in k f then container_of (kind_of t p) es else None)) (sym kind) ∙ means))
+            (ap (λ k. where_document k (document_meaning r d (container f xs)) (at_depth r (suc d) (if is_in k f then container_of (kind_of t p) es else None))) (sym kind) ∙ means))
         of missing lies means =
             let none : at_depth r (suc d) (missing_meaning (scalar s)) ≡ Some v = ap (λ k. at_depth r (suc d) (missing_meaning k)) (sym kind) ∙ means in
             absurd (let no' = (chosen (is_shallow r (suc d)) None v none).1 in cc)
@@ -63,10 +75,59 @@ module _ {L : Type 0} (w : Frames L) (r : Rules L) (i : List ℕ) (t : Table) (p
 
     -- the same of what the kind can't carry
     pub scalar_uncarried : (a : ℕ) (x : L) (e : ℕ) → w.scalar i d x a e → r.says s p.time x ≡ uncarried → (relations w r).uncarried i t p d a e
-    scalar_uncarried a x e lies says = (x, lies, subst (λ k. IsUncarried r k p.time x) (sym kind) says)
+    scalar_uncarried a x e lies says = subst (λ k. UncarriedAt w r k p.time i d a e) (sym kind) (x, lies, says)
 
     pub uncarried_scalar : (a e : ℕ) → (relations w r).uncarried i t p d a e → (x : L) × w.scalar i d x a e × (r.says s p.time x ≡ uncarried)
-    uncarried_scalar a e (x, lies, says) = (x, lies, subst (λ k. IsUncarried r k p.time x) kind says)
+    uncarried_scalar a e there = subst (λ k. UncarriedAt w r k p.time i d a e) kind there
+
+  -- ---- documents
+
+  module _ (kind : kind_of t p ≡ document) (d : ℕ) where
+    -- what a node means as a document stands there
+    pub node_stands : (a : ℕ) (x : Node L) (v : Value) (e : ℕ) → Lies w i d x a e → document_meaning r d x ≡ Some v → w.follows i (suc d) e
+        → (relations w r).stands i t p d a v e
+    node_stands a x v e lies means follows = (x, lies, means_document r t p d x kind ∙ means, subst (λ k. EndsAs w k i d e) (sym kind) follows)
+
+    -- and nothing else does
+    pub stands_node : (a : ℕ) (v : Value) (e : ℕ) → (relations w r).stands i t p d a v e
+        → (x : Node L) × Lies w i d x a e × (document_meaning r d x ≡ Some v) × w.follows i (suc d) e
+    stands_node a v e (x, lies, means, ends) =
+        (x, lies, sym (means_document r t p d x kind) ∙ means, subst (λ k. EndsAs w k i d e) kind ends)
+
+    -- of a wire that carries documents
+    module _ (says : L → Answer (Document Number)) (carried : r.documents ≡ Some says) where
+      pub document_stands : (a : ℕ) (x : Node L) (v : Document Number) (e : ℕ) → Lies w i d x a e → document_of r says d x ≡ Some v → w.follows i (suc d) e
+          → (relations w r).stands i t p d a (document_value (whole_document v)) e × (relations w r).documents i d a v e
+      document_stands a x v e lies means follows =
+          let value : document_meaning r d x ≡ Some (document_value (whole_document v)) =
+          ap (λ o. document_by r o d x) carried ∙ ap (option_map (λ u. document_value (whole_document u))) means in
+          let held : held_document r d x ≡ Some v = ap (option_and_then (λ says. document_of r says d x)) carried ∙ means in
+          (node_stands a x (document_value (whole_document v)) e lies value follows, (x, lies, held, follows))
+
+      -- where a node means no document none stands
+      pub document_stands_not : (a : ℕ) (x : Node L) (e : ℕ) → IsWire w → Lies w i d x a e → document_of r says d x ≡ None
+          → (v : Value) (f : ℕ) → (relations w r).stands i t p d a v f → ⊥
+      document_stands_not a x e wire lies none v f stands =
+          let y = stands_node a v f stands in
+          let same : y.0 ≡ x = (one_node w wire i d y.0 x a f e y.1 lies).0 in
+          let nothing : document_meaning r d x ≡ None = ap (λ o. document_by r o d x) carried ∙ ap (option_map (λ u. document_value (whole_document u))) none in
+          let clash : None ≡ Some v = sym nothing ∙ (ap (document_meaning r d) (sym same) ∙ y.2) in
+          cc
+
+      -- a scalar that no document carries
+      pub part_uncarried : (a n c : ℕ) (x : L) (e : ℕ) → a ≤ c → w.scalar i n x c e → says x ≡ uncarried → (relations w r).uncarried i t p d a e
+      part_uncarried a n c x e up lies is =
+          subst (λ k. UncarriedAt w r k p.time i d a e) (sym kind) (subst (λ o. LiesUncarried w o i a e) (sym carried) (n, c, x, up, lies, is))
+
+    -- of a wire that carries none
+    pub none_carried : r.documents ≡ None → (a e : ℕ) → (relations w r).uncarried i t p d a e
+    none_carried none a e =
+        subst (λ k. UncarriedAt w r k p.time i d a e) (sym kind) (subst (λ o. LiesUncarried w o i a e) (sym none) tt)
+
+    pub none_stands : r.documents ≡ None → r.limits ≡ kept → (a : ℕ) (v : Value) (e : ℕ) → (relations w r).stands i t p d a v e → ⊥
+    none_stands none keeps a v e stands =
+        let y = stands_node a v e stands in
+        no_lifted_null r keeps y.0 v (sym (ap (λ o. document_by r o d y.0) none) ∙ y.2)
 
   -- ---- containers
 

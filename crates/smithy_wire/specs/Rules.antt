@@ -1,6 +1,8 @@
 -- What the meaning of a node depends on beside table and place: the wire's scalars, and the settings.
 use Rattle.std.specs.Prelude.{ℕ, ◌+◌, List, Bool, true, false, ◌&&◌, ◌||◌, not, Option, Some, None, option_and_then, if◌then◌else◌}
 use Rattle.std.specs.Option.{option_map_or}
+use Rattle.smithy_types.specs.Document.{Document}
+use Rattle.smithy_types.specs.declared.number.Number.{Number}
 use Rattle.smithy_schema.specs.declared.place.Place.{Place}
 use Rattle.smithy_schema.specs.declared.shape_type.Scalar.{Scalar}
 use Rattle.smithy_schema.specs.declared.shape_type.TimestampFormat.{TimestampFormat}
@@ -48,6 +50,8 @@ pub record Rules (L : Type 0) : Type 0 where
   pub text_of : L → Option (List ℕ)
   -- what a scalar is as one kind, by the time form of the place
   pub says : Scalar → Option TimestampFormat → L → Answer Value
+  -- what a scalar is as a document, where the wire carries documents
+  pub documents : Option (L → Answer (Document Number))
   -- what is skipped counts as depth
   pub skips_count : Bool
   -- ---- settings

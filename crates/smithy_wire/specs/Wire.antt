@@ -1,14 +1,17 @@
 -- What a wire proves of its framing: none of it speaks of tables, kinds or values but the last record.
 use Rattle.std.specs.Prelude.{◌≡◌, ◌⊎◌, ◌<◌, ◌≤◌, ℕ, suc, length, drop, List, [], Option, Some, true, false, IsUtf8}
+use Rattle.smithy_types.specs.Document.{Document, whole_document}
+use Rattle.smithy_types.specs.declared.number.Number.{Number}
 use Rattle.smithy_schema.specs.declared.place.Place.{Place}
 use Rattle.smithy_schema.specs.declared.shape_type.Scalar.{Scalar}
 use Rattle.smithy_schema.specs.Limits.{kept}
 use Rattle.smithy_schema.specs.Table.{Table, scalar, kind_of}
 use Rattle.smithy_schema.specs.Value.{Value, null_element}
+use Rattle.smithy_schema.specs.Documents.{document_nesting, DocumentFits}
 use Rattle.smithy_schema.specs.Fits.{Fits}
 use Rattle.smithy_schema.specs.Reading.{Mark}
 use Rattle.smithy_wire.specs.Node.{Form, as_object}
-use Rattle.smithy_wire.specs.Rules.{settled, Rules}
+use Rattle.smithy_wire.specs.Rules.{Answer, means, settled, Rules}
 use Rattle.smithy_wire.specs.Frames.{Frames}
 
 -- what a value can be by how it begins
@@ -40,6 +43,9 @@ pub record IsWire {L : Type 0} (w : Frames L) : Type 0 where
   pub over_sort : (i : List ℕ) (a : ℕ) → w.is_over i a → sort_at i a ≡ no_value
   pub null_begins : (i : List ℕ) (d a e : ℕ) → w.null i d a e → w.begins_null i a ≡ true
   pub others_begin : (i : List ℕ) (a : ℕ) → (sort_at i a ≡ a_null → ⊥) → w.begins_null i a ≡ false
+  -- ---- what follows: inside a container a null and a scalar end as a container does
+  pub null_follows : (i : List ℕ) (d a e : ℕ) → w.null i (suc d) a e → w.follows i (suc (suc d)) e
+  pub scalar_follows : (i : List ℕ) (d : ℕ) (x : L) (a e : ℕ) → w.scalar i (suc d) x a e → w.follows i (suc (suc d)) e
   -- ---- where the input ends
   pub empty_is_over : w.is_over [] 0
   pub over_is_end : (i : List ℕ) (a : ℕ) → w.is_over i a → a ≡ length i
@@ -67,11 +73,14 @@ pub record BoundsOpeners {L : Type 0} (w : Frames L) : Type 0 where
   pub end_takes_one : (s : Form) (i : List ℕ) (b : ℕ) (m : Mark) (e : ℕ) → w.ends s i b m e → w.openers (drop e i) ≤ suc (w.openers (drop b i))
 
 -- What a scalar that lies somewhere means as a kind is a value of it, with the limits kept: where they are lifted, what is
--- too wide or isn't carried means a null. And the text of a key is in UTF-8.
+-- too wide or isn't carried means a null. What it means as a document is one without parts. And the text of a key is in UTF-8.
 pub record RulesFit {L : Type 0} (w : Frames L) (r : Rules L) : Type 0 where
   pub says_fits : (i : List ℕ) (d : ℕ) (x : L) (a e : ℕ) → w.scalar i d x a e
       → (t : Table) (p : Place) (s : Scalar) (v : Value) → kind_of t p ≡ scalar s
       → r.limits ≡ kept
       → settled r.limits null_element (r.says s p.time x) ≡ Some v → Fits t p v
+  pub document_fits : (i : List ℕ) (d : ℕ) (x : L) (a e : ℕ) → w.scalar i d x a e
+      → (says : L → Answer (Document Number)) (v : Document Number) → r.documents ≡ Some says → says x ≡ means v
+      → DocumentFits (whole_document v) × (document_nesting v ≡ 1)
   pub key_fits : (i : List ℕ) (b : ℕ) (m : Mark) (key : L) (c : ℕ) (n : Mark) (text : List ℕ)
       → w.entry as_object i b m (Some key) c n → r.text_of key ≡ Some text → IsUtf8 text

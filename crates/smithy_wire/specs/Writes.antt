@@ -1,10 +1,12 @@
 -- How a wire writes its nodes: the bytes that a container opens with, those before an entry, and those of its end.
-use Rattle.std.specs.Prelude.{◌≡◌, ◌≤◌, ◌+◌, ℕ, zero, suc, length, drop, List, [], ◌++◌, Bool, true, false, Option, Some, None, IsUtf8}
+use Rattle.std.specs.Prelude.{◌≡◌, ◌≤◌, ◌+◌, ℕ, ℤ, zero, suc, length, drop, List, [], ◌++◌, Bool, true, false, Option, Some, None, IsUtf8}
 use Rattle.smithy_schema.specs.declared.place.Place.{Place}
 use Rattle.smithy_schema.specs.declared.shape_type.Scalar.{Scalar}
+use Rattle.smithy_schema.specs.declared.shape_type.Scalar.TheVariants as scalars
 use Rattle.smithy_schema.specs.declared.shape_type.TimestampFormat.{TimestampFormat}
 use Rattle.smithy_schema.specs.Table.{Table, Member}
-use Rattle.smithy_schema.specs.Value.{ScalarValue, Value}
+use Rattle.smithy_schema.specs.Value.{ScalarValue, boolean, whole, text, Value}
+use Rattle.smithy_schema.specs.Documents.{is_document_number}
 use Rattle.smithy_schema.specs.Fits.{is_of}
 use Rattle.smithy_schema.specs.Reading.{Mark}
 use Rattle.smithy_wire.specs.Node.{Form, as_array, as_object, Node, null_node, leaf, container, missing, Nodes, no_nodes, node}
@@ -98,6 +100,12 @@ pub record WritesFrames {L : Type 0} (w : Writes L) (frames : Frames L) : Type 0
 
 -- what it has for scalars that it holds and for keys can be written
 pub record WritesLeaves {L : Type 0} (w : Writes L) (l : Leaves L) : Type 0 where
-  pub scalar_is : (s : Scalar) (time : Option TimestampFormat) (x : ScalarValue) → is_of s x ≡ true → l.holds time x ≡ true
+  pub scalar_is : (s : Scalar) (time : Option TimestampFormat) (x : ScalarValue) → is_of s x ≡ true → l.holds.scalar time x ≡ true
       → w.IsScalar (l.leaf_of s time x)
   pub key_is : (key : List ℕ) → IsUtf8 key → w.IsKey (l.key_of key)
+
+-- what a wire proves that writes documents: what it has for a document without parts can be written
+pub record WritesDocuments {L : Type 0} (w : Writes L) (l : Leaves L) : Type 0 where
+  pub boolean_is : (b : Bool) → w.IsScalar (l.leaf_of scalars.Boolean None (boolean b))
+  pub number_is : (n : ℤ) → is_document_number n ≡ true → w.IsScalar (l.leaf_of scalars.BigInteger None (whole n))
+  pub text_is : (s : List ℕ) → IsUtf8 s → w.IsScalar (l.leaf_of scalars.String None (text s))

@@ -53,7 +53,7 @@ pub struct Walk<'a> {
 impl<'a> Walk<'a> {
     ghost use Rattle.std.specs.Prelude.{◌≡◌, ◌≤◌, ◌<◌, ◌∷◌, length, Ok, Err, IfOk, IfErr, IfSome, IsOk, IsErr, IsSome, IsNone, OnOk, OnErr, IsErrOf, true, false, if◌then◌else◌, vec_len};
     ghost use Rattle.smithy_schema.specs.Reading.{RefusesNoScalar, depth, failed_at, passed_to};
-    ghost use Rattle.smithy_schema.specs.declared.error.SerdeError.TheVariants.{Failed, InvalidInput, NoMemory, TooDeep, Unwritable};
+    ghost use Rattle.smithy_schema.specs.declared.error.SerdeError.TheVariants.{Failed, InvalidInput, NoMemory, TooDeep, Unsupported, Unwritable};
     ghost use Rattle.smithy_wire.specs.Walking.{cursor_of, fresh_cursor, entered_into, gone_on_to, frame_of};
 
     /// A walk that begins.
@@ -185,6 +185,7 @@ impl<'a> Walk<'a> {
         ensures no_failed { IsErrOf result Failed → ⊥ }
         ensures no_invalid { IsErrOf result InvalidInput → ⊥ }
         ensures no_unwritable { IsErrOf result Unwritable → ⊥ }
+        ensures no_unsupported { IsErrOf result Unsupported → ⊥ }
         ensures narrow { RefusesNoScalar result }
     {
         if self.outer.len() == self.max_depth {

@@ -1,8 +1,9 @@
 -- What a call makes of the open containers and of the bytes.
 use Rattle.std.specs.Prelude.{◌≡◌, ℕ, List, [], ◌∷◌, ◌++◌, Result, Ok, Err, refl}
 use Rattle.std.proofs.Common.{sym, ◌∙◌, ap}
+use Rattle.std.proofs.lemmas.List.{append-nil}
 use Rattle.smithy_schema.specs.declared.error.SerdeError.{SerdeError}
-use Rattle.smithy_schema.specs.Writing.{Event, begin_structure, end_structure, begin_list, end_list, begin_map, end_map, null_of, scalar_of, big_integer_of, big_decimal_of, Open}
+use Rattle.smithy_schema.specs.Writing.{Event, begin_structure, end_structure, begin_list, end_list, begin_map, end_map, null_of, scalar_of, big_integer_of, big_decimal_of, document_of, Open}
 use Rattle.cbor_item.specs.Head.{shortest_head}
 use Rattle.cbor_item.specs.WellFormed.{break}
 use Rattle.smithy_cbor.specs.Scalar.{null_value}
@@ -24,6 +25,7 @@ made_frames (null_of site) s frames = refl
 made_frames (scalar_of site x) s frames = refl
 made_frames (big_integer_of site written) s frames = refl
 made_frames (big_decimal_of site written) s frames = refl
+made_frames (document_of site d) s frames = refl
 
 -- and its bytes begin with those before
 made_grows : (e : Event) (s : CborState) (frames : List Open) → (more : List ℕ) × ((made e s frames).out ≡ s.out ++ more)
@@ -37,6 +39,7 @@ made_grows (null_of site) s frames = (lead s site.view ++ shortest_head 7 null_v
 made_grows (scalar_of site x) s frames = (lead s site.view ++ scalar_bytes x, refl)
 made_grows (big_integer_of site written) s frames = (lead s site.view ++ big_integer_bytes (number written), refl)
 made_grows (big_decimal_of site written) s frames = (lead s site.view ++ decimal_fraction_bytes (net_exponent written) (mantissa written), refl)
+made_grows (document_of site d) s frames = ([], sym (append-nil s.out))
 
 -- the containers of the state that is made
 pub taken_frames : (e : Event) (s t : CborState) (frames : Result (List Open) SerdeError) → where_taken (made e s) frames ≡ Ok t → frames ≡ Ok t.frames

@@ -11,6 +11,14 @@ is_plain b = nat_le space b && not (b == quotation_mark) && not (b == escape)
 abbrev pub is_stop : ℕ → Bool
 is_stop b = (b == quotation_mark) || (b == escape) || nat_lt b space
 
+-- an ASCII byte that stands for itself in a string
+abbrev pub is_plain_ascii : ℕ → Bool
+is_plain_ascii b = is_plain b && nat_lt b 0x80
+
+-- and any other byte
+abbrev pub is_ascii_stop : ℕ → Bool
+is_ascii_stop b = is_stop b || nat_lt 0x7f b
+
 -- four hexadecimal digits come first
 abbrev pub begins_with_four_hex_digits : List ℕ → Bool
 begins_with_four_hex_digits (a ∷ b ∷ c ∷ d ∷ _) =

@@ -47,7 +47,7 @@ boolean_fits t p (a_boolean b) v kind h = subst (Fits t p) (same_some (scalar_va
 boolean_fits t p (a_number raw) v kind h = cc
 boolean_fits t p (a_string raw) v kind h = cc
 
-text_is_utf8 : (i : List ℕ) (d : ℕ) (x : JsonScalar) (a e : ℕ) → json_frames.scalar i d x a e → (s : List ℕ) → text_of x ≡ Some s → IsUtf8 s
+pub text_is_utf8 : (i : List ℕ) (d : ℕ) (x : JsonScalar) (a e : ℕ) → json_frames.scalar i d x a e → (s : List ℕ) → text_of x ≡ Some s → IsUtf8 s
 text_is_utf8 i d (a_boolean b) a e lies s h = cc
 text_is_utf8 i d (a_number raw) a e lies s h = cc
 text_is_utf8 i d (a_string raw) a e lies s h = unescaped_is_utf8 raw s lies.0.2.4.1.0 h

@@ -1,5 +1,5 @@
 -- The scalar that lies at a place, as private functions answer it.
-use Rattle.std.specs.Prelude.{◌≡◌, ℕ, ℤ, List, Some, None, true}
+use Rattle.std.specs.Prelude.{◌≡◌, ℕ, ℤ, List, Some, true}
 use Rattle.smithy_texts.specs.Ranges.{fits_signed}
 use Rattle.smithy_json.specs.Tree.{number, string}
 use Rattle.smithy_json.specs.Number.{whole_number}

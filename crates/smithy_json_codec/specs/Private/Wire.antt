@@ -3,9 +3,10 @@ use Rattle.std.specs.Prelude.{◌≡◌, ◌<◌, ◌≤◌, ◌+◌, ◌-◌, �
 use Rattle.std.proofs.Common.{sym, ◌∙◌, ap, arith, inl, inr}
 use Rattle.smithy_schema.specs.Reading.{Mark}
 use Rattle.smithy_json.specs.Ascii.{value_separator, begin_array, end_array, begin_object, end_object}
+use Rattle.smithy_json.specs.Grammar.{IsBoundary}
 use Rattle.smithy_json.specs.Tree.{null}
 use Rattle.smithy_json_codec.specs.Scalar.{JsonScalar, a_boolean, a_number, a_string, tree_of}
-use Rattle.smithy_json_codec.specs.Standing.{Lies, IsByte, IsSeparated, fresh_mark, end_mark, entry_mark, without_ws, begins_with_null, opening, Entry, json_frames}
+use Rattle.smithy_json_codec.specs.Standing.{Lies, IsByte, Follows, IsSeparated, fresh_mark, end_mark, entry_mark, without_ws, begins_with_null, opening, Entry, json_frames}
 use Rattle.smithy_json_codec.specs.Openers.{json_openers}
 use Rattle.smithy_json_codec.specs.Private.BytePlaces.{same_byte, byte_ahead, same_separated, separated_ahead, no_byte, element_or_end}
 use Rattle.smithy_json_codec.specs.Private.NamePlaces.{same_names, names_or_end, names_ahead, no_names}
@@ -46,6 +47,13 @@ same_opens as_object i a b c m n h j = ((same_byte i a b c begin_object begin_ob
 entry_or_end : (s : Form) (i : List ℕ) (b : ℕ) (m : Mark) (k : Option JsonScalar) (c e : ℕ) (n : Mark) → Entry s i b m k c n → json_frames.ends s i b m e → ⊥
 entry_or_end as_array i b m k c e n h end = element_or_end i m.entered b c e h.2 h.3 end
 entry_or_end as_object i b m k c e n h end = names_or_end i m.entered b h.0 c e h.3 end
+
+-- ---- what follows
+
+scalar_follows : (x : JsonScalar) (s : List ℕ) → Follows 1 (tree_of x) s → IsBoundary s
+scalar_follows (a_boolean b) s h = h
+scalar_follows (a_number raw) s h = h
+scalar_follows (a_string raw) s h = h
 
 -- ---- positions rise
 
@@ -100,6 +108,8 @@ json_is_wire = record {
   over_sort = λ i a h. over_sort i a h.0 h.1;
   null_begins = λ i d a e h. null_begins i a e h;
   others_begin = λ i a h. not_null_sort (without_ws (drop a i)) (begins_with_null (without_ws (drop a i))) h;
+  null_follows = λ i d a e h. h.1;
+  scalar_follows = λ i d x a e h. scalar_follows x (drop e i) h.1;
   empty_is_over = (refl, refl);
   over_is_end = λ i a h. h.1 ∙ sym (ap length h.0);
   no_entry_over = λ i b k c n over h. no_names i false b h.0 c over.0 h.3;

@@ -4,8 +4,9 @@ use crate::JsonCodec;
 use smithy_schema::{
     FinishSerializer, Schema, SerdeError, ShapeDeserializer, ShapeSerializer, Shapes, TableText,
 };
-use smithy_types::{BigDecimal, BigInteger, BigNumberError, Blob};
+use smithy_types::{BigDecimal, BigInteger, BigNumberError, Blob, Document, Number};
 use std::alloc::Global;
+use std::collections::BTreeMap;
 use std::test::Fail;
 
 const TABLE: &[u8] = b"structure S
@@ -36,13 +37,15 @@ enum Call {
     Big(At, &'static str),
     Whole128(At, i128),
     Decimal(At, i128, i64),
+    // The document of a JSON text.
+    Free(At, &'static str),
     Fail,
 }
 
 use At::{Member, Whole};
 use Call::{
     BeginList, BeginMap, BeginStruct, Big, BigWhole, Bytes, Decimal, EndList, EndMap, EndStruct,
-    Long, Null, Text, Whole128,
+    Free, Long, Null, Text, Whole128,
 };
 
 #[derive(Clone, Copy)]
@@ -52,7 +55,7 @@ struct Row {
     answer: Result<&'static str, SerdeError>,
 }
 
-const ROWS: [Row; 26] = [
+const ROWS: [Row; 37] = [
     Row {
         name: "a structure without members",
         calls: &[BeginStruct(Whole), EndStruct],
@@ -180,6 +183,88 @@ const ROWS: [Row; 26] = [
         answer: Err(SerdeError::Unwritable),
     },
     Row {
+        name: "documents without parts as members, a null too",
+        calls: &[
+            BeginStruct(Whole),
+            Free(Member(0), "null"),
+            Free(Member(1), "false"),
+            EndStruct,
+        ],
+        answer: Ok("{\"a\":null,\"b\":false}"),
+    },
+    Row {
+        name: "documents as elements: the ends of their numbers, and a zero with a minus",
+        calls: &[
+            BeginList(Whole),
+            Free(Whole, "-9223372036854775808"),
+            Free(Whole, "18446744073709551615"),
+            Free(Whole, "-0"),
+            Free(Whole, "true"),
+            EndList,
+        ],
+        answer: Ok("[-9223372036854775808,18446744073709551615,0,true]"),
+    },
+    Row {
+        name: "a document alone",
+        calls: &[Free(Whole, " [ ] ")],
+        answer: Ok("[]"),
+    },
+    Row {
+        name: "properties in the order of their names' bytes, without blanks",
+        calls: &[Free(
+            Whole,
+            "{ \"b\" : 1 , \"é\" : {} , \"a\" : [ null , { \"\" : -5 } ] , \"Z\" : [] }",
+        )],
+        answer: Ok("{\"Z\":[],\"a\":[null,{\"\":-5}],\"b\":1,\"é\":{}}"),
+    },
+    Row {
+        name: "a null property stays, and of equal names the last counts",
+        calls: &[Free(Whole, "{\"k\":1,\"l\":null,\"k\":2}")],
+        answer: Ok("{\"k\":2,\"l\":null}"),
+    },
+    Row {
+        name: "names and texts of a document are escaped",
+        calls: &[Free(Whole, "{\"\\u0022\\u005c\":\"\\u0000\\u001f\\/\\n\"}")],
+        answer: Ok("{\"\\\"\\\\\":\"\\u0000\\u001f/\\n\"}"),
+    },
+    Row {
+        name: "a document behind each key of a map",
+        calls: &[
+            BeginMap(Whole),
+            Text(Whole, "k"),
+            Free(Whole, "\"v\""),
+            Text(Whole, "l"),
+            Free(Whole, "{\"m\":0}"),
+            EndMap,
+        ],
+        answer: Ok("{\"k\":\"v\",\"l\":{\"m\":0}}"),
+    },
+    Row {
+        name: "a document in the place of a key, even where it is a text",
+        calls: &[BeginMap(Whole), Free(Whole, "\"k\"")],
+        answer: Err(SerdeError::Unwritable),
+    },
+    Row {
+        name: "a document in the place of the next key",
+        calls: &[
+            BeginMap(Whole),
+            Text(Whole, "k"),
+            Free(Whole, "1"),
+            Free(Whole, "2"),
+        ],
+        answer: Err(SerdeError::Unwritable),
+    },
+    Row {
+        name: "a document of a serializer that failed",
+        calls: &[Call::Fail, Free(Whole, "1")],
+        answer: Err(SerdeError::Failed),
+    },
+    Row {
+        name: "the end of a list that a document isn't",
+        calls: &[Free(Whole, "[]"), EndList],
+        answer: Err(SerdeError::Unwritable),
+    },
+    Row {
         name: "nothing at all",
         calls: &[],
         answer: Ok(""),
@@ -250,6 +335,13 @@ fn text_refused(_: BigNumberError) -> SerdeError {
     SerdeError::InvalidInput
 }
 
+// The document of a JSON text.
+fn document_of(alloc: Global, place: &Schema<'_>, text: &str) -> Result<Document, SerdeError> {
+    let codec = JsonCodec::strict(false);
+    let mut source = codec.create_deserializer(alloc, text.as_bytes());
+    source.read_document(place)
+}
+
 fn make<S: ShapeSerializer>(
     alloc: Global,
     sink: &mut S,
@@ -281,6 +373,10 @@ fn make<S: ShapeSerializer>(
         Whole128(at, number) => sink.write_i128(&schema(shapes, at)?, number),
         Decimal(at, mantissa, exponent) => {
             sink.write_decimal(&schema(shapes, at)?, mantissa, exponent)
+        }
+        Free(at, text) => {
+            let place = schema(shapes, at)?;
+            sink.write_document(&place, &document_of(alloc, &place, text)?)
         }
         Call::Fail => {
             sink.fail();
@@ -334,5 +430,50 @@ fn parts_of_numbers_are_read_back(rt: HostRuntime) -> Result<(), Fail> {
     let mut source = codec.create_deserializer(rt.alloc(), body.as_slice());
     let number = source.read_big_decimal(&schema)?;
     assert_eq!(rt; number.as_ref(), "-12300e-4");
+    Ok(())
+}
+
+#[test]
+fn a_refused_document_is_the_last_call(rt: HostRuntime) -> Result<(), Fail> {
+    let shapes = Shapes::build(rt.alloc(), TableText::read(rt.alloc(), TABLE)?)?;
+    let root = shapes.find("S").ok_or("the table has no S")?;
+    let schema = shapes.schema(root);
+    let codec = JsonCodec::strict(false);
+    let mut sink = codec.create_serializer(rt.alloc());
+    sink.begin_map(&schema, None)?;
+    let document = Document::Bool(true);
+    assert_eq!(rt;
+        sink.write_document(&schema, &document),
+        Err(SerdeError::Unwritable)
+    );
+    assert_eq!(rt;
+        sink.write_document(&schema, &document),
+        Err(SerdeError::Failed)
+    );
+    assert_eq!(rt; sink.write_string(&schema, "k"), Err(SerdeError::Failed));
+    match sink.finish() {
+        Ok(_) => assert!(rt; false),
+        Err(error) => assert_eq!(rt; error, SerdeError::Failed),
+    }
+    Ok(())
+}
+
+// A number whose variant isn't the one that its text is read in, and a property behind it in order.
+#[test]
+fn a_document_is_written_by_its_whole_numbers(rt: HostRuntime) -> Result<(), Fail> {
+    let shapes = Shapes::build(rt.alloc(), TableText::read(rt.alloc(), TABLE)?)?;
+    let root = shapes.find("S").ok_or("the table has no S")?;
+    let schema = shapes.schema(root);
+    let mut properties = BTreeMap::new(rt.alloc());
+    let later = String::from_str(rt.alloc(), "n")?;
+    drop(properties.insert(later, Document::Number(Number::NegInt(5)))?);
+    let earlier = String::from_str(rt.alloc(), "m")?;
+    drop(properties.insert(earlier, Document::Null)?);
+    let document = Document::Object(properties);
+    let codec = JsonCodec::strict(false);
+    let mut sink = codec.create_serializer(rt.alloc());
+    sink.write_document(&schema, &document)?;
+    let body = sink.finish()?;
+    assert_eq!(rt; body.as_slice(), b"{\"m\":null,\"n\":5}".as_slice());
     Ok(())
 }

@@ -4,10 +4,10 @@ use Rattle.std.proofs.Common.{sym, ◌∙◌, ap}
 use Rattle.std.proofs.lemmas.List.{append-nil}
 use Rattle.smithy_schema.specs.declared.error.SerdeError.{SerdeError}
 use Rattle.smithy_schema.specs.declared.error.SerdeError.TheVariants.{Unwritable}
-use Rattle.smithy_schema.specs.Writing.{Event, begin_structure, end_structure, begin_list, end_list, begin_map, end_map, null_of, scalar_of, big_integer_of, big_decimal_of, Open}
+use Rattle.smithy_schema.specs.Writing.{Event, begin_structure, end_structure, begin_list, end_list, begin_map, end_map, null_of, scalar_of, big_integer_of, big_decimal_of, document_of, Open}
 use Rattle.smithy_query.specs.Form.{pair_text}
 use Rattle.smithy_query_codec.specs.Leaves.{scalar_text, form_at}
-use Rattle.smithy_query_codec.specs.Writing.{Mark, QueryState, child_prefix, closed, empty_leaf, made, allowed, where_taken}
+use Rattle.smithy_query_codec.specs.Writing.{Mark, QueryState, child_prefix, closed, empty_leaf, made, allowed, where_taken, where_supported}
 
 closed_opens : (s : QueryState) (marks : List Mark) (opens : List Open) → (closed s marks opens).opens ≡ opens
 closed_opens s [] opens = refl
@@ -29,6 +29,7 @@ made_opens (null_of site) s opens = refl
 made_opens (scalar_of site x) s opens = refl
 made_opens (big_integer_of site written) s opens = refl
 made_opens (big_decimal_of site written) s opens = refl
+made_opens (document_of site d) s opens = refl
 
 -- and its text begins with the one before
 made_grows : (e : Event) (s : QueryState) (opens : List Open) → (more : List ℕ) × ((made e s opens).out ≡ s.out ++ more)
@@ -42,6 +43,7 @@ made_grows (null_of site) s opens = ([], sym (append-nil s.out))
 made_grows (scalar_of site x) s opens = (pair_text (child_prefix s site.view) (scalar_text (form_at site) x), refl)
 made_grows (big_integer_of site written) s opens = (pair_text (child_prefix s site.view) written, refl)
 made_grows (big_decimal_of site written) s opens = (pair_text (child_prefix s site.view) written, refl)
+made_grows (document_of site d) s opens = ([], sym (append-nil s.out))
 
 -- the containers of the state that is made
 pub taken_opens : (e : Event) (s t : QueryState) (can : Bool) (opens : Result (List Open) SerdeError)
@@ -66,3 +68,14 @@ pub not_taken : (e : Event) (s : QueryState) (can : Bool) (opens : Result (List 
     → opens ≡ Err Unwritable → where_taken (made e s) (allowed can opens) ≡ Err Unwritable
 not_taken e s true opens h = ap (where_taken (made e s)) h
 not_taken e s false opens h = refl
+
+-- what is written is what is made, and what no serializer takes is refused so
+pub was_supported : (b : Bool) (r : Result QueryState SerdeError) (t : QueryState) → where_supported b r ≡ Ok t → r ≡ Ok t
+was_supported true r t h = h
+was_supported false (Ok s) t h = cc
+was_supported false (Err e) t h = cc
+
+pub supported_or_not : (b : Bool) (r : Result QueryState SerdeError) → r ≡ Err Unwritable → where_supported b r ≡ Err Unwritable
+supported_or_not true r h = h
+supported_or_not false (Ok s) h = cc
+supported_or_not false (Err e) h = cc

@@ -1,5 +1,7 @@
 //! Forms that are written call by call.
 
+mod documents;
+
 use crate::QueryShapeSerializer;
 use smithy_schema::{FinishSerializer, Schema, SerdeError, ShapeSerializer, Shapes, TableText};
 use smithy_types::{BigDecimal, BigInteger, BigNumberError, Blob, ConversionError, DateTime};

@@ -8,7 +8,7 @@ use Rattle.std.proofs.Common.{sym, subst, inl, inr}
 use Rattle.std.proofs.lemmas.Cmp.{ranked}
 use Rattle.smithy_schema.specs.declared.place.Place.{Place}
 use Rattle.smithy_schema.specs.Table.{Table, ListShape, MapShape, Kind, list_of, map_of, place_in, is_sparse}
-use Rattle.smithy_schema.specs.Value.{Value, scalar_value, list, map, structure, union, null_element, values_of, MapEntries, no_map_entries, map_entry, put_entry, MemberValues, no_member_values, member_value, put_member}
+use Rattle.smithy_schema.specs.Value.{Value, scalar_value, list, map, structure, union, null_element, document_value, values_of, MapEntries, no_map_entries, map_entry, put_entry, MemberValues, no_member_values, member_value, put_member}
 use Rattle.smithy_schema.specs.Container.{Entry, element_of, members_from}
 use Rattle.smithy_schema.specs.Fits.{FitsOr, ElementsFit, EntriesFit, MembersFit, Fits}
 use Rattle.smithy_schema.specs.Lemmas.ElementFolds.{element_apart}
@@ -24,6 +24,7 @@ fits_or t q b (map es) h = h
 fits_or t q b (structure ms) h = h
 fits_or t q b (union n v) h = h
 fits_or t q b null_element h = cc
+fits_or t q b (document_value d) h = h
 
 -- the value is an element of a list, or a value of a map
 abbrev pub ElementFits : Table → Kind → Value → Type 0

@@ -1,46 +1,39 @@
 //! Which words are reserved, which are time forms, and which can stand in the path of a form.
 ghost use Rattle.std.specs.Prelude.{◌≡◌};
-ghost use Rattle.smithy_schema.specs.Names.{scalar_names, time_formats, named, is_unbuilt_name, is_float_name, is_reserved, is_name_byte, is_query_name};
+ghost use Rattle.smithy_schema.specs.Names.{simple_targets, time_formats, named, is_float_name, is_reserved, is_name_byte, is_query_name};
 
+use crate::place::Target;
 use crate::shape_type::{Scalar, TimestampFormat};
 
-/// The scalar of that name.
-pub(crate) fn scalar_of(name: &str) -> Option<Scalar>
-    ensures { result ≡ named scalar_names name.now }
+/// The target of that name that no declaration gives: a scalar, or a document.
+pub(crate) fn simple_target(name: &str) -> Option<Target>
+    ensures { result ≡ named simple_targets name.now }
 {
     if name == "boolean" {
-        Some(Scalar::Boolean)
+        Some(Target::Simple(Scalar::Boolean))
     } else if name == "byte" {
-        Some(Scalar::Byte)
+        Some(Target::Simple(Scalar::Byte))
     } else if name == "short" {
-        Some(Scalar::Short)
+        Some(Target::Simple(Scalar::Short))
     } else if name == "integer" {
-        Some(Scalar::Integer)
+        Some(Target::Simple(Scalar::Integer))
     } else if name == "long" {
-        Some(Scalar::Long)
+        Some(Target::Simple(Scalar::Long))
     } else if name == "string" {
-        Some(Scalar::String)
+        Some(Target::Simple(Scalar::String))
     } else if name == "blob" {
-        Some(Scalar::Blob)
+        Some(Target::Simple(Scalar::Blob))
     } else if name == "timestamp" {
-        Some(Scalar::Timestamp)
+        Some(Target::Simple(Scalar::Timestamp))
     } else if name == "bigInteger" {
-        Some(Scalar::BigInteger)
+        Some(Target::Simple(Scalar::BigInteger))
     } else if name == "bigDecimal" {
-        Some(Scalar::BigDecimal)
+        Some(Target::Simple(Scalar::BigDecimal))
+    } else if name == "document" {
+        Some(Target::Document)
     } else {
         None
     }
-}
-
-/// The names of the scalars that no table can have yet.
-const UNBUILT_NAMES: [&str; 1] = ["document"];
-
-/// No table can have the scalar of that name yet.
-pub(crate) fn is_unbuilt_name(name: &str) -> bool
-    ensures { result ≡ is_unbuilt_name name.now }
-{
-    UNBUILT_NAMES.iter().any(|unbuilt| name == *unbuilt)
 }
 
 /// The name is that of a scalar that no table can have.
@@ -69,7 +62,7 @@ pub(crate) fn time_format_of(word: &str) -> Option<TimestampFormat>
 pub(crate) fn is_reserved(name: &str) -> bool
     ensures { result ≡ is_reserved name.now }
 {
-    scalar_of(name).is_some() || is_unbuilt_name(name) || is_float_name(name)
+    simple_target(name).is_some() || is_float_name(name)
 }
 
 /// The name can stand in the path of a form.

@@ -1,7 +1,9 @@
 -- What a tree is at its root, and the tree of a transcoding, seen as the values that they stand for.
 use Rattle.std.specs.Prelude.{ℕ, ℤ, List, map as mapped, String, string_bytes, box_value}
 use Rattle.std.specs.declared.alloc.Global.{Global}
-use Rattle.smithy_schema.specs.Value.{Value, scalar_value, boolean, whole, text, bytes, decimal, instant, list, map, structure, union, null_element, values_of, MapEntries, MemberValues}
+use Rattle.smithy_types.specs.Document.{whole_document}
+use Rattle.smithy_types.specs.DocumentView.{document_view}
+use Rattle.smithy_schema.specs.Value.{Value, scalar_value, boolean, whole, text, bytes, decimal, instant, list, map, structure, union, null_element, document_value, values_of, MapEntries, MemberValues}
 use Rattle.smithy_transcode.specs.View.{map_entries_of, member_values_of}
 use Rattle.smithy_transcode.specs.declared.compact_value.CompactValue as kept
 use Rattle.smithy_transcode.specs.declared.compact_value.CompactValue.TheOpen.{CompactValue-F}
@@ -45,6 +47,7 @@ part_view view (parts.Structure members) = structure (member_views view (entries
 part_view view (parts.Union n v) = union n (view v.now)
 part_view view (parts.UnionText n s) = union n (scalar_value (text s.now))
 part_view view parts.Null = null_element
+part_view view (parts.Document d) = document_value (whole_document (document_view d.now))
 
 -- ---- the tree of a transcoding
 
@@ -66,6 +69,7 @@ compact_step (CompactValue-F.StructureMap m) = structure (member_values_of m.ent
 compact_step (CompactValue-F.Union n v) = union n (box_value v)
 compact_step (CompactValue-F.UnionText n s) = union n (scalar_value (text (string_bytes s)))
 compact_step CompactValue-F.Null = null_element
+compact_step (CompactValue-F.Document d) = document_value (whole_document (document_view (box_value d)))
 
 abbrev pub compact_view : kept.CompactValue → Value
 compact_view = kept.fold-CompactValue Value compact_step

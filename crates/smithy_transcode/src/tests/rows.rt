@@ -10,6 +10,8 @@ use std::test::Fail;
 #[derive(Clone, Copy)]
 pub enum Named {
     Json,
+    /// By the JSON names of members.
+    JsonNames,
     Cbor,
     /// With the action and the version.
     Query(&'static str, &'static str),
@@ -37,6 +39,9 @@ pub fn wire(alloc: Global, named: Named) -> Result<Wire, AllocError> {
     match named {
         Named::Json => Ok(Wire::Json {
             use_json_name: false,
+        }),
+        Named::JsonNames => Ok(Wire::Json {
+            use_json_name: true,
         }),
         Named::Cbor => Ok(Wire::Cbor),
         Named::Query(action, version) => {

@@ -6,7 +6,7 @@ use crate::transcode;
 use crate::tree::{Part, Tree};
 use crate::value::Value;
 use smithy_schema::{SerdeError, ShapeType, Shapes, TableText};
-use smithy_types::DateTime;
+use smithy_types::{DateTime, Document, Number};
 use std::alloc::Global;
 use std::test::Fail;
 
@@ -218,6 +218,32 @@ fn a_tree_keeps_an_instant(rt: HostRuntime) -> Result<(), Fail> {
     assert!(rt; has_one_instant(&value, instant), "the public value");
     let compact: CompactValue = one_instant(rt.alloc(), instant)?;
     assert!(rt; has_one_instant(&compact, instant), "the compact value");
+    Ok(())
+}
+
+// A union of a document.
+fn one_document<T: Tree>(alloc: Global) -> Result<T, SerdeError> {
+    let document = T::document(alloc, Document::Number(Number::NegInt(-1)))?;
+    T::union(alloc, 0, document)
+}
+
+// Whether a tree is that union.
+fn has_one_document<T: Tree>(tree: &T) -> bool {
+    let Part::Union(0, inner) = tree.part() else {
+        return false;
+    };
+    let Part::Document(kept) = inner.part() else {
+        return false;
+    };
+    matches!(kept, Document::Number(Number::NegInt(-1)))
+}
+
+#[test]
+fn a_tree_keeps_a_document(rt: HostRuntime) -> Result<(), Fail> {
+    let value: Value = one_document(rt.alloc())?;
+    assert!(rt; has_one_document(&value), "the public value");
+    let compact: CompactValue = one_document(rt.alloc())?;
+    assert!(rt; has_one_document(&compact), "the compact value");
     Ok(())
 }
 

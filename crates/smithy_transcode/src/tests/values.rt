@@ -9,7 +9,7 @@ use std::process::Abort;
 use std::test::Fail;
 
 const TABLE: &[u8] =
-    b"map M U\nlist L M\nunion U\nmember n integer\nmember l L\nstructure S\nmember b boolean\nmember r blob\nmember u U\nmember i bigInteger\nmember d bigDecimal\n";
+    b"map M U\nlist L M\nunion U\nmember n integer\nmember l L\nstructure S\nmember b boolean\nmember r blob\nmember u U\nmember i bigInteger\nmember d bigDecimal\nmember x document\n";
 
 #[test]
 fn a_value_is_written_as_it_was_read(rt: HostRuntime) -> Result<(), Fail> {
@@ -24,14 +24,14 @@ fn a_value_is_written_as_it_was_read(rt: HostRuntime) -> Result<(), Fail> {
         return Ok(());
     };
     let input: &[u8] =
-        b"{\"u\":{\"l\":[{\"b\":{\"n\":2},\"a\":{\"n\":1}},{}]},\"r\":\"+\\/8=\",\"b\":true,\"d\":\"2.50\",\"i\":\"007\"}";
+        b"{\"u\":{\"l\":[{\"b\":{\"n\":2},\"a\":{\"n\":1}},{}]},\"r\":\"+\\/8=\",\"b\":true,\"d\":\"2.50\",\"x\":{\"b\":[-0,null],\"a\":\"\\u00e9\"},\"i\":\"007\"}";
     let codec = JsonCodec::strict(false);
     let mut source = codec.create_deserializer(rt.alloc(), input);
     let value = read_value(rt.alloc(), &mut source, &schema)?;
     let mut sink = codec.create_serializer(rt.alloc());
     write_value(rt.alloc(), &mut sink, &schema, &value)?;
     let output: &[u8] =
-        b"{\"b\":true,\"r\":\"+/8=\",\"u\":{\"l\":[{\"a\":{\"n\":1},\"b\":{\"n\":2}},{}]},\"i\":7,\"d\":250e-2}";
+        b"{\"b\":true,\"r\":\"+/8=\",\"u\":{\"l\":[{\"a\":{\"n\":1},\"b\":{\"n\":2}},{}]},\"i\":7,\"d\":250e-2,\"x\":{\"a\":\"\xc3\xa9\",\"b\":[0,null]}}";
     assert_eq!(rt; sink.finish()?.as_slice(), output);
     Ok(())
 }
@@ -128,9 +128,14 @@ const LACKING: [Lacking; 8] = [
     },
 ];
 
-// Why the wire can't express what a body of JSON spells.
-fn unfit_for(alloc: Global, input: &[u8], to: &Wire) -> Result<Option<Unfit>, Fail> {
-    let shapes = Shapes::build(alloc, TableText::read(alloc, INSTANTS)?)?;
+/// Why the wire can't express what a body of JSON spells, by a table.
+pub fn unfit_for(
+    alloc: Global,
+    table: &[u8],
+    input: &[u8],
+    to: &Wire,
+) -> Result<Option<Unfit>, Fail> {
+    let shapes = Shapes::build(alloc, TableText::read(alloc, table)?)?;
     let root = shapes.find("S").ok_or("the table has no S")?;
     let schema = shapes.schema(root);
     let ShapeType::Structure = schema.shape_type() else {
@@ -150,14 +155,24 @@ fn check_lacking(rt: &impl Abort, alloc: Global, row: &Lacking) -> Result<(), Fa
         version: String::new(alloc),
     };
     let input = row.input.as_bytes();
-    assert_eq!(rt; unfit_for(alloc, input, &json)?, row.json, "{}", row.input);
     assert_eq!(rt;
-        unfit_for(alloc, input, &Wire::Cbor)?,
+        unfit_for(alloc, INSTANTS, input, &json)?,
+        row.json,
+        "{}",
+        row.input
+    );
+    assert_eq!(rt;
+        unfit_for(alloc, INSTANTS, input, &Wire::Cbor)?,
         row.cbor,
         "{}",
         row.input
     );
-    assert_eq!(rt; unfit_for(alloc, input, &form)?, row.form, "{}", row.input);
+    assert_eq!(rt;
+        unfit_for(alloc, INSTANTS, input, &form)?,
+        row.form,
+        "{}",
+        row.input
+    );
     Ok(())
 }
 

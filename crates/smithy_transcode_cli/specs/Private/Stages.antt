@@ -1,9 +1,9 @@
 -- What the status of a step of `run` says.
 use Rattle.std.specs.Prelude.{◌≡◌, ◌≢◌, ℕ, List, Some, None}
 use Rattle.smithy_schema.specs.Table.{Table, IsStructure, kind_of, shape_place, declared_as}
-use Rattle.smithy_schema.specs.Acceptance.{not_built, refused, table_of}
+use Rattle.smithy_schema.specs.Acceptance.{table_of}
 use Rattle.smithy_transcode_cli.specs.declared.status.Status.{Status}
-use Rattle.smithy_transcode_cli.specs.declared.status.Status.TheVariants.{ReadFailed, OutOfMemory, TableRefused, NoSuchShape, NotAStructure, TooLong, NotBuilt}
+use Rattle.smithy_transcode_cli.specs.declared.status.Status.TheVariants.{ReadFailed, OutOfMemory, TableRefused, NoSuchShape, NotAStructure, TooLong}
 use Rattle.smithy_transcode_cli.specs.Outside.{Told, missing, MetOneFault, IsLonger}
 use Rattle.smithy_transcode_cli.specs.RunAnswer.{IsLoaded, IsRefusal, longest_table}
 
@@ -13,7 +13,6 @@ FailsToLoad old new ReadFailed = MetOneFault old new
 FailsToLoad old new OutOfMemory = Unit {0}
 FailsToLoad old new TooLong = (old.content ≢ missing) × IsLonger longest_table old
 FailsToLoad old new (TableRefused fault) = (text : List ℕ) × IsLoaded text old × IsRefusal fault (table_of text)
-FailsToLoad old new NotBuilt = (text : List ℕ) × IsLoaded text old × (n : ℕ) × (table_of text ≡ refused not_built n)
 FailsToLoad old new _ = ⊥
 
 -- why there is no root of this name

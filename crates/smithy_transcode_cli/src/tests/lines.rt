@@ -10,7 +10,7 @@ use std::alloc::Global;
 use std::process::Abort;
 use std::test::Fail;
 
-const LINES: [(Status, &str); 25] = [
+const LINES: [(Status, &str); 26] = [
     (Status::Done, ""),
     (Status::Usage, "smithy_transcode: usage\n"),
     (Status::ReadFailed, "smithy_transcode: read failed\n"),
@@ -20,6 +20,10 @@ const LINES: [(Status, &str); 25] = [
     (Status::TooDeep, "smithy_transcode: too deep\n"),
     (Status::TooWide, "smithy_transcode: number too wide\n"),
     (Status::NotCarried, "smithy_transcode: not carried\n"),
+    (
+        Status::Inexpressible(Unfit::Document),
+        "smithy_transcode: document not expressible\n",
+    ),
     (
         Status::Inexpressible(Unfit::Null),
         "smithy_transcode: null not expressible\n",
@@ -61,13 +65,16 @@ const LINES: [(Status, &str); 25] = [
         "smithy_transcode: table refused: KeyValueName 4\n",
     ),
     (
+        Status::TableRefused(TableFault::SparseDocument(2)),
+        "smithy_transcode: table refused: SparseDocument 2\n",
+    ),
+    (
         Status::TableRefused(TableFault::TooMany(65_536)),
         "smithy_transcode: table refused: TooMany 65536\n",
     ),
     (Status::NoSuchShape, "smithy_transcode: no such shape\n"),
     (Status::NotAStructure, "smithy_transcode: not a structure\n"),
     (Status::TooLong, "smithy_transcode: too long\n"),
-    (Status::NotBuilt, "smithy_transcode: not built\n"),
     // The greatest number.
     (
         Status::TableRefused(TableFault::BadLine(u64::MAX)),

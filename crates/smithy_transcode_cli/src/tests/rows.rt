@@ -24,7 +24,7 @@ pub struct Row {
     pub line: &'static str,
 }
 
-pub const ROWS: [Row; 39] = [
+pub const ROWS: [Row; 38] = [
     // What is written for a body, and which are refused.
     Row {
         name: "an unknown member is left out",
@@ -338,19 +338,6 @@ pub const ROWS: [Row; 39] = [
         status: 20,
         output: b"",
         line: "smithy_transcode: table refused: UnknownTarget 1\n",
-    },
-    Row {
-        name: "a target that isn't built",
-        words: "transcode t S json json",
-        table: "structure S\nmember a document\n",
-        input: b"{\"z\":[1], \"a\" : 7}",
-        files_fail: 0,
-        input_fail: 0,
-        out_fail: 0,
-        piece: 4096,
-        status: 30,
-        output: b"",
-        line: "smithy_transcode: not built\n",
     },
     Row {
         name: "no such root",

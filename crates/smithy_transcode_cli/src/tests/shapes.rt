@@ -9,7 +9,9 @@ use std::test::Fail;
 
 const INTEGER: &str = "structure S\nmember a integer\n";
 
-const BIG: &str = "structure S\nmember d bigDecimal\nmember i bigInteger\nmember b blob\n";
+/// A member of each kind that isn't always carried, beside bytes.
+pub const KINDS: &str =
+    "structure S\nmember d bigDecimal\nmember i bigInteger\nmember t timestamp\nmember x document\nmember b blob\nmember h timestamp time=http-date\nmember e timestamp time=date-time\n";
 
 const BLOB: &str = "structure S\nmember b blob\n";
 
@@ -50,7 +52,7 @@ pub struct ShapeRow(
     pub &'static str,
 );
 
-const SHAPE_ROWS: [ShapeRow; 51] = [
+const SHAPE_ROWS: [ShapeRow; 52] = [
     ShapeRow(
         "an integer to CBOR",
         "S json cbor",
@@ -450,7 +452,7 @@ const SHAPE_ROWS: [ShapeRow; 51] = [
     ShapeRow(
         "a decimal keeps its zeros",
         "S json json",
-        BIG,
+        KINDS,
         b"{\"d\":1.2300}",
         0,
         b"{\"d\":12300e-4}",
@@ -459,7 +461,7 @@ const SHAPE_ROWS: [ShapeRow; 51] = [
     ShapeRow(
         "the same to CBOR",
         "S json cbor",
-        BIG,
+        KINDS,
         b"{\"d\":1.2300}",
         0,
         b"\xbf\x61d\xc4\x82\x23\x19\x30\x0c\xff",
@@ -468,7 +470,7 @@ const SHAPE_ROWS: [ShapeRow; 51] = [
     ShapeRow(
         "a big integer to CBOR",
         "S json cbor",
-        BIG,
+        KINDS,
         b"{\"i\":18446744073709551616}",
         0,
         b"\xbf\x61i\xc2\x49\x01\0\0\0\0\0\0\0\0\xff",
@@ -477,7 +479,7 @@ const SHAPE_ROWS: [ShapeRow; 51] = [
     ShapeRow(
         "a big integer that is too wide",
         "S json json",
-        BIG,
+        KINDS,
         b"{\"i\":170141183460469231731687303715884105728}",
         12,
         b"",
@@ -486,29 +488,38 @@ const SHAPE_ROWS: [ShapeRow; 51] = [
     ShapeRow(
         "bytes beside big numbers",
         "S json cbor",
-        BIG,
+        KINDS,
         b"{\"b\":\"+\\/8=\"}",
         0,
         b"\xbf\x61b\x42\xfb\xff\xff",
         "",
     ),
     ShapeRow(
+        "the same to a form",
+        "S json query Do 1",
+        KINDS,
+        b"{\"b\":\"+\\/8=\"}",
+        0,
+        b"Action=Do&Version=1&b=%2B%2F8%3D",
+        "",
+    ),
+    ShapeRow(
+        "the same to JSON",
+        "S json json",
+        KINDS,
+        b"{\"b\":\"+\\/8=\"}",
+        0,
+        b"{\"b\":\"+/8=\"}",
+        "",
+    ),
+    ShapeRow(
         "bits that are left over",
         "S json json",
-        BIG,
+        KINDS,
         b"{\"b\":\"+/9=\"}",
         10,
         b"",
         INVALID,
-    ),
-    ShapeRow(
-        "a union that names a document",
-        "U json json",
-        "union U\nmember a document\n",
-        b"{}",
-        30,
-        b"",
-        "smithy_transcode: not built\n",
     ),
 ];
 

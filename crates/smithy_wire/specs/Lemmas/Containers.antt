@@ -1,27 +1,38 @@
 -- A container stands for what its entries mean together: one proof for all kinds.
 use Rattle.std.specs.Prelude.{◌≡◌, ℕ, zero, suc, map, List, [], ◌∷◌, Option, Some, None, Bool, true, false, refl, option_and_then, if◌then◌else◌}
 use Rattle.std.proofs.Common.{sym, ◌∙◌, ap, arith, subst, inl, inr}
+use Rattle.smithy_types.specs.Document.{Document}
+use Rattle.smithy_types.specs.declared.number.Number.{Number}
 use Rattle.smithy_schema.specs.declared.place.Place.{Place}
-use Rattle.smithy_schema.specs.Table.{Table, Kind, structure_of, kind_of, place_in, IsStructure}
+use Rattle.smithy_schema.specs.Table.{Table, Kind, document, structure_of, kind_of, place_in, IsStructure}
 use Rattle.smithy_schema.specs.Value.{Value, structure, no_member_values}
 use Rattle.smithy_schema.specs.Container.{Entry, folded, container_of}
 use Rattle.smithy_schema.specs.Reading.{Mark, Child, child_value, child_null, child_unknown, entry_of, IsChild, Chain, Contains, IsContainer}
 use Rattle.smithy_schema.specs.Lemmas.Options.{same_some, step_apart, chosen}
 use Rattle.smithy_wire.specs.Node.{Form, as_object, Node, null_node, leaf, container, missing, Nodes, no_nodes, node, is_null}
-use Rattle.smithy_wire.specs.Rules.{Rules, is_shallow, key_text, position_in, is_absent, is_mark}
+use Rattle.smithy_wire.specs.Rules.{Answer, Rules, is_shallow, at_depth, key_text, position_in, is_absent, is_mark}
+use Rattle.smithy_wire.specs.Documents.{document_by, document_meaning}
 use Rattle.smithy_wire.specs.Meaning.{is_in, missing_meaning, entry_at, meaning, entries}
-use Rattle.smithy_wire.specs.Frames.{Frames, Lies, NodesLie, IsTold, Drops, DropsAll, StepsIn, EndsIn, relations}
+use Rattle.smithy_wire.specs.Frames.{Frames, Lies, NodesLie, IsTold, Drops, DropsAll, StepsIn, EndsIn, EndsAs, relations}
 use Rattle.smithy_wire.specs.Wire.{IsWire}
-use Rattle.smithy_wire.specs.Lemmas.Nodes.{one_node}
+use Rattle.smithy_wire.specs.Lemmas.Nodes.{one_node, lies_begins, lies_follows}
 use Rattle.smithy_wire.specs.Lemmas.Determined.{is_droppable, one_form, drops_one_more, step_hands_on, no_step_over, no_end_over}
 use Rattle.smithy_wire.specs.Lemmas.EntrySteps.{IsOneOf, FoldsBy, or_neither}
-use Rattle.smithy_wire.specs.Lemmas.Places.{structure_is_object, sparse_is, is_sparse_kind, null_means_nothing, leaf_means_nothing}
+use Rattle.smithy_wire.specs.Lemmas.Places.{structure_is_object, form_is_container, structure_is_container, elsewhere, container_ends, means_document, null_is_no_container, sparse_is, is_sparse_kind, leaf_means_nothing}
 use Rattle.smithy_wire.specs.Lemmas.Folds.{Fold, fold_of, folds_by}
 
 -- one case or the other
 either : {A : Type 0} (b : Bool) → (b ≡ true → A) → (b ≡ false → A) → A
 either true yes' no' = yes' refl
 either false yes' no' = no' refl
+
+-- what is missing is no document
+missing_is_no_document : {L : Type 0} (r : Rules L) (d : ℕ) (v : Value) → document_meaning r d missing ≡ Some v → ⊥
+missing_is_no_document {L} r d v h = by r.documents h
+  where
+    by : (o : Option (L → Answer (Document Number))) → document_by r o d missing ≡ Some v → ⊥
+    by None h = cc
+    by (Some says) h = cc
 
 and_then_same : {A B : Type 0} (o u : Option A) (f g : A → Option B) → o ≡ u → ((a : A) → f a ≡ g a) → option_and_then f o ≡ option_and_then g u
 and_then_same None None f g h same = refl
@@ -51,6 +62,27 @@ module _ {L : Type 0} (w : Frames L) (r : Rules L) (wire : IsWire w) (i : List �
   abbrev all : Nodes L → List Entry
   all xs = entries r t p f (suc d) xs
 
+  document_ends : (x : Node L) (v : Value) (c e : ℕ) → Lies w i (suc d) x c e → document_meaning r (suc d) x ≡ Some v → w.follows i (suc (suc d)) e
+  document_ends null_node v c e lies means = lies_follows w wire i d null_node c e lies λ h. cc
+  document_ends (leaf y) v c e lies means = lies_follows w wire i d (leaf y) c e lies λ h. cc
+  document_ends (container g ys) v c e lies means = lies_follows w wire i d (container g ys) c e lies λ h. cc
+  document_ends missing v c e lies means = absurd (missing_is_no_document r (suc d) v means)
+
+  -- a node that stands as a document ends as one
+  ends_as : (q : Place) (x : Node L) (v : Value) (c e : ℕ) → Lies w i (suc d) x c e → meaning r t q (suc d) x ≡ Some v → EndsAs w (kind_of t q) i (suc d) e
+  ends_as q x v c e lies means = by (kind_of t q) refl
+    where
+      by : (k : Kind) → kind_of t q ≡ k → EndsAs w k i (suc d) e
+      by document is = document_ends x v c e lies (sym (means_document r t q (suc d) x is) ∙ means)
+      by _ is = tt
+
+  -- a null begins as one
+  null_begins_so : (y : Node L) (c e : ℕ) → is_null y ≡ true → Lies w i (suc d) y c e → w.begins_null i c ≡ true
+  null_begins_so null_node c e nil lies = wire.null_begins i (suc d) c e lies
+  null_begins_so (leaf y) c e nil lies = cc
+  null_begins_so (container g ys) c e nil lies = cc
+  null_begins_so missing c e nil lies = cc
+
   nodes_back : (b at : ℕ) (m j : Mark) (xs : Nodes L) (e : ℕ) → (b ≡ at) × (m ≡ j) → NodesLie w f i (suc d) xs at j e → NodesLie w f i (suc d) xs b m e
   nodes_back b at m j xs e h lie = rw (h.0, h.1) lie
 
@@ -74,13 +106,13 @@ module _ {L : Type 0} (w : Frames L) (r : Rules L) (wire : IsWire w) (i : List �
   child_node : (b : ℕ) (m : Mark) (text : Option (List ℕ)) (c : ℕ) (n : Mark) (x : Child) (e : ℕ) (step : StepsIn w r k f i (suc d) b m text c n)
       → IsChild (relations w r) i t p (suc d) text x c e
       → (y : Node L) × Lies w i (suc d) y c e × ((s : S) → fold.step (entry_of x) s ≡ fold.step (entry step.key y) s)
-  child_node b m text c n (child_value key pos v) e step (is, at, (q, there, (y, lies, means))) = (
+  child_node b m text c n (child_value key pos v) e step (is, at, (q, there, (y, lies, means, ends)), real) = (
     y,
     lies,
     λ s.
         let place : place_in k (position_in r k (key_text r f step.key)) ≡ Some q = ap (λ z. place_in k (position_in r k z)) step.names ∙ (ap (place_in k) (sym at) ∙ there) in
         rw (is, at, ← step.names) (sym (by.values step.key y (means_at y) s q v (told_key step.key text step.names step.told) (step_hands_on w r i k (suc d) f b m text c n step y e lies)
-        (λ takes nil. null_means_nothing r t q (suc d) y v nil means) place means)),
+        (λ takes nil. let clash = sym (real (is_sparse_kind k takes)) ∙ null_begins_so y c e nil lies in cc) place means)),
   )
   child_node b m text c n (child_null key) e step (is, takes, lies) = (
     null_node,
@@ -133,11 +165,10 @@ module _ {L : Type 0} (w : Frames L) (r : Rules L) (wire : IsWire w) (i : List �
   node_child : (key : Option L) (x : Node L) (c e : ℕ) (s : S) → IsTold f (key_text r f key) → is_droppable r k (key_text r f key) x ≡ false → Lies w i (suc d) x c e
       → IsOneOf r k (suc d) (key_text r f key) x (means_at x)
       → (y : Child) × IsChild (relations w r) i t p (suc d) (key_text r f key) y c e × (fold.step (entry key x) s ≡ fold.step (entry_of y) s)
-  node_child key x c e s told kept lies (inl (q, v, there, means)) = (
+  node_child key x c e s told kept lies (inl (q, v, there, means, real)) = (
     child_value (key_text r f key) (position_in r k (key_text r f key)) v,
-    (refl, refl, (q, there, (x, lies, means))),
-    by.values key x (means_at x) s q v told kept
-        (λ takes nil. null_means_nothing r t q (suc d) x v nil means) there means,
+    (refl, refl, (q, there, (x, lies, means, ends_as q x v c e lies means)), λ takes. lies_begins w wire i (suc d) x c e lies (real (sparse_is k takes))),
+    by.values key x (means_at x) s q v told kept (λ takes nil. let clash = sym (real takes) ∙ nil in cc) there means,
   )
   node_child key x c e s told kept lies (inr (inl (takes, nil))) = (
     child_null (key_text r f key),
@@ -194,7 +225,9 @@ module _ {L : Type 0} (w : Frames L) (r : Rules L) (wire : IsWire w) (i : List �
   -- ---- a container
 
   container_means : (xs : Nodes L) (v : Value) → is_shallow r (suc d) ≡ true → container_of k (all xs) ≡ Some v → meaning r t p d (container f xs) ≡ Some v
-  container_means xs v deep means = rw (deep, within) means
+  container_means xs v deep means =
+      let there : at_depth r (suc d) (if is_in k f then container_of k (all xs) else None) ≡ Some v = rw (deep, within) means in
+      elsewhere k (document_meaning r d (container f xs)) (at_depth r (suc d) (if is_in k f then container_of k (all xs) else None)) (form_is_container k f within) ∙ there
 
   pub opened_stands : (a b : ℕ) (m : Mark) (xs : List Child) (v : Value) (e : ℕ) → is_shallow r (suc d) ≡ true → w.opens f i a b m
       → Chain (relations w r) i t p (suc d) b m xs e → container_of k (map entry_of xs) ≡ Some v → (relations w r).stands i t p d a v e
@@ -202,11 +235,13 @@ module _ {L : Type 0} (w : Frames L) (r : Rules L) (wire : IsWire w) (i : List �
       let nodes = chain_nodes b m xs e (wire.opens_inside f i a b m opens) chain in
       let same : container_of k (map entry_of xs) ≡ container_of k (all nodes.0) =
       fold.whole (map entry_of xs) ∙ (ap (option_and_then fold.finish) (nodes.3 fold.first) ∙ sym (fold.whole (all nodes.0))) in
-      (container f nodes.0, (b, m, opens, nodes.1, nodes.2), container_means nodes.0 v deep (sym same ∙ means))
+      (container f nodes.0, (b, m, opens, nodes.1, nodes.2), container_means nodes.0 v deep (sym same ∙ means), container_ends w k i d e (form_is_container k f within))
 
   container_meant : (xs : Nodes L) (v : Value) → meaning r t p d (container f xs) ≡ Some v → (is_shallow r (suc d) ≡ true) × (container_of k (all xs) ≡ Some v)
   container_meant xs v means =
-      let deep = chosen (is_shallow r (suc d)) (if is_in k f then container_of k (all xs) else None) v means in
+      let inner = if is_in k f then container_of k (all xs) else None in
+      let there = sym (elsewhere k (document_meaning r d (container f xs)) (at_depth r (suc d) inner) (form_is_container k f within)) ∙ means in
+      let deep = chosen (is_shallow r (suc d)) inner v there in
       (deep.0, (chosen (is_in k f) (container_of k (all xs)) v deep.1).1)
 
   pub container_unfolded : (a : ℕ) (v : Value) (e : ℕ) (xs : Nodes L) → Lies w i d (container f xs) a e → meaning r t p d (container f xs) ≡ Some v
@@ -259,20 +294,22 @@ module _ {L : Type 0} (w : Frames L) (r : Rules L) (wire : IsWire w) (i : List �
           let none = over_chain box.inside box.mark box.children e structure' over' is box.chain in
           let means : container_of (kind_of t p) [] ≡ Some v = subst (λ xs. container_of (kind_of t p) (map entry_of xs) ≡ Some v) none.0 box.means in
           let both = missing_is (kind_of t p) structure' in
-          (missing, (over, none.1 ∙ at), rw box.allowed (both.0 ∙ (sym both.1 ∙ means)))
+          (missing, (over, none.1 ∙ at), rw box.allowed (both.0 ∙ (sym both.1 ∙ means)), container_ends w (kind_of t p) i d e (structure_is_container (kind_of t p) structure'))
 
   pub stands_unfolded : (a : ℕ) (v : Value) (e : ℕ) → IsContainer (kind_of t p) → (relations w r).stands i t p d a v e → Contains (relations w r) i t p d a v e
-  stands_unfolded a v e c (x, lies, means) = of x lies means
+  stands_unfolded a v e c (x, lies, means, ends) = of x lies means
     where
       of : (x : Node L) → Lies w i d x a e → meaning r t p d x ≡ Some v → Contains (relations w r) i t p d a v e
-      of null_node lies means = cc
+      of null_node lies means = absurd (null_is_no_container r t p d v c means)
       of (leaf y) lies means = absurd (leaf_means_nothing r t p d y v c means)
       of (container f xs) lies means = by_form (is_in (kind_of t p) f) refl
         where
           by_form : (b : Bool) → is_in (kind_of t p) f ≡ b → Contains (relations w r) i t p d a v e
           by_form true within = container_unfolded w r wire i t p f within d a v e xs lies means
           by_form false out =
-              let deep = chosen (is_shallow r (suc d)) (if is_in (kind_of t p) f then container_of (kind_of t p) (entries r t p f (suc d) xs) else None) v means in
+              let inner = if is_in (kind_of t p) f then container_of (kind_of t p) (entries r t p f (suc d) xs) else None in
+              let there = sym (elsewhere (kind_of t p) (document_meaning r d (container f xs)) (at_depth r (suc d) inner) c) ∙ means in
+              let deep = chosen (is_shallow r (suc d)) inner v there in
               let within = chosen (is_in (kind_of t p) f) (container_of (kind_of t p) (entries r t p f (suc d) xs)) v deep.1 in
               let clash = sym out ∙ within.0 in cc
       of missing lies means =

@@ -16,10 +16,10 @@ use Rattle.smithy_wire.specs.Frames.{IsTold}
 use Rattle.smithy_wire.specs.Lemmas.Determined.{is_droppable}
 use Rattle.smithy_schema.specs.Lemmas.Variants.{first_variant, variant_step}
 
--- which child an entry is: a value, a null element, or what is skipped
+-- which child an entry is: a value, which in a sparse list or map is no null; a null element, or what is skipped
 abbrev pub IsOneOf : {L : Type 0} → Rules L → Kind → ℕ → Option (List ℕ) → Node L → (Place → Option Value) → Type 0
 IsOneOf r k d text x mean =
-    ((q : Place) × (v : Value) × (place_in k (position_in r k text) ≡ Some q) × (mean q ≡ Some v))
+    ((q : Place) × (v : Value) × (place_in k (position_in r k text) ≡ Some q) × (mean q ≡ Some v) × (is_sparse k ≡ true → is_null x ≡ false))
     ⊎ ((is_sparse k ≡ true) × (is_null x ≡ true))
     ⊎ (IsStructure k × (position_in r k text ≡ None) × (may_skip r d x ≡ true))
 
@@ -191,11 +191,12 @@ element_value false false m v real means = means
 element_null : (sparse nil : Bool) (m : Option Value) → sparse ≡ true → nil ≡ true → element_of sparse nil m ≡ element_of sparse true None
 element_null sparse nil m is null = rw (is, null) refl
 
-element_child : (sparse nil : Bool) (m : Option Value) (v : Value) → element_of sparse nil m ≡ Some v → (m ≡ Some v) ⊎ ((sparse ≡ true) × (nil ≡ true))
+element_child : (sparse nil : Bool) (m : Option Value) (v : Value) → element_of sparse nil m ≡ Some v
+    → ((m ≡ Some v) × (sparse ≡ true → nil ≡ false)) ⊎ ((sparse ≡ true) × (nil ≡ true))
 element_child true true m v h = inr (refl, refl)
-element_child true false m v h = inl h
-element_child false true m v h = inl h
-element_child false false m v h = inl h
+element_child true false m v h = inl (h, λ takes. refl)
+element_child false true m v h = inl (h, λ takes. cc)
+element_child false false m v h = inl (h, λ takes. refl)
 
 keyed : {S : Type 0} (text : Option (List ℕ)) (step : List ℕ → Option S) (after : S) → option_and_then step text ≡ Some after → IsTold as_object text
 keyed None step after h = cc
@@ -257,7 +258,7 @@ module _ {L : Type 0} (r : Rules L) (d : ℕ) where
         one_of : (key : Option L) (x : Node L) (mean : Place → Option Value)
             → ((v : Value) × (part k key mean ≡ Some v)) ⊎ ((position_in r k (text_of key) ≡ None) × (may_skip r d x ≡ true))
             → IsOneOf r k d (text_of key) x mean
-        one_of key x mean (inl h) = let q = placed (place_in k (position_in r k (text_of key))) mean h.0 h.1 in inl (q.0, h.0, q.1, q.2)
+        one_of key x mean (inl h) = let q = placed (place_in k (position_in r k (text_of key))) mean h.0 h.1 in inl (q.0, h.0, q.1, q.2, λ takes. cc)
         one_of key x mean (inr h) = inr (inr (tt, h.0, h.1))
 
   module _ (ss : List Member) where
@@ -282,16 +283,16 @@ module _ {L : Type 0} (r : Rules L) (d : ℕ) where
           let real = or_neither (is_absent r u (text_of key) x) (is_mark r u (text_of key)) kept in
           let v = variant_child (text_of key) (position_in r u (text_of key)) (part u key mean) (is_absent r u (text_of key) x) (may_skip r d x) (is_null x) s after h real.0 real.1 in
           let q = placed (place_in u (position_in r u (text_of key))) mean v.0 v.1 in
-          inl (q.0, v.0, q.1, q.2);
+          inl (q.0, v.0, q.1, q.2, λ takes. cc);
     }
 
   module _ (c : ListShape) where
     abbrev l : Kind
     l = list_of c
 
-    list_child : (x : Node L) (mean : Place → Option Value) (v : Value) → ((mean c.place) ≡ Some v) ⊎ ((is_sparse l ≡ true) × (is_null x ≡ true))
-        → IsOneOf r l d None x mean
-    list_child x mean v (inl h) = inl (c.place, v, refl, h)
+    list_child : (x : Node L) (mean : Place → Option Value) (v : Value)
+        → ((mean c.place ≡ Some v) × (is_sparse l ≡ true → is_null x ≡ false)) ⊎ ((is_sparse l ≡ true) × (is_null x ≡ true)) → IsOneOf r l d None x mean
+    list_child x mean v (inl h) = inl (c.place, v, refl, h.0, h.1)
     list_child x mean v (inr h) = inr (inl h)
 
     pub list_folds : FoldsBy r l as_array d (element_step (is_sparse l))
@@ -314,9 +315,9 @@ module _ {L : Type 0} (r : Rules L) (d : ℕ) where
     abbrev e : Kind
     e = map_of c
 
-    map_child : (text : Option (List ℕ)) (x : Node L) (mean : Place → Option Value) (v : Value) → ((mean c.place) ≡ Some v) ⊎ ((is_sparse e ≡ true) × (is_null x ≡ true))
-        → IsOneOf r e d text x mean
-    map_child text x mean v (inl h) = inl (c.place, v, refl, h)
+    map_child : (text : Option (List ℕ)) (x : Node L) (mean : Place → Option Value) (v : Value)
+        → ((mean c.place ≡ Some v) × (is_sparse e ≡ true → is_null x ≡ false)) ⊎ ((is_sparse e ≡ true) × (is_null x ≡ true)) → IsOneOf r e d text x mean
+    map_child text x mean v (inl h) = inl (c.place, v, refl, h.0, h.1)
     map_child text x mean v (inr h) = inr (inl h)
 
     pub map_folds : FoldsBy r e as_object d (entry_step (is_sparse e))

@@ -2,9 +2,13 @@
 use Rattle.std.specs.Prelude.{◌≡◌, ℕ, suc, List, [], ◌∷◌, ◌++◌, Option, Some, None, Bool, true, false, refl, option_and_then, option_map, cond, if◌then◌else◌, IsUtf8}
 use Rattle.std.proofs.Common.{sym, ◌∙◌, ap, subst}
 use Rattle.smithy_schema.specs.declared.place.Place.{Place}
-use Rattle.smithy_schema.specs.Limits.{kept}
-use Rattle.smithy_schema.specs.Table.{Table, Member, ListShape, MapShape, Kind, scalar, structure_of, union_of, list_of, map_of, kind_of, place_in}
-use Rattle.smithy_schema.specs.Value.{Value, list, map, structure, union, values_of, MapEntries, put_entry, MemberValues, no_member_values}
+use Rattle.smithy_types.specs.Document.{Document, null, array, object, Documents, no_documents, item, map_elements, whole_document}
+use Rattle.smithy_types.specs.Number.{whole_number}
+use Rattle.smithy_types.specs.declared.number.Number.{Number}
+use Rattle.smithy_schema.specs.Limits.{Limits, kept, lifted}
+use Rattle.smithy_schema.specs.Table.{Table, Member, ListShape, MapShape, Kind, scalar, document, structure_of, union_of, list_of, map_of, kind_of, place_in}
+use Rattle.smithy_schema.specs.Documents.{DocumentFits, DocumentsFit, properties_by}
+use Rattle.smithy_schema.specs.Value.{Value, document_value, null_element, list, map, structure, union, values_of, MapEntries, put_entry, MemberValues, no_member_values}
 use Rattle.smithy_schema.specs.Container.{folded, is_type_mark, element_of, entry_step, member_step, members_from, container_of}
 use Rattle.smithy_schema.specs.Fits.{AscendFrom, KeysAscend, ElementsFit, EntriesFit, MembersFit, Fits}
 use Rattle.smithy_schema.specs.Reading.{Mark}
@@ -14,12 +18,16 @@ use Rattle.smithy_schema.specs.Lemmas.Fitting.{one_more_fits, element_fits, map_
 use Rattle.smithy_schema.specs.Lemmas.Ascending.{folded_ascend}
 use Rattle.smithy_schema.specs.Lemmas.AscendingKeys.{put_keys_ascend}
 use Rattle.smithy_wire.specs.Node.{Form, as_array, as_object, Node, null_node, leaf, container, missing, Nodes, no_nodes, node, is_null}
-use Rattle.smithy_wire.specs.Rules.{Rules, is_shallow, may_skip, key_text, position_in, is_absent}
+use Rattle.smithy_wire.specs.Rules.{Answer, means, no_meaning, wide, uncarried, settled, where_lifted, Rules, is_shallow, at_depth, may_skip, key_text, position_in, is_absent}
+use Rattle.smithy_wire.specs.Documents.{document_of, elements_of, pairs_of, lifted_null, document_by, document_meaning}
 use Rattle.smithy_wire.specs.Meaning.{leaf_meaning, is_in, missing_meaning, entry_at, meaning, entries}
 use Rattle.smithy_wire.specs.Frames.{Frames, Lies, NodesLie}
 use Rattle.smithy_wire.specs.Wire.{RulesFit}
 use Rattle.smithy_schema.specs.Lemmas.Variants.{first_variant, variant_step}
 use Rattle.smithy_wire.specs.Lemmas.Folds.{Fold, fold_of}
+use Rattle.smithy_wire.specs.Lemmas.Pairs.{pair_apart}
+use Rattle.smithy_wire.specs.Lemmas.Places.{where_apart}
+use Rattle.smithy_schema.proofs.DocumentLemmas.{PairsFit, properties_fit}
 
 abbrev ChildFits : Table → Kind → Option ℕ → Value → Type 0
 ChildFits t k pos v = (q : Place) × (place_in k pos ≡ Some q) × Fits t q v
@@ -126,6 +134,27 @@ holding t p (map_of c) f within kind = record {
 }
 holding t p _ f within kind = cc
 
+-- ---- answers
+
+-- within the limits only a meaning gives a value
+pub settled_means : {A : Type 0} (limits : Limits) (z : A) (answer : Answer A) (v : A) → limits ≡ kept → settled limits z answer ≡ Some v → answer ≡ means v
+settled_means kept z (means u) v keeps h = let same : u ≡ v = cc in rw same refl
+settled_means kept z no_meaning v keeps h = cc
+settled_means kept z wide v keeps h = cc
+settled_means kept z uncarried v keeps h = cc
+settled_means lifted z answer v keeps h = cc
+
+-- and nothing is a null
+no_null : {A : Type 0} (limits : Limits) (z v : A) → limits ≡ kept → where_lifted limits z ≡ Some v → ⊥
+no_null kept z v keeps h = cc
+no_null lifted z v keeps h = cc
+
+pub no_lifted_null : {L : Type 0} (r : Rules L) → r.limits ≡ kept → (x : Node L) (v : Value) → lifted_null r x ≡ Some v → ⊥
+no_lifted_null r keeps null_node v h = no_null r.limits null_element v keeps h
+no_lifted_null r keeps (leaf x) v h = no_null r.limits null_element v keeps h
+no_lifted_null r keeps (container f xs) v h = no_null r.limits null_element v keeps h
+no_lifted_null r keeps missing v h = cc
+
 -- ---- a node
 
 module _ {L : Type 0} (w : Frames L) (r : Rules L) (keeps : r.limits ≡ kept) (fits : RulesFit w r) (i : List ℕ) (t : Table) where
@@ -138,6 +167,49 @@ module _ {L : Type 0} (w : Frames L) (r : Rules L) (keeps : r.limits ≡ kept) (
   text_fits as_array b m key c n text entry h = cc
   text_fits as_object b m None c n text entry h = cc
   text_fits as_object b m (Some key) c n text entry h = fits.key_fits i b m key c n text entry h
+
+  module _ (says : L → Answer (Document Number)) (carried : r.documents ≡ Some says) where
+    mutual
+      document_fits : (d : ℕ) (x : Node L) (a e : ℕ) → Lies w i d x a e → (v : Document Number) → document_of r says d x ≡ Some v → DocumentFits (whole_document v)
+      document_fits d null_node a e lies v h =
+          subst (λ u. DocumentFits (whole_document u)) (same_some null v (chosen (is_shallow r (suc d)) (Some null) v h).1) tt
+      document_fits d (leaf x) a e lies v h =
+          let here = (chosen (is_shallow r (suc d)) (settled r.limits null (says x)) v h).1 in
+          (fits.document_fits i d x a e lies says v carried (settled_means r.limits null (says x) v keeps here)).0
+      document_fits d (container as_array xs) a e (b, m, opens, lie, follows) v h =
+          let ds = made array (elements_of r says (suc d) xs) v (chosen (is_shallow r (suc d)) (option_map array (elements_of r says (suc d) xs)) v h).1 in
+          subst (λ u. DocumentFits (whole_document u)) ds.2 (elements_fit (suc d) xs b m e lie ds.0 ds.1)
+      document_fits d (container as_object xs) a e (b, m, opens, lie, follows) v h =
+          let by = λ (pairs : List (List ℕ × Document Number)). object (properties_by pairs) in
+          let pairs = made by (pairs_of r says (suc d) xs) v (chosen (is_shallow r (suc d)) (option_map by (pairs_of r says (suc d) xs)) v h).1 in
+          subst (λ u. DocumentFits (whole_document u)) pairs.2 (properties_fit whole_number pairs.0 (pairs_fit (suc d) xs b m e lie pairs.0 pairs.1))
+      document_fits d missing a e lies v h = cc
+
+      elements_fit : (d : ℕ) (xs : Nodes L) (b : ℕ) (m : Mark) (e : ℕ) → NodesLie w as_array i d xs b m e → (ds : Documents Number) → elements_of r says d xs ≡ Some ds
+          → DocumentsFit (map_elements whole_number ds)
+      elements_fit d no_nodes b m e lie ds h = subst (λ z. DocumentsFit (map_elements whole_number z)) (same_some no_documents ds h) tt
+      elements_fit d (node key x xs) b m e (c, n, g, entry, lies, lie) ds h =
+          let one = step_apart (document_of r says d x) (λ u. option_map (item u) (elements_of r says d xs)) ds h in
+          let rest = made (item one.0) (elements_of r says d xs) ds one.2 in
+          subst (λ z. DocumentsFit (map_elements whole_number z)) rest.2 (document_fits d x c g lies one.0 one.1, elements_fit d xs g n e lie rest.0 rest.1)
+
+      pairs_fit : (d : ℕ) (xs : Nodes L) (b : ℕ) (m : Mark) (e : ℕ) → NodesLie w as_object i d xs b m e → (pairs : List (List ℕ × Document Number))
+          → pairs_of r says d xs ≡ Some pairs → PairsFit whole_number pairs
+      pairs_fit d no_nodes b m e lie pairs h = subst (PairsFit whole_number) (same_some [] pairs h) tt
+      pairs_fit d (node key x xs) b m e (c, n, g, entry, lies, lie) pairs h =
+          let p = pair_apart (key_text r as_object key) (document_of r says d x) (pairs_of r says d xs) pairs h in
+          subst (PairsFit whole_number) p.whole
+          ((text_fits as_object b m key c n p.text entry p.named, document_fits d x c g lies p.part p.means), pairs_fit d xs g n e lie p.rest p.behind)
+
+  document_value_fits : (p : Place) (d : ℕ) (x : Node L) (a e : ℕ) → Lies w i d x a e → (v : Value) → kind_of t p ≡ document → document_meaning r d x ≡ Some v
+      → Fits t p v
+  document_value_fits p d x a e lies v kind h = by r.documents refl h
+    where
+      by : (o : Option (L → Answer (Document Number))) → r.documents ≡ o → document_by r o d x ≡ Some v → Fits t p v
+      by None none h = absurd (no_lifted_null r keeps x v h)
+      by (Some says) carried h =
+          let u = made (λ u. document_value (whole_document u)) (document_of r says d x) v h in
+          subst (Fits t p) u.2 (rw kind tt, document_fits says carried d x a e lies u.0 u.1)
 
   missing_fits : (p : Place) (k : Kind) (v : Value) → kind_of t p ≡ k → missing_meaning k ≡ Some v → Fits t p v
   missing_fits p (structure_of members) v kind h = subst (Fits t p) (same_some (structure no_member_values) v h) (rw kind tt, tt, tt)
@@ -157,11 +229,18 @@ module _ {L : Type 0} (w : Frames L) (r : Rules L) (keeps : r.limits ≡ kept) (
 
   mutual
     pub meaning_fits : (d : ℕ) (x : Node L) (p : Place) (v : Value) (a e : ℕ) → Lies w i d x a e → meaning r t p d x ≡ Some v → Fits t p v
-    meaning_fits d null_node p v a e lies h = cc
-    meaning_fits d (leaf x) p v a e lies h = leaf_fits p (kind_of t p) d x a e v lies refl h
+    meaning_fits d null_node p v a e lies h =
+        where_apart (kind_of t p) (document_meaning r d null_node) None v (Fits t p v) h (document_value_fits p d null_node a e lies v) (λ none. cc)
+    meaning_fits d (leaf x) p v a e lies h =
+        where_apart (kind_of t p) (document_meaning r d (leaf x)) (leaf_meaning r (kind_of t p) p.time x) v (Fits t p v) h
+        (document_value_fits p d (leaf x) a e lies v) (leaf_fits p (kind_of t p) d x a e v lies refl)
     meaning_fits d (container f xs) p v a e (b, m, opens, lie, follows) h =
+        let inner = if is_in (kind_of t p) f then container_of (kind_of t p) (entries r t p f (suc d) xs) else None in
+        where_apart (kind_of t p) (document_meaning r d (container f xs)) (at_depth r (suc d) inner) v (Fits t p v) h
+        (document_value_fits p d (container f xs) a e (b, m, opens, lie, follows) v)
+        (λ there.
         container_fits p f (suc d) xs v (λ within s after held folds. nodes_fit (suc d) xs p f b m e lie within s after held folds)
-        (chosen (is_shallow r (suc d)) (if is_in (kind_of t p) f then container_of (kind_of t p) (entries r t p f (suc d) xs) else None) v h).1
+        (chosen (is_shallow r (suc d)) inner v there).1)
     meaning_fits d missing p v a e lies h = missing_fits p (kind_of t p) v refl (chosen (is_shallow r (suc d)) (missing_meaning (kind_of t p)) v h).1
 
     nodes_fit : (d : ℕ) (xs : Nodes L) (p : Place) (f : Form) (b : ℕ) (m : Mark) (e : ℕ) → NodesLie w f i d xs b m e

@@ -1,11 +1,13 @@
-use Rattle.std.proofs.Common.{◌+◌, ◌++◌, [], ◌∷◌, drop, sym, ap, ◌∙◌, rules}
+use Rattle.std.proofs.Common.{◌+◌, ◌++◌, [], ◌∷◌, drop, sym, ap, ◌∙◌, subst, rules, OnErr}
 use Rattle.smithy_types.specs.DocumentView.{document_view, elements_view, properties_view}
 use Rattle.smithy_json.specs.Ascii.{begin_array, end_array, begin_object, end_object}
+use Rattle.smithy_json.specs.Appending.{AddsFront}
+use Rattle.smithy_json.specs.Escape.{quoted}
 use Rattle.smithy_json.specs.DocumentText.{comma, document_text, elements_text, properties_text}
 use Rattle.smithy_json.specs.ValueTexts.{name_text}
 use Rattle.smithy_json.proofs.EscapingLemmas.{front_written, front_kept}
 use Rattle.smithy_json.proofs.AppendingLemmas.{part_refused, inside_refused, closing_refused, parted_refused, parted_rest, parted_longer}
-use Rattle.smithy_json.proofs.DocumentTextLemmas.{next_of, next_property}
+use Rattle.smithy_json.proofs.DocumentTextLemmas.{next_of, next_property, written_text}
 use Rattle.smithy_json.proofs.document_writer.+document.Goals as goal
 
 pub push_array-returns-in_err-push_elements-clause-err :
@@ -91,3 +93,8 @@ push_properties-loop-name-preserved g t c =
       longer = parted_longer _ _ _ (l.parting.now ++ name_text name) part rest _ c.in_ok-push_name.ensures.ok parts l.invariant.longer _ c.in_ok-push_document.ensures.ok;
       utf8 = search rules;
     }
+
+pub push_document-returns-in-String-clause-err : goal.push_document-returns-in-String-clause-err
+push_document-returns-in-String-clause-err g t c =
+    let same = ap quoted c.as_str.ensures.value ∙ sym (written_text c.args.document.now c.in-String.text c.in-String.is) in
+    subst (λ text. OnErr c.push_string.result (AddsFront (g.T.AppendText.bytes c.args.out.now) text (g.T.AppendText.bytes c.push_string.new.out))) same c.push_string.ensures.err

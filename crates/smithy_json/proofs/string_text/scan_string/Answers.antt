@@ -1,31 +1,20 @@
-use Rattle.std.proofs.Common.{◌≡◌, ◌+◌, IsUtf8, slice_range, sym, ap, ◌∙◌, subst}
+use Rattle.std.proofs.Common.{◌+◌, sym, ap, ◌∙◌}
 use Rattle.smithy_json.specs.Unescape.{has_escape}
-use Rattle.smithy_json.proofs.StringLemmas.{closing_from-run, string_is_at, closing_is, escape_is}
+use Rattle.smithy_json.proofs.AsciiRunLemmas.{same_run, run_utf8, no_escape_there, ascii_string_is}
 use Rattle.smithy_json.proofs.string_text.scan_string.Goals as goal
 
-pub returns-in_err-closing-clause-none : goal.returns-in_err-closing-clause-none
-returns-in_err-closing-clause-none c =
-    rw c.from_residual.ensures (λ closing is.
-    let run = closing_from-run c.args.input.now (c.args.at + 1) _ c.plain_end-first_stop.ensures.value in
-    let found = closing_is c.args.input.now c.args.at closing is in
-    let none = c.in_err-closing.ensures.value in cc)
+pub from_utf8_unchecked-requires : goal.from_utf8_unchecked-requires
+from_utf8_unchecked-requires c = run_utf8 c.args.input.now (c.args.at + 1) c.plain_ascii_end-end.result c.plain_ascii_end-end.ensures.value
 
--- the only closing mark is that of a text that isn't in UTF-8
-pub returns-in_default-clause-none : goal.returns-in_default-clause-none
-returns-in_default-clause-none c = λ closing is.
-    let run = closing_from-run c.args.input.now (c.args.at + 1) _ c.plain_end-first_stop.ensures.value in
-    let found = closing_is c.args.input.now c.args.at closing is in
-    let mark = c.in_ok-closing.ensures.value in
-    let same : closing ≡ c.in_ok-closing.closing = cc in
-    c.in_default.ensures.cases.0 (subst (λ k. IsUtf8 (slice_range c.args.input.now (c.args.at + 1) k)) same is.text.0)
+pub returns-then-input-end-eq34-clause-found : goal.returns-then-input-end-eq34-clause-found
+returns-then-input-end-eq34-clause-found c =
+    let end = c.plain_ascii_end-end in
+    ascii_string_is c.args.input.now c.args.at end.result end.ensures.value c.if-end-input.true c.if-input-at-ne34.false c.if-input-end-eq34.true
 
-pub returns-clause-found : goal.returns-clause-found
-returns-clause-found c =
-    let run = closing_from-run c.args.input.now (c.args.at + 1) _ c.plain_end-first_stop.ensures.value in
-    string_is_at c.args.input.now c.args.at c.in_ok-closing.closing c.if-input-at-ne34.false (run ∙ sym c.in_ok-closing.ensures.value) c.in-Ok.ensures.cases.1
+pub returns-then-input-end-eq34-clause-has_escape : goal.returns-then-input-end-eq34-clause-has_escape
+returns-then-input-end-eq34-clause-has_escape c =
+    let end = c.plain_ascii_end-end in
+    sym (ap has_escape c.from_utf8_unchecked.ensures ∙ no_escape_there c.args.input.now (c.args.at + 1) end.result end.ensures.value c.if-end-input.true c.if-input-end-eq34.true)
 
-pub returns-clause-has_escape : goal.returns-clause-has_escape
-returns-clause-has_escape c =
-    let run = closing_from-run c.args.input.now (c.args.at + 1) _ c.plain_end-first_stop.ensures.value in
-    escape_is c.args.input.now (c.args.at + 1) c.plain_end-first_stop.result c.in_ok-closing.closing c.plain_end-first_stop.ensures.value (run ∙ sym c.in_ok-closing.ensures.value)
-    ∙ ap has_escape (sym c.in-Ok.ensures.cases.0)
+pub scan_from-requires-clause-same_run : goal.scan_from-requires-clause-same_run
+scan_from-requires-clause-same_run c = same_run c.args.input.now (c.args.at + 1) c.plain_ascii_end-end.result c.plain_ascii_end-end.ensures.value

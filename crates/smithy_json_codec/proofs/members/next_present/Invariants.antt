@@ -1,6 +1,6 @@
 use Rattle.std.proofs.Common.{◌-◌, ◌≤◌, ℕ, length}
 use Rattle.smithy_schema.specs.Site.{site_of}
-use Rattle.smithy_json_codec.specs.Private.MemberSteps.{passes_marks}
+use Rattle.smithy_json_codec.specs.Private.MemberSteps.{passing}
 use Rattle.smithy_json_codec.specs.Private.PassedEntries.{Passes}
 use Rattle.smithy_json_codec.proofs.members.next_present.Given as goal
 
@@ -8,7 +8,7 @@ use Rattle.smithy_json_codec.proofs.members.next_present.Given as goal
 abbrev pub invariant-loop-end : goal.invariant-loop-end
 invariant-loop-end l = record {
   within : l.at ≤ length l.input;
-  passes : (count : ℕ) × Passes (passes_marks l.names.use_json_name (site_of l.names.schema.now)) l.max_depth l.depth count l.input l.fn.at l.fn.entered l.at l.entered;
+  passes : (count : ℕ) × Passes (passing l.names.use_json_name (site_of l.names.schema.now)) l.max_depth l.depth count l.input l.fn.at l.fn.entered l.at l.entered;
 }
 
 abbrev pub decreases-loop-end : goal.decreases-loop-end

@@ -5,8 +5,8 @@ use Rattle.smithy_json_tokens.specs.TokenView.{left_from, IsPlace}
 use Rattle.smithy_json_tokens.proofs.RunLemmas.{run_utf8, scan_number-run}
 use Rattle.smithy_json_tokens.proofs.token_scan.scan_run.Goals as goal
 
-pub run_token-requires-clause-ascii : goal.run_token-requires-clause-ascii
-run_token-requires-clause-ascii c = run_utf8 c.args.input.now c.args.at c.number_end-end.result c.requires.within c.number_end-end.ensures.value c.requires.begins
+pub run_token-requires : goal.run_token-requires
+run_token-requires c = run_utf8 c.args.input.now c.args.at c.number_end-end.result c.requires.within c.number_end-end.ensures.value c.requires.begins
 
 pub returns-in-Some : goal.returns-in-Some
 returns-in-Some c =

@@ -8,5 +8,5 @@ use Rattle.smithy_schema.proofs.acceptance.is_unknown.Goals as goal
 pub returns-then-is_none : goal.returns-then-is_none
 returns-then-is_none c =
     let declared = declared_if decl_of c.args.decls.now c.args.target.now c.position_of.result c.position_of.ensures in
-    let scalar = ap is_some (sym c.scalar_of.ensures) ∙ c.if-is_none.ensures in
-    sym (ap (λ b. not b && not (is_declared (map decl_of c.args.decls.now) c.args.target.now)) scalar ∙ ap not (declared ∙ c.is_none-then-is_none.ensures) ∙ not_not c.is_none-then-is_none.result)
+    let simple = ap is_some (sym c.simple_target.ensures) ∙ c.if-is_none.ensures in
+    sym (ap (λ b. not b && not (is_declared (map decl_of c.args.decls.now) c.args.target.now)) simple ∙ ap not (declared ∙ c.is_none-then-is_none.ensures) ∙ not_not c.is_none-then-is_none.result)

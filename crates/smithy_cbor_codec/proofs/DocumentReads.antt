@@ -1,0 +1,81 @@
+-- A read of a document answers that none is carried wherever something stands, and refuses the input elsewhere.
+use Rattle.std.proofs.Common.{◌≡◌, ◌≤◌, ◌⊎◌, inl, inr, ℕ, List, length, true, false, Some, refl, sym, ◌∙◌, subst}
+use Rattle.std.specs.Prelude.{Err, IsErrOf}
+use Rattle.smithy_types.specs.declared.document.Document.{Document}
+use Rattle.smithy_schema.specs.declared.error.SerdeError.{SerdeError}
+use Rattle.smithy_schema.specs.declared.error.SerdeError.TheVariants.{InvalidInput, NotCarried, NoMemory}
+use Rattle.smithy_schema.specs.declared.place.Place.{Place}
+use Rattle.smithy_schema.specs.Table.{Table, document, document_place, kind_of}
+use Rattle.smithy_schema.specs.Site.{Site}
+use Rattle.smithy_schema.specs.Value.{Value}
+use Rattle.smithy_schema.specs.Reading.{Cursor, depth, StandsNot, SkipsNot, IsInvalid, ReadsDocument, failed_at}
+use Rattle.cbor_item.specs.Item.{Item}
+use Rattle.smithy_cbor_codec.specs.Settings.{Settings, kept, without_limits}
+use Rattle.smithy_cbor_codec.specs.Meaning.{rules_of}
+use Rattle.smithy_cbor_codec.specs.Standing.{cbor_frames, cbor_relations}
+use Rattle.smithy_cbor_codec.specs.Private.NodePlaces.{lies_item, lies_full}
+use Rattle.smithy_cbor_codec.specs.Private.Skipping.{SkipsTo}
+use Rattle.smithy_cbor_codec.proofs.BigNumbers.{invalid_is}
+use Rattle.smithy_cbor_codec.proofs.SkippedValues.{skips_are}
+use Rattle.smithy_wire.specs.Documents.{document_meaning}
+use Rattle.smithy_wire.specs.Node.{Node, null_node, leaf, container, missing}
+use Rattle.smithy_wire.specs.Readers.{stands_node, none_carried, none_stands}
+use Rattle.smithy_wire.specs.Wire.{no_value}
+use Rattle.smithy_wire.specs.Lemmas.Nodes.{sort_of}
+use Rattle.smithy_wire.proofs.DocumentReads.{refuses, runs_out, carries_not}
+
+module _ (o : Settings) (d : ℕ) where
+  -- what means anything isn't missing
+  is_there : (y : Node Item) (v : Value) → document_meaning (rules_of o) d y ≡ Some v → sort_of y ≡ no_value → ⊥
+  is_there null_node v h k = cc
+  is_there (leaf x) v h k = cc
+  is_there (container f xs) v h k = cc
+  is_there missing v h k = cc
+
+  -- where a document would stand lies an item
+  pub document_skips : (i : List ℕ) (t : Table) (p : Place) (a : ℕ) (v : Value) (e : ℕ) → kind_of t p ≡ document → (cbor_relations o).stands i t p d a v e → SkipsTo i a d e
+  document_skips i t p a v e kind stands =
+      let y = stands_node cbor_frames (rules_of o) i t p kind d a v e stands in
+      let x = lies_item d y.0 i a e (lies_full d y.0 i a e y.1 (is_there y.0 v y.2)) y.1 in
+      record { found = x.0; stands = x.1; follows = x.2 }
+
+module _ (o : Settings) (keeps : o.limits ≡ kept) (max : ℕ) (old new : Cursor) (site : Site) (stays : new ≡ failed_at old) (within : old.at ≤ length old.input) (sound : old.failed ≡ false) (due : old.due ≡ true) where
+  abbrev Says : SerdeError → Type 0
+  Says e = ReadsDocument (cbor_relations o) (cbor_relations (without_limits o)) (Unit {0}) max old new site (Err e)
+
+  abbrev at : Place
+  at = document_place site.place.time
+
+  -- none is carried, and where nothing lies none would be
+  no_document : StandsNot (cbor_relations o) old site.table at
+  no_document v e stands = none_stands cbor_frames (rules_of o) old.input site.table at refl (depth old) refl keeps old.at v e stands
+
+  pub refuses_document : (e : SerdeError) (held : ℕ) → held ≡ depth old → (e ≡ InvalidInput → (f : ℕ) → SkipsTo old.input old.at held f → ⊥)
+      → (e ≡ InvalidInput) ⊎ (e ≡ NotCarried) ⊎ (e ≡ NoMemory) → Says e
+  refuses_document e held same none (inl is) =
+      let nothing : (f : ℕ) → SkipsTo old.input old.at (depth old) f → ⊥ = subst (λ d. (f : ℕ) → SkipsTo old.input old.at d f → ⊥) same (none is) in
+      rw is
+      (refuses (cbor_relations o) (cbor_relations (without_limits o)) (Unit {0}) max site old new stays within sound
+      (λ due. (no_document, λ v f stands. nothing f (document_skips (without_limits o) (depth old) old.input site.table at old.at v f refl stands))))
+  refuses_document e held same none (inr (inl is)) =
+      rw is
+      (carries_not (cbor_relations o) (cbor_relations (without_limits o)) (Unit {0}) max site old new stays within sound due
+      (old.at, none_carried cbor_frames (rules_of o) old.input site.table at refl (depth old) refl old.at old.at) no_document)
+  refuses_document e held same none (inr (inr is)) =
+      rw is (runs_out (cbor_relations o) (cbor_relations (without_limits o)) (Unit {0}) max site old new stays within sound)
+
+-- ---- both directions
+
+-- where it says that none is carried, an item lies
+pub carried_not_lies : {A : Type 0} (o : Settings) (old : Cursor) (e f : SerdeError) → f ≡ e → (held : ℕ) → held ≡ depth old
+    → (e ≡ NotCarried → (g : ℕ) × SkipsTo old.input old.at held g) → IsErrOf {T = A} (Err f) NotCarried → (g : ℕ) × (cbor_relations o).skips old.input (depth old) old.at g
+carried_not_lies o old e f answer held same lies is =
+    let carried : e ≡ NotCarried = cc in
+    let h = lies carried in
+    (h.0, (skips_are o old.input (depth old) old.at h.0).0 (subst (λ d. SkipsTo old.input old.at d h.0) same h.1))
+
+-- and where it refuses the input, none does
+pub refused_lies_not : (o : Settings) (old : Cursor) (e f : SerdeError) → f ≡ e → (held : ℕ) → held ≡ depth old
+    → (e ≡ InvalidInput → (g : ℕ) → SkipsTo old.input old.at held g → ⊥) → IsInvalid {A = Document} (Err f) → SkipsNot (cbor_relations o) old
+refused_lies_not o old e f answer held same none invalid g skips =
+    none (sym answer ∙ invalid_is Document f invalid) g (subst (λ d. SkipsTo old.input old.at d g) (sym same) ((skips_are o old.input (depth old) old.at g).1 skips))

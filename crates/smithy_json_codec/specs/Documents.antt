@@ -1,0 +1,93 @@
+-- Which documents lie in an input, and what it means that none is read.
+use Rattle.std.specs.Prelude.{◌≡◌, ◌⊎◌, ◌≤◌, ◌+◌, ℕ, length, drop, List, Bool, Option, Some, None}
+use Rattle.smithy_schema.specs.declared.error.SerdeError.{SerdeError}
+use Rattle.smithy_schema.specs.declared.error.SerdeError.TheVariants.{InvalidInput, TooDeep, NotCarried, NoMemory}
+use Rattle.smithy_types.specs.Document.{Document}
+use Rattle.smithy_types.specs.declared.number.Number.{Number}
+use Rattle.smithy_json.specs.Tree.{Json, number}
+use Rattle.smithy_json.specs.HeldNumber.{number_of}
+use Rattle.smithy_json.specs.DocumentMeaning.{document_meaning}
+use Rattle.smithy_json_codec.specs.Openers.{json_openers}
+use Rattle.smithy_json_codec.specs.Settings.{Limits, kept, lifted}
+use Rattle.smithy_json_codec.specs.Standing.{Lies, IsByte, TreeLies, FollowsContainer}
+use Rattle.smithy_json_codec.specs.Deepest.{IsDueInside}
+use Rattle.smithy_json_codec.specs.Private.Skipping.{ScalarLies, opening}
+
+-- from a to e lies a tree that means the document inside so many containers
+pub record DocumentLies (limits : Option ℕ) (depth : ℕ) (input : List ℕ) (a : ℕ) (d : Document Number) (e : ℕ) : Type 0 where
+  pub tree : Json
+  pub lies : TreeLies 1 tree input a e
+  pub means : document_meaning limits depth tree ≡ Some d
+
+-- the greatest depth of documents, if there is one
+abbrev pub depth_limit : Limits → ℕ → Option ℕ
+depth_limit kept greatest = Some greatest
+depth_limit lifted greatest = None
+
+-- from a on none does
+abbrev pub NoDocumentLies : Option ℕ → ℕ → List ℕ → ℕ → Type 0
+NoDocumentLies limits depth input a =
+    (d : Document Number) (e : ℕ) → DocumentLies limits depth input a d e → ⊥
+
+-- from a on lies a number that no document holds
+pub record OtherNumberLies (input : List ℕ) (a : ℕ) : Type 0 where
+  pub raw : List ℕ
+  pub e : ℕ
+  pub lies : TreeLies 1 (number raw) input a e
+  pub not_held : number_of raw ≡ None
+
+-- an array or an object opens at a, or a scalar lies there
+abbrev pub ValueOpens : List ℕ → ℕ → Type 0
+ValueOpens input a =
+    ((is_object : Bool) × (inside : ℕ) × Lies (IsByte (opening is_object)) input a inside)
+    ⊎ ((e : ℕ) × ScalarLies input a e)
+
+-- a value comes inside of the greatest number of containers, in the document that begins at a inside so many
+pub record OpensDocumentTooDeep (greatest depth : ℕ) (input : List ℕ) (a : ℕ) : Type 0 where
+  -- of which objects are true, the innermost first
+  pub containers : List Bool
+  pub at : ℕ
+  pub due : IsDueInside containers input a at
+  pub opens : ValueOpens input at
+  pub deepest : depth + length containers ≡ greatest
+
+-- a number that no document holds comes as a value, in the document that begins at a
+pub record MeetsOtherNumber (input : List ℕ) (a : ℕ) : Type 0 where
+  -- inside of these containers, of which objects are true, the innermost first
+  pub containers : List Bool
+  pub at : ℕ
+  pub due : IsDueInside containers input a at
+  pub other : OtherNumberLies input at
+
+-- What it says of the place a, inside so many containers, that a document was refused there. `Missing` says that under some limits
+-- none is there: that holds with each fault, and with `InvalidInput` also without the limits. Want of memory says nothing.
+abbrev pub Refuses : (Option ℕ → Type 0) → ℕ → ℕ → List ℕ → ℕ → SerdeError → Type 0
+Refuses Missing greatest depth input a InvalidInput = Missing None × Missing (Some greatest)
+Refuses Missing greatest depth input a TooDeep =
+    OpensDocumentTooDeep greatest depth input a × (greatest ≤ depth + json_openers (drop a input))
+    × Missing (Some greatest)
+Refuses Missing greatest depth input a NotCarried = MeetsOtherNumber input a × Missing (Some greatest)
+Refuses Missing greatest depth input a NoMemory = Unit {0}
+Refuses Missing greatest depth input a _ = ⊥
+
+-- where none lies
+abbrev pub RefusesDocument : ℕ → ℕ → List ℕ → ℕ → SerdeError → Type 0
+RefusesDocument greatest depth input a e =
+    Refuses (λ limits. NoDocumentLies limits depth input a) greatest depth input a e
+
+-- ---- documents at a place
+
+-- a document lies from a to e, and behind it comes what may follow a container
+abbrev pub DocumentStands : Option ℕ → ℕ → List ℕ → ℕ → Document Number → ℕ → Type 0
+DocumentStands limits depth input a d e =
+    DocumentLies limits depth input a d e × FollowsContainer depth (drop e input)
+
+-- from a on none does
+abbrev pub NoDocumentStands : Option ℕ → ℕ → List ℕ → ℕ → Type 0
+NoDocumentStands limits depth input a =
+    (d : Document Number) (e : ℕ) → DocumentStands limits depth input a d e → ⊥
+
+-- what it says that none was read there
+abbrev pub RefusesStanding : ℕ → ℕ → List ℕ → ℕ → SerdeError → Type 0
+RefusesStanding greatest depth input a e =
+    Refuses (λ limits. NoDocumentStands limits depth input a) greatest depth input a e

@@ -1,0 +1,244 @@
+-- A tree means as a document what its node means under the rules of JSON, and so do documents at a place.
+use Rattle.std.specs.Prelude.{◌≡◌, ◌↔◌, ◌≤◌, ℕ, ℤ, zero, suc, pos, neg_ℤ, List, [], ◌∷◌, Bool, true, false, ◌==◌, drop, Option, Some, None, cond, option_map, option_and_then, refl, unsigned_abs, if◌then◌else◌}
+use Rattle.std.proofs.Common.{sym, ◌∙◌, ap, subst, arith}
+use Rattle.smithy_types.specs.Document.{Document, null, text, array, object, item, whole_document}
+use Rattle.smithy_types.specs.Document as documents
+use Rattle.smithy_types.specs.Number.{whole_number}
+use Rattle.smithy_types.specs.declared.number.Number.{Number}
+use Rattle.smithy_types.specs.declared.number.Number.TheVariants.{PosInt, NegInt}
+use Rattle.smithy_schema.specs.declared.place.Place.{Place}
+use Rattle.smithy_schema.specs.Documents.{document_nesting, DocumentFits, properties_by}
+use Rattle.smithy_schema.specs.Limits.{Limits, kept, lifted, is_within}
+use Rattle.smithy_schema.specs.Table.{Table, document, kind_of}
+use Rattle.smithy_schema.specs.Value.{Value, document_value}
+use Rattle.smithy_schema.specs.Lemmas.Options.{same_some, step_apart, chosen, made}
+use Rattle.smithy_json.specs.Ascii.{minus_sign}
+use Rattle.smithy_json.specs.DocumentMeaning.{at_depth, number_meaning, with_pair, document_meaning, elements_meaning, members_meaning}
+use Rattle.smithy_json.specs.HeldNumber.{can_be_held, held_as, number_of}
+use Rattle.smithy_json.specs.Number.{natural_number, whole_number as written_number}
+use Rattle.smithy_json.specs.Tree as tree
+use Rattle.smithy_json.specs.Tree.{Json, Elements, no_elements, element, Members, no_members, member}
+use Rattle.smithy_json.specs.Unescape.{unescaped}
+use Rattle.smithy_json_codec.specs.Settings.{Settings}
+use Rattle.smithy_json_codec.specs.Scalar.{JsonScalar, a_boolean, a_number, a_string, held_says, document_says}
+use Rattle.smithy_json_codec.specs.Meaning.{node_of, element_nodes, member_nodes, rules_of, json_meaning}
+use Rattle.smithy_json_codec.specs.Standing.{FollowsContainer, Follows, json_frames, json_relations}
+use Rattle.smithy_json_codec.specs.Documents.{MeetsOtherNumber, depth_limit, DocumentStands, NoDocumentStands}
+use Rattle.smithy_json_codec.specs.Deepest.{has_come, EntriesLie, IsDueInside}
+use Rattle.smithy_json_codec.specs.Private.Skipping.{ValueBegins}
+use Rattle.smithy_json_codec.specs.Private.BytePlaces.{separated_ahead}
+use Rattle.smithy_json_codec.specs.Private.NamePlaces.{names_ahead}
+use Rattle.smithy_json_codec.specs.Private.Lexical.{ws_is_boundary}
+use Rattle.smithy_json_codec.specs.Private.Fits.{text_is_utf8}
+use Rattle.smithy_json_codec.specs.Private.NodePlaces.{tree_lies, lies_tree, lies_full}
+use Rattle.smithy_wire.specs.Node.{Node, null_node, leaf, container, missing}
+use Rattle.smithy_wire.specs.Rules.{means, settled, answer_of}
+use Rattle.smithy_wire.specs.Documents.{document_of, elements_of, pairs_of}
+use Rattle.smithy_wire.specs.Documents as wire
+use Rattle.smithy_wire.specs.Readers.{settled_answer, document_stands, stands_node, part_uncarried}
+use Rattle.smithy_wire.specs.Wire.{no_value}
+use Rattle.smithy_wire.specs.Lemmas.Nodes.{sort_of}
+use Rattle.smithy_wire.specs.Lemmas.Places.{means_document}
+use Rattle.smithy_wire.proofs.Bounds.{answer_means}
+
+-- the limit of documents under some settings
+abbrev pub limit : Settings → Option ℕ
+limit c = depth_limit c.limits c.max_depth
+
+-- ---- a tree and its node
+
+same_depth : {A : Type 0} (limits : Limits) (greatest depth : ℕ) (v : Option A) → cond (is_within limits greatest depth) v None ≡ at_depth (depth_limit limits greatest) depth v
+same_depth kept greatest depth v = refl
+same_depth lifted greatest depth v = refl
+
+same_number : (limits : Limits) (greatest : ℕ) (o : Option Number) → settled limits null (held_says o) ≡ number_meaning (depth_limit limits greatest) o
+same_number kept greatest None = refl
+same_number lifted greatest None = refl
+same_number limits greatest (Some n) = refl
+
+same_pair : (name : Option (List ℕ)) (d : Option (Document Number)) (more : Option (List (List ℕ × Document Number))) → wire.with_pair name d more ≡ with_pair name d more
+same_pair None d more = refl
+same_pair (Some name) None more = refl
+same_pair (Some name) (Some d) None = refl
+same_pair (Some name) (Some d) (Some pairs) = refl
+
+module _ (c : Settings) where
+  abbrev here : ℕ → Node JsonScalar → Option (Document Number)
+  here depth x = document_of (rules_of c) document_says depth x
+
+  abbrev there : ℕ → Json → Option (Document Number)
+  there depth x = document_meaning (limit c) depth x
+
+  deep : {A : Type 0} (depth : ℕ) (v u : Option A) → v ≡ u → cond (is_within c.limits c.max_depth depth) v None ≡ at_depth (limit c) depth u
+  deep depth v u same = same_depth c.limits c.max_depth depth v ∙ ap (at_depth (limit c) depth) same
+
+  mutual
+    pub same_document : (depth : ℕ) (x : Json) → here depth (node_of x) ≡ there depth x
+    same_document depth tree.null = deep (suc depth) (Some null) (Some null) refl
+    same_document depth (tree.boolean b) = deep (suc depth) (Some (documents.boolean b)) (Some (documents.boolean b)) refl
+    same_document depth (tree.number raw) =
+        deep (suc depth) (settled c.limits null (held_says (number_of raw))) (number_meaning (limit c) (number_of raw)) (same_number c.limits c.max_depth (number_of raw))
+    same_document depth (tree.string raw) =
+        let o = option_map text (unescaped raw) in
+        deep (suc depth) (settled c.limits null (answer_of o)) o (settled_answer c.limits null o)
+    same_document depth (tree.array es) =
+        deep (suc depth) (option_map array (elements_of (rules_of c) document_says (suc depth) (element_nodes es))) (option_map array (elements_meaning (limit c) (suc depth) es))
+        (ap (option_map array) (same_elements (suc depth) es))
+    same_document depth (tree.object ms) =
+        let whole = λ (pairs : List (List ℕ × Document Number)). object (properties_by pairs) in
+        deep (suc depth) (option_map whole (pairs_of (rules_of c) document_says (suc depth) (member_nodes ms))) (option_map whole (members_meaning (limit c) (suc depth) ms))
+        (ap (option_map whole) (same_members (suc depth) ms))
+
+    same_elements : (depth : ℕ) (es : Elements) → elements_of (rules_of c) document_says depth (element_nodes es) ≡ elements_meaning (limit c) depth es
+    same_elements depth no_elements = refl
+    same_elements depth (element x es) =
+        ap (option_and_then (λ d. option_map (item d) (elements_of (rules_of c) document_says depth (element_nodes es)))) (same_document depth x)
+        ∙ ap (λ o. option_and_then (λ d. option_map (item d) o) (there depth x)) (same_elements depth es)
+
+    same_members : (depth : ℕ) (ms : Members) → pairs_of (rules_of c) document_says depth (member_nodes ms) ≡ members_meaning (limit c) depth ms
+    same_members depth no_members = refl
+    same_members depth (member raw x ms) =
+        ap (λ o. wire.with_pair (unescaped raw) o (pairs_of (rules_of c) document_says depth (member_nodes ms))) (same_document depth x)
+        ∙ ap (wire.with_pair (unescaped raw) (there depth x)) (same_members depth ms)
+        ∙ same_pair (unescaped raw) (there depth x) (members_meaning (limit c) depth ms)
+
+-- ---- what is due in a document lies ahead
+
+begins_ahead : (i : List ℕ) (k entered : Bool) (b c : ℕ) → ValueBegins i b k entered c → b ≤ c
+begins_ahead i true entered b c h = omega (arith, names_ahead i entered b h.0 c h.1)
+begins_ahead i false entered b c h = separated_ahead i entered b c h.0
+
+entries_ahead : (i : List ℕ) (k : Bool) (count b r : ℕ) → EntriesLie k count i b r → b ≤ r
+entries_ahead i k zero b r h = omega (arith, h)
+entries_ahead i k (suc count) b r (q, c, x, entries, begins, lies) = omega (arith, entries_ahead i k count b q entries, begins_ahead i k (has_come count) q c begins, lies.0.0)
+
+due_ahead : (i : List ℕ) (ks : List Bool) (a p : ℕ) → IsDueInside ks i a p → a ≤ p
+due_ahead i [] a p h = omega (arith, h)
+due_ahead i (k ∷ ks) a p (q, b, count, r, outer, opens, entries, begins) =
+    omega (arith, due_ahead i ks a q outer, opens.0, entries_ahead i k count b r entries, begins_ahead i k (has_come count) r p begins)
+
+-- ---- what follows a document
+
+boundary_follows : (d : ℕ) (x : Json) (s : List ℕ) → Follows d x s → Follows 1 x s
+boundary_follows zero (tree.array es) s h = ws_is_boundary s h
+boundary_follows zero (tree.object ms) s h = ws_is_boundary s h
+boundary_follows zero tree.null s h = h
+boundary_follows zero (tree.boolean b) s h = h
+boundary_follows zero (tree.number raw) s h = h
+boundary_follows zero (tree.string raw) s h = h
+boundary_follows (suc d) tree.null s h = h
+boundary_follows (suc d) (tree.boolean b) s h = h
+boundary_follows (suc d) (tree.number raw) s h = h
+boundary_follows (suc d) (tree.string raw) s h = h
+boundary_follows (suc d) (tree.array es) s h = h
+boundary_follows (suc d) (tree.object ms) s h = h
+
+follows_at : (d : ℕ) (x : Json) (s : List ℕ) → Follows 1 x s → FollowsContainer d s → Follows d x s
+follows_at d tree.null s h k = h
+follows_at d (tree.boolean b) s h k = h
+follows_at d (tree.number raw) s h k = h
+follows_at d (tree.string raw) s h k = h
+follows_at d (tree.array es) s h k = k
+follows_at d (tree.object ms) s h k = k
+
+-- ---- documents at a place
+
+module _ (c : Settings) (i : List ℕ) (d a : ℕ) where
+  document_there : (y : Node JsonScalar) (x : Document Number) → document_of (rules_of c) document_says d y ≡ Some x → sort_of y ≡ no_value → ⊥
+  document_there null_node x held is = cc
+  document_there (leaf s) x held is = cc
+  document_there (container f ys) x held is = cc
+  document_there missing x held is = cc
+
+  stands_lies : (x : Document Number) (e : ℕ) → (json_relations c).documents i d a x e → DocumentStands (limit c) d i a x e
+  stands_lies x e (y, lies, held, follows) =
+      let t = lies_tree d y i a e (lies_full d y i a e lies (document_there y x held)) lies in (
+        record {
+          tree = t.0;
+          lies = (t.1.0, boundary_follows d t.0 (drop e i) t.1.1);
+          means = sym (same_document c d t.0) ∙ (ap (document_of (rules_of c) document_says d) t.2 ∙ held);
+        },
+        follows,
+      )
+
+  lies_stands : (x : Document Number) (e : ℕ) → DocumentStands (limit c) d i a x e → (json_relations c).documents i d a x e
+  lies_stands x e (there, follows) = (
+    node_of there.tree,
+    tree_lies d there.tree i a e (there.lies.0, follows_at d there.tree (drop e i) there.lies.1 follows),
+    same_document c d there.tree ∙ there.means,
+    follows,
+  )
+
+  -- from a to e stands a document where a tree lies that means it, and behind it what may follow a container
+  pub documents_are : (x : Document Number) (e : ℕ) → (json_relations c).documents i d a x e ↔ DocumentStands (limit c) d i a x e
+  documents_are x e = (stands_lies x e, lies_stands x e)
+
+  module _ (t : Table) (p : Place) (kind : kind_of t p ≡ document) where
+    -- at a place of documents its value stands there
+    pub value_stands : (x : Document Number) (e : ℕ) → DocumentStands (limit c) d i a x e
+        → (json_relations c).stands i t p d a (document_value (whole_document x)) e × (json_relations c).documents i d a x e
+    value_stands x e there =
+        let h = lies_stands x e there in
+        document_stands json_frames (rules_of c) i t p kind d document_says refl a h.0 x e h.1 h.2 h.3
+
+    -- by the meaning of documents, each number as its whole number alone
+    pub means_document_of : (x : Json) → json_meaning c t p d x ≡ option_map (λ u. document_value (whole_document u)) (document_meaning (limit c) d x)
+    means_document_of x =
+        means_document (rules_of c) t p d (node_of x) kind
+        ∙ ap (option_map (λ u. document_value (whole_document u))) (same_document c d x)
+
+    -- and where no document stands, nothing does
+    pub no_value_stands : NoDocumentStands (limit c) d i a → (v : Value) (e : ℕ) → (json_relations c).stands i t p d a v e → ⊥
+    no_value_stands none v e stands =
+        let y = stands_node json_frames (rules_of c) i t p kind d a v e stands in
+        let x = made (λ u. document_value (whole_document u)) (document_of (rules_of c) document_says d y.0) v y.2 in
+        none x.0 e (stands_lies x.0 e (y.0, y.1, x.1, y.3))
+
+    -- a number that no document holds isn't carried
+    pub other_is_uncarried : MeetsOtherNumber i a → (e : ℕ) × (json_relations c).uncarried i t p d a e
+    other_is_uncarried h =
+        let other = h.other in (
+          other.e,
+          part_uncarried json_frames (rules_of c) i t p kind d document_says refl a 1 h.at (a_number other.raw) other.e (due_ahead i h.containers a h.at h.due)
+              other.lies (ap held_says other.not_held),
+        )
+
+-- ---- what a scalar is as a document
+
+whole_pos : (z : ℤ) (o : Option ℕ) → option_map pos o ≡ Some z → pos (unsigned_abs z) ≡ z
+whole_pos z None h = cc
+whole_pos z (Some n) h = let same : pos n ≡ z = same_some (pos n) z h in subst (λ y. pos (unsigned_abs y) ≡ y) same refl
+
+-- a number that is held is the whole number of its text
+held_whole : (raw : List ℕ) (z : ℤ) → written_number raw ≡ Some z → whole_number (held_as raw z) ≡ z
+held_whole [] z h = cc
+held_whole (b ∷ more) z h = by (b == minus_sign) h
+  where
+    by : (m : Bool) → (if m then option_map (λ n. neg_ℤ (pos n)) (natural_number more) else option_map pos (natural_number (b ∷ more))) ≡ Some z
+        → whole_number (if m then NegInt z else PosInt (unsigned_abs z)) ≡ z
+    by true h = refl
+    by false h = whole_pos z (natural_number (b ∷ more)) h
+
+number_fits : (raw : List ℕ) (n : Number) → number_of raw ≡ Some n → DocumentFits (whole_document (documents.number n))
+number_fits raw n h =
+    let z = step_apart (written_number raw) (λ z. if can_be_held z then Some (held_as raw z) else None) n h in
+    let size = chosen (can_be_held z.0) (Some (held_as raw z.0)) n z.2 in
+    let same : held_as raw z.0 ≡ n = same_some (held_as raw z.0) n size.1 in
+    subst (λ m. can_be_held (whole_number m) ≡ true) same (rw (held_whole raw z.0 z.1) size.0)
+
+held_means : (o : Option Number) (v : Document Number) → held_says o ≡ means v → (n : Number) × (o ≡ Some n) × (documents.number n ≡ v)
+held_means None v h = cc
+held_means (Some n) v h = (n, refl, cc)
+
+-- it is a document without parts, and one that can be a value
+pub says_document : (i : List ℕ) (d : ℕ) (x : JsonScalar) (a e : ℕ) → json_frames.scalar i d x a e → (v : Document Number) → document_says x ≡ means v
+    → DocumentFits (whole_document v) × (document_nesting v ≡ 1)
+says_document i d (a_boolean b) a e lies v h =
+    let same : documents.boolean b ≡ v = cc in
+    subst (λ u. DocumentFits (whole_document u) × (document_nesting u ≡ 1)) same (tt, refl)
+says_document i d (a_number raw) a e lies v h =
+    let n = held_means (number_of raw) v h in
+    subst (λ u. DocumentFits (whole_document u) × (document_nesting u ≡ 1)) n.2 (number_fits raw n.0 n.1, refl)
+says_document i d (a_string raw) a e lies v h =
+    let s = made text (unescaped raw) v (answer_means (option_map text (unescaped raw)) v h) in
+    subst (λ u. DocumentFits (whole_document u) × (document_nesting u ≡ 1)) s.2 (text_is_utf8 i d (a_string raw) a e lies s.0 s.1, refl)

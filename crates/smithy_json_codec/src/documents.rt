@@ -1,0 +1,319 @@
+//! Documents: JSON values of no shape, read in one pass.
+
+ghost use Rattle.std.specs.Prelude.{◌≡◌, ◌≤◌, ℕ, [], ◌∷◌, length, vec_items, string_bytes, Some, IfOk, IfErr, MatchOption, MatchResult};
+ghost use Rattle.smithy_schema.specs.declared.error.SerdeError.TheVariants.{NoMemory};
+ghost use Rattle.smithy_types.specs.DocumentView.{document_view, elements_view, properties_view};
+ghost use Rattle.smithy_json_codec.specs.Documents.{DocumentLies, RefusesDocument, DocumentStands, RefusesStanding};
+ghost use Rattle.smithy_json_codec.specs.Private.OpenDocuments.{open_array, open_object, with_value, fresh, open_view, frame_view, frames_view, TakesValue, TakesStep};
+
+mod scalars;
+#[cfg(test)]
+mod tests;
+
+use crate::documents::scalars::{Begun, document_begun};
+use crate::places::{InList, InObject, may_end, next_in_list, next_in_object};
+use crate::skip::{GREATEST_DEPTH, begins_value};
+use crate::texts::owned_text;
+use smithy_schema::SerdeError;
+use smithy_types::Document;
+use std::alloc::Global;
+use std::collections::BTreeMap;
+
+/// A depth at which a container ends before any boundary, as inside of another one.
+const INNER_DEPTH: usize = 2;
+
+// The innermost open container of a document: an array with its elements so far, or an object with
+// its properties so far.
+#[derive(Drop)]
+enum Open {
+    Array(Vec<Document>),
+    Object(BTreeMap<String, Document>),
+}
+
+// A container in which a value is due that is being read: the next element, or that of a name.
+#[derive(Drop)]
+enum Frame {
+    InArray(Vec<Document>),
+    BehindName(BTreeMap<String, Document>, String),
+}
+
+// One step inside of the innermost container: it takes a scalar that ends at the offset, or waits for
+// an object or an array with its inside at the offset, or is whole and ends at the offset.
+#[derive(Drop)]
+enum Step {
+    Inside(Open, usize),
+    Opens(Frame, bool, usize),
+    Ends(Document, usize),
+}
+
+// A container that has just opened.
+#[inline(always)]
+fn fresh(alloc: Global, is_object: bool) -> Open
+    ensures { open_view result ≡ fresh is_object }
+{
+    if is_object {
+        Open::Object(BTreeMap::new(alloc))
+    } else {
+        Open::Array(Vec::new(alloc))
+    }
+}
+
+#[inline(always)]
+fn with_element(elements: Vec<Document>, value: Document) -> Result<Open, SerdeError>
+    ensures { MatchResult result (λ o. open_view o ≡ with_value (frame_view (Frame.InArray elements)) (document_view value)) (λ e. e ≡ NoMemory) }
+{
+    let mut elements = elements;
+    elements.push(value)?;
+    Ok(Open::Array(elements))
+}
+
+#[inline(always)]
+fn with_property(
+    properties: BTreeMap<String, Document>,
+    name: String,
+    value: Document,
+) -> Result<Open, SerdeError>
+    ensures { MatchResult result (λ o. open_view o ≡ with_value (frame_view (Frame.BehindName properties name)) (document_view value)) (λ e. e ≡ NoMemory) }
+{
+    let mut properties = properties;
+    drop(properties.insert(name, value)?);
+    Ok(Open::Object(properties))
+}
+
+// The container with the value that was due.
+#[inline(always)]
+fn with_value(frame: Frame, value: Document) -> Result<Open, SerdeError>
+    ensures { MatchResult result (λ o. open_view o ≡ with_value (frame_view frame) (document_view value)) (λ e. e ≡ NoMemory) }
+{
+    match frame {
+        Frame::InArray(elements) => with_element(elements, value),
+        Frame::BehindName(properties, name) => with_property(properties, name, value),
+    }
+}
+
+// What is wrong where a value is due inside of as many containers as there may be.
+#[cold]
+#[inline(never)]
+fn fault_at_limit(input: &[u8], at: usize) -> SerdeError
+    requires { at ≤ length input.now }
+    ensures { (n : ℕ) → RefusesDocument n n input.now at result }
+{
+    if begins_value(input, at) {
+        SerdeError::TooDeep
+    } else {
+        SerdeError::InvalidInput
+    }
+}
+
+// The step to the value that is due at the offset, inside of so many containers, for which the
+// innermost waits.
+#[inline(always)]
+fn value_step(
+    alloc: Global,
+    input: &[u8],
+    at: usize,
+    frame: Frame,
+    depth: usize,
+    max_depth: usize,
+) -> Result<Step, SerdeError>
+    requires within { at ≤ length input.now }
+    requires shallow { depth ≤ max_depth }
+    ensures { TakesValue max_depth depth input.now at (frame_view frame) result }
+{
+    if depth >= max_depth {
+        return Err(fault_at_limit(input, at));
+    }
+    match document_begun(alloc, input, at) {
+        Ok(Begun::Scalar(value, end)) => match with_value(frame, value) {
+            Ok(more) => Ok(Step::Inside(more, end)),
+            Err(error) => Err(error),
+        },
+        Ok(Begun::Container(is_object, inside)) => Ok(Step::Opens(frame, is_object, inside)),
+        Err(error) => Err(error),
+    }
+}
+
+#[inline(always)]
+fn array_step(
+    alloc: Global,
+    input: &[u8],
+    at: usize,
+    entered: bool,
+    elements: Vec<Document>,
+    depth: usize,
+    max_depth: usize,
+) -> Result<Step, SerdeError>
+    requires within { at ≤ length input.now }
+    requires shallow { depth ≤ max_depth }
+    ensures { TakesStep max_depth depth input.now at entered (open_array (elements_view elements.items)) result }
+{
+    match next_in_list(input, at, entered, INNER_DEPTH) {
+        Some(InList::Element(start)) => {
+            value_step(
+                alloc,
+                input,
+                start,
+                Frame::InArray(elements),
+                depth,
+                max_depth,
+            )
+        }
+        Some(InList::End(end)) => Ok(Step::Ends(Document::Array(elements), end)),
+        None => Err(SerdeError::InvalidInput),
+    }
+}
+
+#[inline(always)]
+fn object_step(
+    alloc: Global,
+    input: &[u8],
+    at: usize,
+    entered: bool,
+    properties: BTreeMap<String, Document>,
+    depth: usize,
+    max_depth: usize,
+) -> Result<Step, SerdeError>
+    requires within { at ≤ length input.now }
+    requires shallow { depth ≤ max_depth }
+    ensures { TakesStep max_depth depth input.now at entered (open_object (properties_view properties.entries)) result }
+{
+    match next_in_object(input, at, entered, INNER_DEPTH) {
+        Some(InObject::Member(name)) => match owned_text(alloc, name.raw, name.has_escape) {
+            Ok(key) => {
+                let frame = Frame::BehindName(properties, key);
+                value_step(alloc, input, name.end, frame, depth, max_depth)
+            }
+            Err(error) => Err(error),
+        },
+        Some(InObject::End(end)) => Ok(Step::Ends(Document::Object(properties), end)),
+        None => Err(SerdeError::InvalidInput),
+    }
+}
+
+// The next step inside of the innermost of so many containers.
+#[inline(always)]
+fn next_step(
+    alloc: Global,
+    input: &[u8],
+    at: usize,
+    entered: bool,
+    inner: Open,
+    depth: usize,
+    max_depth: usize,
+) -> Result<Step, SerdeError>
+    requires within { at ≤ length input.now }
+    requires shallow { depth ≤ max_depth }
+    ensures { TakesStep max_depth depth input.now at entered (open_view inner) result }
+{
+    match inner {
+        Open::Array(elements) => {
+            array_step(alloc, input, at, entered, elements, depth, max_depth)
+        }
+        Open::Object(properties) => {
+            object_step(alloc, input, at, entered, properties, depth, max_depth)
+        }
+    }
+}
+
+// One more container that waits, the innermost.
+#[tactic(auto, using(crate::proofs::DocumentFrames::frames_push))]
+fn push(frames: &mut Vec<Frame>, frame: Frame) -> Result<(), SerdeError>
+    ensures { MatchResult result (λ _. frames_view (vec_items frames.new) ≡ frame_view frame ∷ frames_view (vec_items frames.old)) (λ e. e ≡ NoMemory) }
+{
+    match frames.push(frame) {
+        Ok(()) => Ok(()),
+        Err(_) => Err(SerdeError::NoMemory),
+    }
+}
+
+// The innermost container that waits, which leaves.
+fn pop(frames: &mut Vec<Frame>) -> Option<Frame>
+    ensures { MatchOption result (frames_view (vec_items frames.old) ≡ []) (λ frame. frames_view (vec_items frames.old) ≡ frame_view frame ∷ frames_view (vec_items frames.new)) }
+{
+    frames.pop()
+}
+
+/// The document at the offset inside of so many containers, with its end. Each of its values counts as
+/// one more container than it stands in, and no more than `max_depth` may be open at once.
+///
+/// The first fault is answered: a value too deep, a number that no document holds, or what is no
+/// document whatever the limits.
+fn document_at(
+    alloc: Global,
+    input: &[u8],
+    at: usize,
+    depth: usize,
+    max_depth: usize,
+) -> Result<(Document, usize), SerdeError>
+    requires within { at ≤ length input.now }
+    requires shallow { depth ≤ max_depth }
+    ensures ok { IfOk result (λ r. DocumentLies (Some max_depth) depth input.now at (document_view r.0) r.1) }
+    ensures refused { IfErr result (RefusesDocument max_depth depth input.now at) }
+{
+    if depth >= max_depth {
+        return Err(fault_at_limit(input, at));
+    }
+    let (is_object, mut at) = match document_begun(alloc, input, at) {
+        Ok(Begun::Scalar(value, end)) => return Ok((value, end)),
+        Ok(Begun::Container(is_object, inside)) => (is_object, inside),
+        Err(error) => return Err(error),
+    };
+    let mut frames = Vec::new(alloc);
+    let mut inner = fresh(alloc, is_object);
+    let mut entered = false;
+    'steps: loop {
+        let inside_depth = depth + frames.len() + 1;
+        let step = match next_step(alloc, input, at, entered, inner, inside_depth, max_depth) {
+            Ok(step) => step,
+            Err(error) => return Err(error),
+        };
+        match step {
+            Step::Inside(more, end) => {
+                inner = more;
+                entered = true;
+                at = end;
+            }
+            Step::Opens(frame, is_object, inside) => {
+                push(&mut frames, frame)?;
+                inner = fresh(alloc, is_object);
+                entered = false;
+                at = inside;
+            }
+            Step::Ends(value, end) => {
+                let Some(frame) = pop(&mut frames) else {
+                    return Ok((value, end));
+                };
+                inner = with_value(frame, value)?;
+                entered = true;
+                at = end;
+            }
+        }
+    }
+}
+
+/// The same of a place behind which comes what may follow a container inside of so many others: outside
+/// of all that is blanks.
+pub(crate) fn standing_document_at(
+    alloc: Global,
+    input: &[u8],
+    at: usize,
+    depth: usize,
+    max_depth: usize,
+) -> Result<(Document, usize), SerdeError>
+    requires within { at ≤ length input.now }
+    requires shallow { depth ≤ max_depth }
+    requires greatest { max_depth ≤ GREATEST_DEPTH }
+    ensures ok { IfOk result (λ r. DocumentStands (Some max_depth) depth input.now at (document_view r.0) r.1) }
+    ensures refused { IfErr result (RefusesStanding max_depth depth input.now at) }
+{
+    match document_at(alloc, input, at, depth, max_depth) {
+        Ok((document, end)) => {
+            if may_end(input, end, depth + 1) {
+                Ok((document, end))
+            } else {
+                Err(SerdeError::InvalidInput)
+            }
+        }
+        Err(error) => Err(error),
+    }
+}

@@ -1,0 +1,151 @@
+//! How a document's value begins, and its scalars.
+
+ghost use Rattle.std.specs.Prelude.{◌≡◌, ◌⊎◌, ◌<◌, ◌≤◌, ◌==◌, ℕ, ℤ, List, length, slice_index, unsigned_abs, IfOk, IfErr, IsErrOf, if◌then◌else◌};
+ghost use Rattle.std.specs.Char.{IsAsciiDigit};
+ghost use Rattle.smithy_schema.specs.Reading.{IsInvalid};
+ghost use Rattle.smithy_schema.specs.declared.error.SerdeError.TheVariants.{InvalidInput, NotCarried, NoMemory};
+ghost use Rattle.smithy_types.specs.declared.number.Number.TheVariants.{PosInt, NegInt};
+ghost use Rattle.smithy_json.specs.Ascii.{minus_sign, begin_array, begin_object};
+ghost use Rattle.smithy_json.specs.HeldNumber.{number_of};
+ghost use Rattle.smithy_json.specs.Tree.{number};
+ghost use Rattle.smithy_json_codec.specs.Documents.{OtherNumberLies};
+ghost use Rattle.smithy_json_codec.specs.Standing.{TreeLies};
+ghost use Rattle.smithy_json_codec.specs.Private.NextInContainer.{IsFirstByte};
+ghost use Rattle.smithy_json_codec.specs.Private.ScalarAtPlace.{WholeLies};
+ghost use Rattle.smithy_json_codec.specs.Private.OpenDocuments.{HeldNumberLies, BeginsDocument};
+
+use crate::numbers::number_at;
+use crate::places::{first_byte, null_end};
+use crate::texts::text_at;
+use crate::values::{boolean_at, long_at};
+use smithy_json::{number_of_long, number_of_text};
+use smithy_schema::SerdeError;
+use smithy_types::{Document, Number};
+use std::alloc::Global;
+
+// How a value begins: as a scalar that is read, with its end, or as an object or an array, with the
+// offset of its inside.
+#[derive(Drop)]
+pub(crate) enum Begun {
+    Scalar(Document, usize),
+    Container(bool, usize),
+}
+
+// The number at the offset, with its end. It stays a call, so that the common case is short.
+#[inline(never)]
+fn large_number_at(input: &[u8], at: usize) -> Result<(Number, usize), SerdeError>
+    requires { at ≤ length input.now }
+    ensures found { IfOk result (λ r. HeldNumberLies input.now at r.0 r.1) }
+    ensures none { IsInvalid result → (raw : List ℕ) (e : ℕ) → TreeLies 1 (number raw) input.now at e → ⊥ }
+    ensures other { IsErrOf result NotCarried → OtherNumberLies input.now at }
+    ensures kind { IfErr result (λ e. (e ≡ InvalidInput) ⊎ (e ≡ NotCarried)) }
+{
+    let Some((text, end)) = number_at(input, at) else {
+        return Err(SerdeError::InvalidInput);
+    };
+    match number_of_text(text) {
+        Some(number) => Ok((number, end)),
+        None => Err(SerdeError::NotCarried),
+    }
+}
+
+// The number at the offset, which begins with this byte, with its end.
+#[inline(always)]
+fn held_number_at(input: &[u8], at: usize, first: u8) -> Result<(Number, usize), SerdeError>
+    requires first { IsFirstByte input.now at first at }
+    ensures found { IfOk result (λ r. HeldNumberLies input.now at r.0 r.1) }
+    ensures none { IsInvalid result → (raw : List ℕ) (e : ℕ) → TreeLies 1 (number raw) input.now at e → ⊥ }
+    ensures other { IsErrOf result NotCarried → OtherNumberLies input.now at }
+    ensures kind { IfErr result (λ e. (e ≡ InvalidInput) ⊎ (e ≡ NotCarried)) }
+{
+    match long_at(input, at) {
+        Some((value, end)) => Ok((number_of_long(first == b'-', value), end)),
+        None => large_number_at(input, at),
+    }
+}
+
+fn text_begun(alloc: Global, input: &[u8], at: usize) -> Result<Begun, SerdeError>
+    requires { IsFirstByte input.now at 0x22 at }
+    ensures { BeginsDocument input.now at result }
+{
+    match text_at(alloc, input, at) {
+        Ok((text, end)) => Ok(Begun::Scalar(Document::String(text), end)),
+        Err(error) => Err(error),
+    }
+}
+
+fn null_begun(input: &[u8], at: usize) -> Result<Begun, SerdeError>
+    requires { IsFirstByte input.now at 0x6e at }
+    ensures { BeginsDocument input.now at result }
+{
+    match null_end(input, at) {
+        Some(end) => Ok(Begun::Scalar(Document::Null, end)),
+        None => Err(SerdeError::InvalidInput),
+    }
+}
+
+fn boolean_begun(input: &[u8], at: usize, first: u8) -> Result<Begun, SerdeError>
+    requires first { IsFirstByte input.now at first at }
+    requires letter { (first ≡ 0x74) ⊎ (first ≡ 0x66) }
+    ensures { BeginsDocument input.now at result }
+{
+    match boolean_at(input, at) {
+        Some((value, end)) => Ok(Begun::Scalar(Document::Bool(value), end)),
+        None => Err(SerdeError::InvalidInput),
+    }
+}
+
+#[inline(always)]
+fn number_begun(input: &[u8], at: usize, first: u8) -> Result<Begun, SerdeError>
+    requires first { IsFirstByte input.now at first at }
+    requires no_string { first ≡ 0x22 → ⊥ }
+    requires no_null { first ≡ 0x6e → ⊥ }
+    requires no_true { first ≡ 0x74 → ⊥ }
+    requires no_false { first ≡ 0x66 → ⊥ }
+    requires no_array { first ≡ begin_array → ⊥ }
+    requires no_object { first ≡ begin_object → ⊥ }
+    ensures { BeginsDocument input.now at result }
+{
+    match held_number_at(input, at, first) {
+        Ok((number, end)) => Ok(Begun::Scalar(Document::Number(number), end)),
+        Err(error) => Err(error),
+    }
+}
+
+// The scalar at the offset, which begins with this byte.
+#[inline(always)]
+fn scalar_begun(alloc: Global, input: &[u8], at: usize, first: u8) -> Result<Begun, SerdeError>
+    requires first { IsFirstByte input.now at first at }
+    requires no_array { first ≡ begin_array → ⊥ }
+    requires no_object { first ≡ begin_object → ⊥ }
+    ensures { BeginsDocument input.now at result }
+{
+    if first == b'"' {
+        return text_begun(alloc, input, at);
+    }
+    if first == b'n' {
+        return null_begun(input, at);
+    }
+    if first == b't' || first == b'f' {
+        return boolean_begun(input, at, first);
+    }
+    number_begun(input, at, first)
+}
+
+/// How the value begins that comes first behind blanks.
+#[inline(always)]
+pub(crate) fn document_begun(alloc: Global, input: &[u8], at: usize) -> Result<Begun, SerdeError>
+    requires { at ≤ length input.now }
+    ensures { BeginsDocument input.now at result }
+{
+    let Some((first, start)) = first_byte(input, at) else {
+        return Err(SerdeError::InvalidInput);
+    };
+    if first == b'[' {
+        return Ok(Begun::Container(false, start + 1));
+    }
+    if first == b'{' {
+        return Ok(Begun::Container(true, start + 1));
+    }
+    scalar_begun(alloc, input, start, first)
+}

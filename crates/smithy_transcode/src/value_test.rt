@@ -1,0 +1,164 @@
+//! Tests of a value: which of its instants pass by the time form of their place, and whether documents do.
+ghost use Rattle.std.specs.Prelude.{◌≡◌, map as mapped, true};
+ghost use Rattle.smithy_schema.specs.Fits.{FitsOr};
+ghost use Rattle.smithy_schema.specs.ScalarTest.{scalars_pass};
+ghost use Rattle.smithy_schema.specs.Site.{site_of};
+ghost use Rattle.smithy_schema.specs.TimeForms.{format_of, form_or};
+ghost use Rattle.smithy_schema.specs.Value.{instant, list, map, structure, values_of};
+ghost use Rattle.smithy_transcode.specs.Private.Tree.{entries as entries_left, entry_views, member_views};
+ghost use Rattle.smithy_transcode.specs.Private.ValueTest.{instant_passes as passes_as, test_view};
+ghost use Rattle.smithy_transcode.specs.Wires.{wire_of, holds};
+
+use crate::entry_iter::EntryIter;
+use crate::tree::{Part, Tree};
+use crate::wire::Wire;
+use smithy_schema::{Schema, TimestampFormat};
+use smithy_types::{DateTime, Format};
+
+/// Which instants pass.
+#[derive(Clone, Copy)]
+pub(crate) enum InstantTest {
+    /// Each.
+    Any,
+    /// Those of whole seconds.
+    WholeSeconds,
+    /// Those that the form of their place holds, or this one where the place has none.
+    InForm(TimestampFormat),
+}
+
+/// Which values pass: those of which each instant does, and where documents don't, no part is a document.
+#[derive(Clone, Copy)]
+pub(crate) struct ValueTest {
+    pub instants: InstantTest,
+    pub documents: bool,
+}
+
+// What the wire writes for a value that passes stands for exactly it.
+pub(crate) fn test_of(wire: &Wire) -> ValueTest
+    ensures { test_view result ≡ holds (wire_of wire.now) }
+{
+    match wire {
+        Wire::Json { use_json_name: _ } => ValueTest {
+            instants: InstantTest::InForm(TimestampFormat::EpochSeconds),
+            documents: true,
+        },
+        Wire::Cbor => ValueTest {
+            instants: InstantTest::WholeSeconds,
+            documents: false,
+        },
+        Wire::Query {
+            action: _,
+            version: _,
+        } => ValueTest {
+            instants: InstantTest::InForm(TimestampFormat::DateTime),
+            documents: false,
+        },
+    }
+}
+
+// The form of instants at the place of the schema: its own, or else the one by default.
+fn format_at(schema: &Schema<'_>, default: TimestampFormat) -> Format
+    ensures { result ≡ format_of (form_or default (site_of schema.now).place.time) }
+{
+    schema.timestamp_format().unwrap_or(default).format()
+}
+
+// An instant at the place of the schema passes.
+fn instant_passes(schema: &Schema<'_>, value: DateTime, test: InstantTest) -> bool
+    ensures { result ≡ passes_as test (site_of schema.now).place.time (instant value) }
+{
+    match test {
+        InstantTest::Any => true,
+        InstantTest::WholeSeconds => !value.has_subsec_nanos(),
+        InstantTest::InForm(default) => value.holds(format_at(schema, default)),
+    }
+}
+
+// A value of the schema's place, or a null element, passes.
+#[cycle(passing)]
+pub(crate) fn value_passes<T: Tree>(schema: &Schema<'_>, value: &T, test: ValueTest) -> bool
+    requires fits { FitsOr schema.now.shapes.now schema.now.place true (T.view value.now) }
+    ensures { result ≡ scalars_pass (test_view test) (site_of schema.now) (T.view value.now) }
+{
+    match value.part() {
+        Part::Timestamp(value) => instant_passes(schema, value, test.instants),
+        Part::Document(_) => test.documents,
+        Part::Boolean(_)
+        | Part::Whole(_)
+        | Part::Text(_)
+        | Part::Bytes(_)
+        | Part::Decimal(_, _)
+        | Part::Wholes(_)
+        | Part::UnionText(_, _)
+        | Part::Null => true,
+        Part::List(elements) => elements_pass::<T>(schema, elements, test),
+        Part::Map(entries) => entries_pass::<T>(schema, entries, test),
+        Part::Structure(members) => members_pass::<T>(schema, members, test),
+        Part::Union(index, inner) => {
+            let Some(member) = schema.member_at(index) else {
+                unreachable!()
+            };
+            value_passes::<T>(&member, inner, test)
+        }
+    }
+}
+
+#[cycle(passing)]
+fn elements_pass<T: Tree>(schema: &Schema<'_>, elements: &[T], test: ValueTest) -> bool
+    requires fits { FitsOr schema.now.shapes.now schema.now.place true (list (values_of (mapped T.view elements.now))) }
+    ensures { result ≡ scalars_pass (test_view test) (site_of schema.now) (list (values_of (mapped T.view elements.now))) }
+{
+    let Some(member) = schema.member() else {
+        unreachable!()
+    };
+    let element_schema = member.nameless();
+    for element in elements {
+        if !value_passes::<T>(&element_schema, element, test) {
+            return false;
+        }
+    }
+    true
+}
+
+#[cycle(passing)]
+fn entries_pass<T: Tree>(
+    schema: &Schema<'_>,
+    entries: EntryIter<'_, String, T>,
+    test: ValueTest,
+) -> bool
+    requires fits { FitsOr schema.now.shapes.now schema.now.place true (map (entry_views T.view (entries_left entries))) }
+    ensures { result ≡ scalars_pass (test_view test) (site_of schema.now) (map (entry_views T.view (entries_left entries.entry))) }
+{
+    let Some(member) = schema.member() else {
+        unreachable!()
+    };
+    let value_schema = member.nameless();
+    let mut left = entries;
+    while let Some((_, value)) = left.next_entry() {
+        if !value_passes::<T>(&value_schema, value, test) {
+            return false;
+        }
+    }
+    true
+}
+
+#[cycle(passing)]
+fn members_pass<T: Tree>(
+    schema: &Schema<'_>,
+    members: EntryIter<'_, u32, T>,
+    test: ValueTest,
+) -> bool
+    requires fits { FitsOr schema.now.shapes.now schema.now.place true (structure (member_views T.view (entries_left members))) }
+    ensures { result ≡ scalars_pass (test_view test) (site_of schema.now) (structure (member_views T.view (entries_left members.entry))) }
+{
+    let mut left = members;
+    while let Some((position, member)) = left.next_entry() {
+        let Some(member_schema) = schema.member_at(*position) else {
+            unreachable!()
+        };
+        if !value_passes::<T>(&member_schema, member, test) {
+            return false;
+        }
+    }
+    true
+}

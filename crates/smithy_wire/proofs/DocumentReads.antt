@@ -1,0 +1,148 @@
+-- A read of a document: what was found stands there, and why nothing was.
+use Rattle.std.proofs.Common.{◌≡◌, ◌≤◌, ℕ, length, Bool, true, false, refl, sym, ◌∙◌, ap, subst, ◌⊎◌, inl, inr}
+use Rattle.std.specs.Prelude.{IsErrOf, Result, Ok, Err, OnErr, IfOk, IfErr, IsOk, if◌then◌else◌}
+use Rattle.smithy_types.specs.Document.{whole_document}
+use Rattle.smithy_types.specs.DocumentView.{document_view}
+use Rattle.smithy_types.specs.declared.document.Document.{Document}
+use Rattle.smithy_schema.specs.declared.error.SerdeError.{SerdeError}
+use Rattle.smithy_schema.specs.declared.error.SerdeError.TheVariants.{InvalidInput, TooDeep, NotCarried, Failed, NoMemory}
+use Rattle.smithy_schema.specs.declared.place.Place.{Place}
+use Rattle.smithy_schema.specs.Table.{document_place}
+use Rattle.smithy_schema.specs.Site.{Site}
+use Rattle.smithy_schema.specs.Value.{document_value}
+use Rattle.smithy_schema.specs.Reading.{Cursor, depth, Relations, IsLawful, StandsNot, IsRefused, IsInvalid, Uncarried, ReachesDepth, ReadsDocument, failed_at, passed_to}
+use Rattle.smithy_wire.proofs.ScalarReads.{fails_again, conducts, goes_on}
+
+module _ (w u : Relations) (is_strict : Type 0) (max : ℕ) (site : Site) where
+  abbrev Says : Cursor → Cursor → Result Document SerdeError → Type 0
+  Says old new result = ReadsDocument w u is_strict max old new site result
+
+  abbrev at : Place
+  at = document_place site.place.time
+
+  failed_before : (old new : Cursor) → new ≡ failed_at old → old.at ≤ length old.input → old.failed ≡ true → Says old new (Err Failed)
+  failed_before old new stays within failed = record {
+    conduct = fails_again old new stays within failed;
+    deep = λ h. cc;
+    narrow = λ h. cc;
+    uncarried = λ h. cc;
+    undue = λ h. tt;
+    ok = tt;
+    variants = tt;
+    refused = λ fault. absurd fault;
+    would = λ strict fault. absurd fault;
+  }
+
+  -- the input is refused, where nothing stands or no value is due
+  pub refuses : (old new : Cursor) → new ≡ failed_at old → old.at ≤ length old.input → old.failed ≡ false
+      → (old.due ≡ true → StandsNot w old site.table at × StandsNot u old site.table at) → Says old new (Err InvalidInput)
+  refuses old new stays within sound none = record {
+    conduct = conducts old new InvalidInput stays within sound (λ h. cc) (λ h. cc) (λ h. cc);
+    deep = λ h. cc;
+    narrow = λ h. cc;
+    uncarried = λ h. cc;
+    undue = λ h. tt;
+    ok = tt;
+    variants = tt;
+    refused = λ fault due. (none due).0;
+    would = λ strict fault due. (none due).1;
+  }
+
+  -- want of memory
+  pub runs_out : (old new : Cursor) → new ≡ failed_at old → old.at ≤ length old.input → old.failed ≡ false → Says old new (Err NoMemory)
+  runs_out old new stays within sound = record {
+    conduct = conducts old new NoMemory stays within sound (λ h. cc) (λ h. cc) (λ h. cc);
+    deep = λ h. cc;
+    narrow = λ h. cc;
+    uncarried = λ h. cc;
+    undue = λ h. tt;
+    ok = tt;
+    variants = tt;
+    refused = λ fault. absurd fault;
+    would = λ strict fault. absurd fault;
+  }
+
+  -- a document that nests too deep
+  pub is_too_deep : (old new : Cursor) → new ≡ failed_at old → old.at ≤ length old.input → old.failed ≡ false → old.due ≡ true
+      → ReachesDepth w max old → StandsNot w old site.table at → Says old new (Err TooDeep)
+  is_too_deep old new stays within sound due reaches none = record {
+    conduct = conducts old new TooDeep stays within sound (λ h. cc) (λ h. cc) (λ h. cc);
+    deep = λ h. reaches;
+    narrow = λ h. cc;
+    uncarried = λ h. cc;
+    undue = λ h. absurd (let both : true ≡ false = sym due ∙ h in cc);
+    ok = tt;
+    variants = tt;
+    refused = λ fault due. none;
+    would = λ strict fault. absurd fault;
+  }
+
+  -- what no document carries
+  pub carries_not : (old new : Cursor) → new ≡ failed_at old → old.at ≤ length old.input → old.failed ≡ false → old.due ≡ true
+      → Uncarried w old site.table at → StandsNot w old site.table at → Says old new (Err NotCarried)
+  carries_not old new stays within sound due there none = record {
+    conduct = conducts old new NotCarried stays within sound (λ h. cc) (λ h. cc) (λ h. cc);
+    deep = λ h. cc;
+    narrow = λ h. cc;
+    uncarried = λ h. there;
+    undue = λ h. absurd (let both : true ≡ false = sym due ∙ h in cc);
+    ok = tt;
+    variants = tt;
+    refused = λ fault due. none;
+    would = λ strict fault. absurd fault;
+  }
+
+  -- a reader that isn't ready answers so
+  pub not_ready : (old new : Cursor) (e : SerdeError) → ◌≡◌ {A = Result Unit SerdeError} (Err e) (if old.failed then Err Failed else (if old.due then Ok tt else Err InvalidInput))
+      → new ≡ failed_at old → old.at ≤ length old.input → Says old new (Err e)
+  not_ready old new e answer stays within = by old.failed old.due refl refl answer
+    where
+      by : (failed due : Bool) → old.failed ≡ failed → old.due ≡ due → ◌≡◌ {A = Result Unit SerdeError} (Err e) (if failed then Err Failed else (if due then Ok tt else Err InvalidInput)) → Says old new (Err e)
+      by true due failed is answer = let same : e ≡ Failed = cc in rw same (failed_before old new stays within failed)
+      by false true sound is answer = cc
+      by false false sound is answer =
+          let same : e ≡ InvalidInput = cc in
+          rw same (refuses old new stays within sound (λ due. absurd (let both : true ≡ false = sym due ∙ is in cc)))
+
+  module _ (laws : IsLawful w) (old : Cursor) (sound : old.failed ≡ false) (due : old.due ≡ true) (within : old.at ≤ length old.input) where
+    -- a document stands from where the reader is to e
+    abbrev pub Stands : Document → ℕ → Type 0
+    Stands x e =
+        w.stands old.input site.table at (depth old) old.at (document_value (whole_document (document_view x))) e
+        × w.documents old.input (depth old) old.at (document_view x) e
+
+    reads : (new : Cursor) (x : Document) (e : ℕ) → Stands x e → new ≡ passed_to old e → Says old new (Ok x)
+    reads new x e stands passed =
+        let ends = laws.stands_within old.input site.table at (depth old) old.at (document_value (whole_document (document_view x))) e stands.0 in
+        rw passed (record {
+          conduct = goes_on old (passed_to old e) x sound ends.0 ends.1;
+          deep = λ h. cc;
+          narrow = λ h. cc;
+          uncarried = λ h. cc;
+          undue = λ h. absurd (let both : true ≡ false = sym due ∙ h in cc);
+          ok = record { stands = stands.0; passes = record { input = refl; inner = refl; outer = refl; due = refl; failed = sound } };
+          variants = stands.1;
+          refused = λ fault. absurd fault;
+          would = λ strict fault. absurd fault;
+        })
+
+    -- of what was found, or not
+    pub takes_document : (new : Cursor) (found : Result (Document × ℕ) SerdeError) (result : Result Document SerdeError) → IfOk found (λ r. Stands r.0 r.1)
+        → IfErr found (λ e. (e ≡ InvalidInput) ⊎ (e ≡ TooDeep) ⊎ (e ≡ NotCarried) ⊎ (e ≡ NoMemory))
+        → (IsRefused found → StandsNot w old site.table at) → (IsInvalid found → StandsNot u old site.table at)
+        → (IsErrOf found TooDeep → ReachesDepth w max old) → (IsErrOf found NotCarried → Uncarried w old site.table at)
+        → IfOk result (λ x. IfOk found (λ r. (r.0 ≡ x) × (new ≡ passed_to old r.1))) → (IsOk result → IsOk found)
+        → OnErr result (new ≡ failed_at old) → IfErr result (λ e. found ≡ Err e) → Says old new result
+    takes_document new (Ok r) (Ok x) stands kind none would deep cause taken some stays error = subst (λ y. Says old new (Ok y)) taken.0 (reads new r.0 r.1 stands taken.1)
+    takes_document new (Err e) (Ok x) stands kind none would deep cause taken some stays error = absurd (let no' = some refl in cc)
+    takes_document new (Ok r) (Err e) stands kind none would deep cause taken some stays error = absurd (let no' : ◌≡◌ {A = Result (Document × ℕ) SerdeError} (Ok r) (Err e) = error in cc)
+    takes_document new (Err g) (Err e) stands kind none would deep cause taken some stays error = by kind
+      where
+        same : g ≡ e
+        same = cc
+
+        by : (g ≡ InvalidInput) ⊎ (g ≡ TooDeep) ⊎ (g ≡ NotCarried) ⊎ (g ≡ NoMemory) → Says old new (Err e)
+        by (inl is) = rw (← same, is) (refuses old new stays within sound (λ due. (none (rw is tt), would (rw is tt))))
+        by (inr (inl is)) = rw (← same, is) (is_too_deep old new stays within sound due (deep (ap Err is)) (none (rw is tt)))
+        by (inr (inr (inl is))) = rw (← same, is) (carries_not old new stays within sound due (cause (ap Err is)) (none (rw is tt)))
+        by (inr (inr (inr is))) = rw (← same, is) (runs_out old new stays within sound)
