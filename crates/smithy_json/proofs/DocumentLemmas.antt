@@ -1,13 +1,13 @@
 -- What has a meaning as a document: its parts, and that it has the same under a greater depth.
 use Rattle.std.proofs.Common.{◌≡◌, ◌≤◌, ℕ, suc, List, ◌∷◌, Bool, true, false, cond, nat_le, Option, Some, None, option_map, option_and_then, refl, sym, ap, ◌∙◌, arith}
 use Rattle.std.proofs.lemmas.Bool.Decides.{nat_tests}
-use Rattle.smithy_types.specs.Document.{Document, null, boolean, number, text, array, object, Documents, item}
+use Rattle.smithy_types.specs.Document.{Document, null, boolean, number, text, array, object, Documents, item, properties_by, with_pair}
 use Rattle.smithy_types.specs.declared.number.Number.{Number}
 use Rattle.smithy_json.specs.Tree.{Json, Elements, no_elements, element, Members, no_members, member}
 use Rattle.smithy_json.specs.Tree as tree
 use Rattle.smithy_json.specs.HeldNumber.{number_of}
 use Rattle.smithy_json.specs.Unescape.{unescaped}
-use Rattle.smithy_json.specs.DocumentMeaning.{at_depth, number_meaning, properties_of, with_pair, document_meaning, elements_meaning, members_meaning}
+use Rattle.smithy_json.specs.DocumentMeaning.{at_depth, number_meaning, document_meaning, elements_meaning, members_meaning}
 
 -- ---- what has a value
 
@@ -70,7 +70,7 @@ module _ (few many : ℕ) (more : few ≤ many) where
         raised (suc depth) (option_map array (elements_meaning (Some many) (suc depth) es)) d may.0
         (ap (option_map array) (elements_deeper es (suc depth) ds.0 ds.1) ∙ ap (λ x. Some x) ds.2)
     document_deeper (tree.object ms) depth d h =
-        let whole = λ (pairs : List (List ℕ × Document Number)). object (properties_of pairs) in
+        let whole = λ (pairs : List (List ℕ × Document Number)). object (properties_by pairs) in
         let may = allowed few (suc depth) (option_map whole (members_meaning (Some few) (suc depth) ms)) d h in
         let ps = some_of_map whole (members_meaning (Some few) (suc depth) ms) d may.1 in
         raised (suc depth) (option_map whole (members_meaning (Some many) (suc depth) ms)) d may.0

@@ -9,8 +9,9 @@ use Rattle.std.specs.Str.Parse.{AllDigits, IsNumeral, digits_value, signed_digit
 use Rattle.smithy_json.specs.Ascii.{minus_sign, plus_sign}
 use Rattle.smithy_json.specs.Number.{natural_number}
 use Rattle.smithy_types.specs.declared.number.Number.TheVariants.{PosInt, NegInt}
+use Rattle.smithy_types.specs.Document.{is_document_number}
 use Rattle.smithy_texts.specs.Ranges.{fits_signed}
-use Rattle.smithy_json.specs.HeldNumber.{can_be_held, number_of}
+use Rattle.smithy_json.specs.HeldNumber.{number_of}
 
 -- ---- digits
 
@@ -46,22 +47,22 @@ numeral_none (d ∷ ds) h = go (all_ascii_digits (d ∷ ds)) refl
 
 -- ---- what is held
 
-fits_held : (v : ℕ) → FitsSigned w64 (neg_ℤ (pos v)) → can_be_held (neg_ℤ (pos v)) ≡ true
+fits_held : (v : ℕ) → FitsSigned w64 (neg_ℤ (pos v)) → is_document_number (neg_ℤ (pos v)) ≡ true
 fits_held zero h = refl
 fits_held (suc v) h =
     let below : v < 2 ^ 63 = search (arith, ints) in
     grind (arith, nat_tests)
 
-held_fits : (v : ℕ) → can_be_held (neg_ℤ (pos v)) ≡ true → FitsSigned w64 (neg_ℤ (pos v))
+held_fits : (v : ℕ) → is_document_number (neg_ℤ (pos v)) ≡ true → FitsSigned w64 (neg_ℤ (pos v))
 held_fits zero h = search (arith, ints)
 held_fits (suc v) h =
     let below : v < 2 ^ 63 = grind (arith, nat_tests) in
     search (arith, ints)
 
-below_held : (v : ℕ) → v < 2 ^ 64 → can_be_held (pos v) ≡ true
+below_held : (v : ℕ) → v < 2 ^ 64 → is_document_number (pos v) ≡ true
 below_held v h = grind (arith, nat_tests)
 
-held_below : (v : ℕ) → can_be_held (pos v) ≡ true → v < 2 ^ 64
+held_below : (v : ℕ) → is_document_number (pos v) ≡ true → v < 2 ^ 64
 held_below v h = grind (arith, nat_tests)
 
 numeral_or : (ds : List ℕ) → IsNumeral 10 ds ⊎ (IsNumeral 10 ds → ⊥)
@@ -76,8 +77,8 @@ numeral_or (d ∷ ds) = go (all_ascii_digits (d ∷ ds)) refl
 
 module _ (ds : List ℕ) where
   -- by its digits
-  negative_is : (n : Option ℕ) → natural_number ds ≡ n → number_of (minus_sign ∷ ds) ≡ option_and_then (λ z. cond (can_be_held z) (Some (NegInt z)) None) (option_map (λ v. neg_ℤ (pos v)) n)
-  negative_is n e = ap (λ m. option_and_then (λ z. cond (can_be_held z) (Some (NegInt z)) None) (option_map (λ v. neg_ℤ (pos v)) m)) e
+  negative_is : (n : Option ℕ) → natural_number ds ≡ n → number_of (minus_sign ∷ ds) ≡ option_and_then (λ z. cond (is_document_number z) (Some (NegInt z)) None) (option_map (λ v. neg_ℤ (pos v)) n)
+  negative_is n e = ap (λ m. option_and_then (λ z. cond (is_document_number z) (Some (NegInt z)) None) (option_map (λ v. neg_ℤ (pos v)) m)) e
 
   pub negative_read : (z : ℤ) → (IsNumeral 10 ds × FitsSigned w64 (neg_ℤ (pos (digits_value 10 ds)))) × (z ≡ neg_ℤ (pos (digits_value 10 ds))) → Some (NegInt z) ≡ number_of (minus_sign ∷ ds)
   negative_read z h =
@@ -86,9 +87,9 @@ module _ (ds : List ℕ) where
       ∙ sym (negative_is (Some v) (numeral_some ds h.0.0) ∙ ap (λ held. cond held (Some (NegInt (neg_ℤ (pos v)))) None) (fits_held v h.0.1))
 
   pub negative_refused : (IsNumeral 10 ds × FitsSigned w64 (neg_ℤ (pos (digits_value 10 ds))) → ⊥) → None ≡ number_of (minus_sign ∷ ds)
-  negative_refused h = go (numeral_or ds) (can_be_held (neg_ℤ (pos (digits_value 10 ds)))) refl
+  negative_refused h = go (numeral_or ds) (is_document_number (neg_ℤ (pos (digits_value 10 ds)))) refl
     where
-      go : (IsNumeral 10 ds ⊎ (IsNumeral 10 ds → ⊥)) → (held : Bool) → can_be_held (neg_ℤ (pos (digits_value 10 ds))) ≡ held → None ≡ number_of (minus_sign ∷ ds)
+      go : (IsNumeral 10 ds ⊎ (IsNumeral 10 ds → ⊥)) → (held : Bool) → is_document_number (neg_ℤ (pos (digits_value 10 ds))) ≡ held → None ≡ number_of (minus_sign ∷ ds)
       go (inr none) held k = sym (negative_is None (numeral_none ds none))
       go (inl is) true k = absurd (h (is, held_fits (digits_value 10 ds) k))
       go (inl is) false k = sym (negative_is (Some (digits_value 10 ds)) (numeral_some ds is) ∙ ap (λ held. cond held (Some (NegInt (neg_ℤ (pos (digits_value 10 ds))))) None) k)
@@ -99,10 +100,10 @@ module _ (d : ℕ) (ds : List ℕ) (other : d ≢ minus_sign) where
   no_minus : (d == minus_sign) ≡ false
   no_minus = grind (arith, nat_tests)
 
-  natural_is : (n : Option ℕ) → natural_number (d ∷ ds) ≡ n → number_of (d ∷ ds) ≡ option_and_then (λ z. cond (can_be_held z) (Some (PosInt (unsigned_abs z))) None) (option_map pos n)
+  natural_is : (n : Option ℕ) → natural_number (d ∷ ds) ≡ n → number_of (d ∷ ds) ≡ option_and_then (λ z. cond (is_document_number z) (Some (PosInt (unsigned_abs z))) None) (option_map pos n)
   natural_is n e =
-      ap (λ m. option_and_then (λ z. cond (can_be_held z) (Some (cond m (NegInt z) (PosInt (unsigned_abs z)))) None) (cond m (option_map (λ v. neg_ℤ (pos v)) (natural_number ds)) (option_map pos (natural_number (d ∷ ds))))) no_minus
-      ∙ ap (λ m. option_and_then (λ z. cond (can_be_held z) (Some (PosInt (unsigned_abs z))) None) (option_map pos m)) e
+      ap (λ m. option_and_then (λ z. cond (is_document_number z) (Some (cond m (NegInt z) (PosInt (unsigned_abs z)))) None) (cond m (option_map (λ v. neg_ℤ (pos v)) (natural_number ds)) (option_map pos (natural_number (d ∷ ds))))) no_minus
+      ∙ ap (λ m. option_and_then (λ z. cond (is_document_number z) (Some (PosInt (unsigned_abs z))) None) (option_map pos m)) e
 
   pub natural_read : (v : ℕ) → (IsNumeral 10 (d ∷ ds) × (digits_value 10 (d ∷ ds) < 2 ^ 64)) × (v ≡ digits_value 10 (d ∷ ds)) → Some (PosInt v) ≡ number_of (d ∷ ds)
   natural_read v h =
@@ -111,9 +112,9 @@ module _ (d : ℕ) (ds : List ℕ) (other : d ≢ minus_sign) where
       ∙ sym (natural_is (Some n) (numeral_some (d ∷ ds) h.0.0) ∙ ap (λ held. cond held (Some (PosInt n)) None) (below_held n h.0.1))
 
   pub natural_refused : (IsNumeral 10 (d ∷ ds) × (digits_value 10 (d ∷ ds) < 2 ^ 64) → ⊥) → None ≡ number_of (d ∷ ds)
-  natural_refused h = go (numeral_or (d ∷ ds)) (can_be_held (pos (digits_value 10 (d ∷ ds)))) refl
+  natural_refused h = go (numeral_or (d ∷ ds)) (is_document_number (pos (digits_value 10 (d ∷ ds)))) refl
     where
-      go : (IsNumeral 10 (d ∷ ds) ⊎ (IsNumeral 10 (d ∷ ds) → ⊥)) → (held : Bool) → can_be_held (pos (digits_value 10 (d ∷ ds))) ≡ held → None ≡ number_of (d ∷ ds)
+      go : (IsNumeral 10 (d ∷ ds) ⊎ (IsNumeral 10 (d ∷ ds) → ⊥)) → (held : Bool) → is_document_number (pos (digits_value 10 (d ∷ ds))) ≡ held → None ≡ number_of (d ∷ ds)
       go (inr none) held k = sym (natural_is None (numeral_none (d ∷ ds) none))
       go (inl is) true k = absurd (h (is, held_below (digits_value 10 (d ∷ ds)) k))
       go (inl is) false k = sym (natural_is (Some (digits_value 10 (d ∷ ds))) (numeral_some (d ∷ ds) is) ∙ ap (λ held. cond held (Some (PosInt (digits_value 10 (d ∷ ds)))) None) k)
@@ -157,6 +158,6 @@ refuses_natural (d ∷ ds) some not_minus not_plus h = refuses_one d ds not_minu
 
 -- ---- a number of 64 bits with a sign
 
-pub long_held : (z : ℤ) → fits_signed 64 z ≡ true → can_be_held z ≡ true
+pub long_held : (z : ℤ) → fits_signed 64 z ≡ true → is_document_number z ≡ true
 long_held (pos n) h = grind (arith, nat_tests)
 long_held (negsuc n) h = grind (arith, nat_tests)

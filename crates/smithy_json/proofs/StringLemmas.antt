@@ -2,7 +2,7 @@
 use Rattle.std.proofs.Common.{◌≡◌, ◌+◌, ◌-◌, ◌≤◌, ◌<◌, ℕ, suc, List, [], ◌∷◌, ◌++◌, length, take, drop, get_or, slice_index, slice_range, Bool, true, false, Option, Some, None, option_map, IsUtf8, refl, sym, ap, ◌∙◌, arith, subst, cond, ◌==◌, ◌≢◌, nat_lt}
 use Rattle.std.proofs.lemmas.Bool.Decides.{nat_tests}
 use Rattle.std.proofs.lemmas.List.{drop-drop, length-drop, drop_more, get_or-drop, get_or-take, drop_all}
-use Rattle.std.proofs.lemmas.List.Sums.{prefix_len_stops, prefix_len_passes, prefix_len_is}
+use Rattle.std.proofs.lemmas.List.Sums.{prefix_len_stops, prefix_len_passes, prefix_len_is, prefix_len-drop_no, prefix_len-drop_all}
 use Rattle.std.specs.Bool.{then_some}
 use Rattle.std.specs.List.{prefix_len}
 use Rattle.smithy_json.specs.Ascii.{quotation_mark, escape, letter_u, is_short_escape}
@@ -31,6 +31,19 @@ run_stops input at end is within =
     let n = prefix_len is_plain (drop at input) in
     let short : n < length (drop at input) = omega (arith, length-drop at input) in
     ap is_plain (ap (λ k. get_or input k 0) is ∙ sym (get_or-drop at input n 0)) ∙ prefix_len_stops is_plain (drop at input) 0 short
+
+-- so it is over
+pub run_is_over : (input : List ℕ) (at end : ℕ) → end ≡ at + prefix_len is_plain (drop at input)
+    → at + prefix_len is_plain (drop at input) ≡ end + prefix_len is_plain (drop end input)
+run_is_over input at end is =
+    let none : prefix_len is_plain (drop end input) ≡ 0 = go (nat_lt end (length input)) refl in
+    omega (arith, is, none)
+  where
+    go : (within : Bool) → nat_lt end (length input) ≡ within → prefix_len is_plain (drop end input) ≡ 0
+    go true within =
+        let before : end < length input = grind (arith, nat_tests) in
+        prefix_len-drop_no is_plain input end 0 before (run_stops input at end is before)
+    go false past = prefix_len-drop_all is_plain input end (grind (arith, nat_tests))
 
 module _ (input : List ℕ) (at : ℕ) (within : at < length input) (slash : slice_index input at ≡ escape) where
   -- a backslash at the end closes nothing

@@ -1,6 +1,6 @@
 -- The document that a JSON value means. The limits are the greatest depth, or none where they are lifted.
-use Rattle.std.specs.Prelude.{ℕ, suc, nat_le, List, [], ◌∷◌, fold, Option, Some, None, option_map, option_and_then, if◌then◌else◌}
-use Rattle.smithy_types.specs.Document.{Document, null, boolean, number, text, array, object, Documents, no_documents, item, Properties, no_properties, put_property}
+use Rattle.std.specs.Prelude.{ℕ, suc, nat_le, List, [], Option, Some, None, option_map, option_and_then, if◌then◌else◌}
+use Rattle.smithy_types.specs.Document.{Document, null, boolean, number, text, array, object, Documents, no_documents, item, properties_by, with_pair}
 use Rattle.smithy_types.specs.declared.number.Number.{Number}
 use Rattle.smithy_json.specs.Tree.{Json, Elements, no_elements, element, Members, no_members, member}
 use Rattle.smithy_json.specs.HeldNumber.{number_of}
@@ -21,15 +21,6 @@ abbrev pub number_meaning : Option ℕ → Option Number → Option (Document Nu
 number_meaning limits (Some n) = Some (number n)
 number_meaning limits None = other_number limits
 
--- the properties by these names and documents: of equal names the last counts
-abbrev pub properties_of : List (List ℕ × Document Number) → Properties Number
-properties_of pairs = fold (λ ps pair. put_property pair.0 pair.1 ps) no_properties pairs
-
--- a name and a document before others, where all are there
-abbrev pub with_pair : Option (List ℕ) → Option (Document Number) → Option (List (List ℕ × Document Number)) → Option (List (List ℕ × Document Number))
-with_pair (Some name) (Some d) (Some pairs) = Some ((name, d) ∷ pairs)
-with_pair _ _ _ = None
-
 abbrev mutual
   -- the document of a value inside so many others
   pub document_meaning : Option ℕ → ℕ → Json → Option (Document Number)
@@ -43,7 +34,7 @@ abbrev mutual
       at_depth limits (suc depth) (option_map array (elements_meaning limits (suc depth) es))
   document_meaning limits depth (Json.object ms) =
       at_depth limits (suc depth)
-      (option_map (λ pairs. object (properties_of pairs)) (members_meaning limits (suc depth) ms))
+      (option_map (λ pairs. object (properties_by pairs)) (members_meaning limits (suc depth) ms))
 
   -- each child means a document
   pub elements_meaning : Option ℕ → ℕ → Elements → Option (Documents Number)

@@ -2,6 +2,7 @@
 
 ghost use Rattle.std.specs.Prelude.{◌≡◌, ◌<◌, ◌↔◌, ◌++◌, IfOk, IsOk, OnOk, OnErr, Ok, false};
 ghost use Rattle.std.specs.Cow.{cow_str_bytes, IsBorrowedStr};
+ghost use Rattle.std.specs.List.{prefix_len};
 ghost use Rattle.smithy_json.specs.Escape.{escaped_byte, escaped, hex_escape};
 ghost use Rattle.smithy_json.specs.Appending.{AddsFront};
 ghost use Rattle.smithy_json.specs.Private.Chars.{is_plain};
@@ -36,21 +37,36 @@ pub fn escape_string(alloc: Global, value: &str) -> Result<CowStr<'_, Global>, A
 
 /// Adds the text with its escapes. Runs of bytes that need no escape are copied as a whole. After a
 /// refusal a front of it stands behind what was there.
+#[inline(always)]
 pub fn push_escaped<T: AppendText>(out: &mut T, text: &str) -> Result<(), AllocError>
     ensures ok { OnOk result (T.bytes out.new ≡ T.bytes out.old ++ escaped text.now) }
     ensures err { OnErr result (AddsFront (T.bytes out.old) (escaped text.now) (T.bytes out.new)) }
 {
-    let bytes = text.as_bytes();
-    let mut written = 0;
-    loop {
-        let stop = plain_end(bytes, written);
-        out.append_text(&text[written..stop])?;
-        if stop == bytes.len() {
-            return Ok(());
-        }
-        push_escape(out, bytes[stop])?;
-        written = stop + 1;
+    let first_stop = plain_end(text.as_bytes(), 0);
+    out.append_text(&text[..first_stop])?;
+    if first_stop == text.len() {
+        return Ok(());
     }
+    push_from_stop(out, &text[first_stop..])
+}
+
+// The same of a text that begins with a byte to be escaped, or is empty. It stays a call, so that a text
+// without any such byte is short.
+#[inline(never)]
+fn push_from_stop<T: AppendText>(out: &mut T, text: &str) -> Result<(), AllocError>
+    requires { prefix_len is_plain text.now ≡ 0 }
+    ensures ok { OnOk result (T.bytes out.new ≡ T.bytes out.old ++ escaped text.now) }
+    ensures err { OnErr result (AddsFront (T.bytes out.old) (escaped text.now) (T.bytes out.new)) }
+{
+    let bytes = text.as_bytes();
+    let mut stop = 0;
+    while stop < bytes.len() {
+        push_escape(out, bytes[stop])?;
+        let behind = stop + 1;
+        stop = plain_end(bytes, behind);
+        out.append_text(&text[behind..stop])?;
+    }
+    Ok(())
 }
 
 // Adds the escape of a byte that doesn't stand for itself. It stays a call, so that the loop over runs is

@@ -7,12 +7,12 @@ ghost use Rattle.smithy_json.specs.Private.Literal.{EndsLiteral};
 ghost use Rattle.smithy_json.specs.Standing.{IsRunAt, StandsAt};
 ghost use Rattle.smithy_json.specs.Tree.{null, boolean};
 
-// RFC 8259 calls these bytes `ws`.
+// RFC 8259 calls these bytes `ws`. None is above the space, and most bytes of a text are.
 #[inline(always)]
 fn is_blank(byte: u8) -> bool
     ensures { result ≡ is_ws byte }
 {
-    matches!(byte, b' ' | b'\t' | b'\n' | b'\r')
+    byte <= b' ' && matches!(byte, b' ' | b'\t' | b'\n' | b'\r')
 }
 
 /// The offset of the first byte from `at` on that is no blank, or the input's length.

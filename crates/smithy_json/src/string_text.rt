@@ -37,20 +37,30 @@ pub fn plain_end(input: &[u8], at: usize) -> usize
         }
         end += 16;
     }
-    plain_end_by_byte(input, end)
+    let by_eight = run_on::<8>(input, end);
+    let by_four = run_on::<4>(input, by_eight);
+    plain_end_by_byte(input, by_four)
 }
 
-/// A bit for each of 16 bytes that doesn't stand for itself, the first byte's lowest.
+// Where the run stops among the next N bytes, or goes on behind them, where so many are left.
 #[inline(always)]
-pub fn stops(bytes: u8x16) -> u64
-    ensures { result ≡ mask_l (map is_stop bytes) }
+fn run_on<const N: usize>(input: &[u8], at: usize) -> usize
+    requires within { at ≤ length input.now }
+    requires lanes { N ≤ 64 }
+    ensures same_run { at + prefix_len is_plain (drop at input.now) ≡ result + prefix_len is_plain (drop result input.now) }
+    ensures bound { result ≤ length input.now }
 {
-    (bytes.simd_eq(u8x16::splat(b'"'))
-        | bytes.simd_eq(u8x16::splat(b'\\'))
-        | bytes.simd_lt(u8x16::splat(0x20))).to_bitmask()
+    if input.len() - at < N {
+        return at;
+    }
+    let found = lane_stops(Simd::<u8, N>::from_slice(&input[at..]));
+    if found != 0 {
+        return at + found.trailing_zeros() as usize;
+    }
+    at + N
 }
 
-// The same, a byte at a time.
+// Where the run ends, a byte at a time.
 fn plain_end_by_byte(input: &[u8], at: usize) -> usize
     requires { at ≤ length input.now }
     ensures { result ≡ at + prefix_len is_plain (drop at input.now) }
@@ -60,6 +70,25 @@ fn plain_end_by_byte(input: &[u8], at: usize) -> usize
         end += 1;
     }
     end
+}
+
+/// A bit for each of 16 bytes that doesn't stand for itself, the first byte's lowest.
+#[inline(always)]
+pub fn stops(bytes: u8x16) -> u64
+    ensures { result ≡ mask_l (map is_stop bytes) }
+{
+    lane_stops(bytes)
+}
+
+// The same for N bytes.
+#[inline(always)]
+fn lane_stops<const N: usize>(bytes: Simd<u8, N>) -> u64
+    requires { N ≤ 64 }
+    ensures { result ≡ mask_l (map is_stop bytes.entry) }
+{
+    (bytes.simd_eq(Simd::splat(b'"'))
+        | bytes.simd_eq(Simd::splat(b'\\'))
+        | bytes.simd_lt(Simd::splat(0x20))).to_bitmask()
 }
 
 // Where the ASCII bytes end that stand for themselves in a string, from the offset on.
@@ -192,6 +221,7 @@ fn scan_from<'a>(input: &'a [u8], at: usize, end: usize) -> Option<ScannedString
 ///
 /// Its bytes are looked at once for the closing mark, and once more for UTF-8 where they aren't all
 /// ASCII or have an escape.
+#[inline(always)]
 pub fn scan_string<'a>(input: &'a [u8], at: usize) -> Option<ScannedString<'a>>
     requires { at ≤ length input.now }
     ensures found { IfSome result (λ s. IsStringAt input.now at s.closing) }

@@ -3,14 +3,14 @@ use Rattle.std.proofs.Common.{◌≡◌, ◌+◌, ◌⊎◌, ◌∙◌, ℕ, suc
 use Rattle.smithy_schema.specs.Reading.{IsInvalid}
 use Rattle.smithy_schema.specs.declared.error.SerdeError.{SerdeError}
 use Rattle.smithy_schema.specs.declared.error.SerdeError.TheVariants.{InvalidInput, TooDeep, TooWide, NotCarried, Unsupported, Unwritable, Failed, NoMemory}
-use Rattle.smithy_types.specs.Document.{Document, null, boolean, number, text, array, object}
+use Rattle.smithy_types.specs.Document.{Document, null, boolean, number, text, array, object, properties_by}
 use Rattle.smithy_types.specs.declared.number.Number.{Number}
 use Rattle.smithy_json.specs.Ascii.{quotation_mark, begin_array, begin_object}
 use Rattle.smithy_json.specs.Tree.{Json}
 use Rattle.smithy_json.specs.Tree as tree
 use Rattle.smithy_json.specs.HeldNumber.{number_of}
 use Rattle.smithy_json.specs.Unescape.{unescaped}
-use Rattle.smithy_json.specs.DocumentMeaning.{at_depth, number_meaning, properties_of, document_meaning, elements_meaning, members_meaning}
+use Rattle.smithy_json.specs.DocumentMeaning.{at_depth, number_meaning, document_meaning, elements_meaning, members_meaning}
 use Rattle.smithy_json.proofs.DocumentLemmas.{some_of_map}
 use Rattle.smithy_json_codec.specs.declared.documents.scalars.Begun.{Begun}
 use Rattle.smithy_json_codec.specs.declared.documents.scalars.Begun.TheVariants.{Scalar, Container}
@@ -145,7 +145,7 @@ meaning_allowed limits depth (tree.number raw) d h = (depth_allowed limits (suc 
 meaning_allowed limits depth (tree.string raw) d h = (depth_allowed limits (suc depth) (option_map text (unescaped raw)) d h).0
 meaning_allowed limits depth (tree.array es) d h = (depth_allowed limits (suc depth) (option_map array (elements_meaning limits (suc depth) es)) d h).0
 meaning_allowed limits depth (tree.object ms) d h =
-    (depth_allowed limits (suc depth) (option_map (λ pairs. object (properties_of pairs)) (members_meaning limits (suc depth) ms)) d h).0
+    (depth_allowed limits (suc depth) (option_map (λ pairs. object (properties_by pairs)) (members_meaning limits (suc depth) ms)) d h).0
 
 module _ (i : List ℕ) (a n : ℕ) where
   none_at_limit : NoDocumentLies (Some n) n i a

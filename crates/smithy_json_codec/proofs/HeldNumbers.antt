@@ -2,9 +2,10 @@
 use Rattle.std.proofs.Common.{◌≡◌, ◌+◌, ℕ, ℤ, unsigned_abs, List, [], ◌∷◌, ◌++◌, drop, true, ◌==◌, Some, None, option_and_then, sym, ap, ◌∙◌, cond}
 use Rattle.smithy_texts.specs.Ranges.{fits_signed}
 use Rattle.smithy_types.specs.declared.number.Number.TheVariants.{PosInt, NegInt}
+use Rattle.smithy_types.specs.Document.{is_document_number}
 use Rattle.smithy_json.specs.Ascii.{minus_sign}
 use Rattle.smithy_json.specs.Grammar.{IsNumber}
-use Rattle.smithy_json.specs.HeldNumber.{can_be_held, held_as, number_of}
+use Rattle.smithy_json.specs.HeldNumber.{held_as, number_of}
 use Rattle.smithy_json.specs.Number.{whole_number}
 use Rattle.smithy_json.specs.Tree.{number}
 use Rattle.smithy_json.proofs.HeldNumberLemmas.{long_held}
@@ -41,7 +42,7 @@ number_front i at b start here raw e h =
 held_is : (b : ℕ) (raw more : List ℕ) (n : ℤ) → raw ≡ b ∷ more → whole_number raw ≡ Some n → fits_signed 64 n ≡ true
     → number_of raw ≡ Some (cond (b == minus_sign) (NegInt n) (PosInt (unsigned_abs n)))
 held_is b raw more n front is fits =
-    ap (option_and_then (λ z. cond (can_be_held z) (Some (held_as raw z)) None)) is
+    ap (option_and_then (λ z. cond (is_document_number z) (Some (held_as raw z)) None)) is
     ∙ ap (λ held. cond held (Some (held_as raw n)) None) (long_held n fits)
     ∙ ap (λ text. Some (held_as text n)) front
 

@@ -1,14 +1,14 @@
 -- What is left of a document on the way through it: the open containers end one after another.
 use Rattle.std.proofs.Common.{◌≡◌, ◌≤◌, ◌∙◌, ℕ, suc, length, drop, List, [], ◌∷◌, Bool, true, false, fold, nat_le, cond, Option, Some, None, option_map, option_and_then, refl, sym, ap, subst, arith}
 use Rattle.std.proofs.lemmas.Bool.Decides.{nat_tests}
-use Rattle.smithy_types.specs.Document.{Document, array, object, Documents, no_documents, item, Properties, no_properties, put_property}
+use Rattle.smithy_types.specs.Document.{Document, array, object, Documents, no_documents, item, Properties, no_properties, put_property, with_pair, properties_by}
 use Rattle.smithy_types.specs.declared.number.Number.{Number}
 use Rattle.smithy_json.specs.Ascii.{begin_array, begin_object, end_array, end_object}
 use Rattle.smithy_json.specs.Grammar.{IsBoundary}
 use Rattle.smithy_json.specs.Tree.{Elements, no_elements, element, Members, no_members, member}
 use Rattle.smithy_json.specs.Tree as tree
 use Rattle.smithy_json.specs.Unescape.{unescaped}
-use Rattle.smithy_json.specs.DocumentMeaning.{at_depth, with_pair, properties_of, document_meaning, elements_meaning, members_meaning}
+use Rattle.smithy_json.specs.DocumentMeaning.{at_depth, document_meaning, elements_meaning, members_meaning}
 use Rattle.smithy_json.proofs.DocumentLemmas.{some_of_map, some_of_then, some_of_pair, allowed}
 use Rattle.smithy_json_codec.specs.Standing.{Lies, IsByte, Names, TreeLies}
 use Rattle.smithy_json_codec.specs.Documents.{DocumentLies, NoDocumentLies}
@@ -173,7 +173,7 @@ is_array limits n i a b x f within o h =
     }
 
 abbrev made_object : List (List ℕ × Document Number) → Document Number
-made_object pairs = object (properties_of pairs)
+made_object pairs = object (properties_by pairs)
 
 object_is : (limits : Option ℕ) (n : ℕ) (i : List ℕ) (a b : ℕ) (x : Document Number) (f : ℕ) → Lies (IsByte begin_object) i a b
     → ObjectEnds limits (suc n) no_properties false i b x f → DocumentLies limits n i a x f

@@ -3,18 +3,17 @@ use Rattle.std.proofs.Common.{◌≡◌, ℕ, ℤ, pos, negsuc, List, [], ◌∷
 use Rattle.std.specs.Prelude.{if◌then◌else◌, option_map, option_and_then}
 use Rattle.std.specs.Fmt.{signed_decimal}
 use Rattle.std.proofs.lemmas.Bool.Decides.{nat_tests}
-use Rattle.smithy_types.specs.Document.{Document, null, boolean, number, text, array, object, Documents, no_documents, item, Properties, no_properties, property, whole_document}
+use Rattle.smithy_types.specs.Document.{Document, null, boolean, number, text, array, object, Documents, no_documents, item, Properties, no_properties, property, whole_document, is_document_number}
 use Rattle.smithy_types.specs.Number.{whole_number}
 use Rattle.smithy_types.specs.declared.number.Number.{Number}
 use Rattle.smithy_types.specs.declared.number.Number.TheVariants.{PosInt, NegInt}
 use Rattle.smithy_texts.specs.Numeral.{begins_with}
 use Rattle.smithy_texts.specs.Ranges.{fits_signed}
 use Rattle.smithy_schema.specs.declared.shape_type.Scalar.TheVariants as scalars
-use Rattle.smithy_schema.specs.Documents.{is_document_number}
 use Rattle.smithy_schema.specs.Value as values
 use Rattle.smithy_json.specs.Ascii.{minus_sign, begin_array, end_array, begin_object, end_object}
 use Rattle.smithy_json.specs.DocumentText.{elements_text_by, properties_text_by}
-use Rattle.smithy_json.specs.HeldNumber.{can_be_held, held_as, number_of}
+use Rattle.smithy_json.specs.HeldNumber.{held_as, number_of}
 use Rattle.smithy_json.proofs.DecimalLemmas.{decimal_is_number, decimal_writes}
 use Rattle.smithy_json.proofs.QuotedLemmas.{quoted_is_string, unescaped_of_escaped}
 use Rattle.smithy_json_codec.specs.Canonical.{document_text, name_text}
@@ -79,7 +78,7 @@ held_is (negsuc n) = refl
 
 number_is_held : (n : ℤ) → is_document_number n ≡ true → number_of (signed_decimal n) ≡ Some (held_as (signed_decimal n) n)
 number_is_held n fits =
-    ap (option_and_then (λ z. if can_be_held z then Some (held_as (signed_decimal n) z) else None)) (decimal_writes n (number_fits n fits))
+    ap (option_and_then (λ z. if is_document_number z then Some (held_as (signed_decimal n) z) else None)) (decimal_writes n (number_fits n fits))
     ∙ ap (λ b. if b then Some (held_as (signed_decimal n) n) else None) fits
 
 number_means : (n : ℤ) → is_document_number n ≡ true

@@ -112,6 +112,7 @@ impl<'a> JsonDeserializer<'a> {
     }
 
     // Goes on in the structure or the union from the offset on, where nothing is due any more.
+    #[inline(always)]
     fn step_from<'s>(&mut self, at: usize, schema: &Schema<'s>) -> Result<Step<'s>, SerdeError>
         requires ahead { self.old.walk.position ≤ at }
         requires within { at ≤ length self.old.walk.input.now }

@@ -49,6 +49,7 @@ pub(crate) struct Names<'a, 's> {
 
 impl<'s> Names<'_, 's> {
     // The step to a member of this name.
+    #[inline(always)]
     pub(crate) fn step_to(&self, name: &str) -> Step<'s>
         ensures { StepsTo result (strict_settings self.now.use_json_name) (site_of self.now.schema.now) name.now }
     {
@@ -64,6 +65,7 @@ impl<'s> Names<'_, 's> {
     }
 
     // Whether a null under this name is passed over: it names no member of documents.
+    #[inline(never)]
     fn passes_null(&self, name: &str) -> bool
         ensures { result ≡ passes_null self.now.use_json_name (site_of self.now.schema.now) name.now }
     {
@@ -75,6 +77,7 @@ impl<'s> Names<'_, 's> {
     }
 
     // Whether each `__type` is a mark: where no member has this name.
+    #[inline(never)]
     fn passes_marks(&self) -> bool
         ensures { result ≡ passes_marks self.now.use_json_name (site_of self.now.schema.now) }
     {
@@ -92,6 +95,7 @@ fn is_type_name(name: &str) -> bool
 
 // What comes next in the object in whose inside the offset lies: marks are passed over, and nulls that
 // are no documents.
+#[inline(always)]
 fn entry_at<'a>(
     alloc: Global,
     input: &'a [u8],
@@ -139,6 +143,7 @@ fn entry_at<'a>(
 }
 
 // The next member that isn't passed over, or the end of the object in whose inside the offset lies.
+#[inline(always)]
 pub(crate) fn next_present<'a>(
     alloc: Global,
     input: &'a [u8],

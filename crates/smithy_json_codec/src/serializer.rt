@@ -60,8 +60,11 @@ fn push_quoted(out: &mut Vec<u8>, text: &str) -> Result<(), AllocError>
 fn push_name(out: &mut Vec<u8>, name: &str) -> Result<(), AllocError>
     ensures { OnOk result (out.new.items ≡ out.old.items ++ name_text name.now) }
 {
-    push_quoted(out, name)?;
-    out.push(b':')?;
+    out.push(b'"')?;
+    push_escaped(out, name)?;
+    out.reserve(2)?;
+    out.push_reserved(b'"');
+    out.push_reserved(b':');
     Ok(())
 }
 

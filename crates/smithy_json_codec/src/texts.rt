@@ -49,6 +49,7 @@ fn unescaped_text<'a>(alloc: Global, raw: &'a str) -> Result<CowStr<'a, Global>,
 }
 
 // The same as a text of its own.
+#[inline(always)]
 pub(crate) fn owned_text(alloc: Global, raw: &str, is_escaped: bool) -> Result<String, SerdeError>
     requires { is_escaped ≡ has_escape raw.now }
     ensures ok { IfOk result (λ text. unescaped raw.now ≡ Some (string_bytes text)) }
@@ -65,6 +66,7 @@ pub(crate) fn owned_text(alloc: Global, raw: &str, is_escaped: bool) -> Result<S
 }
 
 // The text of the string that comes first behind blanks, with its end, where a value may end behind it.
+#[inline(always)]
 pub(crate) fn text_at(alloc: Global, input: &[u8], at: usize) -> Result<(String, usize), SerdeError>
     requires { at ≤ length input.now }
     ensures found { IfOk result (λ r. TextLies input.now at (string_bytes r.0) r.1) }

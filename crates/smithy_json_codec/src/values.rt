@@ -11,6 +11,7 @@ use smithy_json::scan::{is_boundary, read_boolean, skip_blanks};
 use smithy_json::string_text::{ScannedString, scan_string};
 
 // The string that comes first behind blanks, where a value may end behind it.
+#[inline(always)]
 pub(crate) fn string_at<'a>(input: &'a [u8], at: usize) -> Option<ScannedString<'a>>
     requires { at ≤ length input.now }
     ensures found { IfSome result (λ s. TreeLies 1 (string s.text.now) input.now at (s.closing + 1)) }

@@ -2,7 +2,7 @@
 use Rattle.std.proofs.Common.{◌≡◌, ◌≤◌, ℕ, suc, List, [], ◌∷◌, ◌++◌, length, fold, true, cond, nat_le, Option, Some, None, option_map, Result, Ok, Err, refl, sym, ap, ◌∙◌, subst, inl, inr}
 use Rattle.std.specs.Option.{option_map_or}
 use Rattle.std.specs.Result.{result_ok}
-use Rattle.smithy_types.specs.Document.{Document, null, boolean, number, text, array, object, Documents, no_documents, item, Properties, no_properties, put_property}
+use Rattle.smithy_types.specs.Document.{Document, null, boolean, number, text, array, object, Documents, no_documents, item, Properties, no_properties, put_property, properties_by}
 use Rattle.smithy_types.specs.DocumentView.{document_view}
 use Rattle.smithy_types.specs.declared.document.Document as kept
 use Rattle.smithy_types.specs.declared.number.Number.{Number}
@@ -11,7 +11,7 @@ use Rattle.smithy_json.specs.Tree as tree
 use Rattle.smithy_json.specs.HeldNumber.{number_of}
 use Rattle.smithy_json.specs.Unescape.{unescape, unescaped}
 use Rattle.smithy_json.specs.declared.escape_error.EscapeError.{EscapeError}
-use Rattle.smithy_json.specs.DocumentMeaning.{number_meaning, properties_of, document_meaning, elements_meaning, members_meaning}
+use Rattle.smithy_json.specs.DocumentMeaning.{number_meaning, document_meaning, elements_meaning, members_meaning}
 use Rattle.smithy_json.proofs.DocumentLemmas.{some_of_map, some_of_then, some_of_pair, allowed, held, document_deeper}
 use Rattle.smithy_json_tokens.specs.Tokens.{JsonToken, tokens, element_tokens, member_tokens, start_array, end_array, start_object, end_object, value_null, value_bool, value_number, value_uncarried, value_string}
 use Rattle.smithy_json_tokens.specs.TokenSteps.{Takes, IsItem, SurelyGives}
@@ -121,13 +121,13 @@ mutual
         finish = ap (λ x. put_value x fs) ds.2;
       }
   tree_document (tree.object ms) fs d a h =
-      let made = λ (pairs : List (List ℕ × Document Number)). object (properties_of pairs) in
+      let made = λ (pairs : List (List ℕ × Document Number)). object (properties_by pairs) in
       let may = allowed 256 (suc (length fs)) (option_map made (members_meaning limit (suc (length fs)) ms)) d h in
       let ps = some_of_map made (members_meaning limit (suc (length fs)) ms) d may.1 in
       record {
         taken = start_object ∷ member_tokens ms;
         last = end_object;
-        before = in_object (properties_of ps.0) ∷ fs;
+        before = in_object (properties_by ps.0) ∷ fs;
         split = refl;
         run = (in_object no_properties ∷ fs, value_comes fs (goes_on (in_object no_properties ∷ fs)) a may.0, members_document ms fs no_properties ps.0 ps.1);
         finish = ap (λ x. put_value x fs) ps.2;

@@ -9,7 +9,8 @@ use Rattle.smithy_json.proofs.SliceLemmas.{drop-slice}
 use Rattle.smithy_json.proofs.HeldNumberLemmas.{long_held}
 use Rattle.smithy_types.specs.declared.number.Number.{Number}
 use Rattle.smithy_types.specs.declared.number.Number.TheVariants.{PosInt, NegInt}
-use Rattle.smithy_json.specs.HeldNumber.{can_be_held, held_as, number_of}
+use Rattle.smithy_types.specs.Document.{is_document_number}
+use Rattle.smithy_json.specs.HeldNumber.{held_as, number_of}
 use Rattle.smithy_json_tokens.specs.Tokens.{value_number, value_uncarried, number_token}
 use Rattle.smithy_json_tokens.specs.TokenRules.{scanned, scan_value, scan_number}
 use Rattle.smithy_json_tokens.specs.Private.Scans.{BeginsNumber}
@@ -53,7 +54,7 @@ module _ (input : List ℕ) (at end : ℕ) (n : ℤ) (is : IsLongAt input at end
   token : number_token raw ≡ value_number (held (first == minus_sign) n)
   token =
       let some : number_of raw ≡ Some (held_as raw n) =
-      ap (option_and_then (λ z. cond (can_be_held z) (Some (held_as raw z)) None)) is.value
+      ap (option_and_then (λ z. cond (is_document_number z) (Some (held_as raw z)) None)) is.value
       ∙ ap (λ c. cond c (Some (held_as raw n)) None) (long_held n is.fits) in
       ap (λ m. option_map_or value_number m (value_uncarried raw)) some
       ∙ ap (λ m. value_number (held m n)) minus_first

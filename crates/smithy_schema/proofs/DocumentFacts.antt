@@ -1,10 +1,10 @@
 -- Examples of documents as values: their nesting, their place, the calls that write them, by computing.
 use Rattle.std.proofs.Common.{◌≡◌, ℤ, [], ◌∷◌, map, true, false, Some, None, refl, pos, neg_ℤ, codes, ◌-◌, ◌+◌, ◌^◌, Ok, Err}
-use Rattle.smithy_types.specs.Document.{Document, null, boolean, number, text, array, object, no_documents, item, no_properties, property}
+use Rattle.smithy_types.specs.Document.{Document, null, boolean, number, text, array, object, no_documents, item, no_properties, property, is_document_number}
 use Rattle.smithy_schema.specs.declared.error.SerdeError.TheVariants.{Unwritable}
 use Rattle.smithy_schema.specs.Table as table
 use Rattle.smithy_schema.specs.Table.{Table, document, kind_of, document_place, shape_place, is_document_place}
-use Rattle.smithy_schema.specs.Documents.{document_nesting, is_document_number}
+use Rattle.smithy_schema.specs.Documents.{document_nesting}
 use Rattle.smithy_schema.specs.Value.{document_value, list, no_values, value, nesting}
 use Rattle.smithy_schema.specs.Site.{Site, shape_site, element_of}
 use Rattle.smithy_schema.specs.ScalarTest.{no_documents as none, scalars_pass}

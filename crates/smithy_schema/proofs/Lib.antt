@@ -23,3 +23,4 @@ pub mod ScalarLemmas
 pub mod TimeFormLemmas
 pub mod InstantLemmas
 pub mod InstantTexts
+pub mod TargetLemmas

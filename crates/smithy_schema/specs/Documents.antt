@@ -1,9 +1,9 @@
--- Documents as values: how deep they nest, their properties by name, and which of them can be values.
-use Rattle.std.specs.Prelude.{◌≡◌, ◌^◌, ◌&&◌, ℕ, suc, max, ℤ, pos, neg_ℤ, int_le, int_lt, List, fold, Bool, true, IsUtf8}
+-- Documents as values: how deep they nest, and which of them can be values.
+use Rattle.std.specs.Prelude.{◌≡◌, ℕ, suc, max, ℤ, List, true, IsUtf8}
 use Rattle.std.specs.declared.cmp.Ordering.TheVariants.{Less}
 use Rattle.std.specs.Ordering.{nat_cmp}
 use Rattle.std.specs.Cmp.Lexicographic.{slice_cmp}
-use Rattle.smithy_types.specs.Document.{Document, null, boolean, number, text, array, object, Documents, no_documents, item, Properties, no_properties, property, put_property}
+use Rattle.smithy_types.specs.Document.{Document, null, boolean, number, text, array, object, Documents, no_documents, item, Properties, no_properties, property, is_document_number}
 
 abbrev mutual
   -- how deep documents nest: 1 for one without parts, else one more than the deepest part
@@ -24,18 +24,6 @@ abbrev mutual
   pub properties_nesting : {N : Type 0} → Properties N → ℕ
   properties_nesting no_properties = 0
   properties_nesting (property name d ps) = max (document_nesting d) (properties_nesting ps)
-
--- the properties with one more, put under its name
-abbrev pub put_pair : {N : Type 0} → Properties N → List ℕ × Document N → Properties N
-put_pair ps pair = put_property pair.0 pair.1 ps
-
--- the properties by these names and documents: of equal names the last counts
-abbrev pub properties_by : {N : Type 0} → List (List ℕ × Document N) → Properties N
-properties_by pairs = fold put_pair no_properties pairs
-
--- a number of 64 bits, with a sign or without one: from -2^63 to 2^64-1
-abbrev pub is_document_number : ℤ → Bool
-is_document_number z = int_le (neg_ℤ (pos (2 ^ 63))) z && int_lt z (pos (2 ^ 64))
 
 -- the first name, if there is one, is above this one in byte order, and so on
 abbrev pub NamesAscendAbove : {N : Type 0} → List ℕ → Properties N → Type 0

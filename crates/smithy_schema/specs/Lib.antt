@@ -16,6 +16,8 @@ pub mod Reading
 pub mod Writing
 pub mod TimeForms
 pub mod ScalarTest
+pub mod Targets
+pub mod Holding
 -- what the types of the program stand for
 pub mod Views
 pub mod DeclViews

@@ -4,3 +4,5 @@ pub mod MemberNames
 pub mod DeclNames
 pub mod Tests
 pub mod Placed
+pub mod Sought
+pub mod KnownMembers

@@ -5,8 +5,9 @@ use Rattle.std.specs.Option.{option_map_or, option_or}
 use Rattle.smithy_schema.specs.declared.place.Place.{Place}
 use Rattle.smithy_schema.specs.declared.schema.Schema.{Schema}
 use Rattle.smithy_schema.specs.declared.schema.Origin.{Origin}
-use Rattle.smithy_schema.specs.declared.schema.Origin.TheVariants.{Whole, MemberOf, ElementOf, KeyOf, ValueOf}
+use Rattle.smithy_schema.specs.declared.schema.Origin.TheVariants as origins
 use Rattle.smithy_schema.specs.declared.shape_type.Scalar.TheVariants as scalars
+use Rattle.smithy_schema.specs.Views as program
 use Rattle.smithy_schema.specs.Table.{Table, Member, ListShape, MapShape, Kind, kind_of, scalar_place, shape_place, members_of, list_shape_of, map_shape_of, position_named}
 
 -- the names and marks of a member, of an element, of a map's key or value, or of a shape as a whole, which has none
@@ -67,30 +68,13 @@ value_view m = record {
   is_flat = false;
 }
 
--- the view of a member by its position, where there is one
-abbrev pub view_of_member : Kind → ℕ → View
-view_of_member kind n = option_map_or (member_view n) (slice_get (members_of kind) n) whole_view
-
--- the view of a list's elements, where there is a list
-abbrev pub view_of_element : Kind → View
-view_of_element kind = option_map_or element_view (list_shape_of kind) whole_view
-
--- the view of a map's keys, where there is a map
-abbrev pub view_of_key : Kind → View
-view_of_key kind = option_map_or key_view (map_shape_of kind) whole_view
-
--- the view of a map's values, where there is a map
-abbrev pub view_of_value : Kind → View
-view_of_value kind = option_map_or value_view (map_shape_of kind) whole_view
-
--- the view of a declaration as a whole, of a member of one by its position, of a list's elements, of a map's
--- keys and values
-abbrev pub view_at : Table → Origin → View
-view_at table Whole = whole_view
-view_at table (MemberOf n position) = view_of_member (kind_of table (shape_place n)) position
-view_at table (ElementOf n) = view_of_element (kind_of table (shape_place n))
-view_at table (KeyOf n) = view_of_key (kind_of table (shape_place n))
-view_at table (ValueOf n) = view_of_value (kind_of table (shape_place n))
+-- the view of a shape as a whole, of a member with its position, of a list's elements, of a map's keys and values
+abbrev pub view_from : Origin → View
+view_from origins.Whole = whole_view
+view_from (origins.Member m n) = member_view n (program.member_of m.now)
+view_from (origins.Element l) = element_view (program.list_shape_of l.now)
+view_from (origins.Key m) = key_view (program.map_shape_of m.now)
+view_from (origins.Value m) = value_view (program.map_shape_of m.now)
 
 -- a table, a place of it, and the view under which the place is seen
 pub record Site : Type 0 where
@@ -181,5 +165,5 @@ abbrev pub site_of : Schema → Site
 site_of s = record {
   table = s.shapes.now;
   place = s.place;
-  view = view_under s.is_nameless (view_at s.shapes.now s.origin);
+  view = view_under s.is_nameless (view_from s.origin);
 }

@@ -19,6 +19,7 @@ use crate::names::{order_of, position_of};
 use crate::place::{Place, Target};
 use crate::shape_type::ShapeRef;
 use crate::shapes::{Declaration, ListShape, MapShape, Shape, Shapes};
+use crate::targets::Sought;
 use std::alloc::{AllocError, Global};
 
 impl Shapes {
@@ -36,9 +37,13 @@ impl Shapes {
         check(alloc, decls.as_slice(), by_name.as_slice())?;
         let places = all_places(alloc, decls.as_slice(), by_name.as_slice())?;
         let declarations = declarations_with(alloc, decls, places.as_slice())?;
+        let has_timestamps = Sought::Timestamps.stand_in(declarations.as_slice());
+        let has_documents = Sought::Documents.stand_in(declarations.as_slice());
         Ok(Shapes {
             declarations,
             by_name,
+            has_timestamps,
+            has_documents,
         })
     }
 }

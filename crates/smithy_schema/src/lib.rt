@@ -15,6 +15,7 @@ mod schema;
 mod shape_type;
 mod shapes;
 mod table_text;
+mod targets;
 #[cfg(test)]
 mod tests;
 mod time_forms;

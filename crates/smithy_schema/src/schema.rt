@@ -2,24 +2,25 @@
 ghost use Rattle.std.specs.Prelude.{◌≡◌, ◌≢◌, option_map, string_bytes};
 ghost use Rattle.smithy_schema.specs.Table.{kind_of, nothing};
 
-use crate::members::MemberList;
+use crate::members::{MemberList, MemberShape};
 use crate::place::{Place, Target};
 use crate::shape_type::{Scalar, ShapeRef, ShapeType, TimestampFormat};
-use crate::shapes::{Shape, Shapes};
+use crate::shapes::{ListShape, MapShape, Shape, Shapes};
+use crate::targets::Sought;
 
 /// Where a view comes from.
 #[derive(Clone, Copy)]
-pub(crate) enum Origin {
+pub(crate) enum Origin<'a> {
     /// A shape as a whole.
     Whole,
-    /// A member, by the number of its declaration and its position.
-    MemberOf(u32, u32),
-    /// The elements of a list, by the number of its declaration.
-    ElementOf(u32),
-    /// The keys of a map, by the number of its declaration.
-    KeyOf(u32),
-    /// The values of a map, by the number of its declaration.
-    ValueOf(u32),
+    /// A member, with its position.
+    Member(&'a MemberShape, u32),
+    /// The elements of a list.
+    Element(&'a ListShape),
+    /// The keys of a map.
+    Key(&'a MapShape),
+    /// The values of a map.
+    Value(&'a MapShape),
 }
 
 /// A view of one place of a table: of a whole shape, a member, the elements of a list, or the keys or the values of a
@@ -28,7 +29,7 @@ pub(crate) enum Origin {
 pub struct Schema<'a> {
     pub(crate) shapes: &'a Shapes,
     pub(crate) place: Place,
-    pub(crate) origin: Origin,
+    pub(crate) origin: Origin<'a>,
     /// The view has no member name, no position and no flat mark.
     pub(crate) is_nameless: bool,
     ghost is_known: { kind_of shapes.now place ≢ nothing },
@@ -37,8 +38,11 @@ pub struct Schema<'a> {
 impl<'a> Schema<'a> {
     ghost use Rattle.std.specs.Prelude.{◌↔◌, ◌≤◌, [], Some, IsTrue, IfSome, length, map};
     ghost use Rattle.std.specs.Option.{option_map_or};
-    ghost use Rattle.smithy_schema.specs.Table.{Member, type_of, members_of, IsSparse, json_name_of};
+    ghost use Rattle.smithy_schema.specs.Table.{Member, type_of, members_of, IsSparse, json_name_of, is_document_target};
+    ghost use Rattle.smithy_schema.specs.Targets.{is_timestamp_target};
+    ghost use Rattle.smithy_schema.specs.Holding.{may_hold};
     ghost use Rattle.smithy_schema.specs.Views.{member_of};
+    ghost use Rattle.smithy_schema.specs.Private.KnownMembers.{AreKnown};
     ghost use Rattle.smithy_schema.specs.Site.{site_of, kind_at, member_site, member_named, element_site, value_site, inner_site, key_site, nameless_site};
 
     /// The kind of the shape, of a member the kind of its target.
@@ -63,28 +67,15 @@ impl<'a> Schema<'a> {
     pub fn member_name(&self) -> Option<&'a str>
         ensures { option_map (λ s. s.now) result ≡ (site_of self.now).view.name }
     {
-        let shapes = self.shapes;
         if self.is_nameless {
             return None;
         }
         match self.origin {
             Origin::Whole => None,
-            Origin::MemberOf(shape, position) => match shapes.member_at(ShapeRef(shape), position) {
-                Some(member) => Some(member.name.as_str()),
-                None => None,
-            },
-            Origin::ElementOf(shape) => match shapes.list_at(ShapeRef(shape)) {
-                Some(_) => Some("member"),
-                None => None,
-            },
-            Origin::KeyOf(shape) => match shapes.map_at(ShapeRef(shape)) {
-                Some(_) => Some("key"),
-                None => None,
-            },
-            Origin::ValueOf(shape) => match shapes.map_at(ShapeRef(shape)) {
-                Some(_) => Some("value"),
-                None => None,
-            },
+            Origin::Member(member, _) => Some(member.name.as_str()),
+            Origin::Element(_) => Some("member"),
+            Origin::Key(_) => Some("key"),
+            Origin::Value(_) => Some("value"),
         }
     }
 
@@ -92,15 +83,11 @@ impl<'a> Schema<'a> {
     pub fn member_index(&self) -> Option<u32>
         ensures { result ≡ (site_of self.now).view.index }
     {
-        let shapes = self.shapes;
         if self.is_nameless {
             return None;
         }
         match self.origin {
-            Origin::MemberOf(shape, position) => match shapes.member_at(ShapeRef(shape), position) {
-                Some(_) => Some(position),
-                None => None,
-            },
+            Origin::Member(_, position) => Some(position),
             _ => None,
         }
     }
@@ -109,12 +96,8 @@ impl<'a> Schema<'a> {
     pub fn json_name(&self) -> Option<&'a str>
         ensures { option_map (λ s. s.now) result ≡ (site_of self.now).view.json_name }
     {
-        let shapes = self.shapes;
         match self.origin {
-            Origin::MemberOf(shape, position) => match shapes.member_at(ShapeRef(shape), position) {
-                Some(member) => text_given(&member.json_name),
-                None => None,
-            },
+            Origin::Member(member, _) => text_given(&member.json_name),
             _ => None,
         }
     }
@@ -123,25 +106,12 @@ impl<'a> Schema<'a> {
     pub fn xml_name(&self) -> Option<&'a str>
         ensures { option_map (λ s. s.now) result ≡ (site_of self.now).view.xml_name }
     {
-        let shapes = self.shapes;
         match self.origin {
             Origin::Whole => None,
-            Origin::MemberOf(shape, position) => match shapes.member_at(ShapeRef(shape), position) {
-                Some(member) => text_given(&member.xml_name),
-                None => None,
-            },
-            Origin::ElementOf(shape) => match shapes.list_at(ShapeRef(shape)) {
-                Some(list) => text_given(&list.xml_name),
-                None => None,
-            },
-            Origin::KeyOf(shape) => match shapes.map_at(ShapeRef(shape)) {
-                Some(map) => text_given(&map.key_name),
-                None => None,
-            },
-            Origin::ValueOf(shape) => match shapes.map_at(ShapeRef(shape)) {
-                Some(map) => text_given(&map.value_name),
-                None => None,
-            },
+            Origin::Member(member, _) => text_given(&member.xml_name),
+            Origin::Element(list) => text_given(&list.xml_name),
+            Origin::Key(map) => text_given(&map.key_name),
+            Origin::Value(map) => text_given(&map.value_name),
         }
     }
 
@@ -149,15 +119,11 @@ impl<'a> Schema<'a> {
     pub fn xml_flattened(&self) -> bool
         ensures { result ≡ (site_of self.now).view.is_flat }
     {
-        let shapes = self.shapes;
         if self.is_nameless {
             return false;
         }
         match self.origin {
-            Origin::MemberOf(shape, position) => match shapes.member_at(ShapeRef(shape), position) {
-                Some(member) => member.flat,
-                None => false,
-            },
+            Origin::Member(member, _) => member.flat,
             _ => false,
         }
     }
@@ -167,6 +133,20 @@ impl<'a> Schema<'a> {
         ensures { result ≡ (site_of self.now).place.time }
     {
         self.place.time
+    }
+
+    /// A timestamp may stand in a value of the place: the place is one of timestamps, or some place of its table is.
+    pub fn may_hold_timestamps(&self) -> bool
+        ensures { result ≡ may_hold is_timestamp_target (site_of self.now) }
+    {
+        Sought::Timestamps.stand_at(self.place) || self.shapes.has_timestamps()
+    }
+
+    /// A document may stand in a value of the place: the place is one of documents, or some place of its table is.
+    pub fn may_hold_documents(&self) -> bool
+        ensures { result ≡ may_hold is_document_target (site_of self.now) }
+    {
+        Sought::Documents.stand_at(self.place) || self.shapes.has_documents()
     }
 
     /// The elements of a list, or the values of a map.
@@ -187,15 +167,15 @@ impl<'a> Schema<'a> {
         match self.place.target {
             Target::Simple(_) => None,
             Target::Document => None,
-            Target::Declared(shape) => match shapes.list_at(shape) {
-                Some(list) => Some(Schema {
+            Target::Declared(shape) => {
+                let list = shapes.list_at(shape)?;
+                Some(Schema {
                     shapes,
                     place: list.place,
-                    origin: Origin::ElementOf(shape.0),
+                    origin: Origin::Element(list),
                     is_nameless: false,
-                }),
-                None => None,
-            },
+                })
+            }
         }
     }
 
@@ -207,15 +187,15 @@ impl<'a> Schema<'a> {
         match self.place.target {
             Target::Simple(_) => None,
             Target::Document => None,
-            Target::Declared(shape) => match shapes.map_at(shape) {
-                Some(map) => Some(Schema {
+            Target::Declared(shape) => {
+                let map = shapes.map_at(shape)?;
+                Some(Schema {
                     shapes,
                     place: map.place,
-                    origin: Origin::ValueOf(shape.0),
+                    origin: Origin::Value(map),
                     is_nameless: false,
-                }),
-                None => None,
-            },
+                })
+            }
         }
     }
 
@@ -227,18 +207,18 @@ impl<'a> Schema<'a> {
         match self.place.target {
             Target::Simple(_) => None,
             Target::Document => None,
-            Target::Declared(shape) => match shapes.map_at(shape) {
-                Some(_) => Some(Schema {
+            Target::Declared(shape) => {
+                let map = shapes.map_at(shape)?;
+                Some(Schema {
                     shapes,
                     place: Place {
                         target: Target::Simple(Scalar::String),
                         time: None,
                     },
-                    origin: Origin::KeyOf(shape.0),
+                    origin: Origin::Key(map),
                     is_nameless: false,
-                }),
-                None => None,
-            },
+                })
+            }
         }
     }
 
@@ -250,15 +230,15 @@ impl<'a> Schema<'a> {
         match self.place.target {
             Target::Simple(_) => None,
             Target::Document => None,
-            Target::Declared(shape) => match shapes.member_at(shape, position) {
-                Some(member) => Some(Schema {
+            Target::Declared(shape) => {
+                let member = shapes.member_at(shape, position)?;
+                Some(Schema {
                     shapes,
                     place: member.place,
-                    origin: Origin::MemberOf(shape.0, position),
+                    origin: Origin::Member(member, position),
                     is_nameless: false,
-                }),
-                None => None,
-            },
+                })
+            }
         }
     }
 
@@ -266,29 +246,47 @@ impl<'a> Schema<'a> {
     pub fn member_schema(&self, name: &str) -> Option<Schema<'a>>
         ensures { option_map site_of result ≡ member_named (λ (m : Member). m.name) (site_of self.now) name.now }
     {
-        let position = self.members_at_place()?.position_of_name(name)?;
-        self.member_at(position as u32)
+        let members = self.members_at_place()?;
+        let position = members.position_of_name(name)?;
+        self.member_among(members, position)
     }
 
     /// The member of a name in JSON: of the one that is given, or of its own where none is.
     pub fn member_of_json_name(&self, name: &str) -> Option<Schema<'a>>
         ensures { option_map site_of result ≡ member_named json_name_of (site_of self.now) name.now }
     {
-        let position = self.members_at_place()?.position_of_json_name(name)?;
-        self.member_at(position as u32)
+        let members = self.members_at_place()?;
+        let position = members.position_of_json_name(name)?;
+        self.member_among(members, position)
     }
 
     // The members of the structure or the union that stands at the place, if one does.
     pub(crate) fn members_at_place(&self) -> Option<&'a MemberList>
         ensures few { IfSome result (λ m. length m.now.items.items ≤ 65535) }
         ensures members { option_map_or (λ m. map member_of m.now.items.items) result [] ≡ members_of (kind_at (site_of self.now)) }
+        ensures known { IfSome result (λ m. AreKnown self.now.shapes.now m.now.items.items) }
     {
-        let shapes = self.shapes;
         match self.place.target {
             Target::Simple(_) => None,
             Target::Document => None,
-            Target::Declared(shape) => shapes.members_at(shape),
+            Target::Declared(shape) => self.shapes.members_at(shape),
         }
+    }
+
+    // The member at a position among those of the structure or the union that stands at the place.
+    fn member_among(&self, members: &'a MemberList, position: usize) -> Option<Schema<'a>>
+        requires few { length members.now.items.items ≤ 65535 }
+        requires members { map member_of members.now.items.items ≡ members_of (kind_at (site_of self.now)) }
+        requires known { AreKnown self.now.shapes.now members.now.items.items }
+        ensures { option_map site_of result ≡ member_site (site_of self.now) position }
+    {
+        let member = members.items.get(position)?;
+        Some(Schema {
+            shapes: self.shapes,
+            place: member.place,
+            origin: Origin::Member(member, position as u32),
+            is_nameless: false,
+        })
     }
 
     /// The list or the map is sparse.

@@ -59,11 +59,16 @@ impl Named for DeclaredNames<'_> {
 pub struct Shapes {
     pub(crate) declarations: Vec<Declaration>,
     pub(crate) by_name: Vec<usize>,
+    /// Some place that the declarations name is one of timestamps: where none is, no value needs a look for one.
+    pub(crate) has_timestamps: bool,
+    /// The same of documents.
+    pub(crate) has_documents: bool,
 }
 
 impl Model for Shapes {
-    ghost use Rattle.std.specs.Prelude.{map, string_bytes};
-    ghost use Rattle.smithy_schema.specs.Table.{Table};
+    ghost use Rattle.std.specs.Prelude.{◌≡◌, map, string_bytes};
+    ghost use Rattle.smithy_schema.specs.Table.{Table, is_document_target};
+    ghost use Rattle.smithy_schema.specs.Targets.{is_timestamp_target, table_has};
     ghost use Rattle.smithy_schema.specs.Accepted.{IsAccepted};
     ghost use Rattle.smithy_schema.specs.Private.Order.{IsOrderOf};
     ghost use Rattle.smithy_schema.specs.Views.{declaration_of};
@@ -74,17 +79,21 @@ impl Model for Shapes {
     ghost view = { λ s. map declaration_of s.declarations.items };
 
     ghost invariant = { λ s. IsAccepted (map declaration_of s.declarations.items)
-        × IsOrderOf (map (λ (d : Declaration). string_bytes d.name) s.declarations.items) s.by_name.items };
+        × IsOrderOf (map (λ (d : Declaration). string_bytes d.name) s.declarations.items) s.by_name.items
+        × (s.has_timestamps ≡ table_has is_timestamp_target (map declaration_of s.declarations.items))
+        × (s.has_documents ≡ table_has is_document_target (map declaration_of s.declarations.items)) };
 }
 
 impl Shapes {
     ghost use Rattle.std.specs.Prelude.{◌≡◌, ◌≢◌, ◌<◌, ◌≤◌, [], length, map, option_map, slice_get, IfSome};
     ghost use Rattle.std.specs.Option.{option_map_or};
     ghost use Rattle.smithy_schema.specs.declared.shape_type.ShapeRef.{ShapeRef};
-    ghost use Rattle.smithy_schema.specs.Table.{kind_of, shape_place, IsClosed, list_shape_of as list_at_kind, map_shape_of as map_at_kind, members_of, nothing, shape_declared, declared_as};
+    ghost use Rattle.smithy_schema.specs.Table.{kind_of, shape_place, IsClosed, list_shape_of as list_at_kind, map_shape_of as map_at_kind, members_of, nothing, shape_declared, declared_as, is_document_target};
+    ghost use Rattle.smithy_schema.specs.Targets.{is_timestamp_target, table_has};
     ghost use Rattle.smithy_schema.specs.Accepted.{IsAccepted};
     ghost use Rattle.smithy_schema.specs.Site.{site_of, shape_site};
     ghost use Rattle.smithy_schema.specs.Views.{shape_of, member_of, list_shape_of, map_shape_of};
+    ghost use Rattle.smithy_schema.specs.Private.KnownMembers.{AreKnown};
 
     /// The number of declarations.
     pub fn len(&self) -> usize
@@ -106,6 +115,20 @@ impl Shapes {
             Some(number) => Some(ShapeRef(number as u32)),
             None => None,
         }
+    }
+
+    /// Some member, some elements of a list or some values of a map are timestamps.
+    pub(crate) fn has_timestamps(&self) -> bool
+        ensures { result ≡ table_has is_timestamp_target self.now }
+    {
+        self.has_timestamps
+    }
+
+    /// Some member, some elements of a list or some values of a map are documents.
+    pub(crate) fn has_documents(&self) -> bool
+        ensures { result ≡ table_has is_document_target self.now }
+    {
+        self.has_documents
     }
 
     /// The view of a declaration as a whole.
@@ -164,6 +187,7 @@ impl Shapes {
     pub(crate) fn members_at(&self, at: ShapeRef) -> Option<&MemberList>
         ensures few { IfSome result (λ m. length m.now.items.items ≤ 65535) }
         ensures members { option_map_or (λ m. map member_of m.now.items.items) result [] ≡ members_of (kind_of self.now (shape_place at.0)) }
+        ensures known { IfSome result (λ m. AreKnown self.now m.now.items.items) }
     {
         match self.shape_at(at) {
             Some(Shape::Structure(members)) => Some(members),

@@ -457,3 +457,18 @@ fn tells_of_documents(rt: HostRuntime) -> Result<(), Fail> {
     assert!(rt; matches!(member.member(), None), "no elements");
     Ok(())
 }
+
+#[test]
+fn tells_what_may_stand_in_a_value(rt: HostRuntime) -> Result<(), Fail> {
+    let shapes = table_of(rt.alloc(), "map M timestamp\nstructure S\nmember a string")?;
+    assert_eq!(rt; shapes.len(), 2);
+    assert!(rt; shapes.has_timestamps(), "in a map");
+    assert!(rt; !shapes.has_documents(), "nowhere");
+    let root = shapes.schema(ShapeRef(1));
+    assert!(rt; root.may_hold_timestamps(), "as the table has some");
+    assert!(rt; !root.may_hold_documents(), "as it has none");
+    let other = table_of(rt.alloc(), "union U\nmember a document\nmember b U")?;
+    assert!(rt; !other.has_timestamps(), "nowhere");
+    assert!(rt; other.has_documents(), "in a union");
+    Ok(())
+}

@@ -34,10 +34,11 @@ pub told : {T : Type 0} (f : T → Value) (vs : List T) → length vs ≡ length
 told f [] = refl
 told f (v ∷ vs) = ap suc (told f vs)
 
-pub next_element : {T : Type 0} (f : T → Value) (vs : List T) (i : ℕ) (v : T) → i < length vs → v ≡ get_or vs i v → map f (drop i vs) ≡ f v ∷ map f (drop (i + 1) vs)
-next_element f vs i v within is =
+-- the next element, by what it is at its root
+pub next_element : {T : Type 0} (f : T → Value) (vs : List T) (i : ℕ) (v : T) (w : Value) → i < length vs → v ≡ get_or vs i v → f v ≡ w → map f (drop i vs) ≡ w ∷ map f (drop (i + 1) vs)
+next_element f vs i v w within is seen =
     let first : drop i vs ≡ v ∷ drop (i + 1) vs = rw (drop-cons vs i v within, ← is, add-one) refl in
-    ap (map f) first
+    ap (map f) first ∙ ap (λ u. u ∷ map f (drop (i + 1) vs)) seen
 
 -- the same of numbers, which are copied out
 pub next_number : (f : ℤ → Value) (ns : List ℤ) (i : ℕ) (d : ℤ) → i < length ns → map f (drop i ns) ≡ f (get_or ns i d) ∷ map f (drop (i + 1) ns)

@@ -1,5 +1,5 @@
 -- A map that is written in part.
-use Rattle.std.proofs.Common.{arith, ◌≡◌, ◌≤◌, suc, max, ℕ, List, [], ◌∷◌, ◌++◌, String, Global, length, true, Some, Ok, Err, refl, ◌∙◌, ap, append_assoc}
+use Rattle.std.proofs.Common.{arith, ◌≡◌, ◌≤◌, suc, max, ℕ, List, [], ◌∷◌, ◌++◌, String, Global, string_bytes, length, true, Some, Ok, Err, refl, ◌∙◌, ap, append_assoc}
 use Rattle.std.specs.Prelude.{unwrap_or}
 use Rattle.std.specs.Option.{option_map_or}
 use Rattle.std.proofs.Math.Nat.{le-max_left, le-max_right}
@@ -68,6 +68,11 @@ value_fits site value child key v es rest is found nameless next fits =
     let first : EntriesFit site.table (kind_at site) (map_entry key v rest) = rw next at fits in
     let fit = entry_fit site.table k.0 key v rest (rw k.1 at first) in
     rw (value_site_is site value child found nameless, value_site_at site.table site.place site.view k.0 k.1) (fits_or_null _ _ _ _ fit)
+
+-- the next entry, by what its value is at its root
+pub next_entry : {T : Type 0} (view : T → Value) (es rest : List (String Global × T)) (key : String Global) (w : T) (v : Value) → es ≡ (key, w) ∷ rest → view w ≡ v
+    → entry_views view es ≡ map_entry (string_bytes key) v (entry_views view rest)
+next_entry view es rest key w v is seen = ap (entry_views view) is ∙ ap (λ u. map_entry (string_bytes key) u (entry_views view rest)) seen
 
 -- how many entries are left
 abbrev pub count : MapEntries → ℕ

@@ -1,5 +1,5 @@
 -- A structure that is written in part.
-use Rattle.std.proofs.Common.{arith, ◌≡◌, ◌≤◌, suc, max, ℕ, List, [], ◌∷◌, ◌++◌, true, Some, Ok, Err, ap, append_assoc}
+use Rattle.std.proofs.Common.{arith, ◌≡◌, ◌≤◌, suc, max, ℕ, List, [], ◌∷◌, ◌++◌, true, Some, Ok, Err, ◌∙◌, ap, append_assoc}
 use Rattle.std.specs.Prelude.{unwrap_or}
 use Rattle.std.proofs.Math.Nat.{le-max_left, le-max_right}
 use Rattle.smithy_schema.specs.declared.error.SerdeError.{SerdeError}
@@ -8,6 +8,7 @@ use Rattle.smithy_schema.specs.Site.{Site, kind_at, member_site, member_of}
 use Rattle.smithy_schema.specs.Fits.{FitsOr, MembersFit}
 use Rattle.smithy_schema.specs.Value.{Value, structure, MemberValues, no_member_values, member_value, nesting, members_nesting}
 use Rattle.smithy_schema.specs.Writing.{Event, Writer, write, run, member_events, begin_structure, end_structure}
+use Rattle.smithy_transcode.specs.Private.Tree.{member_views}
 use Rattle.smithy_transcode.proofs.Lists.{fits_or_null}
 use Rattle.smithy_schema.specs.Lemmas.Kinds.{structure_kind}
 use Rattle.smithy_schema.proofs.SiteLemmas.{member_site_at, member_fit}
@@ -37,6 +38,11 @@ member_refused after site n v ms rest s e is refused = rw (is, append_assoc) (ch
 pub rest_fits : (site : Site) (n : ℕ) (v : Value) (ms rest : MemberValues) → ms ≡ member_value n v rest
     → MembersFit site.table (kind_at site) ms → MembersFit site.table (kind_at site) rest
 rest_fits site n v ms rest is fits = (rw is at fits).1
+
+-- the next member, by what its value is at its root
+pub next_member : {T : Type 0} (view : T → Value) (ms rest : List (ℕ × T)) (n : ℕ) (m : T) (v : Value) → ms ≡ (n, m) ∷ rest → view m ≡ v
+    → member_views view ms ≡ member_value n v (member_views view rest)
+next_member view ms rest n m v is seen = ap (member_views view) is ∙ ap (λ u. member_value n u (member_views view rest)) seen
 
 -- how many members are left
 abbrev pub count : MemberValues → ℕ

@@ -1,9 +1,16 @@
 -- A value that is gone through with a test, part by part.
-use Rattle.std.proofs.Common.{◌≡◌, ◌&&◌, ℕ, ℤ, List, [], ◌∷◌, Bool, true, false, Option, refl, ◌∙◌, ap}
+use Rattle.std.proofs.Common.{◌≡◌, ◌&&◌, ◌||◌, ℕ, ℤ, List, [], ◌∷◌, Bool, true, false, not, Option, refl, sym, ◌∙◌, ap}
+use Rattle.std.proofs.lemmas.Bool.{or_parts}
 use Rattle.smithy_schema.specs.declared.shape_type.TimestampFormat.{TimestampFormat}
+use Rattle.smithy_schema.specs.Fits.{FitsOr}
+use Rattle.smithy_schema.specs.Holding.{may_hold}
+use Rattle.smithy_schema.specs.Table.{is_document_target}
+use Rattle.smithy_schema.specs.Targets.{is_timestamp_target}
 use Rattle.smithy_schema.specs.ScalarTest.{ValueTest, scalars_pass, elements_pass, entries_pass, members_pass}
 use Rattle.smithy_schema.specs.Site.{Site, member_of}
 use Rattle.smithy_schema.specs.Value.{ScalarValue, whole, instant, Value, values_of, MapEntries, no_map_entries, map_entry, MemberValues, no_member_values, member_value}
+use Rattle.smithy_schema.proofs.TargetLemmas as seen
+use Rattle.smithy_schema.proofs.TargetLemmas.{IsNoInstant}
 use Rattle.smithy_transcode.specs.declared.value_test.InstantTest.{InstantTest}
 use Rattle.smithy_transcode.specs.declared.value_test.InstantTest.TheVariants.{Any, WholeSeconds, InForm}
 use Rattle.smithy_transcode.specs.declared.value_test.ValueTest as kept
@@ -11,10 +18,6 @@ use Rattle.smithy_transcode.specs.Private.Tree.{whole_values}
 use Rattle.smithy_transcode.specs.Private.ValueTest.{instant_passes, test_view}
 
 -- ---- scalars
-
-abbrev pub IsNoInstant : ScalarValue → Type 0
-IsNoInstant (instant n) = ⊥
-IsNoInstant _ = Unit {0}
 
 by_kind : (t : InstantTest) (time : Option TimestampFormat) (x : ScalarValue) → IsNoInstant x → instant_passes t time x ≡ true
 by_kind t time (instant n) h = absurd h
@@ -25,6 +28,20 @@ by_kind (InForm default) time _ h = refl
 -- what is no instant passes each test
 pub other_passes : (t : kept.ValueTest) (time : Option TimestampFormat) (x : ScalarValue) → IsNoInstant x → (test_view t).scalar time x ≡ true
 other_passes t time x h = by_kind t.instants time x h
+
+-- ---- values that aren't gone through
+
+and_no : (a b : Bool) → (not a && b) ≡ false → a ≡ false → b ≡ false
+and_no true b h none = absurd (let e : true ≡ false = none in cc)
+and_no false b h none = h
+
+-- where no timestamp can stand in a value, nor a document that doesn't pass, the value passes
+pub passes_unseen : (t : kept.ValueTest) (site : Site) (v : Value) (fails : Bool)
+    → fails ≡ (may_hold is_timestamp_target site || not t.documents && may_hold is_document_target site) → fails ≡ false
+    → FitsOr site.table site.place true v → true ≡ scalars_pass (test_view t) site v
+passes_unseen t site v fails is none fits =
+    let both = or_parts (may_hold is_timestamp_target site) (not t.documents && may_hold is_document_target site) (sym is ∙ none) in
+    sym (seen.passes_unseen (test_view t) (other_passes t) site true v both.0 (and_no t.documents (may_hold is_document_target site) both.1) fits)
 
 -- ---- parts
 

@@ -4,4 +4,5 @@ pub mod Elements
 pub mod Entries
 pub mod Order
 pub mod Positions
+pub mod Rare
 pub mod ValueTest

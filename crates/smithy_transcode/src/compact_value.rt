@@ -5,8 +5,8 @@ ghost use Rattle.smithy_transcode.specs.Private.Elements.{kept_elements};
 
 use crate::compact_elements::CompactElements;
 use crate::compact_entries::CompactEntries;
-use crate::entry_iter::EntryIter;
-use crate::tree::{Part, Tree};
+use crate::entries::Entries;
+use crate::tree::{Part, Tree, UnionValue};
 use smithy_schema::SerdeError;
 use smithy_types::{Blob, DateTime, Document};
 use std::alloc::Global;
@@ -41,10 +41,18 @@ pub enum CompactValue {
     Structure(Vec<(u32, CompactValue)>),
     /// The same, where many came out of order.
     StructureMap(BTreeMap<u32, CompactValue>),
-    /// The member of a union by its position, and its value.
-    Union(u32, Box<CompactValue>),
-    /// The same where the value is a text, which needs no box.
+    /// The member of a union by its position, and its value, which is a text.
     UnionText(u32, String),
+    /// The same of a list.
+    UnionList(u32, Vec<CompactValue>),
+    /// The same of a list of whole numbers.
+    UnionWholes(u32, Vec<i64>),
+    /// The same of a map.
+    UnionMap(u32, Vec<(String, CompactValue)>),
+    /// The same of a structure.
+    UnionStructure(u32, Vec<(u32, CompactValue)>),
+    /// The same of any other value, which needs a box.
+    Union(u32, Box<CompactValue>),
     /// A null among the elements of a sparse list or the values of a sparse map.
     Null,
     /// A document. Of its numbers the whole number alone counts.
@@ -170,6 +178,10 @@ impl Tree for CompactValue {
     fn union(alloc: Global, index: u32, value: CompactValue) -> Result<CompactValue, SerdeError> {
         match value {
             CompactValue::Text(content) => Ok(CompactValue::UnionText(index, content)),
+            CompactValue::List(elements) => Ok(CompactValue::UnionList(index, elements)),
+            CompactValue::Wholes(numbers) => Ok(CompactValue::UnionWholes(index, numbers)),
+            CompactValue::Map(entries) => Ok(CompactValue::UnionMap(index, entries)),
+            CompactValue::Structure(members) => Ok(CompactValue::UnionStructure(index, members)),
             other => Ok(CompactValue::Union(index, Box::new(alloc, other)?)),
         }
     }
@@ -186,14 +198,26 @@ impl Tree for CompactValue {
             CompactValue::Timestamp(value) => Part::Timestamp(*value),
             CompactValue::List(elements) => Part::List(elements.as_slice()),
             CompactValue::Wholes(numbers) => Part::Wholes(numbers.as_slice()),
-            CompactValue::Map(entries) => Part::Map(EntryIter::Slice(entries.as_slice())),
-            CompactValue::TreeMap(entries) => Part::Map(EntryIter::Map(entries.iter())),
-            CompactValue::Structure(members) => {
-                Part::Structure(EntryIter::Slice(members.as_slice()))
+            CompactValue::Map(entries) => Part::Map(Entries::Slice(entries.as_slice())),
+            CompactValue::TreeMap(entries) => Part::Map(Entries::Map(entries)),
+            CompactValue::Structure(members) => Part::Structure(Entries::Slice(members.as_slice())),
+            CompactValue::StructureMap(members) => Part::Structure(Entries::Map(members)),
+            CompactValue::UnionText(index, content) => {
+                Part::Union(*index, UnionValue::Text(content.as_str()))
             }
-            CompactValue::StructureMap(members) => Part::Structure(EntryIter::Map(members.iter())),
-            CompactValue::Union(index, value) => Part::Union(*index, &**value),
-            CompactValue::UnionText(index, content) => Part::UnionText(*index, content.as_str()),
+            CompactValue::UnionList(index, elements) => {
+                Part::Union(*index, UnionValue::List(elements.as_slice()))
+            }
+            CompactValue::UnionWholes(index, numbers) => {
+                Part::Union(*index, UnionValue::Wholes(numbers.as_slice()))
+            }
+            CompactValue::UnionMap(index, entries) => {
+                Part::Union(*index, UnionValue::Map(entries.as_slice()))
+            }
+            CompactValue::UnionStructure(index, members) => {
+                Part::Union(*index, UnionValue::Structure(members.as_slice()))
+            }
+            CompactValue::Union(index, value) => Part::Union(*index, UnionValue::Tree(&**value)),
             CompactValue::Null => Part::Null,
             CompactValue::Document(value) => Part::Document(&**value),
         }

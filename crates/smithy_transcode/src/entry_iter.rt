@@ -1,6 +1,6 @@
 //! The members of a structure or the entries of a map, one after another.
-ghost use Rattle.std.specs.Prelude.{◌≡◌, [], ◌∷◌, length, MatchOption};
-ghost use Rattle.smithy_transcode.specs.Private.Tree.{entries};
+ghost use Rattle.std.specs.Prelude.{◌≡◌, [], ◌∷◌, MatchOption};
+ghost use Rattle.smithy_transcode.specs.Private.Tree.{entries_left};
 
 use std::collections::btree_map::Iter;
 
@@ -14,19 +14,9 @@ pub enum EntryIter<'v, K, T> {
 }
 
 impl<'v, K, T> EntryIter<'v, K, T> {
-    /// How many are left.
-    pub fn len(&self) -> usize
-        ensures { result ≡ length (entries self.now) }
-    {
-        match self {
-            EntryIter::Map(rest) => rest.len(),
-            EntryIter::Slice(rest) => rest.len(),
-        }
-    }
-
     /// The next one.
     pub fn next_entry(&mut self) -> Option<(&'v K, &'v T)>
-        ensures { MatchOption result (entries self.old ≡ []) (λ e. entries self.old ≡ (e.0.now, e.1.now) ∷ entries self.new) }
+        ensures { MatchOption result (entries_left self.old ≡ []) (λ e. entries_left self.old ≡ (e.0.now, e.1.now) ∷ entries_left self.new) }
     {
         match self {
             EntryIter::Map(rest) => rest.next(),

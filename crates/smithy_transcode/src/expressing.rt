@@ -1,12 +1,16 @@
 //! What a wire can't express.
-ghost use Rattle.std.specs.Prelude.{◌≡◌, ◌&&◌, not, None, true, false};
+ghost use Rattle.std.specs.Prelude.{◌≡◌, ◌&&◌, ◌||◌, not, None, true, false};
 ghost use Rattle.smithy_schema.specs.Fits.{Fits, FitsOr};
+ghost use Rattle.smithy_schema.specs.Holding.{may_hold};
+ghost use Rattle.smithy_schema.specs.ScalarTest.{scalars_pass};
 ghost use Rattle.smithy_schema.specs.Site.{site_of};
-ghost use Rattle.smithy_schema.specs.Table.{IsStructure, kind_of, shape_place};
+ghost use Rattle.smithy_schema.specs.Table.{IsStructure, is_document_target, kind_of, shape_place};
+ghost use Rattle.smithy_schema.specs.Targets.{is_timestamp_target};
 ghost use Rattle.smithy_query_codec.specs.Nulls.{holds_null as null_in};
 ghost use Rattle.smithy_transcode.specs.View.{view};
 ghost use Rattle.smithy_transcode.specs.Wires.{wire_of, has_nulls, holds_document, unfit as unfit_for, unfit_at};
 ghost use Rattle.smithy_transcode.specs.Private.Positions.{CanCount};
+ghost use Rattle.smithy_transcode.specs.Private.ValueTest.{test_view};
 
 use crate::nulls::holds_null;
 use crate::tree::Tree;
@@ -22,6 +26,24 @@ pub fn expressible(shapes: &Shapes, root: ShapeRef, value: &Value, to: &Wire) ->
     ensures { result ≡ unfit_for (wire_of to.now) shapes.now root.0 (view value.now) }
 {
     unfit::<Value>(&shapes.schema(root), value, to)
+}
+
+// A value of the schema's place may fail the test: a timestamp, or a document where none passes, may stand in it.
+fn can_fail(schema: &Schema<'_>, test: ValueTest) -> bool
+    ensures { result ≡ (may_hold is_timestamp_target (site_of schema.now) || not test.documents && may_hold is_document_target (site_of schema.now)) }
+{
+    schema.may_hold_timestamps() || !test.documents && schema.may_hold_documents()
+}
+
+// The value passes the test. It is gone through only where it can fail.
+fn passes<T: Tree>(schema: &Schema<'_>, value: &T, test: ValueTest) -> bool
+    requires fits { FitsOr schema.now.shapes.now schema.now.place true (T.view value.now) }
+    ensures { result ≡ scalars_pass (test_view test) (site_of schema.now) (T.view value.now) }
+{
+    if can_fail(schema, test) {
+        return value_passes::<T>(schema, value, test);
+    }
+    true
 }
 
 // A document stands in the value, and none passes the test of the wire.
@@ -50,14 +72,14 @@ fn lacks_null<T: Tree>(value: &T, to: &Wire) -> bool
     }
 }
 
-// Why the wire can't express a value of any tree. Where it can, and no form is wanted, the value is gone through once.
+// Why the wire can't express a value of any tree. Where it can, and no form is wanted, the value is gone through once at most.
 pub(crate) fn unfit<T: Tree>(schema: &Schema<'_>, value: &T, to: &Wire) -> Option<Unfit>
     requires fits { FitsOr schema.now.shapes.now schema.now.place true (T.view value.now) }
     ensures unfit { result ≡ unfit_at (wire_of to.now) (site_of schema.now) (T.view value.now) }
     ensures positions { result ≡ None → CanCount (wire_of to.now) (T.view value.now) }
 {
     let test = test_of(to);
-    if value_passes::<T>(schema, value, test) {
+    if passes::<T>(schema, value, test) {
         return if lacks_null::<T>(value, to) {
             Some(Unfit::Null)
         } else {

@@ -4,6 +4,7 @@
 mod compact_elements;
 mod compact_entries;
 mod compact_value;
+mod entries;
 mod entry_iter;
 mod expressing;
 mod nulls;

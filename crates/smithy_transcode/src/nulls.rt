@@ -4,32 +4,39 @@ ghost use Rattle.smithy_schema.specs.Value.{values_of};
 ghost use Rattle.smithy_query_codec.specs.Nulls.{holds_null as null_in, elements_hold_null as null_in_elements, entries_hold_null as null_in_entries, members_hold_null as null_in_members};
 ghost use Rattle.smithy_query_codec.specs.Counts.{HasPositions, ElementsHavePositions, EntriesHavePositions, MembersHavePositions};
 ghost use Rattle.smithy_schema.specs.Writing.{count_of, entry_count};
-ghost use Rattle.smithy_transcode.specs.Private.Tree.{entries as entries_left, entry_views, member_views, whole_values};
+ghost use Rattle.smithy_transcode.specs.Private.Tree.{entries as entries_of, entry_views, member_views, whole_values, part_view};
 
-use crate::entry_iter::EntryIter;
+use crate::entries::Entries;
 use crate::tree::{Part, Tree};
 
 // A null element stands in the value. Where none does, the whole value was gone through, and each of its lists and maps has
 // fewer than 2^64 parts, as they are in memory.
-#[cycle(nulls)]
 pub(crate) fn holds_null<T: Tree>(value: &T) -> bool
     ensures null { result ≡ null_in (T.view value.now) }
     ensures positions { result ≡ false → HasPositions (T.view value.now) }
 {
-    match value.part() {
+    part_holds_null::<T>(&value.part())
+}
+
+// The same of the root of a tree.
+#[cycle(nulls)]
+fn part_holds_null<T: Tree>(part: &Part<'_, T>) -> bool
+    ensures null { result ≡ null_in (part_view T.view part.now) }
+    ensures positions { result ≡ false → HasPositions (part_view T.view part.now) }
+{
+    match part {
         Part::Boolean(_)
         | Part::Whole(_)
         | Part::Text(_)
         | Part::Bytes(_)
         | Part::Decimal(_, _)
         | Part::Timestamp(_)
-        | Part::UnionText(_, _)
         | Part::Document(_) => false,
-        Part::List(elements) => elements_hold_null::<T>(elements),
-        Part::Wholes(numbers) => wholes_hold_null(numbers),
+        Part::List(elements) => elements_hold_null::<T>(*elements),
+        Part::Wholes(numbers) => wholes_hold_null(*numbers),
         Part::Map(entries) => entries_hold_null::<T>(entries),
         Part::Structure(members) => members_hold_null::<T>(members),
-        Part::Union(_, inner) => holds_null::<T>(inner),
+        Part::Union(_, value) => part_holds_null::<T>(&value.part()),
         Part::Null => true,
     }
 }
@@ -59,7 +66,7 @@ fn elements_hold_null<T: Tree>(elements: &[T]) -> bool
 {
     let _count = count(elements);
     for element in elements {
-        if holds_null::<T>(element) {
+        if part_holds_null::<T>(&element.part()) {
             return true;
         }
     }
@@ -67,15 +74,15 @@ fn elements_hold_null<T: Tree>(elements: &[T]) -> bool
 }
 
 #[cycle(nulls)]
-fn entries_hold_null<T: Tree>(entries: EntryIter<'_, String, T>) -> bool
-    ensures null { result ≡ null_in_entries (entry_views T.view (entries_left entries.entry)) }
-    ensures count { entry_count (entry_views T.view (entries_left entries.entry)) < 18446744073709551616 }
-    ensures positions { result ≡ false → EntriesHavePositions (entry_views T.view (entries_left entries.entry)) }
+fn entries_hold_null<T: Tree>(entries: &Entries<'_, String, T>) -> bool
+    ensures null { result ≡ null_in_entries (entry_views T.view (entries_of entries.now)) }
+    ensures count { entry_count (entry_views T.view (entries_of entries.now)) < 18446744073709551616 }
+    ensures positions { result ≡ false → EntriesHavePositions (entry_views T.view (entries_of entries.now)) }
 {
     let _count = entries.len();
-    let mut left = entries;
+    let mut left = entries.iter();
     while let Some((_, value)) = left.next_entry() {
-        if holds_null::<T>(value) {
+        if part_holds_null::<T>(&value.part()) {
             return true;
         }
     }
@@ -83,13 +90,13 @@ fn entries_hold_null<T: Tree>(entries: EntryIter<'_, String, T>) -> bool
 }
 
 #[cycle(nulls)]
-fn members_hold_null<T: Tree>(members: EntryIter<'_, u32, T>) -> bool
-    ensures null { result ≡ null_in_members (member_views T.view (entries_left members.entry)) }
-    ensures positions { result ≡ false → MembersHavePositions (member_views T.view (entries_left members.entry)) }
+fn members_hold_null<T: Tree>(members: &Entries<'_, u32, T>) -> bool
+    ensures null { result ≡ null_in_members (member_views T.view (entries_of members.now)) }
+    ensures positions { result ≡ false → MembersHavePositions (member_views T.view (entries_of members.now)) }
 {
-    let mut left = members;
+    let mut left = members.iter();
     while let Some((_, value)) = left.next_entry() {
-        if holds_null::<T>(value) {
+        if part_holds_null::<T>(&value.part()) {
             return true;
         }
     }

@@ -1,9 +1,10 @@
 //! Reading a value tree from any wire.
 ghost use Rattle.std.specs.Prelude.{◌≡◌, ◌↔◌, true, IfOk, IsErrOf};
-ghost use Rattle.smithy_schema.specs.Table.{IsStructure, IsUnion, IsList, IsMap};
+ghost use Rattle.smithy_schema.specs.Table.{type_of, IsStructure, IsUnion, IsList, IsMap};
 ghost use Rattle.smithy_schema.specs.Site.{site_of, kind_at};
 ghost use Rattle.smithy_schema.specs.Reading.{Reads, StandsNot, IsRefused, IsInvalid, ReachesDepth, ExceedsInside, UncarriedInside, IsCounted};
 ghost use Rattle.smithy_transcode.specs.View.{view};
+ghost use Rattle.smithy_transcode.specs.Private.Rare.{IsRare};
 
 use crate::tree::Tree;
 use crate::value::Value;
@@ -75,6 +76,41 @@ pub(crate) fn read_tree<T: Tree, D: ShapeDeserializer>(
         ShapeType::Long => Ok(T::whole(source.read_long(schema)?)),
         ShapeType::String => Ok(T::text(source.read_string(schema)?)),
         ShapeType::Blob => Ok(T::bytes(source.read_blob(schema)?)),
+        ShapeType::BigInteger
+        | ShapeType::BigDecimal
+        | ShapeType::Timestamp
+        | ShapeType::Document => read_rare::<T, D>(alloc, source, schema),
+        ShapeType::Structure => read_structure::<T, D>(alloc, source, schema),
+        ShapeType::Union => read_union::<T, D>(alloc, source, schema),
+        ShapeType::List => read_list::<T, D>(alloc, source, schema),
+        ShapeType::Map => read_map::<T, D>(alloc, source, schema),
+    }
+}
+
+// The same of a kind that few tables have. What these reads hold on the stack stands in a call of its own, so that the calls for
+// containers need no room for it.
+#[inline(never)]
+fn read_rare<T: Tree, D: ShapeDeserializer>(
+    alloc: Global,
+    source: &mut D,
+    schema: &Schema<'_>,
+) -> Result<T, SerdeError>
+    requires due { (D.state source.old).due ≡ true }
+    requires rare { IsRare (type_of (kind_at (site_of schema.now))) }
+    ensures same { D.settings source.new ≡ D.settings source.old }
+    ensures ok { IfOk result (λ v. Reads (D.wire (D.settings source.old)) (D.state source.old) (D.state source.new) schema.now.shapes.now schema.now.place (T.view v)) }
+    ensures refused { IsRefused result → StandsNot (D.wire (D.settings source.old)) (D.state source.old) schema.now.shapes.now schema.now.place }
+    ensures would { D.is_strict (D.settings source.old) → IsInvalid result → StandsNot (D.lifted (D.settings source.old)) (D.state source.old) schema.now.shapes.now schema.now.place }
+    ensures failed { IsErrOf result SerdeError.Failed ↔ ((D.state source.old).failed ≡ true) }
+    ensures supported { IsErrOf result SerdeError.Unsupported → ⊥ }
+    ensures readable { IsErrOf result SerdeError.Unwritable → ⊥ }
+    ensures deep { IsErrOf result SerdeError.TooDeep → ReachesDepth (D.wire (D.settings source.old)) (D.max_depth (D.settings source.old)) (D.state source.new) }
+    ensures wide { IsErrOf result SerdeError.TooWide → ExceedsInside (D.wire (D.settings source.old)) (D.state source.old) (D.state source.new) schema.now.shapes.now schema.now.place }
+    ensures uncarried { IsErrOf result SerdeError.NotCarried → UncarriedInside (D.wire (D.settings source.old)) (D.state source.old) (D.state source.new) schema.now.shapes.now schema.now.place }
+    ensures input { (D.state source.new).input ≡ (D.state source.old).input }
+    ensures counted { D.is_strict (D.settings source.old) → IsCounted (D.wire (D.settings source.old)) (D.state source.old) → IsCounted (D.wire (D.settings source.old)) (D.state source.new) }
+{
+    match schema.shape_type() {
         ShapeType::BigInteger => match source.read_big_integer(schema)?.to_i128() {
             Ok(number) => T::big_integer(alloc, number),
             Err(_) => unreachable!(),
@@ -85,10 +121,17 @@ pub(crate) fn read_tree<T: Tree, D: ShapeDeserializer>(
         },
         ShapeType::Timestamp => Ok(T::timestamp(source.read_timestamp(schema)?)),
         ShapeType::Document => T::document(alloc, source.read_document(schema)?),
-        ShapeType::Structure => read_structure::<T, D>(alloc, source, schema),
-        ShapeType::Union => read_union::<T, D>(alloc, source, schema),
-        ShapeType::List => read_list::<T, D>(alloc, source, schema),
-        ShapeType::Map => read_map::<T, D>(alloc, source, schema),
+        ShapeType::Boolean
+        | ShapeType::Byte
+        | ShapeType::Short
+        | ShapeType::Integer
+        | ShapeType::Long
+        | ShapeType::String
+        | ShapeType::Blob
+        | ShapeType::List
+        | ShapeType::Map
+        | ShapeType::Structure
+        | ShapeType::Union => unreachable!(),
     }
 }
 

@@ -4,9 +4,9 @@ ghost use Rattle.smithy_schema.specs.declared.error.SerdeError.TheVariants.{NoMe
 ghost use Rattle.smithy_schema.specs.Value.{Value, scalar_value, boolean, whole, text, bytes, decimal, instant, list, map, structure, union, null_element, document_value, values_of, MapEntries, no_map_entries, put_entry, MemberValues, no_member_values, put_member};
 ghost use Rattle.smithy_types.specs.Document.{whole_document};
 ghost use Rattle.smithy_types.specs.DocumentView.{document_view};
-ghost use Rattle.smithy_transcode.specs.Private.Tree.{part_view};
+ghost use Rattle.smithy_transcode.specs.Private.Tree.{part_view, union_value_view};
 
-use crate::entry_iter::EntryIter;
+use crate::entries::Entries;
 use smithy_schema::SerdeError;
 use smithy_types::{Blob, DateTime, Document};
 use std::alloc::Global;
@@ -31,17 +31,49 @@ pub enum Part<'v, T> {
     /// The elements of a list of whole numbers, in their order.
     Wholes(&'v [i64]),
     /// The entries of a map, in the order of their keys.
-    Map(EntryIter<'v, String, T>),
+    Map(Entries<'v, String, T>),
     /// The members of a structure, in the order of their positions.
-    Structure(EntryIter<'v, u32, T>),
+    Structure(Entries<'v, u32, T>),
     /// The member of a union by its position, and its value.
-    Union(u32, &'v T),
-    /// The same where the value is a text.
-    UnionText(u32, &'v str),
+    Union(u32, UnionValue<'v, T>),
     /// A null among the elements of a sparse list or the values of a sparse map.
     Null,
     /// A document.
     Document(&'v Document),
+}
+
+/// The value of a union: one that its tree keeps beside the position, or a tree of its own.
+#[derive(Drop)]
+pub enum UnionValue<'v, T> {
+    /// A text.
+    Text(&'v str),
+    /// The elements of a list, in their order.
+    List(&'v [T]),
+    /// The elements of a list of whole numbers, in their order.
+    Wholes(&'v [i64]),
+    /// The entries of a map, in the order of their keys.
+    Map(&'v [(String, T)]),
+    /// The members of a structure, in the order of their positions.
+    Structure(&'v [(u32, T)]),
+    /// A tree.
+    Tree(&'v T),
+}
+
+impl<'v, T: Tree> UnionValue<'v, T> {
+    /// What the value is at its root.
+    #[inline(always)]
+    pub fn part(&self) -> Part<'v, T>
+        ensures { part_view T.view result ≡ union_value_view T.view self.now }
+    {
+        match self {
+            UnionValue::Text(content) => Part::Text(*content),
+            UnionValue::List(elements) => Part::List(*elements),
+            UnionValue::Wholes(numbers) => Part::Wholes(*numbers),
+            UnionValue::Map(entries) => Part::Map(Entries::Slice(*entries)),
+            UnionValue::Structure(members) => Part::Structure(Entries::Slice(*members)),
+            UnionValue::Tree(value) => value.part(),
+        }
+    }
 }
 
 /// A tree that is built from its leaves on, and gone through from its root on.

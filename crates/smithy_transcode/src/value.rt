@@ -1,8 +1,8 @@
 //! The value that a body stands for, whichever wire carries it, as a tree that is built and gone through.
 ghost use Rattle.smithy_transcode.specs.View.{view as value_view, view_elements as value_elements, view_entries as value_entries, view_members as value_members};
 
-use crate::entry_iter::EntryIter;
-use crate::tree::{Part, Tree};
+use crate::entries::Entries;
+use crate::tree::{Part, Tree, UnionValue};
 use smithy_schema::SerdeError;
 use smithy_types::{Blob, DateTime, Document};
 use std::alloc::Global;
@@ -155,9 +155,9 @@ impl Tree for Value {
             Value::Decimal(mantissa, exponent) => Part::Decimal(*mantissa, *exponent),
             Value::Timestamp(value) => Part::Timestamp(*value),
             Value::List(elements) => Part::List(elements.as_slice()),
-            Value::Map(entries) => Part::Map(EntryIter::Map(entries.iter())),
-            Value::Structure(members) => Part::Structure(EntryIter::Map(members.iter())),
-            Value::Union(index, value) => Part::Union(*index, &**value),
+            Value::Map(entries) => Part::Map(Entries::Map(entries)),
+            Value::Structure(members) => Part::Structure(Entries::Map(members)),
+            Value::Union(index, value) => Part::Union(*index, UnionValue::Tree(&**value)),
             Value::Null => Part::Null,
             Value::Document(value) => Part::Document(value),
         }

@@ -4,13 +4,13 @@ ghost use Rattle.smithy_schema.specs.Fits.{FitsOr};
 ghost use Rattle.smithy_schema.specs.ScalarTest.{scalars_pass};
 ghost use Rattle.smithy_schema.specs.Site.{site_of};
 ghost use Rattle.smithy_schema.specs.TimeForms.{format_of, form_or};
-ghost use Rattle.smithy_schema.specs.Value.{instant, list, map, structure, values_of};
-ghost use Rattle.smithy_transcode.specs.Private.Tree.{entries as entries_left, entry_views, member_views};
+ghost use Rattle.smithy_schema.specs.Value.{instant, list, map, structure, union, values_of};
+ghost use Rattle.smithy_transcode.specs.Private.Tree.{entries as entries_of, entry_views, member_views, part_view, union_value_view};
 ghost use Rattle.smithy_transcode.specs.Private.ValueTest.{instant_passes as passes_as, test_view};
 ghost use Rattle.smithy_transcode.specs.Wires.{wire_of, holds};
 
-use crate::entry_iter::EntryIter;
-use crate::tree::{Part, Tree};
+use crate::entries::Entries;
+use crate::tree::{Part, Tree, UnionValue};
 use crate::wire::Wire;
 use smithy_schema::{Schema, TimestampFormat};
 use smithy_types::{DateTime, Format};
@@ -75,13 +75,22 @@ fn instant_passes(schema: &Schema<'_>, value: DateTime, test: InstantTest) -> bo
 }
 
 // A value of the schema's place, or a null element, passes.
-#[cycle(passing)]
 pub(crate) fn value_passes<T: Tree>(schema: &Schema<'_>, value: &T, test: ValueTest) -> bool
     requires fits { FitsOr schema.now.shapes.now schema.now.place true (T.view value.now) }
     ensures { result ≡ scalars_pass (test_view test) (site_of schema.now) (T.view value.now) }
 {
-    match value.part() {
-        Part::Timestamp(value) => instant_passes(schema, value, test.instants),
+    part_passes::<T>(schema, &value.part(), test)
+}
+
+// The same of the root of a tree.
+#[cycle(passing)]
+#[inline(always)]
+fn part_passes<T: Tree>(schema: &Schema<'_>, part: &Part<'_, T>, test: ValueTest) -> bool
+    requires fits { FitsOr schema.now.shapes.now schema.now.place true (part_view T.view part.now) }
+    ensures { result ≡ scalars_pass (test_view test) (site_of schema.now) (part_view T.view part.now) }
+{
+    match part {
+        Part::Timestamp(value) => instant_passes(schema, *value, test.instants),
         Part::Document(_) => test.documents,
         Part::Boolean(_)
         | Part::Whole(_)
@@ -89,21 +98,33 @@ pub(crate) fn value_passes<T: Tree>(schema: &Schema<'_>, value: &T, test: ValueT
         | Part::Bytes(_)
         | Part::Decimal(_, _)
         | Part::Wholes(_)
-        | Part::UnionText(_, _)
         | Part::Null => true,
-        Part::List(elements) => elements_pass::<T>(schema, elements, test),
+        Part::List(elements) => elements_pass::<T>(schema, *elements, test),
         Part::Map(entries) => entries_pass::<T>(schema, entries, test),
         Part::Structure(members) => members_pass::<T>(schema, members, test),
-        Part::Union(index, inner) => {
-            let Some(member) = schema.member_at(index) else {
-                unreachable!()
-            };
-            value_passes::<T>(&member, inner, test)
-        }
+        Part::Union(index, value) => union_passes::<T>(schema, *index, value, test),
     }
 }
 
 #[cycle(passing)]
+#[inline(never)]
+fn union_passes<T: Tree>(
+    schema: &Schema<'_>,
+    index: u32,
+    value: &UnionValue<'_, T>,
+    test: ValueTest,
+) -> bool
+    requires fits { FitsOr schema.now.shapes.now schema.now.place true (union index (union_value_view T.view value.now)) }
+    ensures { result ≡ scalars_pass (test_view test) (site_of schema.now) (union index (union_value_view T.view value.now)) }
+{
+    let Some(member) = schema.member_at(index) else {
+        unreachable!()
+    };
+    part_passes::<T>(&member, &value.part(), test)
+}
+
+#[cycle(passing)]
+#[inline(never)]
 fn elements_pass<T: Tree>(schema: &Schema<'_>, elements: &[T], test: ValueTest) -> bool
     requires fits { FitsOr schema.now.shapes.now schema.now.place true (list (values_of (mapped T.view elements.now))) }
     ensures { result ≡ scalars_pass (test_view test) (site_of schema.now) (list (values_of (mapped T.view elements.now))) }
@@ -113,7 +134,7 @@ fn elements_pass<T: Tree>(schema: &Schema<'_>, elements: &[T], test: ValueTest) 
     };
     let element_schema = member.nameless();
     for element in elements {
-        if !value_passes::<T>(&element_schema, element, test) {
+        if !part_passes::<T>(&element_schema, &element.part(), test) {
             return false;
         }
     }
@@ -121,21 +142,22 @@ fn elements_pass<T: Tree>(schema: &Schema<'_>, elements: &[T], test: ValueTest) 
 }
 
 #[cycle(passing)]
+#[inline(never)]
 fn entries_pass<T: Tree>(
     schema: &Schema<'_>,
-    entries: EntryIter<'_, String, T>,
+    entries: &Entries<'_, String, T>,
     test: ValueTest,
 ) -> bool
-    requires fits { FitsOr schema.now.shapes.now schema.now.place true (map (entry_views T.view (entries_left entries))) }
-    ensures { result ≡ scalars_pass (test_view test) (site_of schema.now) (map (entry_views T.view (entries_left entries.entry))) }
+    requires fits { FitsOr schema.now.shapes.now schema.now.place true (map (entry_views T.view (entries_of entries.now))) }
+    ensures { result ≡ scalars_pass (test_view test) (site_of schema.now) (map (entry_views T.view (entries_of entries.now))) }
 {
     let Some(member) = schema.member() else {
         unreachable!()
     };
     let value_schema = member.nameless();
-    let mut left = entries;
+    let mut left = entries.iter();
     while let Some((_, value)) = left.next_entry() {
-        if !value_passes::<T>(&value_schema, value, test) {
+        if !part_passes::<T>(&value_schema, &value.part(), test) {
             return false;
         }
     }
@@ -143,20 +165,21 @@ fn entries_pass<T: Tree>(
 }
 
 #[cycle(passing)]
+#[inline(never)]
 fn members_pass<T: Tree>(
     schema: &Schema<'_>,
-    members: EntryIter<'_, u32, T>,
+    members: &Entries<'_, u32, T>,
     test: ValueTest,
 ) -> bool
-    requires fits { FitsOr schema.now.shapes.now schema.now.place true (structure (member_views T.view (entries_left members))) }
-    ensures { result ≡ scalars_pass (test_view test) (site_of schema.now) (structure (member_views T.view (entries_left members.entry))) }
+    requires fits { FitsOr schema.now.shapes.now schema.now.place true (structure (member_views T.view (entries_of members.now))) }
+    ensures { result ≡ scalars_pass (test_view test) (site_of schema.now) (structure (member_views T.view (entries_of members.now))) }
 {
-    let mut left = members;
+    let mut left = members.iter();
     while let Some((position, member)) = left.next_entry() {
         let Some(member_schema) = schema.member_at(*position) else {
             unreachable!()
         };
-        if !value_passes::<T>(&member_schema, member, test) {
+        if !part_passes::<T>(&member_schema, &member.part(), test) {
             return false;
         }
     }

@@ -4,13 +4,13 @@ ghost use Rattle.smithy_schema.specs.declared.error.SerdeError.TheVariants.{Fail
 ghost use Rattle.smithy_schema.specs.Fits.{FitsOr, is_scalar_of};
 ghost use Rattle.smithy_schema.specs.Reading.{IsFault};
 ghost use Rattle.smithy_schema.specs.Site.{site_of, kind_at};
-ghost use Rattle.smithy_schema.specs.Value.{scalar_value, whole, text, list, map, structure, union, values_of};
+ghost use Rattle.smithy_schema.specs.Value.{whole, list, map, structure, union, values_of};
 ghost use Rattle.smithy_schema.specs.Writing.{write, scalar_of};
 ghost use Rattle.smithy_transcode.specs.View.{view};
-ghost use Rattle.smithy_transcode.specs.Private.Tree.{entries as entries_left, entry_views, member_views, whole_values};
+ghost use Rattle.smithy_transcode.specs.Private.Tree.{entries as entries_of, entry_views, member_views, whole_values, part_view, union_value_view};
 
-use crate::entry_iter::EntryIter;
-use crate::tree::{Part, Tree};
+use crate::entries::Entries;
+use crate::tree::{Part, Tree, UnionValue};
 use crate::value::Value;
 use smithy_schema::{Schema, SerdeError, ShapeSerializer, ShapeType};
 use std::alloc::Global;
@@ -30,39 +30,38 @@ pub fn write_value<S: ShapeSerializer>(
     ensures ok { OnOk result (write S.after (site_of schema.now) (view value.now) (S.state sink.old) ≡ Ok (S.state sink.new)) }
     ensures refused { IfErr result (λ e. IsFault e → write S.after (site_of schema.now) (view value.now) (S.state sink.old) ≡ Err e) }
 {
-    write_tree::<Value, S>(alloc, sink, schema, value)
+    write_part::<Value, S>(alloc, sink, schema, &value.part())
 }
 
-// The same from any tree.
+// The same from the root of any tree.
 #[cycle(write)]
 #[inline(always)]
-pub(crate) fn write_tree<T: Tree, S: ShapeSerializer>(
+pub(crate) fn write_part<T: Tree, S: ShapeSerializer>(
     alloc: Global,
     sink: &mut S,
     schema: &Schema<'_>,
-    value: &T,
+    part: &Part<'_, T>,
 ) -> Result<(), SerdeError>
-    requires fits { FitsOr schema.now.shapes.now schema.now.place true (T.view value.now) }
+    requires fits { FitsOr schema.now.shapes.now schema.now.place true (part_view T.view part.now) }
     ensures failed { IsErrOf result Failed ↔ (S.failed sink.old ≡ true) }
     ensures broken { IsErr result ↔ (S.failed sink.new ≡ true) }
-    ensures ok { OnOk result (write S.after (site_of schema.now) (T.view value.now) (S.state sink.old) ≡ Ok (S.state sink.new)) }
-    ensures refused { IfErr result (λ e. IsFault e → write S.after (site_of schema.now) (T.view value.now) (S.state sink.old) ≡ Err e) }
+    ensures ok { OnOk result (write S.after (site_of schema.now) (part_view T.view part.now) (S.state sink.old) ≡ Ok (S.state sink.new)) }
+    ensures refused { IfErr result (λ e. IsFault e → write S.after (site_of schema.now) (part_view T.view part.now) (S.state sink.old) ≡ Err e) }
 {
-    match value.part() {
-        Part::Boolean(value) => sink.write_boolean(schema, value),
-        Part::Whole(number) => write_whole(sink, schema, number),
-        Part::Text(content) => sink.write_string(schema, content),
-        Part::Bytes(content) => sink.write_bytes(schema, content),
-        Part::Decimal(mantissa, exponent) => sink.write_decimal(schema, mantissa, exponent),
-        Part::Timestamp(value) => sink.write_timestamp(schema, &value),
-        Part::List(elements) => write_list::<T, S>(alloc, sink, schema, elements),
-        Part::Wholes(numbers) => write_wholes(sink, schema, numbers),
+    match part {
+        Part::Boolean(value) => sink.write_boolean(schema, *value),
+        Part::Whole(number) => write_whole(sink, schema, *number),
+        Part::Text(content) => sink.write_string(schema, *content),
+        Part::Bytes(content) => sink.write_bytes(schema, *content),
+        Part::Decimal(mantissa, exponent) => sink.write_decimal(schema, *mantissa, *exponent),
+        Part::Timestamp(value) => sink.write_timestamp(schema, value),
+        Part::List(elements) => write_list::<T, S>(alloc, sink, schema, *elements),
+        Part::Wholes(numbers) => write_wholes(sink, schema, *numbers),
         Part::Map(entries) => write_map::<T, S>(alloc, sink, schema, entries),
         Part::Structure(members) => write_structure::<T, S>(alloc, sink, schema, members),
-        Part::Union(index, inner) => write_union::<T, S>(alloc, sink, schema, index, inner),
-        Part::UnionText(index, content) => write_union_text(sink, schema, index, content),
+        Part::Union(index, value) => write_union::<T, S>(alloc, sink, schema, *index, value),
         Part::Null => sink.write_null(schema),
-        Part::Document(value) => sink.write_document(schema, value),
+        Part::Document(value) => sink.write_document(schema, *value),
     }
 }
 
@@ -117,7 +116,7 @@ fn write_list<T: Tree, S: ShapeSerializer>(
     let element_schema = member.nameless();
     sink.begin_list(schema, Some(elements.len()))?;
     for element in elements {
-        write_tree::<T, S>(alloc, sink, &element_schema, element)?;
+        write_part::<T, S>(alloc, sink, &element_schema, &element.part())?;
     }
     sink.end_list()
 }
@@ -152,21 +151,21 @@ fn write_structure<T: Tree, S: ShapeSerializer>(
     alloc: Global,
     sink: &mut S,
     schema: &Schema<'_>,
-    members: EntryIter<'_, u32, T>,
+    members: &Entries<'_, u32, T>,
 ) -> Result<(), SerdeError>
-    requires fits { FitsOr schema.now.shapes.now schema.now.place true (structure (member_views T.view (entries_left members))) }
+    requires fits { FitsOr schema.now.shapes.now schema.now.place true (structure (member_views T.view (entries_of members.now))) }
     ensures failed { IsErrOf result Failed ↔ (S.failed sink.old ≡ true) }
     ensures broken { IsErr result ↔ (S.failed sink.new ≡ true) }
-    ensures ok { OnOk result (write S.after (site_of schema.now) (structure (member_views T.view (entries_left members.entry))) (S.state sink.old) ≡ Ok (S.state sink.new)) }
-    ensures refused { IfErr result (λ e. IsFault e → write S.after (site_of schema.now) (structure (member_views T.view (entries_left members.entry))) (S.state sink.old) ≡ Err e) }
+    ensures ok { OnOk result (write S.after (site_of schema.now) (structure (member_views T.view (entries_of members.now))) (S.state sink.old) ≡ Ok (S.state sink.new)) }
+    ensures refused { IfErr result (λ e. IsFault e → write S.after (site_of schema.now) (structure (member_views T.view (entries_of members.now))) (S.state sink.old) ≡ Err e) }
 {
     sink.begin_struct(schema)?;
-    let mut left = members;
+    let mut left = members.iter();
     while let Some((position, member)) = left.next_entry() {
         let Some(member_schema) = schema.member_at(*position) else {
             unreachable!()
         };
-        write_tree::<T, S>(alloc, sink, &member_schema, member)?;
+        write_part::<T, S>(alloc, sink, &member_schema, &member.part())?;
     }
     sink.end_struct()
 }
@@ -178,41 +177,19 @@ fn write_union<T: Tree, S: ShapeSerializer>(
     sink: &mut S,
     schema: &Schema<'_>,
     index: u32,
-    value: &T,
+    value: &UnionValue<'_, T>,
 ) -> Result<(), SerdeError>
-    requires fits { FitsOr schema.now.shapes.now schema.now.place true (union index (T.view value.now)) }
+    requires fits { FitsOr schema.now.shapes.now schema.now.place true (union index (union_value_view T.view value.now)) }
     ensures failed { IsErrOf result Failed ↔ (S.failed sink.old ≡ true) }
     ensures broken { IsErr result ↔ (S.failed sink.new ≡ true) }
-    ensures ok { OnOk result (write S.after (site_of schema.now) (union index (T.view value.now)) (S.state sink.old) ≡ Ok (S.state sink.new)) }
-    ensures refused { IfErr result (λ e. IsFault e → write S.after (site_of schema.now) (union index (T.view value.now)) (S.state sink.old) ≡ Err e) }
+    ensures ok { OnOk result (write S.after (site_of schema.now) (union index (union_value_view T.view value.now)) (S.state sink.old) ≡ Ok (S.state sink.new)) }
+    ensures refused { IfErr result (λ e. IsFault e → write S.after (site_of schema.now) (union index (union_value_view T.view value.now)) (S.state sink.old) ≡ Err e) }
 {
     let Some(member) = schema.member_at(index) else {
         unreachable!()
     };
     sink.begin_struct(schema)?;
-    write_tree::<T, S>(alloc, sink, &member, value)?;
-    sink.end_struct()
-}
-
-// The same of a union whose value is a text.
-#[inline(never)]
-fn write_union_text<S: ShapeSerializer>(
-    sink: &mut S,
-    schema: &Schema<'_>,
-    position: u32,
-    content: &str,
-) -> Result<(), SerdeError>
-    requires fits { FitsOr schema.now.shapes.now schema.now.place true (union position (scalar_value (text content.now))) }
-    ensures failed { IsErrOf result Failed ↔ (S.failed sink.old ≡ true) }
-    ensures broken { IsErr result ↔ (S.failed sink.new ≡ true) }
-    ensures ok { OnOk result (write S.after (site_of schema.now) (union position (scalar_value (text content.now))) (S.state sink.old) ≡ Ok (S.state sink.new)) }
-    ensures refused { IfErr result (λ e. IsFault e → write S.after (site_of schema.now) (union position (scalar_value (text content.now))) (S.state sink.old) ≡ Err e) }
-{
-    let Some(member) = schema.member_at(position) else {
-        unreachable!()
-    };
-    sink.begin_struct(schema)?;
-    sink.write_string(&member, content)?;
+    write_part::<T, S>(alloc, sink, &member, &value.part())?;
     sink.end_struct()
 }
 
@@ -222,13 +199,13 @@ fn write_map<T: Tree, S: ShapeSerializer>(
     alloc: Global,
     sink: &mut S,
     schema: &Schema<'_>,
-    entries: EntryIter<'_, String, T>,
+    entries: &Entries<'_, String, T>,
 ) -> Result<(), SerdeError>
-    requires fits { FitsOr schema.now.shapes.now schema.now.place true (map (entry_views T.view (entries_left entries))) }
+    requires fits { FitsOr schema.now.shapes.now schema.now.place true (map (entry_views T.view (entries_of entries.now))) }
     ensures failed { IsErrOf result Failed ↔ (S.failed sink.old ≡ true) }
     ensures broken { IsErr result ↔ (S.failed sink.new ≡ true) }
-    ensures ok { OnOk result (write S.after (site_of schema.now) (map (entry_views T.view (entries_left entries.entry))) (S.state sink.old) ≡ Ok (S.state sink.new)) }
-    ensures refused { IfErr result (λ e. IsFault e → write S.after (site_of schema.now) (map (entry_views T.view (entries_left entries.entry))) (S.state sink.old) ≡ Err e) }
+    ensures ok { OnOk result (write S.after (site_of schema.now) (map (entry_views T.view (entries_of entries.now))) (S.state sink.old) ≡ Ok (S.state sink.new)) }
+    ensures refused { IfErr result (λ e. IsFault e → write S.after (site_of schema.now) (map (entry_views T.view (entries_of entries.now))) (S.state sink.old) ≡ Err e) }
 {
     let Some(key_schema) = schema.key() else {
         unreachable!()
@@ -238,10 +215,10 @@ fn write_map<T: Tree, S: ShapeSerializer>(
     };
     let value_schema = member.nameless();
     sink.begin_map(schema, Some(entries.len()))?;
-    let mut left = entries;
+    let mut left = entries.iter();
     while let Some((key, value)) = left.next_entry() {
         sink.write_string(&key_schema, key.as_str())?;
-        write_tree::<T, S>(alloc, sink, &value_schema, value)?;
+        write_part::<T, S>(alloc, sink, &value_schema, &value.part())?;
     }
     sink.end_map()
 }

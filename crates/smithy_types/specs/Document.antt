@@ -1,6 +1,6 @@
 -- Documents: what a value of Smithy's shape `document` may be. N is what a number is: a `Number`, or a whole number
 -- alone.
-use Rattle.std.specs.Prelude.{ℕ, ℤ, List, Bool, Option, Some, None}
+use Rattle.std.specs.Prelude.{ℕ, ◌^◌, ℤ, pos, neg_ℤ, int_le, int_lt, List, ◌∷◌, fold, Bool, ◌&&◌, Option, Some, None}
 use Rattle.std.specs.Cmp.Lexicographic.{slice_cmp}
 use Rattle.std.specs.Ordering.{nat_cmp, match_ordering}
 use Rattle.smithy_types.specs.Number.{whole_number}
@@ -32,6 +32,23 @@ put_property name d no_properties = property name d no_properties
 put_property name d (property at e rest) =
     match_ordering (slice_cmp nat_cmp name at) (property name d (property at e rest))
     (property at d rest) (property at e (put_property name d rest))
+
+-- the properties with one more, put under its name
+abbrev pub put_pair : {N : Type 0} → Properties N → List ℕ × Document N → Properties N
+put_pair ps pair = put_property pair.0 pair.1 ps
+
+-- the properties by these names and documents: of equal names the last counts
+abbrev pub properties_by : {N : Type 0} → List (List ℕ × Document N) → Properties N
+properties_by pairs = fold put_pair no_properties pairs
+
+-- a name and a document before others, where all are there
+abbrev pub with_pair : {N : Type 0} → Option (List ℕ) → Option (Document N) → Option (List (List ℕ × Document N)) → Option (List (List ℕ × Document N))
+with_pair (Some name) (Some d) (Some pairs) = Some ((name, d) ∷ pairs)
+with_pair _ _ _ = None
+
+-- a number of 64 bits, with a sign or without one: from -2^63 to 2^64-1
+abbrev pub is_document_number : ℤ → Bool
+is_document_number z = int_le (neg_ℤ (pos (2 ^ 63))) z && int_lt z (pos (2 ^ 64))
 
 -- ---- a value
 

@@ -1,16 +1,10 @@
 -- What a node means where a document is due, whichever wire it came from.
-use Rattle.std.specs.Prelude.{ℕ, suc, List, [], ◌∷◌, Option, Some, None, option_map, option_and_then}
-use Rattle.smithy_types.specs.Document.{Document, null, array, object, Documents, no_documents, item, whole_document}
+use Rattle.std.specs.Prelude.{ℕ, suc, List, [], Option, Some, None, option_map, option_and_then}
+use Rattle.smithy_types.specs.Document.{Document, null, array, object, Documents, no_documents, item, whole_document, properties_by, with_pair}
 use Rattle.smithy_types.specs.declared.number.Number.{Number}
-use Rattle.smithy_schema.specs.Documents.{properties_by}
 use Rattle.smithy_schema.specs.Value.{Value, document_value, null_element}
 use Rattle.smithy_wire.specs.Node.{as_array, as_object, Node, null_node, leaf, container, missing, Nodes, no_nodes, node}
 use Rattle.smithy_wire.specs.Rules.{Answer, settled, where_lifted, Rules, at_depth, key_text}
-
--- a name and a document before others, where all are there
-abbrev pub with_pair : Option (List ℕ) → Option (Document Number) → Option (List (List ℕ × Document Number)) → Option (List (List ℕ × Document Number))
-with_pair (Some name) (Some d) (Some pairs) = Some ((name, d) ∷ pairs)
-with_pair _ _ _ = None
 
 module _ {L : Type 0} (r : Rules L) (says : L → Answer (Document Number)) where
   abbrev mutual

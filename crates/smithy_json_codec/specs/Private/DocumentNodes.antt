@@ -1,20 +1,20 @@
 -- A tree means as a document what its node means under the rules of JSON, and so do documents at a place.
 use Rattle.std.specs.Prelude.{◌≡◌, ◌↔◌, ◌≤◌, ℕ, ℤ, zero, suc, pos, neg_ℤ, List, [], ◌∷◌, Bool, true, false, ◌==◌, drop, Option, Some, None, cond, option_map, option_and_then, refl, unsigned_abs, if◌then◌else◌}
 use Rattle.std.proofs.Common.{sym, ◌∙◌, ap, subst, arith}
-use Rattle.smithy_types.specs.Document.{Document, null, text, array, object, item, whole_document}
+use Rattle.smithy_types.specs.Document.{Document, null, text, array, object, item, whole_document, properties_by, with_pair, is_document_number}
 use Rattle.smithy_types.specs.Document as documents
 use Rattle.smithy_types.specs.Number.{whole_number}
 use Rattle.smithy_types.specs.declared.number.Number.{Number}
 use Rattle.smithy_types.specs.declared.number.Number.TheVariants.{PosInt, NegInt}
 use Rattle.smithy_schema.specs.declared.place.Place.{Place}
-use Rattle.smithy_schema.specs.Documents.{document_nesting, DocumentFits, properties_by}
+use Rattle.smithy_schema.specs.Documents.{document_nesting, DocumentFits}
 use Rattle.smithy_schema.specs.Limits.{Limits, kept, lifted, is_within}
 use Rattle.smithy_schema.specs.Table.{Table, document, kind_of}
 use Rattle.smithy_schema.specs.Value.{Value, document_value}
 use Rattle.smithy_schema.specs.Lemmas.Options.{same_some, step_apart, chosen, made}
 use Rattle.smithy_json.specs.Ascii.{minus_sign}
-use Rattle.smithy_json.specs.DocumentMeaning.{at_depth, number_meaning, with_pair, document_meaning, elements_meaning, members_meaning}
-use Rattle.smithy_json.specs.HeldNumber.{can_be_held, held_as, number_of}
+use Rattle.smithy_json.specs.DocumentMeaning.{at_depth, number_meaning, document_meaning, elements_meaning, members_meaning}
+use Rattle.smithy_json.specs.HeldNumber.{held_as, number_of}
 use Rattle.smithy_json.specs.Number.{natural_number, whole_number as written_number}
 use Rattle.smithy_json.specs.Tree as tree
 use Rattle.smithy_json.specs.Tree.{Json, Elements, no_elements, element, Members, no_members, member}
@@ -34,7 +34,6 @@ use Rattle.smithy_json_codec.specs.Private.NodePlaces.{tree_lies, lies_tree, lie
 use Rattle.smithy_wire.specs.Node.{Node, null_node, leaf, container, missing}
 use Rattle.smithy_wire.specs.Rules.{means, settled, answer_of}
 use Rattle.smithy_wire.specs.Documents.{document_of, elements_of, pairs_of}
-use Rattle.smithy_wire.specs.Documents as wire
 use Rattle.smithy_wire.specs.Readers.{settled_answer, document_stands, stands_node, part_uncarried}
 use Rattle.smithy_wire.specs.Wire.{no_value}
 use Rattle.smithy_wire.specs.Lemmas.Nodes.{sort_of}
@@ -55,12 +54,6 @@ same_number : (limits : Limits) (greatest : ℕ) (o : Option Number) → settled
 same_number kept greatest None = refl
 same_number lifted greatest None = refl
 same_number limits greatest (Some n) = refl
-
-same_pair : (name : Option (List ℕ)) (d : Option (Document Number)) (more : Option (List (List ℕ × Document Number))) → wire.with_pair name d more ≡ with_pair name d more
-same_pair None d more = refl
-same_pair (Some name) None more = refl
-same_pair (Some name) (Some d) None = refl
-same_pair (Some name) (Some d) (Some pairs) = refl
 
 module _ (c : Settings) where
   abbrev here : ℕ → Node JsonScalar → Option (Document Number)
@@ -98,9 +91,8 @@ module _ (c : Settings) where
     same_members : (depth : ℕ) (ms : Members) → pairs_of (rules_of c) document_says depth (member_nodes ms) ≡ members_meaning (limit c) depth ms
     same_members depth no_members = refl
     same_members depth (member raw x ms) =
-        ap (λ o. wire.with_pair (unescaped raw) o (pairs_of (rules_of c) document_says depth (member_nodes ms))) (same_document depth x)
-        ∙ ap (wire.with_pair (unescaped raw) (there depth x)) (same_members depth ms)
-        ∙ same_pair (unescaped raw) (there depth x) (members_meaning (limit c) depth ms)
+        ap (λ o. with_pair (unescaped raw) o (pairs_of (rules_of c) document_says depth (member_nodes ms))) (same_document depth x)
+        ∙ ap (with_pair (unescaped raw) (there depth x)) (same_members depth ms)
 
 -- ---- what is due in a document lies ahead
 
@@ -221,10 +213,10 @@ held_whole (b ∷ more) z h = by (b == minus_sign) h
 
 number_fits : (raw : List ℕ) (n : Number) → number_of raw ≡ Some n → DocumentFits (whole_document (documents.number n))
 number_fits raw n h =
-    let z = step_apart (written_number raw) (λ z. if can_be_held z then Some (held_as raw z) else None) n h in
-    let size = chosen (can_be_held z.0) (Some (held_as raw z.0)) n z.2 in
+    let z = step_apart (written_number raw) (λ z. if is_document_number z then Some (held_as raw z) else None) n h in
+    let size = chosen (is_document_number z.0) (Some (held_as raw z.0)) n z.2 in
     let same : held_as raw z.0 ≡ n = same_some (held_as raw z.0) n size.1 in
-    subst (λ m. can_be_held (whole_number m) ≡ true) same (rw (held_whole raw z.0 z.1) size.0)
+    subst (λ m. is_document_number (whole_number m) ≡ true) same (rw (held_whole raw z.0 z.1) size.0)
 
 held_means : (o : Option Number) (v : Document Number) → held_says o ≡ means v → (n : Number) × (o ≡ Some n) × (documents.number n ≡ v)
 held_means None v h = cc

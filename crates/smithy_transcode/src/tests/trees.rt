@@ -87,9 +87,10 @@ fn two_members<T: Tree>(alloc: Global) -> Result<T, SerdeError> {
 
 // Whether a tree is that structure.
 fn has_two_members<T: Tree>(tree: &T) -> bool {
-    let Part::Structure(mut left) = tree.part() else {
+    let Part::Structure(members) = tree.part() else {
         return false;
     };
+    let mut left = members.iter();
     let Some((&0, number)) = left.next_entry() else {
         return false;
     };
@@ -153,12 +154,13 @@ fn two_entries<T: Tree>(alloc: Global) -> Result<T, SerdeError> {
 
 // Whether a tree is that map.
 fn has_two_entries<T: Tree>(tree: &T) -> bool {
-    let Part::Map(mut left) = tree.part() else {
+    let Part::Map(entries) = tree.part() else {
         return false;
     };
-    if left.len() != 2 {
+    if entries.len() != 2 {
         return false;
     }
+    let mut left = entries.iter();
     let Some((first, number)) = left.next_entry() else {
         return false;
     };
@@ -199,9 +201,10 @@ fn one_instant<T: Tree>(alloc: Global, value: DateTime) -> Result<T, SerdeError>
 
 // Whether a tree is that map.
 fn has_one_instant<T: Tree>(tree: &T, value: DateTime) -> bool {
-    let Part::Map(mut left) = tree.part() else {
+    let Part::Map(entries) = tree.part() else {
         return false;
     };
+    let mut left = entries.iter();
     let Some((_, kept)) = left.next_entry() else {
         return false;
     };
@@ -218,6 +221,66 @@ fn a_tree_keeps_an_instant(rt: HostRuntime) -> Result<(), Fail> {
     assert!(rt; has_one_instant(&value, instant), "the public value");
     let compact: CompactValue = one_instant(rt.alloc(), instant)?;
     assert!(rt; has_one_instant(&compact, instant), "the compact value");
+    Ok(())
+}
+
+// A list of the unions of a text, of two lists, of a map, of a structure and of a union, each at its position in the list.
+fn six_unions<T: Tree>(alloc: Global) -> Result<T, SerdeError> {
+    let list: T = number_and_null(alloc)?;
+    let entries: T = two_entries(alloc)?;
+    let members: T = two_members(alloc)?;
+    let inner: T = T::union(alloc, 7, T::null())?;
+    let text = T::text("a".to_string(alloc)?);
+    let mut elements = T::no_elements(alloc);
+    T::push_element(alloc, &mut elements, T::union(alloc, 0, text)?)?;
+    let numbers = T::list(T::no_elements(alloc));
+    T::push_element(alloc, &mut elements, T::union(alloc, 1, numbers)?)?;
+    T::push_element(alloc, &mut elements, T::union(alloc, 2, list)?)?;
+    T::push_element(alloc, &mut elements, T::union(alloc, 3, entries)?)?;
+    T::push_element(alloc, &mut elements, T::union(alloc, 4, members)?)?;
+    T::push_element(alloc, &mut elements, T::union(alloc, 5, inner)?)?;
+    Ok(T::list(elements))
+}
+
+// Whether a tree is the union at this position of that list.
+fn is_union_at<T: Tree>(position: u32, tree: &T) -> bool {
+    let Part::Union(index, inner) = tree.part() else {
+        return false;
+    };
+    let is_kept = match inner.part() {
+        Part::Text(content) => position == 0 && content == "a",
+        Part::Wholes(numbers) => position == 1 && numbers.is_empty(),
+        Part::List(elements) => elements.len() == if position == 1 { 0 } else { 2 },
+        Part::Map(entries) => position == 3 && entries.len() == 2,
+        Part::Structure(members) => position == 4 && members.len() == 2,
+        Part::Union(7, null) => position == 5 && matches!(null.part(), Part::Null),
+        _ => false,
+    };
+    is_kept && index == position
+}
+
+// Whether a tree is that list.
+fn has_six_unions<T: Tree>(tree: &T) -> bool {
+    let Part::List(elements) = tree.part() else {
+        return false;
+    };
+    let [text, numbers, list, entries, members, inner] = elements else {
+        return false;
+    };
+    is_union_at(0, text)
+        && is_union_at(1, numbers)
+        && is_union_at(2, list)
+        && is_union_at(3, entries)
+        && is_union_at(4, members)
+        && is_union_at(5, inner)
+}
+
+#[test]
+fn a_tree_keeps_the_values_of_unions(rt: HostRuntime) -> Result<(), Fail> {
+    let value: Value = six_unions(rt.alloc())?;
+    assert!(rt; has_six_unions(&value), "the public value");
+    let compact: CompactValue = six_unions(rt.alloc())?;
+    assert!(rt; has_six_unions(&compact), "the compact value");
     Ok(())
 }
 

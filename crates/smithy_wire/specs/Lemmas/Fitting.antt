@@ -2,12 +2,12 @@
 use Rattle.std.specs.Prelude.{◌≡◌, ℕ, suc, List, [], ◌∷◌, ◌++◌, Option, Some, None, Bool, true, false, refl, option_and_then, option_map, cond, if◌then◌else◌, IsUtf8}
 use Rattle.std.proofs.Common.{sym, ◌∙◌, ap, subst}
 use Rattle.smithy_schema.specs.declared.place.Place.{Place}
-use Rattle.smithy_types.specs.Document.{Document, null, array, object, Documents, no_documents, item, map_elements, whole_document}
+use Rattle.smithy_types.specs.Document.{Document, null, array, object, Documents, no_documents, item, map_elements, whole_document, properties_by}
 use Rattle.smithy_types.specs.Number.{whole_number}
 use Rattle.smithy_types.specs.declared.number.Number.{Number}
 use Rattle.smithy_schema.specs.Limits.{Limits, kept, lifted}
 use Rattle.smithy_schema.specs.Table.{Table, Member, ListShape, MapShape, Kind, scalar, document, structure_of, union_of, list_of, map_of, kind_of, place_in}
-use Rattle.smithy_schema.specs.Documents.{DocumentFits, DocumentsFit, properties_by}
+use Rattle.smithy_schema.specs.Documents.{DocumentFits, DocumentsFit}
 use Rattle.smithy_schema.specs.Value.{Value, document_value, null_element, list, map, structure, union, values_of, MapEntries, put_entry, MemberValues, no_member_values}
 use Rattle.smithy_schema.specs.Container.{folded, is_type_mark, element_of, entry_step, member_step, members_from, container_of}
 use Rattle.smithy_schema.specs.Fits.{AscendFrom, KeysAscend, ElementsFit, EntriesFit, MembersFit, Fits}

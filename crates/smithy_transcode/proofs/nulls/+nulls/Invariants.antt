@@ -3,23 +3,23 @@ use Rattle.smithy_schema.specs.Value.{list, map, structure, values_of, nesting, 
 use Rattle.smithy_schema.specs.Writing.{count_of, entry_count}
 use Rattle.smithy_query_codec.specs.Nulls.{elements_hold_null, entries_hold_null, members_hold_null}
 use Rattle.smithy_query_codec.specs.Counts.{ElementsHavePositions, EntriesHavePositions, MembersHavePositions}
-use Rattle.smithy_transcode.specs.Private.Tree.{entry_views, member_views, entries}
+use Rattle.smithy_transcode.specs.Private.Tree.{entry_views, member_views, entries, entries_left, part_view}
 use Rattle.smithy_transcode.proofs.Maps.{count as count_entries}
 use Rattle.smithy_transcode.proofs.Structures.{count}
 use Rattle.smithy_transcode.proofs.nulls.+nulls.Given as goal
 
 -- twice the containers that stand in one another
-abbrev pub decreases-holds_null : goal.decreases-holds_null
-decreases-holds_null g l = 2 * nesting (g.T.Tree.view l.value.now) + 1
+abbrev pub decreases-part_holds_null : goal.decreases-part_holds_null
+decreases-part_holds_null g l = 2 * nesting (part_view g.T.Tree.view l.part.now) + 1
 
 abbrev pub decreases-elements_hold_null : goal.decreases-elements_hold_null
 decreases-elements_hold_null g l = 2 * nesting (list (values_of (mapped g.T.Tree.view l.elements.now)))
 
 abbrev pub decreases-entries_hold_null : goal.decreases-entries_hold_null
-decreases-entries_hold_null g l = 2 * nesting (map (entry_views g.T.Tree.view (entries l.entries)))
+decreases-entries_hold_null g l = 2 * nesting (map (entry_views g.T.Tree.view (entries l.entries.now)))
 
 abbrev pub decreases-members_hold_null : goal.decreases-members_hold_null
-decreases-members_hold_null g l = 2 * nesting (structure (member_views g.T.Tree.view (entries l.members)))
+decreases-members_hold_null g l = 2 * nesting (structure (member_views g.T.Tree.view (entries l.members.now)))
 
 -- a null stands in all where one stands in the rest, and so all have positions
 abbrev pub invariant-elements_hold_null-loop-element :
@@ -36,8 +36,8 @@ invariant-elements_hold_null-loop-element g l =
 
 abbrev pub invariant-entries_hold_null-loop-value : goal.invariant-entries_hold_null-loop-value
 invariant-entries_hold_null-loop-value g l =
-    let all = entry_views g.T.Tree.view (entries l.fn.entries) in
-    let now = entry_views g.T.Tree.view (entries l.left) in
+    let all = entry_views g.T.Tree.view (entries l.entries) in
+    let now = entry_views g.T.Tree.view (entries_left l.left) in
     record {
       null : entries_hold_null all ≡ entries_hold_null now;
       positions : EntriesHavePositions now → EntriesHavePositions all;
@@ -46,12 +46,12 @@ invariant-entries_hold_null-loop-value g l =
     }
 
 abbrev pub decreases-entries_hold_null-loop-value : goal.decreases-entries_hold_null-loop-value
-decreases-entries_hold_null-loop-value g l = count_entries (entry_views g.T.Tree.view (entries l.left))
+decreases-entries_hold_null-loop-value g l = count_entries (entry_views g.T.Tree.view (entries_left l.left))
 
 abbrev pub invariant-members_hold_null-loop-value : goal.invariant-members_hold_null-loop-value
 invariant-members_hold_null-loop-value g l =
-    let all = member_views g.T.Tree.view (entries l.fn.members) in
-    let now = member_views g.T.Tree.view (entries l.left) in
+    let all = member_views g.T.Tree.view (entries l.members) in
+    let now = member_views g.T.Tree.view (entries_left l.left) in
     record {
       null : members_hold_null all ≡ members_hold_null now;
       positions : MembersHavePositions now → MembersHavePositions all;
@@ -59,4 +59,4 @@ invariant-members_hold_null-loop-value g l =
     }
 
 abbrev pub decreases-members_hold_null-loop-value : goal.decreases-members_hold_null-loop-value
-decreases-members_hold_null-loop-value g l = count (member_views g.T.Tree.view (entries l.left))
+decreases-members_hold_null-loop-value g l = count (member_views g.T.Tree.view (entries_left l.left))

@@ -2,25 +2,28 @@ use Rattle.std.proofs.Common.{◌≡◌, ◌≤◌, ◌+◌, ◌*◌, drop, map 
 use Rattle.smithy_schema.specs.Fits.{ElementsFit, EntriesFit, MembersFit}
 use Rattle.smithy_schema.specs.ScalarTest.{elements_pass, entries_pass, members_pass}
 use Rattle.smithy_schema.specs.Site.{site_of, kind_at, element_of, value_of}
-use Rattle.smithy_schema.specs.Value.{list, map, structure, values_of, nesting, elements_nesting, entries_nesting, members_nesting}
-use Rattle.smithy_transcode.specs.Private.Tree.{entry_views, member_views, entries}
+use Rattle.smithy_schema.specs.Value.{list, map, structure, union, values_of, nesting, elements_nesting, entries_nesting, members_nesting}
+use Rattle.smithy_transcode.specs.Private.Tree.{entry_views, member_views, entries, entries_left, part_view, union_value_view}
 use Rattle.smithy_transcode.specs.Private.ValueTest.{test_view}
 use Rattle.smithy_transcode.proofs.Maps.{count as count_entries}
 use Rattle.smithy_transcode.proofs.Structures.{count}
 use Rattle.smithy_transcode.proofs.value_test.+passing.Given as goal
 
 -- twice the containers that stand in one another
-abbrev pub decreases-value_passes : goal.decreases-value_passes
-decreases-value_passes g l = 2 * nesting (g.T.Tree.view l.value.now) + 1
+abbrev pub decreases-part_passes : goal.decreases-part_passes
+decreases-part_passes g l = 2 * nesting (part_view g.T.Tree.view l.part.now) + 1
+
+abbrev pub decreases-union_passes : goal.decreases-union_passes
+decreases-union_passes g l = 2 * nesting (union l.index (union_value_view g.T.Tree.view l.value.now))
 
 abbrev pub decreases-elements_pass : goal.decreases-elements_pass
 decreases-elements_pass g l = 2 * nesting (list (values_of (mapped g.T.Tree.view l.elements.now)))
 
 abbrev pub decreases-entries_pass : goal.decreases-entries_pass
-decreases-entries_pass g l = 2 * nesting (map (entry_views g.T.Tree.view (entries l.entries)))
+decreases-entries_pass g l = 2 * nesting (map (entry_views g.T.Tree.view (entries l.entries.now)))
 
 abbrev pub decreases-members_pass : goal.decreases-members_pass
-decreases-members_pass g l = 2 * nesting (structure (member_views g.T.Tree.view (entries l.members)))
+decreases-members_pass g l = 2 * nesting (structure (member_views g.T.Tree.view (entries l.members.now)))
 
 -- all pass where those pass that are left
 abbrev pub invariant-elements_pass-loop-element :
@@ -41,8 +44,8 @@ abbrev pub invariant-entries_pass-loop-value :
 invariant-entries_pass-loop-value g l =
     let site = site_of l.schema in
     let test = test_view l.test in
-    let all = entry_views g.T.Tree.view (entries l.fn.entries) in
-    let now = entry_views g.T.Tree.view (entries l.left) in
+    let all = entry_views g.T.Tree.view (entries l.entries) in
+    let now = entry_views g.T.Tree.view (entries_left l.left) in
     record {
       held : entries_pass test (value_of site) all ≡ entries_pass test (value_of site) now;
       fits : EntriesFit site.table (kind_at site) now;
@@ -51,15 +54,15 @@ invariant-entries_pass-loop-value g l =
 
 abbrev pub decreases-entries_pass-loop-value :
     goal.decreases-entries_pass-loop-value
-decreases-entries_pass-loop-value g l = count_entries (entry_views g.T.Tree.view (entries l.left))
+decreases-entries_pass-loop-value g l = count_entries (entry_views g.T.Tree.view (entries_left l.left))
 
 abbrev pub invariant-members_pass-loop-position :
     goal.invariant-members_pass-loop-position
 invariant-members_pass-loop-position g l =
     let site = site_of l.schema in
     let test = test_view l.test in
-    let all = member_views g.T.Tree.view (entries l.fn.members) in
-    let now = member_views g.T.Tree.view (entries l.left) in
+    let all = member_views g.T.Tree.view (entries l.members) in
+    let now = member_views g.T.Tree.view (entries_left l.left) in
     record {
       held : members_pass test site all ≡ members_pass test site now;
       fits : MembersFit site.table (kind_at site) now;
@@ -68,4 +71,4 @@ invariant-members_pass-loop-position g l =
 
 abbrev pub decreases-members_pass-loop-position :
     goal.decreases-members_pass-loop-position
-decreases-members_pass-loop-position g l = count (member_views g.T.Tree.view (entries l.left))
+decreases-members_pass-loop-position g l = count (member_views g.T.Tree.view (entries_left l.left))

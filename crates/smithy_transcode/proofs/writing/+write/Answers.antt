@@ -1,9 +1,10 @@
 use Rattle.std.proofs.Common.{rules, arith, map as mapped, [], ap, ◌∙◌}
 use Rattle.std.proofs.lemmas.Result.{err_from_is_err_and, on_ok_weaker, IfErr-weaker}
 use Rattle.smithy_schema.specs.Site.{site_of}
+use Rattle.smithy_schema.specs.Value.{nesting}
 use Rattle.smithy_schema.specs.Writing.{end_structure}
 use Rattle.smithy_schema.proofs.WritingLemmas.{call_made, call_refused}
-use Rattle.smithy_transcode.specs.Private.Tree.{entry_views, member_views, entries}
+use Rattle.smithy_transcode.specs.Private.Tree.{entry_views, member_views, entries, part_view, union_value_view}
 use Rattle.smithy_transcode.proofs.Inner.{inner_element, inner_value}
 use Rattle.smithy_transcode.proofs.Lists as lists
 use Rattle.smithy_transcode.proofs.Maps as maps
@@ -25,132 +26,144 @@ write_list-loop-element-init g t c = record {
   nests = omega arith;
 }
 
-pub write_list-write_tree-requires : goal.write_list-write_tree-requires
-write_list-write_tree-requires g t c κs within =
-    let next = lists.next_element g.T.Tree.view c.args.elements.now c.loop-element.element-index c.element-item.result c.loop-element-test.true c.element-item.is in
+pub write_list-write_part-requires : goal.write_list-write_part-requires
+write_list-write_part-requires g t c κs within =
+    let next = lists.next_element g.T.Tree.view c.args.elements.now c.loop-element.element-index c.element-item.result _ c.loop-element-test.true c.element-item.is c.part.ensures in
     let smaller = (lists.element_nests (mapped g.T.Tree.view c.args.elements.now) _ _ _ next c.loop-element.invariant.nests).0 in
     (omega (arith, smaller, c.decreases), (search rules, (search rules, (search rules, (search rules, (search rules, lists.element_fits (site_of c.args.schema.now) (site_of c.in-Some.member) (site_of c.nameless-element_schema.result) _ _ _ (inner_element (site_of c.args.schema.now) _ c.requires.fits.0 c.in-Some.ensures) c.nameless-element_schema.ensures next c.loop-element.invariant.fits))))))
 
-pub write_list-returns-in_err-write_tree-clause-refused :
-    goal.write_list-returns-in_err-write_tree-clause-refused
-write_list-returns-in_err-write_tree-clause-refused g t c =
-    let p = err_from_is_err_and c.from_residual-in_err-write_tree.result c.from_residual-in_err-write_tree.ensures.1 in
-    let next = lists.next_element g.T.Tree.view c.args.elements.now c.loop-element.element-index c.element-item.result c.loop-element-test.true c.element-item.is in
+pub write_list-returns-in_err-write_part-clause-refused :
+    goal.write_list-returns-in_err-write_part-clause-refused
+write_list-returns-in_err-write_part-clause-refused g t c =
+    let p = err_from_is_err_and c.from_residual-in_err-write_part.result c.from_residual-in_err-write_part.ensures.1 in
+    let next = lists.next_element g.T.Tree.view c.args.elements.now c.loop-element.element-index c.element-item.result _ c.loop-element-test.true c.element-item.is c.part.ensures in
     let site = lists.element_site_is (site_of c.args.schema.now) (site_of c.in-Some.member) (site_of c.nameless-element_schema.result) (inner_element (site_of c.args.schema.now) _ c.requires.fits.0 c.in-Some.ensures) c.nameless-element_schema.ensures in
     rw (p.1, p.2)
-    (λ fault. c.loop-element.invariant.rest ∙ lists.element_refused g.S.ShapeSerializer.after (site_of c.args.schema.now) (g.T.Tree.view c.element-item.result) _ _ (g.S.ShapeSerializer.state c.loop-element.sink) _ next (rw site at (c.in_err-write_tree.ensures.refused fault)))
+    (λ fault. c.loop-element.invariant.rest ∙ lists.element_refused g.S.ShapeSerializer.after (site_of c.args.schema.now) (part_view g.T.Tree.view c.part.result) _ _ (g.S.ShapeSerializer.state c.loop-element.sink) _ next (rw site at (c.in_err-write_part.ensures.refused fault)))
 
 pub write_list-loop-element-preserved : goal.write_list-loop-element-preserved
 write_list-loop-element-preserved g t c =
-    let next = lists.next_element g.T.Tree.view c.args.elements.now c.loop-element.element-index c.element-item.result c.loop-element-test.true c.element-item.is in
+    let next = lists.next_element g.T.Tree.view c.args.elements.now c.loop-element.element-index c.element-item.result _ c.loop-element-test.true c.element-item.is c.part.ensures in
     let site = lists.element_site_is (site_of c.args.schema.now) (site_of c.in-Some.member) (site_of c.nameless-element_schema.result) (inner_element (site_of c.args.schema.now) _ c.requires.fits.0 c.in-Some.ensures) c.nameless-element_schema.ensures in
     record {
       failed = search rules;
-      rest = c.loop-element.invariant.rest ∙ lists.element_written g.S.ShapeSerializer.after (site_of c.args.schema.now) (g.T.Tree.view c.element-item.result) _ _ (g.S.ShapeSerializer.state c.loop-element.sink) _ next (rw site at c.in_ok-write_tree.ensures.ok);
-      fits = lists.rest_fits (site_of c.args.schema.now) (g.T.Tree.view c.element-item.result) _ _ next c.loop-element.invariant.fits;
+      rest = c.loop-element.invariant.rest ∙ lists.element_written g.S.ShapeSerializer.after (site_of c.args.schema.now) (part_view g.T.Tree.view c.part.result) _ _ (g.S.ShapeSerializer.state c.loop-element.sink) _ next (rw site at c.in_ok-write_part.ensures.ok);
+      fits = lists.rest_fits (site_of c.args.schema.now) (part_view g.T.Tree.view c.part.result) _ _ next c.loop-element.invariant.fits;
       nests = (lists.element_nests (mapped g.T.Tree.view c.args.elements.now) _ _ _ next c.loop-element.invariant.nests).1;
     }
 
-pub write_structure-write_tree-requires : goal.write_structure-write_tree-requires
-write_structure-write_tree-requires g t c κs within =
-    let next = ap (member_views g.T.Tree.view) c.in-Some.ensures in
-    let smaller = (structures.member_nests (member_views g.T.Tree.view (entries c.args.members)) _ _ _ _ next c.loop-position.invariant.nests).0 in
-    let fits = structures.member_fits (site_of c.args.schema.now) (site_of c.in-Some-member_at.member_schema) c.in-Some.position.now (g.T.Tree.view c.in-Some.member.now) _ _ c.requires.fits.0 c.in-Some-member_at.ensures next c.loop-position.invariant.fits in
+pub write_structure-loop-position-init : goal.write_structure-loop-position-init
+write_structure-loop-position-init g t c =
+    let first = ap (member_views g.T.Tree.view) c.iter-left.ensures in
+    record {
+      failed = search rules;
+      rest = rw first (structures.structure_begun g.S.ShapeSerializer.after (site_of c.args.schema.now) (member_views g.T.Tree.view (entries c.args.members.now)) (g.S.ShapeSerializer.state c.args.sink.now) _ c.in_ok-begin_struct.ensures.ok);
+      fits = rw first c.requires.fits.1;
+      nests = rw first (omega arith);
+    }
+
+pub write_structure-write_part-requires : goal.write_structure-write_part-requires
+write_structure-write_part-requires g t c κs within =
+    let next = structures.next_member g.T.Tree.view _ _ _ _ _ c.in-Some.ensures c.part.ensures in
+    let smaller = (structures.member_nests (member_views g.T.Tree.view (entries c.args.members.now)) _ _ _ _ next c.loop-position.invariant.nests).0 in
+    let fits = structures.member_fits (site_of c.args.schema.now) (site_of c.in-Some-member_at.member_schema) c.in-Some.position.now (part_view g.T.Tree.view c.part.result) _ _ c.requires.fits.0 c.in-Some-member_at.ensures next c.loop-position.invariant.fits in
     (omega (arith, smaller, c.decreases), (search rules, (search rules, (search rules, (search rules, (search rules, fits))))))
 
 pub write_structure-loop-position-preserved : goal.write_structure-loop-position-preserved
 write_structure-loop-position-preserved g t c =
-    let next = ap (member_views g.T.Tree.view) c.in-Some.ensures in
+    let next = structures.next_member g.T.Tree.view _ _ _ _ _ c.in-Some.ensures c.part.ensures in
     let site = structures.member_site_is (site_of c.args.schema.now) c.in-Some.position.now (site_of c.in-Some-member_at.member_schema) c.in-Some-member_at.ensures in
     record {
       failed = search rules;
-      rest = c.loop-position.invariant.rest ∙ structures.member_written g.S.ShapeSerializer.after (site_of c.args.schema.now) c.in-Some.position.now (g.T.Tree.view c.in-Some.member.now) _ _ (g.S.ShapeSerializer.state c.loop-position.sink) _ next (rw site at c.in_ok-write_tree.ensures.ok);
-      fits = structures.rest_fits (site_of c.args.schema.now) c.in-Some.position.now (g.T.Tree.view c.in-Some.member.now) _ _ next c.loop-position.invariant.fits;
-      nests = (structures.member_nests (member_views g.T.Tree.view (entries c.args.members)) _ _ _ _ next c.loop-position.invariant.nests).1;
+      rest = c.loop-position.invariant.rest ∙ structures.member_written g.S.ShapeSerializer.after (site_of c.args.schema.now) c.in-Some.position.now (part_view g.T.Tree.view c.part.result) _ _ (g.S.ShapeSerializer.state c.loop-position.sink) _ next (rw site at c.in_ok-write_part.ensures.ok);
+      fits = structures.rest_fits (site_of c.args.schema.now) c.in-Some.position.now (part_view g.T.Tree.view c.part.result) _ _ next c.loop-position.invariant.fits;
+      nests = (structures.member_nests (member_views g.T.Tree.view (entries c.args.members.now)) _ _ _ _ next c.loop-position.invariant.nests).1;
     }
 
-pub write_structure-returns-in_err-write_tree-clause-refused :
-    goal.write_structure-returns-in_err-write_tree-clause-refused
-write_structure-returns-in_err-write_tree-clause-refused g t c =
-    let p = err_from_is_err_and c.from_residual-in_err-write_tree.result c.from_residual-in_err-write_tree.ensures.1 in
-    let next = ap (member_views g.T.Tree.view) c.in-Some.ensures in
+pub write_structure-returns-in_err-write_part-clause-refused :
+    goal.write_structure-returns-in_err-write_part-clause-refused
+write_structure-returns-in_err-write_part-clause-refused g t c =
+    let p = err_from_is_err_and c.from_residual-in_err-write_part.result c.from_residual-in_err-write_part.ensures.1 in
+    let next = structures.next_member g.T.Tree.view _ _ _ _ _ c.in-Some.ensures c.part.ensures in
     let site = structures.member_site_is (site_of c.args.schema.now) c.in-Some.position.now (site_of c.in-Some-member_at.member_schema) c.in-Some-member_at.ensures in
     rw (p.1, p.2)
-    (λ fault. c.loop-position.invariant.rest ∙ structures.member_refused g.S.ShapeSerializer.after (site_of c.args.schema.now) c.in-Some.position.now (g.T.Tree.view c.in-Some.member.now) _ _ (g.S.ShapeSerializer.state c.loop-position.sink) _ next (rw site at (c.in_err-write_tree.ensures.refused fault)))
+    (λ fault. c.loop-position.invariant.rest ∙ structures.member_refused g.S.ShapeSerializer.after (site_of c.args.schema.now) c.in-Some.position.now (part_view g.T.Tree.view c.part.result) _ _ (g.S.ShapeSerializer.state c.loop-position.sink) _ next (rw site at (c.in_err-write_part.ensures.refused fault)))
 
-pub write_union-write_tree-requires : goal.write_union-write_tree-requires
-write_union-write_tree-requires g t c κs within =
-    let fits = unions.variant_fits (site_of c.args.schema.now) (site_of c.in-Some.member) c.args.index (g.T.Tree.view c.args.value.now) c.requires.fits.0 c.in-Some.ensures c.requires.fits.1 in
-    (omega (arith, c.decreases), (search rules, (search rules, (search rules, (search rules, (search rules, fits))))))
+pub write_union-write_part-requires : goal.write_union-write_part-requires
+write_union-write_part-requires g t c κs within =
+    let fits = unions.variant_fits (site_of c.args.schema.now) (site_of c.in-Some.member) c.args.index (union_value_view g.T.Tree.view c.args.value.now) c.requires.fits.0 c.in-Some.ensures c.requires.fits.1 in
+    let is = ap nesting c.part.ensures in
+    (omega (arith, is, c.decreases), (search rules, (search rules, (search rules, (search rules, (search rules, rw c.part.ensures fits))))))
 
-pub write_union-returns-in_err-write_tree-clause-refused :
-    goal.write_union-returns-in_err-write_tree-clause-refused
-write_union-returns-in_err-write_tree-clause-refused g t c =
-    let p = err_from_is_err_and c.from_residual-in_err-write_tree.result c.from_residual-in_err-write_tree.ensures.1 in
+pub write_union-returns-in_err-write_part-clause-refused :
+    goal.write_union-returns-in_err-write_part-clause-refused
+write_union-returns-in_err-write_part-clause-refused g t c =
+    let p = err_from_is_err_and c.from_residual-in_err-write_part.result c.from_residual-in_err-write_part.ensures.1 in
     let site = structures.member_site_is (site_of c.args.schema.now) c.args.index (site_of c.in-Some.member) c.in-Some.ensures in
     rw (p.1, p.2)
-    (λ fault. unions.variant_refused g.S.ShapeSerializer.after (site_of c.args.schema.now) c.args.index (g.T.Tree.view c.args.value.now) (g.S.ShapeSerializer.state c.args.sink.now) _ _ c.in_ok-begin_struct.ensures.ok (rw site at (c.in_err-write_tree.ensures.refused fault)))
+    (λ fault. unions.variant_refused g.S.ShapeSerializer.after (site_of c.args.schema.now) c.args.index (union_value_view g.T.Tree.view c.args.value.now) (g.S.ShapeSerializer.state c.args.sink.now) _ _ c.in_ok-begin_struct.ensures.ok (rw (site, c.part.ensures) at (c.in_err-write_part.ensures.refused fault)))
 
 pub write_union-returns-clause-ok : goal.write_union-returns-clause-ok
 write_union-returns-clause-ok g t c =
     let site = structures.member_site_is (site_of c.args.schema.now) c.args.index (site_of c.in-Some.member) c.in-Some.ensures in
-    let written = unions.variant_written g.S.ShapeSerializer.after (site_of c.args.schema.now) c.args.index (g.T.Tree.view c.args.value.now) (g.S.ShapeSerializer.state c.args.sink.now) _ _ c.in_ok-begin_struct.ensures.ok (rw site at c.in_ok-write_tree.ensures.ok) in
+    let written = unions.variant_written g.S.ShapeSerializer.after (site_of c.args.schema.now) c.args.index (union_value_view g.T.Tree.view c.args.value.now) (g.S.ShapeSerializer.state c.args.sink.now) _ _ c.in_ok-begin_struct.ensures.ok (rw (site, c.part.ensures) at c.in_ok-write_part.ensures.ok) in
     on_ok_weaker c.end_struct.result (λ ended. written ∙ call_made g.S.ShapeSerializer.after end_structure [] _ _ ended) c.end_struct.ensures.ok
 
 pub write_union-returns-clause-refused : goal.write_union-returns-clause-refused
 write_union-returns-clause-refused g t c =
     let site = structures.member_site_is (site_of c.args.schema.now) c.args.index (site_of c.in-Some.member) c.in-Some.ensures in
-    let written = unions.variant_written g.S.ShapeSerializer.after (site_of c.args.schema.now) c.args.index (g.T.Tree.view c.args.value.now) (g.S.ShapeSerializer.state c.args.sink.now) _ _ c.in_ok-begin_struct.ensures.ok (rw site at c.in_ok-write_tree.ensures.ok) in
+    let written = unions.variant_written g.S.ShapeSerializer.after (site_of c.args.schema.now) c.args.index (union_value_view g.T.Tree.view c.args.value.now) (g.S.ShapeSerializer.state c.args.sink.now) _ _ c.in_ok-begin_struct.ensures.ok (rw (site, c.part.ensures) at c.in_ok-write_part.ensures.ok) in
     IfErr-weaker c.end_struct.result _ _ (λ e refused fault. written ∙ call_refused g.S.ShapeSerializer.after end_structure [] _ e (refused fault)) c.end_struct.ensures.refused
 
 pub write_map-returns-in_err-begin_map-clause-refused :
     goal.write_map-returns-in_err-begin_map-clause-refused
 write_map-returns-in_err-begin_map-clause-refused g t c =
     let p = err_from_is_err_and c.from_residual.result c.from_residual.ensures.1 in
-    let told = c.len.ensures ∙ maps.told g.T.Tree.view (entries c.args.entries) in
+    let told = c.len.ensures ∙ maps.told g.T.Tree.view (entries c.args.entries.now) in
     rw (p.1, p.2)
-    (λ fault. maps.map_refused g.S.ShapeSerializer.after (site_of c.args.schema.now) (entry_views g.T.Tree.view (entries c.args.entries)) _ (g.S.ShapeSerializer.state c.args.sink.now) _ told (c.in_err-begin_map.ensures.refused fault))
+    (λ fault. maps.map_refused g.S.ShapeSerializer.after (site_of c.args.schema.now) (entry_views g.T.Tree.view (entries c.args.entries.now)) _ (g.S.ShapeSerializer.state c.args.sink.now) _ told (c.in_err-begin_map.ensures.refused fault))
 
 pub write_map-loop-key-init : goal.write_map-loop-key-init
 write_map-loop-key-init g t c =
-    let told = c.len.ensures ∙ maps.told g.T.Tree.view (entries c.args.entries) in
+    let told = c.len.ensures ∙ maps.told g.T.Tree.view (entries c.args.entries.now) in
+    let first = ap (entry_views g.T.Tree.view) c.iter-left.ensures in
     record {
       failed = search rules;
-      rest = maps.map_begun g.S.ShapeSerializer.after (site_of c.args.schema.now) (entry_views g.T.Tree.view (entries c.args.entries)) _ (g.S.ShapeSerializer.state c.args.sink.now) _ told c.in_ok-begin_map.ensures.ok;
-      fits = c.requires.fits.1;
-      nests = omega arith;
+      rest = rw first (maps.map_begun g.S.ShapeSerializer.after (site_of c.args.schema.now) (entry_views g.T.Tree.view (entries c.args.entries.now)) _ (g.S.ShapeSerializer.state c.args.sink.now) _ told c.in_ok-begin_map.ensures.ok);
+      fits = rw first c.requires.fits.1;
+      nests = rw first (omega arith);
     }
 
-pub write_map-write_tree-requires : goal.write_map-write_tree-requires
-write_map-write_tree-requires g t c κs within =
-    let next = ap (entry_views g.T.Tree.view) c.in-Some-next_entry.ensures in
+pub write_map-write_part-requires : goal.write_map-write_part-requires
+write_map-write_part-requires g t c κs within =
+    let next = maps.next_entry g.T.Tree.view _ _ _ _ _ c.in-Some-next_entry.ensures c.part.ensures in
     let inner = inner_value (site_of c.args.schema.now) (site_of c.in-Some-member.member) c.requires.fits.0 c.in-Some-member.ensures in
-    let smaller = (maps.entry_nests (entry_views g.T.Tree.view (entries c.args.entries)) _ _ _ _ next c.loop-key.invariant.nests).0 in
-    let fits = maps.value_fits (site_of c.args.schema.now) (site_of c.in-Some-member.member) (site_of c.nameless-value_schema.result) _ (g.T.Tree.view c.in-Some-next_entry.value.now) _ _ c.requires.fits.0 inner c.nameless-value_schema.ensures next c.loop-key.invariant.fits in
+    let smaller = (maps.entry_nests (entry_views g.T.Tree.view (entries c.args.entries.now)) _ _ _ _ next c.loop-key.invariant.nests).0 in
+    let fits = maps.value_fits (site_of c.args.schema.now) (site_of c.in-Some-member.member) (site_of c.nameless-value_schema.result) _ (part_view g.T.Tree.view c.part.result) _ _ c.requires.fits.0 inner c.nameless-value_schema.ensures next c.loop-key.invariant.fits in
     (omega (arith, smaller, c.decreases), (search rules, (search rules, (search rules, (search rules, (search rules, fits))))))
 
 pub write_map-loop-key-preserved : goal.write_map-loop-key-preserved
 write_map-loop-key-preserved g t c =
-    let next = ap (entry_views g.T.Tree.view) c.in-Some-next_entry.ensures in
+    let next = maps.next_entry g.T.Tree.view _ _ _ _ _ c.in-Some-next_entry.ensures c.part.ensures in
     let inner = inner_value (site_of c.args.schema.now) (site_of c.in-Some-member.member) c.requires.fits.0 c.in-Some-member.ensures in
     let key_site = maps.key_site_is (site_of c.args.schema.now) (site_of c.in-Some.key_schema) c.in-Some.ensures in
     let value_site = maps.value_site_is (site_of c.args.schema.now) (site_of c.in-Some-member.member) (site_of c.nameless-value_schema.result) inner c.nameless-value_schema.ensures in
     let key = rw (key_site, c.as_str.ensures.value) at c.in_ok-write_string.ensures.ok in
     record {
       failed = search rules;
-      rest = c.loop-key.invariant.rest ∙ maps.entry_written g.S.ShapeSerializer.after (site_of c.args.schema.now) _ (g.T.Tree.view c.in-Some-next_entry.value.now) _ _ (g.S.ShapeSerializer.state c.loop-key.sink) _ _ next key (rw value_site at c.in_ok-write_tree.ensures.ok);
-      fits = maps.rest_fits (site_of c.args.schema.now) _ (g.T.Tree.view c.in-Some-next_entry.value.now) _ _ next c.loop-key.invariant.fits;
-      nests = (maps.entry_nests (entry_views g.T.Tree.view (entries c.args.entries)) _ _ _ _ next c.loop-key.invariant.nests).1;
+      rest = c.loop-key.invariant.rest ∙ maps.entry_written g.S.ShapeSerializer.after (site_of c.args.schema.now) _ (part_view g.T.Tree.view c.part.result) _ _ (g.S.ShapeSerializer.state c.loop-key.sink) _ _ next key (rw value_site at c.in_ok-write_part.ensures.ok);
+      fits = maps.rest_fits (site_of c.args.schema.now) _ (part_view g.T.Tree.view c.part.result) _ _ next c.loop-key.invariant.fits;
+      nests = (maps.entry_nests (entry_views g.T.Tree.view (entries c.args.entries.now)) _ _ _ _ next c.loop-key.invariant.nests).1;
     }
 
-pub write_map-returns-in_err-write_tree-clause-refused :
-    goal.write_map-returns-in_err-write_tree-clause-refused
-write_map-returns-in_err-write_tree-clause-refused g t c =
-    let p = err_from_is_err_and c.from_residual-in_err-write_tree.result c.from_residual-in_err-write_tree.ensures.1 in
-    let next = ap (entry_views g.T.Tree.view) c.in-Some-next_entry.ensures in
+pub write_map-returns-in_err-write_part-clause-refused :
+    goal.write_map-returns-in_err-write_part-clause-refused
+write_map-returns-in_err-write_part-clause-refused g t c =
+    let p = err_from_is_err_and c.from_residual-in_err-write_part.result c.from_residual-in_err-write_part.ensures.1 in
+    let next = maps.next_entry g.T.Tree.view _ _ _ _ _ c.in-Some-next_entry.ensures c.part.ensures in
     let inner = inner_value (site_of c.args.schema.now) (site_of c.in-Some-member.member) c.requires.fits.0 c.in-Some-member.ensures in
     let key_site = maps.key_site_is (site_of c.args.schema.now) (site_of c.in-Some.key_schema) c.in-Some.ensures in
     let value_site = maps.value_site_is (site_of c.args.schema.now) (site_of c.in-Some-member.member) (site_of c.nameless-value_schema.result) inner c.nameless-value_schema.ensures in
     let key = rw (key_site, c.as_str.ensures.value) at c.in_ok-write_string.ensures.ok in
     rw (p.1, p.2)
-    (λ fault. c.loop-key.invariant.rest ∙ maps.value_refused g.S.ShapeSerializer.after (site_of c.args.schema.now) _ (g.T.Tree.view c.in-Some-next_entry.value.now) _ _ (g.S.ShapeSerializer.state c.loop-key.sink) _ _ next key (rw value_site at (c.in_err-write_tree.ensures.refused fault)))
+    (λ fault. c.loop-key.invariant.rest ∙ maps.value_refused g.S.ShapeSerializer.after (site_of c.args.schema.now) _ (part_view g.T.Tree.view c.part.result) _ _ (g.S.ShapeSerializer.state c.loop-key.sink) _ _ next key (rw value_site at (c.in_err-write_part.ensures.refused fault)))

@@ -3,27 +3,27 @@ use Rattle.smithy_schema.specs.Fits.{ElementsFit, EntriesFit, MembersFit}
 use Rattle.smithy_schema.specs.Site.{site_of, kind_at}
 use Rattle.smithy_schema.specs.Value.{list, map, structure, union, values_of, nesting, elements_nesting, entries_nesting, members_nesting}
 use Rattle.smithy_schema.specs.Writing.{write, run}
-use Rattle.smithy_transcode.specs.Private.Tree.{entry_views, member_views, entries}
+use Rattle.smithy_transcode.specs.Private.Tree.{entry_views, member_views, entries, entries_left, part_view, union_value_view}
 use Rattle.smithy_transcode.proofs.Lists.{list_rest}
 use Rattle.smithy_transcode.proofs.Maps.{map_rest, count as count_entries}
 use Rattle.smithy_transcode.proofs.Structures.{structure_rest, count}
 use Rattle.smithy_transcode.proofs.writing.+write.Given as goal
 
 -- twice the containers that stand in one another
-abbrev pub decreases-write_tree : goal.decreases-write_tree
-decreases-write_tree g l = 2 * nesting (g.T.Tree.view l.value.now) + 1
+abbrev pub decreases-write_part : goal.decreases-write_part
+decreases-write_part g l = 2 * nesting (part_view g.T.Tree.view l.part.now) + 1
 
 abbrev pub decreases-write_list : goal.decreases-write_list
 decreases-write_list g l = 2 * nesting (list (values_of (mapped g.T.Tree.view l.elements.now)))
 
 abbrev pub decreases-write_structure : goal.decreases-write_structure
-decreases-write_structure g l = 2 * nesting (structure (member_views g.T.Tree.view (entries l.members)))
+decreases-write_structure g l = 2 * nesting (structure (member_views g.T.Tree.view (entries l.members.now)))
 
 abbrev pub decreases-write_map : goal.decreases-write_map
-decreases-write_map g l = 2 * nesting (map (entry_views g.T.Tree.view (entries l.entries)))
+decreases-write_map g l = 2 * nesting (map (entry_views g.T.Tree.view (entries l.entries.now)))
 
 abbrev pub decreases-write_union : goal.decreases-write_union
-decreases-write_union g l = 2 * nesting (union l.index (g.T.Tree.view l.value.now))
+decreases-write_union g l = 2 * nesting (union l.index (union_value_view g.T.Tree.view l.value.now))
 
 -- what the list adds is what the rest of it adds
 abbrev pub invariant-write_list-loop-element : goal.invariant-write_list-loop-element
@@ -45,8 +45,8 @@ abbrev pub invariant-write_structure-loop-position : goal.invariant-write_struct
 invariant-write_structure-loop-position g l =
     let sink = g.S.ShapeSerializer in
     let site = site_of l.schema in
-    let all = member_views g.T.Tree.view (entries l.fn.members) in
-    let now = member_views g.T.Tree.view (entries l.left) in
+    let all = member_views g.T.Tree.view (entries l.members) in
+    let now = member_views g.T.Tree.view (entries_left l.left) in
     record {
       failed : sink.failed l.sink ≡ false;
       rest : write sink.after site (structure all) (sink.state l.fn.sink)
@@ -56,15 +56,15 @@ invariant-write_structure-loop-position g l =
     }
 
 abbrev pub decreases-write_structure-loop-position : goal.decreases-write_structure-loop-position
-decreases-write_structure-loop-position g l = count (member_views g.T.Tree.view (entries l.left))
+decreases-write_structure-loop-position g l = count (member_views g.T.Tree.view (entries_left l.left))
 
 -- what the map adds is what the rest of it adds
 abbrev pub invariant-write_map-loop-key : goal.invariant-write_map-loop-key
 invariant-write_map-loop-key g l =
     let sink = g.S.ShapeSerializer in
     let site = site_of l.schema in
-    let all = entry_views g.T.Tree.view (entries l.fn.entries) in
-    let now = entry_views g.T.Tree.view (entries l.left) in
+    let all = entry_views g.T.Tree.view (entries l.entries) in
+    let now = entry_views g.T.Tree.view (entries_left l.left) in
     record {
       failed : sink.failed l.sink ≡ false;
       rest : write sink.after site (map all) (sink.state l.fn.sink)
@@ -74,4 +74,4 @@ invariant-write_map-loop-key g l =
     }
 
 abbrev pub decreases-write_map-loop-key : goal.decreases-write_map-loop-key
-decreases-write_map-loop-key g l = count_entries (entry_views g.T.Tree.view (entries l.left))
+decreases-write_map-loop-key g l = count_entries (entry_views g.T.Tree.view (entries_left l.left))

@@ -8,10 +8,10 @@ use Rattle.smithy_schema.proofs.schema.Schema.member_schema.Goals as goal
 
 pub returns-in_err-position : goal.returns-in_err-position
 returns-in_err-position c =
-    rw (position-seen member_of (λ m. m.name) c.in_ok-members_at_place.field-0.now.items.items (members_of (kind_at (site_of c.args.self.now))) c.args.name.now None c.in_ok-members_at_place.ensures.members c.in_err-position.ensures)
+    rw (position-seen member_of (λ m. m.name) c.in_ok-members.members.now.items.items (members_of (kind_at (site_of c.args.self.now))) c.args.name.now None c.in_ok-members.ensures.members c.in_err-position.ensures)
     (ap (option_map site_of) c.from_residual-in_err-position.ensures)
 
 pub returns : goal.returns
 returns c =
-    rw (position-seen member_of (λ m. m.name) c.in_ok-members_at_place.field-0.now.items.items (members_of (kind_at (site_of c.args.self.now))) c.args.name.now (Some c.in_ok-position.position) c.in_ok-members_at_place.ensures.members c.in_ok-position.ensures)
-    c.member_at.ensures
+    rw (position-seen member_of (λ m. m.name) c.in_ok-members.members.now.items.items (members_of (kind_at (site_of c.args.self.now))) c.args.name.now (Some c.in_ok-position.position) c.in_ok-members.ensures.members c.in_ok-position.ensures)
+    c.member_among.ensures

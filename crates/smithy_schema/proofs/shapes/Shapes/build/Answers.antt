@@ -6,7 +6,8 @@ use Rattle.smithy_schema.specs.declared.place.Place.{Place}
 use Rattle.smithy_schema.specs.Acceptance.{Fault, refused, accepted, table_from}
 use Rattle.smithy_schema.specs.Accepted.{HaveTextNames}
 use Rattle.smithy_schema.specs.DeclViews.{decl_of}
-use Rattle.smithy_schema.specs.Table.{Table, kind_of, members_of}
+use Rattle.smithy_schema.specs.Table.{Table, kind_of, members_of, is_document_target}
+use Rattle.smithy_schema.specs.Targets.{is_timestamp_target, table_has}
 use Rattle.smithy_schema.specs.Views.{declaration_of}
 use Rattle.smithy_schema.specs.Private.Order.{IsOrderOf}
 use Rattle.smithy_schema.specs.Private.Placed.{table_with}
@@ -38,8 +39,12 @@ invariant_of-result c =
     let in_order = rw c.as_slice.ensures.value at c.in_ok-by_name.ensures in
     let P : List (List ℕ) → Type 0 = λ names. IsOrderOf names c.in_ok-by_name.by_name.items in
     let Q : Table → Type 0 = λ t. (at : Place) → HaveTextNames (members_of (kind_of t at)) in
-    let texts = subst Q kept (names_are_texts c.in_ok-declarations.declarations.items) in
-    (rw kept (accepted_table ds ok texts), subst P (sym (names_kept ds decl_of c.args.decls.items declaration_of c.in_ok-declarations.declarations.items kept)) in_order)
+    let texts = subst Q kept (names_are_texts c.in_ok-declarations.declarations.items) in (
+      rw kept (accepted_table ds ok texts),
+      subst P (sym (names_kept ds decl_of c.args.decls.items declaration_of c.in_ok-declarations.declarations.items kept)) in_order,
+      c.stand_in-has_timestamps.ensures ∙ ap (λ declared. table_has is_timestamp_target (map declaration_of declared)) c.as_slice-7.ensures.value,
+      c.stand_in-has_documents.ensures ∙ ap (λ declared. table_has is_document_target (map declaration_of declared)) c.as_slice-8.ensures.value,
+    )
 
 pub returns-clause-built : goal.returns-clause-built
 returns-clause-built c =
