@@ -1,12 +1,13 @@
 -- Where an entry is put among entries that stand in order.
-use Rattle.std.proofs.Common.{arith, ◌≡◌, ◌≢◌, ◌<◌, ◌+◌, ℕ, suc, List, [], ◌∷◌, ◌++◌, ◌-◌, ◌==◌, IsTrue, length, get_or, slice_set, Ordering, Less, Equal, Greater, refl, sym, ◌∙◌, ap, subst, append_assoc, Bool, ◌&&◌, true, false, if◌then◌else◌}
+use Rattle.std.proofs.Common.{arith, ◌≡◌, ◌<◌, ◌≤◌, ◌+◌, ℕ, zero, suc, Err, List, [], ◌∷◌, ◌++◌, ◌-◌, ◌==◌, IsTrue, length, get_or, slice_set, Ordering, Less, Equal, Greater, refl, sym, ◌∙◌, ap, subst, append_assoc, Bool, ◌&&◌, true, false, if◌then◌else◌}
 use Rattle.std.proofs.lemmas.List.{get_or_default}
 use Rattle.std.proofs.lemmas.List.Elements.{All-nil, All-cons, All-head, All-tail}
-use Rattle.std.specs.List.{All, insert, list_all}
+use Rattle.std.specs.List.{All, AllWithin, HoldsAt, insert, list_all}
+use Rattle.std.specs.List.Sorted.{IsBinarySearchResult, IsNonDecreasingBy, IsSearchInRange}
 use Rattle.std.specs.Cmp.{IsTotalOrder}
 use Rattle.std.specs.BTreeMap.{insert_entry}
-use Rattle.std.specs.Ordering.{is_lt, is_gt, is_eq, match_ordering, ordering_reverse}
-use Rattle.smithy_transcode.specs.Private.Order.{rank, ascends, AllBelow}
+use Rattle.std.specs.Ordering.{is_lt, is_gt, match_ordering, ordering_index, ordering_reverse}
+use Rattle.smithy_transcode.specs.Private.Order.{ascends, AllBelow}
 
 both_true : (a b : Bool) → (a && b) ≡ true → (a ≡ true) × (b ≡ true)
 both_true true b is = (refl, is)
@@ -26,83 +27,31 @@ greater_is Less is = cc
 greater_is Equal is = cc
 greater_is Greater is = refl
 
-pub equal_is : (o : Ordering) → is_eq o ≡ true → o ≡ Equal
-equal_is Less is = cc
-equal_is Equal is = refl
-equal_is Greater is = cc
-
-pub unequal_is : (o : Ordering) → is_eq o ≡ false → o ≢ Equal
-unequal_is o is equal = let both : true ≡ false = sym (ap is_eq equal) ∙ is in cc
-
 turned : {K : Type 0} (cmp : K → K → Ordering) → IsTotalOrder cmp → (x y : K) → cmp x y ≡ Greater → cmp y x ≡ Less
 turned cmp order x y is = order.antisymm y x ∙ ap ordering_reverse is
 
 turned_back : {K : Type 0} (cmp : K → K → Ordering) → IsTotalOrder cmp → (x y : K) → cmp x y ≡ Less → cmp y x ≡ Greater
 turned_back cmp order x y is = order.antisymm y x ∙ ap ordering_reverse is
 
-module _ {K V : Type 0} (cmp : K → K → Ordering) where
-  -- ---- one more entry, by the place where it goes
+lower : (o p : Ordering) → (o ≡ Less → p ≡ Less) → (o ≡ Equal → p ≡ Less) → ordering_index p ≤ ordering_index o
+lower Less p less equal = rw (less refl) (omega arith)
+lower Equal p less equal = rw (equal refl) (omega arith)
+lower Greater Less less equal = omega arith
+lower Greater Equal less equal = omega arith
+lower Greater Greater less equal = omega arith
 
+-- what comparing with a key answers doesn't fall from a key to a greater one
+compared : {K : Type 0} (cmp : K → K → Ordering) → IsTotalOrder cmp → (x y key : K) → cmp x y ≡ Less → ordering_index (cmp x key) ≤ ordering_index (cmp y key)
+compared cmp order x y key less =
+    lower (cmp y key) (cmp x key) (order.trans x y key less)
+    (λ (same : cmp y key ≡ Equal). turned cmp order key x (sym (order.congr y key x same) ∙ turned_back cmp order x y less))
+
+module _ {K V : Type 0} (cmp : K → K → Ordering) where
   pub put_last : (es : List (K × V)) (key : K) (v : V) → AllBelow cmp key es → insert_entry cmp es key v ≡ es ++ (key, v) ∷ []
   put_last [] key v below = refl
   put_last (e ∷ es) key v below =
       let Is : K × V → Type 0 = λ x. cmp key x.0 ≡ Greater in
       rw (All-head Is e es below) (ap (λ (xs : List (K × V)). e ∷ xs) (put_last es key v (All-tail Is e es below)))
-
-  end_at : (o : Ordering) (e : K × V) (es : List (K × V)) (key : K) (v : V) → (rank cmp key es ≡ length es → insert_entry cmp es key v ≡ es ++ (key, v) ∷ [])
-      → match_ordering o 0 0 (suc (rank cmp key es)) ≡ suc (length es)
-      → match_ordering o ((key, v) ∷ e ∷ es) ((e.0, v) ∷ es) (e ∷ insert_entry cmp es key v) ≡ e ∷ (es ++ (key, v) ∷ [])
-  end_at Less e es key v inner is = absurd (omega (arith, is))
-  end_at Equal e es key v inner is = absurd (omega (arith, is))
-  end_at Greater e es key v inner is = ap (λ (xs : List (K × V)). e ∷ xs) (inner (omega (arith, is)))
-
-  put_at_end : (es : List (K × V)) (key : K) (v : V) → rank cmp key es ≡ length es → insert_entry cmp es key v ≡ es ++ (key, v) ∷ []
-  put_at_end [] key v is = refl
-  put_at_end (e ∷ es) key v is = end_at (cmp key e.0) e es key v (put_at_end es key v) is
-
-  over_at : (o : Ordering) (e : K × V) (es : List (K × V)) (key : K) (v : V) (d : K × V) → o ≡ cmp key e.0
-      → (rank cmp key es < length es → cmp key (get_or es (rank cmp key es) d).0 ≡ Equal → insert_entry cmp es key v ≡ slice_set es (rank cmp key es) ((get_or es (rank cmp key es) d).0, v))
-      → match_ordering o 0 0 (suc (rank cmp key es)) < suc (length es) → cmp key (get_or (e ∷ es) (match_ordering o 0 0 (suc (rank cmp key es))) d).0 ≡ Equal
-      → match_ordering o ((key, v) ∷ e ∷ es) ((e.0, v) ∷ es) (e ∷ insert_entry cmp es key v)
-      ≡ slice_set (e ∷ es) (match_ordering o 0 0 (suc (rank cmp key es))) ((get_or (e ∷ es) (match_ordering o 0 0 (suc (rank cmp key es))) d).0, v)
-  over_at Less e es key v d is inner within same = absurd (let both : Less ≡ Equal = is ∙ same in cc)
-  over_at Equal e es key v d is inner within same = refl
-  over_at Greater e es key v d is inner within same = ap (λ (xs : List (K × V)). e ∷ xs) (inner (omega (arith, within)) same)
-
-  put_over : (es : List (K × V)) (key : K) (v : V) (d : K × V) → rank cmp key es < length es → cmp key (get_or es (rank cmp key es) d).0 ≡ Equal
-      → insert_entry cmp es key v ≡ slice_set es (rank cmp key es) ((get_or es (rank cmp key es) d).0, v)
-  put_over [] key v d within same = absurd (omega (arith, within))
-  put_over (e ∷ es) key v d within same = over_at (cmp key e.0) e es key v d refl (put_over es key v d) within same
-
-  before_at : (o : Ordering) (e : K × V) (es : List (K × V)) (key : K) (v : V) (d : K × V) → o ≡ cmp key e.0
-      → (rank cmp key es < length es → cmp key (get_or es (rank cmp key es) d).0 ≢ Equal → insert_entry cmp es key v ≡ insert es (rank cmp key es) (key, v))
-      → match_ordering o 0 0 (suc (rank cmp key es)) < suc (length es) → cmp key (get_or (e ∷ es) (match_ordering o 0 0 (suc (rank cmp key es))) d).0 ≢ Equal
-      → match_ordering o ((key, v) ∷ e ∷ es) ((e.0, v) ∷ es) (e ∷ insert_entry cmp es key v) ≡ insert (e ∷ es) (match_ordering o 0 0 (suc (rank cmp key es))) (key, v)
-  before_at Less e es key v d is inner within other = refl
-  before_at Equal e es key v d is inner within other = absurd (other (sym is))
-  before_at Greater e es key v d is inner within other = ap (λ (xs : List (K × V)). e ∷ xs) (inner (omega (arith, within)) other)
-
-  put_before : (es : List (K × V)) (key : K) (v : V) (d : K × V) → rank cmp key es < length es → cmp key (get_or es (rank cmp key es) d).0 ≢ Equal
-      → insert_entry cmp es key v ≡ insert es (rank cmp key es) (key, v)
-  put_before [] key v d within other = absurd (omega (arith, within))
-  put_before (e ∷ es) key v d within other = before_at (cmp key e.0) e es key v d refl (put_before es key v d) within other
-
-  -- the same by the place that was found
-  pub put_at_end_of : (es : List (K × V)) (r : ℕ) (key : K) (v : V) → r ≡ rank cmp key es → r ≡ length es → es ++ (key, v) ∷ [] ≡ insert_entry cmp es key v
-  put_at_end_of es r key v is end = sym (put_at_end es key v (sym is ∙ end))
-
-  pub put_over_it : (es : List (K × V)) (r : ℕ) (key : K) (v : V) (x y : K × V) → r ≡ rank cmp key es → r < length es → x ≡ get_or es r x → cmp key x.0 ≡ Equal → y ≡ get_or es r y
-      → slice_set es r (y.0, v) ≡ insert_entry cmp es key v
-  put_over_it es r key v x y is within first same second =
-      let one : x ≡ y = first ∙ get_or_default es r x y within ∙ sym second in
-      let there : cmp key (get_or es r y).0 ≡ Equal = ap (λ (z : K × V). cmp key z.0) (sym second ∙ sym one) ∙ same in
-      ap (λ (z : K × V). slice_set es r (z.0, v)) second ∙ rw is (sym (put_over es key v y (rw is at within) (rw is at there)))
-
-  pub put_before_it : (es : List (K × V)) (r : ℕ) (key : K) (v : V) (x : K × V) → r ≡ rank cmp key es → r < length es → x ≡ get_or es r x → cmp key x.0 ≢ Equal
-      → insert es r (key, v) ≡ insert_entry cmp es key v
-  put_before_it es r key v x is within found other =
-      let there : cmp key (get_or es r x).0 ≢ Equal = λ same. other (ap (λ (z : K × V). cmp key z.0) found ∙ same) in
-      rw is (sym (put_before es key v x (rw is at within) (rw is at there)))
 
   -- ---- the order of entries
 
@@ -176,6 +125,52 @@ module _ {K V : Type 0} (cmp : K → K → Ordering) where
         → ascends cmp new ≡ true
     tried_in_order es new next true key v is tried written = written_in_order es new key v is (tried ∙ written)
     tried_in_order es new next false key v is tried written = subst (λ xs. ascends cmp xs ≡ true) (sym tried) is
+
+    -- ---- what a binary search finds
+
+    rising : (es : List (K × V)) (key : K) → Ascending es → IsNonDecreasingBy (λ (e : K × V). ordering_index (cmp e.0 key)) es
+    rising [] key ascending i j d up within = absurd (omega (arith, within))
+    rising (e ∷ es) key ascending zero zero d up within = omega arith
+    rising (e ∷ es) key ascending zero (suc j) d up within = compared cmp order e.0 (get_or es j d).0 key (ascending.0 j d (omega (arith, within)))
+    rising (e ∷ es) key ascending (suc i) zero d up within = absurd (omega (arith, up))
+    rising (e ∷ es) key ascending (suc i) (suc j) d up within = rising es key ascending.1 i j d (omega (arith, up)) (omega (arith, within))
+
+    put_over : (es : List (K × V)) (i : ℕ) (key : K) (v : V) (d : K × V) → Ascending es → i < length es → cmp (get_or es i d).0 key ≡ Equal
+        → slice_set es i ((get_or es i d).0, v) ≡ insert_entry cmp es key v
+    put_over [] i key v d ascending within same = absurd (omega (arith, within))
+    put_over (e ∷ es) zero key v d ascending within same =
+        let equal : cmp key e.0 ≡ Equal = order.antisymm key e.0 ∙ ap ordering_reverse same in rw equal refl
+    put_over (e ∷ es) (suc i) key v d ascending within same =
+        let there = (get_or es i d).0 in
+        let next : cmp e.0 there ≡ Less = ascending.0 i d (omega (arith, within)) in
+        let above : cmp key e.0 ≡ Greater = sym (order.congr there key e.0 same) ∙ turned_back cmp order e.0 there next in
+        rw above (ap (λ (xs : List (K × V)). e ∷ xs) (put_over es i key v d ascending.1 (omega (arith, within)) same))
+
+    put_between : (es : List (K × V)) (i : ℕ) (key : K) (v : V) → i ≤ length es
+        → AllWithin (λ (e : K × V). cmp e.0 key ≡ Less) es 0 i → AllWithin (λ (e : K × V). cmp e.0 key ≡ Greater) es i (length es)
+        → insert es i (key, v) ≡ insert_entry cmp es key v
+    put_between [] zero key v within below above = refl
+    put_between [] (suc i) key v within below above = absurd (omega (arith, within))
+    put_between (e ∷ es) zero key v within below above =
+        let less : cmp key e.0 ≡ Less = turned cmp order e.0 key (above 0 e (omega arith) (omega arith)) in rw less refl
+    put_between (e ∷ es) (suc i) key v within below above =
+        let greater : cmp key e.0 ≡ Greater = turned_back cmp order e.0 key (below 0 e (omega arith) (omega arith)) in
+        let inner = put_between es i key v (omega (arith, within))
+        (λ k d low high. below (suc k) d (omega arith) (omega (arith, high)))
+        (λ k d low high. above (suc k) d (omega (arith, low)) (omega (arith, high))) in
+        rw greater (ap (λ (xs : List (K × V)). e ∷ xs) inner)
+
+    -- what is written at the place where the search found the key
+    pub put_where_found : (es : List (K × V)) (i : ℕ) (key : K) (v : V) (old : K × V) → ascends cmp es ≡ true → i < length es → HoldsAt (λ (e : K × V). cmp e.0 key ≡ Equal) es i → old ≡ get_or es i old
+        → slice_set es i (old.0, v) ≡ insert_entry cmp es key v
+    put_where_found es i key v old is within same found =
+        ap (λ (e : K × V). slice_set es i (e.0, v)) found ∙ put_over es i key v old (in_order es is) within (same old)
+
+    -- what is written at the place where the key would be
+    pub put_where_missed : (es : List (K × V)) (i : ℕ) (key : K) (v : V) → ascends cmp es ≡ true → IsSearchInRange (Err i) (length es) → IsBinarySearchResult (λ (e : K × V). cmp e.0 key) es (Err i)
+        → insert es i (key, v) ≡ insert_entry cmp es key v
+    put_where_missed es i key v is within parted =
+        let (below, above) = parted (rising es key (in_order es is)) in put_between es i key v within below above
 
     below_end : (e : K × V) (es : List (K × V)) (d : K × V) (key : K) → Ascending (e ∷ es) → cmp key (get_or (e ∷ es) (length es) d).0 ≡ Greater → AllBelow cmp key (e ∷ es)
     below_end e [] d key ascending last =

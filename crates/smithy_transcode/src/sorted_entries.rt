@@ -1,8 +1,8 @@
 //! Entries in a vector, in the order of their keys.
-ghost use Rattle.std.specs.Prelude.{◌≡◌, ◌≤◌, [], true, length, IfOk, OnOk, IfErr, IsTrue};
+ghost use Rattle.std.specs.Prelude.{◌≡◌, [], true, IfOk, OnOk, IfErr, IsTrue};
 ghost use Rattle.std.specs.BTreeMap.{insert_entry};
 ghost use Rattle.smithy_schema.specs.declared.error.SerdeError.TheVariants.{NoMemory};
-ghost use Rattle.smithy_transcode.specs.Private.Order.{rank, ascends, AllBelow};
+ghost use Rattle.smithy_transcode.specs.Private.Order.{ascends, AllBelow};
 
 use smithy_schema::SerdeError;
 use std::alloc::Global;
@@ -61,16 +61,10 @@ impl<K: Ord + Drop, V: Drop> SortedEntries<K, V> {
         ensures ok { OnOk result (self.new.entries.items ≡ insert_entry K.cmp self.old.entries.items key value) }
         ensures err { IfErr result (λ e. e ≡ NoMemory) }
     {
-        let place = place_of(&self.entries, &key);
-        if place == self.entries.len() {
-            self.entries.push((key, value))?;
-            return Ok(());
+        match self.entries.binary_search_by(|entry| entry.0.cmp(&key)) {
+            Ok(place) => self.entries[place].1 = value,
+            Err(place) => self.entries.insert(place, (key, value))?,
         }
-        if key.cmp(&self.entries[place].0).is_eq() {
-            self.entries[place].1 = value;
-            return Ok(());
-        }
-        self.entries.insert(place, (key, value))?;
         Ok(())
     }
 
@@ -92,19 +86,4 @@ impl<K: Ord + Drop, V: Drop> SortedEntries<K, V> {
         }
         Ok(map)
     }
-}
-
-// How many entries stand before the first at this key or behind it.
-fn place_of<K: Ord, V>(entries: &[(K, V)], key: &K) -> usize
-    ensures rank { result ≡ rank K.cmp key.now entries.now }
-    ensures within { result ≤ length entries.now }
-{
-    let mut place = 0;
-    while place < entries.len() {
-        if key.cmp(&entries[place].0).is_le() {
-            return place;
-        }
-        place += 1;
-    }
-    place
 }
