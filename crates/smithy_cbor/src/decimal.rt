@@ -25,10 +25,7 @@ pub(crate) fn decimal_at(input: &[u8], at: usize) -> Result<Parts, ItemError>
     ensures refused { IfErr result (IsNoDecimal input.now at) }
 {
     let body = tag_at(input, at, DECIMAL_FRACTION)?;
-    match pair_at(input, body) {
-        Ok(parts) => Ok(parts),
-        Err(e) => Err(e),
-    }
+    pair_at(input, body)
 }
 
 // The array of exponent and mantissa that begins at the offset.
@@ -38,10 +35,7 @@ fn pair_at(input: &[u8], at: usize) -> Result<Parts, ItemError>
     ensures fits { IfOk result (λ r. FitsSigned w128 r.0) }
     ensures refused { IfErr result (IsNoPair input.now at) }
 {
-    let head = match read_head(input, at) {
-        Ok(head) => head,
-        Err(e) => return Err(e),
-    };
+    let head = read_head(input, at)?;
     let body = at + usize::from(head.length);
     match (head.major, head.argument) {
         (ARRAY, Some(count)) if count == 2 => parts_at(input, body),
@@ -57,13 +51,9 @@ fn parts_until_break(input: &[u8], at: usize) -> Result<Parts, ItemError>
     ensures fits { IfOk result (λ r. FitsSigned w128 r.0) }
     ensures refused { IfErr result (AreNoPartsUntilBreak input.now at) }
 {
-    match parts_at(input, at) {
-        Ok((exponent, mantissa, end)) => match break_at(input, end) {
-            Ok(end) => Ok((exponent, mantissa, end)),
-            Err(e) => Err(e),
-        },
-        Err(e) => Err(e),
-    }
+    let (exponent, mantissa, end) = parts_at(input, at)?;
+    let end = break_at(input, end)?;
+    Ok((exponent, mantissa, end))
 }
 
 // The exponent and the mantissa that begin at the offset.
@@ -74,13 +64,9 @@ fn parts_at(input: &[u8], at: usize) -> Result<Parts, ItemError>
     ensures within { IfOk result (λ r. r.2 ≤ length input.now) }
     ensures refused { IfErr result (AreNoParts input.now at) }
 {
-    match integer_at(input, at) {
-        Ok((exponent, next)) => match big_integer_at(input, next) {
-            Ok((mantissa, end)) => Ok((exponent, mantissa, end)),
-            Err(e) => Err(e),
-        },
-        Err(e) => Err(e),
-    }
+    let (exponent, next) = integer_at(input, at)?;
+    let (mantissa, end) = big_integer_at(input, next)?;
+    Ok((exponent, mantissa, end))
 }
 
 /// The exponent, where it is within its limits.

@@ -15,11 +15,11 @@ pub(crate) fn tag_at(input: &[u8], at: usize, number: u64) -> Result<usize, Item
     ensures within { IfOk result (λ end. end ≤ length input.now) }
     ensures refused { IfErr result (IsHeadFault (IsTag number) input.now at) }
 {
-    match read_head(input, at) {
-        Ok(head) if is_tag(head, number) => Ok(at + usize::from(head.length)),
-        Ok(_) => Err(ItemError::WrongType),
-        Err(e) => Err(e),
+    let head = read_head(input, at)?;
+    if !is_tag(head, number) {
+        return Err(ItemError::WrongType);
     }
+    Ok(at + usize::from(head.length))
 }
 
 /// Where the break ends that stands at the offset.
@@ -29,11 +29,11 @@ pub(crate) fn break_at(input: &[u8], at: usize) -> Result<usize, ItemError>
     ensures within { IfOk result (λ end. end ≤ length input.now) }
     ensures refused { IfErr result (IsHeadFault IsBreakHead input.now at) }
 {
-    match read_head(input, at) {
-        Ok(head) if is_break(head) => Ok(at + 1),
-        Ok(_) => Err(ItemError::WrongType),
-        Err(e) => Err(e),
+    let head = read_head(input, at)?;
+    if !is_break(head) {
+        return Err(ItemError::WrongType);
     }
+    Ok(at + 1)
 }
 
 // Whether the head is that of this tag.

@@ -34,15 +34,9 @@ pub fn set_optional<
         × IsRefusal (λ input at kind. kind ≡ Truncated) decoder.old refusal)
         × (decoder.new ≡ decoder.old) }
 {
-    let item_type = match decoder.datatype() {
-        Ok(item_type) => item_type,
-        Err(e) => return Err(E::from(e)),
-    };
-    if item_type != CborType::Null {
+    if decoder.datatype()? != CborType::Null {
         return f(builder, decoder);
     }
-    match decoder.null() {
-        Ok(()) => Ok(builder),
-        Err(e) => Err(E::from(e)),
-    }
+    decoder.null()?;
+    Ok(builder)
 }

@@ -26,10 +26,7 @@ pub(crate) fn integer_at(input: &[u8], at: usize) -> Result<(i128, usize), ItemE
     ensures within { IfOk result (λ r. r.1 ≤ length input.now) }
     ensures refused { IfErr result (IsHeadFault IsInteger input.now at) }
 {
-    let head = match read_head(input, at) {
-        Ok(head) => head,
-        Err(e) => return Err(e),
-    };
+    let head = read_head(input, at)?;
     let end = at + usize::from(head.length);
     match (head.major, head.argument) {
         (UNSIGNED, Some(n)) => Ok((integer_of(UNSIGNED, n), end)),
@@ -45,10 +42,7 @@ pub(crate) fn big_integer_at(input: &[u8], at: usize) -> Result<(Option<i128>, u
     ensures within { IfOk result (λ r. r.1 ≤ length input.now) }
     ensures refused { IfErr result (IsNoBigInteger input.now at) }
 {
-    let head = match read_head(input, at) {
-        Ok(head) => head,
-        Err(e) => return Err(e),
-    };
+    let head = read_head(input, at)?;
     let end = at + usize::from(head.length);
     match (head.major, head.argument) {
         (UNSIGNED, Some(n)) => Ok((Some(integer_of(UNSIGNED, n)), end)),
@@ -66,10 +60,7 @@ pub(crate) fn date_at(input: &[u8], at: usize) -> Result<(Option<i128>, usize), 
     ensures refused { IfErr result (IsNoDate input.now at) }
 {
     let body = tag_at(input, at, EPOCH_SECONDS)?;
-    match seconds_at(input, body) {
-        Ok((seconds, end)) => Ok((seconds, end)),
-        Err(e) => Err(e),
-    }
+    seconds_at(input, body)
 }
 
 // The integer or float that begins at the offset: no number where it is a float.
@@ -80,10 +71,7 @@ fn seconds_at(input: &[u8], at: usize) -> Result<(Option<i128>, usize), ItemErro
         (λ seconds. IsIntegerAt seconds input.now at r.1)) }
     ensures refused { IfErr result (IsHeadFault IsSeconds input.now at) }
 {
-    let head = match read_head(input, at) {
-        Ok(head) => head,
-        Err(e) => return Err(e),
-    };
+    let head = read_head(input, at)?;
     let end = at + usize::from(head.length);
     match (head.major, head.argument) {
         (UNSIGNED, Some(n)) => Ok((Some(integer_of(UNSIGNED, n)), end)),
@@ -113,10 +101,7 @@ fn definite_bytes(input: &[u8], at: usize) -> Result<(&[u8], usize), ItemError>
     ensures within { IfOk result (λ r. r.1 ≤ length input.now) }
     ensures refused { IfErr result (IsBytesFault input.now at) }
 {
-    let head = match read_head(input, at) {
-        Ok(head) => head,
-        Err(e) => return Err(e),
-    };
+    let head = read_head(input, at)?;
     match (head.major, head.argument) {
         (BYTES, Some(announced)) => bytes_behind(input, at, head.length, announced),
         _ => Err(ItemError::WrongType),

@@ -49,10 +49,8 @@ pub(crate) fn instant_at(
     if !may_end(input, end, depth) {
         return Err(SerdeError::InvalidInput);
     }
-    match instant_of(seconds) {
-        Ok(instant) => Ok((instant, end)),
-        Err(error) => Err(error),
-    }
+    let instant = instant_of(seconds)?;
+    Ok((instant, end))
 }
 
 #[cfg(test)]

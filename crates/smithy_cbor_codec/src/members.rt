@@ -86,21 +86,18 @@ fn entry_at<'a>(
     ensures none { IfErr result (λ e. e ≡ InvalidInput → EntryMissing (kind_at (site_of schema.now)) input.now at due depth) }
     ensures kind { IfErr result (λ e. (e ≡ InvalidInput) ⊎ (e ≡ NoMemory)) }
 {
-    match next_in_map(alloc, input, at, due, depth) {
-        Ok(Next::Pair(key, value, after)) => {
+    match next_in_map(alloc, input, at, due, depth)? {
+        Next::Pair(key, value, after) => {
             if let Some(end) = null_end(input, value, depth) {
                 return Ok(Entry::Passed(end, after));
             }
             if !is_mark(schema, key.as_str()) {
                 return Ok(Entry::Kept(Next::Pair(key, value, after)));
             }
-            match skipped_end(alloc, input, value, depth) {
-                Ok(end) => Ok(Entry::Passed(end, after)),
-                Err(error) => Err(error),
-            }
+            let end = skipped_end(alloc, input, value, depth)?;
+            Ok(Entry::Passed(end, after))
         }
-        Ok(Next::End(end)) => Ok(Entry::Kept(Next::End(end))),
-        Err(error) => Err(error),
+        Next::End(end) => Ok(Entry::Kept(Next::End(end))),
     }
 }
 
@@ -121,13 +118,12 @@ pub(crate) fn next_present<'a>(
     let mut at = at;
     let mut due = due;
     loop {
-        match entry_at(alloc, input, at, due, depth, schema) {
-            Ok(Entry::Passed(end, after)) => {
+        match entry_at(alloc, input, at, due, depth, schema)? {
+            Entry::Passed(end, after) => {
                 at = end;
                 due = after;
             }
-            Ok(Entry::Kept(next)) => return Ok(next),
-            Err(error) => return Err(error),
+            Entry::Kept(next) => return Ok(next),
         }
     }
 }

@@ -117,10 +117,7 @@ fn owned_blob(alloc: Global, bytes: CowSlice<'_, u8>) -> Result<Blob, AllocError
     ensures bytes { IfOk result (λ blob. are_bytes blob ≡ true) }
 {
     match bytes {
-        CowSlice::Borrowed(borrowed) => match Vec::from_slice(alloc, borrowed) {
-            Ok(owned) => Ok(blob_of(owned)),
-            Err(error) => Err(error),
-        },
+        CowSlice::Borrowed(borrowed) => Ok(blob_of(Vec::from_slice(alloc, borrowed)?)),
         CowSlice::Owned(owned) => Ok(blob_of(owned)),
     }
 }
@@ -142,10 +139,8 @@ pub(crate) fn blob_at(
             if !may_end(input, end, depth) {
                 return Err(SerdeError::InvalidInput);
             }
-            match owned_blob(alloc, bytes) {
-                Ok(blob) => Ok((blob, end)),
-                Err(_) => Err(SerdeError::NoMemory),
-            }
+            let blob = owned_blob(alloc, bytes)?;
+            Ok((blob, end))
         }
         Err(error) => Err(refusal_of(error)),
     }

@@ -123,13 +123,9 @@ fn value_step(
     if depth >= max_depth {
         return Err(fault_at_limit(input, at));
     }
-    match document_begun(alloc, input, at) {
-        Ok(Begun::Scalar(value, end)) => match with_value(frame, value) {
-            Ok(more) => Ok(Step::Inside(more, end)),
-            Err(error) => Err(error),
-        },
-        Ok(Begun::Container(is_object, inside)) => Ok(Step::Opens(frame, is_object, inside)),
-        Err(error) => Err(error),
+    match document_begun(alloc, input, at)? {
+        Begun::Scalar(value, end) => Ok(Step::Inside(with_value(frame, value)?, end)),
+        Begun::Container(is_object, inside) => Ok(Step::Opens(frame, is_object, inside)),
     }
 }
 
@@ -178,13 +174,11 @@ fn object_step(
     ensures { TakesStep max_depth depth input.now at entered (open_object (properties_view properties.entries)) result }
 {
     match next_in_object(input, at, entered, INNER_DEPTH) {
-        Some(InObject::Member(name)) => match owned_text(alloc, name.raw, name.has_escape) {
-            Ok(key) => {
-                let frame = Frame::BehindName(properties, key);
-                value_step(alloc, input, name.end, frame, depth, max_depth)
-            }
-            Err(error) => Err(error),
-        },
+        Some(InObject::Member(name)) => {
+            let key = owned_text(alloc, name.raw, name.has_escape)?;
+            let frame = Frame::BehindName(properties, key);
+            value_step(alloc, input, name.end, frame, depth, max_depth)
+        }
         Some(InObject::End(end)) => Ok(Step::Ends(Document::Object(properties), end)),
         None => Err(SerdeError::InvalidInput),
     }
@@ -220,10 +214,8 @@ fn next_step(
 fn push(frames: &mut Vec<Frame>, frame: Frame) -> Result<(), SerdeError>
     ensures { MatchResult result (λ _. frames_view (vec_items frames.new) ≡ frame_view frame ∷ frames_view (vec_items frames.old)) (λ e. e ≡ NoMemory) }
 {
-    match frames.push(frame) {
-        Ok(()) => Ok(()),
-        Err(_) => Err(SerdeError::NoMemory),
-    }
+    frames.push(frame)?;
+    Ok(())
 }
 
 // The innermost container that waits, which leaves.
@@ -253,21 +245,16 @@ fn document_at(
     if depth >= max_depth {
         return Err(fault_at_limit(input, at));
     }
-    let (is_object, mut at) = match document_begun(alloc, input, at) {
-        Ok(Begun::Scalar(value, end)) => return Ok((value, end)),
-        Ok(Begun::Container(is_object, inside)) => (is_object, inside),
-        Err(error) => return Err(error),
+    let (is_object, mut at) = match document_begun(alloc, input, at)? {
+        Begun::Scalar(value, end) => return Ok((value, end)),
+        Begun::Container(is_object, inside) => (is_object, inside),
     };
     let mut frames = Vec::new(alloc);
     let mut inner = fresh(alloc, is_object);
     let mut entered = false;
     'steps: loop {
         let inside_depth = depth + frames.len() + 1;
-        let step = match next_step(alloc, input, at, entered, inner, inside_depth, max_depth) {
-            Ok(step) => step,
-            Err(error) => return Err(error),
-        };
-        match step {
+        match next_step(alloc, input, at, entered, inner, inside_depth, max_depth)? {
             Step::Inside(more, end) => {
                 inner = more;
                 entered = true;
@@ -306,14 +293,9 @@ pub(crate) fn standing_document_at(
     ensures ok { IfOk result (λ r. DocumentStands (Some max_depth) depth input.now at (document_view r.0) r.1) }
     ensures refused { IfErr result (RefusesStanding max_depth depth input.now at) }
 {
-    match document_at(alloc, input, at, depth, max_depth) {
-        Ok((document, end)) => {
-            if may_end(input, end, depth + 1) {
-                Ok((document, end))
-            } else {
-                Err(SerdeError::InvalidInput)
-            }
-        }
-        Err(error) => Err(error),
+    let (document, end) = document_at(alloc, input, at, depth, max_depth)?;
+    if !may_end(input, end, depth + 1) {
+        return Err(SerdeError::InvalidInput);
     }
+    Ok((document, end))
 }

@@ -51,10 +51,8 @@ fn seconds_at(input: &[u8], at: usize) -> Result<(DateTime, usize), SerdeError>
     let Some((seconds, end)) = number_at(input, at) else {
         return Err(SerdeError::InvalidInput);
     };
-    match instant_of(seconds) {
-        Ok(instant) => Ok((instant, end)),
-        Err(error) => Err(error),
-    }
+    let instant = instant_of(seconds)?;
+    Ok((instant, end))
 }
 
 // The instant of the string that comes first behind blanks and is a date of the form, with its end, where a value may end
@@ -74,12 +72,10 @@ fn date_at(
     let Some(string) = string_at(input, at) else {
         return Err(SerdeError::InvalidInput);
     };
-    match text_of(alloc, string.text, string.has_escape) {
-        Ok(text) => match DateTime::from_str(text.as_str(), form.format()) {
-            Ok(instant) => Ok((instant, string.closing + 1)),
-            Err(_) => Err(SerdeError::InvalidInput),
-        },
-        Err(error) => Err(error),
+    let text = text_of(alloc, string.text, string.has_escape)?;
+    match DateTime::from_str(text.as_str(), form.format()) {
+        Ok(instant) => Ok((instant, string.closing + 1)),
+        Err(_) => Err(SerdeError::InvalidInput),
     }
 }
 

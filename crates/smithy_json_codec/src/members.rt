@@ -123,10 +123,7 @@ fn entry_at<'a>(
         Some(InObject::End(end)) => return Ok(Entry::Kept(Next::End(end))),
         None => return Err(SerdeError::InvalidInput),
     };
-    let text = match text_of(alloc, name.raw, name.has_escape) {
-        Ok(text) => text,
-        Err(error) => return Err(error),
-    };
+    let text = text_of(alloc, name.raw, name.has_escape)?;
     if let Some(end) = null_end(input, name.end) {
         if names.passes_null(text.as_str()) {
             return Ok(Entry::Passed(end));
@@ -136,10 +133,8 @@ fn entry_at<'a>(
     if !is_type_name(text.as_str()) || !names.passes_marks() {
         return Ok(Entry::Kept(Next::Member(text, name.end)));
     }
-    match skipped_end(input, name.end, depth, max_depth) {
-        Ok(end) => Ok(Entry::Passed(end)),
-        Err(error) => Err(error),
-    }
+    let end = skipped_end(input, name.end, depth, max_depth)?;
+    Ok(Entry::Passed(end))
 }
 
 // The next member that isn't passed over, or the end of the object in whose inside the offset lies.
@@ -169,13 +164,12 @@ pub(crate) fn next_present<'a>(
     let mut at = at;
     let mut entered = entered;
     loop {
-        match entry_at(alloc, input, at, entered, depth, max_depth, names) {
-            Ok(Entry::Passed(end)) => {
+        match entry_at(alloc, input, at, entered, depth, max_depth, names)? {
+            Entry::Passed(end) => {
                 at = end;
                 entered = true;
             }
-            Ok(Entry::Kept(next)) => return Ok(next),
-            Err(error) => return Err(error),
+            Entry::Kept(next) => return Ok(next),
         }
     }
 }

@@ -54,10 +54,8 @@ fn number_text_at<'a>(
     let Some(string) = string_at(input, at) else {
         return Err(SerdeError::InvalidInput);
     };
-    match text_of(alloc, string.text, string.has_escape) {
-        Ok(text) => Ok((text, string.closing + 1)),
-        Err(error) => Err(error),
-    }
+    let text = text_of(alloc, string.text, string.has_escape)?;
+    Ok((text, string.closing + 1))
 }
 
 // The whole number that a text writes, where 128 bits hold it.
@@ -110,13 +108,9 @@ pub(crate) fn big_integer_at(
     ensures wide { IsErrOf result TooWide → ExceedsAt scalars.BigInteger input.now at }
     ensures kind { IfErr result (λ e. (e ≡ InvalidInput) ⊎ (e ≡ TooWide) ⊎ (e ≡ NoMemory)) }
 {
-    match number_text_at(alloc, input, at) {
-        Ok((text, end)) => match big_integer_of(alloc, text.as_str()) {
-            Ok(number) => Ok((number, end)),
-            Err(error) => Err(error),
-        },
-        Err(error) => Err(error),
-    }
+    let (text, end) = number_text_at(alloc, input, at)?;
+    let number = big_integer_of(alloc, text.as_str())?;
+    Ok((number, end))
 }
 
 // The decimal number that comes first behind blanks, with its end, where a value may end behind it.
@@ -132,11 +126,7 @@ pub(crate) fn big_decimal_at(
     ensures wide { IsErrOf result TooWide → ExceedsAt scalars.BigDecimal input.now at }
     ensures kind { IfErr result (λ e. (e ≡ InvalidInput) ⊎ (e ≡ TooWide) ⊎ (e ≡ NoMemory)) }
 {
-    match number_text_at(alloc, input, at) {
-        Ok((text, end)) => match big_decimal_of(alloc, text.as_str()) {
-            Ok(number) => Ok((number, end)),
-            Err(error) => Err(error),
-        },
-        Err(error) => Err(error),
-    }
+    let (text, end) = number_text_at(alloc, input, at)?;
+    let number = big_decimal_of(alloc, text.as_str())?;
+    Ok((number, end))
 }

@@ -56,13 +56,8 @@ pub(crate) fn owned_text(alloc: Global, raw: &str, is_escaped: bool) -> Result<S
     ensures none { IsInvalid result → unescaped raw.now ≡ None }
     ensures kind { IfErr result (λ e. (e ≡ InvalidInput) ⊎ (e ≡ NoMemory)) }
 {
-    match text_of(alloc, raw, is_escaped) {
-        Ok(text) => match text.into_owned(alloc) {
-            Ok(text) => Ok(text),
-            Err(_) => Err(SerdeError::NoMemory),
-        },
-        Err(error) => Err(error),
-    }
+    let text = text_of(alloc, raw, is_escaped)?;
+    Ok(text.into_owned(alloc)?)
 }
 
 // The text of the string that comes first behind blanks, with its end, where a value may end behind it.
@@ -76,10 +71,8 @@ pub(crate) fn text_at(alloc: Global, input: &[u8], at: usize) -> Result<(String,
     let Some(string) = string_at(input, at) else {
         return Err(SerdeError::InvalidInput);
     };
-    match owned_text(alloc, string.text, string.has_escape) {
-        Ok(text) => Ok((text, string.closing + 1)),
-        Err(error) => Err(error),
-    }
+    let text = owned_text(alloc, string.text, string.has_escape)?;
+    Ok((text, string.closing + 1))
 }
 
 // The bytes whose base64 is the text.
@@ -102,10 +95,8 @@ fn blob_of(alloc: Global, raw: &str, is_escaped: bool) -> Result<Blob, SerdeErro
     ensures none { IsInvalid result → option_and_then base64_of (unescaped raw.now) ≡ None }
     ensures kind { IfErr result (λ e. (e ≡ InvalidInput) ⊎ (e ≡ NoMemory)) }
 {
-    match text_of(alloc, raw, is_escaped) {
-        Ok(text) => decoded(alloc, text.as_str()),
-        Err(error) => Err(error),
-    }
+    let text = text_of(alloc, raw, is_escaped)?;
+    decoded(alloc, text.as_str())
 }
 
 // The bytes that the string encodes which comes first behind blanks, with its end, where a value may end behind it.
@@ -118,8 +109,6 @@ pub(crate) fn blob_at(alloc: Global, input: &[u8], at: usize) -> Result<(Blob, u
     let Some(string) = string_at(input, at) else {
         return Err(SerdeError::InvalidInput);
     };
-    match blob_of(alloc, string.text, string.has_escape) {
-        Ok(blob) => Ok((blob, string.closing + 1)),
-        Err(error) => Err(error),
-    }
+    let blob = blob_of(alloc, string.text, string.has_escape)?;
+    Ok((blob, string.closing + 1))
 }

@@ -21,15 +21,8 @@ fn make_document<T: IsToken, I: Iterator<Item = Result<T, DeserializeError>>>(
 {
     let mut frames = Vec::new(alloc);
     while let Some(item) = tokens.next() {
-        let token = match item {
-            Ok(token) => token,
-            Err(error) => return Err(error),
-        };
-        let made = match take(alloc, &mut frames, token.as_token()) {
-            Ok(made) => made,
-            Err(error) => return Err(error),
-        };
-        if let Some(document) = made {
+        let token = item?;
+        if let Some(document) = take(alloc, &mut frames, token.as_token())? {
             return Ok(document);
         }
     }

@@ -106,10 +106,7 @@ fn skip_from<T: IsToken, I: Iterator<Item = Result<T, DeserializeError>>>(
 {
     let mut depth = depth;
     while let Some(item) = tokens.next() {
-        let token = match item {
-            Ok(token) => token,
-            Err(error) => return Err(error),
-        };
+        let token = item?;
         match skip_token(token.as_token(), limit, depth) {
             Skip::On(more) => depth = more,
             Skip::Done => return Ok(()),

@@ -68,10 +68,8 @@ fn text_begun(alloc: Global, input: &[u8], at: usize) -> Result<Begun, SerdeErro
     requires { IsFirstByte input.now at 0x22 at }
     ensures { BeginsDocument input.now at result }
 {
-    match text_at(alloc, input, at) {
-        Ok((text, end)) => Ok(Begun::Scalar(Document::String(text), end)),
-        Err(error) => Err(error),
-    }
+    let (text, end) = text_at(alloc, input, at)?;
+    Ok(Begun::Scalar(Document::String(text), end))
 }
 
 fn null_begun(input: &[u8], at: usize) -> Result<Begun, SerdeError>
@@ -106,10 +104,8 @@ fn number_begun(input: &[u8], at: usize, first: u8) -> Result<Begun, SerdeError>
     requires no_object { first ≡ begin_object → ⊥ }
     ensures { BeginsDocument input.now at result }
 {
-    match held_number_at(input, at, first) {
-        Ok((number, end)) => Ok(Begun::Scalar(Document::Number(number), end)),
-        Err(error) => Err(error),
-    }
+    let (number, end) = held_number_at(input, at, first)?;
+    Ok(Begun::Scalar(Document::Number(number), end))
 }
 
 // The scalar at the offset, which begins with this byte.

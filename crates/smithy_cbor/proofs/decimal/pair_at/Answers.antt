@@ -9,7 +9,7 @@ pub returns-in-4-Some-clause-found : goal.returns-in-4-Some-clause-found
 returns-in-4-Some-clause-found c =
     let two : c.in-4-Some.count ≡ 2 = omega arith in
     let body = c.args.at + c.from.result in
-    let opens = head_opens (head_read c.in-Ok.head) 4 (Some 2) c.args.input.now c.args.at body c.in-Ok.ensures.found c.in-4-Some.is-0 (c.in-4-Some.is-1 ∙ ap Some two)
+    let opens = head_opens (head_read c.in_ok-head.head) 4 (Some 2) c.args.input.now c.args.at body c.in_ok-head.ensures.found c.in-4-Some.is-0 (c.in-4-Some.is-1 ∙ ap Some two)
     (ap (λ n. c.args.at + n) c.from.ensures) in
     pair_read c.args.input.now c.args.at body c.parts_at.result opens c.parts_at.ensures.found
 
@@ -17,13 +17,13 @@ pub returns-in-4-Some-clause-refused : goal.returns-in-4-Some-clause-refused
 returns-in-4-Some-clause-refused c =
     let two : c.in-4-Some.count ≡ 2 = omega arith in
     let body = c.args.at + c.from.result in
-    let opens = head_opens (head_read c.in-Ok.head) 4 (Some 2) c.args.input.now c.args.at body c.in-Ok.ensures.found c.in-4-Some.is-0 (c.in-4-Some.is-1 ∙ ap Some two)
+    let opens = head_opens (head_read c.in_ok-head.head) 4 (Some 2) c.args.input.now c.args.at body c.in_ok-head.ensures.found c.in-4-Some.is-0 (c.in-4-Some.is-1 ∙ ap Some two)
     (ap (λ n. c.args.at + n) c.from.ensures) in
     pair_fault c.args.input.now c.args.at body c.parts_at.result opens c.parts_at.ensures.refused
 
 pub returns-in-4-None-clause-found : goal.returns-in-4-None-clause-found
 returns-in-4-None-clause-found c =
     let body = c.args.at + c.from.result in
-    let opens = head_opens (head_read c.in-Ok.head) 4 None c.args.input.now c.args.at body c.in-Ok.ensures.found c.in-4-None.is-0 c.in-4-None.is-1
+    let opens = head_opens (head_read c.in_ok-head.head) 4 None c.args.input.now c.args.at body c.in_ok-head.ensures.found c.in-4-None.is-0 c.in-4-None.is-1
     (ap (λ n. c.args.at + n) c.from.ensures) in
     pair_read_until_break c.args.input.now c.args.at body c.parts_until_break.result opens c.parts_until_break.ensures.found

@@ -1,8 +1,15 @@
 -- Where no break is, both parts stand before it.
-use Rattle.std.proofs.Common.{inr}
+use Rattle.std.proofs.Common.{inl, inr}
+use Rattle.std.proofs.lemmas.Result.{err_from_is_err_and}
 use Rattle.smithy_cbor.proofs.decimal.parts_until_break.Goals as goal
 
-pub returns-in-Err-break_at-clause-refused : goal.returns-in-Err-break_at-clause-refused
-returns-in-Err-break_at-clause-refused c =
-    let found = c.in-Ok.ensures.found in
-    inr (c.in-Ok.end, (c.in-Ok.exponent, found.0, found.1), c.in-Err-break_at.ensures.refused)
+pub returns-in_err-exponent-clause-refused : goal.returns-in_err-exponent-clause-refused
+returns-in_err-exponent-clause-refused c =
+    let p = err_from_is_err_and c.from_residual.result c.from_residual.ensures.1 in
+    rw (p.1, p.2) (inl c.in_err-exponent.ensures.refused)
+
+pub returns-in_err-end-clause-refused : goal.returns-in_err-end-clause-refused
+returns-in_err-end-clause-refused c =
+    let found = c.in_ok-exponent.ensures.found in
+    let p = err_from_is_err_and c.from_residual-in_err-end.result c.from_residual-in_err-end.ensures.1 in
+    rw (p.1, p.2) (inr (c.in_ok-exponent.end, (c.in_ok-exponent.exponent, found.0, found.1), c.in_err-end.ensures.refused))

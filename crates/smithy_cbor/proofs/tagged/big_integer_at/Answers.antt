@@ -8,22 +8,22 @@ use Rattle.smithy_cbor.proofs.tagged.big_integer_at.Goals as goal
 pub returns-in-0-Some-clause-found : goal.returns-in-0-Some-clause-found
 returns-in-0-Some-clause-found c =
     let number = c.integer_of in
-    let there = integer_read (head_read c.in-Ok.head) 0 c.in-0-Some.n c.args.input.now c.args.at (c.args.at + c.from.result) number.result (omega arith) c.requires
-    c.in-Ok.ensures.found c.in-0-Some.is-0 c.in-0-Some.is-1 (ap (λ n. c.args.at + n) c.from.ensures) number.ensures.value in
+    let there = integer_read (head_read c.in_ok-head.head) 0 c.in-0-Some.n c.args.input.now c.args.at (c.args.at + c.from.result) number.result (omega arith) c.requires
+    c.in_ok-head.ensures.found c.in-0-Some.is-0 c.in-0-Some.is-1 (ap (λ n. c.args.at + n) c.from.ensures) number.ensures.value in
     (number.result, big_integer_there _ _ _ _ there, (number.ensures.fits, to_z-of_z w128 number.result number.ensures.fits))
 
 pub returns-in-1-Some-clause-found : goal.returns-in-1-Some-clause-found
 returns-in-1-Some-clause-found c =
     let number = c.integer_of-in-1-Some in
-    let there = integer_read (head_read c.in-Ok.head) 1 c.in-1-Some.n c.args.input.now c.args.at (c.args.at + c.from.result) number.result (omega arith) c.requires
-    c.in-Ok.ensures.found c.in-1-Some.is-0 c.in-1-Some.is-1 (ap (λ n. c.args.at + n) c.from.ensures) number.ensures.value in
+    let there = integer_read (head_read c.in_ok-head.head) 1 c.in-1-Some.n c.args.input.now c.args.at (c.args.at + c.from.result) number.result (omega arith) c.requires
+    c.in_ok-head.ensures.found c.in-1-Some.is-0 c.in-1-Some.is-1 (ap (λ n. c.args.at + n) c.from.ensures) number.ensures.value in
     (number.result, big_integer_there _ _ _ _ there, (number.ensures.fits, to_z-of_z w128 number.result number.ensures.fits))
 
 pub returns-in-6-Some-clause-found : goal.returns-in-6-Some-clause-found
 returns-in-6-Some-clause-found c =
     let two : c.in-6-Some.number ≡ 2 = omega arith in
     let ends = ap (λ n. c.args.at + n) c.from.ensures in
-    let opens = head_opens (head_read c.in-Ok.head) 6 (Some 2) c.args.input.now c.args.at (c.args.at + c.from.result) c.in-Ok.ensures.found c.in-6-Some.is-0
+    let opens = head_opens (head_read c.in_ok-head.head) 6 (Some 2) c.args.input.now c.args.at (c.args.at + c.from.result) c.in_ok-head.ensures.found c.in-6-Some.is-0
     (c.in-6-Some.is-1 ∙ ap Some two) ends in
     bignum_there 2 0 c.args.input.now c.args.at (c.args.at + c.from.result) c.bignum_at.result opens (λ n. refl) c.bignum_at.ensures.found
 
@@ -32,7 +32,7 @@ returns-in-6-Some-2-clause-found c =
     let call = c.bignum_at-in-6-Some-2 in
     let three : c.in-6-Some-2.number ≡ 3 = omega arith in
     let ends = ap (λ n. c.args.at + n) c.from.ensures in
-    let opens = head_opens (head_read c.in-Ok.head) 6 (Some 3) c.args.input.now c.args.at (c.args.at + c.from.result) c.in-Ok.ensures.found c.in-6-Some.is-0
+    let opens = head_opens (head_read c.in_ok-head.head) 6 (Some 3) c.args.input.now c.args.at (c.args.at + c.from.result) c.in_ok-head.ensures.found c.in-6-Some.is-0
     (c.in-6-Some-2.is-1 ∙ ap Some three) ends in
     bignum_there 3 1 c.args.input.now c.args.at (c.args.at + c.from.result) call.result opens (λ n. refl) call.ensures.found
 
@@ -41,6 +41,6 @@ returns-in-6-Some-2-clause-refused c =
     let call = c.bignum_at-in-6-Some-2 in
     let three : c.in-6-Some-2.number ≡ 3 = omega arith in
     let ends = ap (λ n. c.args.at + n) c.from.ensures in
-    let opens = head_opens (head_read c.in-Ok.head) 6 (Some 3) c.args.input.now c.args.at (c.args.at + c.from.result) c.in-Ok.ensures.found c.in-6-Some.is-0
+    let opens = head_opens (head_read c.in_ok-head.head) 6 (Some 3) c.args.input.now c.args.at (c.args.at + c.from.result) c.in_ok-head.ensures.found c.in-6-Some.is-0
     (c.in-6-Some-2.is-1 ∙ ap Some three) ends in
     bignum_fault c.args.input.now c.args.at (c.args.at + c.from.result) call.result (inr opens) call.ensures.refused

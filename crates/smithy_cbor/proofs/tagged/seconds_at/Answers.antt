@@ -8,17 +8,17 @@ use Rattle.smithy_cbor.proofs.tagged.seconds_at.Goals as goal
 pub returns-in-0-Some-clause-found : goal.returns-in-0-Some-clause-found
 returns-in-0-Some-clause-found c =
     let value = to_z-of_z w128 c.integer_of.result c.integer_of.ensures.fits ∙ c.integer_of.ensures.value in
-    integer_read (head_read c.in-Ok.head) 0 c.in-0-Some.n c.args.input.now c.args.at (c.args.at + c.from.result) _ (omega arith) c.requires
-    c.in-Ok.ensures.found c.in-0-Some.is-0 c.in-0-Some.is-1 (ap (λ n. c.args.at + n) c.from.ensures) value
+    integer_read (head_read c.in_ok-head.head) 0 c.in-0-Some.n c.args.input.now c.args.at (c.args.at + c.from.result) _ (omega arith) c.requires
+    c.in_ok-head.ensures.found c.in-0-Some.is-0 c.in-0-Some.is-1 (ap (λ n. c.args.at + n) c.from.ensures) value
 
 pub returns-in-1-Some-clause-found : goal.returns-in-1-Some-clause-found
 returns-in-1-Some-clause-found c =
     let number = c.integer_of-in-1-Some in
     let value = to_z-of_z w128 number.result number.ensures.fits ∙ number.ensures.value in
-    integer_read (head_read c.in-Ok.head) 1 c.in-1-Some.n c.args.input.now c.args.at (c.args.at + c.from.result) _ (omega arith) c.requires
-    c.in-Ok.ensures.found c.in-1-Some.is-0 c.in-1-Some.is-1 (ap (λ n. c.args.at + n) c.from.ensures) value
+    integer_read (head_read c.in_ok-head.head) 1 c.in-1-Some.n c.args.input.now c.args.at (c.args.at + c.from.result) _ (omega arith) c.requires
+    c.in_ok-head.ensures.found c.in-1-Some.is-0 c.in-1-Some.is-1 (ap (λ n. c.args.at + n) c.from.ensures) value
 
 pub returns-in-7-default-clause-found : goal.returns-in-7-default-clause-found
 returns-in-7-default-clause-found c =
-    float_there (head_read c.in-Ok.head) c.args.input.now c.args.at (c.args.at + c.from.result) c.requires c.in-Ok.ensures.found c.in-7-default.is-0
+    float_there (head_read c.in_ok-head.head) c.args.input.now c.args.at (c.args.at + c.from.result) c.requires c.in_ok-head.ensures.found c.in-7-default.is-0
     (omega arith) (ap (λ n. c.args.at + n) c.from.ensures)

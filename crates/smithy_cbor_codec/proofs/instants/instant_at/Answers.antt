@@ -1,4 +1,5 @@
 use Rattle.std.proofs.Common.{◌≡◌, true, false, Err, sym, subst, ◌∙◌, ap}
+use Rattle.std.proofs.lemmas.Result.{err_from_is_err_and}
 use Rattle.smithy_schema.specs.declared.error.SerdeError.TheVariants.{NotCarried}
 use Rattle.smithy_cbor_codec.specs.Scalar.{timestamp_says}
 use Rattle.smithy_cbor_codec.specs.Standing.{Follows}
@@ -23,27 +24,31 @@ returns-then-not-may_end-clause-none c = λ invalid x e lies.
     let both : true ≡ false = sym may ∙ c.if-not-may_end.true in
     cc
 
-pub returns-in-Ok-instant_of-clause-found : goal.returns-in-Ok-instant_of-clause-found
-returns-in-Ok-instant_of-clause-found c =
+pub returns-clause-found : goal.returns-clause-found
+returns-clause-found c =
     let start = c.decoder_at-decoder.ensures in
     let stands = rw (start.input, start.position, ← c.position-end.ensures) at c.in-Ok.ensures.read.stands in
     let date = date_stands c.in-Ok.seconds c.args.input.now c.args.at c.position-end.result stands in
     record {
       found = date.found;
       lies = (date.is_leaf, date.stands, c.may_end.ensures.0 c.if-not-may_end.false);
-      is = date.is ∙ c.in-Ok-instant_of.ensures.ok;
+      is = date.is ∙ c.in_ok-instant.ensures.ok;
     }
 
-pub returns-in-Err-clause-none : goal.returns-in-Err-clause-none
-returns-in-Err-clause-none c = λ invalid x e lies.
+pub returns-in_err-instant-clause-none : goal.returns-in_err-instant-clause-none
+returns-in_err-instant-clause-none c =
+    let p = err_from_is_err_and c.from_residual.result c.from_residual.ensures.1 in
+    rw (p.1, p.2) (λ invalid x e lies.
     let start = c.decoder_at-decoder.ensures in
     let stands = rw (start.input, start.position, ← c.position-end.ensures) at c.in-Ok.ensures.read.stands in
     let date = date_stands c.in-Ok.seconds c.args.input.now c.args.at c.position-end.result stands in
     let same = (one_item x date.found c.args.input.now c.args.at e c.position-end.result lies.1 date.stands).0 in
-    ap timestamp_says same ∙ date.is ∙ c.in-Err.ensures.none invalid
+    ap timestamp_says same ∙ date.is ∙ c.in_err-instant.ensures.none invalid)
 
-pub returns-in-Err-clause-uncarried : goal.returns-in-Err-clause-uncarried
-returns-in-Err-clause-uncarried c = λ is.
+pub returns-in_err-instant-clause-uncarried : goal.returns-in_err-instant-clause-uncarried
+returns-in_err-instant-clause-uncarried c =
+    let p = err_from_is_err_and c.from_residual.result c.from_residual.ensures.1 in
+    rw (p.1, p.2) (λ is.
     let start = c.decoder_at-decoder.ensures in
     let stands = rw (start.input, start.position, ← c.position-end.ensures) at c.in-Ok.ensures.read.stands in
     let date = date_stands c.in-Ok.seconds c.args.input.now c.args.at c.position-end.result stands in
@@ -51,5 +56,5 @@ returns-in-Err-clause-uncarried c = λ is.
       found = date.found;
       e = c.position-end.result;
       lies = (date.is_leaf, date.stands, c.may_end.ensures.0 c.if-not-may_end.false);
-      is = date.is ∙ c.in-Err.ensures.uncarried (ap Err (error_of c.in-Err.error NotCarried is));
-    }
+      is = date.is ∙ c.in_err-instant.ensures.uncarried (ap Err (error_of c.in_err-instant.field-0.0 NotCarried is));
+    })

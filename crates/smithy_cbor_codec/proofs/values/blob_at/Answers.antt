@@ -11,14 +11,14 @@ returns-then-not-may_end-clause-none c = λ invalid blob e h.
     let may : c.may_end.result ≡ true = c.may_end.ensures.1 (subst (Follows c.args.depth c.args.input.now) same h.follows) in
     let both : true ≡ false = sym may ∙ c.if-not-may_end.true in cc
 
-pub returns-in-Ok-owned_blob-clause-ok : goal.returns-in-Ok-owned_blob-clause-ok
-returns-in-Ok-owned_blob-clause-ok c =
+pub returns-in_ok-blob-in-Ok-clause-ok : goal.returns-in_ok-blob-in-Ok-clause-ok
+returns-in_ok-blob-in-Ok-clause-ok c =
     let found = c.in-Ok.ensures.found in
     record {
       found = byte_string found.extent found.chunks;
       stands = found.stands;
-      is = ap Some (sym (c.in-Ok-owned_blob.ensures.same ∙ found.joined));
-      bytes = c.in-Ok-owned_blob.ensures.bytes;
+      is = ap Some (sym (c.in_ok-blob-in-Ok.ensures.same ∙ found.joined));
+      bytes = c.in_ok-blob-in-Ok.ensures.bytes;
       follows = c.may_end.ensures.0 c.if-not-may_end.false;
     }
 

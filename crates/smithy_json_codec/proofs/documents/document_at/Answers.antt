@@ -1,4 +1,5 @@
 use Rattle.std.proofs.Common.{◌∙◌, [], ◌∷◌, false, vec_items, ap, arith}
+use Rattle.std.proofs.lemmas.Result.{err_from_is_err_and}
 use Rattle.smithy_types.specs.DocumentView.{document_view}
 use Rattle.smithy_json_codec.specs.Private.OpenDocuments.{fresh, open_view, frame_view, frames_view}
 use Rattle.smithy_json_codec.proofs.DocumentScalars.{begins_refuses}
@@ -10,27 +11,30 @@ pub returns-then-depth-max_depth-clause-refused : goal.returns-then-depth-max_de
 returns-then-depth-max_depth-clause-refused c =
     refused_at_limit c.args.max_depth c.args.depth c.args.input.now c.args.at c.fault_at_limit.result c.requires.shallow c.if-depth-max_depth.true c.fault_at_limit.ensures
 
-pub returns-in-Err-clause-refused : goal.returns-in-Err-clause-refused
-returns-in-Err-clause-refused c = begins_refuses c.args.max_depth c.args.depth c.args.input.now c.args.at c.in-Err.error c.in-Err.ensures
+pub returns-in_err-value-clause-refused : goal.returns-in_err-value-clause-refused
+returns-in_err-value-clause-refused c =
+    let p = err_from_is_err_and c.from_residual.result c.from_residual.ensures.1 in
+    rw (p.1, p.2) (begins_refuses c.args.max_depth c.args.depth c.args.input.now c.args.at c.in_err-value.field-0.0 c.in_err-value.ensures)
 
 pub steps-init : goal.steps-init
 steps-init c =
-    let bracket = rw c.in-Ok-Container.field-0-is at c.in-Ok-Container.ensures in
+    let bracket = rw c.in-Container.is at c.in_ok-value.ensures in
     let begun = walk_begins c.args.max_depth c.args.depth c.args.input.now c.args.at c.requires.within c.requires.shallow in
     let within = container_entered c.args.max_depth c.args.depth [] c.args.input.now c.args.at c.args.at begun c.if-depth-max_depth.false
-    c.in-Ok-Container.is_object c.in-Ok-Container.inside bracket in
-    same_walk c.args.max_depth c.args.depth c.args.input.now c.args.at c.in-Ok-Container.inside (fresh c.in-Ok-Container.is_object) (open_view c.fresh-inner.result) false
+    c.in-Container.is_object c.in-Container.inside bracket in
+    same_walk c.args.max_depth c.args.depth c.args.input.now c.args.at c.in-Container.inside (fresh c.in-Container.is_object) (open_view c.fresh-inner.result) false
     [] (frames_view (vec_items c.new-frames.result)) c.fresh-inner.ensures (ap frames_view c.new-frames.ensures.items) within
 
-pub returns-in-Err-next_step-clause-refused : goal.returns-in-Err-next_step-clause-refused
-returns-in-Err-next_step-clause-refused c =
+pub returns-in_err-more-clause-refused : goal.returns-in_err-more-clause-refused
+returns-in_err-more-clause-refused c =
+    let p = err_from_is_err_and c.from_residual-in_err-more.result c.from_residual-in_err-more.ensures.1 in
     let deep = inside_depth c.args.depth c.len.result (vec_items c.steps.frames) (c.len.ensures ∙ c.steps.frames.ok.0) in
-    step_refuses c.args.max_depth c.args.depth _ (frames_view (vec_items c.steps.frames)) c.args.input.now c.args.at c.steps.at c.steps.entered (open_view c.steps.inner)
-    c.steps.invariant deep c.in-Err-next_step.error c.in-Err-next_step.ensures
+    rw (p.1, p.2) (step_refuses c.args.max_depth c.args.depth _ (frames_view (vec_items c.steps.frames)) c.args.input.now c.args.at c.steps.at c.steps.entered (open_view c.steps.inner)
+    c.steps.invariant deep c.in_err-more.field-0.0 c.in_err-more.ensures)
 
 pub steps-smaller-in-Inside : goal.steps-smaller-in-Inside
 steps-smaller-in-Inside c =
-    let step = rw c.in-Inside.is at c.in-Ok.ensures in
+    let step = rw c.in-Inside.is at c.in_ok-more.ensures in
     let deep = inside_depth c.args.depth c.len.result (vec_items c.steps.frames) (c.len.ensures ∙ c.steps.frames.ok.0) in
     let further = ahead_inside c.args.max_depth c.args.depth _ (frames_view (vec_items c.steps.frames)) c.args.input.now c.args.at c.steps.at c.steps.entered (open_view c.steps.inner)
     c.steps.invariant deep c.in-Inside.more c.in-Inside.end step in
@@ -40,14 +44,14 @@ steps-smaller-in-Inside c =
 
 pub steps-preserved-in-Inside : goal.steps-preserved-in-Inside
 steps-preserved-in-Inside c =
-    let step = rw c.in-Inside.is at c.in-Ok.ensures in
+    let step = rw c.in-Inside.is at c.in_ok-more.ensures in
     let deep = inside_depth c.args.depth c.len.result (vec_items c.steps.frames) (c.len.ensures ∙ c.steps.frames.ok.0) in
     step_inside c.args.max_depth c.args.depth _ (frames_view (vec_items c.steps.frames)) c.args.input.now c.args.at c.steps.at c.steps.entered (open_view c.steps.inner)
     c.steps.invariant deep c.in-Inside.more c.in-Inside.end step
 
 pub steps-smaller-in-Opens : goal.steps-smaller-in-Opens
 steps-smaller-in-Opens c =
-    let step = rw c.in-Opens.is at c.in-Ok.ensures in
+    let step = rw c.in-Opens.is at c.in_ok-more.ensures in
     let deep = inside_depth c.args.depth c.len.result (vec_items c.steps.frames) (c.len.ensures ∙ c.steps.frames.ok.0) in
     let further = ahead_opens c.args.max_depth c.args.depth _ (frames_view (vec_items c.steps.frames)) c.args.input.now c.args.at c.steps.at c.steps.entered (open_view c.steps.inner)
     c.steps.invariant deep c.in-Opens.frame c.in-Opens.is_object c.in-Opens.inside step in
@@ -57,7 +61,7 @@ steps-smaller-in-Opens c =
 
 pub steps-preserved-in-Opens : goal.steps-preserved-in-Opens
 steps-preserved-in-Opens c =
-    let step = rw c.in-Opens.is at c.in-Ok.ensures in
+    let step = rw c.in-Opens.is at c.in_ok-more.ensures in
     let deep = inside_depth c.args.depth c.len.result (vec_items c.steps.frames) (c.len.ensures ∙ c.steps.frames.ok.0) in
     let walk = step_opens c.args.max_depth c.args.depth _ (frames_view (vec_items c.steps.frames)) c.args.input.now c.args.at c.steps.at c.steps.entered (open_view c.steps.inner)
     c.steps.invariant deep c.in-Opens.frame c.in-Opens.is_object c.in-Opens.inside step in
@@ -66,7 +70,7 @@ steps-preserved-in-Opens c =
 
 pub returns-in_default-clause-ok : goal.returns-in_default-clause-ok
 returns-in_default-clause-ok c =
-    let step = rw c.in-Ends.is at c.in-Ok.ensures in
+    let step = rw c.in-Ends.is at c.in_ok-more.ensures in
     let deep = inside_depth c.args.depth c.len.result (vec_items c.steps.frames) (c.len.ensures ∙ c.steps.frames.ok.0) in
     let walk = step_ends c.args.max_depth c.args.depth _ (frames_view (vec_items c.steps.frames)) c.args.input.now c.args.at c.steps.at c.steps.entered (open_view c.steps.inner)
     c.steps.invariant deep c.in-Ends.value c.in-Ends.end step in
@@ -74,7 +78,7 @@ returns-in_default-clause-ok c =
 
 pub steps-smaller : goal.steps-smaller
 steps-smaller c =
-    let step = rw c.in-Ends.is at c.in-Ok.ensures in
+    let step = rw c.in-Ends.is at c.in_ok-more.ensures in
     let deep = inside_depth c.args.depth c.len.result (vec_items c.steps.frames) (c.len.ensures ∙ c.steps.frames.ok.0) in
     let further = ahead_ends c.args.max_depth c.args.depth _ (frames_view (vec_items c.steps.frames)) c.args.input.now c.args.at c.steps.at c.steps.entered (open_view c.steps.inner)
     c.steps.invariant deep c.in-Ends.value c.in-Ends.end step in
@@ -84,7 +88,7 @@ steps-smaller c =
 
 pub steps-preserved : goal.steps-preserved
 steps-preserved c =
-    let step = rw c.in-Ends.is at c.in-Ok.ensures in
+    let step = rw c.in-Ends.is at c.in_ok-more.ensures in
     let deep = inside_depth c.args.depth c.len.result (vec_items c.steps.frames) (c.len.ensures ∙ c.steps.frames.ok.0) in
     let walk = step_ends c.args.max_depth c.args.depth _ (frames_view (vec_items c.steps.frames)) c.args.input.now c.args.at c.steps.at c.steps.entered (open_view c.steps.inner)
     c.steps.invariant deep c.in-Ends.value c.in-Ends.end step in

@@ -1,3 +1,4 @@
+use Rattle.std.proofs.lemmas.Result.{err_from_is_err_and}
 use Rattle.smithy_json_codec.proofs.DocumentScalars.{begins_refuses}
 use Rattle.smithy_json_codec.proofs.DocumentSteps.{refused_at_limit}
 use Rattle.smithy_json_codec.proofs.documents.value_step.Goals as goal
@@ -6,5 +7,7 @@ pub returns-then-depth-max_depth : goal.returns-then-depth-max_depth
 returns-then-depth-max_depth c =
     refused_at_limit c.args.max_depth c.args.depth c.args.input.now c.args.at c.fault_at_limit.result c.requires.shallow c.if-depth-max_depth.true c.fault_at_limit.ensures
 
-pub returns-in-Err : goal.returns-in-Err
-returns-in-Err c = begins_refuses c.args.max_depth c.args.depth c.args.input.now c.args.at c.in-Err.error c.in-Err.ensures
+pub returns-in_err-value : goal.returns-in_err-value
+returns-in_err-value c =
+    let p = err_from_is_err_and c.from_residual.result c.from_residual.ensures.1 in
+    rw (p.1, p.2) (begins_refuses c.args.max_depth c.args.depth c.args.input.now c.args.at c.in_err-value.field-0.0 c.in_err-value.ensures)

@@ -1,4 +1,5 @@
 use Rattle.std.proofs.Common.{Err, ◌∙◌, ap}
+use Rattle.std.proofs.lemmas.Result.{err_from_is_err_and}
 use Rattle.smithy_schema.specs.declared.error.SerdeError.TheVariants.{NotCarried}
 use Rattle.smithy_schema.specs.declared.shape_type.TimestampFormat.TheVariants.{EpochSeconds}
 use Rattle.smithy_json_codec.specs.Scalar.{a_number, timestamp_says}
@@ -10,18 +11,22 @@ use Rattle.smithy_json_codec.proofs.instants.seconds_at.Goals as goal
 pub returns-in_default-clause-none : goal.returns-in_default-clause-none
 returns-in_default-clause-none c = λ invalid. no_seconds_lie c.args.input.now c.args.at c.in_default.ensures.none
 
-pub returns-in-Ok-clause-found : goal.returns-in-Ok-clause-found
-returns-in-Ok-clause-found c = record { found = a_number _; lies = c.in-Some.ensures.found; is = c.in-Ok.ensures.ok }
-
-pub returns-in-Err-clause-none : goal.returns-in-Err-clause-none
-returns-in-Err-clause-none c = λ invalid x e lies.
+pub returns-in_err-instant-clause-none : goal.returns-in_err-instant-clause-none
+returns-in_err-instant-clause-none c =
+    let p = err_from_is_err_and c.from_residual.result c.from_residual.ensures.1 in
+    rw (p.1, p.2) (λ invalid x e lies.
     let same = (json_is_wire.same_scalar c.args.input.now 0 x (a_number c.in-Some.seconds.now) c.args.at e _ lies c.in-Some.ensures.found).0 in
-    ap (timestamp_says EpochSeconds) same ∙ c.in-Err.ensures.none invalid
+    ap (timestamp_says EpochSeconds) same ∙ c.in_err-instant.ensures.none invalid)
 
-pub returns-in-Err-clause-uncarried : goal.returns-in-Err-clause-uncarried
-returns-in-Err-clause-uncarried c = λ is. record {
-  found = a_number _;
-  e = c.in-Some.end;
-  lies = c.in-Some.ensures.found;
-  is = c.in-Err.ensures.uncarried (ap Err (error_of c.in-Err.error NotCarried is));
-}
+pub returns-in_err-instant-clause-uncarried : goal.returns-in_err-instant-clause-uncarried
+returns-in_err-instant-clause-uncarried c =
+    let p = err_from_is_err_and c.from_residual.result c.from_residual.ensures.1 in
+    rw (p.1, p.2) (λ is. record {
+      found = a_number _;
+      e = c.in-Some.end;
+      lies = c.in-Some.ensures.found;
+      is = c.in_err-instant.ensures.uncarried (ap Err (error_of c.in_err-instant.field-0.0 NotCarried is));
+    })
+
+pub returns-clause-found : goal.returns-clause-found
+returns-clause-found c = record { found = a_number _; lies = c.in-Some.ensures.found; is = c.in_ok-instant.ensures.ok }

@@ -1,5 +1,6 @@
 use Rattle.std.proofs.Common.{◌≡◌, Some, Err, true, false, sym, ap, ◌∙◌}
 use Rattle.std.specs.Cow.{cow_str_bytes}
+use Rattle.std.proofs.lemmas.Result.{err_from_is_err_and}
 use Rattle.smithy_schema.specs.Lemmas.Options.{same_some}
 use Rattle.smithy_schema.specs.declared.error.SerdeError.TheVariants.{TooDeep}
 use Rattle.smithy_schema.specs.Site.{site_of}
@@ -21,7 +22,7 @@ returns-then-passes_null-clause-ok c =
     let site = site_of c.args.names.schema.now in
     let passes = ap (passes_null c.args.names.use_json_name site) (sym c.as_str.ensures.value) ∙ (sym c.passes_null.ensures ∙ c.if-passes_null.true) in
     null_passes (passing c.args.names.use_json_name site) c.args.max_depth c.args.depth c.args.input.now c.args.at c.args.entered c.in-Some-Member.name.raw.now c.in-Some-Member.name.end stands.names
-    _ c.in-Ok.ensures.ok passes c.in-Some.end c.in-Some.ensures.found
+    _ c.in_ok-text.ensures.ok passes c.in-Some.end c.in-Some.ensures.found
 
 pub returns-in-Some-clause-ok : goal.returns-in-Some-clause-ok
 returns-in-Some-clause-ok c =
@@ -30,10 +31,10 @@ returns-in-Some-clause-ok c =
     let raw = c.in-Some-Member.name.raw.now in
     let stays = ap (passes_null c.args.names.use_json_name site) (sym c.as_str.ensures.value) ∙ (sym c.passes_null.ensures ∙ c.if-passes_null.false) in (
       raw,
-      c.in-Ok.ensures.ok,
+      c.in_ok-text.ensures.ok,
       stands.names,
-      no_mark_kept c.args.names.use_json_name site raw _ c.in-Ok.ensures.ok stays,
-      null_kept (passing c.args.names.use_json_name site) c.args.max_depth c.args.depth c.args.input.now c.args.at c.args.entered raw c.in-Some-Member.name.end stands.names _ c.in-Ok.ensures.ok stays,
+      no_mark_kept c.args.names.use_json_name site raw _ c.in_ok-text.ensures.ok stays,
+      null_kept (passing c.args.names.use_json_name site) c.args.max_depth c.args.depth c.args.input.now c.args.at c.args.entered raw c.in-Some-Member.name.end stands.names _ c.in_ok-text.ensures.ok stays,
     )
 
 pub returns-then-not-is_type_name-clause-ok : goal.returns-then-not-is_type_name-clause-ok
@@ -42,43 +43,51 @@ returns-then-not-is_type_name-clause-ok c =
     let marks = (passing c.args.names.use_json_name (site_of c.args.names.schema.now)) in
     let other : IsNoMark marks c.in-Some-Member.name.raw.now = elim c.then-not-is_type_name.branch [
       | then-not-is_type_name-via-then-not-is_type_name w ↦ λ passes is.
-          let same = same_some (cow_str_bytes c.in-Ok.text) type_name (sym c.in-Ok.ensures.ok ∙ is) in
+          let same = same_some (cow_str_bytes c.in_ok-text.text) type_name (sym c.in_ok-text.ensures.ok ∙ is) in
           let clash : true ≡ false = sym (c.is_type_name.ensures.1 (c.as_str-2.ensures.value ∙ same)) ∙ w.if-not-is_type_name.true in
           cc
       | then-not-is_type_name-via-else-not-is_type_name+then-not-passes_marks w ↦ λ passes is.
           let clash : true ≡ false = sym passes ∙ sym w.passes_marks.ensures ∙ w.if-not-passes_marks.true in cc
     ] in
-    (c.in-Some-Member.name.raw.now, c.in-Ok.ensures.ok, stands.names, other, λ e lies passes. c.in_default.ensures.none e lies)
+    (c.in-Some-Member.name.raw.now, c.in_ok-text.ensures.ok, stands.names, other, λ e lies passes. c.in_default.ensures.none e lies)
 
-pub returns-in-Ok-skipped_end-clause-ok : goal.returns-in-Ok-skipped_end-clause-ok
-returns-in-Ok-skipped_end-clause-ok c =
+pub returns-clause-ok : goal.returns-clause-ok
+returns-clause-ok c =
     let stands = rw c.in-Some-Member.field-0-is at c.in-Some-Member.ensures in
-    let is = c.in-Ok.ensures.ok ∙ ap Some (sym c.as_str-2.ensures.value ∙ c.is_type_name.ensures.0 c.if-not-is_type_name.false) in
+    let is = c.in_ok-text.ensures.ok ∙ ap Some (sym c.as_str-2.ensures.value ∙ c.is_type_name.ensures.0 c.if-not-is_type_name.false) in
     mark_passes (passing c.args.names.use_json_name (site_of c.args.names.schema.now)) c.args.max_depth c.args.depth c.args.input.now c.args.at c.args.entered c.in-Some-Member.name.raw.now c.in-Some-Member.name.end stands.names
-    (sym c.passes_marks.ensures ∙ c.if-not-passes_marks.false) is c.in-Ok-skipped_end.end c.in-Ok-skipped_end.ensures.ok
+    (sym c.passes_marks.ensures ∙ c.if-not-passes_marks.false) is c.in_ok-end.end c.in_ok-end.ensures.ok
 
-pub returns-clause-refused : goal.returns-clause-refused
-returns-clause-refused c = λ fault.
+pub returns-in_err-end-clause-refused : goal.returns-in_err-end-clause-refused
+returns-in_err-end-clause-refused c =
+    let p = err_from_is_err_and c.from_residual-in_err-end.result c.from_residual-in_err-end.ensures.1 in
+    rw (p.1, p.2) (λ fault.
     let stands = rw c.in-Some-Member.field-0-is at c.in-Some-Member.ensures in
-    let is = c.in-Ok.ensures.ok ∙ ap Some (sym c.as_str-2.ensures.value ∙ c.is_type_name.ensures.0 c.if-not-is_type_name.false) in
+    let is = c.in_ok-text.ensures.ok ∙ ap Some (sym c.as_str-2.ensures.value ∙ c.is_type_name.ensures.0 c.if-not-is_type_name.false) in
     mark_stays (passing c.args.names.use_json_name (site_of c.args.names.schema.now)) c.args.max_depth c.args.depth c.args.input.now c.args.at c.args.entered c.in-Some-Member.name.raw.now c.in-Some-Member.name.end stands.names
-    (sym c.passes_marks.ensures ∙ c.if-not-passes_marks.false) is (λ e lies passes. c.in_default.ensures.none e lies) (NoSkipWithin c.args.max_depth c.args.depth c.args.input.now) c.in-Err-skipped_end.ensures.refused
+    (sym c.passes_marks.ensures ∙ c.if-not-passes_marks.false) is (λ e lies passes. c.in_default.ensures.none e lies) (NoSkipWithin c.args.max_depth c.args.depth c.args.input.now) c.in_err-end.ensures.refused)
 
-pub returns-clause-would : goal.returns-clause-would
-returns-clause-would c = λ invalid.
+pub returns-in_err-end-clause-would : goal.returns-in_err-end-clause-would
+returns-in_err-end-clause-would c =
+    let p = err_from_is_err_and c.from_residual-in_err-end.result c.from_residual-in_err-end.ensures.1 in
+    rw (p.1, p.2) (λ invalid.
     let stands = rw c.in-Some-Member.field-0-is at c.in-Some-Member.ensures in
-    let is = c.in-Ok.ensures.ok ∙ ap Some (sym c.as_str-2.ensures.value ∙ c.is_type_name.ensures.0 c.if-not-is_type_name.false) in
+    let is = c.in_ok-text.ensures.ok ∙ ap Some (sym c.as_str-2.ensures.value ∙ c.is_type_name.ensures.0 c.if-not-is_type_name.false) in
     mark_stays (passing c.args.names.use_json_name (site_of c.args.names.schema.now)) c.args.max_depth c.args.depth c.args.input.now c.args.at c.args.entered c.in-Some-Member.name.raw.now c.in-Some-Member.name.end stands.names
-    (sym c.passes_marks.ensures ∙ c.if-not-passes_marks.false) is (λ e lies passes. c.in_default.ensures.none e lies) (NoSkip c.args.depth c.args.input.now) (c.in-Err-skipped_end.ensures.would invalid)
+    (sym c.passes_marks.ensures ∙ c.if-not-passes_marks.false) is (λ e lies passes. c.in_default.ensures.none e lies) (NoSkip c.args.depth c.args.input.now) (c.in_err-end.ensures.would invalid))
 
-pub returns-clause-deep : goal.returns-clause-deep
-returns-clause-deep c = λ deep.
+pub returns-in_err-end-clause-deep : goal.returns-in_err-end-clause-deep
+returns-in_err-end-clause-deep c =
+    let p = err_from_is_err_and c.from_residual-in_err-end.result c.from_residual-in_err-end.ensures.1 in
+    rw (p.1, p.2) (λ deep.
     let stands = rw c.in-Some-Member.field-0-is at c.in-Some-Member.ensures in
     reaches_from_name (passing c.args.names.use_json_name (site_of c.args.names.schema.now)) c.args.max_depth c.args.depth c.args.input.now c.args.at c.args.entered c.in-Some-Member.name.raw.now c.in-Some-Member.name.end stands.names
-    c.args.max_depth (c.in-Err-skipped_end.ensures.deep (ap Err (error_of c.in-Err-skipped_end.error TooDeep deep)))
+    c.args.max_depth (c.in_err-end.ensures.deep (ap Err (error_of c.in_err-end.field-0.0 TooDeep deep))))
 
-pub returns-clause-too_deep : goal.returns-clause-too_deep
-returns-clause-too_deep c = λ deep.
+pub returns-in_err-end-clause-too_deep : goal.returns-in_err-end-clause-too_deep
+returns-in_err-end-clause-too_deep c =
+    let p = err_from_is_err_and c.from_residual-in_err-end.result c.from_residual-in_err-end.ensures.1 in
+    rw (p.1, p.2) (λ deep.
     let stands = rw c.in-Some-Member.field-0-is at c.in-Some-Member.ensures in
     too_deep_from_name (passing c.args.names.use_json_name (site_of c.args.names.schema.now)) c.args.max_depth c.args.depth c.args.input.now c.args.at c.args.entered c.in-Some-Member.name.raw.now c.in-Some-Member.name.end stands.names
-    c.args.max_depth (c.in-Err-skipped_end.ensures.too_deep (ap Err (error_of c.in-Err-skipped_end.error TooDeep deep)))
+    c.args.max_depth (c.in_err-end.ensures.too_deep (ap Err (error_of c.in_err-end.field-0.0 TooDeep deep))))

@@ -1,4 +1,5 @@
 use Rattle.std.proofs.Common.{◌≡◌, None, Some, refl, sym, ◌∙◌, ap}
+use Rattle.std.proofs.lemmas.Result.{err_from_is_err_and}
 use Rattle.smithy_json.specs.Tree.{string}
 use Rattle.smithy_json.specs.Unescape.{unescaped}
 use Rattle.smithy_json_codec.specs.Scalar.{a_number, a_string}
@@ -13,14 +14,16 @@ pub returns-in_default-string_at-clause-none : goal.returns-in_default-string_at
 returns-in_default-string_at-clause-none c = λ invalid.
     no_number_text c.args.input.now c.args.at c.in_default.ensures.none (λ raw e lies text is. c.in_default-string_at.ensures.none raw e lies)
 
-pub returns-in-Ok-clause-found : goal.returns-in-Ok-clause-found
-returns-in-Ok-clause-found c = record { found = a_string _; lies = c.in-Some-string_at.ensures.found; is = c.in-Ok.ensures.ok }
+pub returns-clause-found : goal.returns-clause-found
+returns-clause-found c = record { found = a_string _; lies = c.in-Some-string_at.ensures.found; is = c.in_ok-text.ensures.ok }
 
-pub returns-in-Err-clause-none : goal.returns-in-Err-clause-none
-returns-in-Err-clause-none c = λ invalid.
+pub returns-in_err-text-clause-none : goal.returns-in_err-text-clause-none
+returns-in_err-text-clause-none c =
+    let p = err_from_is_err_and c.from_residual.result c.from_residual.ensures.1 in
+    rw (p.1, p.2) (λ invalid.
     no_number_text c.args.input.now c.args.at c.in_default.ensures.none (λ other e lies text is.
     let raw = c.in-Some-string_at.string.text.now in
     let same = (one_tree 1 1 (string other) (string raw) c.args.input.now c.args.at e _ lies c.in-Some-string_at.ensures.found).0 in
     let raws : other ≡ raw = cc in
-    let both : Some text ≡ None = sym is ∙ ap unescaped raws ∙ c.in-Err.ensures.none invalid in
-    cc)
+    let both : Some text ≡ None = sym is ∙ ap unescaped raws ∙ c.in_err-text.ensures.none invalid in
+    cc))
