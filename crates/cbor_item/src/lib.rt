@@ -13,6 +13,3 @@ pub use head::{Head, read_head, write_head};
 pub use kind::{ItemType, item_type};
 pub use skip::skip_item;
 pub use strings::{byte_chunks, text_chunks};
-
-#[cfg(test)]
-mod tests;

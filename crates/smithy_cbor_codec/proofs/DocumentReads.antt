@@ -3,7 +3,7 @@ use Rattle.std.proofs.Common.{◌≡◌, ◌≤◌, ◌⊎◌, inl, inr, ℕ, Li
 use Rattle.std.specs.Prelude.{Err, IsErrOf}
 use Rattle.smithy_types.specs.declared.document.Document.{Document}
 use Rattle.smithy_schema.specs.declared.error.SerdeError.{SerdeError}
-use Rattle.smithy_schema.specs.declared.error.SerdeError.TheVariants.{InvalidInput, NotCarried, NoMemory}
+use Rattle.smithy_schema.specs.declared.error.SerdeError.TheVariants.{InvalidInput, TooDeep, NotCarried, NoMemory}
 use Rattle.smithy_schema.specs.declared.place.Place.{Place}
 use Rattle.smithy_schema.specs.Table.{Table, document, document_place, kind_of}
 use Rattle.smithy_schema.specs.Site.{Site}
@@ -79,3 +79,10 @@ pub refused_lies_not : (o : Settings) (old : Cursor) (e f : SerdeError) → f �
     → (e ≡ InvalidInput → (g : ℕ) → SkipsTo old.input old.at held g → ⊥) → IsInvalid {A = Document} (Err f) → SkipsNot (cbor_relations o) old
 refused_lies_not o old e f answer held same none invalid g skips =
     none (sym answer ∙ invalid_is Document f invalid) g (subst (λ d. SkipsTo old.input old.at d g) (sym same) ((skips_are o old.input (depth old) old.at g).1 skips))
+
+-- it is never too deep, as no item of CBOR is
+pub document_is_shallow : {A : Type 0} (e f : SerdeError) → f ≡ e → (e ≡ InvalidInput) ⊎ (e ≡ NotCarried) ⊎ (e ≡ NoMemory)
+    → IsErrOf {T = A} (Err f) TooDeep → ⊥
+document_is_shallow e f answer (inl is) deep = cc
+document_is_shallow e f answer (inr (inl is)) deep = cc
+document_is_shallow e f answer (inr (inr is)) deep = cc

@@ -384,6 +384,18 @@ module _ (o : Settings) (old : Cursor) (site : Site) (sound : old.failed ≡ fal
       (if_ok found _ _ (λ r. text_stands o old site (text_of r.0) r.1) here) kind
       (λ invalid. let nothing = by_error found _ none invalid in (no_text_stands o old site nothing, no_text_stands (without_limits o) old site nothing))
 
+  -- of bytes, wherever they are kept
+  pub reads_bytes : {A : Type 0} (bytes_in : A → List ℕ) (new : Cursor) (found : Result (A × ℕ) SerdeError) (result : Result A SerdeError)
+      → IfOk found (λ r. IsBlobAt (bytes_in r.0) old.input old.at (depth old) r.1) → IfErr found (λ e. (e ≡ InvalidInput) ⊎ (e ≡ NoMemory))
+      → IfErr found (λ e. e ≡ InvalidInput → (b : List ℕ) (e : ℕ) → IsBlobAt b old.input old.at (depth old) e → ⊥)
+      → IfOk result (λ x. IfOk found (λ r. (r.0 ≡ x) × (new ≡ passed_to old r.1))) → (IsOk result → IsOk found)
+      → OnErr result (new ≡ failed_at old) → IfErr result (λ e. found ≡ Err e)
+      → ReadsScalar (cbor_relations o) (cbor_relations (without_limits o)) (Unit {0}) old new site scalars.Blob (λ x. bytes (bytes_in x)) result
+  reads_bytes bytes_in new found result here kind none =
+      takes_result (cbor_relations o) (cbor_relations (without_limits o)) (Unit {0}) site scalars.Blob (λ x. bytes (bytes_in x)) (lawful o) old sound due within new found result
+      (if_ok found _ _ (λ r. blob_stands o old site (bytes_in r.0) r.1) here) kind
+      (λ invalid. let nothing = by_error found _ none invalid in (no_blob_stands o old site nothing, no_blob_stands (without_limits o) old site nothing))
+
   -- of bytes
   pub reads_blob : (new : Cursor) (found : Result (List ℕ × ℕ) SerdeError) (result : Result (List ℕ) SerdeError)
       → IfOk found (λ r. IsBlobAt r.0 old.input old.at (depth old) r.1) → IfErr found (λ e. (e ≡ InvalidInput) ⊎ (e ≡ NoMemory))

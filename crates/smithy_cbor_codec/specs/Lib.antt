@@ -18,3 +18,4 @@ pub mod Laws
 pub mod Nesting
 -- For private clauses, and for the laws.
 pub mod Private
+pub mod Borrowed

@@ -213,13 +213,12 @@ impl ShapeDeserializer for CborDeserializer<'_> {
             → CannotGoOn (cbor_relations (reading_settings_of self.old)) (cursor_of self.old) schema.now.shapes.now schema.now.place }
         ensures would { Unit {0} → IsInvalid result → (cursor_of self.old).due ≡ false
             → CannotGoOn (cbor_relations (without_limits (reading_settings_of self.old))) (cursor_of self.old) schema.now.shapes.now schema.now.place }
-        ensures unread { (cursor_of self.old).due ≡ true → (e : ℕ) → (cbor_relations (reading_settings_of self.old)).skips (cursor_of self.old).input (depth (cursor_of self.old)) (cursor_of self.old).at e
-            → IfOk result (λ step. MatchStep step (cbor_relations (reading_settings_of self.old)) (passed_to (cursor_of self.old) e) (cursor_of self.new) (site_of schema.now)) }
+        ensures unread { (cursor_of self.old).due ≡ true
+            → IfOk result (λ step. (e : ℕ) × (cbor_relations (reading_settings_of self.old)).skips (cursor_of self.old).input (depth (cursor_of self.old)) (cursor_of self.old).at e × MatchStep step (cbor_relations (reading_settings_of self.old)) (passed_to (cursor_of self.old) e) (cursor_of self.new) (site_of schema.now)) }
         ensures unread_refused { IsRefused result → (cursor_of self.old).due ≡ true → (e : ℕ) → (cbor_relations (reading_settings_of self.old)).skips (cursor_of self.old).input (depth (cursor_of self.old)) (cursor_of self.old).at e
             → CannotGoOn (cbor_relations (reading_settings_of self.old)) (passed_to (cursor_of self.old) e) schema.now.shapes.now schema.now.place }
         ensures unread_would { Unit {0} → IsInvalid result → (cursor_of self.old).due ≡ true → (e : ℕ) → (cbor_relations (without_limits (reading_settings_of self.old))).skips (cursor_of self.old).input (depth (cursor_of self.old)) (cursor_of self.old).at e
             → CannotGoOn (cbor_relations (without_limits (reading_settings_of self.old))) (passed_to (cursor_of self.old) e) schema.now.shapes.now schema.now.place }
-        ensures unskipped { (cursor_of self.old).due ≡ true → SkipsNot (cbor_relations (reading_settings_of self.old)) (cursor_of self.old) → IsErr result }
         ensures deep { IsErrOf result TooDeep → ReachesDepth (cbor_relations (reading_settings_of self.old)) (reading_settings_of self.old).max_depth (cursor_of self.old) }
 
         // An unread member may nest to any depth.
@@ -474,6 +473,7 @@ impl ShapeDeserializer for CborDeserializer<'_> {
         ensures same { reading_settings_of self.new ≡ reading_settings_of self.old }
         ensures read { ReadsDocument (cbor_relations (keep_limits (reading_settings_of self.old))) (cbor_relations (without_limits (reading_settings_of self.old))) (Unit {0}) (reading_settings_of self.old).max_depth (cursor_of self.old) (cursor_of self.new) (site_of _schema.now) result }
         ensures never { IsOk result → ⊥ }
+        ensures shallow { IsErrOf result TooDeep → ⊥ }
         ensures lies { IsErrOf result NotCarried → (e : ℕ) × (cbor_relations (reading_settings_of self.old)).skips (cursor_of self.old).input (depth (cursor_of self.old)) (cursor_of self.old).at e }
         ensures nothing { IsInvalid result → (cursor_of self.old).due ≡ true → SkipsNot (cbor_relations (reading_settings_of self.old)) (cursor_of self.old) }
     {
@@ -487,6 +487,3 @@ impl ShapeDeserializer for CborDeserializer<'_> {
         Err(self.walk.refuse(error))
     }
 }
-
-#[cfg(test)]
-mod tests;

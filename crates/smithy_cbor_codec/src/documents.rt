@@ -20,6 +20,3 @@ pub(crate) fn document_refusal(alloc: Global, input: &[u8], at: usize, depth: us
         Err(error) => error,
     }
 }
-
-#[cfg(test)]
-mod tests;

@@ -52,6 +52,3 @@ pub(crate) fn instant_at(
     let instant = instant_of(seconds)?;
     Ok((instant, end))
 }
-
-#[cfg(test)]
-mod tests;

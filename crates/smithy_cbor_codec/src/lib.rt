@@ -1,6 +1,7 @@
 //! The CBOR wire: a reader and a serializer that a schema directs (RFC 8949).
 #![tactic(auto)]
 
+mod borrowing;
 mod codec;
 mod deserializer;
 mod documents;

@@ -350,6 +350,3 @@ impl FinishSerializer for CborSerializer {
         Ok(self.encoder.into_writer())
     }
 }
-
-#[cfg(test)]
-mod tests;

@@ -6,6 +6,7 @@ ghost use Rattle.smithy_texts.specs.Base64Text.{are_bytes};
 ghost use Rattle.smithy_schema.specs.declared.error.SerdeError.TheVariants.{InvalidInput, NoMemory};
 ghost use Rattle.smithy_cbor.specs.Scalar.{boolean_item};
 ghost use Rattle.smithy_cbor_codec.specs.Standing.{Follows};
+ghost use Rattle.smithy_cbor_codec.specs.Borrowed.{BorrowsText, BorrowsBytes};
 ghost use Rattle.smithy_cbor_codec.specs.Private.ScalarAtPlace.{IsAt, IsWholeAt, HasTextAt, IsBlobAt, refusal_of};
 ghost use Rattle.smithy_cbor_codec.specs.Private.Skipping.{SkipsTo};
 
@@ -69,6 +70,7 @@ pub(crate) fn text_at<'a>(
 ) -> Result<(CowStr<'a, Global>, usize), SerdeError>
     requires { at ≤ length input.now }
     ensures ok { IfOk result (λ r. HasTextAt (cow_str_bytes r.0) input.now at r.1) }
+    ensures borrowed { IfOk result (λ r. BorrowsText input.now at r.0 r.1) }
     ensures none { IfErr result (λ error. error ≡ InvalidInput → (text : List ℕ) (e : ℕ) → HasTextAt text input.now at e → ⊥) }
     ensures kind { IfErr result (λ e. (e ≡ InvalidInput) ⊎ (e ≡ NoMemory)) }
 {
@@ -95,6 +97,26 @@ pub(crate) fn string_at(
         return Err(SerdeError::InvalidInput);
     }
     Ok((text.into_owned(alloc)?, end))
+}
+
+// The text that stands there, borrowed where it is in one piece, where a value may end behind it.
+pub(crate) fn text_piece_at<'a>(
+    alloc: Global,
+    input: &'a [u8],
+    at: usize,
+    depth: usize,
+) -> Result<(CowStr<'a, Global>, usize), SerdeError>
+    requires { at ≤ length input.now }
+    ensures ok { IfOk result (λ r. HasTextAt (cow_str_bytes r.0) input.now at r.1 × Follows depth input.now r.1) }
+    ensures none { IfErr result (λ error. error ≡ InvalidInput → (text : List ℕ) (e : ℕ) → HasTextAt text input.now at e → Follows depth input.now e → ⊥) }
+    ensures kind { IfErr result (λ e. (e ≡ InvalidInput) ⊎ (e ≡ NoMemory)) }
+    ensures borrowed { IfOk result (λ r. BorrowsText input.now at r.0 r.1) }
+{
+    let (text, end) = text_at(alloc, input, at)?;
+    if !may_end(input, end, depth) {
+        return Err(SerdeError::InvalidInput);
+    }
+    Ok((text, end))
 }
 
 // Tells the proof that what a slice of bytes holds is below 256.
@@ -141,6 +163,38 @@ pub(crate) fn blob_at(
             }
             let blob = owned_blob(alloc, bytes)?;
             Ok((blob, end))
+        }
+        Err(error) => Err(refusal_of(error)),
+    }
+}
+
+// Tells the proof the same of what may be borrowed.
+fn cow_holds_bytes(bytes: &CowSlice<'_, u8, Global>)
+    ensures { are_bytes (cow_slice_items bytes.now) ≡ true }
+{
+    holds_bytes(bytes.as_slice());
+}
+
+// The bytes that stand there, borrowed where they are in one piece, with their end, where a value may end there.
+pub(crate) fn bytes_piece_at<'a>(
+    alloc: Global,
+    input: &'a [u8],
+    at: usize,
+    depth: usize,
+) -> Result<(CowSlice<'a, u8, Global>, usize), SerdeError>
+    requires { at ≤ length input.now }
+    ensures ok { IfOk result (λ r. IsBlobAt (cow_slice_items r.0) input.now at depth r.1) }
+    ensures none { IfErr result (λ error. error ≡ InvalidInput → (blob : List ℕ) (e : ℕ) → IsBlobAt blob input.now at depth e → ⊥) }
+    ensures kind { IfErr result (λ e. (e ≡ InvalidInput) ⊎ (e ≡ NoMemory)) }
+    ensures borrowed { IfOk result (λ r. BorrowsBytes input.now at r.0 r.1) }
+{
+    match byte_chunks(alloc, input, at) {
+        Ok((bytes, end)) => {
+            if !may_end(input, end, depth) {
+                return Err(SerdeError::InvalidInput);
+            }
+            cow_holds_bytes(&bytes);
+            Ok((bytes, end))
         }
         Err(error) => Err(refusal_of(error)),
     }

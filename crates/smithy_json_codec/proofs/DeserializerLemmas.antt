@@ -2,12 +2,12 @@
 use Rattle.std.proofs.Common.{◌≡◌, ◌≢◌, ◌≤◌, ◌+◌, ◌⊎◌, inl, inr, ℕ, length, List, [], ◌∷◌, true, false, Some, None, Result, Ok, Err, refl, sym, ap, subst, ◌∙◌, arith}
 use Rattle.std.proofs.lemmas.Bool.Decides.{nat_tests}
 use Rattle.std.specs.Prelude.{nat_le}
-use Rattle.std.specs.Result.{IsErrOf}
+use Rattle.std.specs.Result.{IsErrOf, IsOk, IfOk}
 use Rattle.smithy_schema.specs.declared.error.SerdeError.{SerdeError}
 use Rattle.smithy_schema.specs.declared.error.SerdeError.TheVariants.{InvalidInput, Unsupported, Unwritable, Failed, NoMemory}
 use Rattle.smithy_schema.specs.declared.place.Place.{Place}
 use Rattle.smithy_schema.specs.Table.{Table, kind_of, IsList, IsMap, IsStructure}
-use Rattle.smithy_schema.specs.Reading.{Cursor, depth, Steps, Conducts, OpensNot, SkipsNot, CannotGoOn, IsFault, failed_at, in_list, in_map}
+use Rattle.smithy_schema.specs.Reading.{Cursor, depth, Steps, Conducts, OpensNot, SkipsNot, CannotGoOn, IsFault, failed_at, passed_to, in_list, in_map}
 use Rattle.smithy_json.specs.Ascii.{end_array, end_object}
 use Rattle.smithy_json.specs.Tree.{nesting}
 use Rattle.smithy_json.specs.Unescape.{unescaped}
@@ -21,6 +21,15 @@ use Rattle.smithy_json_codec.proofs.ReaderLemmas.{steps_in_list, list_is_stuck, 
 use Rattle.smithy_json_codec.proofs.SkippedValues.{skips_are}
 use Rattle.smithy_wire.specs.Frames.{IsTold}
 use Rattle.smithy_wire.specs.Node.{as_object}
+
+-- what a read answers lies from where the reader was to where it is
+pub answers_found : {A : Type 0} (P : A → ℕ → Type 0) (old new : Cursor) (found : Result (A × ℕ) SerdeError) (result : Result A SerdeError)
+    → IfOk found (λ r. P r.0 r.1) → IfOk result (λ x. IfOk found (λ r. (r.0 ≡ x) × (new ≡ passed_to old r.1))) → (IsOk result → IsOk found)
+    → IfOk result (λ x. P x new.at)
+answers_found P old new (Ok r) (Ok x) here taken some =
+    subst (λ (n : Cursor). P x n.at) (sym taken.1) (subst (λ y. P y r.1) taken.0 here)
+answers_found P old new (Err e) (Ok x) here taken some = absurd (let no = some refl in cc)
+answers_found P old new found (Err e) here taken some = tt
 
 -- a refusal by a text that isn't want of memory
 pub text_fault : (error : SerdeError) → (error ≡ InvalidInput) ⊎ (error ≡ NoMemory) → IsFault error → error ≡ InvalidInput

@@ -10,7 +10,7 @@ use Rattle.smithy_schema.specs.declared.error.SerdeError.TheVariants.{InvalidInp
 use Rattle.smithy_schema.specs.declared.place.Place.{Place}
 use Rattle.smithy_schema.specs.Table.{document_place}
 use Rattle.smithy_schema.specs.Site.{Site}
-use Rattle.smithy_schema.specs.Reading.{Cursor, depth, StandsNot, IsRefused, IsInvalid, Uncarried, ReachesDepth, ReadsDocument, passed_to, failed_at}
+use Rattle.smithy_schema.specs.Reading.{Cursor, depth, StandsNot, IsFault, IsRefused, IsInvalid, Uncarried, ReachesDepth, ReadsDocument, passed_to, failed_at}
 use Rattle.smithy_json_codec.specs.Settings.{Settings, kept, without_limits}
 use Rattle.smithy_json_codec.specs.Documents.{DocumentLies, OpensDocumentTooDeep, MeetsOtherNumber, RefusesDocument, depth_limit, DocumentStands, NoDocumentStands, RefusesStanding}
 use Rattle.smithy_json_codec.specs.Laws.{lawful}
@@ -132,3 +132,20 @@ module _ (greatest depth : ℕ) (i : List ℕ) (a : ℕ) (found : Result (code.D
       let none : found ≡ Err NotCarried = rw is at error in
       let why : RefusesStanding greatest depth i a NotCarried = rw none at refuses in
       why.0
+
+-- ---- a refusal means that nothing there means a document
+
+refusal_means_nothing : (greatest depth : ℕ) (i : List ℕ) (a : ℕ) (e : SerdeError) → RefusesStanding greatest depth i a e → IsFault e → NoDocumentStands (Some greatest) depth i a
+refusal_means_nothing greatest depth i a InvalidInput h fault = h.1
+refusal_means_nothing greatest depth i a TooDeep h fault = h.2
+refusal_means_nothing greatest depth i a TooWide h fault = absurd h
+refusal_means_nothing greatest depth i a NotCarried h fault = h.1
+refusal_means_nothing greatest depth i a Unsupported h fault = absurd h
+refusal_means_nothing greatest depth i a Unwritable h fault = absurd h
+refusal_means_nothing greatest depth i a Failed h fault = absurd h
+refusal_means_nothing greatest depth i a NoMemory h fault = absurd fault
+
+pub refused_means_nothing : (greatest depth : ℕ) (i : List ℕ) (a : ℕ) (found : Result (code.Document × ℕ) SerdeError) (result : Result code.Document SerdeError)
+    → IfErr found (RefusesStanding greatest depth i a) → IfErr result (λ e. found ≡ Err e) → IsRefused result → NoDocumentStands (Some greatest) depth i a
+refused_means_nothing greatest depth i a found (Ok x) refuses error fault = absurd fault
+refused_means_nothing greatest depth i a found (Err e) refuses error fault = refusal_means_nothing greatest depth i a e (rw error at refuses) fault

@@ -19,7 +19,7 @@ use Rattle.smithy_json.specs.Unescape.{unescaped}
 use Rattle.smithy_json_codec.specs.Scalar.{JsonScalar, a_boolean, a_number, a_string, tree_of, number_text, big_number, number_says}
 use Rattle.smithy_json_codec.specs.Standing.{TreeLies}
 use Rattle.smithy_json_codec.specs.Private.Lexical.{is_numeric, Pass, number_pass}
-use Rattle.smithy_json_codec.specs.Private.ScalarAtPlace.{NumberTextLies}
+use Rattle.smithy_json_codec.specs.NumberText.{NumberTextLies}
 use Rattle.smithy_wire.specs.Rules.{means, no_meaning, wide}
 use Rattle.smithy_wire.specs.BigNumbers.{is_in_limits, big_decimal}
 use Rattle.smithy_wire.proofs.Bounds.{bounded_exceeds}

@@ -243,6 +243,18 @@ module _ (o : Settings) (old : Cursor) (site : Site) (sound : old.failed ≡ fal
       (if_ok found _ _ (λ r. text_stands o old site (text_of r.0) r.1) here) kind
       (λ invalid. (no_text_stands o old site (none invalid), no_text_stands (without_limits o) old site (none invalid)))
 
+  -- of bytes, wherever they are kept
+  pub reads_bytes : {A : Type 0} (bytes_in : A → List ℕ) (new : Cursor) (found : Result (A × ℕ) SerdeError) (result : Result A SerdeError)
+      → IfOk found (λ r. BlobLies old.input old.at (bytes_in r.0) r.1) → IfErr found (λ e. (e ≡ InvalidInput) ⊎ (e ≡ NoMemory))
+      → (IsInvalid found → (b : List ℕ) (e : ℕ) → BlobLies old.input old.at b e → ⊥)
+      → IfOk result (λ x. IfOk found (λ r. (r.0 ≡ x) × (new ≡ passed_to old r.1))) → (IsOk result → IsOk found)
+      → OnErr result (new ≡ failed_at old) → IfErr result (λ e. found ≡ Err e)
+      → ReadsScalar (json_relations o) (json_relations (without_limits o)) (Unit {0}) old new site scalars.Blob (λ x. bytes (bytes_in x)) result
+  reads_bytes bytes_in new found result here kind none =
+      takes_result (json_relations o) (json_relations (without_limits o)) (Unit {0}) site scalars.Blob (λ x. bytes (bytes_in x)) (lawful o) old sound due within new found result
+      (if_ok found _ _ (λ r. blob_stands o old site (bytes_in r.0) r.1) here) kind
+      (λ invalid. (no_blob_stands o old site (none invalid), no_blob_stands (without_limits o) old site (none invalid)))
+
   -- of bytes
   pub reads_blob : (new : Cursor) (found : Result (List ℕ × ℕ) SerdeError) (result : Result (List ℕ) SerdeError)
       → IfOk found (λ r. BlobLies old.input old.at r.0 r.1) → IfErr found (λ e. (e ≡ InvalidInput) ⊎ (e ≡ NoMemory))

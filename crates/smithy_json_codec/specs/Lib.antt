@@ -15,8 +15,10 @@ pub mod Writing
 pub mod Serializing
 pub mod Deepest
 pub mod Documents
+pub mod NumberText
 -- the laws of reading, and that the calls of writing nest
 pub mod Laws
 pub mod Nesting
 -- for private clauses, and for the laws
 pub mod Private
+pub mod Borrowed

@@ -161,8 +161,8 @@ impl<'a> JsonDeserializer<'a> {
 }
 
 impl ShapeDeserializer for JsonDeserializer<'_> {
-    ghost use Rattle.std.specs.Prelude.{◌≡◌, ◌≤◌, ℕ, true, false, refl, IfOk, IsOk, OnOk, IsErr, IsErrOf};
-    ghost use Rattle.smithy_schema.specs.Reading.{depth, in_structure, passed_to, ReadsDocument, Conducts, Passes, MatchStep, CannotGoOn, SkipsNot, NullsNot, ReachesDepth, null_is_due, RefusesNoScalar, IsRefused, IsInvalid, IsNoAnswer};
+    ghost use Rattle.std.specs.Prelude.{◌≡◌, ◌≤◌, ℕ, Some, true, false, refl, IfOk, IsOk, OnOk, IsErr, IsErrOf};
+    ghost use Rattle.smithy_schema.specs.Reading.{depth, in_structure, passed_to, ReadsDocument, Conducts, Passes, MatchStep, CannotGoOn, SkipsNot, NullsNot, ReadsScalar, AnswersWide, ReachesDepth, null_is_due, RefusesNoScalar, IsRefused, IsInvalid, IsNoAnswer};
     ghost use Rattle.smithy_schema.specs.Table.{IsStructure, HasMembers};
     ghost use Rattle.smithy_schema.specs.Site.{site_of, kind_at};
     ghost use Rattle.smithy_schema.specs.declared.error.SerdeError.TheVariants.{NoMemory, NotCarried, TooDeep};
@@ -170,7 +170,15 @@ impl ShapeDeserializer for JsonDeserializer<'_> {
     ghost use Rattle.smithy_json_codec.specs.Settings.{Settings, keep_limits, without_limits};
     ghost use Rattle.smithy_json_codec.specs.Standing.{json_relations};
     ghost use Rattle.smithy_json_codec.specs.Deepest.{OpensTooDeep};
-    ghost use Rattle.smithy_json_codec.specs.Documents.{MeetsOtherNumber, OpensDocumentTooDeep};
+    ghost use Rattle.smithy_types.specs.DocumentView.{document_view};
+    ghost use Rattle.std.specs.Prelude.{FitsSigned};
+    ghost use Rattle.std.specs.Int.{w128};
+    ghost use Rattle.smithy_texts.specs.Numeral.{number};
+    ghost use Rattle.smithy_texts.specs.Decimal.{mantissa, net_exponent};
+    ghost use Rattle.smithy_schema.specs.declared.shape_type.Scalar.TheVariants as scalars;
+    ghost use Rattle.smithy_schema.specs.Value.{whole, decimal};
+    ghost use Rattle.smithy_json_codec.specs.NumberText.{NumberTextLies};
+    ghost use Rattle.smithy_json_codec.specs.Documents.{DocumentStands, NoDocumentStands, MeetsOtherNumber, OpensDocumentTooDeep};
     ghost use Rattle.smithy_json_codec.specs.Laws.{lawful as json_is_lawful, fit as json_fits, counts as json_counts, above as limits_are_above};
 
     ghost Settings = { Settings };
@@ -229,13 +237,12 @@ impl ShapeDeserializer for JsonDeserializer<'_> {
             → CannotGoOn (json_relations (reading_settings_of self.old)) (cursor_of self.old) schema.now.shapes.now schema.now.place }
         ensures would { Unit {0} → IsInvalid result → (cursor_of self.old).due ≡ false
             → CannotGoOn (json_relations (without_limits (reading_settings_of self.old))) (cursor_of self.old) schema.now.shapes.now schema.now.place }
-        ensures unread { (cursor_of self.old).due ≡ true → (e : ℕ) → (json_relations (reading_settings_of self.old)).skips (cursor_of self.old).input (depth (cursor_of self.old)) (cursor_of self.old).at e
-            → IfOk result (λ step. MatchStep step (json_relations (reading_settings_of self.old)) (passed_to (cursor_of self.old) e) (cursor_of self.new) (site_of schema.now)) }
+        ensures unread { (cursor_of self.old).due ≡ true
+            → IfOk result (λ step. (e : ℕ) × (json_relations (reading_settings_of self.old)).skips (cursor_of self.old).input (depth (cursor_of self.old)) (cursor_of self.old).at e × MatchStep step (json_relations (reading_settings_of self.old)) (passed_to (cursor_of self.old) e) (cursor_of self.new) (site_of schema.now)) }
         ensures unread_refused { IsRefused result → (cursor_of self.old).due ≡ true → (e : ℕ) → (json_relations (reading_settings_of self.old)).skips (cursor_of self.old).input (depth (cursor_of self.old)) (cursor_of self.old).at e
             → CannotGoOn (json_relations (reading_settings_of self.old)) (passed_to (cursor_of self.old) e) schema.now.shapes.now schema.now.place }
         ensures unread_would { Unit {0} → IsInvalid result → (cursor_of self.old).due ≡ true → (e : ℕ) → (json_relations (without_limits (reading_settings_of self.old))).skips (cursor_of self.old).input (depth (cursor_of self.old)) (cursor_of self.old).at e
             → CannotGoOn (json_relations (without_limits (reading_settings_of self.old))) (passed_to (cursor_of self.old) e) schema.now.shapes.now schema.now.place }
-        ensures unskipped { (cursor_of self.old).due ≡ true → SkipsNot (json_relations (reading_settings_of self.old)) (cursor_of self.old) → IsErr result }
         ensures deep { IsErrOf result TooDeep → ReachesDepth (json_relations (reading_settings_of self.old)) (reading_settings_of self.old).max_depth (cursor_of self.old) }
 
         // It is too deep only by a container that begins at the greatest depth, in the value that is skipped here or in
@@ -435,13 +442,29 @@ impl ShapeDeserializer for JsonDeserializer<'_> {
         self.walk.take_result(found)
     }
 
-    fn read_big_integer(&mut self, _schema: &Schema<'_>) -> Result<BigInteger, SerdeError> {
+    fn read_big_integer(&mut self, _schema: &Schema<'_>) -> Result<BigInteger, SerdeError>
+        ensures same { reading_settings_of self.new ≡ reading_settings_of self.old }
+        ensures read { ReadsScalar (json_relations (reading_settings_of self.old)) (json_relations (without_limits (reading_settings_of self.old))) (Unit {0}) (cursor_of self.old) (cursor_of self.new) (site_of _schema.now) scalars.BigInteger (λ n. whole (number n)) result }
+        ensures wide { AnswersWide (json_relations (reading_settings_of self.old)) (cursor_of self.old) (site_of _schema.now) scalars.BigInteger result }
+        ensures fits { IfOk result (λ n. FitsSigned w128 (number n)) }
+
+        // The text is kept as it stands in the input: the number's, or what the string's bytes write.
+        ensures text { IfOk result (λ n. NumberTextLies (cursor_of self.old).input (cursor_of self.old).at n (cursor_of self.new).at) }
+    {
         self.walk.ready()?;
         let found = big_integer_at(self.alloc, self.walk.input, self.walk.position);
         self.walk.take_result(found)
     }
 
-    fn read_big_decimal(&mut self, _schema: &Schema<'_>) -> Result<BigDecimal, SerdeError> {
+    fn read_big_decimal(&mut self, _schema: &Schema<'_>) -> Result<BigDecimal, SerdeError>
+        ensures same { reading_settings_of self.new ≡ reading_settings_of self.old }
+        ensures read { ReadsScalar (json_relations (reading_settings_of self.old)) (json_relations (without_limits (reading_settings_of self.old))) (Unit {0}) (cursor_of self.old) (cursor_of self.new) (site_of _schema.now) scalars.BigDecimal (λ n. decimal (mantissa n) (net_exponent n)) result }
+        ensures wide { AnswersWide (json_relations (reading_settings_of self.old)) (cursor_of self.old) (site_of _schema.now) scalars.BigDecimal result }
+        ensures fits { IfOk result (λ n. FitsSigned w128 (mantissa n)) }
+
+        // The text is kept as it stands in the input: the number's, or what the string's bytes write.
+        ensures text { IfOk result (λ n. NumberTextLies (cursor_of self.old).input (cursor_of self.old).at n (cursor_of self.new).at) }
+    {
         self.walk.ready()?;
         let found = big_decimal_at(self.alloc, self.walk.input, self.walk.position);
         self.walk.take_result(found)
@@ -462,6 +485,10 @@ impl ShapeDeserializer for JsonDeserializer<'_> {
         // a number of the document that none holds.
         ensures too_deep { IsErrOf result TooDeep → OpensDocumentTooDeep (reading_settings_of self.old).max_depth (depth (cursor_of self.old)) (cursor_of self.old).input (cursor_of self.old).at }
         ensures other_number { IsErrOf result NotCarried → MeetsOtherNumber (cursor_of self.old).input (cursor_of self.old).at }
+
+        // What is read is the document that the JSON value there means, each number in its variant, and what is refused means none.
+        ensures meaning { IfOk result (λ x. DocumentStands (Some (reading_settings_of self.old).max_depth) (depth (cursor_of self.old)) (cursor_of self.old).input (cursor_of self.old).at (document_view x) (cursor_of self.new).at) }
+        ensures no_meaning { IsRefused result → (cursor_of self.old).due ≡ true → NoDocumentStands (Some (reading_settings_of self.old).max_depth) (depth (cursor_of self.old)) (cursor_of self.old).input (cursor_of self.old).at }
     {
         self.walk.ready()?;
         let found = standing_document_at(
@@ -474,10 +501,3 @@ impl ShapeDeserializer for JsonDeserializer<'_> {
         self.walk.take_result(found)
     }
 }
-
-#[cfg(test)]
-mod document_tests;
-#[cfg(test)]
-mod entry_tests;
-#[cfg(test)]
-mod tests;

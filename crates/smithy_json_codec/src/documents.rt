@@ -7,8 +7,6 @@ ghost use Rattle.smithy_json_codec.specs.Documents.{DocumentLies, RefusesDocumen
 ghost use Rattle.smithy_json_codec.specs.Private.OpenDocuments.{open_array, open_object, with_value, fresh, open_view, frame_view, frames_view, TakesValue, TakesStep};
 
 mod scalars;
-#[cfg(test)]
-mod tests;
 
 use crate::documents::scalars::{Begun, document_begun};
 use crate::places::{InList, InObject, may_end, next_in_list, next_in_object};

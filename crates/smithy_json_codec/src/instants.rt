@@ -97,6 +97,3 @@ pub(crate) fn instant_at(
         TimestampFormat::DateTime | TimestampFormat::HttpDate => date_at(alloc, input, at, form),
     }
 }
-
-#[cfg(test)]
-mod tests;

@@ -12,7 +12,8 @@ ghost use Rattle.smithy_texts.specs.Decimal.{mantissa, net_exponent};
 ghost use Rattle.smithy_json.specs.Tree.{number};
 ghost use Rattle.smithy_json_codec.specs.Scalar.{big_number};
 ghost use Rattle.smithy_json_codec.specs.Standing.{TreeLies};
-ghost use Rattle.smithy_json_codec.specs.Private.ScalarAtPlace.{NumberTextLies, MeansAt, ExceedsAt, NothingAt};
+ghost use Rattle.smithy_json_codec.specs.NumberText.{NumberTextLies};
+ghost use Rattle.smithy_json_codec.specs.Private.ScalarAtPlace.{MeansAt, ExceedsAt, NothingAt};
 ghost use Rattle.smithy_wire.specs.Rules.{means, no_meaning, wide};
 
 use crate::texts::text_of;
@@ -61,6 +62,7 @@ fn number_text_at<'a>(
 // The whole number that a text writes, where 128 bits hold it.
 fn big_integer_of(alloc: Global, text: &str) -> Result<BigInteger, SerdeError>
     ensures ok { IfOk result (λ n. big_number scalars.BigInteger text.now ≡ means (scalar_value (whole (number_of n)))) }
+    ensures text { IfOk result (λ n. n ≡ text.now) }
     ensures fits { IfOk result (λ n. FitsSigned w128 (number_of n)) }
     ensures none { IsInvalid result → big_number scalars.BigInteger text.now ≡ no_meaning }
     ensures wide { IsErrOf result TooWide → big_number scalars.BigInteger text.now ≡ wide }
@@ -79,6 +81,7 @@ fn big_integer_of(alloc: Global, text: &str) -> Result<BigInteger, SerdeError>
 // The decimal number that a text writes, where its parts are within their limits.
 fn big_decimal_of(alloc: Global, text: &str) -> Result<BigDecimal, SerdeError>
     ensures ok { IfOk result (λ n. big_number scalars.BigDecimal text.now ≡ means (scalar_value (decimal (mantissa n) (net_exponent n)))) }
+    ensures text { IfOk result (λ n. n ≡ text.now) }
     ensures fits { IfOk result (λ n. FitsSigned w128 (mantissa n)) }
     ensures none { IsInvalid result → big_number scalars.BigDecimal text.now ≡ no_meaning }
     ensures wide { IsErrOf result TooWide → big_number scalars.BigDecimal text.now ≡ wide }
@@ -103,6 +106,7 @@ pub(crate) fn big_integer_at(
 ) -> Result<(BigInteger, usize), SerdeError>
     requires { at ≤ length input.now }
     ensures found { IfOk result (λ r. MeansAt scalars.BigInteger input.now at (whole (number_of r.0)) r.1) }
+    ensures text { IfOk result (λ r. NumberTextLies input.now at r.0 r.1) }
     ensures fits { IfOk result (λ r. FitsSigned w128 (number_of r.0)) }
     ensures none { IsInvalid result → NothingAt scalars.BigInteger input.now at }
     ensures wide { IsErrOf result TooWide → ExceedsAt scalars.BigInteger input.now at }
@@ -121,6 +125,7 @@ pub(crate) fn big_decimal_at(
 ) -> Result<(BigDecimal, usize), SerdeError>
     requires { at ≤ length input.now }
     ensures found { IfOk result (λ r. MeansAt scalars.BigDecimal input.now at (decimal (mantissa r.0) (net_exponent r.0)) r.1) }
+    ensures text { IfOk result (λ r. NumberTextLies input.now at r.0 r.1) }
     ensures fits { IfOk result (λ r. FitsSigned w128 (mantissa r.0)) }
     ensures none { IsInvalid result → NothingAt scalars.BigDecimal input.now at }
     ensures wide { IsErrOf result TooWide → ExceedsAt scalars.BigDecimal input.now at }

@@ -521,6 +521,3 @@ impl FinishSerializer for JsonSerializer<'_> {
         Ok(self.out)
     }
 }
-
-#[cfg(test)]
-mod tests;

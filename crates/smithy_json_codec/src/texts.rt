@@ -1,10 +1,11 @@
 //! The texts that strings stand for, and the bytes that texts encode.
-ghost use Rattle.std.specs.Prelude.{◌≡◌, ◌⊎◌, ◌≤◌, ℕ, List, length, Some, None, IfOk, IfErr, option_and_then, string_bytes};
-ghost use Rattle.std.specs.Cow.{cow_str_bytes};
+ghost use Rattle.std.specs.Prelude.{◌≡◌, ◌↔◌, ◌⊎◌, false, ◌≤◌, ℕ, List, length, Some, None, IfOk, IfErr, option_and_then, string_bytes};
+ghost use Rattle.std.specs.Cow.{cow_str_bytes, cow_slice_items, IsBorrowedStr, IsOwnedSlice};
 ghost use Rattle.smithy_schema.specs.Reading.{IsInvalid};
 ghost use Rattle.smithy_schema.specs.declared.error.SerdeError.TheVariants.{InvalidInput, NoMemory};
 ghost use Rattle.smithy_texts.specs.Base64Text.{blob_of as base64_of};
 ghost use Rattle.smithy_json.specs.Unescape.{unescaped, has_escape};
+ghost use Rattle.smithy_json_codec.specs.Borrowed.{BorrowsText};
 ghost use Rattle.smithy_json_codec.specs.Private.ScalarAtPlace.{TextLies, BlobLies};
 
 use crate::values::string_at;
@@ -13,7 +14,7 @@ use smithy_schema::SerdeError;
 use smithy_types::Blob;
 use smithy_types::base64::{DecodeError, decode};
 use std::alloc::Global;
-use std::borrow::CowStr;
+use std::borrow::{CowSlice, CowStr};
 
 // The text of a string, which is borrowed where it has no escapes.
 #[inline(always)]
@@ -26,6 +27,7 @@ pub(crate) fn text_of<'a>(
     ensures ok { IfOk result (λ text. unescaped raw.now ≡ Some (cow_str_bytes text)) }
     ensures none { IsInvalid result → unescaped raw.now ≡ None }
     ensures kind { IfErr result (λ e. (e ≡ InvalidInput) ⊎ (e ≡ NoMemory)) }
+    ensures borrowed { IfOk result (λ text. IsBorrowedStr text ↔ (has_escape raw.now ≡ false)) }
 {
     if is_escaped {
         unescaped_text(alloc, raw)
@@ -40,6 +42,7 @@ fn unescaped_text<'a>(alloc: Global, raw: &'a str) -> Result<CowStr<'a, Global>,
     ensures ok { IfOk result (λ text. unescaped raw.now ≡ Some (cow_str_bytes text)) }
     ensures none { IsInvalid result → unescaped raw.now ≡ None }
     ensures kind { IfErr result (λ e. (e ≡ InvalidInput) ⊎ (e ≡ NoMemory)) }
+    ensures borrowed { IfOk result (λ text. IsBorrowedStr text ↔ (has_escape raw.now ≡ false)) }
 {
     match EscapedStr::new(raw).to_unescaped(alloc) {
         Ok(text) => Ok(text),
@@ -72,6 +75,26 @@ pub(crate) fn text_at(alloc: Global, input: &[u8], at: usize) -> Result<(String,
         return Err(SerdeError::InvalidInput);
     };
     let text = owned_text(alloc, string.text, string.has_escape)?;
+    Ok((text, string.closing + 1))
+}
+
+// The same text, borrowed where it has no escapes.
+#[inline(always)]
+pub(crate) fn text_piece_at<'a>(
+    alloc: Global,
+    input: &'a [u8],
+    at: usize,
+) -> Result<(CowStr<'a, Global>, usize), SerdeError>
+    requires { at ≤ length input.now }
+    ensures found { IfOk result (λ r. TextLies input.now at (cow_str_bytes r.0) r.1) }
+    ensures none { IsInvalid result → (text : List ℕ) (e : ℕ) → TextLies input.now at text e → ⊥ }
+    ensures kind { IfErr result (λ e. (e ≡ InvalidInput) ⊎ (e ≡ NoMemory)) }
+    ensures borrowed { IfOk result (λ r. BorrowsText input.now at r.0 r.1) }
+{
+    let Some(string) = string_at(input, at) else {
+        return Err(SerdeError::InvalidInput);
+    };
+    let text = text_of(alloc, string.text, string.has_escape)?;
     Ok((text, string.closing + 1))
 }
 
@@ -111,4 +134,20 @@ pub(crate) fn blob_at(alloc: Global, input: &[u8], at: usize) -> Result<(Blob, u
     };
     let blob = blob_of(alloc, string.text, string.has_escape)?;
     Ok((blob, string.closing + 1))
+}
+
+// The same bytes, in memory of their own as those of a reader that borrows.
+pub(crate) fn bytes_piece_at<'a>(
+    alloc: Global,
+    input: &'a [u8],
+    at: usize,
+) -> Result<(CowSlice<'a, u8, Global>, usize), SerdeError>
+    requires { at ≤ length input.now }
+    ensures found { IfOk result (λ r. BlobLies input.now at (cow_slice_items r.0) r.1) }
+    ensures none { IsInvalid result → (blob : List ℕ) (e : ℕ) → BlobLies input.now at blob e → ⊥ }
+    ensures kind { IfErr result (λ e. (e ≡ InvalidInput) ⊎ (e ≡ NoMemory)) }
+    ensures owned { IfOk result (λ r. IsOwnedSlice r.0) }
+{
+    let (blob, end) = blob_at(alloc, input, at)?;
+    Ok((CowSlice::Owned(blob.into_inner()), end))
 }

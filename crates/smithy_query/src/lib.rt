@@ -2,8 +2,6 @@
 #![tactic(auto)]
 
 mod percent;
-#[cfg(test)]
-mod tests;
 mod writer;
 
 pub use percent::push_encoded;

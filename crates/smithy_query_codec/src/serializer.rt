@@ -445,6 +445,3 @@ impl FinishSerializer for QueryShapeSerializer {
         Ok(self.out)
     }
 }
-
-#[cfg(test)]
-mod tests;

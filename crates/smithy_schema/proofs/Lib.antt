@@ -16,6 +16,8 @@ pub mod ChildLemmas
 pub mod DocumentLemmas
 pub mod NestingLemmas
 pub mod CountLemmas
+pub mod ConsumingLemmas
+pub mod WrittenLemmas
 pub mod NamedLemmas
 pub mod SiteLemmas
 mod MembersLemmas

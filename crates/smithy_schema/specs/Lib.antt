@@ -13,7 +13,9 @@ pub mod Accepted
 pub mod Limits
 pub mod Site
 pub mod Reading
+pub mod Consuming
 pub mod Writing
+pub mod Written
 pub mod TimeForms
 pub mod ScalarTest
 pub mod Targets

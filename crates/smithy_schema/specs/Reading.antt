@@ -157,6 +157,10 @@ IsContainer _ = ⊥
 
 -- ---- laws
 
+-- what is due at c is passed at e: e lies past it, or both are the input's end, where a structure may be missing
+abbrev pub IsBehind : List ℕ → ℕ → ℕ → Type 0
+IsBehind i c e = ((c < e) ⊎ ((c ≡ e) × (e ≡ length i))) × (e ≤ length i)
+
 -- what each wire proves of its relations, under all settings, with the limits kept and lifted
 pub record IsLawful (w : Relations) : Type 0 where
   -- a container stands for v exactly where its entries mean v together
@@ -182,6 +186,12 @@ pub record IsLawful (w : Relations) : Type 0 where
   -- a step with its child leaves less to read
   pub nearer : (i : List ℕ) (t : Table) (p : Place) (d b : ℕ) (m : Mark) (key : Option (List ℕ)) (c : ℕ) (n : Mark) (x : Child) (f : ℕ)
       → w.steps i t p d b m key c n → IsChild w i t p d key x c f → w.left i f n < w.left i b m
+  -- so does a step with whatever is passed behind it, and what is skipped; a step alone leaves no more
+  pub falls : (i : List ℕ) (t : Table) (p : Place) (d b : ℕ) (m : Mark) (key : Option (List ℕ)) (c : ℕ) (n : Mark) (f : ℕ)
+      → w.steps i t p d b m key c n → IsBehind i c f → w.left i f n < w.left i b m
+  pub step_falls : (i : List ℕ) (t : Table) (p : Place) (d b : ℕ) (m : Mark) (key : Option (List ℕ)) (c : ℕ) (n : Mark)
+      → w.steps i t p d b m key c n → w.left i c n ≤ w.left i b m
+  pub skip_falls : (i : List ℕ) (d a e : ℕ) (m : Mark) → w.skips i d a e → w.left i e m < w.left i a m
   -- the smaller relations are determined, and a step and a close exclude one another
   pub same_opening : (i : List ℕ) (t : Table) (p : Place) (d a b c : ℕ) (m n : Mark)
       → w.opens i t p d a b m → w.opens i t p d a c n → (b ≡ c) × (m ≡ n)
@@ -250,6 +260,17 @@ IsFault Unsupported = Unit {0}
 IsFault Unwritable = Unit {0}
 IsFault Failed = ⊥
 IsFault NoMemory = ⊥
+
+-- an answer of a cursor call, which finds no fault with a scalar
+abbrev pub IsOfCursor : SerdeError → Type 0
+IsOfCursor InvalidInput = Unit {0}
+IsOfCursor TooDeep = Unit {0}
+IsOfCursor TooWide = ⊥
+IsOfCursor NotCarried = ⊥
+IsOfCursor Unsupported = ⊥
+IsOfCursor Unwritable = ⊥
+IsOfCursor Failed = Unit {0}
+IsOfCursor NoMemory = Unit {0}
 
 abbrev pub IsRefused : {A : Type 0} → Result A SerdeError → Type 0
 IsRefused (Ok x) = ⊥

@@ -2,7 +2,9 @@
 #![tactic(auto)]
 
 mod acceptance;
+mod borrow;
 mod build;
+mod consume;
 mod decl;
 mod error;
 mod fault;
@@ -16,11 +18,12 @@ mod shape_type;
 mod shapes;
 mod table_text;
 mod targets;
-#[cfg(test)]
-mod tests;
 mod time_forms;
 mod write;
+mod written;
 
+pub use borrow::BorrowDeserializer;
+pub use consume::{ListConsumer, MapConsumer, StructConsumer};
 pub use decl::{Decl, MemberDecl};
 pub use error::SerdeError;
 pub use fault::TableFault;
@@ -32,3 +35,4 @@ pub use shape_type::{Scalar, ShapeRef, ShapeType, TimestampFormat};
 pub use shapes::Shapes;
 pub use table_text::TableText;
 pub use write::{FinishSerializer, ShapeSerializer};
+pub use written::{SerializableStruct, WriteElements};

@@ -11,7 +11,10 @@ ghost use Rattle.smithy_schema.specs.Value.{Value, boolean, whole, text, bytes, 
 ghost use Rattle.smithy_schema.specs.Site.{site_of, kind_at};
 ghost use Rattle.smithy_schema.specs.Reading.{ReadsScalar, ReadsDocument, AnswersWide, AnswersUncarried, RefusesNoScalar, Cursor, depth, Relations, Mark, IsLawful, StandsFit, CountsOpeners, IsBelow, Conducts, Passes, Enters, Steps, Leaves, MatchStep, CannotGoOn, OpensNot, SkipsNot, NullsNot, ReachesDepth, null_is_due, IsRefused, IsInvalid, IsNoAnswer, failed_at, passed_to, in_structure, in_list, in_map};
 ghost use Rattle.smithy_schema.specs.declared.error.SerdeError.TheVariants.{TooDeep, NoMemory};
+ghost use Rattle.std.specs.Prelude.{OnErr, option_map};
+ghost use Rattle.smithy_schema.specs.Consuming.{reader, site_in, Consumes, IsTaken, by_member, by_element, by_key};
 
+use crate::consume::{ListConsumer, MapConsumer, StructConsumer};
 use crate::error::SerdeError;
 use crate::schema::Schema;
 use smithy_types::{BigDecimal, BigInteger, Blob, DateTime, Document};
@@ -25,6 +28,18 @@ pub enum Step<'s> {
     Unknown,
     /// The structure or the union has ended.
     End,
+}
+
+impl<'s> Step<'s> {
+    /// The member whose value is due, if it is one.
+    pub fn member(&self) -> Option<&Schema<'s>>
+        ensures { option_map (λ s. site_of s.now) result ≡ site_in self.now }
+    {
+        match self {
+            Step::Member(member) => Some(member),
+            Step::Unknown | Step::End => None,
+        }
+    }
 }
 
 /// A reader of one input, which a schema directs call by call.
@@ -94,13 +109,12 @@ pub trait ShapeDeserializer {
             → CannotGoOn (wire (settings self.old)) (state self.old) schema.now.shapes.now schema.now.place }
         ensures would { is_strict (settings self.old) → IsInvalid result → (state self.old).due ≡ false
             → CannotGoOn (lifted (settings self.old)) (state self.old) schema.now.shapes.now schema.now.place }
-        ensures unread { (state self.old).due ≡ true → (e : ℕ) → (wire (settings self.old)).skips (state self.old).input (depth (state self.old)) (state self.old).at e
-            → IfOk result (λ step. MatchStep step (wire (settings self.old)) (passed_to (state self.old) e) (state self.new) (site_of schema.now)) }
+        ensures unread { (state self.old).due ≡ true
+            → IfOk result (λ step. (e : ℕ) × (wire (settings self.old)).skips (state self.old).input (depth (state self.old)) (state self.old).at e × MatchStep step (wire (settings self.old)) (passed_to (state self.old) e) (state self.new) (site_of schema.now)) }
         ensures unread_refused { IsRefused result → (state self.old).due ≡ true → (e : ℕ) → (wire (settings self.old)).skips (state self.old).input (depth (state self.old)) (state self.old).at e
             → CannotGoOn (wire (settings self.old)) (passed_to (state self.old) e) schema.now.shapes.now schema.now.place }
         ensures unread_would { is_strict (settings self.old) → IsInvalid result → (state self.old).due ≡ true → (e : ℕ) → (lifted (settings self.old)).skips (state self.old).input (depth (state self.old)) (state self.old).at e
             → CannotGoOn (lifted (settings self.old)) (passed_to (state self.old) e) schema.now.shapes.now schema.now.place }
-        ensures unskipped { (state self.old).due ≡ true → SkipsNot (wire (settings self.old)) (state self.old) → IsErr result }
         ensures deep { IsErrOf result TooDeep → ReachesDepth (wire (settings self.old)) (max_depth (settings self.old)) (state self.old) };
 
     /// Enters the list that is due. Where a list begins here, it is `TooDeep` exactly at the greatest depth.
@@ -268,6 +282,83 @@ pub trait ShapeDeserializer {
     fn read_document(&mut self, schema: &Schema<'_>) -> Result<Document, SerdeError>
         ensures same { settings self.new ≡ settings self.old }
         ensures read { ReadsDocument (wire (settings self.old)) (lifted (settings self.old)) (is_strict (settings self.old)) (max_depth (settings self.old)) (state self.old) (state self.new) (site_of schema.now) result };
+
+    /// Reads the structure or the union that is due: the consumer is called for each entry, in order.
+    final fn read_struct<C: StructConsumer>(
+        &mut self,
+        schema: &Schema<'_>,
+        consumer: &mut C,
+    ) -> Result<(), SerdeError>
+    where
+        Self: Sized,
+        requires place { HasMembers (kind_at (site_of schema.now)) }
+        requires allowed { C.can_take consumer.old (site_of schema.now) }
+        ensures same { settings self.new ≡ settings self.old }
+        ensures consumes { let r = reader (wire (settings self.old)) (lifted (settings self.old)) (is_strict (settings self.old)) (max_depth (settings self.old)) in Consumes r (site_of schema.now) in_structure (by_member r (site_of schema.now)) (C.call r) consumer.old (state self.old) result consumer.new (state self.new) }
+        ensures takes { OnOk result (IsTaken (state self.old) (state self.new)) }
+        ensures fails { OnErr result ((state self.new).failed ≡ true) }
+        ensures allowed { OnOk result (C.can_take consumer.new (site_of schema.now)) }
+    {
+        self.open_struct(schema)?;
+        'members: loop {
+            let step = self.next_member(schema)?;
+            if let Step::End = step {
+                return Ok(());
+            }
+            if let Err(error) = consumer.member(step.member(), self) {
+                self.fail();
+                return Err(error);
+            }
+        }
+    }
+
+    /// Reads the list that is due: the consumer is called for each element, in order.
+    final fn read_list<C: ListConsumer>(
+        &mut self,
+        schema: &Schema<'_>,
+        consumer: &mut C,
+    ) -> Result<(), SerdeError>
+    where
+        Self: Sized,
+        requires place { IsList (kind_at (site_of schema.now)) }
+        ensures same { settings self.new ≡ settings self.old }
+        ensures consumes { let r = reader (wire (settings self.old)) (lifted (settings self.old)) (is_strict (settings self.old)) (max_depth (settings self.old)) in Consumes r (site_of schema.now) in_list (by_element r (site_of schema.now)) (λ element. C.call r) consumer.old (state self.old) result consumer.new (state self.new) }
+        ensures takes { OnOk result (IsTaken (state self.old) (state self.new)) }
+        ensures fails { OnErr result ((state self.new).failed ≡ true) }
+    {
+        self.open_list(schema)?;
+        while self.next_element()? {
+            if let Err(error) = consumer.element(self) {
+                self.fail();
+                return Err(error);
+            }
+        }
+        Ok(())
+    }
+
+    /// Reads the map that is due: the consumer is called for each entry, in order.
+    final fn read_map<C: MapConsumer>(
+        &mut self,
+        schema: &Schema<'_>,
+        consumer: &mut C,
+    ) -> Result<(), SerdeError>
+    where
+        Self: Sized,
+        requires place { IsMap (kind_at (site_of schema.now)) }
+        ensures same { settings self.new ≡ settings self.old }
+        ensures consumes { let r = reader (wire (settings self.old)) (lifted (settings self.old)) (is_strict (settings self.old)) (max_depth (settings self.old)) in Consumes r (site_of schema.now) in_map (by_key r (site_of schema.now)) (C.call r) consumer.old (state self.old) result consumer.new (state self.new) }
+        ensures takes { OnOk result (IsTaken (state self.old) (state self.new)) }
+        ensures fails { OnErr result ((state self.new).failed ≡ true) }
+    {
+        self.open_map(schema)?;
+        while let Some(key) = self.next_key()? {
+            if let Err(error) = consumer.entry(key, self) {
+                self.fail();
+                return Err(error);
+            }
+        }
+        Ok(())
+    }
 
     // Each wire obeys the laws of reading, with its limits and with them lifted.
     ghost lawful: { (c : Settings) → IsLawful (wire c) };

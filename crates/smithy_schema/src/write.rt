@@ -8,9 +8,12 @@ ghost use Rattle.smithy_schema.specs.Site.{site_of};
 ghost use Rattle.smithy_schema.specs.Value.{boolean, whole, text, bytes, decimal, instant};
 ghost use Rattle.smithy_schema.specs.Reading.{IsFault};
 ghost use Rattle.smithy_schema.specs.Writing.{Event, Writer, Open, IsNested, begin_structure, end_structure, begin_list as list_begins, end_list as list_ends, begin_map as map_begins, end_map as map_ends, null_of, scalar_of, big_integer_of, big_decimal_of, document_of};
+ghost use Rattle.smithy_schema.specs.Writing.{after_value, open_list, open_map_at_key};
+ghost use Rattle.smithy_schema.specs.Written.{Wraps, outcome};
 
 use crate::error::SerdeError;
 use crate::schema::Schema;
+use crate::written::{SerializableStruct, WriteElements};
 use smithy_types::{BigDecimal, BigInteger, Blob, DateTime, Document};
 
 /// A writer of one output, which is told of a value call by call, each with the schema of its place.
@@ -202,6 +205,112 @@ pub trait ShapeSerializer {
         ensures broken { IsErr result ↔ (failed self.new ≡ true) }
         ensures ok { OnOk result (after (document_of (site_of schema.now) (whole_document (document_view value.now))) (state self.old) ≡ Ok (state self.new)) }
         ensures refused { IfErr result (λ e. IsFault e → after (document_of (site_of schema.now) (whole_document (document_view value.now))) (state self.old) ≡ Err e) };
+
+    /// Writes a structure or a union: it begins, its members are written by one call, and it ends.
+    final fn write_struct<V: SerializableStruct>(
+        &mut self,
+        schema: &Schema<'_>,
+        value: &V,
+    ) -> Result<(), SerdeError>
+    where
+        Self: Sized,
+        ensures wraps { Wraps after (begin_structure (site_of schema.now)) end_structure (V.adds State after value.now) (failed self.old) (state self.old) (outcome result (state self.new)) }
+        ensures nests { OnOk result (after_value (open_in (state self.old)) ≡ Ok (open_in (state self.new))) }
+        ensures broken { IsErr result ↔ (failed self.new ≡ true) }
+    {
+        self.begin_struct(schema)?;
+        if let Err(error) = value.serialize_members(self) {
+            self.fail();
+            return Err(error);
+        }
+        self.end_struct()
+    }
+
+    /// Writes a list of no told length: it begins, its elements are written by one call, and it ends.
+    final fn write_list<V: WriteElements>(
+        &mut self,
+        schema: &Schema<'_>,
+        elements: &V,
+    ) -> Result<(), SerdeError>
+    where
+        Self: Sized,
+        requires { V.can_stand elements.now open_list }
+        ensures wraps { Wraps after (list_begins (site_of schema.now) None) list_ends (V.adds State after elements.now) (failed self.old) (state self.old) (outcome result (state self.new)) }
+        ensures nests { OnOk result (after_value (open_in (state self.old)) ≡ Ok (open_in (state self.new))) }
+        ensures broken { IsErr result ↔ (failed self.new ≡ true) }
+    {
+        self.begin_list(schema, None)?;
+        if let Err(error) = elements.write(self) {
+            self.fail();
+            return Err(error);
+        }
+        self.end_list()
+    }
+
+    /// Writes a list of a told length.
+    final fn write_list_with_length<V: WriteElements>(
+        &mut self,
+        schema: &Schema<'_>,
+        length: usize,
+        elements: &V,
+    ) -> Result<(), SerdeError>
+    where
+        Self: Sized,
+        requires { V.can_stand elements.now open_list }
+        ensures wraps { Wraps after (list_begins (site_of schema.now) (Some length)) list_ends (V.adds State after elements.now) (failed self.old) (state self.old) (outcome result (state self.new)) }
+        ensures nests { OnOk result (after_value (open_in (state self.old)) ≡ Ok (open_in (state self.new))) }
+        ensures broken { IsErr result ↔ (failed self.new ≡ true) }
+    {
+        self.begin_list(schema, Some(length))?;
+        if let Err(error) = elements.write(self) {
+            self.fail();
+            return Err(error);
+        }
+        self.end_list()
+    }
+
+    /// Writes a map of no told length: it begins, its entries are written by one call, and it ends.
+    final fn write_map<V: WriteElements>(
+        &mut self,
+        schema: &Schema<'_>,
+        entries: &V,
+    ) -> Result<(), SerdeError>
+    where
+        Self: Sized,
+        requires { V.can_stand entries.now open_map_at_key }
+        ensures wraps { Wraps after (map_begins (site_of schema.now) None) map_ends (V.adds State after entries.now) (failed self.old) (state self.old) (outcome result (state self.new)) }
+        ensures nests { OnOk result (after_value (open_in (state self.old)) ≡ Ok (open_in (state self.new))) }
+        ensures broken { IsErr result ↔ (failed self.new ≡ true) }
+    {
+        self.begin_map(schema, None)?;
+        if let Err(error) = entries.write(self) {
+            self.fail();
+            return Err(error);
+        }
+        self.end_map()
+    }
+
+    /// Writes a map of a told length.
+    final fn write_map_with_length<V: WriteElements>(
+        &mut self,
+        schema: &Schema<'_>,
+        length: usize,
+        entries: &V,
+    ) -> Result<(), SerdeError>
+    where
+        Self: Sized,
+        requires { V.can_stand entries.now open_map_at_key }
+        ensures wraps { Wraps after (map_begins (site_of schema.now) (Some length)) map_ends (V.adds State after entries.now) (failed self.old) (state self.old) (outcome result (state self.new)) }
+        ensures nests { OnOk result (after_value (open_in (state self.old)) ≡ Ok (open_in (state self.new))) }
+        ensures broken { IsErr result ↔ (failed self.new ≡ true) }
+    {
+        self.begin_map(schema, Some(length))?;
+        if let Err(error) = entries.write(self) {
+            self.fail();
+            return Err(error);
+        }
+        self.end_map()
+    }
 
     // No call takes back a byte.
     ghost grows: { (e : Event) (s t : State) → after e s ≡ Ok t → (more : List ℕ) × (out t ≡ out s ++ more) };

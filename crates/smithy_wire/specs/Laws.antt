@@ -5,7 +5,7 @@ use Rattle.smithy_schema.specs.declared.place.Place.{Place}
 use Rattle.smithy_schema.specs.Limits.{kept}
 use Rattle.smithy_schema.specs.Table.{Table, Kind, kind_of, IsStructure, IsDocument}
 use Rattle.smithy_schema.specs.Value.{Value}
-use Rattle.smithy_schema.specs.Reading.{Mark, Child, child_value, child_null, child_unknown, IsChild, IsLawful, StandsFit, CountsOpeners, IsBelow}
+use Rattle.smithy_schema.specs.Reading.{Mark, Child, child_value, child_null, child_unknown, IsChild, IsLawful, StandsFit, CountsOpeners, IsBelow, IsBehind as IsPassed}
 use Rattle.smithy_schema.specs.Lemmas.Options.{same_some, chosen}
 use Rattle.smithy_wire.specs.Node.{Form, Node, null_node, leaf, container, missing}
 use Rattle.smithy_wire.specs.Rules.{Rules, lift, is_shallow, may_skip}
@@ -51,15 +51,23 @@ module _ {L : Type 0} (w : Frames L) (r : Rules L) (wire : IsWire w) where
   behind i t p d key (child_null k) c e (is, takes, lies) = let l = wire.null_ahead i d c e lies in (inl l.0, l.1)
   behind i t p d key (child_unknown k) c e (is, structure', none, (y, lies, may)) = lies_behind w wire i d y c e lies
 
+  passed : (i : List ℕ) (c e : ℕ) → IsBehind w i c e → IsPassed i c e
+  passed i c e (inl less, within) = (inl less, within)
+  passed i c e (inr over, within) = (inr (over.0, sym over.0 ∙ wire.over_is_end i c over.1), within)
+
   drops_fall : (i : List ℕ) (k : Kind) (f : Form) (count d b : ℕ) (m : Mark) (c : ℕ) (n : Mark) → DropsAll w r k f count i d b m c n → w.left i c n ≤ w.left i b m
   drops_fall i k f zero d b m c n h = rw (h.0, h.1) (omega arith)
   drops_fall i k f (suc count) d b m c n (g, j, one, more) =
-      omega (arith, wire.nearer f i b m one.key one.at g j one.entry (lies_behind w wire i d one.child one.at g one.lies), drops_fall i k f count d g j c n more)
+      omega (arith, wire.nearer f i b m one.key one.at g j one.entry (passed i one.at g (lies_behind w wire i d one.child one.at g one.lies)), drops_fall i k f count d g j c n more)
 
-  nearer : (i : List ℕ) (k : Kind) (f : Form) (d b : ℕ) (m : Mark) (key : Option (List ℕ)) (c : ℕ) (n : Mark) (e : ℕ) → StepsIn w r k f i d b m key c n → IsBehind w i c e
+  nearer : (i : List ℕ) (k : Kind) (f : Form) (d b : ℕ) (m : Mark) (key : Option (List ℕ)) (c : ℕ) (n : Mark) (e : ℕ) → StepsIn w r k f i d b m key c n → IsPassed i c e
       → w.left i e n < w.left i b m
   nearer i k f d b m key c n e step at =
       omega (arith, drops_fall i k f step.count d b m step.at step.mark step.drops, wire.nearer f i step.at step.mark step.key c e n step.entry at)
+
+  step_left : (i : List ℕ) (k : Kind) (f : Form) (d b : ℕ) (m : Mark) (key : Option (List ℕ)) (c : ℕ) (n : Mark) → StepsIn w r k f i d b m key c n → w.left i c n ≤ w.left i b m
+  step_left i k f d b m key c n step =
+      omega (arith, drops_fall i k f step.count d b m step.at step.mark step.drops, wire.entry_falls f i step.at step.mark step.key c n step.entry)
 
   inside : (i : List ℕ) (t : Table) (p : Place) (d a b : ℕ) (m : Mark) → (relations w r).opens i t p d a b m
       → (a < b) ⊎ ((a ≡ b) × (b ≡ length i) × IsStructure (kind_of t p))
@@ -109,7 +117,10 @@ module _ {L : Type 0} (w : Frames L) (r : Rules L) (wire : IsWire w) where
     nulls_within = λ i d a e h. wire.null_ahead i d a e h;
     skips_within = λ i d a e h. lies_ahead w wire i d h.0 a e h.1 (skipped_is_there d h.0 h.2);
     nearer = λ i t p d b m key c n x e steps child.
-        nearer i (kind_of t p) steps.0 d b m key c n e steps.2 (behind i t p d key x c e child);
+        nearer i (kind_of t p) steps.0 d b m key c n e steps.2 (passed i c e (behind i t p d key x c e child));
+    falls = λ i t p d b m key c n f steps at. nearer i (kind_of t p) steps.0 d b m key c n f steps.2 at;
+    step_falls = λ i t p d b m key c n steps. step_left i (kind_of t p) steps.0 d b m key c n steps.2;
+    skip_falls = λ i d a e m h. let l = lies_ahead w wire i d h.0 a e h.1 (skipped_is_there d h.0 h.2) in wire.left_falls i a e m l.0 l.1;
     same_opening = opening;
     same_step = stepping;
     same_close = closing;

@@ -9,7 +9,7 @@ use Rattle.smithy_schema.specs.Table.{Table, scalar, kind_of}
 use Rattle.smithy_schema.specs.Value.{Value, null_element}
 use Rattle.smithy_schema.specs.Documents.{document_nesting, DocumentFits}
 use Rattle.smithy_schema.specs.Fits.{Fits}
-use Rattle.smithy_schema.specs.Reading.{Mark}
+use Rattle.smithy_schema.specs.Reading.{Mark, IsBehind as IsPassed}
 use Rattle.smithy_wire.specs.Node.{Form, as_object}
 use Rattle.smithy_wire.specs.Rules.{Answer, means, settled, Rules}
 use Rattle.smithy_wire.specs.Frames.{Frames}
@@ -59,8 +59,10 @@ pub record IsWire {L : Type 0} (w : Frames L) : Type 0 where
   pub opens_ahead : (s : Form) (i : List ℕ) (a b : ℕ) (m : Mark) → w.opens s i a b m → (a < b) × (b ≤ length i)
   pub entry_ahead : (s : Form) (i : List ℕ) (b : ℕ) (m : Mark) (k : Option L) (c : ℕ) (n : Mark) → w.entry s i b m k c n → b ≤ c
   pub ends_ahead : (s : Form) (i : List ℕ) (b : ℕ) (m : Mark) (e : ℕ) → b ≤ length i → w.ends s i b m e → (b ≤ e) × (e ≤ length i)
-  pub nearer : (s : Form) (i : List ℕ) (b : ℕ) (m : Mark) (k : Option L) (c e : ℕ) (n : Mark) → w.entry s i b m k c n → IsBehind w i c e
+  pub nearer : (s : Form) (i : List ℕ) (b : ℕ) (m : Mark) (k : Option L) (c e : ℕ) (n : Mark) → w.entry s i b m k c n → IsPassed i c e
       → w.left i e n < w.left i b m
+  pub entry_falls : (s : Form) (i : List ℕ) (b : ℕ) (m : Mark) (k : Option L) (c : ℕ) (n : Mark) → w.entry s i b m k c n → w.left i c n ≤ w.left i b m
+  pub left_falls : (i : List ℕ) (a e : ℕ) (m : Mark) → a < e → e ≤ length i → w.left i e m < w.left i a m
 
 -- the bytes alone bound how many containers are open
 pub record BoundsOpeners {L : Type 0} (w : Frames L) : Type 0 where

@@ -1,7 +1,7 @@
 -- CBOR is a wire: what is determined in its framing, how values begin, and that positions rise.
 use Rattle.std.specs.Prelude.{◌≡◌, ◌⊎◌, ◌<◌, ◌≤◌, ◌+◌, ◌-◌, ℕ, length, drop, List, Option, Some, None, unwrap_or, refl}
 use Rattle.std.proofs.Common.{sym, ◌∙◌, ap, arith, inl, inr}
-use Rattle.smithy_schema.specs.Reading.{Mark}
+use Rattle.smithy_schema.specs.Reading.{Mark, IsBehind as IsPassed}
 use Rattle.cbor_item.specs.Item.{Item}
 use Rattle.cbor_item.specs.WellFormed.{break}
 use Rattle.smithy_cbor_codec.specs.Standing.{null_byte, mark_with, end_mark, HasEntry, IsOver, major_in, Entry, cbor_frames}
@@ -11,7 +11,7 @@ use Rattle.smithy_cbor_codec.specs.Private.Entries.{same_entry as same_next, sam
 use Rattle.smithy_cbor_codec.specs.Private.ContainerBytes.{same_opens_at, opens_within, inside_within}
 use Rattle.smithy_cbor_codec.specs.Private.OpenersAtPlaces.{openers_fall, opens_adds}
 use Rattle.smithy_wire.specs.Node.{Form, as_array, as_object}
-use Rattle.smithy_wire.specs.Wire.{IsBehind, IsWire, BoundsOpeners}
+use Rattle.smithy_wire.specs.Wire.{IsWire, BoundsOpeners}
 use Rattle.smithy_cbor_codec.specs.Private.ValueSorts.{cbor_sort, others_begin, null_sort, scalar_sort, head_sort, over_sort}
 
 -- ---- what is determined
@@ -43,26 +43,29 @@ entry_ahead : (s : Form) (i : List ℕ) (b : ℕ) (m : Mark) (k : Option Item) (
 entry_ahead as_array i b m k c n h = omega (arith, h.1)
 entry_ahead as_object i b m k c n h = omega (arith, item_ahead h.1.0 i b c h.1.1)
 
-falls_in_array : (i : List ℕ) (b c e more less : ℕ) → c ≡ b → IsBehind cbor_frames i c e → (less < more) ⊎ ((less ≤ more) × (b < length i))
+falls_in_array : (i : List ℕ) (b c e more less : ℕ) → c ≡ b → IsPassed i c e → (less < more) ⊎ ((less ≤ more) × (b < length i))
     → length i - e + less < length i - b + more
 falls_in_array i b c e more less at (inl ahead, within) (inl fewer) = omega (arith, at, ahead, within, fewer)
 falls_in_array i b c e more less at (inl ahead, within) (inr same) = omega (arith, at, ahead, within, same.0, same.1)
 falls_in_array i b c e more less at (inr over, within) (inl fewer) = omega (arith, at, over.0, within, fewer)
-falls_in_array i b c e more less at (inr over, within) (inr same) = absurd (omega (arith, same.1, ap length over.1.0))
+falls_in_array i b c e more less at (inr over, within) (inr same) = absurd (let x : c ≡ e = over.0 in let y : e ≡ length i = over.1 in omega (arith, same.1, at, x, y))
 
-up : (i : List ℕ) (c e : ℕ) → IsBehind cbor_frames i c e → (c ≤ e) × (e ≤ length i)
+up : (i : List ℕ) (c e : ℕ) → IsPassed i c e → (c ≤ e) × (e ≤ length i)
 up i c e (inl h, within) = (omega (arith, h), within)
 up i c e (inr h, within) = (omega (arith, h.0), within)
 
 falls : (n b c e more less : ℕ) → b < c → c ≤ e → e ≤ n → less ≤ more → n - e + less < n - b + more
 falls n b c e more less ahead up within fewer = omega (arith, ahead, up, within, fewer)
 
-nearer : (s : Form) (i : List ℕ) (b : ℕ) (m : Mark) (k : Option Item) (c e : ℕ) (n : Mark) → Entry s i b m k c n → IsBehind cbor_frames i c e
+nearer : (s : Form) (i : List ℕ) (b : ℕ) (m : Mark) (k : Option Item) (c e : ℕ) (n : Mark) → Entry s i b m k c n → IsPassed i c e
     → cbor_frames.left i e n < cbor_frames.left i b m
 nearer as_array i b m k c e n h at = falls_in_array i b c e (unwrap_or m.due 0) (unwrap_or n.due 0) h.1 at (entry_falls i b m n h.2)
 nearer as_object i b m k c e n h at =
     let u = up i c e at in
     falls (length i) b c e (unwrap_or m.due 0) (unwrap_or n.due 0) (item_ahead h.1.0 i b c h.1.1) u.0 u.1 (entry_due i b m n h.0)
+
+less_in : (s : Form) (i : List ℕ) (b : ℕ) (m : Mark) (k : Option Item) (c : ℕ) (n : Mark) → Entry s i b m k c n → cbor_frames.left i c n ≤ cbor_frames.left i b m
+less_in s i b m k c n h = omega (arith, entry_ahead s i b m k c n h, entry_due i b m n (entry_next s i b m k c n h))
 
 over_within : (i : List ℕ) (b : ℕ) (m : Mark) (e : ℕ) → b ≤ length i → IsOver i b m e → e ≤ length i
 over_within i b m e low (inl h) = omega (arith, low, h.1)
@@ -98,6 +101,8 @@ cbor_is_wire = record {
   entry_ahead = entry_ahead;
   ends_ahead = λ s i b m e low h. ((over_ahead i b m e h).0, over_within i b m e low h);
   nearer = nearer;
+  entry_falls = less_in;
+  left_falls = λ i a e m ahead within. omega (arith, ahead, within);
 }
 
 -- ---- openers

@@ -8,7 +8,7 @@ use Rattle.smithy_schema.specs.declared.shape_type.Scalar.{Scalar}
 use Rattle.smithy_schema.specs.declared.shape_type.TimestampFormat.{TimestampFormat}
 use Rattle.smithy_schema.specs.declared.shape_type.TimestampFormat.TheVariants.{EpochSeconds}
 use Rattle.smithy_schema.specs.Value.{ScalarValue, instant, scalar_value}
-use Rattle.smithy_json_codec.specs.Scalar.{JsonScalar, a_string, tree_of, bytes_of, number_text, timestamp_says, says}
+use Rattle.smithy_json_codec.specs.Scalar.{JsonScalar, a_string, tree_of, bytes_of, timestamp_says, says}
 use Rattle.smithy_json_codec.specs.Standing.{TreeLies}
 use Rattle.smithy_wire.specs.Rules.{means, no_meaning, wide, uncarried}
 
@@ -30,12 +30,6 @@ pub record BlobLies (input : List ℕ) (at : ℕ) (blob : List ℕ) (e : ℕ) : 
   pub raw : List ℕ
   pub lies : TreeLies 1 (string raw) input at e
   pub is : bytes_of (a_string raw) ≡ Some blob
-
--- a number or a string that has this text lies there
-pub record NumberTextLies (input : List ℕ) (at : ℕ) (text : List ℕ) (e : ℕ) : Type 0 where
-  pub found : JsonScalar
-  pub lies : TreeLies 1 (tree_of found) input at e
-  pub is : number_text found ≡ Some text
 
 -- as a kind without time forms, this value lies there
 pub record MeansAt (s : Scalar) (input : List ℕ) (at : ℕ) (v : ScalarValue) (e : ℕ) : Type 0 where

@@ -1,7 +1,7 @@
 -- JSON is a wire: what is determined in its framing, how values begin, and that positions rise.
 use Rattle.std.specs.Prelude.{◌≡◌, ◌<◌, ◌≤◌, ◌+◌, ◌-◌, ℕ, suc, length, drop, List, [], Option, Some, Bool, true, false, if◌then◌else◌, refl}
 use Rattle.std.proofs.Common.{sym, ◌∙◌, ap, arith, inl, inr}
-use Rattle.smithy_schema.specs.Reading.{Mark}
+use Rattle.smithy_schema.specs.Reading.{Mark, IsBehind as IsPassed}
 use Rattle.smithy_json.specs.Ascii.{value_separator, begin_array, end_array, begin_object, end_object}
 use Rattle.smithy_json.specs.Grammar.{IsBoundary}
 use Rattle.smithy_json.specs.Tree.{null}
@@ -14,7 +14,7 @@ use Rattle.smithy_json_codec.specs.Private.ValuePlaces.{one_tree, tree_ahead}
 use Rattle.smithy_json_codec.specs.Private.ValueSorts.{null_begins, json_sort, not_null_sort, scalar_sort, opens_sort}
 use Rattle.smithy_json_codec.specs.Private.OpenersAtPlaces.{across_value, across_begin_array, across_begin_object, across_end_array, across_end_object, across_separator, across_name}
 use Rattle.smithy_wire.specs.Node.{Form, as_array, as_object}
-use Rattle.smithy_wire.specs.Wire.{no_value, IsBehind, IsWire, BoundsOpeners}
+use Rattle.smithy_wire.specs.Wire.{no_value, IsWire, BoundsOpeners}
 
 -- ---- what is determined
 
@@ -61,7 +61,7 @@ entry_ahead : (s : Form) (i : List ℕ) (b : ℕ) (m : Mark) (k : Option JsonSca
 entry_ahead as_array i b m k c n h = separated_ahead i m.entered b c h.2
 entry_ahead as_object i b m k c n h = omega (arith, names_ahead i m.entered b h.0 c h.3)
 
-behind_up : (i : List ℕ) (c e : ℕ) → IsBehind json_frames i c e → (c ≤ e) × (e ≤ length i)
+behind_up : (i : List ℕ) (c e : ℕ) → IsPassed i c e → (c ≤ e) × (e ≤ length i)
 behind_up i c e (inl h, within) = (omega (arith, h), within)
 behind_up i c e (inr h, within) = (omega (arith, h.0), within)
 
@@ -74,12 +74,20 @@ falls : (entered : Bool) (n b e : ℕ) → b < e → e ≤ n → n - e + 0 < n -
 falls true n b e ahead within = omega (arith, ahead, within)
 falls false n b e ahead within = omega (arith, ahead, within)
 
-nearer : (s : Form) (i : List ℕ) (b : ℕ) (m : Mark) (k : Option JsonScalar) (c e : ℕ) (n : Mark) → Entry s i b m k c n → IsBehind json_frames i c e
+nearer : (s : Form) (i : List ℕ) (b : ℕ) (m : Mark) (k : Option JsonScalar) (c e : ℕ) (n : Mark) → Entry s i b m k c n → IsPassed i c e
     → json_frames.left i e n < json_frames.left i b m
 nearer as_array i b m k c e n h at =
     let up = behind_up i c e at in rw h.1 (falls_in_array i m.entered b c e h.2 up.0 up.1)
 nearer as_object i b m k c e n h at =
     let up = behind_up i c e at in rw h.2 (falls m.entered (length i) b e (omega (arith, names_ahead i m.entered b h.0 c h.3, up.0)) up.1)
+
+less_in : (entered : Bool) (l b c : ℕ) → b ≤ c → l - c + 0 ≤ l - b + (if entered then 0 else 1)
+less_in true l b c up = omega (arith, up)
+less_in false l b c up = omega (arith, up)
+
+entry_falls : (s : Form) (i : List ℕ) (b : ℕ) (m : Mark) (k : Option JsonScalar) (c : ℕ) (n : Mark) → Entry s i b m k c n → json_frames.left i c n ≤ json_frames.left i b m
+entry_falls as_array i b m k c n h = rw h.1 (less_in m.entered (length i) b c (separated_ahead i m.entered b c h.2))
+entry_falls as_object i b m k c n h = rw h.2 (less_in m.entered (length i) b c (omega (arith, names_ahead i m.entered b h.0 c h.3)))
 
 opens_ahead : (s : Form) (i : List ℕ) (a b : ℕ) → Lies (IsByte (opening s)) i a b → a < b
 opens_ahead as_array i a b h = byte_ahead begin_array i a b h
@@ -122,6 +130,8 @@ json_is_wire = record {
   entry_ahead = entry_ahead;
   ends_ahead = λ s i b m e low h. (h.0, h.1);
   nearer = nearer;
+  entry_falls = entry_falls;
+  left_falls = λ i a e m ahead within. omega (arith, ahead, within);
 }
 
 -- ---- openers

@@ -1,8 +1,9 @@
-use Rattle.std.proofs.Common.{Err, sym, ◌∙◌, ap}
+use Rattle.std.proofs.Common.{Err, sym, ◌∙◌, ap, subst}
 use Rattle.std.proofs.lemmas.Result.{err_from_is_err_and}
 use Rattle.smithy_schema.specs.declared.error.SerdeError.TheVariants.{TooWide}
 use Rattle.smithy_schema.specs.declared.shape_type.Scalar.TheVariants as scalars
 use Rattle.smithy_json_codec.specs.Scalar.{number_text, big_number, number_says}
+use Rattle.smithy_json_codec.specs.NumberText.{NumberTextLies}
 use Rattle.smithy_json_codec.specs.Private.Wire.{json_is_wire}
 use Rattle.smithy_json_codec.proofs.DeserializerLemmas.{error_of}
 use Rattle.smithy_json_codec.proofs.NumberTexts.{says_as_text, says_nothing}
@@ -43,3 +44,7 @@ pub returns-in_err-text-clause-none : goal.returns-in_err-text-clause-none
 returns-in_err-text-clause-none c =
     let p = err_from_is_err_and c.from_residual.result c.from_residual.ensures.1 in
     rw (p.1, p.2) (λ invalid. says_nothing scalars.BigInteger c.args.input.now c.args.at (c.in_err-text.ensures.none invalid))
+
+pub returns-clause-text : goal.returns-clause-text
+returns-clause-text c =
+    subst (λ t. NumberTextLies c.args.input.now c.args.at t c.in_ok-text.end) (sym (c.in_ok-number.ensures.text ∙ c.as_str.ensures.value)) c.in_ok-text.ensures.found

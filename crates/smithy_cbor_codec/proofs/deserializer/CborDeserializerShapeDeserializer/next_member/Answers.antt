@@ -1,8 +1,8 @@
-use Rattle.std.proofs.Common.{◌≡◌, subst, inl, inr}
-use Rattle.std.specs.Result.{IfOk}
+use Rattle.std.proofs.Common.{ℕ, ◌≡◌, subst, inl, inr}
+use Rattle.std.proofs.lemmas.Result.{IfOk-weaker}
 use Rattle.smithy_schema.specs.declared.error.SerdeError.TheVariants.{InvalidInput}
 use Rattle.smithy_schema.specs.Site.{site_of}
-use Rattle.smithy_schema.specs.Reading.{CannotGoOn, MatchStep, passed_to}
+use Rattle.smithy_schema.specs.Reading.{depth, CannotGoOn, MatchStep, passed_to}
 use Rattle.smithy_cbor_codec.specs.Cursor.{cursor_of, reading_settings_of}
 use Rattle.smithy_cbor_codec.specs.Settings.{without_limits}
 use Rattle.smithy_cbor_codec.specs.Standing.{cbor_relations}
@@ -24,9 +24,14 @@ pub step_from-requires-in-Ok-clause-ahead : goal.step_from-requires-in-Ok-clause
 step_from-requires-in-Ok-clause-ahead c = (skip_place c.args.self.now.walk.input.now c.args.self.now.walk.position c.depth.result c.in-Ok.end c.in-Ok.ensures.ok).0
 
 pub returns-in-Ok-clause-unread : goal.returns-in-Ok-clause-unread
-returns-in-Ok-clause-unread c = λ due e skips.
-    let same = skips_same (reading_settings_of c.args.self.now) (cursor_of c.args.self.now) c.depth.result c.depth.ensures c.in-Ok.end e c.in-Ok.ensures.ok skips in
-    subst (λ e. IfOk c.step_from-in-Ok.result (λ step. MatchStep step (cbor_relations (reading_settings_of c.args.self.now)) (passed_to (cursor_of c.args.self.now) e) (cursor_of c.step_from-in-Ok.new.self) (site_of c.args.schema.now))) same
+returns-in-Ok-clause-unread c = λ due.
+    let w = cbor_relations (reading_settings_of c.args.self.now) in
+    let old = cursor_of c.args.self.now in
+    let new = cursor_of c.step_from-in-Ok.new.self in
+    let site = site_of c.args.schema.now in
+    IfOk-weaker c.step_from-in-Ok.result (λ step. MatchStep step w (passed_to old c.in-Ok.end) new site)
+    (λ step. (e : ℕ) × w.skips old.input (depth old) old.at e × MatchStep step w (passed_to old e) new site)
+    (λ step steps. (c.in-Ok.end, skips_here (reading_settings_of c.args.self.now) old c.depth.result c.depth.ensures c.in-Ok.end c.in-Ok.ensures.ok, steps))
     c.step_from-in-Ok.ensures.ok
 
 pub returns-in-Ok-clause-unread_refused : goal.returns-in-Ok-clause-unread_refused
@@ -40,10 +45,6 @@ returns-in-Ok-clause-unread_would c = λ strict invalid due e skips.
     let same = skips_same (without_limits (reading_settings_of c.args.self.now)) (cursor_of c.args.self.now) c.depth.result c.depth.ensures c.in-Ok.end e c.in-Ok.ensures.ok skips in
     subst (λ e. CannotGoOn (cbor_relations (without_limits (reading_settings_of c.args.self.now))) (passed_to (cursor_of c.args.self.now) e) c.args.schema.now.shapes.now c.args.schema.now.place) same
     (c.step_from-in-Ok.ensures.refused (invalid_refused c.step_from-in-Ok.result invalid) (without_limits (reading_settings_of c.args.self.now)))
-
-pub returns-in-Ok-clause-unskipped : goal.returns-in-Ok-clause-unskipped
-returns-in-Ok-clause-unskipped c = λ due none.
-    absurd (none c.in-Ok.end (skips_here (reading_settings_of c.args.self.now) (cursor_of c.args.self.now) c.depth.result c.depth.ensures c.in-Ok.end c.in-Ok.ensures.ok))
 
 pub returns-in-Err-clause-unread_refused : goal.returns-in-Err-clause-unread_refused
 returns-in-Err-clause-unread_refused c = λ fault due e skips.

@@ -1,7 +1,7 @@
 use Rattle.std.proofs.Common.{◌≡◌, ◌≤◌, length, sym, ◌∙◌, refl, rules}
 use Rattle.smithy_schema.specs.Site.{site_of}
 use Rattle.smithy_cbor_codec.specs.Cursor.{cursor_of, reading_settings_of}
-use Rattle.smithy_cbor_codec.proofs.DocumentReads.{refuses_document, carried_not_lies, refused_lies_not}
+use Rattle.smithy_cbor_codec.proofs.DocumentReads.{refuses_document, document_is_shallow, carried_not_lies, refused_lies_not}
 use Rattle.smithy_wire.proofs.ScalarReads.{was_ready}
 use Rattle.smithy_cbor_codec.proofs.deserializer.CborDeserializerShapeDeserializer.read_document.Goals as goal
 
@@ -14,6 +14,10 @@ returns-clause-read c =
     rw c.refuse.ensures.error
     (refuses_document (reading_settings_of c.args.self.now) refl c.args.self.now.walk.max_depth (cursor_of c.args.self.now) _ (site_of c.args._schema.now)
     (rw same at c.refuse.ensures.stays) within was.0 was.1 c.document_refusal-error.result c.depth.result (rw same at c.depth.ensures) error.none error.kind)
+
+pub returns-clause-shallow : goal.returns-clause-shallow
+returns-clause-shallow c =
+    document_is_shallow c.document_refusal-error.result c.refuse.result c.refuse.ensures.error c.document_refusal-error.ensures.kind
 
 pub returns-clause-lies : goal.returns-clause-lies
 returns-clause-lies c =

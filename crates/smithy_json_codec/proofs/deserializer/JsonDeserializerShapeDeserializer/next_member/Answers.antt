@@ -1,5 +1,5 @@
-use Rattle.std.proofs.Common.{arith, refl, sym, ap, subst, ◌∙◌, Err}
-use Rattle.std.specs.Result.{IfOk}
+use Rattle.std.proofs.Common.{ℕ, arith, refl, sym, ap, subst, ◌∙◌, Err}
+use Rattle.std.proofs.lemmas.Result.{IfOk-weaker}
 use Rattle.smithy_schema.specs.declared.error.SerdeError.TheVariants.{TooDeep}
 use Rattle.smithy_schema.specs.Site.{site_of}
 use Rattle.smithy_schema.specs.Reading.{depth, CannotGoOn, MatchStep, passed_to}
@@ -23,9 +23,14 @@ returns-then-not-self-clause-would c =
     (c.step_from.ensures.would invalid)
 
 pub returns-in-Ok-clause-unread : goal.returns-in-Ok-clause-unread
-returns-in-Ok-clause-unread c = λ due e skips.
-    let same = skips_same (reading_settings_of c.args.self.now) (cursor_of c.args.self.now) c.depth.result _ c.depth.ensures c.in-Ok.end e c.in-Ok.ensures.ok skips in
-    subst (λ e. IfOk c.step_from-in-Ok.result (λ step. MatchStep step (json_relations (reading_settings_of c.args.self.now)) (passed_to (cursor_of c.args.self.now) e) (cursor_of c.step_from-in-Ok.new.self) (site_of c.args.schema.now))) same
+returns-in-Ok-clause-unread c = λ due.
+    let w = json_relations (reading_settings_of c.args.self.now) in
+    let old = cursor_of c.args.self.now in
+    let new = cursor_of c.step_from-in-Ok.new.self in
+    let site = site_of c.args.schema.now in
+    IfOk-weaker c.step_from-in-Ok.result (λ step. MatchStep step w (passed_to old c.in-Ok.end) new site)
+    (λ step. (e : ℕ) × w.skips old.input (depth old) old.at e × MatchStep step w (passed_to old e) new site)
+    (λ step steps. (c.in-Ok.end, skips_here (reading_settings_of c.args.self.now) old c.depth.result c.depth.ensures refl c.in-Ok.end c.in-Ok.ensures.ok, steps))
     c.step_from-in-Ok.ensures.ok
 
 pub returns-in-Ok-clause-unread_refused : goal.returns-in-Ok-clause-unread_refused
@@ -39,10 +44,6 @@ returns-in-Ok-clause-unread_would c = λ strict invalid due e skips.
     let same = skips_same (without_limits (reading_settings_of c.args.self.now)) (cursor_of c.args.self.now) c.depth.result _ c.depth.ensures c.in-Ok.end e c.in-Ok.ensures.ok skips in
     subst (λ e. CannotGoOn (json_relations (without_limits (reading_settings_of c.args.self.now))) (passed_to (cursor_of c.args.self.now) e) c.args.schema.now.shapes.now c.args.schema.now.place) same
     (c.step_from-in-Ok.ensures.would invalid)
-
-pub returns-in-Ok-clause-unskipped : goal.returns-in-Ok-clause-unskipped
-returns-in-Ok-clause-unskipped c = λ due none.
-    absurd (none c.in-Ok.end (skips_here (reading_settings_of c.args.self.now) (cursor_of c.args.self.now) c.depth.result c.depth.ensures refl c.in-Ok.end c.in-Ok.ensures.ok))
 
 pub returns-in-Err-clause-unread_refused : goal.returns-in-Err-clause-unread_refused
 returns-in-Err-clause-unread_refused c = λ refused due e skips.

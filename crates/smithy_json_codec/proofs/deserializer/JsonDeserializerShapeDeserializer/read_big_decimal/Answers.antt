@@ -4,6 +4,8 @@ use Rattle.smithy_schema.specs.Site.{site_of}
 use Rattle.smithy_schema.specs.Value.{decimal}
 use Rattle.smithy_texts.specs.Decimal.{mantissa, net_exponent}
 use Rattle.smithy_json_codec.specs.Cursor.{cursor_of, reading_settings_of}
+use Rattle.smithy_json_codec.specs.NumberText.{NumberTextLies}
+use Rattle.smithy_json_codec.proofs.DeserializerLemmas.{answers_found}
 use Rattle.smithy_json_codec.proofs.ScalarReads.{reads_big, answers_big}
 use Rattle.smithy_wire.proofs.ScalarReads.{was_ready}
 use Rattle.smithy_json_codec.proofs.deserializer.JsonDeserializerShapeDeserializer.read_big_decimal.Goals as goal
@@ -27,3 +29,11 @@ returns-clause-wide c =
     let take = rw same at c.take_result.ensures in
     answers_big (reading_settings_of c.args.self.now) (cursor_of c.args.self.now) (site_of c.args._schema.now) was.0 was.1 within refl scalars.BigDecimal (λ x. refl)
     (λ n. decimal (mantissa n) (net_exponent n)) c.big_decimal_at-found.result c.take_result.result found.found found.kind found.none take.some take.error
+
+pub returns-clause-text : goal.returns-clause-text
+returns-clause-text c =
+    let same : c.ready.new.self ≡ c.args.self.now.walk = c.in_ok-ready.ensures.ok in
+    let found = rw same at c.big_decimal_at-found.ensures in
+    let take = rw same at c.take_result.ensures in
+    let old = cursor_of c.args.self.now in
+    answers_found (NumberTextLies old.input old.at) old _ c.big_decimal_at-found.result c.take_result.result found.text take.ok take.some

@@ -1,0 +1,17 @@
+use Rattle.std.proofs.Common.{◌≡◌, ◌≤◌, length, sym, ◌∙◌, rules}
+use Rattle.std.specs.Cow.{cow_str_bytes}
+use Rattle.smithy_schema.specs.Site.{site_of}
+use Rattle.smithy_json_codec.specs.Cursor.{cursor_of, reading_settings_of}
+use Rattle.smithy_json_codec.proofs.ScalarReads.{reads_text}
+use Rattle.smithy_wire.proofs.ScalarReads.{was_ready}
+use Rattle.smithy_json_codec.proofs.borrowing.JsonDeserializerBorrowDeserializer.read_text.Goals as goal
+
+pub returns-clause-read : goal.returns-clause-read
+returns-clause-read c =
+    let same : c.ready.new.self ≡ c.args.self.now.walk = c.in_ok-ready.ensures.ok in
+    let was = was_ready c.args.self.now.walk.failed c.args.self.now.walk.due (sym c.in_ok-ready.was ∙ c.ready.ensures.answer) in
+    let within : c.args.self.now.walk.position ≤ length c.args.self.now.walk.input.now = search rules in
+    let found = rw same at c.text_piece_at-found.ensures in
+    let take = rw same at c.take_result.ensures in
+    reads_text (reading_settings_of c.args.self.now) (cursor_of c.args.self.now) (site_of c.args._schema.now) was.0 was.1 within cow_str_bytes _ c.text_piece_at-found.result c.take_result.result
+    found.found found.kind found.none take.ok take.some take.err take.error

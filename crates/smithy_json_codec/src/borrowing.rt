@@ -1,0 +1,44 @@
+//! Reading texts and bytes that borrow from the input.
+use crate::deserializer::JsonDeserializer;
+use crate::texts::{bytes_piece_at, text_piece_at};
+use smithy_schema::{BorrowDeserializer, Schema, SerdeError};
+use std::alloc::Global;
+use std::borrow::{CowSlice, CowStr};
+
+impl<'a> BorrowDeserializer<'a> for JsonDeserializer<'a> {
+    ghost use Rattle.std.specs.Prelude.{◌≡◌, IfOk};
+    ghost use Rattle.std.specs.Cow.{cow_str_bytes, cow_slice_items, IsOwnedSlice};
+    ghost use Rattle.smithy_schema.specs.declared.shape_type.Scalar.TheVariants as scalars;
+    ghost use Rattle.smithy_schema.specs.Value.{text, bytes};
+    ghost use Rattle.smithy_schema.specs.Site.{site_of};
+    ghost use Rattle.smithy_schema.specs.Reading.{ReadsScalar};
+    ghost use Rattle.smithy_json_codec.specs.Borrowed.{BorrowsText};
+    ghost use Rattle.smithy_json_codec.specs.Cursor.{cursor_of, reading_settings_of};
+    ghost use Rattle.smithy_json_codec.specs.Settings.{keep_limits, without_limits};
+    ghost use Rattle.smithy_json_codec.specs.Standing.{json_relations};
+
+    #[inline(always)]
+    fn read_text(&mut self, _schema: &Schema<'_>) -> Result<CowStr<'a, Global>, SerdeError>
+        ensures same { reading_settings_of self.new ≡ reading_settings_of self.old }
+        ensures read { ReadsScalar (json_relations (keep_limits (reading_settings_of self.old))) (json_relations (without_limits (reading_settings_of self.old))) (Unit {0}) (cursor_of self.old) (cursor_of self.new) (site_of _schema.now) scalars.String (λ s. text (cow_str_bytes s)) result }
+
+        // Borrowed exactly where no backslash stands in the string.
+        ensures borrowed { IfOk result (λ t. BorrowsText (cursor_of self.old).input (cursor_of self.old).at t (cursor_of self.new).at) }
+    {
+        self.walk.ready()?;
+        let found = text_piece_at(self.alloc, self.walk.input, self.walk.position);
+        self.walk.take_result(found)
+    }
+
+    fn read_bytes(&mut self, _schema: &Schema<'_>) -> Result<CowSlice<'a, u8, Global>, SerdeError>
+        ensures same { reading_settings_of self.new ≡ reading_settings_of self.old }
+        ensures read { ReadsScalar (json_relations (keep_limits (reading_settings_of self.old))) (json_relations (without_limits (reading_settings_of self.old))) (Unit {0}) (cursor_of self.old) (cursor_of self.new) (site_of _schema.now) scalars.Blob (λ b. bytes (cow_slice_items b)) result }
+
+        // Never borrowed, as a string holds them as base64.
+        ensures owned { IfOk result IsOwnedSlice }
+    {
+        self.walk.ready()?;
+        let found = bytes_piece_at(self.alloc, self.walk.input, self.walk.position);
+        self.walk.take_result(found)
+    }
+}

@@ -1,0 +1,85 @@
+use Rattle.std.proofs.Common.{refl, rules, sym, ◌∙◌}
+use Rattle.std.proofs.lemmas.Result.{err_from_is_err_and}
+use Rattle.smithy_schema.specs.Site.{site_of}
+use Rattle.smithy_schema.specs.Consuming.{reader, Consumes, unopened, entered, Along, refused, stopped, went, ended}
+use Rattle.smithy_schema.proofs.ConsumingLemmas.{was_sound, was_due, opening_refused, entry_refused, began, went_on, onto_by, taken_whole, less_left, none_due}
+use Rattle.smithy_schema.proofs.read.ShapeDeserializer.read_map.Goals as goal
+
+pub returns-in_err-open_map-clause-consumes : goal.returns-in_err-open_map-clause-consumes
+returns-in_err-open_map-clause-consumes g c =
+    let p = err_from_is_err_and c.from_residual.result c.from_residual.ensures.1 in
+    let e = c.in_err-open_map.ensures in
+    rw (p.1, p.2, e.conduct.stays)
+    (unopened (opening_refused _ _ _ _ _ e.conduct e.narrow e.undue e.refused e.would e.invalid e.deepest e.deep))
+
+pub loop-key-init : goal.loop-key-init
+loop-key-init g c =
+    let e = c.in_ok-open_map.ensures in
+    began _ _ _ _ _ _ e.same e.ok.failed e.conduct.within
+
+pub next_key-requires : goal.next_key-requires
+next_key-requires g c = record { within = c.loop-key.invariant.within ∙ c.in_ok-open_map.ensures.ok.within }
+
+pub returns-in_err-key-clause-same : goal.returns-in_err-key-clause-same
+returns-in_err-key-clause-same g c = c.next_key.ensures.same ∙ c.loop-key.invariant.same
+
+pub returns-in_err-key-clause-consumes : goal.returns-in_err-key-clause-consumes
+returns-in_err-key-clause-consumes g c =
+    let p = err_from_is_err_and c.from_residual-in_err-key.result c.from_residual-in_err-key.ensures.1 in
+    let inside = c.loop-key.invariant in
+    let e = c.in_err-key.ensures in
+    let place = c.requires.place in
+    rw (p.1, p.2, e.conduct.stays)
+    (entered (was_sound _ _ c.in_ok-open_map.ensures.conduct.failed) (was_due _ c.in_ok-open_map.ensures.undue) c.in_ok-open_map.ensures.ok (inside.along _ _ _ (refused
+    (rw inside.same at (entry_refused _ (reader (g.Self.ShapeDeserializer.wire (g.Self.ShapeDeserializer.settings c.loop-key.self)) (g.Self.ShapeDeserializer.lifted (g.Self.ShapeDeserializer.settings c.loop-key.self)) (g.Self.ShapeDeserializer.is_strict (g.Self.ShapeDeserializer.settings c.loop-key.self)) (g.Self.ShapeDeserializer.max_depth (g.Self.ShapeDeserializer.settings c.loop-key.self))) (site_of c.args.schema.now) _ _ _ e.conduct e.narrow e.shallow e.unread (λ h due. e.refused h due _ _ place) (λ strict h due. e.would strict h due _ _ place))))))
+
+pub returns-in-Err-clause-same : goal.returns-in-Err-clause-same
+returns-in-Err-clause-same g c = c.fail.ensures.same ∙ c.entry.ensures.same ∙ c.next_key.ensures.same ∙ c.loop-key.invariant.same
+
+-- the consumer refused
+pub returns-in-Err-clause-consumes : goal.returns-in-Err-clause-consumes
+returns-in-Err-clause-consumes g c =
+    let inside = c.loop-key.invariant in
+    let next = c.in_ok-key.ensures in
+    let due = none_due (g.Self.ShapeDeserializer.state c.loop-key.self).due (λ due. next.unread due) in
+    let steps = rw (c.in-Some.is, inside.same) at (next.ok due c.args.schema.now.shapes.now c.args.schema.now.place c.requires.place) in
+    rw c.fail.ensures.fails
+    (entered (was_sound _ _ c.in_ok-open_map.ensures.conduct.failed) (was_due _ c.in_ok-open_map.ensures.undue) c.in_ok-open_map.ensures.ok (inside.along _ _ _ (stopped _ (record { taken = due; steps = steps }) (rw (c.next_key.ensures.same, inside.same) at c.in-Err.ensures.called))))
+
+pub loop-key-smaller : goal.loop-key-smaller
+loop-key-smaller g c =
+    let inside = c.loop-key.invariant in
+    let next = c.in_ok-key.ensures in
+    let due = none_due (g.Self.ShapeDeserializer.state c.loop-key.self).due (λ due. next.unread due) in
+    let steps = rw (c.in-Some.is, inside.same) at (next.ok due c.args.schema.now.shapes.now c.args.schema.now.place c.requires.place) in
+    less_left _ (g.met.Self.ShapeDeserializer.lawful _) _ _ _ _ _ _ due steps c.in_default-entry.ensures.rests
+
+-- the consumer took the element, or left it unread
+pub loop-key-preserved : goal.loop-key-preserved
+loop-key-preserved g c =
+    let inside = c.loop-key.invariant in
+    let next = c.in_ok-key.ensures in
+    let due = none_due (g.Self.ShapeDeserializer.state c.loop-key.self).due (λ due. next.unread due) in
+    let steps = rw (c.in-Some.is, inside.same) at (next.ok due c.args.schema.now.shapes.now c.args.schema.now.place c.requires.place) in
+    went_on _ _ _ _ _ _ _ _ _ _ _ _ _ inside (c.entry.ensures.same ∙ c.next_key.ensures.same) (record { taken = due; steps = steps })
+    (onto_by _ _ _ _ _ _ steps next.conduct.ahead next.conduct.within) (rw (c.next_key.ensures.same, inside.same) at c.in_default-entry.ensures.called) c.in_default-entry.ensures.rests
+
+pub returns-clause-same : goal.returns-clause-same
+returns-clause-same g c = c.next_key.ensures.same ∙ c.loop-key.invariant.same
+
+-- the list ended
+pub returns-clause-consumes : goal.returns-clause-consumes
+returns-clause-consumes g c =
+    let inside = c.loop-key.invariant in
+    let next = c.in_ok-key.ensures in
+    let due = none_due (g.Self.ShapeDeserializer.state c.loop-key.self).due (λ due. next.unread due) in
+    let leaves = rw (c.in_default.is, inside.same) at (next.ok due c.args.schema.now.shapes.now c.args.schema.now.place c.requires.place) in
+    entered (was_sound _ _ c.in_ok-open_map.ensures.conduct.failed) (was_due _ c.in_ok-open_map.ensures.undue) c.in_ok-open_map.ensures.ok (inside.along _ _ _ (ended (record { taken = due; leaves = leaves })))
+
+pub returns-clause-takes : goal.returns-clause-takes
+returns-clause-takes g c =
+    let inside = c.loop-key.invariant in
+    let next = c.in_ok-key.ensures in
+    let due = none_due (g.Self.ShapeDeserializer.state c.loop-key.self).due (λ due. next.unread due) in
+    let leaves = rw (c.in_default.is, inside.same) at (next.ok due c.args.schema.now.shapes.now c.args.schema.now.place c.requires.place) in
+    taken_whole _ (g.met.Self.ShapeDeserializer.lawful _) _ _ _ _ _ _ _ _ _ _ _ _ _ _ _ c.in_ok-open_map.ensures.ok inside refl refl leaves next.conduct.ahead next.conduct.within

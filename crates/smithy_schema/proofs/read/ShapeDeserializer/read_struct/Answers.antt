@@ -1,0 +1,106 @@
+use Rattle.std.proofs.Common.{refl, rules, sym, ◌∙◌, Some}
+use Rattle.std.proofs.lemmas.Result.{err_from_is_err_and}
+use Rattle.smithy_schema.specs.Site.{site_of}
+use Rattle.smithy_schema.specs.Consuming.{reader, Consumes, unopened, entered, Along, refused, stopped, went, ended}
+use Rattle.smithy_schema.proofs.ConsumingLemmas.{was_sound, was_due, opening_refused, member_refused, began, went_on, stepped, to_entry, to_end, onto_member, is_member, cleared_input, cleared_outer, taken_whole, less_behind}
+use Rattle.smithy_schema.proofs.read.ShapeDeserializer.read_struct.Goals as goal
+
+pub returns-in_err-open_struct-clause-consumes : goal.returns-in_err-open_struct-clause-consumes
+returns-in_err-open_struct-clause-consumes g c =
+    let p = err_from_is_err_and c.from_residual.result c.from_residual.ensures.1 in
+    let e = c.in_err-open_struct.ensures in
+    rw (p.1, p.2, e.conduct.stays)
+    (unopened (opening_refused _ _ _ _ _ e.conduct e.narrow e.undue e.refused e.would e.invalid e.deepest e.deep))
+
+pub members-init : goal.members-init
+members-init g c =
+    let e = c.in_ok-open_struct.ensures in
+    record {
+      inside = began _ _ _ _ _ _ e.same e.ok.failed e.conduct.within;
+      allowed = c.requires.allowed;
+    }
+
+pub next_member-requires : goal.next_member-requires
+next_member-requires g c = record {
+  within = c.members.invariant.inside.within ∙ c.in_ok-open_struct.ensures.ok.within;
+  place = c.requires.place;
+}
+
+pub returns-in_err-step-clause-consumes : goal.returns-in_err-step-clause-consumes
+returns-in_err-step-clause-consumes g c =
+    let p = err_from_is_err_and c.from_residual-in_err-step.result c.from_residual-in_err-step.ensures.1 in
+    let inside = c.members.invariant.inside in
+    let d = g.Self.ShapeDeserializer in
+    let s = d.settings c.members.self in
+    let e = c.in_err-step.ensures in
+    rw (p.1, p.2, e.conduct.stays)
+    (entered (was_sound _ _ c.in_ok-open_struct.ensures.conduct.failed) (was_due _ c.in_ok-open_struct.ensures.undue) c.in_ok-open_struct.ensures.ok (inside.along _ _ _ (refused
+    (rw inside.same at (member_refused _ (reader (d.wire s) (d.lifted s) (d.is_strict s) (d.max_depth s)) (site_of c.args.schema.now) _ _ _ e.conduct e.narrow e.refused e.would e.unread_refused e.unread_would e.deep)))))
+
+pub returns-in_err-step-clause-same : goal.returns-in_err-step-clause-same
+returns-in_err-step-clause-same g c = c.next_member.ensures.same ∙ c.members.invariant.inside.same
+
+-- the consumer refused
+pub returns-in-Err-clause-consumes : goal.returns-in-Err-clause-consumes
+returns-in-Err-clause-consumes g c =
+    let d = g.Self.ShapeDeserializer in
+    let inside = c.members.invariant.inside in
+    let next = c.in_ok-step.ensures in
+    let w = d.wire (d.settings c.args.self.now) in
+    let outer = site_of c.args.schema.now in
+    let found = stepped w (d.state c.members.self) (d.state c.next_member.new.self) outer c.in_ok-step.step (rw inside.same at next.ok) (rw inside.same at next.unread) in
+    let goes = to_entry w (d.state c.members.self) (d.state c.next_member.new.self) outer c.in_ok-step.step _ c.in_default.not-End c.member.ensures found in
+    rw c.fail.ensures.fails
+    (entered (was_sound _ _ c.in_ok-open_struct.ensures.conduct.failed) (was_due _ c.in_ok-open_struct.ensures.undue) c.in_ok-open_struct.ensures.ok (inside.along _ _ _ (stopped _ goes (rw (c.next_member.ensures.same, inside.same) at c.in-Err.ensures.called))))
+
+pub returns-in-Err-clause-same : goal.returns-in-Err-clause-same
+returns-in-Err-clause-same g c = c.fail.ensures.same ∙ c.member-in-members.ensures.same ∙ c.next_member.ensures.same ∙ c.members.invariant.inside.same
+
+pub members-smaller : goal.members-smaller
+members-smaller g c =
+    let d = g.Self.ShapeDeserializer in
+    let inside = c.members.invariant.inside in
+    let next = c.in_ok-step.ensures in
+    let w = d.wire (d.settings c.args.self.now) in
+    let outer = site_of c.args.schema.now in
+    let found = stepped w (d.state c.members.self) (d.state c.next_member.new.self) outer c.in_ok-step.step (rw inside.same at next.ok) (rw inside.same at next.unread) in
+    let goes = to_entry w (d.state c.members.self) (d.state c.next_member.new.self) outer c.in_ok-step.step _ c.in_default.not-End c.member.ensures found in
+    less_behind w (g.met.Self.ShapeDeserializer.lawful _) _ _ _ outer _ goes c.in_default-member.ensures.rests
+
+-- the consumer took the entry, or left it unread
+pub members-preserved : goal.members-preserved
+members-preserved g c =
+    let d = g.Self.ShapeDeserializer in
+    let inside = c.members.invariant.inside in
+    let next = c.in_ok-step.ensures in
+    let w = d.wire (d.settings c.args.self.now) in
+    let outer = site_of c.args.schema.now in
+    let found = stepped w (d.state c.members.self) (d.state c.next_member.new.self) outer c.in_ok-step.step (rw inside.same at next.ok) (rw inside.same at next.unread) in
+    let goes = to_entry w (d.state c.members.self) (d.state c.next_member.new.self) outer c.in_ok-step.step _ c.in_default.not-End c.member.ensures found in
+    record {
+      inside = went_on _ _ _ _ _ _ _ _ _ _ _ _ _ inside (c.member-in-members.ensures.same ∙ c.next_member.ensures.same) goes
+          (onto_member w _ _ outer _ goes next.conduct.ahead next.conduct.within) (rw (c.next_member.ensures.same, inside.same) at c.in_default-member.ensures.called) c.in_default-member.ensures.rests;
+      allowed = c.in_default-member.ensures.allowed outer c.members.invariant.allowed;
+    }
+
+-- the structure ended
+pub returns-in-End-clause-consumes : goal.returns-in-End-clause-consumes
+returns-in-End-clause-consumes g c =
+    let d = g.Self.ShapeDeserializer in
+    let inside = c.members.invariant.inside in
+    let next = c.in_ok-step.ensures in
+    let w = d.wire (d.settings c.args.self.now) in
+    let outer = site_of c.args.schema.now in
+    let found = stepped w (d.state c.members.self) (d.state c.next_member.new.self) outer c.in_ok-step.step (rw inside.same at next.ok) (rw inside.same at next.unread) in
+    entered (was_sound _ _ c.in_ok-open_struct.ensures.conduct.failed) (was_due _ c.in_ok-open_struct.ensures.undue) c.in_ok-open_struct.ensures.ok (inside.along _ _ _ (ended (to_end w _ _ outer (rw c.in-End.is at found))))
+
+pub returns-in-End-clause-takes : goal.returns-in-End-clause-takes
+returns-in-End-clause-takes g c =
+    let d = g.Self.ShapeDeserializer in
+    let inside = c.members.invariant.inside in
+    let next = c.in_ok-step.ensures in
+    let w = d.wire (d.settings c.args.self.now) in
+    let outer = site_of c.args.schema.now in
+    let found = stepped w (d.state c.members.self) (d.state c.next_member.new.self) outer c.in_ok-step.step (rw inside.same at next.ok) (rw inside.same at next.unread) in
+    let end = to_end w _ _ outer (rw c.in-End.is at found) in
+    taken_whole w (g.met.Self.ShapeDeserializer.lawful _) _ _ _ _ _ _ _ _ _ _ _ _ _ _ _ c.in_ok-open_struct.ensures.ok inside (cleared_input w _ _ end.cleared) (cleared_outer w _ _ end.cleared) end.leaves next.conduct.ahead next.conduct.within

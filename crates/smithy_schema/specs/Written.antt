@@ -1,0 +1,39 @@
+-- What a written value adds between the calls that begin and end its container.
+use Rattle.std.specs.Prelude.{◌≡◌, ◌↔◌, Bool, true, false, Result, Ok, Err, List, ◌∷◌}
+use Rattle.smithy_schema.specs.declared.error.SerdeError.{SerdeError}
+use Rattle.smithy_schema.specs.declared.error.SerdeError.TheVariants.{Failed}
+use Rattle.smithy_schema.specs.Reading.{IsFault}
+use Rattle.smithy_schema.specs.Writing.{Event, Writer, Open, run}
+
+-- What a call of a value does with any serializer, by what each call makes of its state: the state before, and the state
+-- after or the error that it answers.
+abbrev pub Adds : Type 0 → Type 1
+Adds V = (S : Type 0) → Writer S → V → S → Result S SerdeError → Type 0
+
+-- an answer, with the state after it
+abbrev pub outcome : {S : Type 0} → Result (Unit {0}) SerdeError → S → Result S SerdeError
+outcome (Ok done) s = Ok s
+outcome (Err e) s = Err e
+
+-- The calls are these, one after the other, and any error is that of one of them: a fault by what it makes of a state, or want of
+-- memory.
+pub data Runs {S : Type 0} (after : Writer S) (events : List Event) (s : S) : Result S SerdeError → Type 0 where
+  ran : {t : S} → run after events s ≡ Ok t → Runs after events s (Ok t)
+  broke : {e : SerdeError} → (e ≡ Failed → ⊥) → (IsFault e → run after events s ≡ Err e) → Runs after events s (Err e)
+
+-- why a call is refused
+pub record Refuses {S : Type 0} (after : Writer S) (event : Event) (s : S) (has_failed : Bool) (e : SerdeError) : Type 0 where
+  pub failed : (e ≡ Failed) ↔ (has_failed ≡ true)
+  pub fault : IsFault e → after event s ≡ Err e
+
+-- Where the serializer hasn't failed, the container begins, the value is written, and the container ends, in turn; any error is
+-- that of one of the three.
+pub data Wraps {S : Type 0} (after : Writer S) (begins ends : Event) (adds : S → Result S SerdeError → Type 0) (has_failed : Bool) (s : S) : Result S SerdeError → Type 0 where
+  whole : {t u v : S} → has_failed ≡ false → after begins s ≡ Ok t → adds t (Ok u) → after ends u ≡ Ok v → Wraps after begins ends adds has_failed s (Ok v)
+  not_begun : {e : SerdeError} → Refuses after begins s has_failed e → Wraps after begins ends adds has_failed s (Err e)
+  not_written : {t : S} {e : SerdeError} → has_failed ≡ false → after begins s ≡ Ok t → adds t (Err e) → Wraps after begins ends adds has_failed s (Err e)
+  not_ended : {t u : S} {e : SerdeError} → has_failed ≡ false → after begins s ≡ Ok t → adds t (Ok u) → Refuses after ends u false e → Wraps after begins ends adds has_failed s (Err e)
+
+-- the innermost open container is this one
+abbrev pub IsInside : Open → List Open → Type 0
+IsInside o os = (outer : List Open) × (os ≡ o ∷ outer)

@@ -1,0 +1,51 @@
+//! What can be written into a container that is begun and ended around it.
+ghost use Rattle.std.specs.Prelude.{◌≡◌, Bool, true, false, OnOk};
+ghost use Rattle.smithy_schema.specs.Site.{Site, site_of};
+ghost use Rattle.smithy_schema.specs.Writing.{Open, open_structure};
+ghost use Rattle.smithy_schema.specs.Written.{Adds, outcome, IsInside};
+
+use crate::error::SerdeError;
+use crate::schema::Schema;
+use crate::write::ShapeSerializer;
+
+/// A structure or a union, which writes its members.
+///
+/// A call that answers Ok leaves the serializer's open containers as they were.
+pub trait SerializableStruct {
+    // The site of its schema.
+    ghost site: { Self → Site };
+
+    // What a call adds, to whichever serializer.
+    ghost adds: { Adds Self };
+
+    /// The schema of the structure or the union.
+    fn schema(&self) -> Schema<'_>
+        ensures { site_of result ≡ site self.now };
+
+    /// Writes the members.
+    fn serialize_members<S: ShapeSerializer>(&self, sink: &mut S) -> Result<(), SerdeError>
+        requires sound { S.failed sink.old ≡ false }
+        requires inside { IsInside open_structure (S.open_in (S.state sink.old)) }
+        ensures adds { adds S.State S.after self.now (S.state sink.old) (outcome result (S.state sink.new)) }
+        ensures nests { OnOk result (S.open_in (S.state sink.new) ≡ S.open_in (S.state sink.old)) }
+        ensures sound { OnOk result (S.failed sink.new ≡ false) };
+}
+
+/// The elements of a list, or the entries of a map: each key is a text, and behind it comes its value.
+///
+/// A call that answers Ok leaves the serializer's open containers as they were.
+pub trait WriteElements {
+    // What a call adds, to whichever serializer.
+    ghost adds: { Adds Self };
+
+    // The containers that it can be written into: a list, or a map at a key.
+    ghost can_stand: { Self → Open → Type 0 } = { λ _ _. Unit {0} };
+
+    /// Writes the elements or the entries.
+    fn write<S: ShapeSerializer>(&self, sink: &mut S) -> Result<(), SerdeError>
+        requires sound { S.failed sink.old ≡ false }
+        requires inside { (o : Open) × can_stand self.now o × IsInside o (S.open_in (S.state sink.old)) }
+        ensures adds { adds S.State S.after self.now (S.state sink.old) (outcome result (S.state sink.new)) }
+        ensures nests { OnOk result (S.open_in (S.state sink.new) ≡ S.open_in (S.state sink.old)) }
+        ensures sound { OnOk result (S.failed sink.new ≡ false) };
+}
