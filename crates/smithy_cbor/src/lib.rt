@@ -16,6 +16,3 @@ pub use decoder::Decoder;
 pub use encoder::Encoder;
 pub use error::{DecodeKind, DeserializeError, EncodeError};
 pub use optional::set_optional;
-
-#[cfg(test)]
-mod tests;

@@ -1,5 +1,6 @@
 -- How instants are written.
 use Rattle.std.specs.Prelude.{ℕ, zero, suc, ◌+◌, ◌-◌, ◌/◌, ◌%◌, ◌^◌, ◌==◌, Bool, true, ◌&&◌, if◌then◌else◌, List, [], ◌∷◌, ◌++◌, map, codes, ℤ, pos, unsigned_abs, Option, Some, option_map, is_some, slice_index_or}
+use Rattle.std.specs.Option.{unwrap_or}
 use Rattle.std.specs.Int.{int_div_euclid, int_rem_euclid, is_negative}
 use Rattle.std.specs.Str.{byte}
 use Rattle.std.specs.Fmt.{decimal, sign_text}
@@ -77,6 +78,10 @@ http_date_text weekday d seconds =
 abbrev pub written_date_time : ℤ → Option (List ℕ)
 written_date_time nanos =
     option_map (λ d. date_time_text d (second_of_day nanos) (subsecond_of nanos)) (civil_date (day_of nanos))
+
+-- what is printed of an instant: its date-time text, or its seconds where there is none
+abbrev pub printed_text : ℤ → List ℕ
+printed_text nanos = unwrap_or (written_date_time nanos) (epoch_text nanos)
 
 -- the http-date text of an instant, where its year is from 0 to 9999
 abbrev pub written_http_date : ℤ → Option (List ℕ)

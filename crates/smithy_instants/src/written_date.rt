@@ -214,6 +214,7 @@ fn grown(text: String, pushed: Result<(), AllocError>) -> Result<String, DateTim
 fn date_time_text(alloc: Global, instant: DateTime) -> Result<String, DateTimeFormatError>
     ensures ok { IfOk result (λ t. written_date_time instant ≡ Some (string_bytes t)) }
     ensures err { IfErr result (λ e. e ≡ OutOfRange → written_date_time instant ≡ None) }
+    ensures memory { IfErr result (λ e. e ≡ NoMemory → is_some (written_date_time instant) ≡ true) }
     ensures instant { is_instant instant ≡ true }
 {
     let Some(date) = civil_date(instant.day()) else {
@@ -232,6 +233,7 @@ fn date_time_text(alloc: Global, instant: DateTime) -> Result<String, DateTimeFo
 fn http_date_text(alloc: Global, instant: DateTime) -> Result<String, DateTimeFormatError>
     ensures ok { IfOk result (λ t. written_http_date instant ≡ Some (string_bytes t)) }
     ensures err { IfErr result (λ e. e ≡ OutOfRange → written_http_date instant ≡ None) }
+    ensures memory { IfErr result (λ e. e ≡ NoMemory → is_some (written_http_date instant) ≡ true) }
     ensures instant { is_instant instant ≡ true }
 {
     let day = instant.day();
@@ -283,6 +285,8 @@ impl DateTime {
     pub fn fmt(&self, alloc: Global, format: Format) -> Result<String, DateTimeFormatError>
         ensures ok { IfOk result (λ t. date_text format self.now ≡ Some (string_bytes t)) }
         ensures err { IfErr result (λ e. e ≡ OutOfRange → date_text format self.now ≡ None) }
+        // An instant that leaves the range takes no memory.
+        ensures memory { IfErr result (λ e. e ≡ NoMemory → is_some (date_text format self.now) ≡ true) }
         ensures reads_back { IfOk result (λ t. holds format self.now ≡ true
             → date_of format (string_bytes t) ≡ Some self.now) }
     {

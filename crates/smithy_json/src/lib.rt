@@ -10,8 +10,6 @@ pub mod number_text;
 mod scalar_writer;
 pub mod scan;
 pub mod string_text;
-#[cfg(test)]
-mod tests;
 mod unescape;
 mod writer;
 

@@ -174,13 +174,13 @@ module _ {T S : Type 0} (view : T → JsonToken) (place : T → ℕ) (steps : S 
   stops_whole : (step : Step) (at : ℕ) (d : Document Number) (result : Result kept.Document DeserializeError) → step ≡ whole d → EndsWith step at result → IsDocument d result
   stops_whole step at d (Ok x) is h = let same : whole (document_view x) ≡ whole d = sym h ∙ is in cc
   stops_whole step at d (Err e) is (inl h) = absurd (subst (λ s. IsStepError s at e) is h)
-  stops_whole step at d (Err e) is (inr h) = ap (λ x. x.kind) h
+  stops_whole step at d (Err e) is (inr h) = ap (λ x. x.kind) h.0
 
   -- a token that goes on where the code stops: memory ran out
   stops_on : (step : Step) (at : ℕ) (more : List Frame) (d : Document Number) (result : Result kept.Document DeserializeError) → step ≡ goes_on more → EndsWith step at result → IsDocument d result
   stops_on step at more d (Ok x) is h = let bad : whole (document_view x) ≡ goes_on more = sym h ∙ is in cc
   stops_on step at more d (Err e) is (inl h) = absurd (subst (λ s. IsStepError s at e) is h)
-  stops_on step at more d (Err e) is (inr h) = ap (λ x. x.kind) h
+  stops_on step at more d (Err e) is (inr h) = ap (λ x. x.kind) h.0
 
   at_last : (fs : List Frame) (last : JsonToken) (d : Document Number) (after : Type 0) (it : Option (Result T DeserializeError)) (result : Result kept.Document DeserializeError)
       → document_step fs last ≡ whole d → IsItem view steps last after it → DocumentStops view place steps fs it result → IsDocument d result

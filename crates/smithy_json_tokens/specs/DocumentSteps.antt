@@ -74,10 +74,15 @@ IsStepError (bad_escape fault) at e = e ≡ error_at (UnescapeFailed fault) at
 IsStepError wrong at e = (e.offset ≡ Some at) × IsCustomKind e.kind
 IsStepError _ at e = ⊥
 
+-- memory may run out: not at a token that may not come
+abbrev pub TakesMemory : Step → Type 0
+TakesMemory wrong = ⊥
+TakesMemory _ = Unit {0}
+
 -- what is answered at a step that ends it: the document, or the error; or memory ran out
 abbrev pub EndsWith : Step → ℕ → Result kept.Document DeserializeError → Type 0
 EndsWith step at (Ok d) = step ≡ whole (document_view d)
-EndsWith step at (Err e) = IsStepError step at e ⊎ (e ≡ error_at NoMemory at)
+EndsWith step at (Err e) = IsStepError step at e ⊎ ((e ≡ error_at NoMemory at) × TakesMemory step)
 
 -- this document, or the want of memory
 abbrev pub IsDocument : Document Number → Result kept.Document DeserializeError → Type 0

@@ -1,8 +1,8 @@
 -- What the calls answer that take a string or a number for what its text means.
-use Rattle.std.specs.Prelude.{◌≡◌, ◌⊎◌, ◌*ℤ◌, ℕ, ℤ, pos, List, Option, Some, None, option_map, option_and_then, Result, Ok, Err, MatchResult, if◌then◌else◌}
+use Rattle.std.specs.Prelude.{◌≡◌, ◌⊎◌, ◌*ℤ◌, ℕ, ℤ, pos, true, List, Option, Some, None, option_map, option_and_then, Result, Ok, Err, MatchResult, if◌then◌else◌}
 use Rattle.smithy_json.specs.Grammar.{IsNumber}
 use Rattle.smithy_json.specs.EscapedText.{escaped_text}
-use Rattle.smithy_json.specs.Unescape.{unescape}
+use Rattle.smithy_json.specs.Unescape.{unescape, has_escape}
 use Rattle.smithy_json.specs.declared.escape_error.EscapeError.{EscapeError}
 use Rattle.smithy_types.specs.Base64Text.{blob_of}
 use Rattle.smithy_types.specs.Ranges.{fits_signed}
@@ -34,6 +34,12 @@ abbrev pub IsStringMeaning : {A V : Type 0} → (List ℕ → Option V) → (A �
 IsStringMeaning meaning seen at raw result =
     IsTextMeaning meaning seen at (unescape raw) result ⊎ (result ≡ Err (error_at NoMemory at))
 
+-- the same of a date, which takes memory for its escapes alone
+abbrev pub IsDateMeaning : Format → ℕ → List ℕ → Result (Option ℤ) DeserializeError → Type 0
+IsDateMeaning format at raw result =
+    IsTextMeaning (date_of format) (λ instant. instant) at (unescape raw) result
+    ⊎ ((result ≡ Err (error_at NoMemory at)) × (has_escape raw ≡ true))
+
 -- the bytes of a string in base64, or nothing for a null
 abbrev pub BlobAnswers : Token → Result (Option (List ℕ)) DeserializeError → Type 0
 BlobAnswers (ValueNull at) result = result ≡ Ok None
@@ -63,7 +69,7 @@ EpochAnswers token result = IsCustomAt (Some (token_offset token)) result
 abbrev pub DateAnswers : Format → Token → Result (Option ℤ) DeserializeError → Type 0
 DateAnswers format (ValueNull at) result = result ≡ Ok None
 DateAnswers format (ValueString at value) result =
-    IsStringMeaning (date_of format) (λ instant. instant) at.0 (escaped_text value) result
+    IsDateMeaning format at.0 (escaped_text value) result
 DateAnswers format token result = IsCustomAt (Some (token_offset token)) result
 
 abbrev pub InstantAnswers : Format → Token → Result (Option ℤ) DeserializeError → Type 0

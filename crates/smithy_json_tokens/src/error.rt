@@ -6,51 +6,84 @@ ghost use Rattle.smithy_json_tokens.specs.declared.error.DeserializeErrorKind.Th
 use smithy_json::EscapeError;
 use smithy_types::TryFromNumberError;
 use std::borrow::CowStr;
+use std::fmt;
 use thiserror::Error;
 
 /// What is wrong.
 #[derive(Debug, Drop, Error)]
 pub enum DeserializeErrorKind {
     /// A fault that the caller states.
-    #[error("{0}")]
     Custom(CowStr<'static>),
     /// Other bytes stand where a literal was begun.
-    #[error("ExpectedLiteral")]
     ExpectedLiteral,
     /// A backslash and a character that make no escape. No call of this crate answers it.
-    #[error("InvalidEscape")]
     InvalidEscape(char),
     /// A run of a number's bytes that is no number.
-    #[error("InvalidNumber")]
     InvalidNumber,
     /// A string that isn't UTF-8.
-    #[error("InvalidUtf8")]
     InvalidUtf8,
     /// An escape that stands for nothing.
-    #[error("UnescapeFailed: {0}")]
     UnescapeFailed(EscapeError),
     /// A byte below 0x20 in a string.
-    #[error("UnexpectedControlCharacter: {0}")]
     UnexpectedControlCharacter(u8),
     /// The input ends where more is due.
-    #[error("UnexpectedEos")]
     UnexpectedEos,
     /// Another byte stands than may come, as the character of that number.
-    #[error("UnexpectedToken: {0}")]
     UnexpectedToken(char),
     /// Memory ran out.
-    #[error("NoMemory")]
     NoMemory,
+}
+
+impl DeserializeErrorKind {
+    ghost use Rattle.smithy_json_tokens.specs.Faults.{kind_name};
+
+    fn name(&self) -> &'static str
+        ensures { result.now ≡ kind_name self.now }
+    {
+        match self {
+            DeserializeErrorKind::Custom(_) => "Custom",
+            DeserializeErrorKind::ExpectedLiteral => "ExpectedLiteral",
+            DeserializeErrorKind::InvalidEscape(_) => "InvalidEscape",
+            DeserializeErrorKind::InvalidNumber => "InvalidNumber",
+            DeserializeErrorKind::InvalidUtf8 => "InvalidUtf8",
+            DeserializeErrorKind::UnescapeFailed(_) => "UnescapeFailed",
+            DeserializeErrorKind::UnexpectedControlCharacter(_) => "UnexpectedControlCharacter",
+            DeserializeErrorKind::UnexpectedEos => "UnexpectedEos",
+            DeserializeErrorKind::UnexpectedToken(_) => "UnexpectedToken",
+            DeserializeErrorKind::NoMemory => "NoMemory",
+        }
+    }
+}
+
+/// The name of the variant alone.
+impl fmt::Display for DeserializeErrorKind {
+    ghost use Rattle.smithy_json_tokens.specs.Faults.{kind_name};
+
+    ghost output = { λ kind. Some (kind_name kind) };
+
+    fn fmt<W: fmt::Write>(&self, f: &mut fmt::Formatter<W>) -> fmt::Result {
+        f.write_str(self.name())
+    }
 }
 
 /// What is wrong, and the offset where it stands, where that is known.
 #[derive(Debug, Drop, Error)]
-#[error("{kind}")]
 pub struct DeserializeError {
     /// What is wrong.
     pub kind: DeserializeErrorKind,
     /// Where it stands, in bytes.
     pub offset: Option<usize>,
+}
+
+/// The name of the kind's variant alone.
+impl fmt::Display for DeserializeError {
+    ghost use Rattle.smithy_json_tokens.specs.Faults.{kind_name};
+
+    ghost output = { λ e. Some (kind_name e.kind) };
+
+    fn fmt<W: fmt::Write>(&self, f: &mut fmt::Formatter<W>) -> fmt::Result {
+        f.write_str(self.kind.name())
+    }
 }
 
 impl DeserializeError {

@@ -2,11 +2,10 @@
 
 ghost use Rattle.std.specs.Prelude.{◌≡◌, Some};
 ghost use Rattle.smithy_json.specs.EscapedText.{escaped_text};
-ghost use Rattle.smithy_types.specs.DateText.{date_of};
 ghost use Rattle.smithy_types.specs.Number.{whole_number};
 ghost use Rattle.smithy_json_tokens.specs.Faults.{IsCustomKind};
 ghost use Rattle.smithy_json_tokens.specs.Expecting.{Answers};
-ghost use Rattle.smithy_json_tokens.specs.ExpectingTexts.{IsMeaning, IsStringMeaning, instant_of_seconds, EpochAnswers, DateAnswers, InstantAnswers};
+ghost use Rattle.smithy_json_tokens.specs.ExpectingTexts.{IsMeaning, IsDateMeaning, instant_of_seconds, EpochAnswers, DateAnswers, InstantAnswers};
 ghost use Rattle.smithy_json_tokens.specs.Private.Texts.{IsUnescapedAt, IsEpochInstant};
 
 use crate::error::DeserializeError;
@@ -46,7 +45,7 @@ fn date_at<'a>(
     format: Format,
     at: usize,
 ) -> Result<Option<DateTime>, DeserializeError>
-    ensures { IsStringMeaning (date_of format) (λ instant. instant) at (escaped_text value.entry) result }
+    ensures { IsDateMeaning format at (escaped_text value.entry) result }
 {
     let text = unescaped_at(alloc, value, at)?;
     match DateTime::from_str(text.as_str(), format) {

@@ -4,7 +4,7 @@ ghost use Rattle.std.specs.Prelude.{◌≡◌, [], ◌∷◌, vec_items, string_
 ghost use Rattle.smithy_json.specs.EscapedText.{escaped_text};
 ghost use Rattle.smithy_types.specs.Document.{put_property};
 ghost use Rattle.smithy_types.specs.DocumentView.{document_view, elements_view, properties_view};
-ghost use Rattle.smithy_json_tokens.specs.DocumentSteps.{in_array, in_object, add_element, put_value, where_value, goes_on, document_step, Step};
+ghost use Rattle.smithy_json_tokens.specs.DocumentSteps.{in_array, in_object, add_element, put_value, where_value, goes_on, document_step, Step, TakesMemory};
 ghost use Rattle.smithy_json_tokens.specs.Faults.{error_at, IsCustomKind};
 ghost use Rattle.smithy_json_tokens.specs.Private.Frames.{frame_view, frames_view, Makes, IsOwnTextAt};
 ghost use Rattle.smithy_json_tokens.specs.TokenView.{token_view, token_offset};
@@ -97,7 +97,7 @@ fn push_made(
     made: Result<Frame, AllocError>,
     at: usize,
 ) -> Result<Option<Document>, DeserializeError>
-    ensures { (step : Step) → IfOk made (λ frame. step ≡ goes_on (frame_view frame ∷ frames_view (vec_items frames.old))) → Makes step at result (vec_items frames.new) }
+    ensures { (step : Step) → TakesMemory step → IfOk made (λ frame. step ≡ goes_on (frame_view frame ∷ frames_view (vec_items frames.old))) → Makes step at result (vec_items frames.new) }
 {
     match made {
         Ok(frame) => push(frames, frame, at),

@@ -12,8 +12,6 @@ mod is_token;
 mod run_token;
 mod skip;
 mod string_end;
-#[cfg(test)]
-mod tests;
 mod token;
 mod token_iter;
 mod token_scan;

@@ -3,7 +3,7 @@
 ghost use Rattle.std.specs.Prelude.{◌≡◌, nat_eq, true, false, List, ℕ, IfOk, IfErr, OnOk, ◌++◌};
 ghost use Rattle.std.specs.String.{string_bytes};
 ghost use Rattle.smithy_texts.specs.Decimal.{is_decimal, exponents_fit, exponent_text};
-ghost use Rattle.smithy_texts.specs.declared.big_integer.BigNumberError.TheVariants.{InvalidFormat, ExponentOutOfRange};
+ghost use Rattle.smithy_texts.specs.declared.big_integer.BigNumberError.TheVariants.{InvalidFormat, ExponentOutOfRange, NoMemory};
 ghost use Rattle.std.specs.Hash as fed;
 ghost use Rattle.std.specs.Cmp.Lexicographic.{pointwise, nat_list_eq_equiv};
 ghost use Rattle.std.specs.Cmp.{partial_equiv_from_equiv};
@@ -48,6 +48,9 @@ impl BigDecimal {
         ensures format { IfErr result (λ e. e ≡ InvalidFormat → is_decimal s.now ≡ false) }
         ensures exponent { IfErr result (λ e. e ≡ ExponentOutOfRange
             → (is_decimal s.now ≡ true) × (exponents_fit s.now ≡ false)) }
+        // A refused text takes no memory.
+        ensures memory { IfErr result (λ e. e ≡ NoMemory
+            → (is_decimal s.now ≡ true) × (exponents_fit s.now ≡ true)) }
     {
         if !is_decimal(s.as_bytes()) {
             return Err(BigNumberError::InvalidFormat);

@@ -3,7 +3,7 @@
 ghost use Rattle.std.specs.Prelude.{◌≡◌, nat_eq, ℤ, true, List, ℕ, IfOk, IfErr, OnErr, Some, None, is_some};
 ghost use Rattle.std.specs.String.{string_bytes};
 ghost use Rattle.smithy_texts.specs.Decimal.{integer_form};
-ghost use Rattle.smithy_texts.specs.declared.big_integer.BigNumberError.TheVariants.{InvalidFormat, ExponentOutOfRange};
+ghost use Rattle.smithy_texts.specs.declared.big_integer.BigNumberError.TheVariants.{InvalidFormat, ExponentOutOfRange, NoMemory};
 ghost use Rattle.std.specs.Hash as fed;
 ghost use Rattle.std.specs.Cmp.Lexicographic.{pointwise, nat_list_eq_equiv};
 ghost use Rattle.std.specs.Cmp.{partial_equiv_from_equiv};
@@ -62,6 +62,8 @@ impl BigInteger {
         ensures form { IfOk result (λ n. is_some (integer_form s.now) ≡ true) }
         ensures err { IfErr result (λ e. e ≡ InvalidFormat → integer_form s.now ≡ None) }
         ensures no_exponent { IfErr result (λ e. ¬ (e ≡ ExponentOutOfRange)) }
+        // A refused text takes no memory.
+        ensures memory { IfErr result (λ e. e ≡ NoMemory → is_some (integer_form s.now) ≡ true) }
     {
         if !are_digits(without_minus(s.as_bytes())) {
             return Err(BigNumberError::InvalidFormat);

@@ -1,14 +1,15 @@
 //! Texts of booleans and of whole numbers of up to 64 bits.
 
-ghost use Rattle.std.specs.Prelude.{◌≡◌, List, ℕ, Bool, Result};
+ghost use Rattle.std.specs.Prelude.{◌≡◌, ◌≤◌, List, ℕ, Bool, Result, drop, IsUtf8};
 ghost use Rattle.std.specs.Int.{w8, w16, w32, w64};
 ghost use Rattle.std.specs.Str.Parse.{ParsesBool, ParsesSigned};
 ghost use Rattle.std.specs.Fmt.{signed_decimal, decimal};
-ghost use Rattle.smithy_types.specs.PrimitiveText.{boolean_text};
+ghost use Rattle.smithy_types.specs.PrimitiveText.{boolean_text, primitive_text};
 
-use itoa::Buffer;
+use itoa::Integer;
 use std::marker::Model;
 use std::num::ParseIntError;
+use std::str;
 use std::str::ParseBoolError;
 
 /// The text is none of the wanted type.
@@ -80,18 +81,58 @@ impl Parse for i64 {
     }
 }
 
-#[derive(Debug, Drop)]
+#[derive(Debug, Clone, Copy)]
 enum Primitive {
     Boolean(bool),
     Signed(i64),
     Unsigned(u64),
 }
 
+// Room for one text, which stands at its end.
+#[derive(Clone, Copy)]
+struct Room {
+    bytes: [u8; 40],
+}
+
+impl Room {
+    fn write_boolean(&mut self, value: bool) -> usize
+        ensures within { result ≤ 40 }
+        ensures text { drop result self.new.bytes ≡ boolean_text value }
+        ensures utf8 { IsUtf8 (drop result self.new.bytes) }
+    {
+        let text = if value { "true" } else { "false" };
+        let start = 40 - text.len();
+        self.bytes[start..].copy_from_slice(text.as_bytes());
+        start
+    }
+
+    // Writes the text of the value, and says where it begins.
+    fn write(&mut self, value: Primitive) -> usize
+        ensures within { result ≤ 40 }
+        ensures text { drop result self.new.bytes ≡ primitive_text value }
+        ensures utf8 { IsUtf8 (drop result self.new.bytes) }
+    {
+        match value {
+            Primitive::Boolean(value) => self.write_boolean(value),
+            Primitive::Signed(n) => n.write(&mut self.bytes),
+            Primitive::Unsigned(n) => n.write(&mut self.bytes),
+        }
+    }
+
+    // The bytes from there on.
+    fn bytes_from(&self, start: usize) -> &[u8]
+        requires { start ≤ 40 }
+        ensures { result.now ≡ drop start self.now.bytes }
+    {
+        &self.bytes[start..]
+    }
+}
+
 /// Writes one value into room of its own. Contracts see the text of the value.
 #[derive(Drop)]
 pub struct Encoder {
     value: Primitive,
-    buffer: Buffer,
+    room: Room,
 }
 
 impl Model for Encoder {
@@ -105,17 +146,34 @@ impl Model for Encoder {
 }
 
 impl Encoder {
+    ghost use Rattle.std.specs.Borrow.{sem};
+    ghost use Rattle.smithy_types.specs.EncoderRests.{Rests};
+
+    fn bytes(&mut self) -> &[u8]
+        ensures* kept { sem 𝓛 (Rests self.entry) }
+        ensures text { result.now ≡ self.old }
+        ensures utf8 { IsUtf8 result.now }
+    {
+        let start = self.room.write(self.value);
+        self.room.bytes_from(start)
+    }
+
     /// The text of the value: `true` or `false`, or its decimal digits, behind a `-` where it is below 0.
     pub fn encode(&mut self) -> &str
-        ensures { result.now ≡ self.old }
+        // What is held stays, so a further call gives the same text.
+        ensures* kept { sem 𝓛 (Rests self.entry) }
+        ensures text { result.now ≡ self.old }
     {
-        match self.value {
-            Primitive::Boolean(true) => "true",
-            Primitive::Boolean(false) => "false",
-            Primitive::Signed(n) => self.buffer.format(n),
-            Primitive::Unsigned(n) => self.buffer.format(n),
-        }
+        as_text(self.bytes())
     }
+}
+
+// The text of these bytes.
+fn as_text(bytes: &[u8]) -> &str
+    requires { IsUtf8 bytes.now }
+    ensures { result.now ≡ bytes.now }
+{
+    unsafe { str::from_utf8_unchecked(bytes) }
 }
 
 impl From<bool> for Encoder {
@@ -124,7 +182,7 @@ impl From<bool> for Encoder {
     fn from(input: bool) -> Encoder {
         Encoder {
             value: Primitive::Boolean(input),
-            buffer: Buffer::new(),
+            room: Room { bytes: [0; 40] },
         }
     }
 }
@@ -135,7 +193,7 @@ impl From<u64> for Encoder {
     fn from(input: u64) -> Encoder {
         Encoder {
             value: Primitive::Unsigned(input),
-            buffer: Buffer::new(),
+            room: Room { bytes: [0; 40] },
         }
     }
 }
@@ -146,7 +204,7 @@ impl From<i64> for Encoder {
     fn from(input: i64) -> Encoder {
         Encoder {
             value: Primitive::Signed(input),
-            buffer: Buffer::new(),
+            room: Room { bytes: [0; 40] },
         }
     }
 }

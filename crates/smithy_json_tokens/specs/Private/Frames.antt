@@ -7,7 +7,7 @@ use Rattle.smithy_types.specs.DocumentView.{document_view, elements_view, proper
 use Rattle.smithy_types.specs.declared.document.Document.{Document}
 use Rattle.smithy_json_tokens.specs.Faults.{error_at}
 use Rattle.smithy_json_tokens.specs.DocumentSteps as steps
-use Rattle.smithy_json_tokens.specs.DocumentSteps.{in_array, in_object, behind_name, Step, goes_on, whole, IsStepError}
+use Rattle.smithy_json_tokens.specs.DocumentSteps.{in_array, in_object, behind_name, Step, goes_on, whole, IsStepError, TakesMemory}
 use Rattle.smithy_json_tokens.specs.declared.error.DeserializeError.{DeserializeError}
 use Rattle.smithy_json_tokens.specs.declared.error.DeserializeErrorKind.TheVariants.{UnescapeFailed, NoMemory}
 use Rattle.smithy_json_tokens.specs.declared.frames.Frame.{Frame}
@@ -26,7 +26,7 @@ frames_view frames = map frame_view (reverse frames)
 abbrev pub Makes : Step → ℕ → Result (Option Document) DeserializeError → List Frame → Type 0
 Makes step at (Ok None) frames = step ≡ goes_on (frames_view frames)
 Makes step at (Ok (Some d)) frames = step ≡ whole (document_view d)
-Makes step at (Err e) frames = IsStepError step at e ⊎ (e ≡ error_at NoMemory at)
+Makes step at (Err e) frames = IsStepError step at e ⊎ ((e ≡ error_at NoMemory at) × TakesMemory step)
 
 -- the text of a raw text, or its first fault at the offset, or the want of memory
 abbrev pub IsOwnTextAt : List ℕ → ℕ → Result (String Global) DeserializeError → Type 0
