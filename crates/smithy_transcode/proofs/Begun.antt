@@ -1,5 +1,5 @@
 -- A reader that begins a body, and what it reads there, as what the whole input spells.
-use Rattle.std.proofs.Common.{◌≡◌, ◌≤◌, ◌<◌, ℕ, List, Bool, [], ◌∷◌, length, Result, Ok, Err, IsErrOf, refl, sym, ◌∙◌, ap, subst, arith}
+use Rattle.std.proofs.Common.{◌≡◌, ◌≤◌, ◌<◌, ℕ, List, Bool, true, false, [], ◌∷◌, length, Result, Ok, Err, IsErrOf, refl, sym, ◌∙◌, ap, subst, arith}
 use Rattle.smithy_schema.specs.declared.error.SerdeError.{SerdeError}
 use Rattle.smithy_schema.specs.declared.error.SerdeError.TheVariants.{InvalidInput, TooDeep, TooWide, NotCarried, Unsupported, Unwritable, Failed, NoMemory}
 use Rattle.smithy_schema.specs.declared.place.Place.{Place}
@@ -16,12 +16,12 @@ use Rattle.smithy_json_codec.specs.Standing.{json_relations}
 use Rattle.smithy_cbor_codec.specs.Codec.{strict_settings as strict_cbor}
 use Rattle.smithy_cbor_codec.specs.Settings.{Settings as CborSettings, keep_limits as keep_cbor_limits, without_limits as without_cbor_limits}
 use Rattle.smithy_cbor_codec.specs.Standing.{cbor_relations}
-use Rattle.smithy_transcode.specs.Wires.{Wire, json, cbor}
+use Rattle.smithy_transcode.specs.Wires.{Wire, json, cbor, IsReadable}
 use Rattle.smithy_transcode.specs.Causes.{openers, IsWide, IsUncarried}
 use Rattle.smithy_transcode.specs.Spelling.{Spells}
 use Rattle.smithy_transcode.specs.Transcoding.{SpellNothing, SpellNothingWithoutLimits}
 use Rattle.smithy_transcode.proofs.WideBodies.{inside_is_wide, inside_is_uncarried}
-use Rattle.smithy_transcode.proofs.Spelled.{IsReadable, relations_of, lifted_of, StandsFirst, stands_is_spelled, spelled_stands, spelled_stands_without_limits, empty_is_spelled, openers_are}
+use Rattle.smithy_transcode.proofs.Spelled.{relations_of, lifted_of, StandsFirst, stands_is_spelled, spelled_stands, spelled_stands_without_limits, empty_is_spelled, openers_are}
 
 -- a reader with these relations stands at the start of a body of the root, whose schema is at hand
 pub record Begins (w : Wire) (r l : Relations) (max : ℕ) (old : Cursor) (s : Schema) (t : Table) (root : ℕ) (i : List ℕ) : Type 1 where
@@ -73,6 +73,10 @@ module _ {w : Wire} {r l : Relations} {max : ℕ} {old : Cursor} {s : Schema} {t
       let here : StandsNot z old t (shape_place root) = subst (λ (x : Site). StandsNot z old x.table x.place) begins.site none in
       let first : StandsNot z (fresh_cursor i) t (shape_place root) = subst (λ c. StandsNot z c t (shape_place root)) begins.fresh here in
       first v h.0 h.1
+
+  -- nothing failed before
+  pub had_not_failed : old.failed ≡ true → ⊥
+  had_not_failed failed = let both : true ≡ false = sym failed ∙ ap (λ (c : Cursor). c.failed) begins.fresh in cc
 
   -- what was read is spelled
   pub read_is_spelled : (new : Cursor) (v : Value) → Reads r old new s.shapes.now s.place v → Spells w t root i v

@@ -1,6 +1,5 @@
 -- Where an entry is put among entries that stand in order.
 use Rattle.std.proofs.Common.{arith, ◌≡◌, ◌<◌, ◌≤◌, ◌+◌, ℕ, zero, suc, Err, List, [], ◌∷◌, ◌++◌, ◌-◌, ◌==◌, IsTrue, length, get_or, slice_set, Ordering, Less, Equal, Greater, refl, sym, ◌∙◌, ap, subst, append_assoc, Bool, ◌&&◌, true, false, if◌then◌else◌}
-use Rattle.std.proofs.lemmas.List.{get_or_default}
 use Rattle.std.proofs.lemmas.List.Elements.{All-nil, All-cons, All-head, All-tail}
 use Rattle.std.specs.List.{All, AllWithin, HoldsAt, insert, list_all}
 use Rattle.std.specs.List.Sorted.{IsBinarySearchResult, IsNonDecreasingBy, IsSearchInRange}

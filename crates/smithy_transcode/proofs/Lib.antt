@@ -2,6 +2,9 @@ pub mod Begun
 pub mod Bodies
 mod CompactVariants
 mod EntryOrder
+mod HalfElements
+mod HalfMembers
+mod HalfRead
 mod Inner
 mod Unfits
 mod ValuesPass
@@ -9,6 +12,7 @@ mod Lists
 pub mod Mapped
 mod Maps
 mod NullsHeld
+mod ReadAnswers
 mod ReadContainers
 mod ReadLists
 mod ReadMaps
@@ -21,6 +25,7 @@ pub mod Spelled
 mod Structures
 pub mod Transcodings
 mod Unions
+mod WriteAnswers
 -- laws over all inputs: equal bodies, and how many values an input spells
 pub mod Laws
 mod CountingNodes

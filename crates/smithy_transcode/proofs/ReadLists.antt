@@ -20,7 +20,7 @@ list_folds : (k : Kind) → IsList k → (xs : List Child) → container_of k (m
 list_folds (list_of l) h xs = refl
 list_folds _ h xs = absurd h
 
-list_contains : (k : Kind) → IsList k → IsContainer k
+pub list_contains : (k : Kind) → IsList k → IsContainer k
 list_contains (list_of l) h = tt
 list_contains _ h = absurd h
 
@@ -51,12 +51,6 @@ begins_as_value w s k due no_null sparse = due_begins s.due (w.begins_null s.inp
 pub element_child : (w : Relations) (s1 : Cursor) (t : Table) (p q : Place) (v : Value) (f : ℕ) → s1.due ≡ true → IsNoNull w s1 (kind_of t p) → place_in (kind_of t p) None ≡ Some q
     → w.stands s1.input t q (depth s1) s1.at v f → IsChild w s1.input t p (depth s1) None (child_value None None v) s1.at f
 element_child w s1 t p q v f due no_null place stands = (refl, refl, (q, place, stands), begins_as_value w s1 (kind_of t p) due no_null)
-
-pub element_read : (w u : Relations) (max : ℕ) → IsLawful u → IsBelow w u → (s0 s s1 s2 : Cursor) (t : Table) (p q : Place) (sparse : Bool) (vs : List Value) (v : Value)
-    → InContainer w u max s0 s t p in_list (list_value sparse vs) → Steps w s s1 t p None → IsNoNull w s1 (kind_of t p) → place_in (kind_of t p) None ≡ Some q → Reads w s1 s2 t q v
-    → InContainer w u max s0 s2 t p in_list (list_value sparse (vs ++ v ∷ []))
-element_read w u max over below s0 s s1 s2 t p q sparse vs v inside steps no_null place reads =
-    child_read w u max over below s0 s s1 s2 t p in_list (list_value sparse vs) None (child_value None None v) inside steps (element_child w s1 t p q v s2.at steps.due no_null place reads.stands) reads.passes
 
 pub null_read : (w u : Relations) (max : ℕ) → IsLawful u → IsBelow w u → (s0 s s1 s2 : Cursor) (t : Table) (p : Place) (vs : List Value)
     → InContainer w u max s0 s t p in_list (list_value (is_sparse (kind_of t p)) vs) → Steps w s s1 t p None → IsSparse (kind_of t p) → w.nulls s1.input (depth s1) s1.at s2.at → Passes s1 s2

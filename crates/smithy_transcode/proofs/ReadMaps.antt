@@ -20,7 +20,7 @@ map_folds : (k : Kind) → IsMap k → (xs : List Child) → container_of k (map
 map_folds (map_of m) h xs = refl
 map_folds _ h xs = absurd h
 
-map_contains : (k : Kind) → IsMap k → IsContainer k
+pub map_contains : (k : Kind) → IsMap k → IsContainer k
 map_contains (map_of m) h = tt
 map_contains _ h = absurd h
 
@@ -42,16 +42,10 @@ pub begin_map : (w u : Relations) (max : ℕ) → IsLawful w → IsLawful u → 
 begin_map w u max laws over below s0 s t p kind enters = worth_as w u max s0 s t p in_map _ _ (map_folds _ kind) (begin w u max laws over below s0 s t p in_map (map_contains _ kind) enters)
 
 -- the child that a key leads to
-value_child : (w : Relations) (s1 : Cursor) (t : Table) (p q : Place) (key : List ℕ) (v : Value) (f : ℕ) → IsMap (kind_of t p) → s1.due ≡ true → IsNoNull w s1 (kind_of t p) → place_in (kind_of t p) None ≡ Some q
+pub value_child : (w : Relations) (s1 : Cursor) (t : Table) (p q : Place) (key : List ℕ) (v : Value) (f : ℕ) → IsMap (kind_of t p) → s1.due ≡ true → IsNoNull w s1 (kind_of t p) → place_in (kind_of t p) None ≡ Some q
     → w.stands s1.input t q (depth s1) s1.at v f → IsChild w s1.input t p (depth s1) (Some key) (child_value (Some key) (named w t p (Some key)) v) s1.at f
 value_child w s1 t p q key v f kind due no_null place stands =
     (refl, refl, (q, same_place _ kind (named w t p (Some key)) ∙ place, stands), begins_as_value w s1 (kind_of t p) due no_null)
-
-pub entry_read : (w u : Relations) (max : ℕ) → IsLawful u → IsBelow w u → (s0 s s1 s2 : Cursor) (t : Table) (p q : Place) (sparse : Bool) (es : MapEntries) (key : List ℕ) (v : Value)
-    → IsMap (kind_of t p) → InContainer w u max s0 s t p in_map (map_value sparse es) → Steps w s s1 t p (Some key) → IsNoNull w s1 (kind_of t p) → place_in (kind_of t p) None ≡ Some q → Reads w s1 s2 t q v
-    → InContainer w u max s0 s2 t p in_map (map_value sparse (put_entry key v es))
-entry_read w u max over below s0 s s1 s2 t p q sparse es key v kind inside steps no_null place reads =
-    child_read w u max over below s0 s s1 s2 t p in_map (map_value sparse es) (Some key) (child_value (Some key) (named w t p (Some key)) v) inside steps (value_child w s1 t p q key v s2.at kind steps.due no_null place reads.stands) reads.passes
 
 pub null_entry_read : (w u : Relations) (max : ℕ) → IsLawful u → IsBelow w u → (s0 s s1 s2 : Cursor) (t : Table) (p : Place) (es : MapEntries) (key : List ℕ)
     → InContainer w u max s0 s t p in_map (map_value (is_sparse (kind_of t p)) es) → Steps w s s1 t p (Some key) → IsSparse (kind_of t p) → w.nulls s1.input (depth s1) s1.at s2.at → Passes s1 s2

@@ -7,10 +7,10 @@ use Rattle.smithy_schema.specs.declared.schema.Schema.{Schema}
 use Rattle.smithy_schema.specs.declared.read.Step.TheVariants.{Member as ToMember, Unknown}
 use Rattle.smithy_schema.specs.Table.{Table, Kind, structure_of, union_of, kind_of, place_in, members_of, Member, IsStructure, HasMembers, IsSparse}
 use Rattle.smithy_schema.specs.Site.{Site, site_of, site_of_member, member_site, kind_at}
-use Rattle.smithy_schema.specs.Value.{Value, MemberValues, no_member_values, put_member, structure}
+use Rattle.smithy_schema.specs.Value.{Value, MemberValues, no_member_values, structure}
 use Rattle.smithy_schema.specs.Container.{members_from, container_of}
-use Rattle.smithy_schema.specs.Reading.{Cursor, in_structure, depth, Relations, Child, child_value, child_unknown, child_null, entry_of, IsChild, IsContainer, IsLawful, IsBelow, Passes, Reads, Enters, MatchStep}
-use Rattle.smithy_transcode.proofs.ReadContainers.{InContainer, worth_as, begin, named_above, child_read, no_child, no_place, not_both, structure_has_members}
+use Rattle.smithy_schema.specs.Reading.{Cursor, in_structure, depth, Relations, Child, child_value, child_unknown, child_null, entry_of, IsChild, IsContainer, IsLawful, IsBelow, Enters, MatchStep}
+use Rattle.smithy_transcode.proofs.ReadContainers.{InContainer, worth_as, begin, named_above, no_child, no_place, not_both, structure_has_members}
 
 -- the structure that more children make of these fields
 abbrev pub structure_value : MemberValues → List Child → Option Value
@@ -61,19 +61,6 @@ member_child w s s1 o m n v f step index stands =
     let told = site_told o step.1 (site_of m) step.4 in
     let same : Some step.1 ≡ Some n = sym told.2 ∙ index in
     (refl, sym same ∙ sym step.3, (m.place, rw same at told.1, rw told.0 at stands), λ sparse. absurd (not_sparse (kind_at o) o.table step.1 (site_of m) step.4 sparse))
-
-pub member_read : (w u : Relations) (max : ℕ) → IsLawful u → IsBelow w u → (s0 s s1 s2 : Cursor) (o : Site) (m : Schema) (fs : MemberValues) (n : ℕ) (v : Value)
-    → InContainer w u max s0 s o.table o.place in_structure (structure_value fs) → MatchStep (ToMember m) w s s1 o → (site_of m).view.index ≡ Some n → Reads w s1 s2 m.shapes.now m.place v
-    → InContainer w u max s0 s2 o.table o.place in_structure (structure_value (put_member n v fs))
-member_read w u max over below s0 s s1 s2 o m fs n v inside step index reads =
-    child_read w u max over below s0 s s1 s2 o.table o.place in_structure (structure_value fs) (Some step.0) (child_value (Some step.0) (Some n) v) inside step.2
-    (member_child w s s1 o m n v s2.at step index reads.stands) reads.passes
-
-pub unknown_skipped : (w u : Relations) (max : ℕ) → IsLawful u → IsBelow w u → (s0 s s1 s2 : Cursor) (o : Site) (fs : MemberValues)
-    → IsStructure (kind_at o) → InContainer w u max s0 s o.table o.place in_structure (structure_value fs) → MatchStep Unknown w s s1 o → w.skips s1.input (depth s1) s1.at s2.at → Passes s1 s2
-    → InContainer w u max s0 s2 o.table o.place in_structure (structure_value fs)
-unknown_skipped w u max over below s0 s s1 s2 o fs kind inside step skips passes =
-    child_read w u max over below s0 s s1 s2 o.table o.place in_structure (structure_value fs) (Some step.0) (child_unknown (Some step.0)) inside step.1 (refl, kind, step.2, skips) passes
 
 -- a member's child is a value, and an unknown entry's child is skipped
 member_only : (w u : Relations) → IsBelow w u → (s s1 : Cursor) (o : Site) (m : Schema) → HasMembers (kind_at o) → (step : MatchStep (ToMember m) w s s1 o) (x : Child) (f : ℕ)

@@ -1,19 +1,16 @@
 -- A union that is half read.
-use Rattle.std.proofs.Common.{◌≡◌, ℕ, List, ◌∷◌, map, Option, Some, None, option_and_then, Result, Ok, Err, IsErrOf, true, refl, sym, ◌∙◌, ap}
+use Rattle.std.proofs.Common.{◌≡◌, ℕ, List, ◌∷◌, map, Option, Some, None, option_and_then, refl, sym, ◌∙◌, ap}
 use Rattle.smithy_schema.specs.declared.place.Place.{Place}
 use Rattle.smithy_schema.specs.declared.schema.Schema.{Schema}
-use Rattle.smithy_schema.specs.declared.error.SerdeError.{SerdeError}
-use Rattle.smithy_schema.specs.declared.error.SerdeError.TheVariants.{InvalidInput, TooDeep, Unwritable, Failed}
 use Rattle.smithy_schema.specs.declared.read.Step.{Step}
 use Rattle.smithy_schema.specs.declared.read.Step.TheVariants.{Member as ToMember, Unknown, End}
 use Rattle.smithy_schema.specs.Table.{Table, Kind, union_of, kind_of, place_in, IsStructure, IsUnion, HasMembers}
-use Rattle.smithy_schema.specs.Site.{Site, site_of, kind_at}
-use Rattle.smithy_schema.specs.Value.{Value, union}
+use Rattle.smithy_schema.specs.Site.{Site, kind_at}
+use Rattle.smithy_schema.specs.Value.{Value}
 use Rattle.smithy_schema.specs.Container.{folded, container_of}
 use Rattle.smithy_schema.specs.Lemmas.Variants.{variant_step, variants_folded}
-use Rattle.smithy_schema.specs.Reading.{Cursor, in_structure, depth, Relations, Child, child_value, child_unknown, child_null, entry_of, IsChild, IsContainer, IsLawful, IsBelow, Conducts, Reads, Enters, MatchStep, StandsNot}
-use Rattle.smithy_transcode.proofs.ReadContainers.{InContainer, worth_as, begin, named_above, child_read, no_child, no_worth, ends_early, no_place, not_both}
-use Rattle.smithy_transcode.proofs.ReadStructures.{member_child}
+use Rattle.smithy_schema.specs.Reading.{Cursor, in_structure, depth, Relations, Child, child_value, child_unknown, child_null, entry_of, IsChild, IsContainer, IsLawful, IsBelow, Enters, MatchStep, StandsNot}
+use Rattle.smithy_transcode.proofs.ReadContainers.{InContainer, worth_as, begin, named_above, no_child, no_worth, ends_early, no_place, not_both}
 
 -- the union that more children make behind this variant, or behind none
 abbrev pub union_value : Option Value → List Child → Option Value
@@ -23,7 +20,7 @@ union_folds : (k : Kind) → IsUnion k → (xs : List Child) → container_of k 
 union_folds (union_of members) h xs = variants_folded (map entry_of xs)
 union_folds _ h xs = absurd h
 
-union_contains : (k : Kind) → IsUnion k → IsContainer k
+pub union_contains : (k : Kind) → IsUnion k → IsContainer k
 union_contains (union_of members) h = tt
 union_contains _ h = absurd h
 
@@ -38,14 +35,6 @@ not_structure _ h l = h
 pub begin_union : (w u : Relations) (max : ℕ) → IsLawful w → IsLawful u → IsBelow w u → (s0 s : Cursor) (t : Table) (p : Place) → IsUnion (kind_of t p) → Enters w max s0 s t p in_structure
     → InContainer w u max s0 s t p in_structure (union_value None)
 begin_union w u max laws over below s0 s t p kind enters = worth_as w u max s0 s t p in_structure _ _ (union_folds _ kind) (begin w u max laws over below s0 s t p in_structure (union_contains _ kind) enters)
-
--- the variant was read
-pub variant_read : (w u : Relations) (max : ℕ) → IsLawful u → IsBelow w u → (s0 s s1 s2 : Cursor) (o : Site) (m : Schema) (n : ℕ) (v : Value)
-    → InContainer w u max s0 s o.table o.place in_structure (union_value None) → MatchStep (ToMember m) w s s1 o → (site_of m).view.index ≡ Some n → Reads w s1 s2 m.shapes.now m.place v
-    → InContainer w u max s0 s2 o.table o.place in_structure (union_value (Some (union n v)))
-variant_read w u max over below s0 s s1 s2 o m n v inside step index reads =
-    child_read w u max over below s0 s s1 s2 o.table o.place in_structure (union_value None) (Some step.0) (child_value (Some step.0) (Some n) v) inside step.2
-    (member_child w s s1 o m n v s2.at step index reads.stands) reads.passes
 
 -- no variant came
 pub no_variant : (w u : Relations) (max : ℕ) → IsLawful u → IsBelow w u → (s0 s s1 : Cursor) (o : Site)
@@ -102,17 +91,3 @@ pub step_input : (w : Relations) (s s1 : Cursor) (o : Site) (step : Step) → Ma
 step_input w s s1 o (ToMember m) step = step.2.input
 step_input w s s1 o Unknown step = step.1.input
 step_input w s s1 o End step = step.input
-
--- a call that answered Ok had not failed before
-pub had_not_failed : {A : Type 0} (old new : Cursor) (result : Result A SerdeError) (x : A) → result ≡ Ok x → Conducts old new result → old.failed ≡ true → ⊥
-had_not_failed old new result x is conduct failed = let both : Ok x ≡ Err Failed = sym is ∙ conduct.failed.1 failed in cc
-
--- `InvalidInput` is no other refusal
-pub is_not_failed : {A : Type 0} → IsErrOf {T = A} {E = SerdeError} (Err InvalidInput) Failed → ⊥
-is_not_failed is = cc
-
-pub is_not_unwritable : {A : Type 0} → IsErrOf {T = A} {E = SerdeError} (Err InvalidInput) Unwritable → ⊥
-is_not_unwritable is = cc
-
-pub is_not_deep : {A : Type 0} → IsErrOf {T = A} {E = SerdeError} (Err InvalidInput) TooDeep → ⊥
-is_not_deep is = cc

@@ -11,11 +11,10 @@ use Rattle.smithy_schema.specs.declared.shape_type.Scalar.TheVariants as scalars
 use Rattle.smithy_schema.specs.declared.shape_type.ShapeType.{ShapeType}
 use Rattle.smithy_schema.specs.declared.shape_type.ShapeType.TheVariants as types
 use Rattle.smithy_schema.specs.declared.error.SerdeError.{SerdeError}
-use Rattle.smithy_schema.specs.declared.error.SerdeError.TheVariants.{InvalidInput, TooDeep, TooWide, NotCarried, Unsupported}
 use Rattle.smithy_schema.specs.Table.{Table, Shape, structure, union, list, map, Kind, scalar, document, structure_of, union_of, list_of, map_of, nothing, kind_of, kind_of_shape, kind_of_target, shape_declared, type_of, scalar_type, place_in, scalar_place, document_place, is_document_target, IsDocument}
 use Rattle.smithy_schema.specs.Site.{Site, site_of, kind_at}
 use Rattle.smithy_schema.specs.Value.{ScalarValue, Value, scalar_value}
-use Rattle.smithy_schema.specs.Reading.{Cursor, Within, depth, Relations, Child, Steps, MatchStep, IsInside, Reads, StandsNot, ReachesDepth, Conducts, failed_at}
+use Rattle.smithy_schema.specs.Reading.{Cursor, Within, depth, Relations, Child, Steps, MatchStep, IsInside, Reads, Conducts, failed_at}
 use Rattle.smithy_schema.specs.Lemmas.Kinds.{document_target_is}
 use Rattle.smithy_transcode.proofs.ReadContainers.{InContainer}
 use Rattle.smithy_transcode.proofs.ReadStructures.{site_told}
@@ -102,7 +101,7 @@ target_told t (Declared r) s h =
     cc
 
 -- what stands where the type is that of a scalar
-place_told : (t : Table) (p : Place) (s : Scalar) → Some (scalar_type s) ≡ type_of (kind_of t p) → p ≡ scalar_place s p.time
+pub place_told : (t : Table) (p : Place) (s : Scalar) → Some (scalar_type s) ≡ type_of (kind_of t p) → p ≡ scalar_place s p.time
 place_told t p s h = ap (λ (x : Target). record { target = x; time = p.time }) (target_told t p.target s h)
 
 -- ---- the place of a document
@@ -122,13 +121,13 @@ document_target Document h = refl
 document_target (Declared r) h = cc
 
 -- what stands where the type is that of documents
-document_told : (t : Table) (p : Place) → Some types.Document ≡ type_of (kind_of t p) → p ≡ document_place p.time
+pub document_told : (t : Table) (p : Place) → Some types.Document ≡ type_of (kind_of t p) → p ≡ document_place p.time
 document_told t p h =
     ap (λ (x : Target). record { target = x; time = p.time }) (document_target p.target (document_target_is t p.target (kind_of_document (kind_of t p) h)))
 
 -- ---- what a read of one says
 
-error_is : {B : Type 0} (e f : SerdeError) → IsErrOf {T = B} {E = SerdeError} (Err e) f → e ≡ f
+pub error_is : {B : Type 0} (e f : SerdeError) → IsErrOf {T = B} {E = SerdeError} (Err e) f → e ≡ f
 error_is {B} e f h = let both : ◌≡◌ {A = Result B SerdeError} (Err e) (Err f) = h in cc
 
 stays_as : {A : Type 0} (old new : Cursor) (r : Result A SerdeError) (f : SerdeError) → r ≡ Err f → Conducts old new r → new ≡ failed_at old
@@ -166,33 +165,9 @@ document_read w old new site u v kind reads is =
     subst (λ (x : Value). Reads w old new site.table site.place x) (sym is)
     (subst (λ (p : Place). Reads w old new site.table p u) (sym (document_told site.table site.place kind)) reads)
 
--- nothing stands at a document's place where none is read
-pub document_refused : (w : Relations) (old : Cursor) (site : Site) → Some types.Document ≡ type_of (kind_at site)
-    → StandsNot w old site.table (document_place site.place.time) → StandsNot w old site.table site.place
-document_refused w old site kind none =
-    subst (λ (p : Place). StandsNot w old site.table p) (sym (document_told site.table site.place kind)) none
-
 -- a document fails where it stands
 pub document_inside : {A B : Type 0} (lies : Lying) (old new : Cursor) (site : Site) (result : Result A SerdeError) (e f : SerdeError)
     → result ≡ Err e → Conducts old new result → (IsErrOf result f → StandsAs lies old site.table (document_place site.place.time)) → Some types.Document ≡ type_of (kind_at site)
     → IsErrOf {T = B} {E = SerdeError} (Err e) f → StandsInside lies old new site.table site.place
 document_inside lies old new site result e f is conduct told kind =
     inside_here lies old new site.table site.place (document_place site.place.time) result e f (document_told site.table site.place kind) is conduct told
-
--- and reaches the greatest depth from where it stays
-pub document_deep : {A B : Type 0} (w : Relations) (max : ℕ) (old new : Cursor) (result : Result A SerdeError) (e : SerdeError)
-    → result ≡ Err e → Conducts old new result → (IsErrOf result TooDeep → ReachesDepth w max old)
-    → IsErrOf {T = B} {E = SerdeError} (Err e) TooDeep → ReachesDepth w max new
-document_deep {A} {B} w max old new result e is conduct told refused =
-    let fails : ◌≡◌ {A = Result A SerdeError} result (Err TooDeep) = is ∙ ap Err (error_is {B = B} e TooDeep refused) in
-    subst (ReachesDepth w max) (sym (stays_as old new result TooDeep fails conduct)) (told fails)
-
--- `InvalidInput` is no other refusal
-pub is_not_uncarried : {A : Type 0} → IsErrOf {T = A} {E = SerdeError} (Err InvalidInput) NotCarried → ⊥
-is_not_uncarried is = cc
-
-pub is_not_wide : {A : Type 0} → IsErrOf {T = A} {E = SerdeError} (Err InvalidInput) TooWide → ⊥
-is_not_wide is = cc
-
-pub is_not_unsupported : {A : Type 0} → IsErrOf {T = A} {E = SerdeError} (Err InvalidInput) Unsupported → ⊥
-is_not_unsupported is = cc

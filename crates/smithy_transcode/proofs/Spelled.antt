@@ -11,14 +11,9 @@ use Rattle.smithy_cbor_codec.specs.Codec.{strict_settings as strict_cbor}
 use Rattle.smithy_cbor_codec.specs.Settings.{without_limits as without_cbor_limits}
 use Rattle.smithy_cbor_codec.specs.Standing.{cbor_relations}
 use Rattle.smithy_cbor_codec.proofs.SpellingLemmas.{stands_spells as cbor_stands_spells, spells_stands as cbor_spells_stands}
-use Rattle.smithy_transcode.specs.Wires.{Wire, json, cbor, query}
+use Rattle.smithy_transcode.specs.Wires.{Wire, json, cbor, query, IsReadable}
 use Rattle.smithy_transcode.specs.Spelling.{Spells, SpellsWithoutLimits}
 use Rattle.smithy_transcode.specs.Causes.{openers}
-
--- bodies of the wire are read
-abbrev pub IsReadable : Wire → Type 0
-IsReadable (query action version) = ⊥
-IsReadable _ = Unit {0}
 
 -- the relations under which they are: those of CBOR stand for a form, which isn't
 abbrev pub relations_of : Wire → Relations

@@ -20,7 +20,7 @@ use Rattle.smithy_cbor_codec.proofs.WrittenSpelling.{spelled_fits as cbor_fits, 
 use Rattle.smithy_transcode.specs.declared.wire.Unfit.{Unfit}
 use Rattle.smithy_transcode.specs.declared.wire.TranscodeError.{TranscodeError}
 use Rattle.smithy_transcode.specs.declared.wire.TranscodeError.TheVariants.{InvalidInput, TooDeep, TooWide, NotCarried, Inexpressible, NoMemory}
-use Rattle.smithy_transcode.specs.Wires.{Wire, json, cbor, query, wire_of, unfit_at, unfit}
+use Rattle.smithy_transcode.specs.Wires.{Wire, json, cbor, query, IsReadable, wire_of, unfit_at, unfit}
 use Rattle.smithy_transcode.specs.Causes.{openers, IsWide, IsUncarried}
 use Rattle.smithy_transcode.specs.Refusal.{Tells}
 use Rattle.smithy_transcode.specs.Spelling.{Spells, body}
@@ -31,6 +31,7 @@ use Rattle.std.proofs.lemmas.Str.{IsUtf8-string_bytes}
 use Rattle.smithy_transcode.specs.Transcoding.{Transcodes, SpellNothing, SpellNothingWithoutLimits, SpellsAlone, TellsAgain}
 use Rattle.smithy_transcode.specs.Private.Positions.{CanCount}
 use Rattle.smithy_transcode.proofs.Bodies.{all_held, form_tells}
+use Rattle.smithy_transcode.proofs.Counting.{nodes_are_bounded}
 use Rattle.smithy_transcode.proofs.Lists.{fits_or_null}
 
 -- at most one value is spelled
@@ -58,20 +59,35 @@ has_byte_texts wires.Cbor = tt
 has_byte_texts (wires.Query action version) =
     (utf8_bytes (string_bytes action) (IsUtf8-string_bytes action), utf8_bytes (string_bytes version) (IsUtf8-string_bytes version))
 
+-- where the wire is read, the body of what one wire spells spells it again, where its lengths fit into heads
+body_spells : (from to : Wire) (t : Table) (root : ℕ) (i : List ℕ) (v : Value) → IsReadable to → IsAccepted t → Spells from t root i v
+    → unfit to t root v ≡ None → length (body to t root v) < 2 ^ 64 → Spells to t root (body to t root v) v
+body_spells from (json b) t root i v read accepted h fit short =
+    let small = spelled_is_small from t root i v h in
+    canonical_spells b t (shape_place root) whole_view v accepted small.0 (all_held (json b) t root v fit) small.1
+body_spells from cbor t root i v read accepted h fit short =
+    let small = spelled_is_small from t root i v h in
+    cbor_spells_again t root v accepted small.0 (all_held cbor t root v fit) small.1 short
+body_spells from (query action version) t root i v read accepted h fit short = absurd read
+
 spelled_alone : (w : Wire) (t : Table) (root : ℕ) (v : Value) → Spells w t root (body w t root v) v → SpellsAlone w t root (body w t root v) v
 spelled_alone w t root v spells = (spells, λ u other. one_value w t root (body w t root v) u v other spells)
 
--- the body of what one wire spells tells it again in the other, which can express it, where its lengths fit into heads
+-- the body tells the value again in the other wire, which can express it
 body_tells : (from to : Wire) (t : Table) (root : ℕ) (i : List ℕ) (v : Value) → IsAccepted t → IsStructure (kind_of t (shape_place root)) → Spells from t root i v
     → unfit to t root v ≡ None → CanCount to v → HasByteTexts to → length (body to t root v) < 2 ^ 64 → TellsAgain to t root (body to t root v) v
 body_tells from (json b) t root i v accepted kind h fit counts texts short =
-    let small = spelled_is_small from t root i v h in
-    spelled_alone (json b) t root v (canonical_spells b t (shape_place root) whole_view v accepted small.0 (all_held (json b) t root v fit) small.1)
-body_tells from cbor t root i v accepted kind h fit counts texts short =
-    let small = spelled_is_small from t root i v h in
-    spelled_alone cbor t root v (cbor_spells_again t root v accepted small.0 (all_held cbor t root v fit) small.1 short)
+    spelled_alone (json b) t root v (body_spells from (json b) t root i v tt accepted h fit short)
+body_tells from cbor t root i v accepted kind h fit counts texts short = spelled_alone cbor t root v (body_spells from cbor t root i v tt accepted h fit short)
 body_tells from (query action version) t root i v accepted kind h fit counts texts short =
     form_tells action version t root v accepted kind (spelled_is_small from t root i v h).0 counts texts.0 texts.1
+
+-- values that are spelled, and that a wire which is read can express, are equal where their bodies are
+one_body : (from from' to : Wire) (t : Table) (root : ℕ) (i i' : List ℕ) (v u : Value) → IsReadable to → IsAccepted t → Spells from t root i v → Spells from' t root i' u
+    → unfit to t root v ≡ None → unfit to t root u ≡ None → length (body to t root v) < 2 ^ 64 → body to t root v ≡ body to t root u → v ≡ u
+one_body from from' to t root i i' v u read accepted h h' fit fit' short same =
+    let again = body_spells from' to t root i' u read accepted h' fit' (subst (λ bytes. length bytes < 2 ^ 64) same short) in
+    one_value to t root (body to t root v) v u (body_spells from to t root i v read accepted h fit short) (subst (λ bytes. Spells to t root bytes u) (sym same) again)
 
 -- ---- at the schema of the root
 
@@ -102,7 +118,16 @@ no_memory t root from i to = record {
   answers_too_deep = λ h. absurd (let x : Err NoMemory ≡ Err TooDeep = h in cc);
   answers_too_wide = λ h. absurd (let x : Err NoMemory ≡ Err TooWide = h in cc);
   answers_not_carried = λ h. absurd (let x : Err NoMemory ≡ Err NotCarried = h in cc);
+  equal_bodies = λ read. tt;
+  nodes_are_bounded = nodes_are_bounded from t root i;
 }
+
+-- and so is a write that fails, which wants memory
+pub unwritten : (t : Table) (root : ℕ) (from : Wire) (i : List ℕ) (to : Wire) (e : SerdeError) (refusal : TranscodeError) → e ≡ serde.NoMemory → Tells e refusal
+    → Transcodes t root from i to (Err refusal)
+unwritten t root from i to e refusal is tells =
+    let same : refusal ≡ NoMemory = subst (λ x. Tells x refusal) is tells in
+    rw same (no_memory t root from i to)
 
 -- the body of a spelled value is an answer
 pub written : (t : Table) (root : ℕ) (from : Wire) (i : List ℕ) (to : Wire) (v : Value) (out : Vec ℕ Global) → IsAccepted t → IsStructure (kind_of t (shape_place root)) → Spells from t root i v
@@ -124,6 +149,12 @@ written t root from i to v out accepted kind spelled fit counts texts ok short =
   answers_too_deep = λ h. absurd (let e : Ok out ≡ Err TooDeep = h in cc);
   answers_too_wide = λ h. absurd (let e : Ok out ≡ Err TooWide = h in cc);
   answers_not_carried = λ h. absurd (let e : Ok out ≡ Err NotCarried = h in cc);
+  equal_bodies = λ read w u h other fits.
+      let is = one_value from t root i w v h spelled in (
+        λ same. is ∙ one_body from other.0 to t root i other.1 v u read accepted spelled other.2 fit fits (subst (λ bytes. length bytes < 2 ^ 64) ok short) (sym ok ∙ same),
+        λ same. ok ∙ ap (body to t root) (sym is ∙ same),
+      );
+  nodes_are_bounded = nodes_are_bounded from t root i;
 }
 
 -- and so is what the wire can't express of it
@@ -139,6 +170,8 @@ lacking t root from i to v u spelled lack = record {
   answers_too_deep = λ h. absurd (let e : Err (Inexpressible u) ≡ Err TooDeep = h in cc);
   answers_too_wide = λ h. absurd (let e : Err (Inexpressible u) ≡ Err TooWide = h in cc);
   answers_not_carried = λ h. absurd (let e : Err (Inexpressible u) ≡ Err NotCarried = h in cc);
+  equal_bodies = λ read. tt;
+  nodes_are_bounded = nodes_are_bounded from t root i;
 }
 
 -- and so is a refusal of the input
@@ -155,6 +188,8 @@ told t root from i to serde.InvalidInput refusal tells nothing would deep wide u
   answers_too_deep = λ h. absurd (let x : Err InvalidInput ≡ Err TooDeep = h in cc);
   answers_too_wide = λ h. absurd (let x : Err InvalidInput ≡ Err TooWide = h in cc);
   answers_not_carried = λ h. absurd (let x : Err InvalidInput ≡ Err NotCarried = h in cc);
+  equal_bodies = λ read. tt;
+  nodes_are_bounded = nodes_are_bounded from t root i;
 })
 told t root from i to serde.TooDeep refusal tells nothing would deep wide uncarried = rw tells (record {
   answers_ok = tt;
@@ -166,6 +201,8 @@ told t root from i to serde.TooDeep refusal tells nothing would deep wide uncarr
   answers_too_deep = λ h. (nothing tt, deep refl);
   answers_too_wide = λ h. absurd (let x : Err TooDeep ≡ Err TooWide = h in cc);
   answers_not_carried = λ h. absurd (let x : Err TooDeep ≡ Err NotCarried = h in cc);
+  equal_bodies = λ read. tt;
+  nodes_are_bounded = nodes_are_bounded from t root i;
 })
 told t root from i to serde.TooWide refusal tells nothing would deep wide uncarried = rw tells (record {
   answers_ok = tt;
@@ -177,6 +214,8 @@ told t root from i to serde.TooWide refusal tells nothing would deep wide uncarr
   answers_too_deep = λ h. absurd (let x : Err TooWide ≡ Err TooDeep = h in cc);
   answers_too_wide = λ h. (nothing tt, wide refl);
   answers_not_carried = λ h. absurd (let x : Err TooWide ≡ Err NotCarried = h in cc);
+  equal_bodies = λ read. tt;
+  nodes_are_bounded = nodes_are_bounded from t root i;
 })
 told t root from i to serde.NotCarried refusal tells nothing would deep wide uncarried = rw tells (record {
   answers_ok = tt;
@@ -188,6 +227,8 @@ told t root from i to serde.NotCarried refusal tells nothing would deep wide unc
   answers_too_deep = λ h. absurd (let x : Err NotCarried ≡ Err TooDeep = h in cc);
   answers_too_wide = λ h. absurd (let x : Err NotCarried ≡ Err TooWide = h in cc);
   answers_not_carried = λ h. (nothing tt, uncarried refl);
+  equal_bodies = λ read. tt;
+  nodes_are_bounded = nodes_are_bounded from t root i;
 })
 told t root from i to serde.NoMemory refusal tells nothing would deep wide uncarried = rw tells (no_memory t root from i to)
 told t root from i to serde.Unsupported refusal tells nothing would deep wide uncarried = absurd tells

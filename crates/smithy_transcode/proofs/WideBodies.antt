@@ -19,9 +19,9 @@ use Rattle.smithy_cbor_codec.proofs.WideSlices.{wide_slice as cbor_wide_slice, u
 use Rattle.smithy_wire.specs.Frames.{UncarriedAt}
 use Rattle.smithy_wire.specs.Rules.{Rules, wide}
 use Rattle.smithy_wire.specs.Meaning.{IsTooWide}
-use Rattle.smithy_transcode.specs.Wires.{Wire, json, cbor, query}
+use Rattle.smithy_transcode.specs.Wires.{Wire, json, cbor, query, IsReadable}
 use Rattle.smithy_transcode.specs.Causes.{HasWide, HasOtherSeconds, HasNoDocument, IsChildPlace, HasTarget, IsWide, IsUncarried}
-use Rattle.smithy_transcode.proofs.Spelled.{IsReadable, relations_of}
+use Rattle.smithy_transcode.proofs.Spelled.{relations_of}
 use Rattle.smithy_transcode.proofs.ReadWide.{Lying, StandsAs, StandsInside}
 
 -- only a scalar leaves limits

@@ -2,12 +2,14 @@
 pub mod Wires
 pub mod Spelling
 pub mod Causes
-pub mod Transcoding
--- how many values stand in one, for a law on sizes
 pub mod Nodes
+pub mod Transcoding
 -- what the types of the program stand for
 pub mod View
 -- and what its refusals tell
 pub mod Refusal
+-- what a read of a value, and a write of one, say of their answers
+pub mod ReadValue
+pub mod WriteValue
 -- for private clauses
 pub mod Private

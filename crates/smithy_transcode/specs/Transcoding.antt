@@ -1,5 +1,5 @@
 -- What `transcode` promises: the whole statement, for every table, root, pair of wires and input.
-use Rattle.std.specs.Prelude.{◌≡◌, ◌≤◌, ℕ, List, Some, None, Result, Ok, Err, IfOk, IsErrOf}
+use Rattle.std.specs.Prelude.{◌≡◌, ◌≤◌, ◌+◌, ◌↔◌, ℕ, length, List, Some, None, Result, Ok, Err, IfOk, IsErrOf}
 use Rattle.std.specs.declared.vec.Vec.{Vec}
 use Rattle.std.specs.declared.alloc.Global.{Global}
 use Rattle.smithy_schema.specs.Site.{shape_site}
@@ -12,9 +12,10 @@ use Rattle.smithy_query_codec.specs.Distinct.{HaveDistinctPaths, HaveDistinctTex
 use Rattle.smithy_transcode.specs.declared.wire.Unfit.{Unfit}
 use Rattle.smithy_transcode.specs.declared.wire.TranscodeError.{TranscodeError}
 use Rattle.smithy_transcode.specs.declared.wire.TranscodeError.TheVariants.{InvalidInput, TooDeep, TooWide, NotCarried, Inexpressible, NoMemory}
-use Rattle.smithy_transcode.specs.Wires.{Wire, json, cbor, query, unfit}
-use Rattle.smithy_transcode.specs.Spelling.{Spells, SpellsWithoutLimits, body}
+use Rattle.smithy_transcode.specs.Wires.{Wire, json, cbor, query, IsReadable, unfit}
+use Rattle.smithy_transcode.specs.Spelling.{Spells, IsSpelled, SpellsWithoutLimits, body}
 use Rattle.smithy_transcode.specs.Causes.{openers, IsWide, IsUncarried}
+use Rattle.smithy_transcode.specs.Nodes.{nodes}
 
 -- the bytes spell no value of the root
 abbrev pub SpellNothing : Wire → Table → ℕ → List ℕ → Type 0
@@ -87,3 +88,10 @@ pub record Transcodes (table : Table) (root : ℕ) (from : Wire) (input : List �
   pub answers_too_wide : IsErrOf answer TooWide → SpellNothing from table root input × IsWide from table input
   -- and `NotCarried` only where a number of seconds isn't carried as an instant, or a part of a document
   pub answers_not_carried : IsErrOf answer NotCarried → SpellNothing from table root input × IsUncarried from table input
+  -- An output in JSON or CBOR is the body of what any input spells exactly where both spell equal values, so two outputs are
+  -- equal exactly where the values are.
+  pub equal_bodies : IsReadable to → IfOk answer
+      (λ out. (v u : Value) → Spells from table root input v → IsSpelled table root u → unfit to table root u ≡ None
+      → (out.items ≡ body to table root u) ↔ (v ≡ u))
+  -- whatever the answer, what the input spells has at most one part more than the input has bytes
+  pub nodes_are_bounded : (v : Value) → Spells from table root input v → nodes v ≤ length input + 1

@@ -27,6 +27,11 @@ wire_of (wires.Json use_json_name) = json use_json_name
 wire_of wires.Cbor = cbor
 wire_of (wires.Query action version) = query (string_bytes action) (string_bytes version)
 
+-- bodies of the wire are read as well as written: those of JSON and CBOR
+abbrev pub IsReadable : Wire → Type 0
+IsReadable (query action version) = ⊥
+IsReadable _ = Unit {0}
+
 -- null elements have a spelling: in no form
 abbrev pub has_nulls : Wire → Bool
 has_nulls (query action version) = false

@@ -11,8 +11,6 @@ mod nulls;
 mod reading;
 mod refusal;
 mod sorted_entries;
-#[cfg(test)]
-mod tests;
 mod transcoding;
 mod tree;
 mod value;

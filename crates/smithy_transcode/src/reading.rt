@@ -1,8 +1,8 @@
 //! Reading a value tree from any wire.
-ghost use Rattle.std.specs.Prelude.{◌≡◌, ◌↔◌, true, IfOk, IsErrOf};
+ghost use Rattle.std.specs.Prelude.{◌≡◌, true};
 ghost use Rattle.smithy_schema.specs.Table.{type_of, IsStructure, IsUnion, IsList, IsMap};
 ghost use Rattle.smithy_schema.specs.Site.{site_of, kind_at};
-ghost use Rattle.smithy_schema.specs.Reading.{Reads, StandsNot, IsRefused, IsInvalid, ReachesDepth, ExceedsInside, UncarriedInside, IsCounted};
+ghost use Rattle.smithy_transcode.specs.ReadValue.{ReadsValue};
 ghost use Rattle.smithy_transcode.specs.View.{view};
 ghost use Rattle.smithy_transcode.specs.Private.Rare.{IsRare};
 
@@ -19,29 +19,7 @@ pub fn read_value<D: ShapeDeserializer>(
 ) -> Result<Value, SerdeError>
     requires due { (D.state source.old).due ≡ true }
     ensures same { D.settings source.new ≡ D.settings source.old }
-
-    // Ok: a value of the place stands here, and the reader is past it.
-    ensures ok { IfOk result (λ v. Reads (D.wire (D.settings source.old)) (D.state source.old) (D.state source.new) schema.now.shapes.now schema.now.place (view v)) }
-
-    // A refusal: no value of the place stands here; and none would, were the limits lifted.
-    ensures refused { IsRefused result → StandsNot (D.wire (D.settings source.old)) (D.state source.old) schema.now.shapes.now schema.now.place }
-    ensures would { D.is_strict (D.settings source.old) → IsInvalid result → StandsNot (D.lifted (D.settings source.old)) (D.state source.old) schema.now.shapes.now schema.now.place }
-    ensures failed { IsErrOf result SerdeError.Failed ↔ ((D.state source.old).failed ≡ true) }
-    ensures supported { IsErrOf result SerdeError.Unsupported → ⊥ }
-    ensures readable { IsErrOf result SerdeError.Unwritable → ⊥ }
-
-    // `TooDeep`: where the reader failed, the bytes from there on reach the greatest depth.
-    ensures deep { IsErrOf result SerdeError.TooDeep → ReachesDepth (D.wire (D.settings source.old)) (D.max_depth (D.settings source.old)) (D.state source.new) }
-
-    // `TooWide`: where it failed, a big number leaves the limits of the kind that is due there.
-    ensures wide { IsErrOf result SerdeError.TooWide → ExceedsInside (D.wire (D.settings source.old)) (D.state source.old) (D.state source.new) schema.now.shapes.now schema.now.place }
-
-    // `NotCarried`: where it failed stands what the kind that is due there can't carry.
-    ensures uncarried { IsErrOf result SerdeError.NotCarried → UncarriedInside (D.wire (D.settings source.old)) (D.state source.old) (D.state source.new) schema.now.shapes.now schema.now.place }
-
-    // Whatever it answers.
-    ensures input { (D.state source.new).input ≡ (D.state source.old).input }
-    ensures counted { D.is_strict (D.settings source.old) → IsCounted (D.wire (D.settings source.old)) (D.state source.old) → IsCounted (D.wire (D.settings source.old)) (D.state source.new) }
+    ensures reads { let s = D.settings source.old in ReadsValue (D.wire s) (D.lifted s) (D.is_strict s) (D.max_depth s) (D.state source.old) (D.state source.new) (site_of schema.now) view result }
 {
     read_tree::<Value, D>(alloc, source, schema)
 }
@@ -56,17 +34,7 @@ pub(crate) fn read_tree<T: Tree, D: ShapeDeserializer>(
 ) -> Result<T, SerdeError>
     requires due { (D.state source.old).due ≡ true }
     ensures same { D.settings source.new ≡ D.settings source.old }
-    ensures ok { IfOk result (λ v. Reads (D.wire (D.settings source.old)) (D.state source.old) (D.state source.new) schema.now.shapes.now schema.now.place (T.view v)) }
-    ensures refused { IsRefused result → StandsNot (D.wire (D.settings source.old)) (D.state source.old) schema.now.shapes.now schema.now.place }
-    ensures would { D.is_strict (D.settings source.old) → IsInvalid result → StandsNot (D.lifted (D.settings source.old)) (D.state source.old) schema.now.shapes.now schema.now.place }
-    ensures failed { IsErrOf result SerdeError.Failed ↔ ((D.state source.old).failed ≡ true) }
-    ensures supported { IsErrOf result SerdeError.Unsupported → ⊥ }
-    ensures readable { IsErrOf result SerdeError.Unwritable → ⊥ }
-    ensures deep { IsErrOf result SerdeError.TooDeep → ReachesDepth (D.wire (D.settings source.old)) (D.max_depth (D.settings source.old)) (D.state source.new) }
-    ensures wide { IsErrOf result SerdeError.TooWide → ExceedsInside (D.wire (D.settings source.old)) (D.state source.old) (D.state source.new) schema.now.shapes.now schema.now.place }
-    ensures uncarried { IsErrOf result SerdeError.NotCarried → UncarriedInside (D.wire (D.settings source.old)) (D.state source.old) (D.state source.new) schema.now.shapes.now schema.now.place }
-    ensures input { (D.state source.new).input ≡ (D.state source.old).input }
-    ensures counted { D.is_strict (D.settings source.old) → IsCounted (D.wire (D.settings source.old)) (D.state source.old) → IsCounted (D.wire (D.settings source.old)) (D.state source.new) }
+    ensures reads { let s = D.settings source.old in ReadsValue (D.wire s) (D.lifted s) (D.is_strict s) (D.max_depth s) (D.state source.old) (D.state source.new) (site_of schema.now) T.view result }
 {
     match schema.shape_type() {
         ShapeType::Boolean => Ok(T::boolean(source.read_boolean(schema)?)),
@@ -98,17 +66,7 @@ fn read_rare<T: Tree, D: ShapeDeserializer>(
     requires due { (D.state source.old).due ≡ true }
     requires rare { IsRare (type_of (kind_at (site_of schema.now))) }
     ensures same { D.settings source.new ≡ D.settings source.old }
-    ensures ok { IfOk result (λ v. Reads (D.wire (D.settings source.old)) (D.state source.old) (D.state source.new) schema.now.shapes.now schema.now.place (T.view v)) }
-    ensures refused { IsRefused result → StandsNot (D.wire (D.settings source.old)) (D.state source.old) schema.now.shapes.now schema.now.place }
-    ensures would { D.is_strict (D.settings source.old) → IsInvalid result → StandsNot (D.lifted (D.settings source.old)) (D.state source.old) schema.now.shapes.now schema.now.place }
-    ensures failed { IsErrOf result SerdeError.Failed ↔ ((D.state source.old).failed ≡ true) }
-    ensures supported { IsErrOf result SerdeError.Unsupported → ⊥ }
-    ensures readable { IsErrOf result SerdeError.Unwritable → ⊥ }
-    ensures deep { IsErrOf result SerdeError.TooDeep → ReachesDepth (D.wire (D.settings source.old)) (D.max_depth (D.settings source.old)) (D.state source.new) }
-    ensures wide { IsErrOf result SerdeError.TooWide → ExceedsInside (D.wire (D.settings source.old)) (D.state source.old) (D.state source.new) schema.now.shapes.now schema.now.place }
-    ensures uncarried { IsErrOf result SerdeError.NotCarried → UncarriedInside (D.wire (D.settings source.old)) (D.state source.old) (D.state source.new) schema.now.shapes.now schema.now.place }
-    ensures input { (D.state source.new).input ≡ (D.state source.old).input }
-    ensures counted { D.is_strict (D.settings source.old) → IsCounted (D.wire (D.settings source.old)) (D.state source.old) → IsCounted (D.wire (D.settings source.old)) (D.state source.new) }
+    ensures reads { let s = D.settings source.old in ReadsValue (D.wire s) (D.lifted s) (D.is_strict s) (D.max_depth s) (D.state source.old) (D.state source.new) (site_of schema.now) T.view result }
 {
     match schema.shape_type() {
         ShapeType::BigInteger => match source.read_big_integer(schema)?.to_i128() {
@@ -145,17 +103,7 @@ fn read_structure<T: Tree, D: ShapeDeserializer>(
     requires due { (D.state source.old).due ≡ true }
     requires place { IsStructure (kind_at (site_of schema.now)) }
     ensures same { D.settings source.new ≡ D.settings source.old }
-    ensures ok { IfOk result (λ v. Reads (D.wire (D.settings source.old)) (D.state source.old) (D.state source.new) schema.now.shapes.now schema.now.place (T.view v)) }
-    ensures refused { IsRefused result → StandsNot (D.wire (D.settings source.old)) (D.state source.old) schema.now.shapes.now schema.now.place }
-    ensures would { D.is_strict (D.settings source.old) → IsInvalid result → StandsNot (D.lifted (D.settings source.old)) (D.state source.old) schema.now.shapes.now schema.now.place }
-    ensures failed { IsErrOf result SerdeError.Failed ↔ ((D.state source.old).failed ≡ true) }
-    ensures supported { IsErrOf result SerdeError.Unsupported → ⊥ }
-    ensures readable { IsErrOf result SerdeError.Unwritable → ⊥ }
-    ensures deep { IsErrOf result SerdeError.TooDeep → ReachesDepth (D.wire (D.settings source.old)) (D.max_depth (D.settings source.old)) (D.state source.new) }
-    ensures wide { IsErrOf result SerdeError.TooWide → ExceedsInside (D.wire (D.settings source.old)) (D.state source.old) (D.state source.new) schema.now.shapes.now schema.now.place }
-    ensures uncarried { IsErrOf result SerdeError.NotCarried → UncarriedInside (D.wire (D.settings source.old)) (D.state source.old) (D.state source.new) schema.now.shapes.now schema.now.place }
-    ensures input { (D.state source.new).input ≡ (D.state source.old).input }
-    ensures counted { D.is_strict (D.settings source.old) → IsCounted (D.wire (D.settings source.old)) (D.state source.old) → IsCounted (D.wire (D.settings source.old)) (D.state source.new) }
+    ensures reads { let s = D.settings source.old in ReadsValue (D.wire s) (D.lifted s) (D.is_strict s) (D.max_depth s) (D.state source.old) (D.state source.new) (site_of schema.now) T.view result }
 {
     source.open_struct(schema)?;
     let mut members = T::no_members(alloc);
@@ -184,17 +132,7 @@ fn read_union<T: Tree, D: ShapeDeserializer>(
     requires due { (D.state source.old).due ≡ true }
     requires place { IsUnion (kind_at (site_of schema.now)) }
     ensures same { D.settings source.new ≡ D.settings source.old }
-    ensures ok { IfOk result (λ v. Reads (D.wire (D.settings source.old)) (D.state source.old) (D.state source.new) schema.now.shapes.now schema.now.place (T.view v)) }
-    ensures refused { IsRefused result → StandsNot (D.wire (D.settings source.old)) (D.state source.old) schema.now.shapes.now schema.now.place }
-    ensures would { D.is_strict (D.settings source.old) → IsInvalid result → StandsNot (D.lifted (D.settings source.old)) (D.state source.old) schema.now.shapes.now schema.now.place }
-    ensures failed { IsErrOf result SerdeError.Failed ↔ ((D.state source.old).failed ≡ true) }
-    ensures supported { IsErrOf result SerdeError.Unsupported → ⊥ }
-    ensures readable { IsErrOf result SerdeError.Unwritable → ⊥ }
-    ensures deep { IsErrOf result SerdeError.TooDeep → ReachesDepth (D.wire (D.settings source.old)) (D.max_depth (D.settings source.old)) (D.state source.new) }
-    ensures wide { IsErrOf result SerdeError.TooWide → ExceedsInside (D.wire (D.settings source.old)) (D.state source.old) (D.state source.new) schema.now.shapes.now schema.now.place }
-    ensures uncarried { IsErrOf result SerdeError.NotCarried → UncarriedInside (D.wire (D.settings source.old)) (D.state source.old) (D.state source.new) schema.now.shapes.now schema.now.place }
-    ensures input { (D.state source.new).input ≡ (D.state source.old).input }
-    ensures counted { D.is_strict (D.settings source.old) → IsCounted (D.wire (D.settings source.old)) (D.state source.old) → IsCounted (D.wire (D.settings source.old)) (D.state source.new) }
+    ensures reads { let s = D.settings source.old in ReadsValue (D.wire s) (D.lifted s) (D.is_strict s) (D.max_depth s) (D.state source.old) (D.state source.new) (site_of schema.now) T.view result }
 {
     source.open_struct(schema)?;
     let Step::Member(member) = source.next_member(schema)? else {
@@ -222,17 +160,7 @@ fn read_list<T: Tree, D: ShapeDeserializer>(
     requires due { (D.state source.old).due ≡ true }
     requires place { IsList (kind_at (site_of schema.now)) }
     ensures same { D.settings source.new ≡ D.settings source.old }
-    ensures ok { IfOk result (λ v. Reads (D.wire (D.settings source.old)) (D.state source.old) (D.state source.new) schema.now.shapes.now schema.now.place (T.view v)) }
-    ensures refused { IsRefused result → StandsNot (D.wire (D.settings source.old)) (D.state source.old) schema.now.shapes.now schema.now.place }
-    ensures would { D.is_strict (D.settings source.old) → IsInvalid result → StandsNot (D.lifted (D.settings source.old)) (D.state source.old) schema.now.shapes.now schema.now.place }
-    ensures failed { IsErrOf result SerdeError.Failed ↔ ((D.state source.old).failed ≡ true) }
-    ensures supported { IsErrOf result SerdeError.Unsupported → ⊥ }
-    ensures readable { IsErrOf result SerdeError.Unwritable → ⊥ }
-    ensures deep { IsErrOf result SerdeError.TooDeep → ReachesDepth (D.wire (D.settings source.old)) (D.max_depth (D.settings source.old)) (D.state source.new) }
-    ensures wide { IsErrOf result SerdeError.TooWide → ExceedsInside (D.wire (D.settings source.old)) (D.state source.old) (D.state source.new) schema.now.shapes.now schema.now.place }
-    ensures uncarried { IsErrOf result SerdeError.NotCarried → UncarriedInside (D.wire (D.settings source.old)) (D.state source.old) (D.state source.new) schema.now.shapes.now schema.now.place }
-    ensures input { (D.state source.new).input ≡ (D.state source.old).input }
-    ensures counted { D.is_strict (D.settings source.old) → IsCounted (D.wire (D.settings source.old)) (D.state source.old) → IsCounted (D.wire (D.settings source.old)) (D.state source.new) }
+    ensures reads { let s = D.settings source.old in ReadsValue (D.wire s) (D.lifted s) (D.is_strict s) (D.max_depth s) (D.state source.old) (D.state source.new) (site_of schema.now) T.view result }
 {
     source.open_list(schema)?;
     let sparse = schema.is_sparse();
@@ -262,17 +190,7 @@ fn read_map<T: Tree, D: ShapeDeserializer>(
     requires due { (D.state source.old).due ≡ true }
     requires place { IsMap (kind_at (site_of schema.now)) }
     ensures same { D.settings source.new ≡ D.settings source.old }
-    ensures ok { IfOk result (λ v. Reads (D.wire (D.settings source.old)) (D.state source.old) (D.state source.new) schema.now.shapes.now schema.now.place (T.view v)) }
-    ensures refused { IsRefused result → StandsNot (D.wire (D.settings source.old)) (D.state source.old) schema.now.shapes.now schema.now.place }
-    ensures would { D.is_strict (D.settings source.old) → IsInvalid result → StandsNot (D.lifted (D.settings source.old)) (D.state source.old) schema.now.shapes.now schema.now.place }
-    ensures failed { IsErrOf result SerdeError.Failed ↔ ((D.state source.old).failed ≡ true) }
-    ensures supported { IsErrOf result SerdeError.Unsupported → ⊥ }
-    ensures readable { IsErrOf result SerdeError.Unwritable → ⊥ }
-    ensures deep { IsErrOf result SerdeError.TooDeep → ReachesDepth (D.wire (D.settings source.old)) (D.max_depth (D.settings source.old)) (D.state source.new) }
-    ensures wide { IsErrOf result SerdeError.TooWide → ExceedsInside (D.wire (D.settings source.old)) (D.state source.old) (D.state source.new) schema.now.shapes.now schema.now.place }
-    ensures uncarried { IsErrOf result SerdeError.NotCarried → UncarriedInside (D.wire (D.settings source.old)) (D.state source.old) (D.state source.new) schema.now.shapes.now schema.now.place }
-    ensures input { (D.state source.new).input ≡ (D.state source.old).input }
-    ensures counted { D.is_strict (D.settings source.old) → IsCounted (D.wire (D.settings source.old)) (D.state source.old) → IsCounted (D.wire (D.settings source.old)) (D.state source.new) }
+    ensures reads { let s = D.settings source.old in ReadsValue (D.wire s) (D.lifted s) (D.is_strict s) (D.max_depth s) (D.state source.old) (D.state source.new) (site_of schema.now) T.view result }
 {
     source.open_map(schema)?;
     let sparse = schema.is_sparse();

@@ -1,12 +1,11 @@
 //! Writing a value to any wire.
-ghost use Rattle.std.specs.Prelude.{◌≡◌, ◌↔◌, map as mapped, true, OnOk, IfErr, IsErr, IsErrOf, Ok, Err};
-ghost use Rattle.smithy_schema.specs.declared.error.SerdeError.TheVariants.{Failed};
+ghost use Rattle.std.specs.Prelude.{◌≡◌, map as mapped, true};
 ghost use Rattle.smithy_schema.specs.Fits.{FitsOr, is_scalar_of};
-ghost use Rattle.smithy_schema.specs.Reading.{IsFault};
 ghost use Rattle.smithy_schema.specs.Site.{site_of, kind_at};
 ghost use Rattle.smithy_schema.specs.Value.{whole, list, map, structure, union, values_of};
 ghost use Rattle.smithy_schema.specs.Writing.{write, scalar_of};
 ghost use Rattle.smithy_transcode.specs.View.{view};
+ghost use Rattle.smithy_transcode.specs.WriteValue.{WritesValue};
 ghost use Rattle.smithy_transcode.specs.Private.Tree.{entries as entries_of, entry_views, member_views, whole_values, part_view, union_value_view};
 
 use crate::entries::Entries;
@@ -25,10 +24,7 @@ pub fn write_value<S: ShapeSerializer>(
     value: &Value,
 ) -> Result<(), SerdeError>
     requires fits { FitsOr schema.now.shapes.now schema.now.place true (view value.now) }
-    ensures failed { IsErrOf result Failed ↔ (S.failed sink.old ≡ true) }
-    ensures broken { IsErr result ↔ (S.failed sink.new ≡ true) }
-    ensures ok { OnOk result (write S.after (site_of schema.now) (view value.now) (S.state sink.old) ≡ Ok (S.state sink.new)) }
-    ensures refused { IfErr result (λ e. IsFault e → write S.after (site_of schema.now) (view value.now) (S.state sink.old) ≡ Err e) }
+    ensures writes { WritesValue (write S.after (site_of schema.now) (view value.now) (S.state sink.old)) (S.failed sink.old) (S.failed sink.new) (S.state sink.new) result }
 {
     write_part::<Value, S>(alloc, sink, schema, &value.part())
 }
@@ -43,10 +39,7 @@ pub(crate) fn write_part<T: Tree, S: ShapeSerializer>(
     part: &Part<'_, T>,
 ) -> Result<(), SerdeError>
     requires fits { FitsOr schema.now.shapes.now schema.now.place true (part_view T.view part.now) }
-    ensures failed { IsErrOf result Failed ↔ (S.failed sink.old ≡ true) }
-    ensures broken { IsErr result ↔ (S.failed sink.new ≡ true) }
-    ensures ok { OnOk result (write S.after (site_of schema.now) (part_view T.view part.now) (S.state sink.old) ≡ Ok (S.state sink.new)) }
-    ensures refused { IfErr result (λ e. IsFault e → write S.after (site_of schema.now) (part_view T.view part.now) (S.state sink.old) ≡ Err e) }
+    ensures writes { WritesValue (write S.after (site_of schema.now) (part_view T.view part.now) (S.state sink.old)) (S.failed sink.old) (S.failed sink.new) (S.state sink.new) result }
 {
     match part {
         Part::Boolean(value) => sink.write_boolean(schema, *value),
@@ -72,10 +65,7 @@ fn write_whole<S: ShapeSerializer>(
     number: i128,
 ) -> Result<(), SerdeError>
     requires fits { is_scalar_of (kind_at (site_of schema.now)) (whole number) ≡ true }
-    ensures failed { IsErrOf result Failed ↔ (S.failed sink.old ≡ true) }
-    ensures broken { IsErr result ↔ (S.failed sink.new ≡ true) }
-    ensures ok { OnOk result (S.after (scalar_of (site_of schema.now) (whole number)) (S.state sink.old) ≡ Ok (S.state sink.new)) }
-    ensures refused { IfErr result (λ e. IsFault e → S.after (scalar_of (site_of schema.now) (whole number)) (S.state sink.old) ≡ Err e) }
+    ensures writes { WritesValue (S.after (scalar_of (site_of schema.now) (whole number)) (S.state sink.old)) (S.failed sink.old) (S.failed sink.new) (S.state sink.new) result }
 {
     match schema.shape_type() {
         ShapeType::Byte => sink.write_byte(schema, number as i8),
@@ -105,10 +95,7 @@ fn write_list<T: Tree, S: ShapeSerializer>(
     elements: &[T],
 ) -> Result<(), SerdeError>
     requires fits { FitsOr schema.now.shapes.now schema.now.place true (list (values_of (mapped T.view elements.now))) }
-    ensures failed { IsErrOf result Failed ↔ (S.failed sink.old ≡ true) }
-    ensures broken { IsErr result ↔ (S.failed sink.new ≡ true) }
-    ensures ok { OnOk result (write S.after (site_of schema.now) (list (values_of (mapped T.view elements.now))) (S.state sink.old) ≡ Ok (S.state sink.new)) }
-    ensures refused { IfErr result (λ e. IsFault e → write S.after (site_of schema.now) (list (values_of (mapped T.view elements.now))) (S.state sink.old) ≡ Err e) }
+    ensures writes { WritesValue (write S.after (site_of schema.now) (list (values_of (mapped T.view elements.now))) (S.state sink.old)) (S.failed sink.old) (S.failed sink.new) (S.state sink.new) result }
 {
     let Some(member) = schema.member() else {
         unreachable!()
@@ -129,10 +116,7 @@ fn write_wholes<S: ShapeSerializer>(
     numbers: &[i64],
 ) -> Result<(), SerdeError>
     requires fits { FitsOr schema.now.shapes.now schema.now.place true (list (values_of (whole_values numbers.now))) }
-    ensures failed { IsErrOf result Failed ↔ (S.failed sink.old ≡ true) }
-    ensures broken { IsErr result ↔ (S.failed sink.new ≡ true) }
-    ensures ok { OnOk result (write S.after (site_of schema.now) (list (values_of (whole_values numbers.now))) (S.state sink.old) ≡ Ok (S.state sink.new)) }
-    ensures refused { IfErr result (λ e. IsFault e → write S.after (site_of schema.now) (list (values_of (whole_values numbers.now))) (S.state sink.old) ≡ Err e) }
+    ensures writes { WritesValue (write S.after (site_of schema.now) (list (values_of (whole_values numbers.now))) (S.state sink.old)) (S.failed sink.old) (S.failed sink.new) (S.state sink.new) result }
 {
     let Some(member) = schema.member() else {
         unreachable!()
@@ -154,10 +138,7 @@ fn write_structure<T: Tree, S: ShapeSerializer>(
     members: &Entries<'_, u32, T>,
 ) -> Result<(), SerdeError>
     requires fits { FitsOr schema.now.shapes.now schema.now.place true (structure (member_views T.view (entries_of members.now))) }
-    ensures failed { IsErrOf result Failed ↔ (S.failed sink.old ≡ true) }
-    ensures broken { IsErr result ↔ (S.failed sink.new ≡ true) }
-    ensures ok { OnOk result (write S.after (site_of schema.now) (structure (member_views T.view (entries_of members.now))) (S.state sink.old) ≡ Ok (S.state sink.new)) }
-    ensures refused { IfErr result (λ e. IsFault e → write S.after (site_of schema.now) (structure (member_views T.view (entries_of members.now))) (S.state sink.old) ≡ Err e) }
+    ensures writes { WritesValue (write S.after (site_of schema.now) (structure (member_views T.view (entries_of members.now))) (S.state sink.old)) (S.failed sink.old) (S.failed sink.new) (S.state sink.new) result }
 {
     sink.begin_struct(schema)?;
     let mut left = members.iter();
@@ -180,10 +161,7 @@ fn write_union<T: Tree, S: ShapeSerializer>(
     value: &UnionValue<'_, T>,
 ) -> Result<(), SerdeError>
     requires fits { FitsOr schema.now.shapes.now schema.now.place true (union index (union_value_view T.view value.now)) }
-    ensures failed { IsErrOf result Failed ↔ (S.failed sink.old ≡ true) }
-    ensures broken { IsErr result ↔ (S.failed sink.new ≡ true) }
-    ensures ok { OnOk result (write S.after (site_of schema.now) (union index (union_value_view T.view value.now)) (S.state sink.old) ≡ Ok (S.state sink.new)) }
-    ensures refused { IfErr result (λ e. IsFault e → write S.after (site_of schema.now) (union index (union_value_view T.view value.now)) (S.state sink.old) ≡ Err e) }
+    ensures writes { WritesValue (write S.after (site_of schema.now) (union index (union_value_view T.view value.now)) (S.state sink.old)) (S.failed sink.old) (S.failed sink.new) (S.state sink.new) result }
 {
     let Some(member) = schema.member_at(index) else {
         unreachable!()
@@ -202,10 +180,7 @@ fn write_map<T: Tree, S: ShapeSerializer>(
     entries: &Entries<'_, String, T>,
 ) -> Result<(), SerdeError>
     requires fits { FitsOr schema.now.shapes.now schema.now.place true (map (entry_views T.view (entries_of entries.now))) }
-    ensures failed { IsErrOf result Failed ↔ (S.failed sink.old ≡ true) }
-    ensures broken { IsErr result ↔ (S.failed sink.new ≡ true) }
-    ensures ok { OnOk result (write S.after (site_of schema.now) (map (entry_views T.view (entries_of entries.now))) (S.state sink.old) ≡ Ok (S.state sink.new)) }
-    ensures refused { IfErr result (λ e. IsFault e → write S.after (site_of schema.now) (map (entry_views T.view (entries_of entries.now))) (S.state sink.old) ≡ Err e) }
+    ensures writes { WritesValue (write S.after (site_of schema.now) (map (entry_views T.view (entries_of entries.now))) (S.state sink.old)) (S.failed sink.old) (S.failed sink.new) (S.state sink.new) result }
 {
     let Some(key_schema) = schema.key() else {
         unreachable!()

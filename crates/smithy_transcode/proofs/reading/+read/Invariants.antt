@@ -1,10 +1,10 @@
 use Rattle.std.proofs.Common.{◌≡◌, ◌+◌, ◌*◌, ◌-◌}
-use Rattle.smithy_schema.specs.Reading.{depth, in_structure, in_list, in_map, IsCounted}
+use Rattle.smithy_schema.specs.Reading.{depth, in_structure, in_list, in_map}
 use Rattle.smithy_schema.specs.Table.{kind_of, is_sparse}
 use Rattle.smithy_transcode.proofs.ReadStructures.{structure_value}
 use Rattle.smithy_transcode.proofs.ReadLists.{list_value}
 use Rattle.smithy_transcode.proofs.ReadMaps.{map_value}
-use Rattle.smithy_transcode.proofs.ReadContainers.{InContainer}
+use Rattle.smithy_transcode.proofs.HalfRead.{HalfRead}
 use Rattle.smithy_transcode.proofs.reading.+read.Given as goal
 
 -- twice the containers that may still be opened
@@ -25,9 +25,7 @@ invariant-read_structure-loop-members g l =
     let c = d.settings l.fn.source in
     record {
       same : d.settings l.source ≡ d.settings l.fn.source;
-      inside : InContainer (d.wire c) (d.wire c) (d.max_depth c) (d.state l.fn.source) (d.state l.source) l.schema.shapes.now l.schema.place in_structure (structure_value (g.T.Tree.view_members l.members));
-      would : InContainer (d.wire c) (d.lifted c) (d.max_depth c) (d.state l.fn.source) (d.state l.source) l.schema.shapes.now l.schema.place in_structure (structure_value (g.T.Tree.view_members l.members));
-      counted : d.is_strict c → IsCounted (d.wire c) (d.state l.fn.source) → IsCounted (d.wire c) (d.state l.source);
+      half : HalfRead (d.wire c) (d.lifted c) (d.is_strict c) (d.max_depth c) (d.state l.fn.source) (d.state l.source) l.schema.shapes.now l.schema.place in_structure (structure_value (g.T.Tree.view_members l.members));
     }
 
 abbrev pub decreases-read_structure-loop-members : goal.decreases-read_structure-loop-members
@@ -48,9 +46,7 @@ invariant-read_list-loop-elements g l =
     let c = d.settings l.fn.source in
     record {
       same : d.settings l.source ≡ d.settings l.fn.source;
-      inside : InContainer (d.wire c) (d.wire c) (d.max_depth c) (d.state l.fn.source) (d.state l.source) l.schema.shapes.now l.schema.place in_list (list_value (is_sparse (kind_of l.schema.shapes.now l.schema.place)) (g.T.Tree.view_elements l.elements));
-      would : InContainer (d.wire c) (d.lifted c) (d.max_depth c) (d.state l.fn.source) (d.state l.source) l.schema.shapes.now l.schema.place in_list (list_value (is_sparse (kind_of l.schema.shapes.now l.schema.place)) (g.T.Tree.view_elements l.elements));
-      counted : d.is_strict c → IsCounted (d.wire c) (d.state l.fn.source) → IsCounted (d.wire c) (d.state l.source);
+      half : HalfRead (d.wire c) (d.lifted c) (d.is_strict c) (d.max_depth c) (d.state l.fn.source) (d.state l.source) l.schema.shapes.now l.schema.place in_list (list_value (is_sparse (kind_of l.schema.shapes.now l.schema.place)) (g.T.Tree.view_elements l.elements));
     }
 
 abbrev pub decreases-read_list-loop-elements : goal.decreases-read_list-loop-elements
@@ -76,9 +72,7 @@ invariant-read_map-loop-entries g l =
     let c = d.settings l.fn.source in
     record {
       same : d.settings l.source ≡ d.settings l.fn.source;
-      inside : InContainer (d.wire c) (d.wire c) (d.max_depth c) (d.state l.fn.source) (d.state l.source) l.schema.shapes.now l.schema.place in_map (map_value (is_sparse (kind_of l.schema.shapes.now l.schema.place)) (g.T.Tree.view_entries l.entries));
-      would : InContainer (d.wire c) (d.lifted c) (d.max_depth c) (d.state l.fn.source) (d.state l.source) l.schema.shapes.now l.schema.place in_map (map_value (is_sparse (kind_of l.schema.shapes.now l.schema.place)) (g.T.Tree.view_entries l.entries));
-      counted : d.is_strict c → IsCounted (d.wire c) (d.state l.fn.source) → IsCounted (d.wire c) (d.state l.source);
+      half : HalfRead (d.wire c) (d.lifted c) (d.is_strict c) (d.max_depth c) (d.state l.fn.source) (d.state l.source) l.schema.shapes.now l.schema.place in_map (map_value (is_sparse (kind_of l.schema.shapes.now l.schema.place)) (g.T.Tree.view_entries l.entries));
     }
 
 abbrev pub decreases-read_map-loop-entries : goal.decreases-read_map-loop-entries

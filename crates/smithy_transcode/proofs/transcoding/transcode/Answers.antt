@@ -1,6 +1,6 @@
 use Rattle.smithy_transcode.specs.Private.Tree.{compact_view as view}
 use Rattle.smithy_transcode.specs.Wires.{wire_of}
-use Rattle.smithy_transcode.proofs.Transcodings.{spelled_is_small, fits_at_root, unfit_at_root, has_byte_texts, written, lacking, refused}
+use Rattle.smithy_transcode.proofs.Transcodings.{spelled_is_small, fits_at_root, unfit_at_root, has_byte_texts, unwritten, written, lacking, refused}
 use Rattle.smithy_transcode.proofs.transcoding.transcode.Goals as goal
 
 pub returns-in-Err : goal.returns-in-Err
@@ -38,3 +38,8 @@ returns-in-Ok-write_body c =
     c.in-Ok.ensures.accepted c.requires.root c.in-Ok.ensures.ok
     (unfit_at_root (wire_of c.args.to.now) c.schema.result c.args.shapes.now c.args.root.0 (view c.in-Ok.value) c.unfit.result _ c.schema.ensures.site c.unfit.ensures.unfit c.in_default.is) (c.unfit.ensures.positions c.in_default.is)
     (has_byte_texts c.args.to.now) c.in-Ok-write_body.ensures.ok c.in-Ok-write_body.ensures.short
+
+pub returns : goal.returns
+returns c =
+    unwritten c.args.shapes.now c.args.root.0 (wire_of c.args.from.now) c.args.input.now (wire_of c.args.to.now) c.in-Err-write_body.error c.refusal-in-Err-write_body.result
+    c.in-Err-write_body.ensures.err c.refusal-in-Err-write_body.ensures

@@ -33,6 +33,7 @@ invariant-write_list-loop-element g l =
     let all = mapped g.T.Tree.view l.elements in
     let now = mapped g.T.Tree.view (drop l.element-index l.elements) in
     record {
+      before : sink.failed l.fn.sink ≡ false;
       failed : sink.failed l.sink ≡ false;
       rest : write sink.after site (list (values_of all)) (sink.state l.fn.sink)
           ≡ run sink.after (list_rest site now) (sink.state l.sink);
@@ -48,6 +49,7 @@ invariant-write_structure-loop-position g l =
     let all = member_views g.T.Tree.view (entries l.members) in
     let now = member_views g.T.Tree.view (entries_left l.left) in
     record {
+      before : sink.failed l.fn.sink ≡ false;
       failed : sink.failed l.sink ≡ false;
       rest : write sink.after site (structure all) (sink.state l.fn.sink)
           ≡ run sink.after (structure_rest site now) (sink.state l.sink);
@@ -66,6 +68,7 @@ invariant-write_map-loop-key g l =
     let all = entry_views g.T.Tree.view (entries l.entries) in
     let now = entry_views g.T.Tree.view (entries_left l.left) in
     record {
+      before : sink.failed l.fn.sink ≡ false;
       failed : sink.failed l.sink ≡ false;
       rest : write sink.after site (map all) (sink.state l.fn.sink)
           ≡ run sink.after (map_rest site now) (sink.state l.sink);

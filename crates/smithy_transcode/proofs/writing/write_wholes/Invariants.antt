@@ -14,6 +14,7 @@ invariant-loop-number g l =
     let site = site_of l.schema in
     let now = whole_values (drop l.number-index l.numbers) in
     record {
+      before : sink.failed l.fn.sink ≡ false;
       failed : sink.failed l.sink ≡ false;
       rest : write sink.after site (list (values_of (whole_values l.numbers))) (sink.state l.fn.sink)
           ≡ run sink.after (list_rest site now) (sink.state l.sink);

@@ -1,190 +1,198 @@
 -- Answers on lists.
-use Rattle.std.proofs.Common.{None, false, refl, rules, sym, true, ◌∙◌, ◌≡◌}
+use Rattle.std.proofs.Common.{None, false, refl, sym, true, ◌∙◌, ◌≡◌}
 use Rattle.std.proofs.lemmas.Result.{err_from_is_err_and}
+use Rattle.smithy_schema.specs.Site.{site_of}
 use Rattle.smithy_schema.specs.Table.{kind_of}
 use Rattle.smithy_schema.specs.Reading.{child_null}
-use Rattle.smithy_schema.proofs.CountLemmas.{value_counted, null_counted, entry_counted, step_counted}
-use Rattle.smithy_transcode.proofs.ReadContainers.{itself, left_falls, end, stuck}
-use Rattle.smithy_transcode.proofs.ReadLists.{IsNoNull, begin_list, element_falls, element_read, null_read, element_refused, null_refused, element_place}
-use Rattle.smithy_transcode.proofs.ReadWide.{inside_child}
+use Rattle.smithy_transcode.proofs.ReadContainers.{left_falls}
+use Rattle.smithy_transcode.proofs.ReadLists.{IsNoNull, element_falls, element_place, list_contains}
+use Rattle.smithy_transcode.proofs.ReadAnswers.{obeyed, open_fails, memory_fails}
+use Rattle.smithy_transcode.proofs.HalfRead.{stepped_to, value_passed, goes_no_further, ends_whole}
+use Rattle.smithy_transcode.proofs.HalfElements.{list_entered, element_passed, element_fails, null_passed, null_fails}
 use Rattle.smithy_transcode.proofs.reading.+read.Goals as goal
 use Rattle.smithy_transcode.proofs.reading.+read.Goals.{read_list-else-sparse-via-then-sparse+else-is_null, read_list-else-sparse-via-else-sparse}
 
--- the list was entered
+-- the list can not be entered
+pub read_list-returns-in_err-open_list-clause-reads : goal.read_list-returns-in_err-open_list-clause-reads
+read_list-returns-in_err-open_list-clause-reads g t c =
+    let d = g.met.D.ShapeDeserializer in
+    let s0 = g.D.ShapeDeserializer.settings c.args.source.now in
+    let told = c.in_err-open_list.ensures in
+    let p = err_from_is_err_and c.from_residual.result c.from_residual.ensures.1 in
+    rw (p.1, p.2)
+    (open_fails _ _ _ _ g.T.Tree.view (site_of c.args.schema.now) _ _ _ (d.lawful s0) (d.lifted_lawful s0) (list_contains _ c.requires.place) c.requires.due told.conduct told.narrow told.refused told.would told.deepest)
+
+-- it was entered
 pub read_list-loop-elements-init : goal.read_list-loop-elements-init
 read_list-loop-elements-init g t c =
     let d = g.met.D.ShapeDeserializer in
     let s0 = g.D.ShapeDeserializer.settings c.args.source.now in
-    let laws = d.lawful s0 in
+    let laws = obeyed _ _ _ (d.lawful s0) (d.lifted_lawful s0) (d.above s0) (d.counts s0) in
+    let outer = site_of c.args.schema.now in
     record {
       same = c.open_list.ensures.same;
-      inside = rw c.no_elements-elements.ensures (begin_list _ _ _ laws laws (itself _) _ _ _ _ c.requires.place c.in_ok-open_list.ensures.ok);
-      would = rw c.no_elements-elements.ensures (begin_list _ _ _ laws (d.lifted_lawful s0) (d.above s0) _ _ _ _ c.requires.place c.in_ok-open_list.ensures.ok);
-      counted = λ strict before. entry_counted _ (d.counts s0 strict) _ _ _ _ _ _ c.in_ok-open_list.ensures.ok before;
+      half = rw c.no_elements-elements.ensures (list_entered _ _ _ _ laws outer _ _ _ c.requires.place c.in_ok-open_list.ensures.conduct c.in_ok-open_list.ensures.ok);
     }
 
--- the list can not go on
-pub read_list-returns-in_err-next_element-clause-refused : goal.read_list-returns-in_err-next_element-clause-refused
-read_list-returns-in_err-next_element-clause-refused g t c =
-    let inside = c.loop-elements.invariant.inside in
-    let p = err_from_is_err_and c.from_residual-in_err-next_element.result c.from_residual-in_err-next_element.ensures.1 in
-    rw (p.1, p.2)
-    (λ refused. stuck _ _ _ _ _ _ _ _ _ inside (rw c.loop-elements.invariant.same at (c.in_err-next_element.ensures.refused refused inside.due c.args.schema.now.shapes.now c.args.schema.now.place c.requires.place)))
-
-pub read_list-returns-in_err-next_element-clause-would : goal.read_list-returns-in_err-next_element-clause-would
-read_list-returns-in_err-next_element-clause-would g t c =
-    let inside = c.loop-elements.invariant.inside in
-    let p = err_from_is_err_and c.from_residual-in_err-next_element.result c.from_residual-in_err-next_element.ensures.1 in
-    rw (p.1, p.2)
-    (λ strict refused. stuck _ _ _ _ _ _ _ _ _ c.loop-elements.invariant.would (rw c.loop-elements.invariant.same at (c.in_err-next_element.ensures.would (rw c.loop-elements.invariant.same strict) refused inside.due c.args.schema.now.shapes.now c.args.schema.now.place c.requires.place)))
-
--- a null element was refused
-pub read_list-returns-in_err-read_null-clause-refused : goal.read_list-returns-in_err-read_null-clause-refused
-read_list-returns-in_err-read_null-clause-refused g t c =
-    let inside = c.loop-elements.invariant.inside in
-    let step = rw (c.if-branch.true, c.loop-elements.invariant.same) at (c.in_ok-next_element.ensures.ok inside.due c.args.schema.now.shapes.now c.args.schema.now.place c.requires.place) in
-    let place = element_place c.args.schema.now c.in-Some.element c.requires.place c.in-Some.ensures in
-    let begins = rw (c.next_element.ensures.same, c.loop-elements.invariant.same) at (sym c.is_null.ensures ∙ c.if-is_null.true) in
-    let p = err_from_is_err_and c.from_residual-in_err-read_null.result c.from_residual-in_err-read_null.ensures.1 in
-    rw (p.1, p.2)
-    (λ refused. null_refused _ _ _ (g.met.D.ShapeDeserializer.lawful (g.D.ShapeDeserializer.settings c.args.source.now)) (itself _) _ _ _ _ _ _ _ c.requires.place inside step place.1 (c.is_sparse-sparse.ensures.0 c.if-sparse.true) begins
-    (rw (c.next_element.ensures.same, c.loop-elements.invariant.same) at (c.in_err-read_null.ensures.refused (sym c.is_null.ensures ∙ c.if-is_null.true) refused)))
-
-pub read_list-returns-in_err-read_null-clause-would : goal.read_list-returns-in_err-read_null-clause-would
-read_list-returns-in_err-read_null-clause-would g t c =
+-- it can not go on
+pub read_list-returns-in_err-next_element-clause-reads : goal.read_list-returns-in_err-next_element-clause-reads
+read_list-returns-in_err-next_element-clause-reads g t c =
     let d = g.met.D.ShapeDeserializer in
     let s0 = g.D.ShapeDeserializer.settings c.args.source.now in
-    let inside = c.loop-elements.invariant.inside in
-    let step = rw (c.if-branch.true, c.loop-elements.invariant.same) at (c.in_ok-next_element.ensures.ok inside.due c.args.schema.now.shapes.now c.args.schema.now.place c.requires.place) in
+    let laws = obeyed _ _ _ (d.lawful s0) (d.lifted_lawful s0) (d.above s0) (d.counts s0) in
+    let outer = site_of c.args.schema.now in
+    let half = c.loop-elements.invariant.half in
+    let same = c.loop-elements.invariant.same in
+    let told = c.in_err-next_element.ensures in
+    let p = err_from_is_err_and c.from_residual-in_err-next_element.result c.from_residual-in_err-next_element.ensures.1 in
+    rw (p.1, p.2)
+    (goes_no_further _ _ _ _ laws g.T.Tree.view outer _ _ _ _ _ _ half told.conduct told.narrow (λ is. absurd (told.shallow is))
+    (λ fault due. rw same at (told.refused fault due c.args.schema.now.shapes.now c.args.schema.now.place c.requires.place))
+    (λ strict invalid due. rw same at (told.would (rw same strict) invalid due c.args.schema.now.shapes.now c.args.schema.now.place c.requires.place)))
+
+-- a null was refused
+pub read_list-returns-in_err-read_null-clause-reads : goal.read_list-returns-in_err-read_null-clause-reads
+read_list-returns-in_err-read_null-clause-reads g t c =
+    let d = g.met.D.ShapeDeserializer in
+    let s0 = g.D.ShapeDeserializer.settings c.args.source.now in
+    let laws = obeyed _ _ _ (d.lawful s0) (d.lifted_lawful s0) (d.above s0) (d.counts s0) in
+    let outer = site_of c.args.schema.now in
+    let half = c.loop-elements.invariant.half in
+    let same = c.loop-elements.invariant.same in
+    let step = rw (c.if-branch.true, same) at (c.in_ok-next_element.ensures.ok half.kept.due c.args.schema.now.shapes.now c.args.schema.now.place c.requires.place) in
     let place = element_place c.args.schema.now c.in-Some.element c.requires.place c.in-Some.ensures in
-    let begins = rw (c.next_element.ensures.same, c.loop-elements.invariant.same) at (sym c.is_null.ensures ∙ c.if-is_null.true) in
+    let begins = sym c.is_null.ensures ∙ c.if-is_null.true in
+    let told = c.in_err-read_null.ensures in
     let p = err_from_is_err_and c.from_residual-in_err-read_null.result c.from_residual-in_err-read_null.ensures.1 in
     rw (p.1, p.2)
-    (λ strict refused. null_refused _ _ _ (d.lifted_lawful s0) (d.above s0) _ _ _ _ _ _ _ c.requires.place c.loop-elements.invariant.would step place.1 (c.is_sparse-sparse.ensures.0 c.if-sparse.true) begins
-    (rw (c.next_element.ensures.same, c.loop-elements.invariant.same) at (c.in_err-read_null.ensures.would (rw (c.next_element.ensures.same, c.loop-elements.invariant.same) strict) (sym c.is_null.ensures ∙ c.if-is_null.true) refused)))
+    (null_fails _ _ _ _ laws g.T.Tree.view outer _ _ _ _ _ _ _ c.requires.place place.1 (c.is_sparse-sparse.ensures.0 c.if-sparse.true) half step (rw (c.next_element.ensures.same, same) at begins) told.conduct told.narrow told.shallow (rw (c.next_element.ensures.same, same) at told.refused) (rw (c.next_element.ensures.same, same) at told.would))
 
--- a null element was read
+-- memory ran out for it
+pub read_list-returns-in_err-push_element-clause-reads : goal.read_list-returns-in_err-push_element-clause-reads
+read_list-returns-in_err-push_element-clause-reads g t c =
+    let d = g.met.D.ShapeDeserializer in
+    let s0 = g.D.ShapeDeserializer.settings c.args.source.now in
+    let laws = obeyed _ _ _ (d.lawful s0) (d.lifted_lawful s0) (d.above s0) (d.counts s0) in
+    let outer = site_of c.args.schema.now in
+    let half = c.loop-elements.invariant.half in
+    let same = c.loop-elements.invariant.same in
+    let step = rw (c.if-branch.true, same) at (c.in_ok-next_element.ensures.ok half.kept.due c.args.schema.now.shapes.now c.args.schema.now.place c.requires.place) in
+    let begins = sym c.is_null.ensures ∙ c.if-is_null.true in
+    let nulls = rw (c.next_element.ensures.same, same) at (c.in_ok-read_null.ensures.ok begins) in
+    let passes = c.in_ok-read_null.ensures.passes begins in
+    let p = err_from_is_err_and c.from_residual-in_err-push_element.result c.from_residual-in_err-push_element.ensures.1 in
+    rw (p.1, p.2)
+    (memory_fails _ _ _ _ g.T.Tree.view outer _ _ _ (null_passed _ _ _ _ laws outer _ _ _ _ _ (c.is_sparse-sparse.ensures.0 c.if-sparse.true) half step nulls passes).reached c.in_err-push_element.ensures.err)
+
+-- a null was read
 pub read_list-loop-elements-preserved-then-is_null : goal.read_list-loop-elements-preserved-then-is_null
 read_list-loop-elements-preserved-then-is_null g t c =
     let d = g.met.D.ShapeDeserializer in
     let s0 = g.D.ShapeDeserializer.settings c.args.source.now in
-    let counts = d.counts s0 in
-    let inside = c.loop-elements.invariant.inside in
-    let step = rw (c.if-branch.true, c.loop-elements.invariant.same) at (c.in_ok-next_element.ensures.ok inside.due c.args.schema.now.shapes.now c.args.schema.now.place c.requires.place) in
-    let nulls = rw (c.next_element.ensures.same, c.loop-elements.invariant.same) at (c.in_ok-read_null.ensures.ok (sym c.is_null.ensures ∙ c.if-is_null.true)) in
-    let passes = c.in_ok-read_null.ensures.passes (sym c.is_null.ensures ∙ c.if-is_null.true) in
+    let laws = obeyed _ _ _ (d.lawful s0) (d.lifted_lawful s0) (d.above s0) (d.counts s0) in
+    let outer = site_of c.args.schema.now in
+    let half = c.loop-elements.invariant.half in
+    let same = c.loop-elements.invariant.same in
+    let step = rw (c.if-branch.true, same) at (c.in_ok-next_element.ensures.ok half.kept.due c.args.schema.now.shapes.now c.args.schema.now.place c.requires.place) in
+    let begins = sym c.is_null.ensures ∙ c.if-is_null.true in
+    let nulls = rw (c.next_element.ensures.same, same) at (c.in_ok-read_null.ensures.ok begins) in
+    let passes = c.in_ok-read_null.ensures.passes begins in
     record {
-      same = search rules;
-      inside = rw (c.in_ok-push_element.ensures.ok, c.null.ensures)
-          (null_read _ _ _ (d.lawful s0) (itself _) _ _ _ _ _ _ _ inside step (c.is_sparse-sparse.ensures.0 c.if-sparse.true) nulls passes);
-      would = rw (c.in_ok-push_element.ensures.ok, c.null.ensures)
-          (null_read _ _ _ (d.lifted_lawful s0) (d.above s0) _ _ _ _ _ _ _ c.loop-elements.invariant.would step (c.is_sparse-sparse.ensures.0 c.if-sparse.true) nulls passes);
-      counted = λ strict before. null_counted _ (counts strict) _ _ nulls passes (step_counted _ (counts strict) _ _ _ _ _ step (c.loop-elements.invariant.counted strict before));
+      same = c.read_null.ensures.same ∙ c.next_element.ensures.same ∙ same;
+      half = rw (c.in_ok-push_element.ensures.ok, c.null.ensures) (null_passed _ _ _ _ laws outer _ _ _ _ _ (c.is_sparse-sparse.ensures.0 c.if-sparse.true) half step nulls passes);
     }
 
 -- an element was refused
-pub read_list-returns-in_err-item-clause-refused : goal.read_list-returns-in_err-item-clause-refused
-read_list-returns-in_err-item-clause-refused g t c =
-    let inside = c.loop-elements.invariant.inside in
-    let step = rw (c.if-branch.true, c.loop-elements.invariant.same) at (c.in_ok-next_element.ensures.ok inside.due c.args.schema.now.shapes.now c.args.schema.now.place c.requires.place) in
-    let place = element_place c.args.schema.now c.in-Some.element c.requires.place c.in-Some.ensures in
-    let p = err_from_is_err_and c.from_residual-in_err-item.result c.from_residual-in_err-item.ensures.1 in
-    rw (p.1, p.2)
-    (λ refused. element_refused _ _ _ (g.met.D.ShapeDeserializer.lawful (g.D.ShapeDeserializer.settings c.args.source.now)) (itself _) _ _ _ _ _ _ _ c.requires.place inside step place.1
-    (rw (c.next_element.ensures.same, c.loop-elements.invariant.same, place.0) at (c.in_err-item.ensures.refused refused))
-    (λ sparse. elim c.else-sparse.branch [
-      | read_list-else-sparse-via-then-sparse+else-is_null w ↦
-          rw (c.next_element.ensures.same, c.loop-elements.invariant.same) at (sym w.is_null.ensures ∙ w.if-is_null.false)
-      | read_list-else-sparse-via-else-sparse w ↦ absurd (let found : true ≡ false = sym (c.is_sparse-sparse.ensures.1 sparse) ∙ w.if-sparse.false in cc)
-    ]))
-
-pub read_list-returns-in_err-item-clause-would : goal.read_list-returns-in_err-item-clause-would
-read_list-returns-in_err-item-clause-would g t c =
+pub read_list-returns-in_err-item-clause-reads : goal.read_list-returns-in_err-item-clause-reads
+read_list-returns-in_err-item-clause-reads g t c =
     let d = g.met.D.ShapeDeserializer in
     let s0 = g.D.ShapeDeserializer.settings c.args.source.now in
-    let inside = c.loop-elements.invariant.inside in
-    let step = rw (c.if-branch.true, c.loop-elements.invariant.same) at (c.in_ok-next_element.ensures.ok inside.due c.args.schema.now.shapes.now c.args.schema.now.place c.requires.place) in
+    let laws = obeyed _ _ _ (d.lawful s0) (d.lifted_lawful s0) (d.above s0) (d.counts s0) in
+    let outer = site_of c.args.schema.now in
+    let half = c.loop-elements.invariant.half in
+    let same = c.loop-elements.invariant.same in
+    let step = rw (c.if-branch.true, same) at (c.in_ok-next_element.ensures.ok half.kept.due c.args.schema.now.shapes.now c.args.schema.now.place c.requires.place) in
     let place = element_place c.args.schema.now c.in-Some.element c.requires.place c.in-Some.ensures in
+    let no_null : IsNoNull (g.D.ShapeDeserializer.wire s0) (g.D.ShapeDeserializer.state c.next_element.new.self) (kind_of c.args.schema.now.shapes.now c.args.schema.now.place) = λ sparse. elim c.else-sparse.branch [
+      | read_list-else-sparse-via-then-sparse+else-is_null w ↦ rw (c.next_element.ensures.same, same) at (sym w.is_null.ensures ∙ w.if-is_null.false)
+      | read_list-else-sparse-via-else-sparse w ↦ absurd (let found : true ≡ false = sym (c.is_sparse-sparse.ensures.1 sparse) ∙ w.if-sparse.false in cc)
+    ] in
     let p = err_from_is_err_and c.from_residual-in_err-item.result c.from_residual-in_err-item.ensures.1 in
     rw (p.1, p.2)
-    (λ strict refused. element_refused _ _ _ (d.lifted_lawful s0) (d.above s0) _ _ _ _ _ _ _ c.requires.place c.loop-elements.invariant.would step place.1
-    (rw (c.next_element.ensures.same, c.loop-elements.invariant.same, place.0) at (c.in_err-item.ensures.would (rw (c.next_element.ensures.same, c.loop-elements.invariant.same) strict) refused))
-    (λ sparse. elim c.else-sparse.branch [
-      | read_list-else-sparse-via-then-sparse+else-is_null w ↦
-          rw (c.next_element.ensures.same, c.loop-elements.invariant.same) at (sym w.is_null.ensures ∙ w.if-is_null.false)
-      | read_list-else-sparse-via-else-sparse w ↦ absurd (let found : true ≡ false = sym (c.is_sparse-sparse.ensures.1 sparse) ∙ w.if-sparse.false in cc)
-    ]))
+    (element_fails _ _ _ _ laws g.T.Tree.view g.T.Tree.view outer (site_of c.in-Some.element) _ _ _ _ _ _ c.requires.place place half step no_null (rw (c.next_element.ensures.same, same) at c.in_err-item.ensures.reads))
+
+-- memory ran out for it
+pub read_list-returns-in_err-push_element-2-clause-reads : goal.read_list-returns-in_err-push_element-2-clause-reads
+read_list-returns-in_err-push_element-2-clause-reads g t c =
+    let d = g.met.D.ShapeDeserializer in
+    let s0 = g.D.ShapeDeserializer.settings c.args.source.now in
+    let laws = obeyed _ _ _ (d.lawful s0) (d.lifted_lawful s0) (d.above s0) (d.counts s0) in
+    let outer = site_of c.args.schema.now in
+    let half = c.loop-elements.invariant.half in
+    let same = c.loop-elements.invariant.same in
+    let step = rw (c.if-branch.true, same) at (c.in_ok-next_element.ensures.ok half.kept.due c.args.schema.now.shapes.now c.args.schema.now.place c.requires.place) in
+    let reads = rw (c.next_element.ensures.same, same) at c.in_ok-item.ensures.reads in
+    let p = err_from_is_err_and c.from_residual-in_err-push_element-2.result c.from_residual-in_err-push_element-2.ensures.1 in
+    rw (p.1, p.2)
+    (memory_fails _ _ _ _ g.T.Tree.view outer _ _ _ (value_passed _ _ _ _ laws g.T.Tree.view (site_of c.in-Some.element) _ _ _ _ (stepped_to _ _ _ laws _ _ _ _ _ None half.reached step) reads) c.in_err-push_element-2.ensures.err)
 
 -- an element was read
 pub read_list-loop-elements-preserved : goal.read_list-loop-elements-preserved
 read_list-loop-elements-preserved g t c =
     let d = g.met.D.ShapeDeserializer in
     let s0 = g.D.ShapeDeserializer.settings c.args.source.now in
-    let counts = d.counts s0 in
-    let inside = c.loop-elements.invariant.inside in
-    let step = rw (c.if-branch.true, c.loop-elements.invariant.same) at (c.in_ok-next_element.ensures.ok inside.due c.args.schema.now.shapes.now c.args.schema.now.place c.requires.place) in
+    let laws = obeyed _ _ _ (d.lawful s0) (d.lifted_lawful s0) (d.above s0) (d.counts s0) in
+    let outer = site_of c.args.schema.now in
+    let half = c.loop-elements.invariant.half in
+    let same = c.loop-elements.invariant.same in
+    let step = rw (c.if-branch.true, same) at (c.in_ok-next_element.ensures.ok half.kept.due c.args.schema.now.shapes.now c.args.schema.now.place c.requires.place) in
     let place = element_place c.args.schema.now c.in-Some.element c.requires.place c.in-Some.ensures in
-    let reads = rw (c.next_element.ensures.same, c.loop-elements.invariant.same, place.0) at c.in_ok-item.ensures.ok in
-    let no_null : IsNoNull (g.D.ShapeDeserializer.wire (g.D.ShapeDeserializer.settings c.args.source.now)) (g.D.ShapeDeserializer.state c.next_element.new.self) (kind_of c.args.schema.now.shapes.now c.args.schema.now.place) = λ sparse. elim c.else-sparse.branch [
-      | read_list-else-sparse-via-then-sparse+else-is_null w ↦
-          rw (c.next_element.ensures.same, c.loop-elements.invariant.same) at (sym w.is_null.ensures ∙ w.if-is_null.false)
+    let no_null : IsNoNull (g.D.ShapeDeserializer.wire s0) (g.D.ShapeDeserializer.state c.next_element.new.self) (kind_of c.args.schema.now.shapes.now c.args.schema.now.place) = λ sparse. elim c.else-sparse.branch [
+      | read_list-else-sparse-via-then-sparse+else-is_null w ↦ rw (c.next_element.ensures.same, same) at (sym w.is_null.ensures ∙ w.if-is_null.false)
       | read_list-else-sparse-via-else-sparse w ↦ absurd (let found : true ≡ false = sym (c.is_sparse-sparse.ensures.1 sparse) ∙ w.if-sparse.false in cc)
     ] in
+    let reads = rw (c.next_element.ensures.same, same) at c.in_ok-item.ensures.reads in
     record {
-      same = search rules;
-      inside = rw c.in_ok-push_element-2.ensures.ok
-          (element_read _ _ _ (d.lawful s0) (itself _) _ _ _ _ _ _ c.in-Some.element.place _ _ _ inside step no_null place.1 reads);
-      would = rw c.in_ok-push_element-2.ensures.ok
-          (element_read _ _ _ (d.lifted_lawful s0) (d.above s0) _ _ _ _ _ _ c.in-Some.element.place _ _ _ c.loop-elements.invariant.would step no_null place.1 reads);
-      counted = λ strict before. value_counted _ (counts strict) _ _ _ _ _ reads (step_counted _ (counts strict) _ _ _ _ _ step (c.loop-elements.invariant.counted strict before));
+      same = c.read_tree.ensures.same ∙ c.next_element.ensures.same ∙ same;
+      half = rw c.in_ok-push_element-2.ensures.ok (element_passed _ _ _ _ laws outer (site_of c.in-Some.element) _ _ _ _ _ _ _ place half step no_null reads.ok);
     }
 
 -- the list ended
-pub read_list-returns-clause-ok : goal.read_list-returns-clause-ok
-read_list-returns-clause-ok g t c =
-    let inside = c.loop-elements.invariant.inside in
-    rw c.list.ensures
-    (end _ _ _ _ _ _ _ _ _ _ _ inside (rw (c.if-branch.false, c.loop-elements.invariant.same) at (c.in_ok-next_element.ensures.ok inside.due c.args.schema.now.shapes.now c.args.schema.now.place c.requires.place)) refl)
+pub read_list-returns-clause-reads : goal.read_list-returns-clause-reads
+read_list-returns-clause-reads g t c =
+    let d = g.met.D.ShapeDeserializer in
+    let s0 = g.D.ShapeDeserializer.settings c.args.source.now in
+    let laws = obeyed _ _ _ (d.lawful s0) (d.lifted_lawful s0) (d.above s0) (d.counts s0) in
+    let outer = site_of c.args.schema.now in
+    let half = c.loop-elements.invariant.half in
+    let same = c.loop-elements.invariant.same in
+    let leaves = rw (c.if-branch.false, same) at (c.in_ok-next_element.ensures.ok half.kept.due c.args.schema.now.shapes.now c.args.schema.now.place c.requires.place) in
+    ends_whole _ _ _ _ laws g.T.Tree.view outer _ _ _ _ _ _ _ half leaves refl c.list.ensures tt
 
 -- less is left to read
 pub read_list-loop-elements-smaller-then-is_null : goal.read_list-loop-elements-smaller-then-is_null
 read_list-loop-elements-smaller-then-is_null g t c =
-    let inside = c.loop-elements.invariant.inside in
-    let step = rw (c.if-branch.true, c.loop-elements.invariant.same) at (c.in_ok-next_element.ensures.ok inside.due c.args.schema.now.shapes.now c.args.schema.now.place c.requires.place) in
-    let nulls = rw (c.next_element.ensures.same, c.loop-elements.invariant.same) at (c.in_ok-read_null.ensures.ok (sym c.is_null.ensures ∙ c.if-is_null.true)) in
-    let passes = c.in_ok-read_null.ensures.passes (sym c.is_null.ensures ∙ c.if-is_null.true) in
-    rw (c.read_null.ensures.same, c.next_element.ensures.same, c.loop-elements.invariant.same)
-    (left_falls _ _ _ (g.met.D.ShapeDeserializer.lawful (g.D.ShapeDeserializer.settings c.args.source.now)) _ _ _ _ _ _ _ _ None (child_null None) inside step (refl, c.is_sparse-sparse.ensures.0 c.if-sparse.true, nulls) passes)
+    let s0 = g.D.ShapeDeserializer.settings c.args.source.now in
+    let half = c.loop-elements.invariant.half in
+    let same = c.loop-elements.invariant.same in
+    let step = rw (c.if-branch.true, same) at (c.in_ok-next_element.ensures.ok half.kept.due c.args.schema.now.shapes.now c.args.schema.now.place c.requires.place) in
+    let begins = sym c.is_null.ensures ∙ c.if-is_null.true in
+    let nulls = rw (c.next_element.ensures.same, same) at (c.in_ok-read_null.ensures.ok begins) in
+    let passes = c.in_ok-read_null.ensures.passes begins in
+    rw (c.read_null.ensures.same, c.next_element.ensures.same, same)
+    (left_falls _ _ _ (g.met.D.ShapeDeserializer.lawful s0) _ _ _ _ _ _ _ _ None (child_null None) half.kept step (refl, c.is_sparse-sparse.ensures.0 c.if-sparse.true, nulls) passes)
 
 pub read_list-loop-elements-smaller : goal.read_list-loop-elements-smaller
 read_list-loop-elements-smaller g t c =
-    let inside = c.loop-elements.invariant.inside in
-    let step = rw (c.if-branch.true, c.loop-elements.invariant.same) at (c.in_ok-next_element.ensures.ok inside.due c.args.schema.now.shapes.now c.args.schema.now.place c.requires.place) in
+    let s0 = g.D.ShapeDeserializer.settings c.args.source.now in
+    let half = c.loop-elements.invariant.half in
+    let same = c.loop-elements.invariant.same in
+    let step = rw (c.if-branch.true, same) at (c.in_ok-next_element.ensures.ok half.kept.due c.args.schema.now.shapes.now c.args.schema.now.place c.requires.place) in
     let place = element_place c.args.schema.now c.in-Some.element c.requires.place c.in-Some.ensures in
-    let reads = rw (c.next_element.ensures.same, c.loop-elements.invariant.same, place.0) at c.in_ok-item.ensures.ok in
-    let no_null : IsNoNull (g.D.ShapeDeserializer.wire (g.D.ShapeDeserializer.settings c.args.source.now)) (g.D.ShapeDeserializer.state c.next_element.new.self) (kind_of c.args.schema.now.shapes.now c.args.schema.now.place) = λ sparse. elim c.else-sparse.branch [
-      | read_list-else-sparse-via-then-sparse+else-is_null w ↦
-          rw (c.next_element.ensures.same, c.loop-elements.invariant.same) at (sym w.is_null.ensures ∙ w.if-is_null.false)
+    let no_null : IsNoNull (g.D.ShapeDeserializer.wire s0) (g.D.ShapeDeserializer.state c.next_element.new.self) (kind_of c.args.schema.now.shapes.now c.args.schema.now.place) = λ sparse. elim c.else-sparse.branch [
+      | read_list-else-sparse-via-then-sparse+else-is_null w ↦ rw (c.next_element.ensures.same, same) at (sym w.is_null.ensures ∙ w.if-is_null.false)
       | read_list-else-sparse-via-else-sparse w ↦ absurd (let found : true ≡ false = sym (c.is_sparse-sparse.ensures.1 sparse) ∙ w.if-sparse.false in cc)
     ] in
-    rw (c.read_tree.ensures.same, c.next_element.ensures.same, c.loop-elements.invariant.same)
-    (element_falls _ _ _ (g.met.D.ShapeDeserializer.lawful (g.D.ShapeDeserializer.settings c.args.source.now)) _ _ _ _ _ _ c.in-Some.element.place _ _ inside step no_null place.1 reads)
-
--- in an element, a number leaves its limits, or what stands there isn't carried
-pub read_list-returns-in_err-item-clause-wide : goal.read_list-returns-in_err-item-clause-wide
-read_list-returns-in_err-item-clause-wide g t c =
-    let inside = c.loop-elements.invariant.inside in
-    let step = rw (c.if-branch.true, c.loop-elements.invariant.same) at (c.in_ok-next_element.ensures.ok inside.due c.args.schema.now.shapes.now c.args.schema.now.place c.requires.place) in
-    let place = element_place c.args.schema.now c.in-Some.element c.requires.place c.in-Some.ensures in
-    let p = err_from_is_err_and c.from_residual-in_err-item.result c.from_residual-in_err-item.ensures.1 in
-    rw (p.1, p.2)
-    (λ is. inside_child (g.D.ShapeDeserializer.wire (g.D.ShapeDeserializer.settings c.args.source.now)).exceeds _ _ _ _ _ _ (g.D.ShapeDeserializer.state c.read_tree.new.source) _ _ _ _ _ _ None inside step place.1 (rw (c.next_element.ensures.same, c.loop-elements.invariant.same, place.0) at (c.in_err-item.ensures.wide is)))
-
-pub read_list-returns-in_err-item-clause-uncarried : goal.read_list-returns-in_err-item-clause-uncarried
-read_list-returns-in_err-item-clause-uncarried g t c =
-    let inside = c.loop-elements.invariant.inside in
-    let step = rw (c.if-branch.true, c.loop-elements.invariant.same) at (c.in_ok-next_element.ensures.ok inside.due c.args.schema.now.shapes.now c.args.schema.now.place c.requires.place) in
-    let place = element_place c.args.schema.now c.in-Some.element c.requires.place c.in-Some.ensures in
-    let p = err_from_is_err_and c.from_residual-in_err-item.result c.from_residual-in_err-item.ensures.1 in
-    rw (p.1, p.2)
-    (λ is. inside_child (g.D.ShapeDeserializer.wire (g.D.ShapeDeserializer.settings c.args.source.now)).uncarried _ _ _ _ _ _ (g.D.ShapeDeserializer.state c.read_tree.new.source) _ _ _ _ _ _ None inside step place.1 (rw (c.next_element.ensures.same, c.loop-elements.invariant.same, place.0) at (c.in_err-item.ensures.uncarried is)))
+    let reads = rw (c.next_element.ensures.same, same, place.0) at c.in_ok-item.ensures.reads.ok in
+    rw (c.read_tree.ensures.same, c.next_element.ensures.same, same)
+    (element_falls _ _ _ (g.met.D.ShapeDeserializer.lawful s0) _ _ _ _ _ _ c.in-Some.element.place _ _ half.kept step no_null place.1 reads)

@@ -1,191 +1,199 @@
 -- Answers on maps.
-use Rattle.std.proofs.Common.{None, Some, false, refl, string_bytes, sym, true, ◌∙◌, ◌≡◌}
+use Rattle.std.proofs.Common.{Some, string_bytes, false, refl, sym, true, ◌∙◌, ◌≡◌}
 use Rattle.std.proofs.lemmas.Result.{err_from_is_err_and}
+use Rattle.smithy_schema.specs.Site.{site_of}
 use Rattle.smithy_schema.specs.Table.{kind_of}
 use Rattle.smithy_schema.specs.Reading.{child_null}
+use Rattle.smithy_transcode.proofs.ReadContainers.{left_falls}
 use Rattle.smithy_transcode.proofs.ReadLists.{IsNoNull}
-use Rattle.smithy_schema.proofs.CountLemmas.{value_counted, null_counted, entry_counted, step_counted}
-use Rattle.smithy_transcode.proofs.ReadContainers.{itself, left_falls, end, stuck}
-use Rattle.smithy_transcode.proofs.ReadMaps.{begin_map, entry_read, null_entry_read, entry_refused, null_entry_refused, value_place, entry_falls}
-use Rattle.smithy_transcode.proofs.ReadWide.{inside_child}
+use Rattle.smithy_transcode.proofs.ReadMaps.{entry_falls, map_contains, value_place}
+use Rattle.smithy_transcode.proofs.ReadAnswers.{obeyed, open_fails, memory_fails}
+use Rattle.smithy_transcode.proofs.HalfRead.{stepped_to, value_passed, goes_no_further, ends_whole}
+use Rattle.smithy_transcode.proofs.HalfElements.{map_entered, entry_passed, entry_fails, null_entry_passed, null_entry_fails}
 use Rattle.smithy_transcode.proofs.reading.+read.Goals as goal
 use Rattle.smithy_transcode.proofs.reading.+read.Goals.{read_map-else-sparse-via-then-sparse+else-is_null, read_map-else-sparse-via-else-sparse}
 
--- the map was entered
+-- the map can not be entered
+pub read_map-returns-in_err-open_map-clause-reads : goal.read_map-returns-in_err-open_map-clause-reads
+read_map-returns-in_err-open_map-clause-reads g t c =
+    let d = g.met.D.ShapeDeserializer in
+    let s0 = g.D.ShapeDeserializer.settings c.args.source.now in
+    let told = c.in_err-open_map.ensures in
+    let p = err_from_is_err_and c.from_residual.result c.from_residual.ensures.1 in
+    rw (p.1, p.2)
+    (open_fails _ _ _ _ g.T.Tree.view (site_of c.args.schema.now) _ _ _ (d.lawful s0) (d.lifted_lawful s0) (map_contains _ c.requires.place) c.requires.due told.conduct told.narrow told.refused told.would told.deepest)
+
+-- it was entered
 pub read_map-loop-entries-init : goal.read_map-loop-entries-init
 read_map-loop-entries-init g t c =
     let d = g.met.D.ShapeDeserializer in
     let s0 = g.D.ShapeDeserializer.settings c.args.source.now in
-    let laws = d.lawful s0 in
+    let laws = obeyed _ _ _ (d.lawful s0) (d.lifted_lawful s0) (d.above s0) (d.counts s0) in
+    let outer = site_of c.args.schema.now in
     record {
       same = c.open_map.ensures.same;
-      inside = rw c.no_entries-entries.ensures (begin_map _ _ _ laws laws (itself _) _ _ _ _ c.requires.place c.in_ok-open_map.ensures.ok);
-      would = rw c.no_entries-entries.ensures (begin_map _ _ _ laws (d.lifted_lawful s0) (d.above s0) _ _ _ _ c.requires.place c.in_ok-open_map.ensures.ok);
-      counted = λ strict before. entry_counted _ (d.counts s0 strict) _ _ _ _ _ _ c.in_ok-open_map.ensures.ok before;
+      half = rw c.no_entries-entries.ensures (map_entered _ _ _ _ laws outer _ _ _ c.requires.place c.in_ok-open_map.ensures.conduct c.in_ok-open_map.ensures.ok);
     }
 
--- the map can not go on
-pub read_map-returns-in_err-key-clause-refused : goal.read_map-returns-in_err-key-clause-refused
-read_map-returns-in_err-key-clause-refused g t c =
-    let inside = c.loop-entries.invariant.inside in
-    let p = err_from_is_err_and c.from_residual-in_err-key.result c.from_residual-in_err-key.ensures.1 in
-    rw (p.1, p.2)
-    (λ refused. stuck _ _ _ _ _ _ _ _ _ inside (rw c.loop-entries.invariant.same at (c.in_err-key.ensures.refused refused inside.due c.args.schema.now.shapes.now c.args.schema.now.place c.requires.place)))
-
-pub read_map-returns-in_err-key-clause-would : goal.read_map-returns-in_err-key-clause-would
-read_map-returns-in_err-key-clause-would g t c =
-    let inside = c.loop-entries.invariant.inside in
-    let p = err_from_is_err_and c.from_residual-in_err-key.result c.from_residual-in_err-key.ensures.1 in
-    rw (p.1, p.2)
-    (λ strict refused. stuck _ _ _ _ _ _ _ _ _ c.loop-entries.invariant.would (rw c.loop-entries.invariant.same at (c.in_err-key.ensures.would (rw c.loop-entries.invariant.same strict) refused inside.due c.args.schema.now.shapes.now c.args.schema.now.place c.requires.place)))
-
--- a null value was refused
-pub read_map-returns-in_err-read_null-clause-refused : goal.read_map-returns-in_err-read_null-clause-refused
-read_map-returns-in_err-read_null-clause-refused g t c =
-    let inside = c.loop-entries.invariant.inside in
-    let step = rw (c.in-Some-2.is, c.loop-entries.invariant.same) at (c.in_ok-key.ensures.ok inside.due c.args.schema.now.shapes.now c.args.schema.now.place c.requires.place) in
-    let place = value_place c.args.schema.now c.in-Some.inner c.requires.place c.in-Some.ensures in
-    let begins = rw (c.next_key.ensures.same, c.loop-entries.invariant.same) at (sym c.is_null.ensures ∙ c.if-is_null.true) in
-    let p = err_from_is_err_and c.from_residual-in_err-read_null.result c.from_residual-in_err-read_null.ensures.1 in
-    rw (p.1, p.2)
-    (λ refused. null_entry_refused _ _ _ (g.met.D.ShapeDeserializer.lawful (g.D.ShapeDeserializer.settings c.args.source.now)) (itself _) _ _ _ _ _ _ _ _ c.requires.place inside step place.1 (c.is_sparse-sparse.ensures.0 c.if-sparse.true) begins
-    (rw (c.next_key.ensures.same, c.loop-entries.invariant.same) at (c.in_err-read_null.ensures.refused (sym c.is_null.ensures ∙ c.if-is_null.true) refused)))
-
-pub read_map-returns-in_err-read_null-clause-would : goal.read_map-returns-in_err-read_null-clause-would
-read_map-returns-in_err-read_null-clause-would g t c =
+-- it can not go on
+pub read_map-returns-in_err-key-clause-reads : goal.read_map-returns-in_err-key-clause-reads
+read_map-returns-in_err-key-clause-reads g t c =
     let d = g.met.D.ShapeDeserializer in
     let s0 = g.D.ShapeDeserializer.settings c.args.source.now in
-    let inside = c.loop-entries.invariant.inside in
-    let step = rw (c.in-Some-2.is, c.loop-entries.invariant.same) at (c.in_ok-key.ensures.ok inside.due c.args.schema.now.shapes.now c.args.schema.now.place c.requires.place) in
+    let laws = obeyed _ _ _ (d.lawful s0) (d.lifted_lawful s0) (d.above s0) (d.counts s0) in
+    let outer = site_of c.args.schema.now in
+    let half = c.loop-entries.invariant.half in
+    let same = c.loop-entries.invariant.same in
+    let told = c.in_err-key.ensures in
+    let p = err_from_is_err_and c.from_residual-in_err-key.result c.from_residual-in_err-key.ensures.1 in
+    rw (p.1, p.2)
+    (goes_no_further _ _ _ _ laws g.T.Tree.view outer _ _ _ _ _ _ half told.conduct told.narrow (λ is. absurd (told.shallow is))
+    (λ fault due. rw same at (told.refused fault due c.args.schema.now.shapes.now c.args.schema.now.place c.requires.place))
+    (λ strict invalid due. rw same at (told.would (rw same strict) invalid due c.args.schema.now.shapes.now c.args.schema.now.place c.requires.place)))
+
+-- a null was refused
+pub read_map-returns-in_err-read_null-clause-reads : goal.read_map-returns-in_err-read_null-clause-reads
+read_map-returns-in_err-read_null-clause-reads g t c =
+    let d = g.met.D.ShapeDeserializer in
+    let s0 = g.D.ShapeDeserializer.settings c.args.source.now in
+    let laws = obeyed _ _ _ (d.lawful s0) (d.lifted_lawful s0) (d.above s0) (d.counts s0) in
+    let outer = site_of c.args.schema.now in
+    let half = c.loop-entries.invariant.half in
+    let same = c.loop-entries.invariant.same in
+    let step = rw (c.in-Some-2.is, same) at (c.in_ok-key.ensures.ok half.kept.due c.args.schema.now.shapes.now c.args.schema.now.place c.requires.place) in
     let place = value_place c.args.schema.now c.in-Some.inner c.requires.place c.in-Some.ensures in
-    let begins = rw (c.next_key.ensures.same, c.loop-entries.invariant.same) at (sym c.is_null.ensures ∙ c.if-is_null.true) in
+    let begins = sym c.is_null.ensures ∙ c.if-is_null.true in
+    let told = c.in_err-read_null.ensures in
     let p = err_from_is_err_and c.from_residual-in_err-read_null.result c.from_residual-in_err-read_null.ensures.1 in
     rw (p.1, p.2)
-    (λ strict refused. null_entry_refused _ _ _ (d.lifted_lawful s0) (d.above s0) _ _ _ _ _ _ _ _ c.requires.place c.loop-entries.invariant.would step place.1 (c.is_sparse-sparse.ensures.0 c.if-sparse.true) begins
-    (rw (c.next_key.ensures.same, c.loop-entries.invariant.same) at (c.in_err-read_null.ensures.would (rw (c.next_key.ensures.same, c.loop-entries.invariant.same) strict) (sym c.is_null.ensures ∙ c.if-is_null.true) refused)))
+    (null_entry_fails _ _ _ _ laws g.T.Tree.view outer _ _ _ _ _ _ _ _ c.requires.place place.1 (c.is_sparse-sparse.ensures.0 c.if-sparse.true) half step (rw (c.next_key.ensures.same, same) at begins) told.conduct told.narrow told.shallow (rw (c.next_key.ensures.same, same) at told.refused) (rw (c.next_key.ensures.same, same) at told.would))
 
--- a null value was read
+-- memory ran out for it
+pub read_map-returns-in_err-set_entry-clause-reads : goal.read_map-returns-in_err-set_entry-clause-reads
+read_map-returns-in_err-set_entry-clause-reads g t c =
+    let d = g.met.D.ShapeDeserializer in
+    let s0 = g.D.ShapeDeserializer.settings c.args.source.now in
+    let laws = obeyed _ _ _ (d.lawful s0) (d.lifted_lawful s0) (d.above s0) (d.counts s0) in
+    let outer = site_of c.args.schema.now in
+    let half = c.loop-entries.invariant.half in
+    let same = c.loop-entries.invariant.same in
+    let step = rw (c.in-Some-2.is, same) at (c.in_ok-key.ensures.ok half.kept.due c.args.schema.now.shapes.now c.args.schema.now.place c.requires.place) in
+    let begins = sym c.is_null.ensures ∙ c.if-is_null.true in
+    let nulls = rw (c.next_key.ensures.same, same) at (c.in_ok-read_null.ensures.ok begins) in
+    let passes = c.in_ok-read_null.ensures.passes begins in
+    let p = err_from_is_err_and c.from_residual-in_err-set_entry.result c.from_residual-in_err-set_entry.ensures.1 in
+    rw (p.1, p.2)
+    (memory_fails _ _ _ _ g.T.Tree.view outer _ _ _ (null_entry_passed _ _ _ _ laws outer _ _ _ _ _ _ (c.is_sparse-sparse.ensures.0 c.if-sparse.true) half step nulls passes).reached c.in_err-set_entry.ensures.err)
+
+-- a null was read
 pub read_map-loop-entries-preserved-then-is_null : goal.read_map-loop-entries-preserved-then-is_null
 read_map-loop-entries-preserved-then-is_null g t c =
     let d = g.met.D.ShapeDeserializer in
     let s0 = g.D.ShapeDeserializer.settings c.args.source.now in
-    let counts = d.counts s0 in
-    let inside = c.loop-entries.invariant.inside in
-    let step = rw (c.in-Some-2.is, c.loop-entries.invariant.same) at (c.in_ok-key.ensures.ok inside.due c.args.schema.now.shapes.now c.args.schema.now.place c.requires.place) in
-    let nulls = rw (c.next_key.ensures.same, c.loop-entries.invariant.same) at (c.in_ok-read_null.ensures.ok (sym c.is_null.ensures ∙ c.if-is_null.true)) in
-    let passes = c.in_ok-read_null.ensures.passes (sym c.is_null.ensures ∙ c.if-is_null.true) in
+    let laws = obeyed _ _ _ (d.lawful s0) (d.lifted_lawful s0) (d.above s0) (d.counts s0) in
+    let outer = site_of c.args.schema.now in
+    let half = c.loop-entries.invariant.half in
+    let same = c.loop-entries.invariant.same in
+    let step = rw (c.in-Some-2.is, same) at (c.in_ok-key.ensures.ok half.kept.due c.args.schema.now.shapes.now c.args.schema.now.place c.requires.place) in
+    let begins = sym c.is_null.ensures ∙ c.if-is_null.true in
+    let nulls = rw (c.next_key.ensures.same, same) at (c.in_ok-read_null.ensures.ok begins) in
+    let passes = c.in_ok-read_null.ensures.passes begins in
     record {
-      same = c.read_null.ensures.same ∙ c.next_key.ensures.same ∙ c.loop-entries.invariant.same;
-      inside = rw (c.in_ok-set_entry.ensures.ok, c.null.ensures)
-          (null_entry_read _ _ _ (d.lawful s0) (itself _) _ _ _ _ _ _ _ _ inside step (c.is_sparse-sparse.ensures.0 c.if-sparse.true) nulls passes);
-      would = rw (c.in_ok-set_entry.ensures.ok, c.null.ensures)
-          (null_entry_read _ _ _ (d.lifted_lawful s0) (d.above s0) _ _ _ _ _ _ _ _ c.loop-entries.invariant.would step (c.is_sparse-sparse.ensures.0 c.if-sparse.true) nulls passes);
-      counted = λ strict before. null_counted _ (counts strict) _ _ nulls passes (step_counted _ (counts strict) _ _ _ _ _ step (c.loop-entries.invariant.counted strict before));
+      same = c.read_null.ensures.same ∙ c.next_key.ensures.same ∙ same;
+      half = rw (c.in_ok-set_entry.ensures.ok, c.null.ensures) (null_entry_passed _ _ _ _ laws outer _ _ _ _ _ _ (c.is_sparse-sparse.ensures.0 c.if-sparse.true) half step nulls passes);
     }
 
 -- a value was refused
-pub read_map-returns-in_err-value-clause-refused : goal.read_map-returns-in_err-value-clause-refused
-read_map-returns-in_err-value-clause-refused g t c =
-    let inside = c.loop-entries.invariant.inside in
-    let step = rw (c.in-Some-2.is, c.loop-entries.invariant.same) at (c.in_ok-key.ensures.ok inside.due c.args.schema.now.shapes.now c.args.schema.now.place c.requires.place) in
-    let place = value_place c.args.schema.now c.in-Some.inner c.requires.place c.in-Some.ensures in
-    let p = err_from_is_err_and c.from_residual-in_err-value.result c.from_residual-in_err-value.ensures.1 in
-    rw (p.1, p.2)
-    (λ refused. entry_refused _ _ _ (g.met.D.ShapeDeserializer.lawful (g.D.ShapeDeserializer.settings c.args.source.now)) (itself _) _ _ _ _ _ _ _ _ c.requires.place inside step place.1
-    (rw (c.next_key.ensures.same, c.loop-entries.invariant.same, place.0) at (c.in_err-value.ensures.refused refused))
-    (λ sparse. elim c.else-sparse.branch [
-      | read_map-else-sparse-via-then-sparse+else-is_null w ↦
-          rw (c.next_key.ensures.same, c.loop-entries.invariant.same) at (sym w.is_null.ensures ∙ w.if-is_null.false)
-      | read_map-else-sparse-via-else-sparse w ↦ absurd (let found : true ≡ false = sym (c.is_sparse-sparse.ensures.1 sparse) ∙ w.if-sparse.false in cc)
-    ]))
-
-pub read_map-returns-in_err-value-clause-would : goal.read_map-returns-in_err-value-clause-would
-read_map-returns-in_err-value-clause-would g t c =
+pub read_map-returns-in_err-value-clause-reads : goal.read_map-returns-in_err-value-clause-reads
+read_map-returns-in_err-value-clause-reads g t c =
     let d = g.met.D.ShapeDeserializer in
     let s0 = g.D.ShapeDeserializer.settings c.args.source.now in
-    let inside = c.loop-entries.invariant.inside in
-    let step = rw (c.in-Some-2.is, c.loop-entries.invariant.same) at (c.in_ok-key.ensures.ok inside.due c.args.schema.now.shapes.now c.args.schema.now.place c.requires.place) in
+    let laws = obeyed _ _ _ (d.lawful s0) (d.lifted_lawful s0) (d.above s0) (d.counts s0) in
+    let outer = site_of c.args.schema.now in
+    let half = c.loop-entries.invariant.half in
+    let same = c.loop-entries.invariant.same in
+    let step = rw (c.in-Some-2.is, same) at (c.in_ok-key.ensures.ok half.kept.due c.args.schema.now.shapes.now c.args.schema.now.place c.requires.place) in
     let place = value_place c.args.schema.now c.in-Some.inner c.requires.place c.in-Some.ensures in
+    let no_null : IsNoNull (g.D.ShapeDeserializer.wire s0) (g.D.ShapeDeserializer.state c.next_key.new.self) (kind_of c.args.schema.now.shapes.now c.args.schema.now.place) = λ sparse. elim c.else-sparse.branch [
+      | read_map-else-sparse-via-then-sparse+else-is_null w ↦ rw (c.next_key.ensures.same, same) at (sym w.is_null.ensures ∙ w.if-is_null.false)
+      | read_map-else-sparse-via-else-sparse w ↦ absurd (let found : true ≡ false = sym (c.is_sparse-sparse.ensures.1 sparse) ∙ w.if-sparse.false in cc)
+    ] in
     let p = err_from_is_err_and c.from_residual-in_err-value.result c.from_residual-in_err-value.ensures.1 in
     rw (p.1, p.2)
-    (λ strict refused. entry_refused _ _ _ (d.lifted_lawful s0) (d.above s0) _ _ _ _ _ _ _ _ c.requires.place c.loop-entries.invariant.would step place.1
-    (rw (c.next_key.ensures.same, c.loop-entries.invariant.same, place.0) at (c.in_err-value.ensures.would (rw (c.next_key.ensures.same, c.loop-entries.invariant.same) strict) refused))
-    (λ sparse. elim c.else-sparse.branch [
-      | read_map-else-sparse-via-then-sparse+else-is_null w ↦
-          rw (c.next_key.ensures.same, c.loop-entries.invariant.same) at (sym w.is_null.ensures ∙ w.if-is_null.false)
-      | read_map-else-sparse-via-else-sparse w ↦ absurd (let found : true ≡ false = sym (c.is_sparse-sparse.ensures.1 sparse) ∙ w.if-sparse.false in cc)
-    ]))
+    (entry_fails _ _ _ _ laws g.T.Tree.view g.T.Tree.view outer (site_of c.in-Some.inner) _ _ _ _ _ _ _ c.requires.place place half step no_null (rw (c.next_key.ensures.same, same) at c.in_err-value.ensures.reads))
+
+-- memory ran out for it
+pub read_map-returns-in_err-set_entry-2-clause-reads : goal.read_map-returns-in_err-set_entry-2-clause-reads
+read_map-returns-in_err-set_entry-2-clause-reads g t c =
+    let d = g.met.D.ShapeDeserializer in
+    let s0 = g.D.ShapeDeserializer.settings c.args.source.now in
+    let laws = obeyed _ _ _ (d.lawful s0) (d.lifted_lawful s0) (d.above s0) (d.counts s0) in
+    let outer = site_of c.args.schema.now in
+    let half = c.loop-entries.invariant.half in
+    let same = c.loop-entries.invariant.same in
+    let step = rw (c.in-Some-2.is, same) at (c.in_ok-key.ensures.ok half.kept.due c.args.schema.now.shapes.now c.args.schema.now.place c.requires.place) in
+    let reads = rw (c.next_key.ensures.same, same) at c.in_ok-value.ensures.reads in
+    let p = err_from_is_err_and c.from_residual-in_err-set_entry-2.result c.from_residual-in_err-set_entry-2.ensures.1 in
+    rw (p.1, p.2)
+    (memory_fails _ _ _ _ g.T.Tree.view outer _ _ _ (value_passed _ _ _ _ laws g.T.Tree.view (site_of c.in-Some.inner) _ _ _ _ (stepped_to _ _ _ laws _ _ _ _ _ (Some (string_bytes c.in-Some-2.key)) half.reached step) reads) c.in_err-set_entry-2.ensures.err)
 
 -- a value was read
 pub read_map-loop-entries-preserved : goal.read_map-loop-entries-preserved
 read_map-loop-entries-preserved g t c =
     let d = g.met.D.ShapeDeserializer in
     let s0 = g.D.ShapeDeserializer.settings c.args.source.now in
-    let counts = d.counts s0 in
-    let inside = c.loop-entries.invariant.inside in
-    let step = rw (c.in-Some-2.is, c.loop-entries.invariant.same) at (c.in_ok-key.ensures.ok inside.due c.args.schema.now.shapes.now c.args.schema.now.place c.requires.place) in
+    let laws = obeyed _ _ _ (d.lawful s0) (d.lifted_lawful s0) (d.above s0) (d.counts s0) in
+    let outer = site_of c.args.schema.now in
+    let half = c.loop-entries.invariant.half in
+    let same = c.loop-entries.invariant.same in
+    let step = rw (c.in-Some-2.is, same) at (c.in_ok-key.ensures.ok half.kept.due c.args.schema.now.shapes.now c.args.schema.now.place c.requires.place) in
     let place = value_place c.args.schema.now c.in-Some.inner c.requires.place c.in-Some.ensures in
-    let reads = rw (c.next_key.ensures.same, c.loop-entries.invariant.same, place.0) at c.in_ok-value.ensures.ok in
-    let no_null : IsNoNull (g.D.ShapeDeserializer.wire (g.D.ShapeDeserializer.settings c.args.source.now)) (g.D.ShapeDeserializer.state c.next_key.new.self) (kind_of c.args.schema.now.shapes.now c.args.schema.now.place) = λ sparse. elim c.else-sparse.branch [
-      | read_map-else-sparse-via-then-sparse+else-is_null w ↦
-          rw (c.next_key.ensures.same, c.loop-entries.invariant.same) at (sym w.is_null.ensures ∙ w.if-is_null.false)
+    let no_null : IsNoNull (g.D.ShapeDeserializer.wire s0) (g.D.ShapeDeserializer.state c.next_key.new.self) (kind_of c.args.schema.now.shapes.now c.args.schema.now.place) = λ sparse. elim c.else-sparse.branch [
+      | read_map-else-sparse-via-then-sparse+else-is_null w ↦ rw (c.next_key.ensures.same, same) at (sym w.is_null.ensures ∙ w.if-is_null.false)
       | read_map-else-sparse-via-else-sparse w ↦ absurd (let found : true ≡ false = sym (c.is_sparse-sparse.ensures.1 sparse) ∙ w.if-sparse.false in cc)
     ] in
+    let reads = rw (c.next_key.ensures.same, same) at c.in_ok-value.ensures.reads in
     record {
-      same = c.read_tree.ensures.same ∙ c.next_key.ensures.same ∙ c.loop-entries.invariant.same;
-      inside = rw c.in_ok-set_entry-2.ensures.ok
-          (entry_read _ _ _ (d.lawful s0) (itself _) _ _ _ _ _ _ c.in-Some.inner.place _ _ _ _ c.requires.place inside step no_null place.1 reads);
-      would = rw c.in_ok-set_entry-2.ensures.ok
-          (entry_read _ _ _ (d.lifted_lawful s0) (d.above s0) _ _ _ _ _ _ c.in-Some.inner.place _ _ _ _ c.requires.place c.loop-entries.invariant.would step no_null place.1 reads);
-      counted = λ strict before. value_counted _ (counts strict) _ _ _ _ _ reads (step_counted _ (counts strict) _ _ _ _ _ step (c.loop-entries.invariant.counted strict before));
+      same = c.read_tree.ensures.same ∙ c.next_key.ensures.same ∙ same;
+      half = rw c.in_ok-set_entry-2.ensures.ok (entry_passed _ _ _ _ laws outer (site_of c.in-Some.inner) _ _ _ _ _ _ _ _ c.requires.place place half step no_null reads.ok);
     }
 
 -- the map ended
-pub read_map-returns-clause-ok : goal.read_map-returns-clause-ok
-read_map-returns-clause-ok g t c =
-    let inside = c.loop-entries.invariant.inside in
-    rw c.map.ensures
-    (end _ _ _ _ _ _ _ _ _ _ _ inside (rw (c.in_default-2.is, c.loop-entries.invariant.same) at (c.in_ok-key.ensures.ok inside.due c.args.schema.now.shapes.now c.args.schema.now.place c.requires.place)) refl)
+pub read_map-returns-clause-reads : goal.read_map-returns-clause-reads
+read_map-returns-clause-reads g t c =
+    let d = g.met.D.ShapeDeserializer in
+    let s0 = g.D.ShapeDeserializer.settings c.args.source.now in
+    let laws = obeyed _ _ _ (d.lawful s0) (d.lifted_lawful s0) (d.above s0) (d.counts s0) in
+    let outer = site_of c.args.schema.now in
+    let half = c.loop-entries.invariant.half in
+    let same = c.loop-entries.invariant.same in
+    let leaves = rw (c.in_default-2.is, same) at (c.in_ok-key.ensures.ok half.kept.due c.args.schema.now.shapes.now c.args.schema.now.place c.requires.place) in
+    ends_whole _ _ _ _ laws g.T.Tree.view outer _ _ _ _ _ _ _ half leaves refl c.map.ensures tt
 
 -- less is left to read
 pub read_map-loop-entries-smaller-then-is_null : goal.read_map-loop-entries-smaller-then-is_null
 read_map-loop-entries-smaller-then-is_null g t c =
-    let inside = c.loop-entries.invariant.inside in
-    let step = rw (c.in-Some-2.is, c.loop-entries.invariant.same) at (c.in_ok-key.ensures.ok inside.due c.args.schema.now.shapes.now c.args.schema.now.place c.requires.place) in
-    let nulls = rw (c.next_key.ensures.same, c.loop-entries.invariant.same) at (c.in_ok-read_null.ensures.ok (sym c.is_null.ensures ∙ c.if-is_null.true)) in
-    let passes = c.in_ok-read_null.ensures.passes (sym c.is_null.ensures ∙ c.if-is_null.true) in
-    rw (c.read_null.ensures.same, c.next_key.ensures.same, c.loop-entries.invariant.same)
-    (left_falls _ _ _ (g.met.D.ShapeDeserializer.lawful (g.D.ShapeDeserializer.settings c.args.source.now)) _ _ _ _ _ _ _ _ (Some (string_bytes c.in-Some-2.key)) (child_null (Some (string_bytes c.in-Some-2.key))) inside step (refl, c.is_sparse-sparse.ensures.0 c.if-sparse.true, nulls) passes)
+    let s0 = g.D.ShapeDeserializer.settings c.args.source.now in
+    let half = c.loop-entries.invariant.half in
+    let same = c.loop-entries.invariant.same in
+    let step = rw (c.in-Some-2.is, same) at (c.in_ok-key.ensures.ok half.kept.due c.args.schema.now.shapes.now c.args.schema.now.place c.requires.place) in
+    let begins = sym c.is_null.ensures ∙ c.if-is_null.true in
+    let nulls = rw (c.next_key.ensures.same, same) at (c.in_ok-read_null.ensures.ok begins) in
+    let passes = c.in_ok-read_null.ensures.passes begins in
+    rw (c.read_null.ensures.same, c.next_key.ensures.same, same)
+    (left_falls _ _ _ (g.met.D.ShapeDeserializer.lawful s0) _ _ _ _ _ _ _ _ (Some (string_bytes c.in-Some-2.key)) (child_null (Some (string_bytes c.in-Some-2.key))) half.kept step (refl, c.is_sparse-sparse.ensures.0 c.if-sparse.true, nulls) passes)
 
 pub read_map-loop-entries-smaller : goal.read_map-loop-entries-smaller
 read_map-loop-entries-smaller g t c =
-    let inside = c.loop-entries.invariant.inside in
-    let step = rw (c.in-Some-2.is, c.loop-entries.invariant.same) at (c.in_ok-key.ensures.ok inside.due c.args.schema.now.shapes.now c.args.schema.now.place c.requires.place) in
+    let s0 = g.D.ShapeDeserializer.settings c.args.source.now in
+    let half = c.loop-entries.invariant.half in
+    let same = c.loop-entries.invariant.same in
+    let step = rw (c.in-Some-2.is, same) at (c.in_ok-key.ensures.ok half.kept.due c.args.schema.now.shapes.now c.args.schema.now.place c.requires.place) in
     let place = value_place c.args.schema.now c.in-Some.inner c.requires.place c.in-Some.ensures in
-    let reads = rw (c.next_key.ensures.same, c.loop-entries.invariant.same, place.0) at c.in_ok-value.ensures.ok in
-    let no_null : IsNoNull (g.D.ShapeDeserializer.wire (g.D.ShapeDeserializer.settings c.args.source.now)) (g.D.ShapeDeserializer.state c.next_key.new.self) (kind_of c.args.schema.now.shapes.now c.args.schema.now.place) = λ sparse. elim c.else-sparse.branch [
-      | read_map-else-sparse-via-then-sparse+else-is_null w ↦
-          rw (c.next_key.ensures.same, c.loop-entries.invariant.same) at (sym w.is_null.ensures ∙ w.if-is_null.false)
+    let no_null : IsNoNull (g.D.ShapeDeserializer.wire s0) (g.D.ShapeDeserializer.state c.next_key.new.self) (kind_of c.args.schema.now.shapes.now c.args.schema.now.place) = λ sparse. elim c.else-sparse.branch [
+      | read_map-else-sparse-via-then-sparse+else-is_null w ↦ rw (c.next_key.ensures.same, same) at (sym w.is_null.ensures ∙ w.if-is_null.false)
       | read_map-else-sparse-via-else-sparse w ↦ absurd (let found : true ≡ false = sym (c.is_sparse-sparse.ensures.1 sparse) ∙ w.if-sparse.false in cc)
     ] in
-    rw (c.read_tree.ensures.same, c.next_key.ensures.same, c.loop-entries.invariant.same)
-    (entry_falls _ _ _ (g.met.D.ShapeDeserializer.lawful (g.D.ShapeDeserializer.settings c.args.source.now)) _ _ _ _ _ _ c.in-Some.inner.place _ _ _ c.requires.place inside step no_null place.1 reads)
-
--- in a value, a number leaves its limits, or what stands there isn't carried
-pub read_map-returns-in_err-value-clause-wide : goal.read_map-returns-in_err-value-clause-wide
-read_map-returns-in_err-value-clause-wide g t c =
-    let inside = c.loop-entries.invariant.inside in
-    let step = rw (c.in-Some-2.is, c.loop-entries.invariant.same) at (c.in_ok-key.ensures.ok inside.due c.args.schema.now.shapes.now c.args.schema.now.place c.requires.place) in
-    let place = value_place c.args.schema.now c.in-Some.inner c.requires.place c.in-Some.ensures in
-    let p = err_from_is_err_and c.from_residual-in_err-value.result c.from_residual-in_err-value.ensures.1 in
-    rw (p.1, p.2)
-    (λ is. inside_child (g.D.ShapeDeserializer.wire (g.D.ShapeDeserializer.settings c.args.source.now)).exceeds _ _ _ _ _ _ (g.D.ShapeDeserializer.state c.read_tree.new.source) _ _ _ _ _ _ None inside step place.1 (rw (c.next_key.ensures.same, c.loop-entries.invariant.same, place.0) at (c.in_err-value.ensures.wide is)))
-
-pub read_map-returns-in_err-value-clause-uncarried : goal.read_map-returns-in_err-value-clause-uncarried
-read_map-returns-in_err-value-clause-uncarried g t c =
-    let inside = c.loop-entries.invariant.inside in
-    let step = rw (c.in-Some-2.is, c.loop-entries.invariant.same) at (c.in_ok-key.ensures.ok inside.due c.args.schema.now.shapes.now c.args.schema.now.place c.requires.place) in
-    let place = value_place c.args.schema.now c.in-Some.inner c.requires.place c.in-Some.ensures in
-    let p = err_from_is_err_and c.from_residual-in_err-value.result c.from_residual-in_err-value.ensures.1 in
-    rw (p.1, p.2)
-    (λ is. inside_child (g.D.ShapeDeserializer.wire (g.D.ShapeDeserializer.settings c.args.source.now)).uncarried _ _ _ _ _ _ (g.D.ShapeDeserializer.state c.read_tree.new.source) _ _ _ _ _ _ None inside step place.1 (rw (c.next_key.ensures.same, c.loop-entries.invariant.same, place.0) at (c.in_err-value.ensures.uncarried is)))
+    let reads = rw (c.next_key.ensures.same, same, place.0) at c.in_ok-value.ensures.reads.ok in
+    rw (c.read_tree.ensures.same, c.next_key.ensures.same, same)
+    (entry_falls _ _ _ (g.met.D.ShapeDeserializer.lawful s0) _ _ _ _ _ _ c.in-Some.inner.place _ _ _ c.requires.place half.kept step no_null place.1 reads)

@@ -1,150 +1,156 @@
 -- Answers on structures.
-use Rattle.std.proofs.Common.{Some, refl, rules, sym}
+use Rattle.std.proofs.Common.{Some, refl, sym, ◌∙◌}
 use Rattle.std.proofs.lemmas.Result.{err_from_is_err_and}
 use Rattle.smithy_schema.specs.Site.{site_of}
 use Rattle.smithy_schema.specs.Reading.{child_value, child_unknown}
-use Rattle.smithy_schema.proofs.CountLemmas.{value_counted, skip_counted, step_counted}
-use Rattle.smithy_transcode.proofs.ReadContainers.{itself, left_falls, end, stuck, structure_has_members}
-use Rattle.smithy_transcode.proofs.ReadStructures.{member_child, member_read, unknown_skipped, member_refused, unknown_refused}
-use Rattle.smithy_transcode.proofs.ReadWide.{inside_member}
+use Rattle.smithy_transcode.proofs.ReadContainers.{left_falls, structure_has_members}
+use Rattle.smithy_transcode.proofs.ReadStructures.{member_child, structure_contains}
+use Rattle.smithy_transcode.proofs.ReadAnswers.{obeyed, open_fails, memory_fails}
+use Rattle.smithy_transcode.proofs.HalfRead.{stepped_to, value_passed, goes_no_further, ends_whole}
+use Rattle.smithy_transcode.proofs.HalfMembers.{member_fails, structure_entered, member_passed, unknown_passed, unknown_fails}
 use Rattle.smithy_transcode.proofs.reading.+read.Goals as goal
+
+-- the structure can not be entered
+pub read_structure-returns-in_err-open_struct-clause-reads : goal.read_structure-returns-in_err-open_struct-clause-reads
+read_structure-returns-in_err-open_struct-clause-reads g t c =
+    let d = g.met.D.ShapeDeserializer in
+    let s0 = g.D.ShapeDeserializer.settings c.args.source.now in
+    let told = c.in_err-open_struct.ensures in
+    let p = err_from_is_err_and c.from_residual.result c.from_residual.ensures.1 in
+    rw (p.1, p.2)
+    (open_fails _ _ _ _ g.T.Tree.view (site_of c.args.schema.now) _ _ _ (d.lawful s0) (d.lifted_lawful s0) (structure_contains _ c.requires.place) c.requires.due told.conduct told.narrow told.refused told.would told.deepest)
+
+-- it was entered
+pub read_structure-loop-members-init : goal.read_structure-loop-members-init
+read_structure-loop-members-init g t c =
+    let d = g.met.D.ShapeDeserializer in
+    let s0 = g.D.ShapeDeserializer.settings c.args.source.now in
+    let laws = obeyed _ _ _ (d.lawful s0) (d.lifted_lawful s0) (d.above s0) (d.counts s0) in
+    let outer = site_of c.args.schema.now in
+    record {
+      same = c.open_struct.ensures.same;
+      half = rw c.no_members-members.ensures (structure_entered _ _ _ _ laws outer _ _ _ c.requires.place c.in_ok-open_struct.ensures.conduct c.in_ok-open_struct.ensures.ok);
+    }
+
+-- it can not go on
+pub read_structure-returns-in_err-member-clause-reads : goal.read_structure-returns-in_err-member-clause-reads
+read_structure-returns-in_err-member-clause-reads g t c =
+    let d = g.met.D.ShapeDeserializer in
+    let s0 = g.D.ShapeDeserializer.settings c.args.source.now in
+    let laws = obeyed _ _ _ (d.lawful s0) (d.lifted_lawful s0) (d.above s0) (d.counts s0) in
+    let outer = site_of c.args.schema.now in
+    let half = c.loop-members.invariant.half in
+    let same = c.loop-members.invariant.same in
+    let told = c.in_err-member.ensures in
+    let p = err_from_is_err_and c.from_residual-in_err-member.result c.from_residual-in_err-member.ensures.1 in
+    rw (p.1, p.2)
+    (goes_no_further _ _ _ _ laws g.T.Tree.view outer _ _ _ _ _ _ half told.conduct told.narrow (rw same at told.deep) (rw same at told.refused) (rw same at told.would))
+
+-- the value of a member was refused
+pub read_structure-returns-in_err-value-in-Member-clause-reads : goal.read_structure-returns-in_err-value-in-Member-clause-reads
+read_structure-returns-in_err-value-in-Member-clause-reads g t c =
+    let d = g.met.D.ShapeDeserializer in
+    let s0 = g.D.ShapeDeserializer.settings c.args.source.now in
+    let laws = obeyed _ _ _ (d.lawful s0) (d.lifted_lawful s0) (d.above s0) (d.counts s0) in
+    let outer = site_of c.args.schema.now in
+    let half = c.loop-members.invariant.half in
+    let same = c.loop-members.invariant.same in
+    let step = rw (c.in-Member.is, same) at (c.in_ok-member.ensures.ok half.kept.due) in
+    let p = err_from_is_err_and c.from_residual-in_err-value-in-Member.result c.from_residual-in_err-value-in-Member.ensures.1 in
+    rw (p.1, p.2)
+    (member_fails _ _ _ _ laws g.T.Tree.view g.T.Tree.view outer c.in-Member.member _ _ _ _ _ _ (structure_has_members _ c.requires.place) half step (rw (c.next_member.ensures.same, same) at c.in_err-value-in-Member.ensures.reads))
+
+-- memory ran out
+pub read_structure-returns-in_err-set_member-in-Member-clause-reads : goal.read_structure-returns-in_err-set_member-in-Member-clause-reads
+read_structure-returns-in_err-set_member-in-Member-clause-reads g t c =
+    let d = g.met.D.ShapeDeserializer in
+    let s0 = g.D.ShapeDeserializer.settings c.args.source.now in
+    let laws = obeyed _ _ _ (d.lawful s0) (d.lifted_lawful s0) (d.above s0) (d.counts s0) in
+    let outer = site_of c.args.schema.now in
+    let half = c.loop-members.invariant.half in
+    let same = c.loop-members.invariant.same in
+    let step = rw (c.in-Member.is, same) at (c.in_ok-member.ensures.ok half.kept.due) in
+    let reads = rw (c.next_member.ensures.same, same) at c.in_ok-value-in-Member.ensures.reads in
+    let p = err_from_is_err_and c.from_residual-in_err-set_member-in-Member.result c.from_residual-in_err-set_member-in-Member.ensures.1 in
+    rw (p.1, p.2)
+    (memory_fails _ _ _ _ g.T.Tree.view outer _ _ _ (value_passed _ _ _ _ laws g.T.Tree.view (site_of c.in-Member.member) _ _ _ _ (stepped_to _ _ _ laws _ _ _ _ _ (Some step.0) half.reached step.2) reads) c.in_err-set_member-in-Member.ensures.err)
 
 -- a member was read
 pub read_structure-loop-members-preserved-in-Continue-branch-5 : goal.read_structure-loop-members-preserved-in-Continue-branch-5
 read_structure-loop-members-preserved-in-Continue-branch-5 g t c =
     let d = g.met.D.ShapeDeserializer in
     let s0 = g.D.ShapeDeserializer.settings c.args.source.now in
-    let counts = d.counts s0 in
+    let laws = obeyed _ _ _ (d.lawful s0) (d.lifted_lawful s0) (d.above s0) (d.counts s0) in
     let outer = site_of c.args.schema.now in
-    let inside = c.loop-members.invariant.inside in
-    let step = rw (c.in-Member.is, c.loop-members.invariant.same) at (c.in_ok-member.ensures.ok inside.due) in
-    let reads = rw (c.next_member.ensures.same, c.loop-members.invariant.same) at c.in_ok-value-in-Member.ensures.ok in
+    let half = c.loop-members.invariant.half in
+    let same = c.loop-members.invariant.same in
+    let step = rw (c.in-Member.is, same) at (c.in_ok-member.ensures.ok half.kept.due) in
+    let reads = rw (c.next_member.ensures.same, same) at c.in_ok-value-in-Member.ensures.reads in
     record {
-      same = search rules;
-      inside = rw c.in_ok-set_member-in-Member.ensures.ok (member_read _ _ _ (d.lawful s0) (itself _) _ _ _ _ outer c.in-Member.member _ c.in-Some.index _ inside step (sym c.in-Some.ensures) reads);
-      would = rw c.in_ok-set_member-in-Member.ensures.ok (member_read _ _ _ (d.lifted_lawful s0) (d.above s0) _ _ _ _ outer c.in-Member.member _ c.in-Some.index _ c.loop-members.invariant.would step (sym c.in-Some.ensures) reads);
-      counted = λ strict before. value_counted _ (counts strict) _ _ _ _ _ reads (step_counted _ (counts strict) _ _ _ _ _ step.2 (c.loop-members.invariant.counted strict before));
+      same = c.read_tree.ensures.same ∙ c.next_member.ensures.same ∙ same;
+      half = rw c.in_ok-set_member-in-Member.ensures.ok (member_passed _ _ _ _ laws outer c.in-Member.member _ _ _ _ _ c.in-Some.index _ half step (sym c.in-Some.ensures) reads.ok);
     }
+
+-- an unknown entry can not be skipped
+pub read_structure-returns-in_err-skip_value-in-Unknown-clause-reads : goal.read_structure-returns-in_err-skip_value-in-Unknown-clause-reads
+read_structure-returns-in_err-skip_value-in-Unknown-clause-reads g t c =
+    let d = g.met.D.ShapeDeserializer in
+    let s0 = g.D.ShapeDeserializer.settings c.args.source.now in
+    let laws = obeyed _ _ _ (d.lawful s0) (d.lifted_lawful s0) (d.above s0) (d.counts s0) in
+    let outer = site_of c.args.schema.now in
+    let half = c.loop-members.invariant.half in
+    let same = c.loop-members.invariant.same in
+    let step = rw (c.in-Unknown.is, same) at (c.in_ok-member.ensures.ok half.kept.due) in
+    let told = c.in_err-skip_value-in-Unknown.ensures in
+    let p = err_from_is_err_and c.from_residual-in_err-skip_value-in-Unknown.result c.from_residual-in_err-skip_value-in-Unknown.ensures.1 in
+    rw (p.1, p.2)
+    (unknown_fails _ _ _ _ laws g.T.Tree.view outer _ _ _ _ _ _ c.requires.place half step told.conduct told.narrow (rw (c.next_member.ensures.same, same) at told.deep) (rw (c.next_member.ensures.same, same) at told.refused) (rw (c.next_member.ensures.same, same) at told.would))
 
 -- an unknown entry was skipped
 pub read_structure-loop-members-preserved : goal.read_structure-loop-members-preserved
 read_structure-loop-members-preserved g t c =
     let d = g.met.D.ShapeDeserializer in
     let s0 = g.D.ShapeDeserializer.settings c.args.source.now in
-    let counts = d.counts s0 in
+    let laws = obeyed _ _ _ (d.lawful s0) (d.lifted_lawful s0) (d.above s0) (d.counts s0) in
     let outer = site_of c.args.schema.now in
-    let inside = c.loop-members.invariant.inside in
-    let step = rw (c.in-Unknown.is, c.loop-members.invariant.same) at (c.in_ok-member.ensures.ok inside.due) in
-    let skips = rw (c.next_member.ensures.same, c.loop-members.invariant.same) at c.in_ok-skip_value-in-Unknown.ensures.ok in
+    let half = c.loop-members.invariant.half in
+    let same = c.loop-members.invariant.same in
+    let step = rw (c.in-Unknown.is, same) at (c.in_ok-member.ensures.ok half.kept.due) in
+    let skips = rw (c.next_member.ensures.same, same) at c.in_ok-skip_value-in-Unknown.ensures.ok in
     record {
-      same = search rules;
-      inside = unknown_skipped _ _ _ (d.lawful s0) (itself _) _ _ _ _ outer _ c.requires.place inside step skips c.in_ok-skip_value-in-Unknown.ensures.passes;
-      would = unknown_skipped _ _ _ (d.lifted_lawful s0) (d.above s0) _ _ _ _ outer _ c.requires.place c.loop-members.invariant.would step skips c.in_ok-skip_value-in-Unknown.ensures.passes;
-      counted = λ strict before. skip_counted _ (counts strict) _ _ skips c.in_ok-skip_value-in-Unknown.ensures.passes (step_counted _ (counts strict) _ _ _ _ _ step.1 (c.loop-members.invariant.counted strict before));
+      same = c.skip_value.ensures.same ∙ c.next_member.ensures.same ∙ same;
+      half = unknown_passed _ _ _ _ laws outer _ _ _ _ _ c.requires.place half step skips c.in_ok-skip_value-in-Unknown.ensures.passes;
     }
 
 -- the structure ended
-pub read_structure-returns-in-End-clause-ok : goal.read_structure-returns-in-End-clause-ok
-read_structure-returns-in-End-clause-ok g t c =
-    let inside = c.loop-members.invariant.inside in
-    rw c.structure.ensures
-    (end _ _ _ _ _ _ _ _ _ _ _ inside (rw (c.in-End.is, c.loop-members.invariant.same) at (c.in_ok-member.ensures.ok inside.due)) refl)
-
--- the structure can not go on
-pub read_structure-returns-in_err-member-clause-refused : goal.read_structure-returns-in_err-member-clause-refused
-read_structure-returns-in_err-member-clause-refused g t c =
-    let inside = c.loop-members.invariant.inside in
-    let p = err_from_is_err_and c.from_residual-in_err-member.result c.from_residual-in_err-member.ensures.1 in
-    rw (p.1, p.2)
-    (λ refused. stuck _ _ _ _ _ _ _ _ _ inside (rw c.loop-members.invariant.same at (c.in_err-member.ensures.refused refused inside.due)))
-
-pub read_structure-returns-in_err-member-clause-would : goal.read_structure-returns-in_err-member-clause-would
-read_structure-returns-in_err-member-clause-would g t c =
-    let inside = c.loop-members.invariant.inside in
-    let p = err_from_is_err_and c.from_residual-in_err-member.result c.from_residual-in_err-member.ensures.1 in
-    rw (p.1, p.2)
-    (λ strict refused. stuck _ _ _ _ _ _ _ _ _ c.loop-members.invariant.would (rw c.loop-members.invariant.same at (c.in_err-member.ensures.would (rw c.loop-members.invariant.same strict) refused inside.due)))
-
--- the value of a member was refused
-pub read_structure-returns-in_err-value-in-Member-clause-refused : goal.read_structure-returns-in_err-value-in-Member-clause-refused
-read_structure-returns-in_err-value-in-Member-clause-refused g t c =
-    let outer = site_of c.args.schema.now in
-    let inside = c.loop-members.invariant.inside in
-    let step = rw (c.in-Member.is, c.loop-members.invariant.same) at (c.in_ok-member.ensures.ok inside.due) in
-    let p = err_from_is_err_and c.from_residual-in_err-value-in-Member.result c.from_residual-in_err-value-in-Member.ensures.1 in
-    rw (p.1, p.2)
-    (λ refused. member_refused _ _ _ (g.met.D.ShapeDeserializer.lawful (g.D.ShapeDeserializer.settings c.args.source.now)) (itself _) _ _ _ outer c.in-Member.member _ (structure_has_members _ c.requires.place) inside step
-    (rw (c.next_member.ensures.same, c.loop-members.invariant.same) at (c.in_err-value-in-Member.ensures.refused refused)))
-
-pub read_structure-returns-in_err-value-in-Member-clause-would : goal.read_structure-returns-in_err-value-in-Member-clause-would
-read_structure-returns-in_err-value-in-Member-clause-would g t c =
+pub read_structure-returns-in-End-clause-reads : goal.read_structure-returns-in-End-clause-reads
+read_structure-returns-in-End-clause-reads g t c =
     let d = g.met.D.ShapeDeserializer in
     let s0 = g.D.ShapeDeserializer.settings c.args.source.now in
+    let laws = obeyed _ _ _ (d.lawful s0) (d.lifted_lawful s0) (d.above s0) (d.counts s0) in
     let outer = site_of c.args.schema.now in
-    let inside = c.loop-members.invariant.inside in
-    let step = rw (c.in-Member.is, c.loop-members.invariant.same) at (c.in_ok-member.ensures.ok inside.due) in
-    let p = err_from_is_err_and c.from_residual-in_err-value-in-Member.result c.from_residual-in_err-value-in-Member.ensures.1 in
-    rw (p.1, p.2)
-    (λ strict refused. member_refused _ _ _ (d.lifted_lawful s0) (d.above s0) _ _ _ outer c.in-Member.member _ (structure_has_members _ c.requires.place) c.loop-members.invariant.would step
-    (rw (c.next_member.ensures.same, c.loop-members.invariant.same) at (c.in_err-value-in-Member.ensures.would (rw (c.next_member.ensures.same, c.loop-members.invariant.same) strict) refused)))
-
--- an unknown entry can not be skipped
-pub read_structure-returns-in_err-skip_value-in-Unknown-clause-refused : goal.read_structure-returns-in_err-skip_value-in-Unknown-clause-refused
-read_structure-returns-in_err-skip_value-in-Unknown-clause-refused g t c =
-    let outer = site_of c.args.schema.now in
-    let inside = c.loop-members.invariant.inside in
-    let step = rw (c.in-Unknown.is, c.loop-members.invariant.same) at (c.in_ok-member.ensures.ok inside.due) in
-    let p = err_from_is_err_and c.from_residual-in_err-skip_value-in-Unknown.result c.from_residual-in_err-skip_value-in-Unknown.ensures.1 in
-    rw (p.1, p.2)
-    (λ refused. unknown_refused _ _ _ (g.met.D.ShapeDeserializer.lawful (g.D.ShapeDeserializer.settings c.args.source.now)) (itself _) _ _ _ outer _ c.requires.place inside step
-    (rw (c.next_member.ensures.same, c.loop-members.invariant.same) at (c.in_err-skip_value-in-Unknown.ensures.refused refused step.1.due)))
-
-pub read_structure-returns-in_err-skip_value-in-Unknown-clause-would : goal.read_structure-returns-in_err-skip_value-in-Unknown-clause-would
-read_structure-returns-in_err-skip_value-in-Unknown-clause-would g t c =
-    let d = g.met.D.ShapeDeserializer in
-    let s0 = g.D.ShapeDeserializer.settings c.args.source.now in
-    let outer = site_of c.args.schema.now in
-    let inside = c.loop-members.invariant.inside in
-    let step = rw (c.in-Unknown.is, c.loop-members.invariant.same) at (c.in_ok-member.ensures.ok inside.due) in
-    let p = err_from_is_err_and c.from_residual-in_err-skip_value-in-Unknown.result c.from_residual-in_err-skip_value-in-Unknown.ensures.1 in
-    rw (p.1, p.2)
-    (λ strict refused. unknown_refused _ _ _ (d.lifted_lawful s0) (d.above s0) _ _ _ outer _ c.requires.place c.loop-members.invariant.would step
-    (rw (c.next_member.ensures.same, c.loop-members.invariant.same) at (c.in_err-skip_value-in-Unknown.ensures.would (rw (c.next_member.ensures.same, c.loop-members.invariant.same) strict) refused step.1.due)))
+    let half = c.loop-members.invariant.half in
+    let same = c.loop-members.invariant.same in
+    let leaves = rw (c.in-End.is, same) at (c.in_ok-member.ensures.ok half.kept.due) in
+    ends_whole _ _ _ _ laws g.T.Tree.view outer _ _ _ _ _ _ _ half leaves refl c.structure.ensures tt
 
 -- less is left to read
 pub read_structure-loop-members-smaller-in-Continue-branch-5 : goal.read_structure-loop-members-smaller-in-Continue-branch-5
 read_structure-loop-members-smaller-in-Continue-branch-5 g t c =
     let outer = site_of c.args.schema.now in
-    let inside = c.loop-members.invariant.inside in
-    let step = rw (c.in-Member.is, c.loop-members.invariant.same) at (c.in_ok-member.ensures.ok inside.due) in
-    let reads = rw (c.next_member.ensures.same, c.loop-members.invariant.same) at c.in_ok-value-in-Member.ensures.ok in
-    rw (c.read_tree.ensures.same, c.next_member.ensures.same, c.loop-members.invariant.same)
-    (left_falls _ _ _ (g.met.D.ShapeDeserializer.lawful (g.D.ShapeDeserializer.settings c.args.source.now)) _ _ _ _ _ _ _ _ _ (child_value (Some step.0) (Some c.in-Some.index) (g.T.Tree.view c.in_ok-value-in-Member.value)) inside step.2
-    (member_child _ _ _ outer c.in-Member.member c.in-Some.index _ _ step (sym c.in-Some.ensures) reads.stands) reads.passes)
+    let half = c.loop-members.invariant.half in
+    let same = c.loop-members.invariant.same in
+    let step = rw (c.in-Member.is, same) at (c.in_ok-member.ensures.ok half.kept.due) in
+    let reads = rw (c.next_member.ensures.same, same) at c.in_ok-value-in-Member.ensures.reads in
+    rw (c.read_tree.ensures.same, c.next_member.ensures.same, same)
+    (left_falls _ _ _ (g.met.D.ShapeDeserializer.lawful (g.D.ShapeDeserializer.settings c.args.source.now)) _ _ _ _ _ _ _ _ (Some step.0) (child_value (Some step.0) (Some c.in-Some.index) (g.T.Tree.view c.in_ok-value-in-Member.value)) half.kept step.2
+    (member_child _ _ _ outer c.in-Member.member c.in-Some.index _ _ step (sym c.in-Some.ensures) reads.ok.stands) reads.ok.passes)
 
 pub read_structure-loop-members-smaller : goal.read_structure-loop-members-smaller
 read_structure-loop-members-smaller g t c =
-    let inside = c.loop-members.invariant.inside in
-    let step = rw (c.in-Unknown.is, c.loop-members.invariant.same) at (c.in_ok-member.ensures.ok inside.due) in
-    let skips = rw (c.next_member.ensures.same, c.loop-members.invariant.same) at c.in_ok-skip_value-in-Unknown.ensures.ok in
-    rw (c.skip_value.ensures.same, c.next_member.ensures.same, c.loop-members.invariant.same)
-    (left_falls _ _ _ (g.met.D.ShapeDeserializer.lawful (g.D.ShapeDeserializer.settings c.args.source.now)) _ _ _ _ _ _ _ _ _ (child_unknown (Some step.0)) inside step.1 (refl, c.requires.place, step.2, skips) c.in_ok-skip_value-in-Unknown.ensures.passes)
-
--- in a child, a number leaves its limits, or what stands there isn't carried
-pub read_structure-returns-in_err-value-in-Member-clause-wide : goal.read_structure-returns-in_err-value-in-Member-clause-wide
-read_structure-returns-in_err-value-in-Member-clause-wide g t c =
-    let outer = site_of c.args.schema.now in
-    let inside = c.loop-members.invariant.inside in
-    let step = rw (c.in-Member.is, c.loop-members.invariant.same) at (c.in_ok-member.ensures.ok inside.due) in
-    let p = err_from_is_err_and c.from_residual-in_err-value-in-Member.result c.from_residual-in_err-value-in-Member.ensures.1 in
-    rw (p.1, p.2)
-    (λ is. inside_member (g.D.ShapeDeserializer.wire (g.D.ShapeDeserializer.settings c.args.source.now)).exceeds _ _ _ _ _ _ (g.D.ShapeDeserializer.state c.read_tree.new.source) outer c.in-Member.member _ _ inside step (rw (c.next_member.ensures.same, c.loop-members.invariant.same) at (c.in_err-value-in-Member.ensures.wide is)))
-
-pub read_structure-returns-in_err-value-in-Member-clause-uncarried : goal.read_structure-returns-in_err-value-in-Member-clause-uncarried
-read_structure-returns-in_err-value-in-Member-clause-uncarried g t c =
-    let outer = site_of c.args.schema.now in
-    let inside = c.loop-members.invariant.inside in
-    let step = rw (c.in-Member.is, c.loop-members.invariant.same) at (c.in_ok-member.ensures.ok inside.due) in
-    let p = err_from_is_err_and c.from_residual-in_err-value-in-Member.result c.from_residual-in_err-value-in-Member.ensures.1 in
-    rw (p.1, p.2)
-    (λ is. inside_member (g.D.ShapeDeserializer.wire (g.D.ShapeDeserializer.settings c.args.source.now)).uncarried _ _ _ _ _ _ (g.D.ShapeDeserializer.state c.read_tree.new.source) outer c.in-Member.member _ _ inside step (rw (c.next_member.ensures.same, c.loop-members.invariant.same) at (c.in_err-value-in-Member.ensures.uncarried is)))
+    let half = c.loop-members.invariant.half in
+    let same = c.loop-members.invariant.same in
+    let step = rw (c.in-Unknown.is, same) at (c.in_ok-member.ensures.ok half.kept.due) in
+    let skips = rw (c.next_member.ensures.same, same) at c.in_ok-skip_value-in-Unknown.ensures.ok in
+    rw (c.skip_value.ensures.same, c.next_member.ensures.same, same)
+    (left_falls _ _ _ (g.met.D.ShapeDeserializer.lawful (g.D.ShapeDeserializer.settings c.args.source.now)) _ _ _ _ _ _ _ _ (Some step.0) (child_unknown (Some step.0)) half.kept step.1 (refl, c.requires.place, step.2, skips) c.in_ok-skip_value-in-Unknown.ensures.passes)

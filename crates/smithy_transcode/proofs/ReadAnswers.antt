@@ -1,0 +1,245 @@
+-- What a read of a value answers, by each way out of it: one record for each.
+use Rattle.std.proofs.Common.{◌≡◌, ℕ, Some, true, false, Result, Ok, Err, IfOk, IfErr, IsErrOf, refl, sym, ◌∙◌, ap, subst, arith}
+use Rattle.smithy_schema.specs.declared.place.Place.{Place}
+use Rattle.smithy_schema.specs.declared.shape_type.Scalar.{Scalar}
+use Rattle.smithy_schema.specs.declared.shape_type.ShapeType.TheVariants as types
+use Rattle.smithy_schema.specs.declared.error.SerdeError.{SerdeError}
+use Rattle.smithy_schema.specs.declared.error.SerdeError.TheVariants.{InvalidInput, TooDeep, TooWide, NotCarried, Unsupported, Unwritable, Failed, NoMemory}
+use Rattle.smithy_schema.specs.Table.{scalar_type, type_of}
+use Rattle.smithy_schema.specs.Site.{Site, kind_at}
+use Rattle.smithy_schema.specs.Value.{ScalarValue, Value, scalar_value, document_value}
+use Rattle.smithy_types.specs.Document.{whole_document}
+use Rattle.smithy_types.specs.DocumentView.{document_view}
+use Rattle.smithy_types.specs.declared.document.Document.{Document}
+use Rattle.smithy_schema.specs.Reading.{Cursor, depth, Relations, IsLawful, IsBelow, CountsOpeners, IsCounted, IsContainer, Conducts, RefusesNoScalar, Reads, ReadsScalar, ReadsDocument, StandsNot, OpensNot, ReachesDepth, IsFault, IsInvalid, failed_at}
+use Rattle.smithy_schema.proofs.CountLemmas.{refusal_counted, value_counted}
+use Rattle.smithy_transcode.specs.ReadValue.{ReadsValue}
+use Rattle.smithy_transcode.proofs.ReadWide.{Lying, StandsInside, error_is, scalar_inside, scalar_read, place_told, document_told, document_inside, document_read}
+
+-- what a wire proves of its relations, and of those with the limits lifted
+pub record ObeysLaws (w u : Relations) (is_strict : Type 0) : Type 0 where
+  pub kept : IsLawful w
+  pub lifted : IsLawful u
+  pub below : IsBelow w u
+  pub counts : is_strict → CountsOpeners w
+
+pub obeyed : (w u : Relations) (is_strict : Type 0) → IsLawful w → IsLawful u → IsBelow w u → (is_strict → CountsOpeners w) → ObeysLaws w u is_strict
+obeyed w u is_strict kept lifted below counts = record { kept = kept; lifted = lifted; below = below; counts = counts }
+
+-- from s0, where a value was due, the reader came to s, and nothing failed
+pub record Reached (w : Relations) (is_strict : Type 0) (s0 s : Cursor) : Type 0 where
+  pub input : s.input ≡ s0.input
+  pub fresh : s0.failed ≡ true → ⊥
+  pub going : s.failed ≡ true → ⊥
+  pub counted : is_strict → IsCounted w s0 → IsCounted w s
+
+-- an error stays the same under a result of another type
+error_as : {A B : Type 0} (e f : SerdeError) → IsErrOf {T = A} {E = SerdeError} (Err e) f → IsErrOf {T = B} {E = SerdeError} (Err e) f
+error_as {A} {B} e f is = ap Err (error_is {B = A} e f is)
+
+-- `InvalidInput` and `NoMemory` are no other error
+not_invalid : {A : Type 0} (f : SerdeError) → (InvalidInput ≡ f → ⊥) → IsErrOf {T = A} {E = SerdeError} (Err InvalidInput) f → ⊥
+not_invalid {A} f other is = other (error_is {B = A} InvalidInput f is)
+
+not_memory : {A : Type 0} (f : SerdeError) → (NoMemory ≡ f → ⊥) → IsErrOf {T = A} {E = SerdeError} (Err NoMemory) f → ⊥
+not_memory {A} f other is = other (error_is {B = A} NoMemory f is)
+
+no_error : {A : Type 0} (x : A) (f : SerdeError) → IsErrOf {T = A} {E = SerdeError} (Ok x) f → ⊥
+no_error {A} x f is = let both : ◌≡◌ {A = Result A SerdeError} (Ok x) (Err f) = is in cc
+
+-- a call that answered Ok had not failed before
+pub not_failed : {A : Type 0} (old new : Cursor) (x : A) → Conducts {A = A} old new (Ok x) → old.failed ≡ true → ⊥
+not_failed {A} old new x conduct failed = no_error {A = A} x Failed (conduct.failed.1 failed)
+
+module _ (w u : Relations) (is_strict : Type 0) (max : ℕ) where
+  -- a call refuses, inside of what is read
+  pub call_fails : {A B : Type 0} (view : B → Value) (site : Site) (s0 s s1 : Cursor) (e : SerdeError) → Reached w is_strict s0 s
+      → Conducts {A = A} s s1 (Err e) → RefusesNoScalar {A = A} (Err e) → (IsErrOf {T = A} {E = SerdeError} (Err e) TooDeep → ReachesDepth w max s)
+      → (IsFault e → StandsNot w s0 site.table site.place)
+      → (is_strict → IsInvalid {A = A} (Err e) → StandsNot u s0 site.table site.place)
+      → ReadsValue {A = B} w u is_strict max s0 s1 site view (Err e)
+  call_fails {A} {B} view site s0 s s1 e reached conduct narrow deep refused would = record {
+    ok = tt;
+    refused = refused;
+    would = would;
+    failed = ((λ is. absurd (reached.going (conduct.failed.0 (error_as {A = B} {B = A} e Failed is)))), λ failed. absurd (reached.fresh failed));
+    supported = λ is. conduct.supported (error_as {A = B} {B = A} e Unsupported is);
+    readable = λ is. conduct.readable (error_as {A = B} {B = A} e Unwritable is);
+    deep = λ is. subst (ReachesDepth w max) (sym conduct.stays) (deep (error_as {A = B} {B = A} e TooDeep is));
+    wide = λ is. absurd (narrow.0 (error_as {A = B} {B = A} e TooWide is));
+    uncarried = λ is. absurd (narrow.1 (error_as {A = B} {B = A} e NotCarried is));
+    input = ap (λ (c : Cursor). c.input) conduct.stays ∙ reached.input;
+    counted = λ strict before. refusal_counted w s s1 conduct.stays (reached.counted strict before);
+  }
+
+  -- the container can't be entered
+  pub open_fails : {A B : Type 0} (view : B → Value) (site : Site) (s0 s1 : Cursor) (e : SerdeError) → IsLawful w → IsLawful u → IsContainer (kind_at site) → s0.due ≡ true
+      → Conducts {A = A} s0 s1 (Err e) → RefusesNoScalar {A = A} (Err e)
+      → (IsFault e → s0.due ≡ true → w.allows (depth s0) → OpensNot w s0 site.table site.place)
+      → (is_strict → IsInvalid {A = A} (Err e) → s0.due ≡ true → OpensNot u s0 site.table site.place)
+      → (IsErrOf {T = A} {E = SerdeError} (Err e) TooDeep → depth s0 ≡ max)
+      → ReadsValue {A = B} w u is_strict max s0 s1 site view (Err e)
+  open_fails {A} {B} view site s0 s1 e laws over kind due conduct narrow refused would deepest = record {
+    ok = tt;
+    refused = λ fault v end stands.
+        let found = laws.unfolded s0.input site.table site.place (depth s0) s0.at v end kind stands in
+        refused fault due found.allowed found.inside found.mark found.opens;
+    would = λ strict invalid v end stands.
+        let found = over.unfolded s0.input site.table site.place (depth s0) s0.at v end kind stands in
+        would strict invalid due found.inside found.mark found.opens;
+    failed = ((λ is. conduct.failed.0 (error_as {A = B} {B = A} e Failed is)), λ failed. error_as {A = A} {B = B} e Failed (conduct.failed.1 failed));
+    supported = λ is. conduct.supported (error_as {A = B} {B = A} e Unsupported is);
+    readable = λ is. conduct.readable (error_as {A = B} {B = A} e Unwritable is);
+    deep = λ is.
+        let most = deepest (error_as {A = B} {B = A} e TooDeep is) in
+        let level : depth s1 ≡ depth s0 = ap depth conduct.stays in
+        omega (arith, most, level);
+    wide = λ is. absurd (narrow.0 (error_as {A = B} {B = A} e TooWide is));
+    uncarried = λ is. absurd (narrow.1 (error_as {A = B} {B = A} e NotCarried is));
+    input = ap (λ (c : Cursor). c.input) conduct.stays;
+    counted = λ strict before. refusal_counted w s0 s1 conduct.stays before;
+  }
+
+  -- memory runs out
+  pub memory_fails : {B : Type 0} (view : B → Value) (site : Site) (s0 s : Cursor) (e : SerdeError) → Reached w is_strict s0 s → e ≡ NoMemory
+      → ReadsValue {A = B} w u is_strict max s0 s site view (Err e)
+  memory_fails {B} view site s0 s e reached is =
+      subst (λ (x : SerdeError). ReadsValue {A = B} w u is_strict max s0 s site view (Err x)) (sym is)
+      (record {
+        ok = tt;
+        refused = λ fault. absurd fault;
+        would = λ strict invalid. absurd invalid;
+        failed = ((λ is. absurd (not_memory {A = B} Failed (λ e. cc) is)), λ failed. absurd (reached.fresh failed));
+        supported = not_memory {A = B} Unsupported (λ e. cc);
+        readable = not_memory {A = B} Unwritable (λ e. cc);
+        deep = λ is. absurd (not_memory {A = B} TooDeep (λ e. cc) is);
+        wide = λ is. absurd (not_memory {A = B} TooWide (λ e. cc) is);
+        uncarried = λ is. absurd (not_memory {A = B} NotCarried (λ e. cc) is);
+        input = reached.input;
+        counted = reached.counted;
+      })
+
+  -- the reader is made to fail where it is
+  pub made_to_fail : {B : Type 0} (view : B → Value) (site : Site) (s0 s s1 : Cursor) → Reached w is_strict s0 s → s1 ≡ failed_at s
+      → StandsNot w s0 site.table site.place → StandsNot u s0 site.table site.place
+      → ReadsValue {A = B} w u is_strict max s0 s1 site view (Err InvalidInput)
+  made_to_fail {B} view site s0 s s1 reached stays refused would = record {
+    ok = tt;
+    refused = λ fault. refused;
+    would = λ strict invalid. would;
+    failed = ((λ is. absurd (not_invalid {A = B} Failed (λ e. cc) is)), λ failed. absurd (reached.fresh failed));
+    supported = not_invalid {A = B} Unsupported (λ e. cc);
+    readable = not_invalid {A = B} Unwritable (λ e. cc);
+    deep = λ is. absurd (not_invalid {A = B} TooDeep (λ e. cc) is);
+    wide = λ is. absurd (not_invalid {A = B} TooWide (λ e. cc) is);
+    uncarried = λ is. absurd (not_invalid {A = B} NotCarried (λ e. cc) is);
+    input = ap (λ (c : Cursor). c.input) stays ∙ reached.input;
+    counted = λ strict before. refusal_counted w s s1 stays (reached.counted strict before);
+  }
+
+  -- an error of an inner read is an error of the outer one
+  pub inner_fails : {A B : Type 0} (inner : A → Value) (view : B → Value) (child site : Site) (s0 s1 s2 : Cursor) (e : SerdeError) → Reached w is_strict s0 s1
+      → ReadsValue {A = A} w u is_strict max s1 s2 child inner (Err e)
+      → (StandsNot w s1 child.table child.place → StandsNot w s0 site.table site.place)
+      → (StandsNot u s1 child.table child.place → StandsNot u s0 site.table site.place)
+      → ((lies : Lying) → StandsInside lies s1 s2 child.table child.place → StandsInside lies s0 s2 site.table site.place)
+      → ReadsValue {A = B} w u is_strict max s0 s2 site view (Err e)
+  inner_fails {A} {B} inner view child site s0 s1 s2 e reached reads refused would inside = record {
+    ok = tt;
+    refused = λ fault. refused (reads.refused fault);
+    would = λ strict invalid. would (reads.would strict invalid);
+    failed = ((λ is. absurd (reached.going (reads.failed.0 (error_as {A = B} {B = A} e Failed is)))), λ failed. absurd (reached.fresh failed));
+    supported = λ is. reads.supported (error_as {A = B} {B = A} e Unsupported is);
+    readable = λ is. reads.readable (error_as {A = B} {B = A} e Unwritable is);
+    deep = λ is. reads.deep (error_as {A = B} {B = A} e TooDeep is);
+    wide = λ is. inside w.exceeds (reads.wide (error_as {A = B} {B = A} e TooWide is));
+    uncarried = λ is. inside w.uncarried (reads.uncarried (error_as {A = B} {B = A} e NotCarried is));
+    input = reads.input ∙ reached.input;
+    counted = λ strict before. reads.counted strict (reached.counted strict before);
+  }
+
+  -- a scalar that is due is refused
+  pub scalar_fails : {A B : Type 0} (kind : Scalar) (value : A → ScalarValue) (view : B → Value) (site : Site) (old new : Cursor) (e : SerdeError) → Some (scalar_type kind) ≡ type_of (kind_at site) → old.due ≡ true
+      → ReadsScalar {A = A} w u is_strict old new site kind value (Err e)
+      → ReadsValue {A = B} w u is_strict max old new site view (Err e)
+  scalar_fails {A} {B} kind value view site old new e is due reads =
+      let here = place_told site.table site.place kind is in
+      record {
+        ok = tt;
+        refused = λ fault. subst (λ (p : Place). StandsNot w old site.table p) (sym here) (reads.refused fault due);
+        would = λ strict invalid. subst (λ (p : Place). StandsNot u old site.table p) (sym here) (reads.would strict invalid due);
+        failed = ((λ is. reads.conduct.failed.0 (error_as {A = B} {B = A} e Failed is)), λ failed. error_as {A = A} {B = B} e Failed (reads.conduct.failed.1 failed));
+        supported = λ is. reads.conduct.supported (error_as {A = B} {B = A} e Unsupported is);
+        readable = λ is. reads.conduct.readable (error_as {A = B} {B = A} e Unwritable is);
+        deep = λ is. absurd (reads.shallow (error_as {A = B} {B = A} e TooDeep is));
+        wide = scalar_inside {A = A} {B = B} w.exceeds old new site kind (Err e) e TooWide refl reads.conduct reads.wide is;
+        uncarried = scalar_inside {A = A} {B = B} w.uncarried old new site kind (Err e) e NotCarried refl reads.conduct reads.uncarried is;
+        input = ap (λ (c : Cursor). c.input) reads.conduct.stays;
+        counted = λ strict before. refusal_counted w old new reads.conduct.stays before;
+      }
+
+  -- a document that is due is refused
+  pub document_fails : {B : Type 0} (view : B → Value) (site : Site) (old new : Cursor) (e : SerdeError) → Some types.Document ≡ type_of (kind_at site) → old.due ≡ true
+      → ReadsDocument w u is_strict max old new site (Err e)
+      → ReadsValue {A = B} w u is_strict max old new site view (Err e)
+  document_fails {B} view site old new e is due reads =
+      let here = document_told site.table site.place is in
+      record {
+        ok = tt;
+        refused = λ fault. subst (λ (p : Place). StandsNot w old site.table p) (sym here) (reads.refused fault due);
+        would = λ strict invalid. subst (λ (p : Place). StandsNot u old site.table p) (sym here) (reads.would strict invalid due);
+        failed = ((λ is. reads.conduct.failed.0 (error_as {A = B} {B = Document} e Failed is)), λ failed. error_as {A = Document} {B = B} e Failed (reads.conduct.failed.1 failed));
+        supported = λ is. reads.conduct.supported (error_as {A = B} {B = Document} e Unsupported is);
+        readable = λ is. reads.conduct.readable (error_as {A = B} {B = Document} e Unwritable is);
+        deep = λ is. subst (ReachesDepth w max) (sym reads.conduct.stays) (reads.deep (error_as {A = B} {B = Document} e TooDeep is));
+        wide = λ is. absurd (reads.narrow (error_as {A = B} {B = Document} e TooWide is));
+        uncarried = document_inside {A = Document} {B = B} w.uncarried old new site (Err e) e NotCarried refl reads.conduct reads.uncarried is;
+        input = ap (λ (c : Cursor). c.input) reads.conduct.stays;
+        counted = λ strict before. refusal_counted w old new reads.conduct.stays before;
+      }
+
+  -- a tree is made of what was read, or memory runs out
+  pub tree_made : {B : Type 0} (view : B → Value) (site : Site) (old new : Cursor) (v : Value) (result : Result B SerdeError) → (is_strict → CountsOpeners w)
+      → (old.failed ≡ true → ⊥) → Reads w old new site.table site.place v → IfOk result (λ x. view x ≡ v) → IfErr result (λ e. e ≡ NoMemory)
+      → ReadsValue {A = B} w u is_strict max old new site view result
+  tree_made {B} view site old new v (Ok x) counts fresh reads made err = record {
+    ok = subst (λ (y : Value). Reads w old new site.table site.place y) (sym made) reads;
+    refused = λ fault. absurd fault;
+    would = λ strict invalid. absurd invalid;
+    failed = ((λ is. absurd (no_error {A = B} x Failed is)), λ failed. absurd (fresh failed));
+    supported = no_error {A = B} x Unsupported;
+    readable = no_error {A = B} x Unwritable;
+    deep = λ is. absurd (no_error {A = B} x TooDeep is);
+    wide = λ is. absurd (no_error {A = B} x TooWide is);
+    uncarried = λ is. absurd (no_error {A = B} x NotCarried is);
+    input = reads.passes.input;
+    counted = λ strict. value_counted w (counts strict) old new site.table site.place v reads;
+  }
+  tree_made {B} view site old new v (Err e) counts fresh reads made err =
+      memory_fails {B = B} view site old new e
+      (record {
+        input = reads.passes.input;
+        fresh = fresh;
+        going = λ failed. let both : true ≡ false = sym failed ∙ reads.passes.failed in cc;
+        counted = λ strict. value_counted w (counts strict) old new site.table site.place v reads;
+      })
+      err
+
+  -- of a scalar
+  pub scalar_made : {A B : Type 0} (kind : Scalar) (value : A → ScalarValue) (view : B → Value) (site : Site) (old new : Cursor) (y : A) (x : ScalarValue) (result : Result B SerdeError) → (is_strict → CountsOpeners w)
+      → Some (scalar_type kind) ≡ type_of (kind_at site) → ReadsScalar {A = A} w u is_strict old new site kind value (Ok y)
+      → value y ≡ x → IfOk result (λ t. view t ≡ scalar_value x) → IfErr result (λ e. e ≡ NoMemory)
+      → ReadsValue {A = B} w u is_strict max old new site view result
+  scalar_made {A} {B} kind value view site old new y x result counts is reads same made err =
+      tree_made {B = B} view site old new (scalar_value x) result counts (not_failed {A = A} old new y reads.conduct)
+      (scalar_read w old new site kind (value y) x (scalar_value x) is reads.ok same refl) made err
+
+  -- of a document
+  pub document_made : {B : Type 0} (view : B → Value) (site : Site) (old new : Cursor) (y : Document) (result : Result B SerdeError) → (is_strict → CountsOpeners w)
+      → Some types.Document ≡ type_of (kind_at site) → ReadsDocument w u is_strict max old new site (Ok y)
+      → IfOk result (λ t. view t ≡ document_value (whole_document (document_view y))) → IfErr result (λ e. e ≡ NoMemory)
+      → ReadsValue {A = B} w u is_strict max old new site view result
+  document_made {B} view site old new y result counts is reads made err =
+      let v = document_value (whole_document (document_view y)) in
+      tree_made {B = B} view site old new v result counts (not_failed {A = Document} old new y reads.conduct)
+      (document_read w old new site v v is reads.ok refl) made err

@@ -1,0 +1,28 @@
+-- What a read of a value says of its answer.
+use Rattle.std.specs.Prelude.{◌≡◌, ◌↔◌, ℕ, true, Result, IfOk, IsErrOf}
+use Rattle.smithy_schema.specs.declared.error.SerdeError.{SerdeError}
+use Rattle.smithy_schema.specs.declared.error.SerdeError.TheVariants.{TooDeep, TooWide, NotCarried, Unsupported, Unwritable, Failed}
+use Rattle.smithy_schema.specs.Site.{Site}
+use Rattle.smithy_schema.specs.Value.{Value}
+use Rattle.smithy_schema.specs.Reading.{Cursor, Relations, Reads, StandsNot, IsRefused, IsInvalid, ReachesDepth, ExceedsInside, UncarriedInside, IsCounted}
+
+-- By the relations w, and by u, those with the limits lifted: a value was due at the site, and what was read of it stands for
+-- `view` of it.
+pub record ReadsValue {A : Type 0} (w u : Relations) (is_strict : Type 0) (max : ℕ) (old new : Cursor) (site : Site) (view : A → Value) (result : Result A SerdeError) : Type 0 where
+  -- Ok: a value of the place stands here, and the reader is past it
+  pub ok : IfOk result (λ x. Reads w old new site.table site.place (view x))
+  -- a refusal: no value of the place stands here; and none would, were the limits lifted
+  pub refused : IsRefused result → StandsNot w old site.table site.place
+  pub would : is_strict → IsInvalid result → StandsNot u old site.table site.place
+  pub failed : IsErrOf result Failed ↔ (old.failed ≡ true)
+  pub supported : IsErrOf result Unsupported → ⊥
+  pub readable : IsErrOf result Unwritable → ⊥
+  -- `TooDeep`: where the reader failed, the bytes from there on reach the greatest depth
+  pub deep : IsErrOf result TooDeep → ReachesDepth w max new
+  -- `TooWide`: where it failed, a big number leaves the limits of the kind that is due there
+  pub wide : IsErrOf result TooWide → ExceedsInside w old new site.table site.place
+  -- `NotCarried`: where it failed stands what the kind that is due there can't carry
+  pub uncarried : IsErrOf result NotCarried → UncarriedInside w old new site.table site.place
+  -- whatever it answers
+  pub input : new.input ≡ old.input
+  pub counted : is_strict → IsCounted w old → IsCounted w new
