@@ -1,0 +1,4 @@
+mod Refusals
+mod Complete
+mod RunLemmas
+mod After

@@ -1,0 +1,72 @@
+-- The line that a run writes to standard error.
+use Rattle.std.specs.Prelude.{◌≡◌, ◌⊎◌, ◌++◌, ℕ, List, [], Bool, Option, Some, None, false, codes, decimal}
+use Rattle.std.specs.Option.{option_map_or}
+use Rattle.smithy_schema.specs.Acceptance.{Fault, bad_line, float_shape, unknown_target, unknown_time_format, duplicate_shape, name_clash, query_name, key_value_name, sparse_document, too_many}
+use Rattle.smithy_schema.specs.declared.fault.TableFault.{TableFault}
+use Rattle.smithy_schema.specs.declared.fault.TableFault.TheVariants as table_faults
+use Rattle.smithy_commands.specs.declared.status.Status.{Status}
+use Rattle.smithy_transcode.specs.declared.wire.Unfit.TheVariants.{Document, Null, Instant}
+use Rattle.smithy_commands.specs.declared.status.Status.TheVariants.{Done, Usage, ReadFailed, WriteFailed, OutOfMemory, InvalidInput, TooDeep, TooWide, NotCarried, Inexpressible, TableRefused, NoSuchShape, NotAStructure, TooLong}
+use Rattle.smithy_outside.specs.Outside.{Told, MetOneFault, MetNoFault, Took, TookPrefix}
+
+-- the name of a fault
+abbrev pub fault_name : Fault → List ℕ
+fault_name bad_line = codes "BadLine"
+fault_name float_shape = codes "FloatShape"
+fault_name unknown_target = codes "UnknownTarget"
+fault_name unknown_time_format = codes "UnknownTimeFormat"
+fault_name duplicate_shape = codes "DuplicateShape"
+fault_name name_clash = codes "NameClash"
+fault_name query_name = codes "QueryName"
+fault_name key_value_name = codes "KeyValueName"
+fault_name sparse_document = codes "SparseDocument"
+fault_name too_many = codes "TooMany"
+
+-- The fault of a table that is refused, and its number. Want of memory refuses no table: it has a status of its own.
+abbrev pub refusal_of : TableFault → Option (Fault × ℕ)
+refusal_of (table_faults.BadLine n) = Some (bad_line, n)
+refusal_of (table_faults.FloatShape n) = Some (float_shape, n)
+refusal_of (table_faults.UnknownTarget n) = Some (unknown_target, n)
+refusal_of (table_faults.UnknownTimeFormat n) = Some (unknown_time_format, n)
+refusal_of (table_faults.DuplicateShape n) = Some (duplicate_shape, n)
+refusal_of (table_faults.NameClash n) = Some (name_clash, n)
+refusal_of (table_faults.QueryName n) = Some (query_name, n)
+refusal_of (table_faults.KeyValueName n) = Some (key_value_name, n)
+refusal_of (table_faults.SparseDocument n) = Some (sparse_document, n)
+refusal_of (table_faults.TooMany n) = Some (too_many, n)
+refusal_of _ = None
+
+-- the name of a fault, a space and its number
+abbrev pub refusal_text : Fault × ℕ → List ℕ
+refusal_text refusal = fault_name refusal.0 ++ codes " " ++ decimal refusal.1
+
+-- what the line of a status says; that of a refused table names the fault
+abbrev pub text_of : Status → List ℕ
+text_of Done = []
+text_of Usage = codes "usage"
+text_of ReadFailed = codes "read failed"
+text_of WriteFailed = codes "write failed"
+text_of OutOfMemory = codes "out of memory"
+text_of InvalidInput = codes "invalid input"
+text_of TooDeep = codes "too deep"
+text_of TooWide = codes "number too wide"
+text_of NotCarried = codes "not carried"
+text_of (Inexpressible Document) = codes "document not expressible"
+text_of (Inexpressible Null) = codes "null not expressible"
+text_of (Inexpressible Instant) = codes "instant not expressible"
+text_of (TableRefused fault) =
+    codes "table refused: " ++ option_map_or refusal_text (refusal_of fault) []
+text_of NoSuchShape = codes "no such shape"
+text_of NotAStructure = codes "not a structure"
+text_of TooLong = codes "too long"
+
+-- the line of a status other than 0
+abbrev pub line_of : Status → List ℕ
+line_of status = codes "smithy_transcode: " ++ text_of status ++ codes "\n"
+
+-- A sink met no fault that shows, took the line and holds nothing back; or it met one fault, and took a
+-- prefix.
+abbrev pub TookLine : List ℕ → (old new : Told) → (new_holds_back : Bool) → Type 0
+TookLine line old new new_holds_back =
+    (MetNoFault old new × Took line old new × (new_holds_back ≡ false))
+    ⊎ (MetOneFault old new × TookPrefix line old new)

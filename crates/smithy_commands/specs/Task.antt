@@ -1,0 +1,32 @@
+-- What a command asks for.
+use Rattle.std.specs.Prelude.{ℕ, List, Option, option_map, false, true}
+use Rattle.smithy_transcode.specs.Wires as wires
+use Rattle.smithy_transcode.specs.Wires.{Wire}
+use Rattle.smithy_commands.specs.Command.{NamedWire, json, json_name, cbor, query, Transcode, command_of}
+
+-- the body of this root, from wire to wire
+pub record Task : Type 0 where
+  pub table_path : List ℕ
+  pub root_name : List ℕ
+  pub from : Wire
+  pub to : Wire
+
+-- the wire of this name
+abbrev pub asked_wire : NamedWire → Wire
+asked_wire json = wires.json false
+asked_wire json_name = wires.json true
+asked_wire cbor = wires.cbor
+asked_wire (query action version) = wires.query action version
+
+-- the task of a command
+abbrev pub task_of : Transcode → Task
+task_of c = record {
+  table_path = c.table_path;
+  root_name = c.root_name;
+  from = asked_wire c.from;
+  to = asked_wire c.to;
+}
+
+-- the task that words ask for
+abbrev pub task_asked : List (List ℕ) → Option Task
+task_asked words = option_map task_of (command_of words)

@@ -1,0 +1,25 @@
+-- What the types of a command stand for.
+use Rattle.smithy_transcode.specs.Wires.{wire_of}
+use Rattle.smithy_commands.specs.declared.words.WireWords.{WireWords}
+use Rattle.smithy_commands.specs.declared.words.WireWords.TheVariants.{Json, JsonName, Cbor, Query}
+use Rattle.smithy_commands.specs.declared.words.Command as kept_command
+use Rattle.smithy_commands.specs.declared.task.Task as kept_task
+use Rattle.smithy_commands.specs.Command.{NamedWire, json, json_name, cbor, query, Transcode}
+use Rattle.smithy_commands.specs.Task.{Task}
+
+-- the wire that the words name
+abbrev pub named_wire : WireWords → NamedWire
+named_wire Json = json
+named_wire JsonName = json_name
+named_wire Cbor = cbor
+named_wire (Query action version) = query action.now version.now
+
+-- the command as plain data
+abbrev pub transcode_view : kept_command.Command → Transcode
+transcode_view c =
+    record { table_path = c.table.now; root_name = c.root.now; from = named_wire c.from; to = named_wire c.to }
+
+-- the task as plain data
+abbrev pub task_view : kept_task.Task → Task
+task_view t =
+    record { table_path = t.table.now; root_name = t.root.now; from = wire_of t.from; to = wire_of t.to }

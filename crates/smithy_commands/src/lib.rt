@@ -1,0 +1,18 @@
+//! One run of the program, over any files, source and sinks: its words, the command that they are, and how it ends.
+//!
+//! `run` takes the words, the objects of smithy_outside that it reads and writes, and answers the number that the
+//! program ends with; `run_on_system` takes the arguments, files and streams of a process.
+#![tactic(auto)]
+
+mod arguments;
+mod reporting;
+mod running;
+mod status;
+mod system;
+mod task;
+mod words;
+
+pub use reporting::report;
+pub use running::{exit_code, run};
+pub use status::Status;
+pub use system::run_on_system;

@@ -1,0 +1,104 @@
+//! How the program ends.
+ghost use Rattle.std.specs.Prelude.{◌≡◌};
+ghost use Rattle.smithy_commands.specs.Status.{status_code, status_of_load_fault, status_of_table_fault, status_of_error};
+
+use smithy_outside::LoadFault;
+use smithy_schema::TableFault;
+use smithy_transcode::{TranscodeError, Unfit};
+
+/// How a run of the program ended.
+#[derive(Clone, Copy, Debug, PartialEq, Eq)]
+pub enum Status {
+    /// All is written.
+    Done,
+    /// The words are no command.
+    Usage,
+    /// The table or the input wasn't read.
+    ReadFailed,
+    /// The output wasn't written whole.
+    WriteFailed,
+    /// Want of memory.
+    OutOfMemory,
+    /// The input spells no value of the root.
+    InvalidInput,
+    /// The input nests too deep.
+    TooDeep,
+    /// A big number of the input leaves the limits of its kind.
+    TooWide,
+    /// The input holds a number of seconds that isn't carried as an instant, or what isn't carried as a document.
+    NotCarried,
+    /// The input spells a value that the wanted wire can't express.
+    Inexpressible(Unfit),
+    /// The table is refused, by this fault.
+    TableRefused(TableFault),
+    /// The table declares no such root.
+    NoSuchShape,
+    /// The root is no structure.
+    NotAStructure,
+    /// The table or the input is longer than its limit.
+    TooLong,
+}
+
+impl Status {
+    /// The number that the program ends with.
+    pub fn code(self) -> u8
+        ensures { result ≡ status_code self }
+    {
+        match self {
+            Status::Done => 0,
+            Status::Usage => 2,
+            Status::ReadFailed => 6,
+            Status::WriteFailed => 7,
+            Status::OutOfMemory => 8,
+            Status::InvalidInput => 10,
+            Status::TooDeep => 11,
+            Status::TooWide => 12,
+            Status::NotCarried => 13,
+            Status::Inexpressible(Unfit::Document) => 14,
+            Status::Inexpressible(Unfit::Null) => 15,
+            Status::Inexpressible(Unfit::Instant) => 16,
+            Status::TableRefused(_) => 20,
+            Status::NoSuchShape => 21,
+            Status::NotAStructure => 22,
+            Status::TooLong => 23,
+        }
+    }
+}
+
+impl From<LoadFault> for Status {
+    ghost from_gives = { λ fault status. status ≡ status_of_load_fault fault };
+
+    fn from(fault: LoadFault) -> Self {
+        match fault {
+            LoadFault::Failed => Status::ReadFailed,
+            LoadFault::TooLong => Status::TooLong,
+            LoadFault::NoMemory => Status::OutOfMemory,
+        }
+    }
+}
+
+impl From<TableFault> for Status {
+    ghost from_gives = { λ fault status. status ≡ status_of_table_fault fault };
+
+    fn from(fault: TableFault) -> Self {
+        match fault {
+            TableFault::NoMemory => Status::OutOfMemory,
+            fault => Status::TableRefused(fault),
+        }
+    }
+}
+
+impl From<TranscodeError> for Status {
+    ghost from_gives = { λ error status. status ≡ status_of_error error };
+
+    fn from(error: TranscodeError) -> Self {
+        match error {
+            TranscodeError::InvalidInput => Status::InvalidInput,
+            TranscodeError::TooDeep => Status::TooDeep,
+            TranscodeError::TooWide => Status::TooWide,
+            TranscodeError::NotCarried => Status::NotCarried,
+            TranscodeError::Inexpressible(unfit) => Status::Inexpressible(unfit),
+            TranscodeError::NoMemory => Status::OutOfMemory,
+        }
+    }
+}

@@ -1,0 +1,64 @@
+//! What a command asks for.
+ghost use Rattle.std.specs.Prelude.{◌≡◌, IfOk, string_bytes};
+ghost use Rattle.smithy_transcode.specs.Wires.{wire_of};
+ghost use Rattle.smithy_commands.specs.Task.{asked_wire, task_of};
+ghost use Rattle.smithy_commands.specs.Words.{named_wire, transcode_view, task_view};
+
+use crate::words::{Command, WireWords};
+use smithy_transcode::Wire;
+use std::alloc::{AllocError, Global};
+
+/// The transcoding of one body.
+#[derive(Drop)]
+pub struct Task<'a> {
+    /// The path of the table.
+    pub table: &'a str,
+    /// The name of the shape that is transcoded.
+    pub root: &'a str,
+    /// The wire of the input.
+    pub from: Wire,
+    /// The wire of the output.
+    pub to: Wire,
+}
+
+// The text of a word, as one of its own.
+fn owned(alloc: Global, word: &str) -> Result<String, AllocError>
+    ensures { IfOk result (λ text. string_bytes text ≡ word.now) }
+{
+    let mut text = String::new(alloc);
+    text.push_str(word)?;
+    Ok(text)
+}
+
+// The wire that the words name.
+fn asked(alloc: Global, words: WireWords<'_>) -> Result<Wire, AllocError>
+    ensures { IfOk result (λ wire. wire_of wire ≡ asked_wire (named_wire words.entry)) }
+{
+    match words {
+        WireWords::Json => Ok(Wire::Json {
+            use_json_name: false,
+        }),
+        WireWords::JsonName => Ok(Wire::Json {
+            use_json_name: true,
+        }),
+        WireWords::Cbor => Ok(Wire::Cbor),
+        WireWords::Query(action, version) => Ok(Wire::Query {
+            action: owned(alloc, action)?,
+            version: owned(alloc, version)?,
+        }),
+    }
+}
+
+impl<'a> Task<'a> {
+    /// The task of a command.
+    pub fn of_command(alloc: Global, command: Command<'a>) -> Result<Task<'a>, AllocError>
+        ensures { IfOk result (λ task. task_view task ≡ task_of (transcode_view command.entry)) }
+    {
+        Ok(Task {
+            table: command.table,
+            root: command.root,
+            from: asked(alloc, command.from)?,
+            to: asked(alloc, command.to)?,
+        })
+    }
+}

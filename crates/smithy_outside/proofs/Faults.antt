@@ -1,0 +1,29 @@
+-- Counts of faults.
+use Rattle.std.proofs.Common.{◌≡◌, ◌<◌, ◌≤◌, ◌+◌, ◌^◌, ◌⊎◌, ◌∙◌, inl, inr, ℕ, min, Result, Ok, Err, leb, true, false, ap, arith}
+use Rattle.std.proofs.Math.Nat.{min-eq_left, min-eq_right, le_of_lt}
+use Rattle.std.proofs.lemmas.Bool.Decides.{leb_tells}
+use Rattle.smithy_outside.specs.declared.outside.LoadFault.{LoadFault}
+use Rattle.smithy_outside.specs.declared.outside.LoadFault.TheVariants.{Failed, TooLong, NoMemory}
+use Rattle.smithy_outside.specs.Outside.{Told, untold, last_count, counted, HasFailed, MetOneFault, IsCountedLoad}
+
+rises_or_stays : (n m : ℕ) → m ≡ counted n → ((leb (n + 1) last_count ≡ true) × (n + 1 ≤ last_count)) ⊎ ((leb (n + 1) last_count ≡ false) × (last_count < n + 1))
+    → (n < m) ⊎ (m ≡ last_count)
+rises_or_stays n m one (inl below) = let rose = one ∙ min-eq_left below.1 in inl (omega (arith, rose))
+rises_or_stays n m one (inr above) = inr (one ∙ min-eq_right (le_of_lt above.1))
+
+-- a fault that was counted shows in the count
+pub has_failed : (a b : Told) → MetOneFault a b → HasFailed a b
+has_failed a b one = rises_or_stays a.faults b.faults one (leb_tells (a.faults + 1) last_count)
+
+none_added : (n s m : ℕ) → n < 2 ^ 64 → m ≡ min (n + s) last_count → s ≡ 0 → m ≡ n
+none_added n s m bound sum none =
+    let same : min (n + s) last_count ≡ n + s = min-eq_left (omega (arith, bound, none)) in omega (arith, sum ∙ same, none)
+
+-- the faults of a load, added to those that were there
+pub added_faults : {T : Type 0} (r : Result T LoadFault) (n s m : ℕ) → n < 2 ^ 64 → m ≡ min (n + s) last_count
+    → IsCountedLoad r (record { faults = 0; content = untold }) (record { faults = s; content = untold })
+    → IsCountedLoad r (record { faults = n; content = untold }) (record { faults = m; content = untold })
+added_faults (Ok x) n s m bound sum none = none_added n s m bound sum none
+added_faults (Err Failed) n s m bound sum one = sum ∙ ap (λ (k : ℕ). min (n + k) last_count) one
+added_faults (Err TooLong) n s m bound sum none = none_added n s m bound sum none
+added_faults (Err NoMemory) n s m bound sum none = none_added n s m bound sum none

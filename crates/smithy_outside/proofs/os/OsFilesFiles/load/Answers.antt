@@ -1,0 +1,12 @@
+use Rattle.std.proofs.Common.{◌<◌, ◌^◌, ℕ, subst, rules}
+use Rattle.smithy_outside.specs.Outside.{untold, IsCountedLoad}
+use Rattle.smithy_outside.proofs.Faults.{added_faults}
+use Rattle.smithy_outside.proofs.os.OsFilesFiles.load.Goals as goal
+
+pub returns-clause-counts : goal.returns-clause-counts
+returns-clause-counts g c =
+    let loaded = c.read_to_end-loaded in
+    let bound : c.args.self.now.faults < 2 ^ 64 = search rules in
+    let counts = subst (λ (n : ℕ). IsCountedLoad loaded.result (record { faults = n; content = untold }) (record { faults = loaded.new.source.faults; content = untold }))
+    c.new-source.ensures.faults loaded.ensures.counts in
+    added_faults loaded.result c.args.self.now.faults loaded.new.source.faults c.saturating_add-self-2.result bound c.saturating_add-self-2.ensures counts

@@ -1,0 +1,17 @@
+//! What a program asks of the outside: files, a source of bytes and sinks for them, in memory and of the system.
+//!
+//! `Files`, `Source` and `Sink` are the traits, whose objects count their faults and may tell what they hold.
+//! `MemoryFiles`, `MemorySource` and `MemorySink` tell it, and fail at the calls that they are made to fail at;
+//! `OsFiles`, `OsSource` and `OsSink`, over a runtime, a reader and a writer, tell their counts alone.
+//! `read_to_end` and `write_all` move whole streams.
+#![tactic(auto)]
+
+mod memory;
+mod os;
+mod outside;
+mod streams;
+
+pub use memory::{MemoryFiles, MemorySink, MemorySource};
+pub use os::{OsFiles, OsSink, OsSource};
+pub use outside::{Failed, Files, LoadFault, Sink, Source};
+pub use streams::{read_to_end, write_all, write_part};

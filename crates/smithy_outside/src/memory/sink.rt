@@ -1,0 +1,114 @@
+//! A sink in memory.
+ghost use Rattle.std.specs.Prelude.{◌≡◌, ◌≢◌, ◌↔◌, ◌⊎◌, ◌<◌, ◌≤◌, ◌-◌, [], min, false, length, take, vec_capacity, Contains, IsErr, IfOk, MatchResult};
+
+use super::is_failing_call;
+use crate::outside::{Failed, Sink};
+use std::alloc::{AllocError, Global};
+
+/// A sink that keeps what it takes in memory. It holds nothing back.
+#[derive(Drop)]
+pub struct MemorySink {
+    /// What it took.
+    pub bytes: Vec<u8>,
+    /// The most bytes that one call takes, at least 1.
+    pub piece: usize,
+    /// The most bytes that it takes in all.
+    pub room: usize,
+    /// The numbers, from 1, of the calls that fail.
+    pub fail: Vec<u64>,
+    /// How many calls there were.
+    pub calls: u64,
+    /// How many of them failed.
+    pub faults: u64,
+    ghost within: { length bytes.items ≤ room },
+    ghost reserved: { room ≤ vec_capacity bytes },
+    ghost some: { 0 < piece },
+}
+
+impl MemorySink {
+    /// A sink with room for so many bytes, which takes at most `piece` of them at once, and of which
+    /// the calls of these numbers, from 1, fail.
+    pub fn new(
+        alloc: Global,
+        piece: usize,
+        room: usize,
+        fail: Vec<u64>,
+    ) -> Result<MemorySink, AllocError>
+        requires { 0 < piece }
+        ensures bytes { IfOk result (λ sink. sink.bytes.items ≡ []) }
+        ensures piece { IfOk result (λ sink. sink.piece ≡ piece) }
+        ensures room { IfOk result (λ sink. sink.room ≡ room) }
+        ensures fail { IfOk result (λ sink. sink.fail ≡ fail) }
+        ensures calls { IfOk result (λ sink. sink.calls ≡ 0) }
+        ensures faults { IfOk result (λ sink. sink.faults ≡ 0) }
+    {
+        Ok(MemorySink {
+            bytes: Vec::with_capacity(alloc, room)?,
+            piece,
+            room,
+            fail,
+            calls: 0,
+            faults: 0,
+        })
+    }
+}
+
+impl Sink for MemorySink {
+    ghost use Rattle.smithy_outside.specs.Memory.{sink_told};
+    ghost use Rattle.smithy_outside.specs.Outside.{counted, IsCounted, Took};
+
+    ghost told = { sink_told };
+
+    ghost holds_back = { λ _. false };
+
+    fn write(&mut self, piece: &[u8]) -> Result<usize, Failed>
+        ensures bound { IfOk result (λ count. count ≤ length piece.now) }
+        ensures took { MatchResult result (λ count. Took (take count piece.now) (sink_told self.old) (sink_told self.new)) (λ _. Took [] (sink_told self.old) (sink_told self.new)) }
+        ensures some { 0 < length piece.now → result ≢ Ok 0 }
+        ensures counts { IsCounted result (sink_told self.old) (sink_told self.new) }
+        ensures later { (sink_told self.old).faults ≤ (sink_told self.new).faults }
+
+        // The calls that are to fail do, and those that find no room; the others take as much as they may.
+        ensures calls { self.new.calls ≡ counted self.old.calls }
+        ensures fails { Contains self.old.fail.items self.new.calls → IsErr result }
+        ensures fails_only { IsErr result → Contains self.old.fail.items self.new.calls ⊎ (self.old.room ≡ length self.old.bytes.items) }
+        ensures as_much { IfOk result (λ count. count ≡ min (min (self.old.room - length self.old.bytes.items) self.old.piece) (length piece.now)) }
+
+        // All else stays.
+        ensures piece { self.new.piece ≡ self.old.piece }
+        ensures room { self.new.room ≡ self.old.room }
+        ensures fail { self.new.fail ≡ self.old.fail }
+    {
+        let fails = is_failing_call(&mut self.calls, &self.fail);
+        let count = (self.room - self.bytes.len())
+            .min(self.piece)
+            .min(piece.len());
+        let is_full = count == 0 && !piece.is_empty();
+        if fails || is_full || self.bytes.extend_from_slice(&piece[..count]).is_err() {
+            self.faults = self.faults.saturating_add(1);
+            return Err(Failed);
+        }
+        Ok(count)
+    }
+
+    fn finish(&mut self) -> Result<(), Failed>
+        ensures took { Took [] (sink_told self.old) (sink_told self.new) }
+        ensures counts { IsCounted result (sink_told self.old) (sink_told self.new) }
+        ensures later { (sink_told self.old).faults ≤ (sink_told self.new).faults }
+
+        // The calls that are to fail do, and no others.
+        ensures calls { self.new.calls ≡ counted self.old.calls }
+        ensures fails { IsErr result ↔ Contains self.old.fail.items self.new.calls }
+
+        // All else stays.
+        ensures piece { self.new.piece ≡ self.old.piece }
+        ensures room { self.new.room ≡ self.old.room }
+        ensures fail { self.new.fail ≡ self.old.fail }
+    {
+        if is_failing_call(&mut self.calls, &self.fail) {
+            self.faults = self.faults.saturating_add(1);
+            return Err(Failed);
+        }
+        Ok(())
+    }
+}
