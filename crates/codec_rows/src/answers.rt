@@ -1,0 +1,48 @@
+//! The lines of an answer.
+
+use smithy_rows::Field;
+use smithy_schema::SerdeError;
+use std::alloc::{AllocError, Global};
+use std::fmt::Display;
+
+/// Adds a line with this word and these bytes.
+pub fn push(
+    alloc: Global,
+    answers: &mut Vec<Field>,
+    word: &str,
+    value: &[u8],
+) -> Result<(), AllocError> {
+    let line = Field::new(alloc, word, value)?;
+    Ok(answers.push(line)?)
+}
+
+/// Adds a line with this word and what the value prints.
+pub fn push_shown<T: Display + Drop>(
+    alloc: Global,
+    answers: &mut Vec<Field>,
+    word: &str,
+    value: T,
+) -> Result<(), AllocError> {
+    let text = format!(in alloc; "{value}")?;
+    push(alloc, answers, word, text.as_bytes())
+}
+
+/// One line, where a row asks for what there isn't.
+pub fn refused(alloc: Global, what: &str) -> Result<Vec<Field>, AllocError> {
+    let mut answers = Vec::new(alloc);
+    push(alloc, &mut answers, "refused", what.as_bytes())?;
+    Ok(answers)
+}
+
+/// Adds the line `refused NAME` where a call was refused, and none for a call that the row names and there isn't.
+pub fn push_refusal(
+    alloc: Global,
+    answers: &mut Vec<Field>,
+    answer: Option<Result<(), SerdeError>>,
+) -> Result<(), AllocError> {
+    match answer {
+        None => push(alloc, answers, "refused", b"no such call"),
+        Some(Ok(())) => Ok(()),
+        Some(Err(error)) => push_shown(alloc, answers, "refused", error),
+    }
+}

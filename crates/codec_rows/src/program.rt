@@ -1,0 +1,41 @@
+//! The kinds of rows.
+
+use crate::answers::refused;
+use crate::places::shapes_of;
+use crate::{reading, writing};
+use smithy_rows::{Field, Program, Row, Rows};
+use std::alloc::{AllocError, Global};
+
+/// Calls on readers and serializers.
+pub struct Codecs;
+
+// Whether a line says what a reader has met in a container.
+fn is_met(word: &str) -> bool {
+    matches!(
+        word,
+        "member" | "members" | "unknown" | "element" | "key" | "end" | "none"
+    )
+}
+
+impl Program for Codecs {
+    fn is_answer(&self, word: &str) -> bool {
+        match word {
+            "body" | "refused" => true,
+            "value" | "done" | "position" | "is_null" => true,
+            _ => is_met(word),
+        }
+    }
+
+    fn answer(&self, alloc: Global, rows: &Rows, row: &Row) -> Result<Vec<Field>, AllocError> {
+        let Some(shapes) = shapes_of(alloc, rows, row) else {
+            return refused(alloc, "no such table");
+        };
+        if let Some(wire) = row.text("serializer") {
+            return writing::answers(alloc, &shapes, row, wire);
+        }
+        match row.text("reader") {
+            Some(wire) => reading::answers(alloc, &shapes, row, wire),
+            None => refused(alloc, "no such row"),
+        }
+    }
+}

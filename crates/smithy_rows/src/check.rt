@@ -1,0 +1,83 @@
+//! Going through rows, and comparing answers.
+
+use crate::field::shown;
+use crate::rows::{Field, Row, Rows};
+use std::alloc::{AllocError, Global};
+use std::process::ExitCode;
+use std::rt::Runtime;
+use std::{env, fs, io};
+
+/// What a program makes of a row.
+pub trait Program {
+    /// Whether a line with this word says what is expected.
+    fn is_answer(&self, word: &str) -> bool;
+
+    /// The answers to a row, in the order in which a row has them.
+    fn answer(&self, alloc: Global, rows: &Rows, row: &Row) -> Result<Vec<Field>, AllocError>;
+}
+
+// Those of the lines that say what is expected, as one text.
+fn in_one_line<P: Program>(
+    alloc: Global,
+    program: &P,
+    fields: &[Field],
+) -> Result<String, AllocError> {
+    let mut line = String::new(alloc);
+    for field in fields {
+        if program.is_answer(field.word.as_str()) {
+            if !line.is_empty() {
+                line.push_str(" | ")?;
+            }
+            line.push_str(field.word.as_str())?;
+            line.push(' ')?;
+            line.push_str(shown(alloc, &field.value)?.as_str())?;
+        }
+    }
+    Ok(line)
+}
+
+// Answers a row, and prints whether as expected; what else was answered goes to standard error.
+fn check_row<R: Runtime + AllocGlobal, P: Program>(
+    rt: &R,
+    program: &P,
+    rows: &Rows,
+    row: &Row,
+) -> io::Result<bool> {
+    let answered = program.answer(rt.alloc(), rows, row)?;
+    let answered = in_one_line(rt.alloc(), program, &answered)?;
+    let expected = in_one_line(rt.alloc(), program, &row.fields)?;
+    let name = row.name.as_str();
+    if answered.as_str() == expected.as_str() {
+        println!(rt; "ok {name}")?;
+        return Ok(true);
+    }
+    println!(rt; "FAILED {name}")?;
+    eprintln!(rt; "{name}: {answered}; expected: {expected}")?;
+    Ok(false)
+}
+
+// Goes through the rows of a file, and tells whether each was answered as expected.
+fn check_file<R: Runtime + AllocGlobal, P: Program>(
+    rt: &R,
+    program: &P,
+    path: &str,
+) -> io::Result<bool> {
+    let text = fs::read_to_string(rt, path)?;
+    let rows = Rows::read(rt.alloc(), text.as_str())?;
+    println!(rt; "{path}: {} rows", rows.rows.len())?;
+    let mut all = true;
+    for row in &rows.rows {
+        all = check_row(rt, program, &rows, row)? && all;
+    }
+    Ok(all)
+}
+
+/// Goes through the rows of each file that an argument names. A line of standard output tells of each row whether it was
+/// answered as it says, and where one wasn't, standard error tells what was answered, and the status is 1.
+pub fn run<R: Runtime + AllocGlobal, P: Program>(rt: &R, program: &P) -> io::Result<ExitCode> {
+    let mut all = true;
+    for path in env::args(rt)?.skip(1) {
+        all = check_file(rt, program, path.as_str())? && all;
+    }
+    Ok(ExitCode::from(if all { 0 } else { 1 }))
+}

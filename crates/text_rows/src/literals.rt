@@ -1,0 +1,63 @@
+//! Literals, blanks and numbers in an input of JSON.
+
+use crate::words::input_of;
+use smithy_json::number_text::{read_long, scan_number};
+use smithy_json::scan::{is_boundary, read_boolean, read_null, skip_blanks};
+use smithy_rows::{Answers, Row};
+use std::alloc::AllocError;
+
+fn number(input: &[u8], at: usize, answers: &mut Answers) -> Result<(), AllocError> {
+    if at > input.len() {
+        return answers.refused("no such place");
+    }
+    match scan_number(input, at) {
+        Some(number) => {
+            answers.text("end", number.end)?;
+            answers.text("is_whole", number.is_whole)
+        }
+        None => answers.none(),
+    }
+}
+
+fn long(input: &[u8], answers: &mut Answers) -> Result<(), AllocError> {
+    match read_long(input, 0) {
+        Some((value, _)) => answers.text("long", value),
+        None => answers.none(),
+    }
+}
+
+fn null(input: &[u8], answers: &mut Answers) -> Result<(), AllocError> {
+    match read_null(input, 0) {
+        Some(end) => answers.text("end", end),
+        None => answers.none(),
+    }
+}
+
+fn boolean(input: &[u8], answers: &mut Answers) -> Result<(), AllocError> {
+    match read_boolean(input, 0) {
+        Some((value, end)) => {
+            answers.text("boolean", value)?;
+            answers.text("end", end)
+        }
+        None => answers.none(),
+    }
+}
+
+/// Answers a call of this name, and tells whether there is one.
+pub fn call_literal(row: &Row, name: &str, answers: &mut Answers) -> Result<bool, AllocError> {
+    let input = input_of(row);
+    match name {
+        "scan_number" => number(
+            input,
+            row.text("at").unwrap_or("0").parse::<usize>().unwrap_or(0),
+            answers,
+        )?,
+        "read_long" => long(input, answers)?,
+        "read_null" => null(input, answers)?,
+        "read_boolean" => boolean(input, answers)?,
+        "skip_blanks" => answers.text("end", skip_blanks(input, 0))?,
+        "is_boundary" => answers.text("is_boundary", is_boundary(input, 0))?,
+        _ => return Ok(false),
+    }
+    Ok(true)
+}

@@ -1,0 +1,24 @@
+//! Goes through rows of texts: of values, of JSON and of its tokens (docs/ROWS.md).
+#![tactic(auto)]
+
+mod answer;
+mod documents;
+mod instants;
+mod kinds;
+mod literals;
+mod numbers;
+mod skips;
+mod strings;
+mod takes;
+mod tokens;
+mod values;
+mod words;
+mod writes;
+
+use crate::answer::Texts;
+use std::io;
+use std::process::ExitCode;
+
+fn main(rt: HostRuntime) -> io::Result<ExitCode> {
+    smithy_rows::run(&rt, &Texts)
+}

@@ -1,0 +1,100 @@
+//! Rows of bodies: each goes from wire to wire by `transcode`, and by the calls that read and write a value.
+
+use crate::program::one;
+use crate::tables::shapes_of;
+use crate::values;
+use crate::wires::wire_of;
+use smithy_rows::{Field, Row, Rows};
+use smithy_schema::{SerdeError, ShapeType, Shapes};
+use smithy_transcode::{TranscodeError, Unfit, Wire, expressible, transcode};
+use std::alloc::{AllocError, Global};
+
+// A body to be transcoded.
+#[derive(Clone, Copy)]
+struct Body<'a> {
+    shapes: &'a Shapes,
+    root: &'a str,
+    from: &'a Wire,
+    input: &'a [u8],
+    to: &'a Wire,
+}
+
+fn refused(alloc: Global, error: &str) -> Result<Field, AllocError> {
+    Field::new(alloc, "refused", error.as_bytes())
+}
+
+fn inexpressible(alloc: Global, unfit: Unfit) -> Result<Field, AllocError> {
+    refused(
+        alloc,
+        format!(in alloc; "Inexpressible {unfit:?}")?.as_str(),
+    )
+}
+
+// What `transcode` answers.
+fn transcoded(alloc: Global, asked: &Body<'_>) -> Result<Field, AllocError> {
+    let Some(root) = asked.shapes.find(asked.root) else {
+        return refused(alloc, "no such root");
+    };
+    let ShapeType::Structure = asked.shapes.schema(root).shape_type() else {
+        return refused(alloc, "no structure");
+    };
+    match transcode(alloc, asked.shapes, root, asked.from, asked.input, asked.to) {
+        Ok(body) => Field::new(alloc, "body", &body),
+        Err(TranscodeError::Inexpressible(unfit)) => inexpressible(alloc, unfit),
+        Err(error) => refused(alloc, format!(in alloc; "{error}")?.as_str()),
+    }
+}
+
+// What was written, or the refusal of a call that reads or writes.
+fn written(alloc: Global, answer: Result<Vec<u8>, SerdeError>) -> Result<Field, AllocError> {
+    match answer {
+        Ok(body) => Field::new(alloc, "body", &body),
+        Err(error) => refused(alloc, format!(in alloc; "{error}")?.as_str()),
+    }
+}
+
+// What `read_value`, `expressible` and `write_value` answer one after the other.
+fn by_value(alloc: Global, asked: &Body<'_>) -> Result<Field, AllocError> {
+    let shapes = asked.shapes;
+    let Some(root) = shapes.find(asked.root) else {
+        return refused(alloc, "no such root");
+    };
+    let ShapeType::Structure = shapes.schema(root).shape_type() else {
+        return refused(alloc, "no structure");
+    };
+    let value = match values::read(alloc, shapes, root, asked.from, asked.input) {
+        Ok(value) => value,
+        Err(error) => return written(alloc, Err(error)),
+    };
+    if let Some(unfit) = expressible(shapes, root, &value, asked.to) {
+        return inexpressible(alloc, unfit);
+    }
+    written(alloc, values::write(alloc, shapes, root, &value, asked.to))
+}
+
+/// What a body is answered with: once, where both ways agree.
+pub fn answers(alloc: Global, rows: &Rows, row: &Row) -> Result<Vec<Field>, AllocError> {
+    let Some(shapes) = shapes_of(alloc, rows, row) else {
+        return one(alloc, "refused", "no such table");
+    };
+    let (Some(from), Some(to)) = (wire_of(alloc, row, "from")?, wire_of(alloc, row, "to")?) else {
+        return one(alloc, "refused", "no such wire");
+    };
+    let asked = Body {
+        shapes: &shapes,
+        root: row.text("root").unwrap_or("S"),
+        from: &from,
+        input: row.bytes("input").unwrap_or(b""),
+        to: &to,
+    };
+    let answer = transcoded(alloc, &asked)?;
+    let other = by_value(alloc, &asked)?;
+    let agree = answer.word.as_str() == other.word.as_str()
+        && answer.value.as_slice() == other.value.as_slice();
+    let mut answers = Vec::new(alloc);
+    answers.push(answer)?;
+    if !agree {
+        answers.push(other)?;
+    }
+    Ok(answers)
+}

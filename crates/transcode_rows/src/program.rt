@@ -1,0 +1,34 @@
+//! The kinds of rows.
+
+use crate::{bodies, expressing, places, questions, tables};
+use smithy_rows::{Field, Program, Row, Rows};
+use std::alloc::{AllocError, Global};
+
+/// Bodies and tables.
+pub struct Transcoding;
+
+/// One answer.
+pub fn one(alloc: Global, word: &str, value: &str) -> Result<Vec<Field>, AllocError> {
+    let mut answers = Vec::new(alloc);
+    answers.push(Field::new(alloc, word, value.as_bytes())?)?;
+    Ok(answers)
+}
+
+impl Program for Transcoding {
+    fn is_answer(&self, word: &str) -> bool {
+        matches!(
+            word,
+            "body" | "refused" | "expressible" | "unfit" | "accepted" | "none"
+        ) || questions::is_question(word)
+    }
+
+    fn answer(&self, alloc: Global, rows: &Rows, row: &Row) -> Result<Vec<Field>, AllocError> {
+        match row.text("call") {
+            None => bodies::answers(alloc, rows, row),
+            Some("expressible") => expressing::answers(alloc, rows, row),
+            Some("build") => tables::answers(alloc, row),
+            Some("schema") => places::answers(alloc, rows, row),
+            Some(_) => one(alloc, "refused", "no such call"),
+        }
+    }
+}

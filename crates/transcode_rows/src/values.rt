@@ -1,0 +1,98 @@
+//! Values of the root that are read and written, by each wire.
+ghost use Rattle.std.specs.Prelude.{◌≡◌, true, IfOk};
+ghost use Rattle.smithy_schema.specs.Fits.{Fits};
+ghost use Rattle.smithy_schema.specs.Table.{IsStructure, kind_of, shape_place};
+ghost use Rattle.smithy_transcode.specs.View.{view};
+
+use smithy_cbor_codec::CborCodec;
+use smithy_json_codec::JsonCodec;
+use smithy_query_codec::QueryShapeSerializer;
+use smithy_schema::{FinishSerializer, SerdeError, ShapeDeserializer, ShapeRef, Shapes};
+use smithy_transcode::{Value, Wire, read_value, write_value};
+use std::alloc::Global;
+
+// The value that a reader gives.
+fn read_by<D: ShapeDeserializer>(
+    alloc: Global,
+    shapes: &Shapes,
+    root: ShapeRef,
+    source: &mut D,
+) -> Result<Value, SerdeError>
+    requires root { IsStructure (kind_of shapes.now (shape_place root.0)) }
+    requires due { (D.state source.old).due ≡ true }
+    ensures { IfOk result (λ v. Fits shapes.now (shape_place root.0) (view v)) }
+{
+    let schema = shapes.schema(root);
+    read_value(alloc, source, &schema)
+}
+
+/// The value that the input spells. Forms aren't read.
+pub fn read(
+    alloc: Global,
+    shapes: &Shapes,
+    root: ShapeRef,
+    from: &Wire,
+    input: &[u8],
+) -> Result<Value, SerdeError>
+    requires root { IsStructure (kind_of shapes.now (shape_place root.0)) }
+    ensures { IfOk result (λ v. Fits shapes.now (shape_place root.0) (view v)) }
+{
+    match from {
+        Wire::Json { use_json_name } => {
+            let mut source = JsonCodec::strict(*use_json_name).create_deserializer(alloc, input);
+            read_by(alloc, shapes, root, &mut source)
+        }
+        Wire::Cbor => {
+            let mut source = CborCodec::strict().create_deserializer(alloc, input);
+            read_by(alloc, shapes, root, &mut source)
+        }
+        Wire::Query {
+            action: _,
+            version: _,
+        } => Err(SerdeError::InvalidInput),
+    }
+}
+
+// The bytes of a serializer that takes the value.
+fn write_by<S: FinishSerializer + Drop>(
+    alloc: Global,
+    mut sink: S,
+    shapes: &Shapes,
+    root: ShapeRef,
+    value: &Value,
+) -> Result<Vec<u8>, SerdeError>
+    requires root { IsStructure (kind_of shapes.now (shape_place root.0)) }
+    requires fits { Fits shapes.now (shape_place root.0) (view value.now) }
+{
+    let schema = shapes.schema(root);
+    write_value(alloc, &mut sink, &schema, value)?;
+    sink.finish()
+}
+
+/// The bytes of the value.
+pub fn write(
+    alloc: Global,
+    shapes: &Shapes,
+    root: ShapeRef,
+    value: &Value,
+    to: &Wire,
+) -> Result<Vec<u8>, SerdeError>
+    requires root { IsStructure (kind_of shapes.now (shape_place root.0)) }
+    requires fits { Fits shapes.now (shape_place root.0) (view value.now) }
+{
+    match to {
+        Wire::Json { use_json_name } => {
+            let codec = JsonCodec::strict(*use_json_name);
+            let sink = codec.create_serializer(alloc);
+            write_by(alloc, sink, shapes, root, value)
+        }
+        Wire::Cbor => {
+            let sink = CborCodec::strict().create_serializer(alloc);
+            write_by(alloc, sink, shapes, root, value)
+        }
+        Wire::Query { action, version } => {
+            let sink = QueryShapeSerializer::new(alloc, action.as_str(), version.as_str())?;
+            write_by(alloc, sink, shapes, root, value)
+        }
+    }
+}

@@ -1,0 +1,31 @@
+//! Wires by their names.
+
+use smithy_rows::Row;
+use smithy_transcode::Wire;
+use std::alloc::{AllocError, Global};
+
+/// The wire of a name. The action and the version of a form stand in the row.
+pub fn wire(alloc: Global, row: &Row, name: &str) -> Result<Option<Wire>, AllocError> {
+    match name {
+        "json" => Ok(Some(Wire::Json {
+            use_json_name: false,
+        })),
+        "json-name" => Ok(Some(Wire::Json {
+            use_json_name: true,
+        })),
+        "cbor" => Ok(Some(Wire::Cbor)),
+        "query" => Ok(Some(Wire::Query {
+            action: row.text("action").unwrap_or("").to_string(alloc)?,
+            version: row.text("version").unwrap_or("").to_string(alloc)?,
+        })),
+        _ => Ok(None),
+    }
+}
+
+/// The wire that the row names behind a word.
+pub fn wire_of(alloc: Global, row: &Row, word: &str) -> Result<Option<Wire>, AllocError> {
+    match row.text(word) {
+        Some(name) => wire(alloc, row, name),
+        None => Ok(None),
+    }
+}
