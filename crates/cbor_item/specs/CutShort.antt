@@ -29,16 +29,16 @@ announced_items major argument =
 
 -- the bytes end before the item does that they begin
 pub data IsCutShort : List ℕ → Type 0 where
-  -- inside its head
+  -- the bytes end inside the head of the item
   in_head : (bytes : List ℕ) → IsCutHead bytes → IsCutShort bytes
-  -- inside a string
+  -- the bytes end inside a string
   in_string : (major : ℕ) (bytes : List ℕ) → (major ≡ 2) ⊎ (major ≡ 3)
       → IsCutString major bytes → IsCutShort bytes
-  -- inside one of the items that its head announces, the keys and values of a map among them
+  -- the bytes end inside one of the items that the head announces, the keys and values of a map among them
   in_announced : (major argument : ℕ) (is : Items) (before last bytes : List ℕ)
       → item_count is < announced_items major argument → AreEncodingsOf is before
       → IsCutShort last → HeadThen major argument (before ++ last) bytes → IsCutShort bytes
-  -- inside one of the items before the break of an array or a map, or where the break is due
+  -- the bytes end inside one of the items before the break of an array or a map, or where the break is due
   in_indefinite : (major : ℕ) (is : Items) (before last bytes : List ℕ)
       → (major ≡ 4) ⊎ (major ≡ 5) → AreEncodingsOf is before → IsCutShort last
       → bytes ≡ initial_byte major 31 ∷ (before ++ last) → IsCutShort bytes

@@ -15,11 +15,11 @@ use std::alloc::Global;
 /// What is still due before a string, an array, a map or a tag ends.
 #[derive(Clone, Copy, Debug, PartialEq, Eq)]
 pub(crate) enum Due {
-    /// So many items.
+    /// This many items: the elements of an array, or the one item behind a tag.
     Items(u64),
-    /// So many keys, each with its value.
+    /// This many keys of a map, each with its value.
     Pairs(u64),
-    /// A value, and then so many keys, each with its value.
+    /// The value of a map's key, and then this many keys, each with its value.
     ValueAndPairs(u64),
     /// Items, and then a break.
     ItemsUntilBreak,
@@ -34,11 +34,11 @@ pub(crate) enum Due {
 /// What comes next where something is due.
 #[derive(Clone, Copy, Debug, PartialEq, Eq)]
 enum Part {
-    /// It has ended here.
+    /// What was due has ended, at this offset.
     Ended(usize),
-    /// An item, and then this is due in its place.
+    /// An item comes. Behind it this is due in place of what was due.
     Item(Due),
-    /// A chunk of this major type, and then the same is due.
+    /// A chunk of this major type comes. Behind it chunks are due as before it.
     Chunk(u8),
 }
 

@@ -64,9 +64,9 @@ pub fn byte_chunks<'a>(
 /// How a string begins.
 #[derive(Clone, Copy, Debug, PartialEq, Eq)]
 enum Start {
-    /// It is definite, and these are its bytes.
+    /// The string has a definite length, and this is the range of its bytes.
     Whole(Chunk),
-    /// Its chunks begin at this offset.
+    /// The string has an indefinite length, and its chunks begin at this offset.
     Chunks(usize),
 }
 

@@ -13,7 +13,7 @@ kind_of_item_error item.WrongType = WrongType
 kind_of_item_error item.InvalidUtf8 = InvalidUtf8
 kind_of_item_error item.NoMemory = NoMemory
 
--- another type stands than the wanted one
+-- the kind of a fault says that an item of another type stands there than the wanted one
 abbrev pub IsTypeMismatch : DecodeKind → Type 0
 IsTypeMismatch WrongType = ⊤
 IsTypeMismatch (UnexpectedUnionVariant type) = ⊤

@@ -57,7 +57,7 @@ abbrev pub big_integer_of : Item → Option ℤ
 big_integer_of (tag number (byte_string definite (chunk ∷ []))) = bignum number (big_endian chunk)
 big_integer_of i = integer_of i
 
--- both where both are there
+-- a pair of two numbers, where both are there
 abbrev pub both : Option ℤ → Option ℤ → Option (ℤ × ℤ)
 both (Some a) (Some b) = Some (a, b)
 both _ _ = None

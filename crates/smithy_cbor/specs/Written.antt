@@ -56,6 +56,6 @@ decimal_fraction_bytes exponent mantissa =
     shortest_head 6 4
     ++ (shortest_head 4 2 ++ (integer_bytes exponent ++ big_integer_bytes mantissa))
 
--- so many seconds after the epoch: tag 1 (section 3.4.2)
+-- a date of so many seconds after the epoch: tag 1 (section 3.4.2)
 abbrev pub epoch_seconds_bytes : ℤ → List ℕ
 epoch_seconds_bytes seconds = shortest_head 6 1 ++ integer_bytes seconds

@@ -142,7 +142,8 @@ fn integer_of(major: u8, argument: u64) -> i128
     }
 }
 
-// The number of the bytes, or -1 less that number, where 128 bits hold it.
+// The number n that the bytes write in big-endian order, or -1 - n for the major type 1, where a signed integer of 128 bits holds
+// it.
 fn bignum(major: u8, bytes: &[u8]) -> Option<i128>
     requires { major ≤ 1 }
     ensures { SomeIff result (FitsSigned w128 (number_of major (big_endian bytes.now))) (number_of major (big_endian bytes.now)) }

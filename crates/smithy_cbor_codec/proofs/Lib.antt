@@ -14,6 +14,7 @@ pub mod WrittenPlaces
 pub mod WrittenBody
 pub mod WrittenSpelling
 pub mod HeadFaults
+pub mod SizeLemmas
 pub mod TextLemmas
 pub mod EntryLemmas
 pub mod PassedEntryLemmas

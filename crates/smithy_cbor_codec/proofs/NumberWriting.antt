@@ -12,12 +12,16 @@ use Rattle.smithy_schema.specs.Site.{View}
 use Rattle.smithy_schema.specs.Writing.{Open}
 use Rattle.smithy_cbor.specs.declared.error.EncodeError.{EncodeError}
 use Rattle.smithy_cbor.specs.declared.error.EncodeError.TheVariants as encoding
+use Rattle.smithy_cbor_codec.specs.Settings.{Settings}
 use Rattle.smithy_cbor_codec.specs.Writing.{CborState, lead, wrote, where_taken, where_in_width}
 use Rattle.smithy_cbor_codec.proofs.BigNumbers.{leaves_wide}
 
 -- the bytes behind what stands before a value
-pub wrote_is : (s : CborState) (view : View) (bytes o : List ℕ) (after : List Open) → o ≡ (s.out ++ lead s view) ++ bytes → wrote s view bytes after ≡ record { out = o; frames = after }
-wrote_is s view bytes o after is = ap (λ (x : List ℕ). record { out = x; frames = after }) (sym (is ∙ append_assoc s.out (lead s view) bytes))
+pub wrote_is : (s : CborState) (view : View) (bytes o : List ℕ) (after : List Open) (held : Settings) → held ≡ s.settings → o ≡ (s.out ++ lead s view) ++ bytes
+    → wrote s view bytes after ≡ record { settings = held; out = o; frames = after }
+wrote_is s view bytes o after held same is =
+    ap (λ (x : List ℕ). record { settings = s.settings; out = x; frames = after }) (sym (is ∙ append_assoc s.out (lead s view) bytes))
+    ∙ ap (λ (c : Settings). record { settings = c; out = o; frames = after }) (sym same)
 
 pub call_written : (make : List Open → CborState) (r : Result (List Open) SerdeError) (after : List Open) (t : CborState) → r ≡ Ok after → make after ≡ t → where_taken make r ≡ Ok t
 call_written make r after t is same = ap (where_taken make) is ∙ ap Ok same

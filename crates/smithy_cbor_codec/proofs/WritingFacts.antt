@@ -8,6 +8,7 @@ use Rattle.smithy_schema.specs.Value as values
 use Rattle.smithy_schema.specs.Value.{whole, text, Value, no_map_entries, map_entry, null_element, no_values, no_member_values, member_value}
 use Rattle.smithy_schema.specs.Writing.{begin_structure, end_structure, begin_list, end_list, begin_map, end_map, null_of, scalar_of, Open, open_structure, open_list, open_map_at_key, open_map_at_value, write}
 use Rattle.smithy_cbor_codec.specs.Openers.{cbor_openers}
+use Rattle.smithy_cbor_codec.specs.Codec.{strict_settings}
 use Rattle.smithy_cbor_codec.specs.Writing.{CborState, fresh_state, cbor_after}
 use Rattle.smithy_cbor_codec.proofs.Examples.{whole_value, text_value, one_long, long_renamed, one_string, three_members, map_of_longs, two_variants, lists_of_lists, lists_of_strings, nodes, long_place, plain_member, in_lists, empty_structure, first_alone, written}
 
@@ -68,11 +69,11 @@ deepest_lists = refl
 -- ---- the calls of a serializer
 
 abbrev made : List ℕ → List Open → Result CborState SerdeError
-made out frames = Ok (record { out = out; frames = frames })
+made out frames = Ok (record { settings = strict_settings; out = out; frames = frames })
 
 -- what writes a value adds its canonical encoding
-pub written_in_turn : (write cbor_after (shape_site nodes 1) two_nodes fresh_state ≡ made two_nodes_bytes [])
-    × (write cbor_after (shape_site (lists_of_strings true) 0) x_and_null fresh_state ≡ made (0x9f ∷ 0x61 ∷ 0x78 ∷ 0xf6 ∷ 0xff ∷ []) [])
+pub written_in_turn : (write cbor_after (shape_site nodes 1) two_nodes (fresh_state strict_settings) ≡ made two_nodes_bytes [])
+    × (write cbor_after (shape_site (lists_of_strings true) 0) x_and_null (fresh_state strict_settings) ≡ made (0x9f ∷ 0x61 ∷ 0x78 ∷ 0xf6 ∷ 0xff ∷ []) [])
 written_in_turn = (refl, refl)
 
 -- the member "a", inside these containers, with nothing before it
@@ -80,7 +81,7 @@ abbrev a_site : Site
 a_site = site_of_member one_long 0 (plain_member (codes "a") long_place)
 
 abbrev inside : List Open → CborState
-inside frames = record { out = []; frames = frames }
+inside frames = record { settings = strict_settings; out = []; frames = frames }
 
 -- a key stands in a structure alone, and not under a nameless schema
 pub keys : (cbor_after (scalar_of a_site (whole (pos 1))) (inside (open_structure ∷ [])) ≡ made (0x61 ∷ 0x61 ∷ 0x01 ∷ []) (open_structure ∷ []))

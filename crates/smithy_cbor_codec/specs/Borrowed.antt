@@ -13,7 +13,7 @@ pub record BorrowsText {A : Type 0} (input : List ℕ) (at : ℕ) (text : CowStr
   pub stands : IsItemAt (text_string extent chunks) input at e
   pub borrowed : IsBorrowedStr text ↔ (extent ≡ definite)
 
--- the same of a byte string
+-- a byte string stands there, and its bytes are borrowed exactly where it is definite
 pub record BorrowsBytes {A : Type 0} (input : List ℕ) (at : ℕ) (bytes : CowSlice ℕ A) (e : ℕ) : Type 0 where
   pub extent : Extent
   pub chunks : List (List ℕ)

@@ -1,11 +1,16 @@
--- What contracts see of a codec.
+-- What contracts see of the settings that a codec, a reader and a serializer hold.
 use Rattle.smithy_cbor_codec.specs.declared.codec.CborCodec.{CborCodec}
+use Rattle.smithy_cbor_codec.specs.declared.settings.Settings.{Settings as HeldSettings}
 use Rattle.smithy_cbor_codec.specs.Settings.{Settings, kept}
 
--- the settings of a codec, which keeps the limits
-abbrev pub settings_of : CborCodec → Settings
-settings_of codec = record { max_depth = codec.max_depth; limits = kept }
+-- the settings that are held, which keep the limits
+abbrev pub held_settings : HeldSettings → Settings
+held_settings s = record { max_depth = s.max_depth; limits = kept }
 
--- those of a strict codec
+-- those of a codec
+abbrev pub settings_of : CborCodec → Settings
+settings_of codec = held_settings codec.settings
+
+-- the settings of a strict codec
 abbrev pub strict_settings : Settings
 strict_settings = record { max_depth = 128; limits = kept }

@@ -25,7 +25,7 @@ rules_fit c = record {
   key_fits = λ i b m key c n text entry. text_is_utf8 key text;
 }
 
--- so what stands within the limits is a value of its place
+-- what stands with the limits kept is a value of its place
 pub fit : (c : Settings) → c.limits ≡ kept → StandsFit (cbor_relations c)
 fit c keeps = wire.stands_fit cbor_frames (rules_of c) keeps (rules_fit c)
 

@@ -24,7 +24,7 @@ abbrev pub Follows : ℕ → List ℕ → ℕ → Type 0
 Follows zero input e = e ≡ length input
 Follows (suc depth) input e = Unit {0}
 
--- the same behind a container whose inside has this depth
+-- the innermost of so many open containers may end at e: the only one where the input ends
 abbrev pub FollowsInside : ℕ → List ℕ → ℕ → Type 0
 FollowsInside zero input e = ⊥
 FollowsInside (suc depth) input e = Follows depth input e
@@ -38,8 +38,8 @@ mark_with due = record { entered = false; at_end = false; due = due }
 abbrev pub end_mark : Mark
 end_mark = record { entered = false; at_end = true; due = None }
 
--- another entry comes, and behind its key and value the container has the mark n: one that was
--- announced, or whatever begins with a byte other than a break
+-- another entry comes, and behind its key and value the container has the mark n: one entry that was announced, or whatever
+-- begins with a byte other than a break
 abbrev pub HasEntry : List ℕ → ℕ → Mark → Mark → Type 0
 HasEntry input b m n =
     ((count : ℕ) × (m.due ≡ Some (suc count)) × (n ≡ mark_with (Some count)))
@@ -57,7 +57,7 @@ abbrev pub major_in : Form → ℕ
 major_in as_array = 4
 major_in as_object = 5
 
--- another element, or another pair with its key
+-- another element of an array comes, or another key of a map; the value of either is due at c
 abbrev pub Entry : Form → List ℕ → ℕ → Mark → Option Item → ℕ → Mark → Type 0
 Entry as_array input b m key c n = (key ≡ None) × (c ≡ b) × HasEntry input b m n
 Entry as_object input b m key c n =

@@ -6,7 +6,7 @@ use Rattle.cbor_item.specs.WellFormed.{IsEncodingOf}
 use Rattle.smithy_cbor_codec.specs.Scalar.{says}
 use Rattle.smithy_wire.specs.Rules.{wide}
 
--- as the kind, some slice of the bytes is one
+-- some slice of the bytes encodes an item that is, as the kind, a big number beyond the kind's limits
 pub record IsWideCbor (s : Scalar) (bytes : List ℕ) : Type 0 where
   pub before : List ℕ
   pub slice : List ℕ

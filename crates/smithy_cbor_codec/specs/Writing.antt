@@ -12,16 +12,18 @@ use Rattle.smithy_texts.specs.Numeral.{number}
 use Rattle.smithy_texts.specs.Decimal.{mantissa, net_exponent}
 use Rattle.smithy_texts.specs.Ranges.{fits_signed}
 use Rattle.smithy_cbor_codec.specs.Canonical.{key_bytes, scalar_bytes, cbor_holds}
+use Rattle.smithy_cbor_codec.specs.Settings.{Settings}
 
 pub record CborState : Type 0 where
+  pub settings : Settings
   -- the bytes so far
   pub out : List ℕ
   -- the open containers, innermost first
   pub frames : List Open
 
 -- nothing is written yet
-abbrev pub fresh_state : CborState
-fresh_state = record { out = []; frames = [] }
+abbrev pub fresh_state : Settings → CborState
+fresh_state settings = record { settings = settings; out = []; frames = [] }
 
 -- the name of a member stands in a structure or a union alone
 abbrev pub key_in : List Open → List ℕ → List ℕ

@@ -1,18 +1,13 @@
-//! The settings under which bodies are read and written.
-ghost use Rattle.std.specs.Prelude.{◌≤◌};
-
+//! The maker of readers and serializers.
 use crate::deserializer::CborDeserializer;
 use crate::serializer::CborSerializer;
+use crate::settings::Settings;
 use std::alloc::Global;
 
-// The greatest depth of containers of the codecs that are made here.
-const MAX_DEPTH: u32 = 128;
-
-/// Reads and writes bodies under its settings.
+/// The settings under which bodies in CBOR are read and written. It makes readers and serializers.
 #[derive(Debug, Drop)]
 pub struct CborCodec {
-    pub(crate) max_depth: u32,
-    ghost greatest: { max_depth ≤ 512 },
+    pub(crate) settings: Settings,
 }
 
 impl CborCodec {
@@ -28,16 +23,16 @@ impl CborCodec {
         ensures { settings_of result ≡ strict_settings }
     {
         CborCodec {
-            max_depth: MAX_DEPTH,
+            settings: Settings::strict(),
         }
     }
 
     /// A serializer that has written nothing yet. It takes no memory.
     pub fn create_serializer(&self, alloc: Global) -> CborSerializer
-        ensures state { state_of result ≡ fresh_state }
+        ensures state { state_of result ≡ fresh_state (settings_of self.now) }
         ensures sound { has_failed result ≡ false }
     {
-        CborSerializer::new(alloc)
+        CborSerializer::new(self.settings, alloc)
     }
 
     /// A reader of one input, of which nothing is read yet. It takes no memory.
@@ -45,6 +40,6 @@ impl CborCodec {
         ensures settings { reading_settings_of result ≡ settings_of self.now }
         ensures fresh { cursor_of result ≡ fresh_cursor input.now }
     {
-        CborDeserializer::new(input, alloc, self.max_depth as usize)
+        CborDeserializer::new(input, alloc, self.settings)
     }
 }

@@ -1,143 +1,44 @@
 //! The reader of CBOR values that a schema directs.
-ghost use Rattle.std.specs.Prelude.{◌≡◌, ◌↔◌, [], IsTrue};
-ghost use Rattle.smithy_schema.specs.Table.{IsStructure};
-ghost use Rattle.smithy_schema.specs.Site.{site_of, kind_at};
-ghost use Rattle.smithy_cbor_codec.specs.Cursor.{inside_of, missing_frame};
-ghost use Rattle.smithy_wire.specs.Walking.{within_of, frame_of};
+ghost use Rattle.std.specs.Prelude.{◌≡◌};
 
+use crate::container_size::container_size_at;
 use crate::documents::document_refusal;
+use crate::frames::{frame, is_missing, missing};
 use crate::instants::instant_at;
-use crate::members::{Next, next_in_map, next_present, step_to};
+use crate::members::{Next, next_in_map};
 use crate::numbers::{big_decimal_at, big_integer_at};
 use crate::places::{EntryOrEnd, array_at, entry_or_end, is_null_at, map_at, may_leave, null_end};
+use crate::settings::Settings;
 use crate::values::{blob_at, boolean_at, long_at, skipped_end, string_at};
-use smithy_schema::{Schema, SerdeError, ShapeDeserializer, ShapeType, Step};
+use smithy_schema::{Schema, SerdeError, ShapeDeserializer, Step};
 use smithy_types::{BigDecimal, BigInteger, Blob, DateTime, Document};
-use smithy_wire::{Frame, Mark, Walk, Within, byte_found, integer_found, short_found};
-use std::alloc::Global;
+use smithy_wire::{Walk, Within, byte_found, integer_found, short_found};
+use std::alloc::{AllocError, Global};
 
 /// A strict reader of one CBOR item.
 #[derive(Drop)]
 pub struct CborDeserializer<'a> {
     pub(crate) walk: Walk<'a>,
     pub(crate) alloc: Global,
-}
-
-// What is kept of an open container: how many of its entries are still due, where its head tells it.
-#[inline]
-fn frame(within: Within, due: Option<u64>) -> Frame
-    ensures { frame_of result ≡ inside_of (within_of within) due }
-{
-    Frame {
-        within,
-        mark: Mark {
-            entered: false,
-            at_end: false,
-            due,
-        },
-    }
-}
-
-// Whether a structure stands at the place.
-fn is_structure(schema: &Schema<'_>) -> bool
-    ensures { IsTrue result ↔ IsStructure (kind_at (site_of schema.now)) }
-{
-    schema.shape_type() == ShapeType::Structure
-}
-
-// Whether an empty input is the structure without members.
-fn is_missing(input: &[u8], schema: &Schema<'_>) -> bool
-    ensures { IsTrue result ↔ IsStructure (kind_at (site_of schema.now)) × (input.now ≡ []) }
-{
-    input.is_empty() && is_structure(schema)
-}
-
-// What is kept of the structure without members that an empty input is.
-fn missing() -> Frame
-    ensures { frame_of result ≡ missing_frame }
-{
-    Frame {
-        within: Within::Structure,
-        mark: Mark {
-            entered: false,
-            at_end: true,
-            due: None,
-        },
-    }
+    pub(crate) settings: Settings,
+    // As many containers may be open as the settings say.
+    ghost limit: { walk.max_depth ≡ settings.max_depth },
 }
 
 impl<'a> CborDeserializer<'a> {
-    ghost use Rattle.std.specs.Prelude.{◌≡◌, ◌≤◌, ◌↔◌, length, IsTrue, IfOk, IsErrOf, false};
-    ghost use Rattle.smithy_schema.specs.Reading.{passed_to, in_structure, Conducts, MatchStep, CannotGoOn, RefusesNoScalar, IsRefused};
-    ghost use Rattle.smithy_schema.specs.Table.{IsStructure, HasMembers};
-    ghost use Rattle.smithy_schema.specs.Site.{site_of, kind_at};
-    ghost use Rattle.smithy_schema.specs.declared.error.SerdeError.TheVariants.{TooDeep};
-    ghost use Rattle.smithy_cbor_codec.specs.Cursor.{cursor_of, reading_settings_of};
-    ghost use Rattle.smithy_cbor_codec.specs.Settings.{Settings};
-    ghost use Rattle.smithy_cbor_codec.specs.Standing.{cbor_relations};
-    ghost use Rattle.smithy_cbor_codec.specs.Private.MemberSteps.{EndsEmpty};
+    ghost use Rattle.std.specs.Prelude.{◌≡◌};
+    ghost use Rattle.smithy_cbor_codec.specs.Cursor.{cursor_of};
     ghost use Rattle.smithy_wire.specs.Walking.{fresh_cursor};
 
     // A fresh reader.
-    pub(crate) fn new(input: &'a [u8], alloc: Global, max_depth: usize) -> CborDeserializer<'a>
-        requires { max_depth ≤ 512 }
+    pub(crate) fn new(input: &'a [u8], alloc: Global, settings: Settings) -> CborDeserializer<'a>
         ensures state { cursor_of result ≡ fresh_cursor input.now }
-        ensures max_depth { result.walk.max_depth ≡ max_depth }
+        ensures settings { result.settings ≡ settings }
     {
         CborDeserializer {
-            walk: Walk::new(input, alloc, max_depth),
+            walk: Walk::new(input, alloc, settings.max_depth),
             alloc,
-        }
-    }
-
-    // Whether the innermost container was opened at the end of an empty input, and ends there as a structure.
-    fn ends_empty(&self, schema: &Schema<'_>) -> bool
-        ensures { IsTrue result ↔ IsStructure (kind_at (site_of schema.now)) × EndsEmpty (cursor_of self.now) }
-    {
-        let mark = self.walk.inner.mark;
-        mark.at_end
-            && !mark.entered
-            && mark.due.is_none()
-            && is_missing(self.walk.input, schema)
-            && self.walk.depth() > 0
-    }
-
-    // Goes on in the structure or the union from the offset on, where nothing is due any more.
-    fn step_from<'s>(&mut self, at: usize, schema: &Schema<'s>) -> Result<Step<'s>, SerdeError>
-        requires ahead { self.old.walk.position ≤ at }
-        requires within { at ≤ length self.old.walk.input.now }
-        requires sound { self.old.walk.failed ≡ false }
-        requires inside { (cursor_of self.old).inner.within ≡ in_structure }
-        requires place { HasMembers (kind_at (site_of schema.now)) }
-        ensures same { reading_settings_of self.new ≡ reading_settings_of self.old }
-        ensures conduct { Conducts (cursor_of self.old) (cursor_of self.new) result }
-        ensures narrow { RefusesNoScalar result }
-        ensures ok { IfOk result (λ step. MatchStep step (cbor_relations (reading_settings_of self.old)) (passed_to (cursor_of self.old) at) (cursor_of self.new) (site_of schema.now)) }
-        ensures refused { IsRefused result → (o : Settings) → CannotGoOn (cbor_relations o) (passed_to (cursor_of self.old) at) schema.now.shapes.now schema.now.place }
-        ensures shallow { IsErrOf result TooDeep → ⊥ }
-    {
-        if self.ends_empty(schema) {
-            self.walk.leave(0);
-            return Ok(Step::End);
-        }
-        match next_present(
-            self.alloc,
-            self.walk.input,
-            at,
-            self.walk.inner.mark.due,
-            self.walk.depth(),
-            schema,
-        ) {
-            Ok(Next::Pair(name, value, due)) => {
-                let step = step_to(schema, name.as_str());
-                self.walk.go_on(value, frame(Within::Structure, due));
-                Ok(step)
-            }
-            Ok(Next::End(end)) => {
-                self.walk.leave(end);
-                Ok(Step::End)
-            }
-            Err(error) => Err(self.walk.refuse(error)),
+            settings,
         }
     }
 }
@@ -153,6 +54,8 @@ impl ShapeDeserializer for CborDeserializer<'_> {
     ghost use Rattle.smithy_cbor_codec.specs.Cursor.{cursor_of, reading_settings_of};
     ghost use Rattle.smithy_cbor_codec.specs.Settings.{Settings, keep_limits, without_limits};
     ghost use Rattle.smithy_cbor_codec.specs.Standing.{cbor_relations};
+    ghost use Rattle.smithy_cbor_codec.specs.ContainerSize.{cbor_sizes};
+    ghost use Rattle.smithy_schema.specs.Sizes.{TellsSize};
     ghost use Rattle.smithy_cbor_codec.specs.Laws.{lawful as cbor_is_lawful, fit as cbor_fits, counts as cbor_counts, above as limits_are_above};
 
     ghost Settings = { Settings };
@@ -180,6 +83,12 @@ impl ShapeDeserializer for CborDeserializer<'_> {
     ghost counts = { λ c _. cbor_counts (keep_limits c) };
 
     ghost above = { λ c. limits_are_above (keep_limits c) };
+
+    ghost sizes = { λ _. cbor_sizes };
+
+    fn allocator(&self) -> Global {
+        self.alloc
+    }
 
     fn position(&self) -> usize {
         self.walk.position
@@ -220,6 +129,7 @@ impl ShapeDeserializer for CborDeserializer<'_> {
         ensures unread_would { Unit {0} → IsInvalid result → (cursor_of self.old).due ≡ true → (e : ℕ) → (cbor_relations (without_limits (reading_settings_of self.old))).skips (cursor_of self.old).input (depth (cursor_of self.old)) (cursor_of self.old).at e
             → CannotGoOn (cbor_relations (without_limits (reading_settings_of self.old))) (passed_to (cursor_of self.old) e) schema.now.shapes.now schema.now.place }
         ensures deep { IsErrOf result TooDeep → ReachesDepth (cbor_relations (reading_settings_of self.old)) (reading_settings_of self.old).max_depth (cursor_of self.old) }
+        ensures limited { IsErrOf result TooDeep → (cbor_relations (reading_settings_of self.old)).limits_skips ≡ true }
 
         // An unread member may nest to any depth.
         ensures shallow { IsErrOf result TooDeep → ⊥ }
@@ -335,7 +245,7 @@ impl ShapeDeserializer for CborDeserializer<'_> {
         ensures would { Unit {0} → null_is_due (cbor_relations (reading_settings_of self.old)) (cursor_of self.old) ≡ true → IsInvalid result → NullsNot (cbor_relations (without_limits (reading_settings_of self.old))) (cursor_of self.old) }
         ensures nothing { null_is_due (cbor_relations (reading_settings_of self.old)) (cursor_of self.old) ≡ false → OnOk result (cursor_of self.new ≡ cursor_of self.old) }
 
-        // Where no null is due, it refuses.
+        // Where no null is due, the call is refused.
         ensures not_due { null_is_due (cbor_relations (reading_settings_of self.old)) (cursor_of self.old) ≡ false → IsErr result }
     {
         if self.walk.failed {
@@ -363,6 +273,7 @@ impl ShapeDeserializer for CborDeserializer<'_> {
         ensures refused { IsRefused result → (cursor_of self.old).due ≡ true → SkipsNot (cbor_relations (reading_settings_of self.old)) (cursor_of self.old) }
         ensures would { Unit {0} → IsInvalid result → (cursor_of self.old).due ≡ true → SkipsNot (cbor_relations (without_limits (reading_settings_of self.old))) (cursor_of self.old) }
         ensures deep { IsErrOf result TooDeep → ReachesDepth (cbor_relations (reading_settings_of self.old)) (reading_settings_of self.old).max_depth (cursor_of self.old) }
+        ensures limited { IsErrOf result TooDeep → (cbor_relations (reading_settings_of self.old)).limits_skips ≡ true }
 
         // What is skipped may nest to any depth.
         ensures shallow { IsErrOf result TooDeep → ⊥ }
@@ -380,6 +291,19 @@ impl ShapeDeserializer for CborDeserializer<'_> {
             }
             Err(fault) => Err(self.walk.refuse(fault)),
         }
+    }
+
+    // It takes no memory.
+    fn container_size(&self) -> Result<Option<usize>, AllocError>
+        ensures size { IfOk result (TellsSize cbor_sizes (cursor_of self.now)) }
+        ensures due { IsErr result → (cursor_of self.now).due ≡ true }
+        ensures sound { IsErr result → (cursor_of self.now).failed ≡ false }
+        ensures memory { IsOk result }
+    {
+        if self.walk.failed || !self.walk.due {
+            return Ok(None);
+        }
+        Ok(container_size_at(self.walk.input, self.walk.position))
     }
 
     fn read_boolean(&mut self, _schema: &Schema<'_>) -> Result<bool, SerdeError> {

@@ -8,7 +8,8 @@ use crate::values::skipped_end;
 use smithy_schema::SerdeError;
 use std::alloc::Global;
 
-// Why no document stands there: an item does, and none is carried, or nothing does.
+// Why no document is read at the offset: `NotCarried` where an item stands there, since CBOR carries no documents, and
+// `InvalidInput` where none does.
 pub(crate) fn document_refusal(alloc: Global, input: &[u8], at: usize, depth: usize) -> SerdeError
     requires { at ≤ length input.now }
     ensures lies { result ≡ NotCarried → (e : ℕ) × SkipsTo input.now at depth e }

@@ -29,7 +29,7 @@ fn instant_of(seconds: Option<i128>) -> Result<DateTime, SerdeError>
     }
 }
 
-// The instant that stands there, with its end, where a value may end there.
+// The instant at the offset, with its end, where a value may end there.
 pub(crate) fn instant_at(
     input: &[u8],
     at: usize,

@@ -3,13 +3,17 @@
 
 mod borrowing;
 mod codec;
+mod container_size;
 mod deserializer;
 mod documents;
+mod frames;
 mod instants;
+mod member_steps;
 mod members;
 mod numbers;
 mod places;
 mod serializer;
+mod settings;
 mod values;
 
 pub use codec::CborCodec;

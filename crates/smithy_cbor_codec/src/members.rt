@@ -44,7 +44,7 @@ fn is_mark(schema: &Schema<'_>, key: &str) -> bool
     key == "__type" && schema.member_schema(key).is_none()
 }
 
-// What comes next in the map in whose inside the offset lies.
+// What comes next in the map inside of which the offset lies: a key with the place of its value, or the end of the map.
 pub(crate) fn next_in_map<'a>(
     alloc: Global,
     input: &'a [u8],
@@ -72,7 +72,8 @@ pub(crate) fn next_in_map<'a>(
     }
 }
 
-// The same in a structure or a union, where nulls and marks are passed over.
+// What comes next in the structure or the union inside of which the offset lies. An entry is passed over where its value is a
+// null, or where its key is a mark.
 fn entry_at<'a>(
     alloc: Global,
     input: &'a [u8],
@@ -101,7 +102,7 @@ fn entry_at<'a>(
     }
 }
 
-// The next member that isn't passed over, or the end of the map in whose inside the offset lies.
+// The next member of the map inside of which the offset lies, without what is passed over, or the end of the map.
 pub(crate) fn next_present<'a>(
     alloc: Global,
     input: &'a [u8],

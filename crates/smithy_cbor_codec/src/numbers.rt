@@ -42,7 +42,7 @@ fn wide_refusal(alloc: Global, input: &[u8], at: usize, depth: usize) -> SerdeEr
     }
 }
 
-// The big integer that stands there, with its end, where a value may end there.
+// The big integer at the offset, with its end, where a value may end there.
 pub(crate) fn big_integer_at(
     alloc: Global,
     input: &[u8],
@@ -73,7 +73,7 @@ pub(crate) fn big_integer_at(
     }
 }
 
-// The big decimal that stands there, with its end, where a value may end there.
+// The big decimal at the offset, with its end, where a value may end there.
 pub(crate) fn big_decimal_at(
     alloc: Global,
     input: &[u8],

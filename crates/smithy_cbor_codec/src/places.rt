@@ -77,7 +77,7 @@ pub(crate) fn may_end(input: &[u8], at: usize, depth: usize) -> bool
     depth > 0 || at == input.len()
 }
 
-// Whether a container whose inside has this depth may end at the offset.
+// Whether the innermost of `depth` open containers may end at the offset. The only one ends where the input does.
 pub(crate) fn may_leave(input: &[u8], at: usize, depth: usize) -> bool
     ensures { IsTrue result ↔ FollowsInside depth input.now at }
 {
@@ -96,7 +96,7 @@ pub(crate) fn is_null_at(input: &[u8], at: usize) -> bool
     at < input.len() && input[at] == NULL_BYTE
 }
 
-// The end of the null that stands there, where a value may end behind it.
+// The end of the null at the offset, where a value may end there.
 pub(crate) fn null_end(input: &[u8], at: usize, depth: usize) -> Option<usize>
     requires { at ≤ length input.now }
     ensures found { IfSome result (IsNullAt input.now at depth) }
@@ -108,7 +108,7 @@ pub(crate) fn null_end(input: &[u8], at: usize, depth: usize) -> Option<usize>
     None
 }
 
-// What comes next in the container in whose inside the offset lies, with so many entries due.
+// What comes next in the container inside of which the offset lies: another entry, with how many are due behind it, or the end.
 pub(crate) fn entry_or_end(input: &[u8], at: usize, due: Option<u64>) -> Option<EntryOrEnd>
     requires { at ≤ length input.now }
     ensures { IsEntryOrEnd input.now at due result }

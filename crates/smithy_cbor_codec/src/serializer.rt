@@ -7,9 +7,11 @@ ghost use Rattle.smithy_schema.specs.Site.{site_of};
 ghost use Rattle.smithy_schema.specs.Writing.{after_value, after_text};
 ghost use Rattle.smithy_cbor.specs.Written.{text_bytes, big_integer_bytes};
 ghost use Rattle.smithy_cbor_codec.specs.Canonical.{key_bytes};
+ghost use Rattle.smithy_cbor_codec.specs.Codec.{held_settings};
 ghost use Rattle.smithy_cbor_codec.specs.Serializing.{opens_of, state_of, has_failed};
 ghost use Rattle.smithy_cbor_codec.specs.Writing.{CborState, fresh_state, key_in, lead, cbor_after};
 
+use crate::settings::Settings;
 use smithy_cbor::{EncodeError, Encoder};
 use smithy_schema::{FinishSerializer, Schema, SerdeError, ShapeSerializer};
 use smithy_types::{BigDecimal, BigInteger, DateTime, Document};
@@ -29,9 +31,10 @@ pub(crate) enum Container {
 /// Members and the entries of a map are written by name; containers are of indefinite length.
 #[derive(Debug, Drop)]
 pub struct CborSerializer {
+    settings: Settings,
     encoder: Encoder,
     stack: Vec<Container>,
-    // From the beginning of a call until it is done, and for good where it is refused.
+    // True while a call is under way, and for good once a call was refused.
     failed: bool,
 }
 
@@ -66,11 +69,12 @@ fn refusal_of(error: EncodeError) -> SerdeError
 }
 
 impl CborSerializer {
-    pub(crate) fn new(alloc: Global) -> CborSerializer
-        ensures state { state_of result ≡ fresh_state }
+    pub(crate) fn new(settings: Settings, alloc: Global) -> CborSerializer
+        ensures state { state_of result ≡ fresh_state (held_settings settings) }
         ensures sound { has_failed result ≡ false }
     {
         CborSerializer {
+            settings,
             encoder: Encoder::new(Vec::new(alloc)),
             stack: Vec::new(alloc),
             failed: false,
@@ -97,6 +101,7 @@ impl CborSerializer {
     fn begin_value(&mut self, schema: &Schema<'_>) -> Result<(), SerdeError>
         ensures failed { IsErrOf result Failed ↔ (has_failed self.old ≡ true) }
         ensures broken { has_failed self.new ≡ true }
+        ensures same { (state_of self.new).settings ≡ (state_of self.old).settings }
         ensures lead { OnOk result ((state_of self.new).out ≡ (state_of self.old).out ++ lead (state_of self.old) (site_of schema.now).view) }
         ensures taken { OnOk result (after_value (state_of self.old).frames ≡ Ok (state_of self.new).frames) }
         ensures refused { IfErr result (λ e. IsFault e → after_value (state_of self.old).frames ≡ Err e) }
@@ -121,6 +126,7 @@ impl CborSerializer {
     fn begin_text(&mut self, schema: &Schema<'_>) -> Result<(), SerdeError>
         ensures failed { IsErrOf result Failed ↔ (has_failed self.old ≡ true) }
         ensures broken { has_failed self.new ≡ true }
+        ensures same { (state_of self.new).settings ≡ (state_of self.old).settings }
         ensures lead { OnOk result ((state_of self.new).out ≡ (state_of self.old).out ++ lead (state_of self.old) (site_of schema.now).view) }
         ensures taken { OnOk result (after_text (state_of self.old).frames ≡ Ok (state_of self.new).frames) }
         ensures refused { IfErr result (λ e. IsFault e → after_text (state_of self.old).frames ≡ Err e) }

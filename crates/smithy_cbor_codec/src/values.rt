@@ -30,7 +30,7 @@ fn refusal_of(error: ItemError) -> SerdeError
     }
 }
 
-// The boolean that stands there, with its end, where a value may end there.
+// The boolean at the offset, with its end, where a value may end there.
 pub(crate) fn boolean_at(input: &[u8], at: usize, depth: usize) -> Option<(bool, usize)>
     requires { at ≤ length input.now }
     ensures found { IfSome result (λ r. IsAt (boolean_item r.0) input.now at depth r.1) }
@@ -46,7 +46,7 @@ pub(crate) fn boolean_at(input: &[u8], at: usize, depth: usize) -> Option<(bool,
     }
 }
 
-// The integer of 64 bits that stands there, with its end, where a value may end there.
+// The integer of 64 bits at the offset, with its end, where a value may end there.
 pub(crate) fn long_at(input: &[u8], at: usize, depth: usize) -> Option<(i64, usize)>
     requires { at ≤ length input.now }
     ensures found { IfSome result (λ r. IsWholeAt 64 r.0 input.now at depth r.1) }
@@ -62,7 +62,7 @@ pub(crate) fn long_at(input: &[u8], at: usize, depth: usize) -> Option<(i64, usi
     }
 }
 
-// The text that stands there, borrowed where it is in one piece, with its end.
+// The text at the offset, with its end. It is borrowed where it stands in one piece.
 pub(crate) fn text_at<'a>(
     alloc: Global,
     input: &'a [u8],
@@ -80,7 +80,7 @@ pub(crate) fn text_at<'a>(
     }
 }
 
-// The same as a text of its own, where a value may end behind it.
+// The text of the string at the offset, in memory of its own, with the string's end, where a value may end there.
 pub(crate) fn string_at(
     alloc: Global,
     input: &[u8],
@@ -99,7 +99,7 @@ pub(crate) fn string_at(
     Ok((text.into_owned(alloc)?, end))
 }
 
-// The text that stands there, borrowed where it is in one piece, where a value may end behind it.
+// The text at the offset, with its end, where a value may end there. It is borrowed where it stands in one piece.
 pub(crate) fn text_piece_at<'a>(
     alloc: Global,
     input: &'a [u8],
@@ -144,7 +144,7 @@ fn owned_blob(alloc: Global, bytes: CowSlice<'_, u8>) -> Result<Blob, AllocError
     }
 }
 
-// The bytes that stand there, with their end, where a value may end there.
+// The bytes at the offset, with their end, where a value may end there.
 pub(crate) fn blob_at(
     alloc: Global,
     input: &[u8],
@@ -168,14 +168,14 @@ pub(crate) fn blob_at(
     }
 }
 
-// Tells the proof the same of what may be borrowed.
+// Tells the proof that each of these bytes, borrowed or owned, is below 256.
 fn cow_holds_bytes(bytes: &CowSlice<'_, u8, Global>)
     ensures { are_bytes (cow_slice_items bytes.now) ≡ true }
 {
     holds_bytes(bytes.as_slice());
 }
 
-// The bytes that stand there, borrowed where they are in one piece, with their end, where a value may end there.
+// The bytes at the offset, with their end, where a value may end there. They are borrowed where they stand in one piece.
 pub(crate) fn bytes_piece_at<'a>(
     alloc: Global,
     input: &'a [u8],
@@ -200,7 +200,7 @@ pub(crate) fn bytes_piece_at<'a>(
     }
 }
 
-// The end of the item that stands there, where a value may end behind it.
+// The end of the item at the offset, where a value may end there.
 pub(crate) fn skipped_end(
     alloc: Global,
     input: &[u8],

@@ -5,7 +5,7 @@ use Rattle.smithy_schema.specs.Acceptance.{Fault, TableAnswer, accepted, refused
 use Rattle.smithy_schema.specs.declared.fault.TableFault.{TableFault}
 use Rattle.smithy_schema.specs.Value.{Value}
 use Rattle.smithy_transcode.specs.Spelling.{Spells, body}
-use Rattle.smithy_transcode.specs.Causes.{openers, IsWide, IsUncarried}
+use Rattle.smithy_transcode.specs.Causes.{IsTooDeep, IsWide, IsUncarried}
 use Rattle.smithy_transcode.specs.Transcoding.{SpellNothing, SpellNothingWithoutLimits, TellsAgain}
 use Rattle.smithy_transcode.specs.Wires.{unfit}
 use Rattle.smithy_commands.specs.declared.status.Status.{Status}
@@ -29,7 +29,7 @@ pub record Sources : Type 0 where
   pub table : Told
   pub input : Told
 
--- what it reads of the outside
+-- what a task reads of the outside: the file of its table, and the input
 abbrev pub sources_of : Task → Outside → Sources
 sources_of task o = record { table = o.files task.table_path; input = o.input }
 
@@ -100,7 +100,7 @@ Refuses task old new InvalidInput =
     (λ table root input. SpellNothing task.from table root input × SpellNothingWithoutLimits task.from table root input)
 Refuses task old new TooDeep =
     AfterInput task old new
-    (λ table root input. SpellNothing task.from table root input × (128 ≤ openers task.from input))
+    (λ table root input. SpellNothing task.from table root input × IsTooDeep task.from table root input)
 Refuses task old new TooWide =
     AfterInput task old new
     (λ table root input. SpellNothing task.from table root input × IsWide task.from table input)

@@ -41,7 +41,7 @@ fn single_wire<'a>(word: &str) -> Option<WireWords<'a>>
     }
 }
 
-// One of these, or `query ACTION VERSION`.
+// The wire of the output, by its words: json, json-name, cbor, or `query ACTION VERSION`.
 fn output_wire(words: &[String]) -> Option<WireWords<'_>>
     ensures { option_map named_wire result ≡ wanted_wire (map string_bytes words.now) }
 {

@@ -67,7 +67,7 @@ month_names = map codes
     ("Jan" ∷ "Feb" ∷ "Mar" ∷ "Apr" ∷ "May" ∷ "Jun" ∷ "Jul" ∷ "Aug" ∷ "Sep" ∷ "Oct" ∷ "Nov"
     ∷ "Dec" ∷ [])
 
--- as in `Wed, 21 Oct 2015 07:28:00 GMT`
+-- the http-date of a weekday, a day and the seconds on its clock, as `Wed, 21 Oct 2015 07:28:00 GMT` (RFC 9110, section 5.6.7)
 abbrev pub http_date_text : ℕ → CivilDate → ℕ → List ℕ
 http_date_text weekday d seconds =
     slice_index_or weekday_names weekday [] ++ codes ", "

@@ -200,7 +200,7 @@ pub enum DateTimeFormatError {
     NoMemory,
 }
 
-// An answer of the one kind of error as an answer of the other.
+// The text where the push to it succeeded, else its want of memory as an error of writing an instant.
 fn grown(text: String, pushed: Result<(), AllocError>) -> Result<String, DateTimeFormatError>
     ensures ok { IfOk result (λ t. (t ≡ text) × IsOk pushed) }
     ensures err { IfErr result (λ e. e ≡ NoMemory) }

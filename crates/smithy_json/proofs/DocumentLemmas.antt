@@ -1,4 +1,4 @@
--- What has a meaning as a document: its parts, and that it has the same under a greater depth.
+-- What has a meaning as a document: its parts, and that the meaning stays under a greater depth.
 use Rattle.std.proofs.Common.{◌≡◌, ◌≤◌, ℕ, suc, List, ◌∷◌, Bool, true, false, cond, nat_le, Option, Some, None, option_map, option_and_then, refl, sym, ap, ◌∙◌, arith}
 use Rattle.std.proofs.lemmas.Bool.Decides.{nat_tests}
 use Rattle.smithy_types.specs.Document.{Document, null, boolean, number, text, array, object, Documents, item, properties_by, with_pair}

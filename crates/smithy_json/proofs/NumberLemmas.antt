@@ -1,4 +1,4 @@
--- The text of a number: what the computed rests say, and that they are those of the grammar.
+-- The text of a number: what the computed rests say, and that they are the rests of the grammar.
 use Rattle.std.proofs.Common.{◌≡◌, ◌≢◌, ◌+◌, ◌≤◌, ◌<◌, ℕ, suc, List, [], ◌∷◌, ◌++◌, length, take, drop, Bool, true, false, ◌||◌, ◌==◌, Option, Some, None, refl, sym, ap, ◌∙◌, arith, inl, inr, subst, cond, ◌⊎◌}
 use Rattle.std.proofs.lemmas.Bool.Decides.{nat_tests}
 use Rattle.std.proofs.lemmas.List.{take-append-drop, append_assoc, length-take-le}

@@ -1,5 +1,5 @@
 -- Examples of RFC 8259, and near misses, by computing.
-use Rattle.std.proofs.Common.{◌≡◌, ◌≢◌, ◌≤◌, ℕ, [], ◌∷◌, ◌++◌, map, Some, None, Ok, Err, true, refl, pos, neg_ℤ, codes, ◌^◌, ◌-◌, arith, inl, inr}
+use Rattle.std.proofs.Common.{◌≡◌, ◌≢◌, ◌≤◌, ℕ, [], ◌∷◌, ◌++◌, map, Some, None, Ok, Err, true, refl, pos, neg_ℤ, codes, ◌^◌, arith, inl, inr}
 use Rattle.std.proofs.lemmas.Str.{IsUtf8-from_is_utf8}
 use Rattle.std.specs.Char.{encode_utf8}
 use Rattle.std.specs.Str.{is_utf8, chars}

@@ -11,7 +11,7 @@ abbrev pub at_depth : {A : Type 0} → Option ℕ → ℕ → Option A → Optio
 at_depth None depth meaning = meaning
 at_depth (Some greatest) depth meaning = if nat_le depth greatest then meaning else None
 
--- another number than a document holds means nothing, and a null where the limits are lifted
+-- a number that no document holds means nothing, and a null where the limits are lifted
 abbrev pub other_number : Option ℕ → Option (Document Number)
 other_number None = Some null
 other_number (Some greatest) = None

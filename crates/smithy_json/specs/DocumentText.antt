@@ -28,7 +28,7 @@ abbrev mutual
   elements_text_by written parting (item d ds) =
       parting ++ (document_text_by written d ++ elements_text_by written comma ds)
 
-  -- the same of properties, each behind its name
+  -- each property, with its name in front, behind what parts it from the one before: nothing at first, and then a comma
   pub properties_text_by : {N : Type 0} → (N → List ℕ) → List ℕ → Properties N → List ℕ
   properties_text_by written parting no_properties = []
   properties_text_by written parting (property name d ps) =

@@ -1,14 +1,14 @@
--- A JSON value as it is written (RFC 8259, sections 3 to 7): raw texts of numbers and strings, and members
--- in order, those of equal names kept.
+-- A JSON value as it is written (RFC 8259, sections 3 to 7): numbers and strings by their raw texts, and members in order, also
+-- where their names are equal.
 use Rattle.std.specs.Prelude.{ℕ, suc, max, List, Bool}
 
 mutual
   pub data Json : Type 0 where
     null : Json
     boolean : Bool → Json
-    -- its text
+    -- the text of the number
     number : List ℕ → Json
-    -- what stands between the quotation marks
+    -- the raw text of the string: what stands between its quotation marks
     string : List ℕ → Json
     array : Elements → Json
     object : Members → Json

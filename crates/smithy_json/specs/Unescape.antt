@@ -30,7 +30,7 @@ code_unit digits =
     if list_all is_ascii_hexdigit digits then Ok (number_from_digits 16 (map digit_value digits))
     else Err (digits_fault digits)
 
--- these bytes before the text
+-- the text with these bytes in front of it
 abbrev pub with_front : List ℕ → Result (List ℕ) EscapeError → Result (List ℕ) EscapeError
 with_front bytes (Ok text) = Ok (bytes ++ text)
 with_front bytes (Err fault) = Err fault
@@ -44,7 +44,7 @@ abbrev mutual
     | false ↦ with_front (b ∷ []) (unescape rest)
   ]
 
-  -- the same after the byte `escape`
+  -- the text of a raw text from the byte behind an `escape` on, or its first fault from the left
   pub unescape_letter : List ℕ → Result (List ℕ) EscapeError
   unescape_letter [] = Err UnexpectedEndOfString
   unescape_letter (letter ∷ rest) = elim (letter == letter_u) [
@@ -54,7 +54,7 @@ abbrev mutual
         else Err (InvalidEscapeCharacter letter)
   ]
 
-  -- the same after `\u`
+  -- the text of a raw text from the digits behind `\u` on, or its first fault from the left
   pub unescape_digits : List ℕ → Result (List ℕ) EscapeError
   unescape_digits (a ∷ b ∷ c ∷ d ∷ rest) = elim (code_unit (a ∷ b ∷ c ∷ d ∷ [])) [
     | Err fault ↦ Err fault
@@ -67,7 +67,7 @@ abbrev mutual
   ]
   unescape_digits _ = Err UnexpectedEndOfString
 
-  -- the same after the escape of a high surrogate
+  -- the text of a raw text behind the escape of a high surrogate, or its first fault from the left
   pub unescape_low : ℕ → List ℕ → Result (List ℕ) EscapeError
   unescape_low high (e ∷ u ∷ a ∷ b ∷ c ∷ d ∷ rest) = elim (e == escape && u == letter_u) [
     | false ↦ Err ExpectedSurrogatePair

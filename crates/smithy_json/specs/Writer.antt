@@ -27,7 +27,7 @@ value_text w = string_bytes w.output.now
 abbrev pub value_borrow : JsonValueWriter → GName
 value_borrow w = w.output.ghost_name
 
--- the text that an array is written to, so far; where its elements begin; and its borrow
+-- the text that an array is written to, so far; the offset in it where the array's elements begin; and its borrow
 abbrev pub array_text : JsonArrayWriter → List ℕ
 array_text w = string_bytes w.json.now
 
@@ -37,7 +37,7 @@ array_start w = w.start
 abbrev pub array_borrow : JsonArrayWriter → GName
 array_borrow w = w.json.ghost_name
 
--- the same of an object and its members
+-- the text that an object is written to, so far; the offset in it where the object's members begin; and its borrow
 abbrev pub object_text : JsonObjectWriter → List ℕ
 object_text w = string_bytes w.json.now
 
@@ -81,7 +81,7 @@ array_row = array.the_row (record { mir = named 1; lft = [] })
 abbrev pub LendsArrayText : MutBor JsonArrayWriter → GName → Fml
 LendsArrayText w borrow = follows array_row string_row w.ghost_name borrow (with_array_text w.now)
 
--- the writer of an array with the same text, start and borrow
+-- both writers of an array have equal texts, begin their elements at one offset, and have one borrow
 abbrev pub IsSameArray : JsonArrayWriter → JsonArrayWriter → Type 0
 IsSameArray old new =
     (array_text new ≡ array_text old) × (array_start new ≡ array_start old)
@@ -106,7 +106,7 @@ object_row = object.the_row (record { mir = named 1; lft = [] })
 abbrev pub LendsObjectText : MutBor JsonObjectWriter → GName → Fml
 LendsObjectText w borrow = follows object_row string_row w.ghost_name borrow (with_object_text w.now)
 
--- the writer of an object with the same text, start and borrow
+-- both writers of an object have equal texts, begin their members at one offset, and have one borrow
 abbrev pub IsSameObject : JsonObjectWriter → JsonObjectWriter → Type 0
 IsSameObject old new =
     (object_text new ≡ object_text old) × (object_start new ≡ object_start old)

@@ -132,7 +132,7 @@ impl<'a> JsonValueWriter<'a> {
     /// Writes a document, as `push_document` does.
     pub fn document(self, value: &Document) -> Result<(), AllocError>
         ensures ok { OnOk result (string_bytes self.exit.0.now ≡ value_text self.entry ++ document_text (document_view value.now)) }
-        // A refused one leaves what stood before, and a front of its text.
+        // A write that is refused leaves what stood before, and behind it a front of the document's text.
         ensures err { OnErr result (AddsFront (value_text self.entry) (document_text (document_view value.now)) (string_bytes self.exit.0.now)) }
     {
         push_document(self.output, value)

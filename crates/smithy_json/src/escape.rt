@@ -19,7 +19,7 @@ use std::borrow::CowStr;
 pub fn escape_string(alloc: Global, value: &str) -> Result<CowStr<'_, Global>, AllocError>
     ensures text { IfOk result (λ text. cow_str_bytes text ≡ escaped value.now) }
     ensures borrowed { IfOk result (λ text. IsBorrowedStr text ↔ (escaped value.now ≡ value.now)) }
-    // Without anything to escape it needs no memory.
+    // A text without anything to escape needs no memory.
     ensures unchanged { escaped value.now ≡ value.now → IsOk result }
     // What is written stands for the text.
     ensures unescapes { unescape (escaped value.now) ≡ Ok value.now }
@@ -50,8 +50,8 @@ pub fn push_escaped<T: AppendText>(out: &mut T, text: &str) -> Result<(), AllocE
     push_from_stop(out, &text[first_stop..])
 }
 
-// The same of a text that begins with a byte to be escaped, or is empty. It stays a call, so that a text
-// without any such byte is short.
+// Adds a text that is empty or begins with a byte to be escaped, with its escapes. It stays a call, so that `push_escaped` is
+// short for a text without any such byte.
 #[inline(never)]
 fn push_from_stop<T: AppendText>(out: &mut T, text: &str) -> Result<(), AllocError>
     requires { prefix_len is_plain text.now ≡ 0 }

@@ -13,7 +13,7 @@ pub enum EscapeError {
     /// escape of a high surrogate.
     #[error("UnexpectedEndOfString")]
     UnexpectedEndOfString,
-    /// Another byte after a backslash than an escape has, as the character of that number.
+    /// The byte behind a backslash is none that an escape has there. It is told as the character of that number.
     #[error("InvalidEscapeCharacter")]
     InvalidEscapeCharacter(char),
     /// The four bytes after `\u` cut a character.

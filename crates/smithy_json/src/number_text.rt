@@ -13,9 +13,9 @@ use crate::scan::is_boundary;
 /// A number that stands in an input.
 #[derive(Clone, Copy, Debug, PartialEq, Eq)]
 pub struct ScannedNumber {
-    /// The offset behind its last byte.
+    /// The offset behind the number's last byte.
     pub end: usize,
-    /// Whether it has neither a fraction nor an exponent.
+    /// Whether the number has neither a fraction nor an exponent.
     pub is_whole: bool,
 }
 

@@ -80,7 +80,7 @@ pub fn stops(bytes: u8x16) -> u64
     lane_stops(bytes)
 }
 
-// The same for N bytes.
+// A bit for each of N bytes that doesn't stand for itself in a string, the first byte's lowest.
 #[inline(always)]
 fn lane_stops<const N: usize>(bytes: Simd<u8, N>) -> u64
     requires { N ≤ 64 }
@@ -109,7 +109,7 @@ fn plain_ascii_end(input: &[u8], at: usize) -> usize
     plain_ascii_end_by_byte(input, end)
 }
 
-// The same, a byte at a time.
+// Where the ASCII bytes end that stand for themselves in a string, from the offset on, found a byte at a time.
 #[inline(never)]
 fn plain_ascii_end_by_byte(input: &[u8], at: usize) -> usize
     requires { at ≤ length input.now }

@@ -36,12 +36,12 @@ impl<'a> EscapedStr<'a> {
         self.value
     }
 
-    /// The text that it stands for. Nothing is copied where there is no backslash.
+    /// The text that the raw text stands for. Nothing is copied where there is no backslash.
     pub fn to_unescaped(self, alloc: Global) -> Result<CowStr<'a, Global>, EscapeError>
         ensures text { IfOk result (λ text. unescape (escaped_text self.entry) ≡ Ok (cow_str_bytes text)) }
         ensures borrowed { IfOk result (λ text. IsBorrowedStr text ↔ (has_escape (escaped_text self.entry) ≡ false)) }
         ensures fault { IfErr result (λ fault. fault ≢ EscapeError.NoMemory → unescape (escaped_text self.entry) ≡ Err fault) }
-        // Without a backslash it needs no memory.
+        // Without a backslash no memory is needed.
         ensures no_escape { has_escape (escaped_text self.entry) ≡ false → IsOk result }
     {
         if escape_start(self.value.as_bytes(), 0) == self.value.len() {
@@ -115,7 +115,8 @@ fn short_escape(letter: u8) -> u8
     }
 }
 
-// The same behind `\u`.
+// What follows a backslash and a `u`: the character, and how many bytes the escape still has. Where the escape is of a high
+// surrogate, the escape of the low one is counted too.
 fn read_digits(rest: &[u8]) -> Result<(char, usize), EscapeError>
     ensures { Unescapes unescape_digits rest.now result }
 {
@@ -133,7 +134,7 @@ fn read_digits(rest: &[u8]) -> Result<(char, usize), EscapeError>
     }
 }
 
-// The same behind the escape of a high surrogate.
+// What follows the escape of a high surrogate: the character that both surrogates are, and the 6 bytes of the low one's escape.
 fn read_low_surrogate(high: u16, rest: &[u8]) -> Result<(char, usize), EscapeError>
     requires { is_high_surrogate high ≡ true }
     ensures { Unescapes (unescape_low high) rest.now result }

@@ -113,7 +113,7 @@ fn value_writer(text: Result<&mut String, AllocError>) -> Result<JsonValueWriter
 #[derive(Drop)]
 pub struct JsonArrayWriter<'a> {
     json: &'a mut String,
-    // where its elements begin
+    // the offset in the text behind the array's opening bracket
     start: usize,
 }
 
@@ -192,7 +192,7 @@ impl<'a> JsonArrayWriter<'a> {
 #[derive(Drop)]
 pub struct JsonObjectWriter<'a> {
     json: &'a mut String,
-    // where its members begin
+    // the offset in the text behind the object's opening bracket
     start: usize,
 }
 

@@ -115,7 +115,7 @@ module _ (o : Settings) (keeps : o.limits ≡ kept) (old : Cursor) (site : Site)
         takes_document (json_relations o) (json_relations (without_limits o)) (Unit {0}) o.max_depth site (lawful o) old sound due within new found result
         (if_ok found _ _ (λ r here. value_stands o old.input (depth old) old.at site.table at refl (document_view r.0) r.1
         (subst (λ l. DocumentStands l (depth old) old.input old.at (document_view r.0) r.1) kept_limit here)) stands)
-        (kind found refuses) (none found refuses) (would found refuses) (deep found refuses) (cause found refuses)
+        (kind found refuses) (none found refuses) (would found refuses) (deep found refuses) (λ is. refl) (cause found refuses)
 
 -- ---- why none was read
 

@@ -20,7 +20,6 @@ use Rattle.smithy_json.specs.Unescape.{unescaped}
 use Rattle.smithy_json_codec.specs.Cursor.{inside_of}
 use Rattle.smithy_wire.specs.Walking.{gone_on_to}
 use Rattle.smithy_json_codec.specs.Settings.{Settings, kept, without_limits}
-use Rattle.smithy_json_codec.specs.Codec.{strict_settings}
 use Rattle.smithy_json_codec.specs.Meaning.{rules_of}
 use Rattle.smithy_json_codec.specs.Standing.{json_relations, FollowsInside}
 use Rattle.smithy_json_codec.specs.Private.PassedEntries.{type_name, Passing, IsNoMark, StepsToMember, ClosesMembers, NoSkip, NoSkipWithin, NothingComes}
@@ -68,12 +67,6 @@ pub site_found : (o : Settings) (outer : Site) (found : Option ℕ) (s : Schema)
 site_found o outer None s h = absurd (let none : None ≡ Some (site_of s) = h in cc)
 site_found o outer (Some n) s h = (n, refl, h)
 
--- of the settings only those of names tell where a name leads
-pub leads_by_names : (o : Settings) (step : Step) (outer : Site) (name : List ℕ) → StepsTo step (strict_settings o.use_json_name) outer name → StepsTo step o outer name
-leads_by_names o (ToMember s) outer name h = h
-leads_by_names o Unknown outer name h = h
-leads_by_names o End outer name h = h
-
 -- a `__type` is a mark exactly where it names no member
 unnamed : (b : Bool) → b ≡ (true && (b && true))
 unnamed true = refl
@@ -86,7 +79,7 @@ mark_is_unnamed o _ h = absurd h
 
 -- a null is passed over exactly where it is dropped
 pub null_is_unkept : (o : Settings) (outer : Site) → HasMembers (kind_at outer) → (text : List ℕ)
-    → passes_null o.use_json_name outer text ≡ drops_null (rules_of o) (kind_at outer) (position_in (rules_of o) (kind_at outer) (Some text))
+    → passes_null o outer text ≡ drops_null (rules_of o) (kind_at outer) (position_in (rules_of o) (kind_at outer) (Some text))
 null_is_unkept o outer has text = by (kind_at outer) has (position_in (rules_of o) (kind_at outer) (Some text))
   where
     by : (k : Kind) → HasMembers k → (n : Option ℕ) → not (option_map_or is_document_place (member_place (members_of k) n) false) ≡ drops_null (rules_of o) k n
@@ -109,10 +102,10 @@ document_test t p false h = by (is_document_place p) refl
     by false is = ap not (sym is)
 
 -- a null is passed over where its member is no document
-pub member_passes_null : (use_json_name : Bool) (outer : Site) (name : List ℕ) (s : Schema) (b : Bool)
-    → (n : ℕ) × (position_in (rules_of (strict_settings use_json_name)) (kind_at outer) (Some name) ≡ Some n) × (member_site outer n ≡ Some (site_of s))
-    → IsTrue b ↔ IsDocument (kind_at (site_of s)) → not b ≡ passes_null use_json_name outer name
-member_passes_null use_json_name outer name s b (n, position, site) test =
+pub member_passes_null : (o : Settings) (outer : Site) (name : List ℕ) (s : Schema) (b : Bool)
+    → (n : ℕ) × (position_in (rules_of o) (kind_at outer) (Some name) ≡ Some n) × (member_site outer n ≡ Some (site_of s))
+    → IsTrue b ↔ IsDocument (kind_at (site_of s)) → not b ≡ passes_null o outer name
+member_passes_null o outer name s b (n, position, site) test =
     let members = members_of (kind_at outer) in
     let m = made (site_of_member outer.table n) (slice_get members n) (site_of s) site in
     let place : member_place members (Some n) ≡ Some m.0.place = ap (option_map (λ (x : Member). x.place)) m.1 in
@@ -121,25 +114,25 @@ member_passes_null use_json_name outer name s b (n, position, site) test =
     ∙ sym (ap (λ found. not (option_map_or is_document_place (member_place members found) false)) position
     ∙ ap (λ found. not (option_map_or is_document_place found false)) place)
 
-pub unknown_passes_null : (use_json_name : Bool) (outer : Site) (name : List ℕ) → position_in (rules_of (strict_settings use_json_name)) (kind_at outer) (Some name) ≡ None
-    → true ≡ passes_null use_json_name outer name
-unknown_passes_null use_json_name outer name none =
+pub unknown_passes_null : (o : Settings) (outer : Site) (name : List ℕ) → position_in (rules_of o) (kind_at outer) (Some name) ≡ None
+    → true ≡ passes_null o outer name
+unknown_passes_null o outer name none =
     sym (ap (λ found. not (option_map_or is_document_place (member_place (members_of (kind_at outer)) found) false)) none)
 
 -- so under a name that is a mark each is
-pub mark_passes_null : (use_json_name : Bool) (outer : Site) → passes_marks use_json_name outer ≡ true → passes_null use_json_name outer type_name ≡ true
-mark_passes_null use_json_name outer is = by (position_in (rules_of (strict_settings use_json_name)) (kind_at outer) (Some type_name)) refl
+pub mark_passes_null : (o : Settings) (outer : Site) → passes_marks o outer ≡ true → passes_null o outer type_name ≡ true
+mark_passes_null o outer is = by (position_in (rules_of o) (kind_at outer) (Some type_name)) refl
   where
-    by : (found : Option ℕ) → position_in (rules_of (strict_settings use_json_name)) (kind_at outer) (Some type_name) ≡ found → passes_null use_json_name outer type_name ≡ true
-    by None none = sym (unknown_passes_null use_json_name outer type_name none)
+    by : (found : Option ℕ) → position_in (rules_of o) (kind_at outer) (Some type_name) ≡ found → passes_null o outer type_name ≡ true
+    by None none = sym (unknown_passes_null o outer type_name none)
     by (Some n) named = absurd (let clash : false ≡ true = sym (ap is_none named) ∙ is in cc)
 
 -- so under a name whose null isn't passed over comes no mark
-pub no_mark_kept : (use_json_name : Bool) (outer : Site) (raw text : List ℕ) → unescaped raw ≡ Some text → passes_null use_json_name outer text ≡ false
-    → IsNoMark (passing use_json_name outer) raw
-no_mark_kept use_json_name outer raw text is stays marks mark =
+pub no_mark_kept : (o : Settings) (outer : Site) (raw text : List ℕ) → unescaped raw ≡ Some text → passes_null o outer text ≡ false
+    → IsNoMark (passing o outer) raw
+no_mark_kept o outer raw text is stays marks mark =
     let same = same_some text type_name (sym is ∙ mark) in
-    let clash : false ≡ true = sym stays ∙ ap (passes_null use_json_name outer) same ∙ mark_passes_null use_json_name outer marks in
+    let clash : false ≡ true = sym stays ∙ ap (passes_null o outer) same ∙ mark_passes_null o outer marks in
     cc
 
 -- ---- which settings pass over what

@@ -1,7 +1,6 @@
--- How many brackets are open while a value is skipped that begins at `start`. By the bytes alone at least
--- so many are open at once from there on as the skipper has open, together with those that open from
--- where it is on. Each of its moves keeps that. So where a bracket comes too deep for it, the bytes go
--- as deep.
+-- How many brackets are open while a value is skipped that begins at `start`. By the bytes from `start` on alone at least as many
+-- are open at once as the skipper has open, together with the brackets that open from the skipper's place on. Each move of the
+-- skipper keeps this. So where a bracket comes too deep for the skipper, the bytes go as deep.
 use Rattle.std.proofs.Common.{◌≤◌, ◌<◌, ◌+◌, ◌-◌, ℕ, List, drop, Bool, arith}
 use Rattle.smithy_json.specs.Ascii.{begin_array, end_array, begin_object, end_object}
 use Rattle.smithy_json.specs.Tree.{Json}

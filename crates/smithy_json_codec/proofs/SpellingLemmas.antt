@@ -2,9 +2,8 @@
 use Rattle.std.proofs.Common.{◌≡◌, ◌↔◌, ℕ, zero, suc, length, List, [], drop, Some, refl, sym, ◌∙◌, ap, arith, inl, inr}
 use Rattle.std.proofs.lemmas.List.{drop_all}
 use Rattle.smithy_schema.specs.declared.place.Place.{Place}
-use Rattle.smithy_schema.specs.Table.{Table, Kind, document, structure_of, kind_of, IsStructure}
+use Rattle.smithy_schema.specs.Table.{Table, Kind, document, structure_of, kind_of, IsStructure, IsContainer}
 use Rattle.smithy_schema.specs.Value.{Value, structure, no_member_values}
-use Rattle.smithy_schema.specs.Reading.{IsContainer}
 use Rattle.smithy_schema.specs.Lemmas.Options.{same_some, chosen}
 use Rattle.smithy_json.specs.Tree.{Json, null, boolean, number, string, array, object}
 use Rattle.smithy_json.specs.Grammar.{IsWs, IsValue, IsJsonText}

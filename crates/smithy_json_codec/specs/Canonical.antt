@@ -36,14 +36,15 @@ scalar_text form (instant n) = in_form form (unwrap_or (date_text (format_of for
 abbrev pub document_text : Document ℤ → List ℕ
 document_text d = document_text_by signed_decimal d
 
--- a scalar can be written at a place with its time form, and so can each document
+-- which values can be written: a scalar by the time form of its place, and every document
 abbrev pub can_write : Settings → ValueTest
 can_write c = record {
   scalar = λ time x. form_writes (form_or c.default_timestamp_format time) x;
   documents = true;
 }
 
--- and what is written stands for exactly it
+-- which values are written so that the text stands for exactly the value: a scalar by the time form of its place, and every
+-- document
 abbrev pub json_holds : Settings → ValueTest
 json_holds c = record {
   scalar = λ time x. form_holds (form_or c.default_timestamp_format time) x;

@@ -24,7 +24,7 @@ abbrev pub depth_limit : Limits → ℕ → Option ℕ
 depth_limit kept greatest = Some greatest
 depth_limit lifted greatest = None
 
--- from a on none does
+-- from a on lies no document
 abbrev pub NoDocumentLies : Option ℕ → ℕ → List ℕ → ℕ → Type 0
 NoDocumentLies limits depth input a =
     (d : Document Number) (e : ℕ) → DocumentLies limits depth input a d e → ⊥
@@ -42,9 +42,10 @@ ValueOpens input a =
     ((is_object : Bool) × (inside : ℕ) × Lies (IsByte (opening is_object)) input a inside)
     ⊎ ((e : ℕ) × ScalarLies input a e)
 
--- a value comes inside of the greatest number of containers, in the document that begins at a inside so many
+-- a value comes inside of as many containers as may be open, in the document that begins at a inside of `depth` containers
 pub record OpensDocumentTooDeep (greatest depth : ℕ) (input : List ℕ) (a : ℕ) : Type 0 where
-  -- of which objects are true, the innermost first
+  -- the containers of the document around the value that comes too deep, the innermost first: true for an object, false for an
+  -- array
   pub containers : List Bool
   pub at : ℕ
   pub due : IsDueInside containers input a at
@@ -53,14 +54,15 @@ pub record OpensDocumentTooDeep (greatest depth : ℕ) (input : List ℕ) (a : �
 
 -- a number that no document holds comes as a value, in the document that begins at a
 pub record MeetsOtherNumber (input : List ℕ) (a : ℕ) : Type 0 where
-  -- inside of these containers, of which objects are true, the innermost first
+  -- the containers of the document around the number, the innermost first: true for an object, false for an array
   pub containers : List Bool
   pub at : ℕ
   pub due : IsDueInside containers input a at
   pub other : OtherNumberLies input at
 
--- What it says of the place a, inside so many containers, that a document was refused there. `Missing` says that under some limits
--- none is there: that holds with each fault, and with `InvalidInput` also without the limits. Want of memory says nothing.
+-- What an error says where a document was refused at the place a, inside of `depth` containers. `Missing` says that no document
+-- is there under some limits: that holds with each fault, and with `InvalidInput` also without limits. Want of memory says
+-- nothing.
 abbrev pub Refuses : (Option ℕ → Type 0) → ℕ → ℕ → List ℕ → ℕ → SerdeError → Type 0
 Refuses Missing greatest depth input a InvalidInput = Missing None × Missing (Some greatest)
 Refuses Missing greatest depth input a TooDeep =
@@ -70,7 +72,7 @@ Refuses Missing greatest depth input a NotCarried = MeetsOtherNumber input a × 
 Refuses Missing greatest depth input a NoMemory = Unit {0}
 Refuses Missing greatest depth input a _ = ⊥
 
--- where none lies
+-- what an error says where a document was refused because none lies at the place a
 abbrev pub RefusesDocument : ℕ → ℕ → List ℕ → ℕ → SerdeError → Type 0
 RefusesDocument greatest depth input a e =
     Refuses (λ limits. NoDocumentLies limits depth input a) greatest depth input a e
@@ -82,12 +84,12 @@ abbrev pub DocumentStands : Option ℕ → ℕ → List ℕ → ℕ → Document
 DocumentStands limits depth input a d e =
     DocumentLies limits depth input a d e × FollowsContainer depth (drop e input)
 
--- from a on none does
+-- from a on no document lies behind which comes what may follow a container
 abbrev pub NoDocumentStands : Option ℕ → ℕ → List ℕ → ℕ → Type 0
 NoDocumentStands limits depth input a =
     (d : Document Number) (e : ℕ) → DocumentStands limits depth input a d e → ⊥
 
--- what it says that none was read there
+-- what an error says where a document was refused because none lies at the place a with what may follow a container behind it
 abbrev pub RefusesStanding : ℕ → ℕ → List ℕ → ℕ → SerdeError → Type 0
 RefusesStanding greatest depth input a e =
     Refuses (λ limits. NoDocumentStands limits depth input a) greatest depth input a e

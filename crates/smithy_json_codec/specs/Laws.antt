@@ -40,7 +40,7 @@ rules_fit c = record {
   key_fits = key_fits;
 }
 
--- so what stands within the limits is a value of its place
+-- what stands with the limits kept is a value of its place
 pub fit : (c : Settings) → c.limits ≡ kept → StandsFit (json_relations c)
 fit c keeps = wire.stands_fit json_frames (rules_of c) keeps (rules_fit c)
 
@@ -58,7 +58,7 @@ pub documents_are : (c : Settings) (i : List ℕ) (d a : ℕ) (x : Document Numb
     → (json_relations c).documents i d a x e ↔ DocumentStands (depth_limit c.limits c.max_depth) d i a x e
 documents_are = documents.documents_are
 
--- and where one is due, a tree means what it means as a document, each number as its whole number alone
+-- where a document is due, a tree means what it means as a document, and of each number the whole number alone
 pub means_document : (c : Settings) (t : Table) (p : Place) → kind_of t p ≡ document → (d : ℕ) (x : Json)
     → json_meaning c t p d x ≡ option_map (λ u. document_value (whole_document u)) (document_meaning (depth_limit c.limits c.max_depth) d x)
 means_document c t p kind d x = documents.means_document_of c [] d 0 t p kind x

@@ -8,6 +8,7 @@ pub mod Canonical
 pub mod Openers
 pub mod Wide
 pub mod Uncarried
+pub mod ContainerSize
 -- for contracts
 pub mod Cursor
 pub mod Standing

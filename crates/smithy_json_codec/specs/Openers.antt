@@ -8,16 +8,16 @@ pub data Where : Type 0 where
   inside : Where
   after_escape : Where
 
--- where the byte behind this one stands
+-- where the next byte stands, behind the byte b
 abbrev pub where_next : Where → ℕ → Where
 where_next outside b = if b == quotation_mark then inside else outside
 where_next inside b =
     if b == quotation_mark then outside else (if b == escape then after_escape else inside)
 where_next after_escape b = inside
 
--- How far the count of open brackets rises from before this byte on, where it rises so far from behind
--- the byte on. Outside a string the byte may add one or take one away. A rise is never below 0, since
--- the count that it starts from is among those that it is the greatest of.
+-- How far the count of open brackets rises from before the byte b on, where it rises by `rise` from behind b on. Outside of a
+-- string an opening bracket adds one to the count, and a closing bracket takes one away. A rise is never below 0, since the count
+-- that it starts from is one of those of which it takes the greatest.
 abbrev pub rise_with : Where → ℕ → ℕ → ℕ
 rise_with outside b rise =
     if b == begin_object || b == begin_array then suc rise
@@ -25,11 +25,12 @@ rise_with outside b rise =
 rise_with inside b rise = rise
 rise_with after_escape b rise = rise
 
--- how far the count of open brackets rises in these bytes above what it is before them
+-- the most by which the count of open brackets rises in these bytes above what it is before them
 abbrev pub greatest_rise : Where → List ℕ → ℕ
 greatest_rise at [] = 0
 greatest_rise at (b ∷ bytes) = rise_with at b (greatest_rise (where_next at b) bytes)
 
--- the greatest count that is reached, from 0 and outside a string on; it may fall below 0 in between
+-- The greatest count of open brackets in these bytes, counted from 0 and from outside of a string on. A closing bracket takes one
+-- away even where none is open, so the count may fall below 0 in between.
 abbrev pub json_openers : List ℕ → ℕ
 json_openers bytes = greatest_rise outside bytes

@@ -59,13 +59,13 @@ number_text (a_number raw) = Some raw
 number_text (a_string raw) = unescaped raw
 number_text _ = None
 
--- what a text is as a big number
+-- what the text of a number is as a kind of big numbers
 abbrev pub big_number : Scalar → List ℕ → Answer Value
 big_number scalars.BigInteger raw = big_integer (integer_form raw)
 big_number scalars.BigDecimal raw = big_decimal (decimal_form raw)
 big_number _ raw = no_meaning
 
--- the same of a text that may not be there
+-- what the text of a number is as a kind of big numbers, where there is such a text
 abbrev pub number_says : Scalar → Option (List ℕ) → Answer Value
 number_says s None = no_meaning
 number_says s (Some raw) = big_number s raw

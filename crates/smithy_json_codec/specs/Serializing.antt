@@ -4,7 +4,7 @@ use Rattle.smithy_schema.specs.Writing.{Open, open_structure, open_list, open_ma
 use Rattle.smithy_json_codec.specs.declared.serializer.Container.{Container}
 use Rattle.smithy_json_codec.specs.declared.serializer.Container.TheVariants.{Structure, List as Listed, MapAtKey, MapAtValue}
 use Rattle.smithy_json_codec.specs.declared.serializer.JsonSerializer.{JsonSerializer}
-use Rattle.smithy_json_codec.specs.Codec.{settings_of}
+use Rattle.smithy_json_codec.specs.Codec.{held_settings}
 use Rattle.smithy_json_codec.specs.Writing.{JsonState}
 
 abbrev pub open_of : Container → Open
@@ -17,10 +17,10 @@ open_of MapAtValue = open_map_at_value
 abbrev pub opens_of : List Container → List Open
 opens_of stack = map open_of (reverse stack)
 
--- what its calls depend on
+-- what the calls of a serializer of JSON depend on
 abbrev pub state_of : JsonSerializer → JsonState
 state_of s = record {
-  settings = settings_of s.codec.now;
+  settings = held_settings s.settings;
   out = s.out.items;
   needs_comma = s.needs_comma;
   frames = opens_of s.stack.items;

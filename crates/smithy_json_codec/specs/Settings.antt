@@ -8,7 +8,7 @@ pub record Settings : Type 0 where
   -- members go by their JSON names, where they have one
   pub use_json_name : Bool
   pub max_depth : ℕ
-  -- of instants at a place without one
+  -- the form of instants at a place that has none of its own
   pub default_timestamp_format : TimestampFormat
   pub limits : Limits
 

@@ -69,7 +69,7 @@ IsName raw bytes =
 abbrev pub Names : Bool → List ℕ → ℕ → List ℕ → ℕ → Type 0
 Names entered input b raw c = (d : ℕ) × IsSeparated entered input b d × Lies (IsName raw) input d c
 
--- what may follow a container whose inside has this depth
+-- what may follow the innermost of so many open containers
 abbrev pub FollowsInside : ℕ → List ℕ → Type 0
 FollowsInside zero rest = ⊥
 FollowsInside (suc depth) rest = FollowsContainer depth rest
@@ -98,7 +98,7 @@ abbrev pub closing : Form → ℕ
 closing as_array = end_array
 closing as_object = end_object
 
--- another element, whatever it is, or another member with its name
+-- another element of an array comes, if no closing bracket does, or another member of an object; the value of either is due at c
 abbrev pub Entry : Form → List ℕ → ℕ → Mark → Option JsonScalar → ℕ → Mark → Type 0
 Entry as_array input b m key c n =
     (key ≡ None) × (n ≡ entry_mark) × IsSeparated m.entered input b c

@@ -5,7 +5,7 @@ use Rattle.smithy_json.specs.Unescape.{unescaped}
 use Rattle.smithy_json_codec.specs.Scalar.{big_number}
 use Rattle.smithy_wire.specs.Rules.{wide}
 
--- as the kind, some slice of the bytes is one, as it stands or unescaped
+-- some slice of the bytes is, as it stands or unescaped, the text of a big number that leaves the limits of the kind
 pub record IsWideJson (s : Scalar) (bytes : List ℕ) : Type 0 where
   pub before : List ℕ
   pub slice : List ℕ

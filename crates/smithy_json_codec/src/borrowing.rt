@@ -34,7 +34,7 @@ impl<'a> BorrowDeserializer<'a> for JsonDeserializer<'a> {
         ensures same { reading_settings_of self.new ≡ reading_settings_of self.old }
         ensures read { ReadsScalar (json_relations (keep_limits (reading_settings_of self.old))) (json_relations (without_limits (reading_settings_of self.old))) (Unit {0}) (cursor_of self.old) (cursor_of self.new) (site_of _schema.now) scalars.Blob (λ b. bytes (cow_slice_items b)) result }
 
-        // Never borrowed, as a string holds them as base64.
+        // The bytes are never borrowed, as a string holds them as base64.
         ensures owned { IfOk result IsOwnedSlice }
     {
         self.walk.ready()?;

@@ -1,21 +1,13 @@
-//! The settings under which bodies are read and written.
-ghost use Rattle.std.specs.Prelude.{◌≤◌};
-
+//! The maker of readers and serializers.
 use crate::deserializer::JsonDeserializer;
 use crate::serializer::JsonSerializer;
-use smithy_schema::TimestampFormat;
+use crate::settings::Settings;
 use std::alloc::Global;
 
-/// The greatest depth of containers of the codecs that are made here.
-const MAX_DEPTH: u32 = 128;
-
-/// Reads and writes bodies under its settings.
+/// The settings under which bodies in JSON are read and written. It makes readers and serializers.
 #[derive(Debug, Drop)]
 pub struct JsonCodec {
-    pub(crate) use_json_name: bool,
-    pub(crate) max_depth: u32,
-    pub(crate) default_timestamp_format: TimestampFormat,
-    ghost greatest: { max_depth ≤ 512 },
+    pub(crate) settings: Settings,
 }
 
 impl JsonCodec {
@@ -33,18 +25,16 @@ impl JsonCodec {
         ensures { settings_of result ≡ strict_settings use_json_name }
     {
         JsonCodec {
-            use_json_name,
-            max_depth: MAX_DEPTH,
-            default_timestamp_format: TimestampFormat::EpochSeconds,
+            settings: Settings::strict(use_json_name),
         }
     }
 
     /// A serializer that has written nothing yet. It takes no memory.
-    pub fn create_serializer(&self, alloc: Global) -> JsonSerializer<'_>
+    pub fn create_serializer(&self, alloc: Global) -> JsonSerializer
         ensures state { state_of result ≡ fresh_state (settings_of self.now) }
         ensures sound { has_failed result ≡ false }
     {
-        JsonSerializer::new(self, alloc)
+        JsonSerializer::new(self.settings, alloc)
     }
 
     /// A reader of one input, of which nothing is read yet. It takes no memory.
@@ -52,12 +42,6 @@ impl JsonCodec {
         ensures settings { reading_settings_of result ≡ settings_of self.now }
         ensures fresh { cursor_of result ≡ fresh_cursor input.now }
     {
-        JsonDeserializer::new(
-            input,
-            alloc,
-            self.use_json_name,
-            self.max_depth as usize,
-            self.default_timestamp_format,
-        )
+        JsonDeserializer::new(input, alloc, self.settings)
     }
 }

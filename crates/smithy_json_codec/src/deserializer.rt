@@ -1,161 +1,57 @@
 //! The reader of JSON values that a schema directs.
+ghost use Rattle.std.specs.Prelude.{◌≡◌};
+
 use crate::documents::standing_document_at;
+use crate::frames::{frame, is_structure, missing};
+use crate::input::Input;
 use crate::instants::{form_at, instant_at};
-use crate::members::{Names, Next, next_present};
 use crate::numbers::{big_decimal_at, big_integer_at};
 use crate::places::{InList, InObject, byte_end, next_in_list, next_in_object, null_end};
+use crate::settings::Settings;
 use crate::skip::skipped_end;
 use crate::texts::{blob_at, owned_text, text_at};
 use crate::values::{begins_null, boolean_at, long_at};
-use smithy_schema::{Schema, SerdeError, ShapeDeserializer, ShapeType, Step, TimestampFormat};
+use smithy_json_tokens::container_size;
+use smithy_schema::{Schema, SerdeError, ShapeDeserializer, Step};
 use smithy_types::{BigDecimal, BigInteger, Blob, DateTime, Document};
-use smithy_wire::{Frame, Mark, Walk, Within, byte_found, integer_found, short_found};
-use std::alloc::Global;
+use smithy_wire::{Walk, Within, byte_found, integer_found, short_found};
+use std::alloc::{AllocError, Global};
 
 /// A strict reader of one JSON text.
 #[derive(Drop)]
 pub struct JsonDeserializer<'a> {
     pub(crate) walk: Walk<'a>,
     pub(crate) alloc: Global,
-    pub(crate) use_json_name: bool,
-    pub(crate) default_timestamp_format: TimestampFormat,
-}
-
-ghost use Rattle.std.specs.Prelude.{◌≡◌, ◌↔◌, IsTrue};
-ghost use Rattle.smithy_schema.specs.Table.{IsStructure};
-ghost use Rattle.smithy_schema.specs.Site.{site_of, kind_at};
-ghost use Rattle.smithy_json_codec.specs.Cursor.{inside_of, missing_frame};
-ghost use Rattle.smithy_wire.specs.Walking.{within_of, frame_of};
-
-// What is kept of an open container, in which an entry has come or not.
-#[inline]
-fn frame(within: Within, entered: bool) -> Frame
-    ensures { frame_of result ≡ inside_of (within_of within) entered }
-{
-    Frame {
-        within,
-        mark: Mark {
-            entered,
-            at_end: false,
-            due: None,
-        },
-    }
-}
-
-// Whether a structure stands at the place: in an empty input none else may.
-fn is_structure(schema: &Schema<'_>) -> bool
-    ensures { IsTrue result ↔ IsStructure (kind_at (site_of schema.now)) }
-{
-    schema.shape_type() == ShapeType::Structure
-}
-
-// What is kept of the structure without members that an empty input is.
-fn missing() -> Frame
-    ensures { frame_of result ≡ missing_frame }
-{
-    Frame {
-        within: Within::Structure,
-        mark: Mark {
-            entered: false,
-            at_end: true,
-            due: None,
-        },
-    }
+    pub(crate) settings: Settings,
+    // As many containers may be open as the settings say.
+    ghost limit: { walk.max_depth ≡ settings.max_depth },
 }
 
 impl<'a> JsonDeserializer<'a> {
-    ghost use Rattle.std.specs.Prelude.{◌≡◌, ◌≤◌, ◌↔◌, ◌+◌, ℕ, length, drop, Some, IsTrue, IfOk, IsErrOf, false, codes};
-    ghost use Rattle.smithy_schema.specs.Reading.{passed_to, depth, in_structure, Conducts, MatchStep, CannotGoOn, RefusesNoScalar, IsRefused, IsInvalid};
-    ghost use Rattle.smithy_schema.specs.Table.{IsStructure, HasMembers};
-    ghost use Rattle.smithy_schema.specs.Site.{site_of, kind_at};
-    ghost use Rattle.smithy_schema.specs.declared.error.SerdeError.TheVariants.{TooDeep};
-    ghost use Rattle.smithy_json_codec.specs.Cursor.{cursor_of, reading_settings_of};
-    ghost use Rattle.smithy_json_codec.specs.Deepest.{OpensTooDeep};
-    ghost use Rattle.smithy_json_codec.specs.Openers.{json_openers};
-    ghost use Rattle.smithy_json_codec.specs.Settings.{without_limits};
-    ghost use Rattle.smithy_json_codec.specs.Standing.{json_relations};
-    ghost use Rattle.smithy_json_codec.specs.Private.MemberSteps.{EndsEmpty};
+    ghost use Rattle.std.specs.Prelude.{◌≡◌};
+    ghost use Rattle.smithy_json_codec.specs.Cursor.{cursor_of};
     ghost use Rattle.smithy_wire.specs.Walking.{fresh_cursor};
 
     // A fresh reader.
-    pub(crate) fn new(
-        input: &'a [u8],
-        alloc: Global,
-        use_json_name: bool,
-        max_depth: usize,
-        default_timestamp_format: TimestampFormat,
-    ) -> JsonDeserializer<'a>
-        requires { max_depth ≤ 512 }
+    pub(crate) fn new(input: &'a [u8], alloc: Global, settings: Settings) -> JsonDeserializer<'a>
         ensures state { cursor_of result ≡ fresh_cursor input.now }
-        ensures use_json_name { result.use_json_name ≡ use_json_name }
-        ensures max_depth { result.walk.max_depth ≡ max_depth }
-        ensures default_timestamp_format { result.default_timestamp_format ≡ default_timestamp_format }
+        ensures settings { result.settings ≡ settings }
     {
         JsonDeserializer {
-            walk: Walk::new(input, alloc, max_depth),
+            walk: Walk::new(input, alloc, settings.max_depth),
             alloc,
-            use_json_name,
-            default_timestamp_format,
+            settings,
         }
     }
 
-    // Whether the innermost container was opened at the end of an empty input, and ends there.
-    fn ends_empty(&self) -> bool
-        ensures { IsTrue result ↔ EndsEmpty (cursor_of self.now) }
-    {
-        let mark = self.walk.inner.mark;
-        mark.at_end
-            && !mark.entered
-            && mark.due.is_none()
-            && self.walk.input.is_empty()
-            && self.walk.depth() > 0
-    }
-
-    // Goes on in the structure or the union from the offset on, where nothing is due any more.
+    // What is read, under the settings.
     #[inline(always)]
-    fn step_from<'s>(&mut self, at: usize, schema: &Schema<'s>) -> Result<Step<'s>, SerdeError>
-        requires ahead { self.old.walk.position ≤ at }
-        requires within { at ≤ length self.old.walk.input.now }
-        requires sound { self.old.walk.failed ≡ false }
-        requires inside { (cursor_of self.old).inner.within ≡ in_structure }
-        requires place { HasMembers (kind_at (site_of schema.now)) }
-        ensures same { reading_settings_of self.new ≡ reading_settings_of self.old }
-        ensures conduct { Conducts (cursor_of self.old) (cursor_of self.new) result }
-        ensures narrow { RefusesNoScalar result }
-        ensures ok { IfOk result (λ step. MatchStep step (json_relations (reading_settings_of self.old)) (passed_to (cursor_of self.old) at) (cursor_of self.new) (site_of schema.now)) }
-        ensures refused { IsRefused result → CannotGoOn (json_relations (reading_settings_of self.old)) (passed_to (cursor_of self.old) at) schema.now.shapes.now schema.now.place }
-        ensures would { IsInvalid result → CannotGoOn (json_relations (without_limits (reading_settings_of self.old))) (passed_to (cursor_of self.old) at) schema.now.shapes.now schema.now.place }
-        ensures deep { IsErrOf result TooDeep → (reading_settings_of self.old).max_depth ≤ depth (cursor_of self.old) + json_openers (drop at (cursor_of self.old).input) }
-        ensures too_deep { IsErrOf result TooDeep
-            → (q : ℕ) × (at ≤ q) × OpensTooDeep (reading_settings_of self.old).max_depth (depth (cursor_of self.old)) (cursor_of self.old).input q }
+    pub(crate) fn input(&self) -> Input<'a>
+        ensures { result ≡ record { bytes = self.now.walk.input; settings = self.now.settings } }
     {
-        if self.ends_empty() && is_structure(schema) {
-            self.walk.leave(0);
-            return Ok(Step::End);
-        }
-        let names = Names {
-            schema,
-            use_json_name: self.use_json_name,
-        };
-        match next_present(
-            self.alloc,
-            self.walk.input,
-            at,
-            self.walk.inner.mark.entered,
-            self.walk.depth(),
-            self.walk.max_depth,
-            names,
-        ) {
-            Ok(Next::Member(name, value)) => {
-                let step = names.step_to(name.as_str());
-                self.walk.go_on(value, frame(Within::Structure, true));
-                Ok(step)
-            }
-            Ok(Next::End(end)) => {
-                self.walk.leave(end);
-                Ok(Step::End)
-            }
-            Err(error) => Err(self.walk.refuse(error)),
+        Input {
+            bytes: self.walk.input,
+            settings: self.settings,
         }
     }
 }
@@ -169,6 +65,7 @@ impl ShapeDeserializer for JsonDeserializer<'_> {
     ghost use Rattle.smithy_json_codec.specs.Cursor.{cursor_of, reading_settings_of};
     ghost use Rattle.smithy_json_codec.specs.Settings.{Settings, keep_limits, without_limits};
     ghost use Rattle.smithy_json_codec.specs.Standing.{json_relations};
+    ghost use Rattle.smithy_json_codec.specs.ContainerSize.{json_sizes};
     ghost use Rattle.smithy_json_codec.specs.Deepest.{OpensTooDeep};
     ghost use Rattle.smithy_types.specs.DocumentView.{document_view};
     ghost use Rattle.std.specs.Prelude.{FitsSigned};
@@ -207,6 +104,12 @@ impl ShapeDeserializer for JsonDeserializer<'_> {
 
     ghost above = { λ c. limits_are_above (keep_limits c) };
 
+    ghost sizes = { λ _. json_sizes };
+
+    fn allocator(&self) -> Global {
+        self.alloc
+    }
+
     fn position(&self) -> usize {
         self.walk.position
     }
@@ -244,9 +147,10 @@ impl ShapeDeserializer for JsonDeserializer<'_> {
         ensures unread_would { Unit {0} → IsInvalid result → (cursor_of self.old).due ≡ true → (e : ℕ) → (json_relations (without_limits (reading_settings_of self.old))).skips (cursor_of self.old).input (depth (cursor_of self.old)) (cursor_of self.old).at e
             → CannotGoOn (json_relations (without_limits (reading_settings_of self.old))) (passed_to (cursor_of self.old) e) schema.now.shapes.now schema.now.place }
         ensures deep { IsErrOf result TooDeep → ReachesDepth (json_relations (reading_settings_of self.old)) (reading_settings_of self.old).max_depth (cursor_of self.old) }
+        ensures limited { IsErrOf result TooDeep → (json_relations (reading_settings_of self.old)).limits_skips ≡ true }
 
-        // It is too deep only by a container that begins at the greatest depth, in the value that is skipped here or in
-        // that of a mark behind it.
+        // `TooDeep` comes only of a container that begins at the greatest depth, in the value that is skipped here or in the
+        // value of a mark behind it.
         ensures too_deep { IsErrOf result TooDeep
             → (q : ℕ) × ((cursor_of self.old).at ≤ q) × OpensTooDeep (reading_settings_of self.old).max_depth (depth (cursor_of self.old)) (cursor_of self.old).input q }
     {
@@ -257,7 +161,7 @@ impl ShapeDeserializer for JsonDeserializer<'_> {
         if !self.walk.due {
             return self.step_from(at, schema);
         }
-        match skipped_end(self.walk.input, at, self.walk.depth(), self.walk.max_depth) {
+        match skipped_end(self.input(), at, self.walk.depth()) {
             Ok(end) => self.step_from(end, schema),
             Err(error) => Err(self.walk.refuse(error)),
         }
@@ -340,7 +244,7 @@ impl ShapeDeserializer for JsonDeserializer<'_> {
         self.walk.due && begins_null(self.walk.input, self.walk.position)
     }
 
-    // Where no null is due it does nothing.
+    // Where no null is due, and the reader hasn't failed, the call does nothing.
     fn read_null(&mut self) -> Result<(), SerdeError>
         ensures same { reading_settings_of self.new ≡ reading_settings_of self.old }
         ensures conduct { Conducts (cursor_of self.old) (cursor_of self.new) result }
@@ -369,7 +273,7 @@ impl ShapeDeserializer for JsonDeserializer<'_> {
         }
     }
 
-    // It takes no memory.
+    // Skipping takes no memory, so it is never refused for want of memory.
     fn skip_value(&mut self) -> Result<(), SerdeError>
         ensures same { reading_settings_of self.new ≡ reading_settings_of self.old }
         ensures conduct { Conducts (cursor_of self.old) (cursor_of self.new) result }
@@ -381,23 +285,26 @@ impl ShapeDeserializer for JsonDeserializer<'_> {
         ensures refused { IsRefused result → (cursor_of self.old).due ≡ true → SkipsNot (json_relations (reading_settings_of self.old)) (cursor_of self.old) }
         ensures would { IsInvalid result → (cursor_of self.old).due ≡ true → SkipsNot (json_relations (without_limits (reading_settings_of self.old))) (cursor_of self.old) }
         ensures deep { IsErrOf result TooDeep → ReachesDepth (json_relations (reading_settings_of self.old)) (reading_settings_of self.old).max_depth (cursor_of self.old) }
+        ensures limited { IsErrOf result TooDeep → (json_relations (reading_settings_of self.old)).limits_skips ≡ true }
 
-        // It is too deep only by a container that begins at the greatest depth, behind what is sound.
+        // `TooDeep` comes only of a container that begins at the greatest depth, behind what is sound.
         ensures too_deep { IsErrOf result TooDeep → OpensTooDeep (reading_settings_of self.old).max_depth (depth (cursor_of self.old)) (cursor_of self.old).input (cursor_of self.old).at }
     {
         self.walk.ready()?;
-        match skipped_end(
-            self.walk.input,
-            self.walk.position,
-            self.walk.depth(),
-            self.walk.max_depth,
-        ) {
+        match skipped_end(self.input(), self.walk.position, self.walk.depth()) {
             Ok(end) => {
                 self.walk.pass(end);
                 Ok(())
             }
             Err(error) => Err(self.walk.refuse(error)),
         }
+    }
+
+    fn container_size(&self) -> Result<Option<usize>, AllocError> {
+        if self.walk.failed || !self.walk.due {
+            return Ok(None);
+        }
+        container_size(self.alloc, &self.walk.input[self.walk.position..])
     }
 
     fn read_boolean(&mut self, _schema: &Schema<'_>) -> Result<bool, SerdeError> {
@@ -472,7 +379,7 @@ impl ShapeDeserializer for JsonDeserializer<'_> {
 
     fn read_timestamp(&mut self, schema: &Schema<'_>) -> Result<DateTime, SerdeError> {
         self.walk.ready()?;
-        let form = form_at(schema, self.default_timestamp_format);
+        let form = form_at(schema, self.settings.default_timestamp_format);
         let found = instant_at(self.alloc, self.walk.input, self.walk.position, form);
         self.walk.take_result(found)
     }
@@ -481,8 +388,8 @@ impl ShapeDeserializer for JsonDeserializer<'_> {
         ensures same { reading_settings_of self.new ≡ reading_settings_of self.old }
         ensures read { ReadsDocument (json_relations (reading_settings_of self.old)) (json_relations (without_limits (reading_settings_of self.old))) (Unit {0}) (reading_settings_of self.old).max_depth (cursor_of self.old) (cursor_of self.new) (site_of _schema.now) result }
 
-        // It is too deep only by a value of the document inside of as many containers as may be, and isn't carried only by
-        // a number of the document that none holds.
+        // `TooDeep` comes only of a value of the document inside of as many containers as may be open. `NotCarried` comes only of
+        // a number of the document that no document holds.
         ensures too_deep { IsErrOf result TooDeep → OpensDocumentTooDeep (reading_settings_of self.old).max_depth (depth (cursor_of self.old)) (cursor_of self.old).input (cursor_of self.old).at }
         ensures other_number { IsErrOf result NotCarried → MeetsOtherNumber (cursor_of self.old).input (cursor_of self.old).at }
 
@@ -493,10 +400,9 @@ impl ShapeDeserializer for JsonDeserializer<'_> {
         self.walk.ready()?;
         let found = standing_document_at(
             self.alloc,
-            self.walk.input,
+            self.input(),
             self.walk.position,
             self.walk.depth(),
-            self.walk.max_depth,
         );
         self.walk.take_result(found)
     }

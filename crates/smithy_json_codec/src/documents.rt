@@ -9,8 +9,9 @@ ghost use Rattle.smithy_json_codec.specs.Private.OpenDocuments.{open_array, open
 mod scalars;
 
 use crate::documents::scalars::{Begun, document_begun};
+use crate::input::Input;
 use crate::places::{InList, InObject, may_end, next_in_list, next_in_object};
-use crate::skip::{GREATEST_DEPTH, begins_value};
+use crate::skip::begins_value;
 use crate::texts::owned_text;
 use smithy_schema::SerdeError;
 use smithy_types::Document;
@@ -89,7 +90,8 @@ fn with_value(frame: Frame, value: Document) -> Result<Open, SerdeError>
     }
 }
 
-// What is wrong where a value is due inside of as many containers as there may be.
+// Why no value is read at the offset, where one is due inside of as many containers as may be open: `TooDeep` where a value
+// begins there.
 #[cold]
 #[inline(never)]
 fn fault_at_limit(input: &[u8], at: usize) -> SerdeError
@@ -108,20 +110,19 @@ fn fault_at_limit(input: &[u8], at: usize) -> SerdeError
 #[inline(always)]
 fn value_step(
     alloc: Global,
-    input: &[u8],
+    input: Input<'_>,
     at: usize,
     frame: Frame,
     depth: usize,
-    max_depth: usize,
 ) -> Result<Step, SerdeError>
-    requires within { at ≤ length input.now }
-    requires shallow { depth ≤ max_depth }
-    ensures { TakesValue max_depth depth input.now at (frame_view frame) result }
+    requires within { at ≤ length input.bytes.now }
+    requires shallow { depth ≤ input.settings.max_depth }
+    ensures { TakesValue input.entry.settings.max_depth depth input.entry.bytes.now at (frame_view frame) result }
 {
-    if depth >= max_depth {
-        return Err(fault_at_limit(input, at));
+    if depth >= input.settings.max_depth {
+        return Err(fault_at_limit(input.bytes, at));
     }
-    match document_begun(alloc, input, at)? {
+    match document_begun(alloc, input.bytes, at)? {
         Begun::Scalar(value, end) => Ok(Step::Inside(with_value(frame, value)?, end)),
         Begun::Container(is_object, inside) => Ok(Step::Opens(frame, is_object, inside)),
     }
@@ -130,27 +131,19 @@ fn value_step(
 #[inline(always)]
 fn array_step(
     alloc: Global,
-    input: &[u8],
+    input: Input<'_>,
     at: usize,
     entered: bool,
     elements: Vec<Document>,
     depth: usize,
-    max_depth: usize,
 ) -> Result<Step, SerdeError>
-    requires within { at ≤ length input.now }
-    requires shallow { depth ≤ max_depth }
-    ensures { TakesStep max_depth depth input.now at entered (open_array (elements_view elements.items)) result }
+    requires within { at ≤ length input.bytes.now }
+    requires shallow { depth ≤ input.settings.max_depth }
+    ensures { TakesStep input.entry.settings.max_depth depth input.entry.bytes.now at entered (open_array (elements_view elements.items)) result }
 {
-    match next_in_list(input, at, entered, INNER_DEPTH) {
+    match next_in_list(input.bytes, at, entered, INNER_DEPTH) {
         Some(InList::Element(start)) => {
-            value_step(
-                alloc,
-                input,
-                start,
-                Frame::InArray(elements),
-                depth,
-                max_depth,
-            )
+            value_step(alloc, input, start, Frame::InArray(elements), depth)
         }
         Some(InList::End(end)) => Ok(Step::Ends(Document::Array(elements), end)),
         None => Err(SerdeError::InvalidInput),
@@ -160,22 +153,21 @@ fn array_step(
 #[inline(always)]
 fn object_step(
     alloc: Global,
-    input: &[u8],
+    input: Input<'_>,
     at: usize,
     entered: bool,
     properties: BTreeMap<String, Document>,
     depth: usize,
-    max_depth: usize,
 ) -> Result<Step, SerdeError>
-    requires within { at ≤ length input.now }
-    requires shallow { depth ≤ max_depth }
-    ensures { TakesStep max_depth depth input.now at entered (open_object (properties_view properties.entries)) result }
+    requires within { at ≤ length input.bytes.now }
+    requires shallow { depth ≤ input.settings.max_depth }
+    ensures { TakesStep input.entry.settings.max_depth depth input.entry.bytes.now at entered (open_object (properties_view properties.entries)) result }
 {
-    match next_in_object(input, at, entered, INNER_DEPTH) {
+    match next_in_object(input.bytes, at, entered, INNER_DEPTH) {
         Some(InObject::Member(name)) => {
             let key = owned_text(alloc, name.raw, name.has_escape)?;
             let frame = Frame::BehindName(properties, key);
-            value_step(alloc, input, name.end, frame, depth, max_depth)
+            value_step(alloc, input, name.end, frame, depth)
         }
         Some(InObject::End(end)) => Ok(Step::Ends(Document::Object(properties), end)),
         None => Err(SerdeError::InvalidInput),
@@ -186,24 +178,19 @@ fn object_step(
 #[inline(always)]
 fn next_step(
     alloc: Global,
-    input: &[u8],
+    input: Input<'_>,
     at: usize,
     entered: bool,
     inner: Open,
     depth: usize,
-    max_depth: usize,
 ) -> Result<Step, SerdeError>
-    requires within { at ≤ length input.now }
-    requires shallow { depth ≤ max_depth }
-    ensures { TakesStep max_depth depth input.now at entered (open_view inner) result }
+    requires within { at ≤ length input.bytes.now }
+    requires shallow { depth ≤ input.settings.max_depth }
+    ensures { TakesStep input.entry.settings.max_depth depth input.entry.bytes.now at entered (open_view inner) result }
 {
     match inner {
-        Open::Array(elements) => {
-            array_step(alloc, input, at, entered, elements, depth, max_depth)
-        }
-        Open::Object(properties) => {
-            object_step(alloc, input, at, entered, properties, depth, max_depth)
-        }
+        Open::Array(elements) => { array_step(alloc, input, at, entered, elements, depth) }
+        Open::Object(properties) => { object_step(alloc, input, at, entered, properties, depth) }
     }
 }
 
@@ -224,26 +211,25 @@ fn pop(frames: &mut Vec<Frame>) -> Option<Frame>
 }
 
 /// The document at the offset inside of so many containers, with its end. Each of its values counts as
-/// one more container than it stands in, and no more than `max_depth` may be open at once.
+/// one more container than it stands in, and no more may be open at once than the settings say.
 ///
 /// The first fault is answered: a value too deep, a number that no document holds, or what is no
 /// document whatever the limits.
 fn document_at(
     alloc: Global,
-    input: &[u8],
+    input: Input<'_>,
     at: usize,
     depth: usize,
-    max_depth: usize,
 ) -> Result<(Document, usize), SerdeError>
-    requires within { at ≤ length input.now }
-    requires shallow { depth ≤ max_depth }
-    ensures ok { IfOk result (λ r. DocumentLies (Some max_depth) depth input.now at (document_view r.0) r.1) }
-    ensures refused { IfErr result (RefusesDocument max_depth depth input.now at) }
+    requires within { at ≤ length input.bytes.now }
+    requires shallow { depth ≤ input.settings.max_depth }
+    ensures ok { IfOk result (λ r. DocumentLies (Some input.entry.settings.max_depth) depth input.entry.bytes.now at (document_view r.0) r.1) }
+    ensures refused { IfErr result (RefusesDocument input.entry.settings.max_depth depth input.entry.bytes.now at) }
 {
-    if depth >= max_depth {
-        return Err(fault_at_limit(input, at));
+    if depth >= input.settings.max_depth {
+        return Err(fault_at_limit(input.bytes, at));
     }
-    let (is_object, mut at) = match document_begun(alloc, input, at)? {
+    let (is_object, mut at) = match document_begun(alloc, input.bytes, at)? {
         Begun::Scalar(value, end) => return Ok((value, end)),
         Begun::Container(is_object, inside) => (is_object, inside),
     };
@@ -252,7 +238,7 @@ fn document_at(
     let mut entered = false;
     'steps: loop {
         let inside_depth = depth + frames.len() + 1;
-        match next_step(alloc, input, at, entered, inner, inside_depth, max_depth)? {
+        match next_step(alloc, input, at, entered, inner, inside_depth)? {
             Step::Inside(more, end) => {
                 inner = more;
                 entered = true;
@@ -276,23 +262,21 @@ fn document_at(
     }
 }
 
-/// The same of a place behind which comes what may follow a container inside of so many others: outside
-/// of all that is blanks.
+/// The document at the offset inside of `depth` containers, with its end, as `document_at` reads it, where behind it comes what
+/// may follow a container there. Outside of all containers that is blanks alone.
 pub(crate) fn standing_document_at(
     alloc: Global,
-    input: &[u8],
+    input: Input<'_>,
     at: usize,
     depth: usize,
-    max_depth: usize,
 ) -> Result<(Document, usize), SerdeError>
-    requires within { at ≤ length input.now }
-    requires shallow { depth ≤ max_depth }
-    requires greatest { max_depth ≤ GREATEST_DEPTH }
-    ensures ok { IfOk result (λ r. DocumentStands (Some max_depth) depth input.now at (document_view r.0) r.1) }
-    ensures refused { IfErr result (RefusesStanding max_depth depth input.now at) }
+    requires within { at ≤ length input.bytes.now }
+    requires shallow { depth ≤ input.settings.max_depth }
+    ensures ok { IfOk result (λ r. DocumentStands (Some input.entry.settings.max_depth) depth input.entry.bytes.now at (document_view r.0) r.1) }
+    ensures refused { IfErr result (RefusesStanding input.entry.settings.max_depth depth input.entry.bytes.now at) }
 {
-    let (document, end) = document_at(alloc, input, at, depth, max_depth)?;
-    if !may_end(input, end, depth + 1) {
+    let (document, end) = document_at(alloc, input, at, depth)?;
+    if !may_end(input.bytes, end, depth + 1) {
         return Err(SerdeError::InvalidInput);
     }
     Ok((document, end))

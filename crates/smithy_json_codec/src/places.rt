@@ -52,7 +52,7 @@ pub(crate) fn first_byte(input: &[u8], at: usize) -> Option<(u8, usize)>
     }
 }
 
-// The end of this byte, where it comes first behind blanks.
+// The offset behind this byte, where it comes first behind blanks.
 #[inline(always)]
 pub(crate) fn byte_end(input: &[u8], at: usize, byte: u8) -> Option<usize>
     requires within { at ≤ length input.now }
@@ -76,7 +76,7 @@ pub(crate) fn null_end(input: &[u8], at: usize) -> Option<usize>
     read_null(input, skip_blanks(input, at))
 }
 
-// Whether at the offset a container may end whose inside has this depth.
+// Whether the innermost of `depth` open containers may end at the offset. Behind the only one nothing but blanks may follow.
 #[inline(always)]
 pub(crate) fn may_end(input: &[u8], at: usize, depth: usize) -> bool
     requires { at ≤ length input.now }
@@ -89,7 +89,7 @@ pub(crate) fn may_end(input: &[u8], at: usize, depth: usize) -> bool
     }
 }
 
-// How the list goes on in whose inside the offset lies.
+// What comes next in the list inside of which the offset lies: an element, or the end of the list.
 #[inline(always)]
 pub(crate) fn next_in_list(input: &[u8], at: usize, entered: bool, depth: usize) -> Option<InList>
     requires { at ≤ length input.now }
@@ -134,7 +134,7 @@ fn name_at<'a>(input: &'a [u8], at: usize) -> Option<Name<'a>>
     })
 }
 
-// How the object goes on in whose inside the offset lies.
+// What comes next in the object inside of which the offset lies: a member's name with its colon, or the end of the object.
 #[inline(always)]
 pub(crate) fn next_in_object<'a>(
     input: &'a [u8],

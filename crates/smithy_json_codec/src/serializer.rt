@@ -12,12 +12,12 @@ ghost use Rattle.smithy_texts.specs.Decimal.{exponent_text, decimal_text};
 ghost use Rattle.smithy_json.specs.Escape.{quoted};
 ghost use Rattle.smithy_json.specs.NumberText.{is_number};
 ghost use Rattle.smithy_json_codec.specs.Canonical.{in_form, document_text, name_text, key_text};
-ghost use Rattle.smithy_json_codec.specs.Codec.{settings_of};
+ghost use Rattle.smithy_json_codec.specs.Codec.{held_settings};
 ghost use Rattle.smithy_json_codec.specs.Serializing.{open_of, opens_of, state_of, has_failed};
 ghost use Rattle.smithy_json_codec.specs.Writing.{JsonState, fresh_state, comma_text, key_in, is_key_due, lead, wrote, key_wrote, opened, where_taken, json_after};
 
-use crate::codec::JsonCodec;
 use crate::instants::form_at;
+use crate::settings::Settings;
 use itoa::Buffer;
 use smithy_json::number_text::is_number;
 use smithy_json::{push_document, push_escaped};
@@ -38,13 +38,13 @@ pub(crate) enum Container {
 ///
 /// Members and the entries of a map are written by name, with a comma between two, and without white space.
 #[derive(Debug, Drop)]
-pub struct JsonSerializer<'c> {
-    codec: &'c JsonCodec,
+pub struct JsonSerializer {
+    settings: Settings,
     out: Vec<u8>,
     // Whether a comma stands before whatever comes next but an end.
     needs_comma: bool,
     stack: Vec<Container>,
-    // From the beginning of a call until it is done, and for good where it is refused.
+    // True while a call is under way, and for good once a call was refused.
     failed: bool,
 }
 
@@ -168,13 +168,13 @@ fn begin_value(
     }
 }
 
-impl<'c> JsonSerializer<'c> {
-    pub(crate) fn new(codec: &'c JsonCodec, alloc: Global) -> JsonSerializer<'c>
-        ensures state { state_of result ≡ fresh_state (settings_of codec.now) }
+impl JsonSerializer {
+    pub(crate) fn new(settings: Settings, alloc: Global) -> JsonSerializer
+        ensures state { state_of result ≡ fresh_state (held_settings settings) }
         ensures sound { has_failed result ≡ false }
     {
         JsonSerializer {
-            codec,
+            settings,
             out: Vec::new(alloc),
             needs_comma: false,
             stack: Vec::new(alloc),
@@ -195,7 +195,7 @@ impl<'c> JsonSerializer<'c> {
         begin_value(
             &mut self.out,
             &mut self.stack,
-            self.codec.use_json_name,
+            self.settings.use_json_name,
             self.needs_comma,
             schema,
         )
@@ -319,7 +319,7 @@ impl<'c> JsonSerializer<'c> {
     }
 }
 
-impl ShapeSerializer for JsonSerializer<'_> {
+impl ShapeSerializer for JsonSerializer {
     ghost use Rattle.smithy_json_codec.specs.Nesting.{json_nests, json_grows};
 
     ghost State = { JsonState };
@@ -487,7 +487,7 @@ impl ShapeSerializer for JsonSerializer<'_> {
         if self.failed {
             return Err(SerdeError::Failed);
         }
-        let form = form_at(schema, self.codec.default_timestamp_format);
+        let form = form_at(schema, self.settings.default_timestamp_format);
         match form.text_of(*self.out.allocator(), value) {
             Ok(text) => self.write_in_form(schema, form, text.as_str()),
             Err(error) => {
@@ -510,7 +510,7 @@ impl ShapeSerializer for JsonSerializer<'_> {
     }
 }
 
-impl FinishSerializer for JsonSerializer<'_> {
+impl FinishSerializer for JsonSerializer {
     fn finish(self) -> Result<Vec<u8>, SerdeError> {
         if self.failed {
             return Err(SerdeError::Failed);

@@ -10,12 +10,13 @@ ghost use Rattle.smithy_json_codec.specs.Openers.{json_openers};
 ghost use Rattle.smithy_json_codec.specs.Private.NextInContainer.{IsFirstByte};
 ghost use Rattle.smithy_json_codec.specs.Private.Skipping.{SkipsTo, ScalarLies, NoValueLies, BeginsAs, GoesOnInside, IsNextStep};
 
+use crate::input::Input;
 use crate::places::{InList, InObject, first_byte, next_in_list, next_in_object, null_end};
 use crate::values::{boolean_end, number_end, string_at};
 use smithy_schema::SerdeError;
 
-/// The greatest depth that settings may allow.
-pub(crate) const GREATEST_DEPTH: usize = 512;
+// The greatest depth that settings may allow.
+const GREATEST_DEPTH: usize = 512;
 
 // How a value begins: as an object or an array, with the offset of its inside, or as a scalar, with
 // its end.
@@ -71,7 +72,7 @@ pub(crate) fn begins_value(input: &[u8], at: usize) -> bool
     beginning_of(input, at).is_some()
 }
 
-// How the object or the array goes on in whose inside the offset lies.
+// What comes next in the object or the array inside of which the offset lies: a value, behind its name in an object, or the end.
 #[inline(always)]
 fn next_inside(
     input: &[u8],
@@ -130,51 +131,39 @@ fn next_step(
 }
 
 // The end of the value that lies at the offset inside so many containers, of whatever kind. No
-// more than `max_depth` containers may be open at once.
-pub(crate) fn skipped_end(
-    input: &[u8],
-    at: usize,
-    depth: usize,
-    max_depth: usize,
-) -> Result<usize, SerdeError>
-    requires within { at ≤ length input.now }
-    requires shallow { depth ≤ max_depth }
-    requires greatest { max_depth ≤ GREATEST_DEPTH }
-    ensures ok { IfOk result (λ e. SkipsTo max_depth depth input.now at e) }
+// more containers may be open at once than the settings say.
+pub(crate) fn skipped_end(input: Input<'_>, at: usize, depth: usize) -> Result<usize, SerdeError>
+    requires within { at ≤ length input.bytes.now }
+    requires shallow { depth ≤ input.settings.max_depth }
+    ensures ok { IfOk result (λ e. SkipsTo input.entry.settings.max_depth depth input.entry.bytes.now at e) }
     ensures fault { IfErr result IsFault }
     ensures readable { IfErr result (λ e. e ≢ Unwritable) }
     ensures supported { IfErr result (λ e. e ≢ Unsupported) }
     ensures narrow { IfErr result (λ e. (e ≢ TooWide) × (e ≢ NotCarried)) }
-    ensures refused { OnErr result ((e : ℕ) → SkipsTo max_depth depth input.now at e → ⊥) }
-    ensures would { IsInvalid result → (greatest e : ℕ) → SkipsTo greatest depth input.now at e → ⊥ }
-    ensures deep { IsErrOf result TooDeep → max_depth ≤ depth + json_openers (drop at input.now) }
-    ensures too_deep { IsErrOf result TooDeep → OpensTooDeep max_depth depth input.now at }
+    ensures refused { OnErr result ((e : ℕ) → SkipsTo input.entry.settings.max_depth depth input.entry.bytes.now at e → ⊥) }
+    ensures would { IsInvalid result → (greatest e : ℕ) → SkipsTo greatest depth input.entry.bytes.now at e → ⊥ }
+    ensures deep { IsErrOf result TooDeep → input.entry.settings.max_depth ≤ depth + json_openers (drop at input.entry.bytes.now) }
+    ensures too_deep { IsErrOf result TooDeep → OpensTooDeep input.entry.settings.max_depth depth input.entry.bytes.now at }
 {
-    match beginning_of(input, at) {
+    match beginning_of(input.bytes, at) {
         Some(Beginning::Scalar(end)) => Ok(end),
-        Some(Beginning::Container(_, _)) => container_end(input, at, depth, max_depth),
+        Some(Beginning::Container(_, _)) => container_end(input, at, depth),
         None => Err(SerdeError::InvalidInput),
     }
 }
 
-fn container_end(
-    input: &[u8],
-    at: usize,
-    depth: usize,
-    max_depth: usize,
-) -> Result<usize, SerdeError>
-    requires within { at ≤ length input.now }
-    requires shallow { depth ≤ max_depth }
-    requires greatest { max_depth ≤ GREATEST_DEPTH }
-    ensures ok { IfOk result (λ e. SkipsTo max_depth depth input.now at e) }
+fn container_end(input: Input<'_>, at: usize, depth: usize) -> Result<usize, SerdeError>
+    requires within { at ≤ length input.bytes.now }
+    requires shallow { depth ≤ input.settings.max_depth }
+    ensures ok { IfOk result (λ e. SkipsTo input.entry.settings.max_depth depth input.entry.bytes.now at e) }
     ensures fault { IfErr result IsFault }
     ensures readable { IfErr result (λ e. e ≢ Unwritable) }
     ensures supported { IfErr result (λ e. e ≢ Unsupported) }
     ensures narrow { IfErr result (λ e. (e ≢ TooWide) × (e ≢ NotCarried)) }
-    ensures refused { OnErr result ((e : ℕ) → SkipsTo max_depth depth input.now at e → ⊥) }
-    ensures would { IsInvalid result → (greatest e : ℕ) → SkipsTo greatest depth input.now at e → ⊥ }
-    ensures deep { IsErrOf result TooDeep → max_depth ≤ depth + json_openers (drop at input.now) }
-    ensures too_deep { IsErrOf result TooDeep → OpensTooDeep max_depth depth input.now at }
+    ensures refused { OnErr result ((e : ℕ) → SkipsTo input.entry.settings.max_depth depth input.entry.bytes.now at e → ⊥) }
+    ensures would { IsInvalid result → (greatest e : ℕ) → SkipsTo greatest depth input.entry.bytes.now at e → ⊥ }
+    ensures deep { IsErrOf result TooDeep → input.entry.settings.max_depth ≤ depth + json_openers (drop at input.entry.bytes.now) }
+    ensures too_deep { IsErrOf result TooDeep → OpensTooDeep input.entry.settings.max_depth depth input.entry.bytes.now at }
 {
     let mut at = at;
     let mut due = true;
@@ -182,7 +171,15 @@ fn container_end(
     let mut open: usize = 0;
     let mut is_object = [false; GREATEST_DEPTH];
     while due || 0 < open {
-        let Some(step) = next_step(input, at, due, entered, &is_object, open, depth + open) else {
+        let Some(step) = next_step(
+            input.bytes,
+            at,
+            due,
+            entered,
+            &is_object,
+            open,
+            depth + open,
+        ) else {
             return Err(SerdeError::InvalidInput);
         };
         match step {
@@ -192,7 +189,7 @@ fn container_end(
                 entered = true;
             }
             Step::IntoContainer(kind, inside) => {
-                if depth + open >= max_depth {
+                if depth + open >= input.settings.max_depth {
                     return Err(SerdeError::TooDeep);
                 }
                 is_object[open] = kind;

@@ -36,7 +36,7 @@ pub(crate) fn text_of<'a>(
     }
 }
 
-// The same of any string. It stays a call, so that the common case is short.
+// The text of a raw string, with or without escapes. It stays a call, so that `text_of` is short for a string without any.
 #[inline(never)]
 fn unescaped_text<'a>(alloc: Global, raw: &'a str) -> Result<CowStr<'a, Global>, SerdeError>
     ensures ok { IfOk result (λ text. unescaped raw.now ≡ Some (cow_str_bytes text)) }
@@ -51,7 +51,7 @@ fn unescaped_text<'a>(alloc: Global, raw: &'a str) -> Result<CowStr<'a, Global>,
     }
 }
 
-// The same as a text of its own.
+// The text of a raw string, in memory of its own.
 #[inline(always)]
 pub(crate) fn owned_text(alloc: Global, raw: &str, is_escaped: bool) -> Result<String, SerdeError>
     requires { is_escaped ≡ has_escape raw.now }
@@ -78,7 +78,8 @@ pub(crate) fn text_at(alloc: Global, input: &[u8], at: usize) -> Result<(String,
     Ok((text, string.closing + 1))
 }
 
-// The same text, borrowed where it has no escapes.
+// The text of the string that comes first behind blanks, with its end, where a value may end behind it. It is borrowed where the
+// string has no escapes.
 #[inline(always)]
 pub(crate) fn text_piece_at<'a>(
     alloc: Global,
@@ -136,7 +137,8 @@ pub(crate) fn blob_at(alloc: Global, input: &[u8], at: usize) -> Result<(Blob, u
     Ok((blob, string.closing + 1))
 }
 
-// The same bytes, in memory of their own as those of a reader that borrows.
+// The bytes that the string encodes which comes first behind blanks, with its end, where a value may end behind it. They stand in
+// memory of their own, in the type that a reader hands out which borrows.
 pub(crate) fn bytes_piece_at<'a>(
     alloc: Global,
     input: &'a [u8],

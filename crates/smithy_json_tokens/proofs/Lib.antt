@@ -12,3 +12,4 @@ pub mod SurelyGiven
 pub mod DocumentLaws
 pub mod FrameLemmas
 pub mod BlockLemmas
+pub mod CountedValues

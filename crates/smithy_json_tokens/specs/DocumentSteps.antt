@@ -14,27 +14,27 @@ use Rattle.smithy_json_tokens.specs.TokenSteps.{Takes, SurelyGives}
 use Rattle.smithy_json_tokens.specs.declared.error.DeserializeError.{DeserializeError}
 use Rattle.smithy_json_tokens.specs.declared.error.DeserializeErrorKind.TheVariants.{UnescapeFailed, NoMemory}
 
--- a container that is open: an array with its elements so far; an object with its properties so far, where a
--- name or its end is due; or the same behind a name
+-- an open container: an array with its elements so far; an object with its properties so far, where a name or the object's end is
+-- due; or an object with its properties so far and the name whose value is due
 pub data Frame : Type 0 where
   in_array : Documents Number → Frame
   in_object : Properties Number → Frame
   behind_name : Properties Number → List ℕ → Frame
 
--- what a token makes of the open containers, the innermost first: it goes on with these; the document is
--- whole; a bad escape; or it may not come
+-- what a token makes of the open containers, the innermost first: these containers are open then; the document is whole; a bad
+-- escape; or the token may not come
 pub data Step : Type 0 where
   goes_on : List Frame → Step
   whole : Document Number → Step
   bad_escape : EscapeError → Step
   wrong : Step
 
--- with one more element at the end
+-- the elements with one more at the end
 abbrev pub add_element : Documents Number → Document Number → Documents Number
 add_element no_documents d = item d no_documents
 add_element (item e ds) d = item e (add_element ds d)
 
--- a value that ends
+-- what a value makes of the open containers where it ends
 abbrev pub put_value : Document Number → List Frame → Step
 put_value d [] = whole d
 put_value d (in_array ds ∷ frames) = goes_on (in_array (add_element ds d) ∷ frames)
@@ -55,7 +55,7 @@ abbrev pub name_step : Properties Number → List Frame → Result (List ℕ) Es
 name_step ps frames (Ok name) = goes_on (behind_name ps name ∷ frames)
 name_step ps frames (Err fault) = bad_escape fault
 
--- one token
+-- what one token makes of the open containers
 abbrev pub document_step : List Frame → JsonToken → Step
 document_step frames value_null = where_value frames (put_value null frames)
 document_step frames (value_bool b) = where_value frames (put_value (boolean b) frames)
@@ -79,19 +79,19 @@ abbrev pub TakesMemory : Step → Type 0
 TakesMemory wrong = ⊥
 TakesMemory _ = Unit {0}
 
--- what is answered at a step that ends it: the document, or the error; or memory ran out
+-- what a call answers at a step that ends its document: the document, or the error of the step; or memory ran out
 abbrev pub EndsWith : Step → ℕ → Result kept.Document DeserializeError → Type 0
 EndsWith step at (Ok d) = step ≡ whole (document_view d)
 EndsWith step at (Err e) = IsStepError step at e ⊎ ((e ≡ error_at NoMemory at) × TakesMemory step)
 
--- this document, or the want of memory
+-- the call answers this document, or the want of memory
 abbrev pub IsDocument : Document Number → Result kept.Document DeserializeError → Type 0
 IsDocument d (Ok x) = document_view x ≡ d
 IsDocument d (Err e) = e.kind ≡ NoMemory
 
--- Of tokens of a type T: what each is, and its offset; and what a call of an iterator over them gives.
+-- For tokens of a type T: `view` is what a token is, `place` its offset, and `steps` what a call of an iterator over them gives.
 module _ {T S : Type 0} (view : T → JsonToken) (place : T → ℕ) (steps : S → Option (Result T DeserializeError) → S → Type 0) where
-  -- what the last item makes of it: the tokens end too early, an error is passed on, or the token ends it
+  -- what the last item makes of the document: the tokens end too early, an error is passed on, or the token ends it
   abbrev pub DocumentStops : List Frame → Option (Result T DeserializeError) → Result kept.Document DeserializeError → Type 0
   DocumentStops frames None result = IsCustomAt None result
   DocumentStops frames (Some (Err e)) result = result ≡ Err e

@@ -29,12 +29,13 @@ abbrev pub IsTextMeaning : {A V : Type 0} → (List ℕ → Option V) → (A →
 IsTextMeaning meaning seen at (Ok text) result = IsMeaning seen at (meaning text) result
 IsTextMeaning meaning seen at (Err fault) result = result ≡ Err (error_at (UnescapeFailed fault) at)
 
--- the same of a string's raw text, or the want of memory
+-- the answer is what a string means by its raw text, or the first fault of its escapes, or the want of memory
 abbrev pub IsStringMeaning : {A V : Type 0} → (List ℕ → Option V) → (A → V) → ℕ → List ℕ → Result (Option A) DeserializeError → Type 0
 IsStringMeaning meaning seen at raw result =
     IsTextMeaning meaning seen at (unescape raw) result ⊎ (result ≡ Err (error_at NoMemory at))
 
--- the same of a date, which takes memory for its escapes alone
+-- the answer is the instant that a date means by its raw text, or the first fault of its escapes, or, where it has escapes, the
+-- want of memory
 abbrev pub IsDateMeaning : Format → ℕ → List ℕ → Result (Option ℤ) DeserializeError → Type 0
 IsDateMeaning format at raw result =
     IsTextMeaning (date_of format) (λ instant. instant) at (unescape raw) result

@@ -15,7 +15,7 @@ abbrev pub IsCustomKind : DeserializeErrorKind → Type 0
 IsCustomKind (Custom message) = Unit {0}
 IsCustomKind _ = ⊥
 
--- such a fault, with this offset
+-- the answer is a fault that is stated in words, with this offset
 abbrev pub IsCustomAt : {A : Type 0} → Option ℕ → Result A DeserializeError → Type 0
 IsCustomAt place (Ok x) = ⊥
 IsCustomAt place (Err e) = (e.offset ≡ place) × IsCustomKind e.kind

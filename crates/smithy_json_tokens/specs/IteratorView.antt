@@ -13,11 +13,11 @@ use Rattle.smithy_json_tokens.specs.declared.token_iter.JsonTokenIterator.{JsonT
 abbrev pub input_of : JsonTokenIterator → List ℕ
 input_of it = it.input.now
 
--- the states that it comes back to, the innermost first
+-- the states that an iterator comes back to as containers end, the innermost first
 abbrev pub outer_of : JsonTokenIterator → List State
 outer_of it = reverse (vec_items it.outer)
 
--- where it stands
+-- where an iterator stands: its state, the states that it comes back to, and what is left of the input
 abbrev pub cursor_of : JsonTokenIterator → Cursor
 cursor_of it = record {
   state = it.state;

@@ -8,6 +8,7 @@ pub mod IteratorView
 pub mod Faults
 pub mod TokenSteps
 pub mod Skipping
+pub mod ContainerSize
 pub mod DocumentSteps
 pub mod Expecting
 pub mod ExpectingTexts

@@ -7,7 +7,8 @@ use Rattle.smithy_json_tokens.specs.declared.skip.Skip.{Skip}
 use Rattle.smithy_json_tokens.specs.declared.skip.Skip.TheVariants.{On, Done, Wrong}
 use Rattle.smithy_json_tokens.specs.declared.error.DeserializeError.{DeserializeError}
 
--- the container that ends is the last, or so many are left
+-- what the end of a container is, where so many are open: none may end where none is open, and the end of the last one ends the
+-- value
 abbrev pub skip_end : ℕ → Skip
 skip_end zero = Wrong
 skip_end (suc zero) = Done
@@ -34,15 +35,15 @@ skip_token limit open_containers end_object = skip_end open_containers
 skip_token limit open_containers (object_key key) = skip_key open_containers
 skip_token limit open_containers _ = skip_scalar open_containers
 
--- what the last token makes of it
+-- what is answered at the last token of what is passed
 abbrev pub SkipEnds : Skip → ℕ → Result (Unit {0}) DeserializeError → Type 0
 SkipEnds (On n) place result = ⊥
 SkipEnds Done place result = result ≡ Ok tt
 SkipEnds Wrong place result = IsCustomAt (Some place) result
 
--- Of tokens of a type T: what each is, and its offset; and what a call of an iterator over them gives.
+-- For tokens of a type T: `view` is what a token is, `place` its offset, and `steps` what a call of an iterator over them gives.
 module _ {T S : Type 0} (view : T → JsonToken) (place : T → ℕ) (steps : S → Option (Result T DeserializeError) → S → Type 0) where
-  -- what the last item makes of it
+  -- what is answered at the last item of what is passed: the tokens end too early, an error is passed on, or the token ends it
   abbrev pub SkipStops : ℕ → ℕ → Option (Result T DeserializeError) → Result (Unit {0}) DeserializeError → Type 0
   SkipStops limit n None result = IsCustomAt None result
   SkipStops limit n (Some (Err e)) result = result ≡ Err e

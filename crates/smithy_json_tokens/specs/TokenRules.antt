@@ -25,7 +25,7 @@ pub data Scan : Type 0 where
 abbrev pub cut : Scan
 cut = failed UnexpectedEos []
 
--- another byte stands than may come
+-- the error that a byte stands where none like it may come
 abbrev pub unexpected : ℕ → List ℕ → Scan
 unexpected b rest = failed (UnexpectedToken b) (b ∷ rest)
 
@@ -58,7 +58,7 @@ number_length sign (b ∷ rest) =
     if is_piece sign b then suc (number_length false rest)
     else (if is_e b then suc (number_length true rest) else 0)
 
--- the token of such a run: a whole number of 64 bits, or the text of a decimal number
+-- the token of a run of a number's bytes: a whole number of 64 bits, or the text of a decimal number
 abbrev pub run_token : List ℕ → Option JsonToken
 run_token raw =
     if is_some (number_of raw) || is_decimal raw then Some (number_token raw) else None
@@ -83,7 +83,7 @@ abbrev mutual
       if b == quotation_mark || nat_lt b space then 0
       else (if b == escape then suc (taken_length rest) else suc (text_length rest))
 
-  -- the same behind a backslash, which takes a byte
+  -- how many bytes come before the byte that ends a string, from behind a backslash on, which takes the first of them
   pub taken_length : List ℕ → ℕ
   taken_length [] = 0
   taken_length (b ∷ rest) = suc (text_length rest)

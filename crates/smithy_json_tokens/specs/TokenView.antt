@@ -18,7 +18,7 @@ token_view (ValueNumber at value) = value_number value
 token_view (ValueString at value) = value_string (escaped_text value)
 token_view (ValueUncarried at text) = value_uncarried text.now
 
--- the offset of its first byte
+-- the offset of a token's first byte
 abbrev pub token_offset : Token → ℕ
 token_offset (StartArray at) = at.0
 token_offset (EndArray at) = at.0

@@ -32,12 +32,12 @@ abbrev mutual
   tokens (array es) = start_array ∷ (element_tokens es ++ end_array ∷ [])
   tokens (object ms) = start_object ∷ (member_tokens ms ++ end_object ∷ [])
 
-  -- those of the elements, one after another
+  -- the tokens of the elements of an array, one after another
   pub element_tokens : Elements → List JsonToken
   element_tokens no_elements = []
   element_tokens (element j es) = tokens j ++ element_tokens es
 
-  -- of each member its key, and those of its value
+  -- the tokens of the members of an object: of each its key, and then the tokens of its value
   pub member_tokens : Members → List JsonToken
   member_tokens no_members = []
   member_tokens (member key j ms) = object_key key ∷ (tokens j ++ member_tokens ms)

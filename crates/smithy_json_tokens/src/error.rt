@@ -28,7 +28,7 @@ pub enum DeserializeErrorKind {
     UnexpectedControlCharacter(u8),
     /// The input ends where more is due.
     UnexpectedEos,
-    /// Another byte stands than may come, as the character of that number.
+    /// A byte stands where none like it may come. It is told as the character of that number.
     UnexpectedToken(char),
     /// Memory ran out.
     NoMemory,
@@ -71,7 +71,7 @@ impl fmt::Display for DeserializeErrorKind {
 pub struct DeserializeError {
     /// What is wrong.
     pub kind: DeserializeErrorKind,
-    /// Where it stands, in bytes.
+    /// The offset of the fault in the input, in bytes.
     pub offset: Option<usize>,
 }
 
@@ -97,7 +97,7 @@ impl DeserializeError {
         }
     }
 
-    /// The same with this offset.
+    /// This error, with this offset in place of the one that it had.
     pub fn with_offset(self, offset: usize) -> DeserializeError
         ensures { result ≡ record { kind = self.kind; offset = Some offset } }
     {

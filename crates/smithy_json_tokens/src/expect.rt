@@ -11,7 +11,7 @@ use smithy_json::EscapedStr;
 use smithy_types::Number;
 use std::borrow::CowStr;
 
-/// That no token of the wanted kind came, with the offset of the one that came.
+/// The error that no token of the wanted kind came, with the offset of the token that came, if one did.
 pub(crate) fn expected(message: &'static str, offset: Option<usize>) -> DeserializeError
     ensures offset { result.offset ≡ offset }
     ensures kind { IsCustomKind result.kind }

@@ -30,7 +30,7 @@ pub(crate) enum Frame {
     InArray(Vec<Document>),
     /// An object with its properties so far, where a name is due.
     InObject(BTreeMap<String, Document>),
-    /// The same behind a name.
+    /// An object with its properties so far, and the name whose value is due.
     BehindName(BTreeMap<String, Document>, String),
 }
 

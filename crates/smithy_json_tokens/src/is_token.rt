@@ -11,7 +11,7 @@ pub trait IsToken: Copy + Drop {
     /// The token without its offset.
     ghost view: { Self → JsonToken };
 
-    /// Its offset.
+    /// The offset of the token.
     ghost place: { Self → ℕ };
 
     /// The token itself.

@@ -1,6 +1,7 @@
 //! The tokens of a JSON text (RFC 8259), one at a time, and calls that take them.
 #![tactic(auto)]
 
+mod counting;
 mod document;
 mod error;
 mod expect;
@@ -18,6 +19,7 @@ mod token_scan;
 mod token_turn;
 mod tokens_of;
 
+pub use counting::container_size;
 pub use document::expect_document;
 pub use error::{DeserializeError, DeserializeErrorKind};
 pub use expect::{

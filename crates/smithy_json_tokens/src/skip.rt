@@ -17,11 +17,11 @@ const MAX_SKIP_DEPTH: usize = 512;
 // What a token is for a value that is passed.
 #[derive(Clone, Copy)]
 enum Skip {
-    // It goes on, with so many containers open.
+    // The value goes on, with so many containers open.
     On(usize),
-    // It ends.
+    // The value ends.
     Done,
-    // It can't go on so.
+    // The token can't come there.
     Wrong,
 }
 

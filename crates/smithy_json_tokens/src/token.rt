@@ -74,7 +74,7 @@ pub enum Token<'a> {
 }
 
 impl<'a> Token<'a> {
-    /// The offset of its first byte.
+    /// The offset of the token's first byte.
     pub fn offset(&self) -> Offset
         ensures { result.0 ≡ token_offset self.now }
     {

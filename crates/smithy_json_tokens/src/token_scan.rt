@@ -76,8 +76,8 @@ fn literal_at<'a>(
     at_boundary(input, token, at + literal.len())
 }
 
-// The same, moved out of the place where the call wrote it: a result whose place no call out of line is
-// handed stays in registers. So does that of `scan_any_number`.
+// The literal of the token, at the token's offset. The result of `literal_at` is moved out of the place where that call wrote it:
+// a result whose place no call out of line is handed stays in registers. `scan_any_number` does so too.
 #[inline(always)]
 fn scan_literal<'a>(
     input: &'a [u8],
@@ -189,7 +189,7 @@ fn scan_number<'a>(input: &'a [u8], at: usize) -> Result<Scanned<'a>, Deserializ
     scan_any_number(input, at)
 }
 
-// The same, of any form.
+// The number at the offset, of any form that a number of JSON has.
 #[inline(always)]
 fn scan_any_number<'a>(input: &'a [u8], at: usize) -> Result<Scanned<'a>, DeserializeError>
     requires within { at < length input.now }
@@ -200,7 +200,7 @@ fn scan_any_number<'a>(input: &'a [u8], at: usize) -> Result<Scanned<'a>, Deseri
     Ok(scanned)
 }
 
-// The same, by the run of its bytes.
+// The number at the offset, found by the run of bytes of which numbers are made.
 fn scan_run<'a>(input: &'a [u8], at: usize) -> Result<Scanned<'a>, DeserializeError>
     requires within { at < length input.now }
     requires begins { BeginsNumber (slice_index input.now at) }
@@ -225,7 +225,7 @@ pub(crate) fn scan_value<'a>(input: &'a [u8], at: usize) -> Result<Scanned<'a>, 
     scan_value_by(input, at, input[at])
 }
 
-// The same, where this byte stands at the offset.
+// The first token of the value that begins at the offset with the byte `first`.
 #[inline(always)]
 fn scan_value_by<'a>(input: &'a [u8], at: usize, first: u8) -> Result<Scanned<'a>, DeserializeError>
     requires within { at < length input.now }

@@ -21,7 +21,7 @@ pub fn json_token_iter<'a>(
     ensures cursor { IfOk result (λ it. cursor_of it ≡ start input.now) }
     // A text of a tree gives the tree's tokens and then None.
     ensures tokens { IfOk result (λ it. (tree : Json) → IsJsonText tree input.now → GivesOnly (cursor_of it) (tokens tree)) }
-    // So whatever its calls answer, they give these tokens in turn, or the want of memory.
+    // Whatever the iterator's calls answer for the text of a tree, they give the tree's tokens in turn, or the want of memory.
     ensures gives { IfOk result (λ it. (tree : Json) → IsJsonText tree input.now → SurelyGives token_view GivesNext (tokens tree) it) }
 {
     Ok(JsonTokenIterator::new(alloc, input))

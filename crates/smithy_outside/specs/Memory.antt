@@ -7,16 +7,16 @@ use Rattle.smithy_outside.specs.declared.memory.source.MemorySource.{MemorySourc
 use Rattle.smithy_outside.specs.declared.memory.sink.MemorySink.{MemorySink}
 use Rattle.smithy_outside.specs.Outside.{Told, missing, holds, counted}
 
--- a path by what is held at it
+-- what a path tells by what is held at it
 abbrev pub file_told : Option (Vec ℕ Global) → (faults misses : ℕ) → Told
 file_told (Some bytes) faults misses = record { faults = faults; content = holds bytes.items }
 file_told None faults misses = record { faults = misses; content = missing }
 
--- each path of files in memory
+-- what each path tells of files in memory
 abbrev pub files_told : MemoryFiles → List ℕ → Told
 files_told files path = file_told (get_by_text files.entries path) files.faults files.misses
 
--- the count is one more, up to its last value, where P holds, and else the same
+-- a count of faults: where P holds it is one more, up to its last value, and else it stays
 abbrev pub IsCountedIf : Type 0 → (old new : ℕ) → Type 0
 IsCountedIf P old new = (P → new ≡ counted old) × (¬ P → new ≡ old)
 

@@ -17,7 +17,7 @@ pub record Told : Type 0 where
 
 -- all objects at one moment
 pub record Outside : Type 0 where
-  -- by path
+  -- what the file at each path tells
   pub files : List ℕ → Told
   pub input : Told
   pub out : Told
@@ -41,7 +41,7 @@ outside files input out err out_holds_back err_holds_back = record {
 abbrev pub OnlyErrMoved : Outside → Outside → Type 0
 OnlyErrMoved old new = new ≡ record old { err = new.err; err_holds_back = new.err_holds_back }
 
--- a count that reached it stays there
+-- the last value of a count: a count that reached it stays there
 abbrev pub last_count : ℕ
 last_count = 2 ^ 64 - 1
 
@@ -66,13 +66,13 @@ abbrev pub IsCounted : {T E : Type 0} → Result T E → Told → Told → Type 
 IsCounted (Ok x) old new = MetNoFault old new
 IsCounted (Err e) old new = MetOneFault old new
 
--- the faults of a load that ended with this
+-- a load that is refused by `Failed` meets one fault, and a load that is refused otherwise meets none
 abbrev pub IsCountedFault : LoadFault → Told → Told → Type 0
 IsCountedFault load_faults.Failed old new = MetOneFault old new
 IsCountedFault load_faults.TooLong old new = MetNoFault old new
 IsCountedFault load_faults.NoMemory old new = MetNoFault old new
 
--- a load that fails meets one fault, and any other meets none
+-- a load that is refused by `Failed` meets one fault, and any other load meets none
 abbrev pub IsCountedLoad : {T : Type 0} → Result T LoadFault → Told → Told → Type 0
 IsCountedLoad (Ok x) old new = MetNoFault old new
 IsCountedLoad (Err fault) old new = IsCountedFault fault old new

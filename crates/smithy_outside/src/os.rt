@@ -89,7 +89,7 @@ impl<R: Read> Source for OsSource<R> {
 pub struct OsSink<W: Write> {
     /// What is written to.
     pub output: W,
-    /// Whether something was written since it was last finished.
+    /// Whether `write` was called since `finish` last succeeded.
     pub is_unfinished: bool,
     /// How many calls failed.
     pub faults: u64,
@@ -143,7 +143,7 @@ impl<W: Write> Sink for OsSink<W> {
         ensures counts { IsCounted result (only_counts self.old.faults) (only_counts self.new.faults) }
         ensures later { self.old.faults ≤ self.new.faults }
 
-        // The writer holds what it held, and a sink that fails is as unfinished as before.
+        // The writer still holds what it held. Where the call fails, the sink is as unfinished as it was.
         ensures keeps { Keeps (W.contents self.old.output) (W.contents self.new.output) }
         ensures unfinished { OnErr result (self.new.is_unfinished ≡ self.old.is_unfinished) }
     {

@@ -64,7 +64,7 @@ pub trait Files {
 
 /// A source of bytes, which are read once, from the front.
 pub trait Source {
-    /// What is left.
+    /// What the source has left, and its count of faults.
     ghost told: { Self → Told };
 
     /// Puts bytes at the front of `into`, and answers how many. At an `into` with room, 0 is the end.
@@ -78,10 +78,10 @@ pub trait Source {
 
 /// A sink for bytes. It may hold some of them back until it is finished.
 pub trait Sink {
-    /// What it took.
+    /// What the sink took, and its count of faults.
     ghost told: { Self → Told };
 
-    /// Whether it may hold back some of what it took.
+    /// Whether the sink may hold back some of what it took.
     ghost holds_back: { Self → Bool };
 
     /// Takes bytes from the front of `piece`, and answers how many: at least one, if there is one.

@@ -38,12 +38,12 @@ pub fn read_to_end<S: Source>(
     source: &mut S,
     limit: usize,
 ) -> Result<Vec<u8>, LoadFault>
-    // All that was left.
+    // The bytes are all that the source had left.
     ensures all { IfOk result (λ bytes. Gave bytes.items (S.told source.old) (S.told source.new)) }
     ensures end { OnOk result (IsAtEnd (S.told source.new)) }
     ensures within { IfOk result (λ bytes. length bytes.items ≤ limit) }
 
-    // The first fault that shows in the count ends it.
+    // The first fault that shows in the count ends the read.
     ensures counts { IsCountedLoad result (S.told source.old) (S.told source.new) }
 
     ensures too_long { IsErrOf result LoadFault.TooLong → GavePast limit (S.told source.old) (S.told source.new) }

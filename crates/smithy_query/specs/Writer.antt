@@ -146,7 +146,7 @@ value_row = value.the_row (record { mir = named 1; lft = [] }) string_row
 abbrev pub with_value_text : ValueWriter → String Global → ValueWriter
 with_value_text w text = record w { output = record w.output { now = text } }
 
--- the same but for where its text lies in memory
+-- both writers of a value have equal texts, and differ at most in where the text lies in memory
 abbrev pub IsSameValue : ValueWriter → ValueWriter → Type 0
 IsSameValue old new = (value_text new ≡ value_text old) × (new ≡ with_value_text old new.output.now)
 

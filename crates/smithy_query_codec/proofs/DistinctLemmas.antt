@@ -1,5 +1,5 @@
--- No two leaves of a value have one path: those of one part begin with its segment, and the segments of
--- parts differ.
+-- No two leaves of a value have one path: the leaves of one part begin with the segment of this part, and the segments of parts
+-- differ.
 use Rattle.std.proofs.Common.{◌≡◌, ◌≢◌, ◌<◌, ◌≤◌, ◌+◌, ℕ, suc, List, [], ◌∷◌, ◌++◌, length, Option, Some, None, option_to_list, codes, decimal, refl, sym, ◌∙◌, ap, ◌⊎◌, inl, inr, arith}
 use Rattle.std.specs.List.{AllByRecursion}
 use Rattle.std.proofs.lemmas.List.{append_cancel_left}

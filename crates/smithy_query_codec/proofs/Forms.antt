@@ -1,5 +1,5 @@
 -- Which values have leaves with paths of their own: the names of their members, elements, keys and values can stand in a path,
--- those of one structure and those of one map differ, and each element and entry has a position.
+-- the names in one structure and in one map differ, and each element and entry has a position.
 use Rattle.std.specs.Prelude.{◌≡◌, ◌≢◌, ◌<◌, ℕ, List, [], ◌++◌, Some, true, option_to_list}
 use Rattle.std.specs.List.{AllByRecursion}
 use Rattle.smithy_schema.specs.Names.{is_query_name}

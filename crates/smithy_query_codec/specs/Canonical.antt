@@ -22,7 +22,7 @@ leaves_form action version ls = form action version (mapped pair_of_leaf ls)
 abbrev pub canonical_query : List ℕ → List ℕ → Site → Value → List ℕ
 canonical_query action version site v = leaves_form action version (leaves site neither v)
 
--- what such a form is read as: its pairs
+-- the pairs that the form of these leaves is read as
 abbrev pub leaves_pairs : List ℕ → List ℕ → List Leaf → List (List ℕ × List ℕ)
 leaves_pairs action version ls =
     (codes "Action", action) ∷ (codes "Version", version) ∷ mapped (λ (l : Leaf). (path_text l.path, l.text)) ls

@@ -87,7 +87,7 @@ scalar_text form (instant n) = unwrap_or (date_text (format_of form) n) []
 abbrev pub form_at : Site → TimestampFormat
 form_at site = form_or DateTime site.place.time
 
--- the leaves of an entry: its key, and those of its value
+-- the leaves of an entry: its key, and the leaves of its value
 abbrev pub entry_part : List ℕ → List ℕ → List ℕ → List Leaf → List Leaf
 entry_part key_name value_name key leaves =
     record { path = key_name ∷ []; text = key } ∷ under (value_name ∷ []) leaves
@@ -106,22 +106,22 @@ abbrev mutual
   leaves site stand (union n v) =
       under (option_to_list (query_name (member_of site n).view))
       (leaves (member_of site n) (stand_of (member_of site n).view) v)
-  -- a form has neither
+  -- a form has neither nulls nor documents
   leaves site stand null_element = []
   leaves site stand (document_value d) = []
 
-  -- of each element
+  -- the leaves of each element of a list
   pub element_leaves : Site → Values → List (List Leaf)
   element_leaves site no_values = []
   element_leaves site (value v vs) = leaves site neither v ∷ element_leaves site vs
 
-  -- of each entry
+  -- the leaves of each entry of a map
   pub entry_leaves : List ℕ → List ℕ → Site → MapEntries → List (List Leaf)
   entry_leaves key_name value_name site no_map_entries = []
   entry_leaves key_name value_name site (map_entry key v es) =
       entry_part key_name value_name key (leaves site neither v) ∷ entry_leaves key_name value_name site es
 
-  -- of all members, each under its name
+  -- the leaves of the members of a structure, each under its name
   pub member_leaves : Site → MemberValues → List Leaf
   member_leaves site no_member_values = []
   member_leaves site (member_value n v ms) =

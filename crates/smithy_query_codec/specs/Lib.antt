@@ -9,7 +9,7 @@ pub mod Distinct
 -- for contracts
 pub mod Writing
 pub mod Serializing
--- that the calls of writing nest
+-- the calls of writing nest
 pub mod Nesting
 -- for private clauses, and for the laws
 pub mod Private

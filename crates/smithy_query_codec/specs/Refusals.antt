@@ -8,7 +8,7 @@ use Rattle.smithy_schema.specs.Value.{Value, scalar_value, list, map, structure,
 use Rattle.smithy_query_codec.specs.Writable.{can_write}
 
 abbrev mutual
-  -- of the value at a site: none where it can be written
+  -- why the value at a site can't be written: none where it can
   pub refusal_of : Site → Value → Option SerdeError
   refusal_of site (scalar_value x) = if can_write.scalar site.place.time x then None else Some Unwritable
   refusal_of site (list vs) = elements_refusal (element_of site) vs
@@ -18,17 +18,17 @@ abbrev mutual
   refusal_of site null_element = Some Unwritable
   refusal_of site (document_value d) = Some Unsupported
 
-  -- of elements, each at the same site
+  -- why the elements of a list can't be written, by the first that can't, each at the same site: none where all can
   pub elements_refusal : Site → Values → Option SerdeError
   elements_refusal site no_values = None
   elements_refusal site (value v vs) = option_or (refusal_of site v) (elements_refusal site vs)
 
-  -- of the values of a map, each at the same site
+  -- why the values of a map can't be written, by the first that can't, each at the same site: none where all can
   pub entries_refusal : Site → MapEntries → Option SerdeError
   entries_refusal site no_map_entries = None
   entries_refusal site (map_entry key v es) = option_or (refusal_of site v) (entries_refusal site es)
 
-  -- of the members of a structure at this site
+  -- why the members of a structure at this site can't be written, by the first that can't: none where all can
   pub members_refusal : Site → MemberValues → Option SerdeError
   members_refusal site no_member_values = None
   members_refusal site (member_value n v ms) = option_or (refusal_of (member_of site n) v) (members_refusal site ms)

@@ -31,7 +31,7 @@ opens_of stack = mapped (λ (f : OpenContainer). open_of f.container) (reverse s
 abbrev pub marks_of : List OpenContainer → List Mark
 marks_of stack = mapped mark_of (reverse stack)
 
--- what its calls depend on
+-- what the calls of a serializer of forms depend on
 abbrev pub state_of : QueryShapeSerializer → QueryState
 state_of s = record {
   out = s.out.items;
@@ -46,7 +46,7 @@ state_of s = record {
 abbrev pub has_failed : QueryShapeSerializer → Bool
 has_failed s = s.failed
 
--- the mark of a member, where it is one
+-- whose value something is: a member's, by whether the member is flat, or no member's
 abbrev pub stand_of_flatness : Option Bool → Stand
 stand_of_flatness None = neither
 stand_of_flatness (Some true) = flat_member

@@ -8,11 +8,11 @@ use Rattle.smithy_schema.specs.TimeForms.{form_or, form_writes, form_holds}
 use Rattle.smithy_schema.specs.ScalarTest.{ValueTest, scalars_pass}
 use Rattle.smithy_query_codec.specs.Nulls.{holds_null}
 
--- a scalar can be written at a place with this time form, and no document anywhere
+-- which values can be written: a scalar by the time form of its place, and no document
 abbrev pub can_write : ValueTest
 can_write = record { scalar = λ time x. form_writes (form_or DateTime time) x; documents = false }
 
--- and what is written stands for exactly it
+-- which values are written so that the text stands for exactly the value: a scalar by the time form of its place, and no document
 abbrev pub query_holds : ValueTest
 query_holds = record { scalar = λ time x. form_holds (form_or DateTime time) x; documents = false }
 

@@ -12,17 +12,17 @@ use Rattle.smithy_query_codec.specs.Writable.{can_write}
 
 -- what was there before a container was begun, for when it ends
 pub record Mark : Type 0 where
-  -- the length of the path around it
+  -- the length of the path of the parts of the container around it
   pub prefix_length : ℕ
-  -- how many parts the container around it has then
+  -- how many parts the container around it has, with this one
   pub count : ℕ
-  -- the length of the text
+  -- the length of the text when the container began
   pub out_length : ℕ
-  -- of a list that is a member's value: the length of the path that ends with the member's name
+  -- the length of the path that ends with the member's name, for a list that is the value of a member
   pub member_length : Option ℕ
   -- the length of the names of the maps around it
   pub names_length : ℕ
-  -- of a map: the length of the name of its keys
+  -- the length of the name of its keys, for a map
   pub key_length : ℕ
 
 pub record QueryState : Type 0 where
@@ -120,7 +120,7 @@ child_prefix s view =
 
 -- ---- what calls make of a state, with the containers that are open then
 
--- a leaf, of a scalar, of a key, or of a big number by the text that it keeps
+-- the state once a leaf is written: the leaf of a scalar, of a key, or of a big number by the text that it keeps
 abbrev pub wrote : QueryState → View → List ℕ → List Open → QueryState
 wrote s view text opens = record s {
   out = s.out ++ pair_text (child_prefix s view) text;
@@ -128,7 +128,8 @@ wrote s view text opens = record s {
   opens = opens;
 }
 
--- a container, with the path of its parts, the names of all open maps, and what it has to restore beside what any has
+-- the state once a container has begun: the path of its parts, the names of all open maps, and what this container restores
+-- beside what each does
 abbrev pub opened : QueryState → List ℕ → List ℕ → Option ℕ → ℕ → List Open → QueryState
 opened s prefix names member_length key_length opens = record s {
   prefix = prefix;

@@ -25,17 +25,17 @@ pub(crate) enum Container {
 #[derive(Clone, Copy, Debug)]
 pub(crate) struct OpenContainer {
     pub(crate) container: Container,
-    // of the path around it
+    // the length of the path of the parts of the container around it
     pub(crate) prefix_length: usize,
-    // of the parts of the container around it, with this one
+    // how many parts the container around it has, with this one
     pub(crate) count: u64,
-    // of the text
+    // the length of the text when the container began
     pub(crate) out_length: usize,
-    // of a list that is a member's value: the length of the path that ends with the member's name
+    // the length of the path that ends with the member's name, for a list that is the value of a member
     pub(crate) member_length: Option<usize>,
-    // of the names of the maps around it
+    // the length of the names of the maps around it
     pub(crate) names_length: usize,
-    // of a map: the length of the name of its keys
+    // the length of the name of its keys, for a map
     pub(crate) key_length: usize,
 }
 

@@ -1,22 +1,11 @@
 //! The texts of decimal numbers.
-ghost use Rattle.std.specs.Prelude.{◌≡◌, ◌++◌, OnOk, IfOk};
+ghost use Rattle.std.specs.Prelude.{◌≡◌, IfOk};
 ghost use Rattle.std.specs.String.{string_bytes};
-ghost use Rattle.smithy_texts.specs.Decimal.{exponent_text, decimal_text as text_of_decimal};
+ghost use Rattle.smithy_texts.specs.Decimal.{decimal_text as text_of_decimal};
 
 use itoa::Buffer;
+use smithy_texts::push_exponent;
 use std::alloc::{AllocError, Global};
-
-// Adds the exponent where it isn't zero.
-fn push_exponent(text: &mut String, exponent: i64) -> Result<(), AllocError>
-    ensures { OnOk result (string_bytes text.new ≡ string_bytes text.old ++ exponent_text exponent) }
-{
-    if exponent == 0 {
-        return Ok(());
-    }
-    let mut buffer = Buffer::new();
-    text.push_str("e")?;
-    text.push_str(buffer.format(exponent))
-}
 
 // The text of a decimal: `BigDecimal` has no exponent of -2^63, and a serializer is given any.
 pub(crate) fn decimal_text(

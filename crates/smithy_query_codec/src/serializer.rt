@@ -31,7 +31,7 @@ pub struct QueryShapeSerializer {
     // How many elements or entries the innermost list or map has.
     count: u64,
     stack: Vec<OpenContainer>,
-    // From the beginning of a call until it is done, and for good where it is refused.
+    // True while a call is under way, and for good once a call was refused.
     failed: bool,
 }
 

@@ -18,6 +18,7 @@ pub mod NestingLemmas
 pub mod CountLemmas
 pub mod ConsumingLemmas
 pub mod WrittenLemmas
+pub mod WrittenLists
 pub mod NamedLemmas
 pub mod SiteLemmas
 mod MembersLemmas
@@ -26,3 +27,19 @@ pub mod TimeFormLemmas
 pub mod InstantLemmas
 pub mod InstantTexts
 pub mod TargetLemmas
+-- containers that are half read, from the contract alone
+pub mod Inner
+pub mod ReadContainers
+pub mod ReadLists
+pub mod ReadMaps
+pub mod ReadStructures
+pub mod ReadUnions
+-- what consumers have read
+pub mod Blame
+pub mod ConsumedLists
+pub mod ReadElements
+pub mod ConsumedMaps
+pub mod ReadTexts
+pub mod ConsumedStructures
+pub mod RefusedStructures
+pub mod ReadFields

@@ -1,12 +1,9 @@
 -- What a form holds can be written in it, and what passes one test passes another.
-use Rattle.std.proofs.Common.{◌≡◌, ℤ, ℕ, Bool, true, false, Option, Some, None, refl, ap}
+use Rattle.std.proofs.Common.{◌≡◌, ℤ, Bool, true, Option, Some, None, refl}
 use Rattle.std.specs.Prelude.{◌&&◌, is_some, option_map}
 use Rattle.std.proofs.lemmas.Bool.{and_parts}
-use Rattle.smithy_instants.specs.declared.format.Format.{Format}
-use Rattle.smithy_instants.specs.declared.format.Format.TheVariants as formats
-use Rattle.smithy_instants.specs.Instant.{subsecond_of}
 use Rattle.smithy_instants.specs.Calendar.{civil_date}
-use Rattle.smithy_instants.specs.WrittenDate.{day_of, date_text, holds}
+use Rattle.smithy_instants.specs.WrittenDate.{day_of}
 use Rattle.smithy_schema.specs.declared.shape_type.TimestampFormat.{TimestampFormat}
 use Rattle.smithy_schema.specs.declared.shape_type.TimestampFormat.TheVariants.{EpochSeconds, DateTime, HttpDate}
 use Rattle.smithy_schema.specs.Site.{Site, element_of, value_of, member_of}

@@ -1,10 +1,10 @@
 -- A value between the calls that begin and end its container.
-use Rattle.std.proofs.Common.{◌≡◌, ◌↔◌, List, ◌∷◌, Bool, true, false, Result, Ok, Err, refl, sym, ◌∙◌, ap, subst, OnOk, IfErr, IsErr, IsErrOf}
+use Rattle.std.proofs.Common.{◌≡◌, ◌↔◌, List, ◌∷◌, Bool, true, false, Result, Ok, Err, refl, sym, ◌∙◌, subst, OnOk, IfErr, IsErr, IsErrOf}
 use Rattle.smithy_schema.specs.declared.error.SerdeError.{SerdeError}
 use Rattle.smithy_schema.specs.declared.error.SerdeError.TheVariants.{Failed}
 use Rattle.smithy_schema.specs.Reading.{IsFault}
 use Rattle.smithy_schema.specs.Writing.{Event, Writer, Open, IsNested, after_value, after_begin, open_after, and_run}
-use Rattle.smithy_schema.specs.Written.{outcome, IsInside, Refuses, Wraps, whole, not_begun, not_written, not_ended}
+use Rattle.smithy_schema.specs.Written.{outcome, IsInside, Refuses, Wraps, whole, not_ended}
 use Rattle.smithy_schema.proofs.ConsumingLemmas.{is_error, same_error}
 
 pub refused_by : {S : Type 0} (after : Writer S) (event : Event) (s : S) (b : Bool) (e : SerdeError) → IsErrOf {T = Unit {0}} (Err e) Failed ↔ (b ≡ true) → (IsFault e → after event s ≡ Err e)

@@ -161,26 +161,26 @@ has_clash decls n d =
 abbrev pub has_unfit_name : Test
 has_unfit_name decls n d = not (list_all is_query_name (query_names_of d.form))
 
--- a map whose keys and values have one name
+-- the form of a map whose keys and values have one name
 abbrev pub has_one_entry_name : Form → Bool
 has_one_entry_name (map m) = bytes_eq (key_name_of m) (value_name_of m)
 has_one_entry_name _ = false
 
--- the same as a test
+-- the test that a declaration is a map whose keys and values have one name
 abbrev pub has_key_value_name : Test
 has_key_value_name decls n d = has_one_entry_name d.form
 
--- a sparse list or map of documents
+-- the form of a sparse list or a sparse map of documents
 abbrev pub has_sparse_documents : Form → Bool
 has_sparse_documents (list l) = l.is_sparse && is_document_name l.target
 has_sparse_documents (map m) = m.is_sparse && is_document_name m.target
 has_sparse_documents _ = false
 
--- the same as a test
+-- the test that a declaration is a sparse list or a sparse map of documents
 abbrev pub is_sparse_document : Test
 is_sparse_document decls n d = has_sparse_documents d.form
 
--- too many members, or one declaration too many
+-- the test that a declaration has more than 65535 members, or is the 65536th declaration
 abbrev pub is_too_many : Test
 is_too_many decls n d = nat_lt 65535 (length (members_of d.form)) || n == 65536
 

@@ -1,16 +1,14 @@
 -- What a call with a consumer does: it enters a container, and the consumer is called along the container's entries.
-use Rattle.std.specs.Prelude.{◌≡◌, ◌≢◌, ◌⊎◌, ◌↔◌, ◌<◌, ◌≤◌, ℕ, length, List, Option, Some, None, Bool, true, false, Result, Ok, Err}
-use Rattle.smithy_schema.specs.declared.place.Place.{Place}
+use Rattle.std.specs.Prelude.{◌≡◌, ◌≢◌, ◌⊎◌, ◌↔◌, ◌≤◌, ℕ, List, Option, Some, None, true, false, Result, Ok, Err}
 use Rattle.smithy_schema.specs.declared.error.SerdeError.{SerdeError}
-use Rattle.smithy_schema.specs.declared.error.SerdeError.TheVariants.{InvalidInput, TooDeep, TooWide, NotCarried, Unsupported, Unwritable, Failed, NoMemory}
+use Rattle.smithy_schema.specs.declared.error.SerdeError.TheVariants.{InvalidInput, TooDeep, Failed, NoMemory}
 use Rattle.smithy_schema.specs.declared.read.Step.{Step}
 use Rattle.smithy_schema.specs.declared.read.Step.TheVariants.{Member, Unknown, End}
-use Rattle.smithy_schema.specs.Table.{Table}
 use Rattle.smithy_schema.specs.Site.{Site, site_of, member_site}
 use Rattle.smithy_schema.specs.Reading.{Cursor, Relations, Within, depth, Passes, Enters, Steps, Leaves, CannotGoOn, OpensNot, ReachesDepth, IsFault, IsNoAnswer, IsBehind, IsOfCursor, failed_at, passed_to}
 
--- By what a reader's calls are told: its relations, the same with the limits lifted, whether a refusal speaks of these, and how
--- many containers may be open.
+-- What the calls of a reader are told by: its relations with the limits kept and with the limits lifted, whether a refusal speaks
+-- of the lifted ones, and how many containers may be open.
 pub record Reader : Type 1 where
   pub wire : Relations
   pub lifted : Relations
@@ -27,15 +25,16 @@ reader w u strict max = record { wire = w; lifted = u; is_strict = strict; max_d
 abbrev pub Call : Type 0 → Type 0 → Type 1
 Call K C = K → C → Cursor → Result (Unit {0}) SerdeError → C → Cursor → Type 0
 
--- the same by any reader, at the site of the member that is due, or at none where the key names none
+-- what a consumer with the state C does in a call for an entry of a structure or a union, by any reader, at the site of the
+-- member that is due, or at none where the key names no member
 abbrev pub MemberCall : Type 0 → Type 1
 MemberCall C = Reader → Call (Option Site) C
 
--- the same for an element
+-- what a consumer with the state C does in a call for an element of a list, by any reader
 abbrev pub ElementCall : Type 0 → Type 1
 ElementCall C = Reader → C → Cursor → Result (Unit {0}) SerdeError → C → Cursor → Type 0
 
--- the same for an entry of a map, with the text of its key
+-- what a consumer with the state C does in a call for an entry of a map, by any reader, with the text of the entry's key
 abbrev pub EntryCall : Type 0 → Type 1
 EntryCall C = Reader → Call (List ℕ) C
 
@@ -44,7 +43,7 @@ pub record IsTaken (old new : Cursor) : Type 0 where
   pub passes : Passes old new
   pub behind : IsBehind new.input old.at new.at
 
--- the value that is due is left unread, or taken whole: the open containers are as before
+-- the value that is due is left unread, or taken whole: the open containers stay
 abbrev pub Rests : Cursor → Cursor → Type 0
 Rests old new = (new ≡ old) ⊎ IsTaken old new
 
@@ -57,11 +56,11 @@ pub data Cleared (w : Relations) (old : Cursor) : Cursor → Type 0 where
 
 -- how the entries of a container are told
 pub record Route (K : Type 0) : Type 1 where
-  -- to the entry that a K tells, whose value is due then
+  -- how the reader goes to the entry that a K tells, whose value is due then
   pub goes : K → Cursor → Cursor → Type 0
-  -- to the end
+  -- how the reader goes to the end of the container
   pub leaves : Cursor → Cursor → Type 0
-  -- to neither, for which the reader has failed
+  -- how the reader goes to neither an entry nor the end, and has failed
   pub refuses : Cursor → SerdeError → Type 0
 
 -- From here on: the consumer is called once for each entry, in order, till the container ends, or the reader or the consumer
@@ -152,10 +151,12 @@ pub record RefusesEntry (r : Reader) (outer : Site) (c : Cursor) (e : SerdeError
 pub record ToEntry (w : Relations) (outer : Site) (key : Option (List ℕ)) (old new : Cursor) : Type 0 where
   pub taken : old.due ≡ false
   pub steps : Steps w old new outer.table outer.place key
+  pub ahead : old.at ≤ new.at
 
 pub record ToLast (w : Relations) (outer : Site) (old new : Cursor) : Type 0 where
   pub taken : old.due ≡ false
   pub leaves : Leaves w old new outer.table outer.place
+  pub ahead : old.at ≤ new.at
 
 abbrev pub by_element : Reader → Site → Route (Unit {0})
 by_element r outer = record {

@@ -43,7 +43,7 @@ members_from = folded member_step
 abbrev pub is_type_mark : Option ℕ → List ℕ → Bool
 is_type_mark position key = is_none position && bytes_eq key (codes "__type")
 
--- the entry is such a mark
+-- the entry is a protocol's mark of the variant: `__type`, where no member has this name
 abbrev pub marks_type : Entry → Bool
 marks_type e = option_map_or (is_type_mark e.position) e.key false
 
@@ -51,11 +51,11 @@ marks_type e = option_map_or (is_type_mark e.position) e.key false
 abbrev pub is_variant : Entry → Bool
 is_variant e = not (e.is_absent || marks_type e)
 
--- each key has to be a text, and each mark skippable, as a null always is
+-- what each entry of a union has to be: its key is a text, and a mark can be skipped, as a null always can
 abbrev pub is_regular : Entry → Bool
 is_regular e = is_some e.key && (e.is_absent || not (marks_type e) || e.is_skippable)
 
--- the same of all entries
+-- what all entries of a union have to be: each key is a text, and each mark can be skipped, as a null always can
 abbrev pub all_regular : List Entry → Bool
 all_regular [] = true
 all_regular (e ∷ es) = is_regular e && all_regular es

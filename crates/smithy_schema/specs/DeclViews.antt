@@ -69,7 +69,7 @@ IsRefusedBy answer (SparseDocument n) = answer ≡ refused sparse_document n
 IsRefusedBy answer (TooMany n) = answer ≡ refused too_many n
 IsRefusedBy answer NoMemory = Unit {0}
 
--- the same of the lines of a text
+-- the program's fault says what the lines of a text are: a first bad line, with its number; or want of memory, which says nothing
 abbrev pub IsLineFault : Lines → TableFault → Type 0
 IsLineFault lines (BadLine n) = lines ≡ Lines.bad_line n
 IsLineFault lines NoMemory = Unit {0}

@@ -13,7 +13,11 @@ pub mod Accepted
 pub mod Limits
 pub mod Site
 pub mod Reading
+pub mod Sizes
 pub mod Consuming
+pub mod Elements
+pub mod TextMaps
+pub mod Fields
 pub mod Writing
 pub mod Written
 pub mod TimeForms

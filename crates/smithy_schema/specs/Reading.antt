@@ -1,5 +1,5 @@
 -- What a reader tells, the relations of a wire, the laws that they obey, and what a call does.
-use Rattle.std.specs.Prelude.{◌≡◌, ◌⊎◌, ◌↔◌, ◌<◌, ◌≤◌, ◌&&◌, ℕ, zero, suc, ◌+◌, length, drop, List, [], ◌∷◌, map, Option, Some, None, Bool, true, false, option_and_then, Result, Ok, Err, IsErrOf, OnErr, IfOk}
+use Rattle.std.specs.Prelude.{◌≡◌, ◌⊎◌, ◌↔◌, ◌<◌, ◌≤◌, ◌&&◌, ℕ, suc, ◌+◌, length, drop, List, [], ◌∷◌, map, Option, Some, None, Bool, true, false, option_and_then, Result, Ok, Err, IsErrOf, OnErr, IfOk}
 use Rattle.smithy_types.specs.Document.{Document, whole_document}
 use Rattle.smithy_types.specs.DocumentView.{document_view}
 use Rattle.smithy_types.specs.declared.number.Number.{Number}
@@ -10,7 +10,7 @@ use Rattle.smithy_schema.specs.declared.read.Step.{Step}
 use Rattle.smithy_schema.specs.declared.read.Step.TheVariants.{Member as ToMember, Unknown, End}
 use Rattle.smithy_schema.specs.declared.error.SerdeError.{SerdeError}
 use Rattle.smithy_schema.specs.declared.error.SerdeError.TheVariants.{InvalidInput, TooDeep, TooWide, NotCarried, Unsupported, Unwritable, Failed, NoMemory}
-use Rattle.smithy_schema.specs.Table.{Table, Kind, structure_of, union_of, list_of, map_of, kind_of, place_in, scalar_place, document_place, IsStructure, IsSparse, IsDocument}
+use Rattle.smithy_schema.specs.Table.{Table, kind_of, place_in, scalar_place, document_place, IsStructure, IsContainer, IsInside, IsSparse, IsDocument}
 use Rattle.smithy_schema.specs.Value.{ScalarValue, Value, scalar_value, document_value}
 use Rattle.smithy_schema.specs.Fits.{Fits}
 use Rattle.smithy_schema.specs.Container.{Entry, container_of}
@@ -83,6 +83,8 @@ pub record Relations : Type 1 where
   pub begins_null : List ℕ → ℕ → Bool
   -- how many containers are open at once, at most, by these bytes alone
   pub openers : List ℕ → ℕ
+  -- the greatest depth holds too for what is skipped, and for the parts of a document, and not only for what is opened
+  pub limits_skips : Bool
 
 -- what a reader meets behind a step, with the step's key
 pub data Child : Type 0 where
@@ -148,13 +150,6 @@ pub record Contains (w : Relations) (i : List ℕ) (t : Table) (p : Place) (d a 
   pub chain : Chain w i t p (suc d) inside mark children e
   pub means : container_of (kind_of t p) (map entry_of children) ≡ Some v
 
-abbrev pub IsContainer : Kind → Type 0
-IsContainer (structure_of members) = Unit {0}
-IsContainer (union_of members) = Unit {0}
-IsContainer (list_of l) = Unit {0}
-IsContainer (map_of m) = Unit {0}
-IsContainer _ = ⊥
-
 -- ---- laws
 
 -- what is due at c is passed at e: e lies past it, or both are the input's end, where a structure may be missing
@@ -186,7 +181,7 @@ pub record IsLawful (w : Relations) : Type 0 where
   -- a step with its child leaves less to read
   pub nearer : (i : List ℕ) (t : Table) (p : Place) (d b : ℕ) (m : Mark) (key : Option (List ℕ)) (c : ℕ) (n : Mark) (x : Child) (f : ℕ)
       → w.steps i t p d b m key c n → IsChild w i t p d key x c f → w.left i f n < w.left i b m
-  -- so does a step with whatever is passed behind it, and what is skipped; a step alone leaves no more
+  -- a step with whatever is passed behind it leaves less to read, and so does what is skipped; a step alone leaves no more
   pub falls : (i : List ℕ) (t : Table) (p : Place) (d b : ℕ) (m : Mark) (key : Option (List ℕ)) (c : ℕ) (n : Mark) (f : ℕ)
       → w.steps i t p d b m key c n → IsBehind i c f → w.left i f n < w.left i b m
   pub step_falls : (i : List ℕ) (t : Table) (p : Place) (d b : ℕ) (m : Mark) (key : Option (List ℕ)) (c : ℕ) (n : Mark)
@@ -205,7 +200,7 @@ pub record IsLawful (w : Relations) : Type 0 where
   pub same_skip : (i : List ℕ) (d a e f : ℕ) → w.skips i d a e → w.skips i d a f → e ≡ f
   -- a null is told by how it begins
   pub null_begins : (i : List ℕ) (d a e : ℕ) → w.nulls i d a e → w.begins_null i a ≡ true
-  -- and where one begins no value stands, unless a document is due
+  -- where a null begins no value stands, unless a document is due
   pub value_begins : (i : List ℕ) (t : Table) (p : Place) (d a : ℕ) (v : Value) (e : ℕ)
       → w.stands i t p d a v e → IsDocument (kind_of t p) ⊎ (w.begins_null i a ≡ false)
   -- an empty input opens and ends a structure at position 0
@@ -221,7 +216,7 @@ pub record CountsOpeners (w : Relations) : Type 0 where
   -- a container that opens adds one to those that are open at most from there on
   pub opening_adds : (i : List ℕ) (t : Table) (p : Place) (d a b : ℕ) (m : Mark) → 0 < length i
       → w.opens i t p d a b m → suc (w.openers (drop b i)) ≤ w.openers (drop a i)
-  -- one that ends takes at most one away
+  -- a container that ends takes at most one from those that are open at most from there on
   pub close_takes_one : (i : List ℕ) (t : Table) (p : Place) (d b : ℕ) (m : Mark) (e : ℕ)
       → w.closes i t p d b m e → w.openers (drop e i) ≤ suc (w.openers (drop b i))
   -- a step takes none away, nor does a value, a null or what is skipped
@@ -288,7 +283,7 @@ IsInvalid (Err Unwritable) = ⊥
 IsInvalid (Err Failed) = ⊥
 IsInvalid (Err NoMemory) = ⊥
 
--- neither a value nor a fault other than `InvalidInput`
+-- the answer is `InvalidInput` or a refusal that is no fault: `Failed` or `NoMemory`
 abbrev pub IsNoAnswer : {A : Type 0} → Result A SerdeError → Type 0
 IsNoAnswer (Ok x) = ⊥
 IsNoAnswer (Err InvalidInput) = Unit {0}
@@ -320,7 +315,7 @@ pub record Conducts {A : Type 0} (old new : Cursor) (result : Result A SerdeErro
   pub ahead : old.at ≤ new.at
   pub within : new.at ≤ length new.input
 
--- a value was read whole, or skipped: the containers are as before, and nothing is due
+-- a value was read whole, or skipped: the open containers stay, and nothing is due
 pub record Passes (old new : Cursor) : Type 0 where
   pub input : new.input ≡ old.input
   pub inner : new.inner ≡ old.inner
@@ -345,22 +340,26 @@ Exceeds w c t p = (e : ℕ) × w.exceeds c.input t p (depth c) c.at e
 abbrev pub Uncarried : Relations → Cursor → Table → Place → Type 0
 Uncarried w c t p = (e : ℕ) × w.uncarried c.input t p (depth c) c.at e
 
--- the second place lies so many steps inside of the first, each to a member, an element or a map's value
-abbrev pub IsInside : Table → Place → ℕ → Place → Type 0
-IsInside t p zero q = q ≡ p
-IsInside t p (suc k) q = (child : Place) × (n : Option ℕ) × (place_in (kind_of t p) n ≡ Some child) × IsInside t child k q
-
--- such a number stands where the reader is now, at a place as far inside of this one as the reader has gone
+-- Where the reader is now, a big number stands that leaves the limits of the kind of a place q, which lies as many steps inside
+-- of the place p as the reader has gone.
 abbrev pub ExceedsInside : Relations → Cursor → Cursor → Table → Place → Type 0
 ExceedsInside w old new t p = (q : Place) × (k : ℕ) × (depth new ≡ depth old + k) × IsInside t p k q × Exceeds w new t q
 
--- the same of what the place's kind can't carry
+-- Where the reader is now, something stands that the kind of a place q can't carry, which lies as many steps inside of the place
+-- p as the reader has gone.
 abbrev pub UncarriedInside : Relations → Cursor → Cursor → Table → Place → Type 0
 UncarriedInside w old new t p = (q : Place) × (k : ℕ) × (depth new ≡ depth old + k) × IsInside t p k q × Uncarried w new t q
 
--- so many containers are open at once from here on, by the bytes alone
+-- the open containers, with those that the bytes from the position on may open at once, reach the greatest depth
 abbrev pub ReachesDepth : Relations → ℕ → Cursor → Type 0
 ReachesDepth w max c = max ≤ depth c + w.openers (drop c.at c.input)
+
+-- As many containers are open as may be where one more is due, at a place as many steps inside of the place p as the reader has
+-- gone; or the wire has a greatest depth for what no place of the table is entered for.
+abbrev pub EndsTooDeep : Relations → ℕ → Cursor → Cursor → Table → Place → Type 0
+EndsTooDeep w max old new t p =
+    (w.limits_skips ≡ true)
+    ⊎ ((q : Place) × (k : ℕ) × (depth new ≡ depth old + k) × IsInside t p k q × (depth new ≡ max) × IsContainer (kind_of t q))
 
 -- What a read of one scalar kind says of its answer: by the relations w, and by u, those with the limits lifted.
 pub record ReadsScalar {A : Type 0} (w u : Relations) (is_strict : Type 0) (old new : Cursor) (site : Site) (s : Scalar) (value : A → ScalarValue) (result : Result A SerdeError) : Type 0 where
@@ -374,10 +373,11 @@ pub record ReadsScalar {A : Type 0} (w u : Relations) (is_strict : Type 0) (old 
   pub would : is_strict → IsInvalid result → old.due ≡ true → StandsNot u old site.table (scalar_place s site.place.time)
 
 -- What a read of a document says of its answer: by the relations w, and by u, those with the limits lifted. It is too deep only
--- where the bytes from there on reach the greatest depth, as each part of a document is counted.
+-- where the wire limits the depth of documents, and the bytes from there on reach the greatest one, as each part is counted.
 pub record ReadsDocument (w u : Relations) (is_strict : Type 0) (max : ℕ) (old new : Cursor) (site : Site) (result : Result kept_document.Document SerdeError) : Type 0 where
   pub conduct : Conducts old new result
   pub deep : IsErrOf result TooDeep → ReachesDepth w max old
+  pub limited : IsErrOf result TooDeep → w.limits_skips ≡ true
   pub narrow : IsErrOf result TooWide → ⊥
   pub uncarried : IsErrOf result NotCarried → Uncarried w old site.table (document_place site.place.time)
   pub undue : old.due ≡ false → IsNoAnswer result
@@ -408,8 +408,8 @@ SkipsNot w c = (e : ℕ) → w.skips c.input (depth c) c.at e → ⊥
 abbrev pub NullsNot : Relations → Cursor → Type 0
 NullsNot w c = (e : ℕ) → w.nulls c.input (depth c) c.at e → ⊥
 
--- of an input that isn't empty: with those that the bytes from here on open at most, no more containers
--- are open at once than the whole input opens
+-- In an input that isn't empty, the open containers, with those that the bytes from the position on may open at once, are no more
+-- than the whole input may open at once.
 abbrev pub IsCounted : Relations → Cursor → Type 0
 IsCounted w c = 0 < length c.input → depth c + w.openers (drop c.at c.input) ≤ w.openers c.input
 
@@ -445,7 +445,7 @@ pub record Leaves (w : Relations) (old new : Cursor) (t : Table) (p : Place) : T
   pub due : new.due ≡ false
   pub failed : new.failed ≡ false
 
--- neither another entry nor the end comes
+-- behind the reader's position neither another entry of the innermost container nor its end comes
 abbrev pub CannotGoOn : Relations → Cursor → Table → Place → Type 0
 CannotGoOn w c t p =
     ((key : Option (List ℕ)) (b : ℕ) (n : Mark) → w.steps c.input t p (depth c) c.at c.inner.mark key b n → ⊥)

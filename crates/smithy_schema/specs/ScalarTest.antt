@@ -14,7 +14,7 @@ abbrev pub no_documents : ValueTest
 no_documents = record { scalar = λ time x. true; documents = false }
 
 abbrev mutual
-  -- those of the value at a site; keys are texts and aren't tested
+  -- each scalar of the value at a site passes the test, and so do its documents; keys are texts and aren't tested
   pub scalars_pass : ValueTest → Site → Value → Bool
   scalars_pass test site (scalar_value x) = test.scalar site.place.time x
   scalars_pass test site (list vs) = elements_pass test (element_of site) vs
@@ -24,12 +24,12 @@ abbrev mutual
   scalars_pass test site null_element = true
   scalars_pass test site (document_value d) = test.documents
 
-  -- elements, each at the same site
+  -- the scalars and documents of the elements of a list pass, each element at the same site
   pub elements_pass : ValueTest → Site → Values → Bool
   elements_pass test site no_values = true
   elements_pass test site (value v vs) = scalars_pass test site v && elements_pass test site vs
 
-  -- the values of a map, each at the same site
+  -- the scalars and documents of the values of a map pass, each value at the same site
   pub entries_pass : ValueTest → Site → MapEntries → Bool
   entries_pass test site no_map_entries = true
   entries_pass test site (map_entry key v es) = scalars_pass test site v && entries_pass test site es

@@ -15,7 +15,7 @@ pub record View : Type 0 where
   pub name : Option (List ℕ)
   -- the position of a member, from 0
   pub index : Option ℕ
-  -- as they are given
+  -- the names in JSON and in forms, as they are given
   pub json_name : Option (List ℕ)
   pub xml_name : Option (List ℕ)
   pub is_flat : Bool
@@ -24,7 +24,7 @@ pub record View : Type 0 where
 abbrev pub whole_view : View
 whole_view = record { name = None; index = None; json_name = None; xml_name = None; is_flat = false }
 
--- the same without a member name, a position and the flat mark
+-- the view without a member name, a position and the flat mark; the other names stay
 abbrev pub nameless : View → View
 nameless view = record view { name = None; index = None; is_flat = false }
 
@@ -136,7 +136,7 @@ value_site outer = option_map (site_of_value outer.table) (map_shape_of (kind_at
 abbrev pub inner_site : Site → Option Site
 inner_site outer = option_or (element_site outer) (value_site outer)
 
--- the same site without a name
+-- the site with its view without a member name, a position and the flat mark
 abbrev pub nameless_site : Site → Site
 nameless_site site = record site { view = nameless site.view }
 
@@ -156,7 +156,7 @@ value_of site = option_map_or nameless_site (value_site site) site
 abbrev pub member_of : Site → ℕ → Site
 member_of site n = unwrap_or (member_site site n) site
 
--- the view, or the same without a name
+-- the view, or where it is to be nameless, the view without a member name, a position and the flat mark
 abbrev pub view_under : Bool → View → View
 view_under is_nameless view = if is_nameless then nameless view else view
 

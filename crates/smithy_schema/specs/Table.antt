@@ -1,5 +1,5 @@
 -- Tables of shapes as plain data, and what stands at a place of one.
-use Rattle.std.specs.Prelude.{◌≡◌, ◌≢◌, ℕ, List, [], Bool, true, false, Option, Some, None, option_map, option_and_then, slice_get, unwrap_or, codes, bytes_eq, position as first_position}
+use Rattle.std.specs.Prelude.{◌≡◌, ◌≢◌, ℕ, zero, suc, List, [], Bool, true, false, Option, Some, None, option_map, option_and_then, slice_get, unwrap_or, codes, bytes_eq, position as first_position}
 use Rattle.std.specs.Option.{option_map_or}
 use Rattle.smithy_schema.specs.declared.place.Place.{Place}
 use Rattle.smithy_schema.specs.declared.place.Target.{Target}
@@ -201,7 +201,7 @@ HasMembers (structure_of members) = Unit {0}
 HasMembers (union_of members) = Unit {0}
 HasMembers _ = ⊥
 
--- the same, as a test
+-- whether the kind is that of a structure or a union
 abbrev pub has_members : Kind → Bool
 has_members (structure_of members) = true
 has_members (union_of members) = true
@@ -217,13 +217,26 @@ abbrev pub IsMap : Kind → Type 0
 IsMap (map_of m) = Unit {0}
 IsMap _ = ⊥
 
--- a list or a map stands there whose elements or values may be null
+-- a structure, a union, a list or a map stands there
+abbrev pub IsContainer : Kind → Type 0
+IsContainer (structure_of members) = Unit {0}
+IsContainer (union_of members) = Unit {0}
+IsContainer (list_of l) = Unit {0}
+IsContainer (map_of m) = Unit {0}
+IsContainer _ = ⊥
+
+-- the second place lies so many steps inside of the first, each to a member, an element or a map's value
+abbrev pub IsInside : Table → Place → ℕ → Place → Type 0
+IsInside t p zero q = q ≡ p
+IsInside t p (suc k) q = (child : Place) × (n : Option ℕ) × (place_in (kind_of t p) n ≡ Some child) × IsInside t child k q
+
+-- whether the kind is that of a list or a map whose elements or values may be null
 abbrev pub is_sparse : Kind → Bool
 is_sparse (list_of l) = l.is_sparse
 is_sparse (map_of m) = m.is_sparse
 is_sparse _ = false
 
--- the same, as a fact
+-- the kind is that of a list or a map whose elements or values may be null
 abbrev pub IsSparse : Kind → Type 0
 IsSparse (list_of l) = l.is_sparse ≡ true
 IsSparse (map_of m) = m.is_sparse ≡ true

@@ -40,7 +40,7 @@ text_of_option name word =
 abbrev pub given : List (List ℕ) → List ℕ → List (List ℕ)
 given words name = filter_map (text_of_option name) words
 
--- the first of them, if there is one
+-- the first text that the words give this option, if there is one
 abbrev pub first_given : List (List ℕ) → List ℕ → Option (List ℕ)
 first_given words name = slice_get (given words name) 0
 

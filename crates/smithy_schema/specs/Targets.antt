@@ -17,13 +17,13 @@ abbrev pub is_timestamp_target : Target → Bool
 is_timestamp_target (Simple s) = is_timestamp s
 is_timestamp_target _ = false
 
--- a member passes the test of targets, or the elements of the list or the values of the map do
+-- in a shape, some member passes the test of targets, or the elements of the list or the values of the map do
 abbrev pub shape_has : (Target → Bool) → Shape → Bool
 shape_has test (structure members) = list_any (λ (m : Member). test m.place.target) members
 shape_has test (union members) = list_any (λ (m : Member). test m.place.target) members
 shape_has test (list l) = test l.place.target
 shape_has test (map m) = test m.place.target
 
--- the same in some declaration
+-- in some declaration of a table, some member passes the test of targets, or the elements of the list or the values of the map do
 abbrev pub table_has : (Target → Bool) → Table → Bool
 table_has test table = list_any (λ (d : Declaration). shape_has test d.shape) table

@@ -22,7 +22,7 @@ abbrev pub form_writes : TimestampFormat → ScalarValue → Bool
 form_writes form (instant n) = is_some (date_text (format_of form) n)
 form_writes form _ = true
 
--- and what is written stands for exactly this instant
+-- what the form writes for an instant stands for exactly this instant; the form is nothing to other scalars
 abbrev pub form_holds : TimestampFormat → ScalarValue → Bool
 form_holds form (instant n) = holds (format_of form) n
 form_holds form _ = true

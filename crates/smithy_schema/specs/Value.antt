@@ -8,14 +8,14 @@ use Rattle.smithy_schema.specs.Documents.{document_nesting}
 -- a value without parts
 pub data ScalarValue : Type 0 where
   boolean : Bool → ScalarValue
-  -- of each integer kind, big integers too
+  -- a whole number of any integer kind, big integers too
   whole : ℤ → ScalarValue
-  -- in UTF-8
+  -- a text in UTF-8
   text : List ℕ → ScalarValue
   bytes : List ℕ → ScalarValue
   -- mantissa and exponent, as they are given: 12300 and -4 is another value than 123 and -2
   decimal : ℤ → ℤ → ScalarValue
-  -- in nanoseconds from 1970-01-01T00:00:00Z on
+  -- an instant, in nanoseconds from 1970-01-01T00:00:00Z on
   instant : ℤ → ScalarValue
 
 -- the text that a scalar is, if it is one

@@ -23,7 +23,7 @@ pub data Event : Type 0 where
   -- by the text that the number keeps
   big_integer_of : Site → List ℕ → Event
   big_decimal_of : Site → List ℕ → Event
-  -- by the whole numbers of its numbers
+  -- a document, each of whose numbers is its whole number alone
   document_of : Site → Document ℤ → Event
 
 -- what an event makes of a serializer's state, or why it can't be written there
@@ -94,36 +94,36 @@ pub data Open : Type 0 where
   open_map_at_key : Open
   open_map_at_value : Open
 
--- the containers once a value has come: none comes in a key's place, and behind a map's value a key is due
+-- the open containers once a value has come: none comes in a key's place, and behind a map's value a key is due
 abbrev pub after_value : List Open → Result (List Open) SerdeError
 after_value (open_map_at_key ∷ os) = Err Unwritable
 after_value (open_map_at_value ∷ os) = Ok (open_map_at_key ∷ os)
 after_value os = Ok os
 
--- the same once a text has come, which is a key where one is due
+-- the open containers once a text has come: it is a key where one is due, and else a value
 abbrev pub after_text : List Open → Result (List Open) SerdeError
 after_text (open_map_at_key ∷ os) = Ok (open_map_at_value ∷ os)
 after_text os = after_value os
 
--- the same of any scalar
+-- the open containers once a scalar has come: a text is a key where one is due, and any other scalar is a value
 abbrev pub after_scalar : ScalarValue → List Open → Result (List Open) SerdeError
 after_scalar x os = option_map_or (λ key. after_text os) (text_in x) (after_value os)
 
--- once a container has begun, which is a value where it stands
+-- the open containers once a container has begun, which is a value where it stands
 abbrev pub after_begin : Open → List Open → Result (List Open) SerdeError
 after_begin o os = and_run (λ outer. Ok (o ∷ outer)) (after_value os)
 
--- once the structure or union has ended that is innermost
+-- the open containers once the structure or union has ended that is innermost
 abbrev pub after_end_structure : List Open → Result (List Open) SerdeError
 after_end_structure (open_structure ∷ os) = Ok os
 after_end_structure _ = Err Unwritable
 
--- once the list has ended that is innermost
+-- the open containers once the list has ended that is innermost
 abbrev pub after_end_list : List Open → Result (List Open) SerdeError
 after_end_list (open_list ∷ os) = Ok os
 after_end_list _ = Err Unwritable
 
--- once the map has ended that is innermost: none ends behind a key whose value hasn't come
+-- the open containers once the map has ended that is innermost: none ends behind a key whose value hasn't come
 abbrev pub after_end_map : List Open → Result (List Open) SerdeError
 after_end_map (open_map_at_key ∷ os) = Ok os
 after_end_map _ = Err Unwritable

@@ -89,10 +89,7 @@ fn place_of(decls: &[Decl], order: &[usize], place: PlaceWords<'_>) -> Place
 {
     Place {
         target: target_of(decls, order, place.target),
-        time: match place.time {
-            Some(word) => time_format_of(word),
-            None => None,
-        },
+        time: place.time.and_then(time_format_of),
     }
 }
 

@@ -15,7 +15,7 @@ pub trait StructConsumer {
     // What a call does, with whichever reader.
     ghost call: { MemberCall Self };
 
-    // The structures and unions that it can be used for.
+    // The structures and unions that the consumer can be used for.
     ghost can_take: { Self → Site → Type 0 } = { λ _ _. Unit {0} };
 
     /// Takes the member that is due, or an entry whose key names none.

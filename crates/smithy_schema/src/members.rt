@@ -29,7 +29,7 @@ pub(crate) struct MemberList {
 impl MemberList {
     ghost use Rattle.std.specs.Prelude.{◌≡◌, bytes_eq, position as first_position, IfOk};
 
-    /// These members, in this order.
+    /// A list of these members, in this order.
     pub(crate) fn new(alloc: Global, items: Vec<MemberShape>) -> Result<MemberList, AllocError>
         ensures { IfOk result (λ members. members.items.items ≡ items.items) }
     {

@@ -5,7 +5,7 @@ ghost use Rattle.smithy_schema.specs.Private.Order.{IsOrderOf};
 
 use std::alloc::{AllocError, Global};
 
-// So many names are looked through one by one, which takes less time than a search in their order.
+// How many names are looked through one by one at most. For so few that takes less time than a search in their order.
 const FEW: usize = 8;
 
 /// Names by their positions, from 0.

@@ -13,11 +13,18 @@ ghost use Rattle.smithy_schema.specs.Reading.{ReadsScalar, ReadsDocument, Answer
 ghost use Rattle.smithy_schema.specs.declared.error.SerdeError.TheVariants.{TooDeep, NoMemory};
 ghost use Rattle.std.specs.Prelude.{OnErr, option_map};
 ghost use Rattle.smithy_schema.specs.Consuming.{reader, site_in, Consumes, IsTaken, by_member, by_element, by_key};
+ghost use Rattle.smithy_schema.specs.Sizes.{Sizes, TellsSize};
+ghost use Rattle.smithy_schema.specs.Elements.{ReadsList, items_of};
+ghost use Rattle.smithy_schema.specs.TextMaps.{ReadsTexts, entries_of};
 
 use crate::consume::{ListConsumer, MapConsumer, StructConsumer};
+use crate::elements::read_elements;
 use crate::error::SerdeError;
 use crate::schema::Schema;
+use crate::text_maps::read_texts;
 use smithy_types::{BigDecimal, BigInteger, Blob, DateTime, Document};
+use std::alloc::{AllocError, Global};
+use std::collections::BTreeMap;
 
 /// Where a structure or a union goes on: to a member that the table knows, to another entry, or to its end.
 #[derive(Clone, Copy)]
@@ -55,17 +62,23 @@ pub trait ShapeDeserializer {
 
     ghost state: { Self → Cursor };
 
-    // How many containers may be open.
+    // How many containers may be open at once.
     ghost max_depth: { Settings → ℕ };
 
-    // The relations of the wire.
+    // The relations of the wire under the settings: what stands, opens, goes on and ends where in an input.
     ghost wire: { Settings → Relations };
 
-    // The same with the limits lifted on depth, on the size of numbers and on what is carried.
+    // The relations of the wire with the limits lifted on depth, on the size of numbers and on what is carried.
     ghost lifted: { Settings → Relations };
 
-    // The settings are among those for which a refusal by `InvalidInput` speaks of the lifted relations.
+    // Under these settings a refusal by `InvalidInput` says that nothing of the kind is there with the limits lifted either.
     ghost is_strict: { Settings → Type 0 };
+
+    // What the wire tells of the sizes of containers before they are read.
+    ghost sizes: { Settings → Sizes };
+
+    /// What the reader takes memory from.
+    fn allocator(&self) -> Global;
 
     /// The position.
     fn position(&self) -> usize
@@ -115,7 +128,8 @@ pub trait ShapeDeserializer {
             → CannotGoOn (wire (settings self.old)) (passed_to (state self.old) e) schema.now.shapes.now schema.now.place }
         ensures unread_would { is_strict (settings self.old) → IsInvalid result → (state self.old).due ≡ true → (e : ℕ) → (lifted (settings self.old)).skips (state self.old).input (depth (state self.old)) (state self.old).at e
             → CannotGoOn (lifted (settings self.old)) (passed_to (state self.old) e) schema.now.shapes.now schema.now.place }
-        ensures deep { IsErrOf result TooDeep → ReachesDepth (wire (settings self.old)) (max_depth (settings self.old)) (state self.old) };
+        ensures deep { IsErrOf result TooDeep → ReachesDepth (wire (settings self.old)) (max_depth (settings self.old)) (state self.old) }
+        ensures limited { IsErrOf result TooDeep → (wire (settings self.old)).limits_skips ≡ true };
 
     /// Enters the list that is due. Where a list begins here, it is `TooDeep` exactly at the greatest depth.
     fn open_list(&mut self, schema: &Schema<'_>) -> Result<(), SerdeError>
@@ -212,7 +226,15 @@ pub trait ShapeDeserializer {
         ensures passes { OnOk result (Passes (state self.old) (state self.new)) }
         ensures refused { IsRefused result → (state self.old).due ≡ true → SkipsNot (wire (settings self.old)) (state self.old) }
         ensures would { is_strict (settings self.old) → IsInvalid result → (state self.old).due ≡ true → SkipsNot (lifted (settings self.old)) (state self.old) }
-        ensures deep { IsErrOf result TooDeep → ReachesDepth (wire (settings self.old)) (max_depth (settings self.old)) (state self.old) };
+        ensures deep { IsErrOf result TooDeep → ReachesDepth (wire (settings self.old)) (max_depth (settings self.old)) (state self.old) }
+        ensures limited { IsErrOf result TooDeep → (wire (settings self.old)).limits_skips ≡ true };
+
+    /// How many elements or entries the list, map, structure or union has that is due, as far as the wire tells it before
+    /// they are read: what is told needn't be true. The reader stays where it is, after want of memory too.
+    fn container_size(&self) -> Result<Option<usize>, AllocError>
+        ensures size { IfOk result (TellsSize (sizes (settings self.now)) (state self.now)) }
+        ensures due { IsErr result → (state self.now).due ≡ true }
+        ensures sound { IsErr result → (state self.now).failed ≡ false };
 
     /// Reads false or true. It takes no memory.
     fn read_boolean(&mut self, schema: &Schema<'_>) -> Result<bool, SerdeError>
@@ -358,6 +380,64 @@ pub trait ShapeDeserializer {
             }
         }
         Ok(())
+    }
+
+    /// Reads a list of texts, as `read_list` with `read_string` for each element.
+    final fn read_string_list(&mut self, schema: &Schema<'_>) -> Result<Vec<String>, SerdeError>
+    where
+        Self: Sized,
+        requires place { IsList (kind_at (site_of schema.now)) }
+        ensures same { settings self.new ≡ settings self.old }
+        ensures read { let r = reader (wire (settings self.old)) (lifted (settings self.old)) (is_strict (settings self.old)) (max_depth (settings self.old)) in ReadsList scalars.String (λ s. text (string_bytes s)) r (site_of schema.now) (state self.old) (items_of result) (state self.new) }
+    {
+        read_elements(self, schema)
+    }
+
+    /// Reads a list of bytes, as `read_list` with `read_blob` for each element.
+    final fn read_blob_list(&mut self, schema: &Schema<'_>) -> Result<Vec<Blob>, SerdeError>
+    where
+        Self: Sized,
+        requires place { IsList (kind_at (site_of schema.now)) }
+        ensures same { settings self.new ≡ settings self.old }
+        ensures read { let r = reader (wire (settings self.old)) (lifted (settings self.old)) (is_strict (settings self.old)) (max_depth (settings self.old)) in ReadsList scalars.Blob bytes r (site_of schema.now) (state self.old) (items_of result) (state self.new) }
+    {
+        read_elements(self, schema)
+    }
+
+    /// Reads a list of whole numbers, as `read_list` with `read_integer` for each element.
+    final fn read_integer_list(&mut self, schema: &Schema<'_>) -> Result<Vec<i32>, SerdeError>
+    where
+        Self: Sized,
+        requires place { IsList (kind_at (site_of schema.now)) }
+        ensures same { settings self.new ≡ settings self.old }
+        ensures read { let r = reader (wire (settings self.old)) (lifted (settings self.old)) (is_strict (settings self.old)) (max_depth (settings self.old)) in ReadsList scalars.Integer whole r (site_of schema.now) (state self.old) (items_of result) (state self.new) }
+    {
+        read_elements(self, schema)
+    }
+
+    /// Reads a list of whole numbers, as `read_list` with `read_long` for each element.
+    final fn read_long_list(&mut self, schema: &Schema<'_>) -> Result<Vec<i64>, SerdeError>
+    where
+        Self: Sized,
+        requires place { IsList (kind_at (site_of schema.now)) }
+        ensures same { settings self.new ≡ settings self.old }
+        ensures read { let r = reader (wire (settings self.old)) (lifted (settings self.old)) (is_strict (settings self.old)) (max_depth (settings self.old)) in ReadsList scalars.Long whole r (site_of schema.now) (state self.old) (items_of result) (state self.new) }
+    {
+        read_elements(self, schema)
+    }
+
+    /// Reads a map of texts, as `read_map` with `read_string` for each entry. Of equal keys the last counts.
+    final fn read_string_string_map(
+        &mut self,
+        schema: &Schema<'_>,
+    ) -> Result<BTreeMap<String, String>, SerdeError>
+    where
+        Self: Sized,
+        requires place { IsMap (kind_at (site_of schema.now)) }
+        ensures same { settings self.new ≡ settings self.old }
+        ensures read { let r = reader (wire (settings self.old)) (lifted (settings self.old)) (is_strict (settings self.old)) (max_depth (settings self.old)) in ReadsTexts r (site_of schema.now) (state self.old) (entries_of result) (state self.new) }
+    {
+        read_texts(self, schema)
     }
 
     // Each wire obeys the laws of reading, with its limits and with them lifted.

@@ -97,7 +97,7 @@ impl<'a> Schema<'a> {
         ensures { option_map (λ s. s.now) result ≡ (site_of self.now).view.json_name }
     {
         match self.origin {
-            Origin::Member(member, _) => text_given(&member.json_name),
+            Origin::Member(member, _) => member.json_name.as_deref(),
             _ => None,
         }
     }
@@ -108,10 +108,10 @@ impl<'a> Schema<'a> {
     {
         match self.origin {
             Origin::Whole => None,
-            Origin::Member(member, _) => text_given(&member.xml_name),
-            Origin::Element(list) => text_given(&list.xml_name),
-            Origin::Key(map) => text_given(&map.key_name),
-            Origin::Value(map) => text_given(&map.value_name),
+            Origin::Member(member, _) => member.xml_name.as_deref(),
+            Origin::Element(list) => list.xml_name.as_deref(),
+            Origin::Key(map) => map.key_name.as_deref(),
+            Origin::Value(map) => map.value_name.as_deref(),
         }
     }
 
@@ -305,7 +305,7 @@ impl<'a> Schema<'a> {
         }
     }
 
-    /// The same view without a member name, a position and the flat mark. It keeps its time form.
+    /// A view of the place without a member name, a position and the flat mark. It keeps its time form.
     pub fn nameless(&self) -> Schema<'a>
         ensures { site_of result ≡ nameless_site (site_of self.now) }
     {
@@ -315,15 +315,5 @@ impl<'a> Schema<'a> {
             origin: self.origin,
             is_nameless: true,
         }
-    }
-}
-
-// The text, where one is given.
-fn text_given(given: &Option<String>) -> Option<&str>
-    ensures { option_map (λ s. s.now) result ≡ option_map string_bytes given.now }
-{
-    match given {
-        Some(text) => Some(text.as_str()),
-        None => None,
     }
 }

@@ -59,9 +59,11 @@ impl Named for DeclaredNames<'_> {
 pub struct Shapes {
     pub(crate) declarations: Vec<Declaration>,
     pub(crate) by_name: Vec<usize>,
-    /// Some place that the declarations name is one of timestamps: where none is, no value needs a look for one.
+    /// Whether some member, some list's elements or some map's values in the declarations are timestamps. Where none are, no
+    /// value needs a look for one.
     pub(crate) has_timestamps: bool,
-    /// The same of documents.
+    /// Whether some member, some list's elements or some map's values in the declarations are documents. Where none are, no value
+    /// needs a look for one.
     pub(crate) has_documents: bool,
 }
 
@@ -107,14 +109,12 @@ impl Shapes {
     pub fn find(&self, name: &str) -> Option<ShapeRef>
         ensures { option_map (λ (r : ShapeRef). r.0) result ≡ declared_as self.now name.now }
     {
-        match position_of(
+        let number = position_of(
             &DeclaredNames(self.declarations.as_slice()),
             self.by_name.as_slice(),
             name,
-        ) {
-            Some(number) => Some(ShapeRef(number as u32)),
-            None => None,
-        }
+        )?;
+        Some(ShapeRef(number as u32))
     }
 
     /// Some member, some elements of a list or some values of a map are timestamps.
@@ -155,13 +155,11 @@ impl Shapes {
         ensures found { option_map (λ s. shape_of s.now) result ≡ shape_declared self.now at.0 }
         ensures accepted { IsAccepted self.now }
     {
-        match self.declarations.get(at.0 as usize) {
-            Some(declaration) => Some(&declaration.shape),
-            None => None,
-        }
+        let declaration = self.declarations.get(at.0 as usize)?;
+        Some(&declaration.shape)
     }
 
-    // The member at a position of that declaration, if it is a structure or a union with one there.
+    // The member at a position of the declaration of that number, if it is a structure or a union with a member there.
     pub(crate) fn member_at(&self, at: ShapeRef, position: u32) -> Option<&MemberShape>
         ensures found { option_map (λ m. member_of m.now) result
             ≡ slice_get (members_of (kind_of self.now (shape_place at.0))) position }
@@ -170,7 +168,8 @@ impl Shapes {
         self.find_member(at, position)
     }
 
-    // The same, of a table whose places are known.
+    // The member at a position of the declaration of that number, if it is a structure or a union with a member there. The answer
+    // says too that every place of the table is known.
     fn find_member(&self, at: ShapeRef, position: u32) -> Option<&MemberShape>
         ensures found { option_map (λ m. member_of m.now) result
             ≡ slice_get (members_of (kind_of self.now (shape_place at.0))) position }
@@ -183,7 +182,7 @@ impl Shapes {
         }
     }
 
-    // The members of that declaration, if it is a structure or a union.
+    // The members of the declaration of that number, if it is a structure or a union.
     pub(crate) fn members_at(&self, at: ShapeRef) -> Option<&MemberList>
         ensures few { IfSome result (λ m. length m.now.items.items ≤ 65535) }
         ensures members { option_map_or (λ m. map member_of m.now.items.items) result [] ≡ members_of (kind_of self.now (shape_place at.0)) }

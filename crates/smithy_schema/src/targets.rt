@@ -19,7 +19,7 @@ pub(crate) enum Sought {
 }
 
 impl Sought {
-    /// Some member, some elements of a list or some values of a map are such.
+    /// Whether some member, some list's elements or some map's values in the declarations are what is sought.
     pub(crate) fn stand_in(self, declarations: &[Declaration]) -> bool
         ensures { result ≡ table_has (is_sought self) (map declaration_of declarations.now) }
     {
@@ -31,7 +31,7 @@ impl Sought {
         false
     }
 
-    // The same of one declaration.
+    // Whether some member, the elements of the list or the values of the map in one declaration are what is sought.
     fn stand_in_shape(self, shape: &Shape) -> bool
         ensures { result ≡ shape_has (is_sought self) (shape_of shape.now) }
     {
@@ -43,7 +43,7 @@ impl Sought {
         }
     }
 
-    // The same of members.
+    // Whether one of these members is what is sought.
     fn stand_among(self, members: &[MemberShape]) -> bool
         ensures { result ≡ list_any (λ (m : Member). is_sought self m.place.target) (map member_of members.now) }
     {
@@ -55,7 +55,7 @@ impl Sought {
         false
     }
 
-    /// The place is one of such a target.
+    /// Whether the target of the place is what is sought.
     pub(crate) fn stand_at(self, place: Place) -> bool
         ensures { result ≡ is_sought self place.target }
     {

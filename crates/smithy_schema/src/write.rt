@@ -181,7 +181,8 @@ pub trait ShapeSerializer {
         ensures ok { OnOk result (after (big_integer_of (site_of schema.now) value.now) (state self.old) ≡ Ok (state self.new)) }
         ensures refused { IfErr result (λ e. IsFault e → after (big_integer_of (site_of schema.now) value.now) (state self.old) ≡ Err e) };
 
-    /// The same of a decimal number.
+    /// Writes a decimal number of any size, by the text that it keeps: `Unwritable` where the wire can't carry this text, and
+    /// `TooWide` where the number leaves what the wire can write.
     fn write_big_decimal(
         &mut self,
         schema: &Schema<'_>,

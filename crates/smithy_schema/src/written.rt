@@ -12,7 +12,7 @@ use crate::write::ShapeSerializer;
 ///
 /// A call that answers Ok leaves the serializer's open containers as they were.
 pub trait SerializableStruct {
-    // The site of its schema.
+    // The site of the schema.
     ghost site: { Self → Site };
 
     // What a call adds, to whichever serializer.
@@ -38,7 +38,7 @@ pub trait WriteElements {
     // What a call adds, to whichever serializer.
     ghost adds: { Adds Self };
 
-    // The containers that it can be written into: a list, or a map at a key.
+    // The containers that the elements or entries can be written into: a list, or a map at a key.
     ghost can_stand: { Self → Open → Type 0 } = { λ _ _. Unit {0} };
 
     /// Writes the elements or the entries.

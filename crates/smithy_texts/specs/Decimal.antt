@@ -63,7 +63,7 @@ decimal_form text = if is_decimal text then Some (record {
   net_part = net_exponent text;
 }) else None
 
--- both exponents are within their limits
+-- both exponents of a decimal text, as it is written and less the digits after the point, are within their limits
 abbrev pub exponents_fit : List ℕ → Bool
 exponents_fit text = is_exponent (written_exponent text) && is_exponent (net_exponent text)
 

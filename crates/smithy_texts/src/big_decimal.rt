@@ -101,7 +101,7 @@ impl BigDecimal {
         Ok(BigDecimal { text })
     }
 
-    /// The same number, in memory of its own.
+    /// A copy of the number, in memory of its own.
     pub fn clone_in(&self, alloc: Global) -> Result<BigDecimal, AllocError>
         ensures { IfOk result (λ n. n ≡ self.now) }
     {
@@ -134,8 +134,8 @@ impl Hash for BigDecimal {
     }
 }
 
-// Adds the exponent where it isn't zero.
-fn push_exponent(text: &mut String, exponent: i64) -> Result<(), AllocError>
+/// Adds the exponent of a decimal to the text of its mantissa, where it isn't zero.
+pub fn push_exponent(text: &mut String, exponent: i64) -> Result<(), AllocError>
     ensures { OnOk result (string_bytes text.new ≡ string_bytes text.old ++ exponent_text exponent) }
 {
     if exponent == 0 {

@@ -103,7 +103,7 @@ impl BigInteger {
         Ok(BigInteger { text })
     }
 
-    /// The same number, in memory of its own.
+    /// A copy of the number, in memory of its own.
     pub fn clone_in(&self, alloc: Global) -> Result<BigInteger, AllocError>
         ensures { IfOk result (λ n. n ≡ self.now) }
     {

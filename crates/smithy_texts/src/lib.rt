@@ -7,5 +7,5 @@ mod big_integer;
 pub mod decimal_text;
 pub mod numeral;
 
-pub use big_decimal::BigDecimal;
+pub use big_decimal::{BigDecimal, push_exponent};
 pub use big_integer::{BigInteger, BigNumberError, TooWide};

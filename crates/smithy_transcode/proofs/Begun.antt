@@ -1,5 +1,5 @@
 -- A reader that begins a body, and what it reads there, as what the whole input spells.
-use Rattle.std.proofs.Common.{◌≡◌, ◌≤◌, ◌<◌, ℕ, List, Bool, true, false, [], ◌∷◌, length, Result, Ok, Err, IsErrOf, refl, sym, ◌∙◌, ap, subst, arith}
+use Rattle.std.proofs.Common.{◌≡◌, ◌≤◌, ◌<◌, ℕ, List, Bool, true, false, [], ◌∷◌, length, inl, inr, Result, Ok, Err, IsErrOf, refl, sym, ◌∙◌, ap, subst, arith}
 use Rattle.smithy_schema.specs.declared.error.SerdeError.{SerdeError}
 use Rattle.smithy_schema.specs.declared.error.SerdeError.TheVariants.{InvalidInput, TooDeep, TooWide, NotCarried, Unsupported, Unwritable, Failed, NoMemory}
 use Rattle.smithy_schema.specs.declared.place.Place.{Place}
@@ -7,7 +7,7 @@ use Rattle.smithy_schema.specs.declared.schema.Schema.{Schema}
 use Rattle.smithy_schema.specs.Table.{Table, kind_of, shape_place, IsStructure}
 use Rattle.smithy_schema.specs.Site.{Site, site_of, shape_site}
 use Rattle.smithy_schema.specs.Value.{Value, structure, no_member_values}
-use Rattle.smithy_schema.specs.Reading.{Cursor, depth, Relations, Reads, StandsNot, ReachesDepth, ExceedsInside, UncarriedInside, IsCounted, IsRefused}
+use Rattle.smithy_schema.specs.Reading.{Cursor, depth, Relations, Reads, StandsNot, ReachesDepth, EndsTooDeep, ExceedsInside, UncarriedInside, IsCounted, IsRefused}
 use Rattle.smithy_schema.proofs.CountLemmas.{starts_counted, reaches_openers}
 use Rattle.smithy_wire.specs.Walking.{fresh_cursor}
 use Rattle.smithy_json_codec.specs.Codec.{strict_settings}
@@ -16,8 +16,8 @@ use Rattle.smithy_json_codec.specs.Standing.{json_relations}
 use Rattle.smithy_cbor_codec.specs.Codec.{strict_settings as strict_cbor}
 use Rattle.smithy_cbor_codec.specs.Settings.{Settings as CborSettings, keep_limits as keep_cbor_limits, without_limits as without_cbor_limits}
 use Rattle.smithy_cbor_codec.specs.Standing.{cbor_relations}
-use Rattle.smithy_transcode.specs.Wires.{Wire, json, cbor, IsReadable}
-use Rattle.smithy_transcode.specs.Causes.{openers, IsWide, IsUncarried}
+use Rattle.smithy_transcode.specs.Wires.{Wire, json, cbor, query, IsReadable}
+use Rattle.smithy_transcode.specs.Causes.{openers, MayNest, IsTooDeep, IsWide, IsUncarried}
 use Rattle.smithy_transcode.specs.Spelling.{Spells}
 use Rattle.smithy_transcode.specs.Transcoding.{SpellNothing, SpellNothingWithoutLimits}
 use Rattle.smithy_transcode.proofs.WideBodies.{inside_is_wide, inside_is_uncarried}
@@ -58,6 +58,13 @@ cbor_begins w o old s t root i wire same fresh site kind = record {
   kind = kind;
   read = subst IsReadable (sym wire) tt;
 }
+
+-- a reader of CBOR that fails for its depth has entered so many places of the table
+nests : (w : Wire) (t : Table) (root max : ℕ) (old new : Cursor) → IsReadable w → max ≡ 128 → depth old ≡ 0 → EndsTooDeep (relations_of w) max old new t (shape_place root) → MayNest w t root
+nests (json b) t root max old new read greatest start ends = tt
+nests cbor t root max old new read greatest start (inl limited) = absurd (let both : false ≡ true = limited in cc)
+nests cbor t root max old new read greatest start (inr (q, count, gone, inside, full, kind)) = (q, count, omega (arith, gone, full, start, greatest), inside, kind)
+nests (query action version) t root max old new read greatest start ends = absurd read
 
 module _ {w : Wire} {r l : Relations} {max : ℕ} {old : Cursor} {s : Schema} {t : Table} {root : ℕ} {i : List ℕ} (begins : Begins w r l max old s t root i) where
   -- what holds of the relations and the schema at hand holds of those of the wire and of the root
@@ -117,7 +124,7 @@ module _ {w : Wire} {r l : Relations} {max : ℕ} {old : Cursor} {s : Schema} {t
       let bytes : max ≤ openers w i = subst (λ n. max ≤ n) (openers_are w i begins.read) kept in
       subst (λ n. n ≤ openers w i) begins.greatest bytes
 
-  pub deep_opens : {A : Type 0} (answer : Result A SerdeError) (new : Cursor) → (IsRefused answer → StandsNot r old s.shapes.now s.place) → new.input ≡ old.input
+  deep_opens : {A : Type 0} (answer : Result A SerdeError) (new : Cursor) → (IsRefused answer → StandsNot r old s.shapes.now s.place) → new.input ≡ old.input
       → (IsCounted r old → IsCounted r new) → (IsErrOf answer TooDeep → ReachesDepth r max new) → IsErrOf answer TooDeep → 128 ≤ openers w i
   deep_opens (Ok x) new refused unmoved counted deep is = absurd (let both : Ok x ≡ Err TooDeep = is in cc)
   deep_opens (Err TooDeep) new refused unmoved counted deep is = opens_as_many new (refused tt) unmoved counted (deep is)
@@ -128,6 +135,14 @@ module _ {w : Wire} {r l : Relations} {max : ℕ} {old : Cursor} {s : Schema} {t
   deep_opens (Err Unwritable) new refused unmoved counted deep is = absurd (let both : Err Unwritable ≡ Err TooDeep = is in cc)
   deep_opens (Err Failed) new refused unmoved counted deep is = absurd (let both : Err Failed ≡ Err TooDeep = is in cc)
   deep_opens (Err NoMemory) new refused unmoved counted deep is = absurd (let both : Err NoMemory ≡ Err TooDeep = is in cc)
+
+  -- and by the table as many may be open, where the wire limits nothing else
+  pub is_too_deep : {A : Type 0} (answer : Result A SerdeError) (new : Cursor) → (IsRefused answer → StandsNot r old s.shapes.now s.place) → new.input ≡ old.input
+      → (IsCounted r old → IsCounted r new) → (IsErrOf answer TooDeep → ReachesDepth r max new) → (IsErrOf answer TooDeep → EndsTooDeep r max old new s.shapes.now s.place)
+      → IsErrOf answer TooDeep → IsTooDeep w t root i
+  is_too_deep answer new refused unmoved counted deep ends is =
+      let there = at_root (λ z x p. EndsTooDeep z max old new x p) (ends is) in
+      (deep_opens answer new refused unmoved counted deep is, nests w t root max old new begins.read begins.greatest (ap depth begins.fresh) there)
 
   -- where a number left its limits, the input has one that does
   pub exceeds_is_wide : {A : Type 0} (answer : Result A SerdeError) (new : Cursor) → new.input ≡ old.input → (IsErrOf answer TooWide → ExceedsInside r old new s.shapes.now s.place)

@@ -23,6 +23,7 @@ use Rattle.smithy_json_codec.specs.Codec.{strict_settings}
 use Rattle.smithy_json_codec.specs.Writing.{JsonState, json_after, fresh_state}
 use Rattle.smithy_json_codec.proofs.WritingLemmas.{state, value_adds}
 use Rattle.smithy_cbor_codec.specs.Canonical.{canonical_cbor}
+use Rattle.smithy_cbor_codec.specs.Codec.{strict_settings as strict_cbor}
 use Rattle.smithy_cbor_codec.specs.Writing.{CborState, cbor_after, fresh_state as fresh_cbor_state}
 use Rattle.smithy_cbor_codec.proofs.WritingLemmas.{value_adds as cbor_value_adds}
 use Rattle.smithy_query_codec.specs.Nulls.{holds_null}
@@ -85,11 +86,11 @@ json_adds b site v s fresh nameless held =
 -- ---- CBOR
 
 abbrev pub cbor_body : Site → Value → CborState
-cbor_body site v = record { out = canonical_cbor site v; frames = [] }
+cbor_body site v = record { settings = strict_cbor; out = canonical_cbor site v; frames = [] }
 
-pub cbor_adds : (site : Site) (v : Value) (s : CborState) → s ≡ fresh_cbor_state → scalars_pass (holds cbor) site v ≡ true
+pub cbor_adds : (site : Site) (v : Value) (s : CborState) → s ≡ fresh_cbor_state strict_cbor → scalars_pass (holds cbor) site v ≡ true
     → write cbor_after site v s ≡ Ok (cbor_body site v)
-cbor_adds site v s fresh held = ap (write cbor_after site v) fresh ∙ cbor_value_adds site v [] [] [] held refl
+cbor_adds site v s fresh held = ap (write cbor_after site v) fresh ∙ cbor_value_adds strict_cbor site v [] [] [] held refl
 
 -- ---- the body of the root, at the schema of the root
 

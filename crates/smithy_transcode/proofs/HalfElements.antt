@@ -9,9 +9,9 @@ use Rattle.smithy_schema.specs.Value.{Value, null_element, MapEntries, no_map_en
 use Rattle.smithy_schema.specs.Reading.{Cursor, in_list, in_map, Relations, Child, child_value, named, depth, Conducts, RefusesNoScalar, Enters, Steps, Passes, Reads, StandsNot, NullsNot, null_is_due, IsFault, IsInvalid}
 use Rattle.smithy_schema.proofs.CountLemmas.{value_counted, null_counted}
 use Rattle.smithy_transcode.specs.ReadValue.{ReadsValue}
-use Rattle.smithy_transcode.proofs.ReadContainers.{itself}
-use Rattle.smithy_transcode.proofs.ReadLists.{list_value, begin_list, IsNoNull, element_child, element_refused, null_refused, null_read}
-use Rattle.smithy_transcode.proofs.ReadMaps.{map_value, begin_map, value_child, entry_refused, null_entry_refused, null_entry_read}
+use Rattle.smithy_schema.proofs.ReadContainers.{itself}
+use Rattle.smithy_schema.proofs.ReadLists.{list_value, begin_list, IsNoNull, element_child, element_refused, null_refused, null_read}
+use Rattle.smithy_schema.proofs.ReadMaps.{map_value, begin_map, value_child, entry_refused, null_entry_refused, null_entry_read}
 use Rattle.smithy_transcode.proofs.ReadWide.{StandsInside, inside_child}
 use Rattle.smithy_transcode.proofs.ReadAnswers.{ObeysLaws, call_fails, inner_fails}
 use Rattle.smithy_transcode.proofs.HalfRead.{HalfRead, entered, stepped_to, passed_by, child_passed}
@@ -68,7 +68,7 @@ module _ (w u : Relations) (is_strict : Type 0) (max : ℕ) (laws : ObeysLaws w 
       → ReadsValue {A = B} w u is_strict max s0 s2 o view (Err e)
   null_fails {A} {B} view o q s0 s s1 s2 worth e kind place sparse half steps begins conduct narrow shallow refused would =
       call_fails w u is_strict max {A = A} {B = B} view o s0 s1 s2 e
-      (stepped_to w u is_strict laws s0 s s1 o.table o.place None half.reached steps) conduct narrow (λ is. absurd (shallow is))
+      (stepped_to w u is_strict laws s0 s s1 o.table o.place None half.reached steps) conduct narrow (λ is. absurd (shallow is)) (λ is. absurd (shallow is))
       (λ fault. null_refused w w max laws.kept (itself w) s0 s s1 o.table o.place q worth kind half.kept steps place sparse begins (refused begins fault))
       (λ strict invalid. null_refused w u max laws.lifted laws.below s0 s s1 o.table o.place q worth kind half.lifted steps place sparse begins (would strict begins invalid))
 
@@ -122,6 +122,6 @@ module _ (w u : Relations) (is_strict : Type 0) (max : ℕ) (laws : ObeysLaws w 
       → ReadsValue {A = B} w u is_strict max s0 s2 o view (Err e)
   null_entry_fails {A} {B} view o q s0 s s1 s2 worth key e kind place sparse half steps begins conduct narrow shallow refused would =
       call_fails w u is_strict max {A = A} {B = B} view o s0 s1 s2 e
-      (stepped_to w u is_strict laws s0 s s1 o.table o.place (Some key) half.reached steps) conduct narrow (λ is. absurd (shallow is))
+      (stepped_to w u is_strict laws s0 s s1 o.table o.place (Some key) half.reached steps) conduct narrow (λ is. absurd (shallow is)) (λ is. absurd (shallow is))
       (λ fault. null_entry_refused w w max laws.kept (itself w) s0 s s1 o.table o.place q worth key kind half.kept steps place sparse begins (refused begins fault))
       (λ strict invalid. null_entry_refused w u max laws.lifted laws.below s0 s s1 o.table o.place q worth key kind half.lifted steps place sparse begins (would strict begins invalid))

@@ -11,9 +11,9 @@ use Rattle.smithy_schema.specs.Value.{Value, MemberValues, no_member_values, put
 use Rattle.smithy_schema.specs.Reading.{Cursor, in_structure, Relations, Child, child_value, child_unknown, depth, Conducts, RefusesNoScalar, Enters, MatchStep, Passes, Reads, SkipsNot, ReachesDepth, IsFault, IsInvalid, failed_at}
 use Rattle.smithy_schema.proofs.CountLemmas.{value_counted, skip_counted, member_counted}
 use Rattle.smithy_transcode.specs.ReadValue.{ReadsValue}
-use Rattle.smithy_transcode.proofs.ReadContainers.{itself}
-use Rattle.smithy_transcode.proofs.ReadStructures.{structure_value, begin_structure, member_child, member_refused, unknown_refused}
-use Rattle.smithy_transcode.proofs.ReadUnions.{union_value, begin_union, no_first, no_end, step_input}
+use Rattle.smithy_schema.proofs.ReadContainers.{itself}
+use Rattle.smithy_schema.proofs.ReadStructures.{structure_value, begin_structure, member_child, member_refused, unknown_refused}
+use Rattle.smithy_schema.proofs.ReadUnions.{union_value, begin_union, no_first, no_end, step_input}
 use Rattle.smithy_transcode.proofs.ReadWide.{inside_member}
 use Rattle.smithy_transcode.proofs.ReadAnswers.{ObeysLaws, Reached, call_fails, inner_fails, made_to_fail}
 use Rattle.smithy_transcode.proofs.HalfRead.{HalfRead, entered, stepped_to, child_passed, had_not}
@@ -66,12 +66,12 @@ module _ (w u : Relations) (is_strict : Type 0) (max : ℕ) (laws : ObeysLaws w 
   -- an unknown entry can't be skipped
   pub unknown_fails : {A B : Type 0} (view : B → Value) (o : Site) (s0 s s1 s2 : Cursor) (fs : MemberValues) (e : SerdeError) → IsStructure (kind_at o)
       → HalfRead w u is_strict max s0 s o.table o.place in_structure (structure_value fs) → MatchStep Unknown w s s1 o
-      → Conducts {A = A} s1 s2 (Err e) → RefusesNoScalar {A = A} (Err e) → (IsErrOf {T = A} {E = SerdeError} (Err e) TooDeep → ReachesDepth w max s1)
+      → Conducts {A = A} s1 s2 (Err e) → RefusesNoScalar {A = A} (Err e) → (IsErrOf {T = A} {E = SerdeError} (Err e) TooDeep → ReachesDepth w max s1) → (IsErrOf {T = A} {E = SerdeError} (Err e) TooDeep → w.limits_skips ≡ true)
       → (IsFault e → s1.due ≡ true → SkipsNot w s1) → (is_strict → IsInvalid {A = A} (Err e) → s1.due ≡ true → SkipsNot u s1)
       → ReadsValue {A = B} w u is_strict max s0 s2 o view (Err e)
-  unknown_fails {A} {B} view o s0 s s1 s2 fs e kind half step conduct narrow deep refused would =
+  unknown_fails {A} {B} view o s0 s s1 s2 fs e kind half step conduct narrow deep limited refused would =
       call_fails w u is_strict max {A = A} {B = B} view o s0 s1 s2 e
-      (stepped_to w u is_strict laws s0 s s1 o.table o.place (Some step.0) half.reached step.1) conduct narrow deep
+      (stepped_to w u is_strict laws s0 s s1 o.table o.place (Some step.0) half.reached step.1) conduct narrow deep limited
       (λ fault. unknown_refused w w max laws.kept (itself w) s0 s s1 o fs kind half.kept step (refused fault step.1.due))
       (λ strict invalid. unknown_refused w u max laws.lifted laws.below s0 s s1 o fs kind half.lifted step (would strict invalid step.1.due))
 

@@ -9,7 +9,7 @@ use Rattle.smithy_schema.specs.Value.{Value}
 use Rattle.smithy_schema.specs.Reading.{Cursor, Within, Relations, Child, depth, IsCounted, Conducts, RefusesNoScalar, Enters, Steps, Leaves, Passes, CannotGoOn, ReachesDepth, IsFault, IsInvalid, IsChild}
 use Rattle.smithy_schema.proofs.CountLemmas.{entry_counted, step_counted}
 use Rattle.smithy_transcode.specs.ReadValue.{ReadsValue}
-use Rattle.smithy_transcode.proofs.ReadContainers.{InContainer, child_read, itself, end, stuck}
+use Rattle.smithy_schema.proofs.ReadContainers.{InContainer, child_read, itself, end, stuck}
 use Rattle.smithy_transcode.proofs.ReadAnswers.{ObeysLaws, Reached, not_failed, call_fails, tree_made}
 
 -- by the relations w and with the limits lifted, the container at s0 is read up to s
@@ -73,12 +73,12 @@ module _ (w u : Relations) (is_strict : Type 0) (max : ℕ) (laws : ObeysLaws w 
   -- neither another child nor the end comes
   pub goes_no_further : {A B : Type 0} (view : B → Value) (site : Site) (s0 s s1 : Cursor) (k : Within) (worth : List Child → Option Value) (e : SerdeError)
       → HalfRead w u is_strict max s0 s site.table site.place k worth
-      → Conducts {A = A} s s1 (Err e) → RefusesNoScalar {A = A} (Err e) → (IsErrOf {T = A} {E = SerdeError} (Err e) TooDeep → ReachesDepth w max s)
+      → Conducts {A = A} s s1 (Err e) → RefusesNoScalar {A = A} (Err e) → (IsErrOf {T = A} {E = SerdeError} (Err e) TooDeep → ReachesDepth w max s) → (IsErrOf {T = A} {E = SerdeError} (Err e) TooDeep → w.limits_skips ≡ true)
       → (IsFault e → s.due ≡ false → CannotGoOn w s site.table site.place)
       → (is_strict → IsInvalid {A = A} (Err e) → s.due ≡ false → CannotGoOn u s site.table site.place)
       → ReadsValue {A = B} w u is_strict max s0 s1 site view (Err e)
-  goes_no_further {A} {B} view site s0 s s1 k worth e half conduct narrow deep refused would =
-      call_fails w u is_strict max {A = A} {B = B} view site s0 s s1 e half.reached conduct narrow deep
+  goes_no_further {A} {B} view site s0 s s1 k worth e half conduct narrow deep limited refused would =
+      call_fails w u is_strict max {A = A} {B = B} view site s0 s s1 e half.reached conduct narrow deep limited
       (λ fault. stuck w w max s0 s site.table site.place k worth half.kept (refused fault half.kept.due))
       (λ strict invalid. stuck w u max s0 s site.table site.place k worth half.lifted (would strict invalid half.kept.due))
 

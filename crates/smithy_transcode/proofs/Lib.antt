@@ -5,21 +5,16 @@ mod EntryOrder
 mod HalfElements
 mod HalfMembers
 mod HalfRead
-mod Inner
 mod Unfits
 mod ValuesPass
-mod Lists
 pub mod Mapped
 mod Maps
 mod NullsHeld
 mod ReadAnswers
-mod ReadContainers
-mod ReadLists
-mod ReadMaps
-mod ReadStructures
-mod ReadUnions
 mod ReadViews
 mod ReadWide
+mod ReadDeep
+mod DepthFacts
 mod WideBodies
 pub mod Spelled
 mod Structures

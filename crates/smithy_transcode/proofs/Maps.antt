@@ -13,7 +13,7 @@ use Rattle.smithy_schema.specs.Lemmas.Kinds.{map_kind}
 use Rattle.smithy_schema.proofs.SiteLemmas.{value_site_at, entry_fit}
 use Rattle.smithy_schema.proofs.WritingLemmas.{call_made, call_refused, child_written, child_refused}
 use Rattle.smithy_transcode.specs.Private.Tree.{entry_views}
-use Rattle.smithy_transcode.proofs.Lists.{fits_or_null}
+use Rattle.smithy_schema.proofs.WrittenLists.{fits_or_null}
 
 -- the calls for what is left of a map
 abbrev pub map_rest : Site → MapEntries → List Event

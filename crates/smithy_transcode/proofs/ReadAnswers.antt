@@ -1,20 +1,21 @@
 -- What a read of a value answers, by each way out of it: one record for each.
-use Rattle.std.proofs.Common.{◌≡◌, ℕ, Some, true, false, Result, Ok, Err, IfOk, IfErr, IsErrOf, refl, sym, ◌∙◌, ap, subst, arith}
+use Rattle.std.proofs.Common.{◌≡◌, ℕ, Some, true, false, Result, Ok, Err, IfOk, IfErr, IsErrOf, refl, sym, ◌∙◌, ap, subst, arith, inl}
 use Rattle.smithy_schema.specs.declared.place.Place.{Place}
 use Rattle.smithy_schema.specs.declared.shape_type.Scalar.{Scalar}
 use Rattle.smithy_schema.specs.declared.shape_type.ShapeType.TheVariants as types
 use Rattle.smithy_schema.specs.declared.error.SerdeError.{SerdeError}
 use Rattle.smithy_schema.specs.declared.error.SerdeError.TheVariants.{InvalidInput, TooDeep, TooWide, NotCarried, Unsupported, Unwritable, Failed, NoMemory}
-use Rattle.smithy_schema.specs.Table.{scalar_type, type_of}
+use Rattle.smithy_schema.specs.Table.{scalar_type, type_of, IsContainer}
 use Rattle.smithy_schema.specs.Site.{Site, kind_at}
 use Rattle.smithy_schema.specs.Value.{ScalarValue, Value, scalar_value, document_value}
 use Rattle.smithy_types.specs.Document.{whole_document}
 use Rattle.smithy_types.specs.DocumentView.{document_view}
 use Rattle.smithy_types.specs.declared.document.Document.{Document}
-use Rattle.smithy_schema.specs.Reading.{Cursor, depth, Relations, IsLawful, IsBelow, CountsOpeners, IsCounted, IsContainer, Conducts, RefusesNoScalar, Reads, ReadsScalar, ReadsDocument, StandsNot, OpensNot, ReachesDepth, IsFault, IsInvalid, failed_at}
+use Rattle.smithy_schema.specs.Reading.{Cursor, depth, Relations, IsLawful, IsBelow, CountsOpeners, IsCounted, Conducts, RefusesNoScalar, Reads, ReadsScalar, ReadsDocument, StandsNot, OpensNot, ReachesDepth, IsFault, IsInvalid, failed_at}
 use Rattle.smithy_schema.proofs.CountLemmas.{refusal_counted, value_counted}
 use Rattle.smithy_transcode.specs.ReadValue.{ReadsValue}
 use Rattle.smithy_transcode.proofs.ReadWide.{Lying, StandsInside, error_is, scalar_inside, scalar_read, place_told, document_told, document_inside, document_read}
+use Rattle.smithy_transcode.proofs.ReadDeep.{ends_here, ends_inside}
 
 -- what a wire proves of its relations, and of those with the limits lifted
 pub record ObeysLaws (w u : Relations) (is_strict : Type 0) : Type 0 where
@@ -54,11 +55,11 @@ not_failed {A} old new x conduct failed = no_error {A = A} x Failed (conduct.fai
 module _ (w u : Relations) (is_strict : Type 0) (max : ℕ) where
   -- a call refuses, inside of what is read
   pub call_fails : {A B : Type 0} (view : B → Value) (site : Site) (s0 s s1 : Cursor) (e : SerdeError) → Reached w is_strict s0 s
-      → Conducts {A = A} s s1 (Err e) → RefusesNoScalar {A = A} (Err e) → (IsErrOf {T = A} {E = SerdeError} (Err e) TooDeep → ReachesDepth w max s)
+      → Conducts {A = A} s s1 (Err e) → RefusesNoScalar {A = A} (Err e) → (IsErrOf {T = A} {E = SerdeError} (Err e) TooDeep → ReachesDepth w max s) → (IsErrOf {T = A} {E = SerdeError} (Err e) TooDeep → w.limits_skips ≡ true)
       → (IsFault e → StandsNot w s0 site.table site.place)
       → (is_strict → IsInvalid {A = A} (Err e) → StandsNot u s0 site.table site.place)
       → ReadsValue {A = B} w u is_strict max s0 s1 site view (Err e)
-  call_fails {A} {B} view site s0 s s1 e reached conduct narrow deep refused would = record {
+  call_fails {A} {B} view site s0 s s1 e reached conduct narrow deep limited refused would = record {
     ok = tt;
     refused = refused;
     would = would;
@@ -66,6 +67,7 @@ module _ (w u : Relations) (is_strict : Type 0) (max : ℕ) where
     supported = λ is. conduct.supported (error_as {A = B} {B = A} e Unsupported is);
     readable = λ is. conduct.readable (error_as {A = B} {B = A} e Unwritable is);
     deep = λ is. subst (ReachesDepth w max) (sym conduct.stays) (deep (error_as {A = B} {B = A} e TooDeep is));
+    nested = λ is. inl (limited (error_as {A = B} {B = A} e TooDeep is));
     wide = λ is. absurd (narrow.0 (error_as {A = B} {B = A} e TooWide is));
     uncarried = λ is. absurd (narrow.1 (error_as {A = B} {B = A} e NotCarried is));
     input = ap (λ (c : Cursor). c.input) conduct.stays ∙ reached.input;
@@ -94,6 +96,7 @@ module _ (w u : Relations) (is_strict : Type 0) (max : ℕ) where
         let most = deepest (error_as {A = B} {B = A} e TooDeep is) in
         let level : depth s1 ≡ depth s0 = ap depth conduct.stays in
         omega (arith, most, level);
+    nested = λ is. ends_here w max s0 s1 site.table site.place (ap depth conduct.stays) (deepest (error_as {A = B} {B = A} e TooDeep is)) kind;
     wide = λ is. absurd (narrow.0 (error_as {A = B} {B = A} e TooWide is));
     uncarried = λ is. absurd (narrow.1 (error_as {A = B} {B = A} e NotCarried is));
     input = ap (λ (c : Cursor). c.input) conduct.stays;
@@ -113,6 +116,7 @@ module _ (w u : Relations) (is_strict : Type 0) (max : ℕ) where
         supported = not_memory {A = B} Unsupported (λ e. cc);
         readable = not_memory {A = B} Unwritable (λ e. cc);
         deep = λ is. absurd (not_memory {A = B} TooDeep (λ e. cc) is);
+        nested = λ is. absurd (not_memory {A = B} TooDeep (λ e. cc) is);
         wide = λ is. absurd (not_memory {A = B} TooWide (λ e. cc) is);
         uncarried = λ is. absurd (not_memory {A = B} NotCarried (λ e. cc) is);
         input = reached.input;
@@ -131,6 +135,7 @@ module _ (w u : Relations) (is_strict : Type 0) (max : ℕ) where
     supported = not_invalid {A = B} Unsupported (λ e. cc);
     readable = not_invalid {A = B} Unwritable (λ e. cc);
     deep = λ is. absurd (not_invalid {A = B} TooDeep (λ e. cc) is);
+    nested = λ is. absurd (not_invalid {A = B} TooDeep (λ e. cc) is);
     wide = λ is. absurd (not_invalid {A = B} TooWide (λ e. cc) is);
     uncarried = λ is. absurd (not_invalid {A = B} NotCarried (λ e. cc) is);
     input = ap (λ (c : Cursor). c.input) stays ∙ reached.input;
@@ -152,6 +157,7 @@ module _ (w u : Relations) (is_strict : Type 0) (max : ℕ) where
     supported = λ is. reads.supported (error_as {A = B} {B = A} e Unsupported is);
     readable = λ is. reads.readable (error_as {A = B} {B = A} e Unwritable is);
     deep = λ is. reads.deep (error_as {A = B} {B = A} e TooDeep is);
+    nested = λ is. ends_inside w max s0 s1 s2 site.table child.table site.place child.place inside (reads.nested (error_as {A = B} {B = A} e TooDeep is));
     wide = λ is. inside w.exceeds (reads.wide (error_as {A = B} {B = A} e TooWide is));
     uncarried = λ is. inside w.uncarried (reads.uncarried (error_as {A = B} {B = A} e NotCarried is));
     input = reads.input ∙ reached.input;
@@ -172,6 +178,7 @@ module _ (w u : Relations) (is_strict : Type 0) (max : ℕ) where
         supported = λ is. reads.conduct.supported (error_as {A = B} {B = A} e Unsupported is);
         readable = λ is. reads.conduct.readable (error_as {A = B} {B = A} e Unwritable is);
         deep = λ is. absurd (reads.shallow (error_as {A = B} {B = A} e TooDeep is));
+        nested = λ is. absurd (reads.shallow (error_as {A = B} {B = A} e TooDeep is));
         wide = scalar_inside {A = A} {B = B} w.exceeds old new site kind (Err e) e TooWide refl reads.conduct reads.wide is;
         uncarried = scalar_inside {A = A} {B = B} w.uncarried old new site kind (Err e) e NotCarried refl reads.conduct reads.uncarried is;
         input = ap (λ (c : Cursor). c.input) reads.conduct.stays;
@@ -192,6 +199,7 @@ module _ (w u : Relations) (is_strict : Type 0) (max : ℕ) where
         supported = λ is. reads.conduct.supported (error_as {A = B} {B = Document} e Unsupported is);
         readable = λ is. reads.conduct.readable (error_as {A = B} {B = Document} e Unwritable is);
         deep = λ is. subst (ReachesDepth w max) (sym reads.conduct.stays) (reads.deep (error_as {A = B} {B = Document} e TooDeep is));
+        nested = λ is. inl (reads.limited (error_as {A = B} {B = Document} e TooDeep is));
         wide = λ is. absurd (reads.narrow (error_as {A = B} {B = Document} e TooWide is));
         uncarried = document_inside {A = Document} {B = B} w.uncarried old new site (Err e) e NotCarried refl reads.conduct reads.uncarried is;
         input = ap (λ (c : Cursor). c.input) reads.conduct.stays;
@@ -210,6 +218,7 @@ module _ (w u : Relations) (is_strict : Type 0) (max : ℕ) where
     supported = no_error {A = B} x Unsupported;
     readable = no_error {A = B} x Unwritable;
     deep = λ is. absurd (no_error {A = B} x TooDeep is);
+    nested = λ is. absurd (no_error {A = B} x TooDeep is);
     wide = λ is. absurd (no_error {A = B} x TooWide is);
     uncarried = λ is. absurd (no_error {A = B} x NotCarried is);
     input = reads.passes.input;

@@ -11,13 +11,13 @@ use Rattle.smithy_schema.specs.declared.shape_type.Scalar.TheVariants as scalars
 use Rattle.smithy_schema.specs.declared.shape_type.ShapeType.{ShapeType}
 use Rattle.smithy_schema.specs.declared.shape_type.ShapeType.TheVariants as types
 use Rattle.smithy_schema.specs.declared.error.SerdeError.{SerdeError}
-use Rattle.smithy_schema.specs.Table.{Table, Shape, structure, union, list, map, Kind, scalar, document, structure_of, union_of, list_of, map_of, nothing, kind_of, kind_of_shape, kind_of_target, shape_declared, type_of, scalar_type, place_in, scalar_place, document_place, is_document_target, IsDocument}
+use Rattle.smithy_schema.specs.Table.{Table, Shape, structure, union, list, map, Kind, scalar, document, structure_of, union_of, list_of, map_of, nothing, kind_of, kind_of_shape, kind_of_target, shape_declared, type_of, scalar_type, place_in, scalar_place, document_place, is_document_target, IsDocument, IsInside}
 use Rattle.smithy_schema.specs.Site.{Site, site_of, kind_at}
 use Rattle.smithy_schema.specs.Value.{ScalarValue, Value, scalar_value}
-use Rattle.smithy_schema.specs.Reading.{Cursor, Within, depth, Relations, Child, Steps, MatchStep, IsInside, Reads, Conducts, failed_at}
+use Rattle.smithy_schema.specs.Reading.{Cursor, Within, depth, Relations, Child, Steps, MatchStep, Reads, Conducts, failed_at}
 use Rattle.smithy_schema.specs.Lemmas.Kinds.{document_target_is}
-use Rattle.smithy_transcode.proofs.ReadContainers.{InContainer}
-use Rattle.smithy_transcode.proofs.ReadStructures.{site_told}
+use Rattle.smithy_schema.proofs.ReadContainers.{InContainer}
+use Rattle.smithy_schema.proofs.ReadStructures.{site_told}
 
 -- ---- where a reader fails
 

@@ -9,7 +9,7 @@ use Rattle.smithy_schema.specs.Fits.{FitsOr, MembersFit}
 use Rattle.smithy_schema.specs.Value.{Value, structure, MemberValues, no_member_values, member_value, nesting, members_nesting}
 use Rattle.smithy_schema.specs.Writing.{Event, Writer, write, run, member_events, begin_structure, end_structure}
 use Rattle.smithy_transcode.specs.Private.Tree.{member_views}
-use Rattle.smithy_transcode.proofs.Lists.{fits_or_null}
+use Rattle.smithy_schema.proofs.WrittenLists.{fits_or_null}
 use Rattle.smithy_schema.specs.Lemmas.Kinds.{structure_kind}
 use Rattle.smithy_schema.proofs.SiteLemmas.{member_site_at, member_fit}
 use Rattle.smithy_schema.proofs.WritingLemmas.{call_made, child_written, child_refused}

@@ -21,7 +21,7 @@ use Rattle.smithy_transcode.specs.declared.wire.Unfit.{Unfit}
 use Rattle.smithy_transcode.specs.declared.wire.TranscodeError.{TranscodeError}
 use Rattle.smithy_transcode.specs.declared.wire.TranscodeError.TheVariants.{InvalidInput, TooDeep, TooWide, NotCarried, Inexpressible, NoMemory}
 use Rattle.smithy_transcode.specs.Wires.{Wire, json, cbor, query, IsReadable, wire_of, unfit_at, unfit}
-use Rattle.smithy_transcode.specs.Causes.{openers, IsWide, IsUncarried}
+use Rattle.smithy_transcode.specs.Causes.{IsTooDeep, IsWide, IsUncarried}
 use Rattle.smithy_transcode.specs.Refusal.{Tells}
 use Rattle.smithy_transcode.specs.Spelling.{Spells, body}
 use Rattle.smithy_transcode.specs.declared.wire.Wire as kept
@@ -32,7 +32,7 @@ use Rattle.smithy_transcode.specs.Transcoding.{Transcodes, SpellNothing, SpellNo
 use Rattle.smithy_transcode.specs.Private.Positions.{CanCount}
 use Rattle.smithy_transcode.proofs.Bodies.{all_held, form_tells}
 use Rattle.smithy_transcode.proofs.Counting.{nodes_are_bounded}
-use Rattle.smithy_transcode.proofs.Lists.{fits_or_null}
+use Rattle.smithy_schema.proofs.WrittenLists.{fits_or_null}
 
 -- at most one value is spelled
 pub one_value : (w : Wire) (t : Table) (root : ℕ) (i : List ℕ) (v u : Value) → Spells w t root i v → Spells w t root i u → v ≡ u
@@ -176,7 +176,7 @@ lacking t root from i to v u spelled lack = record {
 
 -- and so is a refusal of the input
 told : (t : Table) (root : ℕ) (from : Wire) (i : List ℕ) (to : Wire) (e : SerdeError) (refusal : TranscodeError) → Tells e refusal
-    → (IsFault e → SpellNothing from t root i) → (e ≡ serde.InvalidInput → SpellNothingWithoutLimits from t root i) → (e ≡ serde.TooDeep → 128 ≤ openers from i) → (e ≡ serde.TooWide → IsWide from t i) → (e ≡ serde.NotCarried → IsUncarried from t i)
+    → (IsFault e → SpellNothing from t root i) → (e ≡ serde.InvalidInput → SpellNothingWithoutLimits from t root i) → (e ≡ serde.TooDeep → IsTooDeep from t root i) → (e ≡ serde.TooWide → IsWide from t i) → (e ≡ serde.NotCarried → IsUncarried from t i)
     → Transcodes t root from i to (Err refusal)
 told t root from i to serde.InvalidInput refusal tells nothing would deep wide uncarried = rw tells (record {
   answers_ok = tt;
@@ -236,7 +236,7 @@ told t root from i to serde.Unwritable refusal tells nothing would deep wide unc
 told t root from i to serde.Failed refusal tells nothing would deep wide uncarried = absurd tells
 
 pub refused : {A : Type 0} (t : Table) (root : ℕ) (from : Wire) (i : List ℕ) (to : Wire) (r : Result A SerdeError) (e : SerdeError) (refusal : TranscodeError) → r ≡ Err e → Tells e refusal
-    → (IsRefused r → SpellNothing from t root i) → (IsInvalid r → SpellNothingWithoutLimits from t root i) → (IsErrOf r serde.TooDeep → 128 ≤ openers from i) → (IsErrOf r serde.TooWide → IsWide from t i) → (IsErrOf r serde.NotCarried → IsUncarried from t i)
+    → (IsRefused r → SpellNothing from t root i) → (IsInvalid r → SpellNothingWithoutLimits from t root i) → (IsErrOf r serde.TooDeep → IsTooDeep from t root i) → (IsErrOf r serde.TooWide → IsWide from t i) → (IsErrOf r serde.NotCarried → IsUncarried from t i)
     → Transcodes t root from i to (Err refusal)
 refused t root from i to r e refusal is tells nothing would deep wide uncarried =
     told t root from i to e refusal tells (λ fault. nothing (rw is fault)) (λ invalid. would (rw (is, invalid) tt)) (λ depth. deep (is ∙ ap Err depth)) (λ width. wide (is ∙ ap Err width))

@@ -10,7 +10,7 @@ use Rattle.smithy_schema.specs.Writing.{Writer, write, run, events, begin_struct
 use Rattle.smithy_schema.specs.Lemmas.Kinds.{union_kind}
 use Rattle.smithy_schema.proofs.SiteLemmas.{variant_site_at, variant_fit}
 use Rattle.smithy_schema.proofs.WritingLemmas.{call_made, child_written, child_refused}
-use Rattle.smithy_transcode.proofs.Lists.{fits_or_null}
+use Rattle.smithy_schema.proofs.WrittenLists.{fits_or_null}
 use Rattle.smithy_transcode.proofs.Structures.{member_site_is}
 
 -- the value was written, and the union's end comes

@@ -4,8 +4,8 @@ use Rattle.smithy_schema.specs.declared.place.Place.{Place}
 use Rattle.smithy_schema.specs.declared.shape_type.Scalar.{Scalar}
 use Rattle.smithy_schema.specs.declared.shape_type.Scalar.TheVariants.{Timestamp}
 use Rattle.smithy_schema.specs.declared.shape_type.TimestampFormat.{TimestampFormat}
-use Rattle.smithy_schema.specs.Table.{Table, Kind, scalar, document, kind_of, shape_place, IsStructure}
-use Rattle.smithy_schema.specs.Reading.{Cursor, depth, IsInside, Exceeds, ExceedsInside, Uncarried, UncarriedInside}
+use Rattle.smithy_schema.specs.Table.{Table, Kind, scalar, document, kind_of, shape_place, IsStructure, IsInside}
+use Rattle.smithy_schema.specs.Reading.{Cursor, depth, Exceeds, ExceedsInside, Uncarried, UncarriedInside}
 use Rattle.smithy_schema.specs.TimeForms.{form_or}
 use Rattle.smithy_json_codec.specs.Codec.{strict_settings}
 use Rattle.smithy_json_codec.specs.Meaning.{rules_of}

@@ -1,9 +1,9 @@
 -- What the bytes of an input say of why it is refused, wire by wire.
-use Rattle.std.specs.Prelude.{◌≡◌, ◌⊎◌, ℕ, List, Option, Some}
+use Rattle.std.specs.Prelude.{◌≡◌, ◌≤◌, ◌⊎◌, ℕ, List, Option, Some}
 use Rattle.smithy_schema.specs.declared.place.Place.{Place}
 use Rattle.smithy_schema.specs.declared.shape_type.Scalar.{Scalar}
 use Rattle.smithy_schema.specs.declared.shape_type.Scalar.TheVariants.{Timestamp}
-use Rattle.smithy_schema.specs.Table.{Table, Kind, scalar, document, kind_of, place_in}
+use Rattle.smithy_schema.specs.Table.{Table, Kind, scalar, document, kind_of, shape_place, place_in, IsContainer, IsInside}
 use Rattle.smithy_json_codec.specs.Openers.{json_openers}
 use Rattle.smithy_json_codec.specs.Uncarried.{IsUncarriedJson, HoldsOtherNumber}
 use Rattle.smithy_json_codec.specs.Wide.{IsWideJson}
@@ -17,6 +17,22 @@ abbrev pub openers : Wire → List ℕ → ℕ
 openers (json use_json_name) bytes = json_openers bytes
 openers cbor bytes = cbor_openers bytes
 openers (query action version) bytes = 0
+
+-- so many steps inside of the root, each to a member, an element or a map's value, lies the place of one more container
+abbrev pub NestsTo : ℕ → Table → ℕ → Type 0
+NestsTo greatest table root =
+    (q : Place) × (count : ℕ) × (count ≡ greatest) × IsInside table (shape_place root) count q × IsContainer (kind_of table q)
+
+-- In JSON the greatest depth holds for all that stands in a body, whatever the table has. In CBOR it holds for what is entered by the
+-- table alone, and not for what is skipped, or stands where a document is due.
+abbrev pub MayNest : Wire → Table → ℕ → Type 0
+MayNest (json use_json_name) table root = Unit {0}
+MayNest cbor table root = NestsTo 128 table root
+MayNest (query action version) table root = ⊥
+
+-- by the bytes 128 containers may be open at once, and so many may count as depth
+abbrev pub IsTooDeep : Wire → Table → ℕ → List ℕ → Type 0
+IsTooDeep wire table root bytes = (128 ≤ openers wire bytes) × MayNest wire table root
 
 -- some slice of the bytes is, as a big number of this kind, one that leaves the limits of the kind; of forms nothing is read
 abbrev pub HasWide : Wire → Scalar → List ℕ → Type 0

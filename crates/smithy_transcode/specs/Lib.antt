@@ -6,7 +6,7 @@ pub mod Nodes
 pub mod Transcoding
 -- what the types of the program stand for
 pub mod View
--- and what its refusals tell
+-- what the refusals of a transcoding tell
 pub mod Refusal
 -- what a read of a value, and a write of one, say of their answers
 pub mod ReadValue

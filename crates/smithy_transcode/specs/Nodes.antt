@@ -5,7 +5,7 @@ use Rattle.smithy_types.specs.Document.{Document, null, boolean, number, text, a
 use Rattle.smithy_schema.specs.Value.{Value, scalar_value, list, map, structure, union, null_element, document_value, Values, no_values, value, MapEntries, no_map_entries, map_entry, MemberValues, no_member_values, member_value}
 
 abbrev mutual
-  -- a document and each of its parts
+  -- how many documents stand in a document: itself and each of its parts
   pub document_nodes : {N : Type 0} → Document N → ℕ
   document_nodes null = 1
   document_nodes (boolean b) = 1
@@ -14,18 +14,18 @@ abbrev mutual
   document_nodes (array ds) = suc (documents_nodes ds)
   document_nodes (object ps) = suc (properties_nodes ps)
 
-  -- of all elements
+  -- how many documents stand in the elements of an array: themselves and their parts
   pub documents_nodes : {N : Type 0} → Documents N → ℕ
   documents_nodes no_documents = 0
   documents_nodes (item d ds) = document_nodes d + documents_nodes ds
 
-  -- of all properties
+  -- how many documents stand in the properties of an object: themselves and their parts
   pub properties_nodes : {N : Type 0} → Properties N → ℕ
   properties_nodes no_properties = 0
   properties_nodes (property name d ps) = document_nodes d + properties_nodes ps
 
 abbrev mutual
-  -- the value and each one inside it
+  -- how many values stand in a value: itself and each one inside of it, and in a document itself and each of its parts
   pub nodes : Value → ℕ
   nodes (scalar_value x) = 1
   nodes (list vs) = suc (elements_nodes vs)
@@ -35,17 +35,17 @@ abbrev mutual
   nodes null_element = 1
   nodes (document_value d) = document_nodes d
 
-  -- of all elements
+  -- how many values stand in the elements of a list: themselves and all inside of them
   pub elements_nodes : Values → ℕ
   elements_nodes no_values = 0
   elements_nodes (value v vs) = nodes v + elements_nodes vs
 
-  -- of all values in a map
+  -- how many values stand in the values of a map: themselves and all inside of them
   pub entries_nodes : MapEntries → ℕ
   entries_nodes no_map_entries = 0
   entries_nodes (map_entry key v es) = nodes v + entries_nodes es
 
-  -- of all members
+  -- how many values stand in the members of a structure: themselves and all inside of them
   pub members_nodes : MemberValues → ℕ
   members_nodes no_member_values = 0
   members_nodes (member_value n v ms) = nodes v + members_nodes ms

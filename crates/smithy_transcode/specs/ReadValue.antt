@@ -4,10 +4,10 @@ use Rattle.smithy_schema.specs.declared.error.SerdeError.{SerdeError}
 use Rattle.smithy_schema.specs.declared.error.SerdeError.TheVariants.{TooDeep, TooWide, NotCarried, Unsupported, Unwritable, Failed}
 use Rattle.smithy_schema.specs.Site.{Site}
 use Rattle.smithy_schema.specs.Value.{Value}
-use Rattle.smithy_schema.specs.Reading.{Cursor, Relations, Reads, StandsNot, IsRefused, IsInvalid, ReachesDepth, ExceedsInside, UncarriedInside, IsCounted}
+use Rattle.smithy_schema.specs.Reading.{Cursor, Relations, Reads, StandsNot, IsRefused, IsInvalid, ReachesDepth, EndsTooDeep, ExceedsInside, UncarriedInside, IsCounted}
 
--- By the relations w, and by u, those with the limits lifted: a value was due at the site, and what was read of it stands for
--- `view` of it.
+-- What a read says where a value was due at the site and the tree that was read stands for `view` of it: by the relations w, and
+-- by u, the relations with the limits lifted.
 pub record ReadsValue {A : Type 0} (w u : Relations) (is_strict : Type 0) (max : ℕ) (old new : Cursor) (site : Site) (view : A → Value) (result : Result A SerdeError) : Type 0 where
   -- Ok: a value of the place stands here, and the reader is past it
   pub ok : IfOk result (λ x. Reads w old new site.table site.place (view x))
@@ -19,10 +19,12 @@ pub record ReadsValue {A : Type 0} (w u : Relations) (is_strict : Type 0) (max :
   pub readable : IsErrOf result Unwritable → ⊥
   -- `TooDeep`: where the reader failed, the bytes from there on reach the greatest depth
   pub deep : IsErrOf result TooDeep → ReachesDepth w max new
+  -- and as many containers are open as may be where one more is due, or the wire limits the depth of what is skipped, too
+  pub nested : IsErrOf result TooDeep → EndsTooDeep w max old new site.table site.place
   -- `TooWide`: where it failed, a big number leaves the limits of the kind that is due there
   pub wide : IsErrOf result TooWide → ExceedsInside w old new site.table site.place
   -- `NotCarried`: where it failed stands what the kind that is due there can't carry
   pub uncarried : IsErrOf result NotCarried → UncarriedInside w old new site.table site.place
-  -- whatever it answers
+  -- the read keeps the input, whatever it answers
   pub input : new.input ≡ old.input
   pub counted : is_strict → IsCounted w old → IsCounted w new

@@ -5,7 +5,8 @@ use Rattle.smithy_schema.specs.declared.error.SerdeError.TheVariants as serde
 use Rattle.smithy_transcode.specs.declared.wire.TranscodeError.{TranscodeError}
 use Rattle.smithy_transcode.specs.declared.wire.TranscodeError.TheVariants.{InvalidInput, TooDeep, TooWide, NotCarried, NoMemory}
 
--- the same; no transcoding ends with one of the other three
+-- a transcoding tells a refusal of a reader or serializer under the same name, and never ends with `Unsupported`, `Unwritable` or
+-- `Failed`
 abbrev pub Tells : SerdeError → TranscodeError → Type 0
 Tells serde.InvalidInput refusal = refusal ≡ InvalidInput
 Tells serde.TooDeep refusal = refusal ≡ TooDeep

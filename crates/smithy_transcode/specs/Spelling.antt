@@ -21,12 +21,12 @@ Spells (json use_json_name) table root bytes v =
 Spells cbor table root bytes v = cbor_spells strict_cbor table (shape_place root) bytes v
 Spells (query action version) table root bytes v = ⊥
 
--- some bytes spell it in some wire
+-- some bytes spell the value in some wire
 abbrev pub IsSpelled : Table → ℕ → Value → Type 0
 IsSpelled table root v = (wire : Wire) × (bytes : List ℕ) × Spells wire table root bytes v
 
--- that the whole bytes spell it without the limits on depth and on the size of numbers, and with what isn't carried taken for a null: a number of
--- seconds, a number in a document, in CBOR whatever stands for a document
+-- The whole bytes spell the value of the root without the limits on depth and on the size of numbers, and with what isn't carried
+-- taken for a null: a number of seconds, a number in a document, in CBOR whatever stands for a document.
 abbrev pub SpellsWithoutLimits : Wire → Table → ℕ → List ℕ → Value → Type 0
 SpellsWithoutLimits (json use_json_name) table root bytes v =
     json_spells (without_limits (strict_settings use_json_name)) table (shape_place root) bytes v

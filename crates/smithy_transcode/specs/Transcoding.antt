@@ -14,14 +14,14 @@ use Rattle.smithy_transcode.specs.declared.wire.TranscodeError.{TranscodeError}
 use Rattle.smithy_transcode.specs.declared.wire.TranscodeError.TheVariants.{InvalidInput, TooDeep, TooWide, NotCarried, Inexpressible, NoMemory}
 use Rattle.smithy_transcode.specs.Wires.{Wire, json, cbor, query, IsReadable, unfit}
 use Rattle.smithy_transcode.specs.Spelling.{Spells, IsSpelled, SpellsWithoutLimits, body}
-use Rattle.smithy_transcode.specs.Causes.{openers, IsWide, IsUncarried}
+use Rattle.smithy_transcode.specs.Causes.{IsTooDeep, IsWide, IsUncarried}
 use Rattle.smithy_transcode.specs.Nodes.{nodes}
 
 -- the bytes spell no value of the root
 abbrev pub SpellNothing : Wire → Table → ℕ → List ℕ → Type 0
 SpellNothing wire table root bytes = (v : Value) → Spells wire table root bytes v → ⊥
 
--- they spell none without the limits either
+-- the bytes spell no value of the root without the limits either
 abbrev pub SpellNothingWithoutLimits : Wire → Table → ℕ → List ℕ → Type 0
 SpellNothingWithoutLimits wire table root bytes = (v : Value) → SpellsWithoutLimits wire table root bytes v → ⊥
 
@@ -47,13 +47,13 @@ TellsAgain (query action version) table root bytes v =
 abbrev pub Answer : Type 0
 Answer = Result (Vec ℕ Global) TranscodeError
 
--- these bytes, or want of memory
+-- the answer is these bytes, or want of memory
 abbrev pub GivesOrNoMemory : List ℕ → Answer → Type 0
 GivesOrNoMemory bytes (Ok out) = out.items ≡ bytes
 GivesOrNoMemory bytes (Err NoMemory) = Unit {0}
 GivesOrNoMemory bytes (Err _) = ⊥
 
--- this want of the wire, or want of memory
+-- the answer is this want of the wire, or want of memory
 abbrev pub LacksOrNoMemory : Unfit → Answer → Type 0
 LacksOrNoMemory u (Ok out) = ⊥
 LacksOrNoMemory u (Err (Inexpressible w)) = w ≡ u
@@ -62,31 +62,31 @@ LacksOrNoMemory u (Err _) = ⊥
 
 -- What an answer says, where the root is a structure of the table.
 pub record Transcodes (table : Table) (root : ℕ) (from : Wire) (input : List ℕ) (to : Wire) (answer : Answer) : Type 0 where
-  -- Ok comes only where the whole input spells a value that the wanted wire can express, and the output is its body,
-  -- which tells that value again
+  -- Ok comes only where the whole input spells a value that the wanted wire can express, and the output is this value's body,
+  -- which tells the value again.
   pub answers_ok : IfOk answer
       (λ out. (v : Value) × Spells from table root input v × (unfit to table root v ≡ None)
       × (out.items ≡ body to table root v) × TellsAgain to table root out.items v)
-  -- where the input spells such a value, its body is the answer, want of memory aside
+  -- where the input spells a value that the wanted wire can express, the body of this value is the answer, want of memory aside
   pub spelled_is_ok : (v : Value) → Spells from table root input v → unfit to table root v ≡ None
       → GivesOrNoMemory (body to table root v) answer
-  -- where it spells another, the answer says why the wire can't express it, want of memory aside
+  -- where the input spells a value that the wanted wire can't express, the answer says why, want of memory aside
   pub unfit_is_refused : (v : Value) (u : Unfit) → Spells from table root input v → unfit to table root v ≡ Some u
       → LacksOrNoMemory u answer
-  -- and says so nowhere else
+  -- `Inexpressible` comes only where the input spells a value of the root that the wanted wire can't express, and says why
   pub answers_inexpressible : (u : Unfit) → IsErrOf answer (Inexpressible u)
       → (v : Value) × Spells from table root input v × (unfit to table root v ≡ Some u)
   -- each refusal of an input comes only where it spells nothing
   pub answers_invalid_input : IsErrOf answer InvalidInput → SpellNothing from table root input
-  -- `InvalidInput` also only where it wouldn't spell one without the limits on depth, on the size of numbers and on what is
-  -- carried
+  -- `InvalidInput` comes only where the input wouldn't spell a value either without the limits on depth, on the size of numbers
+  -- and on what is carried
   pub answers_invalid_without_limits : IsErrOf answer InvalidInput → SpellNothingWithoutLimits from table root input
-  -- and `TooDeep` only where 128 containers are open at once, or more
-  pub answers_too_deep : IsErrOf answer TooDeep
-      → SpellNothing from table root input × (128 ≤ openers from input)
-  -- and `TooWide` only where a big number leaves the limits of its kind
+  -- and `TooDeep` only where 128 containers may be open at once, or more
+  pub answers_too_deep : IsErrOf answer TooDeep → SpellNothing from table root input × IsTooDeep from table root input
+  -- `TooWide` comes only where the input spells nothing, and has a big number that leaves the limits of its kind
   pub answers_too_wide : IsErrOf answer TooWide → SpellNothing from table root input × IsWide from table input
-  -- and `NotCarried` only where a number of seconds isn't carried as an instant, or a part of a document
+  -- `NotCarried` comes only where the input spells nothing, and has a number of seconds that no instant carries, or a part that
+  -- no document carries
   pub answers_not_carried : IsErrOf answer NotCarried → SpellNothing from table root input × IsUncarried from table input
   -- An output in JSON or CBOR is the body of what any input spells exactly where both spell equal values, so two outputs are
   -- equal exactly where the values are.

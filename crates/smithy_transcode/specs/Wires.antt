@@ -47,8 +47,8 @@ holds (query action version) = query_holds
 abbrev pub holds_document : Site → Value → Bool
 holds_document site v = not (scalars_pass no_documents site v)
 
--- Why the wire can't express the value of a site, where it can't: a document stands in it and the wire has none, or else a
--- null element in the same way, or else an instant that the wire doesn't hold at its place.
+-- Why the wire can't express the value of a site, where it can't: a document stands in it and the wire has none, or else a null
+-- element stands in it and the wire has none, or else an instant that the wire doesn't hold at its place.
 abbrev pub unfit_at : Wire → Site → Value → Option Unfit
 unfit_at wire site v =
     if not (holds wire).documents && holds_document site v then Some Document
@@ -56,6 +56,7 @@ unfit_at wire site v =
     else if scalars_pass (holds wire) site v then None
     else Some Instant
 
--- the same of a value of the root
+-- Why the wire can't express a value of the root, where it can't: a document stands in it and the wire has none, or else a null
+-- element stands in it and the wire has none, or else an instant that the wire doesn't hold at its place.
 abbrev pub unfit : Wire → Table → ℕ → Value → Option Unfit
 unfit wire table root v = unfit_at wire (shape_site table root) v

@@ -10,10 +10,10 @@ use std::alloc::Global;
 use std::collections::BTreeMap;
 use std::mem;
 
-/// Entries by their keys: in a vector, or in a map once many came out of order.
+/// Entries by their keys: in a vector, or in a map once one came out of order behind many others.
 #[derive(Drop)]
 pub enum CompactEntries<K: Ord, V> {
-    /// In order.
+    /// In a vector, in the order of their keys.
     Sorted(SortedEntries<K, V>),
     /// In a map, which takes them in any order without moving the others.
     Map(BTreeMap<K, V>),
@@ -43,7 +43,7 @@ impl<K: Ord + Drop, V: Drop> CompactEntries<K, V> {
         self.set_in_map(alloc, key, value)
     }
 
-    // The same in a map.
+    // Puts an entry at its place in a map. Entries that stand in a vector are moved to a map first.
     #[inline(never)]
     fn set_in_map(&mut self, alloc: Global, key: K, value: V) -> Result<(), SerdeError>
         ensures ok { OnOk result (kept_entries self.new ≡ insert_entry K.cmp (kept_entries self.old) key value) }

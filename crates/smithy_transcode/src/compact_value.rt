@@ -12,14 +12,15 @@ use smithy_types::{Blob, DateTime, Document};
 use std::alloc::Global;
 use std::collections::BTreeMap;
 
-/// A value of the shapes that are read.
+/// A value of any shape, as a tree that takes little memory: 32 bytes for each value, beside its texts, bytes and containers.
+/// What is rare is in a box.
 #[derive(Debug, Drop)]
 pub enum CompactValue {
     /// False or true.
     Boolean(bool),
-    /// A whole number of 64 bits.
+    /// A whole number that a signed integer of 64 bits holds.
     Whole(i64),
-    /// Another whole number. What is rare is behind a box, so that values take 32 bytes.
+    /// A whole number that no signed integer of 64 bits holds.
     Large(Box<i128>),
     /// A text.
     Text(String),
@@ -35,23 +36,24 @@ pub enum CompactValue {
     Wholes(Vec<i64>),
     /// The entries of a map, in the order of their keys.
     Map(Vec<(String, CompactValue)>),
-    /// The same, where many came out of order.
+    /// The entries of a map, in the order of their keys, where one came out of order behind many others.
     TreeMap(BTreeMap<String, CompactValue>),
     /// The members of a structure, in the order of their positions.
     Structure(Vec<(u32, CompactValue)>),
-    /// The same, where many came out of order.
+    /// The members of a structure, in the order of their positions, where one came out of order behind many others.
     StructureMap(BTreeMap<u32, CompactValue>),
-    /// The member of a union by its position, and its value, which is a text.
+    /// The member of a union by its position, from 0, and its value, which is a text.
     UnionText(u32, String),
-    /// The same of a list.
+    /// The member of a union by its position, from 0, and the elements of its value, which is a list.
     UnionList(u32, Vec<CompactValue>),
-    /// The same of a list of whole numbers.
+    /// The member of a union by its position, from 0, and the elements of its value, which is a list of whole numbers.
     UnionWholes(u32, Vec<i64>),
-    /// The same of a map.
+    /// The member of a union by its position, from 0, and the entries of its value, which is a map, in the order of their keys.
     UnionMap(u32, Vec<(String, CompactValue)>),
-    /// The same of a structure.
+    /// The member of a union by its position, from 0, and the members of its value, which is a structure, in the order of their
+    /// positions.
     UnionStructure(u32, Vec<(u32, CompactValue)>),
-    /// The same of any other value, which needs a box.
+    /// The member of a union by its position, from 0, and its value in any other form, in a box.
     Union(u32, Box<CompactValue>),
     /// A null among the elements of a sparse list or the values of a sparse map.
     Null,

@@ -8,14 +8,14 @@ use std::collections::BTreeMap;
 /// Entries in the order of their keys. A member's key is its position.
 #[derive(Drop)]
 pub enum Entries<'v, K: Ord, T> {
-    /// Those of a map.
+    /// The entries of a map of the library.
     Map(&'v BTreeMap<K, T>),
-    /// Those of a vector, where they stand in order.
+    /// The entries of a vector, in which they stand in the order of their keys.
     Slice(&'v [(K, T)]),
 }
 
 impl<'v, K: Ord, T> Entries<'v, K, T> {
-    /// How many there are.
+    /// How many entries there are.
     pub fn len(&self) -> usize
         ensures { result ≡ length (entries self.now) }
     {
@@ -25,7 +25,7 @@ impl<'v, K: Ord, T> Entries<'v, K, T> {
         }
     }
 
-    /// One after another.
+    /// The entries one after another.
     pub fn iter(&self) -> EntryIter<'v, K, T>
         ensures { entries_left result ≡ entries self.now }
     {

@@ -7,14 +7,14 @@ use std::collections::btree_map::Iter;
 /// The entries that are left, in the order of their keys. A member's key is its position.
 #[derive(Drop)]
 pub enum EntryIter<'v, K, T> {
-    /// Those of a map.
+    /// The entries that are left of a map of the library.
     Map(Iter<'v, K, T>),
-    /// Those of a vector, where they stand in order.
+    /// The entries that are left of a vector, in which they stand in the order of their keys.
     Slice(&'v [(K, T)]),
 }
 
 impl<'v, K, T> EntryIter<'v, K, T> {
-    /// The next one.
+    /// The next entry, as its key and its value.
     pub fn next_entry(&mut self) -> Option<(&'v K, &'v T)>
         ensures { MatchOption result (entries_left self.old ≡ []) (λ e. entries_left self.old ≡ (e.0.now, e.1.now) ∷ entries_left self.new) }
     {

@@ -18,7 +18,8 @@ pub(crate) fn holds_null<T: Tree>(value: &T) -> bool
     part_holds_null::<T>(&value.part())
 }
 
-// The same of the root of a tree.
+// A null element stands in the value that has this part at its root. Where none does, each of its lists and maps has fewer than
+// 2^64 parts.
 #[cycle(nulls)]
 fn part_holds_null<T: Tree>(part: &Part<'_, T>) -> bool
     ensures null { result ≡ null_in (part_view T.view part.now) }
@@ -48,7 +49,7 @@ fn count<T>(elements: &[T]) -> usize
     elements.len()
 }
 
-// Whole numbers hold none.
+// No null stands in a list of whole numbers, and it has fewer than 2^64 elements.
 fn wholes_hold_null(numbers: &[i64]) -> bool
     ensures null { result ≡ null_in_elements (values_of (whole_values numbers.now)) }
     ensures count { count_of (values_of (whole_values numbers.now)) < 18446744073709551616 }

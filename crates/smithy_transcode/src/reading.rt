@@ -24,7 +24,7 @@ pub fn read_value<D: ShapeDeserializer>(
     read_tree::<Value, D>(alloc, source, schema)
 }
 
-// The same into any tree.
+// Reads the value of the schema that is due into any tree, whatever the wire.
 #[cycle(read)]
 #[inline(always)]
 pub(crate) fn read_tree<T: Tree, D: ShapeDeserializer>(
@@ -55,8 +55,8 @@ pub(crate) fn read_tree<T: Tree, D: ShapeDeserializer>(
     }
 }
 
-// The same of a kind that few tables have. What these reads hold on the stack stands in a call of its own, so that the calls for
-// containers need no room for it.
+// Reads the value of the schema that is due, where it is of a kind that few tables have: a big number, an instant or a document.
+// What these reads hold on the stack stands in a call of its own, so that the calls for containers need no room for it.
 #[inline(never)]
 fn read_rare<T: Tree, D: ShapeDeserializer>(
     alloc: Global,

@@ -75,7 +75,7 @@ impl<K: Ord + Drop, V: Drop> SortedEntries<K, V> {
         self.entries
     }
 
-    /// A map of the same.
+    /// A map of these entries.
     pub fn into_map(self, alloc: Global) -> Result<BTreeMap<K, V>, SerdeError>
         ensures ok { IfOk result (λ m. m.entries ≡ self.entries.items) }
         ensures err { IfErr result (λ e. e ≡ NoMemory) }

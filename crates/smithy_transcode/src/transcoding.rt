@@ -4,7 +4,7 @@ ghost use Rattle.smithy_schema.specs.Accepted.{IsAccepted};
 ghost use Rattle.smithy_schema.specs.Fits.{Fits};
 ghost use Rattle.smithy_schema.specs.Reading.{IsRefused, IsInvalid};
 ghost use Rattle.smithy_schema.specs.Table.{IsStructure, kind_of, shape_place};
-ghost use Rattle.smithy_transcode.specs.Causes.{openers, IsWide, IsUncarried};
+ghost use Rattle.smithy_transcode.specs.Causes.{IsTooDeep, IsWide, IsUncarried};
 ghost use Rattle.smithy_transcode.specs.Spelling.{Spells, body};
 ghost use Rattle.smithy_transcode.specs.Transcoding.{Transcodes, SpellNothing, SpellNothingWithoutLimits};
 ghost use Rattle.smithy_transcode.specs.Wires.{wire_of, unfit as unfit_for};
@@ -64,7 +64,7 @@ fn read_body(
     ensures ok { IfOk result (λ v. Spells (wire_of from.now) shapes.now root.0 input.now (view v)) }
     ensures refused { IsRefused result → SpellNothing (wire_of from.now) shapes.now root.0 input.now }
     ensures would { IsInvalid result → SpellNothingWithoutLimits (wire_of from.now) shapes.now root.0 input.now }
-    ensures deep { IsErrOf result SerdeError.TooDeep → 128 ≤ openers (wire_of from.now) input.now }
+    ensures deep { IsErrOf result SerdeError.TooDeep → IsTooDeep (wire_of from.now) shapes.now root.0 input.now }
     ensures wide { IsErrOf result SerdeError.TooWide → IsWide (wire_of from.now) shapes.now input.now }
     ensures uncarried { IsErrOf result SerdeError.NotCarried → IsUncarried (wire_of from.now) shapes.now input.now }
     ensures sound { IsErrOf result SerdeError.Failed → ⊥ }

@@ -144,7 +144,7 @@ pub trait Tree: Drop + Sized {
     fn no_entries(alloc: Global) -> Self::Entries
         ensures { view_entries result ≡ no_map_entries };
 
-    /// The last value of a key counts.
+    /// Puts an entry at its key. The last value of a key counts.
     fn set_entry(
         alloc: Global,
         entries: &mut Self::Entries,
@@ -160,7 +160,7 @@ pub trait Tree: Drop + Sized {
     fn no_members(alloc: Global) -> Self::Members
         ensures { view_members result ≡ no_member_values };
 
-    /// The last value of a member counts.
+    /// Puts a member at its position, from 0. The last value of a member counts.
     fn set_member(
         alloc: Global,
         members: &mut Self::Members,

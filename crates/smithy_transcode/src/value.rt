@@ -13,7 +13,7 @@ use std::collections::BTreeMap;
 pub enum Value {
     /// False or true.
     Boolean(bool),
-    /// A whole number of any width.
+    /// A whole number of any integer kind, big integers too, from -2^127 to 2^127-1.
     Whole(i128),
     /// A text.
     Text(String),
@@ -22,7 +22,7 @@ pub enum Value {
     /// A mantissa, times ten to an exponent, as they were given.
     Decimal(i128, i64),
     /// An instant.
-    Timestamp(DateTime),
+    Instant(DateTime),
     /// The elements of a list, in their order.
     List(Vec<Value>),
     /// The values of a map by their keys.
@@ -77,7 +77,7 @@ impl Tree for Value {
     }
 
     fn timestamp(value: DateTime) -> Value {
-        Value::Timestamp(value)
+        Value::Instant(value)
     }
 
     fn null() -> Value {
@@ -153,7 +153,7 @@ impl Tree for Value {
             Value::Text(content) => Part::Text(content.as_str()),
             Value::Bytes(content) => Part::Bytes(content.as_slice()),
             Value::Decimal(mantissa, exponent) => Part::Decimal(*mantissa, *exponent),
-            Value::Timestamp(value) => Part::Timestamp(*value),
+            Value::Instant(value) => Part::Timestamp(*value),
             Value::List(elements) => Part::List(elements.as_slice()),
             Value::Map(entries) => Part::Map(Entries::Map(entries)),
             Value::Structure(members) => Part::Structure(Entries::Map(members)),

@@ -15,25 +15,25 @@ use crate::wire::Wire;
 use smithy_schema::{Schema, TimestampFormat};
 use smithy_types::{DateTime, Format};
 
-/// Which instants pass.
+/// Which instants pass a test of values.
 #[derive(Clone, Copy)]
 pub(crate) enum InstantTest {
-    /// Each.
+    /// Every instant passes.
     Any,
-    /// Those of whole seconds.
+    /// Every instant of whole seconds passes.
     WholeSeconds,
-    /// Those that the form of their place holds, or this one where the place has none.
+    /// Every instant passes that the time form of its place holds, or this form where the place has none.
     InForm(TimestampFormat),
 }
 
-/// Which values pass: those of which each instant does, and where documents don't, no part is a document.
+/// A test of values. A value passes where each of its instants does, and where `documents` is false no part of it is a document.
 #[derive(Clone, Copy)]
 pub(crate) struct ValueTest {
     pub instants: InstantTest,
     pub documents: bool,
 }
 
-// What the wire writes for a value that passes stands for exactly it.
+// The test of a wire: what the wire writes for a value that passes stands for exactly that value.
 pub(crate) fn test_of(wire: &Wire) -> ValueTest
     ensures { test_view result ≡ holds (wire_of wire.now) }
 {
@@ -63,7 +63,7 @@ fn format_at(schema: &Schema<'_>, default: TimestampFormat) -> Format
     schema.timestamp_format().unwrap_or(default).format()
 }
 
-// An instant at the place of the schema passes.
+// Whether an instant at the place of the schema passes the test.
 fn instant_passes(schema: &Schema<'_>, value: DateTime, test: InstantTest) -> bool
     ensures { result ≡ passes_as test (site_of schema.now).place.time (instant value) }
 {
@@ -74,7 +74,7 @@ fn instant_passes(schema: &Schema<'_>, value: DateTime, test: InstantTest) -> bo
     }
 }
 
-// A value of the schema's place, or a null element, passes.
+// Whether a value of the schema's place, or a null element, passes the test.
 pub(crate) fn value_passes<T: Tree>(schema: &Schema<'_>, value: &T, test: ValueTest) -> bool
     requires fits { FitsOr schema.now.shapes.now schema.now.place true (T.view value.now) }
     ensures { result ≡ scalars_pass (test_view test) (site_of schema.now) (T.view value.now) }
@@ -82,7 +82,7 @@ pub(crate) fn value_passes<T: Tree>(schema: &Schema<'_>, value: &T, test: ValueT
     part_passes::<T>(schema, &value.part(), test)
 }
 
-// The same of the root of a tree.
+// Whether the value that has this part at its root passes the test: a value of the schema's place, or a null element.
 #[cycle(passing)]
 #[inline(always)]
 fn part_passes<T: Tree>(schema: &Schema<'_>, part: &Part<'_, T>, test: ValueTest) -> bool

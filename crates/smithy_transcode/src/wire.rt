@@ -14,9 +14,9 @@ pub enum Wire {
     Cbor,
     /// A form of AWS Query, which is written and not read.
     Query {
-        /// The value of its pair `Action`.
+        /// The value of the form's pair `Action`.
         action: String,
-        /// The value of its pair `Version`.
+        /// The value of the form's pair `Version`.
         version: String,
     },
 }

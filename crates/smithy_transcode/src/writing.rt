@@ -29,7 +29,7 @@ pub fn write_value<S: ShapeSerializer>(
     write_part::<Value, S>(alloc, sink, schema, &value.part())
 }
 
-// The same from the root of any tree.
+// Writes the value that has this part at its root, in any tree: a value of the schema's place, or a null element.
 #[cycle(write)]
 #[inline(always)]
 pub(crate) fn write_part<T: Tree, S: ShapeSerializer>(
@@ -108,7 +108,7 @@ fn write_list<T: Tree, S: ShapeSerializer>(
     sink.end_list()
 }
 
-// The same of a list of whole numbers.
+// Writes a list whose elements are all whole numbers of 64 bits.
 #[inline(never)]
 fn write_wholes<S: ShapeSerializer>(
     sink: &mut S,

@@ -70,7 +70,7 @@ abbrev mutual
   map_properties f no_properties = no_properties
   map_properties f (property name d ps) = property name (map_numbers f d) (map_properties f ps)
 
--- As a value a document has of each number its whole number alone, whichever variant has it.
+-- the document as a value, which has of each number its whole number alone, whichever variant has it
 abbrev pub whole_document : Document Number → Document ℤ
 whole_document d = map_numbers whole_number d
 

@@ -48,7 +48,7 @@ impl Blob {
         self.bytes.as_slice()
     }
 
-    /// The same bytes, in memory of their own.
+    /// A copy of the bytes, in memory of its own.
     pub fn clone_in(&self, alloc: Global) -> Result<Blob, AllocError>
         ensures { IfOk result (λ b. b ≡ self.now) }
     {

@@ -119,7 +119,7 @@ impl Room {
         }
     }
 
-    // The bytes from there on.
+    // The bytes of the room from an offset on.
     fn bytes_from(&self, start: usize) -> &[u8]
         requires { start ≤ 40 }
         ensures { result.now ≡ drop start self.now.bytes }

@@ -24,6 +24,7 @@ module _ (w u : Relations) (is_strict : Type 0) (max : ℕ) (site : Site) where
   failed_before old new stays within failed = record {
     conduct = fails_again old new stays within failed;
     deep = λ h. cc;
+    limited = λ h. cc;
     narrow = λ h. cc;
     uncarried = λ h. cc;
     undue = λ h. tt;
@@ -39,6 +40,7 @@ module _ (w u : Relations) (is_strict : Type 0) (max : ℕ) (site : Site) where
   refuses old new stays within sound none = record {
     conduct = conducts old new InvalidInput stays within sound (λ h. cc) (λ h. cc) (λ h. cc);
     deep = λ h. cc;
+    limited = λ h. cc;
     narrow = λ h. cc;
     uncarried = λ h. cc;
     undue = λ h. tt;
@@ -53,6 +55,7 @@ module _ (w u : Relations) (is_strict : Type 0) (max : ℕ) (site : Site) where
   runs_out old new stays within sound = record {
     conduct = conducts old new NoMemory stays within sound (λ h. cc) (λ h. cc) (λ h. cc);
     deep = λ h. cc;
+    limited = λ h. cc;
     narrow = λ h. cc;
     uncarried = λ h. cc;
     undue = λ h. tt;
@@ -64,10 +67,11 @@ module _ (w u : Relations) (is_strict : Type 0) (max : ℕ) (site : Site) where
 
   -- a document that nests too deep
   pub is_too_deep : (old new : Cursor) → new ≡ failed_at old → old.at ≤ length old.input → old.failed ≡ false → old.due ≡ true
-      → ReachesDepth w max old → StandsNot w old site.table at → Says old new (Err TooDeep)
-  is_too_deep old new stays within sound due reaches none = record {
+      → ReachesDepth w max old → w.limits_skips ≡ true → StandsNot w old site.table at → Says old new (Err TooDeep)
+  is_too_deep old new stays within sound due reaches limits none = record {
     conduct = conducts old new TooDeep stays within sound (λ h. cc) (λ h. cc) (λ h. cc);
     deep = λ h. reaches;
+    limited = λ h. limits;
     narrow = λ h. cc;
     uncarried = λ h. cc;
     undue = λ h. absurd (let both : true ≡ false = sym due ∙ h in cc);
@@ -83,6 +87,7 @@ module _ (w u : Relations) (is_strict : Type 0) (max : ℕ) (site : Site) where
   carries_not old new stays within sound due there none = record {
     conduct = conducts old new NotCarried stays within sound (λ h. cc) (λ h. cc) (λ h. cc);
     deep = λ h. cc;
+    limited = λ h. cc;
     narrow = λ h. cc;
     uncarried = λ h. there;
     undue = λ h. absurd (let both : true ≡ false = sym due ∙ h in cc);
@@ -117,6 +122,7 @@ module _ (w u : Relations) (is_strict : Type 0) (max : ℕ) (site : Site) where
         rw passed (record {
           conduct = goes_on old (passed_to old e) x sound ends.0 ends.1;
           deep = λ h. cc;
+          limited = λ h. cc;
           narrow = λ h. cc;
           uncarried = λ h. cc;
           undue = λ h. absurd (let both : true ≡ false = sym due ∙ h in cc);
@@ -130,19 +136,19 @@ module _ (w u : Relations) (is_strict : Type 0) (max : ℕ) (site : Site) where
     pub takes_document : (new : Cursor) (found : Result (Document × ℕ) SerdeError) (result : Result Document SerdeError) → IfOk found (λ r. Stands r.0 r.1)
         → IfErr found (λ e. (e ≡ InvalidInput) ⊎ (e ≡ TooDeep) ⊎ (e ≡ NotCarried) ⊎ (e ≡ NoMemory))
         → (IsRefused found → StandsNot w old site.table at) → (IsInvalid found → StandsNot u old site.table at)
-        → (IsErrOf found TooDeep → ReachesDepth w max old) → (IsErrOf found NotCarried → Uncarried w old site.table at)
+        → (IsErrOf found TooDeep → ReachesDepth w max old) → (IsErrOf found TooDeep → w.limits_skips ≡ true) → (IsErrOf found NotCarried → Uncarried w old site.table at)
         → IfOk result (λ x. IfOk found (λ r. (r.0 ≡ x) × (new ≡ passed_to old r.1))) → (IsOk result → IsOk found)
         → OnErr result (new ≡ failed_at old) → IfErr result (λ e. found ≡ Err e) → Says old new result
-    takes_document new (Ok r) (Ok x) stands kind none would deep cause taken some stays error = subst (λ y. Says old new (Ok y)) taken.0 (reads new r.0 r.1 stands taken.1)
-    takes_document new (Err e) (Ok x) stands kind none would deep cause taken some stays error = absurd (let no' = some refl in cc)
-    takes_document new (Ok r) (Err e) stands kind none would deep cause taken some stays error = absurd (let no' : ◌≡◌ {A = Result (Document × ℕ) SerdeError} (Ok r) (Err e) = error in cc)
-    takes_document new (Err g) (Err e) stands kind none would deep cause taken some stays error = by kind
+    takes_document new (Ok r) (Ok x) stands kind none would deep limits cause taken some stays error = subst (λ y. Says old new (Ok y)) taken.0 (reads new r.0 r.1 stands taken.1)
+    takes_document new (Err e) (Ok x) stands kind none would deep limits cause taken some stays error = absurd (let no' = some refl in cc)
+    takes_document new (Ok r) (Err e) stands kind none would deep limits cause taken some stays error = absurd (let no' : ◌≡◌ {A = Result (Document × ℕ) SerdeError} (Ok r) (Err e) = error in cc)
+    takes_document new (Err g) (Err e) stands kind none would deep limits cause taken some stays error = by kind
       where
         same : g ≡ e
         same = cc
 
         by : (g ≡ InvalidInput) ⊎ (g ≡ TooDeep) ⊎ (g ≡ NotCarried) ⊎ (g ≡ NoMemory) → Says old new (Err e)
         by (inl is) = rw (← same, is) (refuses old new stays within sound (λ due. (none (rw is tt), would (rw is tt))))
-        by (inr (inl is)) = rw (← same, is) (is_too_deep old new stays within sound due (deep (ap Err is)) (none (rw is tt)))
+        by (inr (inl is)) = rw (← same, is) (is_too_deep old new stays within sound due (deep (ap Err is)) (limits (ap Err is)) (none (rw is tt)))
         by (inr (inr (inl is))) = rw (← same, is) (carries_not old new stays within sound due (cause (ap Err is)) (none (rw is tt)))
         by (inr (inr (inr is))) = rw (← same, is) (runs_out old new stays within sound)

@@ -33,12 +33,12 @@ module _ {L : Type 0} (r : Rules L) (says : L → Answer (Document Number)) wher
 abbrev pub held_document : {L : Type 0} → Rules L → ℕ → Node L → Option (Document Number)
 held_document r depth x = option_and_then (λ says. document_of r says depth x) r.documents
 
--- whatever stands there is a null, where the limits are lifted
+-- whatever lies there means a null, where the limits are lifted
 abbrev pub lifted_null : {L : Type 0} → Rules L → Node L → Option Value
 lifted_null r missing = None
 lifted_null r _ = where_lifted r.limits null_element
 
--- by what a scalar is as a document, if the wire carries documents
+-- what a node means as a document, by what a scalar is as one, if the wire carries documents
 abbrev pub document_by : {L : Type 0} → Rules L → Option (L → Answer (Document Number)) → ℕ → Node L → Option Value
 document_by r None depth x = lifted_null r x
 document_by r (Some says) depth x =

@@ -34,7 +34,7 @@ pub map_drops_none : {L : Type 0} (r : Rules L) (k : Kind) → IsMap k → (n : 
 map_drops_none r (map_of m) h n = refl
 map_drops_none r _ h n = absurd h
 
--- and there are no marks in them
+-- there are no marks in lists and maps
 pub list_has_no_mark : {L : Type 0} (r : Rules L) (k : Kind) → IsList k → (text : Option (List ℕ)) → is_mark r k text ≡ false
 list_has_no_mark r (list_of l) h text = refl
 list_has_no_mark r _ h text = absurd h
@@ -150,7 +150,7 @@ module _ {L : Type 0} (w : Frames L) (r : Rules L) (i : List ℕ) (t : Table) (p
       },
     )
 
-    -- the end behind dropped entries closes it
+    -- the end behind dropped entries closes the structure or the union
     pub close_at_end : (count b : ℕ) (m : Mark) (at : ℕ) (j : Mark) (e : ℕ) → DropsAll w r (kind_of t p) as_object count i d b m at j
         → w.ends as_object i at j e → w.follows i d e → (relations w r).closes i t p d b m e
     close_at_end count b m at j e drops ends follows =
@@ -177,7 +177,7 @@ module _ {L : Type 0} (w : Frames L) (r : Rules L) (i : List ℕ) (t : Table) (p
     pub list_drops_nothing : (f : Form) (b : ℕ) (m : Mark) (e : ℕ) (n : Mark) → Drops w r (kind_of t p) f i d b m e n → ⊥
     list_drops_nothing = drops_nothing (list_drops_none r (kind_of t p) is_list) (list_has_no_mark r (kind_of t p) is_list)
 
-    -- another element is a step
+    -- another element of a list is a step
     pub step_to_element : (b : ℕ) (m : Mark) (key : Option L) (c : ℕ) (n : Mark) → w.entry as_array i b m key c n → (relations w r).steps i t p d b m None c n
     step_to_element b m key c n entry = (
       as_array,
@@ -196,7 +196,7 @@ module _ {L : Type 0} (w : Frames L) (r : Rules L) (i : List ℕ) (t : Table) (p
       },
     )
 
-    -- and the end closes it
+    -- the end of a list closes it
     pub close_list : (b : ℕ) (m : Mark) (e : ℕ) → w.ends as_array i b m e → w.follows i d e → (relations w r).closes i t p d b m e
     close_list b m e ends follows = inl (as_array, list_is_array (kind_of t p) is_list, (0, b, m, (refl, refl), ends), follows)
 
@@ -205,7 +205,7 @@ module _ {L : Type 0} (w : Frames L) (r : Rules L) (i : List ℕ) (t : Table) (p
     pub map_drops_nothing : (f : Form) (b : ℕ) (m : Mark) (e : ℕ) (n : Mark) → Drops w r (kind_of t p) f i d b m e n → ⊥
     map_drops_nothing = drops_nothing (map_drops_none r (kind_of t p) is_map) (map_has_no_mark r (kind_of t p) is_map)
 
-    -- another entry whose key is a text is a step
+    -- another entry of a map, whose key is a text, is a step
     pub step_to_key : (b : ℕ) (m : Mark) (key : Option L) (text : Option (List ℕ)) (c : ℕ) (n : Mark) → w.entry as_object i b m key c n
         → key_text r as_object key ≡ text → IsTold as_object text → (relations w r).steps i t p d b m text c n
     step_to_key b m key text c n entry names told = (
@@ -225,6 +225,6 @@ module _ {L : Type 0} (w : Frames L) (r : Rules L) (i : List ℕ) (t : Table) (p
       },
     )
 
-    -- and the end closes it
+    -- the end of a map closes it
     pub close_map : (b : ℕ) (m : Mark) (e : ℕ) → w.ends as_object i b m e → w.follows i d e → (relations w r).closes i t p d b m e
     close_map b m e ends follows = inl (as_object, map_is_object (kind_of t p) is_map, (0, b, m, (refl, refl), ends), follows)

@@ -66,7 +66,7 @@ pub record Drops {L : Type 0} (w : Frames L) (r : Rules L) (k : Kind) (f : Form)
   pub lies : Lies w i d child at e
   pub dropped : is_dropped r k d (key_text r f key) child ≡ true
 
--- so many entries are dropped, one after another
+-- so many entries are dropped from b on, one after another
 abbrev pub DropsAll : {L : Type 0} → Frames L → Rules L → Kind → Form → ℕ → List ℕ → ℕ → ℕ → Mark → ℕ → Mark → Type 0
 DropsAll w r k f zero i d b m e n = (b ≡ e) × (m ≡ n)
 DropsAll w r k f (suc count) i d b m e n =
@@ -133,4 +133,5 @@ relations {L = L} w r = record {
   left = w.left;
   begins_null = w.begins_null;
   openers = w.openers;
+  limits_skips = r.skips_count;
 }

@@ -14,7 +14,7 @@ abbrev pub leaf_meaning : {L : Type 0} → Rules L → Kind → Option Timestamp
 leaf_meaning r (scalar s) time x = settled r.limits null_element (r.says s time x)
 leaf_meaning r _ time x = None
 
--- as the kind, the scalar is a big number that leaves the limits of the kind
+-- the scalar is, as the kind, a big number that leaves the limits of the kind
 abbrev pub IsTooWide : {L : Type 0} → Rules L → Kind → Option TimestampFormat → L → Type 0
 IsTooWide r (scalar s) time x = r.says s time x ≡ wide
 IsTooWide r _ time x = ⊥

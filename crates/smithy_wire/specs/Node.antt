@@ -47,7 +47,7 @@ abbrev mutual
   nodes_pass test no_nodes = true
   nodes_pass test (node key x xs) = option_map_or test key true && all_pass test x && nodes_pass test xs
 
--- it is a null
+-- the node is a null
 abbrev pub is_null : {L : Type 0} → Node L → Bool
 is_null null_node = true
 is_null (leaf x) = false

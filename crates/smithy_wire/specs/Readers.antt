@@ -36,7 +36,7 @@ module _ {L : Type 0} (w : Frames L) (r : Rules L) (i : List ℕ) (t : Table) (p
   -- ---- scalars
 
   module _ (s : Scalar) (kind : kind_of t p ≡ scalar s) (d : ℕ) where
-    -- what a scalar of the body says stands there
+    -- where a scalar of the body means a value as the kind, this value stands there
     pub scalar_stands : (a : ℕ) (v : Value) (e : ℕ) → Says w r s p.time i d a v e → (relations w r).stands i t p d a v e
     scalar_stands a v e (x, lies, says) = (
       leaf x,
@@ -48,7 +48,7 @@ module _ {L : Type 0} (w : Frames L) (r : Rules L) (i : List ℕ) (t : Table) (p
     no_container : (f : Form) (v : Value) (o : Option Value) → at_depth r (suc d) (if is_in (scalar s) f then o else None) ≡ Some v → ⊥
     no_container f v o h = let none = (chosen (is_shallow r (suc d)) None v h).1 in cc
 
-    -- and nothing else does
+    -- at a place of a scalar nothing stands but what a scalar of the body means as the kind
     pub stands_scalar : (a : ℕ) (v : Value) (e : ℕ) → (relations w r).stands i t p d a v e → Says w r s p.time i d a v e
     stands_scalar a v e (x, lies, means, ends) = of x lies means
       where
@@ -65,15 +65,15 @@ module _ {L : Type 0} (w : Frames L) (r : Rules L) (i : List ℕ) (t : Table) (p
             let none : at_depth r (suc d) (missing_meaning (scalar s)) ≡ Some v = ap (λ k. at_depth r (suc d) (missing_meaning k)) (sym kind) ∙ means in
             absurd (let no' = (chosen (is_shallow r (suc d)) None v none).1 in cc)
 
-    -- what is too wide as the kind exceeds its limits there
+    -- a scalar that is too wide as the kind exceeds the limits of the kind at its place
     pub scalar_exceeds : (a : ℕ) (x : L) (e : ℕ) → w.scalar i d x a e → r.says s p.time x ≡ wide → (relations w r).exceeds i t p d a e
     scalar_exceeds a x e lies says = (x, lies, subst (λ k. IsTooWide r k p.time x) (sym kind) says)
 
-    -- and nothing else does
+    -- at a place of a scalar nothing exceeds the limits of the kind but what is too wide as the kind
     pub exceeds_scalar : (a e : ℕ) → (relations w r).exceeds i t p d a e → (x : L) × w.scalar i d x a e × (r.says s p.time x ≡ wide)
     exceeds_scalar a e (x, lies, says) = (x, lies, subst (λ k. IsTooWide r k p.time x) kind says)
 
-    -- the same of what the kind can't carry
+    -- a scalar that the kind can't carry is uncarried at its place
     pub scalar_uncarried : (a : ℕ) (x : L) (e : ℕ) → w.scalar i d x a e → r.says s p.time x ≡ uncarried → (relations w r).uncarried i t p d a e
     scalar_uncarried a x e lies says = subst (λ k. UncarriedAt w r k p.time i d a e) (sym kind) (x, lies, says)
 
@@ -83,18 +83,18 @@ module _ {L : Type 0} (w : Frames L) (r : Rules L) (i : List ℕ) (t : Table) (p
   -- ---- documents
 
   module _ (kind : kind_of t p ≡ document) (d : ℕ) where
-    -- what a node means as a document stands there
+    -- at a place of documents stands what a node means as a document
     pub node_stands : (a : ℕ) (x : Node L) (v : Value) (e : ℕ) → Lies w i d x a e → document_meaning r d x ≡ Some v → w.follows i (suc d) e
         → (relations w r).stands i t p d a v e
     node_stands a x v e lies means follows = (x, lies, means_document r t p d x kind ∙ means, subst (λ k. EndsAs w k i d e) (sym kind) follows)
 
-    -- and nothing else does
+    -- at a place of documents nothing stands but what a node means as a document
     pub stands_node : (a : ℕ) (v : Value) (e : ℕ) → (relations w r).stands i t p d a v e
         → (x : Node L) × Lies w i d x a e × (document_meaning r d x ≡ Some v) × w.follows i (suc d) e
     stands_node a v e (x, lies, means, ends) =
         (x, lies, sym (means_document r t p d x kind) ∙ means, subst (λ k. EndsAs w k i d e) kind ends)
 
-    -- of a wire that carries documents
+    -- for a wire that carries documents
     module _ (says : L → Answer (Document Number)) (carried : r.documents ≡ Some says) where
       pub document_stands : (a : ℕ) (x : Node L) (v : Document Number) (e : ℕ) → Lies w i d x a e → document_of r says d x ≡ Some v → w.follows i (suc d) e
           → (relations w r).stands i t p d a (document_value (whole_document v)) e × (relations w r).documents i d a v e
@@ -119,7 +119,7 @@ module _ {L : Type 0} (w : Frames L) (r : Rules L) (i : List ℕ) (t : Table) (p
       part_uncarried a n c x e up lies is =
           subst (λ k. UncarriedAt w r k p.time i d a e) (sym kind) (subst (λ o. LiesUncarried w o i a e) (sym carried) (n, c, x, up, lies, is))
 
-    -- of a wire that carries none
+    -- where a wire carries no documents, whatever is at a place of documents is uncarried
     pub none_carried : r.documents ≡ None → (a e : ℕ) → (relations w r).uncarried i t p d a e
     none_carried none a e =
         subst (λ k. UncarriedAt w r k p.time i d a e) (sym kind) (subst (λ o. LiesUncarried w o i a e) (sym none) tt)
@@ -153,7 +153,7 @@ module _ {L : Type 0} (w : Frames L) (r : Rules L) (i : List ℕ) (t : Table) (p
     NoEntry at j = (key : Option L) (c : ℕ) (n : Mark) → w.entry f i at j key c n → IsTold f (key_text r f key)
         → is_mark r (kind_of t p) (key_text r f key) ≡ false → NullStays (key_text r f key) c → ⊥
 
-    -- nor is one dropped
+    -- no entry is dropped there
     abbrev pub NoDrop : ℕ → Mark → Type 0
     NoDrop at j = (c : ℕ) (n : Mark) → Drops w r (kind_of t p) f i d at j c n → ⊥
 
@@ -190,7 +190,7 @@ module _ {L : Type 0} (w : Frames L) (r : Rules L) (i : List ℕ) (t : Table) (p
         let one = same_drop b m q.0 p.0 q.1 p.1 q.2 p.2 in
         no_step x y p.0 p.1 at to j o text c n p.3 none fixed (rw (← one.0, ← one.1) q.3) key entry told names unmarked stays
 
-    -- and where no end comes it doesn't end
+    -- behind entries that are dropped, where no end comes, the container doesn't end
     pub no_close : (x y b : ℕ) (m : Mark) (at to : ℕ) (j o : Mark) (e : ℕ) → DropsAll w r (kind_of t p) f x i d b m at j → NoDrop at j
         → ((e : ℕ) → w.ends f i at j e → w.follows i d e → ⊥) → DropsAll w r (kind_of t p) f y i d b m to o → w.ends f i to o e → w.follows i d e → ⊥
     no_close zero zero b m at to j o e p fixed shut q ends follows = shut e (end_back to at o j e (sym q.0 ∙ p.0, sym q.1 ∙ p.1) ends) follows

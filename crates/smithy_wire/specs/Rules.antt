@@ -52,7 +52,7 @@ pub record Rules (L : Type 0) : Type 0 where
   pub says : Scalar → Option TimestampFormat → L → Answer Value
   -- what a scalar is as a document, where the wire carries documents
   pub documents : Option (L → Answer (Document Number))
-  -- what is skipped counts as depth
+  -- what is skipped counts as depth, and so do the parts of a document
   pub skips_count : Bool
   -- ---- settings
   -- the name that a key is compared with
@@ -64,13 +64,13 @@ pub record Rules (L : Type 0) : Type 0 where
   -- a scalar or a key that may stand in what is skipped
   pub may_skip_scalar : L → Bool
 
--- the same with the limits lifted
+-- the rules with the limits lifted
 abbrev pub lift : {L : Type 0} → Rules L → Rules L
 lift r = record r { limits = lifted }
 
 -- ---- depth
 
--- so many containers may be open
+-- so many containers may be open, by the rules
 abbrev pub is_shallow : {L : Type 0} → Rules L → ℕ → Bool
 is_shallow r depth = is_within r.limits r.max_depth depth
 

@@ -1,4 +1,4 @@
--- How a wire writes its nodes: the bytes that a container opens with, those before an entry, and those of its end.
+-- How a wire writes its nodes: the bytes that a container opens with, the bytes before each entry, and the bytes of its end.
 use Rattle.std.specs.Prelude.{◌≡◌, ◌≤◌, ◌+◌, ℕ, ℤ, zero, suc, length, drop, List, [], ◌++◌, Bool, true, false, Option, Some, None, IsUtf8}
 use Rattle.smithy_types.specs.Document.{is_document_number}
 use Rattle.smithy_schema.specs.declared.place.Place.{Place}
@@ -18,7 +18,7 @@ pub record Writes (L : Type 0) : Type 1 where
   pub null_bytes : List ℕ
   pub leaf_bytes : L → List ℕ
   pub opening : Form → List ℕ
-  -- before the value of the first entry or of another, with its key
+  -- the bytes before the value of an entry, which is the first one or another, with its key
   pub entry_bytes : Form → Bool → Option L → List ℕ
   pub ending : Form → List ℕ
   -- the mark of a container before its first entry or another
@@ -39,7 +39,7 @@ abbrev mutual
   bytes_of w (container f xs) = w.opening f ++ nodes_bytes w f true xs
   bytes_of w missing = []
 
-  -- those of the entries from the first or another on, with the end of their container
+  -- the bytes of the entries of a container, of which the next is the first one or another, and of the container's end
   pub nodes_bytes : {L : Type 0} → Writes L → Form → Bool → Nodes L → List ℕ
   nodes_bytes w f first no_nodes = w.ending f
   nodes_bytes w f first (node key x xs) = w.entry_bytes f first key ++ (bytes_of w x ++ nodes_bytes w f false xs)
@@ -65,7 +65,7 @@ abbrev mutual
   IsWritable w (container f xs) = AreWritable w f xs
   IsWritable w missing = ⊥
 
-  -- the same of the entries of a container
+  -- each scalar and each key in the entries of a container can be written, and nothing is missing
   pub AreWritable : {L : Type 0} → Writes L → Form → Nodes L → Type 0
   AreWritable w f no_nodes = Unit {0}
   AreWritable w f (node key x xs) = IsKeyOf w f key × IsWritable w x × AreWritable w f xs
@@ -98,7 +98,7 @@ pub record WritesFrames {L : Type 0} (w : Writes L) (frames : Frames L) : Type 0
   pub entry_follows : (f : Form) (key : Option L) (r : List ℕ) → w.MayFollow (w.entry_bytes f false key ++ r)
   pub ending_follows : (f : Form) (r : List ℕ) → w.MayFollow (w.ending f ++ r)
 
--- what it has for scalars that it holds and for keys can be written
+-- what a wire has for the scalars that it holds, and for keys, can be written
 pub record WritesLeaves {L : Type 0} (w : Writes L) (l : Leaves L) : Type 0 where
   pub scalar_is : (s : Scalar) (time : Option TimestampFormat) (x : ScalarValue) → is_of s x ≡ true → l.holds.scalar time x ≡ true
       → w.IsScalar (l.leaf_of s time x)

@@ -4,7 +4,7 @@ ghost use Rattle.std.specs.Prelude.{◌≤◌, length, vec_len};
 use smithy_schema::SerdeError;
 use std::alloc::Global;
 
-/// What a frame is of.
+/// What a frame is of: a kind of container, or what stands outside of all containers.
 #[derive(Clone, Copy)]
 pub enum Within {
     Outside,
@@ -87,7 +87,7 @@ impl<'a> Walk<'a> {
         self.outer.len()
     }
 
-    /// Fails, and stays where it is.
+    /// Makes the reader fail where it stands, and hands the error on.
     pub fn refuse(&mut self, error: SerdeError) -> SerdeError
         ensures same { self.new.max_depth ≡ self.old.max_depth }
         ensures stays { cursor_of self.new ≡ failed_at (cursor_of self.old) }
@@ -142,7 +142,7 @@ impl<'a> Walk<'a> {
         }
     }
 
-    /// The same of what took memory to find: its error is handed on.
+    /// Goes on behind what was found, or refuses with the error for which nothing was, which may be want of memory.
     pub fn take_result<T: Drop>(
         &mut self,
         found: Result<(T, usize), SerdeError>,

@@ -22,7 +22,7 @@ pub data State : Type 0 where
   at_chunk : ℕ → List Due → List ℕ → State
   stopped : Outcome → State
 
--- the innermost ends here, or one more part of it is due
+-- what becomes of the innermost that is due: it ends, or one more part of it comes next
 abbrev pub next : List Due → List ℕ → State
 next [] bytes = stopped (ended bytes)
 next (Items zero ∷ due) bytes = between due bytes
@@ -108,7 +108,7 @@ pub data Leads : State → Outcome → Type 0 where
   at_end : {o : Outcome} → Leads (stopped o) o
   goes_on : {s t : State} {o : Outcome} → Becomes s t → Leads t o → Leads s o
 
--- the one state ends as the other does
+-- skipping that goes on from the state s ends as skipping from t does
 abbrev pub Reaches : State → State → Type 0
 Reaches s t = (o : Outcome) → Leads t o → Leads s o
 

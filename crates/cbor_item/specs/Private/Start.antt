@@ -21,7 +21,7 @@ IsStartAnswer major input at (Ok (Chunks body)) =
 IsStartAnswer major input at (Err InvalidUtf8) = ⊥
 IsStartAnswer major input at (Err e) = IsStringFault major input at e
 
--- so many bytes stand there, or the input ends before them
+-- so many bytes stand at the place as were announced, or the input ends before them
 abbrev pub IsWholeAnswer : List ℕ → ℕ → ℕ → Result Start ItemError → Type 0
 IsWholeAnswer input start announced (Ok (Whole chunk)) =
     (chunk.start ≡ start) × (chunk.end ≡ start + announced) × (chunk.end ≤ length input)

@@ -13,7 +13,7 @@ impl Decoder<'_> {
     ghost use Rattle.smithy_cbor.specs.declared.error.DecodeKind.TheVariants.{NotCarried};
     ghost use Rattle.std.specs.Prelude.{Some};
 
-    /// The seconds of a date, under tag 1, and none where they are a float: it is passed all the same.
+    /// The seconds of a date (tag 1), or none where they are a float. The position goes past the date in both cases.
     pub fn date(&mut self) -> Result<Option<i128>, DeserializeError>
         ensures read { IfOk result (λ seconds. Reads (IsDateAt seconds) self.old self.new) }
         ensures refused { IfErr result (IsRefusal (λ input at. IsKindOf (IsNoDate input at)) self.old) }

@@ -29,19 +29,19 @@ same_opens_at major due due' i a b c h k =
     let size : b - a ≡ c - a = ap (λ (r : HeadRead). r.length) one in
     (omega (arith, h.0, k.0, size), ap (λ (r : HeadRead). r.argument) one)
 
--- it stands in the input
+-- the head of a container stands in the input
 pub opens_within : (major : ℕ) (due : Option ℕ) (i : List ℕ) (a b : ℕ) → OpensAt major due i a b → 0 < length (drop a i)
 opens_within major due i a b h = let within : b - a ≤ length (drop a i) = h.1.0 in omega (arith, h.0, within)
 
 -- ---- the end of the entries
 
--- so many entries come up to l, and the container ends at e
+-- so many entries of a container come up to l, and the container ends at e
 abbrev pub EndsAfter : ℕ → List ℕ → Mark → ℕ → ℕ → Type 0
 EndsAfter count i m l e =
     ((m.due ≡ Some count) × (e ≡ l))
     ⊎ ((m.due ≡ None) × (begins_with break (drop l i) ≡ true) × (e ≡ suc l))
 
--- one entry more
+-- the entries up to the end of a container are one more with another entry in front of them
 pub ends_after_entry : (count : ℕ) (i : List ℕ) (b l e : ℕ) (m n : Mark) → HasEntry i b m n → EndsAfter count i n l e → EndsAfter (suc count) i m l e
 ends_after_entry count i b l e m n (inl h) (inl k) =
     let left : n.due ≡ Some h.0 = ap (λ (x : Mark). x.due) h.2 in
@@ -53,7 +53,8 @@ ends_after_entry count i b l e m n (inr h) (inl k) =
     let left : n.due ≡ None = ap (λ (x : Mark). x.due) h.3 in absurd (no_due n.due count k.0 left)
 ends_after_entry count i b l e m n (inr h) (inr k) = inr (h.0, k.1, k.2)
 
--- and one taken away, which begins with an item
+-- where entries are left up to the end of a container and an item stands first, an entry comes, and one entry less is left behind
+-- it
 pub entry_of_ends : (count : ℕ) (i : List ℕ) (b f l e : ℕ) (m : Mark) (x : Item) → IsItemAt x i b f → EndsAfter (suc count) i m l e
     → (n : Mark) × HasEntry i b m n × EndsAfter count i n l e
 entry_of_ends count i b f l e m x at (inl h) = (mark_with (Some count), inl (count, h.0, refl), inl (refl, h.1))
@@ -84,7 +85,7 @@ indefinite_bytes major i a b l h on closed =
 
 -- ---- and back
 
--- what such bytes are made of
+-- the head of a container stands at a, and behind it the body, which ends at l
 pub record Framed (major : ℕ) (due : Option ℕ) (body i : List ℕ) (a l : ℕ) : Type 0 where
   pub inside : ℕ
   pub opens : OpensAt major due i a inside

@@ -53,7 +53,7 @@ pub entry_due : (i : List ℕ) (b : ℕ) (m n : Mark) → HasEntry i b m n → u
 entry_due i b m n (inl h) = rw (h.1, h.2) (omega arith)
 entry_due i b m n (inr h) = rw (h.0, h.3) (omega arith)
 
--- and where their number isn't told, some of the input is left
+-- behind an entry fewer entries are due than before it, or where their number isn't told, some of the input is left
 pub entry_falls : (i : List ℕ) (b : ℕ) (m n : Mark) → HasEntry i b m n
     → (unwrap_or n.due 0 < unwrap_or m.due 0) ⊎ ((unwrap_or n.due 0 ≤ unwrap_or m.due 0) × (b < length i))
 entry_falls i b m n (inl h) = inl (rw (h.1, h.2) (omega arith))

@@ -26,11 +26,11 @@ byte_front byte i a h =
 filled : (s : List ℕ) (b : ℕ) (rest : List ℕ) → s ≡ b ∷ rest → 0 < length s
 filled s b rest h = rw h (omega arith)
 
--- it stands in the input
+-- a byte that comes first at a place stands in the input
 pub byte_within : (byte : ℕ) (i : List ℕ) (a : ℕ) → begins_with byte (drop a i) ≡ true → a < length i
 byte_within byte i a h = omega (arith, length-drop a i, filled (drop a i) byte (drop (suc a) i) (byte_front byte i a h))
 
--- none stands in an empty input
+-- no byte comes first in an empty input
 pub no_byte_in_nothing : (byte : ℕ) (i : List ℕ) (a : ℕ) → i ≡ [] → begins_with byte (drop a i) ≡ true → ⊥
 no_byte_in_nothing byte i a empty h = omega (arith, ap length empty, byte_within byte i a h)
 
@@ -69,18 +69,18 @@ encoding_begins : (x : Item) (s r : List ℕ) → IsEncodingOf x s → begins_wi
 encoding_begins x [] r h = absurd (not_empty x h)
 encoding_begins x (b ∷ s) r h = item_begins x b s h
 
--- an item is null exactly where this byte comes first
+-- an item is null exactly where the byte of null comes first
 pub null_begins_item : (x : Item) (i : List ℕ) (a e : ℕ) → IsItemAt x i a e → begins_with null_byte (drop a i) ≡ is_null x
 null_begins_item x i a e h =
     ap (begins_with null_byte) (item_front x i a e h) ∙ encoding_begins x (slice_range i a e) (drop e i) h.1
 
--- and where it does, null stands there
+-- where the byte of null comes first, null stands there
 pub null_there : (i : List ℕ) (a : ℕ) → begins_with null_byte (drop a i) ≡ true → IsItemAt (simple null_value) i a (suc a)
 null_there i a h =
     item_at (simple null_value) (null_byte ∷ []) i a (suc a) (omega arith) (omega (arith, byte_within null_byte i a h)) (byte_front null_byte i a h)
     (inl (omega arith, refl))
 
--- so that a null ends one byte behind its start
+-- a null ends one byte behind its start
 pub null_ends : (x : Item) (i : List ℕ) (a e : ℕ) → IsItemAt x i a e → is_null x ≡ true → (x ≡ simple null_value) × (e ≡ suc a)
 null_ends x i a e h null =
     one_item x (simple null_value) i a e (suc a) h (null_there i a (null_begins_item x i a e h ∙ null))

@@ -13,7 +13,7 @@ use Rattle.smithy_texts.specs.Decimal.{mantissa, net_exponent}
 use Rattle.smithy_cbor_codec.specs.Canonical.{scalar_bytes}
 use Rattle.smithy_cbor_codec.specs.Writing.{CborState, lead, made, where_taken}
 
--- what is made has the open containers that it is told of
+-- a state that a call makes has the open containers that the call is told of
 made_frames : (e : Event) (s : CborState) (frames : List Open) → (made e s frames).frames ≡ frames
 made_frames (begin_structure site) s frames = refl
 made_frames end_structure s frames = refl
@@ -27,7 +27,7 @@ made_frames (big_integer_of site written) s frames = refl
 made_frames (big_decimal_of site written) s frames = refl
 made_frames (document_of site d) s frames = refl
 
--- and its bytes begin with those before
+-- the bytes of a state that a call makes begin with the bytes before the call
 made_grows : (e : Event) (s : CborState) (frames : List Open) → (more : List ℕ) × ((made e s frames).out ≡ s.out ++ more)
 made_grows (begin_structure site) s frames = (lead s site.view ++ opening_bytes 5, refl)
 made_grows end_structure s frames = (break ∷ [], refl)
@@ -41,12 +41,12 @@ made_grows (big_integer_of site written) s frames = (lead s site.view ++ big_int
 made_grows (big_decimal_of site written) s frames = (lead s site.view ++ decimal_fraction_bytes (net_exponent written) (mantissa written), refl)
 made_grows (document_of site d) s frames = ([], sym (append-nil s.out))
 
--- the containers of the state that is made
+-- where a call is taken, the state that it makes has the open containers that the call is told of
 pub taken_frames : (e : Event) (s t : CborState) (frames : Result (List Open) SerdeError) → where_taken (made e s) frames ≡ Ok t → frames ≡ Ok t.frames
 taken_frames e s t (Ok frames) h = let is : made e s frames ≡ t = cc in ap Ok (sym (made_frames e s frames) ∙ ap (λ (x : CborState). x.frames) is)
 taken_frames e s t (Err error) h = absurd (let no : ◌≡◌ {A = Result CborState SerdeError} (Err error) (Ok t) = h in cc)
 
--- and what it adds to the bytes
+-- where a call is taken, the bytes of the state that it makes begin with the bytes before the call
 pub taken_grows : (e : Event) (s t : CborState) (frames : Result (List Open) SerdeError) → where_taken (made e s) frames ≡ Ok t → (more : List ℕ) × (t.out ≡ s.out ++ more)
 taken_grows e s t (Ok frames) h =
     let is : t ≡ made e s frames = cc in

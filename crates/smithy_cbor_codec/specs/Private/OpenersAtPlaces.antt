@@ -19,7 +19,7 @@ fewer_in_rest zero s = omega arith
 fewer_in_rest (suc n) [] = omega arith
 fewer_in_rest (suc n) (b ∷ s) = let rest = fewer_in_rest n s in let is = one_more b s in omega (arith, rest, is)
 
--- further on there are no more
+-- from a place further on in the input no more heads of arrays and maps can stand than from the place before it
 pub openers_fall : (i : List ℕ) (b c : ℕ) → b ≤ c → cbor_openers (drop c i) ≤ cbor_openers (drop b i)
 openers_fall i b c h =
     let sum : b + (c - b) ≡ c = omega (arith, h) in

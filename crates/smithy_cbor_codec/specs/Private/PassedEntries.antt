@@ -27,7 +27,7 @@ abbrev pub IsPairOrEnd : List ℕ → ℕ → Option ℕ → ℕ → Next → Ty
 IsPairOrEnd input at due depth (Pair key c after) = HasKey input at (mark_with due) (cow_str_bytes key) c (mark_with after)
 IsPairOrEnd input at due depth (End e) = IsOver input at (mark_with due) e × FollowsInside depth input e
 
--- neither a key nor the end stands there
+-- neither a key that is a text nor the end of the map stands at the place
 abbrev pub PairMissing : List ℕ → ℕ → Option ℕ → ℕ → Type 0
 PairMissing input at due depth =
     ((text : List ℕ) (c : ℕ) (n : Mark) → HasKey input at (mark_with due) text c n → ⊥)
@@ -80,7 +80,7 @@ IsNext kind input at due depth (Pair key c after) =
 IsNext kind input at due depth (End e) =
     ClosesMembers kind input depth at (mark_with due) e × FollowsInside depth input e
 
--- the same without what is passed over
+-- a member comes that isn't passed over, whose value is due at c, or the map closes at e
 abbrev pub IsKept : Kind → List ℕ → ℕ → Option ℕ → ℕ → Next → Type 0
 IsKept kind input at due depth (Pair key c after) =
     HasKey input at (mark_with due) (cow_str_bytes key) c (mark_with after)
@@ -100,7 +100,7 @@ pub record MarkStays (kind : Kind) (input : List ℕ) (at : ℕ) (due : Option �
   pub is_mark : is_mark kind text ≡ true
   pub stays : (e : ℕ) → SkipsTo input value depth e → ⊥
 
--- neither a key nor the end stands there, or such a mark
+-- neither a key that is a text nor the end of the map stands at the place, or a mark does whose value can't be skipped
 abbrev pub EntryMissing : Kind → List ℕ → ℕ → Option ℕ → ℕ → Type 0
 EntryMissing kind input at due depth = PairMissing input at due depth ⊎ MarkStays kind input at due depth
 

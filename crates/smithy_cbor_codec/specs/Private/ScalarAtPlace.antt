@@ -62,26 +62,26 @@ number_refusal kinds.TooWide = TooWide
 number_refusal kinds.NoMemory = NoMemory
 number_refusal _ = InvalidInput
 
--- as a kind without time forms, this value stands there, where a value may end behind it
+-- what stands at the place is this value as the kind, which has no time forms; a value may end behind it
 pub record MeansAt (s : Scalar) (input : List ℕ) (at depth : ℕ) (v : ScalarValue) (e : ℕ) : Type 0 where
   pub found : Item
   pub lies : cbor_frames.scalar input depth found at e
   pub is : says s None found ≡ means (scalar_value v)
 
--- or a number that leaves the limits of the kind
+-- at the place stands a number that leaves the limits of the kind; a value may end behind it
 pub record ExceedsAt (s : Scalar) (input : List ℕ) (at depth : ℕ) : Type 0 where
   pub found : Item
   pub e : ℕ
   pub lies : cbor_frames.scalar input depth found at e
   pub is : says s None found ≡ wide
 
--- or what the kind can't carry
+-- at the place stands what the kind can't carry; a value may end behind it
 pub record UncarriedAt (s : Scalar) (input : List ℕ) (at depth : ℕ) : Type 0 where
   pub found : Item
   pub e : ℕ
   pub lies : cbor_frames.scalar input depth found at e
   pub is : says s None found ≡ uncarried
 
--- whatever stands there is nothing of the kind
+-- whatever scalar stands at the place, it means nothing as the kind
 abbrev pub NothingAt : Scalar → List ℕ → ℕ → ℕ → Type 0
 NothingAt s input at depth = (x : Item) (e : ℕ) → cbor_frames.scalar input depth x at e → says s None x ≡ no_meaning

@@ -43,7 +43,7 @@ pub record Parts (first more i : List ℕ) (a e : ℕ) : Type 0 where
   pub first_is : slice_range i a middle ≡ first
   pub more_is : slice_range i middle e ≡ more
 
--- bytes in two parts have such a place
+-- bytes in two parts have a place where the first part ends and the second begins
 pub slices_part : (first more i : List ℕ) (a e : ℕ) → a ≤ e → e ≤ length i → slice_range i a e ≡ first ++ more → Parts first more i a e
 slices_part first more i a e up within is =
     let whole : drop a i ≡ first ++ (more ++ drop e i) = drop_split i a e up ∙ ap (λ s. s ++ drop e i) is ∙ append_assoc first more (drop e i) in

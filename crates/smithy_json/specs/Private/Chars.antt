@@ -7,7 +7,7 @@ use Rattle.smithy_json.specs.Ascii.{quotation_mark, escape, letter_u, space, is_
 abbrev pub is_plain : ℕ → Bool
 is_plain b = nat_le space b && not (b == quotation_mark) && not (b == escape)
 
--- and one that doesn't
+-- a byte that doesn't stand for itself in a string
 abbrev pub is_stop : ℕ → Bool
 is_stop b = (b == quotation_mark) || (b == escape) || nat_lt b space
 
@@ -15,7 +15,7 @@ is_stop b = (b == quotation_mark) || (b == escape) || nat_lt b space
 abbrev pub is_plain_ascii : ℕ → Bool
 is_plain_ascii b = is_plain b && nat_lt b 0x80
 
--- and any other byte
+-- a byte of a string that isn't ASCII or doesn't stand for itself
 abbrev pub is_ascii_stop : ℕ → Bool
 is_ascii_stop b = is_stop b || nat_lt 0x7f b
 
@@ -39,7 +39,7 @@ abbrev mutual
       else (if b == escape then escape_length rest
       else (if nat_le space b then option_map suc (chars_length rest) else None))
 
-  -- the same from the byte `escape` on, which came just before
+  -- how many bytes of *char come before the closing quotation mark, behind an `escape`, which is counted with them
   pub escape_length : List ℕ → Option ℕ
   escape_length [] = None
   escape_length (letter ∷ rest) =

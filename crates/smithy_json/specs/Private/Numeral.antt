@@ -57,7 +57,7 @@ EndsAt input at result rest =
     (option_map (λ end. drop end input) result ≡ rest)
     × IfSome result (λ end. (at ≤ end) × (end ≤ length input))
 
--- the number that the digits write that come first, behind those of another number
+-- the number that the leading digits of s write, behind the digits of the number `before`
 abbrev pub run_value : ℕ → List ℕ → ℕ
 run_value before s = digits_value_after 10 before (take (digit_count s) s)
 

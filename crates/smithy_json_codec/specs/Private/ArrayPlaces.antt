@@ -23,11 +23,11 @@ follows_boundary d (string raw) s h = h
 follows_boundary d (array es) s h = h
 follows_boundary d (object ms) s h = h
 
--- that is what lies there at each depth but the outermost
+-- a tree that lies inside of a container lies there as an element or a member's value does
 pub child_lies : (d : ℕ) (x : Json) (i : List ℕ) (a e : ℕ) → TreeLies (suc d) x i a e → ChildLies x i a e
 child_lies d x i a e h = (h.0, follows_boundary d x (drop e i) h.1)
 
--- and back
+-- a tree that lies as an element or a member's value does lies inside of a container
 pub lies_inside : (d : ℕ) (x : Json) (i : List ℕ) (a e : ℕ) → ChildLies x i a e → TreeLies (suc d) x i a e
 lies_inside d x i a e h = (h.0, follows_inside d x (drop e i) h.1)
 
@@ -107,7 +107,7 @@ elements_rest (element x es) i b e h =
       others = (refl, (one, rest.more, refl, (val.0, val.1, rest.after, refl, val.3, val.4, rest.ws), rest.others));
     }
 
--- those of all elements, behind the bracket, give the array
+-- the positions of all elements, behind the opening bracket, give the array
 pub elements_text : (d : ℕ) (es : Elements) (i : List ℕ) (a b e : ℕ) → Lies (IsByte begin_array) i a b → ElementsLie es false i b e
     → FollowsContainer d (drop e i) → TreeLies d (array es) i a e
 elements_text d no_elements i a b e o h follows =

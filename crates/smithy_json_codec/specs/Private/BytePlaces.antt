@@ -11,7 +11,7 @@ use Rattle.smithy_json_codec.specs.Private.Lexical.{past_ws}
 
 -- ---- positions and what is left there
 
--- where the same is left, the position is the same
+-- positions are equal where equal bytes of the input are left from them on
 pub same_end : (i : List ℕ) (e f : ℕ) → e ≤ length i → f ≤ length i → drop e i ≡ drop f i → e ≡ f
 same_end i e f h k same = let n = ap length same in omega (arith, length-drop e i, length-drop f i, n, h, k)
 
@@ -27,7 +27,7 @@ pub record Settled (P : List ℕ → Type 0) (i : List ℕ) (a : ℕ) (r : List 
   pub lies : Lies P i a at
   pub rest : drop at i ≡ r
 
--- where it ends, it leaves the rest
+-- a text that comes first behind white space lies in the input, and where it ends, the rest is left
 pub settle : (P : List ℕ → Type 0) (i : List ℕ) (a : ℕ) (before text r : List ℕ) → a ≤ length i
     → drop a i ≡ before ++ (text ++ r) → IsWs before → P text → Settled P i a r
 settle P i a before text r w h b p =
@@ -41,7 +41,7 @@ settle P i a before text r w h b p =
       rest = rest;
     }
 
--- the same with a known end
+-- a text that comes first behind white space, and behind which stands what the input has from e on, lies from a to e
 pub settle_at : (P : List ℕ → Type 0) (i : List ℕ) (a e : ℕ) (before text : List ℕ) → a ≤ length i → e ≤ length i
     → drop a i ≡ before ++ (text ++ drop e i) → IsWs before → P text → Lies P i a e
 settle_at P i a e before text w u h b p =
@@ -70,7 +70,7 @@ pub same_separated : (i : List ℕ) (entered : Bool) (b c c' : ℕ) → IsSepara
 same_separated i false b c c' h j = h ∙ sym j
 same_separated i true b c c' h j = (same_byte i b c c' value_separator value_separator refl refl h j).1
 
--- and not before where it is looked for
+-- an element or a member doesn't begin before the place where it is looked for
 pub separated_ahead : (i : List ℕ) (entered : Bool) (b c : ℕ) → IsSeparated entered i b c → b ≤ c
 separated_ahead i false b c h = omega (arith, h)
 separated_ahead i true b c h = h.0

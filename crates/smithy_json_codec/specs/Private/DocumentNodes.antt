@@ -166,20 +166,20 @@ module _ (c : Settings) (i : List ℕ) (d a : ℕ) where
   documents_are x e = (stands_lies x e, lies_stands x e)
 
   module _ (t : Table) (p : Place) (kind : kind_of t p ≡ document) where
-    -- at a place of documents its value stands there
+    -- where a document stands at a place of documents, its value stands there
     pub value_stands : (x : Document Number) (e : ℕ) → DocumentStands (limit c) d i a x e
         → (json_relations c).stands i t p d a (document_value (whole_document x)) e × (json_relations c).documents i d a x e
     value_stands x e there =
         let h = lies_stands x e there in
         document_stands json_frames (rules_of c) i t p kind d document_says refl a h.0 x e h.1 h.2 h.3
 
-    -- by the meaning of documents, each number as its whole number alone
+    -- at a place of documents a tree means what it means as a document, and of each number the whole number alone
     pub means_document_of : (x : Json) → json_meaning c t p d x ≡ option_map (λ u. document_value (whole_document u)) (document_meaning (limit c) d x)
     means_document_of x =
         means_document (rules_of c) t p d (node_of x) kind
         ∙ ap (option_map (λ u. document_value (whole_document u))) (same_document c d x)
 
-    -- and where no document stands, nothing does
+    -- where no document stands at a place of documents, no value does
     pub no_value_stands : NoDocumentStands (limit c) d i a → (v : Value) (e : ℕ) → (json_relations c).stands i t p d a v e → ⊥
     no_value_stands none v e stands =
         let y = stands_node json_frames (rules_of c) i t p kind d a v e stands in
@@ -222,7 +222,7 @@ held_means : (o : Option Number) (v : Document Number) → held_says o ≡ means
 held_means None v h = cc
 held_means (Some n) v h = (n, refl, cc)
 
--- it is a document without parts, and one that can be a value
+-- what a scalar is as a document has no parts, and can be a value
 pub says_document : (i : List ℕ) (d : ℕ) (x : JsonScalar) (a e : ℕ) → json_frames.scalar i d x a e → (v : Document Number) → document_says x ≡ means v
     → DocumentFits (whole_document v) × (document_nesting v ≡ 1)
 says_document i d (a_boolean b) a e lies v h =

@@ -22,7 +22,7 @@ begins_value b =
     is_numeric b
     || ((b == 0x6e) || (b == 0x74) || (b == 0x66) || (b == quotation_mark) || (b == begin_array) || (b == begin_object))
 
--- the first bytes that pass a test, and those after them
+-- the first bytes that pass a test; and, as `behind`, the bytes after them
 abbrev pub run : (ℕ → Bool) → List ℕ → List ℕ
 run test [] = []
 run test (b ∷ s) = if test b then b ∷ run test s else []
@@ -31,7 +31,7 @@ abbrev pub behind : (ℕ → Bool) → List ℕ → List ℕ
 behind test [] = []
 behind test (b ∷ s) = if test b then behind test s else b ∷ s
 
--- the bytes up to a quotation mark that is not escaped, and those from that mark on
+-- the bytes up to a quotation mark that is not escaped; and, as `behind_text`, the bytes from that mark on
 abbrev pub run_text : List ℕ → List ℕ
 run_text [] = []
 run_text (b ∷ []) = if b == quotation_mark then [] else b ∷ []
@@ -62,7 +62,7 @@ run_all test [] [] h k = refl
 run_all test [] (b ∷ r) h k = rw k refl
 run_all test (b ∷ s) r h k = rw (h.0, run_all test s r h.1 k) refl
 
--- and the rest is what comes behind it
+-- behind a run of bytes that pass a test stands the rest
 pub behind_all : (test : ℕ → Bool) (s r : List ℕ) → Pass test s → Stops test r → behind test (s ++ r) ≡ r
 behind_all test [] [] h k = refl
 behind_all test [] (b ∷ r) h k = rw k refl
@@ -96,7 +96,7 @@ ws_is_boundary (b ∷ s) h = inl h.0
 
 -- ---- strings
 
--- two bytes that are not the same
+-- the test for equal bytes fails for two bytes that differ
 pub eq_false : (b c : ℕ) → b ≢ c → (b == c) ≡ false
 eq_false b c h = grind (arith, nat_tests)
 
@@ -161,7 +161,7 @@ number_pass raw h = rw h.parts (pass_both is_numeric h.minus (h.int ++ (h.frac +
     (pass_both is_numeric h.int (h.frac ++ h.exp) (int_pass h.int h.is_int)
     (pass_both is_numeric h.frac h.exp (frac_pass h.frac h.is_frac) (exp_pass h.exp h.is_exp))))
 
--- and ends at a boundary
+-- the bytes of a number stop at a boundary
 pub boundary_stops : (s : List ℕ) → IsBoundary s → Stops is_numeric s
 boundary_stops [] h = tt
 boundary_stops (b ∷ s) (inl h) = grind (arith, nat_tests)
@@ -211,21 +211,21 @@ value_begins (object (member name x ms)) s h =
 pub begins_plain : (b : ℕ) → begins_value b ≡ true → is_ws b ≡ false
 begins_plain b h = grind (arith, nat_tests)
 
--- so white space ends before a value
+-- white space stops where a value begins
 pub begins_stops : (s r : List ℕ) → Begins s → Stops is_ws (s ++ r)
 begins_stops s r h = rw h.is (begins_plain h.byte h.begins)
 
--- and the byte behind it begins a value
+-- the first byte of a value's text begins a value
 pub begins_first : (s r : List ℕ) → Begins s → begins_value (first (s ++ r)) ≡ true
 begins_first s r h = rw h.is h.begins
 
--- behind an element or a member a value may end
+-- behind an element a value may end
 pub elements_boundary : (es : Elements) (more r : List ℕ) → AreMoreElements es more → IsBoundary (more ++ end_array ∷ r)
 elements_boundary no_elements more r h = rw h (inr (inr (inl refl)))
 elements_boundary (element x es) [] r h = absurd h
 elements_boundary (element x es) (c ∷ more) r h = inr (inl h.0)
 
--- the same of a member
+-- behind a member a value may end
 pub members_boundary : (ms : Members) (more r : List ℕ) → AreMoreMembers ms more → IsBoundary (more ++ end_object ∷ r)
 members_boundary no_members more r h = rw h (inr (inr (inr refl)))
 members_boundary (member name x ms) [] r h = absurd h

@@ -23,7 +23,7 @@ scalar_grows None due s view bytes frames = (lead s view ++ bytes, refl)
 scalar_grows (Some key) true s view bytes frames = (comma_text s.needs_comma ++ name_text key, refl)
 scalar_grows (Some key) false s view bytes frames = (lead s view ++ bytes, refl)
 
--- what is made has the open containers that it is told of
+-- a state that a call makes has the open containers that the call is told of
 made_frames : (e : Event) (s : JsonState) (frames : List Open) → (made e s frames).frames ≡ frames
 made_frames (begin_structure site) s frames = refl
 made_frames end_structure s frames = refl
@@ -37,7 +37,7 @@ made_frames (big_decimal_of site written) s frames = refl
 made_frames (document_of site d) s frames = refl
 made_frames (scalar_of site x) s frames = scalar_frames (text_in x) (is_key_due s.frames) s site.view (scalar_text (form_at s site) x) frames
 
--- and its text begins with the one before
+-- the text of a state that a call makes begins with the text before the call
 made_grows : (e : Event) (s : JsonState) (frames : List Open) → (more : List ℕ) × ((made e s frames).out ≡ s.out ++ more)
 made_grows (begin_structure site) s frames = (lead s site.view ++ begin_object ∷ [], refl)
 made_grows end_structure s frames = (end_object ∷ [], refl)
@@ -51,12 +51,12 @@ made_grows (big_decimal_of site written) s frames = (lead s site.view ++ written
 made_grows (document_of site d) s frames = (lead s site.view ++ document_text d, refl)
 made_grows (scalar_of site x) s frames = scalar_grows (text_in x) (is_key_due s.frames) s site.view (scalar_text (form_at s site) x) frames
 
--- the containers of the state that is made
+-- where a call is taken, the state that it makes has the open containers that the call is told of
 pub taken_frames : (e : Event) (s t : JsonState) (frames : Result (List Open) SerdeError) → where_taken (made e s) frames ≡ Ok t → frames ≡ Ok t.frames
 taken_frames e s t (Ok frames) h = let is : made e s frames ≡ t = cc in ap Ok (sym (made_frames e s frames) ∙ ap (λ (x : JsonState). x.frames) is)
 taken_frames e s t (Err error) h = absurd (let no : ◌≡◌ {A = Result JsonState SerdeError} (Err error) (Ok t) = h in cc)
 
--- and what it adds to the text
+-- where a call is taken, the text of the state that it makes begins with the text before the call
 pub taken_grows : (e : Event) (s t : JsonState) (frames : Result (List Open) SerdeError) → where_taken (made e s) frames ≡ Ok t → (more : List ℕ) × (t.out ≡ s.out ++ more)
 taken_grows e s t (Ok frames) h =
     let is : t ≡ made e s frames = cc in

@@ -6,7 +6,6 @@ use Rattle.smithy_schema.specs.declared.read.Step.TheVariants.{Member, Unknown, 
 use Rattle.smithy_schema.specs.Reading.{Cursor, depth}
 use Rattle.smithy_schema.specs.Table.{members_of, member_place, is_document_place}
 use Rattle.smithy_schema.specs.Site.{Site, site_of, member_site, kind_at}
-use Rattle.smithy_json_codec.specs.Codec.{strict_settings}
 use Rattle.smithy_json_codec.specs.Settings.{Settings}
 use Rattle.smithy_json_codec.specs.Meaning.{rules_of}
 use Rattle.smithy_json_codec.specs.Standing.{end_mark}
@@ -25,16 +24,15 @@ StepsTo Unknown o outer name = position_in (rules_of o) (kind_at outer) (Some na
 StepsTo End o outer name = ⊥
 
 -- a null under this name is passed over: it names no member of documents
-abbrev pub passes_null : Bool → Site → List ℕ → Bool
-passes_null use_json_name outer name =
+abbrev pub passes_null : Settings → Site → List ℕ → Bool
+passes_null o outer name =
     not (option_map_or is_document_place
-    (member_place (members_of (kind_at outer)) (position_in (rules_of (strict_settings use_json_name)) (kind_at outer) (Some name))) false)
+    (member_place (members_of (kind_at outer)) (position_in (rules_of o) (kind_at outer) (Some name))) false)
 
 -- no member has the name of a mark, so that each `__type` is one
-abbrev pub passes_marks : Bool → Site → Bool
-passes_marks use_json_name outer =
-    is_none (position_in (rules_of (strict_settings use_json_name)) (kind_at outer) (Some type_name))
+abbrev pub passes_marks : Settings → Site → Bool
+passes_marks o outer = is_none (position_in (rules_of o) (kind_at outer) (Some type_name))
 
 -- what is passed over in an object at the site
-abbrev pub passing : Bool → Site → Passing
-passing use_json_name outer = record { marks = passes_marks use_json_name outer; nulls = passes_null use_json_name outer }
+abbrev pub passing : Settings → Site → Passing
+passing o outer = record { marks = passes_marks o outer; nulls = passes_null o outer }

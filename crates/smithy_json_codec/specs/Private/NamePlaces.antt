@@ -19,11 +19,11 @@ past_name_front raw s r h =
     let t = quotation_mark ∷ (raw ++ (quotation_mark ∷ (h.4.0 ++ (name_separator ∷ r)))) in
     rw (h.2, h.4.1, name_parts raw h.4.0 r) (past_ws h.0 t h.3 refl)
 
--- the raw text is that up to the quotation mark
+-- the raw text of a name is what stands between its quotation marks
 pub raw_is : (raw s r : List ℕ) → IsFront (IsName raw) s r → run_text (drop 1 (without_ws s)) ≡ raw
 raw_is raw s r h = rw (past_name_front raw s r h) (text_all raw (h.4.0 ++ (name_separator ∷ r)) h.4.2.1).0
 
--- and the rest is what follows the colon
+-- the rest behind a name is what follows its colon
 pub colon_is : (raw s r : List ℕ) → IsFront (IsName raw) s r → drop 1 (without_ws (drop 1 (behind_text (drop 1 (without_ws s))))) ≡ r
 colon_is raw s r h =
     rw (past_name_front raw s r h) (rw ((text_all raw (h.4.0 ++ (name_separator ∷ r)) h.4.2.1).1)

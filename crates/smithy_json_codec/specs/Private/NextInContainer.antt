@@ -18,15 +18,15 @@ pub record IsFirstByte (input : List ℕ) (at byte start : ℕ) : Type 0 where
   pub is : slice_index input start ≡ byte
   pub plain : is_ws byte ≡ false
 
--- this byte doesn't come first behind white space
+-- the byte doesn't come first behind white space
 abbrev pub IsNotFirst : ℕ → List ℕ → ℕ → Type 0
 IsNotFirst byte input at = (e : ℕ) → Lies (IsByte byte) input at e → ⊥
 
--- a container closes by this byte, where so deep a one may end
+-- the innermost of `depth` open containers closes by this byte and ends at e, where it may end
 abbrev pub ClosesBy : ℕ → List ℕ → ℕ → ℕ → ℕ → Type 0
 ClosesBy byte input at depth e = Lies (IsByte byte) input at e × FollowsInside depth (drop e input)
 
--- another element is due at c
+-- another element of an array is due at c
 abbrev pub ElementBegins : List ℕ → ℕ → Bool → ℕ → Type 0
 ElementBegins input at entered c = IsSeparated entered input at c × IsNotFirst end_array input c
 

@@ -106,7 +106,7 @@ mutual
   same_in_members (member raw x ms) = rw (same_nesting x, same_in_members ms) refl
 
 mutual
-  -- and nothing in it is missing
+  -- nothing is missing in the node of a tree
   pub none_missing : (x : Json) → all_pass (λ y. true) (node_of x) ≡ true
   none_missing null = refl
   none_missing (boolean b) = refl

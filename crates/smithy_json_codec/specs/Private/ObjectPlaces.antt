@@ -36,7 +36,7 @@ name_front raw s r t h k =
     h.2 ∙ (ap (λ x. h.0 ++ (x ++ r)) h.4.1 ∙ (ap (λ x. h.0 ++ x) (name_parts raw h.4.0 r)
     ∙ ap (λ x. h.0 ++ (quotation_mark ∷ (raw ++ (quotation_mark ∷ (h.4.0 ++ (name_separator ∷ x)))))) k))
 
--- the text of a member, and that of the others behind it
+-- the text of a member, and the text of the members behind it
 record MemberText (P Q : List ℕ → Type 0) (name : List ℕ) (s r : List ℕ) : Type 0 where
   one : List ℕ
   more : List ℕ
@@ -44,7 +44,7 @@ record MemberText (P Q : List ℕ → Type 0) (name : List ℕ) (s r : List ℕ)
   text : IsMember name P one
   others : Q more
 
--- they follow from their positions
+-- the text of a member, and the text of the members behind it, follow from their positions
 member_text : (x : Json) (Q : List ℕ → Type 0) (name : List ℕ) (i : List ℕ) (d c f e : ℕ) → Lies (IsName name) i d c → Lies (IsValue x) i c f
     → RestLies Q end_object (drop f i) (drop e i) → MemberText (IsValue x) Q name (drop d i) (drop e i)
 member_text x Q name i d c f e k v rest =
@@ -81,7 +81,7 @@ members_rest (member name x ms) i b e h =
       others = (refl, (p.one, p.more, refl, p.text, p.others));
     }
 
--- those of all members, behind the bracket, give the object
+-- the positions of all members, behind the opening bracket, give the object
 pub members_text : (d : ℕ) (ms : Members) (i : List ℕ) (a b e : ℕ) → Lies (IsByte begin_object) i a b → MembersLie ms false i b e
     → FollowsContainer d (drop e i) → TreeLies d (object ms) i a e
 members_text d no_members i a b e o h follows =

@@ -48,7 +48,7 @@ abbrev mutual
       (member (run_text (drop 1 (without_ws s))) x.0 rest.0, rest.1))
       else (no_members, drop 1 (without_ws s))
 
--- how often it turns at a tree
+-- how often the reader that checks nothing turns at a tree
 abbrev mutual
   pub size : Json → ℕ
   size null = 0
@@ -196,7 +196,7 @@ mutual
       rw h.0 (rw (past_ws after (value_separator ∷ (more ++ end_object ∷ r)) a refl)
       (rw (h.1.2, member_parts h.1.0 pair.0 name pair.1 pair.2 one.0 one.1 one.2 h.1.1 (end_object ∷ r) pair.3 one.3) inner))
 
--- so a tree and its end are determined
+-- the tree of a text is determined, and so is what follows the text
 pub same_tree : (d d' : ℕ) (x y : Json) (s t q r : List ℕ) → IsValue x s → IsValue y t → Follows d x q → Follows d' y r → s ++ q ≡ t ++ r
     → (x ≡ y) × (q ≡ r)
 same_tree d d' x y s t q r h k b c e =

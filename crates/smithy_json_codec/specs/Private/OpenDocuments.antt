@@ -24,22 +24,22 @@ use Rattle.smithy_json_codec.specs.Private.Skipping.{opening, closing}
 
 -- ---- what is open
 
--- an array with its elements so far, or an object with its properties so far
+-- an open container: an array with its elements so far, or an object with its properties so far
 pub data OpenContainer : Type 0 where
   open_array : Documents Number → OpenContainer
   open_object : Properties Number → OpenContainer
 
--- one in which a value is due: the next element, or that of a name
+-- an open container in which a value is due: the next element of an array, or the value of a name of an object
 pub data Waiting : Type 0 where
   waiting_array : Documents Number → Waiting
   waiting_object : Properties Number → List ℕ → Waiting
 
--- with one more element at the end
+-- the elements with one more at the end
 abbrev pub add_element : Documents Number → Document Number → Documents Number
 add_element no_documents d = item d no_documents
 add_element (item e ds) d = item e (add_element ds d)
 
--- with the value that was due
+-- the container with the value that was due in it
 abbrev pub with_value : Waiting → Document Number → OpenContainer
 with_value (waiting_array ds) d = open_array (add_element ds d)
 with_value (waiting_object ps name) d = open_object (put_property name d ps)
@@ -49,7 +49,7 @@ abbrev pub fresh : Bool → OpenContainer
 fresh false = open_array no_documents
 fresh true = open_object no_properties
 
--- the document where it ends
+-- the document that a container is where it ends
 abbrev pub document_of : OpenContainer → Document Number
 document_of (open_array ds) = array ds
 document_of (open_object ps) = object ps
@@ -58,7 +58,7 @@ abbrev pub is_object : OpenContainer → Bool
 is_object (open_array ds) = false
 is_object (open_object ps) = true
 
--- what the code keeps of them
+-- an open container, by what the code keeps of it
 abbrev pub open_view : Open → OpenContainer
 open_view (Array v) = open_array (elements_view v.items)
 open_view (Object m) = open_object (properties_view m.entries)
@@ -67,7 +67,7 @@ abbrev pub frame_view : Frame → Waiting
 frame_view (InArray v) = waiting_array (elements_view v.items)
 frame_view (BehindName m name) = waiting_object (properties_view m.entries) (string_bytes name)
 
--- the innermost first
+-- the containers that wait for a value, by the stack of the code, the innermost first
 abbrev pub frames_view : List Frame → List Waiting
 frames_view frames = map frame_view (reverse frames)
 
@@ -107,7 +107,7 @@ EntryBegins input at entered (open_object ps) w c =
     (raw name : List ℕ) × (w ≡ waiting_object ps name) × Names entered input at raw c
     × (unescaped raw ≡ Some name)
 
--- neither an entry begins nor does the container end
+-- at the place neither another entry of the container begins nor does the container end
 abbrev pub NoEntry : List ℕ → ℕ → Bool → OpenContainer → Type 0
 NoEntry input at entered o =
     ((w : Waiting) (c : ℕ) → EntryBegins input at entered o w c → ⊥)
@@ -123,7 +123,7 @@ TakesValue greatest depth input c w (Ok (Opens frame kind inside)) =
 TakesValue greatest depth input c w (Ok (Ends d e)) = ⊥
 TakesValue greatest depth input c w (Err e) = RefusesDocument greatest depth input c e
 
--- another entry begins, and this is made of its value
+-- at the place another entry of the container begins, and the step is what is made of the entry's value
 abbrev pub TakesEntry : ℕ → ℕ → List ℕ → ℕ → Bool → OpenContainer → Result Step SerdeError → Type 0
 TakesEntry greatest depth input at entered o r =
     (w : Waiting) × (c : ℕ) × EntryBegins input at entered o w c

@@ -61,7 +61,7 @@ module _ (i : List ℕ) where
   across_separator false b c h = ap openers_from (sym h)
   across_separator true b c h = byte_rises value_separator b c h
 
-  -- nor does a name with its comma and its colon
+  -- a name with its comma and its colon adds nothing
   pub across_name : (entered : Bool) (b : ℕ) (raw : List ℕ) (c : ℕ) → Names entered i b raw c → openers_from b ≡ openers_from c
   across_name entered b raw c h =
       across_separator entered b h.0 h.1 ∙ across (IsName raw) h.0 c (name_adds raw) h.2

@@ -11,11 +11,11 @@ use Rattle.smithy_json_codec.specs.Private.Lexical.{is_numeric, Pass, number_pas
 
 -- ---- two kinds of texts
 
--- the count rises as far from before the text on as from behind it on
+-- a text that adds nothing: the count of open brackets rises as far from before the text on as from behind it on
 abbrev pub AddsNothing : List ℕ → Type 0
 AddsNothing s = (rest : List ℕ) → json_openers (s ++ rest) ≡ json_openers rest
 
--- it rises at least as far
+-- a text that takes nothing away: the count of open brackets rises at least as far from before the text on as from behind it on
 abbrev pub TakesNothing : List ℕ → Type 0
 TakesNothing s = (rest : List ℕ) → json_openers rest ≤ json_openers (s ++ rest)
 
@@ -25,7 +25,7 @@ at_least m n h = omega arith
 pub takes_if_adds : (s : List ℕ) → AddsNothing s → TakesNothing s
 takes_if_adds s h rest = at_least (json_openers (s ++ rest)) (json_openers rest) (h rest)
 
--- two texts, one behind the other
+-- two texts that add nothing add nothing one behind the other
 pub both_add : (s t : List ℕ) → AddsNothing s → AddsNothing t → AddsNothing (s ++ t)
 both_add s t h k rest = ap json_openers (append_assoc s t rest) ∙ (h (t ++ rest) ∙ k rest)
 
@@ -39,7 +39,7 @@ both_take s t h k rest =
 
 -- ---- white space and numbers
 
--- a bracket or a quotation mark
+-- a byte that can change the count of open brackets: a bracket or a quotation mark
 abbrev pub is_counted : ℕ → Bool
 is_counted b =
     (b == quotation_mark) || ((b == begin_object) || ((b == begin_array) || ((b == end_object) || (b == end_array))))
@@ -47,7 +47,7 @@ is_counted b =
 apart : (b x : ℕ) → is_counted b ≡ false → is_counted x ≡ true → (b == x) ≡ false
 apart b x h k = grind (arith, nat_tests)
 
--- another byte adds nothing
+-- a byte that is neither a bracket nor a quotation mark adds nothing
 plain_byte : (b : ℕ) (rest : List ℕ) → is_counted b ≡ false → json_openers (b ∷ rest) ≡ json_openers rest
 plain_byte b rest h =
     rw (apart b quotation_mark h refl, apart b begin_object h refl, apart b begin_array h refl, apart b end_object h refl, apart b end_array h refl) refl
@@ -86,7 +86,7 @@ pub string_adds : (raw : List ℕ) → AreChars raw → AddsNothing (quotation_m
 string_adds raw h rest =
     ap (λ bytes. json_openers (quotation_mark ∷ bytes)) (append_assoc raw (quotation_mark ∷ []) rest) ∙ text_adds raw rest h
 
--- nor do a name, white space and a colon
+-- a name, white space and a colon add nothing
 pub name_adds : (raw bytes : List ℕ) → IsName raw bytes → AddsNothing bytes
 name_adds raw bytes h =
     let colon = both_add h.0 (name_separator ∷ []) (ws_adds h.0 h.3) (λ rest. refl) in

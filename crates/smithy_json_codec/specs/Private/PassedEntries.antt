@@ -16,11 +16,11 @@ use Rattle.smithy_json_codec.specs.Private.Skipping.{SkipsTo}
 abbrev pub type_name : List ℕ
 type_name = codes "__type"
 
--- what is passed over
+-- which entries of an object are passed over
 pub record Passing : Type 0 where
-  -- each mark is
+  -- each mark is passed over
   pub marks : Bool
-  -- a null under this name is
+  -- a null under this name is passed over
   pub nulls : List ℕ → Bool
 
 -- a null under this name is passed over
@@ -75,7 +75,7 @@ IsNext passing greatest depth input at entered (Member text c) =
 IsNext passing greatest depth input at entered (End e) =
     ClosesMembers passing greatest depth input at entered e × FollowsInside depth (drop e input)
 
--- the same without what is passed over
+-- a member comes that isn't passed over, whose value is due at c, or the object closes at e
 abbrev pub IsKept : Passing → ℕ → List ℕ → ℕ → Bool → Next → Type 0
 IsKept passing depth input at entered (Member text c) =
     (raw : List ℕ) × (unescaped raw ≡ Some (cow_str_bytes text)) × Names entered input at raw c × IsNoMark passing raw
@@ -103,7 +103,7 @@ pub record MarkStays (Stays : ℕ → Type 0) (passing : Passing) (input : List 
   pub no_null : NoNull passing input raw value
   pub stays : Stays value
 
--- neither a name nor the closing bracket stands there, or a name that has no text, or such a mark
+-- at the place stands neither a name nor the closing bracket, or a name that has no text, or a mark that can't be passed over
 abbrev pub EntryMissing : (ℕ → Type 0) → Passing → ℕ → List ℕ → ℕ → Bool → Type 0
 EntryMissing Stays passing depth input at entered =
     (((raw : List ℕ) (c : ℕ) → Names entered input at raw c → ⊥) × ((e : ℕ) → ClosesBy end_object input at depth e → ⊥))

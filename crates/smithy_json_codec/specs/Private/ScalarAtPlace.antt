@@ -31,36 +31,36 @@ pub record BlobLies (input : List ℕ) (at : ℕ) (blob : List ℕ) (e : ℕ) : 
   pub lies : TreeLies 1 (string raw) input at e
   pub is : bytes_of (a_string raw) ≡ Some blob
 
--- as a kind without time forms, this value lies there
+-- a scalar lies at the place that is this value as the kind, which has no time forms
 pub record MeansAt (s : Scalar) (input : List ℕ) (at : ℕ) (v : ScalarValue) (e : ℕ) : Type 0 where
   pub found : JsonScalar
   pub lies : TreeLies 1 (tree_of found) input at e
   pub is : says s EpochSeconds found ≡ means (scalar_value v)
 
--- or a number that leaves the limits of the kind
+-- a number lies at the place that leaves the limits of the kind
 pub record ExceedsAt (s : Scalar) (input : List ℕ) (at : ℕ) : Type 0 where
   pub found : JsonScalar
   pub e : ℕ
   pub lies : TreeLies 1 (tree_of found) input at e
   pub is : says s EpochSeconds found ≡ wide
 
--- whatever lies there is nothing of the kind
+-- whatever scalar lies at the place, it means nothing as the kind
 abbrev pub NothingAt : Scalar → List ℕ → ℕ → Type 0
 NothingAt s input at = (x : JsonScalar) (e : ℕ) → TreeLies 1 (tree_of x) input at e → says s EpochSeconds x ≡ no_meaning
 
--- in this form, this instant lies there
+-- a scalar lies at the place that is this instant in the time form
 pub record InstantLies (form : TimestampFormat) (input : List ℕ) (at : ℕ) (n : ℤ) (e : ℕ) : Type 0 where
   pub found : JsonScalar
   pub lies : TreeLies 1 (tree_of found) input at e
   pub is : timestamp_says form found ≡ means (scalar_value (instant n))
 
--- or a number that isn't carried
+-- a scalar lies at the place that isn't carried as an instant in the time form
 pub record UncarriedLies (form : TimestampFormat) (input : List ℕ) (at : ℕ) : Type 0 where
   pub found : JsonScalar
   pub e : ℕ
   pub lies : TreeLies 1 (tree_of found) input at e
   pub is : timestamp_says form found ≡ uncarried
 
--- whatever lies there is no instant
+-- no scalar that is an instant in the time form lies at the place
 abbrev pub NoInstantLies : TimestampFormat → List ℕ → ℕ → Type 0
 NoInstantLies form input at = (x : JsonScalar) (e : ℕ) → TreeLies 1 (tree_of x) input at e → timestamp_says form x ≡ no_meaning

@@ -17,7 +17,7 @@ pub record SkipsTo (greatest depth : ℕ) (input : List ℕ) (at e : ℕ) : Type
   pub lies : TreeLies depth tree input at e
   pub shallow : depth + nesting tree ≤ greatest
 
--- the value there is no container
+-- a value lies at the place that is neither an array nor an object
 pub record ScalarLies (input : List ℕ) (at e : ℕ) : Type 0 where
   pub tree : Json
   pub lies : TreeLies 1 tree input at e
@@ -41,7 +41,7 @@ BeginsAs input at (Some (Container is_object inside)) = Lies (IsByte (opening is
 BeginsAs input at (Some (Scalar e)) = ScalarLies input at e
 BeginsAs input at None = NoValueLies input at
 
--- another value is due at c
+-- another value of the object or the array is due at c, in an object behind its name
 abbrev pub ValueBegins : List ℕ → ℕ → Bool → Bool → ℕ → Type 0
 ValueBegins input at true entered c = (raw : List ℕ) × Names entered input at raw c
 ValueBegins input at false entered c = ElementBegins input at entered c

@@ -13,7 +13,7 @@ use Rattle.smithy_json_codec.specs.Private.BytePlaces.{same_end, ends_ahead, pas
 pub past_value : (x : Json) (s r : List ℕ) → (h : IsFront (IsValue x) s r) → without_ws s ≡ h.1 ++ r
 past_value x s r h = ap without_ws h.2 ∙ past_ws h.0 (h.1 ++ r) h.3 (begins_stops h.1 r (value_begins x h.1 h.4))
 
--- so the first byte there is one with which a value begins
+-- a value that lies behind white space begins there with a byte that begins a value
 pub value_first : (x : Json) (s r : List ℕ) → IsFront (IsValue x) s r → begins_value (first (without_ws s)) ≡ true
 value_first x s r h = rw (past_value x s r h) (begins_first h.1 r (value_begins x h.1 h.4))
 

@@ -148,7 +148,7 @@ end_takes_one : (s : Form) (i : List ℕ) (b : ℕ) (m : Mark) (e : ℕ) → jso
 end_takes_one as_array i b m e h = across_end_array i b e h
 end_takes_one as_object i b m e h = across_end_object i b e h
 
--- and of the count of brackets
+-- all that the laws of reading need of the count of brackets
 pub json_bounds_openers : BoundsOpeners json_frames
 json_bounds_openers = record {
   over_is_empty = λ i a over some. omega (arith, some, ap length over.0);

@@ -13,11 +13,11 @@ pub struct MemoryFiles {
     pub entries: BTreeMap<String, Vec<u8>>,
     /// The numbers, from 1, of the calls that fail.
     pub fail: Vec<u64>,
-    /// How many calls there were.
+    /// How many calls of `load` there were.
     pub calls: u64,
     /// The faults of each path that is held.
     pub faults: u64,
-    /// The faults of each path that isn't.
+    /// The faults of each path that isn't held.
     pub misses: u64,
 }
 
@@ -52,7 +52,7 @@ impl Files for MemoryFiles {
         ensures kept { (at : List ℕ) → (files_told self.new at).content ≡ (files_told self.old at).content }
         ensures later { (at : List ℕ) → (files_told self.old at).faults ≤ (files_told self.new at).faults }
 
-        // The calls that are to fail do, and those of a path that isn't held.
+        // Loads fail at the calls that are to fail, and for a path that isn't held.
         ensures calls { self.new.calls ≡ counted self.old.calls }
         ensures fails { Contains self.old.fail.items self.new.calls → IsErrOf result LoadFault.Failed }
         ensures fails_only { IsErrOf result LoadFault.Failed → Contains self.old.fail.items self.new.calls ⊎ IsNone (get_by_text self.old.entries path.now) }

@@ -8,17 +8,17 @@ use std::alloc::{AllocError, Global};
 /// A sink that keeps what it takes in memory. It holds nothing back.
 #[derive(Drop)]
 pub struct MemorySink {
-    /// What it took.
+    /// The bytes that the sink took.
     pub bytes: Vec<u8>,
     /// The most bytes that one call takes, at least 1.
     pub piece: usize,
-    /// The most bytes that it takes in all.
+    /// The most bytes that the sink takes in all.
     pub room: usize,
     /// The numbers, from 1, of the calls that fail.
     pub fail: Vec<u64>,
     /// How many calls there were.
     pub calls: u64,
-    /// How many of them failed.
+    /// How many calls failed.
     pub faults: u64,
     ghost within: { length bytes.items ≤ room },
     ghost reserved: { room ≤ vec_capacity bytes },
@@ -68,7 +68,7 @@ impl Sink for MemorySink {
         ensures counts { IsCounted result (sink_told self.old) (sink_told self.new) }
         ensures later { (sink_told self.old).faults ≤ (sink_told self.new).faults }
 
-        // The calls that are to fail do, and those that find no room; the others take as much as they may.
+        // Writes fail at the calls that are to fail, and where no room is left. The others take as much as they may.
         ensures calls { self.new.calls ≡ counted self.old.calls }
         ensures fails { Contains self.old.fail.items self.new.calls → IsErr result }
         ensures fails_only { IsErr result → Contains self.old.fail.items self.new.calls ⊎ (self.old.room ≡ length self.old.bytes.items) }

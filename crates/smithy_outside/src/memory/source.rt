@@ -9,7 +9,7 @@ use crate::outside::{Failed, Source};
 pub struct MemorySource {
     /// All bytes, also those that were given.
     pub bytes: Vec<u8>,
-    /// How many were given.
+    /// How many of the bytes were given.
     pub at: usize,
     /// The most bytes that one call gives, at least 1.
     pub piece: usize,
@@ -17,7 +17,7 @@ pub struct MemorySource {
     pub fail: Vec<u64>,
     /// How many calls there were.
     pub calls: u64,
-    /// How many of them failed.
+    /// How many calls failed.
     pub faults: u64,
     ghost within: { at ≤ length bytes.items },
     ghost some: { 0 < piece },
@@ -59,7 +59,7 @@ impl Source for MemorySource {
         ensures counts { IsCounted result (source_told self.old) (source_told self.new) }
         ensures later { (source_told self.old).faults ≤ (source_told self.new).faults }
 
-        // The calls that are to fail do, and no others; the others give as much as they may.
+        // Reads fail at the calls that are to fail, and at no others. The others give as much as they may.
         ensures calls { self.new.calls ≡ counted self.old.calls }
         ensures fails { IsErr result ↔ Contains self.old.fail.items self.new.calls }
         ensures as_much { IfOk result (λ count. count ≡ min (min (length self.old.bytes.items - self.old.at) self.old.piece) (length into.new)) }

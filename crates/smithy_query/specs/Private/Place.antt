@@ -37,7 +37,7 @@ LendsNextElement w place =
     follows list_row string_row w.ghost_name place.output.ghost_name
     (λ text. record w.now { output = record w.now.output { now = text }; next_index = counted place.path w.now.next_index })
 
--- the same of a map and an entry
+-- what is written through the borrow is the map's text, and an entry is counted that has a path
 abbrev pub LendsNextEntry : MutBor MapWriter → Place → Fml
 LendsNextEntry w place =
     follows map_row string_row w.ghost_name place.output.ghost_name

@@ -17,7 +17,7 @@ closed_out : (s : QueryState) (marks : List Mark) (opens : List Open) → (close
 closed_out s [] opens = refl
 closed_out s (m ∷ marks) opens = refl
 
--- what is made has the open containers that it is told of
+-- a state that a call makes has the open containers that the call is told of
 made_opens : (e : Event) (s : QueryState) (opens : List Open) → (made e s opens).opens ≡ opens
 made_opens (begin_structure site) s opens = refl
 made_opens end_structure s opens = closed_opens s s.marks opens
@@ -31,7 +31,7 @@ made_opens (big_integer_of site written) s opens = refl
 made_opens (big_decimal_of site written) s opens = refl
 made_opens (document_of site d) s opens = refl
 
--- and its text begins with the one before
+-- the text of a state that a call makes begins with the text before the call
 made_grows : (e : Event) (s : QueryState) (opens : List Open) → (more : List ℕ) × ((made e s opens).out ≡ s.out ++ more)
 made_grows (begin_structure site) s opens = ([], sym (append-nil s.out))
 made_grows end_structure s opens = ([], closed_out s s.marks opens ∙ sym (append-nil s.out))
@@ -45,7 +45,7 @@ made_grows (big_integer_of site written) s opens = (pair_text (child_prefix s si
 made_grows (big_decimal_of site written) s opens = (pair_text (child_prefix s site.view) written, refl)
 made_grows (document_of site d) s opens = ([], sym (append-nil s.out))
 
--- the containers of the state that is made
+-- where a call is taken, the state that it makes has the open containers that the call is told of
 pub taken_opens : (e : Event) (s t : QueryState) (can : Bool) (opens : Result (List Open) SerdeError)
     → where_taken (made e s) (allowed can opens) ≡ Ok t → opens ≡ Ok t.opens
 taken_opens e s t true (Ok opens) h =
@@ -53,7 +53,7 @@ taken_opens e s t true (Ok opens) h =
 taken_opens e s t true (Err error) h = absurd (let no : ◌≡◌ {A = Result QueryState SerdeError} (Err error) (Ok t) = h in cc)
 taken_opens e s t false opens h = absurd (let no : ◌≡◌ {A = Result QueryState SerdeError} (Err Unwritable) (Ok t) = h in cc)
 
--- and what it adds to the text
+-- where a call is taken, the text of the state that it makes begins with the text before the call
 pub taken_grows : (e : Event) (s t : QueryState) (can : Bool) (opens : Result (List Open) SerdeError)
     → where_taken (made e s) (allowed can opens) ≡ Ok t → (more : List ℕ) × (t.out ≡ s.out ++ more)
 taken_grows e s t true (Ok opens) h =
@@ -63,7 +63,7 @@ taken_grows e s t true (Ok opens) h =
 taken_grows e s t true (Err error) h = absurd (let no : ◌≡◌ {A = Result QueryState SerdeError} (Err error) (Ok t) = h in cc)
 taken_grows e s t false opens h = absurd (let no : ◌≡◌ {A = Result QueryState SerdeError} (Err Unwritable) (Ok t) = h in cc)
 
--- where no serializer takes it, it is refused
+-- a call that no serializer takes is refused as `Unwritable`
 pub not_taken : (e : Event) (s : QueryState) (can : Bool) (opens : Result (List Open) SerdeError)
     → opens ≡ Err Unwritable → where_taken (made e s) (allowed can opens) ≡ Err Unwritable
 not_taken e s true opens h = ap (where_taken (made e s)) h

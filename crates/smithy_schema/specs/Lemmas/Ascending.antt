@@ -22,7 +22,7 @@ placed_ascends least n at v w rest more Less is low from rises next = (low, (is,
 placed_ascends least n at v w rest more Equal is low from rises next = (from, rises)
 placed_ascends least n at v w rest more Greater is low from rises next = (from, next is)
 
--- and still do with one more
+-- members that ascend still do with one more
 pub put_ascends : (n : ℕ) (v : Value) (least : ℕ) (ms : MemberValues) → least ≤ n → AscendFrom least ms → AscendFrom least (put_member n v ms)
 put_ascends n v least no_member_values low h = (low, tt)
 put_ascends n v least (member_value at w rest) low h =

@@ -12,7 +12,7 @@ use Rattle.smithy_schema.specs.Fits.{KeysAscendAbove, KeysAscend}
 abbrev pub byte_order : List ℕ → List ℕ → Ordering
 byte_order = slice_cmp nat_cmp
 
--- of two keys the one is behind the other as this one is before it
+-- where one key is above another, the other is below it
 pub turned : (x y : List ℕ) → byte_order x y ≡ Greater → byte_order y x ≡ Less
 turned x y h = nat_list_cmp_total.antisymm y x ∙ ap ordering_reverse h
 

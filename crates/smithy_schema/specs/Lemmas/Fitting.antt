@@ -43,12 +43,12 @@ child_fits t k q nulls place sparse nil mean v fits h = fits_apart (element_apar
     fits_apart (inl null) = (q, place, subst (FitsOr t q (is_sparse k)) (sym null.2) (rw sparse null.0))
     fits_apart (inr means) = (q, place, fits_or t q (is_sparse k) v (fits v means))
 
--- an element fits, where what its entry means does
+-- an element of a list fits, where what its entry means does
 pub element_fits : (t : Table) (k : Kind) (l : ListShape) → k ≡ list_of l → (nil : Bool) (mean : Option Value) (v : Value)
     → ((w : Value) → mean ≡ Some w → Fits t l.place w) → element_of l.is_sparse nil mean ≡ Some v → ElementFits t k v
 element_fits t k l kind = child_fits t k l.place l.is_sparse (rw kind refl) (rw kind refl)
 
--- so does a value of a map
+-- a value of a map fits, where what its entry means does
 pub map_value_fits : (t : Table) (k : Kind) (m : MapShape) → k ≡ map_of m → (nil : Bool) (mean : Option Value) (v : Value)
     → ((w : Value) → mean ≡ Some w → Fits t m.place w) → element_of m.is_sparse nil mean ≡ Some v → ElementFits t k v
 map_value_fits t k m kind = child_fits t k m.place m.is_sparse (rw kind refl) (rw kind refl)

@@ -6,7 +6,7 @@ use Rattle.smithy_schema.specs.declared.targets.Sought.TheVariants.{Timestamps, 
 use Rattle.smithy_schema.specs.Table.{is_document_target}
 use Rattle.smithy_schema.specs.Targets.{is_timestamp_target}
 
--- the target is one of these
+-- the target is what is sought: a timestamp, or a document
 abbrev pub is_sought : Sought → Target → Bool
 is_sought Timestamps = is_timestamp_target
 is_sought Documents = is_document_target

@@ -19,10 +19,7 @@ impl<'a> PlaceWords<'a> {
     {
         PlaceWords {
             target: target.as_str(),
-            time: match time {
-                Some(word) => Some(word.as_str()),
-                None => None,
-            },
+            time: time.as_deref(),
         }
     }
 }

@@ -5,7 +5,7 @@ use Rattle.smithy_transcode.specs.declared.compact_elements.CompactElements.{Com
 use Rattle.smithy_transcode.specs.declared.compact_elements.CompactElements.TheVariants.{Wholes, Values}
 use Rattle.smithy_transcode.specs.Private.Tree.{compact_elements, whole_values}
 
--- the values that they stand for, in their order
+-- the values that the elements of a half read list stand for, in their order
 abbrev pub kept_elements : CompactElements → List Value
 kept_elements (Wholes numbers) = whole_values numbers.items
 kept_elements (Values values) = compact_elements values.items

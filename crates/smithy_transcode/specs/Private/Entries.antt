@@ -6,7 +6,7 @@ use Rattle.std.specs.declared.cmp.PartialOrd as partial
 use Rattle.smithy_transcode.specs.declared.compact_entries.CompactEntries.{CompactEntries}
 use Rattle.smithy_transcode.specs.declared.compact_entries.CompactEntries.TheVariants.{Sorted, Map}
 
--- by their keys, in order
+-- the entries of a half read container, in the order of their keys
 abbrev pub kept_entries : {K V : Type 0} {order : ord.Ghosts K} {equal : eq.Ghosts K} {compare : partial.Ghosts K}
     → CompactEntries K V order equal compare → List (K × V)
 kept_entries (Sorted sorted) = sorted.entries.items

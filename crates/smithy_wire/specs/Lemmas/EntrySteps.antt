@@ -27,10 +27,10 @@ IsOneOf r k d text x mean =
 pub record FoldsBy {L : Type 0} (r : Rules L) (k : Kind) (f : Form) (d : ℕ) {S : Type 0} (step : Entry → S → Option S) : Type 0 where
   pub told : (key : Option L) (x : Node L) (mean : Place → Option Value) (s after : S) → step (entry_at r k f d key x mean) s ≡ Some after
       → IsTold f (key_text r f key)
-  -- what may be dropped is
+  -- an entry that may be dropped is dropped
   pub drops : (key : Option L) (x : Node L) (mean : Place → Option Value) (s after : S) → step (entry_at r k f d key x mean) s ≡ Some after
       → is_droppable r k (key_text r f key) x ≡ true → is_dropped r k d (key_text r f key) x ≡ true
-  -- and changes nothing
+  -- an entry that is dropped changes nothing
   pub dropped : (key : Option L) (x : Node L) (mean : Place → Option Value) (s : S) → IsTold f (key_text r f key)
       → is_dropped r k d (key_text r f key) x ≡ true → step (entry_at r k f d key x mean) s ≡ Some s
   -- each child does what its entry does
@@ -43,7 +43,7 @@ pub record FoldsBy {L : Type 0} (r : Rules L) (k : Kind) (f : Form) (d : ℕ) {S
   pub unknowns : (key : Option L) (x : Node L) (mean : Place → Option Value) (s : S) → IsStructure k
       → is_droppable r k (key_text r f key) x ≡ false → position_in r k (key_text r f key) ≡ None → may_skip r d x ≡ true
       → step (entry_at r k f d key x mean) s ≡ step (entry_of (child_unknown (key_text r f key))) s
-  -- and each entry that isn't dropped is one of them
+  -- an entry that isn't dropped is one of the children of a reader: a value, a null element, or what is skipped
   pub children : (key : Option L) (x : Node L) (mean : Place → Option Value) (s after : S) → step (entry_at r k f d key x mean) s ≡ Some after
       → is_droppable r k (key_text r f key) x ≡ false → IsOneOf r k d (key_text r f key) x mean
 

@@ -144,7 +144,7 @@ settled_means kept z wide v keeps h = cc
 settled_means kept z uncarried v keeps h = cc
 settled_means lifted z answer v keeps h = cc
 
--- and nothing is a null
+-- with the limits kept nothing is taken for a null
 no_null : {A : Type 0} (limits : Limits) (z v : A) → limits ≡ kept → where_lifted limits z ≡ Some v → ⊥
 no_null kept z v keeps h = cc
 no_null lifted z v keeps h = cc

@@ -111,7 +111,7 @@ fold_of (map_of m) f h = record {
 }
 fold_of _ f h = cc
 
--- what each entry does to it
+-- what each entry of a container does to the container's fold
 pub folds_by : {L : Type 0} (r : Rules L) (d : ℕ) (k : Kind) (f : Form) (within : is_in k f ≡ true) → FoldsBy r k f d (fold_of k f within).step
 unfolding fold_of
 folds_by r d (structure_of members) as_array h = cc

@@ -18,7 +18,7 @@ use Rattle.smithy_wire.specs.Meaning.{leaf_meaning, is_in, missing_meaning, entr
 use Rattle.smithy_wire.specs.Frames.{Frames, Drops, DropsAll, StepsIn, relations}
 use Rattle.smithy_wire.specs.Lemmas.Folds.{fold_of}
 
--- what gives something still gives it
+-- where o gives something, u gives it too
 abbrev Rises : {A : Type 0} → Option A → Option A → Type 0
 Rises {A = A} o u = (v : A) → o ≡ Some v → u ≡ Some v
 

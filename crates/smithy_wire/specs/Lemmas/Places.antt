@@ -5,9 +5,8 @@ use Rattle.smithy_types.specs.Document.{Document}
 use Rattle.smithy_types.specs.declared.number.Number.{Number}
 use Rattle.smithy_schema.specs.declared.place.Place.{Place}
 use Rattle.smithy_schema.specs.declared.shape_type.TimestampFormat.{TimestampFormat}
-use Rattle.smithy_schema.specs.Table.{Table, Kind, document, structure_of, union_of, list_of, map_of, kind_of, where_document, is_sparse, IsSparse, IsDocument, IsList, IsMap, IsStructure, HasMembers}
+use Rattle.smithy_schema.specs.Table.{Table, Kind, document, structure_of, union_of, list_of, map_of, kind_of, where_document, is_sparse, IsSparse, IsDocument, IsList, IsMap, IsStructure, HasMembers, IsContainer}
 use Rattle.smithy_schema.specs.Value.{Value}
-use Rattle.smithy_schema.specs.Reading.{IsContainer}
 use Rattle.smithy_wire.specs.Node.{Form, as_array, as_object, Node, null_node, leaf, container, missing}
 use Rattle.smithy_wire.specs.Rules.{Answer, Rules, is_shallow}
 use Rattle.smithy_wire.specs.Documents.{document_meaning, document_by}
@@ -29,7 +28,7 @@ pub list_is_array : (k : Kind) → IsList k → is_in k as_array ≡ true
 list_is_array (list_of l) h = refl
 list_is_array _ h = absurd h
 
--- and a map an object
+-- a map is an object
 pub map_is_object : (k : Kind) → IsMap k → is_in k as_object ≡ true
 map_is_object (map_of m) h = refl
 map_is_object _ h = absurd h
@@ -46,7 +45,7 @@ pub structure_is_container : (k : Kind) → IsStructure k → IsContainer k
 structure_is_container (structure_of members) h = tt
 structure_is_container _ h = absurd h
 
--- and no document
+-- a place of a container is no place of documents
 pub elsewhere : {A : Type 0} (k : Kind) (here there : A) → IsContainer k → where_document k here there ≡ there
 elsewhere (structure_of members) here there c = refl
 elsewhere (union_of members) here there c = refl

@@ -7,8 +7,8 @@ use Rattle.smithy_json_codec.proofs.documents.document_at.Given as goal
 -- the walk is inside of the innermost container, and what is left makes the document
 abbrev pub invariant-steps : goal.invariant-steps
 invariant-steps l =
-    IsWalking l.max_depth l.depth (inside (open_view l.inner) l.entered) (frames_view (vec_items l.frames)) l.input l.fn.at l.at
+    IsWalking l.input.settings.max_depth l.depth (inside (open_view l.inner) l.entered) (frames_view (vec_items l.frames)) l.input.bytes.now l.fn.at l.at
 
 -- each step goes ahead
 abbrev pub decreases-steps : goal.decreases-steps
-decreases-steps l = length l.input - l.at
+decreases-steps l = length l.input.bytes.now - l.at

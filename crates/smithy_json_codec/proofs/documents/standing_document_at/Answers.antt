@@ -9,10 +9,10 @@ may_end-requires c = c.in_ok-document.ensures.ok.lies.0.1
 
 pub returns-then-not-may_end-clause-refused : goal.returns-then-not-may_end-clause-refused
 returns-then-not-may_end-clause-refused c =
-    followed_refused c.args.max_depth c.args.depth c.args.input.now c.args.at (document_view c.in_ok-document.document) c.in_ok-document.end c.in_ok-document.ensures.ok
+    followed_refused c.args.input.settings.max_depth c.args.depth c.args.input.bytes.now c.args.at (document_view c.in_ok-document.document) c.in_ok-document.end c.in_ok-document.ensures.ok
     (λ follows. let clash : true ≡ false = sym (c.may_end.ensures.1 follows) ∙ c.if-not-may_end.true in cc)
 
 pub returns-in_err-document-clause-refused : goal.returns-in_err-document-clause-refused
 returns-in_err-document-clause-refused c =
     let p = err_from_is_err_and c.from_residual.result c.from_residual.ensures.1 in
-    rw (p.1, p.2) (lies_refused c.args.max_depth c.args.depth c.args.input.now c.args.at c.in_err-document.field-0.0 c.in_err-document.ensures.refused)
+    rw (p.1, p.2) (lies_refused c.args.input.settings.max_depth c.args.depth c.args.input.bytes.now c.args.at c.in_err-document.field-0.0 c.in_err-document.ensures.refused)

@@ -4,6 +4,7 @@ use Rattle.std.proofs.lemmas.Result.{err_from_is_err_and}
 use Rattle.smithy_schema.specs.Lemmas.Options.{same_some}
 use Rattle.smithy_schema.specs.declared.error.SerdeError.TheVariants.{TooDeep}
 use Rattle.smithy_schema.specs.Site.{site_of}
+use Rattle.smithy_json_codec.specs.Codec.{held_settings}
 use Rattle.smithy_json_codec.specs.Private.MemberSteps.{passing, passes_null}
 use Rattle.smithy_json_codec.specs.Private.PassedEntries.{type_name, IsNoMark, NoSkip, NoSkipWithin}
 use Rattle.smithy_json_codec.proofs.DeserializerLemmas.{error_of}
@@ -19,28 +20,28 @@ text_of-requires c =
 pub returns-then-passes_null-clause-ok : goal.returns-then-passes_null-clause-ok
 returns-then-passes_null-clause-ok c =
     let stands = rw c.in-Some-Member.field-0-is at c.in-Some-Member.ensures in
-    let site = site_of c.args.names.schema.now in
-    let passes = ap (passes_null c.args.names.use_json_name site) (sym c.as_str.ensures.value) ∙ (sym c.passes_null.ensures ∙ c.if-passes_null.true) in
-    null_passes (passing c.args.names.use_json_name site) c.args.max_depth c.args.depth c.args.input.now c.args.at c.args.entered c.in-Some-Member.name.raw.now c.in-Some-Member.name.end stands.names
+    let site = site_of c.args.schema.now in
+    let passes = ap (passes_null (held_settings c.args.input.settings) site) (sym c.as_str.ensures.value) ∙ (sym c.passes_null.ensures ∙ c.if-passes_null.true) in
+    null_passes (passing (held_settings c.args.input.settings) site) c.args.input.settings.max_depth c.args.depth c.args.input.bytes.now c.args.at c.args.entered c.in-Some-Member.name.raw.now c.in-Some-Member.name.end stands.names
     _ c.in_ok-text.ensures.ok passes c.in-Some.end c.in-Some.ensures.found
 
 pub returns-in-Some-clause-ok : goal.returns-in-Some-clause-ok
 returns-in-Some-clause-ok c =
     let stands = rw c.in-Some-Member.field-0-is at c.in-Some-Member.ensures in
-    let site = site_of c.args.names.schema.now in
+    let site = site_of c.args.schema.now in
     let raw = c.in-Some-Member.name.raw.now in
-    let stays = ap (passes_null c.args.names.use_json_name site) (sym c.as_str.ensures.value) ∙ (sym c.passes_null.ensures ∙ c.if-passes_null.false) in (
+    let stays = ap (passes_null (held_settings c.args.input.settings) site) (sym c.as_str.ensures.value) ∙ (sym c.passes_null.ensures ∙ c.if-passes_null.false) in (
       raw,
       c.in_ok-text.ensures.ok,
       stands.names,
-      no_mark_kept c.args.names.use_json_name site raw _ c.in_ok-text.ensures.ok stays,
-      null_kept (passing c.args.names.use_json_name site) c.args.max_depth c.args.depth c.args.input.now c.args.at c.args.entered raw c.in-Some-Member.name.end stands.names _ c.in_ok-text.ensures.ok stays,
+      no_mark_kept (held_settings c.args.input.settings) site raw _ c.in_ok-text.ensures.ok stays,
+      null_kept (passing (held_settings c.args.input.settings) site) c.args.input.settings.max_depth c.args.depth c.args.input.bytes.now c.args.at c.args.entered raw c.in-Some-Member.name.end stands.names _ c.in_ok-text.ensures.ok stays,
     )
 
 pub returns-then-not-is_type_name-clause-ok : goal.returns-then-not-is_type_name-clause-ok
 returns-then-not-is_type_name-clause-ok c =
     let stands = rw c.in-Some-Member.field-0-is at c.in-Some-Member.ensures in
-    let marks = (passing c.args.names.use_json_name (site_of c.args.names.schema.now)) in
+    let marks = (passing (held_settings c.args.input.settings) (site_of c.args.schema.now)) in
     let other : IsNoMark marks c.in-Some-Member.name.raw.now = elim c.then-not-is_type_name.branch [
       | then-not-is_type_name-via-then-not-is_type_name w ↦ λ passes is.
           let same = same_some (cow_str_bytes c.in_ok-text.text) type_name (sym c.in_ok-text.ensures.ok ∙ is) in
@@ -55,7 +56,7 @@ pub returns-clause-ok : goal.returns-clause-ok
 returns-clause-ok c =
     let stands = rw c.in-Some-Member.field-0-is at c.in-Some-Member.ensures in
     let is = c.in_ok-text.ensures.ok ∙ ap Some (sym c.as_str-2.ensures.value ∙ c.is_type_name.ensures.0 c.if-not-is_type_name.false) in
-    mark_passes (passing c.args.names.use_json_name (site_of c.args.names.schema.now)) c.args.max_depth c.args.depth c.args.input.now c.args.at c.args.entered c.in-Some-Member.name.raw.now c.in-Some-Member.name.end stands.names
+    mark_passes (passing (held_settings c.args.input.settings) (site_of c.args.schema.now)) c.args.input.settings.max_depth c.args.depth c.args.input.bytes.now c.args.at c.args.entered c.in-Some-Member.name.raw.now c.in-Some-Member.name.end stands.names
     (sym c.passes_marks.ensures ∙ c.if-not-passes_marks.false) is c.in_ok-end.end c.in_ok-end.ensures.ok
 
 pub returns-in_err-end-clause-refused : goal.returns-in_err-end-clause-refused
@@ -64,8 +65,8 @@ returns-in_err-end-clause-refused c =
     rw (p.1, p.2) (λ fault.
     let stands = rw c.in-Some-Member.field-0-is at c.in-Some-Member.ensures in
     let is = c.in_ok-text.ensures.ok ∙ ap Some (sym c.as_str-2.ensures.value ∙ c.is_type_name.ensures.0 c.if-not-is_type_name.false) in
-    mark_stays (passing c.args.names.use_json_name (site_of c.args.names.schema.now)) c.args.max_depth c.args.depth c.args.input.now c.args.at c.args.entered c.in-Some-Member.name.raw.now c.in-Some-Member.name.end stands.names
-    (sym c.passes_marks.ensures ∙ c.if-not-passes_marks.false) is (λ e lies passes. c.in_default.ensures.none e lies) (NoSkipWithin c.args.max_depth c.args.depth c.args.input.now) c.in_err-end.ensures.refused)
+    mark_stays (passing (held_settings c.args.input.settings) (site_of c.args.schema.now)) c.args.input.settings.max_depth c.args.depth c.args.input.bytes.now c.args.at c.args.entered c.in-Some-Member.name.raw.now c.in-Some-Member.name.end stands.names
+    (sym c.passes_marks.ensures ∙ c.if-not-passes_marks.false) is (λ e lies passes. c.in_default.ensures.none e lies) (NoSkipWithin c.args.input.settings.max_depth c.args.depth c.args.input.bytes.now) c.in_err-end.ensures.refused)
 
 pub returns-in_err-end-clause-would : goal.returns-in_err-end-clause-would
 returns-in_err-end-clause-would c =
@@ -73,21 +74,21 @@ returns-in_err-end-clause-would c =
     rw (p.1, p.2) (λ invalid.
     let stands = rw c.in-Some-Member.field-0-is at c.in-Some-Member.ensures in
     let is = c.in_ok-text.ensures.ok ∙ ap Some (sym c.as_str-2.ensures.value ∙ c.is_type_name.ensures.0 c.if-not-is_type_name.false) in
-    mark_stays (passing c.args.names.use_json_name (site_of c.args.names.schema.now)) c.args.max_depth c.args.depth c.args.input.now c.args.at c.args.entered c.in-Some-Member.name.raw.now c.in-Some-Member.name.end stands.names
-    (sym c.passes_marks.ensures ∙ c.if-not-passes_marks.false) is (λ e lies passes. c.in_default.ensures.none e lies) (NoSkip c.args.depth c.args.input.now) (c.in_err-end.ensures.would invalid))
+    mark_stays (passing (held_settings c.args.input.settings) (site_of c.args.schema.now)) c.args.input.settings.max_depth c.args.depth c.args.input.bytes.now c.args.at c.args.entered c.in-Some-Member.name.raw.now c.in-Some-Member.name.end stands.names
+    (sym c.passes_marks.ensures ∙ c.if-not-passes_marks.false) is (λ e lies passes. c.in_default.ensures.none e lies) (NoSkip c.args.depth c.args.input.bytes.now) (c.in_err-end.ensures.would invalid))
 
 pub returns-in_err-end-clause-deep : goal.returns-in_err-end-clause-deep
 returns-in_err-end-clause-deep c =
     let p = err_from_is_err_and c.from_residual-in_err-end.result c.from_residual-in_err-end.ensures.1 in
     rw (p.1, p.2) (λ deep.
     let stands = rw c.in-Some-Member.field-0-is at c.in-Some-Member.ensures in
-    reaches_from_name (passing c.args.names.use_json_name (site_of c.args.names.schema.now)) c.args.max_depth c.args.depth c.args.input.now c.args.at c.args.entered c.in-Some-Member.name.raw.now c.in-Some-Member.name.end stands.names
-    c.args.max_depth (c.in_err-end.ensures.deep (ap Err (error_of c.in_err-end.field-0.0 TooDeep deep))))
+    reaches_from_name (passing (held_settings c.args.input.settings) (site_of c.args.schema.now)) c.args.input.settings.max_depth c.args.depth c.args.input.bytes.now c.args.at c.args.entered c.in-Some-Member.name.raw.now c.in-Some-Member.name.end stands.names
+    c.args.input.settings.max_depth (c.in_err-end.ensures.deep (ap Err (error_of c.in_err-end.field-0.0 TooDeep deep))))
 
 pub returns-in_err-end-clause-too_deep : goal.returns-in_err-end-clause-too_deep
 returns-in_err-end-clause-too_deep c =
     let p = err_from_is_err_and c.from_residual-in_err-end.result c.from_residual-in_err-end.ensures.1 in
     rw (p.1, p.2) (λ deep.
     let stands = rw c.in-Some-Member.field-0-is at c.in-Some-Member.ensures in
-    too_deep_from_name (passing c.args.names.use_json_name (site_of c.args.names.schema.now)) c.args.max_depth c.args.depth c.args.input.now c.args.at c.args.entered c.in-Some-Member.name.raw.now c.in-Some-Member.name.end stands.names
-    c.args.max_depth (c.in_err-end.ensures.too_deep (ap Err (error_of c.in_err-end.field-0.0 TooDeep deep))))
+    too_deep_from_name (passing (held_settings c.args.input.settings) (site_of c.args.schema.now)) c.args.input.settings.max_depth c.args.depth c.args.input.bytes.now c.args.at c.args.entered c.in-Some-Member.name.raw.now c.in-Some-Member.name.end stands.names
+    c.args.input.settings.max_depth (c.in_err-end.ensures.too_deep (ap Err (error_of c.in_err-end.field-0.0 TooDeep deep))))

@@ -16,26 +16,26 @@ pub returns-then-depth-open-clause-refused : goal.returns-then-depth-open-clause
 returns-then-depth-open-clause-refused c =
     let step = rw c.in-IntoContainer.is at c.in-Some.ensures in
     let bracket = step.1 in
-    opens_too_deep c.args.max_depth c.args.depth c.loop-due.is_object c.loop-due.open c.loop-due.due c.loop-due.entered c.args.input.now c.args.at c.loop-due.at
+    opens_too_deep c.args.input.settings.max_depth c.args.depth c.loop-due.is_object c.loop-due.open c.loop-due.due c.loop-due.entered c.args.input.bytes.now c.args.at c.loop-due.at
     c.loop-due.invariant.way c.loop-due.invariant.within c.loop-due.invariant.shallow step.0 c.in-IntoContainer.kind c.in-IntoContainer.inside bracket c.if-depth-open.true
 
 pub returns-then-depth-open-clause-deep : goal.returns-then-depth-open-clause-deep
 returns-then-depth-open-clause-deep c = λ deep.
-    reaches_depth c.args.input.now c.args.at c.args.max_depth c.args.depth c.loop-due.open c.loop-due.at c.loop-due.invariant.opens c.if-depth-open.true
+    reaches_depth c.args.input.bytes.now c.args.at c.args.input.settings.max_depth c.args.depth c.loop-due.open c.loop-due.at c.loop-due.invariant.opens c.if-depth-open.true
 
 pub returns-then-depth-open-clause-too_deep : goal.returns-then-depth-open-clause-too_deep
 returns-then-depth-open-clause-too_deep c = λ deep.
     let step = rw c.in-IntoContainer.is at c.in-Some.ensures in
     let bracket = step.1 in
-    comes_too_deep c.args.depth c.loop-due.is_object c.loop-due.open c.loop-due.due c.loop-due.entered c.args.input.now c.args.at c.loop-due.at
-    c.loop-due.invariant.come step.0 c.in-IntoContainer.kind c.in-IntoContainer.inside c.args.max_depth bracket c.loop-due.invariant.shallow c.if-depth-open.true
+    comes_too_deep c.args.depth c.loop-due.is_object c.loop-due.open c.loop-due.due c.loop-due.entered c.args.input.bytes.now c.args.at c.loop-due.at
+    c.loop-due.invariant.come step.0 c.in-IntoContainer.kind c.in-IntoContainer.inside c.args.input.settings.max_depth bracket c.loop-due.invariant.shallow c.if-depth-open.true
 
 pub loop-due-smaller-in-PastScalar : goal.loop-due-smaller-in-PastScalar
 loop-due-smaller-in-PastScalar c =
     let step = rw c.in-PastScalar.is at c.in-Some.ensures in
     let scalar = step.1 in
-    falls_ahead (length c.args.input.now) c.loop-due.at c.in-PastScalar.end c.loop-due.due
-    (scalar_ahead c.args.input.now c.loop-due.at c.in-PastScalar.end scalar) scalar.lies.0.1
+    falls_ahead (length c.args.input.bytes.now) c.loop-due.at c.in-PastScalar.end c.loop-due.due
+    (scalar_ahead c.args.input.bytes.now c.loop-due.at c.in-PastScalar.end scalar) scalar.lies.0.1
 
 pub loop-due-preserved-in-PastScalar : goal.loop-due-preserved-in-PastScalar
 loop-due-preserved-in-PastScalar c =
@@ -45,10 +45,10 @@ loop-due-preserved-in-PastScalar c =
       within = scalar.lies.0.1;
       room = c.loop-due.invariant.room;
       shallow = c.loop-due.invariant.shallow;
-      way = scalar_passed c.args.max_depth c.args.depth c.loop-due.is_object c.loop-due.open c.loop-due.due c.loop-due.entered c.args.input.now c.args.at c.loop-due.at
+      way = scalar_passed c.args.input.settings.max_depth c.args.depth c.loop-due.is_object c.loop-due.open c.loop-due.due c.loop-due.entered c.args.input.bytes.now c.args.at c.loop-due.at
           c.loop-due.invariant.way c.loop-due.invariant.within c.loop-due.invariant.shallow step.0 c.in-PastScalar.end scalar;
-      opens = opens_past_scalar c.args.input.now c.args.at c.loop-due.open c.loop-due.at c.in-PastScalar.end c.loop-due.invariant.opens scalar;
-      come = comes_past_scalar c.args.depth c.loop-due.is_object c.loop-due.open c.loop-due.due c.loop-due.entered c.args.input.now c.args.at c.loop-due.at
+      opens = opens_past_scalar c.args.input.bytes.now c.args.at c.loop-due.open c.loop-due.at c.in-PastScalar.end c.loop-due.invariant.opens scalar;
+      come = comes_past_scalar c.args.depth c.loop-due.is_object c.loop-due.open c.loop-due.due c.loop-due.entered c.args.input.bytes.now c.args.at c.loop-due.at
           c.loop-due.invariant.come step.0 c.in-PastScalar.end scalar;
     }
 
@@ -56,8 +56,8 @@ pub loop-due-smaller-in-IntoContainer : goal.loop-due-smaller-in-IntoContainer
 loop-due-smaller-in-IntoContainer c =
     let step = rw c.in-IntoContainer.is at c.in-Some.ensures in
     let bracket = step.1 in
-    falls_ahead (length c.args.input.now) c.loop-due.at c.in-IntoContainer.inside c.loop-due.due
-    (byte_ahead (opening c.in-IntoContainer.kind) c.args.input.now c.loop-due.at c.in-IntoContainer.inside bracket) bracket.1
+    falls_ahead (length c.args.input.bytes.now) c.loop-due.at c.in-IntoContainer.inside c.loop-due.due
+    (byte_ahead (opening c.in-IntoContainer.kind) c.args.input.bytes.now c.loop-due.at c.in-IntoContainer.inside bracket) bracket.1
 
 pub loop-due-preserved-in-IntoContainer : goal.loop-due-preserved-in-IntoContainer
 loop-due-preserved-in-IntoContainer c =
@@ -67,10 +67,10 @@ loop-due-preserved-in-IntoContainer c =
       within = bracket.1;
       room = length-set c.loop-due.is_object c.loop-due.open c.in-IntoContainer.kind ∙ c.loop-due.invariant.room;
       shallow = omega (arith, c.if-depth-open.false);
-      way = container_opened c.args.max_depth c.args.depth c.loop-due.is_object c.loop-due.open c.loop-due.due c.loop-due.entered c.args.input.now c.args.at c.loop-due.at
+      way = container_opened c.args.input.settings.max_depth c.args.depth c.loop-due.is_object c.loop-due.open c.loop-due.due c.loop-due.entered c.args.input.bytes.now c.args.at c.loop-due.at
           c.loop-due.invariant.way c.loop-due.invariant.within c.loop-due.invariant.shallow step.0 c.in-IntoContainer.kind c.in-IntoContainer.inside bracket (omega arith);
-      opens = opens_into_container c.args.input.now c.args.at c.loop-due.open c.loop-due.at c.in-IntoContainer.inside c.loop-due.invariant.opens c.in-IntoContainer.kind bracket;
-      come = comes_into_container c.args.depth c.loop-due.is_object c.loop-due.open c.loop-due.due c.loop-due.entered c.args.input.now c.args.at c.loop-due.at
+      opens = opens_into_container c.args.input.bytes.now c.args.at c.loop-due.open c.loop-due.at c.in-IntoContainer.inside c.loop-due.invariant.opens c.in-IntoContainer.kind bracket;
+      come = comes_into_container c.args.depth c.loop-due.is_object c.loop-due.open c.loop-due.due c.loop-due.entered c.args.input.bytes.now c.args.at c.loop-due.at
           c.loop-due.invariant.come step.0 c.in-IntoContainer.kind c.in-IntoContainer.inside bracket (omega arith);
     }
 
@@ -81,23 +81,23 @@ loop-due-preserved-in-ToValue c =
       | then-due w ↦ absurd (at_odds w.if-due.true step.0)
       | else-due+then-open-gt0 w ↦ w.if-open-gt0.true
     ] in
-    let place = value_place c.args.input.now c.loop-due.at _ c.loop-due.entered c.in-ToValue.start step.1 c.loop-due.invariant.within in
+    let place = value_place c.args.input.bytes.now c.loop-due.at _ c.loop-due.entered c.in-ToValue.start step.1 c.loop-due.invariant.within in
     record {
       within = place.1;
       room = c.loop-due.invariant.room;
       shallow = c.loop-due.invariant.shallow;
-      way = value_begun c.args.max_depth c.args.depth c.loop-due.is_object c.loop-due.open c.loop-due.due c.loop-due.entered c.args.input.now c.args.at c.loop-due.at
+      way = value_begun c.args.input.settings.max_depth c.args.depth c.loop-due.is_object c.loop-due.open c.loop-due.due c.loop-due.entered c.args.input.bytes.now c.args.at c.loop-due.at
           c.loop-due.invariant.way c.loop-due.invariant.within c.loop-due.invariant.shallow step.0 some c.in-ToValue.start step.1;
-      opens = opens_to_value c.args.input.now c.args.at c.loop-due.open c.loop-due.at c.in-ToValue.start c.loop-due.invariant.opens _ c.loop-due.entered step.1;
-      come = comes_to_value c.args.depth c.loop-due.is_object c.loop-due.open c.loop-due.due c.loop-due.entered c.args.input.now c.args.at c.loop-due.at
+      opens = opens_to_value c.args.input.bytes.now c.args.at c.loop-due.open c.loop-due.at c.in-ToValue.start c.loop-due.invariant.opens _ c.loop-due.entered step.1;
+      come = comes_to_value c.args.depth c.loop-due.is_object c.loop-due.open c.loop-due.due c.loop-due.entered c.args.input.bytes.now c.args.at c.loop-due.at
           c.loop-due.invariant.come step.0 some c.in-ToValue.start step.1;
     }
 
 pub loop-due-smaller : goal.loop-due-smaller
 loop-due-smaller c =
     let step = rw c.in-OutOfContainer.is at c.in-Some.ensures in
-    falls_on (length c.args.input.now) c.loop-due.at c.in-OutOfContainer.end c.loop-due.due
-    (byte_ahead (closing _) c.args.input.now c.loop-due.at c.in-OutOfContainer.end step.1.0) step.1.0.1
+    falls_on (length c.args.input.bytes.now) c.loop-due.at c.in-OutOfContainer.end c.loop-due.due
+    (byte_ahead (closing _) c.args.input.bytes.now c.loop-due.at c.in-OutOfContainer.end step.1.0) step.1.0.1
 
 pub loop-due-preserved : goal.loop-due-preserved
 loop-due-preserved c =
@@ -110,10 +110,10 @@ loop-due-preserved c =
       within = step.1.0.1;
       room = c.loop-due.invariant.room;
       shallow = omega (arith, c.loop-due.invariant.shallow);
-      way = container_closed c.args.max_depth c.args.depth c.loop-due.is_object c.loop-due.open c.loop-due.due c.loop-due.entered c.args.input.now c.args.at c.loop-due.at
+      way = container_closed c.args.input.settings.max_depth c.args.depth c.loop-due.is_object c.loop-due.open c.loop-due.due c.loop-due.entered c.args.input.bytes.now c.args.at c.loop-due.at
           c.loop-due.invariant.way c.loop-due.invariant.within c.loop-due.invariant.shallow step.0 some c.in-OutOfContainer.end step.1;
-      opens = opens_out_of_container c.args.input.now c.args.at c.loop-due.open c.loop-due.at c.in-OutOfContainer.end c.loop-due.invariant.opens _ _ some step.1;
-      come = comes_out_of_container c.args.depth c.loop-due.is_object c.loop-due.open c.loop-due.due c.loop-due.entered c.args.input.now c.args.at c.loop-due.at
+      opens = opens_out_of_container c.args.input.bytes.now c.args.at c.loop-due.open c.loop-due.at c.in-OutOfContainer.end c.loop-due.invariant.opens _ _ some step.1;
+      come = comes_out_of_container c.args.depth c.loop-due.is_object c.loop-due.open c.loop-due.due c.loop-due.entered c.args.input.bytes.now c.args.at c.loop-due.at
           c.loop-due.invariant.come step.0 some c.in-OutOfContainer.end step.1;
     }
 
@@ -123,8 +123,8 @@ returns-in_default-clause-refused c =
       | then-due w ↦ absurd (at_odds w.if-due.true is)
       | else-due+then-open-gt0 w ↦ w.if-open-gt0.true
     ] in
-    no_next_step c.args.max_depth c.args.depth c.loop-due.is_object c.loop-due.open c.loop-due.due c.loop-due.entered c.args.input.now c.args.at c.loop-due.at
-    c.loop-due.invariant.way c.loop-due.invariant.within c.loop-due.invariant.shallow some (rw c.in_default.is at c.next_step.ensures) c.args.max_depth
+    no_next_step c.args.input.settings.max_depth c.args.depth c.loop-due.is_object c.loop-due.open c.loop-due.due c.loop-due.entered c.args.input.bytes.now c.args.at c.loop-due.at
+    c.loop-due.invariant.way c.loop-due.invariant.within c.loop-due.invariant.shallow some (rw c.in_default.is at c.next_step.ensures) c.args.input.settings.max_depth
 
 pub returns-in_default-clause-would : goal.returns-in_default-clause-would
 returns-in_default-clause-would c = λ invalid.
@@ -132,5 +132,5 @@ returns-in_default-clause-would c = λ invalid.
       | then-due w ↦ absurd (at_odds w.if-due.true is)
       | else-due+then-open-gt0 w ↦ w.if-open-gt0.true
     ] in
-    no_next_step c.args.max_depth c.args.depth c.loop-due.is_object c.loop-due.open c.loop-due.due c.loop-due.entered c.args.input.now c.args.at c.loop-due.at
+    no_next_step c.args.input.settings.max_depth c.args.depth c.loop-due.is_object c.loop-due.open c.loop-due.due c.loop-due.entered c.args.input.bytes.now c.args.at c.loop-due.at
     c.loop-due.invariant.way c.loop-due.invariant.within c.loop-due.invariant.shallow some (rw c.in_default.is at c.next_step.ensures)

@@ -9,14 +9,14 @@ use Rattle.smithy_json_codec.proofs.skip.container_end.Given as goal
 -- come in each open container is whole
 abbrev pub invariant-loop-due : goal.invariant-loop-due
 invariant-loop-due l = record {
-  within : l.at ≤ length l.input;
+  within : l.at ≤ length l.input.bytes.now;
   room : length l.is_object ≡ 512;
-  shallow : l.depth + l.open ≤ l.max_depth;
-  way : IsOnTheWay l.max_depth l.depth (stack_of l.is_object l.open) l.due l.entered l.input l.fn.at l.at;
-  opens : OpensInAll l.input l.fn.at l.open l.at;
-  come : HasCome (stack_of l.is_object l.open) l.due l.entered l.input l.fn.at l.at;
+  shallow : l.depth + l.open ≤ l.input.settings.max_depth;
+  way : IsOnTheWay l.input.settings.max_depth l.depth (stack_of l.is_object l.open) l.due l.entered l.input.bytes.now l.fn.at l.at;
+  opens : OpensInAll l.input.bytes.now l.fn.at l.open l.at;
+  come : HasCome (stack_of l.is_object l.open) l.due l.entered l.input.bytes.now l.fn.at l.at;
 }
 
 -- each step goes ahead, but that to the first element of a list, where a value is due then
 abbrev pub decreases-loop-due : goal.decreases-loop-due
-decreases-loop-due l = 2 * (length l.input - l.at) + cond l.due 0 1
+decreases-loop-due l = 2 * (length l.input.bytes.now - l.at) + cond l.due 0 1

@@ -3,7 +3,7 @@ use Rattle.std.proofs.lemmas.List.{drop_all}
 use Rattle.smithy_schema.specs.Value.{values_of, nesting}
 use Rattle.smithy_query_codec.specs.Nulls.{elements_hold_null}
 use Rattle.smithy_transcode.specs.Private.Tree.{entry_views, member_views, entries, entries_left, part_view}
-use Rattle.smithy_transcode.proofs.Lists as lists
+use Rattle.smithy_schema.proofs.WrittenLists as lists
 use Rattle.smithy_transcode.proofs.Maps as maps
 use Rattle.smithy_transcode.proofs.Structures as structures
 use Rattle.smithy_transcode.proofs.NullsHeld as nulls

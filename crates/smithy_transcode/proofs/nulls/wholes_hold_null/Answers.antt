@@ -1,6 +1,6 @@
 use Rattle.std.proofs.Common.{arith, sym}
 use Rattle.smithy_transcode.specs.Private.Tree.{whole_value, whole_values}
-use Rattle.smithy_transcode.proofs.Lists as lists
+use Rattle.smithy_schema.proofs.WrittenLists as lists
 use Rattle.smithy_transcode.proofs.NullsHeld as nulls
 use Rattle.smithy_transcode.proofs.nulls.wholes_hold_null.Goals as goal
 

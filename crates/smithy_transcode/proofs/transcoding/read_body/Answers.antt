@@ -3,7 +3,7 @@ use Rattle.smithy_json_codec.specs.Cursor.{cursor_of, reading_settings_of}
 use Rattle.smithy_cbor_codec.specs.Cursor.{cursor_of as cbor_cursor_of, reading_settings_of as cbor_settings_of}
 use Rattle.smithy_transcode.specs.Wires.{wire_of}
 use Rattle.smithy_transcode.specs.Private.Tree.{compact_view as view}
-use Rattle.smithy_transcode.proofs.Begun.{json_begins, cbor_begins, read_is_spelled, unread_spells_nothing, unread_spells_nothing_without_limits, deep_opens, exceeds_is_wide, uncarried_is_told, had_not_failed}
+use Rattle.smithy_transcode.proofs.Begun.{json_begins, cbor_begins, read_is_spelled, unread_spells_nothing, unread_spells_nothing_without_limits, is_too_deep, exceeds_is_wide, uncarried_is_told, had_not_failed}
 use Rattle.smithy_transcode.proofs.Mapped.{mapped_ok}
 use Rattle.smithy_transcode.proofs.transcoding.read_body.Goals as goal
 
@@ -25,7 +25,7 @@ returns-in-Json-clause-would c =
 pub returns-in-Json-clause-deep : goal.returns-in-Json-clause-deep
 returns-in-Json-clause-deep c =
     let begins = json_begins (wire_of c.args.from.now) c.in-Json.use_json_name (reading_settings_of c.create_deserializer-source.result) (cursor_of c.create_deserializer-source.result) c.schema-schema.result c.args.shapes.now c.args.root.0 c.args.input.now (ap wire_of c.in-Json.is) (c.create_deserializer-source.ensures.settings ∙ c.strict.ensures) c.create_deserializer-source.ensures.fresh c.schema-schema.ensures.site c.requires.root in
-    deep_opens begins c.read_tree.result (cursor_of c.read_tree.new.source) c.read_tree.ensures.reads.refused c.read_tree.ensures.reads.input (c.read_tree.ensures.reads.counted tt) c.read_tree.ensures.reads.deep
+    is_too_deep begins c.read_tree.result (cursor_of c.read_tree.new.source) c.read_tree.ensures.reads.refused c.read_tree.ensures.reads.input (c.read_tree.ensures.reads.counted tt) c.read_tree.ensures.reads.deep c.read_tree.ensures.reads.nested
 
 pub returns-in-Cbor-clause-ok : goal.returns-in-Cbor-clause-ok
 returns-in-Cbor-clause-ok c =
@@ -45,7 +45,7 @@ returns-in-Cbor-clause-would c =
 pub returns-in-Cbor-clause-deep : goal.returns-in-Cbor-clause-deep
 returns-in-Cbor-clause-deep c =
     let begins = cbor_begins (wire_of c.args.from.now) (cbor_settings_of c.create_deserializer-source-in-Cbor.result) (cbor_cursor_of c.create_deserializer-source-in-Cbor.result) c.schema-schema.result c.args.shapes.now c.args.root.0 c.args.input.now (ap wire_of c.in-Cbor.is) (c.create_deserializer-source-in-Cbor.ensures.settings ∙ c.strict-in-Cbor.ensures) c.create_deserializer-source-in-Cbor.ensures.fresh c.schema-schema.ensures.site c.requires.root in
-    deep_opens begins c.read_tree-in-Cbor.result (cbor_cursor_of c.read_tree-in-Cbor.new.source) c.read_tree-in-Cbor.ensures.reads.refused c.read_tree-in-Cbor.ensures.reads.input (c.read_tree-in-Cbor.ensures.reads.counted tt) c.read_tree-in-Cbor.ensures.reads.deep
+    is_too_deep begins c.read_tree-in-Cbor.result (cbor_cursor_of c.read_tree-in-Cbor.new.source) c.read_tree-in-Cbor.ensures.reads.refused c.read_tree-in-Cbor.ensures.reads.input (c.read_tree-in-Cbor.ensures.reads.counted tt) c.read_tree-in-Cbor.ensures.reads.deep c.read_tree-in-Cbor.ensures.reads.nested
 
 pub returns-in-Json-clause-wide : goal.returns-in-Json-clause-wide
 returns-in-Json-clause-wide c =

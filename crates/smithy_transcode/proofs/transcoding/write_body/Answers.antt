@@ -3,6 +3,7 @@ use Rattle.smithy_schema.specs.Site.{Site, site_of}
 use Rattle.smithy_json_codec.specs.Serializing.{state_of}
 use Rattle.smithy_json_codec.specs.Writing.{fresh_state}
 use Rattle.smithy_cbor_codec.specs.Serializing.{state_of as cbor_state_of}
+use Rattle.smithy_cbor_codec.specs.Writing.{fresh_state as fresh_cbor_state}
 use Rattle.smithy_query_codec.specs.Serializing.{state_of as form_of}
 use Rattle.smithy_transcode.specs.Wires.{wire_of, json, cbor, query, unfit}
 use Rattle.smithy_transcode.specs.Private.Positions.{CanCount}
@@ -31,14 +32,16 @@ returns-in-Json-clause-ok c =
 pub write_whole-requires-in-Cbor-clause-taken : goal.write_whole-requires-in-Cbor-clause-taken
 write_whole-requires-in-Cbor-clause-taken c =
     let site = site_of c.schema-schema.result in
+    let fresh = c.create_serializer-sink-in-Cbor.ensures.state ∙ ap fresh_cbor_state c.strict.ensures in
     let held = root_held (wire_of c.args.to.now) cbor c.schema-schema.result c.args.shapes.now c.args.root.0 (view c.args.value.now) (ap wire_of c.in-Cbor.is) c.schema-schema.ensures.site c.requires.fit in
-    (cbor_body site (view c.args.value.now), cbor_adds site (view c.args.value.now) (cbor_state_of c.create_serializer-sink-in-Cbor.result) c.create_serializer-sink-in-Cbor.ensures.state held, refl)
+    (cbor_body site (view c.args.value.now), cbor_adds site (view c.args.value.now) (cbor_state_of c.create_serializer-sink-in-Cbor.result) fresh held, refl)
 
 pub returns-in-Cbor-clause-ok : goal.returns-in-Cbor-clause-ok
 returns-in-Cbor-clause-ok c =
     let site = site_of c.schema-schema.result in
+    let fresh = c.create_serializer-sink-in-Cbor.ensures.state ∙ ap fresh_cbor_state c.strict.ensures in
     let held = root_held (wire_of c.args.to.now) cbor c.schema-schema.result c.args.shapes.now c.args.root.0 (view c.args.value.now) (ap wire_of c.in-Cbor.is) c.schema-schema.ensures.site c.requires.fit in
-    let adds = cbor_adds site (view c.args.value.now) (cbor_state_of c.create_serializer-sink-in-Cbor.result) c.create_serializer-sink-in-Cbor.ensures.state held in
+    let adds = cbor_adds site (view c.args.value.now) (cbor_state_of c.create_serializer-sink-in-Cbor.result) fresh held in
     let is = cbor_is_body (wire_of c.args.to.now) c.schema-schema.result c.args.shapes.now c.args.root.0 (view c.args.value.now) (ap wire_of c.in-Cbor.is) c.schema-schema.ensures.site in
     reached c.write_whole-in-Cbor.result _ _ c.write_whole-in-Cbor.ensures.ok (cbor_body site (view c.args.value.now)) _ adds is
 

@@ -6,8 +6,8 @@ use Rattle.smithy_schema.specs.Value.{nesting}
 use Rattle.smithy_schema.specs.Writing.{end_structure, end_list}
 use Rattle.smithy_schema.proofs.WritingLemmas.{call_refused}
 use Rattle.smithy_transcode.specs.Private.Tree.{entry_views, member_views, entries, part_view, union_value_view}
-use Rattle.smithy_transcode.proofs.Inner.{inner_element, inner_value}
-use Rattle.smithy_transcode.proofs.Lists as lists
+use Rattle.smithy_schema.proofs.Inner.{inner_element, inner_value}
+use Rattle.smithy_schema.proofs.WrittenLists as lists
 use Rattle.smithy_transcode.proofs.Maps as maps
 use Rattle.smithy_transcode.proofs.Structures as structures
 use Rattle.smithy_transcode.proofs.Unions as unions

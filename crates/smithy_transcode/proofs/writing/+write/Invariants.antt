@@ -4,7 +4,7 @@ use Rattle.smithy_schema.specs.Site.{site_of, kind_at}
 use Rattle.smithy_schema.specs.Value.{list, map, structure, union, values_of, nesting, elements_nesting, entries_nesting, members_nesting}
 use Rattle.smithy_schema.specs.Writing.{write, run}
 use Rattle.smithy_transcode.specs.Private.Tree.{entry_views, member_views, entries, entries_left, part_view, union_value_view}
-use Rattle.smithy_transcode.proofs.Lists.{list_rest}
+use Rattle.smithy_schema.proofs.WrittenLists.{list_rest}
 use Rattle.smithy_transcode.proofs.Maps.{map_rest, count as count_entries}
 use Rattle.smithy_transcode.proofs.Structures.{structure_rest, count}
 use Rattle.smithy_transcode.proofs.writing.+write.Given as goal

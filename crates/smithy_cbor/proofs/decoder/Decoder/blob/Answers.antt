@@ -1,4 +1,4 @@
--- The bytes are those of all chunks.
+-- The bytes of a blob are the bytes of all its chunks, in order.
 use Rattle.std.proofs.Common.{◌∙◌, ap, sym, refl, Some}
 use Rattle.cbor_item.specs.Item.{byte_string}
 use Rattle.smithy_cbor.proofs.decoder.Decoder.blob.Goals as goal

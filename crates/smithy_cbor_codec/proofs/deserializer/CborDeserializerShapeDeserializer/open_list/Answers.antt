@@ -15,7 +15,7 @@ returns-in-Some-clause-ok c =
     let o = reading_settings_of c.args.self.now in
     let old = cursor_of c.args.self.now in
     enters o old (walk_cursor c.enter.new.self) c.args._schema.now.shapes.now c.args._schema.now.place c.in-Some.opening.inside (inside_of in_list c.in-Some.opening.due) _ c.enter.result refl sound
-    c.frame.ensures (rw same at c.enter.ensures.ok) (rw same at c.enter.ensures.shallow)
+    c.frame.ensures (rw same at c.enter.ensures.ok) (rw c.args.self.now.limit at (rw same at c.enter.ensures.shallow))
     (opens_list o old.input c.args._schema.now.shapes.now c.args._schema.now.place c.requires.place (depth old) old.at c.in-Some.opening.inside c.in-Some.opening.due (rw same at c.in-Some.ensures.found))
 
 pub returns-in-Some-clause-deep : goal.returns-in-Some-clause-deep

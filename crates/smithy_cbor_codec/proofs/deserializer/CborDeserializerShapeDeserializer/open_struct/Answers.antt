@@ -16,7 +16,7 @@ returns-then-is_missing-clause-ok c =
     let o = reading_settings_of c.args.self.now in
     let old = cursor_of c.args.self.now in
     enters o old (walk_cursor c.enter.new.self) c.args.schema.now.shapes.now c.args.schema.now.place 0 missing_frame _ c.enter.result refl sound
-    c.missing.ensures (rw same at c.enter.ensures.ok) (rw same at c.enter.ensures.shallow)
+    c.missing.ensures (rw same at c.enter.ensures.ok) (rw c.args.self.now.limit at (rw same at c.enter.ensures.shallow))
     (empty_at o old c.args.schema.now.shapes.now c.args.schema.now.place missing.0 (rw same at missing.1) (search rules))
 
 pub returns-then-is_missing-clause-deep : goal.returns-then-is_missing-clause-deep
@@ -32,7 +32,7 @@ returns-in-Some-clause-ok c =
     let o = reading_settings_of c.args.self.now in
     let old = cursor_of c.args.self.now in
     enters o old (walk_cursor c.enter-in-Some.new.self) c.args.schema.now.shapes.now c.args.schema.now.place c.in-Some.opening.inside (inside_of in_structure c.in-Some.opening.due) _ c.enter-in-Some.result refl sound
-    c.frame.ensures (rw same at c.enter-in-Some.ensures.ok) (rw same at c.enter-in-Some.ensures.shallow)
+    c.frame.ensures (rw same at c.enter-in-Some.ensures.ok) (rw c.args.self.now.limit at (rw same at c.enter-in-Some.ensures.shallow))
     (opens_members o old.input c.args.schema.now.shapes.now c.args.schema.now.place c.requires.place (depth old) old.at c.in-Some.opening.inside c.in-Some.opening.due (rw same at c.in-Some.ensures.found))
 
 pub returns-in-Some-clause-deep : goal.returns-in-Some-clause-deep

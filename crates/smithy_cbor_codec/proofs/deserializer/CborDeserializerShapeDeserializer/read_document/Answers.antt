@@ -12,7 +12,7 @@ returns-clause-read c =
     let within : c.args.self.now.walk.position ≤ length c.args.self.now.walk.input.now = search rules in
     let error = rw same at c.document_refusal-error.ensures in
     rw c.refuse.ensures.error
-    (refuses_document (reading_settings_of c.args.self.now) refl c.args.self.now.walk.max_depth (cursor_of c.args.self.now) _ (site_of c.args._schema.now)
+    (refuses_document (reading_settings_of c.args.self.now) refl c.args.self.now.settings.max_depth (cursor_of c.args.self.now) _ (site_of c.args._schema.now)
     (rw same at c.refuse.ensures.stays) within was.0 was.1 c.document_refusal-error.result c.depth.result (rw same at c.depth.ensures) error.none error.kind)
 
 pub returns-clause-shallow : goal.returns-clause-shallow

@@ -8,33 +8,33 @@ use Rattle.smithy_json_codec.specs.Private.MemberSteps.{StepsTo, passing}
 use Rattle.smithy_json_codec.specs.Private.PassedEntries.{NoSkip, NoSkipWithin}
 use Rattle.smithy_json_codec.proofs.DeserializerLemmas.{error_of, goes_ahead, refusal_conducts}
 use Rattle.smithy_json_codec.proofs.PassedEntryLemmas.{value_place, end_place}
-use Rattle.smithy_json_codec.proofs.MemberStepLemmas.{leads_by_names, mark_is_unnamed, null_is_unkept, skips_within, skips_lifted, unskipped_within, unskipped_lifted, steps_to, leaves_at, bracket_closes, cannot_step}
+use Rattle.smithy_json_codec.proofs.MemberStepLemmas.{mark_is_unnamed, null_is_unkept, skips_within, skips_lifted, unskipped_within, unskipped_lifted, steps_to, leaves_at, bracket_closes, cannot_step}
 use Rattle.smithy_wire.specs.Walking.{cursor_of as walk_cursor, gone_on_to}
 use Rattle.smithy_json_codec.proofs.deserializer.JsonDeserializer.step_from.Goals as goal
 use Rattle.smithy_json_codec.proofs.deserializer.JsonDeserializer.step_from.Goals.{else-ends_empty-via-then-ends_empty+else-is_structure, else-ends_empty-via-else-ends_empty}
 
 pub returns-in-Ok-Member-clause-conduct : goal.returns-in-Ok-Member-clause-conduct
 returns-in-Ok-Member-clause-conduct c =
-    let next = rw c.in-Ok-Member.field-0-is at c.in-Ok-Member.ensures.ok in
-    let place = value_place (passing c.args.self.now.use_json_name (site_of c.args.schema.now)) c.args.self.now.walk.max_depth c.depth.result c.args.self.now.walk.input.now c.args.at c.args.self.now.walk.inner.mark.entered next.0 c.in-Ok-Member.value next.2 in
+    let next = rw (c.input.ensures, c.in-Ok-Member.field-0-is) at c.in-Ok-Member.ensures.ok in
+    let place = value_place (passing (reading_settings_of c.args.self.now) (site_of c.args.schema.now)) c.args.self.now.settings.max_depth c.depth.result c.args.self.now.walk.input.now c.args.at c.args.self.now.walk.inner.mark.entered next.0 c.in-Ok-Member.value next.2 in
     goes_ahead _ (cursor_of c.args.self.now) (walk_cursor c.go_on.new.self) c.step_to-step.result c.in-Ok-Member.value c.requires.sound (ap (λ x. x.at) c.go_on.ensures.gone) (ap (λ x. x.input) c.go_on.ensures.gone) (omega (arith, c.requires.ahead, place.0)) place.1
 
 pub returns-in-Ok-Member-clause-ok : goal.returns-in-Ok-Member-clause-ok
 returns-in-Ok-Member-clause-ok c =
     let o = reading_settings_of c.args.self.now in
     let old = cursor_of c.args.self.now in
-    let next = rw c.depth.ensures at (rw c.in-Ok-Member.field-0-is at c.in-Ok-Member.ensures.ok) in
-    let leads : StepsTo c.step_to-step.result o (site_of c.args.schema.now) c.as_str.result.now = leads_by_names o c.step_to-step.result (site_of c.args.schema.now) c.as_str.result.now c.step_to-step.ensures in
-    steps_to o old (walk_cursor c.go_on.new.self) c.args.at (site_of c.args.schema.now) c.requires.place (passing c.args.self.now.use_json_name (site_of c.args.schema.now)) (mark_is_unnamed (reading_settings_of c.args.self.now) (kind_at (site_of c.args.schema.now)) c.requires.place)
+    let next = rw (c.input.ensures, c.depth.ensures) at (rw c.in-Ok-Member.field-0-is at c.in-Ok-Member.ensures.ok) in
+    let leads : StepsTo c.step_to-step.result o (site_of c.args.schema.now) c.as_str.result.now = c.step_to-step.ensures in
+    steps_to o old (walk_cursor c.go_on.new.self) c.args.at (site_of c.args.schema.now) c.requires.place (passing (reading_settings_of c.args.self.now) (site_of c.args.schema.now)) (mark_is_unnamed (reading_settings_of c.args.self.now) (kind_at (site_of c.args.schema.now)) c.requires.place)
     (null_is_unkept (reading_settings_of c.args.self.now) (site_of c.args.schema.now) c.requires.place)
-    c.args.self.now.walk.max_depth (skips_within o old.input (depth old) c.args.self.now.walk.max_depth refl refl)
+    c.args.self.now.settings.max_depth (skips_within o old.input (depth old) c.args.self.now.settings.max_depth refl refl)
     c.in-Ok-Member.value next.0 c.as_str.result.now c.step_to-step.result c.requires.inside c.requires.sound
     (c.go_on.ensures.gone ∙ ap (gone_on_to old c.in-Ok-Member.value) c.frame.ensures) (rw c.as_str.ensures.value next.1) next.2 leads
 
 pub returns-in-Ok-End-clause-conduct : goal.returns-in-Ok-End-clause-conduct
 returns-in-Ok-End-clause-conduct c =
-    let next = rw c.in-Ok-End.field-0-is at c.in-Ok-End.ensures.ok in
-    let place = end_place (passing c.args.self.now.use_json_name (site_of c.args.schema.now)) c.args.self.now.walk.max_depth c.depth.result c.args.self.now.walk.input.now c.args.at c.args.self.now.walk.inner.mark.entered c.in-Ok-End.end next.0 in
+    let next = rw (c.input.ensures, c.in-Ok-End.field-0-is) at c.in-Ok-End.ensures.ok in
+    let place = end_place (passing (reading_settings_of c.args.self.now) (site_of c.args.schema.now)) c.args.self.now.settings.max_depth c.depth.result c.args.self.now.walk.input.now c.args.at c.args.self.now.walk.inner.mark.entered c.in-Ok-End.end next.0 in
     goes_ahead _ (cursor_of c.args.self.now) (walk_cursor c.leave-in-Ok-End.new.self) _ c.in-Ok-End.end c.requires.sound c.leave-in-Ok-End.ensures.at c.leave-in-Ok-End.ensures.input (omega (arith, c.requires.ahead, place.0)) place.1
 
 pub returns-in-Ok-End-clause-ok : goal.returns-in-Ok-End-clause-ok
@@ -42,11 +42,11 @@ returns-in-Ok-End-clause-ok c =
     let o = reading_settings_of c.args.self.now in
     let old = cursor_of c.args.self.now in
     let new = walk_cursor c.leave-in-Ok-End.new.self in
-    let next = rw c.depth.ensures at (rw c.in-Ok-End.field-0-is at c.in-Ok-End.ensures.ok) in
+    let next = rw (c.input.ensures, c.depth.ensures) at (rw c.in-Ok-End.field-0-is at c.in-Ok-End.ensures.ok) in
     leaves_at o old new c.args.at (site_of c.args.schema.now) c.in-Ok-End.end
-    (bracket_closes o old new c.args.at (site_of c.args.schema.now) c.requires.place (passing c.args.self.now.use_json_name (site_of c.args.schema.now)) (mark_is_unnamed (reading_settings_of c.args.self.now) (kind_at (site_of c.args.schema.now)) c.requires.place)
+    (bracket_closes o old new c.args.at (site_of c.args.schema.now) c.requires.place (passing (reading_settings_of c.args.self.now) (site_of c.args.schema.now)) (mark_is_unnamed (reading_settings_of c.args.self.now) (kind_at (site_of c.args.schema.now)) c.requires.place)
     (null_is_unkept (reading_settings_of c.args.self.now) (site_of c.args.schema.now) c.requires.place)
-    c.args.self.now.walk.max_depth (skips_within o old.input (depth old) c.args.self.now.walk.max_depth refl refl) c.in-Ok-End.end next)
+    c.args.self.now.settings.max_depth (skips_within o old.input (depth old) c.args.self.now.settings.max_depth refl refl) c.in-Ok-End.end next)
     c.leave-in-Ok-End.ensures.input c.leave-in-Ok-End.ensures.at c.leave-in-Ok-End.ensures.outer c.leave-in-Ok-End.ensures.due c.leave-in-Ok-End.ensures.failed c.requires.sound
 
 pub returns-in-Err-clause-conduct : goal.returns-in-Err-clause-conduct
@@ -58,9 +58,9 @@ pub returns-in-Err-clause-refused : goal.returns-in-Err-clause-refused
 returns-in-Err-clause-refused c = λ fault.
     let o = reading_settings_of c.args.self.now in
     let old = cursor_of c.args.self.now in
-    let held = c.args.self.now.walk.max_depth in
-    let nothing = rw c.depth.ensures at (c.in-Err.ensures.refused (rw c.refuse.ensures.error at fault)) in
-    cannot_step o old (walk_cursor c.refuse.new.self) c.args.at (site_of c.args.schema.now) c.requires.place (passing c.args.self.now.use_json_name (site_of c.args.schema.now)) (mark_is_unnamed (reading_settings_of c.args.self.now) (kind_at (site_of c.args.schema.now)) c.requires.place)
+    let held = c.args.self.now.settings.max_depth in
+    let nothing = rw (c.input.ensures, c.depth.ensures) at (c.in-Err.ensures.refused (rw c.refuse.ensures.error at fault)) in
+    cannot_step o old (walk_cursor c.refuse.new.self) c.args.at (site_of c.args.schema.now) c.requires.place (passing (reading_settings_of c.args.self.now) (site_of c.args.schema.now)) (mark_is_unnamed (reading_settings_of c.args.self.now) (kind_at (site_of c.args.schema.now)) c.requires.place)
     (null_is_unkept (reading_settings_of c.args.self.now) (site_of c.args.schema.now) c.requires.place)
     held (skips_within o old.input (depth old) held refl refl)
     (NoSkipWithin held (depth old) old.input) (unskipped_within o old.input (depth old) held refl refl) nothing
@@ -73,9 +73,9 @@ pub returns-in-Err-clause-would : goal.returns-in-Err-clause-would
 returns-in-Err-clause-would c = λ invalid.
     let o = reading_settings_of c.args.self.now in
     let old = cursor_of c.args.self.now in
-    let held = c.args.self.now.walk.max_depth in
-    let nothing = rw c.depth.ensures at (c.in-Err.ensures.would (rw c.refuse.ensures.error at invalid)) in
-    cannot_step (without_limits o) old (walk_cursor c.refuse.new.self) c.args.at (site_of c.args.schema.now) c.requires.place (passing c.args.self.now.use_json_name (site_of c.args.schema.now)) (mark_is_unnamed (reading_settings_of c.args.self.now) (kind_at (site_of c.args.schema.now)) c.requires.place)
+    let held = c.args.self.now.settings.max_depth in
+    let nothing = rw (c.input.ensures, c.depth.ensures) at (c.in-Err.ensures.would (rw c.refuse.ensures.error at invalid)) in
+    cannot_step (without_limits o) old (walk_cursor c.refuse.new.self) c.args.at (site_of c.args.schema.now) c.requires.place (passing (reading_settings_of c.args.self.now) (site_of c.args.schema.now)) (mark_is_unnamed (reading_settings_of c.args.self.now) (kind_at (site_of c.args.schema.now)) c.requires.place)
     (null_is_unkept (reading_settings_of c.args.self.now) (site_of c.args.schema.now) c.requires.place)
     held (skips_lifted o old.input (depth old) held)
     (NoSkip (depth old) old.input) (unskipped_lifted o old.input (depth old)) nothing
@@ -86,8 +86,8 @@ returns-in-Err-clause-would c = λ invalid.
 
 pub returns-in-Err-clause-deep : goal.returns-in-Err-clause-deep
 returns-in-Err-clause-deep c = λ deep.
-    rw c.depth.ensures at (c.in-Err.ensures.deep (ap Err (sym c.refuse.ensures.error ∙ error_of c.refuse.result TooDeep deep)))
+    rw (c.input.ensures, c.depth.ensures) at (c.in-Err.ensures.deep (ap Err (sym c.refuse.ensures.error ∙ error_of c.refuse.result TooDeep deep)))
 
 pub returns-in-Err-clause-too_deep : goal.returns-in-Err-clause-too_deep
 returns-in-Err-clause-too_deep c = λ deep.
-    rw c.depth.ensures at (c.in-Err.ensures.too_deep (ap Err (sym c.refuse.ensures.error ∙ error_of c.refuse.result TooDeep deep)))
+    rw (c.input.ensures, c.depth.ensures) at (c.in-Err.ensures.too_deep (ap Err (sym c.refuse.ensures.error ∙ error_of c.refuse.result TooDeep deep)))

@@ -30,41 +30,41 @@ returns-in-Ok-clause-unread c = λ due.
     let site = site_of c.args.schema.now in
     IfOk-weaker c.step_from-in-Ok.result (λ step. MatchStep step w (passed_to old c.in-Ok.end) new site)
     (λ step. (e : ℕ) × w.skips old.input (depth old) old.at e × MatchStep step w (passed_to old e) new site)
-    (λ step steps. (c.in-Ok.end, skips_here (reading_settings_of c.args.self.now) old c.depth.result c.depth.ensures refl c.in-Ok.end c.in-Ok.ensures.ok, steps))
+    (λ step steps. (c.in-Ok.end, skips_here (reading_settings_of c.args.self.now) old c.depth.result c.depth.ensures refl c.in-Ok.end (rw c.input.ensures at c.in-Ok.ensures.ok), steps))
     c.step_from-in-Ok.ensures.ok
 
 pub returns-in-Ok-clause-unread_refused : goal.returns-in-Ok-clause-unread_refused
 returns-in-Ok-clause-unread_refused c = λ refused due e skips.
-    let same = skips_same (reading_settings_of c.args.self.now) (cursor_of c.args.self.now) c.depth.result _ c.depth.ensures c.in-Ok.end e c.in-Ok.ensures.ok skips in
+    let same = skips_same (reading_settings_of c.args.self.now) (cursor_of c.args.self.now) c.depth.result _ c.depth.ensures c.in-Ok.end e (rw c.input.ensures at c.in-Ok.ensures.ok) skips in
     subst (λ e. CannotGoOn (json_relations (reading_settings_of c.args.self.now)) (passed_to (cursor_of c.args.self.now) e) c.args.schema.now.shapes.now c.args.schema.now.place) same
     (c.step_from-in-Ok.ensures.refused refused)
 
 pub returns-in-Ok-clause-unread_would : goal.returns-in-Ok-clause-unread_would
 returns-in-Ok-clause-unread_would c = λ strict invalid due e skips.
-    let same = skips_same (without_limits (reading_settings_of c.args.self.now)) (cursor_of c.args.self.now) c.depth.result _ c.depth.ensures c.in-Ok.end e c.in-Ok.ensures.ok skips in
+    let same = skips_same (without_limits (reading_settings_of c.args.self.now)) (cursor_of c.args.self.now) c.depth.result _ c.depth.ensures c.in-Ok.end e (rw c.input.ensures at c.in-Ok.ensures.ok) skips in
     subst (λ e. CannotGoOn (json_relations (without_limits (reading_settings_of c.args.self.now))) (passed_to (cursor_of c.args.self.now) e) c.args.schema.now.shapes.now c.args.schema.now.place) same
     (c.step_from-in-Ok.ensures.would invalid)
 
 pub returns-in-Err-clause-unread_refused : goal.returns-in-Err-clause-unread_refused
 returns-in-Err-clause-unread_refused c = λ refused due e skips.
-    absurd (skips_not (reading_settings_of c.args.self.now) (cursor_of c.args.self.now) c.depth.result c.depth.ensures refl c.in-Err.ensures.refused e skips)
+    absurd (skips_not (reading_settings_of c.args.self.now) (cursor_of c.args.self.now) c.depth.result c.depth.ensures refl (rw c.input.ensures at c.in-Err.ensures.refused) e skips)
 
 pub returns-in-Err-clause-unread_would : goal.returns-in-Err-clause-unread_would
 returns-in-Err-clause-unread_would c = λ strict invalid due e skips.
     absurd (skips_never (reading_settings_of c.args.self.now) (cursor_of c.args.self.now) c.depth.result c.depth.ensures
-    (c.in-Err.ensures.would (rw c.refuse-in-Err.ensures.error at invalid)) e skips)
+    (rw c.input.ensures at (c.in-Err.ensures.would (rw c.refuse-in-Err.ensures.error at invalid))) e skips)
 
 pub returns-in-Err-clause-deep : goal.returns-in-Err-clause-deep
 returns-in-Err-clause-deep c = λ deep.
-    reader_reaches (reading_settings_of c.args.self.now) (cursor_of c.args.self.now) c.depth.result c.args.self.now.walk.max_depth c.depth.ensures
-    (c.in-Err.ensures.deep (ap Err (sym c.refuse-in-Err.ensures.error ∙ error_of c.refuse-in-Err.result TooDeep deep)))
+    reader_reaches (reading_settings_of c.args.self.now) (cursor_of c.args.self.now) c.depth.result c.args.self.now.settings.max_depth c.depth.ensures
+    (rw c.input.ensures at (c.in-Err.ensures.deep (ap Err (sym c.refuse-in-Err.ensures.error ∙ error_of c.refuse-in-Err.result TooDeep deep))))
 
 pub returns-in-Err-clause-too_deep : goal.returns-in-Err-clause-too_deep
 returns-in-Err-clause-too_deep c = λ deep. (
   c.args.self.now.walk.position,
   omega arith,
-  subst (λ n. OpensTooDeep c.args.self.now.walk.max_depth n c.args.self.now.walk.input.now c.args.self.now.walk.position) c.depth.ensures
-      (c.in-Err.ensures.too_deep (ap Err (sym c.refuse-in-Err.ensures.error ∙ error_of c.refuse-in-Err.result TooDeep deep))),
+  subst (λ n. OpensTooDeep c.args.self.now.settings.max_depth n c.args.self.now.walk.input.now c.args.self.now.walk.position) c.depth.ensures
+      (rw c.input.ensures at (c.in-Err.ensures.too_deep (ap Err (sym c.refuse-in-Err.ensures.error ∙ error_of c.refuse-in-Err.result TooDeep deep)))),
 )
 
 -- behind a value that isn't due, or is skipped
@@ -77,10 +77,10 @@ returns-then-not-self-clause-too_deep c = λ deep. c.step_from.ensures.too_deep 
 
 pub returns-in-Ok-clause-deep : goal.returns-in-Ok-clause-deep
 returns-in-Ok-clause-deep c = λ deep.
-    reaches_behind c.args.self.now.walk.input.now c.args.self.now.walk.max_depth c.depth.result c.args.self.now.walk.position c.in-Ok.end c.in-Ok.ensures.ok
-    c.args.self.now.walk.max_depth (depth (cursor_of c.args.self.now)) (c.step_from-in-Ok.ensures.deep deep)
+    reaches_behind c.args.self.now.walk.input.now c.args.self.now.settings.max_depth c.depth.result c.args.self.now.walk.position c.in-Ok.end (rw c.input.ensures at c.in-Ok.ensures.ok)
+    c.args.self.now.settings.max_depth (depth (cursor_of c.args.self.now)) (c.step_from-in-Ok.ensures.deep deep)
 
 pub returns-in-Ok-clause-too_deep : goal.returns-in-Ok-clause-too_deep
 returns-in-Ok-clause-too_deep c = λ deep.
-    too_deep_behind c.args.self.now.walk.input.now c.args.self.now.walk.max_depth c.depth.result c.args.self.now.walk.position c.in-Ok.end c.in-Ok.ensures.ok
-    (OpensTooDeep c.args.self.now.walk.max_depth (depth (cursor_of c.args.self.now)) c.args.self.now.walk.input.now) (c.step_from-in-Ok.ensures.too_deep deep)
+    too_deep_behind c.args.self.now.walk.input.now c.args.self.now.settings.max_depth c.depth.result c.args.self.now.walk.position c.in-Ok.end (rw c.input.ensures at c.in-Ok.ensures.ok)
+    (OpensTooDeep c.args.self.now.settings.max_depth (depth (cursor_of c.args.self.now)) c.args.self.now.walk.input.now) (c.step_from-in-Ok.ensures.too_deep deep)

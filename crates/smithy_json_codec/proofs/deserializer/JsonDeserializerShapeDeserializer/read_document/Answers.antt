@@ -16,7 +16,7 @@ returns-clause-read c =
     let was = was_ready c.args.self.now.walk.failed c.args.self.now.walk.due (sym c.in_ok-ready.was ∙ c.ready.ensures.answer) in
     let within : c.args.self.now.walk.position ≤ length c.args.self.now.walk.input.now = search rules in
     let opens = rw same at c.depth.ensures in
-    let found = rw (same, opens) at c.standing_document_at-found.ensures in
+    let found = rw (c.input.ensures, same, opens) at c.standing_document_at-found.ensures in
     let take = rw same at c.take_result.ensures in
     reads_document (keep_limits (reading_settings_of c.args.self.now)) refl (cursor_of c.args.self.now) (site_of c.args._schema.now) was.0 was.1 within _
     c.standing_document_at-found.result c.take_result.result found.ok found.refused take.ok take.some take.err take.error
@@ -25,33 +25,33 @@ pub returns-clause-too_deep : goal.returns-clause-too_deep
 returns-clause-too_deep c =
     let same : c.ready.new.self ≡ c.args.self.now.walk = c.in_ok-ready.ensures.ok in
     let opens = rw same at c.depth.ensures in
-    let found = rw (same, opens) at c.standing_document_at-found.ensures in
+    let found = rw (c.input.ensures, same, opens) at c.standing_document_at-found.ensures in
     let take = rw same at c.take_result.ensures in
-    too_deep_found c.args.self.now.walk.max_depth _ c.args.self.now.walk.input.now c.args.self.now.walk.position c.standing_document_at-found.result c.take_result.result found.refused take.error
+    too_deep_found c.args.self.now.settings.max_depth _ c.args.self.now.walk.input.now c.args.self.now.walk.position c.standing_document_at-found.result c.take_result.result found.refused take.error
 
 pub returns-clause-other_number : goal.returns-clause-other_number
 returns-clause-other_number c =
     let same : c.ready.new.self ≡ c.args.self.now.walk = c.in_ok-ready.ensures.ok in
     let opens = rw same at c.depth.ensures in
-    let found = rw (same, opens) at c.standing_document_at-found.ensures in
+    let found = rw (c.input.ensures, same, opens) at c.standing_document_at-found.ensures in
     let take = rw same at c.take_result.ensures in
-    other_found c.args.self.now.walk.max_depth _ c.args.self.now.walk.input.now c.args.self.now.walk.position c.standing_document_at-found.result c.take_result.result found.refused take.error
+    other_found c.args.self.now.settings.max_depth _ c.args.self.now.walk.input.now c.args.self.now.walk.position c.standing_document_at-found.result c.take_result.result found.refused take.error
 
 pub returns-clause-meaning : goal.returns-clause-meaning
 returns-clause-meaning c =
     let same : c.ready.new.self ≡ c.args.self.now.walk = c.in_ok-ready.ensures.ok in
     let opens = rw same at c.depth.ensures in
-    let found = rw (same, opens) at c.standing_document_at-found.ensures in
+    let found = rw (c.input.ensures, same, opens) at c.standing_document_at-found.ensures in
     let take = rw same at c.take_result.ensures in
     let old = cursor_of c.args.self.now in
-    answers_found (λ x e. DocumentStands (Some c.args.self.now.walk.max_depth) (depth old) old.input old.at (document_view x) e) old _
+    answers_found (λ x e. DocumentStands (Some c.args.self.now.settings.max_depth) (depth old) old.input old.at (document_view x) e) old _
     c.standing_document_at-found.result c.take_result.result found.ok take.ok take.some
 
 pub returns-clause-no_meaning : goal.returns-clause-no_meaning
 returns-clause-no_meaning c = λ refused due.
     let same : c.ready.new.self ≡ c.args.self.now.walk = c.in_ok-ready.ensures.ok in
     let opens = rw same at c.depth.ensures in
-    let found = rw (same, opens) at c.standing_document_at-found.ensures in
+    let found = rw (c.input.ensures, same, opens) at c.standing_document_at-found.ensures in
     let take = rw same at c.take_result.ensures in
-    refused_means_nothing c.args.self.now.walk.max_depth _ c.args.self.now.walk.input.now c.args.self.now.walk.position c.standing_document_at-found.result c.take_result.result
+    refused_means_nothing c.args.self.now.settings.max_depth _ c.args.self.now.walk.input.now c.args.self.now.walk.position c.standing_document_at-found.result c.take_result.result
     found.refused take.error refused

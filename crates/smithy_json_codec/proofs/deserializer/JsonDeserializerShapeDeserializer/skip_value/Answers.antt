@@ -11,7 +11,7 @@ pub returns-in-Ok-clause-ok : goal.returns-in-Ok-clause-ok
 returns-in-Ok-clause-ok c =
     let same : c.ready.new.self ≡ c.args.self.now.walk = c.in_ok-ready.ensures.ok in
     let at : c.pass.new.self.position ≡ c.in-Ok.end = ap (λ x. x.at) c.pass.ensures.passed in
-    rw at (skips_here (reading_settings_of c.args.self.now) (cursor_of c.args.self.now) c.depth.result (rw same at c.depth.ensures) refl c.in-Ok.end (rw same at c.in-Ok.ensures.ok))
+    rw at (skips_here (reading_settings_of c.args.self.now) (cursor_of c.args.self.now) c.depth.result (rw same at c.depth.ensures) refl c.in-Ok.end (rw (c.input.ensures, same) at c.in-Ok.ensures.ok))
 
 pub returns-in-Err-clause-conduct : goal.returns-in-Err-clause-conduct
 returns-in-Err-clause-conduct c =
@@ -22,23 +22,23 @@ returns-in-Err-clause-conduct c =
 pub returns-in-Err-clause-refused : goal.returns-in-Err-clause-refused
 returns-in-Err-clause-refused c =
     let same : c.ready.new.self ≡ c.args.self.now.walk = c.in_ok-ready.ensures.ok in
-    λ fault due. skips_not (reading_settings_of c.args.self.now) (cursor_of c.args.self.now) c.depth.result (rw same at c.depth.ensures) refl (rw same at c.in-Err.ensures.refused)
+    λ fault due. skips_not (reading_settings_of c.args.self.now) (cursor_of c.args.self.now) c.depth.result (rw same at c.depth.ensures) refl (rw (c.input.ensures, same) at c.in-Err.ensures.refused)
 
 pub returns-in-Err-clause-would : goal.returns-in-Err-clause-would
 returns-in-Err-clause-would c =
     let same : c.ready.new.self ≡ c.args.self.now.walk = c.in_ok-ready.ensures.ok in
     λ invalid due. skips_never (reading_settings_of c.args.self.now) (cursor_of c.args.self.now) c.depth.result (rw same at c.depth.ensures)
-    (rw same at (c.in-Err.ensures.would (rw c.refuse.ensures.error at invalid)))
+    (rw (c.input.ensures, same) at (c.in-Err.ensures.would (rw c.refuse.ensures.error at invalid)))
 
 pub returns-in-Err-clause-deep : goal.returns-in-Err-clause-deep
 returns-in-Err-clause-deep c = λ deep.
     let same : c.ready.new.self ≡ c.args.self.now.walk = c.in_ok-ready.ensures.ok in
-    reader_reaches (reading_settings_of c.args.self.now) (cursor_of c.args.self.now) c.depth.result c.args.self.now.walk.max_depth (rw same at c.depth.ensures)
-    (rw same at (c.in-Err.ensures.deep (ap Err (sym c.refuse.ensures.error ∙ error_of c.refuse.result TooDeep deep))))
+    reader_reaches (reading_settings_of c.args.self.now) (cursor_of c.args.self.now) c.depth.result c.args.self.now.settings.max_depth (rw same at c.depth.ensures)
+    (rw (c.input.ensures, same) at (c.in-Err.ensures.deep (ap Err (sym c.refuse.ensures.error ∙ error_of c.refuse.result TooDeep deep))))
 
 pub returns-in-Err-clause-too_deep : goal.returns-in-Err-clause-too_deep
 returns-in-Err-clause-too_deep c = λ deep.
     let same : c.ready.new.self ≡ c.args.self.now.walk = c.in_ok-ready.ensures.ok in
     let held = rw same at c.depth.ensures in
-    subst (λ n. OpensTooDeep c.args.self.now.walk.max_depth n c.args.self.now.walk.input.now c.args.self.now.walk.position) held
-    (rw same at (c.in-Err.ensures.too_deep (ap Err (sym c.refuse.ensures.error ∙ error_of c.refuse.result TooDeep deep))))
+    subst (λ n. OpensTooDeep c.args.self.now.settings.max_depth n c.args.self.now.walk.input.now c.args.self.now.walk.position) held
+    (rw (c.input.ensures, same) at (c.in-Err.ensures.too_deep (ap Err (sym c.refuse.ensures.error ∙ error_of c.refuse.result TooDeep deep))))

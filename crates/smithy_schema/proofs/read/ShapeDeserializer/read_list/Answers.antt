@@ -1,8 +1,8 @@
-use Rattle.std.proofs.Common.{refl, rules, sym, ◌∙◌}
+use Rattle.std.proofs.Common.{refl, ◌∙◌}
 use Rattle.std.proofs.lemmas.Result.{err_from_is_err_and}
 use Rattle.smithy_schema.specs.declared.error.SerdeError.TheVariants.{NoMemory}
 use Rattle.smithy_schema.specs.Site.{site_of}
-use Rattle.smithy_schema.specs.Consuming.{reader, Consumes, unopened, entered, Along, refused, stopped, went, ended}
+use Rattle.smithy_schema.specs.Consuming.{reader, unopened, entered, refused, stopped, ended}
 use Rattle.smithy_schema.proofs.ConsumingLemmas.{is_error, was_sound, was_due, opening_refused, entry_refused, began, went_on, onto_by, taken_whole, less_left, none_due}
 use Rattle.smithy_schema.proofs.read.ShapeDeserializer.read_list.Goals as goal
 
@@ -45,7 +45,7 @@ returns-in-Err-clause-consumes g c =
     let due = none_due (g.Self.ShapeDeserializer.state c.loop-consumer.self).due (λ due. next.unread due) in
     let steps = rw (c.if-branch.true, inside.same) at (next.ok due c.args.schema.now.shapes.now c.args.schema.now.place c.requires.place) in
     rw c.fail.ensures.fails
-    (entered (was_sound _ _ c.in_ok-open_list.ensures.conduct.failed) (was_due _ c.in_ok-open_list.ensures.undue) c.in_ok-open_list.ensures.ok (inside.along _ _ _ (stopped tt (record { taken = due; steps = steps }) (rw (c.next_element.ensures.same, inside.same) at c.in-Err.ensures.called))))
+    (entered (was_sound _ _ c.in_ok-open_list.ensures.conduct.failed) (was_due _ c.in_ok-open_list.ensures.undue) c.in_ok-open_list.ensures.ok (inside.along _ _ _ (stopped tt (record { taken = due; steps = steps; ahead = next.conduct.ahead }) (rw (c.next_element.ensures.same, inside.same) at c.in-Err.ensures.called))))
 
 pub loop-consumer-smaller : goal.loop-consumer-smaller
 loop-consumer-smaller g c =
@@ -62,7 +62,7 @@ loop-consumer-preserved g c =
     let next = c.in_ok-next_element.ensures in
     let due = none_due (g.Self.ShapeDeserializer.state c.loop-consumer.self).due (λ due. next.unread due) in
     let steps = rw (c.if-branch.true, inside.same) at (next.ok due c.args.schema.now.shapes.now c.args.schema.now.place c.requires.place) in
-    went_on _ _ _ _ _ _ _ _ _ _ _ _ tt inside (c.element.ensures.same ∙ c.next_element.ensures.same) (record { taken = due; steps = steps })
+    went_on _ _ _ _ _ _ _ _ _ _ _ _ tt inside (c.element.ensures.same ∙ c.next_element.ensures.same) (record { taken = due; steps = steps; ahead = next.conduct.ahead })
     (onto_by _ _ _ _ _ _ steps next.conduct.ahead next.conduct.within) (rw (c.next_element.ensures.same, inside.same) at c.in_default.ensures.called) c.in_default.ensures.rests
 
 pub returns-clause-same : goal.returns-clause-same
@@ -75,7 +75,7 @@ returns-clause-consumes g c =
     let next = c.in_ok-next_element.ensures in
     let due = none_due (g.Self.ShapeDeserializer.state c.loop-consumer.self).due (λ due. next.unread due) in
     let leaves = rw (c.if-branch.false, inside.same) at (next.ok due c.args.schema.now.shapes.now c.args.schema.now.place c.requires.place) in
-    entered (was_sound _ _ c.in_ok-open_list.ensures.conduct.failed) (was_due _ c.in_ok-open_list.ensures.undue) c.in_ok-open_list.ensures.ok (inside.along _ _ _ (ended (record { taken = due; leaves = leaves })))
+    entered (was_sound _ _ c.in_ok-open_list.ensures.conduct.failed) (was_due _ c.in_ok-open_list.ensures.undue) c.in_ok-open_list.ensures.ok (inside.along _ _ _ (ended (record { taken = due; leaves = leaves; ahead = next.conduct.ahead })))
 
 pub returns-clause-takes : goal.returns-clause-takes
 returns-clause-takes g c =

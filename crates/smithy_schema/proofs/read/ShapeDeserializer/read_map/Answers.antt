@@ -1,7 +1,7 @@
-use Rattle.std.proofs.Common.{refl, rules, sym, ◌∙◌}
+use Rattle.std.proofs.Common.{refl, ◌∙◌}
 use Rattle.std.proofs.lemmas.Result.{err_from_is_err_and}
 use Rattle.smithy_schema.specs.Site.{site_of}
-use Rattle.smithy_schema.specs.Consuming.{reader, Consumes, unopened, entered, Along, refused, stopped, went, ended}
+use Rattle.smithy_schema.specs.Consuming.{reader, unopened, entered, refused, stopped, ended}
 use Rattle.smithy_schema.proofs.ConsumingLemmas.{was_sound, was_due, opening_refused, entry_refused, began, went_on, onto_by, taken_whole, less_left, none_due}
 use Rattle.smithy_schema.proofs.read.ShapeDeserializer.read_map.Goals as goal
 
@@ -44,7 +44,7 @@ returns-in-Err-clause-consumes g c =
     let due = none_due (g.Self.ShapeDeserializer.state c.loop-key.self).due (λ due. next.unread due) in
     let steps = rw (c.in-Some.is, inside.same) at (next.ok due c.args.schema.now.shapes.now c.args.schema.now.place c.requires.place) in
     rw c.fail.ensures.fails
-    (entered (was_sound _ _ c.in_ok-open_map.ensures.conduct.failed) (was_due _ c.in_ok-open_map.ensures.undue) c.in_ok-open_map.ensures.ok (inside.along _ _ _ (stopped _ (record { taken = due; steps = steps }) (rw (c.next_key.ensures.same, inside.same) at c.in-Err.ensures.called))))
+    (entered (was_sound _ _ c.in_ok-open_map.ensures.conduct.failed) (was_due _ c.in_ok-open_map.ensures.undue) c.in_ok-open_map.ensures.ok (inside.along _ _ _ (stopped _ (record { taken = due; steps = steps; ahead = next.conduct.ahead }) (rw (c.next_key.ensures.same, inside.same) at c.in-Err.ensures.called))))
 
 pub loop-key-smaller : goal.loop-key-smaller
 loop-key-smaller g c =
@@ -61,7 +61,7 @@ loop-key-preserved g c =
     let next = c.in_ok-key.ensures in
     let due = none_due (g.Self.ShapeDeserializer.state c.loop-key.self).due (λ due. next.unread due) in
     let steps = rw (c.in-Some.is, inside.same) at (next.ok due c.args.schema.now.shapes.now c.args.schema.now.place c.requires.place) in
-    went_on _ _ _ _ _ _ _ _ _ _ _ _ _ inside (c.entry.ensures.same ∙ c.next_key.ensures.same) (record { taken = due; steps = steps })
+    went_on _ _ _ _ _ _ _ _ _ _ _ _ _ inside (c.entry.ensures.same ∙ c.next_key.ensures.same) (record { taken = due; steps = steps; ahead = next.conduct.ahead })
     (onto_by _ _ _ _ _ _ steps next.conduct.ahead next.conduct.within) (rw (c.next_key.ensures.same, inside.same) at c.in_default-entry.ensures.called) c.in_default-entry.ensures.rests
 
 pub returns-clause-same : goal.returns-clause-same
@@ -74,7 +74,7 @@ returns-clause-consumes g c =
     let next = c.in_ok-key.ensures in
     let due = none_due (g.Self.ShapeDeserializer.state c.loop-key.self).due (λ due. next.unread due) in
     let leaves = rw (c.in_default.is, inside.same) at (next.ok due c.args.schema.now.shapes.now c.args.schema.now.place c.requires.place) in
-    entered (was_sound _ _ c.in_ok-open_map.ensures.conduct.failed) (was_due _ c.in_ok-open_map.ensures.undue) c.in_ok-open_map.ensures.ok (inside.along _ _ _ (ended (record { taken = due; leaves = leaves })))
+    entered (was_sound _ _ c.in_ok-open_map.ensures.conduct.failed) (was_due _ c.in_ok-open_map.ensures.undue) c.in_ok-open_map.ensures.ok (inside.along _ _ _ (ended (record { taken = due; leaves = leaves; ahead = next.conduct.ahead })))
 
 pub returns-clause-takes : goal.returns-clause-takes
 returns-clause-takes g c =

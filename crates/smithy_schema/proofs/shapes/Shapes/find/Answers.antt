@@ -1,15 +1,17 @@
-use Rattle.std.proofs.Common.{Some, None, sym, ◌∙◌, ap, map}
+use Rattle.std.proofs.Common.{Some, None, sym, ◌∙◌, ap, map, option_map}
 use Rattle.smithy_schema.specs.Table.{Declaration}
 use Rattle.smithy_schema.specs.Views.{declaration_of}
+use Rattle.smithy_schema.specs.declared.shape_type.ShapeRef.{ShapeRef}
 use Rattle.smithy_schema.proofs.Positions.{position-seen}
 use Rattle.smithy_schema.proofs.shapes.Shapes.find.Goals as goal
 
-pub returns-in-Some : goal.returns-in-Some
-returns-in-Some c =
-    sym (position-seen declaration_of (λ (d : Declaration). d.name) c.as_slice.result.now c.args.self.now c.args.name.now (Some c.in-Some.number)
-    (ap (map declaration_of) c.as_slice.ensures.value ∙ c.self.view_is) c.in-Some.ensures)
+pub returns : goal.returns
+returns c =
+    sym (position-seen declaration_of (λ (d : Declaration). d.name) c.as_slice.result.now c.args.self.now c.args.name.now (Some c.in_ok-number.number)
+    (ap (map declaration_of) c.as_slice.ensures.value ∙ c.self.view_is) c.in_ok-number.ensures)
 
-pub returns-in-None : goal.returns-in-None
-returns-in-None c =
+pub returns-in_err-number : goal.returns-in_err-number
+returns-in_err-number c =
+    ap (option_map (λ (r : ShapeRef). r.0)) c.from_residual.ensures ∙
     sym (position-seen declaration_of (λ (d : Declaration). d.name) c.as_slice.result.now c.args.self.now c.args.name.now None
-    (ap (map declaration_of) c.as_slice.ensures.value ∙ c.self.view_is) c.in-None.ensures)
+    (ap (map declaration_of) c.as_slice.ensures.value ∙ c.self.view_is) c.in_err-number.ensures)

@@ -1,7 +1,7 @@
-use Rattle.std.proofs.Common.{refl, rules, sym, ◌∙◌}
+use Rattle.std.proofs.Common.{refl}
 use Rattle.std.proofs.lemmas.Result.{err_from_is_err_and}
 use Rattle.smithy_schema.specs.Writing.{open_map_at_key}
-use Rattle.smithy_schema.specs.Written.{whole, not_begun, not_written, not_ended}
+use Rattle.smithy_schema.specs.Written.{not_begun, not_written}
 use Rattle.smithy_schema.proofs.ConsumingLemmas.{was_sound}
 use Rattle.smithy_schema.proofs.WrittenLemmas.{not_failed, inside_of, refused_by, finished, left_open}
 use Rattle.smithy_schema.proofs.write.ShapeSerializer.write_map_with_length.Goals as goal

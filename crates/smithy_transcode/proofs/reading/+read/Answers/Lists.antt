@@ -4,8 +4,8 @@ use Rattle.std.proofs.lemmas.Result.{err_from_is_err_and}
 use Rattle.smithy_schema.specs.Site.{site_of}
 use Rattle.smithy_schema.specs.Table.{kind_of}
 use Rattle.smithy_schema.specs.Reading.{child_null}
-use Rattle.smithy_transcode.proofs.ReadContainers.{left_falls}
-use Rattle.smithy_transcode.proofs.ReadLists.{IsNoNull, element_falls, element_place, list_contains}
+use Rattle.smithy_schema.proofs.ReadContainers.{left_falls}
+use Rattle.smithy_schema.proofs.ReadLists.{IsNoNull, element_falls, element_place, list_contains}
 use Rattle.smithy_transcode.proofs.ReadAnswers.{obeyed, open_fails, memory_fails}
 use Rattle.smithy_transcode.proofs.HalfRead.{stepped_to, value_passed, goes_no_further, ends_whole}
 use Rattle.smithy_transcode.proofs.HalfElements.{list_entered, element_passed, element_fails, null_passed, null_fails}
@@ -46,7 +46,7 @@ read_list-returns-in_err-next_element-clause-reads g t c =
     let told = c.in_err-next_element.ensures in
     let p = err_from_is_err_and c.from_residual-in_err-next_element.result c.from_residual-in_err-next_element.ensures.1 in
     rw (p.1, p.2)
-    (goes_no_further _ _ _ _ laws g.T.Tree.view outer _ _ _ _ _ _ half told.conduct told.narrow (λ is. absurd (told.shallow is))
+    (goes_no_further _ _ _ _ laws g.T.Tree.view outer _ _ _ _ _ _ half told.conduct told.narrow (λ is. absurd (told.shallow is)) (λ is. absurd (told.shallow is))
     (λ fault due. rw same at (told.refused fault due c.args.schema.now.shapes.now c.args.schema.now.place c.requires.place))
     (λ strict invalid due. rw same at (told.would (rw same strict) invalid due c.args.schema.now.shapes.now c.args.schema.now.place c.requires.place)))
 

@@ -4,9 +4,9 @@ use Rattle.std.proofs.lemmas.Result.{err_from_is_err_and}
 use Rattle.smithy_schema.specs.Site.{site_of}
 use Rattle.smithy_schema.specs.Table.{kind_of}
 use Rattle.smithy_schema.specs.Reading.{child_null}
-use Rattle.smithy_transcode.proofs.ReadContainers.{left_falls}
-use Rattle.smithy_transcode.proofs.ReadLists.{IsNoNull}
-use Rattle.smithy_transcode.proofs.ReadMaps.{entry_falls, map_contains, value_place}
+use Rattle.smithy_schema.proofs.ReadContainers.{left_falls}
+use Rattle.smithy_schema.proofs.ReadLists.{IsNoNull}
+use Rattle.smithy_schema.proofs.ReadMaps.{entry_falls, map_contains, value_place}
 use Rattle.smithy_transcode.proofs.ReadAnswers.{obeyed, open_fails, memory_fails}
 use Rattle.smithy_transcode.proofs.HalfRead.{stepped_to, value_passed, goes_no_further, ends_whole}
 use Rattle.smithy_transcode.proofs.HalfElements.{map_entered, entry_passed, entry_fails, null_entry_passed, null_entry_fails}
@@ -47,7 +47,7 @@ read_map-returns-in_err-key-clause-reads g t c =
     let told = c.in_err-key.ensures in
     let p = err_from_is_err_and c.from_residual-in_err-key.result c.from_residual-in_err-key.ensures.1 in
     rw (p.1, p.2)
-    (goes_no_further _ _ _ _ laws g.T.Tree.view outer _ _ _ _ _ _ half told.conduct told.narrow (λ is. absurd (told.shallow is))
+    (goes_no_further _ _ _ _ laws g.T.Tree.view outer _ _ _ _ _ _ half told.conduct told.narrow (λ is. absurd (told.shallow is)) (λ is. absurd (told.shallow is))
     (λ fault due. rw same at (told.refused fault due c.args.schema.now.shapes.now c.args.schema.now.place c.requires.place))
     (λ strict invalid due. rw same at (told.would (rw same strict) invalid due c.args.schema.now.shapes.now c.args.schema.now.place c.requires.place)))
 

@@ -3,8 +3,8 @@ use Rattle.std.proofs.Common.{Some, refl, sym, ◌∙◌}
 use Rattle.std.proofs.lemmas.Result.{err_from_is_err_and}
 use Rattle.smithy_schema.specs.Site.{site_of}
 use Rattle.smithy_schema.specs.Reading.{child_value, child_unknown}
-use Rattle.smithy_transcode.proofs.ReadContainers.{left_falls, structure_has_members}
-use Rattle.smithy_transcode.proofs.ReadStructures.{member_child, structure_contains}
+use Rattle.smithy_schema.proofs.ReadContainers.{left_falls, structure_has_members}
+use Rattle.smithy_schema.proofs.ReadStructures.{member_child, structure_contains}
 use Rattle.smithy_transcode.proofs.ReadAnswers.{obeyed, open_fails, memory_fails}
 use Rattle.smithy_transcode.proofs.HalfRead.{stepped_to, value_passed, goes_no_further, ends_whole}
 use Rattle.smithy_transcode.proofs.HalfMembers.{member_fails, structure_entered, member_passed, unknown_passed, unknown_fails}
@@ -44,7 +44,7 @@ read_structure-returns-in_err-member-clause-reads g t c =
     let told = c.in_err-member.ensures in
     let p = err_from_is_err_and c.from_residual-in_err-member.result c.from_residual-in_err-member.ensures.1 in
     rw (p.1, p.2)
-    (goes_no_further _ _ _ _ laws g.T.Tree.view outer _ _ _ _ _ _ half told.conduct told.narrow (rw same at told.deep) (rw same at told.refused) (rw same at told.would))
+    (goes_no_further _ _ _ _ laws g.T.Tree.view outer _ _ _ _ _ _ half told.conduct told.narrow (rw same at told.deep) (rw same at told.limited) (rw same at told.refused) (rw same at told.would))
 
 -- the value of a member was refused
 pub read_structure-returns-in_err-value-in-Member-clause-reads : goal.read_structure-returns-in_err-value-in-Member-clause-reads
@@ -104,7 +104,7 @@ read_structure-returns-in_err-skip_value-in-Unknown-clause-reads g t c =
     let told = c.in_err-skip_value-in-Unknown.ensures in
     let p = err_from_is_err_and c.from_residual-in_err-skip_value-in-Unknown.result c.from_residual-in_err-skip_value-in-Unknown.ensures.1 in
     rw (p.1, p.2)
-    (unknown_fails _ _ _ _ laws g.T.Tree.view outer _ _ _ _ _ _ c.requires.place half step told.conduct told.narrow (rw (c.next_member.ensures.same, same) at told.deep) (rw (c.next_member.ensures.same, same) at told.refused) (rw (c.next_member.ensures.same, same) at told.would))
+    (unknown_fails _ _ _ _ laws g.T.Tree.view outer _ _ _ _ _ _ c.requires.place half step told.conduct told.narrow (rw (c.next_member.ensures.same, same) at told.deep) (rw (c.next_member.ensures.same, same) at told.limited) (rw (c.next_member.ensures.same, same) at told.refused) (rw (c.next_member.ensures.same, same) at told.would))
 
 -- an unknown entry was skipped
 pub read_structure-loop-members-preserved : goal.read_structure-loop-members-preserved

@@ -2,7 +2,7 @@
 use Rattle.std.proofs.Common.{refl, sym, ◌∙◌}
 use Rattle.std.proofs.lemmas.Result.{err_from_is_err_and}
 use Rattle.smithy_schema.specs.Site.{site_of}
-use Rattle.smithy_transcode.proofs.ReadUnions.{union_contains, union_has_members}
+use Rattle.smithy_schema.proofs.ReadUnions.{union_contains, union_has_members}
 use Rattle.smithy_transcode.proofs.ReadAnswers.{obeyed, open_fails}
 use Rattle.smithy_transcode.proofs.HalfRead.{goes_no_further, ends_whole}
 use Rattle.smithy_transcode.proofs.HalfMembers.{member_fails, union_entered, variant_passed, no_variant_fails, second_variant_fails}
@@ -29,7 +29,7 @@ read_union-returns-in_err-member-clause-reads g t c =
     let told = c.in_err-member.ensures in
     let p = err_from_is_err_and c.from_residual-in_err-member.result c.from_residual-in_err-member.ensures.1 in
     rw (p.1, p.2)
-    (goes_no_further _ _ _ _ laws g.T.Tree.view outer _ _ _ _ _ _ half told.conduct told.narrow (rw c.open_struct.ensures.same at told.deep) (rw c.open_struct.ensures.same at told.refused) (rw c.open_struct.ensures.same at told.would))
+    (goes_no_further _ _ _ _ laws g.T.Tree.view outer _ _ _ _ _ _ half told.conduct told.narrow (rw c.open_struct.ensures.same at told.deep) (rw c.open_struct.ensures.same at told.limited) (rw c.open_struct.ensures.same at told.refused) (rw c.open_struct.ensures.same at told.would))
 
 -- no variant came
 pub read_union-returns-in_default : goal.read_union-returns-in_default
@@ -73,7 +73,7 @@ read_union-returns-in_err-next_member-clause-reads g t c =
     let told = c.in_err-next_member.ensures in
     let p = err_from_is_err_and c.from_residual-in_err-next_member.result c.from_residual-in_err-next_member.ensures.1 in
     rw (p.1, p.2)
-    (goes_no_further _ _ _ _ laws g.T.Tree.view outer _ _ _ _ _ _ behind told.conduct told.narrow (rw same at told.deep) (rw same at told.refused) (rw same at told.would))
+    (goes_no_further _ _ _ _ laws g.T.Tree.view outer _ _ _ _ _ _ behind told.conduct told.narrow (rw same at told.deep) (rw same at told.limited) (rw same at told.refused) (rw same at told.would))
 
 -- a second entry came
 pub read_union-returns-in_default-2 : goal.read_union-returns-in_default-2

@@ -11,7 +11,7 @@ use types.ByLocal.{alloc_all, pass_all, free_all, look_at, get, through, sets, l
 use denote.Builtin.{u8}
 use denote.Exit.{no}
 use denote.Laws.{Is, shows}
-use denote.Ref.{mut_vals, mut_Tells, Bor}
+use denote.Ref.{mut_vals, mut_Tells}
 use denote.RattleType.{RattleType}
 use denote.Signature.{plain}
 use denote.Slice.{ShrSlice, shr_slice_Lawful}

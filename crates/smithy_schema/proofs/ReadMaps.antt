@@ -3,14 +3,14 @@ use Rattle.std.proofs.Common.{◌≡◌, ◌<◌, ℕ, List, ◌∷◌, map as m
 use Rattle.smithy_schema.specs.declared.place.Place.{Place}
 use Rattle.smithy_schema.specs.declared.schema.Schema.{Schema}
 use Rattle.smithy_schema.specs.Site.{Site, site_of, inner_site, kind_at}
-use Rattle.smithy_schema.specs.Table.{Table, Kind, map_of, kind_of, place_in, IsMap, IsSparse, IsStructure, is_sparse}
+use Rattle.smithy_schema.specs.Table.{Table, Kind, map_of, kind_of, place_in, IsMap, IsSparse, IsStructure, is_sparse, IsContainer}
 use Rattle.smithy_schema.specs.Value.{Value, map, null_element, MapEntries, no_map_entries, put_entry}
 use Rattle.smithy_schema.specs.Container.{entries_from, container_of}
 use Rattle.smithy_schema.specs.Lemmas.Options.{same_some}
-use Rattle.smithy_schema.specs.Reading.{Cursor, in_map, depth, Relations, Child, child_value, child_unknown, child_null, entry_of, named, IsChild, IsContainer, IsLawful, IsBelow, Passes, Reads, Enters, Steps, StandsNot, NullsNot, null_is_due}
-use Rattle.smithy_transcode.proofs.Inner.{inner_in}
-use Rattle.smithy_transcode.proofs.ReadContainers.{InContainer, worth_as, begin, child_read, no_child, no_null_begins, left_falls}
-use Rattle.smithy_transcode.proofs.ReadLists.{sparse_is, IsNoNull, begins_as_value, begins_otherwise}
+use Rattle.smithy_schema.specs.Reading.{Cursor, in_map, depth, Relations, Child, child_value, child_unknown, child_null, entry_of, named, IsChild, IsLawful, IsBelow, Passes, Reads, Enters, Steps, StandsNot, NullsNot, null_is_due}
+use Rattle.smithy_schema.proofs.Inner.{inner_in}
+use Rattle.smithy_schema.proofs.ReadContainers.{InContainer, worth_as, begin, child_read, no_child, no_null_begins, left_falls}
+use Rattle.smithy_schema.proofs.ReadLists.{sparse_is, IsNoNull, begins_as_value, begins_otherwise}
 
 -- the map that more children make of these entries
 abbrev pub map_value : Bool → MapEntries → List Child → Option Value
@@ -55,7 +55,7 @@ null_entry_read w u max over below s0 s s1 s2 t p es key inside steps sparse nul
     (child_read w u max over below s0 s s1 s2 t p in_map (map_value (is_sparse (kind_of t p)) es) (Some key) (child_null (Some key)) inside steps (refl, sparse, nulls) passes)
 
 -- the place of the values, as a schema of them tells it
-map_place : (k : Kind) (t : Table) (e : Site) → IsMap k → Some e ≡ inner_in t k → (e.table ≡ t) × (place_in k None ≡ Some e.place)
+pub map_place : (k : Kind) (t : Table) (e : Site) → IsMap k → Some e ≡ inner_in t k → (e.table ≡ t) × (place_in k None ≡ Some e.place)
 map_place (map_of m) t e h is = (ap (λ (x : Site). x.table) (same_some _ _ is), ap (λ (x : Site). Some x.place) (sym (same_some _ _ is)))
 map_place _ t e h is = absurd h
 

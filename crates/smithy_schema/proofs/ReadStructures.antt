@@ -5,12 +5,12 @@ use Rattle.std.proofs.lemmas.Option.{slice_get_past}
 use Rattle.smithy_schema.specs.declared.place.Place.{Place}
 use Rattle.smithy_schema.specs.declared.schema.Schema.{Schema}
 use Rattle.smithy_schema.specs.declared.read.Step.TheVariants.{Member as ToMember, Unknown}
-use Rattle.smithy_schema.specs.Table.{Table, Kind, structure_of, union_of, kind_of, place_in, members_of, Member, IsStructure, HasMembers, IsSparse}
+use Rattle.smithy_schema.specs.Table.{Table, Kind, structure_of, union_of, kind_of, place_in, members_of, Member, IsStructure, HasMembers, IsSparse, IsContainer}
 use Rattle.smithy_schema.specs.Site.{Site, site_of, site_of_member, member_site, kind_at}
 use Rattle.smithy_schema.specs.Value.{Value, MemberValues, no_member_values, structure}
 use Rattle.smithy_schema.specs.Container.{members_from, container_of}
-use Rattle.smithy_schema.specs.Reading.{Cursor, in_structure, depth, Relations, Child, child_value, child_unknown, child_null, entry_of, IsChild, IsContainer, IsLawful, IsBelow, Enters, MatchStep}
-use Rattle.smithy_transcode.proofs.ReadContainers.{InContainer, worth_as, begin, named_above, no_child, no_place, not_both, structure_has_members}
+use Rattle.smithy_schema.specs.Reading.{Cursor, in_structure, depth, Relations, Child, child_value, child_unknown, child_null, entry_of, IsChild, IsLawful, IsBelow, Enters, MatchStep}
+use Rattle.smithy_schema.proofs.ReadContainers.{InContainer, worth_as, begin, named_above, no_child, no_place, not_both, structure_has_members}
 
 -- the structure that more children make of these fields
 abbrev pub structure_value : MemberValues → List Child → Option Value

@@ -3,14 +3,14 @@ use Rattle.std.proofs.Common.{◌≡◌, ◌<◌, ◌&&◌, ℕ, List, [], ◌�
 use Rattle.smithy_schema.specs.declared.place.Place.{Place}
 use Rattle.smithy_schema.specs.declared.schema.Schema.{Schema}
 use Rattle.smithy_schema.specs.Site.{Site, site_of, inner_site, kind_at}
-use Rattle.smithy_schema.specs.Table.{Table, Kind, list_of, map_of, kind_of, place_in, IsList, IsSparse, is_sparse}
+use Rattle.smithy_schema.specs.Table.{Table, Kind, list_of, map_of, kind_of, place_in, IsList, IsSparse, is_sparse, IsContainer}
 use Rattle.smithy_schema.specs.Value.{Value, list, values_of, null_element}
 use Rattle.smithy_schema.specs.Container.{elements_from, container_of}
 use Rattle.smithy_schema.specs.Lemmas.Kinds.{no_list_and_structure}
 use Rattle.smithy_schema.specs.Lemmas.Options.{same_some}
-use Rattle.smithy_schema.specs.Reading.{Cursor, in_list, depth, Relations, Child, child_value, child_unknown, child_null, entry_of, IsChild, IsContainer, IsLawful, IsBelow, Passes, Reads, Enters, Steps, StandsNot, NullsNot, null_is_due}
-use Rattle.smithy_transcode.proofs.Inner.{inner_in}
-use Rattle.smithy_transcode.proofs.ReadContainers.{InContainer, worth_as, begin, child_read, no_child, no_null_begins, left_falls}
+use Rattle.smithy_schema.specs.Reading.{Cursor, in_list, depth, Relations, Child, child_value, child_unknown, child_null, entry_of, IsChild, IsLawful, IsBelow, Passes, Reads, Enters, Steps, StandsNot, NullsNot, null_is_due}
+use Rattle.smithy_schema.proofs.Inner.{inner_in}
+use Rattle.smithy_schema.proofs.ReadContainers.{InContainer, worth_as, begin, child_read, no_child, no_null_begins, left_falls}
 
 -- the list that more children make behind these values
 abbrev pub list_value : Bool → List Value → List Child → Option Value
@@ -60,7 +60,7 @@ null_read w u max over below s0 s s1 s2 t p vs inside steps sparse nulls passes 
     (child_read w u max over below s0 s s1 s2 t p in_list (list_value (is_sparse (kind_of t p)) vs) None (child_null None) inside steps (refl, sparse, nulls) passes)
 
 -- the place of the elements, as a schema of them tells it
-list_place : (k : Kind) (t : Table) (e : Site) → IsList k → Some e ≡ inner_in t k → (e.table ≡ t) × (place_in k None ≡ Some e.place)
+pub list_place : (k : Kind) (t : Table) (e : Site) → IsList k → Some e ≡ inner_in t k → (e.table ≡ t) × (place_in k None ≡ Some e.place)
 list_place (list_of l) t e h is = (ap (λ (x : Site). x.table) (same_some _ _ is), ap (λ (x : Site). Some x.place) (sym (same_some _ _ is)))
 list_place _ t e h is = absurd h
 

@@ -1,0 +1,73 @@
+//! How a reader goes on in a structure or a union.
+use crate::deserializer::CborDeserializer;
+use crate::frames::{frame, is_missing};
+use crate::members::{Next, next_present, step_to};
+use smithy_schema::{Schema, SerdeError, Step};
+use smithy_wire::Within;
+
+impl CborDeserializer<'_> {
+    ghost use Rattle.std.specs.Prelude.{◌≡◌, ◌≤◌, ◌↔◌, length, IsTrue, IfOk, IsErrOf, false};
+    ghost use Rattle.smithy_schema.specs.Reading.{passed_to, in_structure, Conducts, MatchStep, CannotGoOn, RefusesNoScalar, IsRefused};
+    ghost use Rattle.smithy_schema.specs.Table.{IsStructure, HasMembers};
+    ghost use Rattle.smithy_schema.specs.Site.{site_of, kind_at};
+    ghost use Rattle.smithy_schema.specs.declared.error.SerdeError.TheVariants.{TooDeep};
+    ghost use Rattle.smithy_cbor_codec.specs.Cursor.{cursor_of, reading_settings_of};
+    ghost use Rattle.smithy_cbor_codec.specs.Settings.{Settings};
+    ghost use Rattle.smithy_cbor_codec.specs.Standing.{cbor_relations};
+    ghost use Rattle.smithy_cbor_codec.specs.Private.MemberSteps.{EndsEmpty};
+
+    // Whether the innermost container was opened at the end of an empty input, and ends there as a structure.
+    fn ends_empty(&self, schema: &Schema<'_>) -> bool
+        ensures { IsTrue result ↔ IsStructure (kind_at (site_of schema.now)) × EndsEmpty (cursor_of self.now) }
+    {
+        let mark = self.walk.inner.mark;
+        mark.at_end
+            && !mark.entered
+            && mark.due.is_none()
+            && is_missing(self.walk.input, schema)
+            && self.walk.depth() > 0
+    }
+
+    // Goes on in the structure or the union from the offset on, where nothing is due any more.
+    pub(crate) fn step_from<'s>(
+        &mut self,
+        at: usize,
+        schema: &Schema<'s>,
+    ) -> Result<Step<'s>, SerdeError>
+        requires ahead { self.old.walk.position ≤ at }
+        requires within { at ≤ length self.old.walk.input.now }
+        requires sound { self.old.walk.failed ≡ false }
+        requires inside { (cursor_of self.old).inner.within ≡ in_structure }
+        requires place { HasMembers (kind_at (site_of schema.now)) }
+        ensures same { reading_settings_of self.new ≡ reading_settings_of self.old }
+        ensures conduct { Conducts (cursor_of self.old) (cursor_of self.new) result }
+        ensures narrow { RefusesNoScalar result }
+        ensures ok { IfOk result (λ step. MatchStep step (cbor_relations (reading_settings_of self.old)) (passed_to (cursor_of self.old) at) (cursor_of self.new) (site_of schema.now)) }
+        ensures refused { IsRefused result → (o : Settings) → CannotGoOn (cbor_relations o) (passed_to (cursor_of self.old) at) schema.now.shapes.now schema.now.place }
+        ensures shallow { IsErrOf result TooDeep → ⊥ }
+    {
+        if self.ends_empty(schema) {
+            self.walk.leave(0);
+            return Ok(Step::End);
+        }
+        match next_present(
+            self.alloc,
+            self.walk.input,
+            at,
+            self.walk.inner.mark.due,
+            self.walk.depth(),
+            schema,
+        ) {
+            Ok(Next::Pair(name, value, due)) => {
+                let step = step_to(schema, name.as_str());
+                self.walk.go_on(value, frame(Within::Structure, due));
+                Ok(step)
+            }
+            Ok(Next::End(end)) => {
+                self.walk.leave(end);
+                Ok(Step::End)
+            }
+            Err(error) => Err(self.walk.refuse(error)),
+        }
+    }
+}

@@ -1,0 +1,79 @@
+//! How a reader goes on in a structure or a union.
+use crate::deserializer::JsonDeserializer;
+use crate::frames::{frame, is_structure};
+use crate::members::{Next, next_present, step_to};
+use smithy_schema::{Schema, SerdeError, Step};
+use smithy_wire::Within;
+
+impl JsonDeserializer<'_> {
+    ghost use Rattle.std.specs.Prelude.{◌≡◌, ◌≤◌, ◌↔◌, ◌+◌, ℕ, length, drop, IsTrue, IfOk, IsErrOf, false};
+    ghost use Rattle.smithy_schema.specs.Reading.{passed_to, depth, in_structure, Conducts, MatchStep, CannotGoOn, RefusesNoScalar, IsRefused, IsInvalid};
+    ghost use Rattle.smithy_schema.specs.Table.{HasMembers};
+    ghost use Rattle.smithy_schema.specs.Site.{site_of, kind_at};
+    ghost use Rattle.smithy_schema.specs.declared.error.SerdeError.TheVariants.{TooDeep};
+    ghost use Rattle.smithy_json_codec.specs.Cursor.{cursor_of, reading_settings_of};
+    ghost use Rattle.smithy_json_codec.specs.Deepest.{OpensTooDeep};
+    ghost use Rattle.smithy_json_codec.specs.Openers.{json_openers};
+    ghost use Rattle.smithy_json_codec.specs.Settings.{without_limits};
+    ghost use Rattle.smithy_json_codec.specs.Standing.{json_relations};
+    ghost use Rattle.smithy_json_codec.specs.Private.MemberSteps.{EndsEmpty};
+
+    // Whether the innermost container was opened at the end of an empty input, and ends there.
+    fn ends_empty(&self) -> bool
+        ensures { IsTrue result ↔ EndsEmpty (cursor_of self.now) }
+    {
+        let mark = self.walk.inner.mark;
+        mark.at_end
+            && !mark.entered
+            && mark.due.is_none()
+            && self.walk.input.is_empty()
+            && self.walk.depth() > 0
+    }
+
+    // Goes on in the structure or the union from the offset on, where nothing is due any more.
+    #[inline(always)]
+    pub(crate) fn step_from<'s>(
+        &mut self,
+        at: usize,
+        schema: &Schema<'s>,
+    ) -> Result<Step<'s>, SerdeError>
+        requires ahead { self.old.walk.position ≤ at }
+        requires within { at ≤ length self.old.walk.input.now }
+        requires sound { self.old.walk.failed ≡ false }
+        requires inside { (cursor_of self.old).inner.within ≡ in_structure }
+        requires place { HasMembers (kind_at (site_of schema.now)) }
+        ensures same { reading_settings_of self.new ≡ reading_settings_of self.old }
+        ensures conduct { Conducts (cursor_of self.old) (cursor_of self.new) result }
+        ensures narrow { RefusesNoScalar result }
+        ensures ok { IfOk result (λ step. MatchStep step (json_relations (reading_settings_of self.old)) (passed_to (cursor_of self.old) at) (cursor_of self.new) (site_of schema.now)) }
+        ensures refused { IsRefused result → CannotGoOn (json_relations (reading_settings_of self.old)) (passed_to (cursor_of self.old) at) schema.now.shapes.now schema.now.place }
+        ensures would { IsInvalid result → CannotGoOn (json_relations (without_limits (reading_settings_of self.old))) (passed_to (cursor_of self.old) at) schema.now.shapes.now schema.now.place }
+        ensures deep { IsErrOf result TooDeep → (reading_settings_of self.old).max_depth ≤ depth (cursor_of self.old) + json_openers (drop at (cursor_of self.old).input) }
+        ensures too_deep { IsErrOf result TooDeep
+            → (q : ℕ) × (at ≤ q) × OpensTooDeep (reading_settings_of self.old).max_depth (depth (cursor_of self.old)) (cursor_of self.old).input q }
+    {
+        if self.ends_empty() && is_structure(schema) {
+            self.walk.leave(0);
+            return Ok(Step::End);
+        }
+        match next_present(
+            self.alloc,
+            self.input(),
+            at,
+            self.walk.inner.mark.entered,
+            self.walk.depth(),
+            schema,
+        ) {
+            Ok(Next::Member(name, value)) => {
+                let step = step_to(schema, self.settings, name.as_str());
+                self.walk.go_on(value, frame(Within::Structure, true));
+                Ok(step)
+            }
+            Ok(Next::End(end)) => {
+                self.walk.leave(end);
+                Ok(Step::End)
+            }
+            Err(error) => Err(self.walk.refuse(error)),
+        }
+    }
+}

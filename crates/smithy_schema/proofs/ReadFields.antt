@@ -1,0 +1,188 @@
+-- What a consumer that keeps fields has read.
+use Rattle.std.proofs.Common.{◌≡◌, ◌<◌, ◌≤◌, ◌+◌, ℕ, zero, suc, List, [], ◌∷◌, map, length, true, false, Option, Some, None, option_map, Result, Ok, Err, OnOk, refl, sym, ◌∙◌, ap, subst, arith}
+use Rattle.std.specs.declared.cmp.Ordering.{Ordering}
+use Rattle.std.specs.declared.cmp.Ordering.TheVariants.{Less, Equal, Greater}
+use Rattle.std.specs.Ordering.{MatchOrdering, nat_cmp, match_ordering}
+use Rattle.std.proofs.lemmas.Cmp.{ranked}
+use Rattle.std.specs.List.{slice_get}
+use Rattle.smithy_schema.specs.declared.error.SerdeError.{SerdeError}
+use Rattle.smithy_schema.specs.declared.place.Place.{Place}
+use Rattle.smithy_schema.specs.declared.place.Target.{Target}
+use Rattle.smithy_schema.specs.declared.place.Target.TheVariants.{Simple}
+use Rattle.smithy_schema.specs.declared.shape_type.Scalar.{Scalar}
+use Rattle.smithy_schema.specs.Table.{Member, Kind, structure_of, place_in, scalar_place, IsStructure}
+use Rattle.smithy_schema.specs.Site.{Site, kind_at, member_site}
+use Rattle.smithy_schema.specs.Value.{Value, ScalarValue, scalar_value, MemberValues, no_member_values, member_value, put_member, structure}
+use Rattle.smithy_schema.specs.Lemmas.Options.{same_some}
+use Rattle.smithy_schema.specs.Reading.{Cursor, depth, in_structure, IsLawful, Reads, ReadsScalar, StandsNot, IsFault}
+use Rattle.smithy_schema.specs.Consuming.{Reader, Call, Consumes, by_member, IsTaken, IsMemberOf}
+use Rattle.smithy_schema.specs.Fields.{HasTargets, members_at, structure_with, TakesField, took, passed, broke}
+use Rattle.smithy_schema.proofs.ConsumingLemmas.{same_error}
+use Rattle.smithy_schema.proofs.ReadStructures.{site_told}
+use Rattle.smithy_schema.proofs.ConsumedStructures.{TakesMembers, structure_read}
+use Rattle.smithy_schema.proofs.RefusedStructures.{RefusesMembers, structure_refused}
+
+-- ---- setting a field
+
+-- the fields with this value at a position
+abbrev pub set_field : List (Option Value) → ℕ → Value → List (Option Value)
+set_field [] i v = []
+set_field (f ∷ fs) zero v = Some v ∷ fs
+set_field (f ∷ fs) (suc i) v = f ∷ set_field fs i v
+
+placed : (n m : ℕ) (v w : Value) (rest more : MemberValues) (order : Ordering) → MatchOrdering order (n < m) (n ≡ m) (m < n) → m < n
+    → match_ordering order (member_value n v (member_value m w rest)) (member_value m v rest) (member_value m w more) ≡ member_value m w more
+placed n m v w rest more Less is behind = absurd (omega arith)
+placed n m v w rest more Equal is behind = absurd (omega arith)
+placed n m v w rest more Greater is behind = refl
+
+here_is : (n : ℕ) (v w : Value) (rest more : MemberValues) (order : Ordering) → MatchOrdering order (n < n) (n ≡ n) (n < n)
+    → match_ordering order (member_value n v (member_value n w rest)) (member_value n v rest) (member_value n w more) ≡ member_value n v rest
+here_is n v w rest more Less is = absurd (omega arith)
+here_is n v w rest more Equal is = refl
+here_is n v w rest more Greater is = absurd (omega arith)
+
+before_is : (n m : ℕ) (v w : Value) (rest more : MemberValues) (order : Ordering) → MatchOrdering order (n < m) (n ≡ m) (m < n) → n < m
+    → match_ordering order (member_value n v (member_value m w rest)) (member_value m v rest) (member_value m w more) ≡ member_value n v (member_value m w rest)
+before_is n m v w rest more Less is behind = refl
+before_is n m v w rest more Equal is behind = absurd (omega arith)
+before_is n m v w rest more Greater is behind = absurd (omega arith)
+
+put_first : (n m : ℕ) (v : Value) (fs : List (Option Value)) → n < m → put_member n v (members_at m fs) ≡ member_value n v (members_at m fs)
+put_first n m v [] up = refl
+put_first n m v (None ∷ fs) up = put_first n (suc m) v fs (omega (arith, up))
+put_first n m v (Some w ∷ fs) up = before_is n m v w (members_at (suc m) fs) (put_member n v (members_at (suc m) fs)) (nat_cmp n m) (ranked n m (nat_cmp n m) refl) up
+
+pub field_set : (n i : ℕ) (v : Value) (fs : List (Option Value)) → i < length fs → members_at n (set_field fs i v) ≡ put_member (n + i) v (members_at n fs)
+field_set n i v [] within = absurd (omega (arith, within))
+field_set n zero v (None ∷ fs) within = let here : n + 0 ≡ n = omega arith in rw here (sym (put_first n (suc n) v fs (omega arith)))
+field_set n zero v (Some w ∷ fs) within =
+    let here : n + 0 ≡ n = omega arith in
+    subst (λ k. member_value n v (members_at (suc n) fs) ≡ put_member k v (member_value n w (members_at (suc n) fs))) (sym here)
+    (sym (here_is n v w (members_at (suc n) fs) (put_member n v (members_at (suc n) fs)) (nat_cmp n n) (ranked n n (nat_cmp n n) refl)))
+field_set n (suc i) v (None ∷ fs) within =
+    let up : suc n + i ≡ n + suc i = omega arith in
+    subst (λ k. members_at (suc n) (set_field fs i v) ≡ put_member k v (members_at (suc n) fs)) up (field_set (suc n) i v fs (omega (arith, within)))
+field_set n (suc i) v (Some w ∷ fs) within =
+    let up : suc n + i ≡ n + suc i = omega arith in
+    ap (member_value n w) (subst (λ k. members_at (suc n) (set_field fs i v) ≡ put_member k v (members_at (suc n) fs)) up (field_set (suc n) i v fs (omega (arith, within))))
+    ∙ sym (placed (n + suc i) n v w (members_at (suc n) fs) (put_member (n + suc i) v (members_at (suc n) fs)) (nat_cmp (n + suc i) n) (ranked (n + suc i) n (nat_cmp (n + suc i) n) refl) (omega arith))
+
+-- ---- the calls
+
+pub has_structure : (targets : List Target) (outer : Site) → HasTargets targets outer → IsStructure (kind_at outer)
+has_structure targets outer of = subst IsStructure (sym of.kind) tt
+
+same_position : (m n : ℕ) → Some m ≡ Some n → m ≡ n
+same_position m n h = cc
+
+fields_take : {C : Type 0} (fields : C → List (Option Value)) (r : Reader) (outer : Site) → TakesMembers r outer (TakesField fields r) (λ s. members_at 0 (fields s))
+fields_take {C} fields r outer = record {
+  unknown = λ s t d f called. left None s t d f (Ok tt) called refl;
+  member = λ n site s t d f told called. set n site (Some site) s t d f (Ok tt) told called refl;
+}
+  where
+    left : (m : Option Site) (s t : C) (d f : Cursor) (result : Result (Unit {0}) SerdeError) → TakesField fields r m s d result t f → m ≡ None → OnOk result ((f ≡ d) × (members_at 0 (fields t) ≡ members_at 0 (fields s)))
+    left m s t d f result (took n v index reads after) none = absurd (let h : m ≡ None = none in cc)
+    left m s t d f result passed none = (refl, refl)
+    left m s t d f result (broke why) none = tt
+
+    set : (n : ℕ) (site : Site) (m : Option Site) (s t : C) (d f : Cursor) (result : Result (Unit {0}) SerdeError) → member_site outer n ≡ Some site → TakesField fields r m s d result t f → m ≡ Some site
+        → OnOk result ((v : Value) × Reads r.wire d f site.table site.place v × (members_at 0 (fields t) ≡ put_member n v (members_at 0 (fields s))))
+    set n site m s t d f result told (took {site = at} k v index reads after) is =
+        let same : at ≡ site = same_some at site is in
+        let position : k ≡ n = same_position k n (sym index ∙ ap (λ (x : Site). x.view.index) same ∙ (site_told outer n site told).2) in (
+          v,
+          subst (λ (x : Site). Reads r.wire d f x.table x.place v) same reads,
+          subst (λ x. members_at 0 (fields t) ≡ put_member x v (members_at 0 (fields s))) position after,
+        )
+    set n site m s t d f result told passed is = absurd (let h : None ≡ Some site = is in cc)
+    set n site m s t d f result told (broke why) is = tt
+
+fields_refuse : {C : Type 0} (fields : C → List (Option Value)) (r : Reader) (outer : Site) → RefusesMembers r outer (TakesField fields r)
+fields_refuse {C} fields r outer = record {
+  unknown = λ s t d f e called fault. fine None s t d f (Err e) called refl refl;
+  member = λ n site s t d f e told called fault due. none_there site (Some site) s t d f (Err e) called refl refl fault due;
+}
+  where
+    fine : {e : SerdeError} (m : Option Site) (s t : C) (d f : Cursor) (result : Result (Unit {0}) SerdeError) → TakesField fields r m s d result t f → m ≡ None → result ≡ Err e → ⊥
+    fine m s t d f result (took n v index reads after) none is = cc
+    fine m s t d f result passed none is = cc
+    fine m s t d f result (broke why) none is = cc
+
+    none_there : {e : SerdeError} (site : Site) (m : Option Site) (s t : C) (d f : Cursor) (result : Result (Unit {0}) SerdeError) → TakesField fields r m s d result t f → m ≡ Some site → result ≡ Err e → IsFault e → d.due ≡ true
+        → StandsNot r.wire d site.table site.place
+    none_there site m s t d f result (took n v index reads after) is fails fault due = cc
+    none_there site m s t d f result passed is fails fault due = cc
+    none_there {e} site m s t d f result (broke {site = at} {e = h} why) is fails fault due =
+        let same : at ≡ site = same_some at site is in
+        subst (λ (x : Site). StandsNot r.wire d x.table x.place) same (why (subst IsFault (sym (same_error (Unit {0}) h e fails)) fault) due)
+
+-- a fresh consumer has the structure that stood there
+pub fields_read : {C : Type 0} (fields : C → List (Option Value)) (targets : List Target) (r : Reader) (outer : Site) → IsLawful r.wire → HasTargets targets outer
+    → (s t : C) (c g : Cursor) (result : Result (Unit {0}) SerdeError) → members_at 0 (fields s) ≡ no_member_values → Consumes r outer in_structure (by_member r outer) (TakesField fields r) s c result t g
+    → OnOk result (IsTaken c g) → OnOk result (Reads r.wire c g outer.table outer.place (structure_with (fields t)))
+fields_read fields targets r outer laws of s t c g result fresh consumes taken =
+    both result (structure_read r outer (TakesField fields r) (λ s. members_at 0 (fields s)) laws (has_structure targets outer of) (fields_take fields r outer) s t c g result fresh consumes) taken
+  where
+    both : (result : Result (Unit {0}) SerdeError) → OnOk result (r.wire.stands c.input outer.table outer.place (depth c) c.at (structure_with (fields t)) g.at) → OnOk result (IsTaken c g)
+        → OnOk result (Reads r.wire c g outer.table outer.place (structure_with (fields t)))
+    both (Ok done) stands taken = record { stands = stands; passes = taken.passes }
+    both (Err e) stands taken = tt
+
+-- where the call finds fault, no structure stands there
+pub fields_refused : {C : Type 0} (fields : C → List (Option Value)) (targets : List Target) (r : Reader) (outer : Site) → IsLawful r.wire → HasTargets targets outer
+    → (s t : C) (c g : Cursor) (result : Result (Unit {0}) SerdeError) → Consumes r outer in_structure (by_member r outer) (TakesField fields r) s c result t g
+    → (e : SerdeError) → result ≡ Err e → IsFault e → c.due ≡ true → StandsNot r.wire c outer.table outer.place
+fields_refused fields targets r outer laws of s t c g result consumes =
+    structure_refused r outer (TakesField fields r) (λ s. members_at 0 (fields s)) laws (has_structure targets outer of) (fields_take fields r outer) (fields_refuse fields r outer) s t c g result consumes
+
+-- ---- a member that is a scalar
+
+target_in : (ms : List Member) (n : ℕ) (p : Place) → place_in (structure_of ms) (Some n) ≡ Some p → slice_get (map (λ (m : Member). m.place.target) ms) n ≡ Some p.target
+target_in [] n p h = absurd (let none : None ≡ Some p = h in cc)
+target_in (m ∷ ms) zero p h = ap (λ o. option_map (λ (q : Place). q.target) o) h
+target_in (m ∷ ms) (suc n) p h = target_in ms n p h
+
+-- the target of a member by its position
+pub target_at : (targets : List Target) (outer : Site) → HasTargets targets outer → (n : ℕ) (site : Site) → member_site outer n ≡ Some site → (site.view.index ≡ Some n) × (slice_get targets n ≡ Some site.place.target)
+target_at targets outer of n site told =
+    let there = site_told outer n site told in
+    (there.2, subst (λ ts. slice_get ts n ≡ Some site.place.target) of.are (target_in of.members n site.place (subst (λ k. place_in k (Some n) ≡ Some site.place) of.kind there.1)))
+
+simple_place : (s : Scalar) (p : Place) → p.target ≡ Simple s → scalar_place s p.time ≡ p
+simple_place s p h = ap (λ x. let q : Place = record { target = x; time = p.time } in q) (sym h)
+
+-- so a read of its kind is one of its place
+pub read_there : {A : Type 0} (s : Scalar) (scalar : A → ScalarValue) (r : Reader) (d f : Cursor) (site : Site) (x : A) → site.place.target ≡ Simple s → ReadsScalar {A = A} r.wire r.lifted r.is_strict d f site s scalar (Ok x)
+    → Reads r.wire d f site.table site.place (scalar_value (scalar x))
+read_there s scalar r d f site x is reads = subst (λ p. Reads r.wire d f site.table p (scalar_value (scalar x))) (simple_place s site.place is) reads.ok
+
+pub none_read_there : {A : Type 0} (s : Scalar) (scalar : A → ScalarValue) (r : Reader) (d f : Cursor) (site : Site) (e : SerdeError) → site.place.target ≡ Simple s
+    → ReadsScalar {A = A} r.wire r.lifted r.is_strict d f site s scalar (Err e) → IsFault e → d.due ≡ true → StandsNot r.wire d site.table site.place
+none_read_there s scalar r d f site e is reads fault due = subst (λ p. StandsNot r.wire d site.table p) (simple_place s site.place is) (reads.refused fault due)
+
+-- the target of the member that a consumer may be called for
+pub target_of : (targets : List Target) (site : Site) → (outer : Site) × HasTargets targets outer × IsMemberOf outer (Some site) → (i : ℕ) → site.view.index ≡ Some i → slice_get targets i ≡ Some site.place.target
+target_of targets site (outer, of, (n, told)) i index =
+    let there = target_at targets outer of n site told in
+    subst (λ k. slice_get targets k ≡ Some site.place.target) (same_position n i (sym there.0 ∙ index)) there.1
+
+-- a member was read as a scalar and set
+pub took_scalar : {C A : Type 0} (fields : C → List (Option Value)) (targets : List Target) (s : Scalar) (scalar : A → ScalarValue) (r : Reader) (site : Site) (before after : C) (c f : Cursor) (i : ℕ) (x : A)
+    → (outer : Site) × HasTargets targets outer × IsMemberOf outer (Some site) → site.view.index ≡ Some i → slice_get targets i ≡ Some (Simple s) → i < length (fields before)
+    → fields after ≡ set_field (fields before) i (scalar_value (scalar x)) → ReadsScalar {A = A} r.wire r.lifted r.is_strict c f site s scalar (Ok x)
+    → TakesField fields r (Some site) before c (Ok tt) after f
+took_scalar fields targets s scalar r site before after c f i x allowed index target within set reads =
+    let here = same_some site.place.target (Simple s) (sym (target_of targets site allowed i index) ∙ target) in
+    let same : 0 + i ≡ i = omega arith in
+    took i (scalar_value (scalar x)) index (read_there s scalar r c f site x here reads)
+    (ap (members_at 0) set ∙ field_set 0 i (scalar_value (scalar x)) (fields before) within ∙ ap (λ k. put_member k (scalar_value (scalar x)) (members_at 0 (fields before))) same)
+
+-- a member couldn't be read as a scalar
+pub broke_scalar : {C A : Type 0} (fields : C → List (Option Value)) (targets : List Target) (s : Scalar) (scalar : A → ScalarValue) (r : Reader) (site : Site) (before after : C) (c f : Cursor) (i : ℕ) (e : SerdeError)
+    → (outer : Site) × HasTargets targets outer × IsMemberOf outer (Some site) → site.view.index ≡ Some i → slice_get targets i ≡ Some (Simple s)
+    → ReadsScalar {A = A} r.wire r.lifted r.is_strict c f site s scalar (Err e) → TakesField fields r (Some site) before c (Err e) after f
+broke_scalar fields targets s scalar r site before after c f i e allowed index target reads =
+    let here = same_some site.place.target (Simple s) (sym (target_of targets site allowed i index) ∙ target) in
+    broke (none_read_there s scalar r c f site e here reads)

@@ -1,0 +1,33 @@
+-- A structure that a type of the caller's keeps as fields, by the positions of its members.
+use Rattle.std.specs.Prelude.{◌≡◌, ℕ, suc, List, [], ◌∷◌, map, true, Option, Some, None, Result, Ok, Err, slice_get}
+use Rattle.smithy_schema.specs.declared.error.SerdeError.{SerdeError}
+use Rattle.smithy_schema.specs.declared.place.Target.{Target}
+use Rattle.smithy_schema.specs.Table.{Member, structure_of}
+use Rattle.smithy_schema.specs.Value.{Value, MemberValues, no_member_values, member_value, put_member, structure}
+use Rattle.smithy_schema.specs.Site.{Site, kind_at}
+use Rattle.smithy_schema.specs.Reading.{Cursor, Reads, StandsNot, IsFault}
+use Rattle.smithy_schema.specs.Consuming.{Reader}
+
+-- a structure stands there whose members have these targets, in order
+pub record HasTargets (targets : List Target) (site : Site) : Type 0 where
+  pub members : List Member
+  pub kind : kind_at site ≡ structure_of members
+  pub are : map (λ (m : Member). m.place.target) members ≡ targets
+
+-- the members that are there, by their positions from n on
+abbrev pub members_at : ℕ → List (Option Value) → MemberValues
+members_at n [] = no_member_values
+members_at n (None ∷ fields) = members_at (suc n) fields
+members_at n (Some v ∷ fields) = member_value n v (members_at (suc n) fields)
+
+-- the structure of these fields
+abbrev pub structure_with : List (Option Value) → Value
+structure_with fields = structure (members_at 0 fields)
+
+-- What a call of a consumer does that keeps fields: it reads a value of the member's place and sets the field at the member's position,
+-- or leaves an entry unread that names no member; and a fault comes only where no value of the member's place stands.
+pub data TakesField {C : Type 0} (fields : C → List (Option Value)) (r : Reader) : Option Site → C → Cursor → Result (Unit {0}) SerdeError → C → Cursor → Type 0 where
+  took : {site : Site} {s t : C} {c f : Cursor} (n : ℕ) (v : Value) → site.view.index ≡ Some n → Reads r.wire c f site.table site.place v
+      → members_at 0 (fields t) ≡ put_member n v (members_at 0 (fields s)) → TakesField fields r (Some site) s c (Ok tt) t f
+  passed : {s : C} {c : Cursor} → TakesField fields r None s c (Ok tt) s c
+  broke : {site : Site} {s t : C} {c f : Cursor} {e : SerdeError} → (IsFault e → c.due ≡ true → StandsNot r.wire c site.table site.place) → TakesField fields r (Some site) s c (Err e) t f

@@ -1,0 +1,34 @@
+use Rattle.std.proofs.Common.{refl, Ok, Err}
+use Rattle.std.proofs.lemmas.Result.{err_from_is_err_and}
+use Rattle.smithy_schema.specs.Consuming.{reader}
+use Rattle.smithy_schema.specs.Site.{site_of}
+use Rattle.smithy_schema.proofs.ReadFields.{fields_read, fields_refused}
+use Rattle.sts_client.specs.Shapes.{tag_targets, tag_fields, put, broke}
+use Rattle.sts_client.proofs.TagFacts.{tag_shape, tag_has_members}
+use Rattle.sts_client.proofs.tags.TagsListConsumer.element.Goals as goal
+
+pub returns-in_err-read_struct-clause-called : goal.returns-in_err-read_struct-clause-called
+returns-in_err-read_struct-clause-called g c =
+    let p = err_from_is_err_and c.from_residual.result c.from_residual.ensures.1 in
+    let d = g.D.ShapeDeserializer in
+    let s = d.settings c.args.source.now in
+    let site = site_of c.args.self.now.shape in
+    rw (p.1, p.2) (
+      broke (λ fault due. fields_refused tag_fields tag_targets (reader (d.wire s) (d.lifted s) (d.is_strict s) (d.max_depth s)) site (g.met.D.ShapeDeserializer.lawful s) (tag_shape site c.args.self.now.is_tag)
+          _ _ _ _ _ c.in_err-read_struct.ensures.consumes c.in_err-read_struct.field-0.0 refl fault due),
+      refl,
+    )
+
+pub returns-in_err-push-clause-called : goal.returns-in_err-push-clause-called
+returns-in_err-push-clause-called g c =
+    let p = err_from_is_err_and c.from_residual-in_err-push.result c.from_residual-in_err-push.ensures.1 in
+    rw (p.1, p.2) (broke (λ fault due. absurd fault), refl)
+
+pub returns-clause-called : goal.returns-clause-called
+returns-clause-called g c =
+    let site = site_of c.args.self.now.shape in
+    rw c.in_ok-push.ensures.items (
+      put c.read_struct.new.consumer
+          (fields_read tag_fields tag_targets _ site (g.met.D.ShapeDeserializer.lawful _) (tag_shape site c.args.self.now.is_tag) _ _ _ _ _ refl c.in_ok-read_struct.ensures.consumes c.in_ok-read_struct.ensures.takes),
+      refl,
+    )

@@ -1,0 +1,30 @@
+use Rattle.std.proofs.Common.{◌≡◌, [], rules, refl, sym, Ok, Err}
+use Rattle.std.proofs.lemmas.Result.{err_from_is_err_and}
+use Rattle.smithy_schema.specs.Consuming.{reader}
+use Rattle.smithy_schema.specs.Site.{site_of}
+use Rattle.sts_client.proofs.TagFacts.{through_tags, tags_read, tags_refused}
+use Rattle.sts_client.proofs.tags.read_tags.Goals as goal
+
+pub invariant_of-tags : goal.invariant_of-tags
+invariant_of-tags g c = record { is_tag = c.requires.place.tags (site_of c.in-Some.shape) (sym c.in-Some.ensures) }
+
+pub returns-clause-ok : goal.returns-clause-ok
+returns-clause-ok g c =
+    let outer = site_of c.args.schema.now in
+    let inner = site_of c.in-Some.shape in
+    let fresh : c.new.result.items ≡ [] = search rules in
+    tags_read _ outer inner c.requires.place (sym c.in-Some.ensures) (g.met.D.ShapeDeserializer.lawful _) c.read_list.new.consumer.tags.items _ _ _
+    (through_tags _ outer inner (λ e. e.tags.items) (λ e. site_of e.shape) _ _ _ _ _ refl fresh c.in_ok-read_list.ensures.consumes)
+
+pub returns-in_err-read_list-clause-refused : goal.returns-in_err-read_list-clause-refused
+returns-in_err-read_list-clause-refused g c =
+    let p = err_from_is_err_and c.from_residual.result c.from_residual.ensures.1 in
+    let d = g.D.ShapeDeserializer in
+    let s = d.settings c.args.source.now in
+    let r = reader (d.wire s) (d.lifted s) (d.is_strict s) (d.max_depth s) in
+    let outer = site_of c.args.schema.now in
+    let inner = site_of c.in-Some.shape in
+    let fresh : c.new.result.items ≡ [] = search rules in
+    rw (p.1, p.2)
+    (λ fault due. tags_refused r outer inner c.requires.place (sym c.in-Some.ensures) (g.met.D.ShapeDeserializer.lawful s) c.read_list.new.consumer.tags.items _ _ _
+    (through_tags r outer inner (λ e. e.tags.items) (λ e. site_of e.shape) _ _ _ _ _ refl fresh c.in_err-read_list.ensures.consumes) c.in_err-read_list.field-0.0 refl fault due)

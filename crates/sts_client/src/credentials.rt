@@ -1,0 +1,81 @@
+//! The credentials that AssumeRole answers.
+ghost use Rattle.std.specs.Prelude.{◌≡◌, IfOk, OnErr, true};
+ghost use Rattle.smithy_schema.specs.Site.{site_of};
+ghost use Rattle.smithy_schema.specs.Reading.{Reads, StandsNot, IsRefused};
+ghost use Rattle.smithy_schema.specs.Fields.{HasTargets, structure_with};
+ghost use Rattle.sts_client.specs.Shapes.{credentials_targets, credentials_fields};
+
+use smithy_schema::{Schema, SerdeError, ShapeDeserializer, StructConsumer};
+use smithy_types::DateTime;
+
+/// Keys that stand for a role for a while.
+#[derive(Drop)]
+pub struct Credentials {
+    /// The member `AccessKeyId`.
+    pub access_key_id: Option<String>,
+    /// The member `SecretAccessKey`.
+    pub secret_access_key: Option<String>,
+    /// The member `SessionToken`.
+    pub session_token: Option<String>,
+    /// The member `Expiration`.
+    pub expiration: Option<DateTime>,
+}
+
+impl StructConsumer for Credentials {
+    ghost use Rattle.smithy_schema.specs.Fields.{TakesField, HasTargets};
+    ghost use Rattle.sts_client.specs.Shapes.{credentials_targets, credentials_fields};
+
+    ghost call = { TakesField credentials_fields };
+
+    ghost can_take = { λ _ outer. HasTargets credentials_targets outer };
+
+    fn member<D: ShapeDeserializer>(
+        &mut self,
+        member: Option<&Schema<'_>>,
+        source: &mut D,
+    ) -> Result<(), SerdeError> {
+        let Some(schema) = member else {
+            return Ok(());
+        };
+        let position = schema.member_index();
+        if position == Some(0) {
+            self.access_key_id = Some(source.read_string(schema)?);
+            return Ok(());
+        }
+        if position == Some(1) {
+            self.secret_access_key = Some(source.read_string(schema)?);
+            return Ok(());
+        }
+        if position == Some(2) {
+            self.session_token = Some(source.read_string(schema)?);
+            return Ok(());
+        }
+        self.expiration = Some(source.read_timestamp(schema)?);
+        Ok(())
+    }
+}
+
+/// Reads the credentials that are due.
+pub fn read_credentials<D: ShapeDeserializer>(
+    schema: &Schema<'_>,
+    source: &mut D,
+) -> Result<Credentials, SerdeError>
+    requires place { HasTargets credentials_targets (site_of schema.now) }
+    ensures same { D.settings source.new ≡ D.settings source.old }
+
+    // What stood there is the structure of these fields.
+    ensures ok { IfOk result (λ keys. Reads (D.wire (D.settings source.old)) (D.state source.old) (D.state source.new) schema.now.shapes.now schema.now.place (structure_with (credentials_fields keys))) }
+
+    // A fault comes only where no such structure stands.
+    ensures refused { IsRefused result → (D.state source.old).due ≡ true → StandsNot (D.wire (D.settings source.old)) (D.state source.old) schema.now.shapes.now schema.now.place }
+    ensures fails { OnErr result ((D.state source.new).failed ≡ true) }
+{
+    let mut keys = Credentials {
+        access_key_id: None,
+        secret_access_key: None,
+        session_token: None,
+        expiration: None,
+    };
+    source.read_struct(schema, &mut keys)?;
+    Ok(keys)
+}

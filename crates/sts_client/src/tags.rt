@@ -1,0 +1,94 @@
+//! The tags of a session, which AssumeRole is given.
+ghost use Rattle.std.specs.Prelude.{◌≡◌, IfOk, OnErr, true};
+ghost use Rattle.smithy_schema.specs.Value.{list, values_of};
+ghost use Rattle.smithy_schema.specs.Site.{site_of};
+ghost use Rattle.smithy_schema.specs.Reading.{Reads, StandsNot, IsRefused};
+ghost use Rattle.sts_client.specs.Shapes.{IsTag, AreTags, tag_values};
+
+use smithy_schema::{ListConsumer, Schema, SerdeError, ShapeDeserializer, StructConsumer};
+use std::alloc::Global;
+
+/// A key with its value.
+#[derive(Drop)]
+pub struct Tag {
+    /// The member `Key`.
+    pub key: Option<String>,
+    /// The member `Value`.
+    pub value: Option<String>,
+}
+
+impl StructConsumer for Tag {
+    ghost use Rattle.smithy_schema.specs.Fields.{TakesField, HasTargets};
+    ghost use Rattle.sts_client.specs.Shapes.{tag_targets, tag_fields};
+
+    ghost call = { TakesField tag_fields };
+
+    ghost can_take = { λ _ outer. HasTargets tag_targets outer };
+
+    fn member<D: ShapeDeserializer>(
+        &mut self,
+        member: Option<&Schema<'_>>,
+        source: &mut D,
+    ) -> Result<(), SerdeError> {
+        let Some(schema) = member else {
+            return Ok(());
+        };
+        if schema.member_index() == Some(0) {
+            self.key = Some(source.read_string(schema)?);
+            return Ok(());
+        }
+        self.value = Some(source.read_string(schema)?);
+        Ok(())
+    }
+}
+
+// Takes the tags of a list.
+#[derive(Drop)]
+struct Tags<'s> {
+    shape: Schema<'s>,
+    tags: Vec<Tag>,
+    ghost is_tag: { IsTag (site_of shape) },
+}
+
+impl<'s> ListConsumer for Tags<'s> {
+    ghost use Rattle.sts_client.specs.Shapes.{TakesTag};
+
+    ghost call = { λ r e c result f d. TakesTag r (site_of e.shape) e.tags.items c result f.tags.items d × (site_of f.shape ≡ site_of e.shape) };
+
+    fn element<D: ShapeDeserializer>(&mut self, source: &mut D) -> Result<(), SerdeError> {
+        let mut tag = Tag {
+            key: None,
+            value: None,
+        };
+        source.read_struct(&self.shape, &mut tag)?;
+        self.tags.push(tag)?;
+        Ok(())
+    }
+}
+
+/// Reads the list of tags that is due.
+pub fn read_tags<D: ShapeDeserializer>(
+    alloc: Global,
+    schema: &Schema<'_>,
+    source: &mut D,
+) -> Result<Vec<Tag>, SerdeError>
+    requires place { AreTags (site_of schema.now) }
+    ensures same { D.settings source.new ≡ D.settings source.old }
+
+    // What stood there is the list of these tags.
+    ensures ok { IfOk result (λ tags. Reads (D.wire (D.settings source.old)) (D.state source.old) (D.state source.new) schema.now.shapes.now schema.now.place (list (values_of (tag_values tags.items)))) }
+
+    // A fault comes only where no such list stands.
+    ensures refused { IsRefused result → (D.state source.old).due ≡ true → StandsNot (D.wire (D.settings source.old)) (D.state source.old) schema.now.shapes.now schema.now.place }
+    ensures fails { OnErr result ((D.state source.new).failed ≡ true) }
+{
+    let Some(shape) = schema.member() else {
+        unreachable!()
+    };
+    let mut tags = Tags {
+        shape,
+        tags: Vec::new(alloc),
+    };
+    source.read_list(schema, &mut tags)?;
+    Ok(tags.tags)
+}
