@@ -10,8 +10,8 @@ use smithy_rows::Field;
 use smithy_schema::{Schema, SerdeError, ShapeDeserializer, ShapeType};
 use std::alloc::Global;
 
-/// Makes a call on the container of a place, tells what it answers, and adds the lines of its answer. There is none of a
-/// word that isn't one of the place's kind.
+/// Makes a call on the container of a place, tells what it answers, and adds the lines of its answer. A word that names no call
+/// of the place's kind gives none.
 pub fn walk_call<R: ShapeDeserializer>(
     alloc: Global,
     source: &mut R,
@@ -114,7 +114,7 @@ fn nested_members<R: ShapeDeserializer>(
     Ok(())
 }
 
-// The same of lists and their elements.
+// Opens so many lists, each as the first element of the last one, and goes to its first element.
 fn nested_lists<R: ShapeDeserializer>(
     source: &mut R,
     place: &Schema<'_>,
@@ -129,7 +129,7 @@ fn nested_lists<R: ShapeDeserializer>(
     Ok(())
 }
 
-// The same of maps and their values.
+// Opens so many maps, each as the first value of the last one, and goes to its first key.
 fn nested_maps<R: ShapeDeserializer>(
     source: &mut R,
     place: &Schema<'_>,

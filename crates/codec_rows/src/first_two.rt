@@ -30,7 +30,7 @@ fn deal_with<R: ShapeDeserializer>(
     }
 }
 
-// Adds what a structure or a union goes on to.
+// Adds what comes next in a structure or a union: a member, an unknown entry, or the end.
 fn push_step(alloc: Global, step: &Step<'_>, lines: &mut Vec<Field>) -> Result<(), SerdeError> {
     let word = match step {
         Step::Member(_) => "member",
@@ -40,13 +40,13 @@ fn push_step(alloc: Global, step: &Step<'_>, lines: &mut Vec<Field>) -> Result<(
     Ok(push(alloc, lines, word, b"")?)
 }
 
-// Adds whether a list goes on, and tells it.
+// Adds what comes next in a list: an element, or the end.
 fn push_element(alloc: Global, is_due: bool, lines: &mut Vec<Field>) -> Result<(), SerdeError> {
     let word = if is_due { "element" } else { "end" };
     Ok(push(alloc, lines, word, b"")?)
 }
 
-// Adds the key that a map goes on to, where there is one.
+// Adds what comes next in a map: a key, or the end.
 fn push_key(alloc: Global, key: &Option<String>, lines: &mut Vec<Field>) -> Result<(), SerdeError> {
     match key {
         Some(key) => Ok(push(alloc, lines, "key", key.as_bytes())?),
@@ -78,7 +78,7 @@ pub fn first_members<R: ShapeDeserializer>(
     Ok(answers.append(&mut lines)?)
 }
 
-/// The same of a list.
+/// Opens a list, and asks for two elements. The lines are added where nothing was refused.
 pub fn first_elements<R: ShapeDeserializer>(
     alloc: Global,
     source: &mut R,
@@ -101,7 +101,7 @@ pub fn first_elements<R: ShapeDeserializer>(
     Ok(answers.append(&mut lines)?)
 }
 
-/// The same of a map.
+/// Opens a map, and asks for two keys. The lines are added where nothing was refused.
 pub fn first_keys<R: ShapeDeserializer>(
     alloc: Global,
     source: &mut R,

@@ -84,6 +84,17 @@ pub fn last_value<R: ShapeDeserializer>(
     push_last(alloc, last, answers)
 }
 
+// Adds two numbers of entries.
+fn push_counts(
+    alloc: Global,
+    members: u32,
+    unknown: u32,
+    answers: &mut Vec<Field>,
+) -> Result<(), SerdeError> {
+    push_shown(alloc, answers, "members", members)?;
+    Ok(push_shown(alloc, answers, "unknown", unknown)?)
+}
+
 /// Adds how many members come, whose longs are read, and how many entries that the table doesn't know.
 pub fn count_members<R: ShapeDeserializer>(
     alloc: Global,
@@ -106,9 +117,8 @@ pub fn count_members<R: ShapeDeserializer>(
                 source.skip_value()?;
                 unknown = unknown.saturating_add(1);
             }
-            Step::End => break 'members,
+            Step::End => return push_counts(alloc, members, unknown, answers),
         }
     }
-    push_shown(alloc, answers, "members", members)?;
-    Ok(push_shown(alloc, answers, "unknown", unknown)?)
+    push_counts(alloc, members, unknown, answers)
 }

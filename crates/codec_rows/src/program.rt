@@ -22,6 +22,7 @@ impl Program for Codecs {
         match word {
             "body" | "refused" => true,
             "value" | "done" | "position" | "is_null" => true,
+            "size" | "count" | "entry" => true,
             _ => is_met(word),
         }
     }

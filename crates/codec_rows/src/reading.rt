@@ -1,7 +1,8 @@
 //! Rows of calls on a reader.
 
-use crate::answers::{push_refusal, push_shown, refused};
+use crate::answers::{push_refusal, refused};
 use crate::reads::{is_call, read_call};
+use crate::sized::{is_sized_call, sized_call};
 use smithy_cbor_codec::CborCodec;
 use smithy_json_codec::JsonCodec;
 use smithy_rows::{Field, Row};
@@ -18,16 +19,32 @@ fn read<R: ShapeDeserializer>(
     let mut answers = Vec::new(alloc);
     for field in &row.fields {
         let word = field.word.as_str();
-        if word == "position" {
-            push_shown(alloc, &mut answers, word, source.position())?;
-        } else if word == "is_null" {
-            push_shown(alloc, &mut answers, word, source.is_null())?;
+        if is_sized_call(word) {
+            let answer = sized_call(alloc, shapes, source, word, &field.value, &mut answers);
+            push_refusal(alloc, &mut answers, answer)?;
         } else if is_call(word) {
             let answer = read_call(alloc, shapes, source, word, &field.value, &mut answers);
             push_refusal(alloc, &mut answers, answer)?;
         }
     }
     Ok(answers)
+}
+
+fn json_read(
+    alloc: Global,
+    shapes: &Shapes,
+    row: &Row,
+    use_json_name: bool,
+) -> Result<Vec<Field>, AllocError> {
+    let input = row.bytes("input").unwrap_or(b"");
+    let mut source = JsonCodec::strict(use_json_name).create_deserializer(alloc, input);
+    read(alloc, shapes, row, &mut source)
+}
+
+fn cbor_read(alloc: Global, shapes: &Shapes, row: &Row) -> Result<Vec<Field>, AllocError> {
+    let input = row.bytes("input").unwrap_or(b"");
+    let mut source = CborCodec::strict().create_deserializer(alloc, input);
+    read(alloc, shapes, row, &mut source)
 }
 
 /// What the calls on a reader of this wire are answered with.
@@ -37,17 +54,10 @@ pub fn answers(
     row: &Row,
     wire: &str,
 ) -> Result<Vec<Field>, AllocError> {
-    let input = row.bytes("input").unwrap_or(b"");
-    let json = JsonCodec::strict(wire == "json-name");
     match wire {
-        "json" | "json-name" => {
-            let mut source = json.create_deserializer(alloc, input);
-            read(alloc, shapes, row, &mut source)
-        }
-        "cbor" => {
-            let mut source = CborCodec::strict().create_deserializer(alloc, input);
-            read(alloc, shapes, row, &mut source)
-        }
+        "json" => json_read(alloc, shapes, row, false),
+        "json-name" => json_read(alloc, shapes, row, true),
+        "cbor" => cbor_read(alloc, shapes, row),
         _ => refused(alloc, "no such wire"),
     }
 }

@@ -8,19 +8,19 @@ use smithy_rows::Field;
 use smithy_schema::{Schema, SerdeError, ShapeDeserializer, Shapes};
 use smithy_types::{Document, Number};
 use std::alloc::Global;
-use std::fmt::Display;
 
 /// Whether a line of a row is a call on a reader.
 pub fn is_call(word: &str) -> bool {
     match word {
         "fail" | "skip_value" => true,
+        "position" | "is_null" => true,
         "first_two" | "last_long" | "count_members" => true,
         _ => word.starts_with("open_") || word.starts_with("read_"),
     }
 }
 
-/// Makes a call, tells what it answers, and adds the lines of its answer. There is none of a word, or a place, that there
-/// isn't.
+/// Makes a call, tells what it answers, and adds the lines of its answer. A word that names no call, or a place that isn't in the
+/// table, gives none.
 pub fn read_call<R: ShapeDeserializer>(
     alloc: Global,
     shapes: &Shapes,
@@ -30,6 +30,8 @@ pub fn read_call<R: ShapeDeserializer>(
     answers: &mut Vec<Field>,
 ) -> Option<Result<(), SerdeError>> {
     match word {
+        "position" => return Some(position(alloc, source, answers)),
+        "is_null" => return Some(is_null(alloc, source, answers)),
         "fail" => {
             source.fail();
             return Some(Ok(()));
@@ -56,14 +58,20 @@ pub fn done(
     Ok(push(alloc, answers, "done", b"")?)
 }
 
-// Adds a number.
-fn number<T: Display + Drop>(
+fn position<R: ShapeDeserializer>(
     alloc: Global,
-    answer: Result<T, SerdeError>,
+    source: &mut R,
     answers: &mut Vec<Field>,
 ) -> Result<(), SerdeError> {
-    let value = answer?;
-    Ok(push_shown(alloc, answers, "value", value)?)
+    Ok(push_shown(alloc, answers, "position", source.position())?)
+}
+
+fn is_null<R: ShapeDeserializer>(
+    alloc: Global,
+    source: &mut R,
+    answers: &mut Vec<Field>,
+) -> Result<(), SerdeError> {
+    Ok(push_shown(alloc, answers, "is_null", source.is_null())?)
 }
 
 /// Adds a document, by its text.
@@ -105,24 +113,7 @@ fn read_value<R: ShapeDeserializer>(
     answers: &mut Vec<Field>,
 ) -> Option<Result<(), SerdeError>> {
     match word {
-        "read_boolean" => Some(number(alloc, source.read_boolean(place), answers)),
-        "read_byte" => Some(number(alloc, source.read_byte(place), answers)),
-        "read_short" => Some(number(alloc, source.read_short(place), answers)),
-        "read_integer" => Some(number(alloc, source.read_integer(place), answers)),
-        "read_long" => Some(number(alloc, source.read_long(place), answers)),
-        _ => read_held(alloc, source, place, word, answers),
-    }
-}
-
-// The calls that read what holds memory, or an instant.
-fn read_held<R: ShapeDeserializer>(
-    alloc: Global,
-    source: &mut R,
-    place: &Schema<'_>,
-    word: &str,
-    answers: &mut Vec<Field>,
-) -> Option<Result<(), SerdeError>> {
-    match word {
+        "read_long" => Some(long(alloc, source, place, answers)),
         "read_string" => Some(string(alloc, source, place, answers)),
         "read_blob" => Some(blob(alloc, source, place, answers)),
         "read_big_integer" => Some(big_integer(alloc, source, place, answers)),
@@ -132,6 +123,16 @@ fn read_held<R: ShapeDeserializer>(
         "read_document_number" => Some(number_held(alloc, source, place, answers)),
         _ => None,
     }
+}
+
+fn long<R: ShapeDeserializer>(
+    alloc: Global,
+    source: &mut R,
+    place: &Schema<'_>,
+    answers: &mut Vec<Field>,
+) -> Result<(), SerdeError> {
+    let number = source.read_long(place)?;
+    Ok(push_shown(alloc, answers, "value", number)?)
 }
 
 fn string<R: ShapeDeserializer>(

@@ -15,7 +15,8 @@ pub fn is_call(word: &str) -> bool {
         || word == "fail"
 }
 
-/// Makes a call, and tells what it answers. There is none of a word, a place or a value that there isn't.
+/// Makes a call, and tells what it answers. A word that names no call, a place that isn't in the table, or a value that can't be
+/// made, gives no answer.
 pub fn write_call<S: ShapeSerializer>(
     alloc: Global,
     shapes: &Shapes,
@@ -53,16 +54,19 @@ fn write_value<S: ShapeSerializer>(
     value: &str,
 ) -> Option<Result<(), SerdeError>> {
     match word {
-        "write_boolean" => Some(sink.write_boolean(place, value.parse::<bool>().ok()?)),
-        "write_string" | "write_blob" => write_bytes(alloc, sink, place, word, value),
-        "write_big_integer" | "write_big_decimal" | "write_document" => {
-            write_text(alloc, sink, place, word, value)
-        }
+        "write_string" => string(alloc, sink, place, value),
+        "write_blob" => blob(alloc, sink, place, value),
+        "write_big_integer" => big_integer(alloc, sink, place, value),
+        "write_big_decimal" => big_decimal(alloc, sink, place, value),
+        "write_document" => document(alloc, sink, place, value),
+        "write_i128" => Some(sink.write_i128(place, value.parse::<i128>().ok()?)),
+        "write_decimal" => decimal(sink, place, value),
+        "write_timestamp" => timestamp(sink, place, value),
         _ => write_number(sink, place, word, value),
     }
 }
 
-// The calls that write a whole number, or more than one.
+// The calls that write a boolean or a whole number of 64 bits at most.
 fn write_number<S: ShapeSerializer>(
     sink: &mut S,
     place: &Schema<'_>,
@@ -70,37 +74,53 @@ fn write_number<S: ShapeSerializer>(
     value: &str,
 ) -> Option<Result<(), SerdeError>> {
     match word {
+        "write_boolean" => Some(sink.write_boolean(place, value.parse::<bool>().ok()?)),
         "write_byte" => Some(sink.write_byte(place, value.parse::<i8>().ok()?)),
         "write_short" => Some(sink.write_short(place, value.parse::<i16>().ok()?)),
         "write_integer" => Some(sink.write_integer(place, value.parse::<i32>().ok()?)),
         "write_long" => Some(sink.write_long(place, value.parse::<i64>().ok()?)),
-        "write_i128" => Some(sink.write_i128(place, value.parse::<i128>().ok()?)),
-        "write_decimal" => {
-            let (mantissa, exponent) = split(value);
-            let mantissa = mantissa.parse::<i128>().ok()?;
-            Some(sink.write_decimal(place, mantissa, exponent.parse::<i64>().ok()?))
-        }
-        "write_timestamp" => {
-            let instant = DateTime::from_nanos(value.parse::<i128>().ok()?).ok()?;
-            Some(sink.write_timestamp(place, &instant))
-        }
         _ => None,
     }
 }
 
-// The calls that write a text or bytes.
-fn write_bytes<S: ShapeSerializer>(
+fn string<S: ShapeSerializer>(
     alloc: Global,
     sink: &mut S,
     place: &Schema<'_>,
-    word: &str,
     value: &str,
 ) -> Option<Result<(), SerdeError>> {
     let bytes = bytes_of(alloc, value).ok()?;
-    if word == "write_string" {
-        return Some(sink.write_string(place, str::from_utf8(&bytes).ok()?));
-    }
+    Some(sink.write_string(place, str::from_utf8(&bytes).ok()?))
+}
+
+fn blob<S: ShapeSerializer>(
+    alloc: Global,
+    sink: &mut S,
+    place: &Schema<'_>,
+    value: &str,
+) -> Option<Result<(), SerdeError>> {
+    let bytes = bytes_of(alloc, value).ok()?;
     Some(sink.write_blob(place, &Blob::new(bytes)))
+}
+
+fn big_integer<S: ShapeSerializer>(
+    alloc: Global,
+    sink: &mut S,
+    place: &Schema<'_>,
+    value: &str,
+) -> Option<Result<(), SerdeError>> {
+    let number = BigInteger::from_str(alloc, value).ok()?;
+    Some(sink.write_big_integer(place, &number))
+}
+
+fn big_decimal<S: ShapeSerializer>(
+    alloc: Global,
+    sink: &mut S,
+    place: &Schema<'_>,
+    value: &str,
+) -> Option<Result<(), SerdeError>> {
+    let number = BigDecimal::from_str(alloc, value).ok()?;
+    Some(sink.write_big_decimal(place, &number))
 }
 
 // The document of a JSON text.
@@ -109,28 +129,32 @@ fn document_of(alloc: Global, place: &Schema<'_>, text: &[u8]) -> Option<Documen
     source.read_document(place).ok()
 }
 
-// The calls that write a value by its text.
-fn write_text<S: ShapeSerializer>(
+fn document<S: ShapeSerializer>(
     alloc: Global,
     sink: &mut S,
     place: &Schema<'_>,
-    word: &str,
     value: &str,
 ) -> Option<Result<(), SerdeError>> {
-    match word {
-        "write_big_integer" => {
-            let number = BigInteger::from_str(alloc, value).ok()?;
-            Some(sink.write_big_integer(place, &number))
-        }
-        "write_big_decimal" => {
-            let number = BigDecimal::from_str(alloc, value).ok()?;
-            Some(sink.write_big_decimal(place, &number))
-        }
-        "write_document" => {
-            let text = bytes_of(alloc, value).ok()?;
-            let document = document_of(alloc, place, &text)?;
-            Some(sink.write_document(place, &document))
-        }
-        _ => None,
-    }
+    let text = bytes_of(alloc, value).ok()?;
+    let document = document_of(alloc, place, &text)?;
+    Some(sink.write_document(place, &document))
+}
+
+fn decimal<S: ShapeSerializer>(
+    sink: &mut S,
+    place: &Schema<'_>,
+    value: &str,
+) -> Option<Result<(), SerdeError>> {
+    let (mantissa, exponent) = split(value);
+    let mantissa = mantissa.parse::<i128>().ok()?;
+    Some(sink.write_decimal(place, mantissa, exponent.parse::<i64>().ok()?))
+}
+
+fn timestamp<S: ShapeSerializer>(
+    sink: &mut S,
+    place: &Schema<'_>,
+    value: &str,
+) -> Option<Result<(), SerdeError>> {
+    let instant = DateTime::from_nanos(value.parse::<i128>().ok()?).ok()?;
+    Some(sink.write_timestamp(place, &instant))
 }

@@ -34,10 +34,26 @@ fn written<S: FinishSerializer + Drop>(
     Ok(answers)
 }
 
-fn form(alloc: Global, row: &Row) -> Result<QueryShapeSerializer, AllocError> {
+fn json_written(
+    alloc: Global,
+    shapes: &Shapes,
+    row: &Row,
+    use_json_name: bool,
+) -> Result<Vec<Field>, AllocError> {
+    let codec = JsonCodec::strict(use_json_name);
+    written(alloc, shapes, row, codec.create_serializer(alloc))
+}
+
+fn cbor_written(alloc: Global, shapes: &Shapes, row: &Row) -> Result<Vec<Field>, AllocError> {
+    let codec = CborCodec::strict();
+    written(alloc, shapes, row, codec.create_serializer(alloc))
+}
+
+fn form_written(alloc: Global, shapes: &Shapes, row: &Row) -> Result<Vec<Field>, AllocError> {
     let action = row.text("action").unwrap_or("");
     let version = row.text("version").unwrap_or("");
-    QueryShapeSerializer::new(alloc, action, version)
+    let serializer = QueryShapeSerializer::new(alloc, action, version)?;
+    written(alloc, shapes, row, serializer)
 }
 
 /// What the calls on a serializer of this wire are answered with.
@@ -47,16 +63,11 @@ pub fn answers(
     row: &Row,
     wire: &str,
 ) -> Result<Vec<Field>, AllocError> {
-    let json = JsonCodec::strict(wire == "json-name");
     match wire {
-        "json" | "json-name" => written(alloc, shapes, row, json.create_serializer(alloc)),
-        "cbor" => written(
-            alloc,
-            shapes,
-            row,
-            CborCodec::strict().create_serializer(alloc),
-        ),
-        "query" => written(alloc, shapes, row, form(alloc, row)?),
+        "json" => json_written(alloc, shapes, row, false),
+        "json-name" => json_written(alloc, shapes, row, true),
+        "cbor" => cbor_written(alloc, shapes, row),
+        "query" => form_written(alloc, shapes, row),
         _ => refused(alloc, "no such wire"),
     }
 }

@@ -3,7 +3,6 @@
 use crate::field::shown;
 use crate::rows::{Field, Row, Rows};
 use std::alloc::{AllocError, Global};
-use std::process::ExitCode;
 use std::rt::Runtime;
 use std::{env, fs, io};
 
@@ -16,7 +15,7 @@ pub trait Program {
     fn answer(&self, alloc: Global, rows: &Rows, row: &Row) -> Result<Vec<Field>, AllocError>;
 }
 
-// Those of the lines that say what is expected, as one text.
+// The fields that say what is expected, as one text: each word with its value, and ` | ` between two fields.
 fn in_one_line<P: Program>(
     alloc: Global,
     program: &P,
@@ -72,12 +71,18 @@ fn check_file<R: Runtime + AllocGlobal, P: Program>(
     Ok(all)
 }
 
-/// Goes through the rows of each file that an argument names. A line of standard output tells of each row whether it was
-/// answered as it says, and where one wasn't, standard error tells what was answered, and the status is 1.
-pub fn run<R: Runtime + AllocGlobal, P: Program>(rt: &R, program: &P) -> io::Result<ExitCode> {
+/// Goes through the rows of each file that an argument names by this front of its path, and tells whether each was answered as it says. A
+/// line of standard output tells the same of each row, and where one wasn't, standard error tells what was answered.
+pub fn run<R: Runtime + AllocGlobal, P: Program>(
+    rt: &R,
+    front: &str,
+    program: &P,
+) -> io::Result<bool> {
     let mut all = true;
-    for path in env::args(rt)?.skip(1) {
-        all = check_file(rt, program, path.as_str())? && all;
+    for path in env::args(rt)? {
+        if path.starts_with(front) {
+            all = check_file(rt, program, path.as_str())? && all;
+        }
     }
-    Ok(ExitCode::from(if all { 0 } else { 1 }))
+    Ok(all)
 }

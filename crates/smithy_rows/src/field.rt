@@ -13,14 +13,19 @@ pub fn bytes_of(alloc: Global, text: &str) -> Result<Vec<u8>, AllocError> {
     text.as_bytes().to_vec(alloc)
 }
 
-// Whether the text stands for itself in a row, where blanks at either end don't show.
-fn is_plain(text: &str) -> bool {
+// Whether each byte of the text shows.
+fn shows(text: &str) -> bool {
     for byte in text.as_bytes() {
         if *byte < 0x20 || *byte == 0x7f {
             return false;
         }
     }
-    !(text.starts_with("0x") || text.starts_with(' ') || text.ends_with(' '))
+    true
+}
+
+// Whether the text stands for itself in a row, where blanks at either end don't show.
+fn is_plain(text: &str) -> bool {
+    shows(text) && text.trim_matches(' ') == text && !text.starts_with("0x")
 }
 
 /// A field that stands for these bytes: as text where all of it shows, else in hexadecimal digits.

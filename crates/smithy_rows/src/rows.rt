@@ -4,14 +4,14 @@ use crate::field::bytes_of;
 use std::alloc::{AllocError, Global};
 
 /// A line of a row: a word, and the bytes that stand behind it.
-#[derive(Debug, Drop)]
+#[derive(Drop)]
 pub struct Field {
     pub word: String,
     pub value: Vec<u8>,
 }
 
 /// A row: its name, and its lines in order.
-#[derive(Debug, Drop)]
+#[derive(Drop)]
 pub struct Row {
     pub name: String,
     pub fields: Vec<Field>,
@@ -45,7 +45,7 @@ impl Row {
 }
 
 // A table by its name. Each of its lines ends with a line feed.
-#[derive(Debug, Drop)]
+#[derive(Drop)]
 struct Table {
     name: String,
     text: String,
@@ -60,7 +60,7 @@ enum Open {
 }
 
 /// The tables and the rows of a file.
-#[derive(Debug, Drop)]
+#[derive(Drop)]
 pub struct Rows {
     tables: Vec<Table>,
     pub rows: Vec<Row>,
@@ -68,16 +68,13 @@ pub struct Rows {
 
 // Adds bytes to the last line's value, so many times. Without a line nothing is added.
 fn append(row: &mut Row, value: &[u8], times: usize) -> Result<(), AllocError> {
-    if let Some(field) = row.fields.last_mut() {
-        if let [byte] = value {
-            let len = field.value.len().saturating_add(times);
-            return field.value.resize(len, *byte);
-        }
-        for _ in 0..times {
-            field.value.extend_from_slice(value)?;
-        }
+    let Some(mut field) = row.fields.pop() else {
+        return Ok(());
+    };
+    for _ in 0..times {
+        field.value.extend_from_slice(value)?;
     }
-    Ok(())
+    Ok(row.fields.push(field)?)
 }
 
 // Takes a line of a row: `+ VALUE` and `*COUNT VALUE` go on with the value of the line before.

@@ -1,14 +1,7 @@
 //! What a row is answered with.
 
-use crate::documents::call_document;
 use crate::instants::{call_instant, first_instant};
 use crate::literals::call_literal;
-use crate::numbers::call_number;
-use crate::skips::call_skip;
-use crate::strings::call_string;
-use crate::takes::call_take;
-use crate::tokens::call_tokens;
-use crate::values::call_value;
 use crate::words::{split, text_of};
 use crate::writes::write;
 use smithy_rows::{Answers, Field, Program, Row, Rows};
@@ -17,28 +10,12 @@ use std::alloc::{AllocError, Global};
 /// Texts of values, of JSON and of its tokens.
 pub struct Texts;
 
-// Answers a call of this name, where one of the groups has it.
-fn call(alloc: Global, row: &Row, line: &str, answers: &mut Answers) -> Result<(), AllocError> {
-    let (name, rest) = split(line);
-    let known = call_literal(row, name, answers)?
-        || call_string(alloc, row, name, answers)?
-        || call_number(row, name, rest, answers)?
-        || call_value(alloc, row, name, rest, answers)?
-        || call_tokens(alloc, row, name, rest, answers)?
-        || call_take(alloc, row, name, rest, answers)?
-        || call_skip(alloc, row, name, answers)?
-        || call_document(alloc, row, name, answers)?;
-    if known {
-        return Ok(());
-    }
-    answers.refused("no such call")
-}
-
 // Answers each line that calls a function over the input.
 fn answer_calls(alloc: Global, row: &Row, answers: &mut Answers) -> Result<(), AllocError> {
     for field in &row.fields {
         if field.word.as_str() == "call" {
-            call(alloc, row, text_of(field), answers)?;
+            let (name, rest) = split(text_of(field));
+            call_literal(alloc, row, name, rest, answers)?;
         }
     }
     Ok(())

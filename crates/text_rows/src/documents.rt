@@ -2,6 +2,7 @@
 
 use crate::kinds::refuse;
 use crate::skips::items_of;
+use crate::takes::call_take;
 use crate::words::{input_of, tell_number};
 use smithy_json::JsonValueWriter;
 use smithy_json_tokens::{DeserializeError, expect_document, json_token_iter};
@@ -33,50 +34,40 @@ fn number(document: &Document, answers: &mut Answers) -> Result<(), AllocError> 
     }
 }
 
-// Which of the six kinds it is, by the calls that only tell.
-fn tell_kind(document: &Document, answers: &mut Answers) -> Result<(), AllocError> {
-    if document.is_object() {
-        answers.text("is", "object")?;
-    }
-    if document.is_array() {
-        answers.text("is", "array")?;
-    }
-    if document.is_number() {
-        answers.text("is", "number")?;
-    }
-    if document.is_string() {
-        answers.text("is", "string")?;
-    }
-    if document.is_bool() {
-        answers.text("is", "bool")?;
-    }
-    if document.is_null() {
-        answers.text("is", "null")?;
+// A line for each kind that is told.
+fn tell_each(word: &str, told: [(&str, bool); 6], answers: &mut Answers) -> Result<(), AllocError> {
+    for (kind, is) in told {
+        if is {
+            answers.text(word, kind)?;
+        }
     }
     Ok(())
 }
 
-// The same by the calls that hand out.
+// Which of the six kinds a document is of, by the calls that only tell.
+fn tell_kind(document: &Document, answers: &mut Answers) -> Result<(), AllocError> {
+    let told = [
+        ("object", document.is_object()),
+        ("array", document.is_array()),
+        ("number", document.is_number()),
+        ("string", document.is_string()),
+        ("bool", document.is_bool()),
+        ("null", document.is_null()),
+    ];
+    tell_each("is", told, answers)
+}
+
+// Which of the six kinds a document is of, by the calls that hand out what it holds.
 fn hand_out(document: &Document, answers: &mut Answers) -> Result<(), AllocError> {
-    if document.as_object().is_some() {
-        answers.text("as", "object")?;
-    }
-    if document.as_array().is_some() {
-        answers.text("as", "array")?;
-    }
-    if document.as_number().is_some() {
-        answers.text("as", "number")?;
-    }
-    if document.as_string().is_some() {
-        answers.text("as", "string")?;
-    }
-    if document.as_bool().is_some() {
-        answers.text("as", "bool")?;
-    }
-    if document.as_null().is_some() {
-        answers.text("as", "null")?;
-    }
-    Ok(())
+    let told = [
+        ("object", document.as_object().is_some()),
+        ("array", document.as_array().is_some()),
+        ("number", document.as_number().is_some()),
+        ("string", document.as_string().is_some()),
+        ("bool", document.as_bool().is_some()),
+        ("null", document.as_null().is_some()),
+    ];
+    tell_each("as", told, answers)
 }
 
 fn tell(
@@ -95,22 +86,26 @@ fn tell(
     }
 }
 
-/// Answers a call of this name, and tells whether there is one.
+// Answers a call on the document of the row.
+fn call_on(alloc: Global, row: &Row, name: &str, answers: &mut Answers) -> Result<(), AllocError> {
+    match document_of(alloc, row)? {
+        Ok(document) => tell(alloc, &document, name, answers),
+        Err(error) => refuse(&error, answers),
+    }
+}
+
+/// Answers a call by its name and what stands behind it.
 pub fn call_document(
     alloc: Global,
     row: &Row,
     name: &str,
+    rest: &str,
     answers: &mut Answers,
-) -> Result<bool, AllocError> {
-    if !matches!(
-        name,
-        "expect_document" | "document_number" | "document_kind"
-    ) {
-        return Ok(false);
+) -> Result<(), AllocError> {
+    match name {
+        "expect_document" | "document_number" | "document_kind" => {
+            call_on(alloc, row, name, answers)
+        }
+        _ => call_take(alloc, row, name, rest, answers),
     }
-    match document_of(alloc, row)? {
-        Ok(document) => tell(alloc, &document, name, answers)?,
-        Err(error) => refuse(&error, answers)?,
-    }
-    Ok(true)
 }

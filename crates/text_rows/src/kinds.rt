@@ -4,39 +4,23 @@ use smithy_json_tokens::{DeserializeError, DeserializeErrorKind, Offset, Token};
 use smithy_rows::Answers;
 use smithy_types::Number;
 use std::alloc::{AllocError, Global};
-use std::borrow::CowStr;
-
-/// The name of a kind.
-pub fn kind_name(kind: &DeserializeErrorKind) -> &'static str {
-    match kind {
-        DeserializeErrorKind::Custom(_) => "Custom",
-        DeserializeErrorKind::ExpectedLiteral => "ExpectedLiteral",
-        DeserializeErrorKind::InvalidEscape(_) => "InvalidEscape",
-        DeserializeErrorKind::InvalidNumber => "InvalidNumber",
-        DeserializeErrorKind::InvalidUtf8 => "InvalidUtf8",
-        DeserializeErrorKind::UnescapeFailed(_) => "UnescapeFailed",
-        DeserializeErrorKind::UnexpectedControlCharacter(_) => "UnexpectedControlCharacter",
-        DeserializeErrorKind::UnexpectedEos => "UnexpectedEos",
-        DeserializeErrorKind::UnexpectedToken(_) => "UnexpectedToken",
-        DeserializeErrorKind::NoMemory => "NoMemory",
-    }
-}
 
 /// A refusal: its name, and its offset where it has one.
 pub fn refuse(error: &DeserializeError, answers: &mut Answers) -> Result<(), AllocError> {
-    answers.refused(kind_name(&error.kind))?;
+    answers.refused(error)?;
     match error.offset {
         Some(offset) => answers.text("offset", offset),
         None => Ok(()),
     }
 }
 
-/// The same, and which byte was found where another was due.
-pub fn refuse_byte(error: &DeserializeError, answers: &mut Answers) -> Result<(), AllocError> {
+/// The same, and which byte was found where another was due, or what a caller stated.
+pub fn refuse_fully(error: &DeserializeError, answers: &mut Answers) -> Result<(), AllocError> {
     refuse(error, answers)?;
     match &error.kind {
         DeserializeErrorKind::UnexpectedToken(found) => answers.text("found", *found),
         DeserializeErrorKind::UnexpectedControlCharacter(found) => answers.text("found", *found),
+        DeserializeErrorKind::Custom(message) => answers.text("message", message.as_str()),
         _ => Ok(()),
     }
 }
@@ -54,7 +38,7 @@ fn line(
     answers.text("token", text.as_str())
 }
 
-// The same of a number.
+// A line with the offset of a number's token, its kind, and the variant and the value of the number.
 fn number_line(
     alloc: Global,
     offset: Offset,
@@ -68,7 +52,7 @@ fn number_line(
     line(alloc, offset, "ValueNumber", held.as_str(), answers)
 }
 
-// The same of a text.
+// A line with the offset of a token, its kind, and the text that it holds.
 fn text_line(
     alloc: Global,
     offset: Offset,

@@ -1,10 +1,11 @@
 //! Literals, blanks and numbers in an input of JSON.
 
+use crate::strings::call_string;
 use crate::words::input_of;
 use smithy_json::number_text::{read_long, scan_number};
 use smithy_json::scan::{is_boundary, read_boolean, read_null, skip_blanks};
 use smithy_rows::{Answers, Row};
-use std::alloc::AllocError;
+use std::alloc::{AllocError, Global};
 
 fn number(input: &[u8], at: usize, answers: &mut Answers) -> Result<(), AllocError> {
     if at > input.len() {
@@ -43,21 +44,26 @@ fn boolean(input: &[u8], answers: &mut Answers) -> Result<(), AllocError> {
     }
 }
 
-/// Answers a call of this name, and tells whether there is one.
-pub fn call_literal(row: &Row, name: &str, answers: &mut Answers) -> Result<bool, AllocError> {
+/// Answers a call by its name and what stands behind it.
+pub fn call_literal(
+    alloc: Global,
+    row: &Row,
+    name: &str,
+    rest: &str,
+    answers: &mut Answers,
+) -> Result<(), AllocError> {
     let input = input_of(row);
     match name {
         "scan_number" => number(
             input,
             row.text("at").unwrap_or("0").parse::<usize>().unwrap_or(0),
             answers,
-        )?,
-        "read_long" => long(input, answers)?,
-        "read_null" => null(input, answers)?,
-        "read_boolean" => boolean(input, answers)?,
-        "skip_blanks" => answers.text("end", skip_blanks(input, 0))?,
-        "is_boundary" => answers.text("is_boundary", is_boundary(input, 0))?,
-        _ => return Ok(false),
+        ),
+        "read_long" => long(input, answers),
+        "read_null" => null(input, answers),
+        "read_boolean" => boolean(input, answers),
+        "skip_blanks" => answers.text("end", skip_blanks(input, 0)),
+        "is_boundary" => answers.text("is_boundary", is_boundary(input, 0)),
+        _ => call_string(alloc, row, name, rest, answers),
     }
-    Ok(true)
 }

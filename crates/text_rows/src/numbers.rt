@@ -1,11 +1,12 @@
 //! Whole numbers that a document holds, their conversions, and primitive values.
 
+use crate::values::call_value;
 use crate::words::{input_text, number_of, split, tell_number};
 use smithy_json::{number_of_long, number_of_text};
 use smithy_rows::{Answers, Row};
 use smithy_types::primitive::{Encoder, Parse};
 use smithy_types::{Number, TryFromNumberError};
-use std::alloc::AllocError;
+use std::alloc::{AllocError, Global};
 use std::fmt::Display;
 
 fn held(text: &str, answers: &mut Answers) -> Result<(), AllocError> {
@@ -15,7 +16,8 @@ fn held(text: &str, answers: &mut Answers) -> Result<(), AllocError> {
     }
 }
 
-// Whether a minus stands before it, and behind a blank the number.
+// The number that a document holds. The parts are `true` or `false`, by whether a minus stands before the number, and behind a
+// blank the number of 64 bits.
 fn held_long(parts: &str, answers: &mut Answers) -> Result<(), AllocError> {
     let (with_minus, digits) = split(parts);
     let value = digits.parse::<i64>().unwrap_or(0);
@@ -78,27 +80,29 @@ fn encoder_of(line: &str) -> Option<Encoder> {
     }
 }
 
+// Asks the encoder of a value twice.
 fn encode(line: &str, answers: &mut Answers) -> Result<(), AllocError> {
-    match encoder_of(line) {
-        Some(mut encoder) => answers.text("text", encoder.encode()),
-        None => answers.refused("no such value"),
-    }
+    let Some(mut encoder) = encoder_of(line) else {
+        return answers.refused("no such value");
+    };
+    answers.text("text", encoder.encode())?;
+    answers.text("text", encoder.encode())
 }
 
-/// Answers a call of this name, and tells whether there is one.
+/// Answers a call by its name and what stands behind it.
 pub fn call_number(
+    alloc: Global,
     row: &Row,
     name: &str,
     rest: &str,
     answers: &mut Answers,
-) -> Result<bool, AllocError> {
+) -> Result<(), AllocError> {
     match name {
-        "number_of_text" => held(input_text(row), answers)?,
-        "number_of_long" => held_long(rest, answers)?,
-        "try_from" => convert(rest, answers)?,
-        "parse_primitive" => parse(rest, input_text(row), answers)?,
-        "encode_primitive" => encode(rest, answers)?,
-        _ => return Ok(false),
+        "number_of_text" => held(input_text(row), answers),
+        "number_of_long" => held_long(rest, answers),
+        "try_from" => convert(rest, answers),
+        "parse_primitive" => parse(rest, input_text(row), answers),
+        "encode_primitive" => encode(rest, answers),
+        _ => call_value(alloc, row, name, rest, answers),
     }
-    Ok(true)
 }

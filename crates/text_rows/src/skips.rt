@@ -1,5 +1,6 @@
 //! Passing tokens.
 
+use crate::documents::call_document;
 use crate::kinds::refuse;
 use crate::takes::{Item, item_of};
 use crate::words::{input_of, text_of};
@@ -64,20 +65,20 @@ fn pass_items_to_end(alloc: Global, row: &Row, answers: &mut Answers) -> Result<
     tell(passed, items.next(), answers)
 }
 
-/// Answers a call of this name, and tells whether there is one.
+/// Answers a call by its name and what stands behind it.
 pub fn call_skip(
     alloc: Global,
     row: &Row,
     name: &str,
+    rest: &str,
     answers: &mut Answers,
-) -> Result<bool, AllocError> {
+) -> Result<(), AllocError> {
     let of_items = row.bytes("item").is_some();
     match (name, of_items) {
-        ("skip_value", true) => pass_items(alloc, row, answers)?,
-        ("skip_value", false) => pass_value(alloc, input_of(row), answers)?,
-        ("skip_to_end", true) => pass_items_to_end(alloc, row, answers)?,
-        ("skip_to_end", false) => pass_rest(alloc, input_of(row), answers)?,
-        _ => return Ok(false),
+        ("skip_value", true) => pass_items(alloc, row, answers),
+        ("skip_value", false) => pass_value(alloc, input_of(row), answers),
+        ("skip_to_end", true) => pass_items_to_end(alloc, row, answers),
+        ("skip_to_end", false) => pass_rest(alloc, input_of(row), answers),
+        _ => call_document(alloc, row, name, rest, answers),
     }
-    Ok(true)
 }

@@ -1,5 +1,6 @@
 //! Strings of JSON.
 
+use crate::numbers::call_number;
 use crate::words::{input_of, input_text};
 use smithy_json::string_text::scan_string;
 use smithy_json::{EscapeError, EscapedStr, escape_string, push_escaped};
@@ -55,23 +56,23 @@ fn push(alloc: Global, text: &str, answers: &mut Answers) -> Result<(), AllocErr
     answers.bytes("text", &bytes)
 }
 
-/// Answers a call of this name, and tells whether there is one.
+/// Answers a call by its name and what stands behind it.
 pub fn call_string(
     alloc: Global,
     row: &Row,
     name: &str,
+    rest: &str,
     answers: &mut Answers,
-) -> Result<bool, AllocError> {
+) -> Result<(), AllocError> {
     match name {
         "scan_string" => scan(
             input_of(row),
             row.text("at").unwrap_or("0").parse::<usize>().unwrap_or(0),
             answers,
-        )?,
-        "unescape" => unescape(alloc, input_text(row), answers)?,
-        "escape" => escape(alloc, input_text(row), answers)?,
-        "push_escaped" => push(alloc, input_text(row), answers)?,
-        _ => return Ok(false),
+        ),
+        "unescape" => unescape(alloc, input_text(row), answers),
+        "escape" => escape(alloc, input_text(row), answers),
+        "push_escaped" => push(alloc, input_text(row), answers),
+        _ => call_number(alloc, row, name, rest, answers),
     }
-    Ok(true)
 }

@@ -1,12 +1,13 @@
 //! Taking one token of a kind.
 
-use crate::kinds::refuse;
+use crate::kinds::{refuse, refuse_fully};
 use crate::words::{format_of, input_of, split, tell_number};
 use smithy_json::EscapedStr;
 use smithy_json_tokens::{
-    DeserializeError, Offset, Token, expect_blob_or_null, expect_bool_or_null,
-    expect_number_as_string_or_null, expect_number_or_null, expect_start_array,
-    expect_start_object, expect_string_or_null, expect_timestamp_or_null, json_token_iter,
+    DeserializeError, DeserializeErrorKind, Offset, Token, expect_blob_or_null,
+    expect_bool_or_null, expect_number_as_string_or_null, expect_number_or_null,
+    expect_start_array, expect_start_object, expect_string_or_null, expect_timestamp_or_null,
+    json_token_iter,
 };
 use smithy_rows::{Answers, Row};
 use std::alloc::{AllocError, Global};
@@ -15,7 +16,16 @@ use std::borrow::CowStr;
 /// A token, or a refusal.
 pub type Item<'a> = Result<Token<'a>, DeserializeError>;
 
-/// The item of a line: an offset, and behind a blank a kind of tokens, or `refused`. A key is `a`.
+// A refusal of this kind.
+fn refused(offset: Offset, kind: DeserializeErrorKind) -> DeserializeError {
+    DeserializeError {
+        kind,
+        offset: Some(offset.0),
+    }
+}
+
+/// The item of a line: an offset, and behind a blank a kind of tokens, `refused`, or a kind of refusals that no input has. A
+/// key is `a`.
 pub fn item_of<'a>(line: &str) -> Item<'a> {
     let (offset, kind) = split(line);
     let offset = Offset(offset.parse::<usize>().unwrap_or(0));
@@ -29,6 +39,8 @@ pub fn item_of<'a>(line: &str) -> Item<'a> {
             offset,
             key: EscapedStr::new("a"),
         }),
+        "InvalidEscape" => Err(refused(offset, DeserializeErrorKind::InvalidEscape('x'))),
+        "NoMemory" => Err(refused(offset, DeserializeErrorKind::NoMemory)),
         _ => Err(offset.error(CowStr::Borrowed("refused"))),
     }
 }
@@ -49,7 +61,7 @@ fn item_taken(alloc: Global, row: &Row) -> Result<Option<Item<'_>>, AllocError> 
 fn start(answer: Result<(), DeserializeError>, answers: &mut Answers) -> Result<(), AllocError> {
     match answer {
         Ok(()) => answers.bytes("taken", b""),
-        Err(error) => refuse(&error, answers),
+        Err(error) => refuse_fully(&error, answers),
     }
 }
 
@@ -120,25 +132,24 @@ fn blob(alloc: Global, item: Option<Item<'_>>, answers: &mut Answers) -> Result<
     }
 }
 
-/// Answers a call of this name, and tells whether there is one.
+/// Answers a call by its name and what stands behind it.
 pub fn call_take(
     alloc: Global,
     row: &Row,
     name: &str,
     rest: &str,
     answers: &mut Answers,
-) -> Result<bool, AllocError> {
+) -> Result<(), AllocError> {
     let item = item_taken(alloc, row)?;
     match name {
-        "expect_start_object" => start(expect_start_object(item), answers)?,
-        "expect_start_array" => start(expect_start_array(item), answers)?,
-        "expect_bool_or_null" => boolean(item, answers)?,
-        "expect_number_or_null" => number(item, answers)?,
-        "expect_string_or_null" => string(item, answers)?,
-        "expect_number_as_string_or_null" => number_text(item, input_of(row), answers)?,
-        "expect_timestamp_or_null" => instant(alloc, item, rest, answers)?,
-        "expect_blob_or_null" => blob(alloc, item, answers)?,
-        _ => return Ok(false),
+        "expect_start_object" => start(expect_start_object(item), answers),
+        "expect_start_array" => start(expect_start_array(item), answers),
+        "expect_bool_or_null" => boolean(item, answers),
+        "expect_number_or_null" => number(item, answers),
+        "expect_string_or_null" => string(item, answers),
+        "expect_number_as_string_or_null" => number_text(item, input_of(row), answers),
+        "expect_timestamp_or_null" => instant(alloc, item, rest, answers),
+        "expect_blob_or_null" => blob(alloc, item, answers),
+        _ => answers.refused("no such call"),
     }
-    Ok(true)
 }

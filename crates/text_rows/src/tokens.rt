@@ -1,6 +1,7 @@
 //! The tokens of an input.
 
-use crate::kinds::{kind_name, refuse_byte, tell_token};
+use crate::kinds::{refuse_fully, tell_token};
+use crate::skips::call_skip;
 use crate::words::{input_of, split};
 use smithy_json_tokens::json_token_iter;
 use smithy_rows::{Answers, Row, bytes_of};
@@ -12,7 +13,7 @@ fn tell_items(alloc: Global, input: &[u8], answers: &mut Answers) -> Result<(), 
     while let Some(item) = tokens.next() {
         match item {
             Ok(token) => tell_token(alloc, token, answers)?,
-            Err(error) => refuse_byte(&error, answers)?,
+            Err(error) => refuse_fully(&error, answers)?,
         }
     }
     if tokens.next().is_some() {
@@ -32,9 +33,8 @@ fn count_items(alloc: Global, input: &[u8], answers: &mut Answers) -> Result<(),
                 if tokens.next().is_some() {
                     return answers.refused("an item behind a refusal");
                 }
-                let kind = kind_name(&error.kind);
                 let offset = error.offset.unwrap_or(usize::MAX);
-                let text = format!(in alloc; "{count} {kind} {offset}")?;
+                let text = format!(in alloc; "{count} {error} {offset}")?;
                 return answers.text("counted", text.as_str());
             }
         }
@@ -42,7 +42,7 @@ fn count_items(alloc: Global, input: &[u8], answers: &mut Answers) -> Result<(),
     answers.text("counted", count)
 }
 
-// So many of the input's first bytes.
+// Counts the items that the first bytes of the input give. The text says how many bytes these are.
 fn count_front(
     alloc: Global,
     input: &[u8],
@@ -74,19 +74,18 @@ fn count_changed(
     count_items(alloc, &changed, answers)
 }
 
-/// Answers a call of this name, and tells whether there is one.
+/// Answers a call by its name and what stands behind it.
 pub fn call_tokens(
     alloc: Global,
     row: &Row,
     name: &str,
     rest: &str,
     answers: &mut Answers,
-) -> Result<bool, AllocError> {
+) -> Result<(), AllocError> {
     match name {
-        "tokens" => tell_items(alloc, input_of(row), answers)?,
-        "count_front" => count_front(alloc, input_of(row), rest, answers)?,
-        "count_changed" => count_changed(alloc, input_of(row), rest, answers)?,
-        _ => return Ok(false),
+        "tokens" => tell_items(alloc, input_of(row), answers),
+        "count_front" => count_front(alloc, input_of(row), rest, answers),
+        "count_changed" => count_changed(alloc, input_of(row), rest, answers),
+        _ => call_skip(alloc, row, name, rest, answers),
     }
-    Ok(true)
 }

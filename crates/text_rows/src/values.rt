@@ -1,5 +1,6 @@
 //! Big numbers, bytes in base64, and fronts of texts that are instants.
 
+use crate::tokens::call_tokens;
 use crate::words::{format_of, input_of, input_text, split};
 use smithy_rows::{Answers, Row};
 use smithy_types::{BigDecimal, BigInteger, Blob, DateTime, base64, read_epoch};
@@ -100,25 +101,24 @@ fn epoch(text: &[u8], answers: &mut Answers) -> Result<(), AllocError> {
     }
 }
 
-/// Answers a call of this name, and tells whether there is one.
+/// Answers a call by its name and what stands behind it.
 pub fn call_value(
     alloc: Global,
     row: &Row,
     name: &str,
     rest: &str,
     answers: &mut Answers,
-) -> Result<bool, AllocError> {
+) -> Result<(), AllocError> {
     match name {
-        "big_integer" => big_integer(alloc, input_text(row), answers)?,
-        "big_integer_of" => integer_of(alloc, rest, answers)?,
-        "big_decimal" => big_decimal(alloc, input_text(row), answers)?,
-        "big_decimal_of" => decimal_of(alloc, rest, answers)?,
-        "base64_encode" => encode(alloc, input_of(row), answers)?,
-        "base64_decode" => decode(alloc, input_text(row), answers)?,
-        "blob" => blob(alloc, input_of(row), answers)?,
-        "read_date" => front(row, rest, answers)?,
-        "read_epoch" => epoch(input_of(row), answers)?,
-        _ => return Ok(false),
+        "big_integer" => big_integer(alloc, input_text(row), answers),
+        "big_integer_of" => integer_of(alloc, rest, answers),
+        "big_decimal" => big_decimal(alloc, input_text(row), answers),
+        "big_decimal_of" => decimal_of(alloc, rest, answers),
+        "base64_encode" => encode(alloc, input_of(row), answers),
+        "base64_decode" => decode(alloc, input_text(row), answers),
+        "blob" => blob(alloc, input_of(row), answers),
+        "read_date" => front(row, rest, answers),
+        "read_epoch" => epoch(input_of(row), answers),
+        _ => call_tokens(alloc, row, name, rest, answers),
     }
-    Ok(true)
 }

@@ -53,8 +53,8 @@ fn written(alloc: Global, answer: Result<Vec<u8>, SerdeError>) -> Result<Field, 
     }
 }
 
-// What `read_value`, `expressible` and `write_value` answer one after the other.
-fn by_value(alloc: Global, asked: &Body<'_>) -> Result<Field, AllocError> {
+// What `read_value` and `write_value` answer one after the other, and between them `expressible` where it is asked.
+fn by_value(alloc: Global, asked: &Body<'_>, whether: bool) -> Result<Field, AllocError> {
     let shapes = asked.shapes;
     let Some(root) = shapes.find(asked.root) else {
         return refused(alloc, "no such root");
@@ -66,10 +66,33 @@ fn by_value(alloc: Global, asked: &Body<'_>) -> Result<Field, AllocError> {
         Ok(value) => value,
         Err(error) => return written(alloc, Err(error)),
     };
-    if let Some(unfit) = expressible(shapes, root, &value, asked.to) {
-        return inexpressible(alloc, unfit);
+    if whether {
+        if let Some(unfit) = expressible(shapes, root, &value, asked.to) {
+            return inexpressible(alloc, unfit);
+        }
     }
     written(alloc, values::write(alloc, shapes, root, &value, asked.to))
+}
+
+// The answer by the calls on values, and before it that of `transcode` where it is another one.
+fn both(alloc: Global, asked: &Body<'_>) -> Result<Vec<Field>, AllocError> {
+    let answer = transcoded(alloc, asked)?;
+    let other = by_value(alloc, asked, true)?;
+    let agree = answer.word.as_str() == other.word.as_str()
+        && answer.value.as_slice() == other.value.as_slice();
+    let mut answers = Vec::new(alloc);
+    if !agree {
+        answers.push(answer)?;
+    }
+    answers.push(other)?;
+    Ok(answers)
+}
+
+// The answer of the calls that read and write a value, whether or not the wire can express it.
+fn written_alone(alloc: Global, asked: &Body<'_>) -> Result<Vec<Field>, AllocError> {
+    let mut answers = Vec::new(alloc);
+    answers.push(by_value(alloc, asked, false)?)?;
+    Ok(answers)
 }
 
 /// What a body is answered with: once, where both ways agree.
@@ -87,14 +110,8 @@ pub fn answers(alloc: Global, rows: &Rows, row: &Row) -> Result<Vec<Field>, Allo
         input: row.bytes("input").unwrap_or(b""),
         to: &to,
     };
-    let answer = transcoded(alloc, &asked)?;
-    let other = by_value(alloc, &asked)?;
-    let agree = answer.word.as_str() == other.word.as_str()
-        && answer.value.as_slice() == other.value.as_slice();
-    let mut answers = Vec::new(alloc);
-    answers.push(answer)?;
-    if !agree {
-        answers.push(other)?;
+    if row.bytes("call").is_some() {
+        return written_alone(alloc, &asked);
     }
-    Ok(answers)
+    both(alloc, &asked)
 }

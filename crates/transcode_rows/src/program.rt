@@ -24,7 +24,7 @@ impl Program for Transcoding {
 
     fn answer(&self, alloc: Global, rows: &Rows, row: &Row) -> Result<Vec<Field>, AllocError> {
         match row.text("call") {
-            None => bodies::answers(alloc, rows, row),
+            None | Some("write_value") => bodies::answers(alloc, rows, row),
             Some("expressible") => expressing::answers(alloc, rows, row),
             Some("build") => tables::answers(alloc, row),
             Some("schema") => places::answers(alloc, rows, row),

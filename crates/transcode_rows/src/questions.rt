@@ -8,12 +8,12 @@ pub fn is_question(word: &str) -> bool {
     is_of_table(word) || is_of_name(word) || is_of_kind(word)
 }
 
-// Of a table.
+// Whether a word asks what a table tells of itself.
 fn is_of_table(word: &str) -> bool {
     matches!(word, "len" | "find")
 }
 
-// Of the names at a place.
+// Whether a word asks for a name at a place, or for the position of the member there.
 fn is_of_name(word: &str) -> bool {
     matches!(
         word,
@@ -21,7 +21,7 @@ fn is_of_name(word: &str) -> bool {
     )
 }
 
-// Of what else a place tells.
+// Whether a word asks what a place tells beside names: its kind, its time form, its members and its marks.
 fn is_of_kind(word: &str) -> bool {
     matches!(
         word,

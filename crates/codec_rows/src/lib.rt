@@ -1,0 +1,16 @@
+//! Rows of calls on readers and serializers (docs/ROWS.md).
+#![tactic(auto)]
+
+mod answers;
+mod containers;
+mod first_two;
+mod longs;
+mod places;
+mod program;
+mod reading;
+mod reads;
+mod sized;
+mod writes;
+mod writing;
+
+pub use program::Codecs;

@@ -1,0 +1,128 @@
+//! Writers of arrays and objects, which lend themselves to the writers of their values, and a text that is refused in the middle.
+
+ghost use Rattle.std.specs.Prelude.{string_bytes};
+
+use smithy_json::{AppendText, JsonArrayWriter, JsonObjectWriter, JsonValueWriter, push_document};
+use smithy_types::{DateTime, Document, Number};
+use std::alloc::{AllocError, Global};
+use std::collections::BTreeMap;
+use std::fmt;
+use std::fmt::Write;
+use std::test::Fail;
+
+#[test]
+fn an_object_is_written(rt: HostRuntime) -> Result<(), Fail> {
+    let mut text = String::new(rt.alloc());
+    let mut object = JsonObjectWriter::new(&mut text)?;
+    object.key("a")?.write_raw_value("1")?;
+    let mut array = object.key("b")?.start_array()?;
+    array.value()?.boolean(true)?;
+    array.value()?.null()?;
+    array.finish()?;
+    object.key("c")?.number(Number::PosInt(1))?;
+    object.key("d")?.string("\\")?;
+    object.finish()?;
+    assert_eq!(rt;
+        text.as_str(),
+        "{\"a\":1,\"b\":[true,null],\"c\":1,\"d\":\"\\\\\"}"
+    );
+    Ok(())
+}
+
+#[test]
+fn an_array_is_written(rt: HostRuntime) -> Result<(), Fail> {
+    let mut text = String::new(rt.alloc());
+    let mut array = JsonArrayWriter::new(&mut text)?;
+    array.value()?.string("a\n")?;
+    array.value()?.boolean(false)?;
+    let object = array.value()?.start_object()?;
+    object.finish()?;
+    array.finish()?;
+    JsonValueWriter::new(&mut text).write_raw_value(" ")?;
+    assert_eq!(rt; text.as_str(), "[\"a\\n\",false,{}] ");
+    Ok(())
+}
+
+#[test]
+fn a_place_is_begun_and_then_taken(rt: HostRuntime) -> Result<(), Fail> {
+    let mut text = String::new(rt.alloc());
+    let mut array = JsonArrayWriter::new(&mut text)?;
+    array.begin_value()?;
+    array.place().string_unchecked("a")?;
+    array.begin_value()?;
+    array.place().null()?;
+    let mut object = array.value()?.start_object()?;
+    object.begin_member("b")?;
+    object.place().boolean(true)?;
+    object.begin_member("\"")?;
+    object.place().string("c")?;
+    object.finish()?;
+    array.finish()?;
+    assert_eq!(rt; text.as_str(), "[\"a\",null,{\"b\":true,\"\\\"\":\"c\"}]");
+    Ok(())
+}
+
+// A text that has room for so many bytes.
+struct Narrow {
+    text: String,
+    room: usize,
+}
+
+impl AppendText for Narrow {
+    ghost bytes = { λ n. string_bytes n.text };
+
+    fn append_text(&mut self, text: &str) -> Result<(), AllocError> {
+        if self.room < text.len() {
+            return Err(AllocError);
+        }
+        self.room -= text.len();
+        self.text.push_str(text)
+    }
+}
+
+impl fmt::Write for Narrow {
+    fn write_str(&mut self, text: &str) -> fmt::Result {
+        match self.append_text(text) {
+            Ok(()) => Ok(()),
+            Err(_) => Err(fmt::Error),
+        }
+    }
+}
+
+// `{"a":[-5,7,true,"\n"]}`
+fn sample(alloc: Global) -> Result<Document, AllocError> {
+    let mut elements = Vec::new(alloc);
+    elements.push(Document::Number(Number::NegInt(-5)))?;
+    elements.push(Document::from(7_u64))?;
+    elements.push(Document::from(true))?;
+    elements.push(Document::from(String::from_str(alloc, "\n")?))?;
+    let mut properties = BTreeMap::new(alloc);
+    let name = String::from_str(alloc, "a")?;
+    drop(properties.insert(name, Document::from(elements))?);
+    Ok(Document::from(properties))
+}
+
+#[test]
+fn a_refused_document_leaves_a_front(rt: HostRuntime) -> Result<(), Fail> {
+    let document = sample(rt.alloc())?;
+    let mut narrow = Narrow {
+        text: String::new(rt.alloc()),
+        room: 10,
+    };
+    assert!(rt; push_document(&mut narrow, &document).is_err());
+    let Narrow { text, room: _ } = narrow;
+    assert_eq!(rt; text.as_str(), "{\"a\":[-5,7");
+    Ok(())
+}
+
+// The last piece of a date is its `Z`.
+#[test]
+fn a_refused_instant_leaves_a_front(rt: HostRuntime) {
+    let mut narrow = Narrow {
+        text: String::new(rt.alloc()),
+        room: 19,
+    };
+    assert!(rt; narrow.write(DateTime::from_secs(0)).is_err());
+    let Narrow { text, room: _ } = narrow;
+    assert_eq!(rt; text.as_str(), "1970-01-01T00:00:00");
+}
