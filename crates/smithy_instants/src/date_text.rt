@@ -142,10 +142,8 @@ fn any_offset(text: &[u8]) -> Option<i32>
     if !((text[0] == b'+' || text[0] == b'-') && is_short_clock(clock)) {
         return utc_offset(text);
     }
-    match clock_seconds(two_digits(clock, 0), two_digits(clock, 3), 0) {
-        Some(seconds) => Some(signed_offset(text[0] == b'-', seconds)),
-        None => None,
-    }
+    let seconds = clock_seconds(two_digits(clock, 0), two_digits(clock, 3), 0)?;
+    Some(signed_offset(text[0] == b'-', seconds))
 }
 
 fn is_short_clock(text: &[u8]) -> bool

@@ -100,10 +100,8 @@ pub(crate) fn member_flatness(stack: &[OpenContainer], schema: &Schema<'_>) -> O
     if !is_at_member(stack) {
         return None;
     }
-    match query_name(schema) {
-        Some(_) => Some(schema.xml_flattened()),
-        None => None,
-    }
+    let _ = query_name(schema)?;
+    Some(schema.xml_flattened())
 }
 
 // The number of parts with the next child.
@@ -172,10 +170,7 @@ pub(crate) fn pass_key(stack: &mut Vec<OpenContainer>) -> Result<(), AllocError>
 pub(crate) fn member_length(flatness: Option<bool>, length: usize) -> Option<usize>
     ensures { result ≡ kept_length (stand_of_flatness flatness) length }
 {
-    match flatness {
-        Some(_) => Some(length),
-        None => None,
-    }
+    flatness.map(|_: bool| length)
 }
 
 // Adds to a path what a child adds: its position in a list, its position and a name in a map, else its name.
