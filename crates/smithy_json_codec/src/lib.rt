@@ -11,6 +11,7 @@ mod instants;
 mod member_steps;
 mod members;
 mod numbers;
+mod output;
 mod places;
 mod serializer;
 mod settings;

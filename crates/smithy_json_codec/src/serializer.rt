@@ -17,12 +17,14 @@ ghost use Rattle.smithy_json_codec.specs.Serializing.{open_of, opens_of, state_o
 ghost use Rattle.smithy_json_codec.specs.Writing.{JsonState, fresh_state, comma_text, key_in, is_key_due, lead, wrote, key_wrote, opened, where_taken, json_after};
 
 use crate::instants::form_at;
+use crate::output::{
+    push_base64, push_comma, push_decimal, push_key, push_name, push_quoted, push_whole_document,
+};
 use crate::settings::Settings;
 use itoa::Buffer;
 use smithy_json::number_text::is_number;
-use smithy_json::{push_document, push_escaped};
 use smithy_schema::{FinishSerializer, Schema, SerdeError, ShapeSerializer, TimestampFormat};
-use smithy_types::{BigDecimal, BigInteger, DateTime, Document, base64};
+use smithy_types::{BigDecimal, BigInteger, DateTime, Document};
 use std::alloc::{AllocError, Global};
 
 /// A container that is open, and of a map what is due in it.
@@ -46,90 +48,6 @@ pub struct JsonSerializer {
     stack: Vec<Container>,
     // True while a call is under way, and for good once a call was refused.
     failed: bool,
-}
-
-fn push_quoted(out: &mut Vec<u8>, text: &str) -> Result<(), AllocError>
-    ensures { OnOk result (out.new.items ≡ out.old.items ++ quoted text.now) }
-{
-    out.push(b'"')?;
-    push_escaped(out, text)?;
-    out.push(b'"')?;
-    Ok(())
-}
-
-fn push_name(out: &mut Vec<u8>, name: &str) -> Result<(), AllocError>
-    ensures { OnOk result (out.new.items ≡ out.old.items ++ name_text name.now) }
-{
-    out.push(b'"')?;
-    push_escaped(out, name)?;
-    out.reserve(2)?;
-    out.push_reserved(b'"');
-    out.push_reserved(b':');
-    Ok(())
-}
-
-// The base64 of bytes as a string: nothing in it is escaped.
-fn push_base64(out: &mut Vec<u8>, bytes: &[u8]) -> Result<(), AllocError>
-    ensures { OnOk result (out.new.items ≡ out.old.items ++ quotation_mark ∷ (blob_text bytes.now ++ quotation_mark ∷ [])) }
-{
-    let text = base64::encode(*out.allocator(), bytes)?;
-    out.push(b'"')?;
-    out.extend_from_slice(text.as_bytes())?;
-    out.push(b'"')?;
-    Ok(())
-}
-
-// The exponent of a decimal, where it isn't zero.
-fn push_exponent(out: &mut Vec<u8>, exponent: i64) -> Result<(), AllocError>
-    ensures { OnOk result (out.new.items ≡ out.old.items ++ exponent_text exponent) }
-{
-    if exponent == 0 {
-        return Ok(());
-    }
-    let mut buffer = Buffer::new();
-    out.push(b'e')?;
-    out.extend_from_slice(buffer.format(exponent).as_bytes())?;
-    Ok(())
-}
-
-// The text of a decimal.
-fn push_decimal(out: &mut Vec<u8>, mantissa: i128, exponent: i64) -> Result<(), AllocError>
-    ensures { OnOk result (out.new.items ≡ out.old.items ++ decimal_text mantissa exponent) }
-{
-    let mut buffer = Buffer::new();
-    out.extend_from_slice(buffer.format(mantissa).as_bytes())?;
-    push_exponent(out, exponent)
-}
-
-// The text of a document, in which each number is its whole number.
-fn push_whole_document(out: &mut Vec<u8>, document: &Document) -> Result<(), AllocError>
-    ensures { OnOk result (out.new.items ≡ out.old.items ++ document_text (whole_document (document_view document.now))) }
-{
-    push_document(out, document)
-}
-
-// The key of a member, with its colon; nothing for what has no name.
-#[inline(never)]
-fn push_key(out: &mut Vec<u8>, use_json_name: bool, schema: &Schema<'_>) -> Result<(), AllocError>
-    ensures { OnOk result (out.new.items ≡ out.old.items ++ key_text use_json_name (site_of schema.now).view) }
-{
-    let Some(member_name) = schema.member_name() else {
-        return Ok(());
-    };
-    if use_json_name && let Some(json_name) = schema.json_name() {
-        return push_name(out, json_name);
-    }
-    push_name(out, member_name)
-}
-
-#[inline(always)]
-fn push_comma(out: &mut Vec<u8>, needs_comma: bool) -> Result<(), AllocError>
-    ensures { OnOk result (out.new.items ≡ out.old.items ++ comma_text needs_comma) }
-{
-    if needs_comma {
-        out.push(b',')?;
-    }
-    Ok(())
 }
 
 // Begins a value: with a comma where one is due, and the name of a member. Where a map's key is due no value comes, and

@@ -1,6 +1,8 @@
 //! Forms of AWS Query: texts that are percent-encoded, and writers of forms.
 #![tactic(auto)]
 
+mod pairs;
+mod path;
 mod percent;
 mod writer;
 

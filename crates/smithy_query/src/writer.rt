@@ -15,7 +15,8 @@ ghost use Rattle.smithy_query.specs.Form.{pair_text, form_head};
 ghost use Rattle.smithy_query.specs.Writer.{further, entry_path, empty_text, form_text, form_borrow, value_text, value_borrow, value_prefix, list_text, list_borrow, list_prefix, list_index, list_is_flat, list_member, next_element, map_text, map_borrow, map_prefix, map_index, map_is_flat, map_key_name, map_value_name, next_key, next_value, RestsWithoutForm, LendsFormText, LendsValueText, LendsElement, LendsEntry};
 ghost use Rattle.smithy_query.specs.Private.Place.{IsWriterOf, counted, RestsWithoutValue, LendsFurther, LendsNextElement, LendsNextEntry};
 
-use crate::percent::append_encoded;
+use crate::pairs::{push_head, push_pair};
+use crate::path::{joined, push_group, push_number, push_segment};
 use itoa::Buffer;
 use smithy_types::{DateTime, DateTimeFormatError, Format, Number};
 use std::alloc::{AllocError, Global};
@@ -389,40 +390,6 @@ fn value_writer(place: NextPlace<'_>) -> Result<QueryValueWriter<'_>, AllocError
     }
 }
 
-// The path of a writer, as a text of its own.
-fn joined(alloc: Global, base: &str, rest: &str) -> Result<String, AllocError>
-    ensures { IfOk result (λ p. string_bytes p ≡ base.now ++ rest.now) }
-{
-    let mut path = String::new(alloc);
-    path.push_str(base)?;
-    path.push_str(rest)?;
-    Ok(path)
-}
-
-fn push_segment(path: &mut String, segment: &str) -> Result<(), AllocError>
-    ensures { OnOk result (string_bytes path.new ≡ further (string_bytes path.old) (segment.now ∷ [])) }
-{
-    path.push_str(".")?;
-    path.push_str(segment)
-}
-
-// Adds the segment between a list or a map and the numbers of its parts, which a flat one lacks.
-fn push_group(path: &mut String, is_flat: bool, name: &str) -> Result<(), AllocError>
-    ensures { OnOk result (string_bytes path.new ≡ further (string_bytes path.old) (if is_flat then [] else name.now ∷ [])) }
-{
-    if is_flat {
-        return Ok(());
-    }
-    push_segment(path, name)
-}
-
-fn push_number(path: &mut String, n: u64) -> Result<(), AllocError>
-    ensures { OnOk result (string_bytes path.new ≡ further (string_bytes path.old) (decimal n ∷ [])) }
-{
-    let mut buffer = Buffer::new();
-    push_segment(path, buffer.format(n))
-}
-
 // Adds the key of an entry where it and its value have paths, and gives the path of the value.
 fn push_key(
     out: &mut String,
@@ -450,51 +417,4 @@ fn counted(index: u64, path: &Result<String, AllocError>) -> u64
         Ok(_) => index + 1,
         Err(_) => index,
     }
-}
-
-// Adds a pair to a text, which stays as it is where memory is refused.
-fn push_pair(out: &mut String, base: &str, rest: &str, value: &str) -> Result<(), AllocError>
-    ensures ok { OnOk result (string_bytes out.new ≡ string_bytes out.old ++ pair_text (base.now ++ rest.now) value.now) }
-    ensures err { OnErr result (string_bytes out.new ≡ string_bytes out.old) }
-{
-    let length = out.len();
-    let done = add_pair(out, base, rest, value);
-    if done.is_err() {
-        out.truncate(length);
-    }
-    done
-}
-
-fn add_pair(out: &mut String, base: &str, rest: &str, value: &str) -> Result<(), AllocError>
-    ensures ok { OnOk result (string_bytes out.new ≡ string_bytes out.old ++ pair_text (base.now ++ rest.now) value.now) }
-    ensures front { take (length (string_bytes out.old)) (string_bytes out.new) ≡ string_bytes out.old }
-{
-    out.push_str("&")?;
-    out.push_str(base)?;
-    out.push_str(rest)?;
-    out.push_str("=")?;
-    append_encoded(out, value)
-}
-
-// Adds the action and the version.
-fn push_head(out: &mut String, action: &str, version: &str) -> Result<(), AllocError>
-    ensures ok { OnOk result (string_bytes out.new ≡ string_bytes out.old ++ form_head action.now version.now) }
-    ensures err { OnErr result (string_bytes out.new ≡ string_bytes out.old) }
-    ensures reads { pairs_of (form_head action.now version.now) ≡ (codes "Action", action.now) ∷ (codes "Version", version.now) ∷ [] }
-{
-    let length = out.len();
-    let done = add_head(out, action, version);
-    if done.is_err() {
-        out.truncate(length);
-    }
-    done
-}
-
-fn add_head(out: &mut String, action: &str, version: &str) -> Result<(), AllocError>
-    ensures ok { OnOk result (string_bytes out.new ≡ string_bytes out.old ++ form_head action.now version.now) }
-    ensures front { take (length (string_bytes out.old)) (string_bytes out.new) ≡ string_bytes out.old }
-{
-    out.push_str("Action=")?;
-    append_encoded(out, action)?;
-    add_pair(out, "Version", "", version)
 }

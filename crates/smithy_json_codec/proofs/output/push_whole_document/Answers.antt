@@ -1,7 +1,7 @@
 use Rattle.std.proofs.Common.{◌≡◌, ◌++◌, subst, OnOk}
 use Rattle.smithy_types.specs.DocumentView.{document_view}
 use Rattle.smithy_json_codec.proofs.DocumentTexts.{whole_text}
-use Rattle.smithy_json_codec.proofs.serializer.push_whole_document.Goals as goal
+use Rattle.smithy_json_codec.proofs.output.push_whole_document.Goals as goal
 
 pub returns : goal.returns
 returns c =

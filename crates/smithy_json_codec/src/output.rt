@@ -1,0 +1,109 @@
+//! What a serializer adds to the end of a body.
+ghost use Rattle.std.specs.Prelude.{◌≡◌, [], ◌∷◌, ◌++◌, OnOk};
+ghost use Rattle.smithy_schema.specs.Site.{site_of};
+ghost use Rattle.smithy_texts.specs.Base64Text.{blob_text};
+ghost use Rattle.smithy_types.specs.Document.{whole_document};
+ghost use Rattle.smithy_types.specs.DocumentView.{document_view};
+ghost use Rattle.smithy_json.specs.Ascii.{quotation_mark};
+ghost use Rattle.smithy_texts.specs.Decimal.{exponent_text, decimal_text};
+ghost use Rattle.smithy_json.specs.Escape.{quoted};
+ghost use Rattle.smithy_json_codec.specs.Canonical.{document_text, name_text, key_text};
+ghost use Rattle.smithy_json_codec.specs.Writing.{comma_text};
+
+use itoa::Buffer;
+use smithy_json::{push_document, push_escaped};
+use smithy_schema::Schema;
+use smithy_types::{Document, base64};
+use std::alloc::AllocError;
+
+pub(crate) fn push_quoted(out: &mut Vec<u8>, text: &str) -> Result<(), AllocError>
+    ensures { OnOk result (out.new.items ≡ out.old.items ++ quoted text.now) }
+{
+    out.push(b'"')?;
+    push_escaped(out, text)?;
+    out.push(b'"')?;
+    Ok(())
+}
+
+pub(crate) fn push_name(out: &mut Vec<u8>, name: &str) -> Result<(), AllocError>
+    ensures { OnOk result (out.new.items ≡ out.old.items ++ name_text name.now) }
+{
+    out.push(b'"')?;
+    push_escaped(out, name)?;
+    out.reserve(2)?;
+    out.push_reserved(b'"');
+    out.push_reserved(b':');
+    Ok(())
+}
+
+// The base64 of bytes as a string: nothing in it is escaped.
+pub(crate) fn push_base64(out: &mut Vec<u8>, bytes: &[u8]) -> Result<(), AllocError>
+    ensures { OnOk result (out.new.items ≡ out.old.items ++ quotation_mark ∷ (blob_text bytes.now ++ quotation_mark ∷ [])) }
+{
+    let text = base64::encode(*out.allocator(), bytes)?;
+    out.push(b'"')?;
+    out.extend_from_slice(text.as_bytes())?;
+    out.push(b'"')?;
+    Ok(())
+}
+
+// The exponent of a decimal, where it isn't zero.
+fn push_exponent(out: &mut Vec<u8>, exponent: i64) -> Result<(), AllocError>
+    ensures { OnOk result (out.new.items ≡ out.old.items ++ exponent_text exponent) }
+{
+    if exponent == 0 {
+        return Ok(());
+    }
+    let mut buffer = Buffer::new();
+    out.push(b'e')?;
+    out.extend_from_slice(buffer.format(exponent).as_bytes())?;
+    Ok(())
+}
+
+// The text of a decimal.
+pub(crate) fn push_decimal(
+    out: &mut Vec<u8>,
+    mantissa: i128,
+    exponent: i64,
+) -> Result<(), AllocError>
+    ensures { OnOk result (out.new.items ≡ out.old.items ++ decimal_text mantissa exponent) }
+{
+    let mut buffer = Buffer::new();
+    out.extend_from_slice(buffer.format(mantissa).as_bytes())?;
+    push_exponent(out, exponent)
+}
+
+// The text of a document, in which each number is its whole number.
+pub(crate) fn push_whole_document(out: &mut Vec<u8>, document: &Document) -> Result<(), AllocError>
+    ensures { OnOk result (out.new.items ≡ out.old.items ++ document_text (whole_document (document_view document.now))) }
+{
+    push_document(out, document)
+}
+
+// The key of a member, with its colon; nothing for what has no name.
+#[inline(never)]
+pub(crate) fn push_key(
+    out: &mut Vec<u8>,
+    use_json_name: bool,
+    schema: &Schema<'_>,
+) -> Result<(), AllocError>
+    ensures { OnOk result (out.new.items ≡ out.old.items ++ key_text use_json_name (site_of schema.now).view) }
+{
+    let Some(member_name) = schema.member_name() else {
+        return Ok(());
+    };
+    if use_json_name && let Some(json_name) = schema.json_name() {
+        return push_name(out, json_name);
+    }
+    push_name(out, member_name)
+}
+
+#[inline(always)]
+pub(crate) fn push_comma(out: &mut Vec<u8>, needs_comma: bool) -> Result<(), AllocError>
+    ensures { OnOk result (out.new.items ≡ out.old.items ++ comma_text needs_comma) }
+{
+    if needs_comma {
+        out.push(b',')?;
+    }
+    Ok(())
+}
