@@ -2,7 +2,8 @@
 
 ghost use Rattle.std.specs.Prelude.{string_bytes};
 
-use smithy_json::{AppendText, JsonArrayWriter, JsonObjectWriter, JsonValueWriter, push_document};
+use smithy_json::{JsonArrayWriter, JsonObjectWriter, JsonValueWriter, push_document};
+use smithy_texts::AppendText;
 use smithy_types::{DateTime, Document, Number};
 use std::alloc::{AllocError, Global};
 use std::collections::BTreeMap;

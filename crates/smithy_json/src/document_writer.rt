@@ -10,10 +10,10 @@ ghost use Rattle.smithy_json.specs.Escape.{quoted};
 ghost use Rattle.smithy_json.specs.ValueTexts.{name_text, number_text};
 ghost use Rattle.smithy_json.specs.Writer.{value_text};
 
-use crate::append_text::AppendText;
 use crate::escape::push_escaped;
 use crate::writer::JsonValueWriter;
 use itoa::Buffer;
+use smithy_texts::AppendText;
 use smithy_types::{Document, Number};
 use std::alloc::AllocError;
 use std::collections::BTreeMap;

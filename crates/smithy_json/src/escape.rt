@@ -8,8 +8,8 @@ ghost use Rattle.smithy_json.specs.Appending.{AddsFront};
 ghost use Rattle.smithy_json.specs.Private.Chars.{is_plain};
 ghost use Rattle.smithy_json.specs.Unescape.{unescape};
 
-use crate::append_text::AppendText;
 use crate::string_text::plain_end;
+use smithy_texts::AppendText;
 use std::alloc::{AllocError, Global};
 use std::borrow::CowStr;
 

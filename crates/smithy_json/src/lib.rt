@@ -1,7 +1,6 @@
 //! JSON texts (RFC 8259): the grammar, scanners of its parts, escaped strings and writers.
 #![tactic(auto)]
 
-mod append_text;
 mod document_writer;
 mod escape;
 mod escape_error;
@@ -13,7 +12,6 @@ pub mod string_text;
 mod unescape;
 mod writer;
 
-pub use append_text::AppendText;
 pub use document_writer::push_document;
 pub use escape::{escape_string, push_escaped};
 pub use escape_error::EscapeError;

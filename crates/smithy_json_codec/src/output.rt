@@ -5,12 +5,10 @@ ghost use Rattle.smithy_texts.specs.Base64Text.{blob_text};
 ghost use Rattle.smithy_types.specs.Document.{whole_document};
 ghost use Rattle.smithy_types.specs.DocumentView.{document_view};
 ghost use Rattle.smithy_json.specs.Ascii.{quotation_mark};
-ghost use Rattle.smithy_texts.specs.Decimal.{exponent_text, decimal_text};
 ghost use Rattle.smithy_json.specs.Escape.{quoted};
 ghost use Rattle.smithy_json_codec.specs.Canonical.{document_text, name_text, key_text};
 ghost use Rattle.smithy_json_codec.specs.Writing.{comma_text};
 
-use itoa::Buffer;
 use smithy_json::{push_document, push_escaped};
 use smithy_schema::Schema;
 use smithy_types::{Document, base64};
@@ -45,32 +43,6 @@ pub(crate) fn push_base64(out: &mut Vec<u8>, bytes: &[u8]) -> Result<(), AllocEr
     out.extend_from_slice(text.as_bytes())?;
     out.push(b'"')?;
     Ok(())
-}
-
-// The exponent of a decimal, where it isn't zero.
-fn push_exponent(out: &mut Vec<u8>, exponent: i64) -> Result<(), AllocError>
-    ensures { OnOk result (out.new.items ≡ out.old.items ++ exponent_text exponent) }
-{
-    if exponent == 0 {
-        return Ok(());
-    }
-    let mut buffer = Buffer::new();
-    out.push(b'e')?;
-    out.extend_from_slice(buffer.format(exponent).as_bytes())?;
-    Ok(())
-}
-
-// The text of a decimal.
-pub(crate) fn push_decimal(
-    out: &mut Vec<u8>,
-    mantissa: i128,
-    exponent: i64,
-) -> Result<(), AllocError>
-    ensures { OnOk result (out.new.items ≡ out.old.items ++ decimal_text mantissa exponent) }
-{
-    let mut buffer = Buffer::new();
-    out.extend_from_slice(buffer.format(mantissa).as_bytes())?;
-    push_exponent(out, exponent)
 }
 
 // The text of a document, in which each number is its whole number.

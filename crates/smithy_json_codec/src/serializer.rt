@@ -18,12 +18,13 @@ ghost use Rattle.smithy_json_codec.specs.Writing.{JsonState, fresh_state, comma_
 
 use crate::instants::form_at;
 use crate::output::{
-    push_base64, push_comma, push_decimal, push_key, push_name, push_quoted, push_whole_document,
+    push_base64, push_comma, push_key, push_name, push_quoted, push_whole_document,
 };
 use crate::settings::Settings;
 use itoa::Buffer;
 use smithy_json::number_text::is_number;
 use smithy_schema::{FinishSerializer, Schema, SerdeError, ShapeSerializer, TimestampFormat};
+use smithy_texts::push_decimal;
 use smithy_types::{BigDecimal, BigInteger, DateTime, Document};
 use std::alloc::{AllocError, Global};
 

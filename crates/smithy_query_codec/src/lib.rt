@@ -3,7 +3,6 @@
 
 mod containers;
 mod names;
-mod numbers;
 mod path;
 mod serializer;
 

@@ -13,10 +13,10 @@ use crate::containers::{
     member_flatness, member_length, pass_key, pass_value, push_child,
 };
 use crate::names::{element_name, key_name, value_name};
-use crate::numbers::decimal_text;
 use crate::path::{front, push_head, push_inner, push_pair};
 use itoa::Buffer;
 use smithy_schema::{FinishSerializer, Schema, SerdeError, ShapeSerializer, TimestampFormat};
+use smithy_texts::push_decimal;
 use smithy_types::{BigDecimal, BigInteger, DateTime, Document, base64};
 use std::alloc::{AllocError, Global};
 
@@ -383,7 +383,8 @@ impl ShapeSerializer for QueryShapeSerializer {
             return Err(SerdeError::Failed);
         }
         self.failed = true;
-        let text = decimal_text(*self.out.allocator(), mantissa, exponent)?;
+        let mut text = String::new(*self.out.allocator());
+        push_decimal(&mut text, mantissa, exponent)?;
         self.failed = false;
         self.write_text(schema, text.as_str())
     }

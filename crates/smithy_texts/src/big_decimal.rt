@@ -12,8 +12,8 @@ ghost use Rattle.std.proofs.Common.{rules};
 
 use crate::decimal_text::{coefficient, is_decimal, net_exponent};
 use crate::numeral::number;
+use crate::written_decimal::push_decimal;
 use crate::{BigNumberError, TooWide};
-use itoa::Buffer;
 use std::alloc::{AllocError, Global};
 use std::hash::{Hash, Hasher};
 use std::marker::Model;
@@ -95,9 +95,8 @@ impl BigDecimal {
         ensures text { IfOk result (λ n. n ≡ decimal_text mantissa exponent) }
         ensures parts { decimal_of (decimal_text mantissa exponent) ≡ Some (mantissa, exponent) }
     {
-        let mut buffer = Buffer::new();
-        let mut text = String::from_str(alloc, buffer.format(mantissa))?;
-        push_exponent(&mut text, exponent)?;
+        let mut text = String::new(alloc);
+        push_decimal(&mut text, mantissa, exponent)?;
         Ok(BigDecimal { text })
     }
 
@@ -132,16 +131,4 @@ impl Hash for BigDecimal {
     fn hash<H: Hasher>(&self, state: &mut H) {
         self.as_ref().hash(state);
     }
-}
-
-/// Adds the exponent of a decimal to the text of its mantissa, where it isn't zero.
-pub fn push_exponent(text: &mut String, exponent: i64) -> Result<(), AllocError>
-    ensures { OnOk result (string_bytes text.new ≡ string_bytes text.old ++ exponent_text exponent) }
-{
-    if exponent == 0 {
-        return Ok(());
-    }
-    let mut buffer = Buffer::new();
-    text.push_str("e")?;
-    text.push_str(buffer.format(exponent))
 }
