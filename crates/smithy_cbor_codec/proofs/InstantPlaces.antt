@@ -17,7 +17,7 @@ use Rattle.cbor_item.proofs.HeadLemmas.{head_is_only}
 use Rattle.smithy_cbor.specs.Scalar.{integer_of, epoch_seconds_of}
 use Rattle.smithy_cbor.specs.Reading.{IsHeadFault, IsFloatHead, IsSeconds, IsTag, IsDateAt, IsNoDate}
 use Rattle.smithy_cbor_codec.specs.Meaning.{node_of}
-use Rattle.smithy_cbor_codec.specs.Scalar.{date_says, seconds_say, timestamp_says}
+use Rattle.smithy_cbor_codec.specs.Scalar.{date_says, seconds_read_as, timestamp_says}
 use Rattle.smithy_cbor_codec.specs.Private.ContainerBytes.{same_opens_at}
 use Rattle.smithy_cbor_codec.specs.Private.ItemPlaces.{item_front}
 use Rattle.smithy_cbor_codec.proofs.BigNumberPlaces.{tag_parts}
@@ -35,7 +35,7 @@ pub record DateStands (seconds : Option ℤ) (input : List ℕ) (at e : ℕ) : T
   pub is_leaf : node_of found ≡ leaf found
   pub is : timestamp_says found ≡ date_says seconds
 
-integer_says : (x : Item) (s : ℤ) → integer_of x ≡ Some s → seconds_say x ≡ date_says (Some s)
+integer_says : (x : Item) (s : ℤ) → integer_of x ≡ Some s → seconds_read_as x ≡ date_says (Some s)
 integer_says (unsigned n) s is = let same : Some _ ≡ Some s = is in ap date_says same
 integer_says (negative n) s is = let same : Some _ ≡ Some s = is in ap date_says same
 integer_says (byte_string extent chunks) s is = cc
@@ -56,7 +56,7 @@ seconds_stand (tag n x) s input at e there is = record {
   found = tag n x;
   stands = there;
   is_leaf = refl;
-  is = under_tag (n == 1) (seconds_say x) (date_says (Some s)) (integer_of x) s (integer_says x s) is;
+  is = under_tag (n == 1) (seconds_read_as x) (date_says (Some s)) (integer_of x) s (integer_says x s) is;
 }
 seconds_stand (unsigned n) s input at e there is = cc
 seconds_stand (negative n) s input at e there is = cc
@@ -135,7 +135,7 @@ integer_reads x z i a e err is there fault =
     no_wanted_head IsSeconds i a err h fault begins (inl type)
 
 -- where no seconds can be read, what stands there says none
-no_seconds : (x : Item) (i : List ℕ) (a e : ℕ) (err : ItemError) → IsItemAt x i a e → IsHeadFault IsSeconds i a err → seconds_say x ≡ no_meaning
+no_seconds : (x : Item) (i : List ℕ) (a e : ℕ) (err : ItemError) → IsItemAt x i a e → IsHeadFault IsSeconds i a err → seconds_read_as x ≡ no_meaning
 no_seconds (unsigned n) i a e err there fault = absurd (integer_reads (unsigned n) (pos n) i a e err refl there fault)
 no_seconds (negative n) i a e err there fault = absurd (integer_reads (negative n) (negsuc n) i a e err refl there fault)
 no_seconds (float digits) i a e err there fault = absurd (float_reads digits i a e err there fault)
@@ -146,7 +146,7 @@ no_seconds (map extent ps) i a e err there fault = refl
 no_seconds (tag n x) i a e err there fault = refl
 no_seconds (simple n) i a e err there fault = refl
 
-dated : (n : ℕ) (x : Item) (i : List ℕ) (a e : ℕ) (err : ItemError) → IsItemAt (tag n x) i a e → IsNoDate i a err → n ≡ 1 → seconds_say x ≡ no_meaning
+dated : (n : ℕ) (x : Item) (i : List ℕ) (a e : ℕ) (err : ItemError) → IsItemAt (tag n x) i a e → IsNoDate i a err → n ≡ 1 → seconds_read_as x ≡ no_meaning
 dated n x i a e err there (inl fault) one =
     let (b, opens, inside) = tag_parts n x i a e there in
     let h : HeadRead = record { major = 6; argument = Some n; length = b - a } in
@@ -165,7 +165,7 @@ only_dated n a none = by (n == 1) refl
 
 -- where no date can be read, what stands there is no instant
 pub no_date : (x : Item) (i : List ℕ) (a e : ℕ) (err : ItemError) → IsItemAt x i a e → IsNoDate i a err → timestamp_says x ≡ no_meaning
-no_date (tag n x) i a e err there fault = only_dated n (seconds_say x) (dated n x i a e err there fault)
+no_date (tag n x) i a e err there fault = only_dated n (seconds_read_as x) (dated n x i a e err there fault)
 no_date (unsigned n) i a e err there fault = refl
 no_date (negative n) i a e err there fault = refl
 no_date (byte_string extent chunks) i a e err there fault = refl

@@ -12,7 +12,7 @@ use Rattle.smithy_schema.specs.Value.{Value, instant, scalar_value}
 use Rattle.smithy_texts.specs.Ranges.{fits_signed}
 use Rattle.smithy_instants.specs.Instant.{nanos_per_second}
 use Rattle.smithy_cbor.specs.Scalar.{big_integer_of}
-use Rattle.smithy_cbor_codec.specs.Scalar.{decimal_form_of, date_says, seconds_say, timestamp_says, says}
+use Rattle.smithy_cbor_codec.specs.Scalar.{decimal_form_of, date_says, seconds_read_as, timestamp_says, says}
 use Rattle.smithy_cbor_codec.specs.Uncarried.{IsUncarriedCbor}
 use Rattle.smithy_cbor_codec.specs.Wide.{IsWideCbor}
 use Rattle.smithy_cbor_codec.specs.Private.ItemPlaces.{item_front}
@@ -53,7 +53,7 @@ carried_date s h = by (fits_signed 64 s) h
     by false h = cc
 
 -- a date that isn't carried is one of a float
-float_seconds : (x : Item) → seconds_say x ≡ uncarried → (digits : List ℕ) × (x ≡ float digits)
+float_seconds : (x : Item) → seconds_read_as x ≡ uncarried → (digits : List ℕ) × (x ≡ float digits)
 float_seconds (float digits) h = (digits, refl)
 float_seconds (unsigned n) h = absurd (carried_date (pos n) h)
 float_seconds (negative n) h = absurd (carried_date (negsuc n) h)
@@ -70,7 +70,7 @@ tagged false a h = cc
 
 float_date : (x : Item) → timestamp_says x ≡ uncarried → (digits : List ℕ) × (x ≡ tag 1 (float digits))
 float_date (tag n x) h =
-    let under = tagged (n == 1) (seconds_say x) h in
+    let under = tagged (n == 1) (seconds_read_as x) h in
     let one : n ≡ 1 = is_one n under.0 in
     let seconds = float_seconds x under.1 in
     (seconds.0, ap (λ k. tag k x) one ∙ ap (tag 1) seconds.1)

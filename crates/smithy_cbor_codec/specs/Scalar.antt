@@ -42,13 +42,13 @@ date_says (Some s) =
     if fits_signed 64 s then means (scalar_value (instant (s *ℤ pos nanos_per_second))) else no_meaning
 
 -- what stands under the tag of a date (RFC 8949, section 3.4.2)
-abbrev pub seconds_say : Item → Answer Value
-seconds_say (float digits) = date_says None
-seconds_say x = option_map_or (λ s. date_says (Some s)) (integer_of x) no_meaning
+abbrev pub seconds_read_as : Item → Answer Value
+seconds_read_as (float digits) = date_says None
+seconds_read_as x = option_map_or (λ s. date_says (Some s)) (integer_of x) no_meaning
 
 -- what an item is as an instant
 abbrev pub timestamp_says : Item → Answer Value
-timestamp_says (tag number x) = if number == 1 then seconds_say x else no_meaning
+timestamp_says (tag number x) = if number == 1 then seconds_read_as x else no_meaning
 timestamp_says _ = no_meaning
 
 -- what an item is as one kind

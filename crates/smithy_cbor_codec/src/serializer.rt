@@ -51,7 +51,7 @@ fn write_name(encoder: &mut Encoder, schema: &Schema<'_>) -> Result<(), AllocErr
 
 // Writes a whole number.
 #[tactic(auto, using(crate::proofs::WrittenLeaves::long_is_integer))]
-fn write_whole(encoder: &mut Encoder, value: i64) -> Result<(), AllocError>
+fn write_whole_number(encoder: &mut Encoder, value: i64) -> Result<(), AllocError>
     ensures { OnOk result (encoder.new ≡ encoder.old ++ big_integer_bytes value) }
 {
     encoder.long(value)
@@ -252,7 +252,7 @@ impl ShapeSerializer for CborSerializer {
 
     fn write_long(&mut self, schema: &Schema<'_>, value: i64) -> Result<(), SerdeError> {
         self.begin_value(schema)?;
-        write_whole(&mut self.encoder, value)?;
+        write_whole_number(&mut self.encoder, value)?;
         self.failed = false;
         Ok(())
     }

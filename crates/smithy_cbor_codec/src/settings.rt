@@ -2,7 +2,7 @@
 ghost use Rattle.std.specs.Prelude.{◌≤◌};
 
 /// The greatest depth of containers of strict codecs.
-const MAX_DEPTH: usize = 128;
+const DEFAULT_MAX_DEPTH: usize = 128;
 
 /// All that a codec is asked for, which each reader and serializer of it holds too.
 #[derive(Clone, Copy, Debug)]
@@ -21,7 +21,7 @@ impl Settings {
         ensures { held_settings result ≡ strict_settings }
     {
         Settings {
-            max_depth: MAX_DEPTH,
+            max_depth: DEFAULT_MAX_DEPTH,
         }
     }
 }

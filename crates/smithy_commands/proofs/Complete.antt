@@ -9,13 +9,13 @@ use Rattle.smithy_transcode.proofs.Transcodings.{one_value, not_both}
 use Rattle.smithy_commands.specs.declared.status.Status.{Status}
 use Rattle.smithy_commands.specs.declared.status.Status.TheVariants.{Done, Usage, ReadFailed, WriteFailed, OutOfMemory, InvalidInput, TooDeep, TooWide, NotCarried, Inexpressible, TableRefused, NoSuchShape, NotAStructure, TooLong}
 use Rattle.smithy_commands.specs.Task.{Task}
-use Rattle.smithy_outside.specs.Outside.{Told, Outside, missing, Tells, GavePast}
+use Rattle.smithy_outside.specs.Outside.{Shown, Outside, missing, Shows, GavePast}
 use Rattle.smithy_commands.specs.RunAnswer.{sources_of, IsLoaded, IsRead, AfterInput, IsInOrder, Says, longest_input}
 use Rattle.smithy_outside.proofs.Faults.{has_failed}
 use Rattle.smithy_outside.proofs.Moved.{gave_longer}
 
 -- what gave more than the limit had more
-past_limit : (limit : ℕ) (a b : Told) (was : List ℕ) → GavePast limit a b → Tells a was → limit < length was
+past_limit : (limit : ℕ) (a b : Shown) (was : List ℕ) → GavePast limit a b → Shows a was → limit < length was
 past_limit limit a b was past told = gave_longer limit past.0 a b past.1 (omega (arith, past.2)) was told
 
 module _ (task : Task) (old new : Outside) (text input : List ℕ) (table : Table) (root : ℕ) (v : Value) (o : IsInOrder task old new text input table root v) where

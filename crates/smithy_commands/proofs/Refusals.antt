@@ -11,7 +11,7 @@ use Rattle.smithy_transcode.specs.declared.wire.TranscodeError.{TranscodeError}
 use Rattle.smithy_transcode.specs.declared.wire.TranscodeError.TheVariants as errors
 use Rattle.smithy_transcode.specs.Transcoding.{Transcodes}
 use Rattle.smithy_commands.specs.Task.{Task}
-use Rattle.smithy_outside.specs.Outside.{Told}
+use Rattle.smithy_outside.specs.Outside.{Shown}
 use Rattle.smithy_commands.specs.Status.{status_of_table_fault, status_of_error}
 use Rattle.smithy_commands.specs.RunAnswer.{Sources, IsLoaded, IsRoot, IsRead, Refuses}
 use Rattle.smithy_commands.specs.Private.Stages.{FailsToLoad}
@@ -23,7 +23,7 @@ table_of_declarations : (text : List ℕ) (decls : List Decl) → declarations_o
 table_of_declarations text decls e = rw (e, table_of) refl
 
 -- a line that is of no form
-pub line_fails : (old new : Told) (text : List ℕ) (fault : TableFault) → IsLoaded text old → IsLineFault (declarations_of text) fault
+pub line_fails : (old new : Shown) (text : List ℕ) (fault : TableFault) → IsLoaded text old → IsLineFault (declarations_of text) fault
     → FailsToLoad old new (status_of_table_fault fault)
 line_fails old new text (BadLine n) loaded e = (text, loaded, (bad_line, n, table_of_bad_line text n e, refl))
 line_fails old new text (FloatShape n) loaded e = absurd e
@@ -38,7 +38,7 @@ line_fails old new text (TooMany n) loaded e = absurd e
 line_fails old new text NoMemory loaded e = tt
 
 -- declarations that are no table
-pub build_fails : (old new : Told) (text : List ℕ) (decls : List Decl) (fault : TableFault) → IsLoaded text old
+pub build_fails : (old new : Shown) (text : List ℕ) (decls : List Decl) (fault : TableFault) → IsLoaded text old
     → declarations_of text ≡ declarations decls → IsRefusedBy (build_of decls) fault → FailsToLoad old new (status_of_table_fault fault)
 build_fails old new text decls (BadLine n) loaded e r = (text, loaded, (_, n, table_of_declarations text decls e ∙ r, refl))
 build_fails old new text decls (FloatShape n) loaded e r = (text, loaded, (_, n, table_of_declarations text decls e ∙ r, refl))

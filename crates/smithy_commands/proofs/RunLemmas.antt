@@ -4,7 +4,7 @@ use Rattle.smithy_commands.specs.declared.status.Status.{Status}
 use Rattle.smithy_commands.specs.declared.status.Status.TheVariants.{Done, Usage, ReadFailed, WriteFailed, OutOfMemory}
 use Rattle.smithy_commands.specs.Command.{Transcode, command_of}
 use Rattle.smithy_commands.specs.Task.{Task, task_of, task_asked}
-use Rattle.smithy_outside.specs.Outside.{Told, Outside, outside, MetNoFault, Gave}
+use Rattle.smithy_outside.specs.Outside.{Shown, Outside, outside, MetNoFault, Gave}
 use Rattle.smithy_commands.specs.RunAnswer.{Says, TaskAnswer, StatusAnswer, longest_input}
 use Rattle.smithy_outside.proofs.Moved.{gave_nothing}
 use Rattle.smithy_commands.proofs.Complete.{complete_of, fault_of_missing}
@@ -41,7 +41,7 @@ status_of_task words task old new status asked says no_further finished untouche
 }
 
 -- where nothing but standard error moved, as the words are no command
-module _ (words : List (List ℕ)) (files : List ℕ → Told) (input out err err_behind : Told) (out_holds_back err_held err_held_behind : Bool) where
+module _ (words : List (List ℕ)) (files : List ℕ → Shown) (input out err err_behind : Shown) (out_holds_back err_held err_held_behind : Bool) where
   abbrev pub before : Outside
   before = outside files input out err out_holds_back err_held
 

@@ -7,7 +7,7 @@ use Rattle.smithy_schema.specs.declared.fault.TableFault.TheVariants as table_fa
 use Rattle.smithy_commands.specs.declared.status.Status.{Status}
 use Rattle.smithy_transcode.specs.declared.wire.Unfit.TheVariants.{Document, Null, Instant}
 use Rattle.smithy_commands.specs.declared.status.Status.TheVariants.{Done, Usage, ReadFailed, WriteFailed, OutOfMemory, InvalidInput, TooDeep, TooWide, NotCarried, Inexpressible, TableRefused, NoSuchShape, NotAStructure, TooLong}
-use Rattle.smithy_outside.specs.Outside.{Told, MetOneFault, MetNoFault, Took, TookPrefix}
+use Rattle.smithy_outside.specs.Outside.{Shown, MetOneFault, MetNoFault, Took, TookPrefix}
 
 -- the name of a fault
 abbrev pub fault_name : Fault → List ℕ
@@ -66,7 +66,7 @@ line_of status = codes "smithy_transcode: " ++ text_of status ++ codes "\n"
 
 -- A sink met no fault that shows, took the line and holds nothing back; or it met one fault, and took a
 -- prefix.
-abbrev pub TookLine : List ℕ → (old new : Told) → (new_holds_back : Bool) → Type 0
+abbrev pub TookLine : List ℕ → (old new : Shown) → (new_holds_back : Bool) → Type 0
 TookLine line old new new_holds_back =
     (MetNoFault old new × Took line old new × (new_holds_back ≡ false))
     ⊎ (MetOneFault old new × TookPrefix line old new)

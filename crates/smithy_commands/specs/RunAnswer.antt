@@ -14,7 +14,7 @@ use Rattle.smithy_commands.specs.Command.{command_of}
 use Rattle.smithy_commands.specs.Task.{Task, task_asked}
 use Rattle.smithy_commands.specs.Status.{status_code}
 use Rattle.smithy_commands.specs.ErrorLine.{refusal_of, line_of, TookLine}
-use Rattle.smithy_outside.specs.Outside.{Told, Outside, OnlyErrMoved, missing, HasFailed, MetOneFault, MetNoFault, Tells, IsWhole, IsLonger, Gave, GavePast, IsAtEnd, Took, TookPrefix}
+use Rattle.smithy_outside.specs.Outside.{Shown, Outside, OnlyErrMoved, missing, HasFailed, MetOneFault, MetNoFault, Shows, IsWhole, IsLonger, Gave, GavePast, IsAtEnd, Took, TookPrefix}
 
 -- in bytes
 abbrev pub longest_table : ℕ
@@ -26,21 +26,21 @@ longest_input = 16_777_216
 
 -- what a task reads
 pub record Sources : Type 0 where
-  pub table : Told
-  pub input : Told
+  pub table : Shown
+  pub input : Shown
 
 -- what a task reads of the outside: the file of its table, and the input
 abbrev pub sources_of : Task → Outside → Sources
 sources_of task o = record { table = o.files task.table_path; input = o.input }
 
 -- a file that isn't told to be missing was loaded whole, and is within the limit of a table
-pub record IsLoaded (text : List ℕ) (file : Told) : Type 0 where
+pub record IsLoaded (text : List ℕ) (file : Shown) : Type 0 where
   pub whole : IsWhole text file
   pub there : file.content ≢ missing
   pub within : length text ≤ longest_table
 
 -- a source was read whole, to its end, and is within the limit of an input
-pub record IsRead (bytes : List ℕ) (old new : Told) : Type 0 where
+pub record IsRead (bytes : List ℕ) (old new : Shown) : Type 0 where
   pub whole : IsWhole bytes old
   pub to_the_end : IsAtEnd new
   pub within : length bytes ≤ longest_input
@@ -132,11 +132,11 @@ Says task old new status = Refuses task (sources_of task old) (sources_of task n
 -- all is told and in order, and no count rose
 pub record IsInOrder (task : Task) (old new : Outside) (text input : List ℕ)
     (table : Table) (root : ℕ) (v : Value) : Type 0 where
-  pub file : Tells (old.files task.table_path) text
+  pub file : Shows (old.files task.table_path) text
   pub file_is_within : length text ≤ longest_table
   pub accepted_as : table_of text ≡ accepted table
   pub is_root : IsRoot task table root
-  pub source : Tells old.input input
+  pub source : Shows old.input input
   pub input_is_within : length input ≤ longest_input
   pub spells : Spells task.from table root input v
   pub fit : unfit task.to table root v ≡ None

@@ -6,7 +6,7 @@ ghost use Rattle.smithy_commands.specs.ErrorLine.{refusal_of, refusal_text, text
 
 use crate::status::Status;
 use itoa::Buffer;
-use smithy_outside::{Failed, Sink, write_all, write_part};
+use smithy_outside::{Failed, Sink, write_all, write_bytes};
 use smithy_schema::TableFault;
 use smithy_transcode::Unfit;
 
@@ -14,9 +14,9 @@ use smithy_transcode::Unfit;
 fn write_fault<E: Sink>(err: &mut E, name: &[u8], number: u64) -> Result<(), Failed>
     ensures { IsWritten (name.now ++ (codes " " ++ decimal number)) result (E.told err.old) (E.told err.new) }
 {
-    write_part(err, name)?;
-    write_part(err, b" ")?;
-    write_part(err, Buffer::new().format(number).as_bytes())
+    write_bytes(err, name)?;
+    write_bytes(err, b" ")?;
+    write_bytes(err, Buffer::new().format(number).as_bytes())
 }
 
 // Writes what refuses a table.
@@ -42,7 +42,7 @@ fn write_refusal<E: Sink>(err: &mut E, fault: TableFault) -> Result<(), Failed>
 fn write_table_refused<E: Sink>(err: &mut E, fault: TableFault) -> Result<(), Failed>
     ensures { IsWritten (text_of (Status.TableRefused fault)) result (E.told err.old) (E.told err.new) }
 {
-    write_part(err, b"table refused: ")?;
+    write_bytes(err, b"table refused: ")?;
     write_refusal(err, fault)
 }
 
@@ -52,21 +52,21 @@ fn write_text<E: Sink>(err: &mut E, status: Status) -> Result<(), Failed>
 {
     match status {
         Status::Done => Ok(()),
-        Status::Usage => write_part(err, b"usage"),
-        Status::ReadFailed => write_part(err, b"read failed"),
-        Status::WriteFailed => write_part(err, b"write failed"),
-        Status::OutOfMemory => write_part(err, b"out of memory"),
-        Status::InvalidInput => write_part(err, b"invalid input"),
-        Status::TooDeep => write_part(err, b"too deep"),
-        Status::TooWide => write_part(err, b"number too wide"),
-        Status::NotCarried => write_part(err, b"not carried"),
-        Status::Inexpressible(Unfit::Document) => write_part(err, b"document not expressible"),
-        Status::Inexpressible(Unfit::Null) => write_part(err, b"null not expressible"),
-        Status::Inexpressible(Unfit::Instant) => write_part(err, b"instant not expressible"),
+        Status::Usage => write_bytes(err, b"usage"),
+        Status::ReadFailed => write_bytes(err, b"read failed"),
+        Status::WriteFailed => write_bytes(err, b"write failed"),
+        Status::OutOfMemory => write_bytes(err, b"out of memory"),
+        Status::InvalidInput => write_bytes(err, b"invalid input"),
+        Status::TooDeep => write_bytes(err, b"too deep"),
+        Status::TooWide => write_bytes(err, b"number too wide"),
+        Status::NotCarried => write_bytes(err, b"not carried"),
+        Status::Inexpressible(Unfit::Document) => write_bytes(err, b"document not expressible"),
+        Status::Inexpressible(Unfit::Null) => write_bytes(err, b"null not expressible"),
+        Status::Inexpressible(Unfit::Instant) => write_bytes(err, b"instant not expressible"),
         Status::TableRefused(fault) => write_table_refused(err, fault),
-        Status::NoSuchShape => write_part(err, b"no such shape"),
-        Status::NotAStructure => write_part(err, b"not a structure"),
-        Status::TooLong => write_part(err, b"too long"),
+        Status::NoSuchShape => write_bytes(err, b"no such shape"),
+        Status::NotAStructure => write_bytes(err, b"not a structure"),
+        Status::TooLong => write_bytes(err, b"too long"),
     }
 }
 
@@ -75,7 +75,7 @@ fn write_line<E: Sink>(err: &mut E, status: Status) -> Result<(), Failed>
     ensures written { IsWritten (line_of status) result (E.told err.old) (E.told err.new) }
     ensures passed_on { OnOk result (E.holds_back err.new ≡ false) }
 {
-    write_part(err, b"smithy_transcode: ")?;
+    write_bytes(err, b"smithy_transcode: ")?;
     write_text(err, status)?;
     write_all(err, b"\n")
 }

@@ -3,7 +3,7 @@ ghost use Rattle.std.specs.Prelude.{◌≡◌, ◌≢◌, ◌⊎◌, ◌↔◌, 
 ghost use Rattle.std.specs.Process.{exit_status};
 ghost use Rattle.smithy_schema.specs.Table.{Table, IsStructure, kind_of, shape_place, declared_as};
 ghost use Rattle.smithy_schema.specs.Acceptance.{accepted, table_of};
-ghost use Rattle.smithy_outside.specs.Outside.{Told, MetNoFault, Gave, outside};
+ghost use Rattle.smithy_outside.specs.Outside.{Shown, MetNoFault, Gave, outside};
 ghost use Rattle.smithy_commands.specs.Command.{command_of};
 ghost use Rattle.smithy_commands.specs.Task.{task_asked};
 ghost use Rattle.smithy_commands.specs.Words.{task_view};
@@ -85,7 +85,7 @@ fn perform<F: Files, S: Source, K: Sink>(
     input: &mut S,
     out: &mut K,
 ) -> Status
-    ensures says { (err err_behind : Told) (err_holds_back err_holds_back_behind : Bool) → Says (task_view task.now)
+    ensures says { (err err_behind : Shown) (err_holds_back err_holds_back_behind : Bool) → Says (task_view task.now)
         (outside (F.told files.old) (S.told input.old) (K.told out.old) err (K.holds_back out.old) err_holds_back)
         (outside (F.told files.new) (S.told input.new) (K.told out.new) err_behind (K.holds_back out.new) err_holds_back_behind) result }
     ensures kept { (at : List ℕ) → (F.told files.new at).content ≡ (F.told files.old at).content }
@@ -130,7 +130,7 @@ fn status_of<F: Files, S: Source, K: Sink>(
     input: &mut S,
     out: &mut K,
 ) -> Status
-    ensures { (err err_behind : Told) (err_holds_back err_holds_back_behind : Bool) → StatusAnswer (map string_bytes words.now)
+    ensures { (err err_behind : Shown) (err_holds_back err_holds_back_behind : Bool) → StatusAnswer (map string_bytes words.now)
         (outside (F.told files.old) (S.told input.old) (K.told out.old) err (K.holds_back out.old) err_holds_back)
         (outside (F.told files.new) (S.told input.new) (K.told out.new) err_behind (K.holds_back out.new) err_holds_back_behind) result }
 {

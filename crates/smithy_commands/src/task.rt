@@ -22,7 +22,7 @@ pub struct Task<'a> {
 }
 
 // The text of a word, as one of its own.
-fn owned(alloc: Global, word: &str) -> Result<String, AllocError>
+fn copied(alloc: Global, word: &str) -> Result<String, AllocError>
     ensures { IfOk result (λ text. string_bytes text ≡ word.now) }
 {
     let mut text = String::new(alloc);
@@ -31,7 +31,7 @@ fn owned(alloc: Global, word: &str) -> Result<String, AllocError>
 }
 
 // The wire that the words name.
-fn asked(alloc: Global, words: WireWords<'_>) -> Result<Wire, AllocError>
+fn wire_of_words(alloc: Global, words: WireWords<'_>) -> Result<Wire, AllocError>
     ensures { IfOk result (λ wire. wire_of wire ≡ asked_wire (named_wire words.entry)) }
 {
     match words {
@@ -43,8 +43,8 @@ fn asked(alloc: Global, words: WireWords<'_>) -> Result<Wire, AllocError>
         }),
         WireWords::Cbor => Ok(Wire::Cbor),
         WireWords::Query(action, version) => Ok(Wire::Query {
-            action: owned(alloc, action)?,
-            version: owned(alloc, version)?,
+            action: copied(alloc, action)?,
+            version: copied(alloc, version)?,
         }),
     }
 }
@@ -57,8 +57,8 @@ impl<'a> Task<'a> {
         Ok(Task {
             table: command.table,
             root: command.root,
-            from: asked(alloc, command.from)?,
-            to: asked(alloc, command.to)?,
+            from: wire_of_words(alloc, command.from)?,
+            to: wire_of_words(alloc, command.to)?,
         })
     }
 }

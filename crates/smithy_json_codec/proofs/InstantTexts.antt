@@ -27,7 +27,7 @@ use Rattle.smithy_json.specs.Unescape.{unescaped}
 use Rattle.smithy_json.specs.Grammar.{IsFrac, IsInt, IsNumber, IsValue}
 use Rattle.smithy_json.proofs.DecimalLemmas.{decimal_is_int}
 use Rattle.smithy_json.proofs.QuotedLemmas.{quoted_is_string, unescaped_of_escaped}
-use Rattle.smithy_json_codec.specs.Scalar.{JsonScalar, a_number, a_string, tree_of, seconds_say, date_says, timestamp_says}
+use Rattle.smithy_json_codec.specs.Scalar.{JsonScalar, a_number, a_string, tree_of, seconds_read_as, date_says, timestamp_says}
 use Rattle.smithy_json_codec.proofs.WrittenPlaces.{leaf_bytes}
 use Rattle.smithy_wire.specs.Rules.{means, answer_of}
 
@@ -110,7 +110,7 @@ date_means form n t date =
 -- ---- in any form
 
 pub instant_means : (form : TimestampFormat) (n : ℤ) → is_instant n ≡ true → form_holds form (instant n) ≡ true → timestamp_says form (instant_leaf form n) ≡ means (scalar_value (instant n))
-instant_means EpochSeconds n is held = ap seconds_say (epoch_text_reads n is) ∙ rw is refl
+instant_means EpochSeconds n is held = ap seconds_read_as (epoch_text_reads n is) ∙ rw is refl
 instant_means DateTime n is held = date_means DateTime n _ (date_of_held DateTime n is held)
 instant_means HttpDate n is held = date_means HttpDate n _ (date_of_held HttpDate n is held)
 

@@ -17,11 +17,11 @@ use Rattle.smithy_schema.specs.declared.place.Place.{Place}
 use Rattle.smithy_schema.specs.Table.{Table, document, kind_of}
 use Rattle.smithy_types.specs.declared.number.Number.{Number}
 use Rattle.smithy_wire.specs.Frames.{UncarriedAt}
-use Rattle.smithy_json_codec.specs.Scalar.{JsonScalar, a_boolean, a_number, a_string, tree_of, number_text, big_number, number_says, seconds_say, timestamp_says, says, held_says, document_says}
+use Rattle.smithy_json_codec.specs.Scalar.{JsonScalar, a_boolean, a_number, a_string, tree_of, number_text, big_number, number_says, seconds_read_as, timestamp_says, says, held_says, document_says}
 use Rattle.smithy_json_codec.specs.Standing.{TreeLies, json_frames, json_relations}
 use Rattle.smithy_json_codec.specs.Meaning.{rules_of}
 use Rattle.smithy_json_codec.specs.Settings.{Settings}
-use Rattle.smithy_json_codec.specs.Uncarried.{IsUncarriedJson, HoldsOtherNumber}
+use Rattle.smithy_json_codec.specs.Uncarried.{IsUncarriedJson, HasUnheldNumber}
 use Rattle.smithy_json_codec.specs.Wide.{IsWideJson}
 use Rattle.smithy_wire.specs.Rules.{means, no_meaning, wide, uncarried}
 use Rattle.smithy_wire.proofs.Bounds.{answer_not_wide, answer_is_carried, bounded_is_carried}
@@ -30,7 +30,7 @@ text_wide : (s : Scalar) (o : Option (List ℕ)) → number_says s o ≡ wide �
 text_wide s None h = cc
 text_wide s (Some t) h = (t, refl, h)
 
-seconds_not_wide : (o : Option ℤ) → seconds_say o ≡ wide → ⊥
+seconds_not_wide : (o : Option ℤ) → seconds_read_as o ≡ wide → ⊥
 seconds_not_wide None h = cc
 seconds_not_wide (Some n) h = not_wide (is_instant n) h
   where
@@ -99,7 +99,7 @@ wide_slice s form x i a e lies leaves = by x lies (wide_text s form x leaves)
 -- ---- what isn't carried
 
 -- a number of seconds that isn't carried has no nanoseconds
-no_nanos : (o : Option ℤ) → seconds_say o ≡ uncarried → o ≡ None
+no_nanos : (o : Option ℤ) → seconds_read_as o ≡ uncarried → o ≡ None
 no_nanos None h = refl
 no_nanos (Some n) h = absurd (carried (is_instant n) h)
   where
@@ -165,12 +165,12 @@ other_number (a_number raw) h = (raw, refl, by (number_of raw) h)
     by (Some n) h = cc
 other_number (a_string raw) h = absurd (answer_is_carried _ h)
 
-pub other_slice : (x : JsonScalar) (i : List ℕ) (a e : ℕ) → TreeLies 1 (tree_of x) i a e → document_says x ≡ uncarried → HoldsOtherNumber i
+pub other_slice : (x : JsonScalar) (i : List ℕ) (a e : ℕ) → TreeLies 1 (tree_of x) i a e → document_says x ≡ uncarried → HasUnheldNumber i
 other_slice x i a e lies h =
     let (raw, is, none) = other_number x h in
     number_there raw none (subst (λ y. TreeLies 1 (tree_of y) i a e) is lies)
   where
-    number_there : (raw : List ℕ) → number_of raw ≡ None → TreeLies 1 (number raw) i a e → HoldsOtherNumber i
+    number_there : (raw : List ℕ) → number_of raw ≡ None → TreeLies 1 (number raw) i a e → HasUnheldNumber i
     number_there raw none lies =
         let front = lies.0.2 in
         record {
@@ -183,8 +183,8 @@ other_slice x i a e lies h =
         }
 
 -- so what isn't carried at a place of documents holds such a number
-pub uncarried_document : (c : Settings) (i : List ℕ) (t : Table) (p : Place) → kind_of t p ≡ document → (d a e : ℕ) → (json_relations c).uncarried i t p d a e → HoldsOtherNumber i
+pub uncarried_document : (c : Settings) (i : List ℕ) (t : Table) (p : Place) → kind_of t p ≡ document → (d a e : ℕ) → (json_relations c).uncarried i t p d a e → HasUnheldNumber i
 uncarried_document c i t p kind d a e h = by (subst (λ k. UncarriedAt json_frames (rules_of c) k p.time i d a e) kind h)
   where
-    by : UncarriedAt json_frames (rules_of c) document p.time i d a e → HoldsOtherNumber i
+    by : UncarriedAt json_frames (rules_of c) document p.time i d a e → HasUnheldNumber i
     by (n, b, x, ahead, lies, says) = other_slice x i b e lies says

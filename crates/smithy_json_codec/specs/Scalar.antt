@@ -71,9 +71,9 @@ number_says s None = no_meaning
 number_says s (Some raw) = big_number s raw
 
 -- the instant of so many seconds, in nanoseconds where these are whole: another number of seconds isn't carried
-abbrev pub seconds_say : Option ℤ → Answer Value
-seconds_say None = uncarried
-seconds_say (Some n) = if is_instant n then means (scalar_value (instant n)) else no_meaning
+abbrev pub seconds_read_as : Option ℤ → Answer Value
+seconds_read_as None = uncarried
+seconds_read_as (Some n) = if is_instant n then means (scalar_value (instant n)) else no_meaning
 
 -- the instant of a text that is a date of the form
 abbrev pub date_says : TimestampFormat → Option (List ℕ) → Answer Value
@@ -82,7 +82,7 @@ date_says form date =
 
 -- what a scalar is as an instant: a number of seconds, or a string that is a date
 abbrev pub timestamp_says : TimestampFormat → JsonScalar → Answer Value
-timestamp_says EpochSeconds (a_number raw) = seconds_say (epoch_nanos raw)
+timestamp_says EpochSeconds (a_number raw) = seconds_read_as (epoch_nanos raw)
 timestamp_says EpochSeconds _ = no_meaning
 timestamp_says form x = date_says form (text_of x)
 

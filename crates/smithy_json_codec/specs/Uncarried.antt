@@ -14,7 +14,7 @@ pub record IsUncarriedJson (bytes : List ℕ) : Type 0 where
   pub no_nanos : epoch_nanos slice ≡ None
 
 -- some slice of the bytes is a number that no document holds: it has a fraction or an exponent, or isn't from -2^63 to 2^64-1
-pub record HoldsOtherNumber (bytes : List ℕ) : Type 0 where
+pub record HasUnheldNumber (bytes : List ℕ) : Type 0 where
   pub before : List ℕ
   pub slice : List ℕ
   pub behind : List ℕ

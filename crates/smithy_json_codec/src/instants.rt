@@ -8,7 +8,7 @@ ghost use Rattle.smithy_schema.specs.Reading.{IsInvalid};
 ghost use Rattle.smithy_schema.specs.Site.{site_of};
 ghost use Rattle.smithy_schema.specs.TimeForms.{form_or};
 ghost use Rattle.smithy_schema.specs.Value.{instant, scalar_value};
-ghost use Rattle.smithy_json_codec.specs.Scalar.{seconds_say};
+ghost use Rattle.smithy_json_codec.specs.Scalar.{seconds_read_as};
 ghost use Rattle.smithy_json_codec.specs.Private.ScalarAtPlace.{InstantLies, UncarriedLies, NoInstantLies};
 ghost use Rattle.smithy_wire.specs.Rules.{means, no_meaning, uncarried};
 
@@ -28,9 +28,9 @@ pub(crate) fn form_at(schema: &Schema<'_>, default: TimestampFormat) -> Timestam
 
 // The instant of a number of seconds.
 fn instant_of(seconds: &str) -> Result<DateTime, SerdeError>
-    ensures ok { IfOk result (λ d. seconds_say (epoch_nanos seconds.now) ≡ means (scalar_value (instant d))) }
-    ensures none { IsInvalid result → seconds_say (epoch_nanos seconds.now) ≡ no_meaning }
-    ensures uncarried { IsErrOf result NotCarried → seconds_say (epoch_nanos seconds.now) ≡ uncarried }
+    ensures ok { IfOk result (λ d. seconds_read_as (epoch_nanos seconds.now) ≡ means (scalar_value (instant d))) }
+    ensures none { IsInvalid result → seconds_read_as (epoch_nanos seconds.now) ≡ no_meaning }
+    ensures uncarried { IsErrOf result NotCarried → seconds_read_as (epoch_nanos seconds.now) ≡ uncarried }
     ensures kind { IfErr result (λ e. (e ≡ InvalidInput) ⊎ (e ≡ NotCarried)) }
 {
     match read_epoch(seconds.as_bytes()) {

@@ -4,7 +4,7 @@ ghost use Rattle.std.specs.Prelude.{◌≤◌};
 use smithy_schema::TimestampFormat;
 
 /// The greatest depth of containers of strict codecs.
-const MAX_DEPTH: usize = 128;
+const DEFAULT_MAX_DEPTH: usize = 128;
 
 /// All that a codec is asked for, which each reader and serializer of it holds too.
 #[derive(Clone, Copy, Debug)]
@@ -28,7 +28,7 @@ impl Settings {
     {
         Settings {
             use_json_name,
-            max_depth: MAX_DEPTH,
+            max_depth: DEFAULT_MAX_DEPTH,
             default_timestamp_format: TimestampFormat::EpochSeconds,
         }
     }

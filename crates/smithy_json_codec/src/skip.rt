@@ -16,7 +16,7 @@ use crate::values::{boolean_end, number_end, string_at};
 use smithy_schema::SerdeError;
 
 // The greatest depth that settings may allow.
-const GREATEST_DEPTH: usize = 512;
+const MAX_ALLOWED_DEPTH: usize = 512;
 
 // How a value begins: as an object or an array, with the offset of its inside, or as a scalar, with
 // its end.
@@ -169,7 +169,7 @@ fn container_end(input: Input<'_>, at: usize, depth: usize) -> Result<usize, Ser
     let mut due = true;
     let mut entered = false;
     let mut open: usize = 0;
-    let mut is_object = [false; GREATEST_DEPTH];
+    let mut is_object = [false; MAX_ALLOWED_DEPTH];
     while due || 0 < open {
         let Some(step) = next_step(
             input.bytes,

@@ -4,7 +4,7 @@ use Rattle.std.proofs.Math.Nat.{min-eq_left, min-eq_right, le_of_lt}
 use Rattle.std.proofs.lemmas.Bool.Decides.{leb_tells}
 use Rattle.smithy_outside.specs.declared.outside.LoadFault.{LoadFault}
 use Rattle.smithy_outside.specs.declared.outside.LoadFault.TheVariants.{Failed, TooLong, NoMemory}
-use Rattle.smithy_outside.specs.Outside.{Told, untold, last_count, counted, HasFailed, MetOneFault, IsCountedLoad}
+use Rattle.smithy_outside.specs.Outside.{Shown, untold, last_count, counted, HasFailed, MetOneFault, IsCountedLoad}
 
 rises_or_stays : (n m : ℕ) → m ≡ counted n → ((leb (n + 1) last_count ≡ true) × (n + 1 ≤ last_count)) ⊎ ((leb (n + 1) last_count ≡ false) × (last_count < n + 1))
     → (n < m) ⊎ (m ≡ last_count)
@@ -12,7 +12,7 @@ rises_or_stays n m one (inl below) = let rose = one ∙ min-eq_left below.1 in i
 rises_or_stays n m one (inr above) = inr (one ∙ min-eq_right (le_of_lt above.1))
 
 -- a fault that was counted shows in the count
-pub has_failed : (a b : Told) → MetOneFault a b → HasFailed a b
+pub has_failed : (a b : Shown) → MetOneFault a b → HasFailed a b
 has_failed a b one = rises_or_stays a.faults b.faults one (leb_tells (a.faults + 1) last_count)
 
 none_added : (n s m : ℕ) → n < 2 ^ 64 → m ≡ min (n + s) last_count → s ≡ 0 → m ≡ n

@@ -10,7 +10,7 @@ pub data Content : Type 0 where
   holds : List ℕ → Content
 
 -- an object at one moment
-pub record Told : Type 0 where
+pub record Shown : Type 0 where
   -- how many faults it has met; the count never falls, and stays at its last value
   pub faults : ℕ
   pub content : Content
@@ -18,16 +18,16 @@ pub record Told : Type 0 where
 -- all objects at one moment
 pub record Outside : Type 0 where
   -- what the file at each path tells
-  pub files : List ℕ → Told
-  pub input : Told
-  pub out : Told
-  pub err : Told
+  pub files : List ℕ → Shown
+  pub input : Shown
+  pub out : Shown
+  pub err : Shown
   -- the sink may hold back some of what it took
   pub out_holds_back : Bool
   pub err_holds_back : Bool
 
 -- the outside, by its objects
-abbrev pub outside : (List ℕ → Told) → (input out err : Told) → (out_holds_back err_holds_back : Bool) → Outside
+abbrev pub outside : (List ℕ → Shown) → (input out err : Shown) → (out_holds_back err_holds_back : Bool) → Outside
 outside files input out err out_holds_back err_holds_back = record {
   files = files;
   input = input;
@@ -50,72 +50,72 @@ abbrev pub counted : ℕ → ℕ
 counted n = min (n + 1) last_count
 
 -- the count rose between the two moments, or stands at its last value
-abbrev pub HasFailed : Told → Told → Type 0
+abbrev pub HasFailed : Shown → Shown → Type 0
 HasFailed old new = (old.faults < new.faults) ⊎ (new.faults ≡ last_count)
 
 -- the object met one fault, and counted it
-abbrev pub MetOneFault : Told → Told → Type 0
+abbrev pub MetOneFault : Shown → Shown → Type 0
 MetOneFault old new = new.faults ≡ counted old.faults
 
 -- the object met no fault that shows: at the last count none does
-abbrev pub MetNoFault : Told → Told → Type 0
+abbrev pub MetNoFault : Shown → Shown → Type 0
 MetNoFault old new = new.faults ≡ old.faults
 
 -- a call that fails meets one fault, and any other meets none
-abbrev pub IsCounted : {T E : Type 0} → Result T E → Told → Told → Type 0
+abbrev pub IsCounted : {T E : Type 0} → Result T E → Shown → Shown → Type 0
 IsCounted (Ok x) old new = MetNoFault old new
 IsCounted (Err e) old new = MetOneFault old new
 
 -- a load that is refused by `Failed` meets one fault, and a load that is refused otherwise meets none
-abbrev pub IsCountedFault : LoadFault → Told → Told → Type 0
+abbrev pub IsCountedFault : LoadFault → Shown → Shown → Type 0
 IsCountedFault load_faults.Failed old new = MetOneFault old new
 IsCountedFault load_faults.TooLong old new = MetNoFault old new
 IsCountedFault load_faults.NoMemory old new = MetNoFault old new
 
 -- a load that is refused by `Failed` meets one fault, and any other load meets none
-abbrev pub IsCountedLoad : {T : Type 0} → Result T LoadFault → Told → Told → Type 0
+abbrev pub IsCountedLoad : {T : Type 0} → Result T LoadFault → Shown → Shown → Type 0
 IsCountedLoad (Ok x) old new = MetNoFault old new
 IsCountedLoad (Err fault) old new = IsCountedFault fault old new
 
 -- the object tells that it holds these bytes
-abbrev pub Tells : Told → List ℕ → Type 0
-Tells told bytes = told.content ≡ holds bytes
+abbrev pub Shows : Shown → List ℕ → Type 0
+Shows told bytes = told.content ≡ holds bytes
 
 -- where the object tells what it holds, it is these bytes
-abbrev pub IsWhole : List ℕ → Told → Type 0
-IsWhole bytes told = (all : List ℕ) → Tells told all → bytes ≡ all
+abbrev pub IsWhole : List ℕ → Shown → Type 0
+IsWhole bytes told = (all : List ℕ) → Shows told all → bytes ≡ all
 
 -- where the object tells what it holds, it is more bytes than the limit
-abbrev pub IsLonger : ℕ → Told → Type 0
-IsLonger limit told = (all : List ℕ) → Tells told all → limit < length all
+abbrev pub IsLonger : ℕ → Shown → Type 0
+IsLonger limit told = (all : List ℕ) → Shows told all → limit < length all
 
 -- a source gave these bytes from the front of what it had left
-abbrev pub Gave : List ℕ → Told → Told → Type 0
+abbrev pub Gave : List ℕ → Shown → Shown → Type 0
 Gave bytes old new =
-    (was : List ℕ) → Tells old was → (left : List ℕ) × Tells new left × (was ≡ bytes ++ left)
+    (was : List ℕ) → Shows old was → (left : List ℕ) × Shows new left × (was ≡ bytes ++ left)
 
 -- a source gave one byte more than the limit
-abbrev pub GavePast : ℕ → Told → Told → Type 0
+abbrev pub GavePast : ℕ → Shown → Shown → Type 0
 GavePast limit old new = (bytes : List ℕ) × Gave bytes old new × (length bytes ≡ limit + 1)
 
 -- nothing is left
-abbrev pub IsAtEnd : Told → Type 0
-IsAtEnd source = (left : List ℕ) → Tells source left → left ≡ []
+abbrev pub IsAtEnd : Shown → Type 0
+IsAtEnd source = (left : List ℕ) → Shows source left → left ≡ []
 
 -- a sink took these bytes, behind what it took before
-abbrev pub Took : List ℕ → Told → Told → Type 0
+abbrev pub Took : List ℕ → Shown → Shown → Type 0
 Took bytes old new =
-    (after : List ℕ) → Tells new after → (before : List ℕ) × Tells old before × (after ≡ before ++ bytes)
+    (after : List ℕ) → Shows new after → (before : List ℕ) × Shows old before × (after ≡ before ++ bytes)
 
 -- the bytes begin with these
 abbrev pub Begins : List ℕ → List ℕ → Type 0
 Begins front bytes = (rest : List ℕ) × (bytes ≡ front ++ rest)
 
 -- a sink took a prefix of these bytes
-abbrev pub TookPrefix : List ℕ → Told → Told → Type 0
+abbrev pub TookPrefix : List ℕ → Shown → Shown → Type 0
 TookPrefix bytes old new = (front : List ℕ) × Begins front bytes × Took front old new
 
 -- bytes were written to a sink: it took all of them, or a prefix, and met one fault, which ended it
-abbrev pub IsWritten : {T E : Type 0} → List ℕ → Result T E → Told → Told → Type 0
+abbrev pub IsWritten : {T E : Type 0} → List ℕ → Result T E → Shown → Shown → Type 0
 IsWritten bytes (Ok x) old new = MetNoFault old new × Took bytes old new
 IsWritten bytes (Err e) old new = MetOneFault old new × TookPrefix bytes old new

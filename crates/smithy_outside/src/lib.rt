@@ -14,4 +14,4 @@ mod streams;
 pub use memory::{MemoryFiles, MemorySink, MemorySource};
 pub use os::{OsFiles, OsSink, OsSource};
 pub use outside::{Failed, Files, LoadFault, Sink, Source};
-pub use streams::{read_to_end, write_all, write_part};
+pub use streams::{read_to_end, write_all, write_bytes};

@@ -4,7 +4,7 @@
 //! is told, and a count that stands at its last value shows no further fault.
 ghost use Rattle.std.specs.Prelude.{◌≡◌, ◌≢◌, ◌⊎◌, ◌<◌, ◌≤◌, [], List, Bool, ℕ, false, length, take, IfOk, OnOk, IsErrOf, MatchResult};
 ghost use Rattle.smithy_outside.specs.declared.outside.LoadFault.TheVariants as faults;
-ghost use Rattle.smithy_outside.specs.Outside.{Told, missing, IsCounted, IsCountedLoad, IsWhole, IsLonger, Gave, IsAtEnd, Took};
+ghost use Rattle.smithy_outside.specs.Outside.{Shown, missing, IsCounted, IsCountedLoad, IsWhole, IsLonger, Gave, IsAtEnd, Took};
 
 use std::alloc::{AllocError, Global};
 use thiserror::Error;
@@ -47,7 +47,7 @@ impl From<AllocError> for LoadFault {
 /// Files by path.
 pub trait Files {
     /// What each path tells.
-    ghost told: { Self → List ℕ → Told };
+    ghost told: { Self → List ℕ → Shown };
 
     /// The whole content of the path. A path where no file is fails, and is counted.
     fn load(&mut self, alloc: Global, path: &str, limit: usize) -> Result<Vec<u8>, LoadFault>
@@ -65,7 +65,7 @@ pub trait Files {
 /// A source of bytes, which are read once, from the front.
 pub trait Source {
     /// What the source has left, and its count of faults.
-    ghost told: { Self → Told };
+    ghost told: { Self → Shown };
 
     /// Puts bytes at the front of `into`, and answers how many. At an `into` with room, 0 is the end.
     fn read(&mut self, into: &mut [u8]) -> Result<usize, Failed>
@@ -79,7 +79,7 @@ pub trait Source {
 /// A sink for bytes. It may hold some of them back until it is finished.
 pub trait Sink {
     /// What the sink took, and its count of faults.
-    ghost told: { Self → Told };
+    ghost told: { Self → Shown };
 
     /// Whether the sink may hold back some of what it took.
     ghost holds_back: { Self → Bool };

@@ -62,7 +62,7 @@ pub fn read_to_end<S: Source>(
 }
 
 /// Writes all of the bytes, and leaves what the sink holds back.
-pub fn write_part<K: Sink>(sink: &mut K, bytes: &[u8]) -> Result<(), Failed>
+pub fn write_bytes<K: Sink>(sink: &mut K, bytes: &[u8]) -> Result<(), Failed>
     ensures written { IsWritten bytes.now result (K.told sink.old) (K.told sink.new) }
 {
     let mut rest = bytes;
@@ -78,6 +78,6 @@ pub fn write_all<K: Sink>(sink: &mut K, bytes: &[u8]) -> Result<(), Failed>
     ensures written { IsWritten bytes.now result (K.told sink.old) (K.told sink.new) }
     ensures passed_on { OnOk result (K.holds_back sink.new ≡ false) }
 {
-    write_part(sink, bytes)?;
+    write_bytes(sink, bytes)?;
     sink.finish()
 }

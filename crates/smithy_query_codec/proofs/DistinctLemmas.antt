@@ -7,7 +7,7 @@ use Rattle.std.proofs.lemmas.Fmt.{decimal_injective}
 use Rattle.smithy_schema.specs.Site.{Site, element_of, value_of, member_of}
 use Rattle.smithy_schema.specs.Value.{Value, scalar_value, list, map, structure, union, null_element, document_value, Values, no_values, value, MapEntries, no_map_entries, map_entry, MemberValues, no_member_values, member_value}
 use Rattle.smithy_schema.specs.Writing.{count_of, entry_count}
-use Rattle.smithy_query_codec.specs.Leaves.{Path, Leaf, Stand, flat_member, member, neither, under, numbered, query_name, stand_of, element_name, key_name, value_name, inner_path, or_empty, entry_part, leaves, element_leaves, entry_leaves, member_leaves}
+use Rattle.smithy_query_codec.specs.Leaves.{Path, Leaf, MemberRole, flat_member, member, neither, under, numbered, query_name, role_of, element_name, key_name, value_name, inner_path, or_empty, entry_part, leaves, element_leaves, entry_leaves, member_leaves}
 use Rattle.smithy_query_codec.proofs.Forms.{names_of, HasForm, ElementsHaveForm, EntriesHaveForm, MembersHaveForm}
 use Rattle.smithy_query_codec.proofs.PairLemmas.{Pairwise, each-append, each_weaker, pairwise-append, pairwise_map, each_pair}
 
@@ -82,7 +82,7 @@ entry_distinct keys vals key ls apart h = (
 
 -- ---- any value
 
-pub or_empty_distinct : (stand : Stand) (ls : List Leaf) → Pairwise Differ ls → Pairwise Differ (or_empty stand ls)
+pub or_empty_distinct : (stand : MemberRole) (ls : List Leaf) → Pairwise Differ ls → Pairwise Differ (or_empty stand ls)
 or_empty_distinct neither ls h = h
 or_empty_distinct member [] h = (tt, tt)
 or_empty_distinct member (l ∷ ls) h = h
@@ -116,7 +116,7 @@ pub members_begin : (site : Site) (ms : MemberValues) → MembersHaveForm site m
 members_begin site no_member_values h = tt
 members_begin site (member_value n v ms) h =
     let o = query_name (member_of site n).view in
-    let ls = leaves (member_of site n) (stand_of (member_of site n).view) v in
+    let ls = leaves (member_of site n) (role_of (member_of site n).view) v in
     let P = Among (names_of site (member_value n v ms)) in
     each-append (Begins P) (under (option_to_list o) ls) (member_leaves site ms)
     (begins_weaker (λ t. t ≡ h.0.0) P (among_first o h.0.0 h.0.1 (names_of site ms)) _ (under_name o h.0.0 h.0.1 ls))
@@ -127,7 +127,7 @@ length_entries keys vals site no_map_entries = refl
 length_entries keys vals site (map_entry key v es) = ap suc (length_entries keys vals site es)
 
 mutual
-  pub leaves_distinct : (site : Site) (stand : Stand) (v : Value) → HasForm site v → Pairwise Differ (leaves site stand v)
+  pub leaves_distinct : (site : Site) (stand : MemberRole) (v : Value) → HasForm site v → Pairwise Differ (leaves site stand v)
   leaves_distinct site stand (scalar_value x) h = (tt, tt)
   leaves_distinct site stand null_element h = tt
   leaves_distinct site stand (document_value d) h = tt
@@ -143,7 +143,7 @@ mutual
       (numbered_distinct 1 parts small (entries_distinct (key_name site) (value_name site) (value_of site) es h.0.differ h.2))
   leaves_distinct site stand (structure ms) h = members_distinct site ms h
   leaves_distinct site stand (union n v) h =
-      distinct_under (option_to_list (query_name (member_of site n).view)) _ (leaves_distinct (member_of site n) (stand_of (member_of site n).view) v h.2)
+      distinct_under (option_to_list (query_name (member_of site n).view)) _ (leaves_distinct (member_of site n) (role_of (member_of site n).view) v h.2)
 
   elements_distinct : (site : Site) (vs : Values) → ElementsHaveForm site vs → AllByRecursion (λ ls. Pairwise Differ ls) (element_leaves site vs)
   elements_distinct site no_values h = tt
@@ -160,8 +160,8 @@ mutual
   members_distinct site (member_value n v ms) h =
       let name = h.0.0 in
       let o = query_name (member_of site n).view in
-      let ls = leaves (member_of site n) (stand_of (member_of site n).view) v in
+      let ls = leaves (member_of site n) (role_of (member_of site n).view) v in
       distinct_append (λ t. t ≡ name) (Among (names_of site ms)) (λ s t is a same. none_of name (names_of site ms) h.0.3 t a (sym is ∙ same))
       (under (option_to_list o) ls) (member_leaves site ms)
       (under_name o name h.0.1 ls) (members_begin site ms h.3)
-      (distinct_under (option_to_list o) ls (leaves_distinct (member_of site n) (stand_of (member_of site n).view) v h.2)) (members_distinct site ms h.3)
+      (distinct_under (option_to_list o) ls (leaves_distinct (member_of site n) (role_of (member_of site n).view) v h.2)) (members_distinct site ms h.3)

@@ -3,7 +3,7 @@ use Rattle.std.proofs.Common.{◌≡◌, ◌≢◌, List, ℕ, [], ◌∷◌, sy
 use Rattle.std.specs.List.{AllByRecursion}
 use Rattle.smithy_schema.specs.Site.{Site}
 use Rattle.smithy_schema.specs.Value.{Value, structure, MemberValues}
-use Rattle.smithy_query_codec.specs.Leaves.{Path, Leaf, Stand, leaves, member_leaves}
+use Rattle.smithy_query_codec.specs.Leaves.{Path, Leaf, MemberRole, leaves, member_leaves}
 use Rattle.smithy_query_codec.specs.Canonical.{path_text}
 use Rattle.smithy_query_codec.specs.Distinct.{HaveDistinctPaths, HaveDistinctTexts}
 use Rattle.smithy_query_codec.proofs.ByteLemmas.{HasBytes}
@@ -28,10 +28,10 @@ told : (P : List ℕ → Type 0) (ls : List Leaf) → AllByRecursion (Begins P) 
 told P [] hb hc = tt
 told P (l ∷ ls) hb hc = ((not_empty P l hb.0, hc.0), told P ls hb.1 hc.1)
 
-pub distinct_paths : (site : Site) (stand : Stand) (v : Value) → HasForm site v → HaveDistinctPaths (leaves site stand v)
+pub distinct_paths : (site : Site) (stand : MemberRole) (v : Value) → HasForm site v → HaveDistinctPaths (leaves site stand v)
 distinct_paths site stand v h = pairwise_all Differ (leaves site stand v) (leaves_distinct site stand v h)
 
-pub distinct_texts : (site : Site) (stand : Stand) (ms : MemberValues) → HasForm site (structure ms) → HasBytes (structure ms)
+pub distinct_texts : (site : Site) (stand : MemberRole) (ms : MemberValues) → HasForm site (structure ms) → HasBytes (structure ms)
     → HaveDistinctTexts (leaves site stand (structure ms))
 distinct_texts site stand ms h b =
     pairwise_all (λ (l m : Leaf). path_text l.path ≢ path_text m.path) (member_leaves site ms)

@@ -6,7 +6,7 @@ use Rattle.percent_encoding.proofs.PercentLemmas.{IsByte}
 use Rattle.smithy_schema.specs.Names.{is_query_name}
 use Rattle.smithy_schema.specs.Site.{Site, element_of, value_of, member_of}
 use Rattle.smithy_schema.specs.Value.{Value, scalar_value, list, map, structure, union, null_element, document_value, Values, no_values, value, MapEntries, no_map_entries, map_entry, MemberValues, no_member_values, member_value}
-use Rattle.smithy_query_codec.specs.Leaves.{Path, Leaf, Stand, flat_member, member, neither, under, numbered, query_name, stand_of, element_name, key_name, value_name, inner_path, or_empty, form_at, leaves, element_leaves, entry_leaves, member_leaves}
+use Rattle.smithy_query_codec.specs.Leaves.{Path, Leaf, MemberRole, flat_member, member, neither, under, numbered, query_name, role_of, element_name, key_name, value_name, inner_path, or_empty, form_at, leaves, element_leaves, entry_leaves, member_leaves}
 use Rattle.smithy_query_codec.proofs.Forms.{HasForm, ElementsHaveForm, EntriesHaveForm, MembersHaveForm}
 use Rattle.smithy_query_codec.proofs.ByteLemmas.{HasBytes, ElementsHaveBytes, EntriesHaveBytes, MembersHaveBytes}
 use Rattle.smithy_query_codec.proofs.PairLemmas.{each-append, each_weaker, each_map}
@@ -32,14 +32,14 @@ readable_numbered i (ls ∷ parts) small h =
     each-append IsReadableLeaf (under (decimal i ∷ []) ls) (numbered (suc i) parts)
     (readable_under (decimal i ∷ []) ls (decimal_text i (omega (arith, small)), tt) h.0) (readable_numbered (suc i) parts more h.1)
 
-readable_or_empty : (stand : Stand) (ls : List Leaf) → AreReadable ls → AreReadable (or_empty stand ls)
+readable_or_empty : (stand : MemberRole) (ls : List Leaf) → AreReadable ls → AreReadable (or_empty stand ls)
 readable_or_empty neither ls h = h
 readable_or_empty member [] h = ((tt, All-nil IsByte), tt)
 readable_or_empty member (l ∷ ls) h = h
 readable_or_empty flat_member [] h = ((tt, All-nil IsByte), tt)
 readable_or_empty flat_member (l ∷ ls) h = h
 
-inner_is_cut : (stand : Stand) (name : List ℕ) → IsNameText name → AllByRecursion IsNameText (inner_path stand name)
+inner_is_cut : (stand : MemberRole) (name : List ℕ) → IsNameText name → AllByRecursion IsNameText (inner_path stand name)
 inner_is_cut flat_member name h = tt
 inner_is_cut member name h = (h, tt)
 inner_is_cut neither name h = (h, tt)
@@ -51,7 +51,7 @@ entry_is_cut : IsNameText (codes "entry")
 entry_is_cut = (refl, (refl, (refl, (refl, (refl, tt)))))
 
 mutual
-  pub leaves_readable : (site : Site) (stand : Stand) (v : Value) → HasForm site v → HasBytes v → AreReadable (leaves site stand v)
+  pub leaves_readable : (site : Site) (stand : MemberRole) (v : Value) → HasForm site v → HasBytes v → AreReadable (leaves site stand v)
   leaves_readable site stand (scalar_value x) h b = ((tt, b (form_at site)), tt)
   leaves_readable site stand null_element h b = tt
   leaves_readable site stand (document_value d) h b = tt
@@ -69,7 +69,7 @@ mutual
   leaves_readable site stand (structure ms) h b = members_readable site ms h b
   leaves_readable site stand (union n v) h b =
       readable_under (option_to_list (query_name (member_of site n).view)) _ (name_is_cut _ h.0.0 h.0.1 h.0.2)
-      (leaves_readable (member_of site n) (stand_of (member_of site n).view) v h.2 b)
+      (leaves_readable (member_of site n) (role_of (member_of site n).view) v h.2 b)
 
   elements_readable : (site : Site) (vs : Values) → ElementsHaveForm site vs → ElementsHaveBytes vs → AllByRecursion AreReadable (element_leaves site vs)
   elements_readable site no_values h b = tt
@@ -87,7 +87,7 @@ mutual
   members_readable site no_member_values h b = tt
   members_readable site (member_value n v ms) h b =
       let o = query_name (member_of site n).view in
-      let ls = leaves (member_of site n) (stand_of (member_of site n).view) v in
+      let ls = leaves (member_of site n) (role_of (member_of site n).view) v in
       each-append IsReadableLeaf (under (option_to_list o) ls) (member_leaves site ms)
-      (readable_under (option_to_list o) ls (name_is_cut o h.0.0 h.0.1 h.0.2) (leaves_readable (member_of site n) (stand_of (member_of site n).view) v h.2 b.0))
+      (readable_under (option_to_list o) ls (name_is_cut o h.0.0 h.0.1 h.0.2) (leaves_readable (member_of site n) (role_of (member_of site n).view) v h.2 b.0))
       (members_readable site ms h.3 b.1)

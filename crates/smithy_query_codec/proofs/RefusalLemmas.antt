@@ -15,7 +15,7 @@ use Rattle.smithy_query_codec.specs.Nulls.{holds_null, elements_hold_null, entri
 use Rattle.smithy_query_codec.specs.Canonical.{path_text}
 use Rattle.smithy_query_codec.specs.Writable.{can_write, can_be_written}
 use Rattle.smithy_query_codec.specs.Refusals.{refusal_of, elements_refusal, entries_refusal, members_refusal}
-use Rattle.smithy_query_codec.specs.Writing.{Mark, QueryState, child_path, child_stand, child_count, has_room, is_placed, innermost_key, innermost_value, member_length, made, allowed, where_taken, where_supported, query_after}
+use Rattle.smithy_query_codec.specs.Writing.{Mark, QueryState, child_path, child_role, child_count, has_room, is_placed, innermost_key, innermost_value, member_length, made, allowed, where_taken, where_supported, query_after}
 use Rattle.smithy_query_codec.proofs.PathLemmas.{AreSegments, segments-append}
 use Rattle.smithy_query_codec.proofs.SegmentLemmas.{name_full, decimal_full}
 use Rattle.smithy_query_codec.proofs.LeafLemmas.{leaves_text}
@@ -108,7 +108,7 @@ mutual
       ∙ ap (λ r. and_run (run query_after []) (where_supported false (where_taken (made (document_of site d) s) r))) taken
       ∙ ap Err (same_some Unsupported e refused)
   value_refused site (list vs) o path names c os after ms child e form refused is full placed room taken =
-      let stand = child_stand os site.view in
+      let stand = child_role os site.view in
       let inner = inner_path stand (element_name site) in
       let inside = segments-append (path ++ child) inner full (inner_segments stand (element_name site) (name_full (element_name site) form.0)) in
       let small : 0 + count_of vs < 18446744073709551616 = omega (arith, form.1) in
@@ -117,8 +117,8 @@ mutual
       ∙ child_refused query_after (element_events (element_of site) vs) (end_list ∷ []) _ e
       (elements_refused (element_of site) vs o ((path ++ child) ++ inner) names 0 after (mark path (child_count os c) o (member_length stand (length (path_text (path ++ child)))) names 0) ms e form.2 refused inside small)
   value_refused site (map es) o path names c os after ms child e form refused is full placed room taken =
-      let inner = inner_path (child_stand os site.view) (codes "entry") in
-      let inside = segments-append (path ++ child) inner full (inner_segments (child_stand os site.view) (codes "entry") entry_full) in
+      let inner = inner_path (child_role os site.view) (codes "entry") in
+      let inside = segments-append (path ++ child) inner full (inner_segments (child_role os site.view) (codes "entry") entry_full) in
       let small : 0 + entry_count es < 18446744073709551616 = omega (arith, form.1) in
       let key = key_name site in
       let val = value_name site in

@@ -13,11 +13,11 @@ use Rattle.smithy_schema.specs.Writing.{Event, Open, open_structure, open_list, 
 use Rattle.smithy_schema.proofs.OpenLemmas.{scalar_taken}
 use Rattle.smithy_schema.proofs.WritingLemmas.{child_written, call_made}
 use Rattle.smithy_query.specs.Form.{pair_text}
-use Rattle.smithy_query_codec.specs.Leaves.{Path, Leaf, Stand, flat_member, member, neither, under, numbered, query_name, stand_of, element_name, key_name, value_name, inner_path, or_empty, scalar_text, form_at, leaves, element_leaves, entry_leaves, member_leaves}
+use Rattle.smithy_query_codec.specs.Leaves.{Path, Leaf, MemberRole, flat_member, member, neither, under, numbered, query_name, role_of, element_name, key_name, value_name, inner_path, or_empty, scalar_text, form_at, leaves, element_leaves, entry_leaves, member_leaves}
 use Rattle.smithy_query_codec.specs.Canonical.{path_text}
 use Rattle.smithy_query_codec.specs.Nulls.{holds_null, elements_hold_null, entries_hold_null, members_hold_null}
 use Rattle.smithy_query_codec.specs.Writable.{can_write, can_be_written}
-use Rattle.smithy_query_codec.specs.Writing.{Mark, QueryState, child_path, child_stand, child_count, has_room, is_placed, takes_null, innermost_key, innermost_value, child_prefix, extended, member_length, opened, made, allowed, where_taken, query_after}
+use Rattle.smithy_query_codec.specs.Writing.{Mark, QueryState, child_path, child_role, child_count, has_room, is_placed, takes_null, innermost_key, innermost_value, child_prefix, extended, member_length, opened, made, allowed, where_taken, query_after}
 use Rattle.smithy_query_codec.proofs.PathLemmas.{AreSegments, segments-append, extended_path, cut_path}
 use Rattle.smithy_query_codec.proofs.SegmentLemmas.{name_full, decimal_full}
 use Rattle.smithy_query_codec.proofs.LeafLemmas.{leaves_text, under-under, scalar_leaf, grouped, entry_grouped}
@@ -136,7 +136,7 @@ prefix_is : (o : List ℕ) (path : Path) (names : List ℕ) (c : ℕ) (os : List
     → child_prefix (at o path names c os ms) view ≡ path_text (path ++ child)
 prefix_is o path names c os ms view child is full = ap (extended (path_text path)) is ∙ extended_path path child full
 
-pub inner_segments : (stand : Stand) (name : List ℕ) → name ≢ [] → AreSegments (inner_path stand name)
+pub inner_segments : (stand : MemberRole) (name : List ℕ) → name ≢ [] → AreSegments (inner_path stand name)
 inner_segments flat_member name full = tt
 inner_segments member name full = (full, tt)
 inner_segments neither name full = (full, tt)
@@ -173,14 +173,14 @@ structure_begun site o path names c os after ms child is full room taken =
 
 pub list_begun : (site : Site) (n : Option ℕ) (o : List ℕ) (path : Path) (names : List ℕ) (c : ℕ) (os after : List Open) (ms : List Mark) (child : Path)
     → child_path os c (innermost_key names ms) (innermost_value names ms) site.view ≡ child → AreSegments (path ++ child)
-    → AreSegments ((path ++ child) ++ inner_path (child_stand os site.view) (element_name site))
+    → AreSegments ((path ++ child) ++ inner_path (child_role os site.view) (element_name site))
     → has_room os c ≡ true → after_value os ≡ Ok after
     → query_after (begin_list site n) (at o path names c os ms)
-    ≡ Ok (at o ((path ++ child) ++ inner_path (child_stand os site.view) (element_name site)) names 0 (open_list ∷ after)
-    (mark path (child_count os c) o (member_length (child_stand os site.view) (length (path_text (path ++ child)))) names 0 ∷ ms))
+    ≡ Ok (at o ((path ++ child) ++ inner_path (child_role os site.view) (element_name site)) names 0 (open_list ∷ after)
+    (mark path (child_count os c) o (member_length (child_role os site.view) (length (path_text (path ++ child)))) names 0 ∷ ms))
 list_begun site n o path names c os after ms child is full inside room taken =
     let s = at o path names c os ms in
-    let stand = child_stand os site.view in
+    let stand = child_role os site.view in
     let inner = inner_path stand (element_name site) in
     ap (where_taken (made (begin_list site n) s)) (begins open_list (has_room os c) os after room taken)
     ∙ ap (λ p. Ok (opened s (extended p inner) names (member_length stand (length p)) 0 (open_list ∷ after))) (prefix_is o path names c os ms site.view child is full)
@@ -188,14 +188,14 @@ list_begun site n o path names c os after ms child is full inside room taken =
 
 pub map_begun : (site : Site) (n : Option ℕ) (o : List ℕ) (path : Path) (names : List ℕ) (c : ℕ) (os after : List Open) (ms : List Mark) (child : Path)
     → child_path os c (innermost_key names ms) (innermost_value names ms) site.view ≡ child → AreSegments (path ++ child)
-    → AreSegments ((path ++ child) ++ inner_path (child_stand os site.view) (codes "entry"))
+    → AreSegments ((path ++ child) ++ inner_path (child_role os site.view) (codes "entry"))
     → has_room os c ≡ true → after_value os ≡ Ok after
     → query_after (begin_map site n) (at o path names c os ms)
-    ≡ Ok (at o ((path ++ child) ++ inner_path (child_stand os site.view) (codes "entry")) ((names ++ key_name site) ++ value_name site) 0 (open_map_at_key ∷ after)
+    ≡ Ok (at o ((path ++ child) ++ inner_path (child_role os site.view) (codes "entry")) ((names ++ key_name site) ++ value_name site) 0 (open_map_at_key ∷ after)
     (mark path (child_count os c) o None names (length (key_name site)) ∷ ms))
 map_begun site n o path names c os after ms child is full inside room taken =
     let s = at o path names c os ms in
-    let inner = inner_path (child_stand os site.view) (codes "entry") in
+    let inner = inner_path (child_role os site.view) (codes "entry") in
     let more = (names ++ key_name site) ++ value_name site in
     ap (where_taken (made (begin_map site n) s)) (begins open_map_at_key (has_room os c) os after room taken)
     ∙ ap (λ p. Ok (opened s (extended p inner) more None (length (key_name site)) (open_map_at_key ∷ after))) (prefix_is o path names c os ms site.view child is full)
@@ -214,21 +214,21 @@ same_length o = rw (append-nil o) (grind (arith, nat_tests))
 longer : (o : List ℕ) (b : ℕ) (bs : List ℕ) → (length (o ++ b ∷ bs) == length o) ≡ false
 longer o b bs = let more = length-append o (b ∷ bs) in rw more (grind (arith, nat_tests))
 
-abbrev empty_of : Stand → Path → Path → List ℕ
+abbrev empty_of : MemberRole → Path → Path → List ℕ
 empty_of stand path inner =
     option_map_or (λ n. pair_text (take n (path_text (path ++ inner))) []) (member_length stand (length (path_text path))) []
 
-empty_adds : (stand : Stand) (path inner : Path) → AreSegments (path ++ inner) → empty_of stand path inner ≡ leaves_text (under path (or_empty stand (under inner [])))
+empty_adds : (stand : MemberRole) (path inner : Path) → AreSegments (path ++ inner) → empty_of stand path inner ≡ leaves_text (under path (or_empty stand (under inner [])))
 empty_adds neither path inner full = refl
 empty_adds member path inner full = rw (cut_path path inner full, append-nil path) (sym (append-nil (pair_text (path_text path) [])))
 empty_adds flat_member path inner full = rw (cut_path path inner full, append-nil path) (sym (append-nil (pair_text (path_text path) [])))
 
-or_empty_full : (stand : Stand) (l : Leaf) (ls : List Leaf) → or_empty stand (l ∷ ls) ≡ l ∷ ls
+or_empty_full : (stand : MemberRole) (l : Leaf) (ls : List Leaf) → or_empty stand (l ∷ ls) ≡ l ∷ ls
 or_empty_full neither l ls = refl
 or_empty_full member l ls = refl
 or_empty_full flat_member l ls = refl
 
-list_adds : (stand : Stand) (o : List ℕ) (path inner : Path) (ls : List Leaf) → AreSegments (path ++ inner)
+list_adds : (stand : MemberRole) (o : List ℕ) (path inner : Path) (ls : List Leaf) → AreSegments (path ++ inner)
     → (let text = leaves_text (under (path ++ inner) ls) in (o ++ text) ++ (if length (o ++ text) == length o then empty_of stand path inner else []))
     ≡ o ++ leaves_text (under path (or_empty stand (under inner ls)))
 list_adds stand o path inner [] full = rw (same_length o, append-nil o, empty_adds stand path inner full) refl
@@ -248,7 +248,7 @@ structure_ends : (o t : List ℕ) (path child : Path) (names : List ℕ) (k n : 
     ≡ Ok (at (o ++ t) path names k os ms)
 structure_ends o t path child names k n os ms full = same_state _ _ _ _ _ _ k os ms _ refl refl (cut_path path child full) (take-length names)
 
-list_ends : (stand : Stand) (o : List ℕ) (path child inner : Path) (names : List ℕ) (k n : ℕ) (os : List Open) (ms : List Mark) (ls : List Leaf) → AreSegments ((path ++ child) ++ inner)
+list_ends : (stand : MemberRole) (o : List ℕ) (path child inner : Path) (names : List ℕ) (k n : ℕ) (os : List Open) (ms : List Mark) (ls : List Leaf) → AreSegments ((path ++ child) ++ inner)
     → run query_after (end_list ∷ [])
     (at (o ++ leaves_text (under ((path ++ child) ++ inner) ls)) ((path ++ child) ++ inner) names n (open_list ∷ os)
     (mark path k o (member_length stand (length (path_text (path ++ child)))) names 0 ∷ ms))
@@ -302,13 +302,13 @@ mutual
       → child_path os c (innermost_key names ms) (innermost_value names ms) site.view ≡ child → AreSegments (path ++ child)
       → Placed os site.view v → has_room os c ≡ true → after_value os ≡ Ok after
       → write query_after site v (at o path names c os ms)
-      ≡ Ok (at (o ++ leaves_text (under (path ++ child) (leaves site (child_stand os site.view) v))) path names (child_count os c) after ms)
+      ≡ Ok (at (o ++ leaves_text (under (path ++ child) (leaves site (child_role os site.view) v))) path names (child_count os c) after ms)
   value_adds site (scalar_value x) o path names c os after ms child form can is full placed room taken =
       ap (and_run (run query_after [])) (scalar_adds site x o path names c os after ms child is full can placed room taken)
   value_adds site null_element o path names c os after ms child form can is full placed room taken = absurd (let e : false ≡ true = can in cc)
   value_adds site (document_value d) o path names c os after ms child form can is full placed room taken = absurd (let e : false ≡ true = can in cc)
   value_adds site (list vs) o path names c os after ms child form can is full placed room taken =
-      let stand = child_stand os site.view in
+      let stand = child_role os site.view in
       let inner = inner_path stand (element_name site) in
       let inside = segments-append (path ++ child) inner full (inner_segments stand (element_name site) (name_full (element_name site) form.0)) in
       let small : 0 + count_of vs < 18446744073709551616 = omega (arith, form.1) in
@@ -318,8 +318,8 @@ mutual
       (elements_add (element_of site) vs o ((path ++ child) ++ inner) names 0 after (mark path (child_count os c) o (member_length stand (length (path_text (path ++ child)))) names 0) ms form.2 can inside small)
       (list_ends stand o path child inner names (child_count os c) (counted 0 vs) after ms _ inside)
   value_adds site (map es) o path names c os after ms child form can is full placed room taken =
-      let inner = inner_path (child_stand os site.view) (codes "entry") in
-      let inside = segments-append (path ++ child) inner full (inner_segments (child_stand os site.view) (codes "entry") entry_full) in
+      let inner = inner_path (child_role os site.view) (codes "entry") in
+      let inside = segments-append (path ++ child) inner full (inner_segments (child_role os site.view) (codes "entry") entry_full) in
       let small : 0 + entry_count es < 18446744073709551616 = omega (arith, form.1) in
       let key = key_name site in
       let val = value_name site in
@@ -346,7 +346,7 @@ mutual
       (value_adds inner v o (path ++ child) names 0 (open_structure ∷ after) (open_structure ∷ after) marks name
       form.2 can refl (segments-append (path ++ child) name full segment) (member_placed (open_structure ∷ after) inner.view v (ap is_some form.0.1) form.1) refl refl)
       (structure_ends o _ path child names (child_count os c) 0 after ms full)
-      ∙ ap (λ xs. Ok (at (o ++ leaves_text xs) path names (child_count os c) after ms)) (sym (under-under (path ++ child) name (leaves inner (stand_of inner.view) v)))
+      ∙ ap (λ xs. Ok (at (o ++ leaves_text xs) path names (child_count os c) after ms)) (sym (under-under (path ++ child) name (leaves inner (role_of inner.view) v)))
 
   pub elements_add : (site : Site) (vs : Values) (o : List ℕ) (path : Path) (names : List ℕ) (c : ℕ) (os : List Open) (m : Mark) (ms : List Mark)
       → ElementsHaveForm site vs → elements_can_be_written site vs ≡ true → AreSegments path → c + count_of vs < 18446744073709551616
@@ -403,4 +403,4 @@ mutual
       (value_adds child v o path names c (open_structure ∷ os) (open_structure ∷ os) ms name form.2 (member_parts site n v vs can).0 refl
       (segments-append path name full segment) (member_placed (open_structure ∷ os) child.view v (ap is_some form.0.1) form.1) refl refl)
       (members_add site vs _ path names c os ms form.3 (member_parts site n v vs can).1 full))
-      (grouped o path name (leaves child (stand_of child.view) v) (member_leaves site vs))
+      (grouped o path name (leaves child (role_of child.view) v) (member_leaves site vs))

@@ -35,17 +35,17 @@ numbered i [] = []
 numbered i (leaves ∷ parts) = under (decimal i ∷ []) leaves ++ numbered (suc i) parts
 
 -- whose value it is: a flat member's, another member's, or neither
-pub data Stand : Type 0 where
-  flat_member : Stand
-  member : Stand
-  neither : Stand
+pub data MemberRole : Type 0 where
+  flat_member : MemberRole
+  member : MemberRole
+  neither : MemberRole
 
 -- the name of a member in a form: the one that is given, else its own
 abbrev pub query_name : View → Option (List ℕ)
 query_name view = option_map (λ name. unwrap_or view.xml_name name) view.name
 
-abbrev pub stand_of : View → Stand
-stand_of view = option_map_or (λ name. if view.is_flat then flat_member else member) (query_name view) neither
+abbrev pub role_of : View → MemberRole
+role_of view = option_map_or (λ name. if view.is_flat then flat_member else member) (query_name view) neither
 
 -- the name of a list's elements in a form
 abbrev pub element_name : Site → List ℕ
@@ -59,13 +59,13 @@ abbrev pub value_name : Site → List ℕ
 value_name site = option_map_or value_name_of (map_shape_of (kind_at site)) (codes "value")
 
 -- what stands between a list or a map and the numbers of its parts: nothing where it is a flat member's value
-abbrev pub inner_path : Stand → List ℕ → Path
+abbrev pub inner_path : MemberRole → List ℕ → Path
 inner_path flat_member name = []
 inner_path member name = name ∷ []
 inner_path neither name = name ∷ []
 
 -- a list that is a member's value has a leaf without a text where it would have none
-abbrev pub or_empty : Stand → List Leaf → List Leaf
+abbrev pub or_empty : MemberRole → List Leaf → List Leaf
 or_empty neither leaves = leaves
 or_empty member [] = leaf [] ∷ []
 or_empty member (l ∷ leaves) = l ∷ leaves
@@ -95,7 +95,7 @@ entry_part key_name value_name key leaves =
 -- Members stand in the table's order, elements in theirs and the entries of a map in that of its keys' bytes, and parts are
 -- counted from 1. A union is a structure of its one member. Paths begin at the value.
 abbrev mutual
-  pub leaves : Site → Stand → Value → List Leaf
+  pub leaves : Site → MemberRole → Value → List Leaf
   leaves site stand (scalar_value x) = leaf (scalar_text (form_at site) x) ∷ []
   leaves site stand (list vs) =
       or_empty stand (under (inner_path stand (element_name site)) (numbered 1 (element_leaves (element_of site) vs)))
@@ -105,7 +105,7 @@ abbrev mutual
   leaves site stand (structure ms) = member_leaves site ms
   leaves site stand (union n v) =
       under (option_to_list (query_name (member_of site n).view))
-      (leaves (member_of site n) (stand_of (member_of site n).view) v)
+      (leaves (member_of site n) (role_of (member_of site n).view) v)
   -- a form has neither nulls nor documents
   leaves site stand null_element = []
   leaves site stand (document_value d) = []
@@ -126,5 +126,5 @@ abbrev mutual
   member_leaves site no_member_values = []
   member_leaves site (member_value n v ms) =
       under (option_to_list (query_name (member_of site n).view))
-      (leaves (member_of site n) (stand_of (member_of site n).view) v)
+      (leaves (member_of site n) (role_of (member_of site n).view) v)
       ++ member_leaves site ms

@@ -5,7 +5,7 @@ use Rattle.smithy_query_codec.specs.declared.containers.Container.{Container}
 use Rattle.smithy_query_codec.specs.declared.containers.Container.TheVariants.{Structure, List as Listed, MapAtKey, MapAtValue}
 use Rattle.smithy_query_codec.specs.declared.containers.OpenContainer.{OpenContainer}
 use Rattle.smithy_query_codec.specs.declared.serializer.QueryShapeSerializer.{QueryShapeSerializer}
-use Rattle.smithy_query_codec.specs.Leaves.{Stand, flat_member, member, neither}
+use Rattle.smithy_query_codec.specs.Leaves.{MemberRole, flat_member, member, neither}
 use Rattle.smithy_query_codec.specs.Writing.{Mark, QueryState}
 
 abbrev pub open_of : Container → Open
@@ -47,7 +47,7 @@ abbrev pub has_failed : QueryShapeSerializer → Bool
 has_failed s = s.failed
 
 -- whose value something is: a member's, by whether the member is flat, or no member's
-abbrev pub stand_of_flatness : Option Bool → Stand
-stand_of_flatness None = neither
-stand_of_flatness (Some true) = flat_member
-stand_of_flatness (Some false) = member
+abbrev pub role_of_flatness : Option Bool → MemberRole
+role_of_flatness None = neither
+role_of_flatness (Some true) = flat_member
+role_of_flatness (Some false) = member

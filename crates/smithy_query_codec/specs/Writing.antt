@@ -7,7 +7,7 @@ use Rattle.smithy_schema.specs.declared.error.SerdeError.TheVariants.{Unsupporte
 use Rattle.smithy_schema.specs.Site.{Site, View}
 use Rattle.smithy_schema.specs.Writing.{Event, Writer, begin_structure, end_structure, begin_list, end_list, begin_map, end_map, null_of, scalar_of, big_integer_of, big_decimal_of, document_of, Open, open_structure, open_list, open_map_at_key, open_map_at_value, open_after}
 use Rattle.smithy_query.specs.Form.{pair_text, form_head}
-use Rattle.smithy_query_codec.specs.Leaves.{Path, Stand, flat_member, member, neither, query_name, stand_of, element_name, key_name, value_name, inner_path, scalar_text, form_at}
+use Rattle.smithy_query_codec.specs.Leaves.{Path, MemberRole, flat_member, member, neither, query_name, role_of, element_name, key_name, value_name, inner_path, scalar_text, form_at}
 use Rattle.smithy_query_codec.specs.Writable.{can_write}
 
 -- what was there before a container was begun, for when it ends
@@ -78,10 +78,10 @@ child_path (open_map_at_key ∷ os) count key value view = decimal (suc count) �
 child_path (open_map_at_value ∷ os) count key value view = decimal count ∷ value ∷ []
 
 -- whose value a child is
-abbrev pub child_stand : List Open → View → Stand
-child_stand [] view = stand_of view
-child_stand (open_structure ∷ os) view = stand_of view
-child_stand _ view = neither
+abbrev pub child_role : List Open → View → MemberRole
+child_role [] view = role_of view
+child_role (open_structure ∷ os) view = role_of view
+child_role _ view = neither
 
 -- the number of parts with this child; a key counts for its entry
 abbrev pub child_count : List Open → ℕ → ℕ
@@ -150,7 +150,7 @@ abbrev pub structure_opened : QueryState → Site → List Open → QueryState
 structure_opened s site opens = opened s (child_prefix s site.view) s.names None 0 opens
 
 -- the length is kept of a member's path alone
-abbrev pub member_length : Stand → ℕ → Option ℕ
+abbrev pub member_length : MemberRole → ℕ → Option ℕ
 member_length neither n = None
 member_length member n = Some n
 member_length flat_member n = Some n
@@ -158,13 +158,13 @@ member_length flat_member n = Some n
 abbrev pub list_opened : QueryState → Site → List Open → QueryState
 list_opened s site opens =
     let prefix = child_prefix s site.view in
-    let stand = child_stand s.opens site.view in
+    let stand = child_role s.opens site.view in
     let inner = inner_path stand (element_name site) in
     opened s (extended prefix inner) s.names (member_length stand (length prefix)) 0 opens
 
 abbrev pub map_opened : QueryState → Site → List Open → QueryState
 map_opened s site opens =
-    let inner = inner_path (child_stand s.opens site.view) (codes "entry") in
+    let inner = inner_path (child_role s.opens site.view) (codes "entry") in
     let names = (s.names ++ key_name site) ++ value_name site in
     opened s (extended (child_prefix s site.view) inner) names None (length (key_name site)) opens
 

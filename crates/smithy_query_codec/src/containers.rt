@@ -4,8 +4,8 @@ ghost use Rattle.smithy_schema.specs.declared.error.SerdeError.TheVariants.{Fail
 ghost use Rattle.smithy_schema.specs.Reading.{IsFault};
 ghost use Rattle.smithy_schema.specs.Site.{site_of};
 ghost use Rattle.smithy_schema.specs.Writing.{after_value, after_text};
-ghost use Rattle.smithy_query_codec.specs.Writing.{extended, innermost_key as innermost_key_name, innermost_value as innermost_value_name, child_path, child_stand, child_count, has_room as is_room, is_placed as is_place, takes_null as is_null_taken, is_key_due as is_key_place, member_length as kept_length};
-ghost use Rattle.smithy_query_codec.specs.Serializing.{opens_of, marks_of, stand_of_flatness};
+ghost use Rattle.smithy_query_codec.specs.Writing.{extended, innermost_key as innermost_key_name, innermost_value as innermost_value_name, child_path, child_role, child_count, has_room as is_room, is_placed as is_place, takes_null as is_null_taken, is_key_due as is_key_place, member_length as kept_length};
+ghost use Rattle.smithy_query_codec.specs.Serializing.{opens_of, marks_of, role_of_flatness};
 
 use crate::names::query_name;
 use crate::path::{behind, front, push_name, push_number, push_segment};
@@ -95,7 +95,7 @@ pub(crate) fn is_placed(stack: &[OpenContainer], schema: &Schema<'_>) -> bool
 
 // The value is a member's, and whether the member is flat.
 pub(crate) fn member_flatness(stack: &[OpenContainer], schema: &Schema<'_>) -> Option<bool>
-    ensures { stand_of_flatness result ≡ child_stand (opens_of stack.now) (site_of schema.now).view }
+    ensures { role_of_flatness result ≡ child_role (opens_of stack.now) (site_of schema.now).view }
 {
     if !is_at_member(stack) {
         return None;
@@ -168,7 +168,7 @@ pub(crate) fn pass_key(stack: &mut Vec<OpenContainer>) -> Result<(), AllocError>
 
 // The length of a path, of a member's alone.
 pub(crate) fn member_length(flatness: Option<bool>, length: usize) -> Option<usize>
-    ensures { result ≡ kept_length (stand_of_flatness flatness) length }
+    ensures { result ≡ kept_length (role_of_flatness flatness) length }
 {
     flatness.map(|_: bool| length)
 }

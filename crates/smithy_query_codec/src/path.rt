@@ -4,7 +4,7 @@ ghost use Rattle.smithy_schema.specs.Site.{site_of};
 ghost use Rattle.smithy_query.specs.Form.{pair_text, form_head};
 ghost use Rattle.smithy_query_codec.specs.Leaves.{query_name as name_in_form, inner_path};
 ghost use Rattle.smithy_query_codec.specs.Writing.{dotted, extended};
-ghost use Rattle.smithy_query_codec.specs.Serializing.{stand_of_flatness};
+ghost use Rattle.smithy_query_codec.specs.Serializing.{role_of_flatness};
 
 use crate::names::query_name;
 use itoa::Buffer;
@@ -68,7 +68,7 @@ pub(crate) fn push_inner(
     flatness: Option<bool>,
     name: &str,
 ) -> Result<(), AllocError>
-    ensures { OnOk result (prefix.new.items ≡ extended prefix.old.items (inner_path (stand_of_flatness flatness) name.now)) }
+    ensures { OnOk result (prefix.new.items ≡ extended prefix.old.items (inner_path (role_of_flatness flatness) name.now)) }
 {
     match flatness {
         Some(true) => Ok(()),

@@ -22,7 +22,7 @@ use Rattle.smithy_transcode.specs.declared.wire.TranscodeError.{TranscodeError}
 use Rattle.smithy_transcode.specs.declared.wire.TranscodeError.TheVariants.{InvalidInput, TooDeep, TooWide, NotCarried, Inexpressible, NoMemory}
 use Rattle.smithy_transcode.specs.Wires.{Wire, json, cbor, query, IsReadable, wire_of, unfit_at, unfit}
 use Rattle.smithy_transcode.specs.Causes.{IsTooDeep, IsWide, IsUncarried}
-use Rattle.smithy_transcode.specs.Refusal.{Tells}
+use Rattle.smithy_transcode.specs.Refusal.{IsToldAs}
 use Rattle.smithy_transcode.specs.Spelling.{Spells, body}
 use Rattle.smithy_transcode.specs.declared.wire.Wire as kept
 use Rattle.smithy_transcode.specs.declared.wire.Wire.TheVariants as wires
@@ -123,10 +123,10 @@ no_memory t root from i to = record {
 }
 
 -- and so is a write that fails, which wants memory
-pub unwritten : (t : Table) (root : ℕ) (from : Wire) (i : List ℕ) (to : Wire) (e : SerdeError) (refusal : TranscodeError) → e ≡ serde.NoMemory → Tells e refusal
+pub unwritten : (t : Table) (root : ℕ) (from : Wire) (i : List ℕ) (to : Wire) (e : SerdeError) (refusal : TranscodeError) → e ≡ serde.NoMemory → IsToldAs e refusal
     → Transcodes t root from i to (Err refusal)
 unwritten t root from i to e refusal is tells =
-    let same : refusal ≡ NoMemory = subst (λ x. Tells x refusal) is tells in
+    let same : refusal ≡ NoMemory = subst (λ x. IsToldAs x refusal) is tells in
     rw same (no_memory t root from i to)
 
 -- the body of a spelled value is an answer
@@ -175,7 +175,7 @@ lacking t root from i to v u spelled lack = record {
 }
 
 -- and so is a refusal of the input
-told : (t : Table) (root : ℕ) (from : Wire) (i : List ℕ) (to : Wire) (e : SerdeError) (refusal : TranscodeError) → Tells e refusal
+told : (t : Table) (root : ℕ) (from : Wire) (i : List ℕ) (to : Wire) (e : SerdeError) (refusal : TranscodeError) → IsToldAs e refusal
     → (IsFault e → SpellNothing from t root i) → (e ≡ serde.InvalidInput → SpellNothingWithoutLimits from t root i) → (e ≡ serde.TooDeep → IsTooDeep from t root i) → (e ≡ serde.TooWide → IsWide from t i) → (e ≡ serde.NotCarried → IsUncarried from t i)
     → Transcodes t root from i to (Err refusal)
 told t root from i to serde.InvalidInput refusal tells nothing would deep wide uncarried = rw tells (record {
@@ -235,7 +235,7 @@ told t root from i to serde.Unsupported refusal tells nothing would deep wide un
 told t root from i to serde.Unwritable refusal tells nothing would deep wide uncarried = absurd tells
 told t root from i to serde.Failed refusal tells nothing would deep wide uncarried = absurd tells
 
-pub refused : {A : Type 0} (t : Table) (root : ℕ) (from : Wire) (i : List ℕ) (to : Wire) (r : Result A SerdeError) (e : SerdeError) (refusal : TranscodeError) → r ≡ Err e → Tells e refusal
+pub refused : {A : Type 0} (t : Table) (root : ℕ) (from : Wire) (i : List ℕ) (to : Wire) (r : Result A SerdeError) (e : SerdeError) (refusal : TranscodeError) → r ≡ Err e → IsToldAs e refusal
     → (IsRefused r → SpellNothing from t root i) → (IsInvalid r → SpellNothingWithoutLimits from t root i) → (IsErrOf r serde.TooDeep → IsTooDeep from t root i) → (IsErrOf r serde.TooWide → IsWide from t i) → (IsErrOf r serde.NotCarried → IsUncarried from t i)
     → Transcodes t root from i to (Err refusal)
 refused t root from i to r e refusal is tells nothing would deep wide uncarried =

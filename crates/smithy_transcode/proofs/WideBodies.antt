@@ -20,7 +20,7 @@ use Rattle.smithy_wire.specs.Frames.{UncarriedAt}
 use Rattle.smithy_wire.specs.Rules.{Rules, wide}
 use Rattle.smithy_wire.specs.Meaning.{IsTooWide}
 use Rattle.smithy_transcode.specs.Wires.{Wire, json, cbor, query, IsReadable}
-use Rattle.smithy_transcode.specs.Causes.{HasWide, HasOtherSeconds, HasNoDocument, IsChildPlace, HasTarget, IsWide, IsUncarried}
+use Rattle.smithy_transcode.specs.Causes.{HasWide, HasOtherSeconds, HasUncarriedPart, IsChildPlace, HasTarget, IsWide, IsUncarried}
 use Rattle.smithy_transcode.proofs.Spelled.{relations_of}
 use Rattle.smithy_transcode.proofs.ReadWide.{Lying, StandsAs, StandsInside}
 
@@ -50,7 +50,7 @@ exceeds_slice (query action version) t q c read exceeds = absurd read
 -- the bytes have what the kind can't carry: instants and documents alone don't carry all
 abbrev HasOther : Wire → List ℕ → Kind → Type 0
 HasOther w bytes (scalar s) = (s ≡ Timestamp) × HasOtherSeconds w bytes
-HasOther w bytes document = HasNoDocument w bytes
+HasOther w bytes document = HasUncarriedPart w bytes
 HasOther w bytes _ = ⊥
 
 json_other : (b : Bool) (q : Place) (k : Kind) (i : List ℕ) (d a e : ℕ) → UncarriedAt json_frames (rules_of (strict_settings b)) k q.time i d a e → HasOther (json b) i k

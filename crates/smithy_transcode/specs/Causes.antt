@@ -5,7 +5,7 @@ use Rattle.smithy_schema.specs.declared.shape_type.Scalar.{Scalar}
 use Rattle.smithy_schema.specs.declared.shape_type.Scalar.TheVariants.{Timestamp}
 use Rattle.smithy_schema.specs.Table.{Table, Kind, scalar, document, kind_of, shape_place, place_in, IsContainer, IsInside}
 use Rattle.smithy_json_codec.specs.Openers.{json_openers}
-use Rattle.smithy_json_codec.specs.Uncarried.{IsUncarriedJson, HoldsOtherNumber}
+use Rattle.smithy_json_codec.specs.Uncarried.{IsUncarriedJson, HasUnheldNumber}
 use Rattle.smithy_json_codec.specs.Wide.{IsWideJson}
 use Rattle.smithy_cbor_codec.specs.Openers.{cbor_openers}
 use Rattle.smithy_cbor_codec.specs.Uncarried.{IsUncarriedCbor}
@@ -48,10 +48,10 @@ HasOtherSeconds (query action version) bytes = ⊥
 
 -- Some slice of the bytes is what no document carries: in JSON a number with a fraction or an exponent, or outside of -2^63 to
 -- 2^64-1. CBOR carries no documents, whatever the bytes are.
-abbrev pub HasNoDocument : Wire → List ℕ → Type 0
-HasNoDocument (json use_json_name) bytes = HoldsOtherNumber bytes
-HasNoDocument cbor bytes = Unit {0}
-HasNoDocument (query action version) bytes = ⊥
+abbrev pub HasUncarriedPart : Wire → List ℕ → Type 0
+HasUncarriedPart (json use_json_name) bytes = HasUnheldNumber bytes
+HasUncarriedPart cbor bytes = Unit {0}
+HasUncarriedPart (query action version) bytes = ⊥
 
 -- the place is that of a member, of an element or of a map's value in the table
 abbrev pub IsChildPlace : Table → Place → Type 0
@@ -70,4 +70,4 @@ IsWide wire table bytes = (s : Scalar) × HasTarget table (scalar s) × HasWide 
 abbrev pub IsUncarried : Wire → Table → List ℕ → Type 0
 IsUncarried wire table bytes =
     (HasTarget table (scalar Timestamp) × HasOtherSeconds wire bytes)
-    ⊎ (HasTarget table document × HasNoDocument wire bytes)
+    ⊎ (HasTarget table document × HasUncarriedPart wire bytes)

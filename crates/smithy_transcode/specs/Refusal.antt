@@ -7,12 +7,12 @@ use Rattle.smithy_transcode.specs.declared.wire.TranscodeError.TheVariants.{Inva
 
 -- a transcoding tells a refusal of a reader or serializer under the same name, and never ends with `Unsupported`, `Unwritable` or
 -- `Failed`
-abbrev pub Tells : SerdeError → TranscodeError → Type 0
-Tells serde.InvalidInput refusal = refusal ≡ InvalidInput
-Tells serde.TooDeep refusal = refusal ≡ TooDeep
-Tells serde.TooWide refusal = refusal ≡ TooWide
-Tells serde.NotCarried refusal = refusal ≡ NotCarried
-Tells serde.NoMemory refusal = refusal ≡ NoMemory
-Tells serde.Unsupported refusal = ⊥
-Tells serde.Unwritable refusal = ⊥
-Tells serde.Failed refusal = ⊥
+abbrev pub IsToldAs : SerdeError → TranscodeError → Type 0
+IsToldAs serde.InvalidInput refusal = refusal ≡ InvalidInput
+IsToldAs serde.TooDeep refusal = refusal ≡ TooDeep
+IsToldAs serde.TooWide refusal = refusal ≡ TooWide
+IsToldAs serde.NotCarried refusal = refusal ≡ NotCarried
+IsToldAs serde.NoMemory refusal = refusal ≡ NoMemory
+IsToldAs serde.Unsupported refusal = ⊥
+IsToldAs serde.Unwritable refusal = ⊥
+IsToldAs serde.Failed refusal = ⊥

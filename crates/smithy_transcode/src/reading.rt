@@ -47,7 +47,7 @@ pub(crate) fn read_tree<T: Tree, D: ShapeDeserializer>(
         ShapeType::BigInteger
         | ShapeType::BigDecimal
         | ShapeType::Timestamp
-        | ShapeType::Document => read_rare::<T, D>(alloc, source, schema),
+        | ShapeType::Document => read_out_of_line::<T, D>(alloc, source, schema),
         ShapeType::Structure => read_structure::<T, D>(alloc, source, schema),
         ShapeType::Union => read_union::<T, D>(alloc, source, schema),
         ShapeType::List => read_list::<T, D>(alloc, source, schema),
@@ -58,7 +58,7 @@ pub(crate) fn read_tree<T: Tree, D: ShapeDeserializer>(
 // Reads the value of the schema that is due, where it is of a kind that few tables have: a big number, an instant or a document.
 // What these reads hold on the stack stands in a call of its own, so that the calls for containers need no room for it.
 #[inline(never)]
-fn read_rare<T: Tree, D: ShapeDeserializer>(
+fn read_out_of_line<T: Tree, D: ShapeDeserializer>(
     alloc: Global,
     source: &mut D,
     schema: &Schema<'_>,

@@ -1,6 +1,6 @@
 //! Why a body is refused, as a transcoding says it.
 ghost use Rattle.std.specs.Prelude.{◌≢◌};
-ghost use Rattle.smithy_transcode.specs.Refusal.{Tells};
+ghost use Rattle.smithy_transcode.specs.Refusal.{IsToldAs};
 
 use crate::wire::TranscodeError;
 use smithy_schema::SerdeError;
@@ -10,7 +10,7 @@ pub(crate) fn refusal(error: SerdeError) -> TranscodeError
     requires sound { error ≢ SerdeError.Failed }
     requires supported { error ≢ SerdeError.Unsupported }
     requires written { error ≢ SerdeError.Unwritable }
-    ensures { Tells error result }
+    ensures { IsToldAs error result }
 {
     match error {
         SerdeError::InvalidInput => TranscodeError::InvalidInput,

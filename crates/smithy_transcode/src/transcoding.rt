@@ -15,7 +15,7 @@ use crate::compact_value::CompactValue;
 use crate::expressing::unfit;
 use crate::reading::read_tree;
 use crate::refusal::refusal;
-use crate::whole_output::write_whole;
+use crate::whole_output::body_of_value;
 use crate::wire::{TranscodeError, Wire};
 use smithy_cbor_codec::CborCodec;
 use smithy_json_codec::JsonCodec;
@@ -110,15 +110,15 @@ fn write_body(
         Wire::Json { use_json_name } => {
             let codec = JsonCodec::strict(*use_json_name);
             let sink = codec.create_serializer(alloc);
-            write_whole(alloc, sink, &schema, value)
+            body_of_value(alloc, sink, &schema, value)
         }
         Wire::Cbor => {
             let sink = CborCodec::strict().create_serializer(alloc);
-            write_whole(alloc, sink, &schema, value)
+            body_of_value(alloc, sink, &schema, value)
         }
         Wire::Query { action, version } => {
             let sink = QueryShapeSerializer::new(alloc, action.as_str(), version.as_str())?;
-            write_whole(alloc, sink, &schema, value)
+            body_of_value(alloc, sink, &schema, value)
         }
     }
 }

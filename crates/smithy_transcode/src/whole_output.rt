@@ -8,12 +8,12 @@ ghost use Rattle.smithy_transcode.specs.Private.Tree.{compact_view as view};
 
 use crate::compact_value::CompactValue;
 use crate::tree::Tree;
-use crate::writing::write_part;
+use crate::writing::write_tree;
 use smithy_schema::{FinishSerializer, Schema, SerdeError};
 use std::alloc::Global;
 
 // The bytes of a serializer that takes the value, once it is written.
-pub(crate) fn write_whole<S: FinishSerializer + Drop>(
+pub(crate) fn body_of_value<S: FinishSerializer + Drop>(
     alloc: Global,
     mut sink: S,
     schema: &Schema<'_>,
@@ -25,6 +25,6 @@ pub(crate) fn write_whole<S: FinishSerializer + Drop>(
     ensures ok { IfOk result (λ out. (state : S.State) → write S.after (site_of schema.now) (view value.now) (S.state sink) ≡ Ok state → out.items ≡ S.out state) }
     ensures err { IfErr result (λ e. e ≡ NoMemory) }
 {
-    write_part::<CompactValue, S>(alloc, &mut sink, schema, &value.part())?;
+    write_tree::<CompactValue, S>(alloc, &mut sink, schema, &value.part())?;
     sink.finish()
 }

@@ -26,13 +26,13 @@ pub fn write_value<S: ShapeSerializer>(
     requires fits { FitsOr schema.now.shapes.now schema.now.place true (view value.now) }
     ensures writes { WritesValue (write S.after (site_of schema.now) (view value.now) (S.state sink.old)) (S.failed sink.old) (S.failed sink.new) (S.state sink.new) result }
 {
-    write_part::<Value, S>(alloc, sink, schema, &value.part())
+    write_tree::<Value, S>(alloc, sink, schema, &value.part())
 }
 
 // Writes the value that has this part at its root, in any tree: a value of the schema's place, or a null element.
 #[cycle(write)]
 #[inline(always)]
-pub(crate) fn write_part<T: Tree, S: ShapeSerializer>(
+pub(crate) fn write_tree<T: Tree, S: ShapeSerializer>(
     alloc: Global,
     sink: &mut S,
     schema: &Schema<'_>,
@@ -43,13 +43,13 @@ pub(crate) fn write_part<T: Tree, S: ShapeSerializer>(
 {
     match part {
         Part::Boolean(value) => sink.write_boolean(schema, *value),
-        Part::Whole(number) => write_whole(sink, schema, *number),
+        Part::Whole(number) => write_whole_number(sink, schema, *number),
         Part::Text(content) => sink.write_string(schema, *content),
         Part::Bytes(content) => sink.write_bytes(schema, *content),
         Part::Decimal(mantissa, exponent) => sink.write_decimal(schema, *mantissa, *exponent),
         Part::Timestamp(value) => sink.write_timestamp(schema, value),
         Part::List(elements) => write_list::<T, S>(alloc, sink, schema, *elements),
-        Part::Wholes(numbers) => write_wholes(sink, schema, *numbers),
+        Part::Wholes(numbers) => write_whole_numbers(sink, schema, *numbers),
         Part::Map(entries) => write_map::<T, S>(alloc, sink, schema, entries),
         Part::Structure(members) => write_structure::<T, S>(alloc, sink, schema, members),
         Part::Union(index, value) => write_union::<T, S>(alloc, sink, schema, *index, value),
@@ -59,7 +59,7 @@ pub(crate) fn write_part<T: Tree, S: ShapeSerializer>(
 }
 
 // Writes a whole number of the schema's kind.
-fn write_whole<S: ShapeSerializer>(
+fn write_whole_number<S: ShapeSerializer>(
     sink: &mut S,
     schema: &Schema<'_>,
     number: i128,
@@ -103,14 +103,14 @@ fn write_list<T: Tree, S: ShapeSerializer>(
     let element_schema = member.nameless();
     sink.begin_list(schema, Some(elements.len()))?;
     for element in elements {
-        write_part::<T, S>(alloc, sink, &element_schema, &element.part())?;
+        write_tree::<T, S>(alloc, sink, &element_schema, &element.part())?;
     }
     sink.end_list()
 }
 
 // Writes a list whose elements are all whole numbers of 64 bits.
 #[inline(never)]
-fn write_wholes<S: ShapeSerializer>(
+fn write_whole_numbers<S: ShapeSerializer>(
     sink: &mut S,
     schema: &Schema<'_>,
     numbers: &[i64],
@@ -124,7 +124,7 @@ fn write_wholes<S: ShapeSerializer>(
     let element_schema = member.nameless();
     sink.begin_list(schema, Some(numbers.len()))?;
     for number in numbers {
-        write_whole(sink, &element_schema, i128::from(*number))?;
+        write_whole_number(sink, &element_schema, i128::from(*number))?;
     }
     sink.end_list()
 }
@@ -146,7 +146,7 @@ fn write_structure<T: Tree, S: ShapeSerializer>(
         let Some(member_schema) = schema.member_at(*position) else {
             unreachable!()
         };
-        write_part::<T, S>(alloc, sink, &member_schema, &member.part())?;
+        write_tree::<T, S>(alloc, sink, &member_schema, &member.part())?;
     }
     sink.end_struct()
 }
@@ -167,7 +167,7 @@ fn write_union<T: Tree, S: ShapeSerializer>(
         unreachable!()
     };
     sink.begin_struct(schema)?;
-    write_part::<T, S>(alloc, sink, &member, &value.part())?;
+    write_tree::<T, S>(alloc, sink, &member, &value.part())?;
     sink.end_struct()
 }
 
@@ -193,7 +193,7 @@ fn write_map<T: Tree, S: ShapeSerializer>(
     let mut left = entries.iter();
     while let Some((key, value)) = left.next_entry() {
         sink.write_string(&key_schema, key.as_str())?;
-        write_part::<T, S>(alloc, sink, &value_schema, &value.part())?;
+        write_tree::<T, S>(alloc, sink, &value_schema, &value.part())?;
     }
     sink.end_map()
 }

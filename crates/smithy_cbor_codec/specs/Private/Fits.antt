@@ -15,7 +15,7 @@ use Rattle.smithy_schema.specs.Fits.{is_of, Fits}
 use Rattle.smithy_schema.specs.Lemmas.Options.{same_some, step_apart, chosen, made}
 use Rattle.cbor_item.specs.Item.{Item, unsigned, negative, byte_string, text_string, array, map as map_item, tag, simple, float}
 use Rattle.smithy_cbor.specs.Scalar.{false_value, true_value, boolean_item, integer_of, joined_text, text_of, bytes_of, big_integer_of}
-use Rattle.smithy_cbor_codec.specs.Scalar.{boolean_of, whole_of, blob_of, decimal_form_of, date_says, seconds_say, timestamp_says, says}
+use Rattle.smithy_cbor_codec.specs.Scalar.{boolean_of, whole_of, blob_of, decimal_form_of, date_says, seconds_read_as, timestamp_says, says}
 use Rattle.smithy_texts.specs.Base64Text.{are_bytes}
 use Rattle.smithy_texts.specs.Ranges.{fits_signed}
 use Rattle.smithy_instants.specs.Instant.{nanos_per_second}
@@ -91,7 +91,7 @@ date_fits t p (Some s) v kind h =
     let size = chosen_answer (fits_signed 64 s) (scalar_value (instant (s *ℤ pos nanos_per_second))) v h in
     subst (Fits t p) size.1 (rw kind (seconds_are_instant s size.0))
 
-seconds_fit : (t : Table) (p : Place) (x : Item) (v : Value) → kind_of t p ≡ scalar scalars.Timestamp → seconds_say x ≡ means v → Fits t p v
+seconds_fit : (t : Table) (p : Place) (x : Item) (v : Value) → kind_of t p ≡ scalar scalars.Timestamp → seconds_read_as x ≡ means v → Fits t p v
 seconds_fit t p (float digits) v kind h = cc
 seconds_fit t p (unsigned n) v kind h = date_fits t p (Some (pos n)) v kind h
 seconds_fit t p (negative n) v kind h = date_fits t p (Some (negsuc n)) v kind h
@@ -107,7 +107,7 @@ tagged_means true a v h = h
 tagged_means false a v h = cc
 
 timestamp_fits : (t : Table) (p : Place) (x : Item) (v : Value) → kind_of t p ≡ scalar scalars.Timestamp → timestamp_says x ≡ means v → Fits t p v
-timestamp_fits t p (tag n x) v kind h = seconds_fit t p x v kind (tagged_means (n == 1) (seconds_say x) v h)
+timestamp_fits t p (tag n x) v kind h = seconds_fit t p x v kind (tagged_means (n == 1) (seconds_read_as x) v h)
 timestamp_fits t p (unsigned n) v kind h = cc
 timestamp_fits t p (negative n) v kind h = cc
 timestamp_fits t p (byte_string extent chunks) v kind h = cc

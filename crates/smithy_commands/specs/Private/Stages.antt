@@ -4,11 +4,11 @@ use Rattle.smithy_schema.specs.Table.{Table, IsStructure, kind_of, shape_place, 
 use Rattle.smithy_schema.specs.Acceptance.{table_of}
 use Rattle.smithy_commands.specs.declared.status.Status.{Status}
 use Rattle.smithy_commands.specs.declared.status.Status.TheVariants.{ReadFailed, OutOfMemory, TableRefused, NoSuchShape, NotAStructure, TooLong}
-use Rattle.smithy_outside.specs.Outside.{Told, missing, MetOneFault, IsLonger}
+use Rattle.smithy_outside.specs.Outside.{Shown, missing, MetOneFault, IsLonger}
 use Rattle.smithy_commands.specs.RunAnswer.{IsLoaded, IsRefusal, longest_table}
 
 -- why no table was loaded from a file
-abbrev pub FailsToLoad : Told → Told → Status → Type 0
+abbrev pub FailsToLoad : Shown → Shown → Status → Type 0
 FailsToLoad old new ReadFailed = MetOneFault old new
 FailsToLoad old new OutOfMemory = Unit {0}
 FailsToLoad old new TooLong = (old.content ≢ missing) × IsLonger longest_table old

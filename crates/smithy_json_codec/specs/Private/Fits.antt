@@ -24,7 +24,7 @@ use Rattle.smithy_instants.specs.Instant.{is_instant}
 use Rattle.smithy_instants.specs.Epoch.{epoch_nanos}
 use Rattle.smithy_instants.specs.DateText.{date_of}
 use Rattle.smithy_json.proofs.TextLemmas.{unescaped_is_utf8}
-use Rattle.smithy_json_codec.specs.Scalar.{JsonScalar, a_boolean, a_number, a_string, boolean_of, whole_of, text_of, bytes_of, number_text, number_says, seconds_say, date_says, timestamp_says, says}
+use Rattle.smithy_json_codec.specs.Scalar.{JsonScalar, a_boolean, a_number, a_string, boolean_of, whole_of, text_of, bytes_of, number_text, number_says, seconds_read_as, date_says, timestamp_says, says}
 use Rattle.smithy_json_codec.specs.Standing.{json_frames}
 use Rattle.smithy_wire.specs.Node.{as_object}
 use Rattle.smithy_wire.specs.Rules.{means}
@@ -72,7 +72,7 @@ number_fits t p _ (Some raw) v kind h = cc
 instant_fits : (t : Table) (p : Place) (n : ℤ) (v : Value) → kind_of t p ≡ scalar scalars.Timestamp → is_instant n ≡ true → scalar_value (instant n) ≡ v → Fits t p v
 instant_fits t p n v kind is same = subst (Fits t p) same (rw kind is)
 
-seconds_fit : (t : Table) (p : Place) (o : Option ℤ) (v : Value) → kind_of t p ≡ scalar scalars.Timestamp → seconds_say o ≡ means v → Fits t p v
+seconds_fit : (t : Table) (p : Place) (o : Option ℤ) (v : Value) → kind_of t p ≡ scalar scalars.Timestamp → seconds_read_as o ≡ means v → Fits t p v
 seconds_fit t p None v kind h = cc
 seconds_fit t p (Some n) v kind h =
     let size = chosen_answer (is_instant n) (scalar_value (instant n)) v h in

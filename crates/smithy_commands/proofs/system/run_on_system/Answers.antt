@@ -9,7 +9,7 @@ use Rattle.std.specs.Process.{exit_status}
 use Rattle.smithy_commands.specs.declared.status.Status.{Status}
 use Rattle.smithy_commands.specs.declared.status.Status.TheVariants.{Done, OutOfMemory}
 use Rattle.smithy_commands.specs.Status.{status_code}
-use Rattle.smithy_outside.specs.Outside.{Told, Outside, outside}
+use Rattle.smithy_outside.specs.Outside.{Shown, Outside, outside}
 use Rattle.smithy_commands.specs.ErrorLine.{line_of, TookLine}
 use Rattle.smithy_commands.specs.RunAnswer.{RunAnswer}
 use Rattle.smithy_outside.specs.Os.{only_counts}
@@ -27,7 +27,7 @@ ends_as_run : (words : List (List ℕ)) (files input out err : ℕ) (out_held er
 ends_as_run words files input out err out_held err_held new code f i o e oh eh answer = inl (new, rw (f, i, o, e, oh, eh) at answer)
 
 -- a line, and no run
-ends_with_line : (status : Status) (err : ℕ) (behind : Told) (held : Bool) (code : ℕ) → status ≢ Done → err ≡ 0
+ends_with_line : (status : Status) (err : ℕ) (behind : Shown) (held : Bool) (code : ℕ) → status ≢ Done → err ≡ 0
     → (status ≢ Done → TookLine (line_of status) (only_counts err) behind held) → code ≡ status_code status → EndsWithLine status code
 ends_with_line status err behind held code not_done e took is =
     let line = subst (λ (n : ℕ). TookLine (line_of status) (only_counts n) behind held) e (took not_done) in

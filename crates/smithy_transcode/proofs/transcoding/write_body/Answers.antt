@@ -11,8 +11,8 @@ use Rattle.smithy_transcode.specs.Private.Tree.{compact_view as view}
 use Rattle.smithy_transcode.proofs.Bodies.{reached, root_held, json_body, json_adds, json_is_body, cbor_body, cbor_adds, cbor_is_body, form_takes, form_state, form_adds, same_fresh, form_is_body}
 use Rattle.smithy_transcode.proofs.transcoding.write_body.Goals as goal
 
-pub write_whole-requires-clause-taken : goal.write_whole-requires-clause-taken
-write_whole-requires-clause-taken c =
+pub body_of_value-requires-clause-taken : goal.body_of_value-requires-clause-taken
+body_of_value-requires-clause-taken c =
     let site = site_of c.schema-schema.result in
     let fresh = c.create_serializer-sink.ensures.state ∙ ap fresh_state c.strict-codec.ensures in
     let nameless = ap (λ (s : Site). s.view.name) c.schema-schema.ensures.site in
@@ -27,10 +27,10 @@ returns-in-Json-clause-ok c =
     let held = root_held (wire_of c.args.to.now) (json c.in-Json.use_json_name) c.schema-schema.result c.args.shapes.now c.args.root.0 (view c.args.value.now) (ap wire_of c.in-Json.is) c.schema-schema.ensures.site c.requires.fit in
     let adds = json_adds c.in-Json.use_json_name site (view c.args.value.now) (state_of c.create_serializer-sink.result) fresh nameless held in
     let is = json_is_body (wire_of c.args.to.now) c.in-Json.use_json_name c.schema-schema.result c.args.shapes.now c.args.root.0 (view c.args.value.now) (ap wire_of c.in-Json.is) c.schema-schema.ensures.site in
-    reached c.write_whole.result _ _ c.write_whole.ensures.ok (json_body c.in-Json.use_json_name site (view c.args.value.now)) _ adds is
+    reached c.body_of_value.result _ _ c.body_of_value.ensures.ok (json_body c.in-Json.use_json_name site (view c.args.value.now)) _ adds is
 
-pub write_whole-requires-in-Cbor-clause-taken : goal.write_whole-requires-in-Cbor-clause-taken
-write_whole-requires-in-Cbor-clause-taken c =
+pub body_of_value-requires-in-Cbor-clause-taken : goal.body_of_value-requires-in-Cbor-clause-taken
+body_of_value-requires-in-Cbor-clause-taken c =
     let site = site_of c.schema-schema.result in
     let fresh = c.create_serializer-sink-in-Cbor.ensures.state ∙ ap fresh_cbor_state c.strict.ensures in
     let held = root_held (wire_of c.args.to.now) cbor c.schema-schema.result c.args.shapes.now c.args.root.0 (view c.args.value.now) (ap wire_of c.in-Cbor.is) c.schema-schema.ensures.site c.requires.fit in
@@ -43,10 +43,10 @@ returns-in-Cbor-clause-ok c =
     let held = root_held (wire_of c.args.to.now) cbor c.schema-schema.result c.args.shapes.now c.args.root.0 (view c.args.value.now) (ap wire_of c.in-Cbor.is) c.schema-schema.ensures.site c.requires.fit in
     let adds = cbor_adds site (view c.args.value.now) (cbor_state_of c.create_serializer-sink-in-Cbor.result) fresh held in
     let is = cbor_is_body (wire_of c.args.to.now) c.schema-schema.result c.args.shapes.now c.args.root.0 (view c.args.value.now) (ap wire_of c.in-Cbor.is) c.schema-schema.ensures.site in
-    reached c.write_whole-in-Cbor.result _ _ c.write_whole-in-Cbor.ensures.ok (cbor_body site (view c.args.value.now)) _ adds is
+    reached c.body_of_value-in-Cbor.result _ _ c.body_of_value-in-Cbor.ensures.ok (cbor_body site (view c.args.value.now)) _ adds is
 
-pub write_whole-requires-in-Query-clause-taken : goal.write_whole-requires-in-Query-clause-taken
-write_whole-requires-in-Query-clause-taken c =
+pub body_of_value-requires-in-Query-clause-taken : goal.body_of_value-requires-in-Query-clause-taken
+body_of_value-requires-in-Query-clause-taken c =
     let v = view c.args.value.now in
     let action = string_bytes c.in-Query.action in
     let version = string_bytes c.in-Query.version in
@@ -70,4 +70,4 @@ returns-in_ok-sink-in-Query-clause-ok c =
     let adds = form_adds action version (site_of c.schema-schema.result) c.args.shapes.now c.args.root.0 v (form_of c.in_ok-sink-in-Query.sink) c.schema-schema.ensures.site fresh
     c.requires.accepted c.requires.root c.requires.fits counts can in
     let is = form_is_body (wire_of c.args.to.now) action version c.args.shapes.now c.args.root.0 v (ap wire_of c.in-Query.is) in
-    reached c.write_whole-in-Query.result _ _ c.write_whole-in-Query.ensures.ok (form_state (query action version) c.args.shapes.now c.args.root.0 v) _ adds is
+    reached c.body_of_value-in-Query.result _ _ c.body_of_value-in-Query.ensures.ok (form_state (query action version) c.args.shapes.now c.args.root.0 v) _ adds is

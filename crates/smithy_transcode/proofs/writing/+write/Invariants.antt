@@ -10,8 +10,8 @@ use Rattle.smithy_transcode.proofs.Structures.{structure_rest, count}
 use Rattle.smithy_transcode.proofs.writing.+write.Given as goal
 
 -- twice the containers that stand in one another
-abbrev pub decreases-write_part : goal.decreases-write_part
-decreases-write_part g l = 2 * nesting (part_view g.T.Tree.view l.part.now) + 1
+abbrev pub decreases-write_tree : goal.decreases-write_tree
+decreases-write_tree g l = 2 * nesting (part_view g.T.Tree.view l.part.now) + 1
 
 abbrev pub decreases-write_list : goal.decreases-write_list
 decreases-write_list g l = 2 * nesting (list (values_of (mapped g.T.Tree.view l.elements.now)))

@@ -1,6 +1,6 @@
 use Rattle.std.proofs.Common.{◌≡◌, List, ℕ, ◌++◌, length}
 use Rattle.smithy_outside.specs.Outside.{MetNoFault, Took}
-use Rattle.smithy_outside.proofs.streams.write_part.Given as goal
+use Rattle.smithy_outside.proofs.streams.write_bytes.Given as goal
 
 abbrev pub invariant-loop-rest : goal.invariant-loop-rest
 invariant-loop-rest g l = record {

@@ -5,7 +5,7 @@ use Rattle.smithy_schema.specs.Value.{list, values_of}
 use Rattle.smithy_schema.specs.Writing.{write, run}
 use Rattle.smithy_transcode.specs.Private.Tree.{whole_values}
 use Rattle.smithy_schema.proofs.WrittenLists.{list_rest}
-use Rattle.smithy_transcode.proofs.writing.write_wholes.Given as goal
+use Rattle.smithy_transcode.proofs.writing.write_whole_numbers.Given as goal
 
 -- what the list adds is what the rest of it adds
 abbrev pub invariant-loop-number : goal.invariant-loop-number

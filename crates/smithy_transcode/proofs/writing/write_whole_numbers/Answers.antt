@@ -9,7 +9,7 @@ use Rattle.smithy_schema.proofs.WritingLemmas.{call_made, call_refused}
 use Rattle.smithy_schema.proofs.Inner.{inner_element}
 use Rattle.smithy_schema.proofs.WrittenLists as lists
 use Rattle.smithy_transcode.proofs.WriteAnswers.{called, had_not_failed, has_not_failed, first_fails, later_fails, last_called}
-use Rattle.smithy_transcode.proofs.writing.write_wholes.Goals as goal
+use Rattle.smithy_transcode.proofs.writing.write_whole_numbers.Goals as goal
 
 pub returns-in_err-begin_list : goal.returns-in_err-begin_list
 returns-in_err-begin_list g c =
@@ -29,23 +29,23 @@ loop-number-init g c = record {
   fits = c.requires.fits.1;
 }
 
-pub write_whole-requires : goal.write_whole-requires
-write_whole-requires g c =
+pub write_whole_number-requires : goal.write_whole_number-requires
+write_whole_number-requires g c =
     let number : to_z w128 (of_z w128 c.from.result) ≡ get_or c.args.numbers.now c.loop-number.number-index (pos 0) = search rules in
     let next = lists.next_number whole_value c.args.numbers.now c.loop-number.number-index (pos 0) c.loop-number-test.true in
     record {
       fits = rw number (lists.element_fits (site_of c.args.schema.now) (site_of c.in-Some.member) (site_of c.nameless-element_schema.result) _ _ _ (inner_element (site_of c.args.schema.now) _ c.requires.fits.0 c.in-Some.ensures) c.nameless-element_schema.ensures next c.loop-number.invariant.fits);
     }
 
-pub returns-in_err-write_whole : goal.returns-in_err-write_whole
-returns-in_err-write_whole g c =
-    let p = err_from_is_err_and c.from_residual-in_err-write_whole.result c.from_residual-in_err-write_whole.ensures.1 in
+pub returns-in_err-write_whole_number : goal.returns-in_err-write_whole_number
+returns-in_err-write_whole_number g c =
+    let p = err_from_is_err_and c.from_residual-in_err-write_whole_number.result c.from_residual-in_err-write_whole_number.ensures.1 in
     let number : to_z w128 (of_z w128 c.from.result) ≡ get_or c.args.numbers.now c.loop-number.number-index (pos 0) = search rules in
     let next = lists.next_number whole_value c.args.numbers.now c.loop-number.number-index (pos 0) c.loop-number-test.true in
     let site = lists.element_site_is (site_of c.args.schema.now) (site_of c.in-Some.member) (site_of c.nameless-element_schema.result) (inner_element (site_of c.args.schema.now) _ c.requires.fits.0 c.in-Some.ensures) c.nameless-element_schema.ensures in
     record {
       writes = rw (p.1, p.2)
-          (later_fails _ _ _ _ _ _ _ c.loop-number.invariant.before c.loop-number.invariant.failed (rw (site, number) at c.in_err-write_whole.ensures.writes)
+          (later_fails _ _ _ _ _ _ _ c.loop-number.invariant.before c.loop-number.invariant.failed (rw (site, number) at c.in_err-write_whole_number.ensures.writes)
           (λ refused. c.loop-number.invariant.rest ∙ lists.element_refused g.S.ShapeSerializer.after (site_of c.args.schema.now) _ _ _ (g.S.ShapeSerializer.state c.loop-number.sink) _ next (call_refused g.S.ShapeSerializer.after _ [] _ _ refused)));
     }
 
@@ -56,8 +56,8 @@ loop-number-preserved g c =
     let site = lists.element_site_is (site_of c.args.schema.now) (site_of c.in-Some.member) (site_of c.nameless-element_schema.result) (inner_element (site_of c.args.schema.now) _ c.requires.fits.0 c.in-Some.ensures) c.nameless-element_schema.ensures in
     record {
       before = c.loop-number.invariant.before;
-      failed = has_not_failed _ _ c.in_ok-write_whole.ensures.writes.broken;
-      rest = c.loop-number.invariant.rest ∙ lists.element_written g.S.ShapeSerializer.after (site_of c.args.schema.now) _ _ _ (g.S.ShapeSerializer.state c.loop-number.sink) _ next (call_made g.S.ShapeSerializer.after _ [] _ _ (rw (site, number) at c.in_ok-write_whole.ensures.writes.ok));
+      failed = has_not_failed _ _ c.in_ok-write_whole_number.ensures.writes.broken;
+      rest = c.loop-number.invariant.rest ∙ lists.element_written g.S.ShapeSerializer.after (site_of c.args.schema.now) _ _ _ (g.S.ShapeSerializer.state c.loop-number.sink) _ next (call_made g.S.ShapeSerializer.after _ [] _ _ (rw (site, number) at c.in_ok-write_whole_number.ensures.writes.ok));
       fits = lists.rest_fits (site_of c.args.schema.now) _ _ _ next c.loop-number.invariant.fits;
     }
 

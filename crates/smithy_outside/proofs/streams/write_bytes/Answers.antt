@@ -1,7 +1,7 @@
 use Rattle.std.proofs.Common.{◌++◌, ◌∙◌, take, append_assoc, arith}
 use Rattle.std.proofs.lemmas.Grind.{common_steps}
 use Rattle.smithy_outside.proofs.Moved.{took_more}
-use Rattle.smithy_outside.proofs.streams.write_part.Goals as goal
+use Rattle.smithy_outside.proofs.streams.write_bytes.Goals as goal
 
 pub loop-rest-preserved : goal.loop-rest-preserved
 loop-rest-preserved g c =
