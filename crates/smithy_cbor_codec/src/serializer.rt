@@ -8,23 +8,15 @@ ghost use Rattle.smithy_schema.specs.Writing.{after_value, after_text};
 ghost use Rattle.smithy_cbor.specs.Written.{text_bytes, big_integer_bytes};
 ghost use Rattle.smithy_cbor_codec.specs.Canonical.{key_bytes};
 ghost use Rattle.smithy_cbor_codec.specs.Codec.{held_settings};
-ghost use Rattle.smithy_cbor_codec.specs.Serializing.{opens_of, state_of, has_failed};
+ghost use Rattle.smithy_cbor_codec.specs.Serializing.{state_of, has_failed};
 ghost use Rattle.smithy_cbor_codec.specs.Writing.{CborState, fresh_state, key_in, lead, cbor_after};
 
 use crate::settings::Settings;
 use smithy_cbor::{EncodeError, Encoder};
 use smithy_schema::{FinishSerializer, Schema, SerdeError, ShapeSerializer};
 use smithy_types::{BigDecimal, BigInteger, DateTime, Document};
+use smithy_wire::{Container, OpenContainers};
 use std::alloc::{AllocError, Global};
-
-// A container that is open, and of a map what is due in it.
-#[derive(Clone, Copy, Debug)]
-pub(crate) enum Container {
-    Structure,
-    List,
-    MapAtKey,
-    MapAtValue,
-}
 
 /// Writes one body: a value in its canonical encoding.
 ///
@@ -33,9 +25,7 @@ pub(crate) enum Container {
 pub struct CborSerializer {
     settings: Settings,
     encoder: Encoder,
-    stack: Vec<Container>,
-    // True while a call is under way, and for good once a call was refused.
-    failed: bool,
+    containers: OpenContainers<()>,
 }
 
 // Writes the name of a member; nothing for what has none.
@@ -76,23 +66,8 @@ impl CborSerializer {
         CborSerializer {
             settings,
             encoder: Encoder::new(Vec::new(alloc)),
-            stack: Vec::new(alloc),
-            failed: false,
+            containers: OpenContainers::new(alloc),
         }
-    }
-
-    // Begins a call, until whose end the serializer counts as failed.
-    fn begin(&mut self) -> Result<(), SerdeError>
-        ensures failed { IsErrOf result Failed ↔ (has_failed self.old ≡ true) }
-        ensures broken { has_failed self.new ≡ true }
-        ensures kept { state_of self.new ≡ state_of self.old }
-        ensures refused { IfErr result (λ e. e ≡ Failed) }
-    {
-        if self.failed {
-            return Err(SerdeError::Failed);
-        }
-        self.failed = true;
-        Ok(())
     }
 
     // Begins the call of a value: with the name of a member. Where a map's key is due no value comes, and behind a map's
@@ -106,20 +81,11 @@ impl CborSerializer {
         ensures taken { OnOk result (after_value (state_of self.old).frames ≡ Ok (state_of self.new).frames) }
         ensures refused { IfErr result (λ e. IsFault e → after_value (state_of self.old).frames ≡ Err e) }
     {
-        self.begin()?;
-        match self.stack.last() {
-            Some(Container::MapAtKey) => Err(SerdeError::Unwritable),
-            Some(Container::MapAtValue) => {
-                self.stack.pop();
-                self.stack.push(Container::MapAtKey)?;
-                Ok(())
-            }
-            Some(Container::Structure) => {
-                write_name(&mut self.encoder, schema)?;
-                Ok(())
-            }
-            Some(Container::List) | None => Ok(()),
+        self.containers.begin()?;
+        if let Some(Container::Structure) = self.containers.innermost() {
+            write_name(&mut self.encoder, schema)?;
         }
+        self.containers.pass_value()
     }
 
     // Begins the call of a text, which is a key where a map's key is due: its value is due then.
@@ -131,14 +97,11 @@ impl CborSerializer {
         ensures taken { OnOk result (after_text (state_of self.old).frames ≡ Ok (state_of self.new).frames) }
         ensures refused { IfErr result (λ e. IsFault e → after_text (state_of self.old).frames ≡ Err e) }
     {
-        match self.stack.last() {
-            Some(Container::MapAtKey) => {
-                self.begin()?;
-                self.stack.pop();
-                self.stack.push(Container::MapAtValue)?;
-                Ok(())
-            }
-            _ => self.begin_value(schema),
+        if let Some(Container::MapAtKey) = self.containers.innermost() {
+            self.containers.begin()?;
+            self.containers.pass_text()
+        } else {
+            self.begin_value(schema)
         }
     }
 }
@@ -163,24 +126,22 @@ impl ShapeSerializer for CborSerializer {
     ghost nested = { cbor_nests };
 
     fn fail(&mut self) {
-        self.failed = true;
+        self.containers.fail();
     }
 
     fn begin_struct(&mut self, schema: &Schema<'_>) -> Result<(), SerdeError> {
         self.begin_value(schema)?;
         self.encoder.begin_map()?;
-        self.stack.push(Container::Structure)?;
-        self.failed = false;
+        self.containers.push(Container::Structure, ())?;
+        self.containers.succeed();
         Ok(())
     }
 
     fn end_struct(&mut self) -> Result<(), SerdeError> {
-        self.begin()?;
-        let Some(Container::Structure) = self.stack.pop() else {
-            return Err(SerdeError::Unwritable);
-        };
+        self.containers.begin()?;
+        self.containers.pop(Container::Structure)?;
         self.encoder.end()?;
-        self.failed = false;
+        self.containers.succeed();
         Ok(())
     }
 
@@ -191,50 +152,46 @@ impl ShapeSerializer for CborSerializer {
     ) -> Result<(), SerdeError> {
         self.begin_value(schema)?;
         self.encoder.begin_array()?;
-        self.stack.push(Container::List)?;
-        self.failed = false;
+        self.containers.push(Container::List, ())?;
+        self.containers.succeed();
         Ok(())
     }
 
     fn end_list(&mut self) -> Result<(), SerdeError> {
-        self.begin()?;
-        let Some(Container::List) = self.stack.pop() else {
-            return Err(SerdeError::Unwritable);
-        };
+        self.containers.begin()?;
+        self.containers.pop(Container::List)?;
         self.encoder.end()?;
-        self.failed = false;
+        self.containers.succeed();
         Ok(())
     }
 
     fn begin_map(&mut self, schema: &Schema<'_>, _length: Option<usize>) -> Result<(), SerdeError> {
         self.begin_value(schema)?;
         self.encoder.begin_map()?;
-        self.stack.push(Container::MapAtKey)?;
-        self.failed = false;
+        self.containers.push(Container::MapAtKey, ())?;
+        self.containers.succeed();
         Ok(())
     }
 
     fn end_map(&mut self) -> Result<(), SerdeError> {
-        self.begin()?;
-        let Some(Container::MapAtKey) = self.stack.pop() else {
-            return Err(SerdeError::Unwritable);
-        };
+        self.containers.begin()?;
+        self.containers.pop(Container::MapAtKey)?;
         self.encoder.end()?;
-        self.failed = false;
+        self.containers.succeed();
         Ok(())
     }
 
     fn write_null(&mut self, schema: &Schema<'_>) -> Result<(), SerdeError> {
         self.begin_value(schema)?;
         self.encoder.null()?;
-        self.failed = false;
+        self.containers.succeed();
         Ok(())
     }
 
     fn write_boolean(&mut self, schema: &Schema<'_>, value: bool) -> Result<(), SerdeError> {
         self.begin_value(schema)?;
         self.encoder.boolean(value)?;
-        self.failed = false;
+        self.containers.succeed();
         Ok(())
     }
 
@@ -253,28 +210,28 @@ impl ShapeSerializer for CborSerializer {
     fn write_long(&mut self, schema: &Schema<'_>, value: i64) -> Result<(), SerdeError> {
         self.begin_value(schema)?;
         write_whole_number(&mut self.encoder, value)?;
-        self.failed = false;
+        self.containers.succeed();
         Ok(())
     }
 
     fn write_string(&mut self, schema: &Schema<'_>, value: &str) -> Result<(), SerdeError> {
         self.begin_text(schema)?;
         self.encoder.str(value)?;
-        self.failed = false;
+        self.containers.succeed();
         Ok(())
     }
 
     fn write_bytes(&mut self, schema: &Schema<'_>, value: &[u8]) -> Result<(), SerdeError> {
         self.begin_value(schema)?;
         self.encoder.blob_bytes(value)?;
-        self.failed = false;
+        self.containers.succeed();
         Ok(())
     }
 
     fn write_i128(&mut self, schema: &Schema<'_>, value: i128) -> Result<(), SerdeError> {
         self.begin_value(schema)?;
         self.encoder.whole(value)?;
-        self.failed = false;
+        self.containers.succeed();
         Ok(())
     }
 
@@ -286,7 +243,7 @@ impl ShapeSerializer for CborSerializer {
     ) -> Result<(), SerdeError> {
         self.begin_value(schema)?;
         self.encoder.decimal_fraction(exponent, mantissa)?;
-        self.failed = false;
+        self.containers.succeed();
         Ok(())
     }
 
@@ -298,7 +255,7 @@ impl ShapeSerializer for CborSerializer {
         self.begin_value(schema)?;
         match self.encoder.big_integer(value) {
             Ok(()) => {
-                self.failed = false;
+                self.containers.succeed();
                 Ok(())
             }
             Err(error) => Err(refusal_of(error)),
@@ -313,7 +270,7 @@ impl ShapeSerializer for CborSerializer {
         self.begin_value(schema)?;
         match self.encoder.big_decimal(value) {
             Ok(()) => {
-                self.failed = false;
+                self.containers.succeed();
                 Ok(())
             }
             Err(error) => Err(refusal_of(error)),
@@ -322,12 +279,12 @@ impl ShapeSerializer for CborSerializer {
 
     fn write_timestamp(&mut self, schema: &Schema<'_>, value: &DateTime) -> Result<(), SerdeError> {
         if value.has_subsec_nanos() {
-            self.begin()?;
+            self.containers.begin()?;
             return Err(SerdeError::Unwritable);
         }
         self.begin_value(schema)?;
         self.encoder.timestamp(value)?;
-        self.failed = false;
+        self.containers.succeed();
         Ok(())
     }
 
@@ -337,20 +294,18 @@ impl ShapeSerializer for CborSerializer {
         _schema: &Schema<'_>,
         _value: &Document,
     ) -> Result<(), SerdeError> {
-        self.begin()?;
-        match self.stack.last() {
-            Some(Container::MapAtKey) => Err(SerdeError::Unwritable),
-            Some(Container::MapAtValue | Container::Structure | Container::List) | None => {
-                Err(SerdeError::Unsupported)
-            }
+        self.containers.begin()?;
+        if let Some(Container::MapAtKey) = self.containers.innermost() {
+            return Err(SerdeError::Unwritable);
         }
+        Err(SerdeError::Unsupported)
     }
 }
 
 impl FinishSerializer for CborSerializer {
     fn finish(mut self) -> Result<Vec<u8>, SerdeError> {
-        self.begin()?;
-        if !self.stack.is_empty() {
+        self.containers.begin()?;
+        if !self.containers.is_empty() {
             return Err(SerdeError::Unwritable);
         }
         Ok(self.encoder.into_writer())

@@ -1,21 +1,9 @@
 -- What contracts see of a serializer.
-use Rattle.std.specs.Prelude.{List, map, reverse, Bool}
-use Rattle.smithy_schema.specs.Writing.{Open, open_structure, open_list, open_map_at_key, open_map_at_value}
-use Rattle.smithy_json_codec.specs.declared.serializer.Container.{Container}
-use Rattle.smithy_json_codec.specs.declared.serializer.Container.TheVariants.{Structure, List as Listed, MapAtKey, MapAtValue}
+use Rattle.std.specs.Prelude.{Bool}
+use Rattle.smithy_wire.specs.OpenContainers.{opens_of}
 use Rattle.smithy_json_codec.specs.declared.serializer.JsonSerializer.{JsonSerializer}
 use Rattle.smithy_json_codec.specs.Codec.{held_settings}
 use Rattle.smithy_json_codec.specs.Writing.{JsonState}
-
-abbrev pub open_of : Container → Open
-open_of Structure = open_structure
-open_of Listed = open_list
-open_of MapAtKey = open_map_at_key
-open_of MapAtValue = open_map_at_value
-
--- the open containers by a stack, which has the innermost last
-abbrev pub opens_of : List Container → List Open
-opens_of stack = map open_of (reverse stack)
 
 -- what the calls of a serializer of JSON depend on
 abbrev pub state_of : JsonSerializer → JsonState
@@ -23,9 +11,9 @@ state_of s = record {
   settings = held_settings s.settings;
   out = s.out.items;
   needs_comma = s.needs_comma;
-  frames = opens_of s.stack.items;
+  frames = opens_of s.containers;
 }
 
 -- an earlier call was refused, or was `fail`
 abbrev pub has_failed : JsonSerializer → Bool
-has_failed s = s.failed
+has_failed s = s.containers.failed

@@ -11,10 +11,11 @@ ghost use Rattle.smithy_json.specs.Ascii.{quotation_mark};
 ghost use Rattle.smithy_texts.specs.Decimal.{exponent_text, decimal_text};
 ghost use Rattle.smithy_json.specs.Escape.{quoted};
 ghost use Rattle.smithy_json.specs.NumberText.{is_number};
-ghost use Rattle.smithy_json_codec.specs.Canonical.{in_form, document_text, name_text, key_text};
+ghost use Rattle.smithy_json_codec.specs.Canonical.{in_form};
+ghost use Rattle.smithy_wire.specs.OpenContainers.{open_of};
 ghost use Rattle.smithy_json_codec.specs.Codec.{held_settings};
-ghost use Rattle.smithy_json_codec.specs.Serializing.{open_of, opens_of, state_of, has_failed};
-ghost use Rattle.smithy_json_codec.specs.Writing.{JsonState, fresh_state, comma_text, key_in, is_key_due, lead, wrote, key_wrote, opened, where_taken, json_after};
+ghost use Rattle.smithy_json_codec.specs.Serializing.{state_of, has_failed};
+ghost use Rattle.smithy_json_codec.specs.Writing.{JsonState, fresh_state, is_key_due, lead, wrote, key_wrote, opened, where_taken, json_after};
 
 use crate::instants::form_at;
 use crate::output::{
@@ -26,16 +27,8 @@ use smithy_json::number_text::is_number;
 use smithy_schema::{FinishSerializer, Schema, SerdeError, ShapeSerializer, TimestampFormat};
 use smithy_texts::push_decimal;
 use smithy_types::{BigDecimal, BigInteger, DateTime, Document};
+use smithy_wire::{Container, OpenContainers};
 use std::alloc::{AllocError, Global};
-
-/// A container that is open, and of a map what is due in it.
-#[derive(Clone, Copy, Debug)]
-pub(crate) enum Container {
-    Structure,
-    List,
-    MapAtKey,
-    MapAtValue,
-}
 
 /// Writes one body: a value in its canonical text.
 ///
@@ -46,45 +39,7 @@ pub struct JsonSerializer {
     out: Vec<u8>,
     // Whether a comma stands before whatever comes next but an end.
     needs_comma: bool,
-    stack: Vec<Container>,
-    // True while a call is under way, and for good once a call was refused.
-    failed: bool,
-}
-
-// Begins a value: with a comma where one is due, and the name of a member. Where a map's key is due no value comes, and
-// behind a map's value a key is due.
-#[inline(always)]
-fn begin_value(
-    out: &mut Vec<u8>,
-    stack: &mut Vec<Container>,
-    use_json_name: bool,
-    needs_comma: bool,
-    schema: &Schema<'_>,
-) -> Result<(), SerdeError>
-    ensures lead { OnOk result (out.new.items ≡ out.old.items
-        ++ (comma_text needs_comma ++ key_in (opens_of stack.old.items) (key_text use_json_name (site_of schema.now).view))) }
-    ensures taken { OnOk result (after_value (opens_of stack.old.items) ≡ Ok (opens_of stack.new.items)) }
-    ensures refused { IfErr result (λ e. IsFault e → after_value (opens_of stack.old.items) ≡ Err e) }
-    ensures sound { IsErrOf result Failed → ⊥ }
-{
-    match stack.last() {
-        Some(Container::MapAtKey) => Err(SerdeError::Unwritable),
-        Some(Container::MapAtValue) => {
-            push_comma(out, needs_comma)?;
-            stack.pop();
-            stack.push(Container::MapAtKey)?;
-            Ok(())
-        }
-        Some(Container::List) => {
-            push_comma(out, needs_comma)?;
-            Ok(())
-        }
-        Some(Container::Structure) | None => {
-            push_comma(out, needs_comma)?;
-            push_key(out, use_json_name, schema)?;
-            Ok(())
-        }
-    }
+    containers: OpenContainers<()>,
 }
 
 impl JsonSerializer {
@@ -96,31 +51,30 @@ impl JsonSerializer {
             settings,
             out: Vec::new(alloc),
             needs_comma: false,
-            stack: Vec::new(alloc),
-            failed: false,
+            containers: OpenContainers::new(alloc),
         }
     }
 
-    // Begins a value as `begin_value` does.
+    // Begins the call of a value: with a comma where one is due, and the name of a member. Where a map's key is due no value
+    // comes, and behind a map's value a key is due.
     #[inline(always)]
-    fn begin(&mut self, schema: &Schema<'_>) -> Result<(), SerdeError>
+    fn begin_value(&mut self, schema: &Schema<'_>) -> Result<(), SerdeError>
+        ensures failed { IsErrOf result Failed ↔ (has_failed self.old ≡ true) }
+        ensures broken { has_failed self.new ≡ true }
         ensures same { (state_of self.new).settings ≡ (state_of self.old).settings }
-        ensures broken { has_failed self.new ≡ has_failed self.old }
         ensures lead { OnOk result ((state_of self.new).out ≡ (state_of self.old).out ++ lead (state_of self.old) (site_of schema.now).view) }
         ensures taken { OnOk result (after_value (state_of self.old).frames ≡ Ok (state_of self.new).frames) }
         ensures refused { IfErr result (λ e. IsFault e → after_value (state_of self.old).frames ≡ Err e) }
-        ensures sound { IsErrOf result Failed → ⊥ }
     {
-        begin_value(
-            &mut self.out,
-            &mut self.stack,
-            self.settings.use_json_name,
-            self.needs_comma,
-            schema,
-        )
+        self.containers.begin()?;
+        push_comma(&mut self.out, self.needs_comma)?;
+        if let Some(Container::Structure) | None = self.containers.innermost() {
+            push_key(&mut self.out, self.settings.use_json_name, schema)?;
+        }
+        self.containers.pass_value()
     }
 
-    fn open(
+    fn begin_container(
         &mut self,
         schema: &Schema<'_>,
         container: Container,
@@ -131,15 +85,11 @@ impl JsonSerializer {
         ensures ok { OnOk result (where_taken (opened (state_of self.old) (site_of schema.now).view bracket) (after_begin (open_of container) (state_of self.old).frames) ≡ Ok (state_of self.new)) }
         ensures refused { IfErr result (λ e. IsFault e → after_value (state_of self.old).frames ≡ Err e) }
     {
-        if self.failed {
-            return Err(SerdeError::Failed);
-        }
-        self.failed = true;
-        self.begin(schema)?;
+        self.begin_value(schema)?;
         self.out.push(bracket)?;
-        self.stack.push(container)?;
+        self.containers.push(container, ())?;
         self.needs_comma = false;
-        self.failed = false;
+        self.containers.succeed();
         Ok(())
     }
 
@@ -150,14 +100,10 @@ impl JsonSerializer {
         ensures ok { OnOk result (where_taken (wrote (state_of self.old) (site_of schema.now).view text.now) (after_value (state_of self.old).frames) ≡ Ok (state_of self.new)) }
         ensures refused { IfErr result (λ e. IsFault e → after_value (state_of self.old).frames ≡ Err e) }
     {
-        if self.failed {
-            return Err(SerdeError::Failed);
-        }
-        self.failed = true;
-        self.begin(schema)?;
+        self.begin_value(schema)?;
         self.out.extend_from_slice(text)?;
         self.needs_comma = true;
-        self.failed = false;
+        self.containers.succeed();
         Ok(())
     }
 
@@ -168,11 +114,8 @@ impl JsonSerializer {
         ensures ok { OnOk result ((if is_number text.now then where_taken (wrote (state_of self.old) (site_of schema.now).view text.now) (after_value (state_of self.old).frames) else Err Unwritable) ≡ Ok (state_of self.new)) }
         ensures refused { IfErr result (λ e. IsFault e → (if is_number text.now then where_taken (wrote (state_of self.old) (site_of schema.now).view text.now) (after_value (state_of self.old).frames) else Err Unwritable) ≡ Err e) }
     {
-        if self.failed {
-            return Err(SerdeError::Failed);
-        }
         if !is_number(text.as_bytes()) {
-            self.failed = true;
+            self.containers.begin()?;
             return Err(SerdeError::Unwritable);
         }
         self.write_text(schema, text.as_bytes())
@@ -185,14 +128,10 @@ impl JsonSerializer {
         ensures ok { OnOk result (where_taken (wrote (state_of self.old) (site_of schema.now).view (quoted text.now)) (after_value (state_of self.old).frames) ≡ Ok (state_of self.new)) }
         ensures refused { IfErr result (λ e. IsFault e → after_value (state_of self.old).frames ≡ Err e) }
     {
-        if self.failed {
-            return Err(SerdeError::Failed);
-        }
-        self.failed = true;
-        self.begin(schema)?;
+        self.begin_value(schema)?;
         push_quoted(&mut self.out, text)?;
         self.needs_comma = true;
-        self.failed = false;
+        self.containers.succeed();
         Ok(())
     }
 
@@ -224,16 +163,12 @@ impl JsonSerializer {
         ensures ok { OnOk result (where_taken (key_wrote (state_of self.old) key.now) (after_text (state_of self.old).frames) ≡ Ok (state_of self.new)) }
         ensures refused { IfErr result (λ e. IsFault e → ⊥) }
     {
-        if self.failed {
-            return Err(SerdeError::Failed);
-        }
-        self.failed = true;
+        self.containers.begin()?;
         push_comma(&mut self.out, self.needs_comma)?;
         push_name(&mut self.out, key)?;
-        self.stack.pop();
-        self.stack.push(Container::MapAtValue)?;
+        self.containers.pass_text()?;
         self.needs_comma = false;
-        self.failed = false;
+        self.containers.succeed();
         Ok(())
     }
 }
@@ -258,24 +193,19 @@ impl ShapeSerializer for JsonSerializer {
     ghost nested = { json_nests };
 
     fn fail(&mut self) {
-        self.failed = true;
+        self.containers.fail();
     }
 
     fn begin_struct(&mut self, schema: &Schema<'_>) -> Result<(), SerdeError> {
-        self.open(schema, Container::Structure, b'{')
+        self.begin_container(schema, Container::Structure, b'{')
     }
 
     fn end_struct(&mut self) -> Result<(), SerdeError> {
-        if self.failed {
-            return Err(SerdeError::Failed);
-        }
-        self.failed = true;
-        let Some(Container::Structure) = self.stack.pop() else {
-            return Err(SerdeError::Unwritable);
-        };
+        self.containers.begin()?;
+        self.containers.pop(Container::Structure)?;
         self.out.push(b'}')?;
         self.needs_comma = true;
-        self.failed = false;
+        self.containers.succeed();
         Ok(())
     }
 
@@ -284,38 +214,28 @@ impl ShapeSerializer for JsonSerializer {
         schema: &Schema<'_>,
         _length: Option<usize>,
     ) -> Result<(), SerdeError> {
-        self.open(schema, Container::List, b'[')
+        self.begin_container(schema, Container::List, b'[')
     }
 
     fn end_list(&mut self) -> Result<(), SerdeError> {
-        if self.failed {
-            return Err(SerdeError::Failed);
-        }
-        self.failed = true;
-        let Some(Container::List) = self.stack.pop() else {
-            return Err(SerdeError::Unwritable);
-        };
+        self.containers.begin()?;
+        self.containers.pop(Container::List)?;
         self.out.push(b']')?;
         self.needs_comma = true;
-        self.failed = false;
+        self.containers.succeed();
         Ok(())
     }
 
     fn begin_map(&mut self, schema: &Schema<'_>, _length: Option<usize>) -> Result<(), SerdeError> {
-        self.open(schema, Container::MapAtKey, b'{')
+        self.begin_container(schema, Container::MapAtKey, b'{')
     }
 
     fn end_map(&mut self) -> Result<(), SerdeError> {
-        if self.failed {
-            return Err(SerdeError::Failed);
-        }
-        self.failed = true;
-        let Some(Container::MapAtKey) = self.stack.pop() else {
-            return Err(SerdeError::Unwritable);
-        };
+        self.containers.begin()?;
+        self.containers.pop(Container::MapAtKey)?;
         self.out.push(b'}')?;
         self.needs_comma = true;
-        self.failed = false;
+        self.containers.succeed();
         Ok(())
     }
 
@@ -346,21 +266,18 @@ impl ShapeSerializer for JsonSerializer {
     }
 
     fn write_string(&mut self, schema: &Schema<'_>, value: &str) -> Result<(), SerdeError> {
-        match self.stack.last() {
-            Some(Container::MapAtKey) => self.write_key(value),
-            _ => self.write_quoted(schema, value),
+        if let Some(Container::MapAtKey) = self.containers.innermost() {
+            self.write_key(value)
+        } else {
+            self.write_quoted(schema, value)
         }
     }
 
     fn write_bytes(&mut self, schema: &Schema<'_>, value: &[u8]) -> Result<(), SerdeError> {
-        if self.failed {
-            return Err(SerdeError::Failed);
-        }
-        self.failed = true;
-        self.begin(schema)?;
+        self.begin_value(schema)?;
         push_base64(&mut self.out, value)?;
         self.needs_comma = true;
-        self.failed = false;
+        self.containers.succeed();
         Ok(())
     }
 
@@ -375,14 +292,10 @@ impl ShapeSerializer for JsonSerializer {
         mantissa: i128,
         exponent: i64,
     ) -> Result<(), SerdeError> {
-        if self.failed {
-            return Err(SerdeError::Failed);
-        }
-        self.failed = true;
-        self.begin(schema)?;
+        self.begin_value(schema)?;
         push_decimal(&mut self.out, mantissa, exponent)?;
         self.needs_comma = true;
-        self.failed = false;
+        self.containers.succeed();
         Ok(())
     }
 
@@ -403,38 +316,26 @@ impl ShapeSerializer for JsonSerializer {
     }
 
     fn write_timestamp(&mut self, schema: &Schema<'_>, value: &DateTime) -> Result<(), SerdeError> {
-        if self.failed {
-            return Err(SerdeError::Failed);
-        }
+        self.containers.begin()?;
         let form = form_at(schema, self.settings.default_timestamp_format);
-        match form.text_of(*self.out.allocator(), value) {
-            Ok(text) => self.write_in_form(schema, form, text.as_str()),
-            Err(error) => {
-                self.failed = true;
-                Err(error)
-            }
-        }
+        let text = form.text_of(*self.out.allocator(), value)?;
+        self.containers.succeed();
+        self.write_in_form(schema, form, text.as_str())
     }
 
     fn write_document(&mut self, schema: &Schema<'_>, value: &Document) -> Result<(), SerdeError> {
-        if self.failed {
-            return Err(SerdeError::Failed);
-        }
-        self.failed = true;
-        self.begin(schema)?;
+        self.begin_value(schema)?;
         push_whole_document(&mut self.out, value)?;
         self.needs_comma = true;
-        self.failed = false;
+        self.containers.succeed();
         Ok(())
     }
 }
 
 impl FinishSerializer for JsonSerializer {
-    fn finish(self) -> Result<Vec<u8>, SerdeError> {
-        if self.failed {
-            return Err(SerdeError::Failed);
-        }
-        if !self.stack.is_empty() {
+    fn finish(mut self) -> Result<Vec<u8>, SerdeError> {
+        self.containers.begin()?;
+        if !self.containers.is_empty() {
             return Err(SerdeError::Unwritable);
         }
         Ok(self.out)

@@ -16,3 +16,4 @@ pub mod ReadableLeaves
 pub mod DistinctTexts
 pub mod WholeForms
 pub mod InstantWriting
+pub mod LeafWriting

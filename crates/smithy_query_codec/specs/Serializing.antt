@@ -1,20 +1,13 @@
 -- What contracts see of a serializer.
-use Rattle.std.specs.Prelude.{List, map as mapped, reverse, Bool, true, false, Option, Some, None}
-use Rattle.smithy_schema.specs.Writing.{Open, open_structure, open_list, open_map_at_key, open_map_at_value}
-use Rattle.smithy_query_codec.specs.declared.containers.Container.{Container}
-use Rattle.smithy_query_codec.specs.declared.containers.Container.TheVariants.{Structure, List as Listed, MapAtKey, MapAtValue}
-use Rattle.smithy_query_codec.specs.declared.containers.OpenContainer.{OpenContainer}
+use Rattle.std.specs.Prelude.{List, map as mapped, Bool, true, false, Option, Some, None}
+use Rattle.smithy_wire.specs.OpenContainers.{opens_of, marks_of as kept_of}
+use Rattle.smithy_wire.specs.declared.open_containers.OpenContainers.{OpenContainers}
+use Rattle.smithy_query_codec.specs.declared.containers.Restore.{Restore}
 use Rattle.smithy_query_codec.specs.declared.serializer.QueryShapeSerializer.{QueryShapeSerializer}
 use Rattle.smithy_query_codec.specs.Leaves.{MemberRole, flat_member, member, neither}
 use Rattle.smithy_query_codec.specs.Writing.{Mark, QueryState}
 
-abbrev pub open_of : Container → Open
-open_of Structure = open_structure
-open_of Listed = open_list
-open_of MapAtKey = open_map_at_key
-open_of MapAtValue = open_map_at_value
-
-abbrev pub mark_of : OpenContainer → Mark
+abbrev pub mark_of : Restore → Mark
 mark_of f = record {
   prefix_length = f.prefix_length;
   count = f.count;
@@ -24,12 +17,8 @@ mark_of f = record {
   key_length = f.key_length;
 }
 
--- the open containers by a stack, which has the innermost last
-abbrev pub opens_of : List OpenContainer → List Open
-opens_of stack = mapped (λ (f : OpenContainer). open_of f.container) (reverse stack)
-
-abbrev pub marks_of : List OpenContainer → List Mark
-marks_of stack = mapped mark_of (reverse stack)
+abbrev pub marks_of : OpenContainers Restore → List Mark
+marks_of containers = mapped mark_of (kept_of containers)
 
 -- what the calls of a serializer of forms depend on
 abbrev pub state_of : QueryShapeSerializer → QueryState
@@ -38,13 +27,13 @@ state_of s = record {
   prefix = s.prefix.items;
   names = s.names.items;
   count = s.count;
-  opens = opens_of s.stack.items;
-  marks = marks_of s.stack.items;
+  opens = opens_of s.containers;
+  marks = marks_of s.containers;
 }
 
 -- an earlier call was refused, or was `fail`
 abbrev pub has_failed : QueryShapeSerializer → Bool
-has_failed s = s.failed
+has_failed s = s.containers.failed
 
 -- whose value something is: a member's, by whether the member is flat, or no member's
 abbrev pub role_of_flatness : Option Bool → MemberRole

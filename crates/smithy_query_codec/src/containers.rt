@@ -5,26 +5,18 @@ ghost use Rattle.smithy_schema.specs.Reading.{IsFault};
 ghost use Rattle.smithy_schema.specs.Site.{site_of};
 ghost use Rattle.smithy_schema.specs.Writing.{after_value, after_text};
 ghost use Rattle.smithy_query_codec.specs.Writing.{extended, innermost_key as innermost_key_name, innermost_value as innermost_value_name, child_path, child_role, child_count, has_room as is_room, is_placed as is_place, takes_null as is_null_taken, is_key_due as is_key_place, member_length as kept_length};
-ghost use Rattle.smithy_query_codec.specs.Serializing.{opens_of, marks_of, role_of_flatness};
+ghost use Rattle.smithy_wire.specs.OpenContainers.{opens_of};
+ghost use Rattle.smithy_query_codec.specs.Serializing.{marks_of, role_of_flatness};
 
 use crate::names::query_name;
 use crate::path::{behind, front, push_name, push_number, push_segment};
-use smithy_schema::{Schema, SerdeError};
+use smithy_schema::Schema;
+use smithy_wire::{Container, OpenContainers};
 use std::alloc::AllocError;
 
-/// A container that is open, and of a map what is due in it.
+/// What stood there before a container was begun, for when it ends.
 #[derive(Clone, Copy, Debug)]
-pub(crate) enum Container {
-    Structure,
-    List,
-    MapAtKey,
-    MapAtValue,
-}
-
-/// An open container, with what stood there before it, for when it ends.
-#[derive(Clone, Copy, Debug)]
-pub(crate) struct OpenContainer {
-    pub(crate) container: Container,
+pub(crate) struct Restore {
     // the length of the path of the parts of the container around it
     pub(crate) prefix_length: usize,
     // how many parts the container around it has, with this one
@@ -40,53 +32,47 @@ pub(crate) struct OpenContainer {
 }
 
 // The name of the keys in the innermost container.
-pub(crate) fn innermost_key<'a>(names: &'a [u8], stack: &[OpenContainer]) -> &'a [u8]
-    ensures { result.now ≡ innermost_key_name names.now (marks_of stack.now) }
+pub(crate) fn innermost_key<'a>(names: &'a [u8], containers: &OpenContainers<Restore>) -> &'a [u8]
+    ensures { result.now ≡ innermost_key_name names.now (marks_of containers.now) }
 {
-    match stack.last() {
-        Some(open) => front(behind(names, open.names_length), open.key_length),
+    match containers.mark() {
+        Some(mark) => front(behind(names, mark.names_length), mark.key_length),
         None => &[],
     }
 }
 
 // The name of the values in the innermost container.
-pub(crate) fn innermost_value<'a>(names: &'a [u8], stack: &[OpenContainer]) -> &'a [u8]
-    ensures { result.now ≡ innermost_value_name names.now (marks_of stack.now) }
+pub(crate) fn innermost_value<'a>(names: &'a [u8], containers: &OpenContainers<Restore>) -> &'a [u8]
+    ensures { result.now ≡ innermost_value_name names.now (marks_of containers.now) }
 {
-    match stack.last() {
-        Some(open) => behind(behind(names, open.names_length), open.key_length),
+    match containers.mark() {
+        Some(mark) => behind(behind(names, mark.names_length), mark.key_length),
         None => &[],
     }
 }
 
 // The next element or entry has a position.
-pub(crate) fn has_room(stack: &[OpenContainer], count: u64) -> bool
-    ensures { result ≡ is_room (opens_of stack.now) count }
+pub(crate) fn has_room(containers: &OpenContainers<Restore>, count: u64) -> bool
+    ensures { result ≡ is_room (opens_of containers.now) count }
 {
-    match stack.last() {
-        Some(open) => match open.container {
-            Container::List | Container::MapAtKey => count < u64::MAX,
-            Container::Structure | Container::MapAtValue => true,
-        },
-        None => true,
+    match containers.innermost() {
+        Some(Container::List | Container::MapAtKey) => count < u64::MAX,
+        Some(Container::Structure | Container::MapAtValue) | None => true,
     }
 }
 
 // What is written next is a member's value, where it has a name.
-pub(crate) fn is_at_member(stack: &[OpenContainer]) -> bool
-    ensures { result ≡ is_null_taken (opens_of stack.now) }
+pub(crate) fn is_at_member(containers: &OpenContainers<Restore>) -> bool
+    ensures { result ≡ is_null_taken (opens_of containers.now) }
 {
-    match stack.last() {
-        Some(open) => matches!(open.container, Container::Structure),
-        None => true,
-    }
+    matches!(containers.innermost(), Some(Container::Structure) | None)
 }
 
 // A scalar has a name, or is a part of a list or a map.
-pub(crate) fn is_placed(stack: &[OpenContainer], schema: &Schema<'_>) -> bool
-    ensures { result ≡ is_place (opens_of stack.now) (site_of schema.now).view }
+pub(crate) fn is_placed(containers: &OpenContainers<Restore>, schema: &Schema<'_>) -> bool
+    ensures { result ≡ is_place (opens_of containers.now) (site_of schema.now).view }
 {
-    if is_at_member(stack) {
+    if is_at_member(containers) {
         query_name(schema).is_some()
     } else {
         true
@@ -94,10 +80,13 @@ pub(crate) fn is_placed(stack: &[OpenContainer], schema: &Schema<'_>) -> bool
 }
 
 // The value is a member's, and whether the member is flat.
-pub(crate) fn member_flatness(stack: &[OpenContainer], schema: &Schema<'_>) -> Option<bool>
-    ensures { role_of_flatness result ≡ child_role (opens_of stack.now) (site_of schema.now).view }
+pub(crate) fn member_flatness(
+    containers: &OpenContainers<Restore>,
+    schema: &Schema<'_>,
+) -> Option<bool>
+    ensures { role_of_flatness result ≡ child_role (opens_of containers.now) (site_of schema.now).view }
 {
-    if !is_at_member(stack) {
+    if !is_at_member(containers) {
         return None;
     }
     let _ = query_name(schema)?;
@@ -105,65 +94,21 @@ pub(crate) fn member_flatness(stack: &[OpenContainer], schema: &Schema<'_>) -> O
 }
 
 // The number of parts with the next child.
-pub(crate) fn counted(stack: &[OpenContainer], count: u64) -> u64
-    requires room { is_room (opens_of stack.now) count ≡ true }
-    ensures { result ≡ child_count (opens_of stack.now) count }
+pub(crate) fn counted(containers: &OpenContainers<Restore>, count: u64) -> u64
+    requires room { is_room (opens_of containers.now) count ≡ true }
+    ensures { result ≡ child_count (opens_of containers.now) count }
 {
-    match stack.last() {
-        Some(open) => match open.container {
-            Container::List | Container::MapAtKey => count + 1,
-            Container::Structure | Container::MapAtValue => count,
-        },
-        None => count,
-    }
-}
-
-// Tells the innermost container of a value: behind a map's value a key is due, and in a key's place no value comes.
-pub(crate) fn pass_value(stack: &mut Vec<OpenContainer>) -> Result<(), SerdeError>
-    ensures taken { OnOk result (after_value (opens_of stack.old.items) ≡ Ok (opens_of stack.new.items)) }
-    ensures marks { OnOk result (marks_of stack.new.items ≡ marks_of stack.old.items) }
-    ensures refused { IfErr result (λ e. IsFault e → after_value (opens_of stack.old.items) ≡ Err e) }
-    ensures sound { IsErrOf result Failed → ⊥ }
-{
-    match stack.last() {
-        Some(open) => match open.container {
-            Container::MapAtKey => Err(SerdeError::Unwritable),
-            Container::MapAtValue => {
-                let mut open = *open;
-                open.container = Container::MapAtKey;
-                stack.pop();
-                stack.push(open)?;
-                Ok(())
-            }
-            Container::List | Container::Structure => Ok(()),
-        },
-        None => Ok(()),
+    match containers.innermost() {
+        Some(Container::List | Container::MapAtKey) => count + 1,
+        Some(Container::Structure | Container::MapAtValue) | None => count,
     }
 }
 
 // A text is a key: the innermost container is a map in which one is due.
-pub(crate) fn is_key_due(stack: &[OpenContainer]) -> bool
-    ensures { result ≡ is_key_place (opens_of stack.now) }
+pub(crate) fn is_key_due(containers: &OpenContainers<Restore>) -> bool
+    ensures { result ≡ is_key_place (opens_of containers.now) }
 {
-    match stack.last() {
-        Some(open) => matches!(open.container, Container::MapAtKey),
-        None => false,
-    }
-}
-
-// Tells the innermost container of a key where one is due: its value is due then.
-pub(crate) fn pass_key(stack: &mut Vec<OpenContainer>) -> Result<(), AllocError>
-    requires { is_key_place (opens_of stack.old.items) ≡ true }
-    ensures taken { OnOk result (after_text (opens_of stack.old.items) ≡ Ok (opens_of stack.new.items)) }
-    ensures marks { OnOk result (marks_of stack.new.items ≡ marks_of stack.old.items) }
-{
-    let Some(key) = stack.pop() else {
-        unreachable!()
-    };
-    let mut open = key;
-    open.container = Container::MapAtValue;
-    stack.push(open)?;
-    Ok(())
+    matches!(containers.innermost(), Some(Container::MapAtKey))
 }
 
 // The length of a path, of a member's alone.
@@ -177,27 +122,24 @@ pub(crate) fn member_length(flatness: Option<bool>, length: usize) -> Option<usi
 pub(crate) fn push_child(
     prefix: &mut Vec<u8>,
     names: &[u8],
-    stack: &[OpenContainer],
+    containers: &OpenContainers<Restore>,
     count: u64,
     schema: &Schema<'_>,
 ) -> Result<(), AllocError>
-    requires room { is_room (opens_of stack.now) count ≡ true }
-    ensures { OnOk result (prefix.new.items ≡ extended prefix.old.items (child_path (opens_of stack.now) count
-        (innermost_key_name names.now (marks_of stack.now)) (innermost_value_name names.now (marks_of stack.now)) (site_of schema.now).view)) }
+    requires room { is_room (opens_of containers.now) count ≡ true }
+    ensures { OnOk result (prefix.new.items ≡ extended prefix.old.items (child_path (opens_of containers.now) count
+        (innermost_key_name names.now (marks_of containers.now)) (innermost_value_name names.now (marks_of containers.now)) (site_of schema.now).view)) }
 {
-    match stack.last() {
-        Some(open) => match open.container {
-            Container::Structure => push_name(prefix, schema),
-            Container::List => push_number(prefix, count + 1),
-            Container::MapAtKey => {
-                push_number(prefix, count + 1)?;
-                push_segment(prefix, innermost_key(names, stack))
-            }
-            Container::MapAtValue => {
-                push_number(prefix, count)?;
-                push_segment(prefix, innermost_value(names, stack))
-            }
-        },
-        None => push_name(prefix, schema),
+    match containers.innermost() {
+        Some(Container::Structure) | None => push_name(prefix, schema),
+        Some(Container::List) => push_number(prefix, count + 1),
+        Some(Container::MapAtKey) => {
+            push_number(prefix, count + 1)?;
+            push_segment(prefix, innermost_key(names, containers))
+        }
+        Some(Container::MapAtValue) => {
+            push_number(prefix, count)?;
+            push_segment(prefix, innermost_value(names, containers))
+        }
     }
 }

@@ -1,16 +1,17 @@
 //! Writing a form as a schema directs.
-ghost use Rattle.std.specs.Prelude.{◌≡◌, ◌↔◌, take, length, true, false, OnOk, IfOk, IfErr, IsErr, IsErrOf, Ok, Err, ◌&&◌};
+ghost use Rattle.std.specs.Prelude.{◌≡◌, ◌↔◌, ◌++◌, ◌∷◌, [], take, length, true, false, OnOk, IfOk, IfErr, IsErr, IsErrOf, Ok, Err, ◌&&◌};
 ghost use Rattle.smithy_schema.specs.declared.error.SerdeError.TheVariants.{Failed, Unwritable};
 ghost use Rattle.smithy_schema.specs.Reading.{IsFault};
 ghost use Rattle.smithy_schema.specs.Site.{site_of};
 ghost use Rattle.smithy_schema.specs.Writing.{after_value, after_text};
+ghost use Rattle.smithy_query.specs.Form.{pair_text};
 ghost use Rattle.smithy_query_codec.specs.Leaves.{form_at};
-ghost use Rattle.smithy_query_codec.specs.Writing.{QueryState, fresh_state, child_count, child_prefix, has_room as is_room, is_placed as is_place, is_key_due as is_key_place, wrote, allowed, where_taken, query_after};
+ghost use Rattle.smithy_query_codec.specs.Writing.{QueryState, fresh_state, empty_leaf, child_count, child_prefix, has_room as is_room, is_placed as is_place, is_key_due as is_key_place, wrote, allowed, where_taken, query_after};
 ghost use Rattle.smithy_query_codec.specs.Serializing.{mark_of, state_of, has_failed};
 
 use crate::containers::{
-    Container, OpenContainer, counted, has_room, is_at_member, is_key_due, is_placed,
-    member_flatness, member_length, pass_key, pass_value, push_child,
+    Restore, counted, has_room, is_at_member, is_key_due, is_placed, member_flatness,
+    member_length, push_child,
 };
 use crate::names::{element_name, key_name, value_name};
 use crate::path::{front, push_head, push_inner, push_pair};
@@ -18,6 +19,7 @@ use itoa::Buffer;
 use smithy_schema::{FinishSerializer, Schema, SerdeError, ShapeSerializer, TimestampFormat};
 use smithy_texts::push_decimal;
 use smithy_types::{BigDecimal, BigInteger, DateTime, Document, base64};
+use smithy_wire::{Container, OpenContainers};
 use std::alloc::{AllocError, Global};
 
 /// Writes one form: Action, Version, and the leaves of a value, each as `&`, its path, `=` and its text.
@@ -30,9 +32,7 @@ pub struct QueryShapeSerializer {
     names: Vec<u8>,
     // How many elements or entries the innermost list or map has.
     count: u64,
-    stack: Vec<OpenContainer>,
-    // True while a call is under way, and for good once a call was refused.
-    failed: bool,
+    containers: OpenContainers<Restore>,
 }
 
 // The form of instants at a place: a date-time where it has none.
@@ -61,8 +61,7 @@ impl QueryShapeSerializer {
             prefix: Vec::new(alloc),
             names: Vec::new(alloc),
             count: 0,
-            stack: Vec::new(alloc),
-            failed: false,
+            containers: OpenContainers::new(alloc),
         })
     }
 
@@ -78,23 +77,19 @@ impl QueryShapeSerializer {
         push_child(
             &mut self.prefix,
             &self.names,
-            &self.stack,
+            &self.containers,
             self.count,
             schema,
         )?;
-        self.count = counted(&self.stack, self.count);
+        self.count = counted(&self.containers, self.count);
         Ok(())
     }
 
-    // Begins a container where a value is due. The serializer counts as failed until the container is on the stack.
-    fn begin(
-        &mut self,
-        schema: &Schema<'_>,
-        container: Container,
-    ) -> Result<OpenContainer, SerdeError>
+    // Begins a container where a value is due, and gives what is to be restored when it ends. The serializer counts as failed
+    // until the container is among the open ones.
+    fn begin_container(&mut self, schema: &Schema<'_>) -> Result<Restore, SerdeError>
         ensures failed { IsErrOf result Failed ↔ (has_failed self.old ≡ true) }
         ensures broken { has_failed self.new ≡ true }
-        ensures container { IfOk result (λ f. f.container ≡ container) }
         ensures mark { IfOk result (λ f. mark_of f ≡ record {
           prefix_length = length (state_of self.old).prefix;
           count = child_count (state_of self.old).opens (state_of self.old).count;
@@ -112,20 +107,16 @@ impl QueryShapeSerializer {
         ensures taken { OnOk result (after_value (state_of self.old).opens ≡ Ok (state_of self.new).opens) }
         ensures refused { IfErr result (λ e. IsFault e → allowed (is_room (state_of self.old).opens (state_of self.old).count) (after_value (state_of self.old).opens) ≡ Err e) }
     {
-        if self.failed {
-            return Err(SerdeError::Failed);
-        }
-        self.failed = true;
-        if !has_room(&self.stack, self.count) {
+        self.containers.begin()?;
+        if !has_room(&self.containers, self.count) {
             return Err(SerdeError::Unwritable);
         }
         let prefix_length = self.prefix.len();
         self.step(schema)?;
         let count = self.count;
-        pass_value(&mut self.stack)?;
+        self.containers.pass_value()?;
         self.count = 0;
-        Ok(OpenContainer {
-            container,
+        Ok(Restore {
             prefix_length,
             count,
             out_length: self.out.len(),
@@ -136,7 +127,7 @@ impl QueryShapeSerializer {
     }
 
     // Goes back to what stood before a container was begun.
-    fn restore(&mut self, ended: OpenContainer)
+    fn restore(&mut self, ended: Restore)
         ensures ok { state_of self.new ≡ record (state_of self.old) {
           prefix = take (mark_of ended).prefix_length (state_of self.old).prefix;
           names = take (mark_of ended).names_length (state_of self.old).names;
@@ -149,8 +140,39 @@ impl QueryShapeSerializer {
         self.count = ended.count;
     }
 
-    // Writes a leaf where a value is due.
+    // Writes a leaf under the path of the next child, which counts then.
     #[tactic(auto, using(crate::proofs::PathLemmas::cut_back))]
+    fn push_leaf(&mut self, schema: &Schema<'_>, text: &str) -> Result<(), AllocError>
+        requires room { is_room (state_of self.old).opens (state_of self.old).count ≡ true }
+        ensures ok { OnOk result (state_of self.new ≡ record (state_of self.old) {
+          out = (state_of self.old).out ++ pair_text (child_prefix (state_of self.old) (site_of schema.now).view) text.now;
+          count = child_count (state_of self.old).opens (state_of self.old).count;
+        }) }
+        ensures broken { has_failed self.new ≡ has_failed self.old }
+    {
+        let length = self.prefix.len();
+        self.step(schema)?;
+        push_pair(&mut self.out, &self.prefix, text)?;
+        self.prefix.truncate(length);
+        Ok(())
+    }
+
+    // Writes the leaf of a list that is a member's value and wrote nothing.
+    fn push_empty_leaf(&mut self, ended: &Restore) -> Result<(), AllocError>
+        ensures ok { OnOk result (state_of self.new ≡ record (state_of self.old) {
+          out = (state_of self.old).out ++ empty_leaf (state_of self.old) (mark_of ended.now ∷ []);
+        }) }
+        ensures broken { has_failed self.new ≡ has_failed self.old }
+    {
+        match ended.member_length {
+            Some(length) if self.out.len() == ended.out_length => {
+                push_pair(&mut self.out, front(&self.prefix, length), "")
+            }
+            _ => Ok(()),
+        }
+    }
+
+    // Writes a leaf where a value is due.
     fn write_text(&mut self, schema: &Schema<'_>, text: &str) -> Result<(), SerdeError>
         ensures failed { IsErrOf result Failed ↔ (has_failed self.old ≡ true) }
         ensures broken { IsErr result ↔ (has_failed self.new ≡ true) }
@@ -161,27 +183,20 @@ impl QueryShapeSerializer {
             → allowed (is_place (state_of self.old).opens (site_of schema.now).view && is_room (state_of self.old).opens (state_of self.old).count)
             (after_value (state_of self.old).opens) ≡ Err e) }
     {
-        if self.failed {
-            return Err(SerdeError::Failed);
-        }
-        self.failed = true;
-        if !is_placed(&self.stack, schema) {
+        self.containers.begin()?;
+        if !is_placed(&self.containers, schema) {
             return Err(SerdeError::Unwritable);
         }
-        if !has_room(&self.stack, self.count) {
+        if !has_room(&self.containers, self.count) {
             return Err(SerdeError::Unwritable);
         }
-        let length = self.prefix.len();
-        self.step(schema)?;
-        pass_value(&mut self.stack)?;
-        push_pair(&mut self.out, &self.prefix, text)?;
-        self.prefix.truncate(length);
-        self.failed = false;
+        self.push_leaf(schema, text)?;
+        self.containers.pass_value()?;
+        self.containers.succeed();
         Ok(())
     }
 
     // Writes the key of an entry where one is due; its value is due then.
-    #[tactic(auto, using(crate::proofs::PathLemmas::cut_back))]
     fn write_key(&mut self, schema: &Schema<'_>, key: &str) -> Result<(), SerdeError>
         requires { is_key_place (state_of self.old).opens ≡ true }
         ensures failed { IsErrOf result Failed ↔ (has_failed self.old ≡ true) }
@@ -191,19 +206,13 @@ impl QueryShapeSerializer {
         ensures refused { IfErr result (λ e. IsFault e
             → allowed (is_room (state_of self.old).opens (state_of self.old).count) (after_text (state_of self.old).opens) ≡ Err e) }
     {
-        if self.failed {
-            return Err(SerdeError::Failed);
-        }
-        self.failed = true;
-        if !has_room(&self.stack, self.count) {
+        self.containers.begin()?;
+        if !has_room(&self.containers, self.count) {
             return Err(SerdeError::Unwritable);
         }
-        let length = self.prefix.len();
-        self.step(schema)?;
-        pass_key(&mut self.stack)?;
-        push_pair(&mut self.out, &self.prefix, key)?;
-        self.prefix.truncate(length);
-        self.failed = false;
+        self.push_leaf(schema, key)?;
+        self.containers.pass_text()?;
+        self.containers.succeed();
         Ok(())
     }
 }
@@ -228,29 +237,21 @@ impl ShapeSerializer for QueryShapeSerializer {
     ghost nested = { query_nests };
 
     fn fail(&mut self) {
-        self.failed = true;
+        self.containers.fail();
     }
 
     fn begin_struct(&mut self, schema: &Schema<'_>) -> Result<(), SerdeError> {
-        let open = self.begin(schema, Container::Structure)?;
-        self.stack.push(open)?;
-        self.failed = false;
+        let restore = self.begin_container(schema)?;
+        self.containers.push(Container::Structure, restore)?;
+        self.containers.succeed();
         Ok(())
     }
 
     fn end_struct(&mut self) -> Result<(), SerdeError> {
-        if self.failed {
-            return Err(SerdeError::Failed);
-        }
-        self.failed = true;
-        let Some(open) = self.stack.pop() else {
-            return Err(SerdeError::Unwritable);
-        };
-        let Container::Structure = open.container else {
-            return Err(SerdeError::Unwritable);
-        };
-        self.restore(open);
-        self.failed = false;
+        self.containers.begin()?;
+        let ended = self.containers.pop(Container::Structure)?;
+        self.restore(ended);
+        self.containers.succeed();
         Ok(())
     }
 
@@ -259,73 +260,51 @@ impl ShapeSerializer for QueryShapeSerializer {
         schema: &Schema<'_>,
         _length: Option<usize>,
     ) -> Result<(), SerdeError> {
-        let flatness = member_flatness(&self.stack, schema);
-        let mut open = self.begin(schema, Container::List)?;
-        open.member_length = member_length(flatness, self.prefix.len());
+        let flatness = member_flatness(&self.containers, schema);
+        let mut restore = self.begin_container(schema)?;
+        restore.member_length = member_length(flatness, self.prefix.len());
         push_inner(&mut self.prefix, flatness, element_name(schema))?;
-        self.stack.push(open)?;
-        self.failed = false;
+        self.containers.push(Container::List, restore)?;
+        self.containers.succeed();
         Ok(())
     }
 
     fn end_list(&mut self) -> Result<(), SerdeError> {
-        if self.failed {
-            return Err(SerdeError::Failed);
-        }
-        self.failed = true;
-        let Some(open) = self.stack.pop() else {
-            return Err(SerdeError::Unwritable);
-        };
-        let Container::List = open.container else {
-            return Err(SerdeError::Unwritable);
-        };
-        if self.out.len() == open.out_length
-            && let Some(length) = open.member_length
-        {
-            push_pair(&mut self.out, front(&self.prefix, length), "")?;
-        }
-        self.restore(open);
-        self.failed = false;
+        self.containers.begin()?;
+        let ended = self.containers.pop(Container::List)?;
+        self.push_empty_leaf(&ended)?;
+        self.restore(ended);
+        self.containers.succeed();
         Ok(())
     }
 
     fn begin_map(&mut self, schema: &Schema<'_>, _length: Option<usize>) -> Result<(), SerdeError> {
-        let flatness = member_flatness(&self.stack, schema);
-        let mut open = self.begin(schema, Container::MapAtKey)?;
+        let flatness = member_flatness(&self.containers, schema);
+        let mut restore = self.begin_container(schema)?;
         let key = key_name(schema);
-        open.key_length = key.len();
+        restore.key_length = key.len();
         push_inner(&mut self.prefix, flatness, "entry")?;
         self.names.extend_from_slice(key.as_bytes())?;
         self.names.extend_from_slice(value_name(schema).as_bytes())?;
-        self.stack.push(open)?;
-        self.failed = false;
+        self.containers.push(Container::MapAtKey, restore)?;
+        self.containers.succeed();
         Ok(())
     }
 
     fn end_map(&mut self) -> Result<(), SerdeError> {
-        if self.failed {
-            return Err(SerdeError::Failed);
-        }
-        self.failed = true;
-        let Some(open) = self.stack.pop() else {
-            return Err(SerdeError::Unwritable);
-        };
-        let Container::MapAtKey = open.container else {
-            return Err(SerdeError::Unwritable);
-        };
-        self.restore(open);
-        self.failed = false;
+        self.containers.begin()?;
+        let ended = self.containers.pop(Container::MapAtKey)?;
+        self.restore(ended);
+        self.containers.succeed();
         Ok(())
     }
 
     fn write_null(&mut self, _schema: &Schema<'_>) -> Result<(), SerdeError> {
-        if self.failed {
-            return Err(SerdeError::Failed);
-        }
-        if !is_at_member(&self.stack) {
-            self.failed = true;
+        self.containers.begin()?;
+        if !is_at_member(&self.containers) {
             return Err(SerdeError::Unwritable);
         }
+        self.containers.succeed();
         Ok(())
     }
 
@@ -351,7 +330,7 @@ impl ShapeSerializer for QueryShapeSerializer {
     }
 
     fn write_string(&mut self, schema: &Schema<'_>, value: &str) -> Result<(), SerdeError> {
-        if is_key_due(&self.stack) {
+        if is_key_due(&self.containers) {
             self.write_key(schema, value)
         } else {
             self.write_text(schema, value)
@@ -359,12 +338,9 @@ impl ShapeSerializer for QueryShapeSerializer {
     }
 
     fn write_bytes(&mut self, schema: &Schema<'_>, value: &[u8]) -> Result<(), SerdeError> {
-        if self.failed {
-            return Err(SerdeError::Failed);
-        }
-        self.failed = true;
+        self.containers.begin()?;
         let text = base64::encode(*self.out.allocator(), value)?;
-        self.failed = false;
+        self.containers.succeed();
         self.write_text(schema, text.as_str())
     }
 
@@ -379,13 +355,10 @@ impl ShapeSerializer for QueryShapeSerializer {
         mantissa: i128,
         exponent: i64,
     ) -> Result<(), SerdeError> {
-        if self.failed {
-            return Err(SerdeError::Failed);
-        }
-        self.failed = true;
+        self.containers.begin()?;
         let mut text = String::new(*self.out.allocator());
         push_decimal(&mut text, mantissa, exponent)?;
-        self.failed = false;
+        self.containers.succeed();
         self.write_text(schema, text.as_str())
     }
 
@@ -406,29 +379,23 @@ impl ShapeSerializer for QueryShapeSerializer {
     }
 
     fn write_timestamp(&mut self, schema: &Schema<'_>, value: &DateTime) -> Result<(), SerdeError> {
-        if self.failed {
-            return Err(SerdeError::Failed);
-        }
-        self.failed = true;
+        self.containers.begin()?;
         let form = form_at(schema);
         let text = form.text_of(*self.out.allocator(), value)?;
-        self.failed = false;
+        self.containers.succeed();
         self.write_text(schema, text.as_str())
     }
 
     // A form has no documents. It takes no memory.
     fn write_document(&mut self, schema: &Schema<'_>, _value: &Document) -> Result<(), SerdeError> {
-        if self.failed {
-            return Err(SerdeError::Failed);
-        }
-        self.failed = true;
-        if !is_placed(&self.stack, schema) {
+        self.containers.begin()?;
+        if !is_placed(&self.containers, schema) {
             return Err(SerdeError::Unwritable);
         }
-        if !has_room(&self.stack, self.count) {
+        if !has_room(&self.containers, self.count) {
             return Err(SerdeError::Unwritable);
         }
-        if is_key_due(&self.stack) {
+        if is_key_due(&self.containers) {
             return Err(SerdeError::Unwritable);
         }
         Err(SerdeError::Unsupported)
@@ -436,11 +403,9 @@ impl ShapeSerializer for QueryShapeSerializer {
 }
 
 impl FinishSerializer for QueryShapeSerializer {
-    fn finish(self) -> Result<Vec<u8>, SerdeError> {
-        if self.failed {
-            return Err(SerdeError::Failed);
-        }
-        if !self.stack.is_empty() {
+    fn finish(mut self) -> Result<Vec<u8>, SerdeError> {
+        self.containers.begin()?;
+        if !self.containers.is_empty() {
             return Err(SerdeError::Unwritable);
         }
         Ok(self.out)

@@ -16,7 +16,8 @@ pub mod Written
 pub mod Writes
 -- whole numbers in the bits of their kinds
 pub mod Narrowing
--- where a reader stands
+-- where a reader stands, and which containers a serializer has open
 pub mod Walking
+pub mod OpenContainers
 -- what the laws are proved by
 pub mod Lemmas

@@ -35,6 +35,7 @@ returns-clause-ok c =
     let bytes = epoch_seconds_bytes (seconds_of n) in
     let after = (state_of c.begin_value.new.self).frames in
     let whole = not-false (subsecond_of n == 0) (sym c.has_subsec_nanos.ensures ∙ c.if-has_subsec_nanos.false) in
+    rw c.succeed.ensures (
     instant_written s site n _ whole
     (call_written (made (scalar_of site (instant n)) s) (after_value s.frames) after _ c.in_ok-begin_value.ensures.taken
-    (wrote_is s site.view bytes _ after _ c.in_ok-begin_value.ensures.same (c.in_ok-timestamp.ensures.ok ∙ ap (λ o. o ++ bytes) c.in_ok-begin_value.ensures.lead)))
+    (wrote_is s site.view bytes _ after _ c.in_ok-begin_value.ensures.same (c.in_ok-timestamp.ensures.ok ∙ ap (λ o. o ++ bytes) c.in_ok-begin_value.ensures.lead))))
