@@ -2,7 +2,6 @@
 use Rattle.std.proofs.Common.{◌≡◌, ◌⊎◌, ◌<◌, ℕ, zero, suc, List, [], drop, Option, Some, None, Bool, true, false, refl, sym, ◌∙◌, ap, subst, inl, inr}
 use Rattle.std.specs.Str.{bytes_eq}
 use Rattle.std.proofs.lemmas.Slice.Eq.{bytes_eq-Decides}
-use Rattle.std.specs.Option.{option_and_then}
 use Rattle.smithy_schema.specs.declared.place.Place.{Place}
 use Rattle.smithy_schema.specs.Table.{Table, Kind, structure_of, union_of, kind_of, IsList, IsMap, IsStructure, HasMembers}
 use Rattle.smithy_schema.specs.Reading.{Mark}
@@ -10,12 +9,13 @@ use Rattle.smithy_schema.specs.Lemmas.Kinds.{no_list_and_structure}
 use Rattle.smithy_json.specs.Ascii.{begin_array, end_array, begin_object, end_object}
 use Rattle.smithy_json.specs.Tree.{null}
 use Rattle.smithy_json.specs.Unescape.{unescaped}
-use Rattle.smithy_json_codec.specs.Scalar.{JsonScalar, a_string, text_of}
+use Rattle.smithy_json_codec.specs.Scalar.{JsonScalar, a_string}
 use Rattle.smithy_json_codec.specs.Settings.{Settings}
-use Rattle.smithy_json_codec.specs.Meaning.{rules_of}
-use Rattle.smithy_json_codec.specs.Standing.{Lies, FollowsInside, TreeLies, IsByte, IsSeparated, Names, fresh_mark, end_mark, entry_mark, json_frames, json_relations}
-use Rattle.smithy_json_codec.specs.Private.PassedEntries.{type_name, Passing, NoNull, IsNoMark, IsPassed, Passes, EntryMissing}
+use Rattle.smithy_json_codec.specs.Standing.{Lies, FollowsInside, TreeLies, IsByte, IsSeparated, Names, fresh_mark, end_mark, entry_mark, json_frames, json_rules, json_relations}
+use Rattle.smithy_json_codec.specs.Private.PassedEntries.{type_name, Passing, NoNull, IsNoMark, IsPassed, Passes, MarkStays, EntryMissing}
 use Rattle.smithy_json_codec.specs.Private.Skipping.{SkipsTo}
+use Rattle.smithy_json_codec.specs.Private.TokenEntries.{entry_of_names, entry_told}
+use Rattle.smithy_json_codec.specs.Private.TokenGrammar.{null_token, token_null}
 use Rattle.smithy_json_codec.specs.Private.Wire.{json_is_wire}
 use Rattle.smithy_wire.specs.Node.{as_array, as_object}
 use Rattle.smithy_wire.specs.Frames.{IsTold, Drops, DropsAll}
@@ -39,13 +39,13 @@ module _ (o : Settings) (i : List ℕ) (t : Table) (p : Place) (kind : IsList (k
   -- without its bracket no list opens
   pub opens_no_list : (d a : ℕ) → ((b : ℕ) → Lies (IsByte begin_array) i a b → ⊥) → (b : ℕ) (m : Mark) → (json_relations o).opens i t p d a b m → ⊥
   opens_no_list d a none =
-      opens_not json_frames (rules_of o) i t p json_is_wire as_array (list_is_array (kind_of t p) kind) d a (λ b m h. none b h.1)
+      opens_not json_frames (json_rules o) i t p json_is_wire as_array (list_is_array (kind_of t p) kind) d a (λ b m h. none b h.1)
       (λ structure' over. no_list_and_structure (kind_of t p) kind structure')
 
   -- an element that is due is a step
   pub steps_in_list : (d b : ℕ) (m : Mark) (c : ℕ) → IsSeparated m.entered i b c → ((e : ℕ) → Lies (IsByte end_array) i c e → ⊥)
       → (json_relations o).steps i t p d b m None c entry_mark
-  steps_in_list d b m c h none = step_to_element json_frames (rules_of o) i t p d kind b m None c entry_mark (refl, refl, h, none)
+  steps_in_list d b m c h none = step_to_element json_frames (json_rules o) i t p d kind b m None c entry_mark (refl, refl, h, none)
 
   -- where neither an element nor its end comes, it can't go on
   pub list_is_stuck : (d b : ℕ) (m : Mark) → ((c : ℕ) → IsSeparated m.entered i b c → ((e : ℕ) → Lies (IsByte end_array) i c e → ⊥) → ⊥)
@@ -53,8 +53,8 @@ module _ (o : Settings) (i : List ℕ) (t : Table) (p : Place) (kind : IsList (k
       → ((key : Option (List ℕ)) (c : ℕ) (n : Mark) → (json_relations o).steps i t p d b m key c n → ⊥)
       × ((e : ℕ) → (json_relations o).closes i t p d b m e → ⊥)
   list_is_stuck d b m none shut =
-      cannot_go_on json_frames (rules_of o) i t p json_is_wire as_array (list_is_array (kind_of t p) kind) d 0 b m b m (refl, refl)
-      (λ key c n entry told unmarked stays. none c entry.2 entry.3) (list_drops_nothing json_frames (rules_of o) i t p d kind as_array b m) shut
+      cannot_go_on json_frames (json_rules o) i t p json_is_wire as_array (list_is_array (kind_of t p) kind) d 0 b m b m (refl, refl)
+      (λ key c n entry told unmarked stays. none c entry.2 entry.3) (list_drops_nothing json_frames (json_rules o) i t p d kind as_array b m) shut
       (λ structure' at_end over some. no_list_and_structure (kind_of t p) kind structure')
 
 -- ---- a map at a place
@@ -71,14 +71,15 @@ module _ (o : Settings) (i : List ℕ) (t : Table) (p : Place) (kind : IsMap (ki
   -- without its bracket no map opens
   pub opens_no_map : (d a : ℕ) → ((b : ℕ) → Lies (IsByte begin_object) i a b → ⊥) → (b : ℕ) (m : Mark) → (json_relations o).opens i t p d a b m → ⊥
   opens_no_map d a none =
-      opens_not json_frames (rules_of o) i t p json_is_wire as_object (map_is_object (kind_of t p) kind) d a (λ b m h. none b h.1)
+      opens_not json_frames (json_rules o) i t p json_is_wire as_object (map_is_object (kind_of t p) kind) d a (λ b m h. none b h.1)
       (λ structure' over. no_map_and_structure (kind_of t p) kind structure')
 
   -- an entry whose key has a text is a step
   pub steps_in_map : (d b : ℕ) (m : Mark) (raw s : List ℕ) (c : ℕ) → Names m.entered i b raw c → unescaped raw ≡ Some s
       → (json_relations o).steps i t p d b m (Some s) c entry_mark
   steps_in_map d b m raw s c names some =
-      step_to_key json_frames (rules_of o) i t p d kind b m (Some (a_string raw)) (Some s) c entry_mark (raw, refl, refl, names) some tt
+      let entry = entry_of_names o i b m raw c names in
+      step_to_key json_frames (json_rules o) i t p d kind b m (Some (a_string raw)) (Some s) c entry_mark entry.0 (entry.1 ∙ some) tt
 
   -- where neither a key with a text comes nor its end, it can't go on
   pub map_is_stuck : (d b : ℕ) (m : Mark) → ((raw : List ℕ) (c : ℕ) → Names m.entered i b raw c → IsTold as_object (unescaped raw) → ⊥)
@@ -86,9 +87,11 @@ module _ (o : Settings) (i : List ℕ) (t : Table) (p : Place) (kind : IsMap (ki
       → ((key : Option (List ℕ)) (c : ℕ) (n : Mark) → (json_relations o).steps i t p d b m key c n → ⊥)
       × ((e : ℕ) → (json_relations o).closes i t p d b m e → ⊥)
   map_is_stuck d b m none shut =
-      cannot_go_on json_frames (rules_of o) i t p json_is_wire as_object (map_is_object (kind_of t p) kind) d 0 b m b m (refl, refl)
-      (λ key c n entry told unmarked stays. none entry.0 c entry.3 (subst (λ k. IsTold as_object (option_and_then text_of k)) entry.1 told))
-      (map_drops_nothing json_frames (rules_of o) i t p d kind as_object b m) shut
+      cannot_go_on json_frames (json_rules o) i t p json_is_wire as_object (map_is_object (kind_of t p) kind) d 0 b m b m (refl, refl)
+      (λ key c n entry told unmarked stays.
+      let there = entry_told o i b m key c n entry told in
+      none there.0 c there.1 (subst (IsTold as_object) there.2 told))
+      (map_drops_nothing json_frames (json_rules o) i t p d kind as_object b m) shut
       (λ structure' at_end over some. no_map_and_structure (kind_of t p) kind structure')
 
 -- ---- a structure or a union at a place
@@ -115,46 +118,53 @@ module _ (o : Settings) (i : List ℕ) (t : Table) (p : Place) (kind : HasMember
   pub opens_no_members : (d a : ℕ) → ((b : ℕ) → Lies (IsByte begin_object) i a b → ⊥) → (IsStructure (kind_of t p) → i ≡ [] → ⊥)
       → (b : ℕ) (m : Mark) → (json_relations o).opens i t p d a b m → ⊥
   opens_no_members d a none full =
-      opens_not json_frames (rules_of o) i t p json_is_wire as_object (members_are_object (kind_of t p) kind) d a (λ b m h. none b h.1)
+      opens_not json_frames (json_rules o) i t p json_is_wire as_object (members_are_object (kind_of t p) kind) d a (λ b m h. none b h.1)
       (λ structure' over. full structure' over.0)
 
   -- Marks and nulls are passed over exactly where they are dropped, and what is passed over inside so many containers is skipped.
-  module _ (passing : Passing) (marked : passing.marks ≡ is_mark (rules_of o) (kind_of t p) (Some type_name))
-      (dropped : (text : List ℕ) → passing.nulls text ≡ drops_null (rules_of o) (kind_of t p) (position_in (rules_of o) (kind_of t p) (Some text))) (greatest d : ℕ)
+  module _ (passing : Passing) (marked : passing.marks ≡ is_mark (json_rules o) (kind_of t p) (Some type_name))
+      (dropped : (text : List ℕ) → passing.nulls text ≡ drops_null (json_rules o) (kind_of t p) (position_in (json_rules o) (kind_of t p) (Some text))) (greatest d : ℕ)
       (skips : (c e : ℕ) → SkipsTo greatest d i c e → (json_relations o).skips i d c e) where
     one_passes : (b : ℕ) (m : Mark) (raw : List ℕ) (c e : ℕ) → Names m.entered i b raw c → IsPassed passing greatest d i raw c e
-        → Drops json_frames (rules_of o) (kind_of t p) as_object i d b m e entry_mark
+        → Drops json_frames (json_rules o) (kind_of t p) as_object i d b m e entry_mark
     one_passes b m raw c e names (inl (null_lies, text)) =
-        null_is_dropped json_frames (rules_of o) i t p d kind b m (Some (a_string raw)) c entry_mark e (raw, refl, refl, names) (rw text.1 tt)
-        (rw text.1 (sym (dropped text.0) ∙ text.2)) null_lies
+        let entry = entry_of_names o i b m raw c names in
+        let same : key_text (json_rules o) as_object (Some (a_string raw)) ≡ Some text.0 = entry.1 ∙ text.1 in
+        null_is_dropped json_frames (json_rules o) i t p d kind b m (Some (a_string raw)) c entry_mark e entry.0
+        (subst (IsTold as_object) (sym same) tt)
+        (ap (λ k. drops_null (json_rules o) (kind_of t p) (position_in (json_rules o) (kind_of t p) k)) same ∙ sym (dropped text.0) ∙ text.2)
+        (null_token i d c e null_lies)
     one_passes b m raw c e names (inr (passes, is, skipped)) =
-        mark_is_dropped json_frames (rules_of o) i t p d as_object b m (Some (a_string raw)) c entry_mark e (raw, refl, refl, names) (rw is tt)
-        (rw is (sym marked ∙ passes)) (skips c e skipped)
+        let entry = entry_of_names o i b m raw c names in
+        let same : key_text (json_rules o) as_object (Some (a_string raw)) ≡ Some type_name = entry.1 ∙ is in
+        mark_is_dropped json_frames (json_rules o) i t p d as_object b m (Some (a_string raw)) c entry_mark e entry.0
+        (subst (IsTold as_object) (sym same) tt)
+        (ap (is_mark (json_rules o) (kind_of t p)) same ∙ sym marked ∙ passes) (skips c e skipped)
 
     -- what is passed over is dropped
     drops_all : (count b : ℕ) (m : Mark) (e : ℕ) (after : Bool) → Passes passing greatest d count i b m.entered e after
-        → (n : Mark) × (n.entered ≡ after) × DropsAll json_frames (rules_of o) (kind_of t p) as_object count i d b m e n
+        → (n : Mark) × (n.entered ≡ after) × DropsAll json_frames (json_rules o) (kind_of t p) as_object count i d b m e n
     drops_all zero b m e after h = (m, h.1, (h.0, refl))
     drops_all (suc count) b m e after h =
         let rest = drops_all count h.2 entry_mark e after h.5 in
         (rest.0, rest.1, (h.2, entry_mark, one_passes b m h.0 h.1 h.2 h.3 h.4, rest.2))
 
     -- a name that is no mark as it is read is none
-    no_mark : (raw s : List ℕ) → unescaped raw ≡ Some s → IsNoMark passing raw → is_mark (rules_of o) (kind_of t p) (Some s) ≡ false
+    no_mark : (raw s : List ℕ) → unescaped raw ≡ Some s → IsNoMark passing raw → is_mark (json_rules o) (kind_of t p) (Some s) ≡ false
     no_mark raw s is other = by (bytes_eq s type_name) refl passing.marks refl
       where
-        by : (same : Bool) → bytes_eq s type_name ≡ same → (passes : Bool) → passing.marks ≡ passes → is_mark (rules_of o) (kind_of t p) (Some s) ≡ false
-        by false differ passes may = other_is_no_mark (rules_of o) (kind_of t p) s differ
+        by : (same : Bool) → bytes_eq s type_name ≡ same → (passes : Bool) → passing.marks ≡ passes → is_mark (json_rules o) (kind_of t p) (Some s) ≡ false
+        by false differ passes may = other_is_no_mark (json_rules o) (kind_of t p) s differ
         by true same true may = absurd (other may (is ∙ ap Some ((bytes_eq-Decides s type_name).0 same)))
         by true same false may =
-            ap (λ x. is_mark (rules_of o) (kind_of t p) (Some x)) ((bytes_eq-Decides s type_name).0 same) ∙ sym marked ∙ may
+            ap (λ x. is_mark (json_rules o) (kind_of t p) (Some x)) ((bytes_eq-Decides s type_name).0 same) ∙ sym marked ∙ may
 
     -- under a name whose null isn't passed over none is dropped
     null_stays : (raw s : List ℕ) (c : ℕ) → unescaped raw ≡ Some s → NoNull passing i raw c → (e : ℕ) → TreeLies 1 null i c e
-        → drops_null (rules_of o) (kind_of t p) (position_in (rules_of o) (kind_of t p) (Some s)) ≡ false
+        → drops_null (json_rules o) (kind_of t p) (position_in (json_rules o) (kind_of t p) (Some s)) ≡ false
     null_stays raw s c is real e lies = by (passing.nulls s) refl
       where
-        by : (passes : Bool) → passing.nulls s ≡ passes → drops_null (rules_of o) (kind_of t p) (position_in (rules_of o) (kind_of t p) (Some s)) ≡ false
+        by : (passes : Bool) → passing.nulls s ≡ passes → drops_null (json_rules o) (kind_of t p) (position_in (json_rules o) (kind_of t p) (Some s)) ≡ false
         by true passes = absurd (real e lies (s, is, passes))
         by false passes = sym (dropped s) ∙ passes
 
@@ -164,21 +174,22 @@ module _ (o : Settings) (i : List ℕ) (t : Table) (p : Place) (kind : HasMember
         → (json_relations o).steps i t p d b m (Some s) c entry_mark
     steps_to_member k b m at after raw s c passes names some other real =
         let passed = drops_all k b m at after passes in
-        step_to_entry json_frames (rules_of o) i t p d kind k b m at passed.0 (Some (a_string raw)) (Some s) c entry_mark passed.2
-        (raw, refl, refl, subst (λ entered. Names entered i at raw c) (sym passed.1) names) some tt (no_mark raw s some other) (null_stays raw s c some real)
+        let entry = entry_of_names o i at passed.0 raw c (subst (λ entered. Names entered i at raw c) (sym passed.1) names) in
+        step_to_entry json_frames (json_rules o) i t p d kind k b m at passed.0 (Some (a_string raw)) (Some s) c entry_mark passed.2
+        entry.0 (entry.1 ∙ some) tt (no_mark raw s some other) (λ e lies. null_stays raw s c some real e (token_null i d c e lies))
 
     -- behind what is passed over it ends
     pub closes_members : (k b : ℕ) (m : Mark) (at : ℕ) (after : Bool) (e : ℕ) → Passes passing greatest d k i b m.entered at after → Lies (IsByte end_object) i at e
         → FollowsInside d (drop e i) → (json_relations o).closes i t p d b m e
     closes_members k b m at after e passes h follows =
         let passed = drops_all k b m at after passes in
-        close_at_end json_frames (rules_of o) i t p d kind k b m at passed.0 e passed.2 h follows
+        close_at_end json_frames (json_rules o) i t p d kind k b m at passed.0 e passed.2 h follows
 
     -- a mark stays only where its value can't be skipped
     module _ (Stays : ℕ → Type 0) (stays_unskipped : (c : ℕ) → Stays c → (e : ℕ) → (json_relations o).skips i d c e → ⊥) where
       -- where no entry is, no name with a text comes that is handed on
       no_entry_told : (at : ℕ) (entered : Bool) → EntryMissing Stays passing d i at entered → (raw : List ℕ) (c : ℕ) → Names entered i at raw c
-          → IsTold as_object (unescaped raw) → is_mark (rules_of o) (kind_of t p) (unescaped raw) ≡ false → ⊥
+          → IsTold as_object (unescaped raw) → is_mark (json_rules o) (kind_of t p) (unescaped raw) ≡ false → ⊥
       no_entry_told at entered (inl (nameless, open_ended)) raw c names told unmarked = nameless raw c names
       no_entry_told at entered (inr (inl (other, e, name, wordless))) raw c names told unmarked =
           let same = same_names i entered at raw other c e names name in
@@ -186,25 +197,32 @@ module _ (o : Settings) (i : List ℕ) (t : Table) (p : Place) (kind : HasMember
       no_entry_told at entered (inr (inr mark)) raw c names told unmarked =
           let same = same_names i entered at raw mark.raw c mark.value names mark.names in
           let text = ap unescaped same.0 ∙ mark.is_mark in
-          let clash : true ≡ false = sym mark.passes_marks ∙ marked ∙ sym (ap (is_mark (rules_of o) (kind_of t p)) text) ∙ unmarked in cc
+          let clash : true ≡ false = sym mark.passes_marks ∙ marked ∙ sym (ap (is_mark (json_rules o) (kind_of t p)) text) ∙ unmarked in cc
+
+      -- what stays isn't dropped
+      mark_not_dropped : (at : ℕ) (entered : Bool) (mark : MarkStays Stays passing i at entered) (IsMark : Type 0) (c e : ℕ) → c ≡ mark.value
+          → json_frames.null i d c e ⊎ (IsMark × (json_relations o).skips i d c e) → ⊥
+      mark_not_dropped at entered mark IsMark c e same (inl null_lies) =
+          mark.no_null e (subst (λ c. TreeLies 1 null i c e) same (token_null i d c e null_lies))
+          (type_name, mark.is_mark, dropped type_name ∙ mark_drops_null (json_rules o) (kind_of t p) type_name kind (sym marked ∙ mark.passes_marks))
+      mark_not_dropped at entered mark IsMark c e same (inr (is, skipped)) =
+          stays_unskipped mark.value mark.stays e (subst (λ c. (json_relations o).skips i d c e) same skipped)
 
       -- nor one that is dropped
       no_entry_dropped : (at : ℕ) (j : Mark) → EntryMissing Stays passing d i at j.entered → (e : ℕ) (n : Mark)
-          → Drops json_frames (rules_of o) (kind_of t p) as_object i d at j e n → ⊥
-      no_entry_dropped at j (inl (nameless, open_ended)) e n drop = nameless drop.entry.0 drop.at drop.entry.3
+          → Drops json_frames (json_rules o) (kind_of t p) as_object i d at j e n → ⊥
+      no_entry_dropped at j (inl (nameless, open_ended)) e n drop =
+          let there = entry_told o i at j drop.key drop.at n drop.entry drop.told in
+          nameless there.0 drop.at there.1
       no_entry_dropped at j (inr (inl (other, f, name, wordless))) e n drop =
-          let same = same_names i j.entered at drop.entry.0 other drop.at f drop.entry.3 name in
-          subst (IsTold as_object) (ap unescaped same.0 ∙ wordless) (subst (λ k. IsTold as_object (option_and_then text_of k)) drop.entry.1 drop.told)
+          let there = entry_told o i at j drop.key drop.at n drop.entry drop.told in
+          let same = same_names i j.entered at there.0 other drop.at f there.1 name in
+          subst (IsTold as_object) (there.2 ∙ ap unescaped same.0 ∙ wordless) drop.told
       no_entry_dropped at j (inr (inr mark)) e n drop =
-          let same = same_names i j.entered at drop.entry.0 mark.raw drop.at mark.value drop.entry.3 mark.names in
-          by (drop_is json_frames (rules_of o) i t p d as_object at j e n drop) same.1
-        where
-          by : json_frames.null i d drop.at e ⊎ ((is_mark (rules_of o) (kind_of t p) (key_text (rules_of o) as_object drop.key) ≡ true) × (json_relations o).skips i d drop.at e)
-              → drop.at ≡ mark.value → ⊥
-          by (inl null_lies) there =
-              mark.no_null e (subst (λ c. TreeLies 1 null i c e) there null_lies)
-              (type_name, mark.is_mark, dropped type_name ∙ mark_drops_null (rules_of o) (kind_of t p) type_name kind (sym marked ∙ mark.passes_marks))
-          by (inr (is, skipped)) there = stays_unskipped mark.value mark.stays e (subst (λ c. (json_relations o).skips i d c e) there skipped)
+          let there = entry_told o i at j drop.key drop.at n drop.entry drop.told in
+          let same = same_names i j.entered at there.0 mark.raw drop.at mark.value there.1 mark.names in
+          mark_not_dropped at j.entered mark (is_mark (json_rules o) (kind_of t p) (key_text (json_rules o) as_object drop.key) ≡ true) drop.at e same.1
+          (drop_is json_frames (json_rules o) i t p d as_object at j e n drop)
 
       -- nor the end
       no_entry_ends : (at : ℕ) (entered : Bool) → EntryMissing Stays passing d i at entered → (e : ℕ) → Lies (IsByte end_object) i at e → FollowsInside d (drop e i) → ⊥
@@ -220,10 +238,11 @@ module _ (o : Settings) (i : List ℕ) (t : Table) (p : Place) (kind : HasMember
       members_are_stuck k b m at after passes missing full =
           let passed = drops_all k b m at after passes in
           let stuck = subst (λ entered. EntryMissing Stays passing d i at entered) (sym passed.1) missing in
-          cannot_go_on json_frames (rules_of o) i t p json_is_wire as_object (members_are_object (kind_of t p) kind) d k b m at passed.0 passed.2
-          (λ key c n entry told unmarked stays. no_entry_told at passed.0.entered stuck entry.0 c entry.3
-          (subst (λ k. IsTold as_object (option_and_then text_of k)) entry.1 told)
-          (subst (λ k. is_mark (rules_of o) (kind_of t p) (option_and_then text_of k) ≡ false) entry.1 unmarked))
+          cannot_go_on json_frames (json_rules o) i t p json_is_wire as_object (members_are_object (kind_of t p) kind) d k b m at passed.0 passed.2
+          (λ key c n entry told unmarked stays.
+          let there = entry_told o i at passed.0 key c n entry told in
+          no_entry_told at passed.0.entered stuck there.0 c there.1 (subst (IsTold as_object) there.2 told)
+          (subst (λ k. is_mark (json_rules o) (kind_of t p) k ≡ false) there.2 unmarked))
           (no_entry_dropped at passed.0 stuck)
           (no_entry_ends at passed.0.entered stuck)
           (λ structure' at_end over inside. full structure' at_end over.0 inside)

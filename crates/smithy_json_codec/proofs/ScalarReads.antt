@@ -20,10 +20,10 @@ use Rattle.smithy_json.specs.Number.{whole_number}
 use Rattle.smithy_json_codec.specs.Settings.{Settings, kept, without_limits}
 use Rattle.smithy_json_codec.specs.Scalar.{JsonScalar, a_boolean, a_number, a_string, tree_of, boolean_of, whole_of, text_of, bytes_of, says}
 use Rattle.smithy_json_codec.specs.Laws.{lawful}
-use Rattle.smithy_json_codec.specs.Meaning.{rules_of}
-use Rattle.smithy_json_codec.specs.Standing.{TreeLies, json_frames, json_relations}
+use Rattle.smithy_json_codec.specs.Standing.{TreeLies, json_frames, json_rules, json_relations}
 use Rattle.smithy_json_codec.specs.Private.Fits.{whole_is}
 use Rattle.smithy_json_codec.specs.Private.ScalarAtPlace.{WholeLies, TextLies, BlobLies, MeansAt, ExceedsAt, NothingAt, InstantLies, UncarriedLies, NoInstantLies}
+use Rattle.smithy_json_codec.specs.Private.TokenGrammar.{tree_is_token, token_is_tree, said_in, answer_in, settled_in}
 use Rattle.smithy_json_codec.specs.Private.Wire.{json_is_wire}
 use Rattle.smithy_wire.specs.Rules.{Answer, no_meaning, wide, uncarried, answer_of, settled}
 use Rattle.smithy_json_codec.specs.Private.ValuePlaces.{one_tree}
@@ -43,14 +43,18 @@ module _ (o : Settings) (c : Cursor) (site : Site) (s : Scalar) where
   -- what a scalar that lies there says stands there
   says_stands : (x : JsonScalar) (v : Value) (e : ℕ) → TreeLies 1 (tree_of x) c.input c.at e → settled o.limits null_element (says s (form_at o site) x) ≡ Some v
       → (json_relations o).stands c.input site.table (scalar_place s site.place.time) (depth c) c.at v e
-  says_stands x v e lies means = scalar_stands json_frames (rules_of o) c.input site.table (scalar_place s site.place.time) s refl (depth c) c.at v e (x, lies, means)
+  says_stands x v e lies means =
+      let token = tree_is_token x c.input (depth c) c.at e lies in
+      scalar_stands json_frames (json_rules o) c.input site.table (scalar_place s site.place.time) s refl (depth c) c.at v e
+      (x, token.0, ap (settled o.limits null_element) (said_in x (says s (form_at o site) x) no_meaning token.1) ∙ means)
 
   -- and nothing else does
   nothing_stands : ((x : JsonScalar) (v : Value) (e : ℕ) → TreeLies 1 (tree_of x) c.input c.at e → settled o.limits null_element (says s (form_at o site) x) ≡ Some v → ⊥)
       → StandsNot (json_relations o) c site.table (scalar_place s site.place.time)
   nothing_stands none v e stands =
-      let x = stands_scalar json_frames (rules_of o) c.input site.table (scalar_place s site.place.time) s refl (depth c) c.at v e stands in
-      none x.0 v e x.1 x.2
+      let x = stands_scalar json_frames (json_rules o) c.input site.table (scalar_place s site.place.time) s refl (depth c) c.at v e stands in
+      let there = settled_in o.limits null_element x.0 (says s (form_at o site) x.0) v x.2 in
+      none x.0 v e (token_is_tree x.0 c.input (depth c) c.at e x.1 there.0) there.1
 
 -- ---- booleans
 
@@ -140,10 +144,12 @@ module _ (o : Settings) (c : Cursor) (site : Site) (s : Scalar) (timeless : (x :
       says_stands o c site s h.found (scalar_value v) e h.lies (ap (settled o.limits null_element) (timeless h.found ∙ h.is))
 
   pub number_exceeds : ExceedsAt s c.input c.at → Exceeds (json_relations o) c site.table (scalar_place s site.place.time)
-  number_exceeds h = (
-    h.e,
-    scalar_exceeds json_frames (rules_of o) c.input site.table (scalar_place s site.place.time) s refl (depth c) c.at h.found h.e h.lies (timeless h.found ∙ h.is),
-  )
+  number_exceeds h =
+      let token = tree_is_token h.found c.input (depth c) c.at h.e h.lies in (
+        h.e,
+        scalar_exceeds json_frames (json_rules o) c.input site.table (scalar_place s site.place.time) s refl (depth c) c.at h.found h.e token.0
+            (said_in h.found (says s (form_at o site) h.found) no_meaning token.1 ∙ timeless h.found ∙ h.is),
+      )
 
   pub no_number_stands : NothingAt s c.input c.at → StandsNot (json_relations o) c site.table (scalar_place s site.place.time)
   no_number_stands none = nothing_stands o c site s (λ x v e lies means.
@@ -152,14 +158,16 @@ module _ (o : Settings) (c : Cursor) (site : Site) (s : Scalar) (timeless : (x :
 
   pub no_number_exceeds : NothingAt s c.input c.at → Exceeds (json_relations o) c site.table (scalar_place s site.place.time) → ⊥
   no_number_exceeds none (e, there) =
-      let x = exceeds_scalar json_frames (rules_of o) c.input site.table (scalar_place s site.place.time) s refl (depth c) c.at e there in
-      let both : ◌≡◌ {A = Answer Value} no_meaning wide = sym (timeless x.0 ∙ none x.0 e x.1) ∙ x.2 in
+      let x = exceeds_scalar json_frames (json_rules o) c.input site.table (scalar_place s site.place.time) s refl (depth c) c.at e there in
+      let there = answer_in x.0 (says s (form_at o site) x.0) wide (λ no. cc) x.2 in
+      let both : ◌≡◌ {A = Answer Value} no_meaning wide =
+      sym (timeless x.0 ∙ none x.0 e (token_is_tree x.0 c.input (depth c) c.at e x.1 there.0)) ∙ there.1 in
       cc
 
   -- within the limits nothing stands where a number leaves them
   pub exceeds_stands_not : o.limits ≡ kept → Exceeds (json_relations o) c site.table (scalar_place s site.place.time) → StandsNot (json_relations o) c site.table (scalar_place s site.place.time)
   exceeds_stands_not keeps (e, there) v f stands =
-      exceeds_not json_frames (rules_of o) json_is_wire keeps c.input site.table (scalar_place s site.place.time) s refl (depth c) c.at e there v f stands
+      exceeds_not json_frames (json_rules o) json_is_wire keeps c.input site.table (scalar_place s site.place.time) s refl (depth c) c.at e there v f stands
 
 -- ---- instants
 
@@ -168,10 +176,12 @@ module _ (o : Settings) (c : Cursor) (site : Site) where
   instant_stands n e h = says_stands o c site scalars.Timestamp h.found (scalar_value (instant n)) e h.lies (ap (settled o.limits null_element) h.is)
 
   pub instant_uncarried : UncarriedLies (form_at o site) c.input c.at → Uncarried (json_relations o) c site.table (scalar_place scalars.Timestamp site.place.time)
-  instant_uncarried h = (
-    h.e,
-    scalar_uncarried json_frames (rules_of o) c.input site.table (scalar_place scalars.Timestamp site.place.time) scalars.Timestamp refl (depth c) c.at h.found h.e h.lies h.is,
-  )
+  instant_uncarried h =
+      let token = tree_is_token h.found c.input (depth c) c.at h.e h.lies in (
+        h.e,
+        scalar_uncarried json_frames (json_rules o) c.input site.table (scalar_place scalars.Timestamp site.place.time) scalars.Timestamp refl (depth c) c.at h.found h.e token.0
+            (said_in h.found (says scalars.Timestamp (form_at o site) h.found) no_meaning token.1 ∙ h.is),
+      )
 
   pub no_instant_stands : NoInstantLies (form_at o site) c.input c.at → StandsNot (json_relations o) c site.table (scalar_place scalars.Timestamp site.place.time)
   no_instant_stands none = nothing_stands o c site scalars.Timestamp (λ x v e lies means.
@@ -180,15 +190,17 @@ module _ (o : Settings) (c : Cursor) (site : Site) where
 
   pub all_carried : NoInstantLies (form_at o site) c.input c.at → Uncarried (json_relations o) c site.table (scalar_place scalars.Timestamp site.place.time) → ⊥
   all_carried none (e, there) =
-      let x = uncarried_scalar json_frames (rules_of o) c.input site.table (scalar_place scalars.Timestamp site.place.time) scalars.Timestamp refl (depth c) c.at e there in
-      let both : ◌≡◌ {A = Answer Value} no_meaning uncarried = sym (none x.0 e x.1) ∙ x.2 in
+      let x = uncarried_scalar json_frames (json_rules o) c.input site.table (scalar_place scalars.Timestamp site.place.time) scalars.Timestamp refl (depth c) c.at e there in
+      let there = answer_in x.0 (says scalars.Timestamp (form_at o site) x.0) uncarried (λ no. cc) x.2 in
+      let both : ◌≡◌ {A = Answer Value} no_meaning uncarried =
+      sym (none x.0 e (token_is_tree x.0 c.input (depth c) c.at e x.1 there.0)) ∙ there.1 in
       cc
 
   -- within the limits nothing stands where a number isn't carried
   pub uncarried_stands_not : o.limits ≡ kept → Uncarried (json_relations o) c site.table (scalar_place scalars.Timestamp site.place.time)
       → StandsNot (json_relations o) c site.table (scalar_place scalars.Timestamp site.place.time)
   uncarried_stands_not keeps (e, there) v f stands =
-      uncarried_not json_frames (rules_of o) json_is_wire keeps c.input site.table (scalar_place scalars.Timestamp site.place.time) scalars.Timestamp refl (depth c) c.at e there v f stands
+      uncarried_not json_frames (json_rules o) json_is_wire keeps c.input site.table (scalar_place scalars.Timestamp site.place.time) scalars.Timestamp refl (depth c) c.at e there v f stands
 
 -- ---- the answer of a read
 

@@ -12,11 +12,13 @@ use Rattle.smithy_json_codec.specs.Scalar.{JsonScalar, a_boolean, a_number, a_st
 use Rattle.smithy_json_codec.specs.Meaning.{node_of, rules_of, json_meaning}
 use Rattle.smithy_json_codec.specs.Spelling.{json_spells}
 use Rattle.smithy_json_codec.specs.Laws.{lawful}
-use Rattle.smithy_json_codec.specs.Standing.{Follows, TreeLies, json_frames, json_relations}
+use Rattle.smithy_json_codec.specs.Standing.{Follows, TreeLies, json_frames, json_rules, json_relations}
 use Rattle.smithy_json_codec.specs.Private.Lexical.{ws_is_boundary}
 use Rattle.smithy_json_codec.specs.Private.BytePlaces.{settle}
 use Rattle.smithy_json_codec.specs.Private.ValuePlaces.{one_tree}
 use Rattle.smithy_json_codec.specs.Private.NodePlaces.{tree_lies, lies_tree, lies_full}
+use Rattle.smithy_json_codec.specs.Private.TokenMeaning.{sound}
+use Rattle.smithy_json_codec.specs.Private.TokenRules.{same_meaning}
 use Rattle.smithy_wire.specs.Node.{Node, null_node, leaf, container, missing}
 use Rattle.smithy_wire.specs.Meaning.{missing_meaning, meaning}
 use Rattle.smithy_wire.specs.Frames.{Lies, EndsAs}
@@ -73,9 +75,12 @@ ends_alone _ i e h = tt
 -- what the input spells stands at its start
 pub spells_stands : (c : Settings) (t : Table) (p : Place) (i : List ℕ) (v : Value) → json_spells c t p i v
     → (e : ℕ) × (json_relations c).stands i t p 0 0 v e
-spells_stands c t p i v (inl h) = let l = text_lies i h.0 h.1 in (l.0, (node_of h.0, tree_lies 0 h.0 i 0 l.0 l.1, h.2, ends_alone (kind_of t p) i l.0 l.2))
+spells_stands c t p i v (inl h) =
+    let l = text_lies i h.0 h.1 in
+    let node = tree_lies 0 h.0 i 0 l.0 l.1 in
+    (l.0, (node_of h.0, node.0, same_meaning c t p 0 (node_of h.0) node.1 ∙ h.2, ends_alone (kind_of t p) i l.0 l.2))
 spells_stands c t p i v (inr h) =
-    let means : meaning (rules_of c) t p 0 missing ≡ Some v = rw h.2 (missing_says (kind_of t p) h.1 ∙ ap Some (sym h.3)) in
+    let means : meaning (json_rules c) t p 0 missing ≡ Some v = rw h.2 (missing_says (kind_of t p) h.1 ∙ ap Some (sym h.3)) in
     (0, (missing, ((h.0, refl), refl), means, ends_alone (kind_of t p) i 0 (rw h.0 tt)))
 
 -- what stands at the start of the input, with only white space behind it, is spelled by it
@@ -83,13 +88,14 @@ stands_alone : (c : Settings) (t : Table) (p : Place) (i : List ℕ) (v : Value)
     → ((x : Json) → TreeLies 0 x i 0 e → json_meaning c t p 0 x ≡ Some v → IsWs (drop e i)) → (json_relations c).stands i t p 0 0 v e → json_spells c t p i v
 stands_alone c t p i v e behind (y, lies, means, ends) = of y lies means
   where
-    there : (y : Node JsonScalar) → (sort_of y ≡ no_value → ⊥) → Lies json_frames i 0 y 0 e → meaning (rules_of c) t p 0 y ≡ Some v → json_spells c t p i v
+    there : (y : Node JsonScalar) → (sort_of y ≡ no_value → ⊥) → Lies json_frames i 0 y 0 e → meaning (json_rules c) t p 0 y ≡ Some v → json_spells c t p i v
     there y is lies means =
-        let x = lies_tree 0 y i 0 e (lies_full 0 y i 0 e lies is) lies in
-        let says : json_meaning c t p 0 x.0 ≡ Some v = ap (meaning (rules_of c) t p 0) x.2 ∙ means in
+        let passes = sound c i (lies_full 0 y i 0 e lies is) t p 0 y 0 e v lies means in
+        let x = lies_tree 0 y i 0 e passes lies in
+        let says : json_meaning c t p 0 x.0 ≡ Some v = ap (meaning (rules_of c) t p 0) x.2 ∙ sym (same_meaning c t p 0 y passes) ∙ means in
         inl (x.0, lies_text i x.0 e x.1 (behind x.0 x.1 says), says)
 
-    of : (y : Node JsonScalar) → Lies json_frames i 0 y 0 e → meaning (rules_of c) t p 0 y ≡ Some v → json_spells c t p i v
+    of : (y : Node JsonScalar) → Lies json_frames i 0 y 0 e → meaning (json_rules c) t p 0 y ≡ Some v → json_spells c t p i v
     of null_node lies means = there null_node (λ h. cc) lies means
     of (leaf x) lies means = there (leaf x) (λ h. cc) lies means
     of (container f xs) lies means = there (container f xs) (λ h. cc) lies means

@@ -18,8 +18,9 @@ use Rattle.smithy_schema.specs.Table.{Table, document, kind_of}
 use Rattle.smithy_types.specs.declared.number.Number.{Number}
 use Rattle.smithy_wire.specs.Frames.{UncarriedAt}
 use Rattle.smithy_json_codec.specs.Scalar.{JsonScalar, a_boolean, a_number, a_string, tree_of, number_text, big_number, number_says, seconds_read_as, timestamp_says, says, held_says, document_says}
-use Rattle.smithy_json_codec.specs.Standing.{TreeLies, json_frames, json_relations}
-use Rattle.smithy_json_codec.specs.Meaning.{rules_of}
+use Rattle.smithy_json_codec.specs.Standing.{TreeLies, json_frames, json_rules, json_relations}
+use Rattle.smithy_json_codec.specs.LexicalGrammar.{rfc_8259, in_grammar}
+use Rattle.smithy_json_codec.specs.Private.TokenGrammar.{token_is_tree, answer_in}
 use Rattle.smithy_json_codec.specs.Settings.{Settings}
 use Rattle.smithy_json_codec.specs.Uncarried.{IsUncarriedJson, HasUnheldNumber}
 use Rattle.smithy_json_codec.specs.Wide.{IsWideJson}
@@ -67,7 +68,7 @@ string_parts i before raw rest a q is = sym (take-append-drop a i) ∙ ap (λ s.
     regroup : (front before raw rest : List ℕ) (q : ℕ) → front ++ (before ++ ((q ∷ (raw ++ q ∷ [])) ++ rest)) ≡ (front ++ (before ++ q ∷ [])) ++ (raw ++ q ∷ rest)
     regroup front before raw rest q = simp append_assoc
 
-pub wide_slice : (s : Scalar) (form : TimestampFormat) (x : JsonScalar) (i : List ℕ) (a e : ℕ) → TreeLies 1 (tree_of x) i a e → says s form x ≡ wide → IsWideJson s i
+wide_slice : (s : Scalar) (form : TimestampFormat) (x : JsonScalar) (i : List ℕ) (a e : ℕ) → TreeLies 1 (tree_of x) i a e → says s form x ≡ wide → IsWideJson s i
 wide_slice s form x i a e lies leaves = by x lies (wide_text s form x leaves)
   where
     by : (x : JsonScalar) → TreeLies 1 (tree_of x) i a e → (t : List ℕ) × (number_text x ≡ Some t) × (big_number s t ≡ wide) → IsWideJson s i
@@ -134,7 +135,7 @@ uncarried_kind scalars.Timestamp form x h = (refl, h)
 uncarried_kind scalars.BigInteger form x h = absurd (number_is_carried scalars.BigInteger (number_text x) h)
 uncarried_kind scalars.BigDecimal form x h = absurd (number_is_carried scalars.BigDecimal (number_text x) h)
 
-pub uncarried_slice : (s : Scalar) (form : TimestampFormat) (x : JsonScalar) (i : List ℕ) (a e : ℕ) → TreeLies 1 (tree_of x) i a e → says s form x ≡ uncarried
+uncarried_slice : (s : Scalar) (form : TimestampFormat) (x : JsonScalar) (i : List ℕ) (a e : ℕ) → TreeLies 1 (tree_of x) i a e → says s form x ≡ uncarried
     → (s ≡ scalars.Timestamp) × IsUncarriedJson i
 uncarried_slice s form x i a e lies h =
     let (kind, says) = uncarried_kind s form x h in
@@ -165,7 +166,7 @@ other_number (a_number raw) h = (raw, refl, by (number_of raw) h)
     by (Some n) h = cc
 other_number (a_string raw) h = absurd (answer_is_carried _ h)
 
-pub other_slice : (x : JsonScalar) (i : List ℕ) (a e : ℕ) → TreeLies 1 (tree_of x) i a e → document_says x ≡ uncarried → HasUnheldNumber i
+other_slice : (x : JsonScalar) (i : List ℕ) (a e : ℕ) → TreeLies 1 (tree_of x) i a e → document_says x ≡ uncarried → HasUnheldNumber i
 other_slice x i a e lies h =
     let (raw, is, none) = other_number x h in
     number_there raw none (subst (λ y. TreeLies 1 (tree_of y) i a e) is lies)
@@ -182,9 +183,30 @@ other_slice x i a e lies h =
           not_held = none;
         }
 
+-- ---- by tokens
+
+-- what a token means that lies somewhere, in the grammar alone
+pub wide_token : (s : Scalar) (form : TimestampFormat) (x : JsonScalar) (i : List ℕ) (d a e : ℕ) → json_frames.scalar i d x a e
+    → (if in_grammar rfc_8259 x then says s form x else no_meaning) ≡ wide → IsWideJson s i
+wide_token s form x i d a e lies h =
+    let there = answer_in x (says s form x) wide (λ no. cc) h in
+    wide_slice s form x i a e (token_is_tree x i d a e lies there.0) there.1
+
+pub uncarried_token : (s : Scalar) (form : TimestampFormat) (x : JsonScalar) (i : List ℕ) (d a e : ℕ) → json_frames.scalar i d x a e
+    → (if in_grammar rfc_8259 x then says s form x else no_meaning) ≡ uncarried → (s ≡ scalars.Timestamp) × IsUncarriedJson i
+uncarried_token s form x i d a e lies h =
+    let there = answer_in x (says s form x) uncarried (λ no. cc) h in
+    uncarried_slice s form x i a e (token_is_tree x i d a e lies there.0) there.1
+
+pub other_token : (x : JsonScalar) (i : List ℕ) (d a e : ℕ) → json_frames.scalar i d x a e
+    → (if in_grammar rfc_8259 x then document_says x else no_meaning) ≡ uncarried → HasUnheldNumber i
+other_token x i d a e lies h =
+    let there = answer_in x (document_says x) uncarried (λ no. cc) h in
+    other_slice x i a e (token_is_tree x i d a e lies there.0) there.1
+
 -- so what isn't carried at a place of documents holds such a number
 pub uncarried_document : (c : Settings) (i : List ℕ) (t : Table) (p : Place) → kind_of t p ≡ document → (d a e : ℕ) → (json_relations c).uncarried i t p d a e → HasUnheldNumber i
-uncarried_document c i t p kind d a e h = by (subst (λ k. UncarriedAt json_frames (rules_of c) k p.time i d a e) kind h)
+uncarried_document c i t p kind d a e h = by (subst (λ k. UncarriedAt json_frames (json_rules c) k p.time i d a e) kind h)
   where
-    by : UncarriedAt json_frames (rules_of c) document p.time i d a e → HasUnheldNumber i
-    by (n, b, x, ahead, lies, says) = other_slice x i b e lies says
+    by : UncarriedAt json_frames (json_rules c) document p.time i d a e → HasUnheldNumber i
+    by (n, b, x, ahead, lies, says) = other_token x i n b e lies says

@@ -1,6 +1,6 @@
 -- What JSON writes for documents: it means them, can be written, and is their canonical text.
 use Rattle.std.proofs.Common.{◌≡◌, ℕ, ℤ, pos, negsuc, List, [], ◌∷◌, ◌++◌, Bool, true, false, Some, None, refl, ap, ◌∙◌, append_assoc, arith, decimal}
-use Rattle.std.specs.Prelude.{if◌then◌else◌, option_map, option_and_then}
+use Rattle.std.specs.Prelude.{if◌then◌else◌, option_map, option_and_then, IsUtf8}
 use Rattle.std.specs.Fmt.{signed_decimal}
 use Rattle.std.proofs.lemmas.Bool.Decides.{nat_tests}
 use Rattle.smithy_types.specs.Document.{Document, null, boolean, number, text, array, object, Documents, no_documents, item, Properties, no_properties, property, whole_document, is_document_number}
@@ -13,17 +13,20 @@ use Rattle.smithy_schema.specs.declared.shape_type.Scalar.TheVariants as scalars
 use Rattle.smithy_schema.specs.Value as values
 use Rattle.smithy_json.specs.Ascii.{minus_sign, begin_array, end_array, begin_object, end_object}
 use Rattle.smithy_json.specs.DocumentText.{elements_text_by, properties_text_by}
+use Rattle.smithy_json.specs.Escape.{escaped}
 use Rattle.smithy_json.specs.HeldNumber.{held_as, number_of}
 use Rattle.smithy_json.proofs.DecimalLemmas.{decimal_is_number, decimal_writes}
 use Rattle.smithy_json.proofs.QuotedLemmas.{quoted_is_string, unescaped_of_escaped}
 use Rattle.smithy_json_codec.specs.Canonical.{document_text, name_text}
-use Rattle.smithy_json_codec.specs.Meaning.{rules_of}
-use Rattle.smithy_json_codec.specs.Scalar.{a_number, held_says, document_says}
+use Rattle.smithy_json_codec.specs.LexicalGrammar.{rfc_8259, in_grammar}
+use Rattle.smithy_json_codec.specs.Scalar.{JsonScalar, a_number, a_string, held_says, document_says}
 use Rattle.smithy_json_codec.specs.Settings.{Settings}
+use Rattle.smithy_json_codec.specs.Standing.{json_rules}
+use Rattle.smithy_json_codec.specs.Private.TokenGrammar.{said_in}
 use Rattle.smithy_json_codec.proofs.WrittenLeaves.{json_leaves}
 use Rattle.smithy_json_codec.proofs.WrittenPlaces.{separator, json_writes}
 use Rattle.smithy_wire.specs.Node.{as_array, as_object}
-use Rattle.smithy_wire.specs.Rules.{means, answer_of}
+use Rattle.smithy_wire.specs.Rules.{Answer, means, no_meaning, answer_of}
 use Rattle.smithy_wire.specs.Written.{document_node, document_nodes, property_nodes, ReadsDocuments}
 use Rattle.smithy_wire.specs.Writes.{WritesDocuments, bytes_of, nodes_bytes}
 
@@ -85,15 +88,30 @@ number_means : (n : ℤ) → is_document_number n ≡ true
     → (d : Document Number) × (document_says (a_number (signed_decimal n)) ≡ means d) × (whole_document d ≡ number n)
 number_means n fits = (number (held_as (signed_decimal n) n), ap held_says (number_is_held n fits), ap number (held_is n))
 
+-- what a scalar is as a document, where it is in the grammar
+abbrev says : JsonScalar → Answer (Document Number)
+says x = if in_grammar rfc_8259 x then document_says x else no_meaning
+
+written_number : (n : ℤ) → is_document_number n ≡ true → (d : Document Number) × (says (a_number (signed_decimal n)) ≡ means d) × (whole_document d ≡ number n)
+written_number n fits =
+    let is = number_means n fits in
+    let leaf = a_number (signed_decimal n) in
+    (is.0, said_in leaf (document_says leaf) no_meaning (decimal_is_number n (number_fits n fits)) ∙ is.1, is.2)
+
+written_text : (s : List ℕ) → IsUtf8 s → says (a_string (escaped s)) ≡ means (text s)
+written_text s utf8 =
+    let leaf = a_string (escaped s) in
+    said_in leaf (document_says leaf) no_meaning (quoted_is_string s utf8).1 ∙ ap (λ o. answer_of (option_map text o)) (unescaped_of_escaped s)
+
 -- a null of a member that is a document is a document, and what was written means what it was written for
-pub json_reads_documents : (c : Settings) → ReadsDocuments (json_leaves c) (rules_of c)
+pub json_reads_documents : (c : Settings) → ReadsDocuments (json_leaves c) (json_rules c)
 json_reads_documents c = record {
-  says = document_says;
+  says = says;
   carried = refl;
   null_is_kept = λ p is. is;
   boolean_means = λ b. refl;
-  number_means = number_means;
-  text_means = λ s utf8. ap (λ o. answer_of (option_map text o)) (unescaped_of_escaped s);
+  number_means = written_number;
+  text_means = written_text;
 }
 
 boolean_is : (c : Settings) (b : Bool) → json_writes.IsScalar ((json_leaves c).leaf_of scalars.Boolean None (values.boolean b))

@@ -1,5 +1,5 @@
 -- What JSON writes for scalars that it holds and for names: it means them, can be written, and is their canonical text.
-use Rattle.std.specs.Prelude.{◌≡◌, ℕ, List, [], ◌∷◌, true, false, Option, Some, refl}
+use Rattle.std.specs.Prelude.{◌≡◌, ℕ, List, [], ◌∷◌, true, false, Option, Some, None, if◌then◌else◌, refl}
 use Rattle.std.proofs.Common.{subst, sym, ap, ◌∙◌, arith, ◌<◌, ◌^◌, ℤ, pos, negsuc}
 use Rattle.std.specs.Prelude.{unsigned_abs}
 use Rattle.std.specs.List.{list_all}
@@ -26,10 +26,12 @@ use Rattle.smithy_json.specs.Private.Chars.{is_plain}
 use Rattle.smithy_json.proofs.EscapeLemmas.{plain_byte}
 use Rattle.smithy_json.proofs.DecimalLemmas.{decimal_is_number, decimal_writes, decimal_text_is_number}
 use Rattle.smithy_json.proofs.QuotedLemmas.{quoted_is_string, unescaped_of_escaped}
-use Rattle.smithy_json_codec.specs.Meaning.{rules_of}
+use Rattle.smithy_json_codec.specs.LexicalGrammar.{rfc_8259, in_grammar}
 use Rattle.smithy_json_codec.specs.Scalar.{JsonScalar, a_boolean, a_number, a_string, tree_of, big_number, says}
 use Rattle.smithy_json_codec.specs.Settings.{Settings}
-use Rattle.smithy_wire.specs.Rules.{means}
+use Rattle.smithy_json_codec.specs.Standing.{json_rules}
+use Rattle.smithy_json_codec.specs.Private.TokenGrammar.{value_is_token, said_in}
+use Rattle.smithy_wire.specs.Rules.{means, no_meaning}
 use Rattle.smithy_wire.specs.BigNumbers.{big_decimal}
 use Rattle.smithy_json_codec.proofs.NumberTexts.{form_is}
 use Rattle.smithy_json_codec.proofs.InstantTexts.{instant_leaf, instant_means, instant_is_value}
@@ -104,12 +106,6 @@ scalar_means scalars.BigInteger form (whole n) is held = rw (integer_form_of_wri
 scalar_means scalars.BigDecimal form (decimal m e) is held = written_decimal_means m e (decimal_fits scalars.BigDecimal m e is)
 scalar_means _ form _ is held = cc
 
-pub json_reads_leaves : (c : Settings) → ReadsLeaves (json_leaves c) (rules_of c)
-json_reads_leaves c = record {
-  scalar_means = λ s time x is held. scalar_means s (form_or c.default_timestamp_format time) x is held;
-  key_means = λ key utf8. unescaped_of_escaped key;
-}
-
 -- a scalar and a name can be written
 scalar_is : (s : Scalar) (form : TimestampFormat) (x : ScalarValue) → is_of s x ≡ true → form_holds form x ≡ true → IsValue (tree_of (leaf_of form x)) (leaf_bytes (leaf_of form x))
 scalar_is s form (boolean true) is held = refl
@@ -119,6 +115,19 @@ scalar_is s form (text t) is held = quoted_is_string t (text_is_utf8 s t is)
 scalar_is s form (decimal m e) is held = let fits = decimal_fits s m e is in (refl, decimal_text_is_number m e fits.0 fits.1)
 scalar_is s form (bytes b) is held = blob_is_string b (blob_is_bytes s b is)
 scalar_is s form (instant n) is held = instant_is_value form n (instant_fits s n is) held
+
+-- what can be written is in the grammar, so it means what it was written for
+written_means : (s : Scalar) (form : TimestampFormat) (x : ScalarValue) → is_of s x ≡ true → form_holds form x ≡ true
+    → (if in_grammar rfc_8259 (leaf_of form x) then says s form (leaf_of form x) else no_meaning) ≡ means (scalar_value x)
+written_means s form x is held =
+    let token = value_is_token (leaf_of form x) (leaf_bytes (leaf_of form x)) (scalar_is s form x is held) in
+    said_in (leaf_of form x) (says s form (leaf_of form x)) no_meaning token.1 ∙ scalar_means s form x is held
+
+pub json_reads_leaves : (c : Settings) → ReadsLeaves (json_leaves c) (json_rules c)
+json_reads_leaves c = record {
+  scalar_means = λ s time x is held. written_means s (form_or c.default_timestamp_format time) x is held;
+  key_means = λ key utf8. said_in (a_string (escaped key)) (unescaped (escaped key)) None (quoted_is_string key utf8).1 ∙ unescaped_of_escaped key;
+}
 
 pub json_writes_leaves : (c : Settings) → WritesLeaves json_writes (json_leaves c)
 json_writes_leaves c = record {

@@ -7,10 +7,12 @@ use Rattle.smithy_json.specs.Ascii.{quotation_mark, value_separator, name_separa
 use Rattle.smithy_json.specs.Tree.{null}
 use Rattle.smithy_json.specs.Grammar.{IsBoundary, IsStringText, IsValue}
 use Rattle.smithy_json_codec.specs.Scalar.{JsonScalar, a_boolean, a_number, a_string, tree_of}
-use Rattle.smithy_json_codec.specs.Standing.{Lies, TreeLies, IsByte, IsSeparated, IsName, FollowsInside, fresh_mark, entry_mark, without_ws, opening, closing, Entry, json_frames}
+use Rattle.smithy_json_codec.specs.Standing.{Lies, IsByte, IsSeparated, FollowsInside, fresh_mark, entry_mark, without_ws, opening, closing, json_frames}
+use Rattle.smithy_json_codec.specs.Tokens.{IsNameToken}
 use Rattle.smithy_json_codec.specs.Private.Lexical.{first, begins_value, Begins, value_begins, begins_plain, begins_first}
 use Rattle.smithy_json_codec.specs.Private.TextParts.{follows_inside}
 use Rattle.smithy_json_codec.specs.Private.BytePlaces.{past_byte}
+use Rattle.smithy_json_codec.specs.Private.TokenGrammar.{chars_are_quoted, tree_is_token, null_token}
 use Rattle.smithy_wire.specs.Node.{Form, as_array, as_object}
 use Rattle.smithy_wire.specs.Writes.{Writes, IsKeyOf, Stand, Follows, WritesFrames}
 use Rattle.smithy_wire.proofs.WrittenPlaces.{parts}
@@ -63,9 +65,13 @@ boundary zero s h = rw h tt
 boundary (suc d) s h = h
 
 scalar_lies : (x : JsonScalar) (d : ℕ) (i : List ℕ) (a e : ℕ) → IsValue (tree_of x) (leaf_bytes x) → Stand (leaf_bytes x) i a e → Follows json_writes d (drop e i)
-    → TreeLies 1 (tree_of x) i a e
+    → json_frames.scalar i d x a e
 scalar_lies x d i a e is stand follows =
-    (stand_lies (IsValue (tree_of x)) (leaf_bytes x) i a e is stand, follows_inside 0 (tree_of x) (drop e i) (boundary d (drop e i) follows))
+    let front = stand_lies (IsValue (tree_of x)) (leaf_bytes x) i a e is stand in
+    (tree_is_token x i d a e (front, follows_inside 0 (tree_of x) (drop e i) (boundary d (drop e i) follows))).0
+
+null_lies : (d : ℕ) (i : List ℕ) (a e : ℕ) → Stand (codes "null") i a e → Follows json_writes d (drop e i) → json_frames.null i d a e
+null_lies d i a e stand follows = null_token i d a e (stand_lies (IsValue null) (codes "null") i a e refl stand, boundary d (drop e i) follows)
 
 separated : (is_first : Bool) (i : List ℕ) (b c : ℕ) → Stand (separator is_first) i b c → IsSeparated (mark_at is_first).entered i b c
 separated true i b c stand = omega (arith, stand.1)
@@ -83,7 +89,7 @@ no_end i c e begin h =
     cc
 
 entry_lies : (f : Form) (is_first : Bool) (key : Option JsonScalar) (i : List ℕ) (b c : ℕ) → IsKeyOf json_writes f key
-    → Stand (separator is_first ++ name_bytes key) i b c → begins_value (first (drop c i)) ≡ true → Entry f i b (mark_at is_first) key c entry_mark
+    → Stand (separator is_first ++ name_bytes key) i b c → begins_value (first (drop c i)) ≡ true → json_frames.entry f i b (mark_at is_first) key c entry_mark
 entry_lies as_array is_first None i b c is stand begin =
     (refl, refl, separated is_first i b c (subst (λ s. Stand s i b c) (append-nil (separator is_first)) stand), λ e. no_end i c e begin)
 entry_lies as_array is_first (Some k) i b c is stand begin = absurd is
@@ -98,7 +104,7 @@ entry_lies as_object is_first (Some k) i b c (raw, is, chars) stand begin =
       (
         part.middle,
         separated is_first i b part.middle part.front,
-        stand_lies (IsName raw) (name_bytes (Some k)) i part.middle c ([], name, chars, tt) part.back,
+        stand_lies (IsNameToken raw) (name_bytes (Some k)) i part.middle c ([], name, chars_are_quoted raw chars.1, tt) part.back,
       ),
     )
 
@@ -119,7 +125,7 @@ ending_follows as_object r = inr (inr (inr refl))
 
 pub json_writes_frames : WritesFrames json_writes json_frames
 json_writes_frames = record {
-  null_lies = λ i d a e stand follows. (stand_lies (IsValue null) (codes "null") i a e refl stand, boundary d (drop e i) follows);
+  null_lies = λ i d a e stand follows. null_lies d i a e stand follows;
   scalar_lies = λ i d x a e is is_body stand follows. scalar_lies x d i a e is stand follows;
   opens_lie = λ f i a b stand. (refl, stand_lies (IsByte (opening f)) (opening f ∷ []) i a b refl stand);
   entry_lies = λ f is_first key i b c is is_body stand begin. entry_lies f is_first key i b c is stand begin;

@@ -1,6 +1,5 @@
 -- The laws of reading, for JSON.
 use Rattle.std.specs.Prelude.{◌≡◌, ◌↔◌, ℕ, List, [], option_map}
-use Rattle.std.proofs.Common.{◌∙◌, ap}
 use Rattle.smithy_types.specs.Document.{Document, whole_document}
 use Rattle.smithy_types.specs.declared.number.Number.{Number}
 use Rattle.smithy_schema.specs.declared.place.Place.{Place}
@@ -9,48 +8,35 @@ use Rattle.smithy_json.specs.Tree.{Json}
 use Rattle.smithy_json.specs.DocumentMeaning.{document_meaning}
 use Rattle.smithy_schema.specs.Reading.{IsLawful, StandsFit, CountsOpeners, IsBelow}
 use Rattle.smithy_json_codec.specs.Settings.{Settings, kept, without_limits}
-use Rattle.smithy_json_codec.specs.Meaning.{rules_of, json_meaning}
-use Rattle.smithy_json_codec.specs.Standing.{json_frames, json_relations}
-use Rattle.smithy_json_codec.specs.Private.Wire.{json_is_wire, json_bounds_openers}
+use Rattle.smithy_json_codec.specs.LexicalGrammar.{rfc_8259}
+use Rattle.smithy_json_codec.specs.Meaning.{json_meaning}
+use Rattle.smithy_json_codec.specs.Standing.{json_frames, json_rules, json_relations}
 use Rattle.smithy_json_codec.specs.Documents.{depth_limit, DocumentStands}
 use Rattle.smithy_json_codec.specs.Private.DocumentNodes as documents
-use Rattle.smithy_json_codec.specs.Private.DocumentNodes.{says_document}
-use Rattle.smithy_json_codec.specs.Private.Fits.{says_fits, key_fits}
-use Rattle.smithy_schema.specs.Value.{document_value, null_element}
-use Rattle.smithy_schema.specs.Lemmas.Options.{same_some}
-use Rattle.smithy_json_codec.specs.Scalar.{document_says, says}
-use Rattle.smithy_schema.specs.TimeForms.{form_or}
+use Rattle.smithy_json_codec.specs.Private.TokenLaws as tokens
+use Rattle.smithy_schema.specs.Value.{document_value}
 use Rattle.smithy_wire.specs.Wire.{RulesFit}
-use Rattle.smithy_wire.proofs.Bounds.{settled_means}
 use Rattle.smithy_wire.specs.Laws as wire
 
 -- the relations obey their laws, whatever the settings
 pub lawful : (c : Settings) → IsLawful (json_relations c)
-lawful c = wire.lawful json_frames (rules_of c) json_is_wire
+lawful = tokens.lawful rfc_8259
 
 -- what scalars mean is of their kind, and keys are texts
-pub rules_fit : (c : Settings) → RulesFit json_frames (rules_of c)
-rules_fit c = record {
-  says_fits = λ i d x a e lies t p s v kind keeps means.
-      says_fits i d x a e lies t p s v kind (form_or c.default_timestamp_format p.time)
-      (settled_means c.limits null_element (says s (form_or c.default_timestamp_format p.time) x) v keeps means);
-  document_fits = λ i d x a e lies says v carried means.
-      let same : document_says ≡ says = same_some document_says says carried in
-      says_document i d x a e lies v (ap (λ s. s x) same ∙ means);
-  key_fits = key_fits;
-}
+pub rules_fit : (c : Settings) → RulesFit json_frames (json_rules c)
+rules_fit = tokens.rules_fit
 
 -- what stands with the limits kept is a value of its place
 pub fit : (c : Settings) → c.limits ≡ kept → StandsFit (json_relations c)
-fit c keeps = wire.stands_fit json_frames (rules_of c) keeps (rules_fit c)
+fit c keeps = wire.stands_fit json_frames (json_rules c) keeps (rules_fit c)
 
 -- brackets are counted
 pub counts : (c : Settings) → CountsOpeners (json_relations c)
-counts c = wire.counts_openers json_frames (rules_of c) json_bounds_openers
+counts = tokens.counts rfc_8259
 
 -- what holds within the limits holds without them
 pub above : (c : Settings) → IsBelow (json_relations c) (json_relations (without_limits c))
-above c = wire.lifted_is_above json_frames (rules_of c)
+above = tokens.above rfc_8259
 
 -- From a to e stands a document where a tree lies there that means it inside so many containers, and behind it comes what may
 -- follow a container.

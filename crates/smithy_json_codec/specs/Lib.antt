@@ -11,6 +11,9 @@ pub mod Uncarried
 pub mod ContainerSize
 -- for contracts
 pub mod Cursor
+pub mod Spans
+pub mod Tokens
+pub mod LexicalGrammar
 pub mod Standing
 pub mod Writing
 pub mod Serializing

@@ -8,12 +8,18 @@ pub mod ValuePlaces
 pub mod ValueSorts
 pub mod ArrayPlaces
 pub mod ObjectPlaces
+pub mod TokenGrammar
+pub mod TokenPlaces
+pub mod TokenEntries
 pub mod OpenersOfTexts
 pub mod OpenersAtPlaces
 pub mod Wire
 pub mod NodePlaces
 pub mod Fits
+pub mod TokenRules
+pub mod TokenMeaning
 pub mod DocumentNodes
+pub mod TokenLaws
 -- for the laws of writing
 pub mod MadeStates
 -- for the clauses of private functions

@@ -5,9 +5,8 @@ use Rattle.smithy_schema.specs.Table.{Table, shape_place}
 use Rattle.smithy_schema.specs.Value.{Value}
 use Rattle.smithy_json_codec.specs.Codec.{strict_settings}
 use Rattle.smithy_json_codec.specs.Laws.{rules_fit}
-use Rattle.smithy_json_codec.specs.Meaning.{rules_of}
 use Rattle.smithy_json_codec.specs.Private.Wire.{json_is_wire, json_bounds_openers}
-use Rattle.smithy_json_codec.specs.Standing.{json_frames}
+use Rattle.smithy_json_codec.specs.Standing.{json_frames, json_rules}
 use Rattle.smithy_cbor_codec.specs.Codec.{strict_settings as strict_cbor}
 use Rattle.smithy_cbor_codec.specs.Laws.{rules_fit as cbor_rules_fit}
 use Rattle.smithy_cbor_codec.specs.Meaning.{rules_of as cbor_rules_of}
@@ -24,7 +23,7 @@ pub nodes_are_bounded : (w : Wire) (t : Table) (root : ℕ) (i : List ℕ) (v : 
 nodes_are_bounded (json b) t root i v h =
     let s = spelled_stands (json b) t root i v h in
     let most =
-    stands_is_bounded json_frames (rules_of (strict_settings b)) json_is_wire json_bounds_openers refl (rules_fit (strict_settings b)) i t (shape_place root) 0 0 v s.0
+    stands_is_bounded json_frames (json_rules (strict_settings b)) json_is_wire json_bounds_openers refl (rules_fit (strict_settings b)) i t (shape_place root) 0 0 v s.0
     s.1 in
     omega (arith, most)
 nodes_are_bounded cbor t root i v h =

@@ -8,10 +8,9 @@ use Rattle.smithy_schema.specs.Table.{Table, Kind, scalar, document, kind_of, sh
 use Rattle.smithy_schema.specs.Reading.{Cursor, depth, Exceeds, ExceedsInside, Uncarried, UncarriedInside}
 use Rattle.smithy_schema.specs.TimeForms.{form_or}
 use Rattle.smithy_json_codec.specs.Codec.{strict_settings}
-use Rattle.smithy_json_codec.specs.Meaning.{rules_of}
 use Rattle.smithy_json_codec.specs.Settings.{Settings}
-use Rattle.smithy_json_codec.specs.Standing.{json_frames}
-use Rattle.smithy_json_codec.proofs.WideSlices.{wide_slice, uncarried_slice, other_slice}
+use Rattle.smithy_json_codec.specs.Standing.{json_frames, json_rules}
+use Rattle.smithy_json_codec.proofs.WideSlices.{wide_token, uncarried_token, other_token}
 use Rattle.smithy_cbor_codec.specs.Codec.{strict_settings as strict_cbor}
 use Rattle.smithy_cbor_codec.specs.Meaning.{rules_of as cbor_rules}
 use Rattle.smithy_cbor_codec.specs.Standing.{cbor_frames}
@@ -40,8 +39,8 @@ Leaves w bytes k = (s : Scalar) × (k ≡ scalar s) × HasWide w s bytes
 -- at a place: the scalar that stands there, and the slice
 exceeds_slice : (w : Wire) (t : Table) (q : Place) (c : Cursor) → IsReadable w → Exceeds (relations_of w) c t q → Leaves w c.input (kind_of t q)
 exceeds_slice (json b) t q c read (e, (x, lies, leaves)) =
-    let s = too_wide_scalar (rules_of (strict_settings b)) (kind_of t q) q.time x leaves in
-    (s.0, s.1, wide_slice s.0 (form_at b q) x c.input c.at e lies s.2)
+    let s = too_wide_scalar (json_rules (strict_settings b)) (kind_of t q) q.time x leaves in
+    (s.0, s.1, wide_token s.0 (form_at b q) x c.input (depth c) c.at e lies s.2)
 exceeds_slice cbor t q c read (e, (x, lies, leaves)) =
     let s = too_wide_scalar (cbor_rules strict_cbor) (kind_of t q) q.time x leaves in
     (s.0, s.1, cbor_wide_slice s.0 q.time x c.input c.at e lies.1 s.2)
@@ -53,9 +52,9 @@ HasOther w bytes (scalar s) = (s ≡ Timestamp) × HasOtherSeconds w bytes
 HasOther w bytes document = HasUncarriedPart w bytes
 HasOther w bytes _ = ⊥
 
-json_other : (b : Bool) (q : Place) (k : Kind) (i : List ℕ) (d a e : ℕ) → UncarriedAt json_frames (rules_of (strict_settings b)) k q.time i d a e → HasOther (json b) i k
-json_other b q (scalar s) i d a e (x, lies, other) = uncarried_slice s (form_at b q) x i a e lies other
-json_other b q document i d a e h = let (deeper, c, x, ahead, lies, other) = h in other_slice x i c e lies other
+json_other : (b : Bool) (q : Place) (k : Kind) (i : List ℕ) (d a e : ℕ) → UncarriedAt json_frames (json_rules (strict_settings b)) k q.time i d a e → HasOther (json b) i k
+json_other b q (scalar s) i d a e (x, lies, other) = uncarried_token s (form_at b q) x i d a e lies other
+json_other b q document i d a e h = let (deeper, c, x, ahead, lies, other) = h in other_token x i deeper c e lies other
 json_other b q _ i d a e (x, lies, other) = absurd other
 
 cbor_other : (q : Place) (k : Kind) (i : List ℕ) (d a e : ℕ) → UncarriedAt cbor_frames (cbor_rules strict_cbor) k q.time i d a e → HasOther cbor i k

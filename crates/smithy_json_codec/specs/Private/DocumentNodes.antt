@@ -20,9 +20,10 @@ use Rattle.smithy_json.specs.Tree as tree
 use Rattle.smithy_json.specs.Tree.{Json, Elements, no_elements, element, Members, no_members, member}
 use Rattle.smithy_json.specs.Unescape.{unescaped}
 use Rattle.smithy_json_codec.specs.Settings.{Settings}
-use Rattle.smithy_json_codec.specs.Scalar.{JsonScalar, a_boolean, a_number, a_string, held_says, document_says}
+use Rattle.smithy_json_codec.specs.LexicalGrammar.{rfc_8259, in_grammar}
+use Rattle.smithy_json_codec.specs.Scalar.{JsonScalar, a_boolean, a_number, a_string, tree_of, held_says, document_says}
 use Rattle.smithy_json_codec.specs.Meaning.{node_of, element_nodes, member_nodes, rules_of, json_meaning}
-use Rattle.smithy_json_codec.specs.Standing.{FollowsContainer, Follows, json_frames, json_relations}
+use Rattle.smithy_json_codec.specs.Standing.{FollowsContainer, Follows, TreeLies, json_frames, json_rules, json_relations}
 use Rattle.smithy_json_codec.specs.Documents.{MeetsOtherNumber, depth_limit, DocumentStands, NoDocumentStands}
 use Rattle.smithy_json_codec.specs.Deepest.{has_come, EntriesLie, IsDueInside}
 use Rattle.smithy_json_codec.specs.Private.Skipping.{ValueBegins}
@@ -30,13 +31,14 @@ use Rattle.smithy_json_codec.specs.Private.BytePlaces.{separated_ahead}
 use Rattle.smithy_json_codec.specs.Private.NamePlaces.{names_ahead}
 use Rattle.smithy_json_codec.specs.Private.Lexical.{ws_is_boundary}
 use Rattle.smithy_json_codec.specs.Private.Fits.{text_is_utf8}
-use Rattle.smithy_json_codec.specs.Private.NodePlaces.{tree_lies, lies_tree, lies_full}
-use Rattle.smithy_wire.specs.Node.{Node, null_node, leaf, container, missing}
-use Rattle.smithy_wire.specs.Rules.{means, settled, answer_of}
+use Rattle.smithy_json_codec.specs.Private.NodePlaces.{tree_lies, lies_tree}
+use Rattle.smithy_json_codec.specs.Private.TokenGrammar.{tree_is_token, said_in}
+use Rattle.smithy_json_codec.specs.Private.TokenMeaning.{document_sound}
+use Rattle.smithy_json_codec.specs.Private.TokenRules.{same_document as same_by_tokens}
+use Rattle.smithy_wire.specs.Node.{Node}
+use Rattle.smithy_wire.specs.Rules.{Answer, means, no_meaning, settled, answer_of}
 use Rattle.smithy_wire.specs.Documents.{document_of, elements_of, pairs_of}
 use Rattle.smithy_wire.specs.Readers.{settled_answer, document_stands, stands_node, part_uncarried}
-use Rattle.smithy_wire.specs.Wire.{no_value}
-use Rattle.smithy_wire.specs.Lemmas.Nodes.{sort_of}
 use Rattle.smithy_wire.specs.Lemmas.Places.{means_document}
 use Rattle.smithy_wire.proofs.Bounds.{answer_means}
 
@@ -135,31 +137,31 @@ follows_at d (tree.object ms) s h k = k
 
 -- ---- documents at a place
 
-module _ (c : Settings) (i : List ℕ) (d a : ℕ) where
-  document_there : (y : Node JsonScalar) (x : Document Number) → document_of (rules_of c) document_says d y ≡ Some x → sort_of y ≡ no_value → ⊥
-  document_there null_node x held is = cc
-  document_there (leaf s) x held is = cc
-  document_there (container f ys) x held is = cc
-  document_there missing x held is = cc
+-- what a scalar is as a document, where it is in the grammar
+abbrev says : JsonScalar → Answer (Document Number)
+says x = if in_grammar rfc_8259 x then document_says x else no_meaning
 
+module _ (c : Settings) (i : List ℕ) (d a : ℕ) where
   stands_lies : (x : Document Number) (e : ℕ) → (json_relations c).documents i d a x e → DocumentStands (limit c) d i a x e
   stands_lies x e (y, lies, held, follows) =
-      let t = lies_tree d y i a e (lies_full d y i a e lies (document_there y x held)) lies in (
+      let passes = document_sound c i d y a e x lies held in
+      let t = lies_tree d y i a e passes lies in (
         record {
           tree = t.0;
           lies = (t.1.0, boundary_follows d t.0 (drop e i) t.1.1);
-          means = sym (same_document c d t.0) ∙ (ap (document_of (rules_of c) document_says d) t.2 ∙ held);
+          means = sym (same_document c d t.0) ∙ (ap (document_of (rules_of c) document_says d) t.2 ∙ (sym (same_by_tokens c d y passes) ∙ held));
         },
         follows,
       )
 
   lies_stands : (x : Document Number) (e : ℕ) → DocumentStands (limit c) d i a x e → (json_relations c).documents i d a x e
-  lies_stands x e (there, follows) = (
-    node_of there.tree,
-    tree_lies d there.tree i a e (there.lies.0, follows_at d there.tree (drop e i) there.lies.1 follows),
-    same_document c d there.tree ∙ there.means,
-    follows,
-  )
+  lies_stands x e (there, follows) =
+      let node = tree_lies d there.tree i a e (there.lies.0, follows_at d there.tree (drop e i) there.lies.1 follows) in (
+        node_of there.tree,
+        node.0,
+        same_by_tokens c d (node_of there.tree) node.1 ∙ (same_document c d there.tree ∙ there.means),
+        follows,
+      )
 
   -- from a to e stands a document where a tree lies that means it, and behind it what may follow a container
   pub documents_are : (x : Document Number) (e : ℕ) → (json_relations c).documents i d a x e ↔ DocumentStands (limit c) d i a x e
@@ -171,7 +173,7 @@ module _ (c : Settings) (i : List ℕ) (d a : ℕ) where
         → (json_relations c).stands i t p d a (document_value (whole_document x)) e × (json_relations c).documents i d a x e
     value_stands x e there =
         let h = lies_stands x e there in
-        document_stands json_frames (rules_of c) i t p kind d document_says refl a h.0 x e h.1 h.2 h.3
+        document_stands json_frames (json_rules c) i t p kind d says refl a h.0 x e h.1 h.2 h.3
 
     -- at a place of documents a tree means what it means as a document, and of each number the whole number alone
     pub means_document_of : (x : Json) → json_meaning c t p d x ≡ option_map (λ u. document_value (whole_document u)) (document_meaning (limit c) d x)
@@ -182,17 +184,18 @@ module _ (c : Settings) (i : List ℕ) (d a : ℕ) where
     -- where no document stands at a place of documents, no value does
     pub no_value_stands : NoDocumentStands (limit c) d i a → (v : Value) (e : ℕ) → (json_relations c).stands i t p d a v e → ⊥
     no_value_stands none v e stands =
-        let y = stands_node json_frames (rules_of c) i t p kind d a v e stands in
-        let x = made (λ u. document_value (whole_document u)) (document_of (rules_of c) document_says d y.0) v y.2 in
+        let y = stands_node json_frames (json_rules c) i t p kind d a v e stands in
+        let x = made (λ u. document_value (whole_document u)) (document_of (json_rules c) says d y.0) v y.2 in
         none x.0 e (stands_lies x.0 e (y.0, y.1, x.1, y.3))
 
     -- a number that no document holds isn't carried
     pub other_is_uncarried : MeetsOtherNumber i a → (e : ℕ) × (json_relations c).uncarried i t p d a e
     other_is_uncarried h =
-        let other = h.other in (
+        let other = h.other in
+        let token = tree_is_token (a_number other.raw) i 1 h.at other.e other.lies in (
           other.e,
-          part_uncarried json_frames (rules_of c) i t p kind d document_says refl a 1 h.at (a_number other.raw) other.e (due_ahead i h.containers a h.at h.due)
-              other.lies (ap held_says other.not_held),
+          part_uncarried json_frames (json_rules c) i t p kind d says refl a 1 h.at (a_number other.raw) other.e (due_ahead i h.containers a h.at h.due)
+              token.0 (said_in (a_number other.raw) (document_says (a_number other.raw)) no_meaning token.1 ∙ ap held_says other.not_held),
         )
 
 -- ---- what a scalar is as a document
@@ -223,7 +226,7 @@ held_means None v h = cc
 held_means (Some n) v h = (n, refl, cc)
 
 -- what a scalar is as a document has no parts, and can be a value
-pub says_document : (i : List ℕ) (d : ℕ) (x : JsonScalar) (a e : ℕ) → json_frames.scalar i d x a e → (v : Document Number) → document_says x ≡ means v
+pub says_document : (i : List ℕ) (d : ℕ) (x : JsonScalar) (a e : ℕ) → TreeLies 1 (tree_of x) i a e → (v : Document Number) → document_says x ≡ means v
     → DocumentFits (whole_document v) × (document_nesting v ≡ 1)
 says_document i d (a_boolean b) a e lies v h =
     let same : documents.boolean b ≡ v = cc in

@@ -11,9 +11,7 @@ use Rattle.smithy_schema.specs.TimeForms.{format_of}
 use Rattle.smithy_schema.specs.Table.{Table, scalar, kind_of}
 use Rattle.smithy_schema.specs.Value.{boolean as boolean_value, whole, text, bytes, instant, Value, scalar_value}
 use Rattle.smithy_schema.specs.Fits.{is_of, Fits}
-use Rattle.smithy_schema.specs.Reading.{Mark}
 use Rattle.smithy_schema.specs.Lemmas.Options.{same_some, step_apart, chosen, made}
-use Rattle.smithy_json.specs.Grammar.{IsStringText}
 use Rattle.smithy_json.specs.Number.{whole_number}
 use Rattle.smithy_texts.specs.Base64Text.{blob_of}
 use Rattle.smithy_texts.specs.Decimal.{integer_form, decimal_form}
@@ -24,9 +22,8 @@ use Rattle.smithy_instants.specs.Instant.{is_instant}
 use Rattle.smithy_instants.specs.Epoch.{epoch_nanos}
 use Rattle.smithy_instants.specs.DateText.{date_of}
 use Rattle.smithy_json.proofs.TextLemmas.{unescaped_is_utf8}
-use Rattle.smithy_json_codec.specs.Scalar.{JsonScalar, a_boolean, a_number, a_string, boolean_of, whole_of, text_of, bytes_of, number_text, number_says, seconds_read_as, date_says, timestamp_says, says}
-use Rattle.smithy_json_codec.specs.Standing.{json_frames}
-use Rattle.smithy_wire.specs.Node.{as_object}
+use Rattle.smithy_json_codec.specs.Scalar.{JsonScalar, a_boolean, a_number, a_string, tree_of, boolean_of, whole_of, text_of, bytes_of, number_text, number_says, seconds_read_as, date_says, timestamp_says, says}
+use Rattle.smithy_json_codec.specs.Standing.{TreeLies}
 use Rattle.smithy_wire.specs.Rules.{means}
 use Rattle.smithy_wire.proofs.Bounds.{chosen_answer, answer_means, big_integer_fits, big_decimal_fits}
 
@@ -47,19 +44,10 @@ boolean_fits t p (a_boolean b) v kind h = subst (Fits t p) (same_some (scalar_va
 boolean_fits t p (a_number raw) v kind h = cc
 boolean_fits t p (a_string raw) v kind h = cc
 
-pub text_is_utf8 : (i : List ℕ) (d : ℕ) (x : JsonScalar) (a e : ℕ) → json_frames.scalar i d x a e → (s : List ℕ) → text_of x ≡ Some s → IsUtf8 s
+pub text_is_utf8 : (i : List ℕ) (d : ℕ) (x : JsonScalar) (a e : ℕ) → TreeLies 1 (tree_of x) i a e → (s : List ℕ) → text_of x ≡ Some s → IsUtf8 s
 text_is_utf8 i d (a_boolean b) a e lies s h = cc
 text_is_utf8 i d (a_number raw) a e lies s h = cc
 text_is_utf8 i d (a_string raw) a e lies s h = unescaped_is_utf8 raw s lies.0.2.4.1.0 h
-
--- the text of a name is in UTF-8
-pub key_fits : (i : List ℕ) (b : ℕ) (m : Mark) (key : JsonScalar) (c : ℕ) (n : Mark) (s : List ℕ) → json_frames.entry as_object i b m (Some key) c n
-    → text_of key ≡ Some s → IsUtf8 s
-key_fits i b m (a_boolean x) c n s entry h = cc
-key_fits i b m (a_number raw) c n s entry h = cc
-key_fits i b m (a_string raw) c n s (name, is, mark, names) h =
-    let same : raw ≡ name = cc in
-    unescaped_is_utf8 raw s (subst IsStringText (sym same) names.2.2.4.2).0 h
 
 -- a big number is within the limits of its kind
 number_fits : (t : Table) (p : Place) (s : Scalar) (o : Option (List ℕ)) (v : Value) → kind_of t p ≡ scalar s → number_says s o ≡ means v → Fits t p v
@@ -92,7 +80,7 @@ timestamp_fits t p DateTime x v kind h = date_fits t p DateTime (text_of x) v ki
 timestamp_fits t p HttpDate x v kind h = date_fits t p HttpDate (text_of x) v kind h
 
 -- what a scalar means is a value of its kind
-pub says_fits : (i : List ℕ) (d : ℕ) (x : JsonScalar) (a e : ℕ) → json_frames.scalar i d x a e
+pub says_fits : (i : List ℕ) (d : ℕ) (x : JsonScalar) (a e : ℕ) → TreeLies 1 (tree_of x) i a e
     → (t : Table) (p : Place) (s : Scalar) (v : Value) → kind_of t p ≡ scalar s → (form : TimestampFormat) → says s form x ≡ means v → Fits t p v
 says_fits i d x a e lies t p scalars.Boolean v kind form h = boolean_fits t p x v kind (answer_means (boolean_of x) v h)
 says_fits i d x a e lies t p scalars.Byte v kind form h = whole_fits 8 scalars.Byte (λ z. refl) t p x v kind (answer_means (whole_of 8 x) v h)

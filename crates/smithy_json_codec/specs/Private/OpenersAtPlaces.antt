@@ -1,13 +1,16 @@
 -- How many brackets are open at most from one place of the input on and from another.
-use Rattle.std.specs.Prelude.{◌≡◌, ◌≤◌, ℕ, suc, ◌-◌, drop, List, ◌∷◌, ◌++◌, Bool, true, false}
+use Rattle.std.specs.Prelude.{◌≡◌, ◌≤◌, ℕ, suc, ◌-◌, drop, List, ◌∷◌, ◌++◌, Bool, true, false, codes}
 use Rattle.std.proofs.Common.{sym, ◌∙◌, ap, arith, append_assoc}
 use Rattle.smithy_json.specs.Ascii.{value_separator, begin_array, end_array, begin_object, end_object}
 use Rattle.smithy_json.specs.Tree.{Json}
 use Rattle.smithy_json.specs.Grammar.{IsValue}
-use Rattle.smithy_json_codec.specs.Standing.{Lies, IsByte, IsSeparated, IsName, Names}
+use Rattle.smithy_json_codec.specs.Standing.{Lies, IsByte, IsSeparated, Names}
 use Rattle.smithy_json_codec.specs.Openers.{json_openers}
+use Rattle.smithy_json_codec.specs.Scalar.{JsonScalar}
+use Rattle.smithy_json_codec.specs.Tokens.{IsToken, IsNameToken, NameTokens}
 use Rattle.smithy_json_codec.specs.Private.ArrayPlaces.{byte_front}
-use Rattle.smithy_json_codec.specs.Private.OpenersOfTexts.{AddsNothing, TakesNothing, both_add, ws_adds, name_adds, value_takes}
+use Rattle.smithy_json_codec.specs.Private.OpenersOfTexts.{AddsNothing, TakesNothing, both_add, ws_adds, name_adds, null_token_adds, token_adds, value_takes}
+use Rattle.smithy_json_codec.specs.Private.TokenGrammar.{names_token}
 
 module _ (i : List ℕ) where
   -- how many brackets are open at most, from this place on
@@ -62,6 +65,16 @@ module _ (i : List ℕ) where
   across_separator true b c h = byte_rises value_separator b c h
 
   -- a name with its comma and its colon adds nothing
+  pub across_name_token : (entered : Bool) (b : ℕ) (raw : List ℕ) (c : ℕ) → NameTokens entered i b raw c → openers_from b ≡ openers_from c
+  across_name_token entered b raw c h =
+      across_separator entered b h.0 h.1 ∙ across (IsNameToken raw) h.0 c (name_adds raw) h.2
+
   pub across_name : (entered : Bool) (b : ℕ) (raw : List ℕ) (c : ℕ) → Names entered i b raw c → openers_from b ≡ openers_from c
-  across_name entered b raw c h =
-      across_separator entered b h.0 h.1 ∙ across (IsName raw) h.0 c (name_adds raw) h.2
+  across_name entered b raw c h = across_name_token entered b raw c (names_token i entered b raw c h).0
+
+  -- nor does a null, or a scalar
+  pub across_null : (a e : ℕ) → Lies (λ s. s ≡ codes "null") i a e → openers_from a ≡ openers_from e
+  across_null a e h = across (λ s. s ≡ codes "null") a e null_token_adds h
+
+  pub across_token : (x : JsonScalar) (a e : ℕ) → Lies (IsToken x) i a e → openers_from a ≡ openers_from e
+  across_token x a e h = across (IsToken x) a e (token_adds x) h

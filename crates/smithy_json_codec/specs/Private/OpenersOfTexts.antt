@@ -4,10 +4,12 @@ use Rattle.std.proofs.Common.{sym, ◌∙◌, ap, arith, subst, append_assoc, in
 use Rattle.std.proofs.lemmas.Bool.Decides.{nat_tests}
 use Rattle.smithy_json.specs.Ascii.{quotation_mark, escape, value_separator, name_separator, begin_array, end_array, begin_object, end_object, is_ws}
 use Rattle.smithy_json.specs.Tree.{Json, null, boolean, number, string, array, object, Elements, no_elements, element, Members, no_members, member}
-use Rattle.smithy_json.specs.Grammar.{IsWs, IsNumber, AreChars, IsPadded, IsMember, IsValue, AreMoreElements, AreMoreMembers}
-use Rattle.smithy_json_codec.specs.Standing.{IsName}
+use Rattle.smithy_json.specs.Grammar.{IsWs, IsPadded, IsMember, IsValue, AreMoreElements, AreMoreMembers}
 use Rattle.smithy_json_codec.specs.Openers.{inside, greatest_rise, json_openers}
-use Rattle.smithy_json_codec.specs.Private.Lexical.{is_numeric, Pass, number_pass, eq_false}
+use Rattle.smithy_json_codec.specs.Scalar.{JsonScalar, a_boolean, a_number, a_string}
+use Rattle.smithy_json_codec.specs.Tokens.{IsNumberRun, IsQuoted, IsToken, IsNameToken}
+use Rattle.smithy_json_codec.specs.Private.Lexical.{is_numeric, Pass, eq_false}
+use Rattle.smithy_json_codec.specs.Private.TokenGrammar.{number_is_run, chars_are_quoted}
 
 -- ---- two kinds of texts
 
@@ -60,8 +62,9 @@ numeric_plain : (b : ℕ) → is_numeric b ≡ true → is_counted b ≡ false
 numeric_plain b h = grind (arith, nat_tests)
 
 -- a number adds nothing
-pub number_adds : (raw : List ℕ) → IsNumber raw → AddsNothing raw
-number_adds raw h = plain_bytes is_numeric numeric_plain raw (number_pass raw h)
+number_adds : (raw : List ℕ) → IsNumberRun raw → AddsNothing raw
+number_adds [] h = absurd h
+number_adds (b ∷ raw) h = plain_bytes is_numeric numeric_plain (b ∷ raw) h.1
 
 ws_plain : (b : ℕ) → IsTrue (is_ws b) → is_counted b ≡ false
 ws_plain b h = grind (arith, nat_tests)
@@ -74,26 +77,42 @@ ws_adds (b ∷ s) h rest = plain_byte b (s ++ rest) (ws_plain b h.0) ∙ ws_adds
 -- ---- strings
 
 -- behind its text a string ends
-text_adds : (raw rest : List ℕ) → AreChars raw → greatest_rise inside (raw ++ quotation_mark ∷ rest) ≡ json_openers rest
+text_adds : (raw rest : List ℕ) → IsQuoted raw → greatest_rise inside (raw ++ quotation_mark ∷ rest) ≡ json_openers rest
 text_adds [] rest h = refl
-text_adds (b ∷ []) rest h = rw (eq_false b quotation_mark h.1, eq_false b escape h.2) refl
+text_adds (b ∷ []) rest h = rw (eq_false b quotation_mark h.0, eq_false b escape h.1) refl
 text_adds (b ∷ letter ∷ raw) rest (inl h) =
-    rw (eq_false b quotation_mark h.0.1, eq_false b escape h.0.2) (text_adds (letter ∷ raw) rest h.1)
-text_adds (b ∷ letter ∷ raw) rest (inr h) = rw h.0 (text_adds raw rest h.2)
+    rw (eq_false b quotation_mark h.0.0, eq_false b escape h.0.1) (text_adds (letter ∷ raw) rest h.1)
+text_adds (b ∷ letter ∷ raw) rest (inr h) = rw h.0 (text_adds raw rest h.1)
 
 -- a string adds nothing, whatever brackets are in it
-pub string_adds : (raw : List ℕ) → AreChars raw → AddsNothing (quotation_mark ∷ (raw ++ quotation_mark ∷ []))
+string_adds : (raw : List ℕ) → IsQuoted raw → AddsNothing (quotation_mark ∷ (raw ++ quotation_mark ∷ []))
 string_adds raw h rest =
     ap (λ bytes. json_openers (quotation_mark ∷ bytes)) (append_assoc raw (quotation_mark ∷ []) rest) ∙ text_adds raw rest h
 
 -- a name, white space and a colon add nothing
-pub name_adds : (raw bytes : List ℕ) → IsName raw bytes → AddsNothing bytes
+pub name_adds : (raw bytes : List ℕ) → IsNameToken raw bytes → AddsNothing bytes
 name_adds raw bytes h =
     let colon = both_add h.0 (name_separator ∷ []) (ws_adds h.0 h.3) (λ rest. refl) in
-    let string = string_adds raw h.2.1 in
+    let string = string_adds raw h.2 in
     let all = both_add (quotation_mark ∷ (raw ++ quotation_mark ∷ [])) (h.0 ++ name_separator ∷ []) string colon in
     let flat : (quotation_mark ∷ (raw ++ quotation_mark ∷ [])) ++ (h.0 ++ name_separator ∷ []) ≡ bytes = simp append_assoc (sym h.1) in
     subst AddsNothing flat all
+
+-- ---- tokens
+
+null_adds : AddsNothing (codes "null")
+null_adds rest = refl
+
+-- a null adds nothing
+pub null_token_adds : (s : List ℕ) → s ≡ codes "null" → AddsNothing s
+null_token_adds s h = subst AddsNothing (sym h) null_adds
+
+-- nor does a scalar
+pub token_adds : (x : JsonScalar) (s : List ℕ) → IsToken x s → AddsNothing s
+token_adds (a_boolean true) s h = subst AddsNothing (sym h) (λ rest. refl)
+token_adds (a_boolean false) s h = subst AddsNothing (sym h) (λ rest. refl)
+token_adds (a_number raw) s h = subst AddsNothing (sym h.0) (number_adds raw h.1)
+token_adds (a_string raw) s h = subst AddsNothing (sym h.0) (string_adds raw h.1)
 
 -- ---- brackets
 
@@ -126,7 +145,7 @@ member_takes : (name : List ℕ) (P : List ℕ → Type 0) → ((s : List ℕ) �
 member_takes name P takes bytes h =
     let key = quotation_mark ∷ (name ++ (quotation_mark ∷ (h.1 ++ name_separator ∷ []))) in
     let flat : h.0 ++ (key ++ h.2) ≡ bytes = simp append_assoc (sym h.3) in
-    let named = takes_if_adds key (name_adds name key (h.1, refl, h.5, h.6)) in
+    let named = takes_if_adds key (name_adds name key (h.1, refl, chars_are_quoted name h.5.1, h.6)) in
     subst TakesNothing flat (both_take h.0 (key ++ h.2) (ws_takes h.0 h.4) (both_take key h.2 named (padded_takes P takes h.2 h.7)))
 
 literal_takes : (s word : List ℕ) → AddsNothing word → s ≡ word → TakesNothing s
@@ -141,8 +160,8 @@ mutual
   value_takes null s h = literal_takes s (codes "null") (λ rest. refl) h
   value_takes (boolean true) s h = literal_takes s (codes "true") (λ rest. refl) h
   value_takes (boolean false) s h = literal_takes s (codes "false") (λ rest. refl) h
-  value_takes (number raw) s h = literal_takes s raw (number_adds raw h.1) h.0
-  value_takes (string raw) s h = literal_takes s (quotation_mark ∷ (raw ++ quotation_mark ∷ [])) (string_adds raw h.1.1) h.0
+  value_takes (number raw) s h = literal_takes s raw (number_adds raw (number_is_run raw h.1)) h.0
+  value_takes (string raw) s h = literal_takes s (quotation_mark ∷ (raw ++ quotation_mark ∷ [])) (string_adds raw (chars_are_quoted raw h.1.1)) h.0
   value_takes (array no_elements) s h = subst TakesNothing (sym h.1) (array_takes h.0 (ws_takes h.0 h.2))
   value_takes (array (element x es)) s h =
       let inner = both_take h.2.0 h.2.1 (padded_takes (IsValue x) (value_takes x) h.2.0 h.2.3) (elements_take es h.2.1 h.2.4) in

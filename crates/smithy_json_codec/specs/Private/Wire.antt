@@ -1,63 +1,45 @@
--- JSON is a wire: what is determined in its framing, how values begin, and that positions rise.
+-- The tokens of JSON make a wire, whatever may follow a value: so the laws of reading hold for all settings at once.
 use Rattle.std.specs.Prelude.{◌≡◌, ◌<◌, ◌≤◌, ◌+◌, ◌-◌, ℕ, suc, length, drop, List, [], Option, Some, Bool, true, false, if◌then◌else◌, refl}
 use Rattle.std.proofs.Common.{sym, ◌∙◌, ap, arith, inl, inr}
 use Rattle.smithy_schema.specs.Reading.{Mark, IsBehind as IsPassed}
 use Rattle.smithy_json.specs.Ascii.{value_separator, begin_array, end_array, begin_object, end_object}
 use Rattle.smithy_json.specs.Grammar.{IsBoundary}
-use Rattle.smithy_json.specs.Tree.{null}
-use Rattle.smithy_json_codec.specs.Scalar.{JsonScalar, a_boolean, a_number, a_string, tree_of}
-use Rattle.smithy_json_codec.specs.Standing.{Lies, IsByte, Follows, IsSeparated, fresh_mark, end_mark, entry_mark, without_ws, begins_with_null, opening, Entry, json_frames}
 use Rattle.smithy_json_codec.specs.Openers.{json_openers}
+use Rattle.smithy_json_codec.specs.Scalar.{JsonScalar, a_string, tree_of}
+use Rattle.smithy_json_codec.specs.Standing.{Lies, TreeLies, IsByte, IsSeparated, fresh_mark, end_mark, entry_mark, without_ws, begins_with_null, opening, closing, json_frames}
+use Rattle.smithy_json_codec.specs.Tokens.{EntryTokens, token_frames}
 use Rattle.smithy_json_codec.specs.Private.BytePlaces.{same_byte, byte_ahead, same_separated, separated_ahead, no_byte, element_or_end}
-use Rattle.smithy_json_codec.specs.Private.NamePlaces.{same_names, names_or_end, names_ahead, no_names}
-use Rattle.smithy_json_codec.specs.Private.ValuePlaces.{one_tree, tree_ahead}
-use Rattle.smithy_json_codec.specs.Private.ValueSorts.{null_begins, json_sort, not_null_sort, scalar_sort, opens_sort}
-use Rattle.smithy_json_codec.specs.Private.OpenersAtPlaces.{across_value, across_begin_array, across_begin_object, across_end_array, across_end_object, across_separator, across_name}
+use Rattle.smithy_json_codec.specs.Private.OpenersAtPlaces.{across_null, across_token, across_begin_array, across_begin_object, across_end_array, across_end_object, across_separator, across_name_token}
+use Rattle.smithy_json_codec.specs.Private.TokenGrammar.{tree_is_token}
+use Rattle.smithy_json_codec.specs.Private.TokenPlaces.{one_token, token_ahead, token_begins, one_null, null_ahead, null_token_begins, same_names, names_or_end, names_ahead, no_names}
+use Rattle.smithy_json_codec.specs.Private.ValueSorts.{json_sort, not_null_sort, opens_sort}
 use Rattle.smithy_wire.specs.Node.{Form, as_array, as_object}
 use Rattle.smithy_wire.specs.Wire.{no_value, IsWire, BoundsOpeners}
 
 -- ---- what is determined
 
-tree_scalar : (x y : JsonScalar) → tree_of x ≡ tree_of y → x ≡ y
-tree_scalar (a_boolean b) (a_boolean c) h = let same : b ≡ c = cc in ap a_boolean same
-tree_scalar (a_boolean b) (a_number s) h = cc
-tree_scalar (a_boolean b) (a_string s) h = cc
-tree_scalar (a_number r) (a_boolean c) h = cc
-tree_scalar (a_number r) (a_number s) h = let same : r ≡ s = cc in ap a_number same
-tree_scalar (a_number r) (a_string s) h = cc
-tree_scalar (a_string r) (a_boolean c) h = cc
-tree_scalar (a_string r) (a_number s) h = cc
-tree_scalar (a_string r) (a_string s) h = let same : r ≡ s = cc in ap a_string same
-
-same_entry : (s : Form) (i : List ℕ) (b : ℕ) (m : Mark) (k l : Option JsonScalar) (c e : ℕ) (n o : Mark) → Entry s i b m k c n → Entry s i b m l e o
+same_entry : (s : Form) (i : List ℕ) (b : ℕ) (m : Mark) (k l : Option JsonScalar) (c e : ℕ) (n o : Mark) → EntryTokens s i b m k c n → EntryTokens s i b m l e o
     → (k ≡ l) × (c ≡ e) × (n ≡ o)
 same_entry as_array i b m k l c e n o h j = (h.0 ∙ sym j.0, same_separated i m.entered b c e h.2 j.2, h.1 ∙ sym j.1)
 same_entry as_object i b m k l c e n o h j =
     let one = same_names i m.entered b h.0 j.0 c e h.3 j.3 in
     (h.1 ∙ ap (λ raw. Some (a_string raw)) one.0 ∙ sym j.1, one.1, h.2 ∙ sym j.2)
 
-same_ends : (s : Form) (i : List ℕ) (b : ℕ) (m : Mark) (e f : ℕ) → json_frames.ends s i b m e → json_frames.ends s i b m f → e ≡ f
-same_ends as_array i b m e f h k = (same_byte i b e f end_array end_array refl refl h k).1
-same_ends as_object i b m e f h k = (same_byte i b e f end_object end_object refl refl h k).1
+same_ends : (s : Form) (i : List ℕ) (b : ℕ) (e f : ℕ) → Lies (IsByte (closing s)) i b e → Lies (IsByte (closing s)) i b f → e ≡ f
+same_ends as_array i b e f h k = (same_byte i b e f end_array end_array refl refl h k).1
+same_ends as_object i b e f h k = (same_byte i b e f end_object end_object refl refl h k).1
 
-same_opens : (s : Form) (i : List ℕ) (a b c : ℕ) (m n : Mark) → json_frames.opens s i a b m → json_frames.opens s i a c n → (b ≡ c) × (m ≡ n)
-same_opens as_array i a b c m n h j = ((same_byte i a b c begin_array begin_array refl refl h.1 j.1).1, h.0 ∙ sym j.0)
-same_opens as_object i a b c m n h j = ((same_byte i a b c begin_object begin_object refl refl h.1 j.1).1, h.0 ∙ sym j.0)
+same_opens : (s : Form) (i : List ℕ) (a b c : ℕ) → Lies (IsByte (opening s)) i a b → Lies (IsByte (opening s)) i a c → b ≡ c
+same_opens as_array i a b c h j = (same_byte i a b c begin_array begin_array refl refl h j).1
+same_opens as_object i a b c h j = (same_byte i a b c begin_object begin_object refl refl h j).1
 
-entry_or_end : (s : Form) (i : List ℕ) (b : ℕ) (m : Mark) (k : Option JsonScalar) (c e : ℕ) (n : Mark) → Entry s i b m k c n → json_frames.ends s i b m e → ⊥
+entry_or_end : (s : Form) (i : List ℕ) (b : ℕ) (m : Mark) (k : Option JsonScalar) (c e : ℕ) (n : Mark) → EntryTokens s i b m k c n → Lies (IsByte (closing s)) i b e → ⊥
 entry_or_end as_array i b m k c e n h end = element_or_end i m.entered b c e h.2 h.3 end
 entry_or_end as_object i b m k c e n h end = names_or_end i m.entered b h.0 c e h.3 end
 
--- ---- what follows
-
-scalar_follows : (x : JsonScalar) (s : List ℕ) → Follows 1 (tree_of x) s → IsBoundary s
-scalar_follows (a_boolean b) s h = h
-scalar_follows (a_number raw) s h = h
-scalar_follows (a_string raw) s h = h
-
 -- ---- positions rise
 
-entry_ahead : (s : Form) (i : List ℕ) (b : ℕ) (m : Mark) (k : Option JsonScalar) (c : ℕ) (n : Mark) → Entry s i b m k c n → b ≤ c
+entry_ahead : (s : Form) (i : List ℕ) (b : ℕ) (m : Mark) (k : Option JsonScalar) (c : ℕ) (n : Mark) → EntryTokens s i b m k c n → b ≤ c
 entry_ahead as_array i b m k c n h = separated_ahead i m.entered b c h.2
 entry_ahead as_object i b m k c n h = omega (arith, names_ahead i m.entered b h.0 c h.3)
 
@@ -74,8 +56,11 @@ falls : (entered : Bool) (n b e : ℕ) → b < e → e ≤ n → n - e + 0 < n -
 falls true n b e ahead within = omega (arith, ahead, within)
 falls false n b e ahead within = omega (arith, ahead, within)
 
-nearer : (s : Form) (i : List ℕ) (b : ℕ) (m : Mark) (k : Option JsonScalar) (c e : ℕ) (n : Mark) → Entry s i b m k c n → IsPassed i c e
-    → json_frames.left i e n < json_frames.left i b m
+abbrev left : List ℕ → ℕ → Mark → ℕ
+left i b m = length i - b + (if m.entered then 0 else 1)
+
+nearer : (s : Form) (i : List ℕ) (b : ℕ) (m : Mark) (k : Option JsonScalar) (c e : ℕ) (n : Mark) → EntryTokens s i b m k c n → IsPassed i c e
+    → left i e n < left i b m
 nearer as_array i b m k c e n h at =
     let up = behind_up i c e at in rw h.1 (falls_in_array i m.entered b c e h.2 up.0 up.1)
 nearer as_object i b m k c e n h at =
@@ -85,7 +70,7 @@ less_in : (entered : Bool) (l b c : ℕ) → b ≤ c → l - c + 0 ≤ l - b + (
 less_in true l b c up = omega (arith, up)
 less_in false l b c up = omega (arith, up)
 
-entry_falls : (s : Form) (i : List ℕ) (b : ℕ) (m : Mark) (k : Option JsonScalar) (c : ℕ) (n : Mark) → Entry s i b m k c n → json_frames.left i c n ≤ json_frames.left i b m
+entry_falls : (s : Form) (i : List ℕ) (b : ℕ) (m : Mark) (k : Option JsonScalar) (c : ℕ) (n : Mark) → EntryTokens s i b m k c n → left i c n ≤ left i b m
 entry_falls as_array i b m k c n h = rw h.1 (less_in m.entered (length i) b c (separated_ahead i m.entered b c h.2))
 entry_falls as_object i b m k c n h = rw h.2 (less_in m.entered (length i) b c (omega (arith, names_ahead i m.entered b h.0 c h.3)))
 
@@ -93,7 +78,7 @@ opens_ahead : (s : Form) (i : List ℕ) (a b : ℕ) → Lies (IsByte (opening s)
 opens_ahead as_array i a b h = byte_ahead begin_array i a b h
 opens_ahead as_object i a b h = byte_ahead begin_object i a b h
 
-entry_inside : (s : Form) (i : List ℕ) (b : ℕ) (m : Mark) (k : Option JsonScalar) (c : ℕ) (n : Mark) → Entry s i b m k c n → n ≡ end_mark → ⊥
+entry_inside : (s : Form) (i : List ℕ) (b : ℕ) (m : Mark) (k : Option JsonScalar) (c : ℕ) (n : Mark) → EntryTokens s i b m k c n → n ≡ end_mark → ⊥
 entry_inside as_array i b m k c n h is = let same : entry_mark ≡ end_mark = sym h.1 ∙ is in let clash = ap (λ (x : Mark). x.at_end) same in cc
 entry_inside as_object i b m k c n h is = let same : entry_mark ≡ end_mark = sym h.2 ∙ is in let clash = ap (λ (x : Mark). x.at_end) same in cc
 
@@ -101,31 +86,31 @@ over_sort : (i : List ℕ) (a : ℕ) → i ≡ [] → a ≡ 0 → json_sort (wit
 over_sort i a h k = rw (h, k) refl
 
 -- all that the laws of reading need of the framing
-pub json_is_wire : IsWire json_frames
-json_is_wire = record {
-  same_null = λ i d a e f h k. (one_tree 1 1 null null i a e f h k).1;
-  same_scalar = λ i d x y a e f h k. let one = one_tree 1 1 (tree_of x) (tree_of y) i a e f h k in (tree_scalar x y one.0, one.1);
-  same_opens = same_opens;
+pub tokens_are_wire : (Boundary : List ℕ → Type 0) → IsWire (token_frames Boundary)
+tokens_are_wire Boundary = record {
+  same_null = λ i d a e f h k. one_null i a e f h.0 k.0;
+  same_scalar = λ i d x y a e f h k. one_token i x y a e f h.0 h.1 k.0 k.1;
+  same_opens = λ s i a b c m n h j. (same_opens s i a b c h.1 j.1, h.0 ∙ sym j.0);
   same_entry = same_entry;
-  same_ends = same_ends;
+  same_ends = λ s i b m e f h k. same_ends s i b e f h k;
   entry_or_end = entry_or_end;
   sort_at = λ i a. json_sort (without_ws (drop a i));
-  null_sort = λ i d a e h. rw (null_begins i a e h) refl;
-  scalar_sort = λ i d x a e h. scalar_sort i x a e h;
+  null_sort = λ i d a e h. rw (null_token_begins i a e h.0 h.1) refl;
+  scalar_sort = λ i d x a e h. token_begins i x a e h.0;
   opens_sort = λ s i a b m h. opens_sort s i a b h.1;
   over_sort = λ i a h. over_sort i a h.0 h.1;
-  null_begins = λ i d a e h. null_begins i a e h;
+  null_begins = λ i d a e h. null_token_begins i a e h.0 h.1;
   others_begin = λ i a h. not_null_sort (without_ws (drop a i)) (begins_with_null (without_ws (drop a i))) h;
-  null_follows = λ i d a e h. h.1;
-  scalar_follows = λ i d x a e h. scalar_follows x (drop e i) h.1;
+  null_follows = λ i d a e h. h.2;
+  scalar_follows = λ i d x a e h. h.2;
   empty_is_over = (refl, refl);
   over_is_end = λ i a h. h.1 ∙ sym (ap length h.0);
   no_entry_over = λ i b k c n over h. no_names i false b h.0 c over.0 h.3;
   no_end_over = λ i b e over h. no_byte end_object i b e over.0 h;
   opens_inside = λ s i a b m h is. let same : fresh_mark ≡ end_mark = sym h.0 ∙ is in let clash = ap (λ (x : Mark). x.at_end) same in cc;
   entry_inside = entry_inside;
-  null_ahead = λ i d a e h. (tree_ahead 1 null i a e h, h.0.1);
-  scalar_ahead = λ i d x a e h. (tree_ahead 1 (tree_of x) i a e h, h.0.1);
+  null_ahead = λ i d a e h. (null_ahead i a e h.0, h.0.1);
+  scalar_ahead = λ i d x a e h. (token_ahead i x a e h.0, h.0.1);
   opens_ahead = λ s i a b m h. (opens_ahead s i a b h.1, h.1.1);
   entry_ahead = entry_ahead;
   ends_ahead = λ s i b m e low h. (h.0, h.1);
@@ -136,25 +121,37 @@ json_is_wire = record {
 
 -- ---- openers
 
-opening_adds : (s : Form) (i : List ℕ) (a b : ℕ) (m : Mark) → json_frames.opens s i a b m → suc (json_openers (drop b i)) ≤ json_openers (drop a i)
-opening_adds as_array i a b m h = omega (arith, across_begin_array i a b h.1)
-opening_adds as_object i a b m h = omega (arith, across_begin_object i a b h.1)
+opening_adds : (s : Form) (i : List ℕ) (a b : ℕ) → Lies (IsByte (opening s)) i a b → suc (json_openers (drop b i)) ≤ json_openers (drop a i)
+opening_adds as_array i a b h = omega (arith, across_begin_array i a b h)
+opening_adds as_object i a b h = omega (arith, across_begin_object i a b h)
 
-entry_takes_none : (s : Form) (i : List ℕ) (b : ℕ) (m : Mark) (k : Option JsonScalar) (c : ℕ) (n : Mark) → Entry s i b m k c n → json_openers (drop c i) ≤ json_openers (drop b i)
+entry_takes_none : (s : Form) (i : List ℕ) (b : ℕ) (m : Mark) (k : Option JsonScalar) (c : ℕ) (n : Mark) → EntryTokens s i b m k c n → json_openers (drop c i) ≤ json_openers (drop b i)
 entry_takes_none as_array i b m k c n h = omega (arith, across_separator i m.entered b c h.2)
-entry_takes_none as_object i b m k c n h = omega (arith, across_name i m.entered b h.0 c h.3)
+entry_takes_none as_object i b m k c n h = omega (arith, across_name_token i m.entered b h.0 c h.3)
 
-end_takes_one : (s : Form) (i : List ℕ) (b : ℕ) (m : Mark) (e : ℕ) → json_frames.ends s i b m e → json_openers (drop e i) ≤ suc (json_openers (drop b i))
-end_takes_one as_array i b m e h = across_end_array i b e h
-end_takes_one as_object i b m e h = across_end_object i b e h
+end_takes_one : (s : Form) (i : List ℕ) (b : ℕ) (e : ℕ) → Lies (IsByte (closing s)) i b e → json_openers (drop e i) ≤ suc (json_openers (drop b i))
+end_takes_one as_array i b e h = across_end_array i b e h
+end_takes_one as_object i b e h = across_end_object i b e h
 
 -- all that the laws of reading need of the count of brackets
-pub json_bounds_openers : BoundsOpeners json_frames
-json_bounds_openers = record {
+pub tokens_bound_openers : (Boundary : List ℕ → Type 0) → BoundsOpeners (token_frames Boundary)
+tokens_bound_openers Boundary = record {
   over_is_empty = λ i a over some. omega (arith, some, ap length over.0);
-  null_takes_none = λ i d a e h. across_value i null a e h.0;
-  scalar_takes_none = λ i d x a e h. across_value i (tree_of x) a e h.0;
-  opening_adds = opening_adds;
+  null_takes_none = λ i d a e h. omega (arith, across_null i a e h.0);
+  scalar_takes_none = λ i d x a e h. omega (arith, across_token i x a e h.0);
+  opening_adds = λ s i a b m h. opening_adds s i a b h.1;
   entry_takes_none = entry_takes_none;
-  end_takes_one = end_takes_one;
+  end_takes_one = λ s i b m e h. end_takes_one s i b e h;
 }
+
+-- ---- under the boundary of RFC 8259
+
+pub json_is_wire : IsWire json_frames
+json_is_wire = tokens_are_wire IsBoundary
+
+pub json_bounds_openers : BoundsOpeners json_frames
+json_bounds_openers = tokens_bound_openers IsBoundary
+
+-- at one place lies one scalar
+pub one_scalar : (i : List ℕ) (x y : JsonScalar) (a e f : ℕ) → TreeLies 1 (tree_of x) i a e → TreeLies 1 (tree_of y) i a f → x ≡ y
+one_scalar i x y a e f h k = (json_is_wire.same_scalar i 0 x y a e f (tree_is_token x i 0 a e h).0 (tree_is_token y i 0 a f k).0).0

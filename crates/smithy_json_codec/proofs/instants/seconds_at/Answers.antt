@@ -3,7 +3,7 @@ use Rattle.std.proofs.lemmas.Result.{err_from_is_err_and}
 use Rattle.smithy_schema.specs.declared.error.SerdeError.TheVariants.{NotCarried}
 use Rattle.smithy_schema.specs.declared.shape_type.TimestampFormat.TheVariants.{EpochSeconds}
 use Rattle.smithy_json_codec.specs.Scalar.{a_number, timestamp_says}
-use Rattle.smithy_json_codec.specs.Private.Wire.{json_is_wire}
+use Rattle.smithy_json_codec.specs.Private.Wire.{one_scalar}
 use Rattle.smithy_json_codec.proofs.DeserializerLemmas.{error_of}
 use Rattle.smithy_json_codec.proofs.InstantPlaces.{no_seconds_lie}
 use Rattle.smithy_json_codec.proofs.instants.seconds_at.Goals as goal
@@ -15,7 +15,7 @@ pub returns-in_err-instant-clause-none : goal.returns-in_err-instant-clause-none
 returns-in_err-instant-clause-none c =
     let p = err_from_is_err_and c.from_residual.result c.from_residual.ensures.1 in
     rw (p.1, p.2) (λ invalid x e lies.
-    let same = (json_is_wire.same_scalar c.args.input.now 0 x (a_number c.in-Some.seconds.now) c.args.at e _ lies c.in-Some.ensures.found).0 in
+    let same = one_scalar c.args.input.now x (a_number c.in-Some.seconds.now) c.args.at e _ lies c.in-Some.ensures.found in
     ap (timestamp_says EpochSeconds) same ∙ c.in_err-instant.ensures.none invalid)
 
 pub returns-in_err-instant-clause-uncarried : goal.returns-in_err-instant-clause-uncarried

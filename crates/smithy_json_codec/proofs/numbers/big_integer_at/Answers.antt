@@ -4,7 +4,7 @@ use Rattle.smithy_schema.specs.declared.error.SerdeError.TheVariants.{TooWide}
 use Rattle.smithy_schema.specs.declared.shape_type.Scalar.TheVariants as scalars
 use Rattle.smithy_json_codec.specs.Scalar.{number_text, big_number, number_says}
 use Rattle.smithy_json_codec.specs.NumberText.{NumberTextLies}
-use Rattle.smithy_json_codec.specs.Private.Wire.{json_is_wire}
+use Rattle.smithy_json_codec.specs.Private.Wire.{one_scalar}
 use Rattle.smithy_json_codec.proofs.DeserializerLemmas.{error_of}
 use Rattle.smithy_json_codec.proofs.NumberTexts.{says_as_text, says_nothing}
 use Rattle.smithy_json_codec.proofs.numbers.big_integer_at.Goals as goal
@@ -23,7 +23,7 @@ returns-in_err-number-clause-none c =
     let p = err_from_is_err_and c.from_residual-in_err-number.result c.from_residual-in_err-number.ensures.1 in
     rw (p.1, p.2) (λ invalid x e lies.
     let number = c.in_ok-text.ensures.found in
-    let same = (json_is_wire.same_scalar c.args.input.now 0 x number.found c.args.at e _ lies number.lies).0 in
+    let same = one_scalar c.args.input.now x number.found c.args.at e _ lies number.lies in
     ap (λ y. number_says scalars.BigInteger (number_text y)) same ∙ says_as_text scalars.BigInteger number.found _ number.is
     ∙ ap (big_number scalars.BigInteger) (sym c.as_str.ensures.value) ∙ c.in_err-number.ensures.none invalid)
 
