@@ -10,7 +10,7 @@ use crate::head::read_head;
 const BREAK: u8 = 0xff;
 
 /// Where the bytes of a chunk begin and end, without its head.
-#[derive(Clone, Copy, Debug, PartialEq, Eq)]
+#[derive(Clone, Copy)]
 pub(crate) struct Chunk {
     pub start: usize,
     pub end: usize,

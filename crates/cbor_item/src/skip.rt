@@ -13,7 +13,7 @@ use crate::head::read_head;
 use std::alloc::Global;
 
 /// What is still due before a string, an array, a map or a tag ends.
-#[derive(Clone, Copy, Debug, PartialEq, Eq)]
+#[derive(Clone, Copy)]
 pub(crate) enum Due {
     /// This many items: the elements of an array, or the one item behind a tag.
     Items(u64),
@@ -32,7 +32,7 @@ pub(crate) enum Due {
 }
 
 /// What comes next where something is due.
-#[derive(Clone, Copy, Debug, PartialEq, Eq)]
+#[derive(Clone, Copy)]
 enum Part {
     /// What was due has ended, at this offset.
     Ended(usize),

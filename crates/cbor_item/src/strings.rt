@@ -62,7 +62,7 @@ pub fn byte_chunks<'a>(
 }
 
 /// How a string begins.
-#[derive(Clone, Copy, Debug, PartialEq, Eq)]
+#[derive(Clone, Copy)]
 enum Start {
     /// The string has a definite length, and this is the range of its bytes.
     Whole(Chunk),

@@ -34,15 +34,20 @@ pub fn refused(alloc: Global, what: &str) -> Result<Vec<Field>, AllocError> {
     Ok(answers)
 }
 
-/// Adds the line `refused NAME` where a call was refused, and none for a call that the row names and there isn't.
+/// Where a call was refused, adds the line `refused NAME` behind so many lines, in place of those that it added, and a like line
+/// for a call that the row names and there isn't.
 pub fn push_refusal(
     alloc: Global,
     answers: &mut Vec<Field>,
     answer: Option<Result<(), SerdeError>>,
+    count: usize,
 ) -> Result<(), AllocError> {
     match answer {
         None => push(alloc, answers, "refused", b"no such call"),
         Some(Ok(())) => Ok(()),
-        Some(Err(error)) => push_shown(alloc, answers, "refused", error),
+        Some(Err(error)) => {
+            answers.truncate(count);
+            push_shown(alloc, answers, "refused", error)
+        }
     }
 }

@@ -16,14 +16,14 @@ fn deal_with<R: ShapeDeserializer>(
     source: &mut R,
     place: &Schema<'_>,
     how: &str,
-    lines: &mut Vec<Field>,
+    answers: &mut Vec<Field>,
 ) -> Result<(), SerdeError>
     ensures { OnOk result ((R.state source.new).inner.within ≡ (R.state source.old).inner.within) }
 {
     match how {
         "read_document" => {
             let document = source.read_document(place)?;
-            push_text(alloc, &document, lines)
+            push_text(alloc, &document, answers)
         }
         "leave_unread" => Ok(()),
         _ => source.skip_value(),
@@ -31,30 +31,32 @@ fn deal_with<R: ShapeDeserializer>(
 }
 
 // Adds what comes next in a structure or a union: a member, an unknown entry, or the end.
-fn push_step(alloc: Global, step: &Step<'_>, lines: &mut Vec<Field>) -> Result<(), SerdeError> {
+fn push_step(alloc: Global, step: &Step<'_>, answers: &mut Vec<Field>) -> Result<(), SerdeError> {
     let word = match step {
         Step::Member(_) => "member",
         Step::Unknown => "unknown",
         Step::End => "end",
     };
-    Ok(push(alloc, lines, word, b"")?)
+    Ok(push(alloc, answers, word, b"")?)
 }
 
 // Adds what comes next in a list: an element, or the end.
-fn push_element(alloc: Global, is_due: bool, lines: &mut Vec<Field>) -> Result<(), SerdeError> {
+fn push_element(alloc: Global, is_due: bool, answers: &mut Vec<Field>) -> Result<(), SerdeError> {
     let word = if is_due { "element" } else { "end" };
-    Ok(push(alloc, lines, word, b"")?)
+    Ok(push(alloc, answers, word, b"")?)
 }
 
-// Adds what comes next in a map: a key, or the end.
-fn push_key(alloc: Global, key: &Option<String>, lines: &mut Vec<Field>) -> Result<(), SerdeError> {
-    match key {
-        Some(key) => Ok(push(alloc, lines, "key", key.as_bytes())?),
-        None => Ok(push(alloc, lines, "end", b"")?),
-    }
+// Adds the key that comes next in a map.
+fn push_key(alloc: Global, key: String, answers: &mut Vec<Field>) -> Result<(), SerdeError> {
+    Ok(push(alloc, answers, "key", key.as_bytes())?)
 }
 
-/// Opens a structure or a union, and asks for two entries. The lines are added where nothing was refused.
+// Adds that a map ends.
+fn push_end(alloc: Global, answers: &mut Vec<Field>) -> Result<(), SerdeError> {
+    Ok(push(alloc, answers, "end", b"")?)
+}
+
+/// Opens a structure or a union, and asks for two entries.
 pub fn first_members<R: ShapeDeserializer>(
     alloc: Global,
     source: &mut R,
@@ -64,21 +66,19 @@ pub fn first_members<R: ShapeDeserializer>(
 ) -> Result<(), SerdeError>
     requires { HasMembers (kind_at (site_of place.now)) }
 {
-    let mut lines = Vec::new(alloc);
     source.open_struct(place)?;
     let step = source.next_member(place)?;
-    push_step(alloc, &step, &mut lines)?;
+    push_step(alloc, &step, answers)?;
     match step {
-        Step::Member(member) => deal_with(alloc, source, &member, how, &mut lines)?,
-        Step::Unknown => deal_with(alloc, source, place, how, &mut lines)?,
-        Step::End => return Ok(answers.append(&mut lines)?),
+        Step::Member(member) => deal_with(alloc, source, &member, how, answers)?,
+        Step::Unknown => deal_with(alloc, source, place, how, answers)?,
+        Step::End => return Ok(()),
     }
     let step = source.next_member(place)?;
-    push_step(alloc, &step, &mut lines)?;
-    Ok(answers.append(&mut lines)?)
+    push_step(alloc, &step, answers)
 }
 
-/// Opens a list, and asks for two elements. The lines are added where nothing was refused.
+/// Opens a list, and asks for two elements.
 pub fn first_elements<R: ShapeDeserializer>(
     alloc: Global,
     source: &mut R,
@@ -88,20 +88,19 @@ pub fn first_elements<R: ShapeDeserializer>(
 ) -> Result<(), SerdeError>
     requires { IsList (kind_at (site_of place.now)) }
 {
-    let mut lines = Vec::new(alloc);
     let inner = place.member().unwrap_or(*place);
     source.open_list(place)?;
     let is_due = source.next_element()?;
-    push_element(alloc, is_due, &mut lines)?;
+    push_element(alloc, is_due, answers)?;
     if is_due {
-        deal_with(alloc, source, &inner, how, &mut lines)?;
+        deal_with(alloc, source, &inner, how, answers)?;
         let is_due = source.next_element()?;
-        push_element(alloc, is_due, &mut lines)?;
+        push_element(alloc, is_due, answers)?;
     }
-    Ok(answers.append(&mut lines)?)
+    Ok(())
 }
 
-/// Opens a map, and asks for two keys. The lines are added where nothing was refused.
+/// Opens a map, and asks for two keys.
 pub fn first_keys<R: ShapeDeserializer>(
     alloc: Global,
     source: &mut R,
@@ -111,15 +110,15 @@ pub fn first_keys<R: ShapeDeserializer>(
 ) -> Result<(), SerdeError>
     requires { IsMap (kind_at (site_of place.now)) }
 {
-    let mut lines = Vec::new(alloc);
     let inner = place.member().unwrap_or(*place);
     source.open_map(place)?;
-    let key = source.next_key()?;
-    push_key(alloc, &key, &mut lines)?;
-    if key.is_some() {
-        deal_with(alloc, source, &inner, how, &mut lines)?;
-        let key = source.next_key()?;
-        push_key(alloc, &key, &mut lines)?;
+    let Some(key) = source.next_key()? else {
+        return push_end(alloc, answers);
+    };
+    push_key(alloc, key, answers)?;
+    deal_with(alloc, source, &inner, how, answers)?;
+    match source.next_key()? {
+        Some(key) => push_key(alloc, key, answers),
+        None => push_end(alloc, answers),
     }
-    Ok(answers.append(&mut lines)?)
 }

@@ -19,12 +19,13 @@ fn read<R: ShapeDeserializer>(
     let mut answers = Vec::new(alloc);
     for field in &row.fields {
         let word = field.word.as_str();
+        let count = answers.len();
         if is_sized_call(word) {
             let answer = sized_call(alloc, shapes, source, word, &field.value, &mut answers);
-            push_refusal(alloc, &mut answers, answer)?;
+            push_refusal(alloc, &mut answers, answer, count)?;
         } else if is_call(word) {
             let answer = read_call(alloc, shapes, source, word, &field.value, &mut answers);
-            push_refusal(alloc, &mut answers, answer)?;
+            push_refusal(alloc, &mut answers, answer, count)?;
         }
     }
     Ok(answers)

@@ -22,7 +22,8 @@ fn written<S: FinishSerializer + Drop>(
         let word = field.word.as_str();
         if is_call(word) {
             let answer = write_call(alloc, shapes, &mut sink, word, &field.value);
-            push_refusal(alloc, &mut answers, answer)?;
+            let count = answers.len();
+            push_refusal(alloc, &mut answers, answer, count)?;
         }
     }
     if row.bytes("finish").is_some() {

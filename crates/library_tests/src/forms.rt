@@ -1,98 +1,136 @@
 //! Forms that the writers write.
 
-use smithy_query::{QueryValueWriter, QueryWriter};
+ghost use Rattle.std.specs.Prelude.{◌≡◌};
+ghost use Rattle.smithy_query.specs.Writer.{list_index, map_index};
+
+use smithy_query::{QueryListWriter, QueryMapWriter, QueryValueWriter, QueryWriter};
 use smithy_types::{DateTime, DateTimeFormatError, Format, Number};
+use std::alloc::AllocError;
 use std::borrow::CowStr;
+use std::process::Abort;
 use std::test::Fail;
 
-#[test]
-fn writes_lists_and_maps(rt: HostRuntime) -> Result<(), Fail> {
-    let mut text = String::new(rt.alloc());
-    let mut form = QueryWriter::new(&mut text, "Some Action", "1 2")?;
+// A list of one element and a flat map of one entry.
+fn write_list_and_map(form: &mut QueryWriter<'_>) -> Result<(), AllocError> {
     let mut list = form.prefix("ItemList").start_list(false, Some("item"));
     list.entry()?.string("foo")?;
     list.finish()?;
     let mut map = form.prefix("Tags").start_map(true, "key", "value");
     map.entry("bar")?.string("Bar")?;
     map.finish();
+    Ok(())
+}
+
+#[test]
+fn writes_lists_and_maps(rt: HostRuntime) -> Result<(), Fail> {
+    let mut text = String::new(rt.alloc());
+    let mut form = QueryWriter::new(&mut text, "Some Action", "1 2")?;
+    write_list_and_map(&mut form)?;
     form.finish();
-    assert_eq!(rt;
-        text.as_str(),
-        "Action=Some%20Action&Version=1%202&ItemList.item.1=foo&Tags.1.key=bar&Tags.1.value=Bar"
+    assert!(rt;
+        text.as_str()
+            == "Action=Some%20Action&Version=1%202&ItemList.item.1=foo&Tags.1.key=bar&Tags.1.value=Bar"
     );
     Ok(())
 }
 
-// Every byte of the action needs an escape, and the version is empty. Of 2021-05-24T15:34:50.123Z and a year behind 9999, only
-// seconds can tell the second.
+// The writer of a value under a name.
+fn value<'a>(text: &'a mut String, name: &'a str) -> QueryValueWriter<'a> {
+    QueryValueWriter::new(text, CowStr::Borrowed(name))
+}
+
+fn write_scalars(text: &mut String) -> Result<(), AllocError> {
+    value(text, "a").boolean(true)?;
+    value(text, "a").number(Number::PosInt(5))?;
+    value(text, "a").number(Number::NegInt(-9_223_372_036_854_775_808))
+}
+
+// 2021-05-24T15:34:50.123Z and a year behind 9999, which only seconds can tell.
+fn write_instants(rt: &impl Abort, text: &mut String) -> Result<(), DateTimeFormatError> {
+    let instant = DateTime::from_millis(1_621_870_490_123);
+    value(text, "d").date_time(&instant, Format::DateTime)?;
+    let far = DateTime::from_secs(253_402_300_800);
+    let refused = value(text, "b").date_time(&far, Format::HttpDate);
+    assert!(rt; refused == Err(DateTimeFormatError::OutOfRange));
+    value(text, "c").date_time(&far, Format::EpochSeconds)
+}
+
+// Every byte of the action needs an escape, and the version is empty.
 #[test]
 fn writes_values(rt: HostRuntime) -> Result<(), Fail> {
     let mut text = String::new(rt.alloc());
     QueryWriter::new(&mut text, "\u{0}+&=%\u{7f}\u{e9}/\u{1f600}", "")?.finish();
-    QueryValueWriter::new(&mut text, CowStr::Borrowed("a")).boolean(true)?;
-    QueryValueWriter::new(&mut text, CowStr::Borrowed("a")).number(Number::PosInt(5))?;
-    QueryValueWriter::new(&mut text, CowStr::Borrowed("a")).number(Number::NegInt(
-        -9_223_372_036_854_775_808,
-    ))?;
-    let instant = DateTime::from_millis(1_621_870_490_123);
-    QueryValueWriter::new(&mut text, CowStr::Borrowed("d")).date_time(&instant, Format::DateTime)?;
-    let far = DateTime::from_secs(253_402_300_800);
-    let refused = QueryValueWriter::new(&mut text, CowStr::Borrowed("b")).date_time(
-        &far,
-        Format::HttpDate,
-    );
-    assert_eq!(rt; refused, Err(DateTimeFormatError::OutOfRange));
-    QueryValueWriter::new(&mut text, CowStr::Borrowed("c")).date_time(&far, Format::EpochSeconds)?;
-    assert_eq!(rt;
-        text.as_str(),
-        "Action=%00%2B%26%3D%25%7F%C3%A9%2F%F0%9F%98%80&Version=&a=true&a=5&a=-9223372036854775808\
+    write_scalars(&mut text)?;
+    write_instants(&rt, &mut text)?;
+    assert!(rt;
+        text.as_str()
+            == "Action=%00%2B%26%3D%25%7F%C3%A9%2F%F0%9F%98%80&Version=&a=true&a=5&a=-9223372036854775808\
          &d=2021-05-24T15%3A34%3A50.123Z&c=253402300800"
     );
     Ok(())
+}
+
+// Two elements.
+fn write_elements(rt: &impl Abort, list: &mut QueryListWriter<'_>) -> Result<(), AllocError>
+    requires { list_index list.old ≡ 1 }
+{
+    list.entry()?.string("x")?;
+    assert!(rt; list.next_index() == 2);
+    list.entry()?.string("y")
+}
+
+// A flat list, and a boolean.
+fn write_entries(rt: &impl Abort, map: &mut QueryMapWriter<'_>) -> Result<(), AllocError>
+    requires { map_index map.old ≡ 1 }
+{
+    let mut list = map.entry("k")?.start_list(true, Some("ignored"));
+    write_elements(rt, &mut list)?;
+    list.finish()?;
+    assert!(rt; map.next_index() == 2);
+    map.entry("+")?.boolean(false)
+}
+
+// A map, and a text.
+fn write_list(rt: &impl Abort, list: &mut QueryListWriter<'_>) -> Result<(), AllocError>
+    requires { list_index list.old ≡ 1 }
+{
+    let mut map = list.entry()?.start_map(false, "K", "V");
+    write_entries(rt, &mut map)?;
+    map.finish();
+    assert!(rt; list.next_index() == 2);
+    list.entry()?.string("z")
 }
 
 // A list within a map within a list, under a path that the writer owns.
 #[test]
 fn writes_under_longer_paths(rt: HostRuntime) -> Result<(), Fail> {
     let mut text = String::new(rt.alloc());
-    let mut path = String::new(rt.alloc());
-    path.push_str("p")?;
+    let path = "p".to_string(rt.alloc())?;
     let mut value = QueryValueWriter::new(&mut text, CowStr::Owned(path));
     let mut list = value.prefix("q")?.start_list(false, None);
-    let mut map = list.entry()?.start_map(false, "K", "V");
-    let mut inner = map.entry("k")?.start_list(true, Some("ignored"));
-    inner.entry()?.string("x")?;
-    assert_eq!(rt; inner.next_index(), 2);
-    inner.entry()?.string("y")?;
-    inner.finish()?;
-    assert_eq!(rt; map.next_index(), 2);
-    map.entry("+")?.boolean(false)?;
-    map.finish();
-    assert_eq!(rt; list.next_index(), 2);
-    list.entry()?.string("z")?;
+    write_list(&rt, &mut list)?;
     list.finish()?;
     drop(value);
-    assert_eq!(rt;
-        text.as_str(),
-        "&p.q.member.1.entry.1.K=k&p.q.member.1.entry.1.V.1=x&p.q.member.1.entry.1.V.2=y\
+    assert!(rt;
+        text.as_str()
+            == "&p.q.member.1.entry.1.K=k&p.q.member.1.entry.1.V.1=x&p.q.member.1.entry.1.V.2=y\
          &p.q.member.1.entry.2.K=%2B&p.q.member.1.entry.2.V=false&p.q.member.2=z"
     );
     Ok(())
+}
+
+fn write_empty(text: &mut String) -> Result<(), AllocError> {
+    let mut list = value(text, "l").start_list(true, Some("item"));
+    list.entry()?.start_map(false, "K", "V").finish();
+    list.finish()?;
+    value(text, "m").start_list(false, Some("item")).finish()
 }
 
 // Lists without entries, and a map without one.
 #[test]
 fn writes_empty_lists_and_maps(rt: HostRuntime) -> Result<(), Fail> {
     let mut text = String::new(rt.alloc());
-    let mut list = QueryValueWriter::new(&mut text, CowStr::Borrowed("l")).start_list(
-        true,
-        Some("item"),
-    );
-    list.entry()?.start_map(false, "K", "V").finish();
-    list.finish()?;
-    QueryValueWriter::new(&mut text, CowStr::Borrowed("m"))
-        .start_list(false, Some("item"))
-        .finish()?;
-    assert_eq!(rt; text.as_str(), "&m=");
+    write_empty(&mut text)?;
+    assert!(rt; text.as_str() == "&m=");
     Ok(())
 }

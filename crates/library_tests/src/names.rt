@@ -7,60 +7,59 @@ use smithy_outside::{Failed, LoadFault};
 use smithy_schema::{SerdeError, TableFault};
 use smithy_transcode::{TranscodeError, Unfit};
 use smithy_types::{BigNumberError, DateTimeFormatError, base64};
+use std::alloc::Global;
 use std::borrow::CowStr;
-use std::test::Fail;
+use std::fmt::Display;
 
-#[test]
-fn want_of_memory_prints_its_name(rt: HostRuntime) -> Result<(), Fail> {
-    let of_values = format!(in rt.alloc();
-        "{} {} {} {}",
-        BigNumberError::NoMemory,
-        base64::DecodeError::NoMemory,
-        DateTimeFormatError::NoMemory,
-        EscapeError::NoMemory
-    )?;
-    assert_eq!(rt; of_values.as_str(), "NoMemory NoMemory NoMemory NoMemory");
-    let of_items = format!(in rt.alloc();
-        "{} {} {}",
-        ItemError::NoMemory,
-        EncodeError::NoMemory,
-        DecodeKind::NoMemory
-    )?;
-    assert_eq!(rt; of_items.as_str(), "NoMemory NoMemory NoMemory");
-    let of_bodies = format!(in rt.alloc();
-        "{} {} {}",
-        SerdeError::NoMemory,
-        TableFault::NoMemory,
-        TranscodeError::NoMemory
-    )?;
-    assert_eq!(rt; of_bodies.as_str(), "NoMemory NoMemory NoMemory");
-    Ok(())
+/// Whether a value prints as this text.
+pub fn prints<T: Display + Drop>(alloc: Global, value: T, text: &str) -> bool {
+    match format!(in alloc; "{value}") {
+        Ok(printed) => printed.as_str() == text,
+        Err(_) => false,
+    }
 }
 
 #[test]
-fn what_a_caller_states_prints_its_name(rt: HostRuntime) -> Result<(), Fail> {
-    let printed = format!(in rt.alloc();
-        "{} {} {} {} {}",
-        DecodeKind::UnexpectedUnionVariant(CborType::Map),
-        DecodeKind::UnknownUnionVariant(String::new(rt.alloc())),
-        DecodeKind::MixedUnionVariants,
-        DecodeKind::ExpectedEndOfStream,
-        DecodeKind::Custom(CowStr::Borrowed("c"))
-    )?;
-    assert_eq!(rt;
-        printed.as_str(),
-        "UnexpectedUnionVariant UnknownUnionVariant MixedUnionVariants ExpectedEndOfStream Custom"
+fn want_of_memory_prints_its_name(rt: HostRuntime) {
+    let alloc = rt.alloc();
+    let name = "NoMemory";
+    assert!(rt; prints(alloc, BigNumberError::NoMemory, name));
+    assert!(rt; prints(alloc, base64::DecodeError::NoMemory, name));
+    assert!(rt; prints(alloc, DateTimeFormatError::NoMemory, name));
+    assert!(rt; prints(alloc, EscapeError::NoMemory, name));
+    assert!(rt; prints(alloc, ItemError::NoMemory, name));
+    assert!(rt; prints(alloc, EncodeError::NoMemory, name));
+    assert!(rt; prints(alloc, DecodeKind::NoMemory, name));
+    assert!(rt; prints(alloc, SerdeError::NoMemory, name));
+    assert!(rt; prints(alloc, TableFault::NoMemory, name));
+    assert!(rt; prints(alloc, TranscodeError::NoMemory, name));
+    assert!(rt; prints(alloc, LoadFault::NoMemory, name));
+}
+
+#[test]
+fn what_a_decoder_may_state_prints_its_name(rt: HostRuntime) {
+    let alloc = rt.alloc();
+    let of_another_type = DecodeKind::UnexpectedUnionVariant(CborType::Map);
+    assert!(rt; prints(alloc, of_another_type, "UnexpectedUnionVariant"));
+    let unknown = DecodeKind::UnknownUnionVariant(String::new(alloc));
+    assert!(rt; prints(alloc, unknown, "UnknownUnionVariant"));
+    assert!(rt; prints(alloc, DecodeKind::MixedUnionVariants, "MixedUnionVariants"));
+    assert!(rt;
+        prints(
+            alloc,
+            DecodeKind::ExpectedEndOfStream,
+            "ExpectedEndOfStream"
+        )
     );
-    let printed = format!(in rt.alloc();
-        "{} {Failed} {} {} {}",
-        TranscodeError::Inexpressible(Unfit::Instant),
-        LoadFault::Failed,
-        LoadFault::TooLong,
-        LoadFault::NoMemory
-    )?;
-    assert_eq!(rt;
-        printed.as_str(),
-        "Inexpressible Failed Failed TooLong NoMemory"
-    );
-    Ok(())
+    assert!(rt; prints(alloc, DecodeKind::Custom(CowStr::Borrowed("c")), "Custom"));
+}
+
+#[test]
+fn what_a_caller_states_prints_its_name(rt: HostRuntime) {
+    let alloc = rt.alloc();
+    let inexpressible = TranscodeError::Inexpressible(Unfit::Instant);
+    assert!(rt; prints(alloc, inexpressible, "Inexpressible"));
+    assert!(rt; prints(alloc, Failed, "Failed"));
+    assert!(rt; prints(alloc, LoadFault::Failed, "Failed"));
+    assert!(rt; prints(alloc, LoadFault::TooLong, "TooLong"));
 }

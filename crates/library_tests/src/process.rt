@@ -1,9 +1,10 @@
 //! What the process ends with, over arguments and streams in memory and a real file.
 use smithy_commands::run_on_system;
+use std::alloc::Global;
 use std::env::{Env, FillError};
-use std::process::{Abort, ExitCode};
+use std::process::ExitCode;
 use std::test::Fail;
-use std::{env, fs};
+use std::{env, fs, rt};
 
 /// Arguments that are held in memory.
 #[derive(Clone, Copy)]
@@ -138,24 +139,29 @@ const PROCESSES: [Process; 8] = [
     },
 ];
 
+// Whether the process ends as the row says.
+fn ends_as_told<F: rt::Files>(alloc: Global, files: &F, row: &Process) -> bool {
+    let arguments = Arguments { all: row.arguments };
+    let mut out = Vec::new(alloc);
+    let mut err = Vec::new(alloc);
+    let code = run_on_system(
+        alloc,
+        env::args(&(arguments, alloc)),
+        files,
+        row.input,
+        &mut out,
+        &mut err,
+    );
+    code == ExitCode::from(row.status)
+        && out.as_slice() == row.output
+        && err.as_slice() == row.line.as_bytes()
+}
+
 #[test]
 fn the_process_ends_with_the_status(rt: HostRuntime) -> Result<(), Fail> {
     fs::write(&rt, "shapes", "structure S\nmember a long\n")?;
     for row in &PROCESSES {
-        let arguments = Arguments { all: row.arguments };
-        let mut out = Vec::new(rt.alloc());
-        let mut err = Vec::new(rt.alloc());
-        let code = run_on_system(
-            rt.alloc(),
-            env::args(&(arguments, rt.alloc())),
-            &rt,
-            row.input,
-            &mut out,
-            &mut err,
-        );
-        assert_eq!(rt; code, ExitCode::from(row.status), "{}", row.name);
-        assert_eq!(rt; out.as_slice(), row.output, "{}", row.name);
-        assert_eq!(rt; err.as_slice(), row.line.as_bytes(), "{}", row.name);
+        assert!(rt; ends_as_told(rt.alloc(), &rt, row), "{}", row.name);
     }
     fs::remove_file(&rt, "shapes")?;
     Ok(())

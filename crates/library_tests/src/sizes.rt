@@ -40,7 +40,7 @@ fn refuses_65536_members(rt: HostRuntime) -> Result<(), Fail> {
         65_536,
     )?;
     let refused = refusal_of(rt.alloc(), text.as_str());
-    assert_eq!(rt; refused, Some(TableFault::TooMany(2)));
+    assert!(rt; refused == Some(TableFault::TooMany(2)));
     Ok(())
 }
 
@@ -48,6 +48,6 @@ fn refuses_65536_members(rt: HostRuntime) -> Result<(), Fail> {
 fn refuses_65536_declarations(rt: HostRuntime) -> Result<(), Fail> {
     let text = numbered(rt.alloc(), "", "structure S", "\n", 65_536)?;
     let refused = refusal_of(rt.alloc(), text.as_str());
-    assert_eq!(rt; refused, Some(TableFault::TooMany(65_536)));
+    assert!(rt; refused == Some(TableFault::TooMany(65_536)));
     Ok(())
 }

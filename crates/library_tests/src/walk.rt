@@ -25,13 +25,12 @@ const MAP: Frame = Frame {
 #[test]
 fn a_map_is_entered_inside_a_list_and_left(rt: HostRuntime) -> Result<(), Fail> {
     let mut walk = Walk::new(b"[{}]", rt.alloc(), 2);
-    assert_eq!(rt; walk.enter(1, LIST), Ok(()), "a list");
+    assert!(rt; walk.enter(1, LIST) == Ok(()), "a list");
     walk.go_on(1, LIST);
-    assert_eq!(rt; walk.enter(2, MAP), Ok(()), "its element is a map");
-    assert_eq!(rt; walk.depth(), 2, "two are open");
-    assert_eq!(rt;
-        walk.inner.mark.due,
-        Some(1),
+    assert!(rt; walk.enter(2, MAP) == Ok(()), "its element is a map");
+    assert!(rt; walk.depth() == 2, "two are open");
+    assert!(rt;
+        walk.inner.mark.due == Some(1),
         "the map is innermost, with its mark"
     );
     walk.leave(3);
@@ -39,13 +38,12 @@ fn a_map_is_entered_inside_a_list_and_left(rt: HostRuntime) -> Result<(), Fail> 
         matches!(walk.inner.within, Within::List),
         "then the list is"
     );
-    assert_eq!(rt; walk.depth(), 1, "which is open still");
+    assert!(rt; walk.depth() == 1, "which is open still");
     let none: Option<(u8, usize)> = None;
-    assert_eq!(rt;
-        walk.take(none),
-        Err(SerdeError::InvalidInput),
+    assert!(rt;
+        walk.take(none) == Err(SerdeError::InvalidInput),
         "nothing was found"
     );
-    assert_eq!(rt; walk.failed, true, "and it has failed");
+    assert!(rt; walk.failed, "and it has failed");
     Ok(())
 }

@@ -2,64 +2,80 @@
 
 ghost use Rattle.std.specs.Prelude.{string_bytes};
 
+use crate::documents::document_of;
 use smithy_json::{JsonArrayWriter, JsonObjectWriter, JsonValueWriter, push_document};
 use smithy_texts::AppendText;
-use smithy_types::{DateTime, Document, Number};
-use std::alloc::{AllocError, Global};
-use std::collections::BTreeMap;
+use smithy_types::{DateTime, Number};
+use std::alloc::AllocError;
 use std::fmt;
 use std::fmt::Write;
 use std::test::Fail;
+
+fn write_elements(array: &mut JsonArrayWriter<'_>) -> Result<(), AllocError> {
+    array.value()?.boolean(true)?;
+    array.value()?.null()
+}
+
+fn write_members(object: &mut JsonObjectWriter<'_>) -> Result<(), AllocError> {
+    object.key("a")?.write_raw_value("1")?;
+    let mut array = object.key("b")?.start_array()?;
+    write_elements(&mut array)?;
+    array.finish()?;
+    object.key("c")?.number(Number::PosInt(1))?;
+    object.key("d")?.string("\\")
+}
 
 #[test]
 fn an_object_is_written(rt: HostRuntime) -> Result<(), Fail> {
     let mut text = String::new(rt.alloc());
     let mut object = JsonObjectWriter::new(&mut text)?;
-    object.key("a")?.write_raw_value("1")?;
-    let mut array = object.key("b")?.start_array()?;
-    array.value()?.boolean(true)?;
-    array.value()?.null()?;
-    array.finish()?;
-    object.key("c")?.number(Number::PosInt(1))?;
-    object.key("d")?.string("\\")?;
+    write_members(&mut object)?;
     object.finish()?;
-    assert_eq!(rt;
-        text.as_str(),
-        "{\"a\":1,\"b\":[true,null],\"c\":1,\"d\":\"\\\\\"}"
-    );
+    assert!(rt; text.as_str() == "{\"a\":1,\"b\":[true,null],\"c\":1,\"d\":\"\\\\\"}");
     Ok(())
+}
+
+fn write_other_elements(array: &mut JsonArrayWriter<'_>) -> Result<(), AllocError> {
+    array.value()?.string("a\n")?;
+    array.value()?.boolean(false)?;
+    array.value()?.start_object()?.finish()
 }
 
 #[test]
 fn an_array_is_written(rt: HostRuntime) -> Result<(), Fail> {
     let mut text = String::new(rt.alloc());
     let mut array = JsonArrayWriter::new(&mut text)?;
-    array.value()?.string("a\n")?;
-    array.value()?.boolean(false)?;
-    let object = array.value()?.start_object()?;
-    object.finish()?;
+    write_other_elements(&mut array)?;
     array.finish()?;
     JsonValueWriter::new(&mut text).write_raw_value(" ")?;
-    assert_eq!(rt; text.as_str(), "[\"a\\n\",false,{}] ");
+    assert!(rt; text.as_str() == "[\"a\\n\",false,{}] ");
     Ok(())
+}
+
+fn write_members_at_places(object: &mut JsonObjectWriter<'_>) -> Result<(), AllocError> {
+    object.begin_member("b")?;
+    object.place().boolean(true)?;
+    object.begin_member("\"")?;
+    object.place().string("c")
+}
+
+fn write_elements_at_places(array: &mut JsonArrayWriter<'_>) -> Result<(), AllocError> {
+    array.begin_value()?;
+    array.place().string_unchecked("a")?;
+    array.begin_value()?;
+    array.place().null()?;
+    let mut object = array.value()?.start_object()?;
+    write_members_at_places(&mut object)?;
+    object.finish()
 }
 
 #[test]
 fn a_place_is_begun_and_then_taken(rt: HostRuntime) -> Result<(), Fail> {
     let mut text = String::new(rt.alloc());
     let mut array = JsonArrayWriter::new(&mut text)?;
-    array.begin_value()?;
-    array.place().string_unchecked("a")?;
-    array.begin_value()?;
-    array.place().null()?;
-    let mut object = array.value()?.start_object()?;
-    object.begin_member("b")?;
-    object.place().boolean(true)?;
-    object.begin_member("\"")?;
-    object.place().string("c")?;
-    object.finish()?;
+    write_elements_at_places(&mut array)?;
     array.finish()?;
-    assert_eq!(rt; text.as_str(), "[\"a\",null,{\"b\":true,\"\\\"\":\"c\"}]");
+    assert!(rt; text.as_str() == "[\"a\",null,{\"b\":true,\"\\\"\":\"c\"}]");
     Ok(())
 }
 
@@ -90,29 +106,16 @@ impl fmt::Write for Narrow {
     }
 }
 
-// `{"a":[-5,7,true,"\n"]}`
-fn sample(alloc: Global) -> Result<Document, AllocError> {
-    let mut elements = Vec::new(alloc);
-    elements.push(Document::Number(Number::NegInt(-5)))?;
-    elements.push(Document::from(7_u64))?;
-    elements.push(Document::from(true))?;
-    elements.push(Document::from(String::from_str(alloc, "\n")?))?;
-    let mut properties = BTreeMap::new(alloc);
-    let name = String::from_str(alloc, "a")?;
-    drop(properties.insert(name, Document::from(elements))?);
-    Ok(Document::from(properties))
-}
-
 #[test]
 fn a_refused_document_leaves_a_front(rt: HostRuntime) -> Result<(), Fail> {
-    let document = sample(rt.alloc())?;
+    let document = document_of(rt.alloc(), b"{\"a\":[-5,7,true,\"\\n\"]}")?;
     let mut narrow = Narrow {
         text: String::new(rt.alloc()),
         room: 10,
     };
     assert!(rt; push_document(&mut narrow, &document).is_err());
     let Narrow { text, room: _ } = narrow;
-    assert_eq!(rt; text.as_str(), "{\"a\":[-5,7");
+    assert!(rt; text.as_str() == "{\"a\":[-5,7");
     Ok(())
 }
 
@@ -125,5 +128,5 @@ fn a_refused_instant_leaves_a_front(rt: HostRuntime) {
     };
     assert!(rt; narrow.write(DateTime::from_secs(0)).is_err());
     let Narrow { text, room: _ } = narrow;
-    assert_eq!(rt; text.as_str(), "1970-01-01T00:00:00");
+    assert!(rt; text.as_str() == "1970-01-01T00:00:00");
 }

@@ -20,7 +20,7 @@ pub(crate) fn day_number(year: u32, month: u16, day: u16) -> Option<i32>
 }
 
 /// A date of the years 0 to 9999.
-#[derive(Debug, Clone, Copy)]
+#[derive(Clone, Copy)]
 pub(crate) struct YearMonthDay {
     pub(crate) year: u16,
     pub(crate) month: u8,

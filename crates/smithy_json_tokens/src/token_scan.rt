@@ -16,7 +16,7 @@ use smithy_json::number_text::read_long;
 use std::str;
 
 /// A token and the offset behind its last byte.
-#[derive(Clone, Copy, Debug)]
+#[derive(Clone, Copy)]
 pub(crate) struct Scanned<'a> {
     pub(crate) token: Token<'a>,
     pub(crate) end: usize,

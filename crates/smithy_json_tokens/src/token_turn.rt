@@ -14,7 +14,7 @@ use crate::token_scan::{Scanned, error_at, scan_key, scan_value};
 use smithy_json::scan::skip_blanks;
 
 /// What may come next.
-#[derive(Clone, Copy, Debug, PartialEq, Eq)]
+#[derive(Clone, Copy, PartialEq, Eq)]
 pub enum State {
     /// A value, outside every container.
     Initial,
@@ -31,7 +31,7 @@ pub enum State {
 }
 
 /// A token, and the state behind the value or the key that it is of.
-#[derive(Clone, Copy, Debug)]
+#[derive(Clone, Copy)]
 pub(crate) struct Turn<'a> {
     pub(crate) scanned: Scanned<'a>,
     pub(crate) after: State,

@@ -14,7 +14,7 @@ use std::collections::BTreeMap;
 
 /// A value of any shape, as a tree that takes little memory: 32 bytes for each value, beside its texts, bytes and containers.
 /// What is rare is in a box.
-#[derive(Debug, Drop)]
+#[derive(Drop)]
 pub enum CompactValue {
     /// False or true.
     Boolean(bool),
