@@ -3,7 +3,7 @@
 use crate::places::{place_of, split};
 use smithy_json_codec::JsonCodec;
 use smithy_rows::bytes_of;
-use smithy_schema::{Schema, SerdeError, ShapeDeserializer, ShapeSerializer, Shapes};
+use smithy_schema::{Schema, SerdeError, ShapeDeserializer, ShapeSerializer, ShapeType, Shapes};
 use smithy_types::{BigDecimal, BigInteger, Blob, DateTime, Document};
 use std::alloc::Global;
 
@@ -54,6 +54,7 @@ fn write_value<S: ShapeSerializer>(
     value: &str,
 ) -> Option<Result<(), SerdeError>> {
     match word {
+        "write_integer_list" => integers(alloc, sink, place, value),
         "write_string" => string(alloc, sink, place, value),
         "write_blob" => blob(alloc, sink, place, value),
         "write_big_integer" => big_integer(alloc, sink, place, value),
@@ -79,6 +80,31 @@ fn write_number<S: ShapeSerializer>(
         "write_short" => Some(sink.write_short(place, value.parse::<i16>().ok()?)),
         "write_integer" => Some(sink.write_integer(place, value.parse::<i32>().ok()?)),
         "write_long" => Some(sink.write_long(place, value.parse::<i64>().ok()?)),
+        _ => None,
+    }
+}
+
+// The whole numbers of a list, with a blank behind each but the last.
+fn integers_of(alloc: Global, text: &str) -> Option<Vec<i32>> {
+    let mut numbers = Vec::new(alloc);
+    for word in text.split(' ') {
+        if !word.is_empty() {
+            numbers.push(word.parse::<i32>().ok()?).ok()?;
+        }
+    }
+    Some(numbers)
+}
+
+// None of a place where no list stands.
+fn integers<S: ShapeSerializer>(
+    alloc: Global,
+    sink: &mut S,
+    place: &Schema<'_>,
+    value: &str,
+) -> Option<Result<(), SerdeError>> {
+    let numbers = integers_of(alloc, value)?;
+    match place.shape_type() {
+        ShapeType::List => Some(sink.write_integer_list(place, &numbers)),
         _ => None,
     }
 }

@@ -1,9 +1,9 @@
 -- The size that one head of an array or a map tells.
-use Rattle.std.proofs.Common.{◌≡◌, ◌⊎◌, ◌-◌, ◌/◌, ℕ, length, min, List, drop, Option, Some, None, option_map, refl, sym, ◌∙◌, ap, subst, arith, inl, inr}
+use Rattle.std.proofs.Common.{◌≡◌, ◌-◌, ◌/◌, ℕ, length, min, List, drop, Option, Some, None, option_map, refl, sym, ap, subst, arith, inl, inr}
 use Rattle.cbor_item.specs.Head.{HeadRead}
 use Rattle.smithy_schema.specs.Sizes.{greatest_room}
 use Rattle.smithy_cbor.specs.Reading.{OpensAt}
-use Rattle.smithy_cbor_codec.specs.ContainerSize.{size_within, IsArraySize, IsMapSize, cbor_sizes}
+use Rattle.smithy_cbor_codec.specs.ContainerSize.{size_within, cbor_sizes}
 use Rattle.smithy_cbor_codec.specs.Private.ContainerBytes.{same_head, same_opens_at}
 
 -- no array begins where a map does

@@ -1,5 +1,5 @@
 -- The size of a container by its head (RFC 8949, section 3.1).
-use Rattle.std.specs.Prelude.{◌≡◌, ◌⊎◌, ◌-◌, ◌/◌, ℕ, length, min, Option, Some, None}
+use Rattle.std.specs.Prelude.{◌≡◌, ◌⊎◌, ◌-◌, ◌/◌, ℕ, length, min, Some, None}
 use Rattle.smithy_schema.specs.Sizes.{Sizes, greatest_room}
 use Rattle.smithy_cbor.specs.Reading.{OpensAt}
 

@@ -43,3 +43,5 @@ pub mod ReadTexts
 pub mod ConsumedStructures
 pub mod RefusedStructures
 pub mod ReadFields
+-- what is written of fields
+pub mod WrittenFields

@@ -1,5 +1,5 @@
 -- What a consumer that keeps fields has read.
-use Rattle.std.proofs.Common.{◌≡◌, ◌<◌, ◌≤◌, ◌+◌, ℕ, zero, suc, List, [], ◌∷◌, map, length, true, false, Option, Some, None, option_map, Result, Ok, Err, OnOk, refl, sym, ◌∙◌, ap, subst, arith}
+use Rattle.std.proofs.Common.{◌≡◌, ◌<◌, ◌+◌, ℕ, zero, suc, List, [], ◌∷◌, map, length, true, Option, Some, None, option_map, Result, Ok, Err, OnOk, refl, sym, ◌∙◌, ap, subst, arith}
 use Rattle.std.specs.declared.cmp.Ordering.{Ordering}
 use Rattle.std.specs.declared.cmp.Ordering.TheVariants.{Less, Equal, Greater}
 use Rattle.std.specs.Ordering.{MatchOrdering, nat_cmp, match_ordering}
@@ -10,13 +10,13 @@ use Rattle.smithy_schema.specs.declared.place.Place.{Place}
 use Rattle.smithy_schema.specs.declared.place.Target.{Target}
 use Rattle.smithy_schema.specs.declared.place.Target.TheVariants.{Simple}
 use Rattle.smithy_schema.specs.declared.shape_type.Scalar.{Scalar}
-use Rattle.smithy_schema.specs.Table.{Member, Kind, structure_of, place_in, scalar_place, IsStructure}
+use Rattle.smithy_schema.specs.Table.{Member, structure_of, place_in, scalar_place, IsStructure}
 use Rattle.smithy_schema.specs.Site.{Site, kind_at, member_site}
-use Rattle.smithy_schema.specs.Value.{Value, ScalarValue, scalar_value, MemberValues, no_member_values, member_value, put_member, structure}
+use Rattle.smithy_schema.specs.Value.{Value, ScalarValue, scalar_value, MemberValues, no_member_values, member_value, put_member}
 use Rattle.smithy_schema.specs.Lemmas.Options.{same_some}
 use Rattle.smithy_schema.specs.Reading.{Cursor, depth, in_structure, IsLawful, Reads, ReadsScalar, StandsNot, IsFault}
-use Rattle.smithy_schema.specs.Consuming.{Reader, Call, Consumes, by_member, IsTaken, IsMemberOf}
-use Rattle.smithy_schema.specs.Fields.{HasTargets, members_at, structure_with, TakesField, took, passed, broke}
+use Rattle.smithy_schema.specs.Consuming.{Reader, Consumes, by_member, IsTaken, IsMemberOf}
+use Rattle.smithy_schema.specs.Fields.{HasTargets, members_at, structure_with, TakesField, took, passed, broke, FillsField, filled, refused}
 use Rattle.smithy_schema.proofs.ConsumingLemmas.{same_error}
 use Rattle.smithy_schema.proofs.ReadStructures.{site_told}
 use Rattle.smithy_schema.proofs.ConsumedStructures.{TakesMembers, structure_read}
@@ -119,11 +119,11 @@ fields_refuse {C} fields r outer = record {
         subst (λ (x : Site). StandsNot r.wire d x.table x.place) same (why (subst IsFault (sym (same_error (Unit {0}) h e fails)) fault) due)
 
 -- a fresh consumer has the structure that stood there
-pub fields_read : {C : Type 0} (fields : C → List (Option Value)) (targets : List Target) (r : Reader) (outer : Site) → IsLawful r.wire → HasTargets targets outer
+pub members_read : {C : Type 0} (fields : C → List (Option Value)) (r : Reader) (outer : Site) → IsLawful r.wire → IsStructure (kind_at outer)
     → (s t : C) (c g : Cursor) (result : Result (Unit {0}) SerdeError) → members_at 0 (fields s) ≡ no_member_values → Consumes r outer in_structure (by_member r outer) (TakesField fields r) s c result t g
     → OnOk result (IsTaken c g) → OnOk result (Reads r.wire c g outer.table outer.place (structure_with (fields t)))
-fields_read fields targets r outer laws of s t c g result fresh consumes taken =
-    both result (structure_read r outer (TakesField fields r) (λ s. members_at 0 (fields s)) laws (has_structure targets outer of) (fields_take fields r outer) s t c g result fresh consumes) taken
+members_read fields r outer laws is_structure s t c g result fresh consumes taken =
+    both result (structure_read r outer (TakesField fields r) (λ s. members_at 0 (fields s)) laws is_structure (fields_take fields r outer) s t c g result fresh consumes) taken
   where
     both : (result : Result (Unit {0}) SerdeError) → OnOk result (r.wire.stands c.input outer.table outer.place (depth c) c.at (structure_with (fields t)) g.at) → OnOk result (IsTaken c g)
         → OnOk result (Reads r.wire c g outer.table outer.place (structure_with (fields t)))
@@ -131,11 +131,22 @@ fields_read fields targets r outer laws of s t c g result fresh consumes taken =
     both (Err e) stands taken = tt
 
 -- where the call finds fault, no structure stands there
+pub members_refused : {C : Type 0} (fields : C → List (Option Value)) (r : Reader) (outer : Site) → IsLawful r.wire → IsStructure (kind_at outer)
+    → (s t : C) (c g : Cursor) (result : Result (Unit {0}) SerdeError) → Consumes r outer in_structure (by_member r outer) (TakesField fields r) s c result t g
+    → (e : SerdeError) → result ≡ Err e → IsFault e → c.due ≡ true → StandsNot r.wire c outer.table outer.place
+members_refused fields r outer laws is_structure s t c g result consumes =
+    structure_refused r outer (TakesField fields r) (λ s. members_at 0 (fields s)) laws is_structure (fields_take fields r outer) (fields_refuse fields r outer) s t c g result consumes
+
+-- the same of structures whose members are told by their targets
+pub fields_read : {C : Type 0} (fields : C → List (Option Value)) (targets : List Target) (r : Reader) (outer : Site) → IsLawful r.wire → HasTargets targets outer
+    → (s t : C) (c g : Cursor) (result : Result (Unit {0}) SerdeError) → members_at 0 (fields s) ≡ no_member_values → Consumes r outer in_structure (by_member r outer) (TakesField fields r) s c result t g
+    → OnOk result (IsTaken c g) → OnOk result (Reads r.wire c g outer.table outer.place (structure_with (fields t)))
+fields_read fields targets r outer laws of = members_read fields r outer laws (has_structure targets outer of)
+
 pub fields_refused : {C : Type 0} (fields : C → List (Option Value)) (targets : List Target) (r : Reader) (outer : Site) → IsLawful r.wire → HasTargets targets outer
     → (s t : C) (c g : Cursor) (result : Result (Unit {0}) SerdeError) → Consumes r outer in_structure (by_member r outer) (TakesField fields r) s c result t g
     → (e : SerdeError) → result ≡ Err e → IsFault e → c.due ≡ true → StandsNot r.wire c outer.table outer.place
-fields_refused fields targets r outer laws of s t c g result consumes =
-    structure_refused r outer (TakesField fields r) (λ s. members_at 0 (fields s)) laws (has_structure targets outer of) (fields_take fields r outer) (fields_refuse fields r outer) s t c g result consumes
+fields_refused fields targets r outer laws of = members_refused fields r outer laws (has_structure targets outer of)
 
 -- ---- a member that is a scalar
 
@@ -186,3 +197,23 @@ pub broke_scalar : {C A : Type 0} (fields : C → List (Option Value)) (targets 
 broke_scalar fields targets s scalar r site before after c f i e allowed index target reads =
     let here = same_some site.place.target (Simple s) (sym (target_of targets site allowed i index) ∙ target) in
     broke (none_read_there s scalar r c f site e here reads)
+
+-- a member was read into its field, or couldn't be read
+pub filled_field : {C A : Type 0} (fields : C → List (Option Value)) (kind : Scalar) (scalar : A → ScalarValue) (r : Reader) (site : Site) (put : Option A → C) (old new : Option A) (c d : Cursor) (i : ℕ)
+    (result : Result (Unit {0}) SerdeError) → site.view.index ≡ Some i → site.place.target ≡ Simple kind → i < length (fields (put old))
+    → ((x : A) → fields (put (Some x)) ≡ set_field (fields (put old)) i (scalar_value (scalar x))) → FillsField kind scalar r site old c result new d
+    → TakesField fields r (Some site) (put old) c result (put new) d
+filled_field fields kind scalar r site put old new c d i result index here within sets (filled x reads) =
+    let same : 0 + i ≡ i = omega arith in
+    took i (scalar_value (scalar x)) index (read_there kind scalar r c d site x here reads)
+    (ap (members_at 0) (sets x) ∙ field_set 0 i (scalar_value (scalar x)) (fields (put old)) within ∙ ap (λ k. put_member k (scalar_value (scalar x)) (members_at 0 (fields (put old)))) same)
+filled_field fields kind scalar r site put old new c d i result index here within sets (refused {e = e} reads) =
+    broke (none_read_there kind scalar r c d site e here reads)
+
+-- a member whose value was read whole, and is set
+pub field_taken : {C : Type 0} (fields : C → List (Option Value)) (r : Reader) (site : Site) (before after : C) (c d : Cursor) (i : ℕ) (v : Value)
+    → site.view.index ≡ Some i → i < length (fields before) → fields after ≡ set_field (fields before) i v → Reads r.wire c d site.table site.place v
+    → TakesField fields r (Some site) before c (Ok tt) after d
+field_taken fields r site before after c d i v index within set reads =
+    let same : 0 + i ≡ i = omega arith in
+    took i v index reads (ap (members_at 0) set ∙ field_set 0 i v (fields before) within ∙ ap (λ k. put_member k v (members_at 0 (fields before))) same)

@@ -1,10 +1,14 @@
 -- A value between the calls that begin and end its container.
-use Rattle.std.proofs.Common.{◌≡◌, ◌↔◌, List, ◌∷◌, Bool, true, false, Result, Ok, Err, refl, sym, ◌∙◌, subst, OnOk, IfErr, IsErr, IsErrOf}
+use Rattle.std.proofs.Common.{◌≡◌, ◌↔◌, ℕ, Option, List, [], ◌∷◌, ap, Bool, true, false, Result, Ok, Err, refl, sym, ◌∙◌, subst, OnOk, IfErr, IsErr, IsErrOf}
 use Rattle.smithy_schema.specs.declared.error.SerdeError.{SerdeError}
 use Rattle.smithy_schema.specs.declared.error.SerdeError.TheVariants.{Failed}
 use Rattle.smithy_schema.specs.Reading.{IsFault}
-use Rattle.smithy_schema.specs.Writing.{Event, Writer, Open, IsNested, after_value, after_begin, open_after, and_run}
+use Rattle.smithy_schema.specs.Site.{Site}
+use Rattle.smithy_schema.specs.Value.{list, Values}
+use Rattle.smithy_schema.specs.Writing.{Event, Writer, Open, open_list, begin_list, IsNested, after_value, after_begin, open_after, and_run, run, write, events}
 use Rattle.smithy_schema.specs.Written.{outcome, IsInside, Refuses, Wraps, whole, not_ended}
+use Rattle.smithy_schema.proofs.WritingLemmas.{call_made, call_refused}
+use Rattle.smithy_schema.proofs.OpenLemmas.{value_leaves}
 use Rattle.smithy_schema.proofs.ConsumingLemmas.{is_error, same_error}
 
 pub refused_by : {S : Type 0} (after : Writer S) (event : Event) (s : S) (b : Bool) (e : SerdeError) → IsErrOf {T = Unit {0}} (Err e) Failed ↔ (b ≡ true) → (IsFault e → after event s ≡ Err e)
@@ -50,3 +54,36 @@ left_open after open_in nested begins ends o opening closing s t u v (Ok done) b
     let ends_there : open_after ends (o ∷ inside.0) ≡ Ok (open_in v) = subst (λ os. open_after ends os ≡ Ok (open_in v)) (same ∙ inside.2) (nested.goes ends u v ended) in
     inside.1 ∙ sym (closing inside.0) ∙ ends_there
 left_open after open_in nested begins ends o opening closing s t u v (Err e) begun same ended = tt
+
+run_on : {S : Type 0} (after : Writer S) (open_in : S → List Open) → IsNested after open_in → (e : Event) (es : List Event) (s t : S) (r : Result S SerdeError) → after e s ≡ r
+    → ((u : S) → run after es u ≡ Ok t → run open_after es (open_in u) ≡ Ok (open_in t))
+    → and_run (run after es) r ≡ Ok t → and_run (run open_after es) (open_after e (open_in s)) ≡ Ok (open_in t)
+run_on after open_in nested e es s t (Ok u) is rest h = rw (nested.goes e s u is) (rest u h)
+run_on after open_in nested e es s t (Err f) is rest h = cc
+
+-- calls that were all answered by Ok did to the open containers what calls do
+pub run_nests : {S : Type 0} (after : Writer S) (open_in : S → List Open) → IsNested after open_in → (es : List Event) (s t : S) → run after es s ≡ Ok t → run open_after es (open_in s) ≡ Ok (open_in t)
+run_nests after open_in nested [] s t h = let same : s ≡ t = cc in ap (λ u. Ok (open_in u)) same
+run_nests after open_in nested (e ∷ es) s t h = run_on after open_in nested e es s t (after e s) refl (λ u. run_nests after open_in nested es u t) h
+
+-- a list that was written counts as one value
+pub list_nests : {S : Type 0} (after : Writer S) (open_in : S → List Open) → IsNested after open_in → (site : Site) (n : Option ℕ) (vs : Values) (s t u : S) (r : Result (Unit {0}) SerdeError)
+    → after (begin_list site n) s ≡ Ok t → OnOk r (write after site (list vs) s ≡ Ok u) → OnOk r (after_value (open_in s) ≡ Ok (open_in u))
+list_nests after open_in nested site n vs s t u (Ok done) begun written =
+    let inside = begun_in open_list (after_value (open_in s)) (open_in t) (nested.goes (begin_list site n) s t begun) in
+    inside.1 ∙ sym (value_leaves (list vs) site (open_in s) inside.0 inside.1) ∙ run_nests after open_in nested (events site (list vs)) s u written
+list_nests after open_in nested site n vs s t u (Err e) begun written = tt
+
+-- neither before nor behind some calls a serializer had failed
+pub failed_neither : (had has : Bool) (P : Type 0) → had ≡ false → has ≡ false → P ↔ (has ≡ true) → P ↔ (had ≡ true)
+failed_neither had has P before now failed =
+    ((λ p. absurd (let clash : true ≡ false = sym (failed.0 p) ∙ now in cc)), (λ is. absurd (let clash : true ≡ false = sym is ∙ before in cc)))
+
+-- the last of some calls
+pub ended_ok : {S : Type 0} (after : Writer S) (x : Event) (made : Result S SerdeError) (s t : S) (r : Result (Unit {0}) SerdeError) → made ≡ run after (x ∷ []) s → OnOk r (after x s ≡ Ok t) → OnOk r (made ≡ Ok t)
+ended_ok after x made s t (Ok done) is ok = is ∙ call_made after x [] s t ok
+ended_ok after x made s t (Err e) is ok = tt
+
+pub ended_refused : {S : Type 0} (after : Writer S) (x : Event) (made : Result S SerdeError) (s : S) (r : Result (Unit {0}) SerdeError) → made ≡ run after (x ∷ []) s → IfErr r (λ e. IsFault e → after x s ≡ Err e) → IfErr r (λ e. IsFault e → made ≡ Err e)
+ended_refused after x made s (Ok done) is refused = tt
+ended_refused after x made s (Err e) is refused = λ fault. is ∙ call_refused after x [] s e (refused fault)

@@ -1,11 +1,13 @@
 -- A structure that a type of the caller's keeps as fields, by the positions of its members.
-use Rattle.std.specs.Prelude.{◌≡◌, ℕ, suc, List, [], ◌∷◌, map, true, Option, Some, None, Result, Ok, Err, slice_get}
+use Rattle.std.specs.Prelude.{◌≡◌, ℕ, suc, List, [], ◌∷◌, map, true, Option, Some, None, Result, Ok, Err}
 use Rattle.smithy_schema.specs.declared.error.SerdeError.{SerdeError}
 use Rattle.smithy_schema.specs.declared.place.Target.{Target}
 use Rattle.smithy_schema.specs.Table.{Member, structure_of}
-use Rattle.smithy_schema.specs.Value.{Value, MemberValues, no_member_values, member_value, put_member, structure}
-use Rattle.smithy_schema.specs.Site.{Site, kind_at}
-use Rattle.smithy_schema.specs.Reading.{Cursor, Reads, StandsNot, IsFault}
+use Rattle.smithy_schema.specs.declared.shape_type.Scalar.{Scalar}
+use Rattle.smithy_schema.specs.Value.{ScalarValue, Value, MemberValues, no_member_values, member_value, put_member, structure}
+use Rattle.smithy_schema.specs.Site.{Site, kind_at, member_of}
+use Rattle.smithy_schema.specs.Reading.{Cursor, Reads, ReadsScalar, StandsNot, IsFault}
+use Rattle.smithy_schema.specs.Writing.{Event, events}
 use Rattle.smithy_schema.specs.Consuming.{Reader}
 
 -- a structure stands there whose members have these targets, in order
@@ -31,3 +33,17 @@ pub data TakesField {C : Type 0} (fields : C → List (Option Value)) (r : Reade
       → members_at 0 (fields t) ≡ put_member n v (members_at 0 (fields s)) → TakesField fields r (Some site) s c (Ok tt) t f
   passed : {s : C} {c : Cursor} → TakesField fields r None s c (Ok tt) s c
   broke : {site : Site} {s t : C} {c f : Cursor} {e : SerdeError} → (IsFault e → c.due ≡ true → StandsNot r.wire c site.table site.place) → TakesField fields r (Some site) s c (Err e) t f
+
+-- a scalar is read into a field
+pub data FillsField {A : Type 0} (kind : Scalar) (scalar : A → ScalarValue) (r : Reader) (site : Site) : Option A → Cursor → Result (Unit {0}) SerdeError → Option A → Cursor → Type 0 where
+  filled : {old : Option A} {c d : Cursor} (x : A) → ReadsScalar {A = A} r.wire r.lifted r.is_strict c d site kind scalar (Ok x) → FillsField kind scalar r site old c (Ok tt) (Some x) d
+  refused : {old : Option A} {c d : Cursor} {e : SerdeError} → ReadsScalar {A = A} r.wire r.lifted r.is_strict c d site kind scalar (Err e) → FillsField kind scalar r site old c (Err e) old d
+
+-- the calls that write the member at a position, where it is there
+abbrev pub field_events : Site → ℕ → Option Value → List Event
+field_events outer n None = []
+field_events outer n (Some v) = events (member_of outer n) v
+
+-- the structures of a list, each by its fields
+abbrev pub structures_with : {T : Type 0} → (T → List (Option Value)) → List T → List Value
+structures_with fields ts = map (λ t. structure_with (fields t)) ts

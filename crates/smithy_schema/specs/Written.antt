@@ -1,9 +1,10 @@
 -- What a written value adds between the calls that begin and end its container.
-use Rattle.std.specs.Prelude.{◌≡◌, ◌↔◌, Bool, true, false, Result, Ok, Err, List, ◌∷◌}
+use Rattle.std.specs.Prelude.{◌≡◌, ◌↔◌, Bool, true, false, Result, Ok, Err, OnOk, ℤ, List, ◌∷◌, map}
 use Rattle.smithy_schema.specs.declared.error.SerdeError.{SerdeError}
 use Rattle.smithy_schema.specs.declared.error.SerdeError.TheVariants.{Failed}
+use Rattle.smithy_schema.specs.Value.{Value, scalar_value, whole as whole_number, list, values_of}
 use Rattle.smithy_schema.specs.Reading.{IsFault}
-use Rattle.smithy_schema.specs.Writing.{Event, Writer, Open, run}
+use Rattle.smithy_schema.specs.Writing.{Event, Writer, Open, open_structure, run}
 
 -- What a call of a value does with any serializer, by what each call makes of its state: the state before, and the state
 -- after or the error that it answers.
@@ -37,3 +38,14 @@ pub data Wraps {S : Type 0} (after : Writer S) (begins ends : Event) (adds : S �
 -- the innermost open container is this one
 abbrev pub IsInside : Open → List Open → Type 0
 IsInside o os = (outer : List Open) × (os ≡ o ∷ outer)
+
+-- the list of these whole numbers
+abbrev pub list_of_wholes : List ℤ → Value
+list_of_wholes ns = list (values_of (map (λ n. scalar_value (whole_number n)) ns))
+
+-- What is written into an open structure: these calls, which leave it open as it was.
+pub record AddsInside {S : Type 0} (after : Writer S) (open_in : S → List Open) (calls : List Event) (old : S) (has_failed : Bool) (new : S) (result : Result (Unit {0}) SerdeError) : Type 0 where
+  pub runs : Runs after calls old (outcome result new)
+  pub nests : OnOk result (open_in new ≡ open_in old)
+  pub inside : OnOk result (IsInside open_structure (open_in new))
+  pub sound : OnOk result (has_failed ≡ false)

@@ -13,7 +13,7 @@ use crate::error::SerdeError;
 use crate::read::ShapeDeserializer;
 use crate::schema::Schema;
 use crate::sizes::capped_container_size;
-use smithy_types::Blob;
+use smithy_types::{Blob, DateTime};
 use std::alloc::AllocError;
 
 /// A scalar that a reader gives by one call.
@@ -94,6 +94,22 @@ impl ReadScalar for i64 {
         schema: &Schema<'_>,
     ) -> Result<i64, SerdeError> {
         source.read_long(schema)
+    }
+}
+
+impl ReadScalar for DateTime {
+    ghost use Rattle.smithy_schema.specs.declared.shape_type.Scalar.TheVariants as scalars;
+    ghost use Rattle.smithy_schema.specs.Value.{instant};
+
+    ghost kind = { scalars.Timestamp };
+
+    ghost scalar = { instant };
+
+    fn read_from<D: ShapeDeserializer>(
+        source: &mut D,
+        schema: &Schema<'_>,
+    ) -> Result<DateTime, SerdeError> {
+        source.read_timestamp(schema)
     }
 }
 

@@ -9,6 +9,7 @@ mod decl;
 mod elements;
 mod error;
 mod fault;
+mod fields;
 mod members;
 mod members_iter;
 mod names;
@@ -32,6 +33,9 @@ pub use decl::{Decl, MemberDecl};
 pub use elements::{Elements, ReadScalar};
 pub use error::SerdeError;
 pub use fault::TableFault;
+pub use fields::{
+    WriteFields, WriteMember, Written, WrittenList, read_field, write_field, write_structure,
+};
 pub use members_iter::Members;
 pub use place::{Place, Target};
 pub use read::{ShapeDeserializer, Step};

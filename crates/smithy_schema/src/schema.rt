@@ -160,7 +160,7 @@ impl<'a> Schema<'a> {
     }
 
     // The elements of a list.
-    fn element(&self) -> Option<Schema<'a>>
+    pub(crate) fn element(&self) -> Option<Schema<'a>>
         ensures { option_map site_of result ≡ element_site (site_of self.now) }
     {
         let shapes = self.shapes;

@@ -4,12 +4,13 @@ ghost use Rattle.smithy_types.specs.Document.{whole_document};
 ghost use Rattle.smithy_types.specs.DocumentView.{document_view};
 ghost use Rattle.smithy_schema.specs.declared.error.SerdeError.{SerdeError};
 ghost use Rattle.smithy_schema.specs.declared.error.SerdeError.TheVariants.{Failed, NoMemory, Unwritable};
-ghost use Rattle.smithy_schema.specs.Site.{site_of};
+ghost use Rattle.smithy_schema.specs.Table.{IsList};
+ghost use Rattle.smithy_schema.specs.Site.{site_of, kind_at};
 ghost use Rattle.smithy_schema.specs.Value.{boolean, whole, text, bytes, decimal, instant};
 ghost use Rattle.smithy_schema.specs.Reading.{IsFault};
 ghost use Rattle.smithy_schema.specs.Writing.{Event, Writer, Open, IsNested, begin_structure, end_structure, begin_list as list_begins, end_list as list_ends, begin_map as map_begins, end_map as map_ends, null_of, scalar_of, big_integer_of, big_decimal_of, document_of};
-ghost use Rattle.smithy_schema.specs.Writing.{after_value, open_list, open_map_at_key};
-ghost use Rattle.smithy_schema.specs.Written.{Wraps, outcome};
+ghost use Rattle.smithy_schema.specs.Writing.{write, after_value, open_list, open_map_at_key};
+ghost use Rattle.smithy_schema.specs.Written.{Wraps, outcome, list_of_wholes};
 
 use crate::error::SerdeError;
 use crate::schema::Schema;
@@ -311,6 +312,32 @@ pub trait ShapeSerializer {
             return Err(error);
         }
         self.end_map()
+    }
+
+    /// Writes a list of whole numbers: it begins with its length, each number is written by `write_integer`, and it ends.
+    final fn write_integer_list(
+        &mut self,
+        schema: &Schema<'_>,
+        values: &[i32],
+    ) -> Result<(), SerdeError>
+    where
+        Self: Sized,
+        requires place { IsList (kind_at (site_of schema.now)) }
+        ensures failed { IsErrOf result Failed ↔ (failed self.old ≡ true) }
+        ensures broken { IsErr result ↔ (failed self.new ≡ true) }
+        ensures ok { OnOk result (write after (site_of schema.now) (list_of_wholes values.now) (state self.old) ≡ Ok (state self.new)) }
+        ensures refused { IfErr result (λ e. IsFault e → write after (site_of schema.now) (list_of_wholes values.now) (state self.old) ≡ Err e) }
+        ensures nests { OnOk result (after_value (open_in (state self.old)) ≡ Ok (open_in (state self.new))) }
+    {
+        let Some(member) = schema.member() else {
+            unreachable!()
+        };
+        let element = member.nameless();
+        self.begin_list(schema, Some(values.len()))?;
+        for value in values {
+            self.write_integer(&element, *value)?;
+        }
+        self.end_list()
     }
 
     // No call takes back a byte.

@@ -5,7 +5,6 @@ use Rattle.smithy_schema.specs.declared.error.SerdeError.TheVariants.{Unwritable
 use Rattle.smithy_schema.specs.Writing.{Open, open_structure, open_list, open_map_at_key, open_map_at_value, after_end_structure, after_end_list, after_end_map}
 use Rattle.smithy_wire.specs.declared.open_containers.Container.{Container}
 use Rattle.smithy_wire.specs.declared.open_containers.Container.TheVariants.{Structure, List as Listed, MapAtKey, MapAtValue}
-use Rattle.smithy_wire.specs.declared.open_containers.OpenContainer.{OpenContainer}
 use Rattle.smithy_wire.specs.declared.open_containers.OpenContainers.{OpenContainers}
 
 abbrev pub open_of : Container → Open

@@ -1,5 +1,5 @@
 -- What the calls along a list of tags have read.
-use Rattle.std.proofs.Common.{◌≡◌, ℕ, List, [], ◌∷◌, ◌++◌, map, true, false, Option, Some, None, Result, Ok, Err, OnOk, refl, sym, ◌∙◌, ap, subst, inl, inr}
+use Rattle.std.proofs.Common.{◌≡◌, List, [], ◌∷◌, map, true, false, Some, None, Result, Ok, Err, OnOk, refl, sym, ◌∙◌, subst, inl}
 use Rattle.std.proofs.lemmas.List.{map-append}
 use Rattle.smithy_schema.specs.declared.error.SerdeError.{SerdeError}
 use Rattle.smithy_schema.specs.declared.place.Place.{Place}
@@ -9,7 +9,7 @@ use Rattle.smithy_schema.specs.Site.{Site, kind_at, inner_site}
 use Rattle.smithy_schema.specs.Value.{list, values_of}
 use Rattle.smithy_schema.specs.Lemmas.Options.{same_some}
 use Rattle.smithy_schema.specs.Reading.{Cursor, in_list, IsLawful, Reads, StandsNot, IsFault}
-use Rattle.smithy_schema.specs.Consuming.{Reader, Call, Consumes, by_element}
+use Rattle.smithy_schema.specs.Consuming.{Reader, Consumes, by_element}
 use Rattle.smithy_schema.specs.Fields.{HasTargets, structure_with}
 use Rattle.smithy_schema.proofs.ConsumingLemmas.{same_error}
 use Rattle.smithy_schema.proofs.ReadLists.{list_place, sparse_is}

@@ -1,11 +1,15 @@
 //! The credentials that AssumeRole answers.
-ghost use Rattle.std.specs.Prelude.{◌≡◌, IfOk, OnErr, true};
+ghost use Rattle.std.specs.Prelude.{◌≡◌, IfOk, OnOk, OnErr, true};
+ghost use Rattle.smithy_schema.specs.Consuming.{IsTaken};
 ghost use Rattle.smithy_schema.specs.Site.{site_of};
 ghost use Rattle.smithy_schema.specs.Reading.{Reads, StandsNot, IsRefused};
 ghost use Rattle.smithy_schema.specs.Fields.{HasTargets, structure_with};
 ghost use Rattle.sts_client.specs.Shapes.{credentials_targets, credentials_fields};
 
-use smithy_schema::{Schema, SerdeError, ShapeDeserializer, StructConsumer};
+use smithy_schema::{
+    Schema, SerdeError, ShapeDeserializer, ShapeSerializer, StructConsumer, WriteFields,
+    WriteMember, write_field, write_structure,
+};
 use smithy_types::DateTime;
 
 /// Keys that stand for a role for a while.
@@ -55,6 +59,37 @@ impl StructConsumer for Credentials {
     }
 }
 
+impl WriteFields for Credentials {
+    ghost use Rattle.sts_client.specs.Shapes.{credentials_fields};
+
+    ghost fields = { credentials_fields };
+
+    fn write_fields<S: ShapeSerializer>(
+        &self,
+        sink: &mut S,
+        shape: &Schema<'_>,
+    ) -> Result<(), SerdeError> {
+        write_field(sink, shape, 0, &self.access_key_id)?;
+        write_field(sink, shape, 1, &self.secret_access_key)?;
+        write_field(sink, shape, 2, &self.session_token)?;
+        write_field(sink, shape, 3, &self.expiration)
+    }
+}
+
+impl WriteMember for Credentials {
+    ghost use Rattle.sts_client.specs.Shapes.{credentials_fields};
+
+    ghost value = { λ keys. structure_with (credentials_fields keys) };
+
+    fn write_member<S: ShapeSerializer>(
+        &self,
+        sink: &mut S,
+        member: &Schema<'_>,
+    ) -> Result<(), SerdeError> {
+        write_structure(sink, member, self)
+    }
+}
+
 /// Reads the credentials that are due.
 pub fn read_credentials<D: ShapeDeserializer>(
     schema: &Schema<'_>,
@@ -65,6 +100,7 @@ pub fn read_credentials<D: ShapeDeserializer>(
 
     // What stood there is the structure of these fields.
     ensures ok { IfOk result (λ keys. Reads (D.wire (D.settings source.old)) (D.state source.old) (D.state source.new) schema.now.shapes.now schema.now.place (structure_with (credentials_fields keys))) }
+    ensures takes { OnOk result (IsTaken (D.state source.old) (D.state source.new)) }
 
     // A fault comes only where no such structure stands.
     ensures refused { IsRefused result → (D.state source.old).due ≡ true → StandsNot (D.wire (D.settings source.old)) (D.state source.old) schema.now.shapes.now schema.now.place }

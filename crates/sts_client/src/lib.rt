@@ -1,8 +1,12 @@
-//! A client's own types for AssumeRole of AWS STS, which read themselves from any wire.
+//! A client's own types for AssumeRole of AWS STS, which read and write themselves on any wire.
 #![tactic(auto)]
 
 mod credentials;
+mod request;
+mod response;
 mod tags;
 
 pub use credentials::{Credentials, read_credentials};
+pub use request::{AssumeRoleRequest, read_request, write_request};
+pub use response::{AssumeRoleResponse, AssumedRoleUser, read_response, write_response};
 pub use tags::{Tag, read_tags};

@@ -1,11 +1,15 @@
 //! The tags of a session, which AssumeRole is given.
-ghost use Rattle.std.specs.Prelude.{◌≡◌, IfOk, OnErr, true};
+ghost use Rattle.std.specs.Prelude.{◌≡◌, IfOk, OnOk, OnErr, true};
+ghost use Rattle.smithy_schema.specs.Consuming.{IsTaken};
 ghost use Rattle.smithy_schema.specs.Value.{list, values_of};
 ghost use Rattle.smithy_schema.specs.Site.{site_of};
 ghost use Rattle.smithy_schema.specs.Reading.{Reads, StandsNot, IsRefused};
 ghost use Rattle.sts_client.specs.Shapes.{IsTag, AreTags, tag_values};
 
-use smithy_schema::{ListConsumer, Schema, SerdeError, ShapeDeserializer, StructConsumer};
+use smithy_schema::{
+    ListConsumer, Schema, SerdeError, ShapeDeserializer, ShapeSerializer, StructConsumer,
+    WriteFields, write_field,
+};
 use std::alloc::Global;
 
 /// A key with its value.
@@ -39,6 +43,21 @@ impl StructConsumer for Tag {
         }
         self.value = Some(source.read_string(schema)?);
         Ok(())
+    }
+}
+
+impl WriteFields for Tag {
+    ghost use Rattle.sts_client.specs.Shapes.{tag_fields};
+
+    ghost fields = { tag_fields };
+
+    fn write_fields<S: ShapeSerializer>(
+        &self,
+        sink: &mut S,
+        shape: &Schema<'_>,
+    ) -> Result<(), SerdeError> {
+        write_field(sink, shape, 0, &self.key)?;
+        write_field(sink, shape, 1, &self.value)
     }
 }
 
@@ -77,6 +96,7 @@ pub fn read_tags<D: ShapeDeserializer>(
 
     // What stood there is the list of these tags.
     ensures ok { IfOk result (λ tags. Reads (D.wire (D.settings source.old)) (D.state source.old) (D.state source.new) schema.now.shapes.now schema.now.place (list (values_of (tag_values tags.items)))) }
+    ensures takes { OnOk result (IsTaken (D.state source.old) (D.state source.new)) }
 
     // A fault comes only where no such list stands.
     ensures refused { IsRefused result → (D.state source.old).due ≡ true → StandsNot (D.wire (D.settings source.old)) (D.state source.old) schema.now.shapes.now schema.now.place }

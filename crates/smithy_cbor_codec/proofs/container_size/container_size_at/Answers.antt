@@ -1,4 +1,3 @@
-use Rattle.std.proofs.Common.{refl, sym, ◌∙◌}
 use Rattle.smithy_cbor_codec.proofs.SizeLemmas.{array_size, map_size, no_size}
 use Rattle.smithy_cbor_codec.proofs.container_size.container_size_at.Goals as goal
 

@@ -15,7 +15,7 @@ returns-clause-ok c =
     let text = c.as_str.result.now in
     let form = c.form_at-form.result in
     let same = ap (λ k. state_of (record self { containers = k })) c.succeed.ensures
-        ∙ ap (λ k. state_of (record self { containers = record k { failed = false } })) c.begin.ensures.begun in
+    ∙ ap (λ k. state_of (record self { containers = record k { failed = false } })) c.begin.ensures.begun in
     call_written (state_of self) site c.args.value.now form text c.write_in_form.result (state_of c.write_in_form.new.self)
     c.form_at-form.ensures
     (c.in_ok-text.ensures.ok ∙ ap Some (sym c.as_str.ensures.value))

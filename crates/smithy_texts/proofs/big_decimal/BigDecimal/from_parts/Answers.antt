@@ -16,10 +16,10 @@ invariant_of-result c =
     let mantissa = to_z w128 (of_z w128 c.args.mantissa) in
     let exponent = to_z w64 (of_z w64 c.args.exponent) in
     let text : string_bytes c.push_decimal.new.out ≡ decimal_text c.args.mantissa c.args.exponent =
-        c.in_ok-push_decimal.ensures
-        ∙ ap (λ s. s ++ decimal_text mantissa exponent) c.new-text.ensures.bytes
-        ∙ ap (λ z. decimal_text z exponent) (to_z-of_z w128 c.args.mantissa c.ranges.mantissa)
-        ∙ ap (decimal_text c.args.mantissa) (to_z-of_z w64 c.args.exponent c.ranges.exponent) in
+    c.in_ok-push_decimal.ensures
+    ∙ ap (λ s. s ++ decimal_text mantissa exponent) c.new-text.ensures.bytes
+    ∙ ap (λ z. decimal_text z exponent) (to_z-of_z w128 c.args.mantissa c.ranges.mantissa)
+    ∙ ap (decimal_text c.args.mantissa) (to_z-of_z w64 c.args.exponent c.ranges.exponent) in
     (rw text w.form, rw text w.fit)
 
 pub returns-clause-parts : goal.returns-clause-parts

@@ -1,10 +1,10 @@
-use Rattle.std.proofs.Common.{refl, Ok, Err}
+use Rattle.std.proofs.Common.{refl}
 use Rattle.std.proofs.lemmas.Result.{err_from_is_err_and}
 use Rattle.smithy_schema.specs.Consuming.{reader}
 use Rattle.smithy_schema.specs.Site.{site_of}
 use Rattle.smithy_schema.proofs.ReadFields.{fields_read, fields_refused}
 use Rattle.sts_client.specs.Shapes.{tag_targets, tag_fields, put, broke}
-use Rattle.sts_client.proofs.TagFacts.{tag_shape, tag_has_members}
+use Rattle.sts_client.proofs.TagFacts.{tag_shape}
 use Rattle.sts_client.proofs.tags.TagsListConsumer.element.Goals as goal
 
 pub returns-in_err-read_struct-clause-called : goal.returns-in_err-read_struct-clause-called

@@ -1,0 +1,14 @@
+use Rattle.smithy_schema.specs.Site.{site_of}
+use Rattle.smithy_schema.specs.Value.{scalar_value, instant}
+use Rattle.smithy_schema.proofs.WrittenFields.{value_added, called, not_had}
+use Rattle.smithy_schema.proofs.fields.DateTimeWriteMember.write_member.Goals as goal
+
+pub returns : goal.returns
+returns g c =
+    let s = g.S.ShapeSerializer in
+    let told = c.write_timestamp.ensures in
+    record {
+      adds = value_added s.after s.open_in g.met.S.ShapeSerializer.nested (site_of c.args.member.now) (scalar_value (instant c.args.self.now)) (s.state c.args.sink.now) _ _ c.write_timestamp.result c.requires.inside
+          (called s.after _ (s.state c.args.sink.now) _ _ c.write_timestamp.result c.requires.sound told.failed told.ok told.refused)
+          (not_had c.write_timestamp.result _ told.broken);
+    }

@@ -1,0 +1,15 @@
+use Rattle.std.proofs.Common.{string_bytes}
+use Rattle.smithy_schema.specs.Site.{site_of}
+use Rattle.smithy_schema.specs.Value.{scalar_value, text}
+use Rattle.smithy_schema.proofs.WrittenFields.{value_added, called, not_had}
+use Rattle.smithy_schema.proofs.fields.StringWriteMember.write_member.Goals as goal
+
+pub returns : goal.returns
+returns g c =
+    let s = g.S.ShapeSerializer in
+    let told = c.write_string.ensures in
+    record {
+      adds = value_added s.after s.open_in g.met.S.ShapeSerializer.nested (site_of c.args.member.now) (scalar_value (text (string_bytes c.args.self.now))) (s.state c.args.sink.now) _ _ c.write_string.result c.requires.inside
+          (called s.after _ (s.state c.args.sink.now) _ _ c.write_string.result c.requires.sound told.failed (rw c.as_str.ensures.value at told.ok) (rw c.as_str.ensures.value at told.refused))
+          (not_had c.write_string.result _ told.broken);
+    }

@@ -1,0 +1,33 @@
+use Rattle.std.proofs.Common.{[], ◌∷◌}
+use Rattle.std.proofs.lemmas.Result.{err_from_is_err_and}
+use Rattle.smithy_schema.specs.Site.{site_of}
+use Rattle.smithy_schema.proofs.WrittenFields.{first_field, field_fails, last_field}
+use Rattle.sts_client.specs.Shapes.{text_field, instant_field}
+use Rattle.sts_client.proofs.credentials.CredentialsWriteFields.write_fields.Goals as goal
+
+pub returns-in_err-write_field : goal.returns-in_err-write_field
+returns-in_err-write_field g c =
+    let p = err_from_is_err_and c.from_residual.result c.from_residual.ensures.1 in
+    let v = c.args.self.now in
+    let site = site_of c.args.shape.now in
+    record { adds = rw (p.1, p.2) (field_fails site 0 (text_field v.access_key_id) ((text_field v.secret_access_key) ∷ (text_field v.session_token) ∷ (instant_field v.expiration) ∷ []) c.in_err-write_field.ensures.adds) }
+
+pub returns-in_err-write_field-2 : goal.returns-in_err-write_field-2
+returns-in_err-write_field-2 g c =
+    let p = err_from_is_err_and c.from_residual-in_err-write_field-2.result c.from_residual-in_err-write_field-2.ensures.1 in
+    let v = c.args.self.now in
+    let site = site_of c.args.shape.now in
+    record { adds = rw (p.1, p.2) (first_field site 0 (text_field v.access_key_id) ((text_field v.secret_access_key) ∷ (text_field v.session_token) ∷ (instant_field v.expiration) ∷ []) c.in_ok-write_field.ensures.adds (field_fails site 1 (text_field v.secret_access_key) ((text_field v.session_token) ∷ (instant_field v.expiration) ∷ []) c.in_err-write_field-2.ensures.adds)) }
+
+pub returns-in_err-write_field-3 : goal.returns-in_err-write_field-3
+returns-in_err-write_field-3 g c =
+    let p = err_from_is_err_and c.from_residual-in_err-write_field-3.result c.from_residual-in_err-write_field-3.ensures.1 in
+    let v = c.args.self.now in
+    let site = site_of c.args.shape.now in
+    record { adds = rw (p.1, p.2) (first_field site 0 (text_field v.access_key_id) ((text_field v.secret_access_key) ∷ (text_field v.session_token) ∷ (instant_field v.expiration) ∷ []) c.in_ok-write_field.ensures.adds (first_field site 1 (text_field v.secret_access_key) ((text_field v.session_token) ∷ (instant_field v.expiration) ∷ []) c.in_ok-write_field-2.ensures.adds (field_fails site 2 (text_field v.session_token) ((instant_field v.expiration) ∷ []) c.in_err-write_field-3.ensures.adds))) }
+
+pub returns : goal.returns
+returns g c =
+    let v = c.args.self.now in
+    let site = site_of c.args.shape.now in
+    record { adds = (first_field site 0 (text_field v.access_key_id) ((text_field v.secret_access_key) ∷ (text_field v.session_token) ∷ (instant_field v.expiration) ∷ []) c.in_ok-write_field.ensures.adds (first_field site 1 (text_field v.secret_access_key) ((text_field v.session_token) ∷ (instant_field v.expiration) ∷ []) c.in_ok-write_field-2.ensures.adds (first_field site 2 (text_field v.session_token) ((instant_field v.expiration) ∷ []) c.in_ok-write_field-3.ensures.adds (last_field site 3 (instant_field v.expiration) c.write_field-4.ensures.adds)))) }

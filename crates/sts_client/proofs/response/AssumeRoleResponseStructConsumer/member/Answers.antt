@@ -1,0 +1,74 @@
+use Rattle.std.proofs.Common.{◌≡◌, ◌≢◌, arith, rules, refl, Some, string_bytes}
+use Rattle.std.proofs.lemmas.Result.{err_from_is_err_and}
+use Rattle.smithy_schema.specs.declared.shape_type.Scalar.TheVariants as scalars
+use Rattle.smithy_schema.specs.Site.{site_of}
+use Rattle.smithy_schema.specs.Value.{text, whole}
+use Rattle.smithy_schema.specs.Fields.{passed, broke, structure_with}
+use Rattle.smithy_schema.proofs.ReadFields.{filled_field, field_taken}
+use Rattle.sts_client.specs.Shapes.{response_fields, IsResponse, credentials_fields, user_fields}
+use Rattle.sts_client.proofs.ShapeFacts.{at_index, fourth_member}
+use Rattle.sts_client.proofs.response.AssumeRoleResponseStructConsumer.member.Goals as goal
+
+pub returns-in_default-clause-called : goal.returns-in_default-clause-called
+returns-in_default-clause-called g c = rw c.in_default.is passed
+
+pub read_credentials-requires : goal.read_credentials-requires
+read_credentials-requires g c =
+    let site = site_of c.in-Some.schema.now in
+    let allowed = rw c.in-Some.is at c.requires.allowed in
+    let index : site.view.index ≡ Some 0 = search rules in
+    let there = at_index IsResponse site allowed 0 index in
+    record { place = there.1.credentials site there.2 }
+
+pub returns-in_err-read_credentials-clause-called : goal.returns-in_err-read_credentials-clause-called
+returns-in_err-read_credentials-clause-called g c =
+    let p = err_from_is_err_and c.from_residual.result c.from_residual.ensures.1 in
+    rw (p.1, p.2, c.in-Some.is) (broke c.in_err-read_credentials.ensures.refused)
+
+pub returns-then-eq-clause-called : goal.returns-then-eq-clause-called
+returns-then-eq-clause-called g c =
+    let site = site_of c.in-Some.schema.now in
+    let allowed = rw c.in-Some.is at c.requires.allowed in
+    let index : site.view.index ≡ Some 0 = search rules in
+    let there = at_index IsResponse site allowed 0 index in
+    rw c.in-Some.is (field_taken response_fields _ site _ _ _ _ 0 (structure_with (credentials_fields c.in_ok-read_credentials.field-0)) index (omega arith) refl c.in_ok-read_credentials.ensures.ok)
+
+pub read_user-requires : goal.read_user-requires
+read_user-requires g c =
+    let site = site_of c.in-Some.schema.now in
+    let allowed = rw c.in-Some.is at c.requires.allowed in
+    let index : site.view.index ≡ Some 1 = search rules in
+    let there = at_index IsResponse site allowed 1 index in
+    record { place = there.1.assumed_role_user site there.2 }
+
+pub returns-in_err-read_user-clause-called : goal.returns-in_err-read_user-clause-called
+returns-in_err-read_user-clause-called g c =
+    let p = err_from_is_err_and c.from_residual-in_err-read_user.result c.from_residual-in_err-read_user.ensures.1 in
+    rw (p.1, p.2, c.in-Some.is) (broke c.in_err-read_user.ensures.refused)
+
+pub returns-then-eq-2-clause-called : goal.returns-then-eq-2-clause-called
+returns-then-eq-2-clause-called g c =
+    let site = site_of c.in-Some.schema.now in
+    let allowed = rw c.in-Some.is at c.requires.allowed in
+    let index : site.view.index ≡ Some 1 = search rules in
+    let there = at_index IsResponse site allowed 1 index in
+    rw c.in-Some.is (field_taken response_fields _ site _ _ _ _ 1 (structure_with (user_fields c.in_ok-read_user.field-0)) index (omega arith) refl c.in_ok-read_user.ensures.ok)
+
+pub returns-then-eq-3-clause-called : goal.returns-then-eq-3-clause-called
+returns-then-eq-3-clause-called g c =
+    let site = site_of c.in-Some.schema.now in
+    let allowed = rw c.in-Some.is at c.requires.allowed in
+    let index : site.view.index ≡ Some 2 = search rules in
+    let there = at_index IsResponse site allowed 2 index in
+    rw c.in-Some.is (filled_field response_fields scalars.Integer whole _ site (λ f. record c.args.self.now { packed_policy_size = f }) _ _ _ _ 2 _ index (there.1.packed_policy_size site there.2) (omega arith) (λ x. refl) c.read_field.ensures.fills)
+
+pub returns-clause-called : goal.returns-clause-called
+returns-clause-called g c =
+    let site = site_of c.in-Some.schema.now in
+    let allowed = rw c.in-Some.is at c.requires.allowed in
+    let not_0 : site.view.index ≢ Some 0 = search rules in
+    let not_1 : site.view.index ≢ Some 1 = search rules in
+    let not_2 : site.view.index ≢ Some 2 = search rules in
+    let index = fourth_member site allowed not_0 not_1 not_2 in
+    let there = at_index IsResponse site allowed 3 index in
+    rw c.in-Some.is (filled_field response_fields scalars.String (λ s. text (string_bytes s)) _ site (λ f. record c.args.self.now { source_identity = f }) _ _ _ _ 3 _ index (there.1.source_identity site there.2) (omega arith) (λ x. refl) c.read_field-2.ensures.fills)

@@ -1,0 +1,198 @@
+//! What AssumeRole answers.
+ghost use Rattle.std.specs.Prelude.{◌≡◌, false, true, IfOk, OnOk, OnErr};
+ghost use Rattle.smithy_schema.specs.Site.{site_of};
+ghost use Rattle.smithy_schema.specs.Consuming.{IsTaken};
+ghost use Rattle.smithy_schema.specs.Reading.{Reads, StandsNot, IsRefused};
+ghost use Rattle.smithy_schema.specs.Writing.{events};
+ghost use Rattle.smithy_schema.specs.Written.{Runs, outcome};
+ghost use Rattle.smithy_schema.specs.Fields.{HasTargets, structure_with};
+ghost use Rattle.sts_client.specs.Shapes.{user_targets, user_fields, IsResponse, response_fields};
+
+use crate::credentials::{Credentials, read_credentials};
+use smithy_schema::{
+    Schema, SerdeError, ShapeDeserializer, ShapeSerializer, StructConsumer, WriteFields,
+    WriteMember, Written, read_field, write_field, write_structure,
+};
+
+/// Who takes on the role.
+#[derive(Drop)]
+pub struct AssumedRoleUser {
+    /// The member `AssumedRoleId`.
+    pub assumed_role_id: Option<String>,
+    /// The member `Arn`.
+    pub arn: Option<String>,
+}
+
+impl StructConsumer for AssumedRoleUser {
+    ghost use Rattle.smithy_schema.specs.Fields.{TakesField, HasTargets};
+    ghost use Rattle.sts_client.specs.Shapes.{user_targets, user_fields};
+
+    ghost call = { TakesField user_fields };
+
+    ghost can_take = { λ _ outer. HasTargets user_targets outer };
+
+    fn member<D: ShapeDeserializer>(
+        &mut self,
+        member: Option<&Schema<'_>>,
+        source: &mut D,
+    ) -> Result<(), SerdeError> {
+        let Some(schema) = member else {
+            return Ok(());
+        };
+        if schema.member_index() == Some(0) {
+            return read_field(source, schema, &mut self.assumed_role_id);
+        }
+        read_field(source, schema, &mut self.arn)
+    }
+}
+
+impl WriteFields for AssumedRoleUser {
+    ghost use Rattle.sts_client.specs.Shapes.{user_fields};
+
+    ghost fields = { user_fields };
+
+    fn write_fields<S: ShapeSerializer>(
+        &self,
+        sink: &mut S,
+        shape: &Schema<'_>,
+    ) -> Result<(), SerdeError> {
+        write_field(sink, shape, 0, &self.assumed_role_id)?;
+        write_field(sink, shape, 1, &self.arn)
+    }
+}
+
+impl WriteMember for AssumedRoleUser {
+    ghost use Rattle.sts_client.specs.Shapes.{user_fields};
+
+    ghost value = { λ user. structure_with (user_fields user) };
+
+    fn write_member<S: ShapeSerializer>(
+        &self,
+        sink: &mut S,
+        member: &Schema<'_>,
+    ) -> Result<(), SerdeError> {
+        write_structure(sink, member, self)
+    }
+}
+
+// Reads the user that is due.
+fn read_user<D: ShapeDeserializer>(
+    schema: &Schema<'_>,
+    source: &mut D,
+) -> Result<AssumedRoleUser, SerdeError>
+    requires place { HasTargets user_targets (site_of schema.now) }
+    ensures same { D.settings source.new ≡ D.settings source.old }
+    ensures ok { IfOk result (λ user. Reads (D.wire (D.settings source.old)) (D.state source.old) (D.state source.new) schema.now.shapes.now schema.now.place (structure_with (user_fields user))) }
+    ensures takes { OnOk result (IsTaken (D.state source.old) (D.state source.new)) }
+    ensures refused { IsRefused result → (D.state source.old).due ≡ true → StandsNot (D.wire (D.settings source.old)) (D.state source.old) schema.now.shapes.now schema.now.place }
+{
+    let mut user = AssumedRoleUser {
+        assumed_role_id: None,
+        arn: None,
+    };
+    source.read_struct(schema, &mut user)?;
+    Ok(user)
+}
+
+/// A role that was taken on.
+#[derive(Drop)]
+pub struct AssumeRoleResponse {
+    /// The member `Credentials`.
+    pub credentials: Option<Credentials>,
+    /// The member `AssumedRoleUser`.
+    pub assumed_role_user: Option<AssumedRoleUser>,
+    /// The member `PackedPolicySize`.
+    pub packed_policy_size: Option<i32>,
+    /// The member `SourceIdentity`.
+    pub source_identity: Option<String>,
+}
+
+impl StructConsumer for AssumeRoleResponse {
+    ghost use Rattle.smithy_schema.specs.Fields.{TakesField};
+    ghost use Rattle.sts_client.specs.Shapes.{response_fields, IsResponse};
+
+    ghost call = { TakesField response_fields };
+
+    ghost can_take = { λ _ outer. IsResponse outer };
+
+    fn member<D: ShapeDeserializer>(
+        &mut self,
+        member: Option<&Schema<'_>>,
+        source: &mut D,
+    ) -> Result<(), SerdeError> {
+        let Some(schema) = member else {
+            return Ok(());
+        };
+        let position = schema.member_index();
+        if position == Some(0) {
+            self.credentials = Some(read_credentials(schema, source)?);
+            return Ok(());
+        }
+        if position == Some(1) {
+            self.assumed_role_user = Some(read_user(schema, source)?);
+            return Ok(());
+        }
+        if position == Some(2) {
+            return read_field(source, schema, &mut self.packed_policy_size);
+        }
+        read_field(source, schema, &mut self.source_identity)
+    }
+}
+
+impl WriteFields for AssumeRoleResponse {
+    ghost use Rattle.sts_client.specs.Shapes.{response_fields};
+
+    ghost fields = { response_fields };
+
+    fn write_fields<S: ShapeSerializer>(
+        &self,
+        sink: &mut S,
+        shape: &Schema<'_>,
+    ) -> Result<(), SerdeError> {
+        write_field(sink, shape, 0, &self.credentials)?;
+        write_field(sink, shape, 1, &self.assumed_role_user)?;
+        write_field(sink, shape, 2, &self.packed_policy_size)?;
+        write_field(sink, shape, 3, &self.source_identity)
+    }
+}
+
+/// Reads the response that is due.
+pub fn read_response<D: ShapeDeserializer>(
+    schema: &Schema<'_>,
+    source: &mut D,
+) -> Result<AssumeRoleResponse, SerdeError>
+    requires place { IsResponse (site_of schema.now) }
+    ensures same { D.settings source.new ≡ D.settings source.old }
+
+    // What stood there is the structure of these fields.
+    ensures ok { IfOk result (λ response. Reads (D.wire (D.settings source.old)) (D.state source.old) (D.state source.new) schema.now.shapes.now schema.now.place (structure_with (response_fields response))) }
+
+    // A fault comes only where no such structure stands.
+    ensures refused { IsRefused result → (D.state source.old).due ≡ true → StandsNot (D.wire (D.settings source.old)) (D.state source.old) schema.now.shapes.now schema.now.place }
+    ensures fails { OnErr result ((D.state source.new).failed ≡ true) }
+{
+    let mut response = AssumeRoleResponse {
+        credentials: None,
+        assumed_role_user: None,
+        packed_policy_size: None,
+        source_identity: None,
+    };
+    source.read_struct(schema, &mut response)?;
+    Ok(response)
+}
+
+/// Writes the response.
+pub fn write_response<S: ShapeSerializer>(
+    sink: &mut S,
+    schema: &Schema<'_>,
+    response: &AssumeRoleResponse,
+) -> Result<(), SerdeError>
+    // The members that are there are written in the table's order; a fault is that of this very run of calls.
+    ensures { S.failed sink.old ≡ false → Runs S.after (events (site_of schema.now) (structure_with (response_fields response.now))) (S.state sink.old) (outcome result (S.state sink.new)) }
+{
+    let written = Written {
+        shape: *schema,
+        fields: response,
+    };
+    sink.write_struct(schema, &written)
+}
