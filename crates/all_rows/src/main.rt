@@ -3,6 +3,7 @@
 
 use codec_rows::Codecs;
 use item_rows::Items;
+use protocol_rows::Requests;
 use run_rows::Runs;
 use smithy_rows::run;
 use std::io;
@@ -15,7 +16,8 @@ fn main(rt: HostRuntime) -> io::Result<ExitCode> {
     let items = run(&rt, "items/", &Items)?;
     let calls = run(&rt, "calls/", &Codecs)?;
     let bodies = run(&rt, "bodies/", &Transcoding)?;
+    let requests = run(&rt, "requests/", &Requests)?;
     let runs = run(&rt, "runs/", &Runs)?;
-    let all = texts && items && calls && bodies && runs;
+    let all = texts && items && calls && bodies && requests && runs;
     Ok(ExitCode::from(if all { 0 } else { 1 }))
 }

@@ -1,0 +1,10 @@
+//! Rows of requests, headers and metadata of errors (docs/ROWS.md).
+#![tactic(auto)]
+
+mod answers;
+mod input;
+mod parts;
+mod program;
+mod requests;
+
+pub use program::Requests;

@@ -1,0 +1,39 @@
+//! The kinds of rows.
+
+use crate::{parts, requests};
+use smithy_rows::{Field, Program, Row, Rows};
+use smithy_schema::{Shapes, TableText};
+use std::alloc::{AllocError, Global};
+
+/// Requests, headers, codes of errors, and metadata.
+pub struct Requests;
+
+fn shapes_of(alloc: Global, rows: &Rows, row: &Row) -> Option<Shapes> {
+    let text = rows.table(row.text("table")?)?;
+    let declarations = TableText::read(alloc, text.as_bytes()).ok()?;
+    Shapes::build(alloc, declarations).ok()
+}
+
+impl Program for Requests {
+    fn is_answer(&self, word: &str) -> bool {
+        matches!(
+            word,
+            "id" | "method" | "uri" | "header" | "body" | "refused" | "value" | "none"
+        )
+    }
+
+    fn answer(&self, alloc: Global, rows: &Rows, row: &Row) -> Result<Vec<Field>, AllocError> {
+        if let Some(protocol) = row.text("protocol") {
+            return match shapes_of(alloc, rows, row) {
+                Some(shapes) => requests::answers(alloc, &shapes, row, protocol),
+                None => Ok(Vec::new(alloc)),
+            };
+        }
+        match row.text("call") {
+            Some("headers") => parts::headers(alloc, row),
+            Some("codes") => parts::codes(alloc, row),
+            Some("metadata") => parts::metadata(alloc, row),
+            _ => Ok(Vec::new(alloc)),
+        }
+    }
+}

@@ -1,0 +1,2 @@
+mod HeaderLemmas
+pub mod CanonicalBodies

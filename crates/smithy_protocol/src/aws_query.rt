@@ -1,0 +1,125 @@
+//! The protocol AWS Query.
+ghost use Rattle.std.specs.Prelude.{◌≡◌, ◌⊎◌, ◌↔◌, Ok, Err, Some, None, codes, IfOk, IfErr, IfSome, IsErrOf};
+ghost use Rattle.smithy_schema.specs.declared.error.SerdeError.{SerdeError};
+ghost use Rattle.smithy_schema.specs.declared.error.SerdeError.TheVariants.{NoMemory};
+ghost use Rattle.smithy_schema.specs.Site.{site_of};
+ghost use Rattle.smithy_query_codec.specs.Writing.{fresh_state, query_after};
+ghost use Rattle.smithy_protocol.specs.Bodies.{HandsOut};
+ghost use Rattle.smithy_protocol.specs.Messages.{form_names, query_request, message_of};
+ghost use Rattle.smithy_protocol.specs.declared.aws_query.QueryRequestError.TheVariants as TheVariants;
+
+use crate::body::written_body;
+use crate::head::post;
+use crate::message::{ProtocolConfig, Request};
+use smithy_query_codec::QueryShapeSerializer;
+use smithy_schema::{Schema, SerdeError, SerializableStruct};
+use std::alloc::Global;
+use std::marker::Model;
+use thiserror::Error;
+
+/// Why no request of AWS Query is made. `Display` writes the variant's name, or that of the serializer's error.
+#[derive(Clone, Copy, Debug, Drop, PartialEq, Eq, Error)]
+pub enum QueryRequestError {
+    /// The operation or the version is absent.
+    #[error("Missing")]
+    Missing,
+    /// Want of memory, or what the serializer answers for the structure.
+    #[error("{0}")]
+    Serializer(SerdeError),
+}
+
+/// The protocol that posts a structure as a form, with the operation and the version of the service before its leaves.
+#[derive(Debug, Drop)]
+pub struct AwsQueryProtocol {
+    version: Option<String>,
+}
+
+impl Model for AwsQueryProtocol {
+    ghost use Rattle.std.specs.Prelude.{ℕ, List, Option};
+    ghost use Rattle.smithy_protocol.specs.Messages.{text_of};
+
+    ghost Value = { Option (List ℕ) };
+
+    ghost view = { λ p. text_of p.version };
+}
+
+// The request of a form of this action and version.
+fn form_request<V: SerializableStruct>(
+    alloc: Global,
+    action: &str,
+    version: &str,
+    input: &V,
+    input_schema: &Schema<'_>,
+) -> Result<Request, SerdeError>
+    ensures head { IfOk result (λ r. message_of r ≡ query_request r.body.items) }
+    ensures body { IfOk result (λ r. HandsOut query_after (λ s. s.out) V.adds (site_of input_schema.now) input.now (fresh_state action.now version.now) (Ok r.body.items)) }
+    ensures refused { IfErr result (λ e. (e ≡ NoMemory) ⊎ HandsOut query_after (λ s. s.out) V.adds (site_of input_schema.now) input.now (fresh_state action.now version.now) (Err e)) }
+{
+    let sink = QueryShapeSerializer::new(alloc, action, version)?;
+    let body = written_body(sink, input_schema, input)?;
+    let uri = String::from_str(alloc, "/")?;
+    let request = post(alloc, uri, "application/x-www-form-urlencoded", body)?;
+    Ok(request)
+}
+
+impl AwsQueryProtocol {
+    ghost use Rattle.std.specs.Prelude.{◌≡◌, Some, None, string_bytes};
+
+    /// The protocol, without a version of its own.
+    pub fn new() -> AwsQueryProtocol
+        ensures { result ≡ None }
+    {
+        AwsQueryProtocol { version: None }
+    }
+
+    /// The protocol with a version that counts in place of the configuration's.
+    pub fn with_service_version(self, version: String) -> AwsQueryProtocol
+        ensures { result ≡ Some (string_bytes version) }
+    {
+        AwsQueryProtocol {
+            version: Some(version),
+        }
+    }
+
+    /// The identifier of the protocol's trait.
+    pub fn protocol_id(&self) -> &str
+        ensures { result.now ≡ codes "aws.protocols#awsQuery" }
+    {
+        "aws.protocols#awsQuery"
+    }
+
+    /// The request that has the form of a structure as its body, with the operation of the configuration as its action, and the version
+    /// that is set, else that of the configuration. It is `Missing` exactly where the operation or both versions are absent.
+    pub fn serialize_request<V: SerializableStruct>(
+        &self,
+        alloc: Global,
+        input: &V,
+        input_schema: &Schema<'_>,
+        _endpoint: &str,
+        config: &ProtocolConfig,
+    ) -> Result<Request, QueryRequestError>
+        ensures missing { IsErrOf result TheVariants.Missing ↔ (form_names self.now config.now ≡ None) }
+        ensures head { IfOk result (λ r. message_of r ≡ query_request r.body.items) }
+        ensures body { IfOk result (λ r. IfSome (form_names self.now config.now) (λ n. HandsOut query_after (λ s. s.out) V.adds (site_of input_schema.now) input.now (fresh_state n.0 n.1) (Ok r.body.items))) }
+        ensures refused { (cause : SerdeError) → IsErrOf result (TheVariants.Serializer cause) → IfSome (form_names self.now config.now) (λ n. (cause ≡ NoMemory) ⊎ HandsOut query_after (λ s. s.out) V.adds (site_of input_schema.now) input.now (fresh_state n.0 n.1) (Err cause)) }
+    {
+        let Some(action) = config.operation.as_deref() else {
+            return Err(QueryRequestError::Missing);
+        };
+        let Some(version) = self.version.as_deref().or(config.version.as_deref()) else {
+            return Err(QueryRequestError::Missing);
+        };
+        match form_request(alloc, action, version, input, input_schema) {
+            Ok(request) => Ok(request),
+            Err(cause) => Err(QueryRequestError::Serializer(cause)),
+        }
+    }
+}
+
+impl Default for AwsQueryProtocol {
+    ghost is_default = { λ p. p ≡ None };
+
+    fn default() -> AwsQueryProtocol {
+        AwsQueryProtocol::new()
+    }
+}
