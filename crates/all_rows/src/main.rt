@@ -8,6 +8,7 @@ use run_rows::Runs;
 use smithy_rows::run;
 use std::io;
 use std::process::ExitCode;
+use table_rows::Tables;
 use text_rows::Texts;
 use transcode_rows::Transcoding;
 
@@ -18,6 +19,7 @@ fn main(rt: HostRuntime) -> io::Result<ExitCode> {
     let bodies = run(&rt, "bodies/", &Transcoding)?;
     let requests = run(&rt, "requests/", &Requests)?;
     let runs = run(&rt, "runs/", &Runs)?;
-    let all = texts && items && calls && bodies && requests && runs;
+    let models = run(&rt, "models/", &Tables)?;
+    let all = texts && items && calls && bodies && requests && runs && models;
     Ok(ExitCode::from(if all { 0 } else { 1 }))
 }

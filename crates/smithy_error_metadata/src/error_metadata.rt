@@ -145,9 +145,7 @@ fn copy_of(alloc: Global, text: &Option<String>) -> Result<Option<String>, Alloc
 }
 
 // A copy, with the same allocator.
-fn copy_of_extras(
-    extras: &BTreeMap<String, String>,
-) -> Result<BTreeMap<String, String>, AllocError>
+fn copy_of_extras(extras: &BTreeMap<String, String>) -> Result<BTreeMap<String, String>, AllocError>
     ensures { IfOk result (λ m. texts_of m.entries ≡ texts_of extras.now.entries) }
 {
     Ok(extras.clone()?)

@@ -12,7 +12,7 @@ use Rattle.smithy_schema.proofs.WritingLemmas.{child_written}
 use Rattle.smithy_json_codec.specs.Canonical.{canonical_json, key_text, can_write}
 use Rattle.smithy_json_codec.specs.Codec.{strict_settings}
 use Rattle.smithy_json_codec.specs.Writing.{JsonState, json_after, fresh_state}
-use Rattle.smithy_json_codec.proofs.WritingLemmas.{state, value_adds}
+use Rattle.smithy_json_codec.proofs.WritingLemmas.{value_adds}
 use Rattle.smithy_cbor_codec.specs.Canonical.{canonical_cbor, cbor_holds}
 use Rattle.smithy_cbor_codec.specs.Codec.{strict_settings as strict_cbor}
 use Rattle.smithy_cbor_codec.specs.Writing.{CborState, cbor_after, fresh_state as fresh_cbor}

@@ -1,0 +1,18 @@
+use Rattle.std.proofs.Common.{List, ℕ, Bor, [], ◌∷◌, map, sym}
+use Rattle.std.proofs.lemmas.List.{map-append}
+use Rattle.json.specs.Value.{value_view}
+use Rattle.smithy_model.specs.Objects.{text_in}
+use Rattle.smithy_model.proofs.AllSome.{read_more, read_none}
+use Rattle.smithy_model.proofs.shapes.references.Goals as goal
+
+pub returns-in-None : goal.returns-in-None
+returns-in-None c =
+    let none = read_none value_view (text_in c.args.key.now) c.in-Some.items.now c.loop-item.item-index c.item-item.result c.loop-item-test.true
+    c.item-item.is (sym c.in-None.ensures) in
+    rw (sym c.in-Some.ensures) (sym none)
+
+pub loop-item-preserved : goal.loop-item-preserved
+loop-item-preserved c =
+    let more = read_more value_view (text_in c.args.key.now) c.in-Some.items.now c.loop-item.item-index c.item-item.result (map (λ (t : Bor (List ℕ)). t.now) c.loop-item.ids.items)
+    c.in-Some-text.id.now c.loop-item-test.true c.item-item.is c.loop-item.invariant (sym c.in-Some-text.ensures) in
+    rw (c.in_ok-push-in-Some-text.ensures.items, map-append (λ (t : Bor (List ℕ)). t.now) c.loop-item.ids.items (c.in-Some-text.id ∷ [])) more

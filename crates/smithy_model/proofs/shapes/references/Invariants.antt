@@ -1,0 +1,10 @@
+use Rattle.std.proofs.Common.{◌≡◌, map, take, Some}
+use Rattle.json.specs.Value.{value_view}
+use Rattle.smithy_model.specs.Objects.{text_in}
+use Rattle.smithy_model.specs.Members.{all_some}
+use Rattle.smithy_model.proofs.shapes.references.Given as goal
+
+-- what was read so far
+abbrev pub invariant-loop-item : goal.invariant-loop-item
+invariant-loop-item l =
+    all_some (map (text_in l.key) (map value_view (take l.item-index l.items))) ≡ Some (map (λ t. t.now) l.ids.items)

@@ -1,0 +1,9 @@
+-- to be believed, in this order
+pub mod Objects
+pub mod Model
+pub mod Form
+pub mod Members
+pub mod Kinds
+pub mod Shapes
+-- what the types stand for
+pub mod Views

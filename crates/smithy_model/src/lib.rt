@@ -1,0 +1,23 @@
+//! The shapes of a service's model: a Smithy 2.0 model as JSON, or the `service-2.json` that the command line of AWS ships.
+//!
+//! `read_model` reads one, told apart by its members `smithy` and `metadata`. A `Model` borrows its texts from the JSON text.
+#![tactic(auto)]
+
+mod ast;
+mod fault;
+mod format;
+mod kinds;
+mod links;
+mod members;
+mod mixins;
+mod model;
+mod numbers;
+mod objects;
+mod prelude;
+mod reading;
+mod service;
+mod shapes;
+
+pub use fault::ModelFault;
+pub use model::{Entry, Kind, Member, Model, Operation, Shape};
+pub use reading::read_model;

@@ -1,0 +1,142 @@
+//! Members: of structures and unions, of lists and of maps.
+ghost use Rattle.std.specs.Prelude.{◌≡◌, None, Some, List, map, option_map, IfOk, IfErr};
+ghost use Rattle.json.specs.Value.{value_view};
+ghost use Rattle.smithy_model.specs.Members.{is_bound_outside, smithy_member, service_time, is_named_payload, service_member, member_in, part_in, members_in};
+ghost use Rattle.smithy_model.specs.Views.{member_view, form_view};
+
+use crate::format::Format;
+use crate::model::Member;
+use crate::objects::{entries, has_trait, is_set, is_there, text, trait_text};
+use json::Value;
+use std::alloc::{AllocError, Global};
+
+// Whether a trait binds a member to a header, the path, the query string or the status line.
+fn is_bound_outside(spec: &Value<'_>) -> bool
+    ensures { result ≡ is_bound_outside (value_view spec.now) }
+{
+    has_trait(spec, "smithy.api#httpHeader")
+        || has_trait(spec, "smithy.api#httpPrefixHeaders")
+        || has_trait(spec, "smithy.api#httpLabel")
+        || has_trait(spec, "smithy.api#httpQuery")
+        || has_trait(spec, "smithy.api#httpQueryParams")
+        || has_trait(spec, "smithy.api#httpResponseCode")
+}
+
+// A member of a Smithy model, with its traits.
+fn smithy_member<'a>(name: &'a str, spec: &Value<'a>) -> Option<Member<'a>>
+    ensures { option_map member_view result ≡ smithy_member name.now (value_view spec.now) }
+{
+    Some(Member {
+        name,
+        target: text(spec, "target")?,
+        number: 0,
+        json_name: trait_text(spec, "smithy.api#jsonName"),
+        xml_name: trait_text(spec, "smithy.api#xmlName"),
+        ec2_name: trait_text(spec, "aws.protocols#ec2QueryName"),
+        is_flattened: has_trait(spec, "smithy.api#xmlFlattened"),
+        time_format: trait_text(spec, "smithy.api#timestampFormat"),
+        is_outside: is_bound_outside(spec),
+        is_payload: has_trait(spec, "smithy.api#httpPayload"),
+    })
+}
+
+/// The time format that a `service-2.json` names, by its name in Smithy.
+pub(crate) fn service_time<'a>(spec: &Value<'a>) -> Option<&'a str>
+    ensures { option_map (λ t. t.now) result ≡ service_time (value_view spec.now) }
+{
+    match text(spec, "timestampFormat")? {
+        "iso8601" => Some("date-time"),
+        "rfc822" => Some("http-date"),
+        "unixTimestamp" | "unixtimestamp" => Some("epoch-seconds"),
+        given => Some(given),
+    }
+}
+
+// Whether a structure of a `service-2.json` names this member as its payload.
+fn is_named_payload(outer: &Value<'_>, name: &str) -> bool
+    ensures { result ≡ is_named_payload (value_view outer.now) name.now }
+{
+    match text(outer, "payload") {
+        Some(payload) => payload == name,
+        None => false,
+    }
+}
+
+// A member of a `service-2.json`. Its `locationName` is the name that its protocol uses.
+fn service_member<'a>(
+    format: Format,
+    outer: &Value<'a>,
+    name: &'a str,
+    spec: &Value<'a>,
+) -> Option<Member<'a>>
+    ensures { option_map member_view result ≡ service_member (form_view format) (value_view outer.now) name.now (value_view spec.now) }
+{
+    let given = text(spec, "locationName");
+    let (json_name, xml_name, ec2_name) = match format {
+        Format::Smithy => (None, None, None),
+        Format::Json => (given, None, None),
+        Format::Xml => (None, given, None),
+        Format::Ec2 => (None, given, text(spec, "queryName")),
+    };
+    Some(Member {
+        name,
+        target: text(spec, "shape")?,
+        number: 0,
+        json_name,
+        xml_name,
+        ec2_name,
+        is_flattened: is_set(spec, "flattened"),
+        time_format: service_time(spec),
+        is_outside: is_there(spec, "location"),
+        is_payload: is_named_payload(outer, name),
+    })
+}
+
+// A member of this name: none without a target.
+fn read_member<'a>(
+    format: Format,
+    outer: &Value<'a>,
+    name: &'a str,
+    spec: &Value<'a>,
+) -> Option<Member<'a>>
+    ensures { option_map member_view result ≡ member_in (form_view format) (value_view outer.now) name.now (value_view spec.now) }
+{
+    match format {
+        Format::Smithy => smithy_member(name, spec),
+        Format::Json => service_member(format, outer, name, spec),
+        Format::Xml => service_member(format, outer, name, spec),
+        Format::Ec2 => service_member(format, outer, name, spec),
+    }
+}
+
+/// The member of a list, or the key or the value of a map: none where it isn't there or has no target.
+pub(crate) fn read_part<'a>(
+    format: Format,
+    spec: &Value<'a>,
+    name: &'static str,
+) -> Option<Member<'a>>
+    ensures { option_map member_view result ≡ part_in (form_view format) name.now (value_view spec.now) }
+{
+    read_member(format, spec, name, spec.get(name)?)
+}
+
+/// The members of a structure or a union, in the model's order: none where one of them has no target.
+pub(crate) fn read_members<'a>(
+    alloc: Global,
+    format: Format,
+    spec: &Value<'a>,
+) -> Result<Option<Vec<Member<'a>>>, AllocError>
+    ensures { IfOk result (λ members. option_map (λ ms. map member_view ms.items) members ≡ members_in (form_view format) (value_view spec.now)) }
+{
+    let mut members = Vec::new(alloc);
+    let Some(entries) = entries(spec, "members") else {
+        return Ok(Some(members));
+    };
+    for (name, part) in entries {
+        match read_member(format, spec, *name, part) {
+            Some(member) => members.push(member)?,
+            None => return Ok(None),
+        }
+    }
+    Ok(Some(members))
+}

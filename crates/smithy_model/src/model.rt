@@ -1,0 +1,83 @@
+//! The shapes of a model, as far as a table needs them. Texts are borrowed from the model's own.
+
+/// A member of a structure or a union, the elements of a list, or the keys or the values of a map.
+#[derive(Clone, Copy, Drop)]
+pub struct Member<'a> {
+    pub name: &'a str,
+    /// The id of its target.
+    pub target: &'a str,
+    /// The number of its target among the shapes of the model.
+    pub number: usize,
+    /// `@jsonName`
+    pub json_name: Option<&'a str>,
+    /// `@xmlName`
+    pub xml_name: Option<&'a str>,
+    /// `@ec2QueryName`
+    pub ec2_name: Option<&'a str>,
+    /// `@xmlFlattened`
+    pub is_flattened: bool,
+    /// `@timestampFormat`
+    pub time_format: Option<&'a str>,
+    /// It travels in a header, the path, the query string or the status line, where the protocol has HTTP bindings.
+    pub is_outside: bool,
+    /// It is the whole body, where the protocol has HTTP bindings.
+    pub is_payload: bool,
+}
+
+/// The keys and the values of a map.
+#[derive(Clone, Copy, Drop)]
+pub struct Entry<'a> {
+    pub key: Member<'a>,
+    pub value: Member<'a>,
+}
+
+/// What a shape is.
+#[derive(Drop)]
+pub enum Kind<'a> {
+    /// A scalar but a float, or a document, by its name in a table.
+    Simple(&'static str),
+    /// A float, which no table has.
+    Float,
+    /// A stream of events.
+    EventStream,
+    Structure(Vec<Member<'a>>),
+    Union(Vec<Member<'a>>),
+    /// A list of such elements.
+    List(Member<'a>),
+    Map(Entry<'a>),
+}
+
+/// A shape under its id.
+#[derive(Drop)]
+pub struct Shape<'a> {
+    pub id: &'a str,
+    pub kind: Kind<'a>,
+    /// The ids of the mixins that it takes in.
+    pub mixins: Vec<&'a str>,
+    /// `@sparse`
+    pub is_sparse: bool,
+    /// A list that a `service-2.json` flattens wherever it stands.
+    pub is_flattened: bool,
+    /// `@timestampFormat`
+    pub time_format: Option<&'a str>,
+}
+
+/// An operation under its id, with the ids of its structures.
+#[derive(Drop)]
+pub struct Operation<'a> {
+    pub id: &'a str,
+    pub input: Option<&'a str>,
+    pub output: Option<&'a str>,
+    pub errors: Vec<&'a str>,
+}
+
+/// A model: its shapes and operations, in the order of its text.
+#[derive(Drop)]
+pub struct Model<'a> {
+    pub shapes: Vec<Shape<'a>>,
+    pub operations: Vec<Operation<'a>>,
+    /// Members may travel outside of the body: the protocol is `restJson1` or `restXml`.
+    pub has_http_bindings: bool,
+    /// The protocol is `ec2Query`.
+    pub is_ec2: bool,
+}

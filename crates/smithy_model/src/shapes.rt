@@ -1,0 +1,121 @@
+//! Shapes and operations, as the text of a model has them.
+ghost use Rattle.std.specs.Prelude.{◌≡◌, map, option_map, IfOk};
+ghost use Rattle.json.specs.Value.{value_view};
+ghost use Rattle.smithy_model.specs.Shapes.{references_in, reference_key, operation_in, is_sparse_in, is_flattened_in, time_in, shape_in};
+ghost use Rattle.smithy_model.specs.Views.{operation_view, shape_view, form_view};
+
+use crate::format::Format;
+use crate::kinds::read_kind;
+use crate::members::service_time;
+use crate::model::{Operation, Shape};
+use crate::objects::{has_trait, is_set, items, reference, text, trait_text};
+use json::Value;
+use std::alloc::{AllocError, Global};
+
+// The ids that the items of an array refer to: none where one of them has no such member.
+fn references<'a>(
+    alloc: Global,
+    spec: &Value<'a>,
+    name: &str,
+    key: &str,
+) -> Result<Option<Vec<&'a str>>, AllocError>
+    ensures { IfOk result (λ read. option_map (λ ids. map (λ t. t.now) ids.items) read ≡ references_in name.now key.now (value_view spec.now)) }
+{
+    let mut ids = Vec::new(alloc);
+    let Some(items) = items(spec, name) else {
+        return Ok(Some(ids));
+    };
+    for item in items {
+        match text(item, key) {
+            Some(id) => ids.push(id)?,
+            None => return Ok(None),
+        }
+    }
+    Ok(Some(ids))
+}
+
+// The member by which others refer to a shape.
+fn reference_key(format: Format) -> &'static str
+    ensures { result.now ≡ reference_key (form_view format) }
+{
+    match format {
+        Format::Smithy => "target",
+        _ => "shape",
+    }
+}
+
+/// An operation of this id: none where an error is no reference.
+pub(crate) fn read_operation<'a>(
+    alloc: Global,
+    format: Format,
+    id: &'a str,
+    spec: &Value<'a>,
+) -> Result<Option<Operation<'a>>, AllocError>
+    ensures { IfOk result (λ read. option_map operation_view read ≡ operation_in (form_view format) (id.now, value_view spec.now)) }
+{
+    let key = reference_key(format);
+    let Some(errors) = references(alloc, spec, "errors", key)? else {
+        return Ok(None);
+    };
+    Ok(Some(Operation {
+        id,
+        input: reference(spec, "input", key),
+        output: reference(spec, "output", key),
+        errors,
+    }))
+}
+
+// Whether the elements of a list, or the values of a map, may be null.
+fn is_sparse(format: Format, spec: &Value<'_>) -> bool
+    ensures { result ≡ is_sparse_in (form_view format) (value_view spec.now) }
+{
+    match format {
+        Format::Smithy => has_trait(spec, "smithy.api#sparse"),
+        _ => is_set(spec, "sparse"),
+    }
+}
+
+// Whether a list of a `service-2.json` is flattened wherever it stands.
+fn is_flattened(format: Format, spec: &Value<'_>) -> bool
+    ensures { result ≡ is_flattened_in (form_view format) (value_view spec.now) }
+{
+    match format {
+        Format::Smithy => false,
+        _ => is_set(spec, "flattened"),
+    }
+}
+
+// The time format of a shape.
+fn time_format<'a>(format: Format, spec: &Value<'a>) -> Option<&'a str>
+    ensures { option_map (λ t. t.now) result ≡ time_in (form_view format) (value_view spec.now) }
+{
+    match format {
+        Format::Smithy => trait_text(spec, "smithy.api#timestampFormat"),
+        _ => service_time(spec),
+    }
+}
+
+/// A shape of this id, with its own members: none where it isn't as its type asks.
+pub(crate) fn read_shape<'a>(
+    alloc: Global,
+    format: Format,
+    id: &'a str,
+    spec: &Value<'a>,
+) -> Result<Option<Shape<'a>>, AllocError>
+    ensures { IfOk result (λ read. option_map shape_view read ≡ shape_in (form_view format) (id.now, value_view spec.now)) }
+{
+    let Some(kind) = read_kind(alloc, format, spec)? else {
+        return Ok(None);
+    };
+    let Some(mixins) = references(alloc, spec, "mixins", "target")? else {
+        return Ok(None);
+    };
+    Ok(Some(Shape {
+        id,
+        kind,
+        mixins,
+        is_sparse: is_sparse(format, spec),
+        is_flattened: is_flattened(format, spec),
+        time_format: time_format(format, spec),
+    }))
+}

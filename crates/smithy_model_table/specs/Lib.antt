@@ -1,0 +1,8 @@
+-- to be believed, in this order
+pub mod Declaring
+pub mod Leaving
+pub mod Outcomes
+pub mod Naming
+pub mod ModelTable
+-- what the types stand for
+pub mod Views

@@ -1,0 +1,51 @@
+//! Why a part of a model is no table.
+use smithy_schema::TableFault;
+use std::alloc::{AllocError, AllocFailed};
+
+/// Why a part of a model is no table.
+#[derive(Clone, Copy, Drop)]
+pub enum WantedFault {
+    /// The model has no such operation or shape, or several of that name.
+    NoSuchName,
+    /// No declaration stands for what is wanted: a body that is no structure, a shape that is a scalar or holds only floats.
+    NoDeclaration,
+    /// The table is longer than 1 MiB, or the model has more than 65,535 shapes.
+    TooLong,
+    /// The table is refused.
+    TableRefused(TableFault),
+    /// The text doesn't read as the declarations, as where a name has a blank.
+    Unwritable,
+    /// An allocation was refused.
+    NoMemory,
+}
+
+impl From<AllocError> for WantedFault {
+    ghost use Rattle.std.specs.Prelude.{◌≡◌};
+    ghost use Rattle.smithy_model_table.specs.declared.fault.WantedFault.TheVariants.{NoMemory};
+
+    ghost from_gives = { λ _ e. e ≡ NoMemory };
+
+    fn from(_error: AllocError) -> WantedFault {
+        WantedFault::NoMemory
+    }
+}
+
+impl<T: Drop> From<AllocFailed<T>> for WantedFault {
+    ghost use Rattle.std.specs.Prelude.{◌≡◌};
+    ghost use Rattle.smithy_model_table.specs.declared.fault.WantedFault.TheVariants.{NoMemory};
+
+    ghost from_gives = { λ _ e. e ≡ NoMemory };
+
+    fn from(_error: AllocFailed<T>) -> WantedFault {
+        WantedFault::NoMemory
+    }
+}
+
+impl From<TableFault> for WantedFault {
+    fn from(fault: TableFault) -> WantedFault {
+        match fault {
+            TableFault::NoMemory => WantedFault::NoMemory,
+            fault => WantedFault::TableRefused(fault),
+        }
+    }
+}

@@ -1,0 +1,25 @@
+//! The table of shapes that a part of a service's model is.
+//!
+//! `table_of` answers the text of the table with the shapes that are reached from what is wanted, and the members that
+//! it leaves out.
+#![tactic(auto)]
+
+mod carried;
+mod declaring;
+mod equal;
+mod fault;
+mod left;
+mod members;
+mod names;
+mod outcomes;
+mod places;
+mod reached;
+mod table;
+mod wanted;
+mod writing;
+
+pub use fault::WantedFault;
+pub use left::{Left, Reason};
+pub use table::{ModelTable, table_of};
+pub use wanted::Wanted;
+pub use writing::write_table;

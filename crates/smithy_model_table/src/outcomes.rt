@@ -1,0 +1,130 @@
+//! What becomes of the members of a structure or a union.
+ghost use Rattle.std.specs.Prelude.{◌≡◌, ◌++◌, List, [], ◌∷◌, map, option_map, IfOk, OnOk};
+ghost use Rattle.smithy_model.specs.Views.{model_view, member_view};
+ghost use Rattle.smithy_model_table.specs.Leaving.{reason_of};
+ghost use Rattle.smithy_model_table.specs.Outcomes.{LeftOut, IsOutcome, AreOutcomes, declared_of, left_of};
+ghost use Rattle.smithy_model_table.specs.Views.{names_view, reason_view, left_view, outcome_view};
+ghost use Rattle.smithy_schema.specs.DeclViews.{member_decl_of};
+
+use crate::carried::{is_marked, is_outside};
+use crate::left::{Left, Reason};
+use crate::members::declare_member;
+use crate::names::Names;
+use smithy_model::{Kind, Member, Model};
+use smithy_schema::MemberDecl;
+use std::alloc::{AllocError, Global};
+
+/// What becomes of a member.
+#[derive(Drop)]
+pub(crate) enum Outcome {
+    Declared(MemberDecl),
+    Left(Reason),
+}
+
+// Why a member is left out, whatever stands before it.
+fn reason(model: &Model<'_>, marks: &[bool], member: &Member<'_>) -> Option<Reason>
+    ensures { option_map reason_view result ≡ reason_of (model_view model.now) marks.now (member_view member.now) }
+{
+    if is_outside(model, member) {
+        return Some(Reason::Outside);
+    }
+    if !is_marked(marks, member.number) {
+        return None;
+    }
+    let Some(shape) = model.shapes.get(member.number) else {
+        return Some(Reason::Float);
+    };
+    match &shape.kind {
+        Kind::EventStream => Some(Reason::EventStream),
+        _ => Some(Reason::Float),
+    }
+}
+
+// The name of a declared member in JSON.
+fn json_name(decl: &MemberDecl) -> &str {
+    match &decl.json {
+        Some(name) => name.as_str(),
+        None => decl.name.as_str(),
+    }
+}
+
+// The name of a declared member in a form.
+fn form_name(decl: &MemberDecl) -> &str {
+    match &decl.xml {
+        Some(name) => name.as_str(),
+        None => decl.name.as_str(),
+    }
+}
+
+// Whether a name of the member in JSON or in a form is that of an earlier one.
+fn clashes(decls: &[MemberDecl], decl: &MemberDecl) -> bool {
+    for earlier in decls {
+        if json_name(earlier) == json_name(decl) || form_name(earlier) == form_name(decl) {
+            return true;
+        }
+    }
+    false
+}
+
+// What becomes of a member behind those that are declared so.
+fn decide<'a>(
+    alloc: Global,
+    model: &Model<'a>,
+    marks: &[bool],
+    names: &Names<'a>,
+    decls: &[MemberDecl],
+    member: &Member<'a>,
+) -> Result<Outcome, AllocError>
+    ensures { IfOk result (λ o. IsOutcome (model_view model.now) marks.now (names_view names.now) (member_view member.now) (outcome_view member.now.name.now o)) }
+{
+    if let Some(reason) = reason(model, marks, member) {
+        return Ok(Outcome::Left(reason));
+    }
+    let decl = declare_member(alloc, model, names, member)?;
+    if clashes(decls, &decl) {
+        return Ok(Outcome::Left(Reason::Clash));
+    }
+    Ok(Outcome::Declared(decl))
+}
+
+// Adds what becomes of the member of this name.
+fn add_outcome<'a>(
+    shape: &'a str,
+    member: &'a str,
+    outcome: Outcome,
+    decls: &mut Vec<MemberDecl>,
+    left: &mut Vec<Left<'a>>,
+) -> Result<(), AllocError>
+    ensures declared { OnOk result (map member_decl_of decls.new.items ≡ map member_decl_of decls.old.items ++ declared_of (outcome_view member.now outcome ∷ [])) }
+    ensures left { OnOk result (map left_view left.new.items ≡ map left_view left.old.items ++ left_of shape.now (outcome_view member.now outcome ∷ [])) }
+{
+    match outcome {
+        Outcome::Declared(decl) => Ok(decls.push(decl)?),
+        Outcome::Left(reason) => Ok(left.push(Left {
+            shape,
+            member,
+            reason,
+        })?),
+    }
+}
+
+/// The declarations of the members that a table holds, in the model's order. The others are added to `left`.
+pub(crate) fn declare_members<'a>(
+    alloc: Global,
+    model: &Model<'a>,
+    marks: &[bool],
+    names: &Names<'a>,
+    shape: &'a str,
+    members: &[Member<'a>],
+    left: &mut Vec<Left<'a>>,
+) -> Result<Vec<MemberDecl>, AllocError>
+    ensures { IfOk result (λ decls. (added : List LeftOut) × (map left_view left.new.items ≡ map left_view left.old.items ++ added)
+        × AreOutcomes (model_view model.now) marks.now (names_view names.now) shape.now (map member_view members.now) (map member_decl_of decls.items) added) }
+{
+    let mut decls = Vec::new(alloc);
+    for member in members {
+        let outcome = decide(alloc, model, marks, names, &decls, member)?;
+        add_outcome(shape, member.name, outcome, &mut decls, left)?;
+    }
+    Ok(decls)
+}

@@ -1,0 +1,90 @@
+//! The table of what is wanted of a model.
+ghost use Rattle.std.specs.Prelude.{◌≡◌, ◌≤◌, length, map, IfOk};
+ghost use Rattle.smithy_model.specs.Views.{model_view};
+ghost use Rattle.smithy_model_table.specs.ModelTable.{IsTableOf};
+ghost use Rattle.smithy_model_table.specs.Views.{left_view};
+ghost use Rattle.smithy_schema.specs.Acceptance.{accepted, table_of as table_of_text};
+ghost use Rattle.smithy_schema.specs.TableText.{declarations_of, declarations};
+ghost use Rattle.smithy_schema.specs.DeclViews.{decl_of};
+ghost use Rattle.smithy_schema.specs.Table.{Table};
+
+use crate::carried::{is_marked, uncarried};
+use crate::declaring::declare_all;
+use crate::equal::are_equal;
+use crate::fault::WantedFault;
+use crate::left::Left;
+use crate::names::Names;
+use crate::reached::reached;
+use crate::wanted::{Wanted, roots_of};
+use crate::writing::write_table;
+use smithy_model::Model;
+use smithy_schema::{Decl, Shapes, TableText};
+use std::alloc::Global;
+
+// The most bytes of a table's text.
+const MAX_TABLE_LEN: usize = 1_048_576;
+
+// The most shapes of a model.
+const MAX_SHAPES: usize = 65_535;
+
+/// The text of a table, and the members that it leaves out.
+#[derive(Drop)]
+pub struct ModelTable<'a> {
+    pub text: Vec<u8>,
+    pub left: Vec<Left<'a>>,
+}
+
+// The text of declarations, which reads as them and is a table.
+fn text_of(alloc: Global, decls: &[Decl]) -> Result<Vec<u8>, WantedFault>
+    ensures read { IfOk result (λ text. declarations_of text.items ≡ declarations (map decl_of decls.now)) }
+    ensures accepted { IfOk result (λ text. (table : Table) × (table_of_text text.items ≡ accepted table)) }
+    ensures short { IfOk result (λ text. length text.items ≤ MAX_TABLE_LEN) }
+{
+    let text = write_table(alloc, decls)?;
+    if text.len() > MAX_TABLE_LEN {
+        return Err(WantedFault::TooLong);
+    }
+    let read = TableText::read(alloc, &text)?;
+    if !are_equal(decls, &read) {
+        return Err(WantedFault::Unwritable);
+    }
+    let _shapes = Shapes::build(alloc, read)?;
+    Ok(text)
+}
+
+// Whether one of these shapes is marked.
+fn has_marked(marks: &[bool], numbers: &[usize]) -> bool {
+    for number in numbers {
+        if is_marked(marks, *number) {
+            return true;
+        }
+    }
+    false
+}
+
+/// The table of what is wanted of a model: the shapes that are reached from it.
+pub fn table_of<'a>(
+    alloc: Global,
+    model: &Model<'a>,
+    wanted: Wanted<'_>,
+) -> Result<ModelTable<'a>, WantedFault>
+    ensures table { IfOk result (λ t. IsTableOf (model_view model.now) t.text.items (map left_view t.left.items)) }
+    ensures short { IfOk result (λ t. length t.text.items ≤ MAX_TABLE_LEN) }
+{
+    if model.shapes.len() > MAX_SHAPES {
+        return Err(WantedFault::TooLong);
+    }
+    let roots = roots_of(alloc, model, wanted)?;
+    let marks = uncarried(alloc, model)?;
+    if has_marked(&marks, &roots) {
+        return Err(WantedFault::NoDeclaration);
+    }
+    let order = reached(alloc, model, &marks, &roots)?;
+    let names = Names::of(alloc, model)?;
+    let declared = declare_all(alloc, model, &marks, &names, &order)?;
+    let text = text_of(alloc, &declared.decls)?;
+    Ok(ModelTable {
+        text,
+        left: declared.left,
+    })
+}

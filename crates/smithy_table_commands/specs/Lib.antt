@@ -1,0 +1,6 @@
+-- to be believed, in this order
+pub mod Command
+pub mod Status
+pub mod RunAnswer
+-- what the types of the program stand for
+pub mod Views

@@ -1,0 +1,78 @@
+-- The numbers that the program ends with, and what the last line on standard error says.
+use Rattle.std.specs.Prelude.{ℕ, List, [], ◌++◌, codes, decimal}
+use Rattle.smithy_schema.specs.declared.fault.TableFault.{TableFault}
+use Rattle.smithy_schema.specs.declared.fault.TableFault.TheVariants as table_faults
+use Rattle.smithy_outside.specs.declared.outside.LoadFault.{LoadFault}
+use Rattle.smithy_outside.specs.declared.outside.LoadFault.TheVariants as load_faults
+use Rattle.smithy_table_commands.specs.declared.status.Status.{Status}
+use Rattle.smithy_table_commands.specs.declared.status.Status.TheVariants.{Done, Usage, ReadFailed, WriteFailed, OutOfMemory, TableRefused, NoSuchName, NoDeclaration, TooLong, NotJson, NotAModel, BadShape, UnknownTarget, BadMixin, Applied, Unwritable, LeftOut, NameTwice}
+
+-- the number that the program ends with
+abbrev pub status_code : Status → ℕ
+status_code Done = 0
+status_code Usage = 2
+status_code ReadFailed = 6
+status_code WriteFailed = 7
+status_code OutOfMemory = 8
+status_code (TableRefused fault) = 20
+status_code NoSuchName = 21
+status_code NoDeclaration = 22
+status_code TooLong = 23
+status_code NotJson = 30
+status_code NotAModel = 31
+status_code (BadShape id) = 32
+status_code (UnknownTarget id) = 33
+status_code (BadMixin id) = 34
+status_code (Applied id) = 35
+status_code Unwritable = 36
+status_code LeftOut = 37
+status_code NameTwice = 38
+
+-- the status where the model wasn't read
+abbrev pub status_of_load_fault : LoadFault → Status
+status_of_load_fault load_faults.Failed = ReadFailed
+status_of_load_fault load_faults.TooLong = TooLong
+status_of_load_fault load_faults.NoMemory = OutOfMemory
+
+-- a fault of a table, a space and its number
+abbrev pub refusal_text : List ℕ → ℕ → List ℕ
+refusal_text name number = name ++ (codes " " ++ decimal number)
+
+-- what refuses a table
+abbrev pub fault_text : TableFault → List ℕ
+fault_text (table_faults.BadLine n) = refusal_text (codes "BadLine") n
+fault_text (table_faults.FloatShape n) = refusal_text (codes "FloatShape") n
+fault_text (table_faults.UnknownTarget n) = refusal_text (codes "UnknownTarget") n
+fault_text (table_faults.UnknownTimeFormat n) = refusal_text (codes "UnknownTimeFormat") n
+fault_text (table_faults.DuplicateShape n) = refusal_text (codes "DuplicateShape") n
+fault_text (table_faults.NameClash n) = refusal_text (codes "NameClash") n
+fault_text (table_faults.QueryName n) = refusal_text (codes "QueryName") n
+fault_text (table_faults.KeyValueName n) = refusal_text (codes "KeyValueName") n
+fault_text (table_faults.SparseDocument n) = refusal_text (codes "SparseDocument") n
+fault_text (table_faults.TooMany n) = refusal_text (codes "TooMany") n
+fault_text table_faults.NoMemory = []
+
+-- what the last line says
+abbrev pub text_of : Status → List ℕ
+text_of Done = []
+text_of Usage = codes "usage"
+text_of ReadFailed = codes "read failed"
+text_of WriteFailed = codes "write failed"
+text_of OutOfMemory = codes "out of memory"
+text_of (TableRefused fault) = codes "table refused: " ++ fault_text fault
+text_of NoSuchName = codes "no such name, or several"
+text_of NoDeclaration = codes "nothing that a table declares"
+text_of TooLong = codes "too long"
+text_of NotJson = codes "no JSON"
+text_of NotAModel = codes "no model"
+text_of (BadShape id) = codes "a part is wrong or missing: " ++ id.now
+text_of (UnknownTarget id) = codes "unknown target: " ++ id.now
+text_of (BadMixin id) = codes "wrong mixins: " ++ id.now
+text_of (Applied id) = codes "applied traits: " ++ id.now
+text_of Unwritable = codes "a name that no table can have"
+text_of LeftOut = codes "members left out; the word `partial` allows it"
+text_of NameTwice = codes "a name twice in an object"
+
+-- the last line of a status other than 0
+abbrev pub line_of : Status → List ℕ
+line_of status = codes "smithy_table: " ++ text_of status ++ codes "\n"

@@ -1,0 +1,99 @@
+//! The line on standard error that says how a run ended. Writing it takes no memory.
+ghost use Rattle.std.specs.Prelude.{◌≡◌, ◌++◌, false, codes, OnOk};
+ghost use Rattle.smithy_outside.specs.Outside.{IsWritten};
+ghost use Rattle.smithy_table_commands.specs.Status.{refusal_text, fault_text, text_of, line_of};
+
+use crate::status::Status;
+use itoa::Buffer;
+use smithy_outside::{Failed, Sink, write_all, write_bytes};
+use smithy_schema::TableFault;
+
+// Writes the name of a fault, a space and its number.
+fn write_fault<E: Sink>(err: &mut E, name: &[u8], number: u64) -> Result<(), Failed>
+    ensures { IsWritten (refusal_text name.now number) result (E.told err.old) (E.told err.new) }
+{
+    write_bytes(err, name)?;
+    write_bytes(err, b" ")?;
+    write_bytes(err, Buffer::new().format(number).as_bytes())
+}
+
+// Writes what refuses a table.
+fn write_refusal<E: Sink>(err: &mut E, fault: TableFault) -> Result<(), Failed>
+    ensures { IsWritten (fault_text fault) result (E.told err.old) (E.told err.new) }
+{
+    match fault {
+        TableFault::BadLine(n) => write_fault(err, b"BadLine", n),
+        TableFault::FloatShape(n) => write_fault(err, b"FloatShape", n),
+        TableFault::UnknownTarget(n) => write_fault(err, b"UnknownTarget", n),
+        TableFault::UnknownTimeFormat(n) => write_fault(err, b"UnknownTimeFormat", n),
+        TableFault::DuplicateShape(n) => write_fault(err, b"DuplicateShape", n),
+        TableFault::NameClash(n) => write_fault(err, b"NameClash", n),
+        TableFault::QueryName(n) => write_fault(err, b"QueryName", n),
+        TableFault::KeyValueName(n) => write_fault(err, b"KeyValueName", n),
+        TableFault::SparseDocument(n) => write_fault(err, b"SparseDocument", n),
+        TableFault::TooMany(n) => write_fault(err, b"TooMany", n),
+        TableFault::NoMemory => Ok(()),
+    }
+}
+
+// Writes what the line of a refused table says.
+fn write_table_refused<E: Sink>(err: &mut E, fault: TableFault) -> Result<(), Failed>
+    ensures { IsWritten (codes "table refused: " ++ fault_text fault) result (E.told err.old) (E.told err.new) }
+{
+    write_bytes(err, b"table refused: ")?;
+    write_refusal(err, fault)
+}
+
+// Writes what is wrong, and the id of the shape.
+fn write_shape<E: Sink>(err: &mut E, text: &[u8], id: &str) -> Result<(), Failed>
+    ensures { IsWritten (text.now ++ id.now) result (E.told err.old) (E.told err.new) }
+{
+    write_bytes(err, text)?;
+    write_bytes(err, id.as_bytes())
+}
+
+// Writes what the line of a status says.
+fn write_text<E: Sink>(err: &mut E, status: Status<'_>) -> Result<(), Failed>
+    ensures { IsWritten (text_of status.entry) result (E.told err.old) (E.told err.new) }
+{
+    match status {
+        Status::Done => Ok(()),
+        Status::Usage => write_bytes(err, b"usage"),
+        Status::ReadFailed => write_bytes(err, b"read failed"),
+        Status::WriteFailed => write_bytes(err, b"write failed"),
+        Status::OutOfMemory => write_bytes(err, b"out of memory"),
+        Status::TableRefused(fault) => write_table_refused(err, fault),
+        Status::NoSuchName => write_bytes(err, b"no such name, or several"),
+        Status::NoDeclaration => write_bytes(err, b"nothing that a table declares"),
+        Status::TooLong => write_bytes(err, b"too long"),
+        Status::NotJson => write_bytes(err, b"no JSON"),
+        Status::NotAModel => write_bytes(err, b"no model"),
+        Status::BadShape(id) => write_shape(err, b"a part is wrong or missing: ", id),
+        Status::UnknownTarget(id) => write_shape(err, b"unknown target: ", id),
+        Status::BadMixin(id) => write_shape(err, b"wrong mixins: ", id),
+        Status::Applied(id) => write_shape(err, b"applied traits: ", id),
+        Status::Unwritable => write_bytes(err, b"a name that no table can have"),
+        Status::LeftOut => write_bytes(err, b"members left out; the word `partial` allows it"),
+        Status::NameTwice => write_bytes(err, b"a name twice in an object"),
+    }
+}
+
+// Writes the line of a status, up to the first fault.
+fn write_line<E: Sink>(err: &mut E, status: Status<'_>) -> Result<(), Failed>
+    ensures written { IsWritten (line_of status.entry) result (E.told err.old) (E.told err.new) }
+    ensures passed_on { OnOk result (E.holds_back err.new ≡ false) }
+{
+    write_bytes(err, b"smithy_table: ")?;
+    write_text(err, status)?;
+    write_all(err, b"\n")
+}
+
+/// Says how a run ended, unless the table is written. That standard error fails is said nowhere.
+pub fn report<E: Sink>(err: &mut E, status: Status<'_>) {
+    match status {
+        Status::Done => {}
+        _ => {
+            let _ = write_line(err, status);
+        }
+    }
+}

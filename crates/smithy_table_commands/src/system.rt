@@ -1,0 +1,32 @@
+//! A run over the arguments, files and streams of a process.
+use crate::arguments::read_words;
+use crate::reporting::report;
+use crate::running::run;
+use smithy_outside::{OsFiles, OsSink};
+use std::alloc::Global;
+use std::env::Args;
+use std::io::Write;
+use std::process::ExitCode;
+use std::{io, rt};
+
+/// Runs the program over the arguments, files and streams of a process, and answers what the process ends
+/// with. The arguments are those of `env::args`, of which the first is the program's own name.
+pub fn run_on_system<F: rt::Files + Drop, W: Write + Drop, E: Write + Drop>(
+    alloc: Global,
+    arguments: io::Result<Args>,
+    files: F,
+    out: W,
+    err: E,
+) -> ExitCode {
+    let mut err = OsSink::new(err);
+    let words = match read_words(alloc, arguments) {
+        Ok(words) => words,
+        Err(status) => {
+            report(&mut err, status);
+            return ExitCode::from(status.code());
+        }
+    };
+    let mut files = OsFiles::new(files);
+    let mut out = OsSink::new(out);
+    ExitCode::from(run(alloc, &words, &mut files, &mut out, &mut err))
+}

@@ -1,0 +1,6 @@
+//! Rows of tables from models (docs/ROWS.md).
+#![tactic(auto)]
+
+mod answer;
+
+pub use answer::Tables;
