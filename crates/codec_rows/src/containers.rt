@@ -1,7 +1,7 @@
 //! Calls on a reader that open a container or go through one.
 
-ghost use Rattle.smithy_schema.specs.Table.{HasMembers, IsList, IsMap};
-ghost use Rattle.smithy_schema.specs.Site.{site_of, kind_at};
+ghost use Rattle.smithy_shapes.specs.Table.{HasMembers, IsList, IsMap};
+ghost use Rattle.smithy_shapes.specs.Site.{site_of, kind_at};
 
 use crate::first_two::{first_elements, first_keys, first_members};
 use crate::longs::{count_members, last_element, last_member, last_value};

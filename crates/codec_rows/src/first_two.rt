@@ -1,8 +1,8 @@
 //! The first two entries of a container.
 
 ghost use Rattle.std.specs.Prelude.{◌≡◌, OnOk};
-ghost use Rattle.smithy_schema.specs.Table.{HasMembers, IsList, IsMap};
-ghost use Rattle.smithy_schema.specs.Site.{site_of, kind_at};
+ghost use Rattle.smithy_shapes.specs.Table.{HasMembers, IsList, IsMap};
+ghost use Rattle.smithy_shapes.specs.Site.{site_of, kind_at};
 
 use crate::answers::push;
 use crate::reads::push_text;

@@ -1,7 +1,7 @@
 //! The longs of a container, of which so many entries are asked for as no input of a row has.
 
-ghost use Rattle.smithy_schema.specs.Table.{HasMembers, IsList, IsMap};
-ghost use Rattle.smithy_schema.specs.Site.{site_of, kind_at};
+ghost use Rattle.smithy_shapes.specs.Table.{HasMembers, IsList, IsMap};
+ghost use Rattle.smithy_shapes.specs.Site.{site_of, kind_at};
 
 use crate::answers::{push, push_shown};
 use smithy_rows::Field;

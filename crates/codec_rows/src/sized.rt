@@ -1,7 +1,7 @@
 //! The sizes of containers, and reads of whole lists and maps.
 
-ghost use Rattle.smithy_schema.specs.Table.{IsList, IsMap};
-ghost use Rattle.smithy_schema.specs.Site.{site_of, kind_at};
+ghost use Rattle.smithy_shapes.specs.Table.{IsList, IsMap};
+ghost use Rattle.smithy_shapes.specs.Site.{site_of, kind_at};
 
 use crate::answers::{push, push_shown};
 use crate::places::place_of;

@@ -1,8 +1,8 @@
 -- A text in a structure leaves the open containers as they are.
 use Rattle.std.proofs.Common.{◌≡◌, ℕ, List, ◌∷◌, Result, Ok, Err, OnOk, sym, ap, ◌∙◌}
 use Rattle.smithy_schema.specs.declared.error.SerdeError.{SerdeError}
-use Rattle.smithy_schema.specs.Site.{Site}
-use Rattle.smithy_schema.specs.Value.{text}
+use Rattle.smithy_shapes.specs.Site.{Site}
+use Rattle.smithy_shapes.specs.Value.{text}
 use Rattle.smithy_schema.specs.Writing.{Writer, Open, IsNested, open_structure, open_after, scalar_of}
 use Rattle.smithy_schema.specs.Written.{IsInside}
 

@@ -1,5 +1,5 @@
 //! The structure that a request has as its body.
-ghost use Rattle.smithy_schema.specs.Site.{site_of};
+ghost use Rattle.smithy_shapes.specs.Site.{site_of};
 
 use smithy_schema::{Schema, SerdeError, SerializableStruct, ShapeSerializer};
 

@@ -2,12 +2,12 @@
 use Rattle.std.proofs.Common.{◌≡◌, [], ◌∷◌, map, false, Some, None, Err, refl, pos, codes}
 use Rattle.smithy_types.specs.Document as document
 use Rattle.smithy_schema.specs.declared.error.SerdeError.TheVariants.{Unsupported, Unwritable}
-use Rattle.smithy_schema.specs.Site.{shape_site, member_of}
-use Rattle.smithy_schema.specs.Table as table
-use Rattle.smithy_schema.specs.Table.{Table, document_place}
-use Rattle.smithy_schema.specs.Value as values
-use Rattle.smithy_schema.specs.Value.{Value, document_value, list, no_values, value, no_member_values, member_value, null_element}
-use Rattle.smithy_schema.specs.ScalarTest.{scalars_pass}
+use Rattle.smithy_shapes.specs.Site.{shape_site, member_of}
+use Rattle.smithy_shapes.specs.Table as table
+use Rattle.smithy_shapes.specs.Table.{Table, document_place}
+use Rattle.smithy_shapes.specs.Value as values
+use Rattle.smithy_shapes.specs.Value.{Value, document_value, list, no_values, value, no_member_values, member_value, null_element}
+use Rattle.smithy_shapes.specs.ScalarTest.{scalars_pass}
 use Rattle.smithy_schema.specs.Writing.{document_of, write, open_structure, open_list, open_map_at_key, open_map_at_value}
 use Rattle.cbor_item.specs.Item.{unsigned, negative, byte_string, definite, tag, simple, float}
 use Rattle.smithy_cbor_codec.specs.Canonical.{cbor_holds, canonical_cbor}

@@ -4,10 +4,10 @@ use Rattle.std.specs.Prelude.{Err, IsErrOf}
 use Rattle.smithy_types.specs.declared.document.Document.{Document}
 use Rattle.smithy_schema.specs.declared.error.SerdeError.{SerdeError}
 use Rattle.smithy_schema.specs.declared.error.SerdeError.TheVariants.{InvalidInput, TooDeep, NotCarried, NoMemory}
-use Rattle.smithy_schema.specs.declared.place.Place.{Place}
-use Rattle.smithy_schema.specs.Table.{Table, document, document_place, kind_of}
-use Rattle.smithy_schema.specs.Site.{Site}
-use Rattle.smithy_schema.specs.Value.{Value}
+use Rattle.smithy_shapes.specs.declared.place.Place.{Place}
+use Rattle.smithy_shapes.specs.Table.{Table, document, document_place, kind_of}
+use Rattle.smithy_shapes.specs.Site.{Site}
+use Rattle.smithy_shapes.specs.Value.{Value}
 use Rattle.smithy_schema.specs.Reading.{Cursor, depth, StandsNot, SkipsNot, IsInvalid, ReadsDocument, failed_at}
 use Rattle.cbor_item.specs.Item.{Item}
 use Rattle.smithy_cbor_codec.specs.Settings.{Settings, kept, without_limits}

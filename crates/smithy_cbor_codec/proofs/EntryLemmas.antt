@@ -1,7 +1,7 @@
 -- How a container goes on depends on how many entries are due, and on nothing else of its mark.
 use Rattle.std.proofs.Common.{◌≡◌, ◌<◌, inl, inr, ℕ, List, sym, ap, ◌∙◌}
 use Rattle.smithy_schema.specs.Reading.{Mark}
-use Rattle.smithy_schema.specs.Lemmas.Options.{same_some}
+use Rattle.smithy_shapes.specs.Lemmas.Options.{same_some}
 use Rattle.smithy_cbor.specs.Scalar.{text_of}
 use Rattle.smithy_cbor_codec.specs.Standing.{HasEntry, IsOver}
 use Rattle.smithy_cbor_codec.specs.Private.ScalarAtPlace.{HasTextAt}

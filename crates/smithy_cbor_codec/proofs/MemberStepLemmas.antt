@@ -2,11 +2,11 @@
 use Rattle.std.proofs.Common.{◌≡◌, ℕ, List, ◌∷◌, Bool, Some, Option, Result, Ok, Err, refl, sym, ap, subst, ◌∙◌, false}
 use Rattle.smithy_schema.specs.declared.error.SerdeError.{SerdeError}
 use Rattle.smithy_schema.specs.declared.error.SerdeError.TheVariants.{InvalidInput, TooDeep, TooWide, NotCarried, Unsupported, Unwritable, Failed, NoMemory}
-use Rattle.smithy_schema.specs.declared.place.Place.{Place}
+use Rattle.smithy_shapes.specs.declared.place.Place.{Place}
 use Rattle.smithy_schema.specs.declared.read.Step.{Step}
 use Rattle.smithy_schema.specs.declared.read.Step.TheVariants.{Member as ToMember, Unknown, End}
-use Rattle.smithy_schema.specs.Table.{Table, IsStructure, HasMembers}
-use Rattle.smithy_schema.specs.Site.{Site, kind_at}
+use Rattle.smithy_shapes.specs.Table.{Table, IsStructure, HasMembers}
+use Rattle.smithy_shapes.specs.Site.{Site, kind_at}
 use Rattle.smithy_schema.specs.Reading.{Cursor, depth, Steps, Leaves, MatchStep, CannotGoOn, passed_to, in_structure, IsInvalid, IsRefused}
 use Rattle.smithy_cbor_codec.specs.Cursor.{inside_of}
 use Rattle.smithy_cbor_codec.specs.Settings.{Settings}

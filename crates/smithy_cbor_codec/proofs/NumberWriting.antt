@@ -8,7 +8,7 @@ use Rattle.smithy_texts.proofs.WrittenNumerals.{fits_signed-wide}
 use Rattle.smithy_schema.specs.declared.error.SerdeError.{SerdeError}
 use Rattle.smithy_schema.specs.declared.error.SerdeError.TheVariants.{TooWide, NoMemory}
 use Rattle.smithy_schema.specs.Reading.{IsFault}
-use Rattle.smithy_schema.specs.Site.{View}
+use Rattle.smithy_shapes.specs.Site.{View}
 use Rattle.smithy_schema.specs.Writing.{Open}
 use Rattle.smithy_cbor.specs.declared.error.EncodeError.{EncodeError}
 use Rattle.smithy_cbor.specs.declared.error.EncodeError.TheVariants as encoding

@@ -1,7 +1,7 @@
 -- What comes behind entries that are passed over.
 use Rattle.std.proofs.Common.{ℕ, zero, suc, List, Option, ◌<◌, ◌≤◌, length, refl, arith, inl, inr}
 use Rattle.smithy_schema.specs.Reading.{Mark}
-use Rattle.smithy_schema.specs.Table.{Kind}
+use Rattle.smithy_shapes.specs.Table.{Kind}
 use Rattle.smithy_cbor_codec.specs.declared.members.Next.{Next}
 use Rattle.smithy_cbor_codec.specs.declared.members.Next.TheVariants.{Pair, End}
 use Rattle.smithy_cbor_codec.specs.Standing.{mark_with, null_byte, IsOver}

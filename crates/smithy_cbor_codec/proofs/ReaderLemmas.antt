@@ -1,10 +1,10 @@
 -- What a reader finds in an input, as a relation of reading, and what it doesn't find.
 use Rattle.std.proofs.Common.{◌≡◌, ◌⊎◌, ◌<◌, ℕ, zero, suc, List, [], Option, Some, None, true, false, refl, sym, ◌∙◌, ap, subst, inl, inr}
 use Rattle.std.specs.Prelude.{option_and_then}
-use Rattle.smithy_schema.specs.declared.place.Place.{Place}
-use Rattle.smithy_schema.specs.Table.{Table, Kind, structure_of, union_of, kind_of, IsList, IsMap, IsStructure, HasMembers}
+use Rattle.smithy_shapes.specs.declared.place.Place.{Place}
+use Rattle.smithy_shapes.specs.Table.{Table, Kind, structure_of, union_of, kind_of, IsList, IsMap, IsStructure, HasMembers}
 use Rattle.smithy_schema.specs.Reading.{Mark}
-use Rattle.smithy_schema.specs.Lemmas.Kinds.{no_list_and_structure}
+use Rattle.smithy_shapes.specs.Lemmas.Kinds.{no_list_and_structure}
 use Rattle.cbor_item.specs.Item.{Item, simple}
 use Rattle.cbor_item.specs.WellFormed.{IsItemAt}
 use Rattle.smithy_cbor_codec.specs.Settings.{Settings}

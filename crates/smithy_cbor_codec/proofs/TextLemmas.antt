@@ -14,7 +14,7 @@ use Rattle.cbor_item.specs.Fault.{IsStringFault}
 use Rattle.cbor_item.specs.Strings.{IsTextFault}
 use Rattle.cbor_item.proofs.FirstByte.{item_major, major_of, not_empty}
 use Rattle.cbor_item.proofs.HeadLemmas.{head_is_only}
-use Rattle.smithy_schema.specs.Lemmas.Options.{same_some}
+use Rattle.smithy_shapes.specs.Lemmas.Options.{same_some}
 use Rattle.smithy_schema.specs.declared.error.SerdeError.TheVariants.{InvalidInput}
 use Rattle.smithy_cbor.specs.Scalar.{joined_text, text_of, bytes_of}
 use Rattle.smithy_cbor_codec.specs.Private.ScalarAtPlace.{HasTextAt, IsBlobAt, refusal_of}

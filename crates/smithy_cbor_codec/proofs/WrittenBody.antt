@@ -1,11 +1,11 @@
 -- The canonical encoding of a value is the body that is written for it.
 use Rattle.std.proofs.Common.{◌≡◌, false, refl}
-use Rattle.smithy_schema.specs.declared.place.Place.{Place}
-use Rattle.smithy_schema.specs.Table.{Table, Member}
-use Rattle.smithy_schema.specs.Site.{View}
-use Rattle.smithy_schema.specs.Value.{Value}
-use Rattle.smithy_schema.specs.Fits.{Fits}
-use Rattle.smithy_schema.proofs.SiteLemmas.{site_at}
+use Rattle.smithy_shapes.specs.declared.place.Place.{Place}
+use Rattle.smithy_shapes.specs.Table.{Table, Member}
+use Rattle.smithy_shapes.specs.Site.{View}
+use Rattle.smithy_shapes.specs.Value.{Value}
+use Rattle.smithy_shapes.specs.Fits.{Fits}
+use Rattle.smithy_shapes.proofs.SiteLemmas.{site_at}
 use Rattle.smithy_cbor_codec.specs.Canonical.{key_bytes, canonical_cbor, element_bytes, entry_bytes, member_bytes}
 use Rattle.smithy_wire.specs.Writes.{body_of}
 use Rattle.smithy_wire.proofs.CanonicalBody.{Canonical, IsWritten, same_body}

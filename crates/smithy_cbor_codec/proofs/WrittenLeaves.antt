@@ -8,15 +8,15 @@ use Rattle.std.proofs.lemmas.Bool.Decides.{nat_tests}
 use Rattle.std.proofs.lemmas.Int.{ints}
 use Rattle.std.proofs.lemmas.List.{append-nil, length-append}
 use Rattle.std.proofs.lemmas.Str.{is_utf8-from_IsUtf8}
-use Rattle.smithy_schema.specs.declared.shape_type.Scalar.{Scalar}
-use Rattle.smithy_schema.specs.declared.shape_type.Scalar.TheVariants as scalars
-use Rattle.smithy_schema.specs.declared.shape_type.TimestampFormat.{TimestampFormat}
-use Rattle.smithy_schema.specs.Value.{ScalarValue, boolean, whole, text, bytes, decimal, instant, scalar_value}
-use Rattle.smithy_schema.specs.Fits.{is_of}
+use Rattle.smithy_shapes.specs.declared.shape_type.Scalar.{Scalar}
+use Rattle.smithy_shapes.specs.declared.shape_type.Scalar.TheVariants as scalars
+use Rattle.smithy_shapes.specs.declared.shape_type.TimestampFormat.{TimestampFormat}
+use Rattle.smithy_shapes.specs.Value.{ScalarValue, boolean, whole, text, bytes, decimal, instant, scalar_value}
+use Rattle.smithy_shapes.specs.Fits.{is_of}
 use Rattle.smithy_texts.specs.Decimal.{DecimalForm}
 use Rattle.smithy_texts.specs.Ranges.{fits_signed, is_exponent}
-use Rattle.smithy_schema.proofs.ScalarLemmas.{fits_more, decimal_fits, instant_fits}
-use Rattle.smithy_schema.proofs.InstantLemmas.{whole_seconds}
+use Rattle.smithy_shapes.proofs.ScalarLemmas.{fits_more, decimal_fits, instant_fits}
+use Rattle.smithy_shapes.proofs.InstantLemmas.{whole_seconds}
 use Rattle.smithy_instants.specs.Instant.{nanos_per_second, seconds_of, subsecond_of, is_instant}
 use Rattle.cbor_item.specs.Head.{width_limit, IsHead, narrowest, shortest_head}
 use Rattle.cbor_item.specs.Item.{definite, Item, unsigned, negative, byte_string, text_string, array, tag, no_items, item}

@@ -1,12 +1,12 @@
 -- The canonical encoding of a value that CBOR holds spells the value, and what is spelled fits its place and is shallow.
 use Rattle.std.proofs.Common.{◌≡◌, ◌≤◌, ◌<◌, ◌^◌, ℕ, List, length, true, arith, subst, sym}
-use Rattle.smithy_schema.specs.declared.place.Place.{Place}
-use Rattle.smithy_schema.specs.Table.{Table, Member, shape_place}
-use Rattle.smithy_schema.specs.Accepted.{IsAccepted}
-use Rattle.smithy_schema.specs.Fits.{Fits}
-use Rattle.smithy_schema.specs.ScalarTest.{scalars_pass}
-use Rattle.smithy_schema.specs.Site.{whole_view, shape_site}
-use Rattle.smithy_schema.specs.Value.{Value, nesting}
+use Rattle.smithy_shapes.specs.declared.place.Place.{Place}
+use Rattle.smithy_shapes.specs.Table.{Table, Member, shape_place}
+use Rattle.smithy_shapes.specs.Accepted.{IsAccepted}
+use Rattle.smithy_shapes.specs.Fits.{Fits}
+use Rattle.smithy_shapes.specs.ScalarTest.{scalars_pass}
+use Rattle.smithy_shapes.specs.Site.{whole_view, shape_site}
+use Rattle.smithy_shapes.specs.Value.{Value, nesting}
 use Rattle.smithy_cbor_codec.specs.Canonical.{cbor_holds, canonical_cbor}
 use Rattle.smithy_cbor_codec.specs.Codec.{strict_settings}
 use Rattle.smithy_cbor_codec.specs.Laws.{rules_fit, fit}

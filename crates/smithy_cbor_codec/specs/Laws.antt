@@ -6,7 +6,7 @@ use Rattle.smithy_cbor_codec.specs.Meaning.{rules_of}
 use Rattle.smithy_cbor_codec.specs.Standing.{cbor_frames, cbor_relations}
 use Rattle.smithy_cbor_codec.specs.Private.Wire.{cbor_is_wire, cbor_bounds_openers}
 use Rattle.smithy_cbor_codec.specs.Private.Fits.{text_is_utf8, says_fits}
-use Rattle.smithy_schema.specs.Value.{null_element}
+use Rattle.smithy_shapes.specs.Value.{null_element}
 use Rattle.smithy_cbor_codec.specs.Scalar.{says}
 use Rattle.smithy_wire.specs.Wire.{RulesFit}
 use Rattle.smithy_wire.proofs.Bounds.{settled_means}

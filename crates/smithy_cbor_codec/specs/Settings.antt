@@ -1,6 +1,6 @@
 -- What the meaning of an item depends on beside its table and place.
 use Rattle.std.specs.Prelude.{ℕ, Bool}
-pub use Rattle.smithy_schema.specs.Limits.{Limits, kept, lifted, is_within}
+pub use Rattle.smithy_shapes.specs.Limits.{Limits, kept, lifted, is_within}
 
 pub record Settings : Type 0 where
   pub max_depth : ℕ

@@ -46,11 +46,11 @@ impl<'a> CborDeserializer<'a> {
 impl ShapeDeserializer for CborDeserializer<'_> {
     ghost use Rattle.std.specs.Prelude.{◌≡◌, ℕ, OnOk, IfOk, IsOk, IsErr, IsErrOf, true, false, refl};
     ghost use Rattle.smithy_schema.specs.Reading.{depth, in_structure, passed_to, null_is_due, Conducts, Passes, MatchStep, CannotGoOn, RefusesNoScalar, ReadsScalar, ReadsDocument, AnswersUncarried, IsRefused, IsInvalid, IsNoAnswer, NullsNot, SkipsNot, ReachesDepth};
-    ghost use Rattle.smithy_schema.specs.Table.{HasMembers};
-    ghost use Rattle.smithy_schema.specs.Site.{site_of, kind_at};
+    ghost use Rattle.smithy_shapes.specs.Table.{HasMembers};
+    ghost use Rattle.smithy_shapes.specs.Site.{site_of, kind_at};
     ghost use Rattle.smithy_schema.specs.declared.error.SerdeError.TheVariants.{NoMemory, NotCarried, TooDeep};
-    ghost use Rattle.smithy_schema.specs.declared.shape_type.Scalar.TheVariants as scalars;
-    ghost use Rattle.smithy_schema.specs.Value.{instant};
+    ghost use Rattle.smithy_shapes.specs.declared.shape_type.Scalar.TheVariants as scalars;
+    ghost use Rattle.smithy_shapes.specs.Value.{instant};
     ghost use Rattle.smithy_cbor_codec.specs.Cursor.{cursor_of, reading_settings_of};
     ghost use Rattle.smithy_cbor_codec.specs.Settings.{Settings, keep_limits, without_limits};
     ghost use Rattle.smithy_cbor_codec.specs.Standing.{cbor_relations};

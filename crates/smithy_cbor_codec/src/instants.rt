@@ -3,8 +3,8 @@
 ghost use Rattle.std.specs.Prelude.{◌≡◌, ◌⊎◌, ◌≤◌, length, IfOk, IfErr, IsErrOf};
 ghost use Rattle.smithy_schema.specs.Reading.{IsInvalid};
 ghost use Rattle.smithy_schema.specs.declared.error.SerdeError.TheVariants.{InvalidInput, NotCarried};
-ghost use Rattle.smithy_schema.specs.declared.shape_type.Scalar.TheVariants as scalars;
-ghost use Rattle.smithy_schema.specs.Value.{instant, scalar_value};
+ghost use Rattle.smithy_shapes.specs.declared.shape_type.Scalar.TheVariants as scalars;
+ghost use Rattle.smithy_shapes.specs.Value.{instant, scalar_value};
 ghost use Rattle.smithy_cbor_codec.specs.Scalar.{date_says};
 ghost use Rattle.smithy_cbor_codec.specs.Private.ScalarAtPlace.{MeansAt, UncarriedAt, NothingAt};
 ghost use Rattle.smithy_wire.specs.Rules.{means, no_meaning, uncarried};

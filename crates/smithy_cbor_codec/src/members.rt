@@ -2,7 +2,7 @@
 
 ghost use Rattle.std.specs.Prelude.{◌≡◌, ◌⊎◌, ◌≤◌, length, IfOk, IfErr};
 ghost use Rattle.smithy_schema.specs.declared.error.SerdeError.TheVariants.{InvalidInput, NoMemory};
-ghost use Rattle.smithy_schema.specs.Site.{site_of, kind_at};
+ghost use Rattle.smithy_shapes.specs.Site.{site_of, kind_at};
 ghost use Rattle.smithy_cbor_codec.specs.Private.MemberSteps.{StepsTo};
 ghost use Rattle.smithy_cbor_codec.specs.Private.PassedEntries.{is_mark, IsPairOrEnd, PairMissing, IsEntry, IsNext, EntryMissing, NothingComes};
 

@@ -4,8 +4,8 @@ ghost use Rattle.std.specs.Prelude.{◌≡◌, ◌⊎◌, ◌≤◌, ℕ, length
 ghost use Rattle.std.specs.Int.{w128};
 ghost use Rattle.smithy_schema.specs.Reading.{IsInvalid};
 ghost use Rattle.smithy_schema.specs.declared.error.SerdeError.TheVariants.{InvalidInput, TooWide, NoMemory};
-ghost use Rattle.smithy_schema.specs.declared.shape_type.Scalar.TheVariants as scalars;
-ghost use Rattle.smithy_schema.specs.Value.{whole, decimal};
+ghost use Rattle.smithy_shapes.specs.declared.shape_type.Scalar.TheVariants as scalars;
+ghost use Rattle.smithy_shapes.specs.Value.{whole, decimal};
 ghost use Rattle.smithy_texts.specs.Numeral.{number as number_of};
 ghost use Rattle.smithy_texts.specs.Decimal.{mantissa, net_exponent};
 ghost use Rattle.smithy_cbor_codec.specs.Private.ScalarAtPlace.{MeansAt, ExceedsAt, NothingAt, number_refusal};

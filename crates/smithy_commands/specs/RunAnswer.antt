@@ -1,9 +1,9 @@
 -- What the number that a run ends with says of the outside.
 use Rattle.std.specs.Prelude.{◌≡◌, ◌≢◌, ◌⊎◌, ◌↔◌, ◌≤◌, ◌+◌, ℕ, List, length, Some, None, false}
-use Rattle.smithy_schema.specs.Table.{Table, IsStructure, kind_of, shape_place, declared_as}
-use Rattle.smithy_schema.specs.Acceptance.{Fault, TableAnswer, accepted, refused, table_of}
-use Rattle.smithy_schema.specs.declared.fault.TableFault.{TableFault}
-use Rattle.smithy_schema.specs.Value.{Value}
+use Rattle.smithy_shapes.specs.Table.{Table, IsStructure, kind_of, shape_place, declared_as}
+use Rattle.smithy_shapes.specs.Acceptance.{Fault, TableAnswer, accepted, refused, table_of}
+use Rattle.smithy_shapes.specs.declared.fault.TableFault.{TableFault}
+use Rattle.smithy_shapes.specs.Value.{Value}
 use Rattle.smithy_transcode.specs.Spelling.{Spells, body}
 use Rattle.smithy_transcode.specs.Causes.{IsTooDeep, IsWide, IsUncarried}
 use Rattle.smithy_transcode.specs.Transcoding.{SpellNothing, SpellNothingWithoutLimits, TellsAgain}

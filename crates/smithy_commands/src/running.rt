@@ -1,8 +1,8 @@
 //! One run of the program.
 ghost use Rattle.std.specs.Prelude.{◌≡◌, ◌≢◌, ◌⊎◌, ◌↔◌, ◌≤◌, ◌+◌, ◌<◌, ℕ, List, Bool, Some, None, false, length, map, string_bytes, IfOk, IfErr, OnErr};
 ghost use Rattle.std.specs.Process.{exit_status};
-ghost use Rattle.smithy_schema.specs.Table.{Table, IsStructure, kind_of, shape_place, declared_as};
-ghost use Rattle.smithy_schema.specs.Acceptance.{accepted, table_of};
+ghost use Rattle.smithy_shapes.specs.Table.{Table, IsStructure, kind_of, shape_place, declared_as};
+ghost use Rattle.smithy_shapes.specs.Acceptance.{accepted, table_of};
 ghost use Rattle.smithy_outside.specs.Outside.{Shown, MetNoFault, Gave, outside};
 ghost use Rattle.smithy_commands.specs.Command.{command_of};
 ghost use Rattle.smithy_commands.specs.Task.{task_asked};

@@ -4,10 +4,10 @@ use Rattle.std.specs.Option.{option_map_or}
 use Rattle.smithy_types.specs.Document as documents
 use Rattle.smithy_types.specs.Document.{no_documents, item, no_properties, property}
 use Rattle.smithy_types.specs.declared.number.Number.TheVariants.{PosInt, NegInt}
-use Rattle.smithy_schema.specs.Table as table
-use Rattle.smithy_schema.specs.Table.{Table, document_place}
-use Rattle.smithy_schema.specs.Value as values
-use Rattle.smithy_schema.specs.Value.{Value, document_value, no_values, no_map_entries}
+use Rattle.smithy_shapes.specs.Table as table
+use Rattle.smithy_shapes.specs.Table.{Table, document_place}
+use Rattle.smithy_shapes.specs.Value as values
+use Rattle.smithy_shapes.specs.Value.{Value, document_value, no_values, no_map_entries}
 use Rattle.smithy_json.specs.Tree.{null, boolean, number, string, array, object, no_elements, no_members, member}
 use Rattle.smithy_json.specs.Unescape.{code_unit}
 use Rattle.smithy_wire.specs.Rules.{means, no_meaning, uncarried}

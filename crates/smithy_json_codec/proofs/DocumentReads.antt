@@ -7,9 +7,9 @@ use Rattle.smithy_types.specs.DocumentView.{document_view}
 use Rattle.smithy_types.specs.declared.document.Document as code
 use Rattle.smithy_schema.specs.declared.error.SerdeError.{SerdeError}
 use Rattle.smithy_schema.specs.declared.error.SerdeError.TheVariants.{InvalidInput, TooDeep, TooWide, NotCarried, Unsupported, Unwritable, Failed, NoMemory}
-use Rattle.smithy_schema.specs.declared.place.Place.{Place}
-use Rattle.smithy_schema.specs.Table.{document_place}
-use Rattle.smithy_schema.specs.Site.{Site}
+use Rattle.smithy_shapes.specs.declared.place.Place.{Place}
+use Rattle.smithy_shapes.specs.Table.{document_place}
+use Rattle.smithy_shapes.specs.Site.{Site}
 use Rattle.smithy_schema.specs.Reading.{Cursor, depth, StandsNot, IsFault, IsRefused, IsInvalid, Uncarried, ReachesDepth, ReadsDocument, passed_to, failed_at}
 use Rattle.smithy_json_codec.specs.Settings.{Settings, kept, without_limits}
 use Rattle.smithy_json_codec.specs.Documents.{DocumentLies, OpensDocumentTooDeep, MeetsOtherNumber, RefusesDocument, depth_limit, DocumentStands, NoDocumentStands, RefusesStanding}

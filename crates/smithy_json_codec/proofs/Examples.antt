@@ -1,13 +1,13 @@
 -- The tables of the examples, trees that are built, and what an example says.
 use Rattle.std.proofs.Common.{ℕ, suc, ℤ, List, [], ◌∷◌, Bool, true, false, Option, Some, None, option_map, codes}
-use Rattle.smithy_schema.specs.declared.place.Place.{Place}
-use Rattle.smithy_schema.specs.declared.shape_type.Scalar.TheVariants as scalars
-use Rattle.smithy_schema.specs.declared.shape_type.TimestampFormat.TheVariants.{EpochSeconds}
-use Rattle.smithy_schema.specs.Table as table
-use Rattle.smithy_schema.specs.Table.{Table, Member, Shape, Declaration, scalar_place, shape_place}
-use Rattle.smithy_schema.specs.Site.{shape_site}
-use Rattle.smithy_schema.specs.Value as values
-use Rattle.smithy_schema.specs.Value.{whole, text, Value, scalar_value, no_values, no_member_values, member_value}
+use Rattle.smithy_shapes.specs.declared.place.Place.{Place}
+use Rattle.smithy_shapes.specs.declared.shape_type.Scalar.TheVariants as scalars
+use Rattle.smithy_shapes.specs.declared.shape_type.TimestampFormat.TheVariants.{EpochSeconds}
+use Rattle.smithy_shapes.specs.Table as table
+use Rattle.smithy_shapes.specs.Table.{Table, Member, Shape, Declaration, scalar_place, shape_place}
+use Rattle.smithy_shapes.specs.Site.{shape_site}
+use Rattle.smithy_shapes.specs.Value as values
+use Rattle.smithy_shapes.specs.Value.{whole, text, Value, scalar_value, no_values, no_member_values, member_value}
 use Rattle.smithy_json.specs.Tree.{Json, array, object, no_elements, element, no_members, member}
 use Rattle.smithy_json_codec.specs.Settings.{Settings, kept, without_limits}
 use Rattle.smithy_json_codec.specs.Meaning.{json_meaning}

@@ -2,13 +2,13 @@
 use Rattle.std.proofs.Common.{◌≡◌, ℤ, [], ◌∷◌, map, true, false, Option, Some, None, Err, refl, pos, neg_ℤ, codes}
 use Rattle.std.specs.Char.{encode_utf8}
 use Rattle.smithy_schema.specs.declared.error.SerdeError.TheVariants.{Unwritable}
-use Rattle.smithy_schema.specs.declared.shape_type.Scalar.TheVariants as scalars
-use Rattle.smithy_schema.specs.declared.shape_type.TimestampFormat.{TimestampFormat}
-use Rattle.smithy_schema.specs.declared.shape_type.TimestampFormat.TheVariants.{EpochSeconds, DateTime, HttpDate}
-use Rattle.smithy_schema.specs.Site.{shape_site, member_of}
-use Rattle.smithy_schema.specs.Table as table
-use Rattle.smithy_schema.specs.Table.{Table, scalar_place, shape_place}
-use Rattle.smithy_schema.specs.Value.{instant, Value, scalar_value, null_element}
+use Rattle.smithy_shapes.specs.declared.shape_type.Scalar.TheVariants as scalars
+use Rattle.smithy_shapes.specs.declared.shape_type.TimestampFormat.{TimestampFormat}
+use Rattle.smithy_shapes.specs.declared.shape_type.TimestampFormat.TheVariants.{EpochSeconds, DateTime, HttpDate}
+use Rattle.smithy_shapes.specs.Site.{shape_site, member_of}
+use Rattle.smithy_shapes.specs.Table as table
+use Rattle.smithy_shapes.specs.Table.{Table, scalar_place, shape_place}
+use Rattle.smithy_shapes.specs.Value.{instant, Value, scalar_value, null_element}
 use Rattle.smithy_schema.specs.Writing.{scalar_of}
 use Rattle.smithy_instants.proofs.OnLiterals.{smithy_instants_on_literals}
 use Rattle.smithy_json.specs.Tree.{Json, number, string}

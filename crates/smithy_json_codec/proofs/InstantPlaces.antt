@@ -4,10 +4,10 @@ use Rattle.std.specs.Prelude.{option_map}
 use Rattle.smithy_instants.specs.DateText.{date_of}
 use Rattle.smithy_json.specs.Tree.{number, string}
 use Rattle.smithy_json.specs.Unescape.{unescaped}
-use Rattle.smithy_schema.specs.declared.shape_type.TimestampFormat.{TimestampFormat}
-use Rattle.smithy_schema.specs.declared.shape_type.TimestampFormat.TheVariants.{EpochSeconds, DateTime, HttpDate}
-use Rattle.smithy_schema.specs.TimeForms.{format_of}
-use Rattle.smithy_schema.specs.Value.{instant, scalar_value}
+use Rattle.smithy_shapes.specs.declared.shape_type.TimestampFormat.{TimestampFormat}
+use Rattle.smithy_shapes.specs.declared.shape_type.TimestampFormat.TheVariants.{EpochSeconds, DateTime, HttpDate}
+use Rattle.smithy_shapes.specs.TimeForms.{format_of}
+use Rattle.smithy_shapes.specs.Value.{instant, scalar_value}
 use Rattle.smithy_wire.specs.Rules.{no_meaning, answer_of}
 use Rattle.smithy_json_codec.specs.Scalar.{JsonScalar, a_boolean, a_number, a_string, tree_of, text_of, date_says, timestamp_says}
 use Rattle.smithy_json_codec.specs.Standing.{TreeLies}

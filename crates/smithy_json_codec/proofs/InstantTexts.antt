@@ -15,12 +15,12 @@ use Rattle.smithy_instants.specs.WrittenDate.{fraction_digits, fraction_text, ep
 use Rattle.smithy_instants.proofs.EpochRoundTrip.{wide_seconds, epoch_text_reads}
 use Rattle.smithy_instants.proofs.FractionTexts.{fraction_is}
 use Rattle.smithy_instants.proofs.ReadBack.{written_reads}
-use Rattle.smithy_schema.specs.declared.shape_type.TimestampFormat.{TimestampFormat}
-use Rattle.smithy_schema.specs.declared.shape_type.TimestampFormat.TheVariants.{EpochSeconds, DateTime, HttpDate}
-use Rattle.smithy_schema.specs.TimeForms.{format_of, form_holds}
-use Rattle.smithy_schema.specs.Value.{instant, scalar_value}
-use Rattle.smithy_schema.proofs.InstantTexts.{instant_text_is_utf8}
-use Rattle.smithy_schema.proofs.TimeFormLemmas.{held_writes}
+use Rattle.smithy_shapes.specs.declared.shape_type.TimestampFormat.{TimestampFormat}
+use Rattle.smithy_shapes.specs.declared.shape_type.TimestampFormat.TheVariants.{EpochSeconds, DateTime, HttpDate}
+use Rattle.smithy_shapes.specs.TimeForms.{format_of, form_holds}
+use Rattle.smithy_shapes.specs.Value.{instant, scalar_value}
+use Rattle.smithy_shapes.proofs.InstantTexts.{instant_text_is_utf8}
+use Rattle.smithy_shapes.proofs.TimeFormLemmas.{held_writes}
 use Rattle.smithy_json.specs.Ascii.{minus_sign}
 use Rattle.smithy_json.specs.Escape.{escaped}
 use Rattle.smithy_json.specs.Unescape.{unescaped}

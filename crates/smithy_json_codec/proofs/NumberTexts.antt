@@ -7,9 +7,9 @@ use Rattle.std.proofs.lemmas.Int.{ints}
 use Rattle.std.proofs.lemmas.Bool.{and_parts, ltb-true}
 use Rattle.std.proofs.lemmas.Bool.Decides.{nat_tests}
 use Rattle.std.proofs.lemmas.Str.{IsUtf8-from_ascii}
-use Rattle.smithy_schema.specs.declared.shape_type.Scalar.{Scalar}
-use Rattle.smithy_schema.specs.declared.shape_type.Scalar.TheVariants as scalars
-use Rattle.smithy_schema.specs.Value.{whole, decimal, scalar_value}
+use Rattle.smithy_shapes.specs.declared.shape_type.Scalar.{Scalar}
+use Rattle.smithy_shapes.specs.declared.shape_type.Scalar.TheVariants as scalars
+use Rattle.smithy_shapes.specs.Value.{whole, decimal, scalar_value}
 use Rattle.smithy_texts.specs.Decimal.{DecimalForm, integer_form, is_decimal, decimal_form, mantissa, written_exponent, net_exponent, exponents_fit}
 use Rattle.smithy_texts.specs.Ranges.{fits_signed, is_exponent}
 use Rattle.smithy_texts.proofs.WrittenNumerals.{fits_signed-wide}

@@ -1,6 +1,6 @@
 -- What comes behind entries that are passed over.
 use Rattle.std.proofs.Common.{◌≡◌, ◌<◌, ◌≤◌, ◌+◌, ℕ, zero, suc, length, List, drop, Bool, true, false, Some, refl, sym, ◌∙◌, ap, arith, inl, inr}
-use Rattle.smithy_schema.specs.Lemmas.Options.{same_some}
+use Rattle.smithy_shapes.specs.Lemmas.Options.{same_some}
 use Rattle.smithy_json_codec.specs.declared.members.Next.{Next}
 use Rattle.smithy_json_codec.specs.declared.members.Next.TheVariants.{Member, End}
 use Rattle.smithy_json.specs.Tree.{null}

@@ -2,19 +2,19 @@
 use Rattle.std.proofs.Common.{◌≡◌, ◌≤◌, ◌⊎◌, ◌-◌, ◌^◌, ℕ, ℤ, List, length, Bool, true, false, Option, Some, None, refl, sym, ◌∙◌, ap}
 use Rattle.std.specs.Prelude.{option_map, IsErrOf, Result, Err, OnErr, IfOk, IfErr, IsOk, IsErr, IfSome, IfNone, IsSome, IsNone}
 use Rattle.smithy_texts.specs.Ranges.{fits_signed}
-use Rattle.smithy_schema.specs.declared.shape_type.Scalar.{Scalar}
-use Rattle.smithy_schema.specs.declared.shape_type.Scalar.TheVariants as scalars
+use Rattle.smithy_shapes.specs.declared.shape_type.Scalar.{Scalar}
+use Rattle.smithy_shapes.specs.declared.shape_type.Scalar.TheVariants as scalars
 use Rattle.smithy_schema.specs.declared.error.SerdeError.{SerdeError}
 use Rattle.smithy_schema.specs.declared.error.SerdeError.TheVariants.{InvalidInput, TooWide, NotCarried, NoMemory}
-use Rattle.smithy_schema.specs.declared.shape_type.TimestampFormat.{TimestampFormat}
-use Rattle.smithy_schema.specs.declared.shape_type.TimestampFormat.TheVariants.{EpochSeconds}
-use Rattle.smithy_schema.specs.TimeForms.{form_or}
-use Rattle.smithy_schema.specs.Table.{scalar_place}
-use Rattle.smithy_schema.specs.Site.{Site}
-use Rattle.smithy_schema.specs.Value.{ScalarValue, boolean, whole, text, bytes, instant, Value, scalar_value, null_element}
+use Rattle.smithy_shapes.specs.declared.shape_type.TimestampFormat.{TimestampFormat}
+use Rattle.smithy_shapes.specs.declared.shape_type.TimestampFormat.TheVariants.{EpochSeconds}
+use Rattle.smithy_shapes.specs.TimeForms.{form_or}
+use Rattle.smithy_shapes.specs.Table.{scalar_place}
+use Rattle.smithy_shapes.specs.Site.{Site}
+use Rattle.smithy_shapes.specs.Value.{ScalarValue, boolean, whole, text, bytes, instant, Value, scalar_value, null_element}
 use Rattle.smithy_schema.specs.Reading.{Cursor, depth, StandsNot, IsInvalid, Exceeds, Uncarried, ReadsScalar, AnswersWide, AnswersUncarried, passed_to, failed_at}
-use Rattle.smithy_schema.specs.Lemmas.Options.{same_some, made}
-use Rattle.smithy_schema.proofs.ScalarLemmas.{fits_more}
+use Rattle.smithy_shapes.specs.Lemmas.Options.{same_some, made}
+use Rattle.smithy_shapes.proofs.ScalarLemmas.{fits_more}
 use Rattle.smithy_json.specs.Tree.{boolean as boolean_tree, number}
 use Rattle.smithy_json.specs.Number.{whole_number}
 use Rattle.smithy_json_codec.specs.Settings.{Settings, kept, without_limits}

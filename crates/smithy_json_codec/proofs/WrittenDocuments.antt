@@ -9,8 +9,8 @@ use Rattle.smithy_types.specs.declared.number.Number.{Number}
 use Rattle.smithy_types.specs.declared.number.Number.TheVariants.{PosInt, NegInt}
 use Rattle.smithy_texts.specs.Numeral.{begins_with}
 use Rattle.smithy_texts.specs.Ranges.{fits_signed}
-use Rattle.smithy_schema.specs.declared.shape_type.Scalar.TheVariants as scalars
-use Rattle.smithy_schema.specs.Value as values
+use Rattle.smithy_shapes.specs.declared.shape_type.Scalar.TheVariants as scalars
+use Rattle.smithy_shapes.specs.Value as values
 use Rattle.smithy_json.specs.Ascii.{minus_sign, begin_array, end_array, begin_object, end_object}
 use Rattle.smithy_json.specs.DocumentText.{elements_text_by, properties_text_by}
 use Rattle.smithy_json.specs.Escape.{escaped}

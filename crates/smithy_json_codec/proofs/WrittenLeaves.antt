@@ -6,14 +6,14 @@ use Rattle.std.specs.List.{list_all}
 use Rattle.std.proofs.lemmas.Bool.{and_parts}
 use Rattle.std.proofs.lemmas.Bool.Decides.{nat_tests}
 use Rattle.std.specs.Fmt.{signed_decimal}
-use Rattle.smithy_schema.specs.declared.shape_type.Scalar.{Scalar}
-use Rattle.smithy_schema.specs.declared.shape_type.Scalar.TheVariants as scalars
-use Rattle.smithy_schema.specs.declared.shape_type.TimestampFormat.{TimestampFormat}
-use Rattle.smithy_schema.specs.declared.shape_type.TimestampFormat.TheVariants.{EpochSeconds, DateTime, HttpDate}
-use Rattle.smithy_schema.specs.TimeForms.{form_or, form_holds}
-use Rattle.smithy_schema.specs.Value.{ScalarValue, boolean, whole, text, bytes, decimal, instant, scalar_value}
-use Rattle.smithy_schema.specs.Fits.{is_of}
-use Rattle.smithy_schema.proofs.ScalarLemmas.{whole_fits, decimal_fits, instant_fits, text_is_utf8, blob_is_bytes}
+use Rattle.smithy_shapes.specs.declared.shape_type.Scalar.{Scalar}
+use Rattle.smithy_shapes.specs.declared.shape_type.Scalar.TheVariants as scalars
+use Rattle.smithy_shapes.specs.declared.shape_type.TimestampFormat.{TimestampFormat}
+use Rattle.smithy_shapes.specs.declared.shape_type.TimestampFormat.TheVariants.{EpochSeconds, DateTime, HttpDate}
+use Rattle.smithy_shapes.specs.TimeForms.{form_or, form_holds}
+use Rattle.smithy_shapes.specs.Value.{ScalarValue, boolean, whole, text, bytes, decimal, instant, scalar_value}
+use Rattle.smithy_shapes.specs.Fits.{is_of}
+use Rattle.smithy_shapes.proofs.ScalarLemmas.{whole_fits, decimal_fits, instant_fits, text_is_utf8, blob_is_bytes}
 use Rattle.smithy_texts.specs.Base64Text.{are_bytes, blob_text}
 use Rattle.smithy_texts.specs.Decimal.{DecimalForm, decimal_form, decimal_text, written_exponent, net_exponent}
 use Rattle.smithy_texts.specs.Ranges.{fits_signed, is_exponent}

@@ -2,12 +2,12 @@
 use Rattle.std.specs.Prelude.{ℕ, ℤ, List, [], ◌∷◌, ◌++◌, Bool, true, false, Some, None, unwrap_or, codes, if◌then◌else◌}
 use Rattle.std.specs.Fmt.{signed_decimal}
 use Rattle.smithy_types.specs.Document.{Document}
-use Rattle.smithy_schema.specs.declared.shape_type.TimestampFormat.{TimestampFormat}
-use Rattle.smithy_schema.specs.declared.shape_type.TimestampFormat.TheVariants.{EpochSeconds}
-use Rattle.smithy_schema.specs.TimeForms.{format_of, form_or, form_writes, form_holds}
-use Rattle.smithy_schema.specs.ScalarTest.{ValueTest}
-use Rattle.smithy_schema.specs.Site.{Site, View, element_of, value_of, member_of}
-use Rattle.smithy_schema.specs.Value.{ScalarValue, boolean, whole, text, bytes, decimal, instant, Value, scalar_value, list, map, structure, union, null_element, document_value, Values, no_values, value, MapEntries, no_map_entries, map_entry, MemberValues, no_member_values, member_value}
+use Rattle.smithy_shapes.specs.declared.shape_type.TimestampFormat.{TimestampFormat}
+use Rattle.smithy_shapes.specs.declared.shape_type.TimestampFormat.TheVariants.{EpochSeconds}
+use Rattle.smithy_shapes.specs.TimeForms.{format_of, form_or, form_writes, form_holds}
+use Rattle.smithy_shapes.specs.ScalarTest.{ValueTest}
+use Rattle.smithy_shapes.specs.Site.{Site, View, element_of, value_of, member_of}
+use Rattle.smithy_shapes.specs.Value.{ScalarValue, boolean, whole, text, bytes, decimal, instant, Value, scalar_value, list, map, structure, union, null_element, document_value, Values, no_values, value, MapEntries, no_map_entries, map_entry, MemberValues, no_member_values, member_value}
 use Rattle.smithy_texts.specs.Base64Text.{blob_text}
 use Rattle.smithy_texts.specs.Decimal.{decimal_text}
 use Rattle.smithy_instants.specs.WrittenDate.{date_text}

@@ -1,6 +1,6 @@
 -- What contracts see of the settings that a codec, a reader and a serializer hold.
 use Rattle.std.specs.Prelude.{Bool}
-use Rattle.smithy_schema.specs.declared.shape_type.TimestampFormat.TheVariants.{EpochSeconds}
+use Rattle.smithy_shapes.specs.declared.shape_type.TimestampFormat.TheVariants.{EpochSeconds}
 use Rattle.smithy_json_codec.specs.declared.codec.JsonCodec.{JsonCodec}
 use Rattle.smithy_json_codec.specs.declared.settings.Settings.{Settings as HeldSettings}
 use Rattle.smithy_json_codec.specs.Settings.{Settings, kept}

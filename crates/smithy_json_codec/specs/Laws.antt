@@ -2,8 +2,8 @@
 use Rattle.std.specs.Prelude.{◌≡◌, ◌↔◌, ℕ, List, [], option_map}
 use Rattle.smithy_types.specs.Document.{Document, whole_document}
 use Rattle.smithy_types.specs.declared.number.Number.{Number}
-use Rattle.smithy_schema.specs.declared.place.Place.{Place}
-use Rattle.smithy_schema.specs.Table.{Table, document, kind_of}
+use Rattle.smithy_shapes.specs.declared.place.Place.{Place}
+use Rattle.smithy_shapes.specs.Table.{Table, document, kind_of}
 use Rattle.smithy_json.specs.Tree.{Json}
 use Rattle.smithy_json.specs.DocumentMeaning.{document_meaning}
 use Rattle.smithy_schema.specs.Reading.{IsLawful, StandsFit, CountsOpeners, IsBelow}
@@ -14,7 +14,7 @@ use Rattle.smithy_json_codec.specs.Standing.{json_frames, json_rules, json_relat
 use Rattle.smithy_json_codec.specs.Documents.{depth_limit, DocumentStands}
 use Rattle.smithy_json_codec.specs.Private.DocumentNodes as documents
 use Rattle.smithy_json_codec.specs.Private.TokenLaws as tokens
-use Rattle.smithy_schema.specs.Value.{document_value}
+use Rattle.smithy_shapes.specs.Value.{document_value}
 use Rattle.smithy_wire.specs.Wire.{RulesFit}
 use Rattle.smithy_wire.specs.Laws as wire
 

@@ -1,9 +1,9 @@
 -- What a JSON value means at a place of a table: what its node means under the rules of JSON.
 use Rattle.std.specs.Prelude.{ℕ, Option, Some, None, true}
-use Rattle.smithy_schema.specs.declared.place.Place.{Place}
-use Rattle.smithy_schema.specs.Table.{Table, is_document_place}
-use Rattle.smithy_schema.specs.TimeForms.{form_or}
-use Rattle.smithy_schema.specs.Value.{Value}
+use Rattle.smithy_shapes.specs.declared.place.Place.{Place}
+use Rattle.smithy_shapes.specs.Table.{Table, is_document_place}
+use Rattle.smithy_shapes.specs.TimeForms.{form_or}
+use Rattle.smithy_shapes.specs.Value.{Value}
 use Rattle.smithy_json.specs.Tree.{Json, null, boolean, number, string, array, object, Elements, no_elements, element, Members, no_members, member}
 use Rattle.smithy_json_codec.specs.Settings.{Settings, name_of}
 use Rattle.smithy_json_codec.specs.Scalar.{JsonScalar, a_boolean, a_number, a_string, text_of, says, document_says}

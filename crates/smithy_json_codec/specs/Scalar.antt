@@ -1,11 +1,11 @@
 -- The scalars of JSON, and what they say as each kind.
 use Rattle.std.specs.Prelude.{ℕ, List, ℤ, Bool, Option, Some, None, option_map, option_and_then, if◌then◌else◌}
-use Rattle.smithy_schema.specs.declared.shape_type.Scalar.{Scalar}
-use Rattle.smithy_schema.specs.declared.shape_type.Scalar.TheVariants as scalars
-use Rattle.smithy_schema.specs.declared.shape_type.TimestampFormat.{TimestampFormat}
-use Rattle.smithy_schema.specs.declared.shape_type.TimestampFormat.TheVariants.{EpochSeconds}
-use Rattle.smithy_schema.specs.TimeForms.{format_of}
-use Rattle.smithy_schema.specs.Value.{boolean as boolean_value, whole, text, bytes, instant, Value, scalar_value}
+use Rattle.smithy_shapes.specs.declared.shape_type.Scalar.{Scalar}
+use Rattle.smithy_shapes.specs.declared.shape_type.Scalar.TheVariants as scalars
+use Rattle.smithy_shapes.specs.declared.shape_type.TimestampFormat.{TimestampFormat}
+use Rattle.smithy_shapes.specs.declared.shape_type.TimestampFormat.TheVariants.{EpochSeconds}
+use Rattle.smithy_shapes.specs.TimeForms.{format_of}
+use Rattle.smithy_shapes.specs.Value.{boolean as boolean_value, whole, text, bytes, instant, Value, scalar_value}
 use Rattle.smithy_types.specs.Document as documents
 use Rattle.smithy_types.specs.Document.{Document}
 use Rattle.smithy_types.specs.declared.number.Number.{Number}

@@ -1,8 +1,8 @@
 -- What the meaning of a tree depends on beside its table and place.
 use Rattle.std.specs.Prelude.{ℕ, List, Bool, if◌then◌else◌}
-use Rattle.smithy_schema.specs.declared.shape_type.TimestampFormat.{TimestampFormat}
-use Rattle.smithy_schema.specs.Table.{Member, json_name_of}
-pub use Rattle.smithy_schema.specs.Limits.{Limits, kept, lifted, is_within}
+use Rattle.smithy_shapes.specs.declared.shape_type.TimestampFormat.{TimestampFormat}
+use Rattle.smithy_shapes.specs.Table.{Member, json_name_of}
+pub use Rattle.smithy_shapes.specs.Limits.{Limits, kept, lifted, is_within}
 
 pub record Settings : Type 0 where
   -- members go by their JSON names, where they have one

@@ -1,6 +1,6 @@
 -- Which bytes hold the text of a big number that leaves the limits of its kind.
 use Rattle.std.specs.Prelude.{◌≡◌, ◌⊎◌, ◌++◌, ℕ, List, Some}
-use Rattle.smithy_schema.specs.declared.shape_type.Scalar.{Scalar}
+use Rattle.smithy_shapes.specs.declared.shape_type.Scalar.{Scalar}
 use Rattle.smithy_json.specs.Unescape.{unescaped}
 use Rattle.smithy_json_codec.specs.Scalar.{big_number}
 use Rattle.smithy_wire.specs.Rules.{wide}

@@ -8,9 +8,9 @@ use std::borrow::{CowSlice, CowStr};
 impl<'a> BorrowDeserializer<'a> for JsonDeserializer<'a> {
     ghost use Rattle.std.specs.Prelude.{◌≡◌, IfOk};
     ghost use Rattle.std.specs.Cow.{cow_str_bytes, cow_slice_items, IsOwnedSlice};
-    ghost use Rattle.smithy_schema.specs.declared.shape_type.Scalar.TheVariants as scalars;
-    ghost use Rattle.smithy_schema.specs.Value.{text, bytes};
-    ghost use Rattle.smithy_schema.specs.Site.{site_of};
+    ghost use Rattle.smithy_shapes.specs.declared.shape_type.Scalar.TheVariants as scalars;
+    ghost use Rattle.smithy_shapes.specs.Value.{text, bytes};
+    ghost use Rattle.smithy_shapes.specs.Site.{site_of};
     ghost use Rattle.smithy_schema.specs.Reading.{ReadsScalar};
     ghost use Rattle.smithy_json_codec.specs.Borrowed.{BorrowsText};
     ghost use Rattle.smithy_json_codec.specs.Cursor.{cursor_of, reading_settings_of};

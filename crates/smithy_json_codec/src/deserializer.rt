@@ -59,8 +59,8 @@ impl<'a> JsonDeserializer<'a> {
 impl ShapeDeserializer for JsonDeserializer<'_> {
     ghost use Rattle.std.specs.Prelude.{◌≡◌, ◌≤◌, ℕ, Some, true, false, refl, IfOk, IsOk, OnOk, IsErr, IsErrOf};
     ghost use Rattle.smithy_schema.specs.Reading.{depth, in_structure, passed_to, ReadsDocument, Conducts, Passes, MatchStep, CannotGoOn, SkipsNot, NullsNot, ReadsScalar, AnswersWide, ReachesDepth, null_is_due, RefusesNoScalar, IsRefused, IsInvalid, IsNoAnswer};
-    ghost use Rattle.smithy_schema.specs.Table.{IsStructure, HasMembers};
-    ghost use Rattle.smithy_schema.specs.Site.{site_of, kind_at};
+    ghost use Rattle.smithy_shapes.specs.Table.{IsStructure, HasMembers};
+    ghost use Rattle.smithy_shapes.specs.Site.{site_of, kind_at};
     ghost use Rattle.smithy_schema.specs.declared.error.SerdeError.TheVariants.{NoMemory, NotCarried, TooDeep};
     ghost use Rattle.smithy_json_codec.specs.Cursor.{cursor_of, reading_settings_of};
     ghost use Rattle.smithy_json_codec.specs.Settings.{Settings, keep_limits, without_limits};
@@ -72,8 +72,8 @@ impl ShapeDeserializer for JsonDeserializer<'_> {
     ghost use Rattle.std.specs.Int.{w128};
     ghost use Rattle.smithy_texts.specs.Numeral.{number};
     ghost use Rattle.smithy_texts.specs.Decimal.{mantissa, net_exponent};
-    ghost use Rattle.smithy_schema.specs.declared.shape_type.Scalar.TheVariants as scalars;
-    ghost use Rattle.smithy_schema.specs.Value.{whole, decimal};
+    ghost use Rattle.smithy_shapes.specs.declared.shape_type.Scalar.TheVariants as scalars;
+    ghost use Rattle.smithy_shapes.specs.Value.{whole, decimal};
     ghost use Rattle.smithy_json_codec.specs.NumberText.{NumberTextLies};
     ghost use Rattle.smithy_json_codec.specs.Documents.{DocumentStands, NoDocumentStands, MeetsOtherNumber, OpensDocumentTooDeep};
     ghost use Rattle.smithy_json_codec.specs.Laws.{lawful as json_is_lawful, fit as json_fits, counts as json_counts, above as limits_are_above};

@@ -3,11 +3,11 @@
 ghost use Rattle.std.specs.Prelude.{◌≡◌, ◌≢◌, ◌⊎◌, ◌≤◌, length, IfOk, IfErr, IsErrOf};
 ghost use Rattle.smithy_instants.specs.Epoch.{epoch_nanos};
 ghost use Rattle.smithy_schema.specs.declared.error.SerdeError.TheVariants.{InvalidInput, NotCarried, NoMemory};
-ghost use Rattle.smithy_schema.specs.declared.shape_type.TimestampFormat.TheVariants.{EpochSeconds};
+ghost use Rattle.smithy_shapes.specs.declared.shape_type.TimestampFormat.TheVariants.{EpochSeconds};
 ghost use Rattle.smithy_schema.specs.Reading.{IsInvalid};
-ghost use Rattle.smithy_schema.specs.Site.{site_of};
-ghost use Rattle.smithy_schema.specs.TimeForms.{form_or};
-ghost use Rattle.smithy_schema.specs.Value.{instant, scalar_value};
+ghost use Rattle.smithy_shapes.specs.Site.{site_of};
+ghost use Rattle.smithy_shapes.specs.TimeForms.{form_or};
+ghost use Rattle.smithy_shapes.specs.Value.{instant, scalar_value};
 ghost use Rattle.smithy_json_codec.specs.Scalar.{seconds_read_as};
 ghost use Rattle.smithy_json_codec.specs.Private.ScalarAtPlace.{InstantLies, UncarriedLies, NoInstantLies};
 ghost use Rattle.smithy_wire.specs.Rules.{means, no_meaning, uncarried};

@@ -7,6 +7,7 @@ mod deserializer;
 mod documents;
 mod frames;
 mod input;
+mod instant_text;
 mod instants;
 mod member_steps;
 mod members;

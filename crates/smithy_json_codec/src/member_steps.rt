@@ -8,8 +8,8 @@ use smithy_wire::Within;
 impl JsonDeserializer<'_> {
     ghost use Rattle.std.specs.Prelude.{◌≡◌, ◌≤◌, ◌↔◌, ◌+◌, ℕ, length, drop, IsTrue, IfOk, IsErrOf, false};
     ghost use Rattle.smithy_schema.specs.Reading.{passed_to, depth, in_structure, Conducts, MatchStep, CannotGoOn, RefusesNoScalar, IsRefused, IsInvalid};
-    ghost use Rattle.smithy_schema.specs.Table.{HasMembers};
-    ghost use Rattle.smithy_schema.specs.Site.{site_of, kind_at};
+    ghost use Rattle.smithy_shapes.specs.Table.{HasMembers};
+    ghost use Rattle.smithy_shapes.specs.Site.{site_of, kind_at};
     ghost use Rattle.smithy_schema.specs.declared.error.SerdeError.TheVariants.{TooDeep};
     ghost use Rattle.smithy_json_codec.specs.Cursor.{cursor_of, reading_settings_of};
     ghost use Rattle.smithy_json_codec.specs.Deepest.{OpensTooDeep};

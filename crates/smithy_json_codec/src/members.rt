@@ -3,8 +3,8 @@
 ghost use Rattle.std.specs.Prelude.{◌≡◌, ◌≢◌, ◌≤◌, ◌+◌, ◌↔◌, ℕ, length, drop, IfOk, IfErr, IsErrOf, IsTrue};
 ghost use Rattle.smithy_schema.specs.Reading.{IsInvalid, IsRefused};
 ghost use Rattle.smithy_schema.specs.declared.error.SerdeError.TheVariants.{Failed, TooDeep, TooWide, NotCarried, Unsupported, Unwritable};
-ghost use Rattle.smithy_schema.specs.Site.{site_of, kind_at};
-ghost use Rattle.smithy_schema.specs.Table.{IsDocument};
+ghost use Rattle.smithy_shapes.specs.Site.{site_of, kind_at};
+ghost use Rattle.smithy_shapes.specs.Table.{IsDocument};
 ghost use Rattle.smithy_json_codec.specs.Codec.{held_settings};
 ghost use Rattle.smithy_json_codec.specs.Deepest.{OpensTooDeep};
 ghost use Rattle.smithy_json_codec.specs.Openers.{json_openers};

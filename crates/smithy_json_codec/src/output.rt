@@ -1,6 +1,6 @@
 //! What a serializer adds to the end of a body.
 ghost use Rattle.std.specs.Prelude.{◌≡◌, [], ◌∷◌, ◌++◌, OnOk};
-ghost use Rattle.smithy_schema.specs.Site.{site_of};
+ghost use Rattle.smithy_shapes.specs.Site.{site_of};
 ghost use Rattle.smithy_texts.specs.Base64Text.{blob_text};
 ghost use Rattle.smithy_types.specs.Document.{whole_document};
 ghost use Rattle.smithy_types.specs.DocumentView.{document_view};

@@ -2,7 +2,7 @@
 ghost use Rattle.std.specs.Prelude.{if◌then◌else◌, ◌≡◌, ◌↔◌, [], ◌∷◌, ◌++◌, Ok, Err, true, false, OnOk, IfErr, IsErr, IsErrOf};
 ghost use Rattle.smithy_schema.specs.declared.error.SerdeError.TheVariants.{Failed, NoMemory, Unwritable};
 ghost use Rattle.smithy_schema.specs.Reading.{IsFault};
-ghost use Rattle.smithy_schema.specs.Site.{site_of};
+ghost use Rattle.smithy_shapes.specs.Site.{site_of};
 ghost use Rattle.smithy_schema.specs.Writing.{after_value, after_text, after_begin};
 ghost use Rattle.smithy_texts.specs.Base64Text.{blob_text};
 ghost use Rattle.smithy_types.specs.Document.{whole_document};
@@ -18,6 +18,7 @@ ghost use Rattle.smithy_json_codec.specs.Serializing.{state_of, has_failed};
 ghost use Rattle.smithy_json_codec.specs.Writing.{JsonState, fresh_state, is_key_due, lead, wrote, key_wrote, opened, where_taken, json_after};
 
 use crate::instants::form_at;
+use crate::instant_text::instant_text;
 use crate::output::{
     push_base64, push_comma, push_key, push_name, push_quoted, push_whole_document,
 };
@@ -318,7 +319,7 @@ impl ShapeSerializer for JsonSerializer {
     fn write_timestamp(&mut self, schema: &Schema<'_>, value: &DateTime) -> Result<(), SerdeError> {
         self.containers.begin()?;
         let form = form_at(schema, self.settings.default_timestamp_format);
-        let text = form.text_of(*self.out.allocator(), value)?;
+        let text = instant_text(*self.out.allocator(), form, value)?;
         self.containers.succeed();
         self.write_in_form(schema, form, text.as_str())
     }

@@ -1,10 +1,10 @@
 -- The table that stands for a part of a model.
 use Rattle.std.specs.Prelude.{◌≡◌, ℕ, List, Bool}
 use Rattle.smithy_model.specs.Model.{Model}
-use Rattle.smithy_schema.specs.Decl.{Decl}
-use Rattle.smithy_schema.specs.Table.{Table}
-use Rattle.smithy_schema.specs.Acceptance.{accepted, table_of}
-use Rattle.smithy_schema.specs.TableText.{declarations_of, declarations}
+use Rattle.smithy_shapes.specs.Decl.{Decl}
+use Rattle.smithy_shapes.specs.Table.{Table}
+use Rattle.smithy_shapes.specs.Acceptance.{accepted, table_of}
+use Rattle.smithy_shapes.specs.TableText.{declarations_of, declarations}
 use Rattle.smithy_model_table.specs.Declaring.{Names}
 use Rattle.smithy_model_table.specs.Leaving.{AreSettled}
 use Rattle.smithy_model_table.specs.Outcomes.{LeftOut, AreParts}

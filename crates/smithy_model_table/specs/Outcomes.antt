@@ -3,7 +3,7 @@ use Rattle.std.specs.Prelude.{◌≡◌, ◌⊎◌, ℕ, List, [], ◌∷◌, Bo
 use Rattle.std.specs.List.{AllZip}
 use Rattle.smithy_model.specs.Model as model
 use Rattle.smithy_model.specs.Model.{Member, Kind, Shape, Model}
-use Rattle.smithy_schema.specs.Decl.{MemberDecl, Decl, structure, union, list, map}
+use Rattle.smithy_shapes.specs.Decl.{MemberDecl, Decl, structure, union, list, map}
 use Rattle.smithy_model_table.specs.Declaring.{Names, name_of, member_decl, form_name_of, list_decl, map_decl}
 use Rattle.smithy_model_table.specs.Leaving.{Reason, clash, reason_of}
 

@@ -4,8 +4,8 @@ ghost use Rattle.smithy_model.specs.Views.{model_view, member_view, shape_view};
 ghost use Rattle.smithy_model_table.specs.Declaring.{is_sparse, list_decl, map_decl};
 ghost use Rattle.smithy_model_table.specs.Outcomes.{LeftOut, IsPartAt, AreParts};
 ghost use Rattle.smithy_model_table.specs.Views.{names_view, left_view};
-ghost use Rattle.smithy_schema.specs.Decl.{list, map};
-ghost use Rattle.smithy_schema.specs.DeclViews.{decl_of};
+ghost use Rattle.smithy_shapes.specs.Decl.{list, map};
+ghost use Rattle.smithy_shapes.specs.DeclViews.{decl_of};
 
 use crate::left::Left;
 use crate::names::Names;

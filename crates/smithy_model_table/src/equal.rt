@@ -1,6 +1,6 @@
 //! Whether declarations are equal.
 ghost use Rattle.std.specs.Prelude.{◌≡◌, map, true, string_bytes, option_map};
-ghost use Rattle.smithy_schema.specs.DeclViews.{decl_of, member_decl_of};
+ghost use Rattle.smithy_shapes.specs.DeclViews.{decl_of, member_decl_of};
 
 use smithy_schema::{Decl, MemberDecl};
 

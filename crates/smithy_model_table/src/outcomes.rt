@@ -4,7 +4,7 @@ ghost use Rattle.smithy_model.specs.Views.{model_view, member_view};
 ghost use Rattle.smithy_model_table.specs.Leaving.{reason_of};
 ghost use Rattle.smithy_model_table.specs.Outcomes.{LeftOut, IsOutcome, AreOutcomes, declared_of, left_of};
 ghost use Rattle.smithy_model_table.specs.Views.{names_view, reason_view, left_view, outcome_view};
-ghost use Rattle.smithy_schema.specs.DeclViews.{member_decl_of};
+ghost use Rattle.smithy_shapes.specs.DeclViews.{member_decl_of};
 
 use crate::carried::{is_marked, is_outside};
 use crate::left::{Left, Reason};

@@ -3,10 +3,10 @@ ghost use Rattle.std.specs.Prelude.{◌≡◌, ◌≤◌, length, map, IfOk};
 ghost use Rattle.smithy_model.specs.Views.{model_view};
 ghost use Rattle.smithy_model_table.specs.ModelTable.{IsTableOf};
 ghost use Rattle.smithy_model_table.specs.Views.{left_view};
-ghost use Rattle.smithy_schema.specs.Acceptance.{accepted, table_of as table_of_text};
-ghost use Rattle.smithy_schema.specs.TableText.{declarations_of, declarations};
-ghost use Rattle.smithy_schema.specs.DeclViews.{decl_of};
-ghost use Rattle.smithy_schema.specs.Table.{Table};
+ghost use Rattle.smithy_shapes.specs.Acceptance.{accepted, table_of as table_of_text};
+ghost use Rattle.smithy_shapes.specs.TableText.{declarations_of, declarations};
+ghost use Rattle.smithy_shapes.specs.DeclViews.{decl_of};
+ghost use Rattle.smithy_shapes.specs.Table.{Table};
 
 use crate::carried::{is_marked, uncarried};
 use crate::declaring::declare_all;

@@ -1,9 +1,9 @@
 -- What a serializer hands out once one structure is written.
 use Rattle.std.specs.Prelude.{◌≡◌, ℕ, List, Result, Ok, Err, None, true, false}
 use Rattle.smithy_schema.specs.declared.error.SerdeError.{SerdeError}
-use Rattle.smithy_schema.specs.Site.{Site}
-use Rattle.smithy_schema.specs.Value.{MemberValues, structure}
-use Rattle.smithy_schema.specs.ScalarTest.{scalars_pass}
+use Rattle.smithy_shapes.specs.Site.{Site}
+use Rattle.smithy_shapes.specs.Value.{MemberValues, structure}
+use Rattle.smithy_shapes.specs.ScalarTest.{scalars_pass}
 use Rattle.smithy_schema.specs.Writing.{Writer, begin_structure, end_structure, member_events}
 use Rattle.smithy_schema.specs.Written.{Adds, Runs, Wraps}
 use Rattle.smithy_json_codec.specs.Canonical.{canonical_json, can_write}

@@ -1,7 +1,7 @@
 //! The protocols AWS JSON 1.0 and 1.1.
 ghost use Rattle.std.specs.Prelude.{◌≡◌, ◌⊎◌, Ok, Err, false, IfOk, IfErr};
 ghost use Rattle.smithy_schema.specs.declared.error.SerdeError.TheVariants.{NoMemory};
-ghost use Rattle.smithy_schema.specs.Site.{site_of};
+ghost use Rattle.smithy_shapes.specs.Site.{site_of};
 ghost use Rattle.smithy_json_codec.specs.Codec.{strict_settings};
 ghost use Rattle.smithy_json_codec.specs.Cursor.{cursor_of, reading_settings_of};
 ghost use Rattle.smithy_json_codec.specs.Writing.{fresh_state, json_after};

@@ -2,7 +2,7 @@
 ghost use Rattle.std.specs.Prelude.{◌≡◌, ◌⊎◌, ◌↔◌, Ok, Err, Some, None, codes, IfOk, IfErr, IfSome, IsErrOf};
 ghost use Rattle.smithy_schema.specs.declared.error.SerdeError.{SerdeError};
 ghost use Rattle.smithy_schema.specs.declared.error.SerdeError.TheVariants.{NoMemory};
-ghost use Rattle.smithy_schema.specs.Site.{site_of};
+ghost use Rattle.smithy_shapes.specs.Site.{site_of};
 ghost use Rattle.smithy_query_codec.specs.Writing.{fresh_state, query_after};
 ghost use Rattle.smithy_protocol.specs.Bodies.{HandsOut};
 ghost use Rattle.smithy_protocol.specs.Messages.{form_names, query_request, message_of};

@@ -1,6 +1,6 @@
 //! The body of a request.
 ghost use Rattle.std.specs.Prelude.{◌≡◌, [], Ok, Err, false, IfOk, IfErr};
-ghost use Rattle.smithy_schema.specs.Site.{site_of};
+ghost use Rattle.smithy_shapes.specs.Site.{site_of};
 ghost use Rattle.smithy_protocol.specs.Bodies.{HandsOut};
 
 use smithy_schema::{FinishSerializer, Schema, SerdeError, SerializableStruct};

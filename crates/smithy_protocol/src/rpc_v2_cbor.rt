@@ -1,7 +1,7 @@
 //! The protocol Smithy RPC v2 CBOR.
 ghost use Rattle.std.specs.Prelude.{◌≡◌, ◌⊎◌, Ok, Err, codes, IfOk, IfErr};
 ghost use Rattle.smithy_schema.specs.declared.error.SerdeError.TheVariants.{NoMemory};
-ghost use Rattle.smithy_schema.specs.Site.{site_of};
+ghost use Rattle.smithy_shapes.specs.Site.{site_of};
 ghost use Rattle.smithy_cbor_codec.specs.Codec.{strict_settings};
 ghost use Rattle.smithy_cbor_codec.specs.Cursor.{cursor_of, reading_settings_of};
 ghost use Rattle.smithy_cbor_codec.specs.Writing.{fresh_state, cbor_after};

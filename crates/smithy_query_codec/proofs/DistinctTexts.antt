@@ -1,8 +1,8 @@
 -- No two leaves of a structure are written under one path.
 use Rattle.std.proofs.Common.{◌≡◌, ◌≢◌, List, ℕ, [], ◌∷◌, sym, ◌∙◌}
 use Rattle.std.specs.List.{AllByRecursion}
-use Rattle.smithy_schema.specs.Site.{Site}
-use Rattle.smithy_schema.specs.Value.{Value, structure, MemberValues}
+use Rattle.smithy_shapes.specs.Site.{Site}
+use Rattle.smithy_shapes.specs.Value.{Value, structure, MemberValues}
 use Rattle.smithy_query_codec.specs.Leaves.{Path, Leaf, MemberRole, leaves, member_leaves}
 use Rattle.smithy_query_codec.specs.Canonical.{path_text}
 use Rattle.smithy_query_codec.specs.Distinct.{HaveDistinctPaths, HaveDistinctTexts}

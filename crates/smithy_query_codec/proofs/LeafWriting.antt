@@ -1,7 +1,7 @@
 -- What a call that writes one leaf, and the end of a list, make of a serializer's state.
 use Rattle.std.proofs.Common.{◌≡◌, ℕ, List, [], ◌∷◌, ◌++◌, take, Bool, true, Result, Ok, refl, subst}
 use Rattle.smithy_schema.specs.declared.error.SerdeError.{SerdeError}
-use Rattle.smithy_schema.specs.Site.{View}
+use Rattle.smithy_shapes.specs.Site.{View}
 use Rattle.smithy_schema.specs.Writing.{Open, end_list, after_end_list}
 use Rattle.smithy_query.specs.Form.{pair_text}
 use Rattle.smithy_query_codec.specs.Writing.{Mark, QueryState, child_count, child_prefix, wrote, empty_leaf, made, allowed, where_taken}

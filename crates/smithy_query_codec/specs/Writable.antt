@@ -1,11 +1,11 @@
 -- The values that can be written to a form: those without a null and without a document, and of instants those that their time
 -- forms can write.
 use Rattle.std.specs.Prelude.{Bool, false, ◌&&◌, not}
-use Rattle.smithy_schema.specs.declared.shape_type.TimestampFormat.TheVariants.{DateTime}
-use Rattle.smithy_schema.specs.Site.{Site}
-use Rattle.smithy_schema.specs.Value.{Value}
-use Rattle.smithy_schema.specs.TimeForms.{form_or, form_writes, form_holds}
-use Rattle.smithy_schema.specs.ScalarTest.{ValueTest, scalars_pass}
+use Rattle.smithy_shapes.specs.declared.shape_type.TimestampFormat.TheVariants.{DateTime}
+use Rattle.smithy_shapes.specs.Site.{Site}
+use Rattle.smithy_shapes.specs.Value.{Value}
+use Rattle.smithy_shapes.specs.TimeForms.{form_or, form_writes, form_holds}
+use Rattle.smithy_shapes.specs.ScalarTest.{ValueTest, scalars_pass}
 use Rattle.smithy_query_codec.specs.Nulls.{holds_null}
 
 -- which values can be written: a scalar by the time form of its place, and no document

@@ -4,7 +4,7 @@ use Rattle.std.specs.Option.{option_map_or}
 use Rattle.std.specs.Str.{byte}
 use Rattle.smithy_schema.specs.declared.error.SerdeError.{SerdeError}
 use Rattle.smithy_schema.specs.declared.error.SerdeError.TheVariants.{Unsupported, Unwritable}
-use Rattle.smithy_schema.specs.Site.{Site, View}
+use Rattle.smithy_shapes.specs.Site.{Site, View}
 use Rattle.smithy_schema.specs.Writing.{Event, Writer, begin_structure, end_structure, begin_list, end_list, begin_map, end_map, null_of, scalar_of, big_integer_of, big_decimal_of, document_of, Open, open_structure, open_list, open_map_at_key, open_map_at_value, open_after}
 use Rattle.smithy_query.specs.Form.{pair_text, form_head}
 use Rattle.smithy_query_codec.specs.Leaves.{Path, MemberRole, flat_member, member, neither, query_name, role_of, element_name, key_name, value_name, inner_path, scalar_text, form_at}

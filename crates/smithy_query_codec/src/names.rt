@@ -1,6 +1,6 @@
 //! The names of members, elements, keys and values in a form.
 ghost use Rattle.std.specs.Prelude.{◌≡◌, option_map};
-ghost use Rattle.smithy_schema.specs.Site.{site_of};
+ghost use Rattle.smithy_shapes.specs.Site.{site_of};
 ghost use Rattle.smithy_query_codec.specs.Leaves.{query_name as name_in_form, element_name as element_name_in_form, key_name as key_name_in_form, value_name as value_name_in_form};
 
 use smithy_schema::{Schema, ShapeType};

@@ -1,6 +1,6 @@
 //! The path of a leaf, and pairs of a path and a text.
 ghost use Rattle.std.specs.Prelude.{◌≡◌, ◌++◌, [], take, drop, length, true, false, OnOk, Ok, decimal, option_to_list};
-ghost use Rattle.smithy_schema.specs.Site.{site_of};
+ghost use Rattle.smithy_shapes.specs.Site.{site_of};
 ghost use Rattle.smithy_query.specs.Form.{pair_text, form_head};
 ghost use Rattle.smithy_query_codec.specs.Leaves.{query_name as name_in_form, inner_path};
 ghost use Rattle.smithy_query_codec.specs.Writing.{dotted, extended};

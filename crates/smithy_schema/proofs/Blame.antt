@@ -2,8 +2,8 @@
 use Rattle.std.proofs.Common.{◌≡◌, true, false, Result, Ok, Err, OnOk}
 use Rattle.smithy_schema.specs.declared.error.SerdeError.{SerdeError}
 use Rattle.smithy_schema.specs.declared.error.SerdeError.TheVariants.{InvalidInput}
-use Rattle.smithy_schema.specs.Table.{kind_of, IsContainer}
-use Rattle.smithy_schema.specs.Site.{Site}
+use Rattle.smithy_shapes.specs.Table.{kind_of, IsContainer}
+use Rattle.smithy_shapes.specs.Site.{Site}
 use Rattle.smithy_schema.specs.Reading.{Cursor, Relations, depth, IsLawful, IsBelow, Contains, IsFault, StandsNot, OpensNot, CannotGoOn}
 use Rattle.smithy_schema.specs.Consuming.{Reader, Cleared, RefusesOpening, RefusesEntry, RefusesMember}
 use Rattle.smithy_schema.proofs.ReadContainers.{itself}

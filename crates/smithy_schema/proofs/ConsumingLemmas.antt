@@ -1,12 +1,12 @@
 -- A loop that calls a consumer along the entries of a container.
 use Rattle.std.proofs.Common.{◌≡◌, ◌⊎◌, ◌↔◌, ◌<◌, ◌≤◌, ℕ, suc, ◌+◌, length, List, ◌∷◌, Option, Some, None, Bool, true, false, cond, Result, Ok, Err, refl, sym, ◌∙◌, ap, subst, arith, IsErrOf, inl, inr}
-use Rattle.smithy_schema.specs.declared.place.Place.{Place}
+use Rattle.smithy_shapes.specs.declared.place.Place.{Place}
 use Rattle.smithy_schema.specs.declared.error.SerdeError.{SerdeError}
 use Rattle.smithy_schema.specs.declared.error.SerdeError.TheVariants.{InvalidInput, TooDeep, TooWide, NotCarried, Unsupported, Unwritable, Failed, NoMemory}
-use Rattle.smithy_schema.specs.Table.{Table, IsStructure, kind_of}
+use Rattle.smithy_shapes.specs.Table.{Table, IsStructure, kind_of}
 use Rattle.smithy_schema.specs.declared.read.Step.{Step}
 use Rattle.smithy_schema.specs.declared.read.Step.TheVariants.{Member as to_member_step, Unknown, End}
-use Rattle.smithy_schema.specs.Site.{Site}
+use Rattle.smithy_shapes.specs.Site.{Site}
 use Rattle.smithy_schema.specs.Reading.{Cursor, Relations, Within, Frame, depth, Enters, Steps, Leaves, CannotGoOn, OpensNot, ReachesDepth, Conducts, RefusesNoScalar, IsNoAnswer, IsRefused, IsInvalid, IsOfCursor, IsBehind, IsLawful, MatchStep, passed_to}
 use Rattle.smithy_schema.specs.Consuming.{Reader, Call, Rests, IsTaken, Cleared, nothing_due, skipped, Route, Along, went, RefusesOpening, RefusesMember, RefusesEntry, ToMember, ToEnd, IsMemberOf, site_in}
 

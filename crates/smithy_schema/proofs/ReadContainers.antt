@@ -1,10 +1,10 @@
 -- A container that is half read, of any kind and on any wire.
 use Rattle.std.proofs.Common.{◌≡◌, ℕ, suc, ◌<◌, List, [], ◌∷◌, map, Option, Some, None, true, false, refl, sym, ◌∙◌, ap, subst}
-use Rattle.smithy_schema.specs.declared.place.Place.{Place}
-use Rattle.smithy_schema.specs.Table.{Table, Kind, structure_of, union_of, kind_of, place_in, IsStructure, HasMembers, IsSparse, IsContainer}
-use Rattle.smithy_schema.specs.Value.{Value}
-use Rattle.smithy_schema.specs.Container.{container_of}
-use Rattle.smithy_schema.specs.Lemmas.Options.{same_some}
+use Rattle.smithy_shapes.specs.declared.place.Place.{Place}
+use Rattle.smithy_shapes.specs.Table.{Table, Kind, structure_of, union_of, kind_of, place_in, IsStructure, HasMembers, IsSparse, IsContainer}
+use Rattle.smithy_shapes.specs.Value.{Value}
+use Rattle.smithy_shapes.specs.Container.{container_of}
+use Rattle.smithy_shapes.specs.Lemmas.Options.{same_some}
 use Rattle.smithy_schema.specs.Reading.{Cursor, Within, depth, Relations, Mark, Child, child_value, child_unknown, child_null, entry_of, named, IsChild, Chain, Contains, IsLawful, IsBelow, Passes, Reads, Enters, Steps, Leaves, CannotGoOn}
 
 -- From s0, where a container of the place was due, the reader came to s inside it. The container is

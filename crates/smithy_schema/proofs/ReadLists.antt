@@ -1,15 +1,15 @@
 -- A list that is half read.
 use Rattle.std.proofs.Common.{◌≡◌, ◌<◌, ◌&&◌, ℕ, List, [], ◌∷◌, ◌++◌, map, Option, Some, None, Bool, true, false, option_map, refl, sym, ◌∙◌, ap}
-use Rattle.smithy_schema.specs.declared.place.Place.{Place}
-use Rattle.smithy_schema.specs.declared.schema.Schema.{Schema}
-use Rattle.smithy_schema.specs.Site.{Site, site_of, inner_site, kind_at}
-use Rattle.smithy_schema.specs.Table.{Table, Kind, list_of, map_of, kind_of, place_in, IsList, IsSparse, is_sparse, IsContainer}
-use Rattle.smithy_schema.specs.Value.{Value, list, values_of, null_element}
-use Rattle.smithy_schema.specs.Container.{elements_from, container_of}
-use Rattle.smithy_schema.specs.Lemmas.Kinds.{no_list_and_structure}
-use Rattle.smithy_schema.specs.Lemmas.Options.{same_some}
+use Rattle.smithy_shapes.specs.declared.place.Place.{Place}
+use Rattle.smithy_shapes.specs.declared.schema.Schema.{Schema}
+use Rattle.smithy_shapes.specs.Site.{Site, site_of, inner_site, kind_at}
+use Rattle.smithy_shapes.specs.Table.{Table, Kind, list_of, map_of, kind_of, place_in, IsList, IsSparse, is_sparse, IsContainer}
+use Rattle.smithy_shapes.specs.Value.{Value, list, values_of, null_element}
+use Rattle.smithy_shapes.specs.Container.{elements_from, container_of}
+use Rattle.smithy_shapes.specs.Lemmas.Kinds.{no_list_and_structure}
+use Rattle.smithy_shapes.specs.Lemmas.Options.{same_some}
 use Rattle.smithy_schema.specs.Reading.{Cursor, in_list, depth, Relations, Child, child_value, child_unknown, child_null, entry_of, IsChild, IsLawful, IsBelow, Passes, Reads, Enters, Steps, StandsNot, NullsNot, null_is_due}
-use Rattle.smithy_schema.proofs.Inner.{inner_in}
+use Rattle.smithy_shapes.proofs.Inner.{inner_in}
 use Rattle.smithy_schema.proofs.ReadContainers.{InContainer, worth_as, begin, child_read, no_child, no_null_begins, left_falls}
 
 -- the list that more children make behind these values

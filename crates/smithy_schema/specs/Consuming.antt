@@ -4,7 +4,7 @@ use Rattle.smithy_schema.specs.declared.error.SerdeError.{SerdeError}
 use Rattle.smithy_schema.specs.declared.error.SerdeError.TheVariants.{InvalidInput, TooDeep, Failed, NoMemory}
 use Rattle.smithy_schema.specs.declared.read.Step.{Step}
 use Rattle.smithy_schema.specs.declared.read.Step.TheVariants.{Member, Unknown, End}
-use Rattle.smithy_schema.specs.Site.{Site, site_of, member_site}
+use Rattle.smithy_shapes.specs.Site.{Site, site_of, member_site}
 use Rattle.smithy_schema.specs.Reading.{Cursor, Relations, Within, depth, Passes, Enters, Steps, Leaves, CannotGoOn, OpensNot, ReachesDepth, IsFault, IsNoAnswer, IsBehind, IsOfCursor, failed_at, passed_to}
 
 -- What the calls of a reader are told by: its relations with the limits kept and with the limits lifted, whether a refusal speaks

@@ -1,11 +1,11 @@
 -- A structure that a type of the caller's keeps as fields, by the positions of its members.
 use Rattle.std.specs.Prelude.{◌≡◌, ℕ, suc, List, [], ◌∷◌, map, true, Option, Some, None, Result, Ok, Err}
 use Rattle.smithy_schema.specs.declared.error.SerdeError.{SerdeError}
-use Rattle.smithy_schema.specs.declared.place.Target.{Target}
-use Rattle.smithy_schema.specs.Table.{Member, structure_of}
-use Rattle.smithy_schema.specs.declared.shape_type.Scalar.{Scalar}
-use Rattle.smithy_schema.specs.Value.{ScalarValue, Value, MemberValues, no_member_values, member_value, put_member, structure}
-use Rattle.smithy_schema.specs.Site.{Site, kind_at, member_of}
+use Rattle.smithy_shapes.specs.declared.place.Target.{Target}
+use Rattle.smithy_shapes.specs.Table.{Member, structure_of}
+use Rattle.smithy_shapes.specs.declared.shape_type.Scalar.{Scalar}
+use Rattle.smithy_shapes.specs.Value.{ScalarValue, Value, MemberValues, no_member_values, member_value, put_member, structure}
+use Rattle.smithy_shapes.specs.Site.{Site, kind_at, member_of}
 use Rattle.smithy_schema.specs.Reading.{Cursor, Reads, ReadsScalar, StandsNot, IsFault}
 use Rattle.smithy_schema.specs.Writing.{Event, events}
 use Rattle.smithy_schema.specs.Consuming.{Reader}

@@ -1,17 +1,3 @@
--- to be believed, in this order
-pub mod Table
-pub mod Documents
-pub mod Value
-pub mod Fits
-pub mod Container
-pub mod Names
-pub mod Decl
-pub mod TableText
-pub mod Acceptance
-pub mod Accepted
--- for contracts
-pub mod Limits
-pub mod Site
 pub mod Reading
 pub mod Sizes
 pub mod Consuming
@@ -20,15 +6,3 @@ pub mod TextMaps
 pub mod Fields
 pub mod Writing
 pub mod Written
-pub mod TimeForms
-pub mod ScalarTest
-pub mod Targets
-pub mod Holding
--- what the types of the program stand for
-pub mod Views
-pub mod DeclViews
-pub mod MembersLeft
--- for the laws of each wire
-pub mod Lemmas
--- for private clauses
-pub mod Private

@@ -4,17 +4,17 @@ use Rattle.smithy_types.specs.Document.{Document, whole_document}
 use Rattle.smithy_types.specs.DocumentView.{document_view}
 use Rattle.smithy_types.specs.declared.number.Number.{Number}
 use Rattle.smithy_types.specs.declared.document.Document as kept_document
-use Rattle.smithy_schema.specs.declared.place.Place.{Place}
-use Rattle.smithy_schema.specs.declared.shape_type.Scalar.{Scalar}
+use Rattle.smithy_shapes.specs.declared.place.Place.{Place}
+use Rattle.smithy_shapes.specs.declared.shape_type.Scalar.{Scalar}
 use Rattle.smithy_schema.specs.declared.read.Step.{Step}
 use Rattle.smithy_schema.specs.declared.read.Step.TheVariants.{Member as ToMember, Unknown, End}
 use Rattle.smithy_schema.specs.declared.error.SerdeError.{SerdeError}
 use Rattle.smithy_schema.specs.declared.error.SerdeError.TheVariants.{InvalidInput, TooDeep, TooWide, NotCarried, Unsupported, Unwritable, Failed, NoMemory}
-use Rattle.smithy_schema.specs.Table.{Table, kind_of, place_in, scalar_place, document_place, IsStructure, IsContainer, IsInside, IsSparse, IsDocument}
-use Rattle.smithy_schema.specs.Value.{ScalarValue, Value, scalar_value, document_value}
-use Rattle.smithy_schema.specs.Fits.{Fits}
-use Rattle.smithy_schema.specs.Container.{Entry, container_of}
-use Rattle.smithy_schema.specs.Site.{Site, site_of, member_site}
+use Rattle.smithy_shapes.specs.Table.{Table, kind_of, place_in, scalar_place, document_place, IsStructure, IsContainer, IsInside, IsSparse, IsDocument}
+use Rattle.smithy_shapes.specs.Value.{ScalarValue, Value, scalar_value, document_value}
+use Rattle.smithy_shapes.specs.Fits.{Fits}
+use Rattle.smithy_shapes.specs.Container.{Entry, container_of}
+use Rattle.smithy_shapes.specs.Site.{Site, site_of, member_site}
 
 -- ---- what a reader tells
 

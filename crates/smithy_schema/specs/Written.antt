@@ -2,7 +2,7 @@
 use Rattle.std.specs.Prelude.{◌≡◌, ◌↔◌, Bool, true, false, Result, Ok, Err, OnOk, ℤ, List, ◌∷◌, map}
 use Rattle.smithy_schema.specs.declared.error.SerdeError.{SerdeError}
 use Rattle.smithy_schema.specs.declared.error.SerdeError.TheVariants.{Failed}
-use Rattle.smithy_schema.specs.Value.{Value, scalar_value, whole as whole_number, list, values_of}
+use Rattle.smithy_shapes.specs.Value.{Value, scalar_value, whole as whole_number, list, values_of}
 use Rattle.smithy_schema.specs.Reading.{IsFault}
 use Rattle.smithy_schema.specs.Writing.{Event, Writer, Open, open_structure, run}
 

@@ -1,14 +1,14 @@
 //! Reading texts and bytes that borrow from the input.
 ghost use Rattle.std.specs.Prelude.{◌≡◌};
 ghost use Rattle.std.specs.Cow.{cow_str_bytes, cow_slice_items};
-ghost use Rattle.smithy_schema.specs.declared.shape_type.Scalar.TheVariants as scalars;
-ghost use Rattle.smithy_schema.specs.Value.{text, bytes};
-ghost use Rattle.smithy_schema.specs.Site.{site_of};
+ghost use Rattle.smithy_shapes.specs.declared.shape_type.Scalar.TheVariants as scalars;
+ghost use Rattle.smithy_shapes.specs.Value.{text, bytes};
+ghost use Rattle.smithy_shapes.specs.Site.{site_of};
 ghost use Rattle.smithy_schema.specs.Reading.{ReadsScalar};
 
 use crate::error::SerdeError;
 use crate::read::ShapeDeserializer;
-use crate::schema::Schema;
+use smithy_shapes::Schema;
 use std::alloc::Global;
 use std::borrow::{CowSlice, CowStr};
 

@@ -1,11 +1,11 @@
 //! What takes the entries of a container as a reader comes to them.
 ghost use Rattle.std.specs.Prelude.{◌≡◌, Bool, true, false, Option, OnOk, option_map, string_bytes};
-ghost use Rattle.smithy_schema.specs.Site.{Site, site_of};
+ghost use Rattle.smithy_shapes.specs.Site.{Site, site_of};
 ghost use Rattle.smithy_schema.specs.Consuming.{reader, MemberCall, ElementCall, EntryCall, Rests, IsMemberOf};
 
 use crate::error::SerdeError;
 use crate::read::ShapeDeserializer;
-use crate::schema::Schema;
+use smithy_shapes::Schema;
 
 /// Takes the members of a structure or a union, a call for each entry.
 ///

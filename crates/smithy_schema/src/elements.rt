@@ -1,9 +1,9 @@
 //! Lists of scalars that are read in one call.
 ghost use Rattle.std.specs.Prelude.{◌≡◌, [], true, false, IfOk, IsErr, string_bytes};
-ghost use Rattle.smithy_schema.specs.declared.shape_type.Scalar.{Scalar};
-ghost use Rattle.smithy_schema.specs.Table.{IsList};
-ghost use Rattle.smithy_schema.specs.Value.{ScalarValue};
-ghost use Rattle.smithy_schema.specs.Site.{site_of, kind_at};
+ghost use Rattle.smithy_shapes.specs.declared.shape_type.Scalar.{Scalar};
+ghost use Rattle.smithy_shapes.specs.Table.{IsList};
+ghost use Rattle.smithy_shapes.specs.Value.{ScalarValue};
+ghost use Rattle.smithy_shapes.specs.Site.{site_of, kind_at};
 ghost use Rattle.smithy_schema.specs.Reading.{ReadsScalar};
 ghost use Rattle.smithy_schema.specs.Consuming.{reader};
 ghost use Rattle.smithy_schema.specs.Elements.{ReadsElement, ReadsList, items_of};
@@ -11,7 +11,7 @@ ghost use Rattle.smithy_schema.specs.Elements.{ReadsElement, ReadsList, items_of
 use crate::consume::ListConsumer;
 use crate::error::SerdeError;
 use crate::read::ShapeDeserializer;
-use crate::schema::Schema;
+use smithy_shapes::Schema;
 use crate::sizes::capped_container_size;
 use smithy_types::{Blob, DateTime};
 use std::alloc::AllocError;
@@ -34,8 +34,8 @@ pub trait ReadScalar {
 }
 
 impl ReadScalar for String {
-    ghost use Rattle.smithy_schema.specs.declared.shape_type.Scalar.TheVariants as scalars;
-    ghost use Rattle.smithy_schema.specs.Value.{text};
+    ghost use Rattle.smithy_shapes.specs.declared.shape_type.Scalar.TheVariants as scalars;
+    ghost use Rattle.smithy_shapes.specs.Value.{text};
 
     ghost kind = { scalars.String };
 
@@ -50,8 +50,8 @@ impl ReadScalar for String {
 }
 
 impl ReadScalar for Blob {
-    ghost use Rattle.smithy_schema.specs.declared.shape_type.Scalar.TheVariants as scalars;
-    ghost use Rattle.smithy_schema.specs.Value.{bytes};
+    ghost use Rattle.smithy_shapes.specs.declared.shape_type.Scalar.TheVariants as scalars;
+    ghost use Rattle.smithy_shapes.specs.Value.{bytes};
 
     ghost kind = { scalars.Blob };
 
@@ -66,8 +66,8 @@ impl ReadScalar for Blob {
 }
 
 impl ReadScalar for i32 {
-    ghost use Rattle.smithy_schema.specs.declared.shape_type.Scalar.TheVariants as scalars;
-    ghost use Rattle.smithy_schema.specs.Value.{whole};
+    ghost use Rattle.smithy_shapes.specs.declared.shape_type.Scalar.TheVariants as scalars;
+    ghost use Rattle.smithy_shapes.specs.Value.{whole};
 
     ghost kind = { scalars.Integer };
 
@@ -82,8 +82,8 @@ impl ReadScalar for i32 {
 }
 
 impl ReadScalar for i64 {
-    ghost use Rattle.smithy_schema.specs.declared.shape_type.Scalar.TheVariants as scalars;
-    ghost use Rattle.smithy_schema.specs.Value.{whole};
+    ghost use Rattle.smithy_shapes.specs.declared.shape_type.Scalar.TheVariants as scalars;
+    ghost use Rattle.smithy_shapes.specs.Value.{whole};
 
     ghost kind = { scalars.Long };
 
@@ -98,8 +98,8 @@ impl ReadScalar for i64 {
 }
 
 impl ReadScalar for DateTime {
-    ghost use Rattle.smithy_schema.specs.declared.shape_type.Scalar.TheVariants as scalars;
-    ghost use Rattle.smithy_schema.specs.Value.{instant};
+    ghost use Rattle.smithy_shapes.specs.declared.shape_type.Scalar.TheVariants as scalars;
+    ghost use Rattle.smithy_shapes.specs.Value.{instant};
 
     ghost kind = { scalars.Timestamp };
 

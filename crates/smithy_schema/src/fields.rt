@@ -1,7 +1,7 @@
 //! Structures that a type keeps as fields, an optional value for each member.
 ghost use Rattle.std.specs.Prelude.{◌≡◌, List, Option, option_map, false, OnOk, string_bytes};
-ghost use Rattle.smithy_schema.specs.Value.{Value, scalar_value, list, values_of};
-ghost use Rattle.smithy_schema.specs.Site.{site_of, member_of, element_of};
+ghost use Rattle.smithy_shapes.specs.Value.{Value, scalar_value, list, values_of};
+ghost use Rattle.smithy_shapes.specs.Site.{site_of, member_of, element_of};
 ghost use Rattle.smithy_schema.specs.Consuming.{reader, IsTaken};
 ghost use Rattle.smithy_schema.specs.Writing.{open_structure, open_list, events, element_events, member_events};
 ghost use Rattle.smithy_schema.specs.Written.{Runs, IsInside, AddsInside};
@@ -10,7 +10,7 @@ ghost use Rattle.smithy_schema.specs.Fields.{FillsField, field_events, members_a
 use crate::elements::ReadScalar;
 use crate::error::SerdeError;
 use crate::read::ShapeDeserializer;
-use crate::schema::Schema;
+use smithy_shapes::Schema;
 use crate::write::ShapeSerializer;
 use crate::written::{SerializableStruct, WriteElements};
 use smithy_types::DateTime;
@@ -46,7 +46,7 @@ pub trait WriteMember {
 }
 
 impl WriteMember for String {
-    ghost use Rattle.smithy_schema.specs.Value.{text};
+    ghost use Rattle.smithy_shapes.specs.Value.{text};
 
     ghost value = { λ s. scalar_value (text (string_bytes s)) };
 
@@ -60,7 +60,7 @@ impl WriteMember for String {
 }
 
 impl WriteMember for i32 {
-    ghost use Rattle.smithy_schema.specs.Value.{whole};
+    ghost use Rattle.smithy_shapes.specs.Value.{whole};
 
     ghost value = { λ n. scalar_value (whole n) };
 
@@ -74,7 +74,7 @@ impl WriteMember for i32 {
 }
 
 impl WriteMember for DateTime {
-    ghost use Rattle.smithy_schema.specs.Value.{instant};
+    ghost use Rattle.smithy_shapes.specs.Value.{instant};
 
     ghost value = { λ t. scalar_value (instant t) };
 

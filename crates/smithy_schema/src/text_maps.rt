@@ -1,14 +1,14 @@
 //! Maps of texts that are read in one call.
 ghost use Rattle.std.specs.Prelude.{◌≡◌, string_bytes};
-ghost use Rattle.smithy_schema.specs.Table.{IsMap};
-ghost use Rattle.smithy_schema.specs.Site.{site_of, kind_at};
+ghost use Rattle.smithy_shapes.specs.Table.{IsMap};
+ghost use Rattle.smithy_shapes.specs.Site.{site_of, kind_at};
 ghost use Rattle.smithy_schema.specs.Consuming.{reader};
 ghost use Rattle.smithy_schema.specs.TextMaps.{ReadsEntry, ReadsTexts, text_entries, entries_of};
 
 use crate::consume::MapConsumer;
 use crate::error::SerdeError;
 use crate::read::ShapeDeserializer;
-use crate::schema::Schema;
+use smithy_shapes::Schema;
 use std::collections::BTreeMap;
 
 /// Takes the entries of a map of texts. Of equal keys the last counts.

@@ -4,16 +4,16 @@ ghost use Rattle.smithy_types.specs.Document.{whole_document};
 ghost use Rattle.smithy_types.specs.DocumentView.{document_view};
 ghost use Rattle.smithy_schema.specs.declared.error.SerdeError.{SerdeError};
 ghost use Rattle.smithy_schema.specs.declared.error.SerdeError.TheVariants.{Failed, NoMemory, Unwritable};
-ghost use Rattle.smithy_schema.specs.Table.{IsList};
-ghost use Rattle.smithy_schema.specs.Site.{site_of, kind_at};
-ghost use Rattle.smithy_schema.specs.Value.{boolean, whole, text, bytes, decimal, instant};
+ghost use Rattle.smithy_shapes.specs.Table.{IsList};
+ghost use Rattle.smithy_shapes.specs.Site.{site_of, kind_at};
+ghost use Rattle.smithy_shapes.specs.Value.{boolean, whole, text, bytes, decimal, instant};
 ghost use Rattle.smithy_schema.specs.Reading.{IsFault};
 ghost use Rattle.smithy_schema.specs.Writing.{Event, Writer, Open, IsNested, begin_structure, end_structure, begin_list as list_begins, end_list as list_ends, begin_map as map_begins, end_map as map_ends, null_of, scalar_of, big_integer_of, big_decimal_of, document_of};
 ghost use Rattle.smithy_schema.specs.Writing.{write, after_value, open_list, open_map_at_key};
 ghost use Rattle.smithy_schema.specs.Written.{Wraps, outcome, list_of_wholes};
 
 use crate::error::SerdeError;
-use crate::schema::Schema;
+use smithy_shapes::Schema;
 use crate::written::{SerializableStruct, WriteElements};
 use smithy_types::{BigDecimal, BigInteger, Blob, DateTime, Document};
 

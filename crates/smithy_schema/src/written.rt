@@ -1,11 +1,11 @@
 //! What can be written into a container that is begun and ended around it.
 ghost use Rattle.std.specs.Prelude.{◌≡◌, Bool, true, false, OnOk};
-ghost use Rattle.smithy_schema.specs.Site.{Site, site_of};
+ghost use Rattle.smithy_shapes.specs.Site.{Site, site_of};
 ghost use Rattle.smithy_schema.specs.Writing.{Open, open_structure};
 ghost use Rattle.smithy_schema.specs.Written.{Adds, outcome, IsInside};
 
 use crate::error::SerdeError;
-use crate::schema::Schema;
+use smithy_shapes::Schema;
 use crate::write::ShapeSerializer;
 
 /// A structure or a union, which writes its members.

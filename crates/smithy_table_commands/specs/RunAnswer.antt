@@ -1,7 +1,7 @@
 -- What the number that a run ends with says of the words and of the output.
 use Rattle.std.specs.Prelude.{◌≡◌, ◌≢◌, ◌↔◌, ℕ, List, None}
-use Rattle.smithy_schema.specs.Table.{Table}
-use Rattle.smithy_schema.specs.Acceptance.{accepted, table_of}
+use Rattle.smithy_shapes.specs.Table.{Table}
+use Rattle.smithy_shapes.specs.Acceptance.{accepted, table_of}
 use Rattle.smithy_outside.specs.Outside.{Shown, MetOneFault, Took, TookPrefix}
 use Rattle.smithy_table_commands.specs.declared.status.Status.{Status}
 use Rattle.smithy_table_commands.specs.declared.status.Status.TheVariants.{Done, Usage, WriteFailed}

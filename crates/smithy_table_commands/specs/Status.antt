@@ -1,7 +1,7 @@
 -- The numbers that the program ends with, and what the last line on standard error says.
 use Rattle.std.specs.Prelude.{ℕ, List, [], ◌++◌, codes, decimal}
-use Rattle.smithy_schema.specs.declared.fault.TableFault.{TableFault}
-use Rattle.smithy_schema.specs.declared.fault.TableFault.TheVariants as table_faults
+use Rattle.smithy_shapes.specs.declared.fault.TableFault.{TableFault}
+use Rattle.smithy_shapes.specs.declared.fault.TableFault.TheVariants as table_faults
 use Rattle.smithy_outside.specs.declared.outside.LoadFault.{LoadFault}
 use Rattle.smithy_outside.specs.declared.outside.LoadFault.TheVariants as load_faults
 use Rattle.smithy_table_commands.specs.declared.status.Status.{Status}

@@ -2,11 +2,11 @@
 use Rattle.std.proofs.Common.{◌≡◌, ◌≤◌, ◌<◌, ℕ, List, Bool, true, false, [], ◌∷◌, length, inl, inr, Result, Ok, Err, IsErrOf, refl, sym, ◌∙◌, ap, subst, arith}
 use Rattle.smithy_schema.specs.declared.error.SerdeError.{SerdeError}
 use Rattle.smithy_schema.specs.declared.error.SerdeError.TheVariants.{InvalidInput, TooDeep, TooWide, NotCarried, Unsupported, Unwritable, Failed, NoMemory}
-use Rattle.smithy_schema.specs.declared.place.Place.{Place}
-use Rattle.smithy_schema.specs.declared.schema.Schema.{Schema}
-use Rattle.smithy_schema.specs.Table.{Table, kind_of, shape_place, IsStructure}
-use Rattle.smithy_schema.specs.Site.{Site, site_of, shape_site}
-use Rattle.smithy_schema.specs.Value.{Value, structure, no_member_values}
+use Rattle.smithy_shapes.specs.declared.place.Place.{Place}
+use Rattle.smithy_shapes.specs.declared.schema.Schema.{Schema}
+use Rattle.smithy_shapes.specs.Table.{Table, kind_of, shape_place, IsStructure}
+use Rattle.smithy_shapes.specs.Site.{Site, site_of, shape_site}
+use Rattle.smithy_shapes.specs.Value.{Value, structure, no_member_values}
 use Rattle.smithy_schema.specs.Reading.{Cursor, depth, Relations, Reads, StandsNot, ReachesDepth, EndsTooDeep, ExceedsInside, UncarriedInside, IsCounted, IsRefused}
 use Rattle.smithy_schema.proofs.CountLemmas.{starts_counted, reaches_openers}
 use Rattle.smithy_wire.specs.Walking.{fresh_cursor}

@@ -1,13 +1,13 @@
 -- A structure or a union that is half read, in both readings.
 use Rattle.std.proofs.Common.{◌≡◌, ℕ, List, Option, Some, None, true, Ok, Err, IsErrOf, refl, ◌∙◌}
-use Rattle.smithy_schema.specs.declared.schema.Schema.{Schema}
+use Rattle.smithy_shapes.specs.declared.schema.Schema.{Schema}
 use Rattle.smithy_schema.specs.declared.error.SerdeError.{SerdeError}
 use Rattle.smithy_schema.specs.declared.error.SerdeError.TheVariants.{InvalidInput, TooDeep}
 use Rattle.smithy_schema.specs.declared.read.Step.{Step}
 use Rattle.smithy_schema.specs.declared.read.Step.TheVariants.{Member as ToMember, Unknown, End}
-use Rattle.smithy_schema.specs.Table.{IsStructure, IsUnion, HasMembers}
-use Rattle.smithy_schema.specs.Site.{Site, site_of, kind_at}
-use Rattle.smithy_schema.specs.Value.{Value, MemberValues, no_member_values, put_member, union}
+use Rattle.smithy_shapes.specs.Table.{IsStructure, IsUnion, HasMembers}
+use Rattle.smithy_shapes.specs.Site.{Site, site_of, kind_at}
+use Rattle.smithy_shapes.specs.Value.{Value, MemberValues, no_member_values, put_member, union}
 use Rattle.smithy_schema.specs.Reading.{Cursor, in_structure, Relations, Child, child_value, child_unknown, depth, Conducts, RefusesNoScalar, Enters, MatchStep, Passes, Reads, SkipsNot, ReachesDepth, IsFault, IsInvalid, failed_at}
 use Rattle.smithy_schema.proofs.CountLemmas.{value_counted, skip_counted, member_counted}
 use Rattle.smithy_transcode.specs.ReadValue.{ReadsValue}

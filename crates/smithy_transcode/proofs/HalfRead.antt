@@ -1,11 +1,11 @@
 -- A container that is half read, of any kind, in both readings: how it goes on, and what its reading answers.
 use Rattle.std.proofs.Common.{◌≡◌, ℕ, List, [], ◌∷◌, Option, Some, true, false, Result, Ok, Err, IfOk, IfErr, IsErrOf, sym, ◌∙◌}
-use Rattle.smithy_schema.specs.declared.place.Place.{Place}
+use Rattle.smithy_shapes.specs.declared.place.Place.{Place}
 use Rattle.smithy_schema.specs.declared.error.SerdeError.{SerdeError}
 use Rattle.smithy_schema.specs.declared.error.SerdeError.TheVariants.{TooDeep, NoMemory}
-use Rattle.smithy_schema.specs.Table.{Table}
-use Rattle.smithy_schema.specs.Site.{Site}
-use Rattle.smithy_schema.specs.Value.{Value}
+use Rattle.smithy_shapes.specs.Table.{Table}
+use Rattle.smithy_shapes.specs.Site.{Site}
+use Rattle.smithy_shapes.specs.Value.{Value}
 use Rattle.smithy_schema.specs.Reading.{Cursor, Within, Relations, Child, depth, IsCounted, Conducts, RefusesNoScalar, Enters, Steps, Leaves, Passes, CannotGoOn, ReachesDepth, IsFault, IsInvalid, IsChild}
 use Rattle.smithy_schema.proofs.CountLemmas.{entry_counted, step_counted}
 use Rattle.smithy_transcode.specs.ReadValue.{ReadsValue}

@@ -1,13 +1,13 @@
 -- What a read of a value answers, by each way out of it: one record for each.
 use Rattle.std.proofs.Common.{◌≡◌, ℕ, Some, true, false, Result, Ok, Err, IfOk, IfErr, IsErrOf, refl, sym, ◌∙◌, ap, subst, arith, inl}
-use Rattle.smithy_schema.specs.declared.place.Place.{Place}
-use Rattle.smithy_schema.specs.declared.shape_type.Scalar.{Scalar}
-use Rattle.smithy_schema.specs.declared.shape_type.ShapeType.TheVariants as types
+use Rattle.smithy_shapes.specs.declared.place.Place.{Place}
+use Rattle.smithy_shapes.specs.declared.shape_type.Scalar.{Scalar}
+use Rattle.smithy_shapes.specs.declared.shape_type.ShapeType.TheVariants as types
 use Rattle.smithy_schema.specs.declared.error.SerdeError.{SerdeError}
 use Rattle.smithy_schema.specs.declared.error.SerdeError.TheVariants.{InvalidInput, TooDeep, TooWide, NotCarried, Unsupported, Unwritable, Failed, NoMemory}
-use Rattle.smithy_schema.specs.Table.{scalar_type, type_of, IsContainer}
-use Rattle.smithy_schema.specs.Site.{Site, kind_at}
-use Rattle.smithy_schema.specs.Value.{ScalarValue, Value, scalar_value, document_value}
+use Rattle.smithy_shapes.specs.Table.{scalar_type, type_of, IsContainer}
+use Rattle.smithy_shapes.specs.Site.{Site, kind_at}
+use Rattle.smithy_shapes.specs.Value.{ScalarValue, Value, scalar_value, document_value}
 use Rattle.smithy_types.specs.Document.{whole_document}
 use Rattle.smithy_types.specs.DocumentView.{document_view}
 use Rattle.smithy_types.specs.declared.document.Document.{Document}

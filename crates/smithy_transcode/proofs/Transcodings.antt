@@ -2,15 +2,15 @@
 use Rattle.std.proofs.Common.{◌≡◌, ◌≤◌, ◌<◌, ◌^◌, length, ℕ, List, All, true, false, Option, Some, None, Result, Ok, Err, IsErrOf, string_bytes, refl, sym, ◌∙◌, ap, subst}
 use Rattle.std.specs.declared.vec.Vec.{Vec}
 use Rattle.std.specs.declared.alloc.Global.{Global}
-use Rattle.smithy_schema.specs.Accepted.{IsAccepted}
-use Rattle.smithy_schema.specs.declared.schema.Schema.{Schema}
+use Rattle.smithy_shapes.specs.Accepted.{IsAccepted}
+use Rattle.smithy_shapes.specs.declared.schema.Schema.{Schema}
 use Rattle.smithy_schema.specs.declared.error.SerdeError.{SerdeError}
 use Rattle.smithy_schema.specs.declared.error.SerdeError.TheVariants as serde
-use Rattle.smithy_schema.specs.Fits.{Fits, FitsOr}
+use Rattle.smithy_shapes.specs.Fits.{Fits, FitsOr}
 use Rattle.smithy_schema.specs.Reading.{IsFault, IsRefused, IsInvalid}
-use Rattle.smithy_schema.specs.Table.{Table, IsStructure, kind_of, shape_place}
-use Rattle.smithy_schema.specs.Value.{Value, nesting}
-use Rattle.smithy_schema.specs.Site.{Site, whole_view, site_of, shape_site}
+use Rattle.smithy_shapes.specs.Table.{Table, IsStructure, kind_of, shape_place}
+use Rattle.smithy_shapes.specs.Value.{Value, nesting}
+use Rattle.smithy_shapes.specs.Site.{Site, whole_view, site_of, shape_site}
 use Rattle.smithy_json_codec.specs.Codec.{strict_settings}
 use Rattle.smithy_json_codec.proofs.SpellingLemmas.{one_spelled}
 use Rattle.smithy_json_codec.proofs.WrittenSpelling.{spelled_fits, shallow, canonical_spells}

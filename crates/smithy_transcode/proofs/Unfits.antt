@@ -1,9 +1,9 @@
 -- A value that passes the test of a wire: a null alone can be lacking.
 use Rattle.std.proofs.Common.{◌≡◌, ◌&&◌, Bool, true, false, not, Some, None, refl, sym, ◌∙◌, ap}
-use Rattle.smithy_schema.specs.ScalarTest.{ValueTest, no_documents, scalars_pass}
-use Rattle.smithy_schema.specs.Site.{Site}
-use Rattle.smithy_schema.specs.Value.{Value}
-use Rattle.smithy_schema.proofs.TimeFormLemmas.{more_pass}
+use Rattle.smithy_shapes.specs.ScalarTest.{ValueTest, no_documents, scalars_pass}
+use Rattle.smithy_shapes.specs.Site.{Site}
+use Rattle.smithy_shapes.specs.Value.{Value}
+use Rattle.smithy_shapes.proofs.TimeFormLemmas.{more_pass}
 use Rattle.smithy_query_codec.specs.Nulls.{holds_null}
 use Rattle.smithy_transcode.specs.declared.wire.Unfit.TheVariants.{Null}
 use Rattle.smithy_transcode.specs.declared.value_test.ValueTest as kept

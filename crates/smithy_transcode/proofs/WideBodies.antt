@@ -1,12 +1,12 @@
 -- What leaves its limits or isn't carried where a reader failed, as what the input says.
 use Rattle.std.proofs.Common.{◌≡◌, ℕ, zero, suc, List, Bool, Option, Some, refl, sym, ◌∙◌, ap, subst, inl, inr}
-use Rattle.smithy_schema.specs.declared.place.Place.{Place}
-use Rattle.smithy_schema.specs.declared.shape_type.Scalar.{Scalar}
-use Rattle.smithy_schema.specs.declared.shape_type.Scalar.TheVariants.{Timestamp}
-use Rattle.smithy_schema.specs.declared.shape_type.TimestampFormat.{TimestampFormat}
-use Rattle.smithy_schema.specs.Table.{Table, Kind, scalar, document, kind_of, shape_place, IsStructure, IsInside}
+use Rattle.smithy_shapes.specs.declared.place.Place.{Place}
+use Rattle.smithy_shapes.specs.declared.shape_type.Scalar.{Scalar}
+use Rattle.smithy_shapes.specs.declared.shape_type.Scalar.TheVariants.{Timestamp}
+use Rattle.smithy_shapes.specs.declared.shape_type.TimestampFormat.{TimestampFormat}
+use Rattle.smithy_shapes.specs.Table.{Table, Kind, scalar, document, kind_of, shape_place, IsStructure, IsInside}
 use Rattle.smithy_schema.specs.Reading.{Cursor, depth, Exceeds, ExceedsInside, Uncarried, UncarriedInside}
-use Rattle.smithy_schema.specs.TimeForms.{form_or}
+use Rattle.smithy_shapes.specs.TimeForms.{form_or}
 use Rattle.smithy_json_codec.specs.Codec.{strict_settings}
 use Rattle.smithy_json_codec.specs.Settings.{Settings}
 use Rattle.smithy_json_codec.specs.Standing.{json_frames, json_rules}

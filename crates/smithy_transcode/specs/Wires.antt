@@ -1,9 +1,9 @@
 -- The wires, as plain data, and what one of them can't carry.
 use Rattle.std.specs.Prelude.{ℕ, List, Bool, true, false, ◌&&◌, not, Option, Some, None, string_bytes, if◌then◌else◌}
-use Rattle.smithy_schema.specs.ScalarTest.{ValueTest, no_documents, scalars_pass}
-use Rattle.smithy_schema.specs.Site.{Site, shape_site}
-use Rattle.smithy_schema.specs.Table.{Table}
-use Rattle.smithy_schema.specs.Value.{Value}
+use Rattle.smithy_shapes.specs.ScalarTest.{ValueTest, no_documents, scalars_pass}
+use Rattle.smithy_shapes.specs.Site.{Site, shape_site}
+use Rattle.smithy_shapes.specs.Table.{Table}
+use Rattle.smithy_shapes.specs.Value.{Value}
 use Rattle.smithy_json_codec.specs.Canonical.{json_holds}
 use Rattle.smithy_json_codec.specs.Codec.{strict_settings}
 use Rattle.smithy_cbor_codec.specs.Canonical.{cbor_holds}

@@ -1,9 +1,9 @@
 //! One body from wire to wire.
 ghost use Rattle.std.specs.Prelude.{◌≡◌, ◌≤◌, ◌<◌, ◌^◌, length, None, IfOk, IfErr, IsErrOf};
-ghost use Rattle.smithy_schema.specs.Accepted.{IsAccepted};
-ghost use Rattle.smithy_schema.specs.Fits.{Fits};
+ghost use Rattle.smithy_shapes.specs.Accepted.{IsAccepted};
+ghost use Rattle.smithy_shapes.specs.Fits.{Fits};
 ghost use Rattle.smithy_schema.specs.Reading.{IsRefused, IsInvalid};
-ghost use Rattle.smithy_schema.specs.Table.{IsStructure, kind_of, shape_place};
+ghost use Rattle.smithy_shapes.specs.Table.{IsStructure, kind_of, shape_place};
 ghost use Rattle.smithy_transcode.specs.Causes.{IsTooDeep, IsWide, IsUncarried};
 ghost use Rattle.smithy_transcode.specs.Spelling.{Spells, body};
 ghost use Rattle.smithy_transcode.specs.Transcoding.{Transcodes, SpellNothing, SpellNothingWithoutLimits};

@@ -1,10 +1,10 @@
 //! Tests of a value: which of its instants pass by the time form of their place, and whether documents do.
 ghost use Rattle.std.specs.Prelude.{◌≡◌, map as mapped, true};
-ghost use Rattle.smithy_schema.specs.Fits.{FitsOr};
-ghost use Rattle.smithy_schema.specs.ScalarTest.{scalars_pass};
-ghost use Rattle.smithy_schema.specs.Site.{site_of};
-ghost use Rattle.smithy_schema.specs.TimeForms.{format_of, form_or};
-ghost use Rattle.smithy_schema.specs.Value.{instant, list, map, structure, union, values_of};
+ghost use Rattle.smithy_shapes.specs.Fits.{FitsOr};
+ghost use Rattle.smithy_shapes.specs.ScalarTest.{scalars_pass};
+ghost use Rattle.smithy_shapes.specs.Site.{site_of};
+ghost use Rattle.smithy_shapes.specs.TimeForms.{format_of, form_or};
+ghost use Rattle.smithy_shapes.specs.Value.{instant, list, map, structure, union, values_of};
 ghost use Rattle.smithy_transcode.specs.Private.Tree.{entries as entries_of, entry_views, member_views, part_view, union_value_view};
 ghost use Rattle.smithy_transcode.specs.Private.ValueTest.{instant_passes as passes_as, test_view};
 ghost use Rattle.smithy_transcode.specs.Wires.{wire_of, holds};

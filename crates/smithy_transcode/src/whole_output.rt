@@ -1,8 +1,8 @@
 //! The bytes of one value, in any wire.
 ghost use Rattle.std.specs.Prelude.{◌≡◌, false, [], Ok, IfOk, IfErr};
 ghost use Rattle.smithy_schema.specs.declared.error.SerdeError.TheVariants.{NoMemory};
-ghost use Rattle.smithy_schema.specs.Fits.{Fits};
-ghost use Rattle.smithy_schema.specs.Site.{site_of};
+ghost use Rattle.smithy_shapes.specs.Fits.{Fits};
+ghost use Rattle.smithy_shapes.specs.Site.{site_of};
 ghost use Rattle.smithy_schema.specs.Writing.{write};
 ghost use Rattle.smithy_transcode.specs.Private.Tree.{compact_view as view};
 

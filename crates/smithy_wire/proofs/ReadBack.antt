@@ -3,15 +3,15 @@ use Rattle.std.specs.Prelude.{◌≡◌, ◌≤◌, ℕ, length, List, Bool, tru
 use Rattle.std.proofs.Common.{sym, ap, arith, subst}
 use Rattle.std.proofs.lemmas.Bool.{and_parts}
 use Rattle.std.proofs.lemmas.List.{drop_all}
-use Rattle.smithy_schema.specs.declared.place.Place.{Place}
-use Rattle.smithy_schema.specs.Table.{Table, Member, ListShape, MapShape, Kind, document, structure_of, list_of, map_of, kind_of}
-use Rattle.smithy_schema.specs.Value.{Value, scalar_value, list, map, structure, union, null_element, document_value, Values, no_values, value, MapEntries, no_map_entries, map_entry, MemberValues, no_member_values, member_value, nesting}
-use Rattle.smithy_schema.specs.Site.{View, member_view, element_view, value_view, nameless, member_of}
-use Rattle.smithy_schema.specs.ScalarTest.{scalars_pass, elements_pass, entries_pass, members_pass}
-use Rattle.smithy_schema.specs.Fits.{FitsOr, ElementsFit, EntriesFit, MembersFit, Fits}
-use Rattle.smithy_schema.specs.Lemmas.Kinds.{list_kind, map_kind, structure_kind, union_kind}
-use Rattle.smithy_schema.proofs.ScalarLemmas.{scalar_kind}
-use Rattle.smithy_schema.proofs.SiteLemmas.{site_at, element_site_at, value_site_at, element_fit, entry_fit, member_fit}
+use Rattle.smithy_shapes.specs.declared.place.Place.{Place}
+use Rattle.smithy_shapes.specs.Table.{Table, Member, ListShape, MapShape, Kind, document, structure_of, list_of, map_of, kind_of}
+use Rattle.smithy_shapes.specs.Value.{Value, scalar_value, list, map, structure, union, null_element, document_value, Values, no_values, value, MapEntries, no_map_entries, map_entry, MemberValues, no_member_values, member_value, nesting}
+use Rattle.smithy_shapes.specs.Site.{View, member_view, element_view, value_view, nameless, member_of}
+use Rattle.smithy_shapes.specs.ScalarTest.{scalars_pass, elements_pass, entries_pass, members_pass}
+use Rattle.smithy_shapes.specs.Fits.{FitsOr, ElementsFit, EntriesFit, MembersFit, Fits}
+use Rattle.smithy_shapes.specs.Lemmas.Kinds.{list_kind, map_kind, structure_kind, union_kind}
+use Rattle.smithy_shapes.proofs.ScalarLemmas.{scalar_kind}
+use Rattle.smithy_shapes.proofs.SiteLemmas.{site_at, element_site_at, value_site_at, element_fit, entry_fit, member_fit}
 use Rattle.smithy_wire.specs.Node.{as_array, as_object, Node}
 use Rattle.smithy_wire.specs.Rules.{Rules}
 use Rattle.smithy_wire.specs.Frames.{Frames, EndsAs, relations}

@@ -2,12 +2,12 @@
 use Rattle.std.proofs.Common.{◌≡◌, ◌≤◌, ℕ, ℤ, length, Bool, true, false, Option, Some, None, refl, sym, ◌∙◌, ap, subst, arith, ◌⊎◌, inl, inr}
 use Rattle.std.specs.Prelude.{IsErrOf, Result, Ok, Err, OnErr, IfOk, IfErr, IsOk, IsErr, IfSome, IfNone, IsSome, IsNone, if◌then◌else◌}
 use Rattle.smithy_texts.specs.Ranges.{fits_signed}
-use Rattle.smithy_schema.specs.declared.shape_type.Scalar.{Scalar}
+use Rattle.smithy_shapes.specs.declared.shape_type.Scalar.{Scalar}
 use Rattle.smithy_schema.specs.declared.error.SerdeError.{SerdeError}
 use Rattle.smithy_schema.specs.declared.error.SerdeError.TheVariants.{InvalidInput, TooWide, NotCarried, Unsupported, Unwritable, Failed, NoMemory}
-use Rattle.smithy_schema.specs.Table.{scalar_place}
-use Rattle.smithy_schema.specs.Site.{Site}
-use Rattle.smithy_schema.specs.Value.{ScalarValue, scalar_value}
+use Rattle.smithy_shapes.specs.Table.{scalar_place}
+use Rattle.smithy_shapes.specs.Site.{Site}
+use Rattle.smithy_shapes.specs.Value.{ScalarValue, scalar_value}
 use Rattle.smithy_schema.specs.Reading.{Cursor, depth, Relations, IsLawful, StandsNot, IsInvalid, Exceeds, Uncarried, Conducts, ReadsScalar, AnswersWide, AnswersUncarried, failed_at, passed_to}
 use Rattle.smithy_wire.specs.Narrowing.{IsNarrowed, IsWider}
 

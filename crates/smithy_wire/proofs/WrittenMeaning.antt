@@ -4,19 +4,19 @@ use Rattle.std.specs.Prelude.{◌≡◌, ◌≤◌, ◌+◌, ◌&&◌, ℕ, ℤ,
 use Rattle.std.proofs.Common.{sym, ap, ◌∙◌, arith, subst}
 use Rattle.std.proofs.lemmas.Bool.{and_parts}
 use Rattle.smithy_types.specs.Document.{Document}
-use Rattle.smithy_schema.specs.declared.place.Place.{Place}
-use Rattle.smithy_schema.specs.Table.{Table, Member, ListShape, MapShape, Kind, structure_of, union_of, list_of, map_of, kind_of, members_of, place_in, where_document, IsSparse, IsDocument}
-use Rattle.smithy_schema.specs.Value.{ScalarValue, Value, scalar_value, list, map, structure, union, null_element, document_value, Values, no_values, value, MapEntries, no_map_entries, map_entry, MemberValues, no_member_values, member_value, nesting, elements_nesting, entries_nesting, members_nesting}
-use Rattle.smithy_schema.specs.Documents.{document_nesting}
-use Rattle.smithy_schema.specs.Site.{View, member_view, element_view, value_view, nameless, member_of}
-use Rattle.smithy_schema.specs.ScalarTest.{scalars_pass, elements_pass, entries_pass, members_pass}
-use Rattle.smithy_schema.specs.Container.{Entry, element_of, container_of}
-use Rattle.smithy_schema.specs.Fits.{FitsOr, ElementsFit, EntriesFit, MembersFit, Fits}
-use Rattle.smithy_schema.proofs.ChildLemmas.{SayElements, list_said, SayEntries, map_said, Sets, SayMembers, structure_said, union_said}
-use Rattle.smithy_schema.proofs.NamedLemmas.{named_itself}
-use Rattle.smithy_schema.specs.Lemmas.Kinds.{document_place_is, list_kind, map_kind, structure_kind, union_kind}
-use Rattle.smithy_schema.proofs.ScalarLemmas.{scalar_kind}
-use Rattle.smithy_schema.proofs.SiteLemmas.{site_at, element_site_at, value_site_at, element_fit, entry_fit, member_fit, variant_fit}
+use Rattle.smithy_shapes.specs.declared.place.Place.{Place}
+use Rattle.smithy_shapes.specs.Table.{Table, Member, ListShape, MapShape, Kind, structure_of, union_of, list_of, map_of, kind_of, members_of, place_in, where_document, IsSparse, IsDocument}
+use Rattle.smithy_shapes.specs.Value.{ScalarValue, Value, scalar_value, list, map, structure, union, null_element, document_value, Values, no_values, value, MapEntries, no_map_entries, map_entry, MemberValues, no_member_values, member_value, nesting, elements_nesting, entries_nesting, members_nesting}
+use Rattle.smithy_shapes.specs.Documents.{document_nesting}
+use Rattle.smithy_shapes.specs.Site.{View, member_view, element_view, value_view, nameless, member_of}
+use Rattle.smithy_shapes.specs.ScalarTest.{scalars_pass, elements_pass, entries_pass, members_pass}
+use Rattle.smithy_shapes.specs.Container.{Entry, element_of, container_of}
+use Rattle.smithy_shapes.specs.Fits.{FitsOr, ElementsFit, EntriesFit, MembersFit, Fits}
+use Rattle.smithy_shapes.proofs.ChildLemmas.{SayElements, list_said, SayEntries, map_said, Sets, SayMembers, structure_said, union_said}
+use Rattle.smithy_shapes.proofs.NamedLemmas.{named_itself}
+use Rattle.smithy_shapes.specs.Lemmas.Kinds.{document_place_is, list_kind, map_kind, structure_kind, union_kind}
+use Rattle.smithy_shapes.proofs.ScalarLemmas.{scalar_kind}
+use Rattle.smithy_shapes.proofs.SiteLemmas.{site_at, element_site_at, value_site_at, element_fit, entry_fit, member_fit, variant_fit}
 use Rattle.smithy_wire.specs.Node.{Form, as_array, as_object, Node, leaf, container, Nodes, no_nodes, node, is_null}
 use Rattle.smithy_wire.specs.Rules.{settled, Rules, at_depth, position_in, drops_null, is_absent}
 use Rattle.smithy_wire.specs.Documents.{document_meaning}

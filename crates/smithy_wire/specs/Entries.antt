@@ -2,9 +2,9 @@
 use Rattle.std.specs.Prelude.{◌≡◌, ◌&&◌, ◌||◌, not, ℕ, List, Option, Some, None, is_none, Bool, true, false, refl, codes, bytes_eq}
 use Rattle.std.specs.Option.{option_map_or}
 use Rattle.std.proofs.Common.{sym, ◌∙◌, ap, inl, inr, ◌⊎◌}
-use Rattle.smithy_schema.specs.declared.place.Place.{Place}
-use Rattle.smithy_schema.specs.Table.{Table, Kind, structure_of, union_of, list_of, map_of, kind_of, member_place, has_members, IsList, IsMap, HasMembers}
-use Rattle.smithy_schema.specs.Container.{is_type_mark}
+use Rattle.smithy_shapes.specs.declared.place.Place.{Place}
+use Rattle.smithy_shapes.specs.Table.{Table, Kind, structure_of, union_of, list_of, map_of, kind_of, member_place, has_members, IsList, IsMap, HasMembers}
+use Rattle.smithy_shapes.specs.Container.{is_type_mark}
 use Rattle.smithy_schema.specs.Reading.{Mark}
 use Rattle.smithy_wire.specs.Node.{Form, as_array, as_object, Node, null_node, leaf, container, missing}
 use Rattle.smithy_wire.specs.Rules.{Rules, key_text, position_in, drops_null, is_absent, is_mark, may_skip}

@@ -1,12 +1,12 @@
 -- The laws of reading, once for all wires and kinds.
 use Rattle.std.specs.Prelude.{◌≡◌, ◌⊎◌, ◌<◌, ◌≤◌, ℕ, zero, suc, length, drop, List, Option, Some, None, true, false, refl}
 use Rattle.std.proofs.Common.{sym, ◌∙◌, ap, arith, subst, inl, inr}
-use Rattle.smithy_schema.specs.declared.place.Place.{Place}
-use Rattle.smithy_schema.specs.Limits.{kept}
-use Rattle.smithy_schema.specs.Table.{Table, Kind, kind_of, IsStructure, IsDocument}
-use Rattle.smithy_schema.specs.Value.{Value}
+use Rattle.smithy_shapes.specs.declared.place.Place.{Place}
+use Rattle.smithy_shapes.specs.Limits.{kept}
+use Rattle.smithy_shapes.specs.Table.{Table, Kind, kind_of, IsStructure, IsDocument}
+use Rattle.smithy_shapes.specs.Value.{Value}
 use Rattle.smithy_schema.specs.Reading.{Mark, Child, child_value, child_null, child_unknown, IsChild, IsLawful, StandsFit, CountsOpeners, IsBelow, IsBehind as IsPassed}
-use Rattle.smithy_schema.specs.Lemmas.Options.{same_some, chosen}
+use Rattle.smithy_shapes.specs.Lemmas.Options.{same_some, chosen}
 use Rattle.smithy_wire.specs.Node.{Form, Node, null_node, leaf, container, missing}
 use Rattle.smithy_wire.specs.Rules.{Rules, lift, is_shallow, may_skip}
 use Rattle.smithy_wire.specs.Meaning.{missing_meaning, meaning}

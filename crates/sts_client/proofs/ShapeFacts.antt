@@ -2,8 +2,8 @@
 use Rattle.std.proofs.Common.{◌≡◌, ◌≤◌, ap, subst, ℕ, zero, suc, Some, None, refl, sym, ◌∙◌, arith}
 use Rattle.std.specs.List.{slice_get}
 use Rattle.std.proofs.lemmas.Option.{slice_get_past}
-use Rattle.smithy_schema.specs.declared.place.Target.{Target}
-use Rattle.smithy_schema.specs.Site.{Site, member_site}
+use Rattle.smithy_shapes.specs.declared.place.Target.{Target}
+use Rattle.smithy_shapes.specs.Site.{Site, member_site}
 use Rattle.smithy_schema.specs.Consuming.{IsMemberOf}
 use Rattle.smithy_schema.specs.Fields.{HasTargets}
 use Rattle.smithy_schema.proofs.ReadFields.{target_at}

@@ -2,12 +2,12 @@
 use Rattle.std.proofs.Common.{◌≡◌, List, [], ◌∷◌, map, true, false, Some, None, Result, Ok, Err, OnOk, refl, sym, ◌∙◌, subst, inl}
 use Rattle.std.proofs.lemmas.List.{map-append}
 use Rattle.smithy_schema.specs.declared.error.SerdeError.{SerdeError}
-use Rattle.smithy_schema.specs.declared.place.Place.{Place}
-use Rattle.smithy_schema.specs.declared.place.Target.{Target}
-use Rattle.smithy_schema.specs.Table.{Kind, Member, structure_of, place_in, HasMembers, IsSparse, is_sparse}
-use Rattle.smithy_schema.specs.Site.{Site, kind_at, inner_site}
-use Rattle.smithy_schema.specs.Value.{list, values_of}
-use Rattle.smithy_schema.specs.Lemmas.Options.{same_some}
+use Rattle.smithy_shapes.specs.declared.place.Place.{Place}
+use Rattle.smithy_shapes.specs.declared.place.Target.{Target}
+use Rattle.smithy_shapes.specs.Table.{Kind, Member, structure_of, place_in, HasMembers, IsSparse, is_sparse}
+use Rattle.smithy_shapes.specs.Site.{Site, kind_at, inner_site}
+use Rattle.smithy_shapes.specs.Value.{list, values_of}
+use Rattle.smithy_shapes.specs.Lemmas.Options.{same_some}
 use Rattle.smithy_schema.specs.Reading.{Cursor, in_list, IsLawful, Reads, StandsNot, IsFault}
 use Rattle.smithy_schema.specs.Consuming.{Reader, Consumes, by_element}
 use Rattle.smithy_schema.specs.Fields.{HasTargets, structure_with}

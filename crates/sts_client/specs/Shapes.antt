@@ -2,12 +2,12 @@
 use Rattle.std.specs.Prelude.{◌≡◌, ◌<◌, ℕ, ℤ, List, [], ◌∷◌, ◌++◌, map, false, true, Option, Some, None, option_map, Result, Ok, Err, String}
 use Rattle.std.specs.declared.alloc.Global.{Global}
 use Rattle.smithy_schema.specs.declared.error.SerdeError.{SerdeError}
-use Rattle.smithy_schema.specs.declared.place.Target.{Target}
-use Rattle.smithy_schema.specs.declared.place.Target.TheVariants.{Simple}
-use Rattle.smithy_schema.specs.declared.shape_type.Scalar.TheVariants as scalars
-use Rattle.smithy_schema.specs.Table.{Kind, Member, structure_of, IsStructure, IsList, is_sparse}
-use Rattle.smithy_schema.specs.Value.{Value, scalar_value, whole, instant, list, values_of}
-use Rattle.smithy_schema.specs.Site.{Site, kind_at, member_site, inner_site}
+use Rattle.smithy_shapes.specs.declared.place.Target.{Target}
+use Rattle.smithy_shapes.specs.declared.place.Target.TheVariants.{Simple}
+use Rattle.smithy_shapes.specs.declared.shape_type.Scalar.TheVariants as scalars
+use Rattle.smithy_shapes.specs.Table.{Kind, Member, structure_of, IsStructure, IsList, is_sparse}
+use Rattle.smithy_shapes.specs.Value.{Value, scalar_value, whole, instant, list, values_of}
+use Rattle.smithy_shapes.specs.Site.{Site, kind_at, member_site, inner_site}
 use Rattle.smithy_schema.specs.Reading.{Cursor, Reads, StandsNot, IsFault}
 use Rattle.smithy_schema.specs.Consuming.{Reader}
 use Rattle.smithy_schema.specs.Fields.{HasTargets, structure_with}

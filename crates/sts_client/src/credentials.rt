@@ -1,7 +1,7 @@
 //! The credentials that AssumeRole answers.
 ghost use Rattle.std.specs.Prelude.{◌≡◌, IfOk, OnOk, OnErr, true};
 ghost use Rattle.smithy_schema.specs.Consuming.{IsTaken};
-ghost use Rattle.smithy_schema.specs.Site.{site_of};
+ghost use Rattle.smithy_shapes.specs.Site.{site_of};
 ghost use Rattle.smithy_schema.specs.Reading.{Reads, StandsNot, IsRefused};
 ghost use Rattle.smithy_schema.specs.Fields.{HasTargets, structure_with};
 ghost use Rattle.sts_client.specs.Shapes.{credentials_targets, credentials_fields};

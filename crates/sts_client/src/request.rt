@@ -1,6 +1,6 @@
 //! What AssumeRole is given.
 ghost use Rattle.std.specs.Prelude.{◌≡◌, false, true, IfOk, OnErr};
-ghost use Rattle.smithy_schema.specs.Site.{site_of};
+ghost use Rattle.smithy_shapes.specs.Site.{site_of};
 ghost use Rattle.smithy_schema.specs.Reading.{Reads, StandsNot, IsRefused};
 ghost use Rattle.smithy_schema.specs.Writing.{events};
 ghost use Rattle.smithy_schema.specs.Written.{Runs, outcome};

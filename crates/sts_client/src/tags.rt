@@ -1,8 +1,8 @@
 //! The tags of a session, which AssumeRole is given.
 ghost use Rattle.std.specs.Prelude.{◌≡◌, IfOk, OnOk, OnErr, true};
 ghost use Rattle.smithy_schema.specs.Consuming.{IsTaken};
-ghost use Rattle.smithy_schema.specs.Value.{list, values_of};
-ghost use Rattle.smithy_schema.specs.Site.{site_of};
+ghost use Rattle.smithy_shapes.specs.Value.{list, values_of};
+ghost use Rattle.smithy_shapes.specs.Site.{site_of};
 ghost use Rattle.smithy_schema.specs.Reading.{Reads, StandsNot, IsRefused};
 ghost use Rattle.sts_client.specs.Shapes.{IsTag, AreTags, tag_values};
 

@@ -6,20 +6,20 @@ use Rattle.std.proofs.Common.{◌∙◌, ap, subst, arith}
 use Rattle.std.proofs.lemmas.Bool.{and_parts}
 use Rattle.std.proofs.lemmas.Bool.Decides.{nat_tests}
 use Rattle.std.proofs.lemmas.Str.{IsUtf8-append, IsUtf8-nil, IsUtf8-from_is_utf8, is_utf8-from_IsUtf8}
-use Rattle.smithy_schema.specs.declared.place.Place.{Place}
-use Rattle.smithy_schema.specs.declared.shape_type.Scalar.{Scalar}
-use Rattle.smithy_schema.specs.declared.shape_type.Scalar.TheVariants as scalars
-use Rattle.smithy_schema.specs.Table.{Table, scalar, kind_of}
-use Rattle.smithy_schema.specs.Value.{boolean, whole, text, bytes, instant, Value, scalar_value}
-use Rattle.smithy_schema.specs.Fits.{is_of, Fits}
-use Rattle.smithy_schema.specs.Lemmas.Options.{same_some, step_apart, chosen, made}
+use Rattle.smithy_shapes.specs.declared.place.Place.{Place}
+use Rattle.smithy_shapes.specs.declared.shape_type.Scalar.{Scalar}
+use Rattle.smithy_shapes.specs.declared.shape_type.Scalar.TheVariants as scalars
+use Rattle.smithy_shapes.specs.Table.{Table, scalar, kind_of}
+use Rattle.smithy_shapes.specs.Value.{boolean, whole, text, bytes, instant, Value, scalar_value}
+use Rattle.smithy_shapes.specs.Fits.{is_of, Fits}
+use Rattle.smithy_shapes.specs.Lemmas.Options.{same_some, step_apart, chosen, made}
 use Rattle.cbor_item.specs.Item.{Item, unsigned, negative, byte_string, text_string, array, map as map_item, tag, simple, float}
 use Rattle.smithy_cbor.specs.Scalar.{false_value, true_value, boolean_item, integer_of, joined_text, text_of, bytes_of, big_integer_of}
 use Rattle.smithy_cbor_codec.specs.Scalar.{boolean_of, whole_of, blob_of, decimal_form_of, date_says, seconds_read_as, timestamp_says, says}
 use Rattle.smithy_texts.specs.Base64Text.{are_bytes}
 use Rattle.smithy_texts.specs.Ranges.{fits_signed}
 use Rattle.smithy_instants.specs.Instant.{nanos_per_second}
-use Rattle.smithy_schema.proofs.InstantLemmas.{seconds_are_instant}
+use Rattle.smithy_shapes.proofs.InstantLemmas.{seconds_are_instant}
 use Rattle.smithy_wire.specs.Rules.{Answer, means, no_meaning}
 use Rattle.smithy_wire.proofs.Bounds.{answer_means, chosen_answer, big_integer_fits, big_decimal_fits}
 

@@ -3,8 +3,8 @@ use Rattle.std.specs.Prelude.{◌≡◌, ◌<◌, ℕ, List, [], Some, None}
 use Rattle.smithy_schema.specs.declared.read.Step.{Step}
 use Rattle.smithy_schema.specs.declared.read.Step.TheVariants.{Member as ToMember, Unknown, End}
 use Rattle.smithy_schema.specs.Reading.{Cursor, depth}
-use Rattle.smithy_schema.specs.Site.{Site, site_of, member_site, kind_at}
-use Rattle.smithy_schema.specs.Table.{Member, members_of, position_named}
+use Rattle.smithy_shapes.specs.Site.{Site, site_of, member_site, kind_at}
+use Rattle.smithy_shapes.specs.Table.{Member, members_of, position_named}
 use Rattle.smithy_cbor_codec.specs.Standing.{end_mark}
 
 -- the structure was opened at the end of an empty input, and ends there

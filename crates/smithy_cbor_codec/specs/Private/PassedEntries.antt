@@ -1,9 +1,9 @@
 -- What comes in a map behind the entries that are passed over, as private functions answer it.
 use Rattle.std.specs.Prelude.{◌≡◌, ◌⊎◌, ℕ, zero, suc, List, Option, Some, Bool, true, false}
 use Rattle.std.specs.Cow.{cow_str_bytes}
-use Rattle.smithy_schema.specs.Container.{is_type_mark}
+use Rattle.smithy_shapes.specs.Container.{is_type_mark}
 use Rattle.smithy_schema.specs.Reading.{Mark}
-use Rattle.smithy_schema.specs.Table.{Kind, Member, members_of, position_named}
+use Rattle.smithy_shapes.specs.Table.{Kind, Member, members_of, position_named}
 use Rattle.cbor_item.specs.Item.{Item}
 use Rattle.cbor_item.specs.WellFormed.{IsItemAt}
 use Rattle.smithy_cbor_codec.specs.declared.members.Next.{Next}

@@ -2,8 +2,8 @@
 use Rattle.std.specs.Prelude.{◌≡◌, ℕ, suc, ℤ, List, drop, Some, None, true}
 use Rattle.smithy_cbor.specs.declared.error.DecodeKind.{DecodeKind}
 use Rattle.smithy_cbor.specs.declared.error.DecodeKind.TheVariants as kinds
-use Rattle.smithy_schema.specs.declared.shape_type.Scalar.{Scalar}
-use Rattle.smithy_schema.specs.Value.{ScalarValue, scalar_value}
+use Rattle.smithy_shapes.specs.declared.shape_type.Scalar.{Scalar}
+use Rattle.smithy_shapes.specs.Value.{ScalarValue, scalar_value}
 use Rattle.smithy_cbor_codec.specs.Scalar.{says}
 use Rattle.smithy_wire.specs.Rules.{means, no_meaning, wide, uncarried}
 use Rattle.cbor_item.specs.declared.error.ItemError.{ItemError}

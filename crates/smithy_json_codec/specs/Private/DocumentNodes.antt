@@ -6,12 +6,12 @@ use Rattle.smithy_types.specs.Document as documents
 use Rattle.smithy_types.specs.Number.{whole_number}
 use Rattle.smithy_types.specs.declared.number.Number.{Number}
 use Rattle.smithy_types.specs.declared.number.Number.TheVariants.{PosInt, NegInt}
-use Rattle.smithy_schema.specs.declared.place.Place.{Place}
-use Rattle.smithy_schema.specs.Documents.{document_nesting, DocumentFits}
-use Rattle.smithy_schema.specs.Limits.{Limits, kept, lifted, is_within}
-use Rattle.smithy_schema.specs.Table.{Table, document, kind_of}
-use Rattle.smithy_schema.specs.Value.{Value, document_value}
-use Rattle.smithy_schema.specs.Lemmas.Options.{same_some, step_apart, chosen, made}
+use Rattle.smithy_shapes.specs.declared.place.Place.{Place}
+use Rattle.smithy_shapes.specs.Documents.{document_nesting, DocumentFits}
+use Rattle.smithy_shapes.specs.Limits.{Limits, kept, lifted, is_within}
+use Rattle.smithy_shapes.specs.Table.{Table, document, kind_of}
+use Rattle.smithy_shapes.specs.Value.{Value, document_value}
+use Rattle.smithy_shapes.specs.Lemmas.Options.{same_some, step_apart, chosen, made}
 use Rattle.smithy_json.specs.Ascii.{minus_sign}
 use Rattle.smithy_json.specs.DocumentMeaning.{at_depth, number_meaning, document_meaning, elements_meaning, members_meaning}
 use Rattle.smithy_json.specs.HeldNumber.{held_as, number_of}

@@ -2,22 +2,22 @@
 use Rattle.std.specs.Prelude.{◌≡◌, ℕ, ℤ, List, Option, Some, None, true, IsUtf8, refl, option_map, option_and_then, if◌then◌else◌}
 use Rattle.std.proofs.Common.{sym, ◌∙◌, subst}
 use Rattle.std.proofs.lemmas.Str.{is_utf8-from_IsUtf8}
-use Rattle.smithy_schema.specs.declared.place.Place.{Place}
-use Rattle.smithy_schema.specs.declared.shape_type.Scalar.{Scalar}
-use Rattle.smithy_schema.specs.declared.shape_type.Scalar.TheVariants as scalars
-use Rattle.smithy_schema.specs.declared.shape_type.TimestampFormat.{TimestampFormat}
-use Rattle.smithy_schema.specs.declared.shape_type.TimestampFormat.TheVariants.{EpochSeconds, DateTime, HttpDate}
-use Rattle.smithy_schema.specs.TimeForms.{format_of}
-use Rattle.smithy_schema.specs.Table.{Table, scalar, kind_of}
-use Rattle.smithy_schema.specs.Value.{boolean as boolean_value, whole, text, bytes, instant, Value, scalar_value}
-use Rattle.smithy_schema.specs.Fits.{is_of, Fits}
-use Rattle.smithy_schema.specs.Lemmas.Options.{same_some, step_apart, chosen, made}
+use Rattle.smithy_shapes.specs.declared.place.Place.{Place}
+use Rattle.smithy_shapes.specs.declared.shape_type.Scalar.{Scalar}
+use Rattle.smithy_shapes.specs.declared.shape_type.Scalar.TheVariants as scalars
+use Rattle.smithy_shapes.specs.declared.shape_type.TimestampFormat.{TimestampFormat}
+use Rattle.smithy_shapes.specs.declared.shape_type.TimestampFormat.TheVariants.{EpochSeconds, DateTime, HttpDate}
+use Rattle.smithy_shapes.specs.TimeForms.{format_of}
+use Rattle.smithy_shapes.specs.Table.{Table, scalar, kind_of}
+use Rattle.smithy_shapes.specs.Value.{boolean as boolean_value, whole, text, bytes, instant, Value, scalar_value}
+use Rattle.smithy_shapes.specs.Fits.{is_of, Fits}
+use Rattle.smithy_shapes.specs.Lemmas.Options.{same_some, step_apart, chosen, made}
 use Rattle.smithy_json.specs.Number.{whole_number}
 use Rattle.smithy_texts.specs.Base64Text.{blob_of}
 use Rattle.smithy_texts.specs.Decimal.{integer_form, decimal_form}
 use Rattle.smithy_texts.specs.Ranges.{fits_signed}
 use Rattle.smithy_texts.proofs.Base64Laws.{blob_is_bytes}
-use Rattle.smithy_schema.proofs.InstantLemmas.{date_is_instant}
+use Rattle.smithy_shapes.proofs.InstantLemmas.{date_is_instant}
 use Rattle.smithy_instants.specs.Instant.{is_instant}
 use Rattle.smithy_instants.specs.Epoch.{epoch_nanos}
 use Rattle.smithy_instants.specs.DateText.{date_of}

@@ -4,8 +4,8 @@ use Rattle.std.specs.Option.{option_map_or}
 use Rattle.smithy_schema.specs.declared.read.Step.{Step}
 use Rattle.smithy_schema.specs.declared.read.Step.TheVariants.{Member, Unknown, End}
 use Rattle.smithy_schema.specs.Reading.{Cursor, depth}
-use Rattle.smithy_schema.specs.Table.{members_of, member_place, is_document_place}
-use Rattle.smithy_schema.specs.Site.{Site, site_of, member_site, kind_at}
+use Rattle.smithy_shapes.specs.Table.{members_of, member_place, is_document_place}
+use Rattle.smithy_shapes.specs.Site.{Site, site_of, member_site, kind_at}
 use Rattle.smithy_json_codec.specs.Settings.{Settings}
 use Rattle.smithy_json_codec.specs.Meaning.{rules_of}
 use Rattle.smithy_json_codec.specs.Standing.{end_mark}

@@ -4,10 +4,10 @@ use Rattle.smithy_texts.specs.Ranges.{fits_signed}
 use Rattle.smithy_json.specs.Tree.{number, string}
 use Rattle.smithy_json.specs.Number.{whole_number}
 use Rattle.smithy_json.specs.Unescape.{unescaped}
-use Rattle.smithy_schema.specs.declared.shape_type.Scalar.{Scalar}
-use Rattle.smithy_schema.specs.declared.shape_type.TimestampFormat.{TimestampFormat}
-use Rattle.smithy_schema.specs.declared.shape_type.TimestampFormat.TheVariants.{EpochSeconds}
-use Rattle.smithy_schema.specs.Value.{ScalarValue, instant, scalar_value}
+use Rattle.smithy_shapes.specs.declared.shape_type.Scalar.{Scalar}
+use Rattle.smithy_shapes.specs.declared.shape_type.TimestampFormat.{TimestampFormat}
+use Rattle.smithy_shapes.specs.declared.shape_type.TimestampFormat.TheVariants.{EpochSeconds}
+use Rattle.smithy_shapes.specs.Value.{ScalarValue, instant, scalar_value}
 use Rattle.smithy_json_codec.specs.Scalar.{JsonScalar, a_string, tree_of, bytes_of, timestamp_says, says}
 use Rattle.smithy_json_codec.specs.Standing.{TreeLies}
 use Rattle.smithy_wire.specs.Rules.{means, no_meaning, wide, uncarried}

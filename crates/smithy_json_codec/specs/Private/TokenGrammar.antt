@@ -16,7 +16,7 @@ use Rattle.smithy_json_codec.specs.Standing.{Lies, TreeLies, IsName, Names, begi
 use Rattle.smithy_json_codec.specs.Tokens.{begins_number, IsNumberRun, EndsRun, IsQuoted, IsToken, EndsToken, IsNameToken, NameTokens}
 use Rattle.smithy_json_codec.specs.Private.Lexical.{number_pass, number_fills, boundary_stops, eq_false}
 use Rattle.smithy_wire.specs.Rules.{Answer, no_meaning, settled}
-use Rattle.smithy_schema.specs.Limits.{Limits}
+use Rattle.smithy_shapes.specs.Limits.{Limits}
 
 -- the token is one of RFC 8259, sections 6 and 7
 abbrev pub IsInGrammar : JsonScalar → Type 0

@@ -3,15 +3,15 @@ use Rattle.std.specs.Prelude.{◌≡◌, ℕ, List, Some, IsUtf8, if◌then◌el
 use Rattle.std.proofs.Common.{◌∙◌, ap}
 use Rattle.smithy_types.specs.Document.{Document, whole_document}
 use Rattle.smithy_types.specs.declared.number.Number.{Number}
-use Rattle.smithy_schema.specs.declared.place.Place.{Place}
-use Rattle.smithy_schema.specs.declared.shape_type.Scalar.{Scalar}
-use Rattle.smithy_schema.specs.Documents.{document_nesting, DocumentFits}
-use Rattle.smithy_schema.specs.Fits.{Fits}
-use Rattle.smithy_schema.specs.Lemmas.Options.{same_some, chosen}
+use Rattle.smithy_shapes.specs.declared.place.Place.{Place}
+use Rattle.smithy_shapes.specs.declared.shape_type.Scalar.{Scalar}
+use Rattle.smithy_shapes.specs.Documents.{document_nesting, DocumentFits}
+use Rattle.smithy_shapes.specs.Fits.{Fits}
+use Rattle.smithy_shapes.specs.Lemmas.Options.{same_some, chosen}
 use Rattle.smithy_schema.specs.Reading.{Mark, IsLawful, IsBelow, CountsOpeners}
-use Rattle.smithy_schema.specs.Table.{Table, scalar, kind_of}
-use Rattle.smithy_schema.specs.TimeForms.{form_or}
-use Rattle.smithy_schema.specs.Value.{Value, null_element}
+use Rattle.smithy_shapes.specs.Table.{Table, scalar, kind_of}
+use Rattle.smithy_shapes.specs.TimeForms.{form_or}
+use Rattle.smithy_shapes.specs.Value.{Value, null_element}
 use Rattle.smithy_json.proofs.TextLemmas.{unescaped_is_utf8}
 use Rattle.smithy_json_codec.specs.Settings.{Settings, kept, without_limits}
 use Rattle.smithy_json_codec.specs.Scalar.{JsonScalar, a_string, text_of, says as says_as, document_says}

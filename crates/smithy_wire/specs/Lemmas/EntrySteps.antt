@@ -2,19 +2,19 @@
 use Rattle.std.specs.Prelude.{◌≡◌, ◌⊎◌, ◌||◌, ◌&&◌, ℕ, List, [], ◌∷◌, ◌++◌, Option, Some, None, Bool, true, false, refl, option_and_then, option_map, cond}
 use Rattle.std.specs.Option.{option_map_or}
 use Rattle.std.proofs.Common.{sym, ◌∙◌, ap, inl, inr}
-use Rattle.smithy_schema.specs.declared.place.Place.{Place}
-use Rattle.smithy_schema.specs.Table.{Member, ListShape, MapShape, Kind, structure_of, union_of, list_of, map_of, member_place, place_in, is_sparse, IsStructure}
-use Rattle.smithy_schema.specs.Value.{Value, MemberValues, put_entry}
-use Rattle.smithy_schema.specs.Container.{Entry, is_type_mark, member_step, element_of, element_step, entry_step}
+use Rattle.smithy_shapes.specs.declared.place.Place.{Place}
+use Rattle.smithy_shapes.specs.Table.{Member, ListShape, MapShape, Kind, structure_of, union_of, list_of, map_of, member_place, place_in, is_sparse, IsStructure}
+use Rattle.smithy_shapes.specs.Value.{Value, MemberValues, put_entry}
+use Rattle.smithy_shapes.specs.Container.{Entry, is_type_mark, member_step, element_of, element_step, entry_step}
 use Rattle.smithy_schema.specs.Reading.{child_value, child_null, child_unknown, entry_of}
-use Rattle.smithy_schema.specs.Lemmas.Options.{same_some, step_apart, made}
-use Rattle.smithy_schema.specs.Lemmas.Entries.{entry_with}
+use Rattle.smithy_shapes.specs.Lemmas.Options.{same_some, step_apart, made}
+use Rattle.smithy_shapes.specs.Lemmas.Entries.{entry_with}
 use Rattle.smithy_wire.specs.Node.{Form, as_array, as_object, Node, is_null}
 use Rattle.smithy_wire.specs.Rules.{Rules, key_text, position_in, is_absent, is_mark, may_skip, is_dropped}
 use Rattle.smithy_wire.specs.Meaning.{entry_at}
 use Rattle.smithy_wire.specs.Frames.{IsTold}
 use Rattle.smithy_wire.specs.Lemmas.Determined.{is_droppable}
-use Rattle.smithy_schema.specs.Lemmas.Variants.{first_variant, variant_step}
+use Rattle.smithy_shapes.specs.Lemmas.Variants.{first_variant, variant_step}
 
 -- which child an entry is: a value, which in a sparse list or map is no null; a null element, or what is skipped
 abbrev pub IsOneOf : {L : Type 0} → Rules L → Kind → ℕ → Option (List ℕ) → Node L → (Place → Option Value) → Type 0

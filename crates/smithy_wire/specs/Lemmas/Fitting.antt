@@ -1,33 +1,33 @@
 -- What a node means at a place is a value of the place, where what its scalars mean is.
 use Rattle.std.specs.Prelude.{◌≡◌, ℕ, suc, List, [], ◌∷◌, ◌++◌, Option, Some, None, Bool, true, false, refl, option_and_then, option_map, cond, if◌then◌else◌, IsUtf8}
 use Rattle.std.proofs.Common.{sym, ◌∙◌, ap, subst}
-use Rattle.smithy_schema.specs.declared.place.Place.{Place}
+use Rattle.smithy_shapes.specs.declared.place.Place.{Place}
 use Rattle.smithy_types.specs.Document.{Document, null, array, object, Documents, no_documents, item, map_elements, whole_document, properties_by}
 use Rattle.smithy_types.specs.Number.{whole_number}
 use Rattle.smithy_types.specs.declared.number.Number.{Number}
-use Rattle.smithy_schema.specs.Limits.{Limits, kept, lifted}
-use Rattle.smithy_schema.specs.Table.{Table, Member, ListShape, MapShape, Kind, scalar, document, structure_of, union_of, list_of, map_of, kind_of, place_in}
-use Rattle.smithy_schema.specs.Documents.{DocumentFits, DocumentsFit}
-use Rattle.smithy_schema.specs.Value.{Value, document_value, null_element, list, map, structure, union, values_of, MapEntries, put_entry, MemberValues, no_member_values}
-use Rattle.smithy_schema.specs.Container.{folded, is_type_mark, element_of, entry_step, member_step, members_from, container_of}
-use Rattle.smithy_schema.specs.Fits.{AscendFrom, KeysAscend, ElementsFit, EntriesFit, MembersFit, Fits}
+use Rattle.smithy_shapes.specs.Limits.{Limits, kept, lifted}
+use Rattle.smithy_shapes.specs.Table.{Table, Member, ListShape, MapShape, Kind, scalar, document, structure_of, union_of, list_of, map_of, kind_of, place_in}
+use Rattle.smithy_shapes.specs.Documents.{DocumentFits, DocumentsFit}
+use Rattle.smithy_shapes.specs.Value.{Value, document_value, null_element, list, map, structure, union, values_of, MapEntries, put_entry, MemberValues, no_member_values}
+use Rattle.smithy_shapes.specs.Container.{folded, is_type_mark, element_of, entry_step, member_step, members_from, container_of}
+use Rattle.smithy_shapes.specs.Fits.{AscendFrom, KeysAscend, ElementsFit, EntriesFit, MembersFit, Fits}
 use Rattle.smithy_schema.specs.Reading.{Mark}
-use Rattle.smithy_schema.specs.Lemmas.Options.{same_some, step_apart, chosen, made}
-use Rattle.smithy_schema.specs.Lemmas.Entries.{entry_with}
-use Rattle.smithy_schema.specs.Lemmas.Fitting.{one_more_fits, element_fits, map_value_fits, put_entry_fits, entry_fits}
-use Rattle.smithy_schema.specs.Lemmas.Ascending.{folded_ascend}
-use Rattle.smithy_schema.specs.Lemmas.AscendingKeys.{put_keys_ascend}
+use Rattle.smithy_shapes.specs.Lemmas.Options.{same_some, step_apart, chosen, made}
+use Rattle.smithy_shapes.specs.Lemmas.Entries.{entry_with}
+use Rattle.smithy_shapes.specs.Lemmas.Fitting.{one_more_fits, element_fits, map_value_fits, put_entry_fits, entry_fits}
+use Rattle.smithy_shapes.specs.Lemmas.Ascending.{folded_ascend}
+use Rattle.smithy_shapes.specs.Lemmas.AscendingKeys.{put_keys_ascend}
 use Rattle.smithy_wire.specs.Node.{Form, as_array, as_object, Node, null_node, leaf, container, missing, Nodes, no_nodes, node, is_null}
 use Rattle.smithy_wire.specs.Rules.{Answer, means, no_meaning, wide, uncarried, settled, where_lifted, Rules, is_shallow, at_depth, may_skip, key_text, position_in, is_absent}
 use Rattle.smithy_wire.specs.Documents.{document_of, elements_of, pairs_of, lifted_null, document_by, document_meaning}
 use Rattle.smithy_wire.specs.Meaning.{leaf_meaning, is_in, missing_meaning, entry_at, meaning, entries}
 use Rattle.smithy_wire.specs.Frames.{Frames, Lies, NodesLie}
 use Rattle.smithy_wire.specs.Wire.{RulesFit}
-use Rattle.smithy_schema.specs.Lemmas.Variants.{first_variant, variant_step}
+use Rattle.smithy_shapes.specs.Lemmas.Variants.{first_variant, variant_step}
 use Rattle.smithy_wire.specs.Lemmas.Folds.{Fold, fold_of}
 use Rattle.smithy_wire.specs.Lemmas.Pairs.{pair_apart}
 use Rattle.smithy_wire.specs.Lemmas.Places.{where_apart}
-use Rattle.smithy_schema.proofs.DocumentLemmas.{PairsFit, properties_fit}
+use Rattle.smithy_shapes.proofs.DocumentLemmas.{PairsFit, properties_fit}
 
 abbrev ChildFits : Table → Kind → Option ℕ → Value → Type 0
 ChildFits t k pos v = (q : Place) × (place_in k pos ≡ Some q) × Fits t q v

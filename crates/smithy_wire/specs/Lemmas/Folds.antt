@@ -1,13 +1,13 @@
 -- How the entries of a container of each kind fold.
 use Rattle.std.specs.Prelude.{◌≡◌, ℕ, List, [], ◌∷◌, ◌++◌, Option, Some, None, Bool, true, false, refl, option_and_then, option_map, cond}
-use Rattle.smithy_schema.specs.Table.{Kind, structure_of, union_of, list_of, map_of, is_sparse}
-use Rattle.smithy_schema.specs.Value.{Value, list, map, structure, values_of, MemberValues, no_member_values, MapEntries, no_map_entries, put_entry}
-use Rattle.smithy_schema.specs.Container.{Entry, folded, is_type_mark, element_of, member_step, element_step, entry_step, container_of}
+use Rattle.smithy_shapes.specs.Table.{Kind, structure_of, union_of, list_of, map_of, is_sparse}
+use Rattle.smithy_shapes.specs.Value.{Value, list, map, structure, values_of, MemberValues, no_member_values, MapEntries, no_map_entries, put_entry}
+use Rattle.smithy_shapes.specs.Container.{Entry, folded, is_type_mark, element_of, member_step, element_step, entry_step, container_of}
 use Rattle.smithy_wire.specs.Node.{Form, as_array, as_object}
 use Rattle.smithy_wire.specs.Rules.{Rules}
 use Rattle.smithy_wire.specs.Meaning.{is_in}
-use Rattle.smithy_schema.specs.Lemmas.Entries.{entry_with}
-use Rattle.smithy_schema.specs.Lemmas.Variants.{first_variant, variant_step, variants_folded}
+use Rattle.smithy_shapes.specs.Lemmas.Entries.{entry_with}
+use Rattle.smithy_shapes.specs.Lemmas.Variants.{first_variant, variant_step, variants_folded}
 use Rattle.smithy_wire.specs.Lemmas.EntrySteps.{FoldsBy, structure_folds, union_folds, list_folds, map_folds}
 
 -- what means more and may be skipped more steps no less

@@ -1,16 +1,16 @@
 -- What holds with the limits kept holds with them lifted.
 use Rattle.std.specs.Prelude.{◌≡◌, ◌+◌, ◌&&◌, ◌||◌, ℕ, zero, suc, List, Option, Some, None, Bool, true, false, refl, option_and_then, option_map, cond, if◌then◌else◌}
 use Rattle.std.proofs.Common.{sym, ◌∙◌, inl, inr}
-use Rattle.smithy_schema.specs.declared.place.Place.{Place}
-use Rattle.smithy_schema.specs.declared.shape_type.TimestampFormat.{TimestampFormat}
-use Rattle.smithy_schema.specs.Limits.{Limits, kept, lifted}
+use Rattle.smithy_shapes.specs.declared.place.Place.{Place}
+use Rattle.smithy_shapes.specs.declared.shape_type.TimestampFormat.{TimestampFormat}
+use Rattle.smithy_shapes.specs.Limits.{Limits, kept, lifted}
 use Rattle.smithy_types.specs.Document.{Document, null, array, object, item, whole_document, properties_by, with_pair}
 use Rattle.smithy_types.specs.declared.number.Number.{Number}
-use Rattle.smithy_schema.specs.Table.{Table, Kind, scalar, document, kind_of, place_in, where_document}
-use Rattle.smithy_schema.specs.Value.{document_value, null_element}
-use Rattle.smithy_schema.specs.Container.{Entry, folded, container_of}
+use Rattle.smithy_shapes.specs.Table.{Table, Kind, scalar, document, kind_of, place_in, where_document}
+use Rattle.smithy_shapes.specs.Value.{document_value, null_element}
+use Rattle.smithy_shapes.specs.Container.{Entry, folded, container_of}
 use Rattle.smithy_schema.specs.Reading.{Mark, IsBelow}
-use Rattle.smithy_schema.specs.Lemmas.Options.{chosen}
+use Rattle.smithy_shapes.specs.Lemmas.Options.{chosen}
 use Rattle.smithy_wire.specs.Node.{Form, as_array, as_object, Node, null_node, leaf, container, missing, Nodes, no_nodes, node, nesting, all_pass, is_null}
 use Rattle.smithy_wire.specs.Rules.{Answer, means, no_meaning, wide, uncarried, where_lifted, settled, Rules, lift, is_shallow, at_depth, may_skip, key_text, position_in, is_absent, is_mark}
 use Rattle.smithy_wire.specs.Documents.{document_of, elements_of, pairs_of, lifted_null, document_by, document_meaning}

@@ -2,7 +2,7 @@
 use Rattle.std.specs.Prelude.{◌≡◌, ℕ, List, ◌∷◌, Option, Some, None, refl}
 use Rattle.smithy_types.specs.Document.{Document, with_pair}
 use Rattle.smithy_types.specs.declared.number.Number.{Number}
-use Rattle.smithy_schema.specs.Lemmas.Options.{same_some}
+use Rattle.smithy_shapes.specs.Lemmas.Options.{same_some}
 
 -- the pairs begin with this name and this part, and go on with `more`
 pub record Paired (name : Option (List ℕ)) (d : Option (Document Number)) (more : Option (List (List ℕ × Document Number))) (pairs : List (List ℕ × Document Number)) : Type 0 where

@@ -1,5 +1,5 @@
 use Rattle.std.proofs.Common.{arith}
-use Rattle.smithy_schema.specs.Site.{site_of, kind_at}
+use Rattle.smithy_shapes.specs.Site.{site_of, kind_at}
 use Rattle.smithy_cbor_codec.proofs.PassedEntryLemmas.{passed_one, pass_place}
 use Rattle.smithy_cbor_codec.proofs.members.next_present.Goals as goal
 

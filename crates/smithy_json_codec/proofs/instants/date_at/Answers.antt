@@ -3,8 +3,8 @@ use Rattle.std.proofs.lemmas.Result.{err_from_is_err_and}
 use Rattle.smithy_instants.specs.DateText.{date_of}
 use Rattle.smithy_json.specs.Tree.{string}
 use Rattle.smithy_json.specs.Unescape.{unescaped}
-use Rattle.smithy_schema.specs.TimeForms.{format_of}
-use Rattle.smithy_schema.specs.Lemmas.Options.{same_some}
+use Rattle.smithy_shapes.specs.TimeForms.{format_of}
+use Rattle.smithy_shapes.specs.Lemmas.Options.{same_some}
 use Rattle.smithy_json_codec.proofs.InstantPlaces.{date_lies, no_date_lies}
 use Rattle.smithy_json_codec.proofs.ReaderLemmas.{one_tree}
 use Rattle.smithy_json_codec.proofs.instants.date_at.Goals as goal

@@ -1,7 +1,7 @@
 use Rattle.std.proofs.Common.{Err, ◌∙◌, ap}
 use Rattle.std.proofs.lemmas.Result.{err_from_is_err_and}
 use Rattle.smithy_schema.specs.declared.error.SerdeError.TheVariants.{NotCarried}
-use Rattle.smithy_schema.specs.declared.shape_type.TimestampFormat.TheVariants.{EpochSeconds}
+use Rattle.smithy_shapes.specs.declared.shape_type.TimestampFormat.TheVariants.{EpochSeconds}
 use Rattle.smithy_json_codec.specs.Scalar.{a_number, timestamp_says}
 use Rattle.smithy_json_codec.specs.Private.Wire.{one_scalar}
 use Rattle.smithy_json_codec.proofs.DeserializerLemmas.{error_of}

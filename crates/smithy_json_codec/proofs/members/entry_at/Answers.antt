@@ -1,9 +1,9 @@
 use Rattle.std.proofs.Common.{◌≡◌, Some, Err, true, false, sym, ap, ◌∙◌}
 use Rattle.std.specs.Cow.{cow_str_bytes}
 use Rattle.std.proofs.lemmas.Result.{err_from_is_err_and}
-use Rattle.smithy_schema.specs.Lemmas.Options.{same_some}
+use Rattle.smithy_shapes.specs.Lemmas.Options.{same_some}
 use Rattle.smithy_schema.specs.declared.error.SerdeError.TheVariants.{TooDeep}
-use Rattle.smithy_schema.specs.Site.{site_of}
+use Rattle.smithy_shapes.specs.Site.{site_of}
 use Rattle.smithy_json_codec.specs.Codec.{held_settings}
 use Rattle.smithy_json_codec.specs.Private.MemberSteps.{passing, passes_null}
 use Rattle.smithy_json_codec.specs.Private.PassedEntries.{type_name, IsNoMark, NoSkip, NoSkipWithin}

@@ -2,7 +2,7 @@ use Rattle.std.proofs.Common.{Err, ap, arith}
 use Rattle.std.proofs.lemmas.Result.{err_from_is_err_and}
 use Rattle.smithy_schema.specs.declared.error.SerdeError.TheVariants.{TooDeep}
 use Rattle.smithy_json_codec.specs.Deepest.{OpensTooDeep}
-use Rattle.smithy_schema.specs.Site.{site_of}
+use Rattle.smithy_shapes.specs.Site.{site_of}
 use Rattle.smithy_json_codec.specs.Codec.{held_settings}
 use Rattle.smithy_json_codec.specs.Private.MemberSteps.{passing}
 use Rattle.smithy_json_codec.specs.Private.PassedEntries.{NoSkip, NoSkipWithin}

@@ -1,7 +1,7 @@
 use Rattle.std.proofs.Common.{Err, sym, ◌∙◌, ap, subst}
 use Rattle.std.proofs.lemmas.Result.{err_from_is_err_and}
 use Rattle.smithy_schema.specs.declared.error.SerdeError.TheVariants.{TooWide}
-use Rattle.smithy_schema.specs.declared.shape_type.Scalar.TheVariants as scalars
+use Rattle.smithy_shapes.specs.declared.shape_type.Scalar.TheVariants as scalars
 use Rattle.smithy_json_codec.specs.Scalar.{number_text, big_number, number_says}
 use Rattle.smithy_json_codec.specs.NumberText.{NumberTextLies}
 use Rattle.smithy_json_codec.specs.Private.Wire.{one_scalar}

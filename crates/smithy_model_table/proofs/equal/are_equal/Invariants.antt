@@ -1,5 +1,5 @@
 use Rattle.std.proofs.Common.{◌≡◌, map, take, length}
-use Rattle.smithy_schema.specs.DeclViews.{decl_of}
+use Rattle.smithy_shapes.specs.DeclViews.{decl_of}
 use Rattle.smithy_model_table.proofs.equal.are_equal.Given as goal
 
 abbrev pub invariant-loop-i : goal.invariant-loop-i

@@ -2,8 +2,8 @@ use Rattle.std.proofs.Common.{◌≡◌, map, subst}
 use Rattle.smithy_model.specs.Views.{model_view}
 use Rattle.smithy_model_table.specs.Outcomes.{AreParts}
 use Rattle.smithy_model_table.specs.Views.{names_view, left_view}
-use Rattle.smithy_schema.specs.DeclViews.{decl_of}
-use Rattle.smithy_schema.specs.TableText.{declarations_of, declarations}
+use Rattle.smithy_shapes.specs.DeclViews.{decl_of}
+use Rattle.smithy_shapes.specs.TableText.{declarations_of, declarations}
 use Rattle.smithy_model_table.proofs.table.table_of.Goals as goal
 
 pub returns-clause-table : goal.returns-clause-table

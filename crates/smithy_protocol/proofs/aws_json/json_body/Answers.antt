@@ -1,5 +1,5 @@
 use Rattle.std.proofs.Common.{ap, ◌∙◌}
-use Rattle.smithy_schema.specs.Site.{site_of}
+use Rattle.smithy_shapes.specs.Site.{site_of}
 use Rattle.smithy_json_codec.specs.Writing.{fresh_state}
 use Rattle.smithy_protocol.proofs.CanonicalBodies.{json_bodies}
 use Rattle.smithy_protocol.proofs.aws_json.json_body.Goals as goal

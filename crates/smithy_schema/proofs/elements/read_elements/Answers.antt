@@ -1,6 +1,6 @@
 use Rattle.std.proofs.Common.{refl, sym}
 use Rattle.std.proofs.lemmas.Result.{err_from_is_err_and}
-use Rattle.smithy_schema.specs.Site.{site_of}
+use Rattle.smithy_shapes.specs.Site.{site_of}
 use Rattle.smithy_schema.specs.Consuming.{reader}
 use Rattle.smithy_schema.proofs.ReadElements.{all_read, not_read, no_memory_for_it, through_items}
 use Rattle.smithy_schema.proofs.elements.read_elements.Goals as goal

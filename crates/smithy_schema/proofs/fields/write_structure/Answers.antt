@@ -1,4 +1,4 @@
-use Rattle.smithy_schema.specs.Site.{site_of}
+use Rattle.smithy_shapes.specs.Site.{site_of}
 use Rattle.smithy_schema.specs.Fields.{structure_with, members_at}
 use Rattle.smithy_schema.proofs.WrittenFields.{value_added, structure_runs, not_had}
 use Rattle.smithy_schema.proofs.fields.write_structure.Goals as goal

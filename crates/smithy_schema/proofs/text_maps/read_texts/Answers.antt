@@ -1,6 +1,6 @@
 use Rattle.std.proofs.Common.{refl, sym, ap}
 use Rattle.std.proofs.lemmas.Result.{err_from_is_err_and}
-use Rattle.smithy_schema.specs.Site.{site_of}
+use Rattle.smithy_shapes.specs.Site.{site_of}
 use Rattle.smithy_schema.specs.Consuming.{reader}
 use Rattle.smithy_schema.specs.TextMaps.{text_entries}
 use Rattle.smithy_schema.proofs.ReadTexts.{all_read, not_read, through_entries}

@@ -1,4 +1,4 @@
-use Rattle.smithy_schema.specs.Site.{site_of}
+use Rattle.smithy_shapes.specs.Site.{site_of}
 use Rattle.smithy_transcode.proofs.ValuesPass.{passes_unseen}
 use Rattle.smithy_transcode.proofs.expressing.passes.Goals as goal
 

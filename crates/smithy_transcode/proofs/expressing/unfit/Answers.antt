@@ -1,4 +1,4 @@
-use Rattle.smithy_schema.specs.Site.{site_of}
+use Rattle.smithy_shapes.specs.Site.{site_of}
 use Rattle.smithy_transcode.specs.Wires.{wire_of}
 use Rattle.smithy_transcode.proofs.Unfits.{null_of_passing, nothing_of_passing}
 use Rattle.smithy_transcode.proofs.expressing.unfit.Goals as goal

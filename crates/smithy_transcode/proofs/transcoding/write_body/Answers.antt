@@ -1,5 +1,5 @@
 use Rattle.std.proofs.Common.{◌≡◌, None, string_bytes, refl, ◌∙◌, ap, subst}
-use Rattle.smithy_schema.specs.Site.{Site, site_of}
+use Rattle.smithy_shapes.specs.Site.{Site, site_of}
 use Rattle.smithy_json_codec.specs.Serializing.{state_of}
 use Rattle.smithy_json_codec.specs.Writing.{fresh_state}
 use Rattle.smithy_cbor_codec.specs.Serializing.{state_of as cbor_state_of}

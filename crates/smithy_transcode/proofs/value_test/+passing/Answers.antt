@@ -1,10 +1,10 @@
 use Rattle.std.proofs.Common.{rules, arith, drop, [], map as mapped, ◌≡◌, refl, sym, ◌∙◌, ap}
 use Rattle.std.proofs.lemmas.List.{drop_all}
-use Rattle.smithy_schema.specs.Site.{site_of, element_of, value_of}
-use Rattle.smithy_schema.specs.Value.{nesting}
+use Rattle.smithy_shapes.specs.Site.{site_of, element_of, value_of}
+use Rattle.smithy_shapes.specs.Value.{nesting}
 use Rattle.smithy_transcode.specs.Private.Tree.{entry_views, member_views, entries, entries_left, part_view, union_value_view}
 use Rattle.smithy_transcode.specs.Private.ValueTest.{test_view}
-use Rattle.smithy_schema.proofs.Inner.{inner_element, inner_value}
+use Rattle.smithy_shapes.proofs.Inner.{inner_element, inner_value}
 use Rattle.smithy_transcode.proofs.ValuesPass as passing
 use Rattle.smithy_schema.proofs.WrittenLists as lists
 use Rattle.smithy_transcode.proofs.Maps as maps

@@ -2,11 +2,11 @@ use Rattle.std.proofs.Common.{◌≡◌, [], rules, ◌∙◌, get_or, pos, to_z
 use Rattle.std.specs.Int.{w128}
 use Rattle.std.proofs.lemmas.Result.{err_from_is_err_and}
 use Rattle.std.proofs.lemmas.List.{drop_all}
-use Rattle.smithy_schema.specs.Site.{site_of}
+use Rattle.smithy_shapes.specs.Site.{site_of}
 use Rattle.smithy_schema.specs.Writing.{end_list}
 use Rattle.smithy_transcode.specs.Private.Tree.{whole_value, whole_values}
 use Rattle.smithy_schema.proofs.WritingLemmas.{call_made, call_refused}
-use Rattle.smithy_schema.proofs.Inner.{inner_element}
+use Rattle.smithy_shapes.proofs.Inner.{inner_element}
 use Rattle.smithy_schema.proofs.WrittenLists as lists
 use Rattle.smithy_transcode.proofs.WriteAnswers.{called, had_not_failed, has_not_failed, first_fails, later_fails, last_called}
 use Rattle.smithy_transcode.proofs.writing.write_whole_numbers.Goals as goal

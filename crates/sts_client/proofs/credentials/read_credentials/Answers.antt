@@ -1,7 +1,7 @@
 use Rattle.std.proofs.Common.{refl}
 use Rattle.std.proofs.lemmas.Result.{err_from_is_err_and}
 use Rattle.smithy_schema.specs.Consuming.{reader}
-use Rattle.smithy_schema.specs.Site.{site_of}
+use Rattle.smithy_shapes.specs.Site.{site_of}
 use Rattle.smithy_schema.proofs.ReadFields.{fields_read, fields_refused}
 use Rattle.sts_client.specs.Shapes.{credentials_targets, credentials_fields}
 use Rattle.sts_client.proofs.credentials.read_credentials.Goals as goal

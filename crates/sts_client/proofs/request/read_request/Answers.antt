@@ -1,7 +1,7 @@
 use Rattle.std.proofs.Common.{refl}
 use Rattle.std.proofs.lemmas.Result.{err_from_is_err_and}
 use Rattle.smithy_schema.specs.Consuming.{reader}
-use Rattle.smithy_schema.specs.Site.{site_of, kind_at}
+use Rattle.smithy_shapes.specs.Site.{site_of, kind_at}
 use Rattle.smithy_schema.proofs.ReadContainers.{structure_has_members}
 use Rattle.smithy_schema.proofs.ReadFields.{members_read, members_refused}
 use Rattle.sts_client.specs.Shapes.{request_fields}

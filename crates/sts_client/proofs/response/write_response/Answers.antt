@@ -1,4 +1,4 @@
-use Rattle.smithy_schema.specs.Site.{site_of}
+use Rattle.smithy_shapes.specs.Site.{site_of}
 use Rattle.smithy_schema.specs.Fields.{members_at}
 use Rattle.smithy_schema.proofs.WrittenFields.{structure_runs}
 use Rattle.sts_client.specs.Shapes.{response_fields}

@@ -1,4 +1,4 @@
-use Rattle.smithy_schema.specs.Site.{site_of}
+use Rattle.smithy_shapes.specs.Site.{site_of}
 use Rattle.protocol_rows.proofs.OpenLemmas.{text_leaves}
 use Rattle.protocol_rows.proofs.input.InputSerializableStruct.serialize_members.Goals as goal
 

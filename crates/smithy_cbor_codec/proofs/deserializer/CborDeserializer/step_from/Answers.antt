@@ -1,6 +1,6 @@
 use Rattle.std.proofs.Common.{◌≡◌, arith, ap, ◌∙◌}
 use Rattle.smithy_schema.specs.declared.error.SerdeError.TheVariants.{InvalidInput}
-use Rattle.smithy_schema.specs.Site.{site_of, kind_at}
+use Rattle.smithy_shapes.specs.Site.{site_of, kind_at}
 use Rattle.smithy_cbor_codec.specs.Cursor.{cursor_of, reading_settings_of}
 use Rattle.smithy_cbor_codec.specs.Standing.{mark_with}
 use Rattle.smithy_cbor_codec.specs.Private.MemberSteps.{StepsTo}

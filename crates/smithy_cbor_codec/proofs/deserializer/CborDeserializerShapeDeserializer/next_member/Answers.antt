@@ -1,7 +1,7 @@
 use Rattle.std.proofs.Common.{ℕ, ◌≡◌, subst, inl, inr}
 use Rattle.std.proofs.lemmas.Result.{IfOk-weaker}
 use Rattle.smithy_schema.specs.declared.error.SerdeError.TheVariants.{InvalidInput}
-use Rattle.smithy_schema.specs.Site.{site_of}
+use Rattle.smithy_shapes.specs.Site.{site_of}
 use Rattle.smithy_schema.specs.Reading.{depth, CannotGoOn, MatchStep, passed_to}
 use Rattle.smithy_cbor_codec.specs.Cursor.{cursor_of, reading_settings_of}
 use Rattle.smithy_cbor_codec.specs.Settings.{without_limits}

@@ -1,7 +1,7 @@
 use Rattle.std.proofs.Common.{◌≡◌, ◌≤◌, length, refl, sym, ◌∙◌, rules}
-use Rattle.smithy_schema.specs.declared.shape_type.Scalar.TheVariants as scalars
-use Rattle.smithy_schema.specs.Site.{site_of}
-use Rattle.smithy_schema.specs.Value.{decimal}
+use Rattle.smithy_shapes.specs.declared.shape_type.Scalar.TheVariants as scalars
+use Rattle.smithy_shapes.specs.Site.{site_of}
+use Rattle.smithy_shapes.specs.Value.{decimal}
 use Rattle.smithy_texts.specs.Decimal.{mantissa, net_exponent}
 use Rattle.smithy_cbor_codec.specs.Cursor.{cursor_of, reading_settings_of}
 use Rattle.smithy_cbor_codec.proofs.ScalarReads.{reads_big, answers_big}

@@ -1,6 +1,6 @@
 use Rattle.std.proofs.Common.{◌++◌, ◌∙◌, ap}
 use Rattle.smithy_texts.specs.Decimal.{mantissa, net_exponent}
-use Rattle.smithy_schema.specs.Site.{site_of}
+use Rattle.smithy_shapes.specs.Site.{site_of}
 use Rattle.smithy_schema.specs.Writing.{big_decimal_of, after_value}
 use Rattle.smithy_cbor.specs.Written.{decimal_fraction_bytes}
 use Rattle.smithy_cbor_codec.specs.Serializing.{state_of}

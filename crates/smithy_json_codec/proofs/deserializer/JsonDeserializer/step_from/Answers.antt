@@ -1,7 +1,7 @@
 use Rattle.std.proofs.Common.{◌≡◌, Err, false, true, arith, sym, ap, ◌∙◌, refl, rules}
 use Rattle.smithy_schema.specs.declared.error.SerdeError.TheVariants.{TooDeep}
 use Rattle.smithy_schema.specs.Reading.{depth}
-use Rattle.smithy_schema.specs.Site.{site_of, kind_at}
+use Rattle.smithy_shapes.specs.Site.{site_of, kind_at}
 use Rattle.smithy_json_codec.specs.Cursor.{cursor_of, reading_settings_of}
 use Rattle.smithy_json_codec.specs.Settings.{without_limits}
 use Rattle.smithy_json_codec.specs.Private.MemberSteps.{StepsTo, passing}

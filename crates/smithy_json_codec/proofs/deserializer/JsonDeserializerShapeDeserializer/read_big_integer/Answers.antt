@@ -1,7 +1,7 @@
 use Rattle.std.proofs.Common.{◌≡◌, ◌≤◌, length, refl, sym, ◌∙◌, rules}
-use Rattle.smithy_schema.specs.declared.shape_type.Scalar.TheVariants as scalars
-use Rattle.smithy_schema.specs.Site.{site_of}
-use Rattle.smithy_schema.specs.Value.{whole}
+use Rattle.smithy_shapes.specs.declared.shape_type.Scalar.TheVariants as scalars
+use Rattle.smithy_shapes.specs.Site.{site_of}
+use Rattle.smithy_shapes.specs.Value.{whole}
 use Rattle.smithy_texts.specs.Numeral.{number}
 use Rattle.smithy_json_codec.specs.Cursor.{cursor_of, reading_settings_of}
 use Rattle.smithy_json_codec.specs.NumberText.{NumberTextLies}

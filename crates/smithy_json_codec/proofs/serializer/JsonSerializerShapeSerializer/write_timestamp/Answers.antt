@@ -1,6 +1,6 @@
 use Rattle.std.proofs.Common.{◌≡◌, Some, Ok, false, ◌∙◌, ap, subst, sym}
 use Rattle.std.specs.Prelude.{OnOk}
-use Rattle.smithy_schema.specs.Site.{site_of}
+use Rattle.smithy_shapes.specs.Site.{site_of}
 use Rattle.smithy_schema.specs.Writing.{after_value}
 use Rattle.smithy_json_codec.specs.Canonical.{in_form}
 use Rattle.smithy_json_codec.specs.Serializing.{state_of}

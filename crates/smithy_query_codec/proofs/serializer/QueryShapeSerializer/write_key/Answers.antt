@@ -1,5 +1,5 @@
 use Rattle.std.proofs.Common.{◌≡◌, List, map, true, ap, subst, sym}
-use Rattle.smithy_schema.specs.Site.{site_of}
+use Rattle.smithy_shapes.specs.Site.{site_of}
 use Rattle.smithy_schema.specs.Writing.{Open, after_text}
 use Rattle.smithy_wire.specs.OpenContainers.{opens_of}
 use Rattle.smithy_query_codec.specs.Writing.{has_room}

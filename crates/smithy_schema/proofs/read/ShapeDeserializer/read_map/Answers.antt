@@ -1,6 +1,6 @@
 use Rattle.std.proofs.Common.{refl, ◌∙◌}
 use Rattle.std.proofs.lemmas.Result.{err_from_is_err_and}
-use Rattle.smithy_schema.specs.Site.{site_of}
+use Rattle.smithy_shapes.specs.Site.{site_of}
 use Rattle.smithy_schema.specs.Consuming.{reader, unopened, entered, refused, stopped, ended}
 use Rattle.smithy_schema.proofs.ConsumingLemmas.{was_sound, was_due, opening_refused, entry_refused, began, went_on, onto_by, taken_whole, less_left, none_due}
 use Rattle.smithy_schema.proofs.read.ShapeDeserializer.read_map.Goals as goal

@@ -1,4 +1,4 @@
-use Rattle.smithy_schema.specs.Site.{site_of}
+use Rattle.smithy_shapes.specs.Site.{site_of}
 use Rattle.smithy_schema.specs.Consuming.{reader, by_key}
 use Rattle.smithy_schema.proofs.ConsumingLemmas.{InEntries, left_in}
 use Rattle.smithy_schema.proofs.read.ShapeDeserializer.read_map.Given as goal

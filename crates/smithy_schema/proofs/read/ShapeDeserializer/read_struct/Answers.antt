@@ -1,6 +1,6 @@
 use Rattle.std.proofs.Common.{◌∙◌}
 use Rattle.std.proofs.lemmas.Result.{err_from_is_err_and}
-use Rattle.smithy_schema.specs.Site.{site_of}
+use Rattle.smithy_shapes.specs.Site.{site_of}
 use Rattle.smithy_schema.specs.Consuming.{reader, unopened, entered, refused, stopped, ended}
 use Rattle.smithy_schema.proofs.ConsumingLemmas.{was_sound, was_due, opening_refused, member_refused, began, went_on, stepped, to_entry, to_end, onto_member, cleared_input, cleared_outer, taken_whole, less_behind}
 use Rattle.smithy_schema.proofs.read.ShapeDeserializer.read_struct.Goals as goal

@@ -1,4 +1,4 @@
-use Rattle.smithy_schema.specs.Site.{site_of}
+use Rattle.smithy_shapes.specs.Site.{site_of}
 use Rattle.smithy_schema.specs.Consuming.{reader, by_member}
 use Rattle.smithy_schema.proofs.ConsumingLemmas.{InEntries, left_past}
 use Rattle.smithy_schema.proofs.read.ShapeDeserializer.read_struct.Given as goal

@@ -1,7 +1,7 @@
 -- Answers on structures.
 use Rattle.std.proofs.Common.{Some, refl, sym, ◌∙◌}
 use Rattle.std.proofs.lemmas.Result.{err_from_is_err_and}
-use Rattle.smithy_schema.specs.Site.{site_of}
+use Rattle.smithy_shapes.specs.Site.{site_of}
 use Rattle.smithy_schema.specs.Reading.{child_value, child_unknown}
 use Rattle.smithy_schema.proofs.ReadContainers.{left_falls, structure_has_members}
 use Rattle.smithy_schema.proofs.ReadStructures.{member_child, structure_contains}

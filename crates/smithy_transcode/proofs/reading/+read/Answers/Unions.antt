@@ -1,7 +1,7 @@
 -- Answers on unions.
 use Rattle.std.proofs.Common.{refl, sym, ◌∙◌}
 use Rattle.std.proofs.lemmas.Result.{err_from_is_err_and}
-use Rattle.smithy_schema.specs.Site.{site_of}
+use Rattle.smithy_shapes.specs.Site.{site_of}
 use Rattle.smithy_schema.proofs.ReadUnions.{union_contains, union_has_members}
 use Rattle.smithy_transcode.proofs.ReadAnswers.{obeyed, open_fails}
 use Rattle.smithy_transcode.proofs.HalfRead.{goes_no_further, ends_whole}

@@ -1,8 +1,8 @@
 use Rattle.std.proofs.Common.{◌≡◌, ◌≢◌, arith, rules, refl, Some, string_bytes}
 use Rattle.std.proofs.lemmas.Result.{err_from_is_err_and}
-use Rattle.smithy_schema.specs.declared.shape_type.Scalar.TheVariants as scalars
-use Rattle.smithy_schema.specs.Site.{site_of}
-use Rattle.smithy_schema.specs.Value.{text, whole, list, values_of}
+use Rattle.smithy_shapes.specs.declared.shape_type.Scalar.TheVariants as scalars
+use Rattle.smithy_shapes.specs.Site.{site_of}
+use Rattle.smithy_shapes.specs.Value.{text, whole, list, values_of}
 use Rattle.smithy_schema.specs.Fields.{passed, broke}
 use Rattle.smithy_schema.proofs.ReadFields.{filled_field, field_taken}
 use Rattle.sts_client.specs.Shapes.{request_fields, IsRequest, tag_values}

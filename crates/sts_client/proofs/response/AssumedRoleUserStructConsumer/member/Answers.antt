@@ -1,9 +1,9 @@
 use Rattle.std.proofs.Common.{◌≡◌, ◌≢◌, arith, rules, refl, sym, Some, string_bytes}
-use Rattle.smithy_schema.specs.declared.shape_type.Scalar.TheVariants as scalars
-use Rattle.smithy_schema.specs.Site.{site_of}
-use Rattle.smithy_schema.specs.Value.{text}
+use Rattle.smithy_shapes.specs.declared.shape_type.Scalar.TheVariants as scalars
+use Rattle.smithy_shapes.specs.Site.{site_of}
+use Rattle.smithy_shapes.specs.Value.{text}
 use Rattle.smithy_schema.specs.Fields.{passed}
-use Rattle.smithy_schema.specs.Lemmas.Options.{same_some}
+use Rattle.smithy_shapes.specs.Lemmas.Options.{same_some}
 use Rattle.smithy_schema.proofs.ReadFields.{filled_field, target_of}
 use Rattle.sts_client.specs.Shapes.{user_targets, user_fields}
 use Rattle.sts_client.proofs.ShapeFacts.{second}

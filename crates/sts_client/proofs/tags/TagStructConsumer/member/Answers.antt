@@ -1,8 +1,8 @@
 use Rattle.std.proofs.Common.{◌≡◌, ◌≢◌, arith, rules, refl, Some, string_bytes}
 use Rattle.std.proofs.lemmas.Result.{err_from_is_err_and}
-use Rattle.smithy_schema.specs.declared.shape_type.Scalar.TheVariants as scalars
-use Rattle.smithy_schema.specs.Site.{site_of}
-use Rattle.smithy_schema.specs.Value.{text}
+use Rattle.smithy_shapes.specs.declared.shape_type.Scalar.TheVariants as scalars
+use Rattle.smithy_shapes.specs.Site.{site_of}
+use Rattle.smithy_shapes.specs.Value.{text}
 use Rattle.smithy_schema.specs.Fields.{passed}
 use Rattle.smithy_schema.proofs.ReadFields.{took_scalar, broke_scalar}
 use Rattle.sts_client.specs.Shapes.{tag_targets, tag_fields}

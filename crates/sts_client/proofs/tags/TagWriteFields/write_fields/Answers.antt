@@ -1,6 +1,6 @@
 use Rattle.std.proofs.Common.{[], ◌∷◌}
 use Rattle.std.proofs.lemmas.Result.{err_from_is_err_and}
-use Rattle.smithy_schema.specs.Site.{site_of}
+use Rattle.smithy_shapes.specs.Site.{site_of}
 use Rattle.smithy_schema.proofs.WrittenFields.{first_field, field_fails, last_field}
 use Rattle.sts_client.specs.Shapes.{text_field}
 use Rattle.sts_client.proofs.tags.TagWriteFields.write_fields.Goals as goal

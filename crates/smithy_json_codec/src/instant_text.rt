@@ -1,0 +1,24 @@
+//! The text of an instant that is written.
+ghost use Rattle.std.specs.Prelude.{◌≡◌, Some, false, IfOk, IfErr, IsErrOf, string_bytes};
+ghost use Rattle.smithy_instants.specs.WrittenDate.{date_text};
+ghost use Rattle.smithy_schema.specs.Reading.{IsFault};
+ghost use Rattle.smithy_shapes.specs.TimeForms.{format_of, form_writes};
+ghost use Rattle.smithy_shapes.specs.Value.{instant};
+ghost use Rattle.smithy_schema.specs.declared.error.SerdeError.TheVariants.{Unwritable, Failed};
+
+use smithy_schema::{SerdeError, TimestampFormat};
+use smithy_types::{DateTime, DateTimeFormatError};
+use std::alloc::Global;
+
+// The text of an instant in a form: `Unwritable` where the form can't write it.
+pub(crate) fn instant_text(alloc: Global, form: TimestampFormat, value: &DateTime) -> Result<String, SerdeError>
+    ensures ok { IfOk result (λ text. date_text (format_of form) value.now ≡ Some (string_bytes text)) }
+    ensures refused { IfErr result (λ e. IsFault e → (e ≡ Unwritable) × (form_writes form (instant value.now) ≡ false)) }
+    ensures sound { IsErrOf result Failed → ⊥ }
+{
+    match value.fmt(alloc, form.format()) {
+        Ok(text) => Ok(text),
+        Err(DateTimeFormatError::OutOfRange) => Err(SerdeError::Unwritable),
+        Err(DateTimeFormatError::NoMemory) => Err(SerdeError::NoMemory),
+    }
+}

@@ -1,0 +1,23 @@
+mod StandardFacts
+mod OnLiterals
+mod Closed
+mod Positions
+mod TableTextLemmas
+mod OrderLemmas
+mod AcceptanceLemmas
+mod BuildLemmas
+mod AcceptedLemmas
+mod NameLemmas
+pub mod ChildLemmas
+pub mod DocumentLemmas
+pub mod NestingLemmas
+pub mod NamedLemmas
+pub mod SiteLemmas
+mod MembersLemmas
+pub mod ScalarLemmas
+pub mod TimeFormLemmas
+pub mod InstantLemmas
+pub mod InstantTexts
+pub mod TargetLemmas
+-- containers that are half read, from the contract alone
+pub mod Inner

@@ -1,0 +1,85 @@
+//! Which words are reserved, which are time forms, and which can stand in the path of a form.
+ghost use Rattle.std.specs.Prelude.{◌≡◌};
+ghost use Rattle.smithy_shapes.specs.Names.{simple_targets, time_formats, named, is_float_name, is_reserved, is_name_byte, is_query_name};
+
+use crate::place::Target;
+use crate::shape_type::{Scalar, TimestampFormat};
+
+/// The target of that name that no declaration gives: a scalar, or a document.
+pub(crate) fn simple_target(name: &str) -> Option<Target>
+    ensures { result ≡ named simple_targets name.now }
+{
+    if name == "boolean" {
+        Some(Target::Simple(Scalar::Boolean))
+    } else if name == "byte" {
+        Some(Target::Simple(Scalar::Byte))
+    } else if name == "short" {
+        Some(Target::Simple(Scalar::Short))
+    } else if name == "integer" {
+        Some(Target::Simple(Scalar::Integer))
+    } else if name == "long" {
+        Some(Target::Simple(Scalar::Long))
+    } else if name == "string" {
+        Some(Target::Simple(Scalar::String))
+    } else if name == "blob" {
+        Some(Target::Simple(Scalar::Blob))
+    } else if name == "timestamp" {
+        Some(Target::Simple(Scalar::Timestamp))
+    } else if name == "bigInteger" {
+        Some(Target::Simple(Scalar::BigInteger))
+    } else if name == "bigDecimal" {
+        Some(Target::Simple(Scalar::BigDecimal))
+    } else if name == "document" {
+        Some(Target::Document)
+    } else {
+        None
+    }
+}
+
+/// The name is that of a scalar that no table can have.
+pub(crate) fn is_float_name(name: &str) -> bool
+    ensures { result ≡ is_float_name name.now }
+{
+    name == "float" || name == "double"
+}
+
+/// The time form of that word.
+pub(crate) fn time_format_of(word: &str) -> Option<TimestampFormat>
+    ensures { result ≡ named time_formats word.now }
+{
+    if word == "epoch-seconds" {
+        Some(TimestampFormat::EpochSeconds)
+    } else if word == "date-time" {
+        Some(TimestampFormat::DateTime)
+    } else if word == "http-date" {
+        Some(TimestampFormat::HttpDate)
+    } else {
+        None
+    }
+}
+
+/// No declaration may have the name.
+pub(crate) fn is_reserved(name: &str) -> bool
+    ensures { result ≡ is_reserved name.now }
+{
+    simple_target(name).is_some() || is_float_name(name)
+}
+
+/// The name can stand in the path of a form.
+pub(crate) fn is_query_name(name: &str) -> bool
+    ensures { result ≡ is_query_name name.now }
+{
+    for byte in name.as_bytes() {
+        if !is_name_byte(*byte) {
+            return false;
+        }
+    }
+    !name.is_empty()
+}
+
+// An ASCII letter or digit, `_`, `-` or `:`.
+fn is_name_byte(byte: u8) -> bool
+    ensures { result ≡ is_name_byte byte }
+{
+    byte.is_ascii_alphanumeric() || byte == b'_' || byte == b'-' || byte == b':'
+}
