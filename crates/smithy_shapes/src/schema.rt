@@ -159,8 +159,8 @@ impl<'a> Schema<'a> {
         }
     }
 
-    // The elements of a list.
-    pub(crate) fn element(&self) -> Option<Schema<'a>>
+    /// The elements of a list.
+    pub fn element(&self) -> Option<Schema<'a>>
         ensures { option_map site_of result ≡ element_site (site_of self.now) }
     {
         let shapes = self.shapes;
