@@ -1,11 +1,11 @@
 //! Moves of a walk, one after another, and a refusal.
 
 use smithy_schema::SerdeError;
-use smithy_wire::{Frame, Mark, Walk, Within};
+use smithy_wire::{ContainerKind, Frame, Mark, Walk};
 use std::test::Fail;
 
 const LIST: Frame = Frame {
-    within: Within::List,
+    within: ContainerKind::List,
     mark: Mark {
         entered: false,
         at_end: false,
@@ -14,7 +14,7 @@ const LIST: Frame = Frame {
 };
 
 const MAP: Frame = Frame {
-    within: Within::Map,
+    within: ContainerKind::Map,
     mark: Mark {
         entered: true,
         at_end: false,
@@ -35,7 +35,7 @@ fn a_map_is_entered_inside_a_list_and_left(rt: HostRuntime) -> Result<(), Fail> 
     );
     walk.leave(3);
     assert!(rt;
-        matches!(walk.inner.within, Within::List),
+        matches!(walk.inner.within, ContainerKind::List),
         "then the list is"
     );
     assert!(rt; walk.depth() == 1, "which is open still");

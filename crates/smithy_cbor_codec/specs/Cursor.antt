@@ -1,6 +1,6 @@
 -- What a CBOR reader tells of itself.
 use Rattle.std.specs.Prelude.{ℕ, Option}
-use Rattle.smithy_schema.specs.Reading.{Cursor, Frame, Within, in_structure}
+use Rattle.smithy_schema.specs.Reading.{Cursor, Frame, ContainerKind, in_structure}
 use Rattle.smithy_cbor_codec.specs.declared.deserializer.CborDeserializer.{CborDeserializer}
 use Rattle.smithy_cbor_codec.specs.Codec.{held_settings}
 use Rattle.smithy_cbor_codec.specs.Settings.{Settings}
@@ -16,7 +16,7 @@ abbrev pub reading_settings_of : CborDeserializer → Settings
 reading_settings_of d = held_settings d.settings
 
 -- what a reader keeps of an open container, with how many entries are due where that is told
-abbrev pub inside_of : Within → Option ℕ → Frame
+abbrev pub inside_of : ContainerKind → Option ℕ → Frame
 inside_of within due = record { within = within; mark = mark_with due }
 
 -- what a reader keeps of the structure as which an empty input is read

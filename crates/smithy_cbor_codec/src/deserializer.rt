@@ -12,7 +12,7 @@ use crate::settings::Settings;
 use crate::values::{blob_at, boolean_at, long_at, skipped_end, string_at};
 use smithy_schema::{Schema, SerdeError, ShapeDeserializer, Step};
 use smithy_types::{BigDecimal, BigInteger, Blob, DateTime, Document};
-use smithy_wire::{Walk, Within, byte_found, integer_found, short_found};
+use smithy_wire::{ContainerKind, Walk, byte_found, integer_found, short_found};
 use std::alloc::{AllocError, Global};
 
 /// A strict reader of one CBOR item.
@@ -72,7 +72,7 @@ impl ShapeDeserializer for CborDeserializer<'_> {
     ghost lifted = { λ c. cbor_relations (without_limits c) };
 
     // The one maker gives settings of which all that is said of the lifted relations holds.
-    ghost is_strict = { λ _. Unit {0} };
+    ghost tells_without_limits = { λ _. Unit {0} };
 
     ghost lawful = { λ c. cbor_is_lawful (keep_limits c) };
 
@@ -104,9 +104,10 @@ impl ShapeDeserializer for CborDeserializer<'_> {
             return self.walk.enter(0, missing());
         }
         match map_at(self.walk.input, self.walk.position) {
-            Some(opening) => self
-                .walk
-                .enter(opening.inside, frame(Within::Structure, opening.due)),
+            Some(opening) => self.walk.enter(
+                opening.inside,
+                frame(ContainerKind::Structure, opening.due),
+            ),
             None => Err(self.walk.refuse(SerdeError::InvalidInput)),
         }
     }
@@ -120,7 +121,7 @@ impl ShapeDeserializer for CborDeserializer<'_> {
         ensures ok { (cursor_of self.old).due ≡ false → IfOk result (λ step. MatchStep step (cbor_relations (reading_settings_of self.old)) (cursor_of self.old) (cursor_of self.new) (site_of schema.now)) }
         ensures refused { IsRefused result → (cursor_of self.old).due ≡ false
             → CannotGoOn (cbor_relations (reading_settings_of self.old)) (cursor_of self.old) schema.now.shapes.now schema.now.place }
-        ensures would { Unit {0} → IsInvalid result → (cursor_of self.old).due ≡ false
+        ensures none_without_limits { Unit {0} → IsInvalid result → (cursor_of self.old).due ≡ false
             → CannotGoOn (cbor_relations (without_limits (reading_settings_of self.old))) (cursor_of self.old) schema.now.shapes.now schema.now.place }
         ensures unread { (cursor_of self.old).due ≡ true
             → IfOk result (λ step. (e : ℕ) × (cbor_relations (reading_settings_of self.old)).skips (cursor_of self.old).input (depth (cursor_of self.old)) (cursor_of self.old).at e × MatchStep step (cbor_relations (reading_settings_of self.old)) (passed_to (cursor_of self.old) e) (cursor_of self.new) (site_of schema.now)) }
@@ -157,7 +158,7 @@ impl ShapeDeserializer for CborDeserializer<'_> {
         match array_at(self.walk.input, self.walk.position) {
             Some(opening) => self
                 .walk
-                .enter(opening.inside, frame(Within::List, opening.due)),
+                .enter(opening.inside, frame(ContainerKind::List, opening.due)),
             None => Err(self.walk.refuse(SerdeError::InvalidInput)),
         }
     }
@@ -176,7 +177,7 @@ impl ShapeDeserializer for CborDeserializer<'_> {
         ) {
             Some(EntryOrEnd::Entry(due)) => {
                 let at = self.walk.position;
-                self.walk.go_on(at, frame(Within::List, due));
+                self.walk.go_on(at, frame(ContainerKind::List, due));
                 Ok(true)
             }
             Some(EntryOrEnd::End(end)) => {
@@ -195,7 +196,7 @@ impl ShapeDeserializer for CborDeserializer<'_> {
         match map_at(self.walk.input, self.walk.position) {
             Some(opening) => self
                 .walk
-                .enter(opening.inside, frame(Within::Map, opening.due)),
+                .enter(opening.inside, frame(ContainerKind::Map, opening.due)),
             None => Err(self.walk.refuse(SerdeError::InvalidInput)),
         }
     }
@@ -216,7 +217,7 @@ impl ShapeDeserializer for CborDeserializer<'_> {
         ) {
             Ok(Next::Pair(text, value, due)) => match text.into_owned(self.alloc) {
                 Ok(key) => {
-                    self.walk.go_on(value, frame(Within::Map, due));
+                    self.walk.go_on(value, frame(ContainerKind::Map, due));
                     Ok(Some(key))
                 }
                 Err(error) => Err(self.walk.refuse(SerdeError::from(error))),
@@ -242,7 +243,7 @@ impl ShapeDeserializer for CborDeserializer<'_> {
         ensures ok { null_is_due (cbor_relations (reading_settings_of self.old)) (cursor_of self.old) ≡ true → OnOk result ((cbor_relations (reading_settings_of self.old)).nulls (cursor_of self.old).input (depth (cursor_of self.old)) (cursor_of self.old).at (cursor_of self.new).at) }
         ensures passes { null_is_due (cbor_relations (reading_settings_of self.old)) (cursor_of self.old) ≡ true → OnOk result (Passes (cursor_of self.old) (cursor_of self.new)) }
         ensures refused { null_is_due (cbor_relations (reading_settings_of self.old)) (cursor_of self.old) ≡ true → IsRefused result → NullsNot (cbor_relations (reading_settings_of self.old)) (cursor_of self.old) }
-        ensures would { Unit {0} → null_is_due (cbor_relations (reading_settings_of self.old)) (cursor_of self.old) ≡ true → IsInvalid result → NullsNot (cbor_relations (without_limits (reading_settings_of self.old))) (cursor_of self.old) }
+        ensures none_without_limits { Unit {0} → null_is_due (cbor_relations (reading_settings_of self.old)) (cursor_of self.old) ≡ true → IsInvalid result → NullsNot (cbor_relations (without_limits (reading_settings_of self.old))) (cursor_of self.old) }
         ensures nothing { null_is_due (cbor_relations (reading_settings_of self.old)) (cursor_of self.old) ≡ false → OnOk result (cursor_of self.new ≡ cursor_of self.old) }
 
         // Where no null is due, the call is refused.
@@ -271,7 +272,7 @@ impl ShapeDeserializer for CborDeserializer<'_> {
         ensures ok { OnOk result ((cbor_relations (reading_settings_of self.old)).skips (cursor_of self.old).input (depth (cursor_of self.old)) (cursor_of self.old).at (cursor_of self.new).at) }
         ensures passes { OnOk result (Passes (cursor_of self.old) (cursor_of self.new)) }
         ensures refused { IsRefused result → (cursor_of self.old).due ≡ true → SkipsNot (cbor_relations (reading_settings_of self.old)) (cursor_of self.old) }
-        ensures would { Unit {0} → IsInvalid result → (cursor_of self.old).due ≡ true → SkipsNot (cbor_relations (without_limits (reading_settings_of self.old))) (cursor_of self.old) }
+        ensures none_without_limits { Unit {0} → IsInvalid result → (cursor_of self.old).due ≡ true → SkipsNot (cbor_relations (without_limits (reading_settings_of self.old))) (cursor_of self.old) }
         ensures deep { IsErrOf result TooDeep → ReachesDepth (cbor_relations (reading_settings_of self.old)) (reading_settings_of self.old).max_depth (cursor_of self.old) }
         ensures limited { IsErrOf result TooDeep → (cbor_relations (reading_settings_of self.old)).limits_skips ≡ true }
 

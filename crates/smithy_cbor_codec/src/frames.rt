@@ -6,11 +6,11 @@ ghost use Rattle.smithy_cbor_codec.specs.Cursor.{inside_of, missing_frame};
 ghost use Rattle.smithy_wire.specs.Walking.{within_of, frame_of};
 
 use smithy_schema::{Schema, ShapeType};
-use smithy_wire::{Frame, Mark, Within};
+use smithy_wire::{ContainerKind, Frame, Mark};
 
 // What is kept of an open container: how many of its entries are still due, where its head tells it.
 #[inline]
-pub(crate) fn frame(within: Within, due: Option<u64>) -> Frame
+pub(crate) fn frame(within: ContainerKind, due: Option<u64>) -> Frame
     ensures { frame_of result ≡ inside_of (within_of within) due }
 {
     Frame {
@@ -42,7 +42,7 @@ pub(crate) fn missing() -> Frame
     ensures { frame_of result ≡ missing_frame }
 {
     Frame {
-        within: Within::Structure,
+        within: ContainerKind::Structure,
         mark: Mark {
             entered: false,
             at_end: true,

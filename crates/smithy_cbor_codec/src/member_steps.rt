@@ -3,7 +3,7 @@ use crate::deserializer::CborDeserializer;
 use crate::frames::{frame, is_missing};
 use crate::members::{Next, next_present, step_to};
 use smithy_schema::{Schema, SerdeError, Step};
-use smithy_wire::Within;
+use smithy_wire::ContainerKind;
 
 impl CborDeserializer<'_> {
     ghost use Rattle.std.specs.Prelude.{◌≡◌, ◌≤◌, ◌↔◌, length, IsTrue, IfOk, IsErrOf, false};
@@ -60,7 +60,7 @@ impl CborDeserializer<'_> {
         ) {
             Ok(Next::Pair(name, value, due)) => {
                 let step = step_to(schema, name.as_str());
-                self.walk.go_on(value, frame(Within::Structure, due));
+                self.walk.go_on(value, frame(ContainerKind::Structure, due));
                 Ok(step)
             }
             Ok(Next::End(end)) => {

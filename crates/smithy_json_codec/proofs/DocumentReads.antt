@@ -87,16 +87,16 @@ module _ (o : Settings) (keeps : o.limits ≡ kept) (old : Cursor) (site : Site)
   none (Err Failed) h fault = absurd h
   none (Err NoMemory) h fault = absurd fault
 
-  would : (found : Result (code.Document × ℕ) SerdeError) → Refuses found → IsInvalid found → StandsNot (json_relations (without_limits o)) old site.table at
-  would (Ok r) h fault = absurd fault
-  would (Err InvalidInput) h fault = none_lifted h.0
-  would (Err TooDeep) h fault = absurd fault
-  would (Err TooWide) h fault = absurd fault
-  would (Err NotCarried) h fault = absurd fault
-  would (Err Unsupported) h fault = absurd fault
-  would (Err Unwritable) h fault = absurd fault
-  would (Err Failed) h fault = absurd fault
-  would (Err NoMemory) h fault = absurd fault
+  none_without_limits : (found : Result (code.Document × ℕ) SerdeError) → Refuses found → IsInvalid found → StandsNot (json_relations (without_limits o)) old site.table at
+  none_without_limits (Ok r) h fault = absurd fault
+  none_without_limits (Err InvalidInput) h fault = none_lifted h.0
+  none_without_limits (Err TooDeep) h fault = absurd fault
+  none_without_limits (Err TooWide) h fault = absurd fault
+  none_without_limits (Err NotCarried) h fault = absurd fault
+  none_without_limits (Err Unsupported) h fault = absurd fault
+  none_without_limits (Err Unwritable) h fault = absurd fault
+  none_without_limits (Err Failed) h fault = absurd fault
+  none_without_limits (Err NoMemory) h fault = absurd fault
 
   deep : (found : Result (code.Document × ℕ) SerdeError) → Refuses found → IsErrOf found TooDeep → ReachesDepth (json_relations o) o.max_depth old
   deep found h is = (rw is at h).1
@@ -115,7 +115,7 @@ module _ (o : Settings) (keeps : o.limits ≡ kept) (old : Cursor) (site : Site)
         takes_document (json_relations o) (json_relations (without_limits o)) (Unit {0}) o.max_depth site (lawful o) old sound due within new found result
         (if_ok found _ _ (λ r here. value_stands o old.input (depth old) old.at site.table at refl (document_view r.0) r.1
         (subst (λ l. DocumentStands l (depth old) old.input old.at (document_view r.0) r.1) kept_limit here)) stands)
-        (kind found refuses) (none found refuses) (would found refuses) (deep found refuses) (λ is. refl) (cause found refuses)
+        (kind found refuses) (none found refuses) (none_without_limits found refuses) (deep found refuses) (λ is. refl) (cause found refuses)
 
 -- ---- why none was read
 

@@ -1,6 +1,6 @@
 -- What a JSON reader tells of itself.
 use Rattle.std.specs.Prelude.{Bool, None, false}
-use Rattle.smithy_schema.specs.Reading.{Cursor, Frame, Within, in_structure}
+use Rattle.smithy_schema.specs.Reading.{Cursor, Frame, ContainerKind, in_structure}
 use Rattle.smithy_json_codec.specs.declared.deserializer.JsonDeserializer.{JsonDeserializer}
 use Rattle.smithy_json_codec.specs.Codec.{held_settings}
 use Rattle.smithy_json_codec.specs.Settings.{Settings}
@@ -16,7 +16,7 @@ abbrev pub reading_settings_of : JsonDeserializer → Settings
 reading_settings_of d = held_settings d.settings
 
 -- what a reader keeps of an open container, in which an entry has come or not
-abbrev pub inside_of : Within → Bool → Frame
+abbrev pub inside_of : ContainerKind → Bool → Frame
 inside_of within entered = record {
   within = within;
   mark = record { entered = entered; at_end = false; due = None };

@@ -14,7 +14,7 @@ use crate::values::{begins_null, boolean_at, long_at};
 use smithy_json_tokens::container_size;
 use smithy_schema::{Schema, SerdeError, ShapeDeserializer, Step};
 use smithy_types::{BigDecimal, BigInteger, Blob, DateTime, Document};
-use smithy_wire::{Walk, Within, byte_found, integer_found, short_found};
+use smithy_wire::{ContainerKind, Walk, byte_found, integer_found, short_found};
 use std::alloc::{AllocError, Global};
 
 /// A strict reader of one JSON text.
@@ -92,7 +92,7 @@ impl ShapeDeserializer for JsonDeserializer<'_> {
     ghost lifted = { λ c. json_relations (without_limits c) };
 
     // The one maker gives settings of which all that is said of the lifted relations holds.
-    ghost is_strict = { λ _. Unit {0} };
+    ghost tells_without_limits = { λ _. Unit {0} };
 
     ghost lawful = { λ c. json_is_lawful (keep_limits c) };
 
@@ -124,7 +124,9 @@ impl ShapeDeserializer for JsonDeserializer<'_> {
             return self.walk.enter(0, missing());
         }
         match byte_end(self.walk.input, self.walk.position, b'{') {
-            Some(inside) => self.walk.enter(inside, frame(Within::Structure, false)),
+            Some(inside) => self
+                .walk
+                .enter(inside, frame(ContainerKind::Structure, false)),
             None => Err(self.walk.refuse(SerdeError::InvalidInput)),
         }
     }
@@ -138,7 +140,7 @@ impl ShapeDeserializer for JsonDeserializer<'_> {
         ensures ok { (cursor_of self.old).due ≡ false → IfOk result (λ step. MatchStep step (json_relations (reading_settings_of self.old)) (cursor_of self.old) (cursor_of self.new) (site_of schema.now)) }
         ensures refused { IsRefused result → (cursor_of self.old).due ≡ false
             → CannotGoOn (json_relations (reading_settings_of self.old)) (cursor_of self.old) schema.now.shapes.now schema.now.place }
-        ensures would { Unit {0} → IsInvalid result → (cursor_of self.old).due ≡ false
+        ensures none_without_limits { Unit {0} → IsInvalid result → (cursor_of self.old).due ≡ false
             → CannotGoOn (json_relations (without_limits (reading_settings_of self.old))) (cursor_of self.old) schema.now.shapes.now schema.now.place }
         ensures unread { (cursor_of self.old).due ≡ true
             → IfOk result (λ step. (e : ℕ) × (json_relations (reading_settings_of self.old)).skips (cursor_of self.old).input (depth (cursor_of self.old)) (cursor_of self.old).at e × MatchStep step (json_relations (reading_settings_of self.old)) (passed_to (cursor_of self.old) e) (cursor_of self.new) (site_of schema.now)) }
@@ -170,7 +172,7 @@ impl ShapeDeserializer for JsonDeserializer<'_> {
     fn open_list(&mut self, _schema: &Schema<'_>) -> Result<(), SerdeError> {
         self.walk.ready()?;
         match byte_end(self.walk.input, self.walk.position, b'[') {
-            Some(inside) => self.walk.enter(inside, frame(Within::List, false)),
+            Some(inside) => self.walk.enter(inside, frame(ContainerKind::List, false)),
             None => Err(self.walk.refuse(SerdeError::InvalidInput)),
         }
     }
@@ -189,7 +191,7 @@ impl ShapeDeserializer for JsonDeserializer<'_> {
             self.walk.depth(),
         ) {
             Some(InList::Element(at)) => {
-                self.walk.go_on(at, frame(Within::List, true));
+                self.walk.go_on(at, frame(ContainerKind::List, true));
                 Ok(true)
             }
             Some(InList::End(end)) => {
@@ -203,7 +205,7 @@ impl ShapeDeserializer for JsonDeserializer<'_> {
     fn open_map(&mut self, _schema: &Schema<'_>) -> Result<(), SerdeError> {
         self.walk.ready()?;
         match byte_end(self.walk.input, self.walk.position, b'{') {
-            Some(inside) => self.walk.enter(inside, frame(Within::Map, false)),
+            Some(inside) => self.walk.enter(inside, frame(ContainerKind::Map, false)),
             None => Err(self.walk.refuse(SerdeError::InvalidInput)),
         }
     }
@@ -227,7 +229,7 @@ impl ShapeDeserializer for JsonDeserializer<'_> {
                 name.has_escape,
             ) {
                 Ok(key) => {
-                    self.walk.go_on(name.end, frame(Within::Map, true));
+                    self.walk.go_on(name.end, frame(ContainerKind::Map, true));
                     Ok(Some(key))
                 }
                 Err(error) => Err(self.walk.refuse(error)),
@@ -254,7 +256,7 @@ impl ShapeDeserializer for JsonDeserializer<'_> {
         ensures ok { null_is_due (json_relations (reading_settings_of self.old)) (cursor_of self.old) ≡ true → OnOk result ((json_relations (reading_settings_of self.old)).nulls (cursor_of self.old).input (depth (cursor_of self.old)) (cursor_of self.old).at (cursor_of self.new).at) }
         ensures passes { null_is_due (json_relations (reading_settings_of self.old)) (cursor_of self.old) ≡ true → OnOk result (Passes (cursor_of self.old) (cursor_of self.new)) }
         ensures refused { null_is_due (json_relations (reading_settings_of self.old)) (cursor_of self.old) ≡ true → IsRefused result → NullsNot (json_relations (reading_settings_of self.old)) (cursor_of self.old) }
-        ensures would { null_is_due (json_relations (reading_settings_of self.old)) (cursor_of self.old) ≡ true → IsInvalid result → NullsNot (json_relations (without_limits (reading_settings_of self.old))) (cursor_of self.old) }
+        ensures none_without_limits { null_is_due (json_relations (reading_settings_of self.old)) (cursor_of self.old) ≡ true → IsInvalid result → NullsNot (json_relations (without_limits (reading_settings_of self.old))) (cursor_of self.old) }
         ensures nothing { null_is_due (json_relations (reading_settings_of self.old)) (cursor_of self.old) ≡ false → OnOk result (cursor_of self.new ≡ cursor_of self.old) }
         ensures unasked { null_is_due (json_relations (reading_settings_of self.old)) (cursor_of self.old) ≡ false → (cursor_of self.old).failed ≡ false → IsOk result }
     {
@@ -283,7 +285,7 @@ impl ShapeDeserializer for JsonDeserializer<'_> {
         ensures ok { OnOk result ((json_relations (reading_settings_of self.old)).skips (cursor_of self.old).input (depth (cursor_of self.old)) (cursor_of self.old).at (cursor_of self.new).at) }
         ensures passes { OnOk result (Passes (cursor_of self.old) (cursor_of self.new)) }
         ensures refused { IsRefused result → (cursor_of self.old).due ≡ true → SkipsNot (json_relations (reading_settings_of self.old)) (cursor_of self.old) }
-        ensures would { IsInvalid result → (cursor_of self.old).due ≡ true → SkipsNot (json_relations (without_limits (reading_settings_of self.old))) (cursor_of self.old) }
+        ensures none_without_limits { IsInvalid result → (cursor_of self.old).due ≡ true → SkipsNot (json_relations (without_limits (reading_settings_of self.old))) (cursor_of self.old) }
         ensures deep { IsErrOf result TooDeep → ReachesDepth (json_relations (reading_settings_of self.old)) (reading_settings_of self.old).max_depth (cursor_of self.old) }
         ensures limited { IsErrOf result TooDeep → (json_relations (reading_settings_of self.old)).limits_skips ≡ true }
 

@@ -6,11 +6,11 @@ ghost use Rattle.smithy_json_codec.specs.Cursor.{inside_of, missing_frame};
 ghost use Rattle.smithy_wire.specs.Walking.{within_of, frame_of};
 
 use smithy_schema::{Schema, ShapeType};
-use smithy_wire::{Frame, Mark, Within};
+use smithy_wire::{ContainerKind, Frame, Mark};
 
 // What is kept of an open container, in which an entry has come or not.
 #[inline]
-pub(crate) fn frame(within: Within, entered: bool) -> Frame
+pub(crate) fn frame(within: ContainerKind, entered: bool) -> Frame
     ensures { frame_of result ≡ inside_of (within_of within) entered }
 {
     Frame {
@@ -35,7 +35,7 @@ pub(crate) fn missing() -> Frame
     ensures { frame_of result ≡ missing_frame }
 {
     Frame {
-        within: Within::Structure,
+        within: ContainerKind::Structure,
         mark: Mark {
             entered: false,
             at_end: true,

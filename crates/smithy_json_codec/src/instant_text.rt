@@ -11,7 +11,11 @@ use smithy_types::{DateTime, DateTimeFormatError};
 use std::alloc::Global;
 
 // The text of an instant in a form: `Unwritable` where the form can't write it.
-pub(crate) fn instant_text(alloc: Global, form: TimestampFormat, value: &DateTime) -> Result<String, SerdeError>
+pub(crate) fn instant_text(
+    alloc: Global,
+    form: TimestampFormat,
+    value: &DateTime,
+) -> Result<String, SerdeError>
     ensures ok { IfOk result (λ text. date_text (format_of form) value.now ≡ Some (string_bytes text)) }
     ensures refused { IfErr result (λ e. IsFault e → (e ≡ Unwritable) × (form_writes form (instant value.now) ≡ false)) }
     ensures sound { IsErrOf result Failed → ⊥ }

@@ -3,7 +3,7 @@ use crate::deserializer::JsonDeserializer;
 use crate::frames::{frame, is_structure};
 use crate::members::{Next, next_present, step_to};
 use smithy_schema::{Schema, SerdeError, Step};
-use smithy_wire::Within;
+use smithy_wire::ContainerKind;
 
 impl JsonDeserializer<'_> {
     ghost use Rattle.std.specs.Prelude.{◌≡◌, ◌≤◌, ◌↔◌, ◌+◌, ℕ, length, drop, IsTrue, IfOk, IsErrOf, false};
@@ -47,7 +47,7 @@ impl JsonDeserializer<'_> {
         ensures narrow { RefusesNoScalar result }
         ensures ok { IfOk result (λ step. MatchStep step (json_relations (reading_settings_of self.old)) (passed_to (cursor_of self.old) at) (cursor_of self.new) (site_of schema.now)) }
         ensures refused { IsRefused result → CannotGoOn (json_relations (reading_settings_of self.old)) (passed_to (cursor_of self.old) at) schema.now.shapes.now schema.now.place }
-        ensures would { IsInvalid result → CannotGoOn (json_relations (without_limits (reading_settings_of self.old))) (passed_to (cursor_of self.old) at) schema.now.shapes.now schema.now.place }
+        ensures none_without_limits { IsInvalid result → CannotGoOn (json_relations (without_limits (reading_settings_of self.old))) (passed_to (cursor_of self.old) at) schema.now.shapes.now schema.now.place }
         ensures deep { IsErrOf result TooDeep → (reading_settings_of self.old).max_depth ≤ depth (cursor_of self.old) + json_openers (drop at (cursor_of self.old).input) }
         ensures too_deep { IsErrOf result TooDeep
             → (q : ℕ) × (at ≤ q) × OpensTooDeep (reading_settings_of self.old).max_depth (depth (cursor_of self.old)) (cursor_of self.old).input q }
@@ -66,7 +66,8 @@ impl JsonDeserializer<'_> {
         ) {
             Ok(Next::Member(name, value)) => {
                 let step = step_to(schema, self.settings, name.as_str());
-                self.walk.go_on(value, frame(Within::Structure, true));
+                self.walk
+                    .go_on(value, frame(ContainerKind::Structure, true));
                 Ok(step)
             }
             Ok(Next::End(end)) => {

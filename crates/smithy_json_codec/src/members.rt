@@ -101,7 +101,7 @@ fn entry_at<'a>(
     requires shallow { depth ≤ input.settings.max_depth }
     ensures ok { IfOk result (IsEntry (passing (held_settings input.entry.settings) (site_of schema.now)) input.entry.settings.max_depth depth input.entry.bytes.now at entered) }
     ensures refused { IsRefused result → EntryMissing (NoSkipWithin input.entry.settings.max_depth depth input.entry.bytes.now) (passing (held_settings input.entry.settings) (site_of schema.now)) depth input.entry.bytes.now at entered }
-    ensures would { IsInvalid result → EntryMissing (NoSkip depth input.entry.bytes.now) (passing (held_settings input.entry.settings) (site_of schema.now)) depth input.entry.bytes.now at entered }
+    ensures none_without_limits { IsInvalid result → EntryMissing (NoSkip depth input.entry.bytes.now) (passing (held_settings input.entry.settings) (site_of schema.now)) depth input.entry.bytes.now at entered }
     ensures sound { IfErr result (λ e. e ≢ Failed) }
     ensures readable { IfErr result (λ e. e ≢ Unwritable) }
     ensures supported { IfErr result (λ e. e ≢ Unsupported) }
@@ -142,7 +142,7 @@ pub(crate) fn next_present<'a>(
     requires shallow { depth ≤ input.settings.max_depth }
     ensures ok { IfOk result (IsNext (passing (held_settings input.entry.settings) (site_of schema.now)) input.entry.settings.max_depth depth input.entry.bytes.now at entered) }
     ensures refused { IsRefused result → NothingComes (NoSkipWithin input.entry.settings.max_depth depth input.entry.bytes.now) (passing (held_settings input.entry.settings) (site_of schema.now)) input.entry.settings.max_depth depth input.entry.bytes.now at entered }
-    ensures would { IsInvalid result → NothingComes (NoSkip depth input.entry.bytes.now) (passing (held_settings input.entry.settings) (site_of schema.now)) input.entry.settings.max_depth depth input.entry.bytes.now at entered }
+    ensures none_without_limits { IsInvalid result → NothingComes (NoSkip depth input.entry.bytes.now) (passing (held_settings input.entry.settings) (site_of schema.now)) input.entry.settings.max_depth depth input.entry.bytes.now at entered }
     ensures sound { IfErr result (λ e. e ≢ Failed) }
     ensures readable { IfErr result (λ e. e ≢ Unwritable) }
     ensures supported { IfErr result (λ e. e ≢ Unsupported) }

@@ -17,8 +17,8 @@ ghost use Rattle.smithy_json_codec.specs.Codec.{held_settings};
 ghost use Rattle.smithy_json_codec.specs.Serializing.{state_of, has_failed};
 ghost use Rattle.smithy_json_codec.specs.Writing.{JsonState, fresh_state, is_key_due, lead, wrote, key_wrote, opened, where_taken, json_after};
 
-use crate::instants::form_at;
 use crate::instant_text::instant_text;
+use crate::instants::form_at;
 use crate::output::{
     push_base64, push_comma, push_key, push_name, push_quoted, push_whole_document,
 };

@@ -141,7 +141,7 @@ pub(crate) fn skipped_end(input: Input<'_>, at: usize, depth: usize) -> Result<u
     ensures supported { IfErr result (λ e. e ≢ Unsupported) }
     ensures narrow { IfErr result (λ e. (e ≢ TooWide) × (e ≢ NotCarried)) }
     ensures refused { OnErr result ((e : ℕ) → SkipsTo input.entry.settings.max_depth depth input.entry.bytes.now at e → ⊥) }
-    ensures would { IsInvalid result → (greatest e : ℕ) → SkipsTo greatest depth input.entry.bytes.now at e → ⊥ }
+    ensures none_without_limits { IsInvalid result → (greatest e : ℕ) → SkipsTo greatest depth input.entry.bytes.now at e → ⊥ }
     ensures deep { IsErrOf result TooDeep → input.entry.settings.max_depth ≤ depth + json_openers (drop at input.entry.bytes.now) }
     ensures too_deep { IsErrOf result TooDeep → OpensTooDeep input.entry.settings.max_depth depth input.entry.bytes.now at }
 {
@@ -161,7 +161,7 @@ fn container_end(input: Input<'_>, at: usize, depth: usize) -> Result<usize, Ser
     ensures supported { IfErr result (λ e. e ≢ Unsupported) }
     ensures narrow { IfErr result (λ e. (e ≢ TooWide) × (e ≢ NotCarried)) }
     ensures refused { OnErr result ((e : ℕ) → SkipsTo input.entry.settings.max_depth depth input.entry.bytes.now at e → ⊥) }
-    ensures would { IsInvalid result → (greatest e : ℕ) → SkipsTo greatest depth input.entry.bytes.now at e → ⊥ }
+    ensures none_without_limits { IsInvalid result → (greatest e : ℕ) → SkipsTo greatest depth input.entry.bytes.now at e → ⊥ }
     ensures deep { IsErrOf result TooDeep → input.entry.settings.max_depth ≤ depth + json_openers (drop at input.entry.bytes.now) }
     ensures too_deep { IsErrOf result TooDeep → OpensTooDeep input.entry.settings.max_depth depth input.entry.bytes.now at }
 {

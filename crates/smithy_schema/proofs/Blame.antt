@@ -28,16 +28,16 @@ of_wire r outer laws = record {
 
 -- no such value at all
 abbrev pub IsInvalidBody : Reader → SerdeError → Type 0
-IsInvalidBody r e = r.is_strict × (e ≡ InvalidInput)
+IsInvalidBody r e = r.tells_without_limits × (e ≡ InvalidInput)
 
 -- and that of the ones without limits
 pub of_lifted : (r : Reader) (outer : Site) → IsLawful r.lifted → IsBelow r.wire r.lifted → Speaks r r.lifted (IsInvalidBody r) outer
 of_lifted r outer laws below = record {
   laws = laws;
   below = below;
-  opening = λ c e why blame due allowed. why.would blame.0 blame.1 due;
-  entry = λ c e why blame none. why.would blame.0 blame.1 none;
-  member = λ c e why blame from cleared. why.would blame.0 blame.1 from cleared;
+  opening = λ c e why blame due allowed. why.none_without_limits blame.0 blame.1 due;
+  entry = λ c e why blame none. why.none_without_limits blame.0 blame.1 none;
+  member = λ c e why blame from cleared. why.none_without_limits blame.0 blame.1 from cleared;
 }
 
 -- no container stands where none opens

@@ -7,7 +7,7 @@ use Rattle.smithy_shapes.specs.Table.{Table, IsStructure, kind_of}
 use Rattle.smithy_schema.specs.declared.read.Step.{Step}
 use Rattle.smithy_schema.specs.declared.read.Step.TheVariants.{Member as to_member_step, Unknown, End}
 use Rattle.smithy_shapes.specs.Site.{Site}
-use Rattle.smithy_schema.specs.Reading.{Cursor, Relations, Within, Frame, depth, Enters, Steps, Leaves, CannotGoOn, OpensNot, ReachesDepth, Conducts, RefusesNoScalar, IsNoAnswer, IsRefused, IsInvalid, IsOfCursor, IsBehind, IsLawful, MatchStep, passed_to}
+use Rattle.smithy_schema.specs.Reading.{Cursor, Relations, ContainerKind, Frame, depth, Enters, Steps, Leaves, CannotGoOn, OpensNot, ReachesDepth, Conducts, RefusesNoScalar, IsNoAnswer, IsRefused, IsInvalid, IsOfCursor, IsBehind, IsLawful, MatchStep, passed_to}
 use Rattle.smithy_schema.specs.Consuming.{Reader, Call, Rests, IsTaken, Cleared, nothing_due, skipped, Route, Along, went, RefusesOpening, RefusesMember, RefusesEntry, ToMember, ToEnd, IsMemberOf, site_in}
 
 -- ---- refusals
@@ -56,16 +56,16 @@ was_due false h = absurd (h refl)
 pub opening_refused : (r : Reader) (site : Site) (old new : Cursor) (e : SerdeError) → Conducts {A = Unit {0}} old new (Err e) → RefusesNoScalar {A = Unit {0}} (Err e)
     → (old.due ≡ false → IsNoAnswer {A = Unit {0}} (Err e))
     → (IsRefused {A = Unit {0}} (Err e) → old.due ≡ true → r.wire.allows (depth old) → OpensNot r.wire old site.table site.place)
-    → (r.is_strict → IsInvalid {A = Unit {0}} (Err e) → old.due ≡ true → OpensNot r.lifted old site.table site.place)
+    → (r.tells_without_limits → IsInvalid {A = Unit {0}} (Err e) → old.due ≡ true → OpensNot r.lifted old site.table site.place)
     → (IsInvalid {A = Unit {0}} (Err e) → old.due ≡ true → OpensNot r.wire old site.table site.place)
     → (IsErrOf {T = Unit {0}} (Err e) TooDeep → depth old ≡ r.max_depth)
     → (IsErrOf {T = Unit {0}} (Err e) TooDeep → OpensNot r.wire old site.table site.place → ⊥)
     → RefusesOpening r site old e
-opening_refused r site old new e conduct narrow undue refused would invalid deepest deep = record {
+opening_refused r site old new e conduct narrow undue refused none_without_limits invalid deepest deep = record {
   failed = (λ h. conduct.failed.0 (is_error _ e Failed h), λ h. same_error _ e Failed (conduct.failed.1 h));
   undue = undue;
   refused = refused;
-  would = λ strict h. would strict (is_invalid (Unit {0}) e h);
+  none_without_limits = λ strict h. none_without_limits strict (is_invalid (Unit {0}) e h);
   invalid = λ h. invalid (is_invalid (Unit {0}) e h);
   deepest = λ h. deepest (is_error _ e TooDeep h);
   deep = λ h. deep (is_error _ e TooDeep h);
@@ -77,13 +77,13 @@ pub entry_refused : (A : Type 0) (r : Reader) (site : Site) (old new : Cursor) (
     → (IsErrOf {T = A} (Err e) TooDeep → ⊥)
     → (old.due ≡ true → IsNoAnswer {A = A} (Err e))
     → (IsRefused {A = A} (Err e) → old.due ≡ false → CannotGoOn r.wire old site.table site.place)
-    → (r.is_strict → IsInvalid {A = A} (Err e) → old.due ≡ false → CannotGoOn r.lifted old site.table site.place)
+    → (r.tells_without_limits → IsInvalid {A = A} (Err e) → old.due ≡ false → CannotGoOn r.lifted old site.table site.place)
     → RefusesEntry r site old e
-entry_refused A r site old new e conduct narrow shallow unread refused would = record {
+entry_refused A r site old new e conduct narrow shallow unread refused none_without_limits = record {
   failed = (λ h. conduct.failed.0 (is_error _ e Failed h), λ h. same_error _ e Failed (conduct.failed.1 h));
   unread = λ due. no_answer A e (unread due);
   refused = refused;
-  would = λ strict h. would strict (is_invalid A e h);
+  none_without_limits = λ strict h. none_without_limits strict (is_invalid A e h);
   shallow = λ h. shallow (is_error _ e TooDeep h);
   narrow = of_cursor _ old new e conduct narrow;
 }
@@ -199,7 +199,7 @@ opened i j a b c e same P (inr at) up more within =
     inr (omega (arith, is, end, long, up, more, within), omega (arith, is, end, long, up, more, within))
 
 -- the container ended: it was taken whole
-pub taken_whole : {S K C : Type 0} (w : Relations) → IsLawful w → (max : ℕ) (t : Table) (p : Place) (k : Within) (route : Route K) (call : Call K C) (settings now : S) (first s : C) (old start c from new : Cursor)
+pub taken_whole : {S K C : Type 0} (w : Relations) → IsLawful w → (max : ℕ) (t : Table) (p : Place) (k : ContainerKind) (route : Route K) (call : Call K C) (settings now : S) (first s : C) (old start c from new : Cursor)
     → Enters w max old start t p k → InEntries route call settings first start now s c
     → from.input ≡ c.input → from.outer ≡ c.outer → Leaves w from new t p → c.at ≤ new.at → new.at ≤ length new.input
     → IsTaken old new
@@ -310,15 +310,15 @@ cannot_from w old from site (skipped e due skips) here behind = behind due e ski
 
 pub member_refused : (A : Type 0) (r : Reader) (site : Site) (old new : Cursor) (e : SerdeError) → Conducts {A = A} old new (Err e) → RefusesNoScalar {A = A} (Err e)
     → (IsRefused {A = A} (Err e) → old.due ≡ false → CannotGoOn r.wire old site.table site.place)
-    → (r.is_strict → IsInvalid {A = A} (Err e) → old.due ≡ false → CannotGoOn r.lifted old site.table site.place)
+    → (r.tells_without_limits → IsInvalid {A = A} (Err e) → old.due ≡ false → CannotGoOn r.lifted old site.table site.place)
     → (IsRefused {A = A} (Err e) → old.due ≡ true → (a : ℕ) → r.wire.skips old.input (depth old) old.at a → CannotGoOn r.wire (passed_to old a) site.table site.place)
-    → (r.is_strict → IsInvalid {A = A} (Err e) → old.due ≡ true → (a : ℕ) → r.lifted.skips old.input (depth old) old.at a → CannotGoOn r.lifted (passed_to old a) site.table site.place)
+    → (r.tells_without_limits → IsInvalid {A = A} (Err e) → old.due ≡ true → (a : ℕ) → r.lifted.skips old.input (depth old) old.at a → CannotGoOn r.lifted (passed_to old a) site.table site.place)
     → (IsErrOf {T = A} (Err e) TooDeep → ReachesDepth r.wire r.max_depth old)
     → RefusesMember r site old e
-member_refused A r site old new e conduct narrow refused would unread_refused unread_would deep = record {
+member_refused A r site old new e conduct narrow refused none_without_limits unread_refused unread_would deep = record {
   failed = (λ h. conduct.failed.0 (is_error A e Failed h), λ h. same_error A e Failed (conduct.failed.1 h));
   refused = λ fault from cleared. cannot_from r.wire old from site cleared (refused fault) (unread_refused fault);
-  would = λ strict h from cleared. cannot_from r.lifted old from site cleared (would strict (is_invalid A e h)) (unread_would strict (is_invalid A e h));
+  none_without_limits = λ strict h from cleared. cannot_from r.lifted old from site cleared (none_without_limits strict (is_invalid A e h)) (unread_would strict (is_invalid A e h));
   deep = λ h. deep (is_error A e TooDeep h);
   narrow = of_cursor A old new e conduct narrow;
 }

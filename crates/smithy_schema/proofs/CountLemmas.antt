@@ -6,7 +6,7 @@ use Rattle.smithy_schema.specs.declared.read.Step.TheVariants.{Member as ToMembe
 use Rattle.smithy_shapes.specs.Table.{Table}
 use Rattle.smithy_shapes.specs.Value.{Value}
 use Rattle.smithy_shapes.specs.Site.{Site}
-use Rattle.smithy_schema.specs.Reading.{Cursor, depth, Relations, Within, CountsOpeners, Passes, Reads, Enters, Steps, Leaves, MatchStep, IsCounted, ReachesDepth, failed_at, passed_to}
+use Rattle.smithy_schema.specs.Reading.{Cursor, depth, Relations, ContainerKind, CountsOpeners, Passes, Reads, Enters, Steps, Leaves, MatchStep, IsCounted, ReachesDepth, failed_at, passed_to}
 
 -- a fresh reader
 pub starts_counted : (w : Relations) (c : Cursor) → c.at ≡ 0 → depth c ≡ 0 → IsCounted w c
@@ -53,7 +53,7 @@ module _ (w : Relations) (counts : CountsOpeners w) where
       let less = counts.skip_takes_none old.input (depth old) old.at e skips in
       omega (arith, before, less)
 
-  pub entry_counted : (max : ℕ) (old new : Cursor) (t : Table) (p : Place) (k : Within) → Enters w max old new t p k → IsCounted w old → IsCounted w new
+  pub entry_counted : (max : ℕ) (old new : Cursor) (t : Table) (p : Place) (k : ContainerKind) → Enters w max old new t p k → IsCounted w old → IsCounted w new
   entry_counted max old new t p k enters =
       counted_by w old new enters.input
       (λ full.

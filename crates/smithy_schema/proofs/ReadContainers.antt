@@ -5,11 +5,11 @@ use Rattle.smithy_shapes.specs.Table.{Table, Kind, structure_of, union_of, kind_
 use Rattle.smithy_shapes.specs.Value.{Value}
 use Rattle.smithy_shapes.specs.Container.{container_of}
 use Rattle.smithy_shapes.specs.Lemmas.Options.{same_some}
-use Rattle.smithy_schema.specs.Reading.{Cursor, Within, depth, Relations, Mark, Child, child_value, child_unknown, child_null, entry_of, named, IsChild, Chain, Contains, IsLawful, IsBelow, Passes, Reads, Enters, Steps, Leaves, CannotGoOn}
+use Rattle.smithy_schema.specs.Reading.{Cursor, ContainerKind, depth, Relations, Mark, Child, child_value, child_unknown, child_null, entry_of, named, IsChild, Chain, Contains, IsLawful, IsBelow, Passes, Reads, Enters, Steps, Leaves, CannotGoOn}
 
 -- From s0, where a container of the place was due, the reader came to s inside it. The container is
 -- worth `worth xs` where these children follow.
-pub record InContainer (w u : Relations) (max : ℕ) (s0 s : Cursor) (t : Table) (p : Place) (k : Within) (worth : List Child → Option Value) : Type 0 where
+pub record InContainer (w u : Relations) (max : ℕ) (s0 s : Cursor) (t : Table) (p : Place) (k : ContainerKind) (worth : List Child → Option Value) : Type 0 where
   pub input : s.input ≡ s0.input
   pub within : s.inner.within ≡ k
   pub outer : s.outer ≡ s0.inner ∷ s0.outer
@@ -22,7 +22,7 @@ pub record InContainer (w u : Relations) (max : ℕ) (s0 s : Cursor) (t : Table)
   pub only : (e : ℕ) (v : Value) → u.stands s0.input t p (depth s0) s0.at v e → (xs : List Child) × Chain u s0.input t p (suc (depth s0)) s.at s.inner.mark xs e × (worth xs ≡ Some v)
 
 -- a child_value's worth by another function that agrees
-pub worth_as : (w u : Relations) (max : ℕ) (s0 s : Cursor) (t : Table) (p : Place) (k : Within) (f g : List Child → Option Value) → ((xs : List Child) → f xs ≡ g xs) → InContainer w u max s0 s t p k f → InContainer w u max s0 s t p k g
+pub worth_as : (w u : Relations) (max : ℕ) (s0 s : Cursor) (t : Table) (p : Place) (k : ContainerKind) (f g : List Child → Option Value) → ((xs : List Child) → f xs ≡ g xs) → InContainer w u max s0 s t p k f → InContainer w u max s0 s t p k g
 worth_as w u max s0 s t p k f g same inside = record {
   input = inside.input;
   within = inside.within;
@@ -51,7 +51,7 @@ itself w = record {
 moved : (w : Relations) (i : List ℕ) (t : Table) (p : Place) (d b c : ℕ) (m n : Mark) (xs : List Child) (e : ℕ) → b ≡ c → m ≡ n → Chain w i t p d b m xs e → Chain w i t p d c n xs e
 moved w i t p d b c m n xs e here mark chain = subst (λ x. Chain w i t p d c x xs e) mark (subst (λ x. Chain w i t p d x m xs e) here chain)
 
-pub begin : (w u : Relations) (max : ℕ) → IsLawful w → IsLawful u → IsBelow w u → (s0 s : Cursor) (t : Table) (p : Place) (k : Within) → IsContainer (kind_of t p) → Enters w max s0 s t p k
+pub begin : (w u : Relations) (max : ℕ) → IsLawful w → IsLawful u → IsBelow w u → (s0 s : Cursor) (t : Table) (p : Place) (k : ContainerKind) → IsContainer (kind_of t p) → Enters w max s0 s t p k
     → InContainer w u max s0 s t p k (λ xs. container_of (kind_of t p) (map entry_of xs))
 begin w u max laws over below s0 s t p k kind enters = record {
   input = enters.input;
@@ -139,11 +139,11 @@ child_above w u below i t p d key (child_null k) c f h = (h.0, h.1, below.nulls 
 child_above w u below i t p d key (child_unknown k) c f h = (h.0, h.1, sym (named_above w u below t p key) ∙ h.2, below.skips i d c f h.3)
 
 -- the step and the child, as they stand in the container that began at s0
-abbrev stepped : (w u : Relations) (max : ℕ) (s0 s s1 : Cursor) (t : Table) (p : Place) (k : Within) (worth : List Child → Option Value) (key : Option (List ℕ)) → InContainer w u max s0 s t p k worth → Steps w s s1 t p key
+abbrev stepped : (w u : Relations) (max : ℕ) (s0 s s1 : Cursor) (t : Table) (p : Place) (k : ContainerKind) (worth : List Child → Option Value) (key : Option (List ℕ)) → InContainer w u max s0 s t p k worth → Steps w s s1 t p key
     → w.steps s0.input t p (suc (depth s0)) s.at s.inner.mark key s1.at s1.inner.mark
 stepped w u max s0 s s1 t p k worth key inside steps = rw (inside.input, inside.outer) at steps.steps
 
-pub child_read : (w u : Relations) (max : ℕ) → IsLawful u → IsBelow w u → (s0 s s1 s2 : Cursor) (t : Table) (p : Place) (k : Within) (worth : List Child → Option Value) (key : Option (List ℕ)) (x : Child)
+pub child_read : (w u : Relations) (max : ℕ) → IsLawful u → IsBelow w u → (s0 s s1 s2 : Cursor) (t : Table) (p : Place) (k : ContainerKind) (worth : List Child → Option Value) (key : Option (List ℕ)) (x : Child)
     → InContainer w u max s0 s t p k worth → Steps w s s1 t p key → IsChild w s1.input t p (depth s1) key x s1.at s2.at → Passes s1 s2
     → InContainer w u max s0 s2 t p k (λ xs. worth (x ∷ xs))
 child_read w u max over below s0 s s1 s2 t p k worth key x inside steps child passes =
@@ -168,7 +168,7 @@ child_read w u max over below s0 s s1 s2 t p k worth key x inside steps child pa
     }
 
 -- the container ends
-pub end : (w u : Relations) (max : ℕ) (s0 s s1 : Cursor) (t : Table) (p : Place) (k : Within) (worth : List Child → Option Value) (v : Value) → InContainer w u max s0 s t p k worth → Leaves w s s1 t p → worth [] ≡ Some v → Reads w s0 s1 t p v
+pub end : (w u : Relations) (max : ℕ) (s0 s s1 : Cursor) (t : Table) (p : Place) (k : ContainerKind) (worth : List Child → Option Value) (v : Value) → InContainer w u max s0 s t p k worth → Leaves w s s1 t p → worth [] ≡ Some v → Reads w s0 s1 t p v
 end w u max s0 s s1 t p k worth v inside leaves folds = record {
   stands = inside.rest [] s1.at v (rw (inside.input, inside.outer) at leaves.closes) folds;
   passes = record {
@@ -186,7 +186,7 @@ stuck_at w i t p d b m [] e chain none = none.1 e chain
 stuck_at w i t p d b m (x ∷ xs) e chain none = none.0 chain.0 chain.1 chain.2 chain.4
 
 -- nothing stands where the reader can't go on
-pub stuck : (w u : Relations) (max : ℕ) (s0 s : Cursor) (t : Table) (p : Place) (k : Within) (worth : List Child → Option Value) → InContainer w u max s0 s t p k worth → CannotGoOn u s t p
+pub stuck : (w u : Relations) (max : ℕ) (s0 s : Cursor) (t : Table) (p : Place) (k : ContainerKind) (worth : List Child → Option Value) → InContainer w u max s0 s t p k worth → CannotGoOn u s t p
     → (v : Value) (e : ℕ) → u.stands s0.input t p (depth s0) s0.at v e → ⊥
 stuck w u max s0 s t p k worth inside cannot v e stands =
     let found = inside.only e v stands in
@@ -194,7 +194,7 @@ stuck w u max s0 s t p k worth inside cannot v e stands =
     (rw (inside.input, inside.outer) at cannot)
 
 -- nothing stands where the child behind a step can't be read
-pub no_child : (w u : Relations) (max : ℕ) → IsLawful u → IsBelow w u → (s0 s s1 : Cursor) (t : Table) (p : Place) (k : Within) (worth : List Child → Option Value) (key : Option (List ℕ))
+pub no_child : (w u : Relations) (max : ℕ) → IsLawful u → IsBelow w u → (s0 s s1 : Cursor) (t : Table) (p : Place) (k : ContainerKind) (worth : List Child → Option Value) (key : Option (List ℕ))
     → InContainer w u max s0 s t p k worth → Steps w s s1 t p key → ((x : Child) (f : ℕ) → IsChild u s1.input t p (depth s1) key x s1.at f → ⊥)
     → (v : Value) (e : ℕ) → u.stands s0.input t p (depth s0) s0.at v e → ⊥
 no_child w u max over below s0 s s1 t p k worth key inside steps none v e stands =
@@ -207,7 +207,7 @@ none_is_some : {A : Type 0} (o : Option A) (v : A) → o ≡ None → o ≡ Some
 none_is_some o v none some = cc
 
 -- nothing stands where no child behind a step makes a container
-pub no_worth : (w u : Relations) (max : ℕ) → IsLawful u → IsBelow w u → (s0 s s1 : Cursor) (t : Table) (p : Place) (k : Within) (worth : List Child → Option Value) (key : Option (List ℕ))
+pub no_worth : (w u : Relations) (max : ℕ) → IsLawful u → IsBelow w u → (s0 s s1 : Cursor) (t : Table) (p : Place) (k : ContainerKind) (worth : List Child → Option Value) (key : Option (List ℕ))
     → InContainer w u max s0 s t p k worth → Steps w s s1 t p key
     → ((x : Child) (f : ℕ) → IsChild u s1.input t p (depth s1) key x s1.at f → (xs : List Child) → worth (x ∷ xs) ≡ None)
     → (v : Value) (e : ℕ) → u.stands s0.input t p (depth s0) s0.at v e → ⊥
@@ -222,7 +222,7 @@ no_children w laws i t p d b m [] e f closes chain = refl
 no_children w laws i t p d b m (x ∷ xs) e f closes chain = absurd (laws.step_or_close i t p d b m chain.0 chain.1 chain.2 f chain.4 closes)
 
 -- nothing stands where the container ends too early
-pub ends_early : (w u : Relations) (max : ℕ) → IsLawful u → IsBelow w u → (s0 s s1 : Cursor) (t : Table) (p : Place) (k : Within) (worth : List Child → Option Value)
+pub ends_early : (w u : Relations) (max : ℕ) → IsLawful u → IsBelow w u → (s0 s s1 : Cursor) (t : Table) (p : Place) (k : ContainerKind) (worth : List Child → Option Value)
     → InContainer w u max s0 s t p k worth → Leaves w s s1 t p → worth [] ≡ None
     → (v : Value) (e : ℕ) → u.stands s0.input t p (depth s0) s0.at v e → ⊥
 ends_early w u max over below s0 s s1 t p k worth inside leaves none v e stands =
@@ -232,7 +232,7 @@ ends_early w u max over below s0 s s1 t p k worth inside leaves none v e stands 
     none_is_some (worth found.0) v (ap worth empty ∙ none) found.2
 
 -- the loop over children ends
-pub left_falls : (w u : Relations) (max : ℕ) → IsLawful w → (s0 s s1 s2 : Cursor) (t : Table) (p : Place) (k : Within) (worth : List Child → Option Value) (key : Option (List ℕ)) (x : Child)
+pub left_falls : (w u : Relations) (max : ℕ) → IsLawful w → (s0 s s1 s2 : Cursor) (t : Table) (p : Place) (k : ContainerKind) (worth : List Child → Option Value) (key : Option (List ℕ)) (x : Child)
     → InContainer w u max s0 s t p k worth → Steps w s s1 t p key → IsChild w s1.input t p (depth s1) key x s1.at s2.at → Passes s1 s2
     → w.left s2.input s2.at s2.inner.mark < w.left s.input s.at s.inner.mark
 left_falls w u max laws s0 s s1 s2 t p k worth key x inside steps child passes =

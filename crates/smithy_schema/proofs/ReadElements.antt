@@ -10,7 +10,7 @@ use Rattle.smithy_shapes.specs.Table.{Kind, ListShape, list_of, place_in, scalar
 use Rattle.smithy_shapes.specs.Site.{Site, kind_at, inner_site}
 use Rattle.smithy_shapes.specs.Value.{ScalarValue, Value, scalar_value}
 use Rattle.smithy_shapes.specs.Lemmas.Options.{same_some}
-use Rattle.smithy_schema.specs.Reading.{Cursor, Within, Relations, depth, in_list, IsLawful, IsBelow, Reads, ReadsScalar, StandsNot, IsFault, IsInvalid, failed_at}
+use Rattle.smithy_schema.specs.Reading.{Cursor, ContainerKind, Relations, depth, in_list, IsLawful, IsBelow, Reads, ReadsScalar, StandsNot, IsFault, IsInvalid, failed_at}
 use Rattle.smithy_schema.specs.Consuming.{Reader, Call, Route, Along, ended, refused as stops, stopped, went, Consumes, unopened, entered, by_element}
 use Rattle.smithy_schema.specs.Elements.{IsListOf, ReadsElement, put, refused, no_room, no_memory, read, broke, ReadsList}
 use Rattle.smithy_schema.proofs.ConsumingLemmas.{same_error}
@@ -30,7 +30,7 @@ along_through part Keeps route call seen through s t c d result keeps (went {t =
     let one = through k s u f g (Ok tt) keeps called in
     went k goes one.0 rests (along_through part Keeps route call seen through u t g d result one.1 more)
 
-pub consumes_through : {K C D : Type 0} (part : C → D) (Keeps : C → Type 0) (r : Reader) (site : Site) (within : Within) (route : Route K) (call : Call K C) (seen : Call K D)
+pub consumes_through : {K C D : Type 0} (part : C → D) (Keeps : C → Type 0) (r : Reader) (site : Site) (within : ContainerKind) (route : Route K) (call : Call K C) (seen : Call K D)
     → ((k : K) (s t : C) (c d : Cursor) (result : Result (Unit {0}) SerdeError) → Keeps s → call k s c result t d → seen k (part s) c result (part t) d × Keeps t)
     → (s t : C) (c d : Cursor) (result : Result (Unit {0}) SerdeError) → Keeps s → Consumes r site within route call s c result t d → Consumes r site within route seen (part s) c result (part t) d
 consumes_through part Keeps r site within route call seen through s t c d result keeps (unopened why) = unopened why
@@ -100,7 +100,7 @@ module _ {A : Type 0} (s : Scalar) (scalar : A → ScalarValue) (r : Reader) (ou
   taken within q place xs ys d f result (no_room x reads) = tt
 
   none_there : (u : Relations) (Blames : SerdeError → Type 0) → (Blames NoMemory → ⊥)
-      → ((d f : Cursor) (e : SerdeError) → ReadsScalar {A = A} r.wire r.lifted r.is_strict d f inner s scalar (Err e) → Blames e → d.due ≡ true → StandsNot u d inner.table (scalar_place s inner.place.time))
+      → ((d f : Cursor) (e : SerdeError) → ReadsScalar {A = A} r.wire r.lifted r.tells_without_limits d f inner s scalar (Err e) → Blames e → d.due ≡ true → StandsNot u d inner.table (scalar_place s inner.place.time))
       → Inner s outer inner → (q : Place) → place_in (kind_at outer) None ≡ Some q
       → (xs ys : List A) (d f : Cursor) (result : Result (Unit {0}) SerdeError) → ReadsElement s scalar r inner xs d result ys f → (e : SerdeError) → result ≡ Err e → Blames e → d.due ≡ true
       → NoElement r u outer q d
@@ -167,7 +167,7 @@ module _ {A : Type 0} (s : Scalar) (scalar : A → ScalarValue) (r : Reader) (ou
           let within = inner_of s outer inner of is in
           list_read r outer laws within.is_list call values (λ q place xs zs d f called due. taken within q place xs zs d f (Ok tt) called) [] ys c g (Ok tt) refl consumes;
       refused = λ of fault due. absurd fault;
-      would = λ of strict invalid due. absurd invalid;
+      none_without_limits = λ of strict invalid due. absurd invalid;
     }
 
     pub not_read : IsLawful r.lifted → IsBelow r.wire r.lifted → inner_site outer ≡ Some inner → (ys : List A) (c g : Cursor) (e : SerdeError) → g.failed ≡ true
@@ -182,10 +182,10 @@ module _ {A : Type 0} (s : Scalar) (scalar : A → ScalarValue) (r : Reader) (ou
           list_refused r r.wire IsFault outer (of_wire r outer laws) laws within.is_list call values (λ q place xs zs d f called was. taken within q place xs zs d f (Ok tt) called)
           (λ q place xs zs d f h called blame was. none_there r.wire IsFault (λ no. no) (λ d f h reads blame was. reads.refused blame was) within q place xs zs d f (Err h) called h refl blame was)
           [] ys c g (Err e) refl consumes e refl fault due;
-      would = λ of strict invalid due.
+      none_without_limits = λ of strict invalid due.
           let within = inner_of s outer inner of is in
           list_refused r r.lifted (IsInvalidBody r) outer (of_lifted r outer over below) laws within.is_list call values (λ q place xs zs d f called was. taken within q place xs zs d f (Ok tt) called)
-          (λ q place xs zs d f h called blame was. none_there r.lifted (IsInvalidBody r) (λ no. let h : NoMemory ≡ InvalidInput = no.1 in cc) (λ d f h reads blame was. reads.would blame.0 (subst (λ x. IsInvalid {A = A} (Err x)) (sym blame.1) tt) was)
+          (λ q place xs zs d f h called blame was. none_there r.lifted (IsInvalidBody r) (λ no. let h : NoMemory ≡ InvalidInput = no.1 in cc) (λ d f h reads blame was. reads.none_without_limits blame.0 (subst (λ x. IsInvalid {A = A} (Err x)) (sym blame.1) tt) was)
           within q place xs zs d f (Err h) called h refl blame was)
           [] ys c g (Err e) refl consumes e refl (strict, its_fault e invalid) due;
     }
@@ -201,5 +201,5 @@ module _ {A : Type 0} (s : Scalar) (scalar : A → ScalarValue) (r : Reader) (ou
       few = tt;
       ok = λ of. tt;
       refused = λ of fault was. absurd fault;
-      would = λ of strict invalid was. absurd invalid;
+      none_without_limits = λ of strict invalid was. absurd invalid;
     }

@@ -165,12 +165,12 @@ simple_place : (s : Scalar) (p : Place) → p.target ≡ Simple s → scalar_pla
 simple_place s p h = ap (λ x. let q : Place = record { target = x; time = p.time } in q) (sym h)
 
 -- so a read of its kind is one of its place
-pub read_there : {A : Type 0} (s : Scalar) (scalar : A → ScalarValue) (r : Reader) (d f : Cursor) (site : Site) (x : A) → site.place.target ≡ Simple s → ReadsScalar {A = A} r.wire r.lifted r.is_strict d f site s scalar (Ok x)
+pub read_there : {A : Type 0} (s : Scalar) (scalar : A → ScalarValue) (r : Reader) (d f : Cursor) (site : Site) (x : A) → site.place.target ≡ Simple s → ReadsScalar {A = A} r.wire r.lifted r.tells_without_limits d f site s scalar (Ok x)
     → Reads r.wire d f site.table site.place (scalar_value (scalar x))
 read_there s scalar r d f site x is reads = subst (λ p. Reads r.wire d f site.table p (scalar_value (scalar x))) (simple_place s site.place is) reads.ok
 
 pub none_read_there : {A : Type 0} (s : Scalar) (scalar : A → ScalarValue) (r : Reader) (d f : Cursor) (site : Site) (e : SerdeError) → site.place.target ≡ Simple s
-    → ReadsScalar {A = A} r.wire r.lifted r.is_strict d f site s scalar (Err e) → IsFault e → d.due ≡ true → StandsNot r.wire d site.table site.place
+    → ReadsScalar {A = A} r.wire r.lifted r.tells_without_limits d f site s scalar (Err e) → IsFault e → d.due ≡ true → StandsNot r.wire d site.table site.place
 none_read_there s scalar r d f site e is reads fault due = subst (λ p. StandsNot r.wire d site.table p) (simple_place s site.place is) (reads.refused fault due)
 
 -- the target of the member that a consumer may be called for
@@ -182,7 +182,7 @@ target_of targets site (outer, of, (n, told)) i index =
 -- a member was read as a scalar and set
 pub took_scalar : {C A : Type 0} (fields : C → List (Option Value)) (targets : List Target) (s : Scalar) (scalar : A → ScalarValue) (r : Reader) (site : Site) (before after : C) (c f : Cursor) (i : ℕ) (x : A)
     → (outer : Site) × HasTargets targets outer × IsMemberOf outer (Some site) → site.view.index ≡ Some i → slice_get targets i ≡ Some (Simple s) → i < length (fields before)
-    → fields after ≡ set_field (fields before) i (scalar_value (scalar x)) → ReadsScalar {A = A} r.wire r.lifted r.is_strict c f site s scalar (Ok x)
+    → fields after ≡ set_field (fields before) i (scalar_value (scalar x)) → ReadsScalar {A = A} r.wire r.lifted r.tells_without_limits c f site s scalar (Ok x)
     → TakesField fields r (Some site) before c (Ok tt) after f
 took_scalar fields targets s scalar r site before after c f i x allowed index target within set reads =
     let here = same_some site.place.target (Simple s) (sym (target_of targets site allowed i index) ∙ target) in
@@ -193,7 +193,7 @@ took_scalar fields targets s scalar r site before after c f i x allowed index ta
 -- a member couldn't be read as a scalar
 pub broke_scalar : {C A : Type 0} (fields : C → List (Option Value)) (targets : List Target) (s : Scalar) (scalar : A → ScalarValue) (r : Reader) (site : Site) (before after : C) (c f : Cursor) (i : ℕ) (e : SerdeError)
     → (outer : Site) × HasTargets targets outer × IsMemberOf outer (Some site) → site.view.index ≡ Some i → slice_get targets i ≡ Some (Simple s)
-    → ReadsScalar {A = A} r.wire r.lifted r.is_strict c f site s scalar (Err e) → TakesField fields r (Some site) before c (Err e) after f
+    → ReadsScalar {A = A} r.wire r.lifted r.tells_without_limits c f site s scalar (Err e) → TakesField fields r (Some site) before c (Err e) after f
 broke_scalar fields targets s scalar r site before after c f i e allowed index target reads =
     let here = same_some site.place.target (Simple s) (sym (target_of targets site allowed i index) ∙ target) in
     broke (none_read_there s scalar r c f site e here reads)

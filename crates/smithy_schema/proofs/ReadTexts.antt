@@ -94,7 +94,7 @@ module _ (r : Reader) (outer inner : Site) where
   taken within q place key es fs d f result (no_room x reads) = tt
 
   none_there : (u : Relations) (Blames : SerdeError → Type 0) → (Blames NoMemory → ⊥)
-      → ((d f : Cursor) (e : SerdeError) → ReadsScalar {A = String Global} r.wire r.lifted r.is_strict d f inner scalars.String (λ s. text (string_bytes s)) (Err e) → Blames e → d.due ≡ true
+      → ((d f : Cursor) (e : SerdeError) → ReadsScalar {A = String Global} r.wire r.lifted r.tells_without_limits d f inner scalars.String (λ s. text (string_bytes s)) (Err e) → Blames e → d.due ≡ true
       → StandsNot u d inner.table (scalar_place scalars.String inner.place.time))
       → Inner outer inner → (q : Place) → place_in (kind_at outer) None ≡ Some q
       → (key : List ℕ) (es fs : MapEntries) (d f : Cursor) (result : Result (Unit {0}) SerdeError) → ReadsEntry r inner key es d result fs f → (e : SerdeError) → result ≡ Err e → Blames e → d.due ≡ true
@@ -118,7 +118,7 @@ module _ (r : Reader) (outer inner : Site) where
           let within = inner_of outer inner of is in
           map_read r outer laws within.is_map (ReadsEntry r inner) (λ fs. fs) (λ q place key xs zs d f called due. taken within q place key xs zs d f (Ok tt) called) no_map_entries es c g (Ok tt) refl consumes;
       refused = λ of fault due. absurd fault;
-      would = λ of strict invalid due. absurd invalid;
+      none_without_limits = λ of strict invalid due. absurd invalid;
     }
 
     pub not_read : IsLawful r.lifted → IsBelow r.wire r.lifted → inner_site outer ≡ Some inner → (es : MapEntries) (c g : Cursor) (e : SerdeError) → g.failed ≡ true
@@ -132,11 +132,11 @@ module _ (r : Reader) (outer inner : Site) where
           map_refused r r.wire IsFault outer (of_wire r outer laws) laws within.is_map (ReadsEntry r inner) (λ fs. fs) (λ q place key xs zs d f called was. taken within q place key xs zs d f (Ok tt) called)
           (λ q place key xs zs d f h called blame was. none_there r.wire IsFault (λ no. no) (λ d f h reads blame was. reads.refused blame was) within q place key xs zs d f (Err h) called h refl blame was)
           no_map_entries es c g (Err e) refl consumes e refl fault due;
-      would = λ of strict invalid due.
+      none_without_limits = λ of strict invalid due.
           let within = inner_of outer inner of is in
           map_refused r r.lifted (IsInvalidBody r) outer (of_lifted r outer over below) laws within.is_map (ReadsEntry r inner) (λ fs. fs) (λ q place key xs zs d f called was. taken within q place key xs zs d f (Ok tt) called)
           (λ q place key xs zs d f h called blame was. none_there r.lifted (IsInvalidBody r) (λ no. let h : NoMemory ≡ InvalidInput = no.1 in cc)
-          (λ d f h reads blame was. reads.would blame.0 (subst (λ x. IsInvalid {A = String Global} (Err x)) (sym blame.1) tt) was) within q place key xs zs d f (Err h) called h refl blame was)
+          (λ d f h reads blame was. reads.none_without_limits blame.0 (subst (λ x. IsInvalid {A = String Global} (Err x)) (sym blame.1) tt) was) within q place key xs zs d f (Err h) called h refl blame was)
           no_map_entries es c g (Err e) refl consumes e refl (strict, its_fault e invalid) due;
     }
       where

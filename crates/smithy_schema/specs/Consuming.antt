@@ -5,18 +5,18 @@ use Rattle.smithy_schema.specs.declared.error.SerdeError.TheVariants.{InvalidInp
 use Rattle.smithy_schema.specs.declared.read.Step.{Step}
 use Rattle.smithy_schema.specs.declared.read.Step.TheVariants.{Member, Unknown, End}
 use Rattle.smithy_shapes.specs.Site.{Site, site_of, member_site}
-use Rattle.smithy_schema.specs.Reading.{Cursor, Relations, Within, depth, Passes, Enters, Steps, Leaves, CannotGoOn, OpensNot, ReachesDepth, IsFault, IsNoAnswer, IsBehind, IsOfCursor, failed_at, passed_to}
+use Rattle.smithy_schema.specs.Reading.{Cursor, Relations, ContainerKind, depth, Passes, Enters, Steps, Leaves, CannotGoOn, OpensNot, ReachesDepth, IsFault, IsNoAnswer, IsBehind, IsOfCursor, failed_at, passed_to}
 
 -- What the calls of a reader are told by: its relations with the limits kept and with the limits lifted, whether a refusal speaks
 -- of the lifted ones, and how many containers may be open.
 pub record Reader : Type 1 where
   pub wire : Relations
   pub lifted : Relations
-  pub is_strict : Type 0
+  pub tells_without_limits : Type 0
   pub max_depth : ℕ
 
 abbrev pub reader : Relations → Relations → Type 0 → ℕ → Reader
-reader w u strict max = record { wire = w; lifted = u; is_strict = strict; max_depth = max }
+reader w u strict max = record { wire = w; lifted = u; tells_without_limits = strict; max_depth = max }
 
 -- ---- what a consumer promises
 
@@ -78,7 +78,7 @@ pub record RefusesOpening (r : Reader) (site : Site) (c : Cursor) (e : SerdeErro
   pub failed : (e ≡ Failed) ↔ (c.failed ≡ true)
   pub undue : c.due ≡ false → IsNoAnswer {A = Unit {0}} (Err e)
   pub refused : IsFault e → c.due ≡ true → r.wire.allows (depth c) → OpensNot r.wire c site.table site.place
-  pub would : r.is_strict → e ≡ InvalidInput → c.due ≡ true → OpensNot r.lifted c site.table site.place
+  pub none_without_limits : r.tells_without_limits → e ≡ InvalidInput → c.due ≡ true → OpensNot r.lifted c site.table site.place
   pub invalid : e ≡ InvalidInput → c.due ≡ true → OpensNot r.wire c site.table site.place
   pub deepest : e ≡ TooDeep → depth c ≡ r.max_depth
   pub deep : e ≡ TooDeep → OpensNot r.wire c site.table site.place → ⊥
@@ -86,7 +86,7 @@ pub record RefusesOpening (r : Reader) (site : Site) (c : Cursor) (e : SerdeErro
 
 -- Where a value is due and the reader hasn't failed, the call enters the container and goes along its entries; or it is refused
 -- where it opens.
-pub data Consumes {K C : Type 0} (r : Reader) (site : Site) (within : Within) (route : Route K) (call : Call K C) : C → Cursor → Result (Unit {0}) SerdeError → C → Cursor → Type 0 where
+pub data Consumes {K C : Type 0} (r : Reader) (site : Site) (within : ContainerKind) (route : Route K) (call : Call K C) : C → Cursor → Result (Unit {0}) SerdeError → C → Cursor → Type 0 where
   unopened : {s : C} {c : Cursor} {e : SerdeError} → RefusesOpening r site c e → Consumes r site within route call s c (Err e) s (failed_at c)
   entered : {s t : C} {c d f : Cursor} {result : Result (Unit {0}) SerdeError} → c.failed ≡ false → c.due ≡ true → Enters r.wire r.max_depth c d site.table site.place within
       → Along route call s d result t f → Consumes r site within route call s c result t f
@@ -126,7 +126,7 @@ pub record ToEnd (w : Relations) (outer : Site) (old new : Cursor) : Type 0 wher
 pub record RefusesMember (r : Reader) (outer : Site) (c : Cursor) (e : SerdeError) : Type 0 where
   pub failed : (e ≡ Failed) ↔ (c.failed ≡ true)
   pub refused : IsFault e → (from : Cursor) → Cleared r.wire c from → CannotGoOn r.wire from outer.table outer.place
-  pub would : r.is_strict → e ≡ InvalidInput → (from : Cursor) → Cleared r.lifted c from → CannotGoOn r.lifted from outer.table outer.place
+  pub none_without_limits : r.tells_without_limits → e ≡ InvalidInput → (from : Cursor) → Cleared r.lifted c from → CannotGoOn r.lifted from outer.table outer.place
   pub deep : e ≡ TooDeep → ReachesDepth r.wire r.max_depth c
   pub narrow : IsOfCursor e
 
@@ -143,7 +143,7 @@ pub record RefusesEntry (r : Reader) (outer : Site) (c : Cursor) (e : SerdeError
   pub failed : (e ≡ Failed) ↔ (c.failed ≡ true)
   pub unread : c.due ≡ true → IsNoAnswer {A = Unit {0}} (Err e)
   pub refused : IsFault e → c.due ≡ false → CannotGoOn r.wire c outer.table outer.place
-  pub would : r.is_strict → e ≡ InvalidInput → c.due ≡ false → CannotGoOn r.lifted c outer.table outer.place
+  pub none_without_limits : r.tells_without_limits → e ≡ InvalidInput → c.due ≡ false → CannotGoOn r.lifted c outer.table outer.place
   pub shallow : e ≢ TooDeep
   pub narrow : IsOfCursor e
 

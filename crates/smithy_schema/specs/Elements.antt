@@ -27,9 +27,9 @@ module _ {A : Type 0} (s : Scalar) (scalar : A → ScalarValue) where
 
   -- an element is read at its site, and comes behind those so far
   pub data ReadsElement (r : Reader) (site : Site) : List A → Cursor → Result (Unit {0}) SerdeError → List A → Cursor → Type 0 where
-    put : {xs : List A} {c d : Cursor} (x : A) → ReadsScalar {A = A} r.wire r.lifted r.is_strict c d site s scalar (Ok x) → ReadsElement r site xs c (Ok tt) (xs ++ x ∷ []) d
-    refused : {xs : List A} {c d : Cursor} {e : SerdeError} → ReadsScalar {A = A} r.wire r.lifted r.is_strict c d site s scalar (Err e) → ReadsElement r site xs c (Err e) xs d
-    no_room : {xs : List A} {c d : Cursor} (x : A) → ReadsScalar {A = A} r.wire r.lifted r.is_strict c d site s scalar (Ok x) → ReadsElement r site xs c (Err NoMemory) xs d
+    put : {xs : List A} {c d : Cursor} (x : A) → ReadsScalar {A = A} r.wire r.lifted r.tells_without_limits c d site s scalar (Ok x) → ReadsElement r site xs c (Ok tt) (xs ++ x ∷ []) d
+    refused : {xs : List A} {c d : Cursor} {e : SerdeError} → ReadsScalar {A = A} r.wire r.lifted r.tells_without_limits c d site s scalar (Err e) → ReadsElement r site xs c (Err e) xs d
+    no_room : {xs : List A} {c d : Cursor} (x : A) → ReadsScalar {A = A} r.wire r.lifted r.tells_without_limits c d site s scalar (Ok x) → ReadsElement r site xs c (Err NoMemory) xs d
 
   -- The list is entered, its elements are read in turn, and it is left; any error is that of such a call, or want of memory.
   pub data InTurn (r : Reader) (outer : Site) (c : Cursor) : Result (List A) SerdeError → Cursor → Type 0 where
@@ -46,7 +46,7 @@ module _ {A : Type 0} (s : Scalar) (scalar : A → ScalarValue) where
     -- Where the place is that of such a list, its value was read; and a fault comes only where none stands there.
     pub ok : IsListOf s outer → IfOk result (λ xs. Reads r.wire old new outer.table outer.place (list_read xs))
     pub refused : IsListOf s outer → IsRefused result → old.due ≡ true → StandsNot r.wire old outer.table outer.place
-    pub would : IsListOf s outer → r.is_strict → IsInvalid result → old.due ≡ true → StandsNot r.lifted old outer.table outer.place
+    pub none_without_limits : IsListOf s outer → r.tells_without_limits → IsInvalid result → old.due ≡ true → StandsNot r.lifted old outer.table outer.place
 
 -- an answer by the items of its vector
 abbrev pub items_of : {A : Type 0} → Result (Vec A Global) SerdeError → Result (List A) SerdeError

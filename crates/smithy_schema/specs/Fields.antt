@@ -36,8 +36,8 @@ pub data TakesField {C : Type 0} (fields : C → List (Option Value)) (r : Reade
 
 -- a scalar is read into a field
 pub data FillsField {A : Type 0} (kind : Scalar) (scalar : A → ScalarValue) (r : Reader) (site : Site) : Option A → Cursor → Result (Unit {0}) SerdeError → Option A → Cursor → Type 0 where
-  filled : {old : Option A} {c d : Cursor} (x : A) → ReadsScalar {A = A} r.wire r.lifted r.is_strict c d site kind scalar (Ok x) → FillsField kind scalar r site old c (Ok tt) (Some x) d
-  refused : {old : Option A} {c d : Cursor} {e : SerdeError} → ReadsScalar {A = A} r.wire r.lifted r.is_strict c d site kind scalar (Err e) → FillsField kind scalar r site old c (Err e) old d
+  filled : {old : Option A} {c d : Cursor} (x : A) → ReadsScalar {A = A} r.wire r.lifted r.tells_without_limits c d site kind scalar (Ok x) → FillsField kind scalar r site old c (Ok tt) (Some x) d
+  refused : {old : Option A} {c d : Cursor} {e : SerdeError} → ReadsScalar {A = A} r.wire r.lifted r.tells_without_limits c d site kind scalar (Err e) → FillsField kind scalar r site old c (Err e) old d
 
 -- the calls that write the member at a position, where it is there
 abbrev pub field_events : Site → ℕ → Option Value → List Event

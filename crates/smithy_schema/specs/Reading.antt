@@ -27,15 +27,15 @@ pub record Mark : Type 0 where
   -- how many entries are still due, where that was declared
   pub due : Option ℕ
 
-pub data Within : Type 0 where
-  outside : Within
+pub data ContainerKind : Type 0 where
+  outside : ContainerKind
   -- in a structure or in a union
-  in_structure : Within
-  in_list : Within
-  in_map : Within
+  in_structure : ContainerKind
+  in_list : ContainerKind
+  in_map : ContainerKind
 
 pub record Frame : Type 0 where
-  pub within : Within
+  pub within : ContainerKind
   pub mark : Mark
 
 -- `inner` is the innermost open container, and outside of all a frame that is `outside`
@@ -362,7 +362,7 @@ EndsTooDeep w max old new t p =
     ⊎ ((q : Place) × (k : ℕ) × (depth new ≡ depth old + k) × IsInside t p k q × (depth new ≡ max) × IsContainer (kind_of t q))
 
 -- What a read of one scalar kind says of its answer: by the relations w, and by u, those with the limits lifted.
-pub record ReadsScalar {A : Type 0} (w u : Relations) (is_strict : Type 0) (old new : Cursor) (site : Site) (s : Scalar) (value : A → ScalarValue) (result : Result A SerdeError) : Type 0 where
+pub record ReadsScalar {A : Type 0} (w u : Relations) (tells_without_limits : Type 0) (old new : Cursor) (site : Site) (s : Scalar) (value : A → ScalarValue) (result : Result A SerdeError) : Type 0 where
   pub conduct : Conducts old new result
   pub shallow : IsErrOf result TooDeep → ⊥
   pub wide : IsErrOf result TooWide → Exceeds w old site.table (scalar_place s site.place.time)
@@ -370,11 +370,11 @@ pub record ReadsScalar {A : Type 0} (w u : Relations) (is_strict : Type 0) (old 
   pub undue : old.due ≡ false → IsNoAnswer result
   pub ok : IfOk result (λ x. Reads w old new site.table (scalar_place s site.place.time) (scalar_value (value x)))
   pub refused : IsRefused result → old.due ≡ true → StandsNot w old site.table (scalar_place s site.place.time)
-  pub would : is_strict → IsInvalid result → old.due ≡ true → StandsNot u old site.table (scalar_place s site.place.time)
+  pub none_without_limits : tells_without_limits → IsInvalid result → old.due ≡ true → StandsNot u old site.table (scalar_place s site.place.time)
 
 -- What a read of a document says of its answer: by the relations w, and by u, those with the limits lifted. It is too deep only
 -- where the wire limits the depth of documents, and the bytes from there on reach the greatest one, as each part is counted.
-pub record ReadsDocument (w u : Relations) (is_strict : Type 0) (max : ℕ) (old new : Cursor) (site : Site) (result : Result kept_document.Document SerdeError) : Type 0 where
+pub record ReadsDocument (w u : Relations) (tells_without_limits : Type 0) (max : ℕ) (old new : Cursor) (site : Site) (result : Result kept_document.Document SerdeError) : Type 0 where
   pub conduct : Conducts old new result
   pub deep : IsErrOf result TooDeep → ReachesDepth w max old
   pub limited : IsErrOf result TooDeep → w.limits_skips ≡ true
@@ -384,7 +384,7 @@ pub record ReadsDocument (w u : Relations) (is_strict : Type 0) (max : ℕ) (old
   pub ok : IfOk result (λ x. Reads w old new site.table (document_place site.place.time) (document_value (whole_document (document_view x))))
   pub variants : IfOk result (λ x. w.documents old.input (depth old) old.at (document_view x) new.at)
   pub refused : IsRefused result → old.due ≡ true → StandsNot w old site.table (document_place site.place.time)
-  pub would : is_strict → IsInvalid result → old.due ≡ true → StandsNot u old site.table (document_place site.place.time)
+  pub none_without_limits : tells_without_limits → IsInvalid result → old.due ≡ true → StandsNot u old site.table (document_place site.place.time)
 
 -- A read of a big number answers `TooWide` wherever one stands that leaves its limits, want of memory aside.
 abbrev pub AnswersWide : {A : Type 0} → Relations → Cursor → Site → Scalar → Result A SerdeError → Type 0
@@ -418,7 +418,7 @@ abbrev pub null_is_due : Relations → Cursor → Bool
 null_is_due w c = c.due && w.begins_null c.input c.at
 
 -- a container was entered
-pub record Enters (w : Relations) (max : ℕ) (old new : Cursor) (t : Table) (p : Place) (k : Within) : Type 0 where
+pub record Enters (w : Relations) (max : ℕ) (old new : Cursor) (t : Table) (p : Place) (k : ContainerKind) : Type 0 where
   pub shallow : depth old < max
   pub allowed : w.allows (depth old)
   pub opens : w.opens old.input t p (depth old) old.at new.at new.inner.mark

@@ -30,10 +30,10 @@ text_entries (e ∷ es) = map_entry (string_bytes e.0) (text_value e.1) (text_en
 
 -- a text is read at the site of the values, and stands at its key in place of any before
 pub data ReadsEntry (r : Reader) (site : Site) (key : List ℕ) : MapEntries → Cursor → Result (Unit {0}) SerdeError → MapEntries → Cursor → Type 0 where
-  put : {es : MapEntries} {c d : Cursor} (x : String Global) → ReadsScalar {A = String Global} r.wire r.lifted r.is_strict c d site scalars.String (λ s. text (string_bytes s)) (Ok x)
+  put : {es : MapEntries} {c d : Cursor} (x : String Global) → ReadsScalar {A = String Global} r.wire r.lifted r.tells_without_limits c d site scalars.String (λ s. text (string_bytes s)) (Ok x)
       → ReadsEntry r site key es c (Ok tt) (put_entry key (text_value x) es) d
-  refused : {es : MapEntries} {c d : Cursor} {e : SerdeError} → ReadsScalar {A = String Global} r.wire r.lifted r.is_strict c d site scalars.String (λ s. text (string_bytes s)) (Err e) → ReadsEntry r site key es c (Err e) es d
-  no_room : {es fs : MapEntries} {c d : Cursor} (x : String Global) → ReadsScalar {A = String Global} r.wire r.lifted r.is_strict c d site scalars.String (λ s. text (string_bytes s)) (Ok x)
+  refused : {es : MapEntries} {c d : Cursor} {e : SerdeError} → ReadsScalar {A = String Global} r.wire r.lifted r.tells_without_limits c d site scalars.String (λ s. text (string_bytes s)) (Err e) → ReadsEntry r site key es c (Err e) es d
+  no_room : {es fs : MapEntries} {c d : Cursor} (x : String Global) → ReadsScalar {A = String Global} r.wire r.lifted r.tells_without_limits c d site scalars.String (λ s. text (string_bytes s)) (Ok x)
       → ReadsEntry r site key es c (Err NoMemory) fs d
 
 -- the map is entered, its entries are read in turn, and it is left; any error is that of such a call
@@ -48,7 +48,7 @@ pub record ReadsTexts (r : Reader) (outer : Site) (old : Cursor) (result : Resul
   -- Where the place is that of such a map, its value was read; and a fault comes only where none stands there.
   pub ok : IsMapOfTexts outer → IfOk result (λ es. Reads r.wire old new outer.table outer.place (map es))
   pub refused : IsMapOfTexts outer → IsRefused result → old.due ≡ true → StandsNot r.wire old outer.table outer.place
-  pub would : IsMapOfTexts outer → r.is_strict → IsInvalid result → old.due ≡ true → StandsNot r.lifted old outer.table outer.place
+  pub none_without_limits : IsMapOfTexts outer → r.tells_without_limits → IsInvalid result → old.due ≡ true → StandsNot r.lifted old outer.table outer.place
 
 -- an answer by the entries of its map
 abbrev pub entries_of : Result (BTreeMap (String Global) (String Global)) SerdeError → Result MapEntries SerdeError

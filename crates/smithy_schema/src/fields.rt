@@ -10,9 +10,9 @@ ghost use Rattle.smithy_schema.specs.Fields.{FillsField, field_events, members_a
 use crate::elements::ReadScalar;
 use crate::error::SerdeError;
 use crate::read::ShapeDeserializer;
-use smithy_shapes::Schema;
 use crate::write::ShapeSerializer;
 use crate::written::{SerializableStruct, WriteElements};
+use smithy_shapes::Schema;
 use smithy_types::DateTime;
 
 /// Reads the scalar that is due into the field of its member.
@@ -22,7 +22,7 @@ pub fn read_field<T: ReadScalar + Drop, D: ShapeDeserializer>(
     field: &mut Option<T>,
 ) -> Result<(), SerdeError>
     ensures same { D.settings source.new ≡ D.settings source.old }
-    ensures fills { FillsField T.kind T.scalar (reader (D.wire (D.settings source.old)) (D.lifted (D.settings source.old)) (D.is_strict (D.settings source.old)) (D.max_depth (D.settings source.old))) (site_of member.now) field.old (D.state source.old) result field.new (D.state source.new) }
+    ensures fills { FillsField T.kind T.scalar (reader (D.wire (D.settings source.old)) (D.lifted (D.settings source.old)) (D.tells_without_limits (D.settings source.old)) (D.max_depth (D.settings source.old))) (site_of member.now) field.old (D.state source.old) result field.new (D.state source.new) }
     ensures takes { OnOk result (IsTaken (D.state source.old) (D.state source.new)) }
 {
     let value = T::read_from(source, member)?;

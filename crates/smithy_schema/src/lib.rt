@@ -21,10 +21,10 @@ pub use fields::{
 };
 pub use read::{ShapeDeserializer, Step};
 pub use sizes::capped_container_size;
+pub use smithy_shapes::{
+    Decl, MemberDecl, Members, Place, Scalar, Schema, ShapeId, ShapeRef, ShapeType, Shapes,
+    TableFault, TableText, Target, TimestampFormat,
+};
 pub use text_maps::TextEntries;
 pub use write::{FinishSerializer, ShapeSerializer};
 pub use written::{SerializableStruct, WriteElements};
-pub use smithy_shapes::{
-    Decl, MemberDecl, Members, Place, Scalar, Schema, ShapeId, ShapeRef, ShapeType, Shapes, TableFault, TableText, Target,
-    TimestampFormat,
-};

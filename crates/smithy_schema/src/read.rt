@@ -20,8 +20,8 @@ ghost use Rattle.smithy_schema.specs.TextMaps.{ReadsTexts, entries_of};
 use crate::consume::{ListConsumer, MapConsumer, StructConsumer};
 use crate::elements::read_elements;
 use crate::error::SerdeError;
-use smithy_shapes::Schema;
 use crate::text_maps::read_texts;
+use smithy_shapes::Schema;
 use smithy_types::{BigDecimal, BigInteger, Blob, DateTime, Document};
 use std::alloc::{AllocError, Global};
 use std::collections::BTreeMap;
@@ -72,7 +72,7 @@ pub trait ShapeDeserializer {
     ghost lifted: { Settings → Relations };
 
     // Under these settings a refusal by `InvalidInput` says that nothing of the kind is there with the limits lifted either.
-    ghost is_strict: { Settings → Type 0 };
+    ghost tells_without_limits: { Settings → Type 0 };
 
     // What the wire tells of the sizes of containers before they are read.
     ghost sizes: { Settings → Sizes };
@@ -101,7 +101,7 @@ pub trait ShapeDeserializer {
         ensures ok { OnOk result (Enters (wire (settings self.old)) (max_depth (settings self.old)) (state self.old) (state self.new) schema.now.shapes.now schema.now.place in_structure) }
         ensures refused { IsRefused result → (state self.old).due ≡ true → (wire (settings self.old)).allows (depth (state self.old))
             → OpensNot (wire (settings self.old)) (state self.old) schema.now.shapes.now schema.now.place }
-        ensures would { is_strict (settings self.old) → IsInvalid result → (state self.old).due ≡ true
+        ensures none_without_limits { tells_without_limits (settings self.old) → IsInvalid result → (state self.old).due ≡ true
             → OpensNot (lifted (settings self.old)) (state self.old) schema.now.shapes.now schema.now.place }
         ensures invalid { IsInvalid result → (state self.old).due ≡ true
             → OpensNot (wire (settings self.old)) (state self.old) schema.now.shapes.now schema.now.place }
@@ -120,13 +120,13 @@ pub trait ShapeDeserializer {
         ensures ok { (state self.old).due ≡ false → IfOk result (λ step. MatchStep step (wire (settings self.old)) (state self.old) (state self.new) (site_of schema.now)) }
         ensures refused { IsRefused result → (state self.old).due ≡ false
             → CannotGoOn (wire (settings self.old)) (state self.old) schema.now.shapes.now schema.now.place }
-        ensures would { is_strict (settings self.old) → IsInvalid result → (state self.old).due ≡ false
+        ensures none_without_limits { tells_without_limits (settings self.old) → IsInvalid result → (state self.old).due ≡ false
             → CannotGoOn (lifted (settings self.old)) (state self.old) schema.now.shapes.now schema.now.place }
         ensures unread { (state self.old).due ≡ true
             → IfOk result (λ step. (e : ℕ) × (wire (settings self.old)).skips (state self.old).input (depth (state self.old)) (state self.old).at e × MatchStep step (wire (settings self.old)) (passed_to (state self.old) e) (state self.new) (site_of schema.now)) }
         ensures unread_refused { IsRefused result → (state self.old).due ≡ true → (e : ℕ) → (wire (settings self.old)).skips (state self.old).input (depth (state self.old)) (state self.old).at e
             → CannotGoOn (wire (settings self.old)) (passed_to (state self.old) e) schema.now.shapes.now schema.now.place }
-        ensures unread_would { is_strict (settings self.old) → IsInvalid result → (state self.old).due ≡ true → (e : ℕ) → (lifted (settings self.old)).skips (state self.old).input (depth (state self.old)) (state self.old).at e
+        ensures unread_would { tells_without_limits (settings self.old) → IsInvalid result → (state self.old).due ≡ true → (e : ℕ) → (lifted (settings self.old)).skips (state self.old).input (depth (state self.old)) (state self.old).at e
             → CannotGoOn (lifted (settings self.old)) (passed_to (state self.old) e) schema.now.shapes.now schema.now.place }
         ensures deep { IsErrOf result TooDeep → ReachesDepth (wire (settings self.old)) (max_depth (settings self.old)) (state self.old) }
         ensures limited { IsErrOf result TooDeep → (wire (settings self.old)).limits_skips ≡ true };
@@ -141,7 +141,7 @@ pub trait ShapeDeserializer {
         ensures ok { OnOk result (Enters (wire (settings self.old)) (max_depth (settings self.old)) (state self.old) (state self.new) schema.now.shapes.now schema.now.place in_list) }
         ensures refused { IsRefused result → (state self.old).due ≡ true → (wire (settings self.old)).allows (depth (state self.old))
             → OpensNot (wire (settings self.old)) (state self.old) schema.now.shapes.now schema.now.place }
-        ensures would { is_strict (settings self.old) → IsInvalid result → (state self.old).due ≡ true
+        ensures none_without_limits { tells_without_limits (settings self.old) → IsInvalid result → (state self.old).due ≡ true
             → OpensNot (lifted (settings self.old)) (state self.old) schema.now.shapes.now schema.now.place }
         ensures invalid { IsInvalid result → (state self.old).due ≡ true
             → OpensNot (wire (settings self.old)) (state self.old) schema.now.shapes.now schema.now.place }
@@ -162,7 +162,7 @@ pub trait ShapeDeserializer {
             → IfOk result (λ b. MatchBool b (Steps (wire (settings self.old)) (state self.old) (state self.new) t p None) (Leaves (wire (settings self.old)) (state self.old) (state self.new) t p)) }
         ensures refused { IsRefused result → (state self.old).due ≡ false → (t : Table) (p : Place) → IsList (kind_of t p)
             → CannotGoOn (wire (settings self.old)) (state self.old) t p }
-        ensures would { is_strict (settings self.old) → IsInvalid result → (state self.old).due ≡ false → (t : Table) (p : Place) → IsList (kind_of t p)
+        ensures none_without_limits { tells_without_limits (settings self.old) → IsInvalid result → (state self.old).due ≡ false → (t : Table) (p : Place) → IsList (kind_of t p)
             → CannotGoOn (lifted (settings self.old)) (state self.old) t p };
 
     /// Enters the map that is due. Where a map begins here, it is `TooDeep` exactly at the greatest depth.
@@ -175,7 +175,7 @@ pub trait ShapeDeserializer {
         ensures ok { OnOk result (Enters (wire (settings self.old)) (max_depth (settings self.old)) (state self.old) (state self.new) schema.now.shapes.now schema.now.place in_map) }
         ensures refused { IsRefused result → (state self.old).due ≡ true → (wire (settings self.old)).allows (depth (state self.old))
             → OpensNot (wire (settings self.old)) (state self.old) schema.now.shapes.now schema.now.place }
-        ensures would { is_strict (settings self.old) → IsInvalid result → (state self.old).due ≡ true
+        ensures none_without_limits { tells_without_limits (settings self.old) → IsInvalid result → (state self.old).due ≡ true
             → OpensNot (lifted (settings self.old)) (state self.old) schema.now.shapes.now schema.now.place }
         ensures invalid { IsInvalid result → (state self.old).due ≡ true
             → OpensNot (wire (settings self.old)) (state self.old) schema.now.shapes.now schema.now.place }
@@ -196,7 +196,7 @@ pub trait ShapeDeserializer {
             (λ key. Steps (wire (settings self.old)) (state self.old) (state self.new) t p (Some (string_bytes key)))) }
         ensures refused { IsRefused result → (state self.old).due ≡ false → (t : Table) (p : Place) → IsMap (kind_of t p)
             → CannotGoOn (wire (settings self.old)) (state self.old) t p }
-        ensures would { is_strict (settings self.old) → IsInvalid result → (state self.old).due ≡ false → (t : Table) (p : Place) → IsMap (kind_of t p)
+        ensures none_without_limits { tells_without_limits (settings self.old) → IsInvalid result → (state self.old).due ≡ false → (t : Table) (p : Place) → IsMap (kind_of t p)
             → CannotGoOn (lifted (settings self.old)) (state self.old) t p };
 
     /// Whether the value that is due is a null.
@@ -213,7 +213,7 @@ pub trait ShapeDeserializer {
         ensures ok { null_is_due (wire (settings self.old)) (state self.old) ≡ true → OnOk result ((wire (settings self.old)).nulls (state self.old).input (depth (state self.old)) (state self.old).at (state self.new).at) }
         ensures passes { null_is_due (wire (settings self.old)) (state self.old) ≡ true → OnOk result (Passes (state self.old) (state self.new)) }
         ensures refused { null_is_due (wire (settings self.old)) (state self.old) ≡ true → IsRefused result → NullsNot (wire (settings self.old)) (state self.old) }
-        ensures would { is_strict (settings self.old) → null_is_due (wire (settings self.old)) (state self.old) ≡ true → IsInvalid result → NullsNot (lifted (settings self.old)) (state self.old) }
+        ensures none_without_limits { tells_without_limits (settings self.old) → null_is_due (wire (settings self.old)) (state self.old) ≡ true → IsInvalid result → NullsNot (lifted (settings self.old)) (state self.old) }
         ensures nothing { null_is_due (wire (settings self.old)) (state self.old) ≡ false → OnOk result (state self.new ≡ state self.old) };
 
     /// Skips the value that is due, whatever it is.
@@ -225,7 +225,7 @@ pub trait ShapeDeserializer {
         ensures ok { OnOk result ((wire (settings self.old)).skips (state self.old).input (depth (state self.old)) (state self.old).at (state self.new).at) }
         ensures passes { OnOk result (Passes (state self.old) (state self.new)) }
         ensures refused { IsRefused result → (state self.old).due ≡ true → SkipsNot (wire (settings self.old)) (state self.old) }
-        ensures would { is_strict (settings self.old) → IsInvalid result → (state self.old).due ≡ true → SkipsNot (lifted (settings self.old)) (state self.old) }
+        ensures none_without_limits { tells_without_limits (settings self.old) → IsInvalid result → (state self.old).due ≡ true → SkipsNot (lifted (settings self.old)) (state self.old) }
         ensures deep { IsErrOf result TooDeep → ReachesDepth (wire (settings self.old)) (max_depth (settings self.old)) (state self.old) }
         ensures limited { IsErrOf result TooDeep → (wire (settings self.old)).limits_skips ≡ true };
 
@@ -239,47 +239,47 @@ pub trait ShapeDeserializer {
     /// Reads false or true. It takes no memory.
     fn read_boolean(&mut self, schema: &Schema<'_>) -> Result<bool, SerdeError>
         ensures same { settings self.new ≡ settings self.old }
-        ensures read { ReadsScalar (wire (settings self.old)) (lifted (settings self.old)) (is_strict (settings self.old)) (state self.old) (state self.new) (site_of schema.now) scalars.Boolean boolean result }
+        ensures read { ReadsScalar (wire (settings self.old)) (lifted (settings self.old)) (tells_without_limits (settings self.old)) (state self.old) (state self.new) (site_of schema.now) scalars.Boolean boolean result }
         ensures memory { IsErrOf result NoMemory → ⊥ };
 
     /// Reads a whole number from -2^7 to 2^7-1. It takes no memory.
     fn read_byte(&mut self, schema: &Schema<'_>) -> Result<i8, SerdeError>
         ensures same { settings self.new ≡ settings self.old }
-        ensures read { ReadsScalar (wire (settings self.old)) (lifted (settings self.old)) (is_strict (settings self.old)) (state self.old) (state self.new) (site_of schema.now) scalars.Byte whole result }
+        ensures read { ReadsScalar (wire (settings self.old)) (lifted (settings self.old)) (tells_without_limits (settings self.old)) (state self.old) (state self.new) (site_of schema.now) scalars.Byte whole result }
         ensures memory { IsErrOf result NoMemory → ⊥ };
 
     /// Reads a whole number from -2^15 to 2^15-1. It takes no memory.
     fn read_short(&mut self, schema: &Schema<'_>) -> Result<i16, SerdeError>
         ensures same { settings self.new ≡ settings self.old }
-        ensures read { ReadsScalar (wire (settings self.old)) (lifted (settings self.old)) (is_strict (settings self.old)) (state self.old) (state self.new) (site_of schema.now) scalars.Short whole result }
+        ensures read { ReadsScalar (wire (settings self.old)) (lifted (settings self.old)) (tells_without_limits (settings self.old)) (state self.old) (state self.new) (site_of schema.now) scalars.Short whole result }
         ensures memory { IsErrOf result NoMemory → ⊥ };
 
     /// Reads a whole number from -2^31 to 2^31-1. It takes no memory.
     fn read_integer(&mut self, schema: &Schema<'_>) -> Result<i32, SerdeError>
         ensures same { settings self.new ≡ settings self.old }
-        ensures read { ReadsScalar (wire (settings self.old)) (lifted (settings self.old)) (is_strict (settings self.old)) (state self.old) (state self.new) (site_of schema.now) scalars.Integer whole result }
+        ensures read { ReadsScalar (wire (settings self.old)) (lifted (settings self.old)) (tells_without_limits (settings self.old)) (state self.old) (state self.new) (site_of schema.now) scalars.Integer whole result }
         ensures memory { IsErrOf result NoMemory → ⊥ };
 
     /// Reads a whole number from -2^63 to 2^63-1. It takes no memory.
     fn read_long(&mut self, schema: &Schema<'_>) -> Result<i64, SerdeError>
         ensures same { settings self.new ≡ settings self.old }
-        ensures read { ReadsScalar (wire (settings self.old)) (lifted (settings self.old)) (is_strict (settings self.old)) (state self.old) (state self.new) (site_of schema.now) scalars.Long whole result }
+        ensures read { ReadsScalar (wire (settings self.old)) (lifted (settings self.old)) (tells_without_limits (settings self.old)) (state self.old) (state self.new) (site_of schema.now) scalars.Long whole result }
         ensures memory { IsErrOf result NoMemory → ⊥ };
 
     /// Reads a text.
     fn read_string(&mut self, schema: &Schema<'_>) -> Result<String, SerdeError>
         ensures same { settings self.new ≡ settings self.old }
-        ensures read { ReadsScalar (wire (settings self.old)) (lifted (settings self.old)) (is_strict (settings self.old)) (state self.old) (state self.new) (site_of schema.now) scalars.String (λ s. text (string_bytes s)) result };
+        ensures read { ReadsScalar (wire (settings self.old)) (lifted (settings self.old)) (tells_without_limits (settings self.old)) (state self.old) (state self.new) (site_of schema.now) scalars.String (λ s. text (string_bytes s)) result };
 
     /// Reads bytes.
     fn read_blob(&mut self, schema: &Schema<'_>) -> Result<Blob, SerdeError>
         ensures same { settings self.new ≡ settings self.old }
-        ensures read { ReadsScalar (wire (settings self.old)) (lifted (settings self.old)) (is_strict (settings self.old)) (state self.old) (state self.new) (site_of schema.now) scalars.Blob bytes result };
+        ensures read { ReadsScalar (wire (settings self.old)) (lifted (settings self.old)) (tells_without_limits (settings self.old)) (state self.old) (state self.new) (site_of schema.now) scalars.Blob bytes result };
 
     /// Reads a whole number of 128 bits. `TooWide` comes exactly where a whole number stands that leaves these bits.
     fn read_big_integer(&mut self, schema: &Schema<'_>) -> Result<BigInteger, SerdeError>
         ensures same { settings self.new ≡ settings self.old }
-        ensures read { ReadsScalar (wire (settings self.old)) (lifted (settings self.old)) (is_strict (settings self.old)) (state self.old) (state self.new) (site_of schema.now) scalars.BigInteger (λ n. whole (number n)) result }
+        ensures read { ReadsScalar (wire (settings self.old)) (lifted (settings self.old)) (tells_without_limits (settings self.old)) (state self.old) (state self.new) (site_of schema.now) scalars.BigInteger (λ n. whole (number n)) result }
         ensures wide { AnswersWide (wire (settings self.old)) (state self.old) (site_of schema.now) scalars.BigInteger result }
         ensures fits { IfOk result (λ n. FitsSigned w128 (number n)) };
 
@@ -288,7 +288,7 @@ pub trait ShapeDeserializer {
     /// leaves the range from -(2^63-1) to 2^63-1.
     fn read_big_decimal(&mut self, schema: &Schema<'_>) -> Result<BigDecimal, SerdeError>
         ensures same { settings self.new ≡ settings self.old }
-        ensures read { ReadsScalar (wire (settings self.old)) (lifted (settings self.old)) (is_strict (settings self.old)) (state self.old) (state self.new) (site_of schema.now) scalars.BigDecimal (λ n. decimal (mantissa n) (net_exponent n)) result }
+        ensures read { ReadsScalar (wire (settings self.old)) (lifted (settings self.old)) (tells_without_limits (settings self.old)) (state self.old) (state self.new) (site_of schema.now) scalars.BigDecimal (λ n. decimal (mantissa n) (net_exponent n)) result }
         ensures wide { AnswersWide (wire (settings self.old)) (state self.old) (site_of schema.now) scalars.BigDecimal result }
         ensures fits { IfOk result (λ n. FitsSigned w128 (mantissa n)) };
 
@@ -296,14 +296,14 @@ pub trait ShapeDeserializer {
     /// that the wire's instants don't carry.
     fn read_timestamp(&mut self, schema: &Schema<'_>) -> Result<DateTime, SerdeError>
         ensures same { settings self.new ≡ settings self.old }
-        ensures read { ReadsScalar (wire (settings self.old)) (lifted (settings self.old)) (is_strict (settings self.old)) (state self.old) (state self.new) (site_of schema.now) scalars.Timestamp instant result }
+        ensures read { ReadsScalar (wire (settings self.old)) (lifted (settings self.old)) (tells_without_limits (settings self.old)) (state self.old) (state self.new) (site_of schema.now) scalars.Timestamp instant result }
         ensures uncarried { AnswersUncarried (wire (settings self.old)) (state self.old) (site_of schema.now) scalars.Timestamp result };
 
     /// Reads a document, in which each value counts as depth, scalars too. `NotCarried` comes only where a number stands in it
     /// that a document doesn't carry, or where the wire carries no documents.
     fn read_document(&mut self, schema: &Schema<'_>) -> Result<Document, SerdeError>
         ensures same { settings self.new ≡ settings self.old }
-        ensures read { ReadsDocument (wire (settings self.old)) (lifted (settings self.old)) (is_strict (settings self.old)) (max_depth (settings self.old)) (state self.old) (state self.new) (site_of schema.now) result };
+        ensures read { ReadsDocument (wire (settings self.old)) (lifted (settings self.old)) (tells_without_limits (settings self.old)) (max_depth (settings self.old)) (state self.old) (state self.new) (site_of schema.now) result };
 
     /// Reads the structure or the union that is due: the consumer is called for each entry, in order.
     final fn read_struct<C: StructConsumer>(
@@ -316,7 +316,7 @@ pub trait ShapeDeserializer {
         requires place { HasMembers (kind_at (site_of schema.now)) }
         requires allowed { C.can_take consumer.old (site_of schema.now) }
         ensures same { settings self.new ≡ settings self.old }
-        ensures consumes { let r = reader (wire (settings self.old)) (lifted (settings self.old)) (is_strict (settings self.old)) (max_depth (settings self.old)) in Consumes r (site_of schema.now) in_structure (by_member r (site_of schema.now)) (C.call r) consumer.old (state self.old) result consumer.new (state self.new) }
+        ensures consumes { let r = reader (wire (settings self.old)) (lifted (settings self.old)) (tells_without_limits (settings self.old)) (max_depth (settings self.old)) in Consumes r (site_of schema.now) in_structure (by_member r (site_of schema.now)) (C.call r) consumer.old (state self.old) result consumer.new (state self.new) }
         ensures takes { OnOk result (IsTaken (state self.old) (state self.new)) }
         ensures fails { OnErr result ((state self.new).failed ≡ true) }
         ensures allowed { OnOk result (C.can_take consumer.new (site_of schema.now)) }
@@ -344,7 +344,7 @@ pub trait ShapeDeserializer {
         Self: Sized,
         requires place { IsList (kind_at (site_of schema.now)) }
         ensures same { settings self.new ≡ settings self.old }
-        ensures consumes { let r = reader (wire (settings self.old)) (lifted (settings self.old)) (is_strict (settings self.old)) (max_depth (settings self.old)) in Consumes r (site_of schema.now) in_list (by_element r (site_of schema.now)) (λ element. C.call r) consumer.old (state self.old) result consumer.new (state self.new) }
+        ensures consumes { let r = reader (wire (settings self.old)) (lifted (settings self.old)) (tells_without_limits (settings self.old)) (max_depth (settings self.old)) in Consumes r (site_of schema.now) in_list (by_element r (site_of schema.now)) (λ element. C.call r) consumer.old (state self.old) result consumer.new (state self.new) }
         ensures takes { OnOk result (IsTaken (state self.old) (state self.new)) }
         ensures fails { OnErr result ((state self.new).failed ≡ true) }
     {
@@ -368,7 +368,7 @@ pub trait ShapeDeserializer {
         Self: Sized,
         requires place { IsMap (kind_at (site_of schema.now)) }
         ensures same { settings self.new ≡ settings self.old }
-        ensures consumes { let r = reader (wire (settings self.old)) (lifted (settings self.old)) (is_strict (settings self.old)) (max_depth (settings self.old)) in Consumes r (site_of schema.now) in_map (by_key r (site_of schema.now)) (C.call r) consumer.old (state self.old) result consumer.new (state self.new) }
+        ensures consumes { let r = reader (wire (settings self.old)) (lifted (settings self.old)) (tells_without_limits (settings self.old)) (max_depth (settings self.old)) in Consumes r (site_of schema.now) in_map (by_key r (site_of schema.now)) (C.call r) consumer.old (state self.old) result consumer.new (state self.new) }
         ensures takes { OnOk result (IsTaken (state self.old) (state self.new)) }
         ensures fails { OnErr result ((state self.new).failed ≡ true) }
     {
@@ -388,7 +388,7 @@ pub trait ShapeDeserializer {
         Self: Sized,
         requires place { IsList (kind_at (site_of schema.now)) }
         ensures same { settings self.new ≡ settings self.old }
-        ensures read { let r = reader (wire (settings self.old)) (lifted (settings self.old)) (is_strict (settings self.old)) (max_depth (settings self.old)) in ReadsList scalars.String (λ s. text (string_bytes s)) r (site_of schema.now) (state self.old) (items_of result) (state self.new) }
+        ensures read { let r = reader (wire (settings self.old)) (lifted (settings self.old)) (tells_without_limits (settings self.old)) (max_depth (settings self.old)) in ReadsList scalars.String (λ s. text (string_bytes s)) r (site_of schema.now) (state self.old) (items_of result) (state self.new) }
     {
         read_elements(self, schema)
     }
@@ -399,7 +399,7 @@ pub trait ShapeDeserializer {
         Self: Sized,
         requires place { IsList (kind_at (site_of schema.now)) }
         ensures same { settings self.new ≡ settings self.old }
-        ensures read { let r = reader (wire (settings self.old)) (lifted (settings self.old)) (is_strict (settings self.old)) (max_depth (settings self.old)) in ReadsList scalars.Blob bytes r (site_of schema.now) (state self.old) (items_of result) (state self.new) }
+        ensures read { let r = reader (wire (settings self.old)) (lifted (settings self.old)) (tells_without_limits (settings self.old)) (max_depth (settings self.old)) in ReadsList scalars.Blob bytes r (site_of schema.now) (state self.old) (items_of result) (state self.new) }
     {
         read_elements(self, schema)
     }
@@ -410,7 +410,7 @@ pub trait ShapeDeserializer {
         Self: Sized,
         requires place { IsList (kind_at (site_of schema.now)) }
         ensures same { settings self.new ≡ settings self.old }
-        ensures read { let r = reader (wire (settings self.old)) (lifted (settings self.old)) (is_strict (settings self.old)) (max_depth (settings self.old)) in ReadsList scalars.Integer whole r (site_of schema.now) (state self.old) (items_of result) (state self.new) }
+        ensures read { let r = reader (wire (settings self.old)) (lifted (settings self.old)) (tells_without_limits (settings self.old)) (max_depth (settings self.old)) in ReadsList scalars.Integer whole r (site_of schema.now) (state self.old) (items_of result) (state self.new) }
     {
         read_elements(self, schema)
     }
@@ -421,7 +421,7 @@ pub trait ShapeDeserializer {
         Self: Sized,
         requires place { IsList (kind_at (site_of schema.now)) }
         ensures same { settings self.new ≡ settings self.old }
-        ensures read { let r = reader (wire (settings self.old)) (lifted (settings self.old)) (is_strict (settings self.old)) (max_depth (settings self.old)) in ReadsList scalars.Long whole r (site_of schema.now) (state self.old) (items_of result) (state self.new) }
+        ensures read { let r = reader (wire (settings self.old)) (lifted (settings self.old)) (tells_without_limits (settings self.old)) (max_depth (settings self.old)) in ReadsList scalars.Long whole r (site_of schema.now) (state self.old) (items_of result) (state self.new) }
     {
         read_elements(self, schema)
     }
@@ -435,7 +435,7 @@ pub trait ShapeDeserializer {
         Self: Sized,
         requires place { IsMap (kind_at (site_of schema.now)) }
         ensures same { settings self.new ≡ settings self.old }
-        ensures read { let r = reader (wire (settings self.old)) (lifted (settings self.old)) (is_strict (settings self.old)) (max_depth (settings self.old)) in ReadsTexts r (site_of schema.now) (state self.old) (entries_of result) (state self.new) }
+        ensures read { let r = reader (wire (settings self.old)) (lifted (settings self.old)) (tells_without_limits (settings self.old)) (max_depth (settings self.old)) in ReadsTexts r (site_of schema.now) (state self.old) (entries_of result) (state self.new) }
     {
         read_texts(self, schema)
     }
@@ -448,7 +448,7 @@ pub trait ShapeDeserializer {
     // What stands within the limits is a value of its place.
     ghost fit: { (c : Settings) → StandsFit (wire c) };
 
-    ghost counts: { (c : Settings) → is_strict c → CountsOpeners (wire c) };
+    ghost counts: { (c : Settings) → tells_without_limits c → CountsOpeners (wire c) };
 
     ghost above: { (c : Settings) → IsBelow (wire c) (lifted c) };
 }

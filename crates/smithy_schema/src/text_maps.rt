@@ -41,7 +41,7 @@ pub(crate) fn read_texts<D: ShapeDeserializer>(
 ) -> Result<BTreeMap<String, String>, SerdeError>
     requires place { IsMap (kind_at (site_of schema.now)) }
     ensures same { D.settings source.new ≡ D.settings source.old }
-    ensures read { let r = reader (D.wire (D.settings source.old)) (D.lifted (D.settings source.old)) (D.is_strict (D.settings source.old)) (D.max_depth (D.settings source.old)) in ReadsTexts r (site_of schema.now) (D.state source.old) (entries_of result) (D.state source.new) }
+    ensures read { let r = reader (D.wire (D.settings source.old)) (D.lifted (D.settings source.old)) (D.tells_without_limits (D.settings source.old)) (D.max_depth (D.settings source.old)) in ReadsTexts r (site_of schema.now) (D.state source.old) (entries_of result) (D.state source.new) }
 {
     let Some(value) = schema.member() else {
         unreachable!()

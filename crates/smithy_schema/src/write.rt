@@ -13,8 +13,8 @@ ghost use Rattle.smithy_schema.specs.Writing.{write, after_value, open_list, ope
 ghost use Rattle.smithy_schema.specs.Written.{Wraps, outcome, list_of_wholes};
 
 use crate::error::SerdeError;
-use smithy_shapes::Schema;
 use crate::written::{SerializableStruct, WriteElements};
+use smithy_shapes::Schema;
 use smithy_types::{BigDecimal, BigInteger, Blob, DateTime, Document};
 
 /// A writer of one output, which is told of a value call by call, each with the schema of its place.

@@ -5,8 +5,8 @@ ghost use Rattle.smithy_schema.specs.Writing.{Open, open_structure};
 ghost use Rattle.smithy_schema.specs.Written.{Adds, outcome, IsInside};
 
 use crate::error::SerdeError;
-use smithy_shapes::Schema;
 use crate::write::ShapeSerializer;
+use smithy_shapes::Schema;
 
 /// A structure or a union, which writes its members.
 ///

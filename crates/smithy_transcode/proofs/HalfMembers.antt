@@ -24,15 +24,15 @@ step_going w s s1 o (ToMember m) step = had_not s1 step.2.failed
 step_going w s s1 o Unknown step = had_not s1 step.1.failed
 step_going w s s1 o End step = had_not s1 step.failed
 
-module _ (w u : Relations) (is_strict : Type 0) (max : ℕ) (laws : ObeysLaws w u is_strict) where
+module _ (w u : Relations) (tells_without_limits : Type 0) (max : ℕ) (laws : ObeysLaws w u tells_without_limits) where
   -- the value of a member is refused
   pub member_fails : {A B : Type 0} (inner : A → Value) (view : B → Value) (o : Site) (m : Schema) (s0 s s1 s2 : Cursor) (worth : List Child → Option Value) (e : SerdeError) → HasMembers (kind_at o)
-      → HalfRead w u is_strict max s0 s o.table o.place in_structure worth → MatchStep (ToMember m) w s s1 o
-      → ReadsValue {A = A} w u is_strict max s1 s2 (site_of m) inner (Err e)
-      → ReadsValue {A = B} w u is_strict max s0 s2 o view (Err e)
+      → HalfRead w u tells_without_limits max s0 s o.table o.place in_structure worth → MatchStep (ToMember m) w s s1 o
+      → ReadsValue {A = A} w u tells_without_limits max s1 s2 (site_of m) inner (Err e)
+      → ReadsValue {A = B} w u tells_without_limits max s0 s2 o view (Err e)
   member_fails {A} {B} inner view o m s0 s s1 s2 worth e kind half step reads =
-      inner_fails w u is_strict max {A = A} {B = B} inner view (site_of m) o s0 s1 s2 e
-      (stepped_to w u is_strict laws s0 s s1 o.table o.place (Some step.0) half.reached step.2) reads
+      inner_fails w u tells_without_limits max {A = A} {B = B} inner view (site_of m) o s0 s1 s2 e
+      (stepped_to w u tells_without_limits laws s0 s s1 o.table o.place (Some step.0) half.reached step.2) reads
       (λ none. member_refused w w max laws.kept (itself w) s0 s s1 o m worth kind half.kept step none)
       (λ none. member_refused w u max laws.lifted laws.below s0 s s1 o m worth kind half.lifted step none)
       (λ lies there. inside_member lies w w max s0 s s1 s2 o m in_structure worth half.kept step there)
@@ -40,61 +40,61 @@ module _ (w u : Relations) (is_strict : Type 0) (max : ℕ) (laws : ObeysLaws w 
   -- ---- structures
 
   pub structure_entered : {A : Type 0} (o : Site) (s0 s : Cursor) (x : A) → IsStructure (kind_at o) → Conducts {A = A} s0 s (Ok x) → Enters w max s0 s o.table o.place in_structure
-      → HalfRead w u is_strict max s0 s o.table o.place in_structure (structure_value no_member_values)
+      → HalfRead w u tells_without_limits max s0 s o.table o.place in_structure (structure_value no_member_values)
   structure_entered {A} o s0 s x kind conduct enters = record {
     kept = begin_structure w w max laws.kept laws.kept (itself w) s0 s o.table o.place kind enters;
     lifted = begin_structure w u max laws.kept laws.lifted laws.below s0 s o.table o.place kind enters;
-    reached = entered w u is_strict max laws {A = A} s0 s o.table o.place in_structure x conduct enters;
+    reached = entered w u tells_without_limits max laws {A = A} s0 s o.table o.place in_structure x conduct enters;
   }
 
   pub member_passed : (o : Site) (m : Schema) (s0 s s1 s2 : Cursor) (fs : MemberValues) (n : ℕ) (v : Value)
-      → HalfRead w u is_strict max s0 s o.table o.place in_structure (structure_value fs) → MatchStep (ToMember m) w s s1 o → (site_of m).view.index ≡ Some n → Reads w s1 s2 m.shapes.now m.place v
-      → HalfRead w u is_strict max s0 s2 o.table o.place in_structure (structure_value (put_member n v fs))
+      → HalfRead w u tells_without_limits max s0 s o.table o.place in_structure (structure_value fs) → MatchStep (ToMember m) w s s1 o → (site_of m).view.index ≡ Some n → Reads w s1 s2 m.shapes.now m.place v
+      → HalfRead w u tells_without_limits max s0 s2 o.table o.place in_structure (structure_value (put_member n v fs))
   member_passed o m s0 s s1 s2 fs n v half step index reads =
-      child_passed w u is_strict max laws s0 s s1 s2 o.table o.place in_structure (structure_value fs) (Some step.0) (child_value (Some step.0) (Some n) v) half step.2
+      child_passed w u tells_without_limits max laws s0 s s1 s2 o.table o.place in_structure (structure_value fs) (Some step.0) (child_value (Some step.0) (Some n) v) half step.2
       (member_child w s s1 o m n v s2.at step index reads.stands) reads.passes
       (λ strict. value_counted w (laws.counts strict) s1 s2 m.shapes.now m.place v reads)
 
   pub unknown_passed : (o : Site) (s0 s s1 s2 : Cursor) (fs : MemberValues) → IsStructure (kind_at o)
-      → HalfRead w u is_strict max s0 s o.table o.place in_structure (structure_value fs) → MatchStep Unknown w s s1 o → w.skips s1.input (depth s1) s1.at s2.at → Passes s1 s2
-      → HalfRead w u is_strict max s0 s2 o.table o.place in_structure (structure_value fs)
+      → HalfRead w u tells_without_limits max s0 s o.table o.place in_structure (structure_value fs) → MatchStep Unknown w s s1 o → w.skips s1.input (depth s1) s1.at s2.at → Passes s1 s2
+      → HalfRead w u tells_without_limits max s0 s2 o.table o.place in_structure (structure_value fs)
   unknown_passed o s0 s s1 s2 fs kind half step skips passes =
-      child_passed w u is_strict max laws s0 s s1 s2 o.table o.place in_structure (structure_value fs) (Some step.0) (child_unknown (Some step.0)) half step.1
+      child_passed w u tells_without_limits max laws s0 s s1 s2 o.table o.place in_structure (structure_value fs) (Some step.0) (child_unknown (Some step.0)) half step.1
       (refl, kind, step.2, skips) passes
       (λ strict. skip_counted w (laws.counts strict) s1 s2 skips passes)
 
   -- an unknown entry can't be skipped
   pub unknown_fails : {A B : Type 0} (view : B → Value) (o : Site) (s0 s s1 s2 : Cursor) (fs : MemberValues) (e : SerdeError) → IsStructure (kind_at o)
-      → HalfRead w u is_strict max s0 s o.table o.place in_structure (structure_value fs) → MatchStep Unknown w s s1 o
+      → HalfRead w u tells_without_limits max s0 s o.table o.place in_structure (structure_value fs) → MatchStep Unknown w s s1 o
       → Conducts {A = A} s1 s2 (Err e) → RefusesNoScalar {A = A} (Err e) → (IsErrOf {T = A} {E = SerdeError} (Err e) TooDeep → ReachesDepth w max s1) → (IsErrOf {T = A} {E = SerdeError} (Err e) TooDeep → w.limits_skips ≡ true)
-      → (IsFault e → s1.due ≡ true → SkipsNot w s1) → (is_strict → IsInvalid {A = A} (Err e) → s1.due ≡ true → SkipsNot u s1)
-      → ReadsValue {A = B} w u is_strict max s0 s2 o view (Err e)
-  unknown_fails {A} {B} view o s0 s s1 s2 fs e kind half step conduct narrow deep limited refused would =
-      call_fails w u is_strict max {A = A} {B = B} view o s0 s1 s2 e
-      (stepped_to w u is_strict laws s0 s s1 o.table o.place (Some step.0) half.reached step.1) conduct narrow deep limited
+      → (IsFault e → s1.due ≡ true → SkipsNot w s1) → (tells_without_limits → IsInvalid {A = A} (Err e) → s1.due ≡ true → SkipsNot u s1)
+      → ReadsValue {A = B} w u tells_without_limits max s0 s2 o view (Err e)
+  unknown_fails {A} {B} view o s0 s s1 s2 fs e kind half step conduct narrow deep limited refused none_without_limits =
+      call_fails w u tells_without_limits max {A = A} {B = B} view o s0 s1 s2 e
+      (stepped_to w u tells_without_limits laws s0 s s1 o.table o.place (Some step.0) half.reached step.1) conduct narrow deep limited
       (λ fault. unknown_refused w w max laws.kept (itself w) s0 s s1 o fs kind half.kept step (refused fault step.1.due))
-      (λ strict invalid. unknown_refused w u max laws.lifted laws.below s0 s s1 o fs kind half.lifted step (would strict invalid step.1.due))
+      (λ strict invalid. unknown_refused w u max laws.lifted laws.below s0 s s1 o fs kind half.lifted step (none_without_limits strict invalid step.1.due))
 
   -- ---- unions
 
   pub union_entered : {A : Type 0} (o : Site) (s0 s : Cursor) (x : A) → IsUnion (kind_at o) → Conducts {A = A} s0 s (Ok x) → Enters w max s0 s o.table o.place in_structure
-      → HalfRead w u is_strict max s0 s o.table o.place in_structure (union_value None)
+      → HalfRead w u tells_without_limits max s0 s o.table o.place in_structure (union_value None)
   union_entered {A} o s0 s x kind conduct enters = record {
     kept = begin_union w w max laws.kept laws.kept (itself w) s0 s o.table o.place kind enters;
     lifted = begin_union w u max laws.kept laws.lifted laws.below s0 s o.table o.place kind enters;
-    reached = entered w u is_strict max laws {A = A} s0 s o.table o.place in_structure x conduct enters;
+    reached = entered w u tells_without_limits max laws {A = A} s0 s o.table o.place in_structure x conduct enters;
   }
 
   pub variant_passed : (o : Site) (m : Schema) (s0 s s1 s2 : Cursor) (n : ℕ) (v : Value)
-      → HalfRead w u is_strict max s0 s o.table o.place in_structure (union_value None) → MatchStep (ToMember m) w s s1 o → (site_of m).view.index ≡ Some n → Reads w s1 s2 m.shapes.now m.place v
-      → HalfRead w u is_strict max s0 s2 o.table o.place in_structure (union_value (Some (union n v)))
+      → HalfRead w u tells_without_limits max s0 s o.table o.place in_structure (union_value None) → MatchStep (ToMember m) w s s1 o → (site_of m).view.index ≡ Some n → Reads w s1 s2 m.shapes.now m.place v
+      → HalfRead w u tells_without_limits max s0 s2 o.table o.place in_structure (union_value (Some (union n v)))
   variant_passed o m s0 s s1 s2 n v half step index reads =
-      child_passed w u is_strict max laws s0 s s1 s2 o.table o.place in_structure (union_value None) (Some step.0) (child_value (Some step.0) (Some n) v) half step.2
+      child_passed w u tells_without_limits max laws s0 s s1 s2 o.table o.place in_structure (union_value None) (Some step.0) (child_value (Some step.0) (Some n) v) half step.2
       (member_child w s s1 o m n v s2.at step index reads.stands) reads.passes
       (λ strict. value_counted w (laws.counts strict) s1 s2 m.shapes.now m.place v reads)
 
   -- whatever a step went to, the reader is behind it
-  went_to : (o : Site) (s0 s s1 : Cursor) (step : Step) → Reached w is_strict s0 s → MatchStep step w s s1 o → Reached w is_strict s0 s1
+  went_to : (o : Site) (s0 s s1 : Cursor) (step : Step) → Reached w tells_without_limits s0 s → MatchStep step w s s1 o → Reached w tells_without_limits s0 s1
   went_to o s0 s s1 step reached told = record {
     input = step_input w s s1 o step told ∙ reached.input;
     fresh = reached.fresh;
@@ -104,18 +104,18 @@ module _ (w u : Relations) (is_strict : Type 0) (max : ℕ) (laws : ObeysLaws w 
 
   -- the first step goes to no member
   pub no_variant_fails : {B : Type 0} (view : B → Value) (o : Site) (s0 s s1 s2 : Cursor) (step : Step) → ((m : Schema) → step ≡ ToMember m → ⊥) → IsUnion (kind_at o)
-      → HalfRead w u is_strict max s0 s o.table o.place in_structure (union_value None) → MatchStep step w s s1 o → s2 ≡ failed_at s1
-      → ReadsValue {A = B} w u is_strict max s0 s2 o view (Err InvalidInput)
+      → HalfRead w u tells_without_limits max s0 s o.table o.place in_structure (union_value None) → MatchStep step w s s1 o → s2 ≡ failed_at s1
+      → ReadsValue {A = B} w u tells_without_limits max s0 s2 o view (Err InvalidInput)
   no_variant_fails {B} view o s0 s s1 s2 step other kind half told stays =
-      made_to_fail w u is_strict max {B = B} view o s0 s1 s2 (went_to o s0 s s1 step half.reached told) stays
+      made_to_fail w u tells_without_limits max {B = B} view o s0 s1 s2 (went_to o s0 s s1 step half.reached told) stays
       (no_first w w max laws.kept (itself w) s0 s s1 o step other kind half.kept told)
       (no_first w u max laws.lifted laws.below s0 s s1 o step other kind half.lifted told)
 
   -- the second goes on
   pub second_variant_fails : {B : Type 0} (view : B → Value) (o : Site) (s0 s s1 s2 : Cursor) (first : Value) (step : Step) → (step ≡ End → ⊥) → IsUnion (kind_at o)
-      → HalfRead w u is_strict max s0 s o.table o.place in_structure (union_value (Some first)) → MatchStep step w s s1 o → s2 ≡ failed_at s1
-      → ReadsValue {A = B} w u is_strict max s0 s2 o view (Err InvalidInput)
+      → HalfRead w u tells_without_limits max s0 s o.table o.place in_structure (union_value (Some first)) → MatchStep step w s s1 o → s2 ≡ failed_at s1
+      → ReadsValue {A = B} w u tells_without_limits max s0 s2 o view (Err InvalidInput)
   second_variant_fails {B} view o s0 s s1 s2 first step other kind half told stays =
-      made_to_fail w u is_strict max {B = B} view o s0 s1 s2 (went_to o s0 s s1 step half.reached told) stays
+      made_to_fail w u tells_without_limits max {B = B} view o s0 s1 s2 (went_to o s0 s s1 step half.reached told) stays
       (no_end w w max laws.kept (itself w) s0 s s1 o first step other kind half.kept told)
       (no_end w u max laws.lifted laws.below s0 s s1 o first step other kind half.lifted told)

@@ -18,21 +18,21 @@ use Rattle.smithy_transcode.proofs.ReadWide.{Lying, StandsInside, error_is, scal
 use Rattle.smithy_transcode.proofs.ReadDeep.{ends_here, ends_inside}
 
 -- what a wire proves of its relations, and of those with the limits lifted
-pub record ObeysLaws (w u : Relations) (is_strict : Type 0) : Type 0 where
+pub record ObeysLaws (w u : Relations) (tells_without_limits : Type 0) : Type 0 where
   pub kept : IsLawful w
   pub lifted : IsLawful u
   pub below : IsBelow w u
-  pub counts : is_strict → CountsOpeners w
+  pub counts : tells_without_limits → CountsOpeners w
 
-pub obeyed : (w u : Relations) (is_strict : Type 0) → IsLawful w → IsLawful u → IsBelow w u → (is_strict → CountsOpeners w) → ObeysLaws w u is_strict
-obeyed w u is_strict kept lifted below counts = record { kept = kept; lifted = lifted; below = below; counts = counts }
+pub obeyed : (w u : Relations) (tells_without_limits : Type 0) → IsLawful w → IsLawful u → IsBelow w u → (tells_without_limits → CountsOpeners w) → ObeysLaws w u tells_without_limits
+obeyed w u tells_without_limits kept lifted below counts = record { kept = kept; lifted = lifted; below = below; counts = counts }
 
 -- from s0, where a value was due, the reader came to s, and nothing failed
-pub record Reached (w : Relations) (is_strict : Type 0) (s0 s : Cursor) : Type 0 where
+pub record Reached (w : Relations) (tells_without_limits : Type 0) (s0 s : Cursor) : Type 0 where
   pub input : s.input ≡ s0.input
   pub fresh : s0.failed ≡ true → ⊥
   pub going : s.failed ≡ true → ⊥
-  pub counted : is_strict → IsCounted w s0 → IsCounted w s
+  pub counted : tells_without_limits → IsCounted w s0 → IsCounted w s
 
 -- an error stays the same under a result of another type
 error_as : {A B : Type 0} (e f : SerdeError) → IsErrOf {T = A} {E = SerdeError} (Err e) f → IsErrOf {T = B} {E = SerdeError} (Err e) f
@@ -52,17 +52,17 @@ no_error {A} x f is = let both : ◌≡◌ {A = Result A SerdeError} (Ok x) (Err
 pub not_failed : {A : Type 0} (old new : Cursor) (x : A) → Conducts {A = A} old new (Ok x) → old.failed ≡ true → ⊥
 not_failed {A} old new x conduct failed = no_error {A = A} x Failed (conduct.failed.1 failed)
 
-module _ (w u : Relations) (is_strict : Type 0) (max : ℕ) where
+module _ (w u : Relations) (tells_without_limits : Type 0) (max : ℕ) where
   -- a call refuses, inside of what is read
-  pub call_fails : {A B : Type 0} (view : B → Value) (site : Site) (s0 s s1 : Cursor) (e : SerdeError) → Reached w is_strict s0 s
+  pub call_fails : {A B : Type 0} (view : B → Value) (site : Site) (s0 s s1 : Cursor) (e : SerdeError) → Reached w tells_without_limits s0 s
       → Conducts {A = A} s s1 (Err e) → RefusesNoScalar {A = A} (Err e) → (IsErrOf {T = A} {E = SerdeError} (Err e) TooDeep → ReachesDepth w max s) → (IsErrOf {T = A} {E = SerdeError} (Err e) TooDeep → w.limits_skips ≡ true)
       → (IsFault e → StandsNot w s0 site.table site.place)
-      → (is_strict → IsInvalid {A = A} (Err e) → StandsNot u s0 site.table site.place)
-      → ReadsValue {A = B} w u is_strict max s0 s1 site view (Err e)
-  call_fails {A} {B} view site s0 s s1 e reached conduct narrow deep limited refused would = record {
+      → (tells_without_limits → IsInvalid {A = A} (Err e) → StandsNot u s0 site.table site.place)
+      → ReadsValue {A = B} w u tells_without_limits max s0 s1 site view (Err e)
+  call_fails {A} {B} view site s0 s s1 e reached conduct narrow deep limited refused none_without_limits = record {
     ok = tt;
     refused = refused;
-    would = would;
+    none_without_limits = none_without_limits;
     failed = ((λ is. absurd (reached.going (conduct.failed.0 (error_as {A = B} {B = A} e Failed is)))), λ failed. absurd (reached.fresh failed));
     supported = λ is. conduct.supported (error_as {A = B} {B = A} e Unsupported is);
     readable = λ is. conduct.readable (error_as {A = B} {B = A} e Unwritable is);
@@ -78,17 +78,17 @@ module _ (w u : Relations) (is_strict : Type 0) (max : ℕ) where
   pub open_fails : {A B : Type 0} (view : B → Value) (site : Site) (s0 s1 : Cursor) (e : SerdeError) → IsLawful w → IsLawful u → IsContainer (kind_at site) → s0.due ≡ true
       → Conducts {A = A} s0 s1 (Err e) → RefusesNoScalar {A = A} (Err e)
       → (IsFault e → s0.due ≡ true → w.allows (depth s0) → OpensNot w s0 site.table site.place)
-      → (is_strict → IsInvalid {A = A} (Err e) → s0.due ≡ true → OpensNot u s0 site.table site.place)
+      → (tells_without_limits → IsInvalid {A = A} (Err e) → s0.due ≡ true → OpensNot u s0 site.table site.place)
       → (IsErrOf {T = A} {E = SerdeError} (Err e) TooDeep → depth s0 ≡ max)
-      → ReadsValue {A = B} w u is_strict max s0 s1 site view (Err e)
-  open_fails {A} {B} view site s0 s1 e laws over kind due conduct narrow refused would deepest = record {
+      → ReadsValue {A = B} w u tells_without_limits max s0 s1 site view (Err e)
+  open_fails {A} {B} view site s0 s1 e laws over kind due conduct narrow refused none_without_limits deepest = record {
     ok = tt;
     refused = λ fault v end stands.
         let found = laws.unfolded s0.input site.table site.place (depth s0) s0.at v end kind stands in
         refused fault due found.allowed found.inside found.mark found.opens;
-    would = λ strict invalid v end stands.
+    none_without_limits = λ strict invalid v end stands.
         let found = over.unfolded s0.input site.table site.place (depth s0) s0.at v end kind stands in
-        would strict invalid due found.inside found.mark found.opens;
+        none_without_limits strict invalid due found.inside found.mark found.opens;
     failed = ((λ is. conduct.failed.0 (error_as {A = B} {B = A} e Failed is)), λ failed. error_as {A = A} {B = B} e Failed (conduct.failed.1 failed));
     supported = λ is. conduct.supported (error_as {A = B} {B = A} e Unsupported is);
     readable = λ is. conduct.readable (error_as {A = B} {B = A} e Unwritable is);
@@ -104,14 +104,14 @@ module _ (w u : Relations) (is_strict : Type 0) (max : ℕ) where
   }
 
   -- memory runs out
-  pub memory_fails : {B : Type 0} (view : B → Value) (site : Site) (s0 s : Cursor) (e : SerdeError) → Reached w is_strict s0 s → e ≡ NoMemory
-      → ReadsValue {A = B} w u is_strict max s0 s site view (Err e)
+  pub memory_fails : {B : Type 0} (view : B → Value) (site : Site) (s0 s : Cursor) (e : SerdeError) → Reached w tells_without_limits s0 s → e ≡ NoMemory
+      → ReadsValue {A = B} w u tells_without_limits max s0 s site view (Err e)
   memory_fails {B} view site s0 s e reached is =
-      subst (λ (x : SerdeError). ReadsValue {A = B} w u is_strict max s0 s site view (Err x)) (sym is)
+      subst (λ (x : SerdeError). ReadsValue {A = B} w u tells_without_limits max s0 s site view (Err x)) (sym is)
       (record {
         ok = tt;
         refused = λ fault. absurd fault;
-        would = λ strict invalid. absurd invalid;
+        none_without_limits = λ strict invalid. absurd invalid;
         failed = ((λ is. absurd (not_memory {A = B} Failed (λ e. cc) is)), λ failed. absurd (reached.fresh failed));
         supported = not_memory {A = B} Unsupported (λ e. cc);
         readable = not_memory {A = B} Unwritable (λ e. cc);
@@ -124,13 +124,13 @@ module _ (w u : Relations) (is_strict : Type 0) (max : ℕ) where
       })
 
   -- the reader is made to fail where it is
-  pub made_to_fail : {B : Type 0} (view : B → Value) (site : Site) (s0 s s1 : Cursor) → Reached w is_strict s0 s → s1 ≡ failed_at s
+  pub made_to_fail : {B : Type 0} (view : B → Value) (site : Site) (s0 s s1 : Cursor) → Reached w tells_without_limits s0 s → s1 ≡ failed_at s
       → StandsNot w s0 site.table site.place → StandsNot u s0 site.table site.place
-      → ReadsValue {A = B} w u is_strict max s0 s1 site view (Err InvalidInput)
-  made_to_fail {B} view site s0 s s1 reached stays refused would = record {
+      → ReadsValue {A = B} w u tells_without_limits max s0 s1 site view (Err InvalidInput)
+  made_to_fail {B} view site s0 s s1 reached stays refused none_without_limits = record {
     ok = tt;
     refused = λ fault. refused;
-    would = λ strict invalid. would;
+    none_without_limits = λ strict invalid. none_without_limits;
     failed = ((λ is. absurd (not_invalid {A = B} Failed (λ e. cc) is)), λ failed. absurd (reached.fresh failed));
     supported = not_invalid {A = B} Unsupported (λ e. cc);
     readable = not_invalid {A = B} Unwritable (λ e. cc);
@@ -143,16 +143,16 @@ module _ (w u : Relations) (is_strict : Type 0) (max : ℕ) where
   }
 
   -- an error of an inner read is an error of the outer one
-  pub inner_fails : {A B : Type 0} (inner : A → Value) (view : B → Value) (child site : Site) (s0 s1 s2 : Cursor) (e : SerdeError) → Reached w is_strict s0 s1
-      → ReadsValue {A = A} w u is_strict max s1 s2 child inner (Err e)
+  pub inner_fails : {A B : Type 0} (inner : A → Value) (view : B → Value) (child site : Site) (s0 s1 s2 : Cursor) (e : SerdeError) → Reached w tells_without_limits s0 s1
+      → ReadsValue {A = A} w u tells_without_limits max s1 s2 child inner (Err e)
       → (StandsNot w s1 child.table child.place → StandsNot w s0 site.table site.place)
       → (StandsNot u s1 child.table child.place → StandsNot u s0 site.table site.place)
       → ((lies : Lying) → StandsInside lies s1 s2 child.table child.place → StandsInside lies s0 s2 site.table site.place)
-      → ReadsValue {A = B} w u is_strict max s0 s2 site view (Err e)
-  inner_fails {A} {B} inner view child site s0 s1 s2 e reached reads refused would inside = record {
+      → ReadsValue {A = B} w u tells_without_limits max s0 s2 site view (Err e)
+  inner_fails {A} {B} inner view child site s0 s1 s2 e reached reads refused none_without_limits inside = record {
     ok = tt;
     refused = λ fault. refused (reads.refused fault);
-    would = λ strict invalid. would (reads.would strict invalid);
+    none_without_limits = λ strict invalid. none_without_limits (reads.none_without_limits strict invalid);
     failed = ((λ is. absurd (reached.going (reads.failed.0 (error_as {A = B} {B = A} e Failed is)))), λ failed. absurd (reached.fresh failed));
     supported = λ is. reads.supported (error_as {A = B} {B = A} e Unsupported is);
     readable = λ is. reads.readable (error_as {A = B} {B = A} e Unwritable is);
@@ -166,14 +166,14 @@ module _ (w u : Relations) (is_strict : Type 0) (max : ℕ) where
 
   -- a scalar that is due is refused
   pub scalar_fails : {A B : Type 0} (kind : Scalar) (value : A → ScalarValue) (view : B → Value) (site : Site) (old new : Cursor) (e : SerdeError) → Some (scalar_type kind) ≡ type_of (kind_at site) → old.due ≡ true
-      → ReadsScalar {A = A} w u is_strict old new site kind value (Err e)
-      → ReadsValue {A = B} w u is_strict max old new site view (Err e)
+      → ReadsScalar {A = A} w u tells_without_limits old new site kind value (Err e)
+      → ReadsValue {A = B} w u tells_without_limits max old new site view (Err e)
   scalar_fails {A} {B} kind value view site old new e is due reads =
       let here = place_told site.table site.place kind is in
       record {
         ok = tt;
         refused = λ fault. subst (λ (p : Place). StandsNot w old site.table p) (sym here) (reads.refused fault due);
-        would = λ strict invalid. subst (λ (p : Place). StandsNot u old site.table p) (sym here) (reads.would strict invalid due);
+        none_without_limits = λ strict invalid. subst (λ (p : Place). StandsNot u old site.table p) (sym here) (reads.none_without_limits strict invalid due);
         failed = ((λ is. reads.conduct.failed.0 (error_as {A = B} {B = A} e Failed is)), λ failed. error_as {A = A} {B = B} e Failed (reads.conduct.failed.1 failed));
         supported = λ is. reads.conduct.supported (error_as {A = B} {B = A} e Unsupported is);
         readable = λ is. reads.conduct.readable (error_as {A = B} {B = A} e Unwritable is);
@@ -187,14 +187,14 @@ module _ (w u : Relations) (is_strict : Type 0) (max : ℕ) where
 
   -- a document that is due is refused
   pub document_fails : {B : Type 0} (view : B → Value) (site : Site) (old new : Cursor) (e : SerdeError) → Some types.Document ≡ type_of (kind_at site) → old.due ≡ true
-      → ReadsDocument w u is_strict max old new site (Err e)
-      → ReadsValue {A = B} w u is_strict max old new site view (Err e)
+      → ReadsDocument w u tells_without_limits max old new site (Err e)
+      → ReadsValue {A = B} w u tells_without_limits max old new site view (Err e)
   document_fails {B} view site old new e is due reads =
       let here = document_told site.table site.place is in
       record {
         ok = tt;
         refused = λ fault. subst (λ (p : Place). StandsNot w old site.table p) (sym here) (reads.refused fault due);
-        would = λ strict invalid. subst (λ (p : Place). StandsNot u old site.table p) (sym here) (reads.would strict invalid due);
+        none_without_limits = λ strict invalid. subst (λ (p : Place). StandsNot u old site.table p) (sym here) (reads.none_without_limits strict invalid due);
         failed = ((λ is. reads.conduct.failed.0 (error_as {A = B} {B = Document} e Failed is)), λ failed. error_as {A = Document} {B = B} e Failed (reads.conduct.failed.1 failed));
         supported = λ is. reads.conduct.supported (error_as {A = B} {B = Document} e Unsupported is);
         readable = λ is. reads.conduct.readable (error_as {A = B} {B = Document} e Unwritable is);
@@ -207,13 +207,13 @@ module _ (w u : Relations) (is_strict : Type 0) (max : ℕ) where
       }
 
   -- a tree is made of what was read, or memory runs out
-  pub tree_made : {B : Type 0} (view : B → Value) (site : Site) (old new : Cursor) (v : Value) (result : Result B SerdeError) → (is_strict → CountsOpeners w)
+  pub tree_made : {B : Type 0} (view : B → Value) (site : Site) (old new : Cursor) (v : Value) (result : Result B SerdeError) → (tells_without_limits → CountsOpeners w)
       → (old.failed ≡ true → ⊥) → Reads w old new site.table site.place v → IfOk result (λ x. view x ≡ v) → IfErr result (λ e. e ≡ NoMemory)
-      → ReadsValue {A = B} w u is_strict max old new site view result
+      → ReadsValue {A = B} w u tells_without_limits max old new site view result
   tree_made {B} view site old new v (Ok x) counts fresh reads made err = record {
     ok = subst (λ (y : Value). Reads w old new site.table site.place y) (sym made) reads;
     refused = λ fault. absurd fault;
-    would = λ strict invalid. absurd invalid;
+    none_without_limits = λ strict invalid. absurd invalid;
     failed = ((λ is. absurd (no_error {A = B} x Failed is)), λ failed. absurd (fresh failed));
     supported = no_error {A = B} x Unsupported;
     readable = no_error {A = B} x Unwritable;
@@ -235,19 +235,19 @@ module _ (w u : Relations) (is_strict : Type 0) (max : ℕ) where
       err
 
   -- of a scalar
-  pub scalar_made : {A B : Type 0} (kind : Scalar) (value : A → ScalarValue) (view : B → Value) (site : Site) (old new : Cursor) (y : A) (x : ScalarValue) (result : Result B SerdeError) → (is_strict → CountsOpeners w)
-      → Some (scalar_type kind) ≡ type_of (kind_at site) → ReadsScalar {A = A} w u is_strict old new site kind value (Ok y)
+  pub scalar_made : {A B : Type 0} (kind : Scalar) (value : A → ScalarValue) (view : B → Value) (site : Site) (old new : Cursor) (y : A) (x : ScalarValue) (result : Result B SerdeError) → (tells_without_limits → CountsOpeners w)
+      → Some (scalar_type kind) ≡ type_of (kind_at site) → ReadsScalar {A = A} w u tells_without_limits old new site kind value (Ok y)
       → value y ≡ x → IfOk result (λ t. view t ≡ scalar_value x) → IfErr result (λ e. e ≡ NoMemory)
-      → ReadsValue {A = B} w u is_strict max old new site view result
+      → ReadsValue {A = B} w u tells_without_limits max old new site view result
   scalar_made {A} {B} kind value view site old new y x result counts is reads same made err =
       tree_made {B = B} view site old new (scalar_value x) result counts (not_failed {A = A} old new y reads.conduct)
       (scalar_read w old new site kind (value y) x (scalar_value x) is reads.ok same refl) made err
 
   -- of a document
-  pub document_made : {B : Type 0} (view : B → Value) (site : Site) (old new : Cursor) (y : Document) (result : Result B SerdeError) → (is_strict → CountsOpeners w)
-      → Some types.Document ≡ type_of (kind_at site) → ReadsDocument w u is_strict max old new site (Ok y)
+  pub document_made : {B : Type 0} (view : B → Value) (site : Site) (old new : Cursor) (y : Document) (result : Result B SerdeError) → (tells_without_limits → CountsOpeners w)
+      → Some types.Document ≡ type_of (kind_at site) → ReadsDocument w u tells_without_limits max old new site (Ok y)
       → IfOk result (λ t. view t ≡ document_value (whole_document (document_view y))) → IfErr result (λ e. e ≡ NoMemory)
-      → ReadsValue {A = B} w u is_strict max old new site view result
+      → ReadsValue {A = B} w u tells_without_limits max old new site view result
   document_made {B} view site old new y result counts is reads made err =
       let v = document_value (whole_document (document_view y)) in
       tree_made {B = B} view site old new v result counts (not_failed {A = Document} old new y reads.conduct)

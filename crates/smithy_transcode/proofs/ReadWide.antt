@@ -14,7 +14,7 @@ use Rattle.smithy_schema.specs.declared.error.SerdeError.{SerdeError}
 use Rattle.smithy_shapes.specs.Table.{Table, Shape, structure, union, list, map, Kind, scalar, document, structure_of, union_of, list_of, map_of, nothing, kind_of, kind_of_shape, kind_of_target, shape_declared, type_of, scalar_type, place_in, scalar_place, document_place, is_document_target, IsDocument, IsInside}
 use Rattle.smithy_shapes.specs.Site.{Site, site_of, kind_at}
 use Rattle.smithy_shapes.specs.Value.{ScalarValue, Value, scalar_value}
-use Rattle.smithy_schema.specs.Reading.{Cursor, Within, depth, Relations, Child, Steps, MatchStep, Reads, Conducts, failed_at}
+use Rattle.smithy_schema.specs.Reading.{Cursor, ContainerKind, depth, Relations, Child, Steps, MatchStep, Reads, Conducts, failed_at}
 use Rattle.smithy_shapes.specs.Lemmas.Kinds.{document_target_is}
 use Rattle.smithy_schema.proofs.ReadContainers.{InContainer}
 use Rattle.smithy_schema.proofs.ReadStructures.{site_told}
@@ -35,14 +35,14 @@ abbrev pub StandsInside : Lying → Cursor → Cursor → Table → Place → Ty
 StandsInside lies old new t p = (q : Place) × (k : ℕ) × (depth new ≡ depth old + k) × IsInside t p k q × StandsAs lies new t q
 
 -- what stands inside of a child, for which the reader is one deeper, stands inside of the whole
-pub inside_child : (lies : Lying) (w u : Relations) (max : ℕ) (s0 s s1 c : Cursor) (t : Table) (p q : Place) (k : Within) (worth : List Child → Option Value) (key : Option (List ℕ)) (n : Option ℕ)
+pub inside_child : (lies : Lying) (w u : Relations) (max : ℕ) (s0 s s1 c : Cursor) (t : Table) (p q : Place) (k : ContainerKind) (worth : List Child → Option Value) (key : Option (List ℕ)) (n : Option ℕ)
     → InContainer w u max s0 s t p k worth → Steps w s s1 t p key → place_in (kind_of t p) n ≡ Some q → StandsInside lies s1 c t q → StandsInside lies s0 c t p
 inside_child lies w u max s0 s s1 c t p q k worth key n inside steps is (r, m, gone, within, there) =
     let deeper : depth s1 ≡ suc (depth s0) = ap length (steps.outer ∙ inside.outer) in
     (r, suc m, omega (arith, gone, deeper), (q, n, is, within), there)
 
 -- in a member
-pub inside_member : (lies : Lying) (w u : Relations) (max : ℕ) (s0 s s1 c : Cursor) (o : Site) (m : Schema) (k : Within) (worth : List Child → Option Value)
+pub inside_member : (lies : Lying) (w u : Relations) (max : ℕ) (s0 s s1 c : Cursor) (o : Site) (m : Schema) (k : ContainerKind) (worth : List Child → Option Value)
     → InContainer w u max s0 s o.table o.place k worth → MatchStep (ToMember m) w s s1 o → StandsInside lies s1 c m.shapes.now m.place → StandsInside lies s0 c o.table o.place
 inside_member lies w u max s0 s s1 c o m k worth inside step there =
     let told = site_told o step.1 (site_of m) step.4 in

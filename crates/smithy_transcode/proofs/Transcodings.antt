@@ -178,20 +178,20 @@ lacking t root from i to v u spelled lack = record {
 told : (t : Table) (root : ℕ) (from : Wire) (i : List ℕ) (to : Wire) (e : SerdeError) (refusal : TranscodeError) → IsToldAs e refusal
     → (IsFault e → SpellNothing from t root i) → (e ≡ serde.InvalidInput → SpellNothingWithoutLimits from t root i) → (e ≡ serde.TooDeep → IsTooDeep from t root i) → (e ≡ serde.TooWide → IsWide from t i) → (e ≡ serde.NotCarried → IsUncarried from t i)
     → Transcodes t root from i to (Err refusal)
-told t root from i to serde.InvalidInput refusal tells nothing would deep wide uncarried = rw tells (record {
+told t root from i to serde.InvalidInput refusal tells nothing none_without_limits deep wide uncarried = rw tells (record {
   answers_ok = tt;
   spelled_is_ok = λ v h fit. absurd (nothing tt v h);
   unfit_is_refused = λ v u h lack. absurd (nothing tt v h);
   answers_inexpressible = λ u h. absurd (let x : Err InvalidInput ≡ Err (Inexpressible u) = h in cc);
   answers_invalid_input = λ h. nothing tt;
-  answers_invalid_without_limits = λ h. would refl;
+  answers_invalid_without_limits = λ h. none_without_limits refl;
   answers_too_deep = λ h. absurd (let x : Err InvalidInput ≡ Err TooDeep = h in cc);
   answers_too_wide = λ h. absurd (let x : Err InvalidInput ≡ Err TooWide = h in cc);
   answers_not_carried = λ h. absurd (let x : Err InvalidInput ≡ Err NotCarried = h in cc);
   equal_bodies = λ read. tt;
   nodes_are_bounded = nodes_are_bounded from t root i;
 })
-told t root from i to serde.TooDeep refusal tells nothing would deep wide uncarried = rw tells (record {
+told t root from i to serde.TooDeep refusal tells nothing none_without_limits deep wide uncarried = rw tells (record {
   answers_ok = tt;
   spelled_is_ok = λ v h fit. absurd (nothing tt v h);
   unfit_is_refused = λ v u h lack. absurd (nothing tt v h);
@@ -204,7 +204,7 @@ told t root from i to serde.TooDeep refusal tells nothing would deep wide uncarr
   equal_bodies = λ read. tt;
   nodes_are_bounded = nodes_are_bounded from t root i;
 })
-told t root from i to serde.TooWide refusal tells nothing would deep wide uncarried = rw tells (record {
+told t root from i to serde.TooWide refusal tells nothing none_without_limits deep wide uncarried = rw tells (record {
   answers_ok = tt;
   spelled_is_ok = λ v h fit. absurd (nothing tt v h);
   unfit_is_refused = λ v u h lack. absurd (nothing tt v h);
@@ -217,7 +217,7 @@ told t root from i to serde.TooWide refusal tells nothing would deep wide uncarr
   equal_bodies = λ read. tt;
   nodes_are_bounded = nodes_are_bounded from t root i;
 })
-told t root from i to serde.NotCarried refusal tells nothing would deep wide uncarried = rw tells (record {
+told t root from i to serde.NotCarried refusal tells nothing none_without_limits deep wide uncarried = rw tells (record {
   answers_ok = tt;
   spelled_is_ok = λ v h fit. absurd (nothing tt v h);
   unfit_is_refused = λ v u h lack. absurd (nothing tt v h);
@@ -230,14 +230,14 @@ told t root from i to serde.NotCarried refusal tells nothing would deep wide unc
   equal_bodies = λ read. tt;
   nodes_are_bounded = nodes_are_bounded from t root i;
 })
-told t root from i to serde.NoMemory refusal tells nothing would deep wide uncarried = rw tells (no_memory t root from i to)
-told t root from i to serde.Unsupported refusal tells nothing would deep wide uncarried = absurd tells
-told t root from i to serde.Unwritable refusal tells nothing would deep wide uncarried = absurd tells
-told t root from i to serde.Failed refusal tells nothing would deep wide uncarried = absurd tells
+told t root from i to serde.NoMemory refusal tells nothing none_without_limits deep wide uncarried = rw tells (no_memory t root from i to)
+told t root from i to serde.Unsupported refusal tells nothing none_without_limits deep wide uncarried = absurd tells
+told t root from i to serde.Unwritable refusal tells nothing none_without_limits deep wide uncarried = absurd tells
+told t root from i to serde.Failed refusal tells nothing none_without_limits deep wide uncarried = absurd tells
 
 pub refused : {A : Type 0} (t : Table) (root : ℕ) (from : Wire) (i : List ℕ) (to : Wire) (r : Result A SerdeError) (e : SerdeError) (refusal : TranscodeError) → r ≡ Err e → IsToldAs e refusal
     → (IsRefused r → SpellNothing from t root i) → (IsInvalid r → SpellNothingWithoutLimits from t root i) → (IsErrOf r serde.TooDeep → IsTooDeep from t root i) → (IsErrOf r serde.TooWide → IsWide from t i) → (IsErrOf r serde.NotCarried → IsUncarried from t i)
     → Transcodes t root from i to (Err refusal)
-refused t root from i to r e refusal is tells nothing would deep wide uncarried =
-    told t root from i to e refusal tells (λ fault. nothing (rw is fault)) (λ invalid. would (rw (is, invalid) tt)) (λ depth. deep (is ∙ ap Err depth)) (λ width. wide (is ∙ ap Err width))
+refused t root from i to r e refusal is tells nothing none_without_limits deep wide uncarried =
+    told t root from i to e refusal tells (λ fault. nothing (rw is fault)) (λ invalid. none_without_limits (rw (is, invalid) tt)) (λ depth. deep (is ∙ ap Err depth)) (λ width. wide (is ∙ ap Err width))
     (λ other. uncarried (is ∙ ap Err other))

@@ -8,12 +8,12 @@ use Rattle.smithy_schema.specs.Reading.{Cursor, Relations, Reads, StandsNot, IsR
 
 -- What a read says where a value was due at the site and the tree that was read stands for `view` of it: by the relations w, and
 -- by u, the relations with the limits lifted.
-pub record ReadsValue {A : Type 0} (w u : Relations) (is_strict : Type 0) (max : ℕ) (old new : Cursor) (site : Site) (view : A → Value) (result : Result A SerdeError) : Type 0 where
+pub record ReadsValue {A : Type 0} (w u : Relations) (tells_without_limits : Type 0) (max : ℕ) (old new : Cursor) (site : Site) (view : A → Value) (result : Result A SerdeError) : Type 0 where
   -- Ok: a value of the place stands here, and the reader is past it
   pub ok : IfOk result (λ x. Reads w old new site.table site.place (view x))
   -- a refusal: no value of the place stands here; and none would, were the limits lifted
   pub refused : IsRefused result → StandsNot w old site.table site.place
-  pub would : is_strict → IsInvalid result → StandsNot u old site.table site.place
+  pub none_without_limits : tells_without_limits → IsInvalid result → StandsNot u old site.table site.place
   pub failed : IsErrOf result Failed ↔ (old.failed ≡ true)
   pub supported : IsErrOf result Unsupported → ⊥
   pub readable : IsErrOf result Unwritable → ⊥
@@ -27,4 +27,4 @@ pub record ReadsValue {A : Type 0} (w u : Relations) (is_strict : Type 0) (max :
   pub uncarried : IsErrOf result NotCarried → UncarriedInside w old new site.table site.place
   -- the read keeps the input, whatever it answers
   pub input : new.input ≡ old.input
-  pub counted : is_strict → IsCounted w old → IsCounted w new
+  pub counted : tells_without_limits → IsCounted w old → IsCounted w new

@@ -19,7 +19,7 @@ pub fn read_value<D: ShapeDeserializer>(
 ) -> Result<Value, SerdeError>
     requires due { (D.state source.old).due ≡ true }
     ensures same { D.settings source.new ≡ D.settings source.old }
-    ensures reads { let s = D.settings source.old in ReadsValue (D.wire s) (D.lifted s) (D.is_strict s) (D.max_depth s) (D.state source.old) (D.state source.new) (site_of schema.now) view result }
+    ensures reads { let s = D.settings source.old in ReadsValue (D.wire s) (D.lifted s) (D.tells_without_limits s) (D.max_depth s) (D.state source.old) (D.state source.new) (site_of schema.now) view result }
 {
     read_tree::<Value, D>(alloc, source, schema)
 }
@@ -34,7 +34,7 @@ pub(crate) fn read_tree<T: Tree, D: ShapeDeserializer>(
 ) -> Result<T, SerdeError>
     requires due { (D.state source.old).due ≡ true }
     ensures same { D.settings source.new ≡ D.settings source.old }
-    ensures reads { let s = D.settings source.old in ReadsValue (D.wire s) (D.lifted s) (D.is_strict s) (D.max_depth s) (D.state source.old) (D.state source.new) (site_of schema.now) T.view result }
+    ensures reads { let s = D.settings source.old in ReadsValue (D.wire s) (D.lifted s) (D.tells_without_limits s) (D.max_depth s) (D.state source.old) (D.state source.new) (site_of schema.now) T.view result }
 {
     match schema.shape_type() {
         ShapeType::Boolean => Ok(T::boolean(source.read_boolean(schema)?)),
@@ -66,7 +66,7 @@ fn read_out_of_line<T: Tree, D: ShapeDeserializer>(
     requires due { (D.state source.old).due ≡ true }
     requires rare { IsRare (type_of (kind_at (site_of schema.now))) }
     ensures same { D.settings source.new ≡ D.settings source.old }
-    ensures reads { let s = D.settings source.old in ReadsValue (D.wire s) (D.lifted s) (D.is_strict s) (D.max_depth s) (D.state source.old) (D.state source.new) (site_of schema.now) T.view result }
+    ensures reads { let s = D.settings source.old in ReadsValue (D.wire s) (D.lifted s) (D.tells_without_limits s) (D.max_depth s) (D.state source.old) (D.state source.new) (site_of schema.now) T.view result }
 {
     match schema.shape_type() {
         ShapeType::BigInteger => match source.read_big_integer(schema)?.to_i128() {
@@ -103,7 +103,7 @@ fn read_structure<T: Tree, D: ShapeDeserializer>(
     requires due { (D.state source.old).due ≡ true }
     requires place { IsStructure (kind_at (site_of schema.now)) }
     ensures same { D.settings source.new ≡ D.settings source.old }
-    ensures reads { let s = D.settings source.old in ReadsValue (D.wire s) (D.lifted s) (D.is_strict s) (D.max_depth s) (D.state source.old) (D.state source.new) (site_of schema.now) T.view result }
+    ensures reads { let s = D.settings source.old in ReadsValue (D.wire s) (D.lifted s) (D.tells_without_limits s) (D.max_depth s) (D.state source.old) (D.state source.new) (site_of schema.now) T.view result }
 {
     source.open_struct(schema)?;
     let mut members = T::no_members(alloc);
@@ -132,7 +132,7 @@ fn read_union<T: Tree, D: ShapeDeserializer>(
     requires due { (D.state source.old).due ≡ true }
     requires place { IsUnion (kind_at (site_of schema.now)) }
     ensures same { D.settings source.new ≡ D.settings source.old }
-    ensures reads { let s = D.settings source.old in ReadsValue (D.wire s) (D.lifted s) (D.is_strict s) (D.max_depth s) (D.state source.old) (D.state source.new) (site_of schema.now) T.view result }
+    ensures reads { let s = D.settings source.old in ReadsValue (D.wire s) (D.lifted s) (D.tells_without_limits s) (D.max_depth s) (D.state source.old) (D.state source.new) (site_of schema.now) T.view result }
 {
     source.open_struct(schema)?;
     let Step::Member(member) = source.next_member(schema)? else {
@@ -160,7 +160,7 @@ fn read_list<T: Tree, D: ShapeDeserializer>(
     requires due { (D.state source.old).due ≡ true }
     requires place { IsList (kind_at (site_of schema.now)) }
     ensures same { D.settings source.new ≡ D.settings source.old }
-    ensures reads { let s = D.settings source.old in ReadsValue (D.wire s) (D.lifted s) (D.is_strict s) (D.max_depth s) (D.state source.old) (D.state source.new) (site_of schema.now) T.view result }
+    ensures reads { let s = D.settings source.old in ReadsValue (D.wire s) (D.lifted s) (D.tells_without_limits s) (D.max_depth s) (D.state source.old) (D.state source.new) (site_of schema.now) T.view result }
 {
     source.open_list(schema)?;
     let sparse = schema.is_sparse();
@@ -190,7 +190,7 @@ fn read_map<T: Tree, D: ShapeDeserializer>(
     requires due { (D.state source.old).due ≡ true }
     requires place { IsMap (kind_at (site_of schema.now)) }
     ensures same { D.settings source.new ≡ D.settings source.old }
-    ensures reads { let s = D.settings source.old in ReadsValue (D.wire s) (D.lifted s) (D.is_strict s) (D.max_depth s) (D.state source.old) (D.state source.new) (site_of schema.now) T.view result }
+    ensures reads { let s = D.settings source.old in ReadsValue (D.wire s) (D.lifted s) (D.tells_without_limits s) (D.max_depth s) (D.state source.old) (D.state source.new) (site_of schema.now) T.view result }
 {
     source.open_map(schema)?;
     let sparse = schema.is_sparse();

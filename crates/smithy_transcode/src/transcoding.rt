@@ -63,7 +63,7 @@ fn read_body(
     ensures accepted { IsAccepted shapes.now }
     ensures ok { IfOk result (λ v. Spells (wire_of from.now) shapes.now root.0 input.now (view v)) }
     ensures refused { IsRefused result → SpellNothing (wire_of from.now) shapes.now root.0 input.now }
-    ensures would { IsInvalid result → SpellNothingWithoutLimits (wire_of from.now) shapes.now root.0 input.now }
+    ensures none_without_limits { IsInvalid result → SpellNothingWithoutLimits (wire_of from.now) shapes.now root.0 input.now }
     ensures deep { IsErrOf result SerdeError.TooDeep → IsTooDeep (wire_of from.now) shapes.now root.0 input.now }
     ensures wide { IsErrOf result SerdeError.TooWide → IsWide (wire_of from.now) shapes.now input.now }
     ensures uncarried { IsErrOf result SerdeError.NotCarried → IsUncarried (wire_of from.now) shapes.now input.now }

@@ -13,9 +13,9 @@ use Rattle.smithy_shapes.specs.Value.{document_value}
 use Rattle.smithy_schema.specs.Reading.{Cursor, depth, Relations, IsLawful, StandsNot, IsRefused, IsInvalid, Uncarried, ReachesDepth, ReadsDocument, failed_at, passed_to}
 use Rattle.smithy_wire.proofs.ScalarReads.{fails_again, conducts, goes_on}
 
-module _ (w u : Relations) (is_strict : Type 0) (max : ℕ) (site : Site) where
+module _ (w u : Relations) (tells_without_limits : Type 0) (max : ℕ) (site : Site) where
   abbrev Says : Cursor → Cursor → Result Document SerdeError → Type 0
-  Says old new result = ReadsDocument w u is_strict max old new site result
+  Says old new result = ReadsDocument w u tells_without_limits max old new site result
 
   abbrev at : Place
   at = document_place site.place.time
@@ -31,7 +31,7 @@ module _ (w u : Relations) (is_strict : Type 0) (max : ℕ) (site : Site) where
     ok = tt;
     variants = tt;
     refused = λ fault. absurd fault;
-    would = λ strict fault. absurd fault;
+    none_without_limits = λ strict fault. absurd fault;
   }
 
   -- the input is refused, where nothing stands or no value is due
@@ -47,7 +47,7 @@ module _ (w u : Relations) (is_strict : Type 0) (max : ℕ) (site : Site) where
     ok = tt;
     variants = tt;
     refused = λ fault due. (none due).0;
-    would = λ strict fault due. (none due).1;
+    none_without_limits = λ strict fault due. (none due).1;
   }
 
   -- want of memory
@@ -62,7 +62,7 @@ module _ (w u : Relations) (is_strict : Type 0) (max : ℕ) (site : Site) where
     ok = tt;
     variants = tt;
     refused = λ fault. absurd fault;
-    would = λ strict fault. absurd fault;
+    none_without_limits = λ strict fault. absurd fault;
   }
 
   -- a document that nests too deep
@@ -78,7 +78,7 @@ module _ (w u : Relations) (is_strict : Type 0) (max : ℕ) (site : Site) where
     ok = tt;
     variants = tt;
     refused = λ fault due. none;
-    would = λ strict fault. absurd fault;
+    none_without_limits = λ strict fault. absurd fault;
   }
 
   -- what no document carries
@@ -94,7 +94,7 @@ module _ (w u : Relations) (is_strict : Type 0) (max : ℕ) (site : Site) where
     ok = tt;
     variants = tt;
     refused = λ fault due. none;
-    would = λ strict fault. absurd fault;
+    none_without_limits = λ strict fault. absurd fault;
   }
 
   -- a reader that isn't ready answers so
@@ -129,7 +129,7 @@ module _ (w u : Relations) (is_strict : Type 0) (max : ℕ) (site : Site) where
           ok = record { stands = stands.0; passes = record { input = refl; inner = refl; outer = refl; due = refl; failed = sound } };
           variants = stands.1;
           refused = λ fault. absurd fault;
-          would = λ strict fault. absurd fault;
+          none_without_limits = λ strict fault. absurd fault;
         })
 
     -- of what was found, or not
@@ -139,16 +139,16 @@ module _ (w u : Relations) (is_strict : Type 0) (max : ℕ) (site : Site) where
         → (IsErrOf found TooDeep → ReachesDepth w max old) → (IsErrOf found TooDeep → w.limits_skips ≡ true) → (IsErrOf found NotCarried → Uncarried w old site.table at)
         → IfOk result (λ x. IfOk found (λ r. (r.0 ≡ x) × (new ≡ passed_to old r.1))) → (IsOk result → IsOk found)
         → OnErr result (new ≡ failed_at old) → IfErr result (λ e. found ≡ Err e) → Says old new result
-    takes_document new (Ok r) (Ok x) stands kind none would deep limits cause taken some stays error = subst (λ y. Says old new (Ok y)) taken.0 (reads new r.0 r.1 stands taken.1)
-    takes_document new (Err e) (Ok x) stands kind none would deep limits cause taken some stays error = absurd (let no' = some refl in cc)
-    takes_document new (Ok r) (Err e) stands kind none would deep limits cause taken some stays error = absurd (let no' : ◌≡◌ {A = Result (Document × ℕ) SerdeError} (Ok r) (Err e) = error in cc)
-    takes_document new (Err g) (Err e) stands kind none would deep limits cause taken some stays error = by kind
+    takes_document new (Ok r) (Ok x) stands kind none none_without_limits deep limits cause taken some stays error = subst (λ y. Says old new (Ok y)) taken.0 (reads new r.0 r.1 stands taken.1)
+    takes_document new (Err e) (Ok x) stands kind none none_without_limits deep limits cause taken some stays error = absurd (let no' = some refl in cc)
+    takes_document new (Ok r) (Err e) stands kind none none_without_limits deep limits cause taken some stays error = absurd (let no' : ◌≡◌ {A = Result (Document × ℕ) SerdeError} (Ok r) (Err e) = error in cc)
+    takes_document new (Err g) (Err e) stands kind none none_without_limits deep limits cause taken some stays error = by kind
       where
         same : g ≡ e
         same = cc
 
         by : (g ≡ InvalidInput) ⊎ (g ≡ TooDeep) ⊎ (g ≡ NotCarried) ⊎ (g ≡ NoMemory) → Says old new (Err e)
-        by (inl is) = rw (← same, is) (refuses old new stays within sound (λ due. (none (rw is tt), would (rw is tt))))
+        by (inl is) = rw (← same, is) (refuses old new stays within sound (λ due. (none (rw is tt), none_without_limits (rw is tt))))
         by (inr (inl is)) = rw (← same, is) (is_too_deep old new stays within sound due (deep (ap Err is)) (limits (ap Err is)) (none (rw is tt)))
         by (inr (inr (inl is))) = rw (← same, is) (carries_not old new stays within sound due (cause (ap Err is)) (none (rw is tt)))
         by (inr (inr (inr is))) = rw (← same, is) (runs_out old new stays within sound)

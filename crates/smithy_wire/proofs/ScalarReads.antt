@@ -69,9 +69,9 @@ goes_on old new x sound ahead within = record {
   within = within;
 }
 
-module _ {A : Type 0} (w u : Relations) (is_strict : Type 0) (site : Site) (s : Scalar) (value : A → ScalarValue) where
+module _ {A : Type 0} (w u : Relations) (tells_without_limits : Type 0) (site : Site) (s : Scalar) (value : A → ScalarValue) where
   abbrev Says : Cursor → Cursor → Result A SerdeError → Type 0
-  Says old new result = ReadsScalar w u is_strict old new site s value result
+  Says old new result = ReadsScalar w u tells_without_limits old new site s value result
 
   -- nothing of the kind stands there, whatever the limits
   abbrev pub NoneStands : Cursor → Type 0
@@ -87,7 +87,7 @@ module _ {A : Type 0} (w u : Relations) (is_strict : Type 0) (site : Site) (s : 
     undue = λ h. tt;
     ok = tt;
     refused = λ fault. absurd fault;
-    would = λ strict fault. absurd fault;
+    none_without_limits = λ strict fault. absurd fault;
   }
 
   -- the input is refused, where nothing stands or no value is due
@@ -101,7 +101,7 @@ module _ {A : Type 0} (w u : Relations) (is_strict : Type 0) (site : Site) (s : 
     undue = λ h. tt;
     ok = tt;
     refused = λ fault due. (none due).0;
-    would = λ strict fault due. (none due).1;
+    none_without_limits = λ strict fault due. (none due).1;
   }
 
   -- want of memory
@@ -114,7 +114,7 @@ module _ {A : Type 0} (w u : Relations) (is_strict : Type 0) (site : Site) (s : 
     undue = λ h. tt;
     ok = tt;
     refused = λ fault. absurd fault;
-    would = λ strict fault. absurd fault;
+    none_without_limits = λ strict fault. absurd fault;
   }
 
   -- a number that leaves its limits
@@ -128,7 +128,7 @@ module _ {A : Type 0} (w u : Relations) (is_strict : Type 0) (site : Site) (s : 
     undue = λ h. absurd (let both : true ≡ false = sym due ∙ h in cc);
     ok = tt;
     refused = λ fault due. none;
-    would = λ strict fault. absurd fault;
+    none_without_limits = λ strict fault. absurd fault;
   }
 
   -- what the kind can't carry
@@ -142,7 +142,7 @@ module _ {A : Type 0} (w u : Relations) (is_strict : Type 0) (site : Site) (s : 
     undue = λ h. absurd (let both : true ≡ false = sym due ∙ h in cc);
     ok = tt;
     refused = λ fault due. none;
-    would = λ strict fault. absurd fault;
+    none_without_limits = λ strict fault. absurd fault;
   }
 
   -- a reader that isn't ready answers so
@@ -172,7 +172,7 @@ module _ {A : Type 0} (w u : Relations) (is_strict : Type 0) (site : Site) (s : 
           undue = λ h. absurd (let both : true ≡ false = sym due ∙ h in cc);
           ok = record { stands = stands; passes = record { input = refl; inner = refl; outer = refl; due = refl; failed = sound } };
           refused = λ fault. absurd fault;
-          would = λ strict fault. absurd fault;
+          none_without_limits = λ strict fault. absurd fault;
         })
 
     -- of what was found, or not

@@ -1,13 +1,13 @@
 -- Where a walk stands, as the contract of reading sees it.
 use Rattle.std.specs.Prelude.{ℕ, List, [], ◌∷◌, map, reverse, None, true, false}
-use Rattle.smithy_schema.specs.Reading.{Cursor, Frame, Mark, Within, outside, in_structure, in_list, in_map}
-use Rattle.smithy_wire.specs.declared.walk.Within.{Within as HeldWithin}
-use Rattle.smithy_wire.specs.declared.walk.Within.TheVariants as held
+use Rattle.smithy_schema.specs.Reading.{Cursor, Frame, Mark, ContainerKind, outside, in_structure, in_list, in_map}
+use Rattle.smithy_wire.specs.declared.walk.ContainerKind.{ContainerKind as HeldWithin}
+use Rattle.smithy_wire.specs.declared.walk.ContainerKind.TheVariants as held
 use Rattle.smithy_wire.specs.declared.walk.Mark.{Mark as HeldMark}
 use Rattle.smithy_wire.specs.declared.walk.Frame.{Frame as HeldFrame}
 use Rattle.smithy_wire.specs.declared.walk.Walk.{Walk}
 
-abbrev pub within_of : HeldWithin → Within
+abbrev pub within_of : HeldWithin → ContainerKind
 within_of held.Outside = outside
 within_of held.Structure = in_structure
 within_of held.List = in_list

@@ -6,7 +6,7 @@ use std::alloc::Global;
 
 /// What a frame is of: a kind of container, or what stands outside of all containers.
 #[derive(Clone, Copy)]
-pub enum Within {
+pub enum ContainerKind {
     Outside,
     /// A structure or a union.
     Structure,
@@ -28,7 +28,7 @@ pub struct Mark {
 /// What a reader keeps of an open container, and outside of all.
 #[derive(Clone, Copy)]
 pub struct Frame {
-    pub within: Within,
+    pub within: ContainerKind,
     pub mark: Mark,
 }
 
@@ -66,7 +66,7 @@ impl<'a> Walk<'a> {
             input,
             position: 0,
             inner: Frame {
-                within: Within::Outside,
+                within: ContainerKind::Outside,
                 mark: Mark {
                     entered: false,
                     at_end: false,

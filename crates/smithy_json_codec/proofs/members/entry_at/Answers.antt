@@ -68,14 +68,14 @@ returns-in_err-end-clause-refused c =
     mark_stays (passing (held_settings c.args.input.settings) (site_of c.args.schema.now)) c.args.input.settings.max_depth c.args.depth c.args.input.bytes.now c.args.at c.args.entered c.in-Some-Member.name.raw.now c.in-Some-Member.name.end stands.names
     (sym c.passes_marks.ensures ∙ c.if-not-passes_marks.false) is (λ e lies passes. c.in_default.ensures.none e lies) (NoSkipWithin c.args.input.settings.max_depth c.args.depth c.args.input.bytes.now) c.in_err-end.ensures.refused)
 
-pub returns-in_err-end-clause-would : goal.returns-in_err-end-clause-would
-returns-in_err-end-clause-would c =
+pub returns-in_err-end-clause-none_without_limits : goal.returns-in_err-end-clause-none_without_limits
+returns-in_err-end-clause-none_without_limits c =
     let p = err_from_is_err_and c.from_residual-in_err-end.result c.from_residual-in_err-end.ensures.1 in
     rw (p.1, p.2) (λ invalid.
     let stands = rw c.in-Some-Member.field-0-is at c.in-Some-Member.ensures in
     let is = c.in_ok-text.ensures.ok ∙ ap Some (sym c.as_str-2.ensures.value ∙ c.is_type_name.ensures.0 c.if-not-is_type_name.false) in
     mark_stays (passing (held_settings c.args.input.settings) (site_of c.args.schema.now)) c.args.input.settings.max_depth c.args.depth c.args.input.bytes.now c.args.at c.args.entered c.in-Some-Member.name.raw.now c.in-Some-Member.name.end stands.names
-    (sym c.passes_marks.ensures ∙ c.if-not-passes_marks.false) is (λ e lies passes. c.in_default.ensures.none e lies) (NoSkip c.args.depth c.args.input.bytes.now) (c.in_err-end.ensures.would invalid))
+    (sym c.passes_marks.ensures ∙ c.if-not-passes_marks.false) is (λ e lies passes. c.in_default.ensures.none e lies) (NoSkip c.args.depth c.args.input.bytes.now) (c.in_err-end.ensures.none_without_limits invalid))
 
 pub returns-in_err-end-clause-deep : goal.returns-in_err-end-clause-deep
 returns-in_err-end-clause-deep c =

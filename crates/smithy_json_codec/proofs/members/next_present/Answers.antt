@@ -40,13 +40,13 @@ returns-in_err-end-clause-refused c =
     nothing_kept (passing (held_settings c.args.input.settings) (site_of c.args.schema.now)) c.args.input.settings.max_depth c.args.depth c.args.input.bytes.now c.args.at c.args.entered passes.0 c.loop-end.at c.loop-end.entered passes.1
     (NoSkipWithin c.args.input.settings.max_depth c.args.depth c.args.input.bytes.now) (c.in_err-end.ensures.refused fault))
 
-pub returns-in_err-end-clause-would : goal.returns-in_err-end-clause-would
-returns-in_err-end-clause-would c =
+pub returns-in_err-end-clause-none_without_limits : goal.returns-in_err-end-clause-none_without_limits
+returns-in_err-end-clause-none_without_limits c =
     let p = err_from_is_err_and c.from_residual.result c.from_residual.ensures.1 in
     rw (p.1, p.2) (λ invalid.
     let passes = c.loop-end.invariant.passes in
     nothing_kept (passing (held_settings c.args.input.settings) (site_of c.args.schema.now)) c.args.input.settings.max_depth c.args.depth c.args.input.bytes.now c.args.at c.args.entered passes.0 c.loop-end.at c.loop-end.entered passes.1
-    (NoSkip c.args.depth c.args.input.bytes.now) (c.in_err-end.ensures.would invalid))
+    (NoSkip c.args.depth c.args.input.bytes.now) (c.in_err-end.ensures.none_without_limits invalid))
 
 pub returns-in_err-end-clause-deep : goal.returns-in_err-end-clause-deep
 returns-in_err-end-clause-deep c =

@@ -126,8 +126,8 @@ returns-in_default-clause-refused c =
     no_next_step c.args.input.settings.max_depth c.args.depth c.loop-due.is_object c.loop-due.open c.loop-due.due c.loop-due.entered c.args.input.bytes.now c.args.at c.loop-due.at
     c.loop-due.invariant.way c.loop-due.invariant.within c.loop-due.invariant.shallow some (rw c.in_default.is at c.next_step.ensures) c.args.input.settings.max_depth
 
-pub returns-in_default-clause-would : goal.returns-in_default-clause-would
-returns-in_default-clause-would c = λ invalid.
+pub returns-in_default-clause-none_without_limits : goal.returns-in_default-clause-none_without_limits
+returns-in_default-clause-none_without_limits c = λ invalid.
     let some : c.loop-due.due ≡ false → 0 < c.loop-due.open = λ is. elim c.if-due.branch [
       | then-due w ↦ absurd (at_odds w.if-due.true is)
       | else-due+then-open-gt0 w ↦ w.if-open-gt0.true

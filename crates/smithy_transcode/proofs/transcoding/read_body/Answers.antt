@@ -17,10 +17,10 @@ returns-in-Json-clause-refused c =
     let begins = json_begins (wire_of c.args.from.now) c.in-Json.use_json_name (reading_settings_of c.create_deserializer-source.result) (cursor_of c.create_deserializer-source.result) c.schema-schema.result c.args.shapes.now c.args.root.0 c.args.input.now (ap wire_of c.in-Json.is) (c.create_deserializer-source.ensures.settings ∙ c.strict.ensures) c.create_deserializer-source.ensures.fresh c.schema-schema.ensures.site c.requires.root in
     λ refused. unread_spells_nothing begins (c.read_tree.ensures.reads.refused refused)
 
-pub returns-in-Json-clause-would : goal.returns-in-Json-clause-would
-returns-in-Json-clause-would c =
+pub returns-in-Json-clause-none_without_limits : goal.returns-in-Json-clause-none_without_limits
+returns-in-Json-clause-none_without_limits c =
     let begins = json_begins (wire_of c.args.from.now) c.in-Json.use_json_name (reading_settings_of c.create_deserializer-source.result) (cursor_of c.create_deserializer-source.result) c.schema-schema.result c.args.shapes.now c.args.root.0 c.args.input.now (ap wire_of c.in-Json.is) (c.create_deserializer-source.ensures.settings ∙ c.strict.ensures) c.create_deserializer-source.ensures.fresh c.schema-schema.ensures.site c.requires.root in
-    λ invalid. unread_spells_nothing_without_limits begins (c.read_tree.ensures.reads.would tt invalid)
+    λ invalid. unread_spells_nothing_without_limits begins (c.read_tree.ensures.reads.none_without_limits tt invalid)
 
 pub returns-in-Json-clause-deep : goal.returns-in-Json-clause-deep
 returns-in-Json-clause-deep c =
@@ -37,10 +37,10 @@ returns-in-Cbor-clause-refused c =
     let begins = cbor_begins (wire_of c.args.from.now) (cbor_settings_of c.create_deserializer-source-in-Cbor.result) (cbor_cursor_of c.create_deserializer-source-in-Cbor.result) c.schema-schema.result c.args.shapes.now c.args.root.0 c.args.input.now (ap wire_of c.in-Cbor.is) (c.create_deserializer-source-in-Cbor.ensures.settings ∙ c.strict-in-Cbor.ensures) c.create_deserializer-source-in-Cbor.ensures.fresh c.schema-schema.ensures.site c.requires.root in
     λ refused. unread_spells_nothing begins (c.read_tree-in-Cbor.ensures.reads.refused refused)
 
-pub returns-in-Cbor-clause-would : goal.returns-in-Cbor-clause-would
-returns-in-Cbor-clause-would c =
+pub returns-in-Cbor-clause-none_without_limits : goal.returns-in-Cbor-clause-none_without_limits
+returns-in-Cbor-clause-none_without_limits c =
     let begins = cbor_begins (wire_of c.args.from.now) (cbor_settings_of c.create_deserializer-source-in-Cbor.result) (cbor_cursor_of c.create_deserializer-source-in-Cbor.result) c.schema-schema.result c.args.shapes.now c.args.root.0 c.args.input.now (ap wire_of c.in-Cbor.is) (c.create_deserializer-source-in-Cbor.ensures.settings ∙ c.strict-in-Cbor.ensures) c.create_deserializer-source-in-Cbor.ensures.fresh c.schema-schema.ensures.site c.requires.root in
-    λ invalid. unread_spells_nothing_without_limits begins (c.read_tree-in-Cbor.ensures.reads.would tt invalid)
+    λ invalid. unread_spells_nothing_without_limits begins (c.read_tree-in-Cbor.ensures.reads.none_without_limits tt invalid)
 
 pub returns-in-Cbor-clause-deep : goal.returns-in-Cbor-clause-deep
 returns-in-Cbor-clause-deep c =

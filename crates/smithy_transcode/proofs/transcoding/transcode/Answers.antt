@@ -6,7 +6,7 @@ use Rattle.smithy_transcode.proofs.transcoding.transcode.Goals as goal
 pub returns-in-Err : goal.returns-in-Err
 returns-in-Err c =
     refused c.args.shapes.now c.args.root.0 (wire_of c.args.from.now) c.args.input.now (wire_of c.args.to.now) c.read_body.result c.in-Err.error c.refusal.result c.in-Err.is c.refusal.ensures
-    c.read_body.ensures.refused c.read_body.ensures.would c.read_body.ensures.deep c.read_body.ensures.wide c.read_body.ensures.uncarried
+    c.read_body.ensures.refused c.read_body.ensures.none_without_limits c.read_body.ensures.deep c.read_body.ensures.wide c.read_body.ensures.uncarried
 
 pub returns-in-Some : goal.returns-in-Some
 returns-in-Some c =

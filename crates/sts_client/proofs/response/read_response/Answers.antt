@@ -23,5 +23,5 @@ returns-in_err-read_struct-clause-refused g c =
     let d = g.D.ShapeDeserializer in
     let s = d.settings c.args.source.now in
     rw (p.1, p.2)
-    (λ fault due. members_refused response_fields (reader (d.wire s) (d.lifted s) (d.is_strict s) (d.max_depth s)) (site_of c.args.schema.now) (g.met.D.ShapeDeserializer.lawful s) c.requires.place.is_structure
+    (λ fault due. members_refused response_fields (reader (d.wire s) (d.lifted s) (d.tells_without_limits s) (d.max_depth s)) (site_of c.args.schema.now) (g.met.D.ShapeDeserializer.lawful s) c.requires.place.is_structure
     _ _ _ _ _ c.in_err-read_struct.ensures.consumes c.in_err-read_struct.field-0.0 refl fault due)

@@ -16,5 +16,5 @@ returns-in_err-read_struct-clause-refused g c =
     let d = g.D.ShapeDeserializer in
     let s = d.settings c.args.source.now in
     rw (p.1, p.2)
-    (λ fault due. fields_refused user_fields user_targets (reader (d.wire s) (d.lifted s) (d.is_strict s) (d.max_depth s)) (site_of c.args.schema.now) (g.met.D.ShapeDeserializer.lawful s) c.requires.place
+    (λ fault due. fields_refused user_fields user_targets (reader (d.wire s) (d.lifted s) (d.tells_without_limits s) (d.max_depth s)) (site_of c.args.schema.now) (g.met.D.ShapeDeserializer.lawful s) c.requires.place
     _ _ _ _ _ c.in_err-read_struct.ensures.consumes c.in_err-read_struct.field-0.0 refl fault due)

@@ -28,8 +28,8 @@ returns-else-may_leave-clause-refused c = λ fault due t p list.
     list_shut (reading_settings_of c.args.self.now) (cursor_of c.args.self.now) t p list c.in-Some-End.end c.depth.result c.depth.ensures next
     (λ follows. let may = c.may_leave.ensures.1 follows in let both : true ≡ false = sym may ∙ c.if-may_leave.false in cc)
 
-pub returns-else-may_leave-clause-would : goal.returns-else-may_leave-clause-would
-returns-else-may_leave-clause-would c = λ strict invalid due t p list.
+pub returns-else-may_leave-clause-none_without_limits : goal.returns-else-may_leave-clause-none_without_limits
+returns-else-may_leave-clause-none_without_limits c = λ strict invalid due t p list.
     let next = rw c.in-Some-End.field-0-is at c.in-Some-End.ensures in
     list_shut (without_limits (reading_settings_of c.args.self.now)) (cursor_of c.args.self.now) t p list c.in-Some-End.end c.depth.result c.depth.ensures next
     (λ follows. let may = c.may_leave.ensures.1 follows in let both : true ≡ false = sym may ∙ c.if-may_leave.false in cc)
@@ -38,6 +38,6 @@ pub returns-in-None-clause-refused : goal.returns-in-None-clause-refused
 returns-in-None-clause-refused c = λ fault due t p list.
     list_stuck (reading_settings_of c.args.self.now) (cursor_of c.args.self.now) t p list c.in-None.ensures.0 (λ e over follows. c.in-None.ensures.1 e over)
 
-pub returns-in-None-clause-would : goal.returns-in-None-clause-would
-returns-in-None-clause-would c = λ strict invalid due t p list.
+pub returns-in-None-clause-none_without_limits : goal.returns-in-None-clause-none_without_limits
+returns-in-None-clause-none_without_limits c = λ strict invalid due t p list.
     list_stuck (without_limits (reading_settings_of c.args.self.now)) (cursor_of c.args.self.now) t p list c.in-None.ensures.0 (λ e over follows. c.in-None.ensures.1 e over)

@@ -36,8 +36,8 @@ returns-in-Err-clause-refused c = λ fault due t p map.
     let is : c.in-Err.error ≡ InvalidInput = input_fault c.in-Err.error c.in-Err.ensures.kind (rw c.refuse-in-Err.ensures.error at fault) in
     map_stuck (reading_settings_of c.args.self.now) (cursor_of c.args.self.now) t p map c.depth.result c.depth.ensures (c.in-Err.ensures.none is)
 
-pub returns-in-Err-clause-would : goal.returns-in-Err-clause-would
-returns-in-Err-clause-would c = λ strict invalid due t p map.
+pub returns-in-Err-clause-none_without_limits : goal.returns-in-Err-clause-none_without_limits
+returns-in-Err-clause-none_without_limits c = λ strict invalid due t p map.
     let is : c.in-Err.error ≡ InvalidInput = elim c.in-Err.ensures.kind [
       | inl input ↦ input
       | inr memory ↦ absurd (rw (c.refuse-in-Err.ensures.error, memory) at invalid)

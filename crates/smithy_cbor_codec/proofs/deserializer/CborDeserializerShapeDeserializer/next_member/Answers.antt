@@ -15,8 +15,8 @@ returns-then-not-self-clause-refused c =
     λ refused due. stays_undue (reading_settings_of c.args.self.now) (cursor_of c.args.self.now) c.args.schema.now.shapes.now c.args.schema.now.place due
     (c.step_from.ensures.refused refused (reading_settings_of c.args.self.now))
 
-pub returns-then-not-self-clause-would : goal.returns-then-not-self-clause-would
-returns-then-not-self-clause-would c =
+pub returns-then-not-self-clause-none_without_limits : goal.returns-then-not-self-clause-none_without_limits
+returns-then-not-self-clause-none_without_limits c =
     λ strict invalid due. stays_undue (without_limits (reading_settings_of c.args.self.now)) (cursor_of c.args.self.now) c.args.schema.now.shapes.now c.args.schema.now.place due
     (c.step_from.ensures.refused (invalid_refused c.step_from.result invalid) (without_limits (reading_settings_of c.args.self.now)))
 

@@ -52,8 +52,8 @@ returns-in-None-clause-refused c =
     λ fault due allows. opens_no_members o old.input c.args.schema.now.shapes.now c.args.schema.now.place c.requires.place (depth old) old.at (rw same at c.in-None.ensures.none)
     (rw same at (not_missing c.is_missing.result _ _ c.is_missing.ensures c.if-is_missing.false))
 
-pub returns-in-None-clause-would : goal.returns-in-None-clause-would
-returns-in-None-clause-would c =
+pub returns-in-None-clause-none_without_limits : goal.returns-in-None-clause-none_without_limits
+returns-in-None-clause-none_without_limits c =
     let same : c.ready.new.self ≡ c.args.self.now.walk = c.in_ok-ready.ensures.ok in
     let o = without_limits (reading_settings_of c.args.self.now) in
     let old = cursor_of c.args.self.now in

@@ -27,8 +27,8 @@ returns-in-Err-clause-refused c = λ fault due.
     let none = c.in-Err.ensures.none (input_fault c.in-Err.fault c.in-Err.ensures.kind (rw c.refuse.ensures.error at fault)) in
     skips_not (reading_settings_of c.args.self.now) (cursor_of c.args.self.now) c.depth.result (rw same at c.depth.ensures) (rw same at none)
 
-pub returns-in-Err-clause-would : goal.returns-in-Err-clause-would
-returns-in-Err-clause-would c = λ strict invalid due.
+pub returns-in-Err-clause-none_without_limits : goal.returns-in-Err-clause-none_without_limits
+returns-in-Err-clause-none_without_limits c = λ strict invalid due.
     let same : c.ready.new.self ≡ c.args.self.now.walk = c.in_ok-ready.ensures.ok in
     let is : c.in-Err.fault ≡ InvalidInput = elim c.in-Err.ensures.kind [
       | inl input ↦ input

@@ -69,12 +69,12 @@ returns-in-Err-clause-refused c = λ fault.
       | else-ends_empty-via-else-ends_empty w ↦ let clash : true ≡ false = sym (c.ends_empty.ensures.1 ended) ∙ w.if-ends_empty.false in cc
     ])
 
-pub returns-in-Err-clause-would : goal.returns-in-Err-clause-would
-returns-in-Err-clause-would c = λ invalid.
+pub returns-in-Err-clause-none_without_limits : goal.returns-in-Err-clause-none_without_limits
+returns-in-Err-clause-none_without_limits c = λ invalid.
     let o = reading_settings_of c.args.self.now in
     let old = cursor_of c.args.self.now in
     let held = c.args.self.now.settings.max_depth in
-    let nothing = rw (c.input.ensures, c.depth.ensures) at (c.in-Err.ensures.would (rw c.refuse.ensures.error at invalid)) in
+    let nothing = rw (c.input.ensures, c.depth.ensures) at (c.in-Err.ensures.none_without_limits (rw c.refuse.ensures.error at invalid)) in
     cannot_step (without_limits o) old (walk_cursor c.refuse.new.self) c.args.at (site_of c.args.schema.now) c.requires.place (passing (reading_settings_of c.args.self.now) (site_of c.args.schema.now)) (mark_is_unnamed (reading_settings_of c.args.self.now) (kind_at (site_of c.args.schema.now)) c.requires.place)
     (null_is_unkept (reading_settings_of c.args.self.now) (site_of c.args.schema.now) c.requires.place)
     held (skips_lifted o old.input (depth old) held)

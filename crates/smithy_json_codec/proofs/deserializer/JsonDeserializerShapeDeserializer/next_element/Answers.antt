@@ -15,6 +15,6 @@ pub returns-in-None-clause-refused : goal.returns-in-None-clause-refused
 returns-in-None-clause-refused c =
     λ fault due t p list. list_stuck (reading_settings_of c.args.self.now) (cursor_of c.args.self.now) t p list c.depth.result c.depth.ensures c.in-None.ensures
 
-pub returns-in-None-clause-would : goal.returns-in-None-clause-would
-returns-in-None-clause-would c =
+pub returns-in-None-clause-none_without_limits : goal.returns-in-None-clause-none_without_limits
+returns-in-None-clause-none_without_limits c =
     λ strict fault due t p list. list_stuck (without_limits (reading_settings_of c.args.self.now)) (cursor_of c.args.self.now) t p list c.depth.result c.depth.ensures c.in-None.ensures

@@ -23,8 +23,8 @@ returns-in-Err-clause-refused c =
     let same : c.in-Err.error ≡ InvalidInput = text_fault c.in-Err.error c.in-Err.ensures.kind (rw c.refuse-in-Err.ensures.error at fault) in
     key_stuck (reading_settings_of c.args.self.now) (cursor_of c.args.self.now) t p c.in-Some-Member.name.raw.now c.in-Some-Member.name.end map stands.names (c.in-Err.ensures.none (rw same tt))
 
-pub returns-in-Err-clause-would : goal.returns-in-Err-clause-would
-returns-in-Err-clause-would c =
+pub returns-in-Err-clause-none_without_limits : goal.returns-in-Err-clause-none_without_limits
+returns-in-Err-clause-none_without_limits c =
     let stands = rw c.in-Some-Member.field-0-is at c.in-Some-Member.ensures in
     λ strict invalid due t p map.
     key_stuck (without_limits (reading_settings_of c.args.self.now)) (cursor_of c.args.self.now) t p c.in-Some-Member.name.raw.now c.in-Some-Member.name.end map stands.names
@@ -34,6 +34,6 @@ pub returns-in-None-clause-refused : goal.returns-in-None-clause-refused
 returns-in-None-clause-refused c =
     λ fault due t p map. map_stuck (reading_settings_of c.args.self.now) (cursor_of c.args.self.now) t p map c.depth.result c.depth.ensures c.in-None.ensures
 
-pub returns-in-None-clause-would : goal.returns-in-None-clause-would
-returns-in-None-clause-would c =
+pub returns-in-None-clause-none_without_limits : goal.returns-in-None-clause-none_without_limits
+returns-in-None-clause-none_without_limits c =
     λ strict fault due t p map. map_stuck (without_limits (reading_settings_of c.args.self.now)) (cursor_of c.args.self.now) t p map c.depth.result c.depth.ensures c.in-None.ensures

@@ -17,10 +17,10 @@ returns-then-not-self-clause-refused c =
     λ refused due. stays_undue (reading_settings_of c.args.self.now) (cursor_of c.args.self.now) c.args.schema.now.shapes.now c.args.schema.now.place due
     (c.step_from.ensures.refused refused)
 
-pub returns-then-not-self-clause-would : goal.returns-then-not-self-clause-would
-returns-then-not-self-clause-would c =
+pub returns-then-not-self-clause-none_without_limits : goal.returns-then-not-self-clause-none_without_limits
+returns-then-not-self-clause-none_without_limits c =
     λ strict invalid due. stays_undue (without_limits (reading_settings_of c.args.self.now)) (cursor_of c.args.self.now) c.args.schema.now.shapes.now c.args.schema.now.place due
-    (c.step_from.ensures.would invalid)
+    (c.step_from.ensures.none_without_limits invalid)
 
 pub returns-in-Ok-clause-unread : goal.returns-in-Ok-clause-unread
 returns-in-Ok-clause-unread c = λ due.
@@ -43,7 +43,7 @@ pub returns-in-Ok-clause-unread_would : goal.returns-in-Ok-clause-unread_would
 returns-in-Ok-clause-unread_would c = λ strict invalid due e skips.
     let same = skips_same (without_limits (reading_settings_of c.args.self.now)) (cursor_of c.args.self.now) c.depth.result _ c.depth.ensures c.in-Ok.end e (rw c.input.ensures at c.in-Ok.ensures.ok) skips in
     subst (λ e. CannotGoOn (json_relations (without_limits (reading_settings_of c.args.self.now))) (passed_to (cursor_of c.args.self.now) e) c.args.schema.now.shapes.now c.args.schema.now.place) same
-    (c.step_from-in-Ok.ensures.would invalid)
+    (c.step_from-in-Ok.ensures.none_without_limits invalid)
 
 pub returns-in-Err-clause-unread_refused : goal.returns-in-Err-clause-unread_refused
 returns-in-Err-clause-unread_refused c = λ refused due e skips.
@@ -52,7 +52,7 @@ returns-in-Err-clause-unread_refused c = λ refused due e skips.
 pub returns-in-Err-clause-unread_would : goal.returns-in-Err-clause-unread_would
 returns-in-Err-clause-unread_would c = λ strict invalid due e skips.
     absurd (skips_never (reading_settings_of c.args.self.now) (cursor_of c.args.self.now) c.depth.result c.depth.ensures
-    (rw c.input.ensures at (c.in-Err.ensures.would (rw c.refuse-in-Err.ensures.error at invalid))) e skips)
+    (rw c.input.ensures at (c.in-Err.ensures.none_without_limits (rw c.refuse-in-Err.ensures.error at invalid))) e skips)
 
 pub returns-in-Err-clause-deep : goal.returns-in-Err-clause-deep
 returns-in-Err-clause-deep c = λ deep.

@@ -17,8 +17,8 @@ returns-in-None-clause-refused c =
     let same : c.ready.new.self ≡ c.args.self.now.walk = c.in_ok-ready.ensures.ok in
     λ fault due allows. opens_no_list (reading_settings_of c.args.self.now) c.args.self.now.walk.input.now c.args._schema.now.shapes.now c.args._schema.now.place c.requires.place (depth (cursor_of c.args.self.now)) c.args.self.now.walk.position (rw same at c.in-None.ensures.none)
 
-pub returns-in-None-clause-would : goal.returns-in-None-clause-would
-returns-in-None-clause-would c =
+pub returns-in-None-clause-none_without_limits : goal.returns-in-None-clause-none_without_limits
+returns-in-None-clause-none_without_limits c =
     let same : c.ready.new.self ≡ c.args.self.now.walk = c.in_ok-ready.ensures.ok in
     λ strict fault due. opens_no_list (without_limits (reading_settings_of c.args.self.now)) c.args.self.now.walk.input.now c.args._schema.now.shapes.now c.args._schema.now.place c.requires.place (depth (cursor_of c.args.self.now)) c.args.self.now.walk.position (rw same at c.in-None.ensures.none)
 

@@ -24,11 +24,11 @@ returns-in-Err-clause-refused c =
     let same : c.ready.new.self ≡ c.args.self.now.walk = c.in_ok-ready.ensures.ok in
     λ fault due. skips_not (reading_settings_of c.args.self.now) (cursor_of c.args.self.now) c.depth.result (rw same at c.depth.ensures) refl (rw (c.input.ensures, same) at c.in-Err.ensures.refused)
 
-pub returns-in-Err-clause-would : goal.returns-in-Err-clause-would
-returns-in-Err-clause-would c =
+pub returns-in-Err-clause-none_without_limits : goal.returns-in-Err-clause-none_without_limits
+returns-in-Err-clause-none_without_limits c =
     let same : c.ready.new.self ≡ c.args.self.now.walk = c.in_ok-ready.ensures.ok in
     λ invalid due. skips_never (reading_settings_of c.args.self.now) (cursor_of c.args.self.now) c.depth.result (rw same at c.depth.ensures)
-    (rw (c.input.ensures, same) at (c.in-Err.ensures.would (rw c.refuse.ensures.error at invalid)))
+    (rw (c.input.ensures, same) at (c.in-Err.ensures.none_without_limits (rw c.refuse.ensures.error at invalid)))
 
 pub returns-in-Err-clause-deep : goal.returns-in-Err-clause-deep
 returns-in-Err-clause-deep c = λ deep.

@@ -8,7 +8,7 @@ abbrev pub invariant-loop-consumer : goal.invariant-loop-consumer
 invariant-loop-consumer g l =
     let d = g.Self.ShapeDeserializer in
     let c = d.settings l.fn.self in
-    let r = reader (d.wire c) (d.lifted c) (d.is_strict c) (d.max_depth c) in
+    let r = reader (d.wire c) (d.lifted c) (d.tells_without_limits c) (d.max_depth c) in
     InEntries (by_element r (site_of l.schema)) (λ element. g.C.ListConsumer.call r) c l.initial.consumer (d.state l.initial.self) (d.settings l.self) l.consumer (d.state l.self)
 
 abbrev pub decreases-loop-consumer : goal.decreases-loop-consumer

@@ -10,7 +10,7 @@ returns-in_err-open_map-clause-consumes g c =
     let p = err_from_is_err_and c.from_residual.result c.from_residual.ensures.1 in
     let e = c.in_err-open_map.ensures in
     rw (p.1, p.2, e.conduct.stays)
-    (unopened (opening_refused _ _ _ _ _ e.conduct e.narrow e.undue e.refused e.would e.invalid e.deepest e.deep))
+    (unopened (opening_refused _ _ _ _ _ e.conduct e.narrow e.undue e.refused e.none_without_limits e.invalid e.deepest e.deep))
 
 pub loop-key-init : goal.loop-key-init
 loop-key-init g c =
@@ -31,7 +31,7 @@ returns-in_err-key-clause-consumes g c =
     let place = c.requires.place in
     rw (p.1, p.2, e.conduct.stays)
     (entered (was_sound _ _ c.in_ok-open_map.ensures.conduct.failed) (was_due _ c.in_ok-open_map.ensures.undue) c.in_ok-open_map.ensures.ok (inside.along _ _ _ (refused
-    (rw inside.same at (entry_refused _ (reader (g.Self.ShapeDeserializer.wire (g.Self.ShapeDeserializer.settings c.loop-key.self)) (g.Self.ShapeDeserializer.lifted (g.Self.ShapeDeserializer.settings c.loop-key.self)) (g.Self.ShapeDeserializer.is_strict (g.Self.ShapeDeserializer.settings c.loop-key.self)) (g.Self.ShapeDeserializer.max_depth (g.Self.ShapeDeserializer.settings c.loop-key.self))) (site_of c.args.schema.now) _ _ _ e.conduct e.narrow e.shallow e.unread (λ h due. e.refused h due _ _ place) (λ strict h due. e.would strict h due _ _ place))))))
+    (rw inside.same at (entry_refused _ (reader (g.Self.ShapeDeserializer.wire (g.Self.ShapeDeserializer.settings c.loop-key.self)) (g.Self.ShapeDeserializer.lifted (g.Self.ShapeDeserializer.settings c.loop-key.self)) (g.Self.ShapeDeserializer.tells_without_limits (g.Self.ShapeDeserializer.settings c.loop-key.self)) (g.Self.ShapeDeserializer.max_depth (g.Self.ShapeDeserializer.settings c.loop-key.self))) (site_of c.args.schema.now) _ _ _ e.conduct e.narrow e.shallow e.unread (λ h due. e.refused h due _ _ place) (λ strict h due. e.none_without_limits strict h due _ _ place))))))
 
 pub returns-in-Err-clause-same : goal.returns-in-Err-clause-same
 returns-in-Err-clause-same g c = c.fail.ensures.same ∙ c.entry.ensures.same ∙ c.next_key.ensures.same ∙ c.loop-key.invariant.same

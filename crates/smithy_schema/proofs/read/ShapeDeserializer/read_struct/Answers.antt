@@ -10,7 +10,7 @@ returns-in_err-open_struct-clause-consumes g c =
     let p = err_from_is_err_and c.from_residual.result c.from_residual.ensures.1 in
     let e = c.in_err-open_struct.ensures in
     rw (p.1, p.2, e.conduct.stays)
-    (unopened (opening_refused _ _ _ _ _ e.conduct e.narrow e.undue e.refused e.would e.invalid e.deepest e.deep))
+    (unopened (opening_refused _ _ _ _ _ e.conduct e.narrow e.undue e.refused e.none_without_limits e.invalid e.deepest e.deep))
 
 pub members-init : goal.members-init
 members-init g c =
@@ -35,7 +35,7 @@ returns-in_err-step-clause-consumes g c =
     let e = c.in_err-step.ensures in
     rw (p.1, p.2, e.conduct.stays)
     (entered (was_sound _ _ c.in_ok-open_struct.ensures.conduct.failed) (was_due _ c.in_ok-open_struct.ensures.undue) c.in_ok-open_struct.ensures.ok (inside.along _ _ _ (refused
-    (rw inside.same at (member_refused _ (reader (d.wire s) (d.lifted s) (d.is_strict s) (d.max_depth s)) (site_of c.args.schema.now) _ _ _ e.conduct e.narrow e.refused e.would e.unread_refused e.unread_would e.deep)))))
+    (rw inside.same at (member_refused _ (reader (d.wire s) (d.lifted s) (d.tells_without_limits s) (d.max_depth s)) (site_of c.args.schema.now) _ _ _ e.conduct e.narrow e.refused e.none_without_limits e.unread_refused e.unread_would e.deep)))))
 
 pub returns-in_err-step-clause-same : goal.returns-in_err-step-clause-same
 returns-in_err-step-clause-same g c = c.next_member.ensures.same ∙ c.members.invariant.inside.same

@@ -8,7 +8,7 @@ abbrev pub invariant-members : goal.invariant-members
 invariant-members g l =
     let d = g.Self.ShapeDeserializer in
     let c = d.settings l.fn.self in
-    let r = reader (d.wire c) (d.lifted c) (d.is_strict c) (d.max_depth c) in
+    let r = reader (d.wire c) (d.lifted c) (d.tells_without_limits c) (d.max_depth c) in
     record {
       inside : InEntries (by_member r (site_of l.schema)) (g.C.StructConsumer.call r) c l.initial.consumer (d.state l.initial.self) (d.settings l.self) l.consumer (d.state l.self);
       allowed : g.C.StructConsumer.can_take l.consumer (site_of l.schema);

@@ -16,7 +16,7 @@ read_union-returns-in_err-open_struct-clause-reads g t c =
     let told = c.in_err-open_struct.ensures in
     let p = err_from_is_err_and c.from_residual.result c.from_residual.ensures.1 in
     rw (p.1, p.2)
-    (open_fails _ _ _ _ g.T.Tree.view (site_of c.args.schema.now) _ _ _ (d.lawful s0) (d.lifted_lawful s0) (union_contains _ c.requires.place) c.requires.due told.conduct told.narrow told.refused told.would told.deepest)
+    (open_fails _ _ _ _ g.T.Tree.view (site_of c.args.schema.now) _ _ _ (d.lawful s0) (d.lifted_lawful s0) (union_contains _ c.requires.place) c.requires.due told.conduct told.narrow told.refused told.none_without_limits told.deepest)
 
 -- it can not begin
 pub read_union-returns-in_err-member-clause-reads : goal.read_union-returns-in_err-member-clause-reads
@@ -29,7 +29,7 @@ read_union-returns-in_err-member-clause-reads g t c =
     let told = c.in_err-member.ensures in
     let p = err_from_is_err_and c.from_residual-in_err-member.result c.from_residual-in_err-member.ensures.1 in
     rw (p.1, p.2)
-    (goes_no_further _ _ _ _ laws g.T.Tree.view outer _ _ _ _ _ _ half told.conduct told.narrow (rw c.open_struct.ensures.same at told.deep) (rw c.open_struct.ensures.same at told.limited) (rw c.open_struct.ensures.same at told.refused) (rw c.open_struct.ensures.same at told.would))
+    (goes_no_further _ _ _ _ laws g.T.Tree.view outer _ _ _ _ _ _ half told.conduct told.narrow (rw c.open_struct.ensures.same at told.deep) (rw c.open_struct.ensures.same at told.limited) (rw c.open_struct.ensures.same at told.refused) (rw c.open_struct.ensures.same at told.none_without_limits))
 
 -- no variant came
 pub read_union-returns-in_default : goal.read_union-returns-in_default
@@ -73,7 +73,7 @@ read_union-returns-in_err-next_member-clause-reads g t c =
     let told = c.in_err-next_member.ensures in
     let p = err_from_is_err_and c.from_residual-in_err-next_member.result c.from_residual-in_err-next_member.ensures.1 in
     rw (p.1, p.2)
-    (goes_no_further _ _ _ _ laws g.T.Tree.view outer _ _ _ _ _ _ behind told.conduct told.narrow (rw same at told.deep) (rw same at told.limited) (rw same at told.refused) (rw same at told.would))
+    (goes_no_further _ _ _ _ laws g.T.Tree.view outer _ _ _ _ _ _ behind told.conduct told.narrow (rw same at told.deep) (rw same at told.limited) (rw same at told.refused) (rw same at told.none_without_limits))
 
 -- a second entry came
 pub read_union-returns-in_default-2 : goal.read_union-returns-in_default-2

@@ -14,7 +14,7 @@ returns-in_err-read_struct-clause-called g c =
     let s = d.settings c.args.source.now in
     let site = site_of c.args.self.now.shape in
     rw (p.1, p.2) (
-      broke (λ fault due. fields_refused tag_fields tag_targets (reader (d.wire s) (d.lifted s) (d.is_strict s) (d.max_depth s)) site (g.met.D.ShapeDeserializer.lawful s) (tag_shape site c.args.self.now.is_tag)
+      broke (λ fault due. fields_refused tag_fields tag_targets (reader (d.wire s) (d.lifted s) (d.tells_without_limits s) (d.max_depth s)) site (g.met.D.ShapeDeserializer.lawful s) (tag_shape site c.args.self.now.is_tag)
           _ _ _ _ _ c.in_err-read_struct.ensures.consumes c.in_err-read_struct.field-0.0 refl fault due),
       refl,
     )
