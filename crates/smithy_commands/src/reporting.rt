@@ -7,7 +7,7 @@ ghost use Rattle.smithy_commands.specs.ErrorLine.{refusal_of, refusal_text, text
 use crate::status::Status;
 use itoa::Buffer;
 use smithy_outside::{Failed, Sink, write_all, write_bytes};
-use smithy_schema::TableFault;
+use smithy_shapes::TableFault;
 use smithy_transcode::Unfit;
 
 // Writes the name of a fault, a space and its number.

@@ -15,7 +15,7 @@ use crate::status::Status;
 use crate::task::Task;
 use crate::words::Command;
 use smithy_outside::{Files, Sink, Source, read_to_end, write_all};
-use smithy_schema::{ShapeRef, ShapeType, Shapes, TableText};
+use smithy_shapes::{ShapeRef, ShapeType, Shapes, TableText};
 use smithy_transcode::transcode;
 use std::alloc::Global;
 use std::process::ExitCode;

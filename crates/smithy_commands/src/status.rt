@@ -3,7 +3,7 @@ ghost use Rattle.std.specs.Prelude.{◌≡◌};
 ghost use Rattle.smithy_commands.specs.Status.{status_code, status_of_load_fault, status_of_table_fault, status_of_error};
 
 use smithy_outside::LoadFault;
-use smithy_schema::TableFault;
+use smithy_shapes::TableFault;
 use smithy_transcode::{TranscodeError, Unfit};
 
 /// How a run of the program ended.

@@ -12,7 +12,7 @@ use crate::names::Names;
 use crate::outcomes::declare_members;
 use crate::places::{owned, owned_if, part_name, shape_at, target_word, time_of};
 use smithy_model::{Entry, Kind, Member, Model, Shape};
-use smithy_schema::Decl;
+use smithy_shapes::Decl;
 use std::alloc::{AllocError, Global};
 
 /// The declarations so far, and the members that they leave out.

@@ -2,7 +2,7 @@
 ghost use Rattle.std.specs.Prelude.{◌≡◌, map, true, string_bytes, option_map};
 ghost use Rattle.smithy_shapes.specs.DeclViews.{decl_of, member_decl_of};
 
-use smithy_schema::{Decl, MemberDecl};
+use smithy_shapes::{Decl, MemberDecl};
 
 /// The declarations are equal.
 pub(crate) fn are_equal(a: &[Decl], b: &[Decl]) -> bool

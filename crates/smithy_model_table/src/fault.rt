@@ -1,5 +1,5 @@
 //! Why a part of a model is no table.
-use smithy_schema::TableFault;
+use smithy_shapes::TableFault;
 use std::alloc::{AllocError, AllocFailed};
 
 /// Why a part of a model is no table.

@@ -8,7 +8,7 @@ ghost use Rattle.smithy_shapes.specs.DeclViews.{member_decl_of};
 use crate::names::Names;
 use crate::places::{owned, owned_if, target_of, target_word, time_of, unless_usual};
 use smithy_model::{Kind, Member, Model};
-use smithy_schema::MemberDecl;
+use smithy_shapes::MemberDecl;
 use std::alloc::{AllocError, Global};
 
 // Whether the entries of a member stand under its own name: in forms of EC2 those of each list.

@@ -11,7 +11,7 @@ use crate::left::{Left, Reason};
 use crate::members::declare_member;
 use crate::names::Names;
 use smithy_model::{Kind, Member, Model};
-use smithy_schema::MemberDecl;
+use smithy_shapes::MemberDecl;
 use std::alloc::{AllocError, Global};
 
 /// What becomes of a member.

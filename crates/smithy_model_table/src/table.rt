@@ -18,7 +18,7 @@ use crate::reached::reached;
 use crate::wanted::{Wanted, roots_of};
 use crate::writing::write_table;
 use smithy_model::Model;
-use smithy_schema::{Decl, Shapes, TableText};
+use smithy_shapes::{Decl, Shapes, TableText};
 use std::alloc::Global;
 
 // The most bytes of a table's text.

@@ -1,5 +1,5 @@
 //! The text of a table.
-use smithy_schema::{Decl, MemberDecl};
+use smithy_shapes::{Decl, MemberDecl};
 use std::alloc::{AllocError, Global};
 
 /// The text of declarations, a line for each and for each member.

@@ -6,7 +6,7 @@ ghost use Rattle.smithy_table_commands.specs.Status.{refusal_text, fault_text, t
 use crate::status::Status;
 use itoa::Buffer;
 use smithy_outside::{Failed, Sink, write_all, write_bytes};
-use smithy_schema::TableFault;
+use smithy_shapes::TableFault;
 
 // Writes the name of a fault, a space and its number.
 fn write_fault<E: Sink>(err: &mut E, name: &[u8], number: u64) -> Result<(), Failed>

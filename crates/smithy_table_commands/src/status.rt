@@ -6,7 +6,7 @@ ghost use Rattle.smithy_table_commands.specs.Status.{status_code, status_of_load
 use smithy_model::ModelFault;
 use smithy_model_table::WantedFault;
 use smithy_outside::LoadFault;
-use smithy_schema::TableFault;
+use smithy_shapes::TableFault;
 
 /// How a run of the program ended. A text is the id of a shape of the model.
 #[derive(Clone, Copy)]
