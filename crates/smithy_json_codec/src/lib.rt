@@ -7,7 +7,6 @@ mod deserializer;
 mod documents;
 mod frames;
 mod input;
-mod instant_text;
 mod instants;
 mod member_steps;
 mod members;

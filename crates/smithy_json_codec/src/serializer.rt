@@ -17,7 +17,6 @@ ghost use Rattle.smithy_json_codec.specs.Codec.{held_settings};
 ghost use Rattle.smithy_json_codec.specs.Serializing.{state_of, has_failed};
 ghost use Rattle.smithy_json_codec.specs.Writing.{JsonState, fresh_state, is_key_due, lead, wrote, key_wrote, opened, where_taken, json_after};
 
-use crate::instant_text::instant_text;
 use crate::instants::form_at;
 use crate::output::{
     push_base64, push_comma, push_key, push_name, push_quoted, push_whole_document,
@@ -25,7 +24,9 @@ use crate::output::{
 use crate::settings::Settings;
 use itoa::Buffer;
 use smithy_json::number_text::is_number;
-use smithy_schema::{FinishSerializer, Schema, SerdeError, ShapeSerializer, TimestampFormat};
+use smithy_schema::{
+    FinishSerializer, Schema, SerdeError, ShapeSerializer, TimestampFormat, instant_text,
+};
 use smithy_texts::push_decimal;
 use smithy_types::{BigDecimal, BigInteger, DateTime, Document};
 use smithy_wire::{Container, OpenContainers};

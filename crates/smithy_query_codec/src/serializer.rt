@@ -16,7 +16,9 @@ use crate::containers::{
 use crate::names::{element_name, key_name, value_name};
 use crate::path::{front, push_head, push_inner, push_pair};
 use itoa::Buffer;
-use smithy_schema::{FinishSerializer, Schema, SerdeError, ShapeSerializer, TimestampFormat};
+use smithy_schema::{
+    FinishSerializer, Schema, SerdeError, ShapeSerializer, TimestampFormat, instant_text,
+};
 use smithy_texts::push_decimal;
 use smithy_types::{BigDecimal, BigInteger, DateTime, Document, base64};
 use smithy_wire::{Container, OpenContainers};
@@ -381,7 +383,7 @@ impl ShapeSerializer for QueryShapeSerializer {
     fn write_timestamp(&mut self, schema: &Schema<'_>, value: &DateTime) -> Result<(), SerdeError> {
         self.containers.begin()?;
         let form = form_at(schema);
-        let text = form.text_of(*self.out.allocator(), value)?;
+        let text = instant_text(*self.out.allocator(), form, value)?;
         self.containers.succeed();
         self.write_text(schema, text.as_str())
     }

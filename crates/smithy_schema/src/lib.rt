@@ -11,6 +11,7 @@ mod sizes;
 mod text_maps;
 mod write;
 mod written;
+mod written_instant;
 
 pub use borrow::BorrowDeserializer;
 pub use consume::{ListConsumer, MapConsumer, StructConsumer};
@@ -28,3 +29,4 @@ pub use smithy_shapes::{
 pub use text_maps::TextEntries;
 pub use write::{FinishSerializer, ShapeSerializer};
 pub use written::{SerializableStruct, WriteElements};
+pub use written_instant::instant_text;

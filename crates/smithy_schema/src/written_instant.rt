@@ -6,12 +6,13 @@ ghost use Rattle.smithy_shapes.specs.TimeForms.{format_of, form_writes};
 ghost use Rattle.smithy_shapes.specs.Value.{instant};
 ghost use Rattle.smithy_schema.specs.declared.error.SerdeError.TheVariants.{Unwritable, Failed};
 
-use smithy_schema::{SerdeError, TimestampFormat};
+use crate::error::SerdeError;
+use smithy_shapes::TimestampFormat;
 use smithy_types::{DateTime, DateTimeFormatError};
 use std::alloc::Global;
 
-// The text of an instant in a form: `Unwritable` where the form can't write it.
-pub(crate) fn instant_text(
+/// The text of an instant in a form: `Unwritable` where the form can't write it.
+pub fn instant_text(
     alloc: Global,
     form: TimestampFormat,
     value: &DateTime,
