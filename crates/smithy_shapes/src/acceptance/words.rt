@@ -1,5 +1,5 @@
 //! Which words are reserved, which are time forms, and which can stand in the path of a form.
-ghost use Rattle.std.specs.Prelude.{◌≡◌};
+ghost use Rattle.std.specs.Prelude.{◌≡◌, drop};
 ghost use Rattle.smithy_shapes.specs.Names.{simple_targets, time_formats, named, is_float_name, is_reserved, is_name_byte, is_query_name};
 
 use crate::place::Target;
@@ -9,30 +9,37 @@ use crate::shape_type::{Scalar, TimestampFormat};
 pub(crate) fn simple_target(name: &str) -> Option<Target>
     ensures { result ≡ named simple_targets name.now }
 {
-    if name == "boolean" {
-        Some(Target::Simple(Scalar::Boolean))
-    } else if name == "byte" {
-        Some(Target::Simple(Scalar::Byte))
-    } else if name == "short" {
-        Some(Target::Simple(Scalar::Short))
-    } else if name == "integer" {
-        Some(Target::Simple(Scalar::Integer))
-    } else if name == "long" {
-        Some(Target::Simple(Scalar::Long))
-    } else if name == "string" {
-        Some(Target::Simple(Scalar::String))
-    } else if name == "blob" {
-        Some(Target::Simple(Scalar::Blob))
-    } else if name == "timestamp" {
-        Some(Target::Simple(Scalar::Timestamp))
-    } else if name == "bigInteger" {
-        Some(Target::Simple(Scalar::BigInteger))
-    } else if name == "bigDecimal" {
-        Some(Target::Simple(Scalar::BigDecimal))
-    } else if name == "document" {
-        Some(Target::Document)
-    } else {
-        None
+    match name {
+        "boolean" => Some(Target::Simple(Scalar::Boolean)),
+        "byte" => Some(Target::Simple(Scalar::Byte)),
+        "short" => Some(Target::Simple(Scalar::Short)),
+        "integer" => Some(Target::Simple(Scalar::Integer)),
+        _ => target_behind_integer(name),
+    }
+}
+
+// The target of that name among those behind `integer`.
+fn target_behind_integer(name: &str) -> Option<Target>
+    ensures { result ≡ named (drop 4 simple_targets) name.now }
+{
+    match name {
+        "long" => Some(Target::Simple(Scalar::Long)),
+        "string" => Some(Target::Simple(Scalar::String)),
+        "blob" => Some(Target::Simple(Scalar::Blob)),
+        _ => target_behind_blob(name),
+    }
+}
+
+// The target of that name among those behind `blob`.
+fn target_behind_blob(name: &str) -> Option<Target>
+    ensures { result ≡ named (drop 7 simple_targets) name.now }
+{
+    match name {
+        "timestamp" => Some(Target::Simple(Scalar::Timestamp)),
+        "bigInteger" => Some(Target::Simple(Scalar::BigInteger)),
+        "bigDecimal" => Some(Target::Simple(Scalar::BigDecimal)),
+        "document" => Some(Target::Document),
+        _ => None,
     }
 }
 

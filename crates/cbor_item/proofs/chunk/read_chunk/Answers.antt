@@ -1,5 +1,6 @@
 -- A head of the type with an argument begins a chunk.
-use Rattle.std.proofs.Common.{◌≡◌, ◌<◌, ◌≤◌, ◌+◌, ℕ, length, subst}
+use Rattle.std.proofs.Common.{◌≡◌, ◌<◌, ◌≤◌, ◌+◌, ℕ, length, subst, arith}
+use Rattle.std.proofs.lemmas.Grind.{common_steps}
 use Rattle.std.specs.Prelude.{IfOk, IfErr}
 use Rattle.cbor_item.specs.declared.error.ItemError.TheVariants.{Truncated}
 use Rattle.cbor_item.specs.HeadView.{head_read}
@@ -14,3 +15,6 @@ returns-in-Some c =
     let Err_at : ℕ → Type 0 = λ l. IfErr r (λ e. (e ≡ Truncated) × (length c.args.input.now < c.args.at + l + n)) in
     chunk_answer c.args.major c.args.input.now c.args.at (head_read c.in_ok-head.head) n r c.requires c.in_ok-head.ensures.found c.in-Some.is c.if-head-major.true
     (subst Ok_at c.from.ensures c.chunk_from.ensures.ok) (subst Err_at c.from.ensures c.chunk_from.ensures.err)
+
+pub chunk_from-requires : goal.chunk_from-requires
+chunk_from-requires c = grind (arith, common_steps)

@@ -1,5 +1,6 @@
 -- Both parts behind the head of the array.
 use Rattle.std.proofs.Common.{◌≡◌, ◌+◌, ◌∙◌, ap, arith, Some, None}
+use Rattle.std.proofs.lemmas.Grind.{common_steps}
 use Rattle.cbor_item.specs.HeadView.{head_read}
 use Rattle.smithy_cbor.proofs.TaggedLemmas.{head_opens}
 use Rattle.smithy_cbor.proofs.DecimalLemmas.{pair_read, pair_read_until_break, pair_fault}
@@ -27,3 +28,9 @@ returns-in-4-None-clause-found c =
     let opens = head_opens (head_read c.in_ok-head.head) 4 None c.args.input.now c.args.at body c.in_ok-head.ensures.found c.in-4-None.is-0 c.in-4-None.is-1
     (ap (λ n. c.args.at + n) c.from.ensures) in
     pair_read_until_break c.args.input.now c.args.at body c.parts_until_break.result opens c.parts_until_break.ensures.found
+
+pub parts_at-requires : goal.parts_at-requires
+parts_at-requires c = grind (arith, common_steps)
+
+pub parts_until_break-requires : goal.parts_until_break-requires
+parts_until_break-requires c = grind (arith, common_steps)

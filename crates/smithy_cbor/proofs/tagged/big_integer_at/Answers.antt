@@ -1,4 +1,5 @@
 use Rattle.std.proofs.Common.{◌≡◌, ◌+◌, ◌∙◌, ap, arith, refl, inr, Some}
+use Rattle.std.proofs.lemmas.Grind.{common_steps}
 use Rattle.std.specs.Int.{w128}
 use Rattle.std.proofs.lemmas.Int.{to_z-of_z}
 use Rattle.cbor_item.specs.HeadView.{head_read}
@@ -44,3 +45,15 @@ returns-in-6-Some-2-clause-refused c =
     let opens = head_opens (head_read c.in_ok-head.head) 6 (Some 3) c.args.input.now c.args.at (c.args.at + c.from.result) c.in_ok-head.ensures.found c.in-6-Some.is-0
     (c.in-6-Some-2.is-1 ∙ ap Some three) ends in
     bignum_fault c.args.input.now c.args.at (c.args.at + c.from.result) call.result (inr opens) call.ensures.refused
+
+pub bignum_at-requires-clause-inside : goal.bignum_at-requires-clause-inside
+bignum_at-requires-clause-inside c = grind (arith, common_steps)
+
+pub bignum_at-requires-in-6-Some-2-clause-inside : goal.bignum_at-requires-in-6-Some-2-clause-inside
+bignum_at-requires-in-6-Some-2-clause-inside c = grind (arith, common_steps)
+
+pub returns-in-0-Some-clause-within : goal.returns-in-0-Some-clause-within
+returns-in-0-Some-clause-within c = grind (arith, common_steps)
+
+pub returns-in-1-Some-clause-within : goal.returns-in-1-Some-clause-within
+returns-in-1-Some-clause-within c = grind (arith, common_steps)

@@ -1,4 +1,5 @@
 use Rattle.std.proofs.Common.{◌+◌, ◌∙◌, ap, arith}
+use Rattle.std.proofs.lemmas.Grind.{common_steps}
 use Rattle.std.specs.Int.{w128}
 use Rattle.std.proofs.lemmas.Int.{to_z-of_z}
 use Rattle.cbor_item.specs.HeadView.{head_read}
@@ -17,3 +18,9 @@ returns-in-1-Some-clause-found c =
     let value = to_z-of_z w128 number.result number.ensures.fits ∙ number.ensures.value in
     integer_read (head_read c.in_ok-head.head) 1 c.in-1-Some.n c.args.input.now c.args.at (c.args.at + c.from.result) _ (omega arith) c.requires
     c.in_ok-head.ensures.found c.in-1-Some.is-0 c.in-1-Some.is-1 (ap (λ n. c.args.at + n) c.from.ensures) value
+
+pub returns-in-0-Some-clause-within : goal.returns-in-0-Some-clause-within
+returns-in-0-Some-clause-within c = grind (arith, common_steps)
+
+pub returns-in-1-Some-clause-within : goal.returns-in-1-Some-clause-within
+returns-in-1-Some-clause-within c = grind (arith, common_steps)

@@ -1,4 +1,5 @@
 use Rattle.std.proofs.Common.{◌∙◌, [], ◌∷◌, false, vec_items, ap, arith}
+use Rattle.std.proofs.lemmas.Grind.{common_steps}
 use Rattle.std.proofs.lemmas.Result.{err_from_is_err_and}
 use Rattle.smithy_types.specs.DocumentView.{document_view}
 use Rattle.smithy_json_codec.specs.Private.OpenDocuments.{fresh, open_view, frame_view, frames_view}
@@ -94,3 +95,6 @@ steps-preserved c =
     c.steps.invariant deep c.in-Ends.value c.in-Ends.end step in
     put_back c.args.input.settings.max_depth c.args.depth c.args.input.bytes.now c.args.at c.in-Ends.end (document_view c.in-Ends.value) (frame_view c.in-Some.frame) _
     (frames_view (vec_items c.steps.frames)) _ c.in-Some.ensures c.in_ok-inner-in-Ends.ensures walk
+
+pub next_step-requires-clause-shallow : goal.next_step-requires-clause-shallow
+next_step-requires-clause-shallow c = grind (arith, common_steps)

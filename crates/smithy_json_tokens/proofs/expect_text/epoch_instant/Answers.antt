@@ -1,4 +1,5 @@
-use Rattle.std.proofs.Common.{length, ◌∙◌, refl, sym, ap, subst}
+use Rattle.std.proofs.Common.{length, ◌∙◌, refl, sym, ap, subst, arith}
+use Rattle.std.proofs.lemmas.Grind.{common_steps}
 use Rattle.smithy_json.specs.Grammar.{IsNumber}
 use Rattle.smithy_json_tokens.proofs.EpochNumbers.{whole_stands, whole_ends}
 use Rattle.smithy_json_tokens.proofs.expect_text.epoch_instant.Goals as goal
@@ -18,3 +19,6 @@ returns-then-number-text c =
       λ is. absurd (c.if-number-text.true (whole_ends c.as_bytes.result.now c.in_ok-number.number.end (subst IsNumber (sym same) is) c.in_ok-number.ensures.found ∙ ap length same)),
       λ no. refl,
     )
+
+pub returns-in-Ok : goal.returns-in-Ok
+returns-in-Ok c = grind (arith, common_steps)

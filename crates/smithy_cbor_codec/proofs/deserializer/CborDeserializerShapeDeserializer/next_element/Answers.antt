@@ -1,4 +1,5 @@
-use Rattle.std.proofs.Common.{◌≡◌, true, false, ap, sym, ◌∙◌}
+use Rattle.std.proofs.Common.{◌≡◌, true, false, ap, sym, ◌∙◌, arith}
+use Rattle.std.proofs.lemmas.Grind.{common_steps}
 use Rattle.smithy_schema.specs.Reading.{depth}
 use Rattle.smithy_cbor_codec.specs.Cursor.{cursor_of, reading_settings_of}
 use Rattle.smithy_cbor_codec.specs.Settings.{without_limits}
@@ -41,3 +42,6 @@ returns-in-None-clause-refused c = λ fault due t p list.
 pub returns-in-None-clause-none_without_limits : goal.returns-in-None-clause-none_without_limits
 returns-in-None-clause-none_without_limits c = λ strict invalid due t p list.
     list_stuck (without_limits (reading_settings_of c.args.self.now)) (cursor_of c.args.self.now) t p list c.in-None.ensures.0 (λ e over follows. c.in-None.ensures.1 e over)
+
+pub leave-requires-clause-within : goal.leave-requires-clause-within
+leave-requires-clause-within c = grind (arith, common_steps)

@@ -1,4 +1,5 @@
 use Rattle.std.proofs.Common.{◌≡◌, ap, ◌∙◌, inl, inr, arith}
+use Rattle.std.proofs.lemmas.Grind.{common_steps}
 use Rattle.std.specs.Cow.{cow_str_bytes}
 use Rattle.std.specs.Prelude.{string_bytes}
 use Rattle.smithy_schema.specs.declared.error.SerdeError.TheVariants.{InvalidInput}
@@ -43,3 +44,6 @@ returns-in-Err-clause-none_without_limits c = λ strict invalid due t p map.
       | inr memory ↦ absurd (rw (c.refuse-in-Err.ensures.error, memory) at invalid)
     ] in
     map_stuck (without_limits (reading_settings_of c.args.self.now)) (cursor_of c.args.self.now) t p map c.depth.result c.depth.ensures (c.in-Err.ensures.none is)
+
+pub leave-requires-clause-within : goal.leave-requires-clause-within
+leave-requires-clause-within c = grind (arith, common_steps)

@@ -1,4 +1,5 @@
-use Rattle.std.proofs.Common.{◌≡◌, false, refl, rules}
+use Rattle.std.proofs.Common.{◌≡◌, false, refl, rules, arith}
+use Rattle.std.proofs.lemmas.Grind.{common_steps}
 use Rattle.smithy_schema.specs.Reading.{depth, in_map}
 use Rattle.smithy_cbor_codec.specs.Cursor.{cursor_of, reading_settings_of, inside_of}
 use Rattle.smithy_cbor_codec.specs.Settings.{without_limits}
@@ -47,3 +48,6 @@ returns-in-None-clause-invalid c =
     let o = reading_settings_of c.args.self.now in
     let old = cursor_of c.args.self.now in
     λ fault due. opens_no_map o old.input c.args._schema.now.shapes.now c.args._schema.now.place c.requires.place (depth old) old.at (rw same at c.in-None.ensures.none)
+
+pub enter-requires : goal.enter-requires
+enter-requires c = grind (arith, common_steps)

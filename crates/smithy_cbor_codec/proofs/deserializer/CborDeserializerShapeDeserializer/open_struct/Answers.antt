@@ -1,4 +1,5 @@
-use Rattle.std.proofs.Common.{◌≡◌, false, refl, rules}
+use Rattle.std.proofs.Common.{◌≡◌, false, refl, rules, arith}
+use Rattle.std.proofs.lemmas.Grind.{common_steps}
 use Rattle.smithy_schema.specs.Reading.{depth, in_structure}
 use Rattle.smithy_cbor_codec.specs.Cursor.{cursor_of, reading_settings_of, inside_of, missing_frame}
 use Rattle.smithy_cbor_codec.specs.Settings.{without_limits}
@@ -67,3 +68,6 @@ returns-in-None-clause-invalid c =
     let old = cursor_of c.args.self.now in
     λ fault due. opens_no_members o old.input c.args.schema.now.shapes.now c.args.schema.now.place c.requires.place (depth old) old.at (rw same at c.in-None.ensures.none)
     (rw same at (not_missing c.is_missing.result _ _ c.is_missing.ensures c.if-is_missing.false))
+
+pub enter-requires-in-Some : goal.enter-requires-in-Some
+enter-requires-in-Some c = grind (arith, common_steps)

@@ -1,4 +1,5 @@
 use Rattle.std.proofs.Common.{◌≡◌, Err, false, true, arith, sym, ap, ◌∙◌, refl, rules}
+use Rattle.std.proofs.lemmas.Grind.{common_steps}
 use Rattle.smithy_schema.specs.declared.error.SerdeError.TheVariants.{TooDeep}
 use Rattle.smithy_schema.specs.Reading.{depth}
 use Rattle.smithy_shapes.specs.Site.{site_of, kind_at}
@@ -91,3 +92,6 @@ returns-in-Err-clause-deep c = λ deep.
 pub returns-in-Err-clause-too_deep : goal.returns-in-Err-clause-too_deep
 returns-in-Err-clause-too_deep c = λ deep.
     rw (c.input.ensures, c.depth.ensures) at (c.in-Err.ensures.too_deep (ap Err (sym c.refuse.ensures.error ∙ error_of c.refuse.result TooDeep deep)))
+
+pub next_present-requires-clause-shallow : goal.next_present-requires-clause-shallow
+next_present-requires-clause-shallow c = grind (arith, common_steps)

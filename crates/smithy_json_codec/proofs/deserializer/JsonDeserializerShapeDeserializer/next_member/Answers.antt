@@ -1,4 +1,5 @@
 use Rattle.std.proofs.Common.{ℕ, arith, refl, sym, ap, subst, ◌∙◌, Err}
+use Rattle.std.proofs.lemmas.Grind.{common_steps}
 use Rattle.std.proofs.lemmas.Result.{IfOk-weaker}
 use Rattle.smithy_schema.specs.declared.error.SerdeError.TheVariants.{TooDeep}
 use Rattle.smithy_shapes.specs.Site.{site_of}
@@ -84,3 +85,6 @@ pub returns-in-Ok-clause-too_deep : goal.returns-in-Ok-clause-too_deep
 returns-in-Ok-clause-too_deep c = λ deep.
     too_deep_behind c.args.self.now.walk.input.now c.args.self.now.settings.max_depth c.depth.result c.args.self.now.walk.position c.in-Ok.end (rw c.input.ensures at c.in-Ok.ensures.ok)
     (OpensTooDeep c.args.self.now.settings.max_depth (depth (cursor_of c.args.self.now)) c.args.self.now.walk.input.now) (c.step_from-in-Ok.ensures.too_deep deep)
+
+pub skipped_end-requires-clause-shallow : goal.skipped_end-requires-clause-shallow
+skipped_end-requires-clause-shallow c = grind (arith, common_steps)

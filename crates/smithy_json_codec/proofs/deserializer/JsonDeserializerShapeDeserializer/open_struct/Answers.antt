@@ -1,4 +1,5 @@
-use Rattle.std.proofs.Common.{◌≡◌, true, false, sym, ◌∙◌, rules}
+use Rattle.std.proofs.Common.{◌≡◌, true, false, sym, ◌∙◌, rules, arith}
+use Rattle.std.proofs.lemmas.Grind.{common_steps}
 use Rattle.smithy_json_codec.specs.Cursor.{cursor_of, reading_settings_of}
 use Rattle.smithy_json_codec.specs.Settings.{without_limits}
 use Rattle.smithy_json_codec.proofs.ReaderLemmas.{opens_members, opens_no_members}
@@ -45,3 +46,6 @@ returns-in-None-clause-invalid c =
       | else-is_empty-via-then-is_empty+else-is_structure w ↦ let clash : true ≡ false = sym (w.is_structure.ensures.1 structure) ∙ w.if-is_structure.false in cc
       | else-is_empty-via-else-is_empty w ↦ not_empty c.args.self.now.walk.input.now (search rules) empty
     ])
+
+pub returns-then-is_structure-clause-ok : goal.returns-then-is_structure-clause-ok
+returns-then-is_structure-clause-ok c = grind (arith, common_steps)

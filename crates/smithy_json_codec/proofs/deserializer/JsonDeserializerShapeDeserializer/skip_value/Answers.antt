@@ -1,4 +1,5 @@
-use Rattle.std.proofs.Common.{◌≡◌, false, refl, rules, sym, ap, subst, ◌∙◌, Err}
+use Rattle.std.proofs.Common.{◌≡◌, false, refl, rules, sym, ap, subst, ◌∙◌, Err, arith}
+use Rattle.std.proofs.lemmas.Grind.{common_steps}
 use Rattle.smithy_schema.specs.declared.error.SerdeError.TheVariants.{TooDeep}
 use Rattle.smithy_json_codec.specs.Cursor.{cursor_of, reading_settings_of}
 use Rattle.smithy_json_codec.proofs.DeserializerLemmas.{error_of, skips_here, skips_not, skips_never, refusal_conducts}
@@ -42,3 +43,6 @@ returns-in-Err-clause-too_deep c = λ deep.
     let held = rw same at c.depth.ensures in
     subst (λ n. OpensTooDeep c.args.self.now.settings.max_depth n c.args.self.now.walk.input.now c.args.self.now.walk.position) held
     (rw (c.input.ensures, same) at (c.in-Err.ensures.too_deep (ap Err (sym c.refuse.ensures.error ∙ error_of c.refuse.result TooDeep deep))))
+
+pub skipped_end-requires-clause-shallow : goal.skipped_end-requires-clause-shallow
+skipped_end-requires-clause-shallow c = grind (arith, common_steps)

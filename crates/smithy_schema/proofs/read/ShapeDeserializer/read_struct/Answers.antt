@@ -46,10 +46,10 @@ returns-in-Err-clause-consumes g c =
     let d = g.Self.ShapeDeserializer in
     let inside = c.members.invariant.inside in
     let next = c.in_ok-step.ensures in
-    let w = d.wire (d.settings c.args.self.now) in
+    let x = d.wire (d.settings c.members.self) in
     let outer = site_of c.args.schema.now in
-    let found = stepped w (d.state c.members.self) (d.state c.next_member.new.self) outer c.in_ok-step.step (rw inside.same at next.ok) (rw inside.same at next.unread) in
-    let goes = to_entry w (d.state c.members.self) (d.state c.next_member.new.self) outer c.in_ok-step.step _ c.in_default.not-End c.member.ensures found in
+    let found = stepped x (d.state c.members.self) (d.state c.next_member.new.self) outer c.in_ok-step.step next.ok next.unread in
+    let goes = rw inside.same at (to_entry x (d.state c.members.self) (d.state c.next_member.new.self) outer c.in_ok-step.step _ c.in_default.not-End c.member.ensures found) in
     rw c.fail.ensures.fails
     (entered (was_sound _ _ c.in_ok-open_struct.ensures.conduct.failed) (was_due _ c.in_ok-open_struct.ensures.undue) c.in_ok-open_struct.ensures.ok (inside.along _ _ _ (stopped _ goes (rw (c.next_member.ensures.same, inside.same) at c.in-Err.ensures.called))))
 
@@ -62,9 +62,10 @@ members-smaller g c =
     let inside = c.members.invariant.inside in
     let next = c.in_ok-step.ensures in
     let w = d.wire (d.settings c.args.self.now) in
+    let x = d.wire (d.settings c.members.self) in
     let outer = site_of c.args.schema.now in
-    let found = stepped w (d.state c.members.self) (d.state c.next_member.new.self) outer c.in_ok-step.step (rw inside.same at next.ok) (rw inside.same at next.unread) in
-    let goes = to_entry w (d.state c.members.self) (d.state c.next_member.new.self) outer c.in_ok-step.step _ c.in_default.not-End c.member.ensures found in
+    let found = stepped x (d.state c.members.self) (d.state c.next_member.new.self) outer c.in_ok-step.step next.ok next.unread in
+    let goes = rw inside.same at (to_entry x (d.state c.members.self) (d.state c.next_member.new.self) outer c.in_ok-step.step _ c.in_default.not-End c.member.ensures found) in
     less_behind w (g.met.Self.ShapeDeserializer.lawful _) _ _ _ outer _ goes c.in_default-member.ensures.rests
 
 -- the consumer took the entry, or left it unread
@@ -74,9 +75,10 @@ members-preserved g c =
     let inside = c.members.invariant.inside in
     let next = c.in_ok-step.ensures in
     let w = d.wire (d.settings c.args.self.now) in
+    let x = d.wire (d.settings c.members.self) in
     let outer = site_of c.args.schema.now in
-    let found = stepped w (d.state c.members.self) (d.state c.next_member.new.self) outer c.in_ok-step.step (rw inside.same at next.ok) (rw inside.same at next.unread) in
-    let goes = to_entry w (d.state c.members.self) (d.state c.next_member.new.self) outer c.in_ok-step.step _ c.in_default.not-End c.member.ensures found in
+    let found = stepped x (d.state c.members.self) (d.state c.next_member.new.self) outer c.in_ok-step.step next.ok next.unread in
+    let goes = rw inside.same at (to_entry x (d.state c.members.self) (d.state c.next_member.new.self) outer c.in_ok-step.step _ c.in_default.not-End c.member.ensures found) in
     record {
       inside = went_on _ _ _ _ _ _ _ _ _ _ _ _ _ inside (c.member-in-members.ensures.same ∙ c.next_member.ensures.same) goes
           (onto_member w _ _ outer _ goes next.conduct.ahead next.conduct.within) (rw (c.next_member.ensures.same, inside.same) at c.in_default-member.ensures.called) c.in_default-member.ensures.rests;
@@ -89,10 +91,10 @@ returns-in-End-clause-consumes g c =
     let d = g.Self.ShapeDeserializer in
     let inside = c.members.invariant.inside in
     let next = c.in_ok-step.ensures in
-    let w = d.wire (d.settings c.args.self.now) in
+    let x = d.wire (d.settings c.members.self) in
     let outer = site_of c.args.schema.now in
-    let found = stepped w (d.state c.members.self) (d.state c.next_member.new.self) outer c.in_ok-step.step (rw inside.same at next.ok) (rw inside.same at next.unread) in
-    entered (was_sound _ _ c.in_ok-open_struct.ensures.conduct.failed) (was_due _ c.in_ok-open_struct.ensures.undue) c.in_ok-open_struct.ensures.ok (inside.along _ _ _ (ended (to_end w _ _ outer (rw c.in-End.is at found))))
+    let found = stepped x (d.state c.members.self) (d.state c.next_member.new.self) outer c.in_ok-step.step next.ok next.unread in
+    entered (was_sound _ _ c.in_ok-open_struct.ensures.conduct.failed) (was_due _ c.in_ok-open_struct.ensures.undue) c.in_ok-open_struct.ensures.ok (inside.along _ _ _ (ended (rw inside.same at (to_end x _ _ outer (rw c.in-End.is at found)))))
 
 pub returns-in-End-clause-takes : goal.returns-in-End-clause-takes
 returns-in-End-clause-takes g c =
@@ -100,7 +102,8 @@ returns-in-End-clause-takes g c =
     let inside = c.members.invariant.inside in
     let next = c.in_ok-step.ensures in
     let w = d.wire (d.settings c.args.self.now) in
+    let x = d.wire (d.settings c.members.self) in
     let outer = site_of c.args.schema.now in
-    let found = stepped w (d.state c.members.self) (d.state c.next_member.new.self) outer c.in_ok-step.step (rw inside.same at next.ok) (rw inside.same at next.unread) in
-    let end = to_end w _ _ outer (rw c.in-End.is at found) in
+    let found = stepped x (d.state c.members.self) (d.state c.next_member.new.self) outer c.in_ok-step.step next.ok next.unread in
+    let end = rw inside.same at (to_end x _ _ outer (rw c.in-End.is at found)) in
     taken_whole w (g.met.Self.ShapeDeserializer.lawful _) _ _ _ _ _ _ _ _ _ _ _ _ _ _ _ c.in_ok-open_struct.ensures.ok inside (cleared_input w _ _ end.cleared) (cleared_outer w _ _ end.cleared) end.leaves next.conduct.ahead next.conduct.within
