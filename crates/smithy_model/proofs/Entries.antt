@@ -5,7 +5,7 @@ use Rattle.json.specs.declared.value.Value.TheOpen.{Value-F}
 use Rattle.json.specs.declared.value.Value.TheFolds.{fold-roll-Value}
 use Rattle.json.specs.declared.value.Value.TheViews as views
 use Rattle.json.specs.Json.{Json, array, object}
-use Rattle.json.specs.Value.{value_view, view_step, items_of, items_view, members_view}
+use Rattle.json.specs.Value.{value_view, view_step, items_view, members_view}
 use Rattle.smithy_model.specs.Objects as objects
 use Rattle.smithy_model.specs.Views.{entry_view}
 

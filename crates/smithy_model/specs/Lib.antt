@@ -5,5 +5,8 @@ pub mod Form
 pub mod Members
 pub mod Kinds
 pub mod Shapes
+pub mod Prelude
+pub mod Reading
+pub mod Faults
 -- what the types stand for
 pub mod Views

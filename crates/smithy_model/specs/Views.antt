@@ -10,6 +10,7 @@ use Rattle.smithy_model.specs.declared.model.Kind.TheVariants as kinds
 use Rattle.smithy_model.specs.declared.model.Shape as kept_shape
 use Rattle.smithy_model.specs.declared.model.Operation as kept_operation
 use Rattle.smithy_model.specs.declared.model.Model as kept_model
+use Rattle.smithy_model.specs.declared.numbers.Numbers as kept_numbers
 use Rattle.smithy_model.specs.declared.format.Format as kept_format
 use Rattle.smithy_model.specs.declared.format.Format.TheVariants as formats
 use Rattle.smithy_model.specs.Objects.{Entry}
@@ -74,3 +75,7 @@ form_view formats.Smithy = smithy
 form_view formats.Json = json_service
 form_view formats.Xml = xml_service
 form_view formats.Ec2 = ec2_service
+
+-- the ids that have numbers
+abbrev pub numbers_view : kept_numbers.Numbers → List (List ℕ)
+numbers_view n = list_map (λ t. t.now) n.ids.items

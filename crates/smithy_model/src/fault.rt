@@ -24,18 +24,33 @@ pub enum ModelFault<'a> {
 }
 
 impl<'a> From<AllocError> for ModelFault<'a> {
+    ghost use Rattle.std.specs.Prelude.{◌≡◌};
+    ghost use Rattle.smithy_model.specs.declared.fault.ModelFault.TheVariants.{NoMemory};
+
+    ghost from_gives = { λ _ fault. fault ≡ NoMemory };
+
     fn from(_error: AllocError) -> ModelFault<'a> {
         ModelFault::NoMemory
     }
 }
 
 impl<'a, T: Drop> From<AllocFailed<T>> for ModelFault<'a> {
+    ghost use Rattle.std.specs.Prelude.{◌≡◌};
+    ghost use Rattle.smithy_model.specs.declared.fault.ModelFault.TheVariants.{NoMemory};
+
+    ghost from_gives = { λ _ fault. fault ≡ NoMemory };
+
     fn from(_error: AllocFailed<T>) -> ModelFault<'a> {
         ModelFault::NoMemory
     }
 }
 
 impl<'a> From<JsonError> for ModelFault<'a> {
+    ghost use Rattle.std.specs.Prelude.{◌≡◌};
+    ghost use Rattle.smithy_model.specs.Faults.{fault_of_json};
+
+    ghost from_gives = { λ error fault. fault ≡ fault_of_json error };
+
     fn from(error: JsonError) -> ModelFault<'a> {
         match error {
             JsonError::OutOfMemory => ModelFault::NoMemory,

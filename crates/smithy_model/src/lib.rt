@@ -3,7 +3,6 @@
 //! `read_model` reads one, told apart by its members `smithy` and `metadata`. A `Model` borrows its texts from the JSON text.
 #![tactic(auto)]
 
-mod ast;
 mod fault;
 mod format;
 mod kinds;
@@ -13,9 +12,10 @@ mod mixins;
 mod model;
 mod numbers;
 mod objects;
+mod parts;
 mod prelude;
+mod protocol;
 mod reading;
-mod service;
 mod shapes;
 
 pub use fault::ModelFault;

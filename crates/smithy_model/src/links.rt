@@ -1,50 +1,105 @@
 //! The number of each member's target.
+ghost use Rattle.std.specs.Prelude.{◌≡◌, [], map, IfOk, IfErr};
+ghost use Rattle.std.specs.List.{list_any, AllZip};
+ghost use Rattle.smithy_model.specs.Reading.{IsNumbered, IsKindNumbered, AreNumbered, IsLinked};
+ghost use Rattle.smithy_model.specs.Faults.{MissesTarget, is_target, has_target, RefusesLinks};
+ghost use Rattle.smithy_model.specs.Views.{member_view, kind_view, shape_view, model_view, numbers_view};
+
 use crate::fault::ModelFault;
-use crate::model::{Kind, Member, Model};
+use crate::model::{Entry, Kind, Member, Model, Shape};
 use crate::numbers::Numbers;
 use std::alloc::Global;
 
-// Gives a member the number of its target.
-fn link<'a>(numbers: &Numbers<'a>, member: &mut Member<'a>) -> Result<(), ModelFault<'a>> {
+// The member with the number of its target.
+fn link<'a>(numbers: &Numbers<'a>, member: &Member<'a>) -> Result<Member<'a>, ModelFault<'a>>
+    ensures linked { IfOk result (λ m. IsNumbered (numbers_view numbers.now) (member_view member.now) (member_view m)) }
+    ensures refused { IfErr result (MissesTarget (numbers_view numbers.now) (λ id. is_target id (member_view member.now))) }
+{
+    let mut linked = *member;
     match numbers.number(member.target) {
-        Some(number) => {
-            member.number = number;
-            Ok(())
-        }
-        None => Err(ModelFault::UnknownTarget(member.target)),
+        Some(number) => linked.number = number,
+        None => return Err(ModelFault::UnknownTarget(member.target)),
     }
+    Ok(linked)
 }
 
-// Gives each member the number of its target.
+// The members with the numbers of their targets.
 fn link_all<'a>(
+    alloc: Global,
     numbers: &Numbers<'a>,
-    members: &mut Vec<Member<'a>>,
-) -> Result<(), ModelFault<'a>> {
-    for member in members.iter_mut() {
-        link(numbers, member)?;
+    members: &[Member<'a>],
+) -> Result<Vec<Member<'a>>, ModelFault<'a>>
+    ensures linked { IfOk result (λ ms. AllZip (IsNumbered (numbers_view numbers.now)) (map member_view members.now) (map member_view ms.items)) }
+    ensures refused { IfErr result (MissesTarget (numbers_view numbers.now) (λ id. list_any (is_target id) (map member_view members.now))) }
+{
+    let mut linked = Vec::with_capacity(alloc, members.len())?;
+    for member in members {
+        linked.push(link(numbers, member)?)?;
     }
-    Ok(())
+    Ok(linked)
 }
 
-// Gives each member of a shape the number of its target.
-fn link_kind<'a>(numbers: &Numbers<'a>, kind: &mut Kind<'a>) -> Result<(), ModelFault<'a>> {
+// The kind with the numbers of its targets.
+fn link_kind<'a>(
+    alloc: Global,
+    numbers: &Numbers<'a>,
+    kind: &Kind<'a>,
+) -> Result<Kind<'a>, ModelFault<'a>>
+    ensures linked { IfOk result (λ k. IsKindNumbered (numbers_view numbers.now) (kind_view kind.now) (kind_view k)) }
+    ensures refused { IfErr result (MissesTarget (numbers_view numbers.now) (λ id. has_target id (kind_view kind.now))) }
+{
     match kind {
-        Kind::Structure(members) => link_all(numbers, members),
-        Kind::Union(members) => link_all(numbers, members),
-        Kind::List(element) => link(numbers, element),
+        Kind::Simple(name) => Ok(Kind::Simple(*name)),
+        Kind::Float => Ok(Kind::Float),
+        Kind::EventStream => Ok(Kind::EventStream),
+        Kind::Structure(members) => Ok(Kind::Structure(link_all(alloc, numbers, members)?)),
+        Kind::Union(members) => Ok(Kind::Union(link_all(alloc, numbers, members)?)),
+        Kind::List(element) => Ok(Kind::List(link(numbers, element)?)),
         Kind::Map(entry) => {
-            link(numbers, &mut entry.key)?;
-            link(numbers, &mut entry.value)
+            let key = link(numbers, &entry.key)?;
+            let value = link(numbers, &entry.value)?;
+            Ok(Kind::Map(Entry { key, value }))
         }
-        _ => Ok(()),
     }
 }
 
-/// Gives each member of a model the number of its target.
-pub(crate) fn link_model<'a>(alloc: Global, model: &mut Model<'a>) -> Result<(), ModelFault<'a>> {
-    let numbers = Numbers::of(alloc, &model.shapes)?;
-    for shape in model.shapes.iter_mut() {
-        link_kind(&numbers, &mut shape.kind)?;
+// The shape with another kind, and without its mixins, which are no longer needed.
+fn with_kind<'a>(alloc: Global, shape: &Shape<'a>, kind: Kind<'a>) -> Shape<'a>
+    ensures { shape_view result ≡ record (shape_view shape.now) { kind = kind_view kind.entry; mixins = [] } }
+{
+    Shape {
+        id: shape.id,
+        kind,
+        mixins: Vec::new(alloc),
+        is_sparse: shape.is_sparse,
+        is_flattened: shape.is_flattened,
+        time_format: shape.time_format,
     }
-    Ok(())
+}
+
+// The shapes with the numbers of their targets.
+fn link_shapes<'a>(alloc: Global, shapes: &[Shape<'a>]) -> Result<Vec<Shape<'a>>, ModelFault<'a>>
+    ensures linked { IfOk result (λ linked. AreNumbered (map shape_view shapes.now) (map shape_view linked.items)) }
+    ensures refused { IfErr result (RefusesLinks (map shape_view shapes.now)) }
+{
+    let numbers = Numbers::of(alloc, shapes)?;
+    let mut linked = Vec::with_capacity(alloc, shapes.len())?;
+    for shape in shapes {
+        let kind = link_kind(alloc, &numbers, &shape.kind)?;
+        linked.push(with_kind(alloc, shape, kind))?;
+    }
+    Ok(linked)
+}
+
+/// The model with the number of each target.
+pub(crate) fn link_model<'a>(alloc: Global, model: Model<'a>) -> Result<Model<'a>, ModelFault<'a>>
+    ensures linked { IfOk result (λ linked. IsLinked (model_view model.entry) (model_view linked)) }
+    ensures refused { IfErr result (RefusesLinks (model_view model.entry).shapes) }
+{
+    Ok(Model {
+        shapes: link_shapes(alloc, &model.shapes)?,
+        operations: model.operations,
+        has_http_bindings: model.has_http_bindings,
+        is_ec2: model.is_ec2,
+    })
 }

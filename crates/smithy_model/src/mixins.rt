@@ -1,6 +1,12 @@
 //! The members that shapes take over from their mixins (Smithy 2.0, "Mixins").
+ghost use Rattle.std.specs.Prelude.{◌≡◌, false, map, OnOk, IfErr};
+ghost use Rattle.std.specs.List.{list_any};
+ghost use Rattle.smithy_model.specs.Reading.{takes_mixins};
+ghost use Rattle.smithy_model.specs.Faults.{IsMixinFault, RefusesMixins};
+ghost use Rattle.smithy_model.specs.Views.{shape_view};
+
 use crate::fault::ModelFault;
-use crate::model::{Kind, Member, Model, Shape};
+use crate::model::{Kind, Member, Shape};
 use crate::numbers::Numbers;
 use std::alloc::{AllocError, Global};
 
@@ -40,7 +46,9 @@ fn mixed<'a>(
     numbers: &Numbers<'a>,
     done: &[bool],
     shape: &Shape<'a>,
-) -> Result<Option<Vec<Member<'a>>>, ModelFault<'a>> {
+) -> Result<Option<Vec<Member<'a>>>, ModelFault<'a>>
+    ensures { IfErr result IsMixinFault }
+{
     let mut members = Vec::new(alloc);
     for id in &shape.mixins {
         let Some(number) = numbers.number(*id) else {
@@ -55,11 +63,16 @@ fn mixed<'a>(
     Ok(Some(members))
 }
 
-// The kind with other members.
+// A structure or a union with other members. Shapes of other kinds take none over.
 fn with_members<'a>(kind: &Kind<'a>, members: Vec<Member<'a>>) -> Kind<'a> {
     match kind {
+        Kind::Structure(_) => Kind::Structure(members),
         Kind::Union(_) => Kind::Union(members),
-        _ => Kind::Structure(members),
+        Kind::Simple(name) => Kind::Simple(*name),
+        Kind::Float => Kind::Float,
+        Kind::EventStream => Kind::EventStream,
+        Kind::List(element) => Kind::List(*element),
+        Kind::Map(entry) => Kind::Map(*entry),
     }
 }
 
@@ -69,7 +82,9 @@ fn take_in_some<'a>(
     shapes: &mut Vec<Shape<'a>>,
     numbers: &Numbers<'a>,
     done: &mut Vec<bool>,
-) -> Result<bool, ModelFault<'a>> {
+) -> Result<bool, ModelFault<'a>>
+    ensures { IfErr result IsMixinFault }
+{
     let mut found = false;
     for number in 0..shapes.len().min(done.len()) {
         if done[number] {
@@ -85,12 +100,29 @@ fn take_in_some<'a>(
     Ok(found)
 }
 
+// Whether one of these shapes takes in mixins.
+fn have_mixins(shapes: &[Shape<'_>]) -> bool
+    ensures { result ≡ list_any takes_mixins (map shape_view shapes.now) }
+{
+    for shape in shapes {
+        if !shape.mixins.is_empty() {
+            return true;
+        }
+    }
+    false
+}
+
 /// Gives each shape the members of its mixins.
 pub(crate) fn take_in_mixins<'a>(
     alloc: Global,
-    model: &mut Model<'a>,
-) -> Result<(), ModelFault<'a>> {
-    let shapes = &mut model.shapes;
+    shapes: &mut Vec<Shape<'a>>,
+) -> Result<(), ModelFault<'a>>
+    ensures none { OnOk result (list_any takes_mixins (map shape_view shapes.old.items) ≡ false → map shape_view shapes.new.items ≡ map shape_view shapes.old.items) }
+    ensures refused { IfErr result (RefusesMixins (map shape_view shapes.old.items)) }
+{
+    if !have_mixins(shapes) {
+        return Ok(());
+    }
     let mut done = Vec::with_capacity(alloc, shapes.len())?;
     for shape in &*shapes {
         done.push(shape.mixins.is_empty())?;

@@ -1,10 +1,14 @@
 //! The shapes that each Smithy model may name without declaring them (Smithy 2.0, "Prelude").
-use crate::fault::ModelFault;
-use crate::model::{Kind, Model, Shape};
+ghost use Rattle.std.specs.Prelude.{◌≡◌, ◌++◌, [], codes, map, OnOk};
+ghost use Rattle.smithy_model.specs.Model.{structure};
+ghost use Rattle.smithy_model.specs.Prelude.{scalar_names, float_names, plain, scalar_shape, float_shape, prelude};
+ghost use Rattle.smithy_model.specs.Views.{kind_view, shape_view};
+
+use crate::model::{Kind, Shape};
 use std::alloc::{AllocError, Global};
 
 // The scalars but floats, and documents, by their names in a table.
-const SIMPLE: [(&str, &str); 16] = [
+const SCALARS: [(&str, &str); 16] = [
     ("smithy.api#String", "string"),
     ("smithy.api#Blob", "blob"),
     ("smithy.api#Boolean", "boolean"),
@@ -31,7 +35,9 @@ const FLOATS: [&str; 4] = [
 ];
 
 // A shape without traits.
-fn plain<'a>(alloc: Global, id: &'a str, kind: Kind<'a>) -> Shape<'a> {
+fn plain<'a>(alloc: Global, id: &'a str, kind: Kind<'a>) -> Shape<'a>
+    ensures { shape_view result ≡ plain id.now (kind_view kind.entry) }
+{
     Shape {
         id,
         kind,
@@ -42,15 +48,45 @@ fn plain<'a>(alloc: Global, id: &'a str, kind: Kind<'a>) -> Shape<'a> {
     }
 }
 
-/// Adds the shapes of the prelude.
-pub(crate) fn add_prelude<'a>(alloc: Global, model: &mut Model<'a>) -> Result<(), ModelFault<'a>> {
-    for (id, name) in &SIMPLE {
-        model.shapes.push(plain(alloc, *id, Kind::Simple(*name)))?;
+// A scalar or a document of this id and name.
+fn scalar<'a>(alloc: Global, named: &(&'static str, &'static str)) -> Shape<'a>
+    ensures { shape_view result ≡ scalar_shape (named.now.0.now, named.now.1.now) }
+{
+    plain(alloc, named.0, Kind::Simple(named.1))
+}
+
+// Adds the scalars and documents.
+fn add_scalars<'a>(alloc: Global, shapes: &mut Vec<Shape<'a>>) -> Result<(), AllocError>
+    ensures { OnOk result (map shape_view shapes.new.items ≡ map shape_view shapes.old.items ++ map scalar_shape scalar_names) }
+{
+    for named in &SCALARS {
+        shapes.push(scalar(alloc, named))?;
     }
-    for id in &FLOATS {
-        model.shapes.push(plain(alloc, *id, Kind::Float))?;
-    }
-    let unit = Kind::Structure(Vec::new(alloc));
-    model.shapes.push(plain(alloc, "smithy.api#Unit", unit))?;
     Ok(())
+}
+
+// The structure without members.
+fn unit<'a>(alloc: Global) -> Shape<'a>
+    ensures { shape_view result ≡ plain (codes "smithy.api#Unit") (structure []) }
+{
+    plain(alloc, "smithy.api#Unit", Kind::Structure(Vec::new(alloc)))
+}
+
+// Adds the floats.
+fn add_floats<'a>(alloc: Global, shapes: &mut Vec<Shape<'a>>) -> Result<(), AllocError>
+    ensures { OnOk result (map shape_view shapes.new.items ≡ map shape_view shapes.old.items ++ map float_shape float_names) }
+{
+    for id in &FLOATS {
+        shapes.push(plain(alloc, *id, Kind::Float))?;
+    }
+    Ok(())
+}
+
+/// Adds the shapes of the prelude.
+pub(crate) fn add_prelude<'a>(alloc: Global, shapes: &mut Vec<Shape<'a>>) -> Result<(), AllocError>
+    ensures { OnOk result (map shape_view shapes.new.items ≡ map shape_view shapes.old.items ++ prelude) }
+{
+    add_scalars(alloc, shapes)?;
+    add_floats(alloc, shapes)?;
+    Ok(shapes.push(unit(alloc))?)
 }

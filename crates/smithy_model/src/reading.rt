@@ -1,9 +1,22 @@
 //! Reads a model.
-use crate::ast::read_ast;
+ghost use Rattle.std.specs.Prelude.{◌≡◌, ◌++◌, List, Some, IfOk, IfErr, OnOk, map};
+ghost use Rattle.json.specs.Json.{document};
+ghost use Rattle.json.specs.Strict.{HasUniqueKeys};
+ghost use Rattle.json.specs.Value.{value_view};
+ghost use Rattle.smithy_model.specs.Model as kept;
+ghost use Rattle.smithy_model.specs.Reading.{operations_name, AreWhole, undeclared, IsUnlinked, IsModelText};
+ghost use Rattle.smithy_model.specs.Faults.{RefusesMixins, RefusesRoot, RefusesText};
+ghost use Rattle.smithy_model.specs.Views.{form_view, shape_view, model_view};
+
 use crate::fault::ModelFault;
+use crate::format::Format;
 use crate::links::link_model;
-use crate::model::Model;
-use crate::service::read_service;
+use crate::mixins::take_in_mixins;
+use crate::model::{Model, Shape};
+use crate::objects::entries;
+use crate::parts::{read_operations, read_shapes};
+use crate::prelude::add_prelude;
+use crate::protocol::{format_of, has_http_bindings, is_ec2};
 use json::{Scratch, Value};
 use std::alloc::Global;
 use std::str;
@@ -13,21 +26,69 @@ fn read_value<'a>(
     alloc: Global,
     text: &'a [u8],
     scratch: &'a mut Scratch,
-) -> Result<Value<'a>, ModelFault<'a>> {
+) -> Result<Value<'a>, ModelFault<'a>>
+    ensures read { IfOk result (λ root. (document text.now ≡ Some (value_view root)) × HasUniqueKeys (value_view root)) }
+    ensures refused { IfErr result (RefusesText text.now) }
+{
     match str::from_utf8(text) {
         Ok(text) => Ok(Value::parse_strict(alloc, text, scratch)?),
         Err(_) => Err(ModelFault::NotJson),
     }
 }
 
-// A model without shapes.
-fn empty<'a>(alloc: Global) -> Model<'a> {
-    Model {
-        shapes: Vec::new(alloc),
-        operations: Vec::new(alloc),
-        has_http_bindings: false,
-        is_ec2: false,
+// The member of the root that has the operations.
+fn operations_name(format: Format) -> &'static str
+    ensures { result.now ≡ operations_name (form_view format) }
+{
+    match format {
+        Format::Smithy => "shapes",
+        _ => "operations",
     }
+}
+
+// Adds to the shapes of a Smithy model what stands elsewhere: the members of mixins, and the shapes of the prelude.
+fn complete<'a>(
+    alloc: Global,
+    format: Format,
+    shapes: &mut Vec<Shape<'a>>,
+) -> Result<(), ModelFault<'a>>
+    ensures whole { OnOk result ((whole : List kept.Shape) × AreWhole (form_view format) (map shape_view shapes.old.items) whole
+        × (map shape_view shapes.new.items ≡ whole ++ undeclared (form_view format))) }
+    ensures refused { IfErr result (RefusesMixins (map shape_view shapes.old.items)) }
+{
+    match format {
+        Format::Smithy => {
+            take_in_mixins(alloc, shapes)?;
+            Ok(add_prelude(alloc, shapes)?)
+        }
+        Format::Json => Ok(()),
+        Format::Xml => Ok(()),
+        Format::Ec2 => Ok(()),
+    }
+}
+
+// The model that a value is, in which no target has a number.
+fn read_unlinked<'a>(alloc: Global, root: &Value<'a>) -> Result<Model<'a>, ModelFault<'a>>
+    ensures read { IfOk result (λ model. IsUnlinked (value_view root.now) (model_view model)) }
+    ensures refused { IfErr result (RefusesRoot (value_view root.now)) }
+{
+    let Some(format) = format_of(root) else {
+        return Err(ModelFault::NotAModel);
+    };
+    let Some(parts) = entries(root, "shapes") else {
+        return Err(ModelFault::NotAModel);
+    };
+    let Some(calls) = entries(root, operations_name(format)) else {
+        return Err(ModelFault::NotAModel);
+    };
+    let mut shapes = read_shapes(alloc, format, parts)?;
+    complete(alloc, format, &mut shapes)?;
+    Ok(Model {
+        shapes,
+        operations: read_operations(alloc, format, calls)?,
+        has_http_bindings: has_http_bindings(format, root, parts),
+        is_ec2: is_ec2(format, root, parts),
+    })
 }
 
 /// Reads a model from its text: a Smithy 2.0 model as JSON, whose root has a member `smithy`, or a `service-2.json`,
@@ -36,16 +97,11 @@ pub fn read_model<'a>(
     alloc: Global,
     text: &'a [u8],
     scratch: &'a mut Scratch,
-) -> Result<Model<'a>, ModelFault<'a>> {
+) -> Result<Model<'a>, ModelFault<'a>>
+    ensures read { IfOk result (λ model. IsModelText text.now (model_view model)) }
+    ensures refused { IfErr result (RefusesText text.now) }
+{
     let root = read_value(alloc, text, scratch)?;
-    let mut model = empty(alloc);
-    if root.get("smithy").is_some() {
-        read_ast(alloc, &root, &mut model)?;
-    } else if root.get("metadata").is_some() {
-        read_service(alloc, &root, &mut model)?;
-    } else {
-        return Err(ModelFault::NotAModel);
-    }
-    link_model(alloc, &mut model)?;
-    Ok(model)
+    let model = read_unlinked(alloc, &root)?;
+    link_model(alloc, model)
 }

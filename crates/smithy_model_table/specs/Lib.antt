@@ -3,6 +3,7 @@ pub mod Declaring
 pub mod Leaving
 pub mod Outcomes
 pub mod Naming
+pub mod Wanted
 pub mod ModelTable
 -- what the types stand for
 pub mod Views

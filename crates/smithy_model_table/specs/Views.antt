@@ -1,5 +1,8 @@
 -- What the types of the crate stand for.
 use Rattle.std.specs.Prelude.{ℕ, List, map}
+use Rattle.smithy_model_table.specs.declared.wanted.Wanted as kept_wanted
+use Rattle.smithy_model_table.specs.declared.wanted.Wanted.TheVariants as wanteds
+use Rattle.smithy_model_table.specs.Wanted.{Wanted, input, output, shape, service}
 use Rattle.smithy_model_table.specs.declared.names.Names as kept_names
 use Rattle.smithy_model_table.specs.declared.left.Reason as kept
 use Rattle.smithy_model_table.specs.declared.left.Reason.TheVariants as reasons
@@ -26,3 +29,9 @@ left_view l = record { shape = l.shape.now; member = l.member.now; reason = reas
 abbrev pub outcome_view : List ℕ → kept_outcome.Outcome → Outcome
 outcome_view name (outcomes.Declared d) = declared (member_decl_of d)
 outcome_view name (outcomes.Left reason) = left_out name (reason_view reason)
+
+abbrev pub wanted_view : kept_wanted.Wanted → Wanted
+wanted_view (wanteds.Input name) = input name.now
+wanted_view (wanteds.Output name) = output name.now
+wanted_view (wanteds.Shape name) = shape name.now
+wanted_view wanteds.Service = service

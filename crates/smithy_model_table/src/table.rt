@@ -1,8 +1,8 @@
 //! The table of what is wanted of a model.
-ghost use Rattle.std.specs.Prelude.{◌≡◌, ◌≤◌, length, map, IfOk};
+ghost use Rattle.std.specs.Prelude.{◌≡◌, ◌≤◌, false, slice_get, length, map, IfOk};
 ghost use Rattle.smithy_model.specs.Views.{model_view};
 ghost use Rattle.smithy_model_table.specs.ModelTable.{IsTableOf};
-ghost use Rattle.smithy_model_table.specs.Views.{left_view};
+ghost use Rattle.smithy_model_table.specs.Views.{left_view, wanted_view};
 ghost use Rattle.smithy_shapes.specs.Acceptance.{accepted, table_of as table_of_text};
 ghost use Rattle.smithy_shapes.specs.TableText.{declarations_of, declarations};
 ghost use Rattle.smithy_shapes.specs.DeclViews.{decl_of};
@@ -62,13 +62,24 @@ fn has_marked(marks: &[bool], numbers: &[usize]) -> bool {
     false
 }
 
+// Whether these numbers don't begin with the same as others.
+fn begins_otherwise(numbers: &[usize], others: &[usize]) -> bool
+    ensures { result ≡ false → slice_get numbers.now 0 ≡ slice_get others.now 0 }
+{
+    match (numbers.get(0), others.get(0)) {
+        (Some(number), Some(other)) => *number != *other,
+        (None, None) => false,
+        _ => true,
+    }
+}
+
 /// The table of what is wanted of a model: the shapes that are reached from it.
 pub fn table_of<'a>(
     alloc: Global,
     model: &Model<'a>,
     wanted: Wanted<'_>,
 ) -> Result<ModelTable<'a>, WantedFault>
-    ensures table { IfOk result (λ t. IsTableOf (model_view model.now) t.text.items (map left_view t.left.items)) }
+    ensures table { IfOk result (λ t. IsTableOf (model_view model.now) (wanted_view wanted.entry) t.text.items (map left_view t.left.items)) }
     ensures short { IfOk result (λ t. length t.text.items ≤ MAX_TABLE_LEN) }
 {
     if model.shapes.len() > MAX_SHAPES {
@@ -80,6 +91,10 @@ pub fn table_of<'a>(
         return Err(WantedFault::NoDeclaration);
     }
     let order = reached(alloc, model, &marks, &roots)?;
+    // It never does: a root is a shape of the model, and the first is visited before all.
+    if begins_otherwise(&order, &roots) {
+        return Err(WantedFault::NoDeclaration);
+    }
     let names = Names::of(alloc, model)?;
     let declared = declare_all(alloc, model, &marks, &names, &order)?;
     let text = text_of(alloc, &declared.decls)?;

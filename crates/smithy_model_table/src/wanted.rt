@@ -1,7 +1,12 @@
 //! The shapes that a table is wanted for.
+ghost use Rattle.std.specs.Prelude.{◌≡◌, List, ℕ, [], ◌∷◌, Some, true, false, option_map, slice_get, IfOk, IfSome};
+ghost use Rattle.smithy_model.specs.Views.{model_view, operation_view};
 ghost use Rattle.smithy_model_table.specs.Naming.{IsNameIn};
+ghost use Rattle.smithy_model_table.specs.Views.{wanted_view};
+ghost use Rattle.smithy_model_table.specs.Wanted.{IsShapeNamed, IsOperationNamed, IsBody, AreRoots};
 
 use crate::fault::WantedFault;
+use crate::places::shape_at;
 use smithy_model::{Kind, Member, Model, Operation};
 use std::alloc::Global;
 
@@ -29,19 +34,32 @@ pub(crate) fn name_in(id: &str) -> &str
 }
 
 // Whether the id or the name in it is this.
-fn is_named(id: &str, name: &str) -> bool {
+fn is_named(id: &str, name: &str) -> bool
+    ensures { result ≡ true → IsNameIn id.now name.now }
+{
     id == name || name_in(id) == name
 }
 
+// Whether the shape of this number has this id or name.
+fn is_shape_named(model: &Model<'_>, number: usize, name: &str) -> bool
+    ensures { result ≡ true → IsShapeNamed (model_view model.now) name.now number }
+{
+    match shape_at(model, number) {
+        Some(shape) => is_named(shape.id, name),
+        None => false,
+    }
+}
+
 // The number of the shape of this id, or of the only one of this name.
-fn find_shape(model: &Model<'_>, name: &str) -> Result<usize, WantedFault> {
+fn find_shape(model: &Model<'_>, name: &str) -> Result<usize, WantedFault>
+    ensures { IfOk result (IsShapeNamed (model_view model.now) name.now) }
+{
     let mut found = None;
     for number in 0..model.shapes.len() {
-        let id = model.shapes[number].id;
-        if id == name {
-            return Ok(number);
-        }
-        if name_in(id) == name {
+        if is_shape_named(model, number, name) {
+            if model.shapes[number].id == name {
+                return Ok(number);
+            }
             if found.is_some() {
                 return Err(WantedFault::NoSuchName);
             }
@@ -63,7 +81,9 @@ pub(crate) fn is_declared(kind: &Kind<'_>) -> bool {
 }
 
 // The number of the shape of this id or name, where it has a declaration.
-fn find_declared(model: &Model<'_>, name: &str) -> Result<usize, WantedFault> {
+fn find_declared(model: &Model<'_>, name: &str) -> Result<usize, WantedFault>
+    ensures { IfOk result (IsShapeNamed (model_view model.now) name.now) }
+{
     let number = find_shape(model, name)?;
     match model.shapes.get(number) {
         Some(shape) if is_declared(&shape.kind) => Ok(number),
@@ -71,14 +91,37 @@ fn find_declared(model: &Model<'_>, name: &str) -> Result<usize, WantedFault> {
     }
 }
 
+// The operation of this number.
+fn operation_at<'m, 'a>(model: &'m Model<'a>, number: usize) -> Option<&'m Operation<'a>>
+    ensures { option_map (λ o. operation_view o.now) result ≡ slice_get (model_view model.now).operations number }
+{
+    model.operations.get(number)
+}
+
+// The operation of this number, where it has this id or name.
+fn operation_named<'m, 'a>(
+    model: &'m Model<'a>,
+    number: usize,
+    name: &str,
+) -> Option<&'m Operation<'a>>
+    ensures { IfSome result (λ o. IsOperationNamed (model_view model.now) name.now (operation_view o.now)) }
+{
+    match operation_at(model, number) {
+        Some(operation) if is_named(operation.id, name) => Some(operation),
+        _ => None,
+    }
+}
+
 // The only operation of this id or name.
 fn find_operation<'m, 'a>(
     model: &'m Model<'a>,
     name: &str,
-) -> Result<&'m Operation<'a>, WantedFault> {
+) -> Result<&'m Operation<'a>, WantedFault>
+    ensures { IfOk result (λ o. IsOperationNamed (model_view model.now) name.now (operation_view o.now)) }
+{
     let mut found = None;
-    for operation in &model.operations {
-        if is_named(operation.id, name) {
+    for number in 0..model.operations.len() {
+        if let Some(operation) = operation_named(model, number, name) {
             if found.is_some() {
                 return Err(WantedFault::NoSuchName);
             }
@@ -107,10 +150,9 @@ fn payload(members: &[Member<'_>]) -> Option<usize> {
 }
 
 // The structure that is the body of a structure: with HTTP bindings its payload, where it has one.
-fn body(model: &Model<'_>, id: Option<&str>) -> Result<usize, WantedFault> {
-    let Some(id) = id else {
-        return Err(WantedFault::NoDeclaration);
-    };
+fn body(model: &Model<'_>, id: &str) -> Result<usize, WantedFault>
+    ensures { IfOk result (IsBody (model_view model.now) id.now) }
+{
     let number = find_shape(model, id)?;
     let Some(members) = structure(model, number) else {
         return Err(WantedFault::NoDeclaration);
@@ -125,24 +167,60 @@ fn body(model: &Model<'_>, id: Option<&str>) -> Result<usize, WantedFault> {
     }
 }
 
+// Adds the body of the structure of this id, where there is one.
+fn add_body(
+    model: &Model<'_>,
+    id: Option<&str>,
+    roots: &mut Vec<usize>,
+) -> Result<(), WantedFault> {
+    if let Some(id) = id {
+        if let Ok(number) = body(model, id) {
+            roots.push(number)?;
+        }
+    }
+    Ok(())
+}
+
 // Adds the structures of an operation, where they are such.
 fn add_bodies(
     model: &Model<'_>,
     operation: &Operation<'_>,
     roots: &mut Vec<usize>,
 ) -> Result<(), WantedFault> {
-    if let Ok(number) = body(model, operation.input) {
-        roots.push(number)?;
-    }
-    if let Ok(number) = body(model, operation.output) {
-        roots.push(number)?;
-    }
+    add_body(model, operation.input, roots)?;
+    add_body(model, operation.output, roots)?;
     for id in &operation.errors {
-        if let Ok(number) = body(model, Some(*id)) {
-            roots.push(number)?;
-        }
+        add_body(model, Some(*id), roots)?;
     }
     Ok(())
+}
+
+// The body of a structure that an operation may have.
+fn body_if(model: &Model<'_>, id: Option<&str>) -> Result<usize, WantedFault>
+    ensures { IfOk result (λ root. (given : List ℕ) × (option_map (λ t. t.now) id.entry ≡ Some given) × IsBody (model_view model.now) given root) }
+{
+    match id {
+        Some(id) => body(model, id),
+        None => Err(WantedFault::NoDeclaration),
+    }
+}
+
+// The one number.
+fn one(alloc: Global, number: usize) -> Result<Vec<usize>, WantedFault>
+    ensures { IfOk result (λ numbers. numbers.items ≡ number ∷ []) }
+{
+    let mut numbers = Vec::new(alloc);
+    numbers.push(number)?;
+    Ok(numbers)
+}
+
+// The bodies of the operations.
+fn service_roots(alloc: Global, model: &Model<'_>) -> Result<Vec<usize>, WantedFault> {
+    let mut roots = Vec::new(alloc);
+    for operation in &model.operations {
+        add_bodies(model, operation, &mut roots)?;
+    }
+    Ok(roots)
 }
 
 /// The numbers of the shapes that a table is wanted for.
@@ -150,23 +228,19 @@ pub(crate) fn roots_of(
     alloc: Global,
     model: &Model<'_>,
     wanted: Wanted<'_>,
-) -> Result<Vec<usize>, WantedFault> {
-    let mut roots = Vec::new(alloc);
+) -> Result<Vec<usize>, WantedFault>
+    ensures { IfOk result (λ roots. AreRoots (model_view model.now) (wanted_view wanted.entry) roots.items) }
+{
     match wanted {
         Wanted::Input(name) => {
             let operation = find_operation(model, name)?;
-            roots.push(body(model, operation.input)?)?;
+            one(alloc, body_if(model, operation.input)?)
         }
         Wanted::Output(name) => {
             let operation = find_operation(model, name)?;
-            roots.push(body(model, operation.output)?)?;
+            one(alloc, body_if(model, operation.output)?)
         }
-        Wanted::Shape(name) => roots.push(find_declared(model, name)?)?,
-        Wanted::Service => {
-            for operation in &model.operations {
-                add_bodies(model, operation, &mut roots)?;
-            }
-        }
+        Wanted::Shape(name) => one(alloc, find_declared(model, name)?),
+        Wanted::Service => service_roots(alloc, model),
     }
-    Ok(roots)
 }

@@ -1,10 +1,6 @@
 -- The words of the program for tables, and the tasks that they ask for.
 use Rattle.std.specs.Prelude.{List, [], ◌∷◌, ℕ, Bool, true, false, Option, Some, None, option_map, if◌then◌else◌, codes, bytes_eq}
-
--- what a table is wanted for: the input or the output of an operation, a shape, or each operation of the service
-pub data Wanted : Type 0 where
-  input output shape : List ℕ → Wanted
-  service : Wanted
+use Rattle.smithy_model_table.specs.Wanted.{Wanted, input, output, shape, service}
 
 -- [partial] WAY MODEL NAME
 pub record Task : Type 0 where

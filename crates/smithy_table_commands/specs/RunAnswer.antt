@@ -1,37 +1,110 @@
--- What the number that a run ends with says of the words and of the output.
-use Rattle.std.specs.Prelude.{◌≡◌, ◌≢◌, ◌↔◌, ℕ, List, None}
-use Rattle.smithy_shapes.specs.Table.{Table}
-use Rattle.smithy_shapes.specs.Acceptance.{accepted, table_of}
-use Rattle.smithy_outside.specs.Outside.{Shown, MetOneFault, Took, TookPrefix}
+-- What the number that a run ends with says of the words, of the file and of the output.
+use Rattle.std.specs.Prelude.{◌≡◌, ◌≢◌, ◌⊎◌, ◌↔◌, ◌≤◌, ℕ, List, length, ◌&&◌, not, Bool, true, false, Some, None}
+use Rattle.std.specs.List.{list_any}
+use Rattle.smithy_model.specs.declared.fault.ModelFault.TheVariants as faults
+use Rattle.smithy_model.specs.Model.{Model}
+use Rattle.smithy_model.specs.Reading.{IsModelText}
+use Rattle.smithy_model.specs.Faults.{RefusesText}
+use Rattle.smithy_model_table.specs.Leaving.{Reason, float, event_stream, outside, clash}
+use Rattle.smithy_model_table.specs.Outcomes.{LeftOut as Left}
+use Rattle.smithy_model_table.specs.ModelTable.{IsTableOf}
+use Rattle.smithy_outside.specs.Outside.{Shown, missing, MetOneFault, MetNoFault, IsWhole, IsLonger, Took, TookPrefix}
 use Rattle.smithy_table_commands.specs.declared.status.Status.{Status}
-use Rattle.smithy_table_commands.specs.declared.status.Status.TheVariants.{Done, Usage, WriteFailed}
-use Rattle.smithy_table_commands.specs.Command.{command_of}
-use Rattle.smithy_table_commands.specs.Status.{status_code}
+use Rattle.smithy_table_commands.specs.declared.status.Status.TheVariants.{Done, Usage, ReadFailed, WriteFailed, OutOfMemory, TableRefused, NoSuchName, NoDeclaration, TooLong, NotJson, NotAModel, BadShape, UnknownTarget, BadMixin, Applied, Unwritable, LeftOut, NameTwice}
+use Rattle.smithy_table_commands.specs.Command.{Task, command_of}
+use Rattle.smithy_table_commands.specs.Status.{status_code, line_of}
 
--- the text is an accepted table
-abbrev pub IsTable : List ℕ → Type 0
-IsTable text = (table : Table) × (table_of text ≡ accepted table)
+-- in bytes
+abbrev pub longest_model : ℕ
+longest_model = 67_108_864
 
--- what a status says of the output: it took a table whole, or a front of one and met a fault, or tells and counts what it did before
-abbrev pub SaysOfOutput : (old new : Shown) → Status → Type 0
-SaysOfOutput old new Done = (text : List ℕ) × IsTable text × Took text old new
-SaysOfOutput old new WriteFailed = (text : List ℕ) × IsTable text × MetOneFault old new × TookPrefix text old new
-SaysOfOutput old new _ = new ≡ old
+-- a file that isn't told to be missing was loaded whole, and is within the limit of a model
+pub record IsLoaded (text : List ℕ) (file : Shown) : Type 0 where
+  pub whole : IsWhole text file
+  pub there : file.content ≢ missing
+  pub within : length text ≤ longest_model
 
--- a status that comes before anything is written, and not by the words
-abbrev pub IsRefusal : Status → Type 0
-IsRefusal Done = ⊥
-IsRefusal Usage = ⊥
-IsRefusal WriteFailed = ⊥
-IsRefusal _ = Unit {0}
+-- why the file wasn't loaded
+abbrev pub FailsToLoad : (old new : Shown) → Status → Type 0
+FailsToLoad old new ReadFailed = MetOneFault old new
+FailsToLoad old new TooLong = (old.content ≢ missing) × IsLonger longest_model old
+FailsToLoad old new OutOfMemory = Unit {0}
+FailsToLoad old new _ = ⊥
 
--- what the number says where the words ask for a task
-abbrev pub TaskAnswer : (old new : Shown) → ℕ → Type 0
-TaskAnswer old new code = (status : Status) × (code ≡ status_code status) × (status ≢ Usage) × SaysOfOutput old new status
+-- the text is a model
+abbrev pub IsModel : List ℕ → Type 0
+IsModel text = (m : Model) × IsModelText text m
+
+-- Why there is no table: the text is no model, by this cause, or it is one, and what is wanted of it has no table that is accepted.
+abbrev pub Refuses : List ℕ → Status → Type 0
+Refuses text Done = ⊥
+Refuses text Usage = ⊥
+Refuses text ReadFailed = ⊥
+Refuses text WriteFailed = ⊥
+Refuses text LeftOut = ⊥
+Refuses text OutOfMemory = Unit {0}
+Refuses text NotJson = RefusesText text faults.NotJson
+Refuses text NameTwice = RefusesText text faults.NameTwice
+Refuses text NotAModel = RefusesText text faults.NotAModel
+Refuses text (BadShape id) = RefusesText text (faults.BadShape id)
+Refuses text (UnknownTarget id) = RefusesText text (faults.UnknownTarget id)
+Refuses text (BadMixin id) = RefusesText text (faults.BadMixin id)
+Refuses text (Applied id) = RefusesText text (faults.Applied id)
+Refuses text NoSuchName = IsModel text
+Refuses text NoDeclaration = IsModel text
+Refuses text TooLong = IsModel text
+Refuses text (TableRefused fault) = IsModel text
+Refuses text Unwritable = IsModel text
+
+-- a body may have such a member: only one that travels outside of it is in none
+abbrev pub is_lost : Reason → Bool
+is_lost outside = false
+is_lost _ = true
+
+-- a table without these members loses data of bodies
+abbrev pub loses_data : List Left → Bool
+loses_data left = list_any (λ (l : Left). is_lost l.reason) left
+
+-- data is lost, and the words don't allow it
+abbrev pub is_forbidden : List Left → Bool → Bool
+is_forbidden left is_partial = loses_data left && not is_partial
+
+-- what becomes of a table: the output took it whole, or a front of it and met a fault, or it may not be written
+abbrev pub HandsOut : (table : List ℕ) → List Left → (is_partial : Bool) → (old new : Shown) → Status → Type 0
+HandsOut table left is_partial old new Done = (is_forbidden left is_partial ≡ false) × Took table old new
+HandsOut table left is_partial old new WriteFailed =
+    (is_forbidden left is_partial ≡ false) × MetOneFault old new × TookPrefix table old new
+HandsOut table left is_partial old new LeftOut = (is_forbidden left is_partial ≡ true) × (new ≡ old)
+HandsOut table left is_partial old new _ = ⊥
+
+-- A sink met no fault that shows, took the line and holds nothing back; or it met one fault, and took a front of it.
+abbrev pub TookLine : List ℕ → (old new : Shown) → (new_holds_back : Bool) → Type 0
+TookLine line old new new_holds_back =
+    (MetNoFault old new × Took line old new × (new_holds_back ≡ false)) ⊎ (MetOneFault old new × TookPrefix line old new)
+
+-- What a status says of the text of a model: it has no table, the output stays, and P holds of standard error; or it has this table.
+abbrev pub SaysOf : List ℕ → Task → (old new : Shown) → Status → (P : Type 0) → Type 0
+SaysOf text task old new status P =
+    (Refuses text status × (new ≡ old) × P)
+    ⊎ ((m : Model) × (table : List ℕ) × (left : List Left) × IsModelText text m × IsTableOf m task.wanted table left
+    × HandsOut table left task.is_partial old new status)
+
+-- What a status says where the words ask for a task: of the file of the model, of the output, and, where there is no table, P of
+-- standard error.
+abbrev pub TaskAnswer : Task → (old_file new_file old_out new_out : Shown) → Status → (P : Type 0) → Type 0
+TaskAnswer task old_file new_file old_out new_out status P =
+    (FailsToLoad old_file new_file status × (new_out ≡ old_out) × P)
+    ⊎ ((text : List ℕ) × IsLoaded text old_file × SaysOf text task old_out new_out status P)
 
 -- What the number says that `run` answers: it is that of a status.
-pub record RunAnswer (words : List (List ℕ)) (old new : Shown) (code : ℕ) : Type 0 where
+pub record RunAnswer (words : List (List ℕ)) (old_files new_files : List ℕ → Shown) (old_out new_out old_err new_err : Shown) (err_holds_back : Bool) (code : ℕ) : Type 0 where
   pub status : Status
   pub has_code : code ≡ status_code status
   pub is_usage : (status ≡ Usage) ↔ (command_of words ≡ None)
-  pub output : SaysOfOutput old new status
+  -- where there is no table, standard error took the line of the status
+  pub answers : (task : Task) → command_of words ≡ Some task
+      → TaskAnswer task (old_files task.model_path) (new_files task.model_path) old_out new_out status
+      (TookLine (line_of status) old_err new_err err_holds_back)
+  -- words that ask for no task move nothing but standard error
+  pub only_for_a_task : command_of words ≡ None
+      → (new_files ≡ old_files) × (new_out ≡ old_out) × TookLine (line_of status) old_err new_err err_holds_back

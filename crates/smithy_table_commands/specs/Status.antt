@@ -4,6 +4,10 @@ use Rattle.smithy_shapes.specs.declared.fault.TableFault.{TableFault}
 use Rattle.smithy_shapes.specs.declared.fault.TableFault.TheVariants as table_faults
 use Rattle.smithy_outside.specs.declared.outside.LoadFault.{LoadFault}
 use Rattle.smithy_outside.specs.declared.outside.LoadFault.TheVariants as load_faults
+use Rattle.smithy_model.specs.declared.fault.ModelFault.{ModelFault}
+use Rattle.smithy_model.specs.declared.fault.ModelFault.TheVariants as model_faults
+use Rattle.smithy_model_table.specs.declared.fault.WantedFault.{WantedFault}
+use Rattle.smithy_model_table.specs.declared.fault.WantedFault.TheVariants as wanted_faults
 use Rattle.smithy_table_commands.specs.declared.status.Status.{Status}
 use Rattle.smithy_table_commands.specs.declared.status.Status.TheVariants.{Done, Usage, ReadFailed, WriteFailed, OutOfMemory, TableRefused, NoSuchName, NoDeclaration, TooLong, NotJson, NotAModel, BadShape, UnknownTarget, BadMixin, Applied, Unwritable, LeftOut, NameTwice}
 
@@ -33,6 +37,26 @@ abbrev pub status_of_load_fault : LoadFault → Status
 status_of_load_fault load_faults.Failed = ReadFailed
 status_of_load_fault load_faults.TooLong = TooLong
 status_of_load_fault load_faults.NoMemory = OutOfMemory
+
+-- the status where the text is no model
+abbrev pub status_of_model_fault : ModelFault → Status
+status_of_model_fault model_faults.NotJson = NotJson
+status_of_model_fault model_faults.NameTwice = NameTwice
+status_of_model_fault model_faults.NotAModel = NotAModel
+status_of_model_fault (model_faults.BadShape id) = BadShape id
+status_of_model_fault (model_faults.UnknownTarget id) = UnknownTarget id
+status_of_model_fault (model_faults.BadMixin id) = BadMixin id
+status_of_model_fault (model_faults.Applied id) = Applied id
+status_of_model_fault model_faults.NoMemory = OutOfMemory
+
+-- the status where what is wanted has no table
+abbrev pub status_of_wanted_fault : WantedFault → Status
+status_of_wanted_fault wanted_faults.NoSuchName = NoSuchName
+status_of_wanted_fault wanted_faults.NoDeclaration = NoDeclaration
+status_of_wanted_fault wanted_faults.TooLong = TooLong
+status_of_wanted_fault (wanted_faults.TableRefused fault) = TableRefused fault
+status_of_wanted_fault wanted_faults.Unwritable = Unwritable
+status_of_wanted_fault wanted_faults.NoMemory = OutOfMemory
 
 -- a fault of a table, a space and its number
 abbrev pub refusal_text : List ℕ → ℕ → List ℕ

@@ -1,4 +1,8 @@
 //! The lines on standard error for the members that a table leaves out.
+ghost use Rattle.std.specs.Prelude.{◌≡◌, map};
+ghost use Rattle.smithy_model_table.specs.Views.{reason_view, left_view};
+ghost use Rattle.smithy_table_commands.specs.RunAnswer.{is_lost, loses_data, is_forbidden};
+
 use smithy_model_table::{Left, Reason};
 use smithy_outside::{Failed, Sink, write_bytes};
 
@@ -32,13 +36,33 @@ pub(crate) fn tell_left<E: Sink>(err: &mut E, left: &[Left<'_>]) {
     }
 }
 
-/// Whether a body may have some of these members: it has none that travels outside of it.
-pub(crate) fn loses_data(left: &[Left<'_>]) -> bool {
+// Whether a body may have such a member.
+fn is_lost(reason: Reason) -> bool
+    ensures { result ≡ is_lost (reason_view reason) }
+{
+    match reason {
+        Reason::Outside => false,
+        Reason::Float => true,
+        Reason::EventStream => true,
+        Reason::Clash => true,
+    }
+}
+
+// Whether a body may have some of these members: it has none that travels outside of it.
+fn loses_data(left: &[Left<'_>]) -> bool
+    ensures { result ≡ loses_data (map left_view left.now) }
+{
     for one in left {
-        match one.reason {
-            Reason::Outside => {}
-            _ => return true,
+        if is_lost(one.reason) {
+            return true;
         }
     }
     false
+}
+
+/// Whether a table without these members may not be written: it loses data, and the words don't allow it.
+pub(crate) fn is_forbidden(left: &[Left<'_>], is_partial: bool) -> bool
+    ensures { result ≡ is_forbidden (map left_view left.now) is_partial }
+{
+    loses_data(left) && !is_partial
 }

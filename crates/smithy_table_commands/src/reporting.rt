@@ -1,6 +1,7 @@
 //! The line on standard error that says how a run ended. Writing it takes no memory.
-ghost use Rattle.std.specs.Prelude.{◌≡◌, ◌++◌, false, codes, OnOk};
+ghost use Rattle.std.specs.Prelude.{◌≡◌, ◌≢◌, ◌++◌, false, codes, OnOk};
 ghost use Rattle.smithy_outside.specs.Outside.{IsWritten};
+ghost use Rattle.smithy_table_commands.specs.RunAnswer.{TookLine};
 ghost use Rattle.smithy_table_commands.specs.Status.{refusal_text, fault_text, text_of, line_of};
 
 use crate::status::Status;
@@ -89,7 +90,9 @@ fn write_line<E: Sink>(err: &mut E, status: Status<'_>) -> Result<(), Failed>
 }
 
 /// Says how a run ended, unless the table is written. That standard error fails is said nowhere.
-pub fn report<E: Sink>(err: &mut E, status: Status<'_>) {
+pub fn report<E: Sink>(err: &mut E, status: Status<'_>)
+    ensures { status.entry ≢ Status.Done → TookLine (line_of status.entry) (E.told err.old) (E.told err.new) (E.holds_back err.new) }
+{
     match status {
         Status::Done => {}
         _ => {

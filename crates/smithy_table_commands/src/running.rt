@@ -1,8 +1,15 @@
 //! One run of the program.
-ghost use Rattle.std.specs.Prelude.{◌≢◌, map, string_bytes, IfOk, IfErr};
-ghost use Rattle.smithy_table_commands.specs.RunAnswer.{IsTable, IsRefusal, SaysOfOutput, TaskAnswer, RunAnswer};
+ghost use Rattle.std.specs.Prelude.{◌≡◌, map, string_bytes, IfOk, IfErr};
+ghost use Rattle.smithy_model.specs.Model.{Model};
+ghost use Rattle.smithy_model.specs.Reading.{IsModelText};
+ghost use Rattle.smithy_model_table.specs.ModelTable.{IsTableOf};
+ghost use Rattle.smithy_model_table.specs.Views.{left_view, wanted_view};
+ghost use Rattle.smithy_table_commands.specs.declared.status.Status as kept;
+ghost use Rattle.smithy_table_commands.specs.RunAnswer.{IsLoaded, FailsToLoad, Refuses, HandsOut, SaysOf, TookLine, TaskAnswer, RunAnswer};
+ghost use Rattle.smithy_table_commands.specs.Status.{status_code, line_of};
+ghost use Rattle.smithy_table_commands.specs.Views.{task_view};
 
-use crate::left_out::{loses_data, tell_left};
+use crate::left_out::{is_forbidden, tell_left};
 use crate::reporting::report;
 use crate::status::Status;
 use crate::task::Task;
@@ -15,6 +22,18 @@ use std::alloc::Global;
 // The most bytes of a model.
 const MAX_MODEL_LEN: usize = 67_108_864;
 
+// The text of a model.
+fn load_model<F: Files>(
+    alloc: Global,
+    files: &mut F,
+    path: &str,
+) -> Result<Vec<u8>, Status<'static>>
+    ensures loaded { IfOk result (λ text. IsLoaded text.items (F.told files.old path.now)) }
+    ensures refused { IfErr result (FailsToLoad (F.told files.old path.now) (F.told files.new path.now)) }
+{
+    Ok(files.load(alloc, path, MAX_MODEL_LEN)?)
+}
+
 // The table of what is wanted of a model's text.
 fn table_from<'a>(
     alloc: Global,
@@ -22,8 +41,8 @@ fn table_from<'a>(
     scratch: &'a mut Scratch,
     wanted: Wanted<'_>,
 ) -> Result<ModelTable<'a>, Status<'a>>
-    ensures table { IfOk result (λ table. IsTable table.text.items) }
-    ensures refused { IfErr result IsRefusal }
+    ensures table { IfOk result (λ table. (m : Model) × IsModelText text.now m × IsTableOf m (wanted_view wanted.entry) table.text.items (map left_view table.left.items)) }
+    ensures refused { IfErr result (Refuses text.now) }
 {
     let model = read_model(alloc, text, scratch)?;
     let table = table_of(alloc, &model, wanted)?;
@@ -37,12 +56,10 @@ fn hand_out<'a, K: Sink, E: Sink>(
     out: &mut K,
     err: &mut E,
 ) -> Status<'a>
-    requires { IsTable table.now.text.items }
-    ensures other { result ≢ Status.Usage }
-    ensures output { SaysOfOutput (K.told out.old) (K.told out.new) result }
+    ensures { HandsOut table.now.text.items (map left_view table.now.left.items) is_partial (K.told out.old) (K.told out.new) result }
 {
     tell_left(err, &table.left);
-    if loses_data(&table.left) && !is_partial {
+    if is_forbidden(&table.left, is_partial) {
         return Status::LeftOut;
     }
     match write_all(out, &table.text) {
@@ -60,8 +77,7 @@ fn status_of<'a, K: Sink, E: Sink>(
     out: &mut K,
     err: &mut E,
 ) -> Status<'a>
-    ensures other { result ≢ Status.Usage }
-    ensures output { SaysOfOutput (K.told out.old) (K.told out.new) result }
+    ensures { SaysOf text.now (task_view task.entry) (K.told out.old) (K.told out.new) result (E.told err.new ≡ E.told err.old) }
 {
     match table_from(alloc, text, scratch, task.wanted) {
         Ok(table) => hand_out(&table, task.is_partial, out, err),
@@ -77,12 +93,12 @@ fn perform<F: Files, K: Sink, E: Sink>(
     out: &mut K,
     err: &mut E,
 ) -> u8
-    ensures { TaskAnswer (K.told out.old) (K.told out.new) result }
+    ensures { (status : kept.Status) × (result ≡ status_code status) × TaskAnswer (task_view task.entry) (F.told files.old (task_view task.entry).model_path) (F.told files.new (task_view task.entry).model_path)
+        (K.told out.old) (K.told out.new) status (TookLine (line_of status) (E.told err.old) (E.told err.new) (E.holds_back err.new)) }
 {
-    let text = match files.load(alloc, task.model, MAX_MODEL_LEN) {
+    let text = match load_model(alloc, files, task.model) {
         Ok(text) => text,
-        Err(fault) => {
-            let status = Status::from(fault);
+        Err(status) => {
             report(err, status);
             return status.code();
         }
@@ -102,7 +118,8 @@ pub fn run<F: Files, K: Sink, E: Sink>(
     out: &mut K,
     err: &mut E,
 ) -> u8
-    ensures { RunAnswer (map string_bytes words.now) (K.told out.old) (K.told out.new) result }
+    ensures { RunAnswer (map string_bytes words.now) (F.told files.old) (F.told files.new) (K.told out.old) (K.told out.new)
+        (E.told err.old) (E.told err.new) (E.holds_back err.new) result }
 {
     match Task::from_words(words) {
         Some(task) => perform(alloc, task, files, out, err),

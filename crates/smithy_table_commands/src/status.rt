@@ -1,7 +1,6 @@
 //! How the program ends.
 ghost use Rattle.std.specs.Prelude.{◌≡◌};
-ghost use Rattle.smithy_table_commands.specs.RunAnswer.{IsRefusal};
-ghost use Rattle.smithy_table_commands.specs.Status.{status_code, status_of_load_fault};
+ghost use Rattle.smithy_table_commands.specs.Status.{status_code, status_of_load_fault, status_of_model_fault, status_of_wanted_fault};
 
 use smithy_model::ModelFault;
 use smithy_model_table::WantedFault;
@@ -90,7 +89,7 @@ impl<'a> From<LoadFault> for Status<'a> {
 }
 
 impl<'a> From<ModelFault<'a>> for Status<'a> {
-    ghost from_gives = { λ _ status. IsRefusal status };
+    ghost from_gives = { λ fault status. status ≡ status_of_model_fault fault };
 
     fn from(fault: ModelFault<'a>) -> Status<'a> {
         match fault {
@@ -107,7 +106,7 @@ impl<'a> From<ModelFault<'a>> for Status<'a> {
 }
 
 impl<'a> From<WantedFault> for Status<'a> {
-    ghost from_gives = { λ _ status. IsRefusal status };
+    ghost from_gives = { λ fault status. status ≡ status_of_wanted_fault fault };
 
     fn from(fault: WantedFault) -> Status<'a> {
         match fault {

@@ -1,7 +1,8 @@
 //! What the words of the program ask for.
 ghost use Rattle.std.specs.Prelude.{◌≡◌, map, option_map, string_bytes};
 ghost use Rattle.smithy_table_commands.specs.Command.{wanted_named, task_of, command_of};
-ghost use Rattle.smithy_table_commands.specs.Views.{wanted_view, task_view};
+ghost use Rattle.smithy_model_table.specs.Views.{wanted_view};
+ghost use Rattle.smithy_table_commands.specs.Views.{task_view};
 
 use smithy_model_table::Wanted;
 

@@ -1,20 +1,26 @@
-use Rattle.std.proofs.Common.{List, ℕ, subst}
+use Rattle.std.proofs.Common.{◌≡◌, ◌∙◌, List, ℕ, Bool, true, false, map, subst, sym, refl}
+use Rattle.smithy_model_table.specs.declared.left.Left as kept
+use Rattle.smithy_model_table.specs.Views.{left_view}
 use Rattle.smithy_outside.specs.Outside.{Took, TookPrefix}
+use Rattle.smithy_table_commands.specs.RunAnswer.{is_forbidden}
 use Rattle.smithy_table_commands.proofs.running.hand_out.Goals as goal
 
-pub returns-in-Ok-clause-output : goal.returns-in-Ok-clause-output
-returns-in-Ok-clause-output g c =
-    let told = g.K.Sink.told in (
-      c.args.table.now.text.items,
-      c.requires,
-      subst (λ (bytes : List ℕ). Took bytes (told c.args.out.now) (told c.write_all.new.sink)) c.deref-3.ensures.value c.in-Ok.ensures.written.1,
-    )
+pub returns-then-is_forbidden : goal.returns-then-is_forbidden
+returns-then-is_forbidden g c =
+    let forbidden = subst (λ (left : List kept.Left). is_forbidden (map left_view left) c.args.is_partial ≡ true) c.deref-2.ensures.value
+    (sym c.is_forbidden.ensures ∙ c.if-is_forbidden.true) in
+    (forbidden, refl)
 
-pub returns-in-Err-clause-output : goal.returns-in-Err-clause-output
-returns-in-Err-clause-output g c =
-    let told = g.K.Sink.told in (
-      c.args.table.now.text.items,
-      c.requires,
-      c.in-Err.ensures.written.0,
-      subst (λ (bytes : List ℕ). TookPrefix bytes (told c.args.out.now) (told c.write_all.new.sink)) c.deref-3.ensures.value c.in-Err.ensures.written.1,
-    )
+pub returns-in-Ok : goal.returns-in-Ok
+returns-in-Ok g c =
+    let told = g.K.Sink.told in
+    let allowed = subst (λ (left : List kept.Left). is_forbidden (map left_view left) c.args.is_partial ≡ false) c.deref-2.ensures.value
+    (sym c.is_forbidden.ensures ∙ c.if-is_forbidden.false) in
+    (allowed, subst (λ (bytes : List ℕ). Took bytes (told c.args.out.now) (told c.write_all.new.sink)) c.deref-3.ensures.value c.in-Ok.ensures.written.1)
+
+pub returns-in-Err : goal.returns-in-Err
+returns-in-Err g c =
+    let told = g.K.Sink.told in
+    let allowed = subst (λ (left : List kept.Left). is_forbidden (map left_view left) c.args.is_partial ≡ false) c.deref-2.ensures.value
+    (sym c.is_forbidden.ensures ∙ c.if-is_forbidden.false) in
+    (allowed, c.in-Err.ensures.written.0, subst (λ (bytes : List ℕ). TookPrefix bytes (told c.args.out.now) (told c.write_all.new.sink)) c.deref-3.ensures.value c.in-Err.ensures.written.1)

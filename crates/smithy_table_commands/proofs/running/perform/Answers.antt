@@ -1,9 +1,33 @@
-use Rattle.smithy_table_commands.proofs.RunLemmas.{not_loaded}
+use Rattle.std.proofs.Common.{◌≡◌, ◌⊎◌, inl, inr, List, ℕ, refl, subst}
+use Rattle.smithy_outside.specs.Outside.{Shown}
+use Rattle.smithy_table_commands.specs.Status.{line_of}
+use Rattle.smithy_table_commands.specs.RunAnswer.{SaysOf, TookLine}
+use Rattle.smithy_table_commands.specs.Views.{task_view}
+use Rattle.smithy_table_commands.proofs.RunLemmas.{unloaded_before, reported}
 use Rattle.smithy_table_commands.proofs.running.perform.Goals as goal
 
 pub returns-in-Err : goal.returns-in-Err
-returns-in-Err g c =
-    not_loaded (g.K.Sink.told c.args.out.now) c.in-Err.fault c.from-status.result c.code.result c.from-status.ensures c.code.ensures
+returns-in-Err g c = (
+  c.in-Err.status,
+  c.code.ensures,
+  inl (c.in-Err.ensures.refused, refl, c.report.ensures (unloaded_before (g.F.Files.told c.args.files.now c.args.task.model.now) (g.F.Files.told c.load_model.new.files c.args.task.model.now)
+  c.in-Err.status c.in-Err.ensures.refused)),
+)
 
 pub returns : goal.returns
-returns g c = (c.status_of-status.result, c.code-2.ensures, c.status_of-status.ensures.other, c.status_of-status.ensures.output)
+returns g c =
+    let told = g.K.Sink.told in
+    let err = g.E.Sink.told in
+    let status = c.status_of-status.result in
+    let task = task_view c.args.task in
+    let says = subst (λ (text : List ℕ). SaysOf text task (told c.args.out.now) (told c.status_of-status.new.out) status (err c.status_of-status.new.err ≡ err c.args.err.now))
+    c.deref.ensures.value c.status_of-status.ensures in (
+      status,
+      c.code-2.ensures,
+      inr (
+        c.in-Ok.text.items,
+        c.in-Ok.ensures.loaded,
+        reported c.in-Ok.text.items task (told c.args.out.now) (told c.status_of-status.new.out) status (err c.args.err.now) (err c.status_of-status.new.err)
+        (λ (before : Shown). TookLine (line_of status) before (err c.report-2.new.err) (g.E.Sink.holds_back c.report-2.new.err)) says c.report-2.ensures,
+      ),
+    )

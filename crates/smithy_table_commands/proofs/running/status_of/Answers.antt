@@ -1,8 +1,11 @@
-use Rattle.smithy_table_commands.proofs.RunLemmas.{not_usage, says_nothing}
+use Rattle.std.proofs.Common.{◌⊎◌, inl, inr, map, refl}
+use Rattle.smithy_model_table.specs.Views.{left_view}
 use Rattle.smithy_table_commands.proofs.running.status_of.Goals as goal
 
-pub returns-in-Err-clause-other : goal.returns-in-Err-clause-other
-returns-in-Err-clause-other g c = not_usage c.in-Err.status c.in-Err.ensures.refused
+pub returns-in-Err : goal.returns-in-Err
+returns-in-Err g c = inl (c.in-Err.ensures.refused, refl, refl)
 
-pub returns-in-Err-clause-output : goal.returns-in-Err-clause-output
-returns-in-Err-clause-output g c = says_nothing (g.K.Sink.told c.args.out.now) c.in-Err.status c.in-Err.ensures.refused
+pub returns-in-Ok : goal.returns-in-Ok
+returns-in-Ok g c =
+    let made = c.in-Ok.ensures.table in
+    inr (made.0, c.in-Ok.table.text.items, map left_view c.in-Ok.table.left.items, made.1, made.2, c.hand_out.ensures)

@@ -1,0 +1,84 @@
+//! The form of a model, and what its protocol asks for.
+ghost use Rattle.std.specs.Prelude.{◌≡◌, map, option_map};
+ghost use Rattle.json.specs.Value.{value_view};
+ghost use Rattle.smithy_model.specs.Reading.{protocol_in, form_of_protocol, form_in, has_protocol, has_http_bindings_in, is_ec2_in};
+ghost use Rattle.smithy_model.specs.Views.{entry_view, form_view};
+
+use crate::format::Format;
+use crate::objects::{has_trait, is_there, reference};
+use crate::parts::has_type;
+use json::Value;
+
+// The protocol that a `service-2.json` names.
+fn protocol<'a>(root: &Value<'a>) -> &'a str
+    ensures { result.now ≡ protocol_in (value_view root.now) }
+{
+    match reference(root, "metadata", "protocol") {
+        Some(protocol) => protocol,
+        None => "",
+    }
+}
+
+// What the names of a protocol are.
+fn format_of_protocol(protocol: &str) -> Format
+    ensures { form_view result ≡ form_of_protocol protocol.now }
+{
+    match protocol {
+        "ec2" => Format::Ec2,
+        "query" => Format::Xml,
+        "rest-xml" => Format::Xml,
+        _ => Format::Json,
+    }
+}
+
+/// The form of a model, whose root has a member `smithy` or `metadata`.
+pub(crate) fn format_of(root: &Value<'_>) -> Option<Format>
+    ensures { option_map form_view result ≡ form_in (value_view root.now) }
+{
+    if is_there(root, "smithy") {
+        return Some(Format::Smithy);
+    }
+    if is_there(root, "metadata") {
+        return Some(format_of_protocol(protocol(root)));
+    }
+    None
+}
+
+// Whether a service among these has a trait.
+fn has_protocol(entries: &[(&str, Value<'_>)], name: &str) -> bool
+    ensures { result ≡ has_protocol name.now (map entry_view entries.now) }
+{
+    for (_, spec) in entries {
+        if has_type(spec, "service") && has_trait(spec, name) {
+            return true;
+        }
+    }
+    false
+}
+
+/// Whether members may travel outside of the body: the protocol is `restJson1` or `restXml`.
+pub(crate) fn has_http_bindings(
+    format: Format,
+    root: &Value<'_>,
+    entries: &[(&str, Value<'_>)],
+) -> bool
+    ensures { result ≡ has_http_bindings_in (form_view format) (value_view root.now) (map entry_view entries.now) }
+{
+    match format {
+        Format::Smithy => {
+            has_protocol(entries, "aws.protocols#restJson1")
+                || has_protocol(entries, "aws.protocols#restXml")
+        }
+        _ => protocol(root) == "rest-json" || protocol(root) == "rest-xml",
+    }
+}
+
+/// Whether the protocol is `ec2Query`.
+pub(crate) fn is_ec2(format: Format, root: &Value<'_>, entries: &[(&str, Value<'_>)]) -> bool
+    ensures { result ≡ is_ec2_in (form_view format) (value_view root.now) (map entry_view entries.now) }
+{
+    match format {
+        Format::Smithy => has_protocol(entries, "aws.protocols#ec2Query"),
+        _ => protocol(root) == "ec2",
+    }
+}
