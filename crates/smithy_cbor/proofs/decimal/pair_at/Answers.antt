@@ -34,3 +34,9 @@ parts_at-requires c = grind (arith, common_steps)
 
 pub parts_until_break-requires : goal.parts_until_break-requires
 parts_until_break-requires c = grind (arith, common_steps)
+
+pub read_head-requires : goal.read_head-requires
+read_head-requires c = grind (arith, common_steps)
+
+pub overflow_add-body : goal.overflow_add-body
+overflow_add-body c = grind (arith, common_steps)

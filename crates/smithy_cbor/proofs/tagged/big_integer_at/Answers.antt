@@ -57,3 +57,21 @@ returns-in-0-Some-clause-within c = grind (arith, common_steps)
 
 pub returns-in-1-Some-clause-within : goal.returns-in-1-Some-clause-within
 returns-in-1-Some-clause-within c = grind (arith, common_steps)
+
+pub read_head-requires : goal.read_head-requires
+read_head-requires c = grind (arith, common_steps)
+
+pub overflow_add-end : goal.overflow_add-end
+overflow_add-end c = grind (arith, common_steps)
+
+pub integer_of-requires : goal.integer_of-requires
+integer_of-requires c = grind (arith, common_steps)
+
+pub integer_of-requires-in-1-Some : goal.integer_of-requires-in-1-Some
+integer_of-requires-in-1-Some c = grind (arith, common_steps)
+
+pub bignum_at-requires-clause-integer_type : goal.bignum_at-requires-clause-integer_type
+bignum_at-requires-clause-integer_type c = grind (arith, common_steps)
+
+pub bignum_at-requires-in-6-Some-2-clause-integer_type : goal.bignum_at-requires-in-6-Some-2-clause-integer_type
+bignum_at-requires-in-6-Some-2-clause-integer_type c = grind (arith, common_steps)

@@ -98,3 +98,18 @@ steps-preserved c =
 
 pub next_step-requires-clause-shallow : goal.next_step-requires-clause-shallow
 next_step-requires-clause-shallow c = grind (arith, common_steps)
+
+pub fault_at_limit-requires : goal.fault_at_limit-requires
+fault_at_limit-requires c = grind (arith, common_steps)
+
+pub document_begun-requires : goal.document_begun-requires
+document_begun-requires c = grind (arith, common_steps)
+
+pub overflow_add-inside_depth : goal.overflow_add-inside_depth
+overflow_add-inside_depth c = grind (arith, common_steps)
+
+pub overflow_add-inside_depth-in-steps : goal.overflow_add-inside_depth-in-steps
+overflow_add-inside_depth-in-steps c = grind (arith, common_steps)
+
+pub next_step-requires-clause-within : goal.next_step-requires-clause-within
+next_step-requires-clause-within c = grind (arith, common_steps)

@@ -1,4 +1,5 @@
-use Rattle.std.proofs.Common.{◌≡◌, ◌∙◌, true, false, sym}
+use Rattle.std.proofs.Common.{◌≡◌, ◌∙◌, true, false, sym, arith}
+use Rattle.std.proofs.lemmas.Grind.{common_steps}
 use Rattle.std.proofs.lemmas.Result.{err_from_is_err_and}
 use Rattle.smithy_types.specs.DocumentView.{document_view}
 use Rattle.smithy_json_codec.proofs.DocumentReads.{lies_refused, followed_refused}
@@ -16,3 +17,15 @@ pub returns-in_err-document-clause-refused : goal.returns-in_err-document-clause
 returns-in_err-document-clause-refused c =
     let p = err_from_is_err_and c.from_residual.result c.from_residual.ensures.1 in
     rw (p.1, p.2) (lies_refused c.args.input.settings.max_depth c.args.depth c.args.input.bytes.now c.args.at c.in_err-document.field-0.0 c.in_err-document.ensures.refused)
+
+pub document_at-requires-clause-within : goal.document_at-requires-clause-within
+document_at-requires-clause-within c = grind (arith, common_steps)
+
+pub document_at-requires-clause-shallow : goal.document_at-requires-clause-shallow
+document_at-requires-clause-shallow c = grind (arith, common_steps)
+
+pub returns-in_err-document-clause-ok : goal.returns-in_err-document-clause-ok
+returns-in_err-document-clause-ok c = grind (arith, common_steps)
+
+pub overflow_add-depth : goal.overflow_add-depth
+overflow_add-depth c = grind (arith, common_steps)

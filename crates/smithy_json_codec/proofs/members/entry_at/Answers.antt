@@ -1,4 +1,5 @@
-use Rattle.std.proofs.Common.{◌≡◌, Some, Err, true, false, sym, ap, ◌∙◌}
+use Rattle.std.proofs.Common.{◌≡◌, Some, Err, true, false, sym, ap, ◌∙◌, arith}
+use Rattle.std.proofs.lemmas.Grind.{common_steps}
 use Rattle.std.specs.Cow.{cow_str_bytes}
 use Rattle.std.proofs.lemmas.Result.{err_from_is_err_and}
 use Rattle.smithy_shapes.specs.Lemmas.Options.{same_some}
@@ -92,3 +93,18 @@ returns-in_err-end-clause-too_deep c =
     let stands = rw c.in-Some-Member.field-0-is at c.in-Some-Member.ensures in
     too_deep_from_name (passing (held_settings c.args.input.settings) (site_of c.args.schema.now)) c.args.input.settings.max_depth c.args.depth c.args.input.bytes.now c.args.at c.args.entered c.in-Some-Member.name.raw.now c.in-Some-Member.name.end stands.names
     c.args.input.settings.max_depth (c.in_err-end.ensures.too_deep (ap Err (error_of c.in_err-end.field-0.0 TooDeep deep))))
+
+pub next_in_object-requires : goal.next_in_object-requires
+next_in_object-requires c = grind (arith, common_steps)
+
+pub text_of-requires-text-raw : goal.text_of-requires-text-raw
+text_of-requires-text-raw c κs = grind (arith, common_steps)
+
+pub null_end-requires : goal.null_end-requires
+null_end-requires c = grind (arith, common_steps)
+
+pub skipped_end-requires-clause-within : goal.skipped_end-requires-clause-within
+skipped_end-requires-clause-within c = grind (arith, common_steps)
+
+pub skipped_end-requires-clause-shallow : goal.skipped_end-requires-clause-shallow
+skipped_end-requires-clause-shallow c = grind (arith, common_steps)

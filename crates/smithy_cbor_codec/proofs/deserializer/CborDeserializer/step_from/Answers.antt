@@ -1,4 +1,5 @@
 use Rattle.std.proofs.Common.{◌≡◌, arith, ap, ◌∙◌}
+use Rattle.std.proofs.lemmas.Grind.{common_steps}
 use Rattle.smithy_schema.specs.declared.error.SerdeError.TheVariants.{InvalidInput}
 use Rattle.smithy_shapes.specs.Site.{site_of, kind_at}
 use Rattle.smithy_cbor_codec.specs.Cursor.{cursor_of, reading_settings_of}
@@ -55,3 +56,18 @@ returns-in-Err-clause-refused c = λ fault o.
     let same : c.in-Err.error ≡ InvalidInput = input_fault c.in-Err.error c.in-Err.ensures.kind (rw c.refuse.ensures.error at fault) in
     cannot_step o (cursor_of c.args.self.now) (walk_cursor c.refuse.new.self) c.args.at (site_of c.args.schema.now) c.requires.place c.depth.result c.depth.ensures (c.in-Err.ensures.none same)
     (not_missing c.ends_empty.result _ _ c.ends_empty.ensures c.if-ends_empty.false)
+
+pub leave-requires-clause-within : goal.leave-requires-clause-within
+leave-requires-clause-within c = grind (arith, common_steps)
+
+pub leave-requires-clause-inside : goal.leave-requires-clause-inside
+leave-requires-clause-inside c = grind (arith, common_steps)
+
+pub next_present-requires : goal.next_present-requires
+next_present-requires c = grind (arith, common_steps)
+
+pub go_on-requires : goal.go_on-requires
+go_on-requires c = grind (arith, common_steps)
+
+pub leave-requires-in-Ok-End-clause-inside : goal.leave-requires-in-Ok-End-clause-inside
+leave-requires-in-Ok-End-clause-inside c = grind (arith, common_steps)

@@ -45,3 +45,12 @@ returns-in-None-clause-none_without_limits c = λ strict invalid due t p list.
 
 pub leave-requires-clause-within : goal.leave-requires-clause-within
 leave-requires-clause-within c = grind (arith, common_steps)
+
+pub entry_or_end-requires : goal.entry_or_end-requires
+entry_or_end-requires c = grind (arith, common_steps)
+
+pub go_on-requires : goal.go_on-requires
+go_on-requires c = grind (arith, common_steps)
+
+pub leave-requires-clause-inside : goal.leave-requires-clause-inside
+leave-requires-clause-inside c = grind (arith, common_steps)

@@ -47,3 +47,12 @@ returns-in-Err-clause-none_without_limits c = λ strict invalid due t p map.
 
 pub leave-requires-clause-within : goal.leave-requires-clause-within
 leave-requires-clause-within c = grind (arith, common_steps)
+
+pub next_in_map-requires : goal.next_in_map-requires
+next_in_map-requires c = grind (arith, common_steps)
+
+pub go_on-requires : goal.go_on-requires
+go_on-requires c = grind (arith, common_steps)
+
+pub leave-requires-clause-inside : goal.leave-requires-clause-inside
+leave-requires-clause-inside c = grind (arith, common_steps)

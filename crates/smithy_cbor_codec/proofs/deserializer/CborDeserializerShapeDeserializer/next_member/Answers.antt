@@ -1,4 +1,5 @@
-use Rattle.std.proofs.Common.{ℕ, ◌≡◌, subst, inl, inr}
+use Rattle.std.proofs.Common.{ℕ, ◌≡◌, subst, inl, inr, arith}
+use Rattle.std.proofs.lemmas.Grind.{common_steps}
 use Rattle.std.proofs.lemmas.Result.{IfOk-weaker}
 use Rattle.smithy_schema.specs.declared.error.SerdeError.TheVariants.{InvalidInput}
 use Rattle.smithy_shapes.specs.Site.{site_of}
@@ -59,3 +60,33 @@ returns-in-Err-clause-unread_would c = λ strict invalid due e skips.
     ] in
     absurd (skips_not (without_limits (reading_settings_of c.args.self.now)) (cursor_of c.args.self.now) c.depth.result c.depth.ensures
     (c.in-Err.ensures.none is) e skips)
+
+pub step_from-requires-clause-ahead : goal.step_from-requires-clause-ahead
+step_from-requires-clause-ahead c = grind (arith, common_steps)
+
+pub step_from-requires-clause-within : goal.step_from-requires-clause-within
+step_from-requires-clause-within c = grind (arith, common_steps)
+
+pub step_from-requires-clause-sound : goal.step_from-requires-clause-sound
+step_from-requires-clause-sound c = grind (arith, common_steps)
+
+pub step_from-requires-clause-inside : goal.step_from-requires-clause-inside
+step_from-requires-clause-inside c = grind (arith, common_steps)
+
+pub step_from-requires-clause-place : goal.step_from-requires-clause-place
+step_from-requires-clause-place c = grind (arith, common_steps)
+
+pub skipped_end-requires : goal.skipped_end-requires
+skipped_end-requires c = grind (arith, common_steps)
+
+pub step_from-requires-in-Ok-clause-within : goal.step_from-requires-in-Ok-clause-within
+step_from-requires-in-Ok-clause-within c = grind (arith, common_steps)
+
+pub step_from-requires-in-Ok-clause-sound : goal.step_from-requires-in-Ok-clause-sound
+step_from-requires-in-Ok-clause-sound c = grind (arith, common_steps)
+
+pub step_from-requires-in-Ok-clause-inside : goal.step_from-requires-in-Ok-clause-inside
+step_from-requires-in-Ok-clause-inside c = grind (arith, common_steps)
+
+pub step_from-requires-in-Ok-clause-place : goal.step_from-requires-in-Ok-clause-place
+step_from-requires-in-Ok-clause-place c = grind (arith, common_steps)

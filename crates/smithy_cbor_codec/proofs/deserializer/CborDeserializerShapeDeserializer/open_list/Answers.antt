@@ -51,3 +51,6 @@ returns-in-None-clause-invalid c =
 
 pub enter-requires : goal.enter-requires
 enter-requires c = grind (arith, common_steps)
+
+pub array_at-requires : goal.array_at-requires
+array_at-requires c = grind (arith, common_steps)

@@ -51,3 +51,6 @@ returns-in-None-clause-invalid c =
 
 pub enter-requires : goal.enter-requires
 enter-requires c = grind (arith, common_steps)
+
+pub map_at-requires : goal.map_at-requires
+map_at-requires c = grind (arith, common_steps)

@@ -71,3 +71,9 @@ returns-in-None-clause-invalid c =
 
 pub enter-requires-in-Some : goal.enter-requires-in-Some
 enter-requires-in-Some c = grind (arith, common_steps)
+
+pub enter-requires : goal.enter-requires
+enter-requires c = grind (arith, common_steps)
+
+pub map_at-requires : goal.map_at-requires
+map_at-requires c = grind (arith, common_steps)

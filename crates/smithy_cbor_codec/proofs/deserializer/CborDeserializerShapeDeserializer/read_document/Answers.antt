@@ -1,4 +1,5 @@
-use Rattle.std.proofs.Common.{◌≡◌, ◌≤◌, length, sym, ◌∙◌, refl, rules}
+use Rattle.std.proofs.Common.{◌≡◌, ◌≤◌, length, sym, ◌∙◌, refl, rules, arith}
+use Rattle.std.proofs.lemmas.Grind.{common_steps}
 use Rattle.smithy_shapes.specs.Site.{site_of}
 use Rattle.smithy_cbor_codec.specs.Cursor.{cursor_of, reading_settings_of}
 use Rattle.smithy_cbor_codec.proofs.DocumentReads.{refuses_document, document_is_shallow, carried_not_lies, refused_lies_not}
@@ -32,3 +33,6 @@ returns-clause-nothing c = λ invalid due.
     let error = rw same at c.document_refusal-error.ensures in
     refused_lies_not (reading_settings_of c.args.self.now) (cursor_of c.args.self.now) c.document_refusal-error.result c.refuse.result c.refuse.ensures.error c.depth.result
     (rw same at c.depth.ensures) error.none invalid
+
+pub document_refusal-error-requires : goal.document_refusal-error-requires
+document_refusal-error-requires c = grind (arith, common_steps)

@@ -4,3 +4,6 @@ use Rattle.smithy_cbor_codec.proofs.deserializer.CborDeserializerShapeDeserializ
 
 pub pass-requires : goal.pass-requires
 pass-requires c = grind (arith, common_steps)
+
+pub null_end-requires : goal.null_end-requires
+null_end-requires c = grind (arith, common_steps)

@@ -1,4 +1,5 @@
-use Rattle.std.proofs.Common.{◌≡◌, false, rules, ap, inl, inr}
+use Rattle.std.proofs.Common.{◌≡◌, false, rules, ap, inl, inr, arith}
+use Rattle.std.proofs.lemmas.Grind.{common_steps}
 use Rattle.smithy_schema.specs.declared.error.SerdeError.TheVariants.{InvalidInput}
 use Rattle.smithy_cbor_codec.specs.Cursor.{cursor_of, reading_settings_of}
 use Rattle.smithy_cbor_codec.specs.Settings.{without_limits}
@@ -36,3 +37,9 @@ returns-in-Err-clause-none_without_limits c = λ strict invalid due.
     ] in
     let none = c.in-Err.ensures.none is in
     skips_not (without_limits (reading_settings_of c.args.self.now)) (cursor_of c.args.self.now) c.depth.result (rw same at c.depth.ensures) (rw same at none)
+
+pub skipped_end-requires : goal.skipped_end-requires
+skipped_end-requires c = grind (arith, common_steps)
+
+pub pass-requires : goal.pass-requires
+pass-requires c = grind (arith, common_steps)

@@ -95,3 +95,21 @@ returns-in-Err-clause-too_deep c = λ deep.
 
 pub next_present-requires-clause-shallow : goal.next_present-requires-clause-shallow
 next_present-requires-clause-shallow c = grind (arith, common_steps)
+
+pub leave-requires-clause-within : goal.leave-requires-clause-within
+leave-requires-clause-within c = grind (arith, common_steps)
+
+pub leave-requires-clause-inside : goal.leave-requires-clause-inside
+leave-requires-clause-inside c = grind (arith, common_steps)
+
+pub next_present-requires-clause-within : goal.next_present-requires-clause-within
+next_present-requires-clause-within c = grind (arith, common_steps)
+
+pub go_on-requires : goal.go_on-requires
+go_on-requires c = grind (arith, common_steps)
+
+pub leave-requires-in-Ok-End-clause-within : goal.leave-requires-in-Ok-End-clause-within
+leave-requires-in-Ok-End-clause-within c = grind (arith, common_steps)
+
+pub leave-requires-in-Ok-End-clause-inside : goal.leave-requires-in-Ok-End-clause-inside
+leave-requires-in-Ok-End-clause-inside c = grind (arith, common_steps)

@@ -1,4 +1,5 @@
-use Rattle.std.proofs.Common.{◌∙◌, ap}
+use Rattle.std.proofs.Common.{◌∙◌, ap, arith}
+use Rattle.std.proofs.lemmas.Grind.{common_steps}
 use Rattle.smithy_json_codec.specs.Cursor.{cursor_of, reading_settings_of}
 use Rattle.smithy_json_codec.specs.Settings.{without_limits}
 use Rattle.smithy_json_codec.proofs.DeserializerLemmas.{element_steps, list_stuck}
@@ -18,3 +19,15 @@ returns-in-None-clause-refused c =
 pub returns-in-None-clause-none_without_limits : goal.returns-in-None-clause-none_without_limits
 returns-in-None-clause-none_without_limits c =
     λ strict fault due t p list. list_stuck (without_limits (reading_settings_of c.args.self.now)) (cursor_of c.args.self.now) t p list c.depth.result c.depth.ensures c.in-None.ensures
+
+pub leave-requires-clause-within : goal.leave-requires-clause-within
+leave-requires-clause-within c = grind (arith, common_steps)
+
+pub leave-requires-clause-inside : goal.leave-requires-clause-inside
+leave-requires-clause-inside c = grind (arith, common_steps)
+
+pub next_in_list-requires : goal.next_in_list-requires
+next_in_list-requires c = grind (arith, common_steps)
+
+pub go_on-requires : goal.go_on-requires
+go_on-requires c = grind (arith, common_steps)

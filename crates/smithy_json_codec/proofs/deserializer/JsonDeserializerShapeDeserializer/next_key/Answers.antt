@@ -1,4 +1,5 @@
-use Rattle.std.proofs.Common.{◌≡◌, ◌∙◌, ap}
+use Rattle.std.proofs.Common.{◌≡◌, ◌∙◌, ap, arith}
+use Rattle.std.proofs.lemmas.Grind.{common_steps}
 use Rattle.smithy_schema.specs.declared.error.SerdeError.TheVariants.{InvalidInput}
 use Rattle.smithy_json_codec.specs.Cursor.{cursor_of, reading_settings_of}
 use Rattle.smithy_json_codec.specs.Settings.{without_limits}
@@ -37,3 +38,18 @@ returns-in-None-clause-refused c =
 pub returns-in-None-clause-none_without_limits : goal.returns-in-None-clause-none_without_limits
 returns-in-None-clause-none_without_limits c =
     λ strict fault due t p map. map_stuck (without_limits (reading_settings_of c.args.self.now)) (cursor_of c.args.self.now) t p map c.depth.result c.depth.ensures c.in-None.ensures
+
+pub next_in_object-requires : goal.next_in_object-requires
+next_in_object-requires c = grind (arith, common_steps)
+
+pub owned_text-requires-text-raw : goal.owned_text-requires-text-raw
+owned_text-requires-text-raw c = grind (arith, common_steps)
+
+pub leave-requires-clause-within : goal.leave-requires-clause-within
+leave-requires-clause-within c = grind (arith, common_steps)
+
+pub leave-requires-clause-inside : goal.leave-requires-clause-inside
+leave-requires-clause-inside c = grind (arith, common_steps)
+
+pub go_on-requires : goal.go_on-requires
+go_on-requires c = grind (arith, common_steps)

@@ -88,3 +88,36 @@ returns-in-Ok-clause-too_deep c = λ deep.
 
 pub skipped_end-requires-clause-shallow : goal.skipped_end-requires-clause-shallow
 skipped_end-requires-clause-shallow c = grind (arith, common_steps)
+
+pub step_from-requires-clause-ahead : goal.step_from-requires-clause-ahead
+step_from-requires-clause-ahead c = grind (arith, common_steps)
+
+pub step_from-requires-clause-within : goal.step_from-requires-clause-within
+step_from-requires-clause-within c = grind (arith, common_steps)
+
+pub step_from-requires-clause-sound : goal.step_from-requires-clause-sound
+step_from-requires-clause-sound c = grind (arith, common_steps)
+
+pub step_from-requires-clause-inside : goal.step_from-requires-clause-inside
+step_from-requires-clause-inside c = grind (arith, common_steps)
+
+pub step_from-requires-clause-place : goal.step_from-requires-clause-place
+step_from-requires-clause-place c = grind (arith, common_steps)
+
+pub skipped_end-requires-clause-within : goal.skipped_end-requires-clause-within
+skipped_end-requires-clause-within c = grind (arith, common_steps)
+
+pub step_from-requires-in-Ok-clause-ahead : goal.step_from-requires-in-Ok-clause-ahead
+step_from-requires-in-Ok-clause-ahead c = grind (arith, common_steps)
+
+pub step_from-requires-in-Ok-clause-within : goal.step_from-requires-in-Ok-clause-within
+step_from-requires-in-Ok-clause-within c = grind (arith, common_steps)
+
+pub step_from-requires-in-Ok-clause-sound : goal.step_from-requires-in-Ok-clause-sound
+step_from-requires-in-Ok-clause-sound c = grind (arith, common_steps)
+
+pub step_from-requires-in-Ok-clause-inside : goal.step_from-requires-in-Ok-clause-inside
+step_from-requires-in-Ok-clause-inside c = grind (arith, common_steps)
+
+pub step_from-requires-in-Ok-clause-place : goal.step_from-requires-in-Ok-clause-place
+step_from-requires-in-Ok-clause-place c = grind (arith, common_steps)

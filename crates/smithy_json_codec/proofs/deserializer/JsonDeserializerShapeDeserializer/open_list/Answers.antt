@@ -1,4 +1,5 @@
-use Rattle.std.proofs.Common.{◌≡◌}
+use Rattle.std.proofs.Common.{◌≡◌, arith}
+use Rattle.std.proofs.lemmas.Grind.{common_steps}
 use Rattle.smithy_json_codec.specs.Cursor.{cursor_of, reading_settings_of}
 use Rattle.smithy_json_codec.specs.Settings.{without_limits}
 use Rattle.smithy_json_codec.proofs.ReaderLemmas.{opens_list, opens_no_list}
@@ -26,3 +27,12 @@ pub returns-in-None-clause-invalid : goal.returns-in-None-clause-invalid
 returns-in-None-clause-invalid c =
     let same : c.ready.new.self ≡ c.args.self.now.walk = c.in_ok-ready.ensures.ok in
     λ fault due. opens_no_list (reading_settings_of c.args.self.now) c.args.self.now.walk.input.now c.args._schema.now.shapes.now c.args._schema.now.place c.requires.place (depth (cursor_of c.args.self.now)) c.args.self.now.walk.position (rw same at c.in-None.ensures.none)
+
+pub byte_end-requires-clause-within : goal.byte_end-requires-clause-within
+byte_end-requires-clause-within c = grind (arith, common_steps)
+
+pub byte_end-requires-clause-plain : goal.byte_end-requires-clause-plain
+byte_end-requires-clause-plain c = grind (arith, common_steps)
+
+pub enter-requires : goal.enter-requires
+enter-requires c = grind (arith, common_steps)

@@ -49,3 +49,15 @@ returns-in-None-clause-invalid c =
 
 pub returns-then-is_structure-clause-ok : goal.returns-then-is_structure-clause-ok
 returns-then-is_structure-clause-ok c = grind (arith, common_steps)
+
+pub enter-requires : goal.enter-requires
+enter-requires c = grind (arith, common_steps)
+
+pub byte_end-requires-clause-within : goal.byte_end-requires-clause-within
+byte_end-requires-clause-within c = grind (arith, common_steps)
+
+pub byte_end-requires-clause-plain : goal.byte_end-requires-clause-plain
+byte_end-requires-clause-plain c = grind (arith, common_steps)
+
+pub enter-requires-in-Some : goal.enter-requires-in-Some
+enter-requires-in-Some c = grind (arith, common_steps)

@@ -1,4 +1,5 @@
-use Rattle.std.proofs.Common.{◌≡◌, ◌≤◌, length, refl, sym, ◌∙◌, rules}
+use Rattle.std.proofs.Common.{◌≡◌, ◌≤◌, length, refl, sym, ◌∙◌, rules, arith}
+use Rattle.std.proofs.lemmas.Grind.{common_steps}
 use Rattle.smithy_shapes.specs.declared.shape_type.Scalar.TheVariants as scalars
 use Rattle.smithy_shapes.specs.Site.{site_of}
 use Rattle.smithy_shapes.specs.Value.{whole}
@@ -37,3 +38,9 @@ returns-clause-text c =
     let take = rw same at c.take_result.ensures in
     let old = cursor_of c.args.self.now in
     answers_found (NumberTextLies old.input old.at) old _ c.big_integer_at-found.result c.take_result.result found.text take.ok take.some
+
+pub big_integer_at-found-requires : goal.big_integer_at-found-requires
+big_integer_at-found-requires c = grind (arith, common_steps)
+
+pub take_result-requires : goal.take_result-requires
+take_result-requires c = grind (arith, common_steps)

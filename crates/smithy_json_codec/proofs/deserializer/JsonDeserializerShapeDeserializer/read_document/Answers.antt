@@ -1,4 +1,5 @@
-use Rattle.std.proofs.Common.{◌≡◌, ◌≤◌, length, Some, refl, sym, ◌∙◌, rules}
+use Rattle.std.proofs.Common.{◌≡◌, ◌≤◌, length, Some, refl, sym, ◌∙◌, rules, arith}
+use Rattle.std.proofs.lemmas.Grind.{common_steps}
 use Rattle.smithy_types.specs.DocumentView.{document_view}
 use Rattle.smithy_shapes.specs.Site.{site_of}
 use Rattle.smithy_schema.specs.Reading.{depth}
@@ -55,3 +56,12 @@ returns-clause-no_meaning c = λ refused due.
     let take = rw same at c.take_result.ensures in
     refused_means_nothing c.args.self.now.settings.max_depth _ c.args.self.now.walk.input.now c.args.self.now.walk.position c.standing_document_at-found.result c.take_result.result
     found.refused take.error refused
+
+pub standing_document_at-found-requires-clause-within : goal.standing_document_at-found-requires-clause-within
+standing_document_at-found-requires-clause-within c = grind (arith, common_steps)
+
+pub standing_document_at-found-requires-clause-shallow : goal.standing_document_at-found-requires-clause-shallow
+standing_document_at-found-requires-clause-shallow c = grind (arith, common_steps)
+
+pub take_result-requires : goal.take_result-requires
+take_result-requires c = grind (arith, common_steps)

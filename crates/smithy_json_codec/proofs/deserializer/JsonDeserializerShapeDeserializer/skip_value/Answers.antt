@@ -46,3 +46,9 @@ returns-in-Err-clause-too_deep c = λ deep.
 
 pub skipped_end-requires-clause-shallow : goal.skipped_end-requires-clause-shallow
 skipped_end-requires-clause-shallow c = grind (arith, common_steps)
+
+pub skipped_end-requires-clause-within : goal.skipped_end-requires-clause-within
+skipped_end-requires-clause-within c = grind (arith, common_steps)
+
+pub pass-requires : goal.pass-requires
+pass-requires c = grind (arith, common_steps)
