@@ -38,7 +38,7 @@ module _ (o : Settings) (i : List ℕ) (t : Table) (p : Place) (kind : IsList (k
   pub opens_no_list : (a : ℕ) → ((due : Option ℕ) (b : ℕ) → OpensAt 4 due i a b → ⊥) → (b : ℕ) (m : Mark) → (cbor_relations o).opens i t p d a b m → ⊥
   opens_no_list a none =
       opens_not cbor_frames (rules_of o) i t p cbor_is_wire as_array (list_is_array (kind_of t p) kind) d a (λ b m h. none h.0 b h.2)
-      (λ is over. no_list_and_structure (kind_of t p) kind is)
+      (λ is e over. no_list_and_structure (kind_of t p) kind is)
 
   -- an entry is a step
   pub steps_in_list : (b : ℕ) (m n : Mark) → HasEntry i b m n → (cbor_relations o).steps i t p d b m None b n
@@ -55,7 +55,7 @@ module _ (o : Settings) (i : List ℕ) (t : Table) (p : Place) (kind : IsList (k
   list_is_stuck b m none shut =
       cannot_go_on cbor_frames (rules_of o) i t p cbor_is_wire as_array (list_is_array (kind_of t p) kind) d 0 b m b m (refl, refl)
       (λ key c n entry told unmarked stays. none n entry.2) (list_drops_nothing cbor_frames (rules_of o) i t p d kind as_array b m) shut
-      (λ is at_end over some. no_list_and_structure (kind_of t p) kind is)
+      (λ is at_end e over some. no_list_and_structure (kind_of t p) kind is)
 
 -- ---- a map at a place
 
@@ -87,7 +87,7 @@ module _ (o : Settings) (i : List ℕ) (t : Table) (p : Place) (kind : IsMap (ki
   pub opens_no_map : (a : ℕ) → ((due : Option ℕ) (b : ℕ) → OpensAt 5 due i a b → ⊥) → (b : ℕ) (m : Mark) → (cbor_relations o).opens i t p d a b m → ⊥
   opens_no_map a none =
       opens_not cbor_frames (rules_of o) i t p cbor_is_wire as_object (map_is_object (kind_of t p) kind) d a (λ b m h. none h.0 b h.2)
-      (λ is over. no_map_and_structure (kind_of t p) kind is)
+      (λ is e over. no_map_and_structure (kind_of t p) kind is)
 
   -- an entry whose key is a text is a step
   pub steps_in_map : (b : ℕ) (m : Mark) (s : List ℕ) (c : ℕ) (n : Mark) → HasKey i b m s c n → (cbor_relations o).steps i t p d b m (Some s) c n
@@ -106,7 +106,7 @@ module _ (o : Settings) (i : List ℕ) (t : Table) (p : Place) (kind : IsMap (ki
       cannot_go_on cbor_frames (rules_of o) i t p cbor_is_wire as_object (map_is_object (kind_of t p) kind) d 0 b m b m (refl, refl)
       (λ key c n entry told unmarked stays. let k = told_key o i b m key c n entry told in none k.0 c n k.1)
       (map_drops_nothing cbor_frames (rules_of o) i t p d kind as_object b m) shut
-      (λ is at_end over some. no_map_and_structure (kind_of t p) kind is)
+      (λ is at_end e over some. no_map_and_structure (kind_of t p) kind is)
 
 -- ---- a structure or a union at a place
 
@@ -126,7 +126,7 @@ module _ (o : Settings) (i : List ℕ) (t : Table) (p : Place) (kind : HasMember
       → (b : ℕ) (m : Mark) → (cbor_relations o).opens i t p d a b m → ⊥
   opens_no_members a none full =
       opens_not cbor_frames (rules_of o) i t p cbor_is_wire as_object (members_are_object (kind_of t p) kind) d a (λ b m h. none h.0 b h.2)
-      (λ is over. full is over.0)
+      (λ is e over. full is over.0.0)
 
   one_passes : (b : ℕ) (m : Mark) (s : List ℕ) (c f : ℕ) (n : Mark) → HasKey i b m s c n → IsPassed (kind_of t p) i d s c f
       → Drops cbor_frames (rules_of o) (kind_of t p) as_object i d b m f n
@@ -212,13 +212,13 @@ module _ (o : Settings) (i : List ℕ) (t : Table) (p : Place) (kind : HasMember
       cannot_go_on cbor_frames (rules_of o) i t p cbor_is_wire as_object (members_are_object (kind_of t p) kind) d count b m at j all
       (λ key c n entry told unmarked stays. no_entry_told at j after same missing key c n entry told unmarked)
       (no_entry_dropped at j after same missing) (no_entry_ends at j after same missing)
-      (λ is at_end over some. full is at_end over.0 some)
+      (λ is at_end e over some. full is at_end over.0.0 some)
 
 module _ (o : Settings) (i : List ℕ) (t : Table) (p : Place) (kind : IsStructure (kind_of t p)) (d : ℕ) where
   -- an empty input opens a structure
   pub opens_empty : (a : ℕ) → i ≡ [] → a ≡ 0 → (cbor_relations o).opens i t p d a 0 end_mark
-  opens_empty a empty start = inr (kind, (empty, start), sym start, refl)
+  opens_empty a empty start = inr (kind, ((empty, start), sym start), refl)
 
   -- and closes it
   pub closes_empty : (b : ℕ) (m : Mark) → m ≡ end_mark → i ≡ [] → b ≡ 0 → 0 < d → (cbor_relations o).closes i t p d b m 0
-  closes_empty b m at_end empty start some = inr (kind, (empty, start), sym start, at_end, some)
+  closes_empty b m at_end empty start some = inr (kind, ((empty, start), sym start), at_end, some)

@@ -47,7 +47,7 @@ pub empty_opens : (o : Settings) (c : Cursor) (t : Table) (p : Place) → IsStru
 empty_opens o c t p kind empty within none =
     let here : c.at ≡ 0 = omega (arith, empty, within) in
     let nothing : c.input ≡ [] = no_bytes c.input empty in
-    none 0 end_mark (inr (kind, (nothing, here), sym here, refl))
+    none 0 end_mark (inr (kind, ((nothing, here), sym here), refl))
 
 pub not_empty : (input : List ℕ) → (length input ≡ 0 → ⊥) → input ≡ [] → ⊥
 not_empty input full is = full (ap length is)

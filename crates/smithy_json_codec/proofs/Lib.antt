@@ -43,6 +43,7 @@ pub mod DocumentFrames
 pub mod DocumentScalars
 pub mod DocumentReads
 pub mod HeldNumbers
+pub mod GrammarReads
 pub mod ScalarReads
 pub mod NumberTexts
 pub mod InstantPlaces

@@ -40,7 +40,7 @@ module _ (o : Settings) (i : List ℕ) (t : Table) (p : Place) (kind : IsList (k
   pub opens_no_list : (d a : ℕ) → ((b : ℕ) → Lies (IsByte begin_array) i a b → ⊥) → (b : ℕ) (m : Mark) → (json_relations o).opens i t p d a b m → ⊥
   opens_no_list d a none =
       opens_not json_frames (json_rules o) i t p json_is_wire as_array (list_is_array (kind_of t p) kind) d a (λ b m h. none b h.1)
-      (λ structure' over. no_list_and_structure (kind_of t p) kind structure')
+      (λ structure' e over. no_list_and_structure (kind_of t p) kind structure')
 
   -- an element that is due is a step
   pub steps_in_list : (d b : ℕ) (m : Mark) (c : ℕ) → IsSeparated m.entered i b c → ((e : ℕ) → Lies (IsByte end_array) i c e → ⊥)
@@ -55,7 +55,7 @@ module _ (o : Settings) (i : List ℕ) (t : Table) (p : Place) (kind : IsList (k
   list_is_stuck d b m none shut =
       cannot_go_on json_frames (json_rules o) i t p json_is_wire as_array (list_is_array (kind_of t p) kind) d 0 b m b m (refl, refl)
       (λ key c n entry told unmarked stays. none c entry.2 entry.3) (list_drops_nothing json_frames (json_rules o) i t p d kind as_array b m) shut
-      (λ structure' at_end over some. no_list_and_structure (kind_of t p) kind structure')
+      (λ structure' at_end e over some. no_list_and_structure (kind_of t p) kind structure')
 
 -- ---- a map at a place
 
@@ -72,7 +72,7 @@ module _ (o : Settings) (i : List ℕ) (t : Table) (p : Place) (kind : IsMap (ki
   pub opens_no_map : (d a : ℕ) → ((b : ℕ) → Lies (IsByte begin_object) i a b → ⊥) → (b : ℕ) (m : Mark) → (json_relations o).opens i t p d a b m → ⊥
   opens_no_map d a none =
       opens_not json_frames (json_rules o) i t p json_is_wire as_object (map_is_object (kind_of t p) kind) d a (λ b m h. none b h.1)
-      (λ structure' over. no_map_and_structure (kind_of t p) kind structure')
+      (λ structure' e over. no_map_and_structure (kind_of t p) kind structure')
 
   -- an entry whose key has a text is a step
   pub steps_in_map : (d b : ℕ) (m : Mark) (raw s : List ℕ) (c : ℕ) → Names m.entered i b raw c → unescaped raw ≡ Some s
@@ -92,7 +92,7 @@ module _ (o : Settings) (i : List ℕ) (t : Table) (p : Place) (kind : IsMap (ki
       let there = entry_told o i b m key c n entry told in
       none there.0 c there.1 (subst (IsTold as_object) there.2 told))
       (map_drops_nothing json_frames (json_rules o) i t p d kind as_object b m) shut
-      (λ structure' at_end over some. no_map_and_structure (kind_of t p) kind structure')
+      (λ structure' at_end e over some. no_map_and_structure (kind_of t p) kind structure')
 
 -- ---- a structure or a union at a place
 
@@ -119,7 +119,7 @@ module _ (o : Settings) (i : List ℕ) (t : Table) (p : Place) (kind : HasMember
       → (b : ℕ) (m : Mark) → (json_relations o).opens i t p d a b m → ⊥
   opens_no_members d a none full =
       opens_not json_frames (json_rules o) i t p json_is_wire as_object (members_are_object (kind_of t p) kind) d a (λ b m h. none b h.1)
-      (λ structure' over. full structure' over.0)
+      (λ structure' e over. full structure' over.0.0)
 
   -- Marks and nulls are passed over exactly where they are dropped, and what is passed over inside so many containers is skipped.
   module _ (passing : Passing) (marked : passing.marks ≡ is_mark (json_rules o) (kind_of t p) (Some type_name))
@@ -245,4 +245,4 @@ module _ (o : Settings) (i : List ℕ) (t : Table) (p : Place) (kind : HasMember
           (subst (λ k. is_mark (json_rules o) (kind_of t p) k ≡ false) there.2 unmarked))
           (no_entry_dropped at passed.0 stuck)
           (no_entry_ends at passed.0.entered stuck)
-          (λ structure' at_end over inside. full structure' at_end over.0 inside)
+          (λ structure' at_end e over inside. full structure' at_end over.0.0 inside)

@@ -6,9 +6,7 @@ use Rattle.smithy_shapes.specs.declared.shape_type.Scalar.{Scalar}
 use Rattle.smithy_shapes.specs.declared.shape_type.Scalar.TheVariants as scalars
 use Rattle.smithy_schema.specs.declared.error.SerdeError.{SerdeError}
 use Rattle.smithy_schema.specs.declared.error.SerdeError.TheVariants.{InvalidInput, TooWide, NotCarried, NoMemory}
-use Rattle.smithy_shapes.specs.declared.shape_type.TimestampFormat.{TimestampFormat}
 use Rattle.smithy_shapes.specs.declared.shape_type.TimestampFormat.TheVariants.{EpochSeconds}
-use Rattle.smithy_shapes.specs.TimeForms.{form_or}
 use Rattle.smithy_shapes.specs.Table.{scalar_place}
 use Rattle.smithy_shapes.specs.Site.{Site}
 use Rattle.smithy_shapes.specs.Value.{ScalarValue, boolean, whole, text, bytes, instant, Value, scalar_value, null_element}
@@ -23,18 +21,17 @@ use Rattle.smithy_json_codec.specs.Laws.{lawful}
 use Rattle.smithy_json_codec.specs.Standing.{TreeLies, json_frames, json_rules, json_relations}
 use Rattle.smithy_json_codec.specs.Private.Fits.{whole_is}
 use Rattle.smithy_json_codec.specs.Private.ScalarAtPlace.{WholeLies, TextLies, BlobLies, MeansAt, ExceedsAt, NothingAt, InstantLies, UncarriedLies, NoInstantLies}
-use Rattle.smithy_json_codec.specs.Private.TokenGrammar.{tree_is_token, token_is_tree, said_in, answer_in, settled_in}
+use Rattle.smithy_json_codec.specs.LexicalGrammar.{rfc_8259}
+use Rattle.smithy_json_codec.specs.Private.TokenGrammar.{tree_in_grammar, in_grammar_tree}
+pub use Rattle.smithy_json_codec.proofs.GrammarReads.{form_at}
+use Rattle.smithy_json_codec.proofs.GrammarReads as in_grammar_reads
 use Rattle.smithy_json_codec.specs.Private.Wire.{json_is_wire}
 use Rattle.smithy_wire.specs.Rules.{Answer, no_meaning, wide, uncarried, answer_of, settled}
 use Rattle.smithy_json_codec.specs.Private.ValuePlaces.{one_tree}
 use Rattle.smithy_wire.specs.Narrowing.{IsNarrowed, IsWider}
-use Rattle.smithy_wire.specs.Readers.{settled_answer, scalar_stands, stands_scalar, scalar_exceeds, exceeds_scalar, scalar_uncarried, uncarried_scalar}
+use Rattle.smithy_wire.specs.Readers.{settled_answer}
 use Rattle.smithy_wire.proofs.Bounds.{exceeds_not, uncarried_not}
 use Rattle.smithy_wire.proofs.ScalarReads.{takes, takes_result, takes_big, answers_wide, takes_carried, answers_uncarried, narrow_found, narrow_none, if_some, if_none, if_ok}
-
--- the form of instants at a site
-abbrev pub form_at : Settings → Site → TimestampFormat
-form_at o site = form_or o.default_timestamp_format site.place.time
 
 module _ (o : Settings) (c : Cursor) (site : Site) (s : Scalar) where
   abbrev pub Stands : ScalarValue → ℕ → Type 0
@@ -43,18 +40,12 @@ module _ (o : Settings) (c : Cursor) (site : Site) (s : Scalar) where
   -- what a scalar that lies there says stands there
   says_stands : (x : JsonScalar) (v : Value) (e : ℕ) → TreeLies 1 (tree_of x) c.input c.at e → settled o.limits null_element (says s (form_at o site) x) ≡ Some v
       → (json_relations o).stands c.input site.table (scalar_place s site.place.time) (depth c) c.at v e
-  says_stands x v e lies means =
-      let token = tree_is_token x c.input (depth c) c.at e lies in
-      scalar_stands json_frames (json_rules o) c.input site.table (scalar_place s site.place.time) s refl (depth c) c.at v e
-      (x, token.0, ap (settled o.limits null_element) (said_in x (says s (form_at o site) x) no_meaning token.1) ∙ means)
+  says_stands x v e lies means = in_grammar_reads.says_stands rfc_8259 o c site s x v e (tree_in_grammar s x c.input c.at e lies) means
 
   -- and nothing else does
   nothing_stands : ((x : JsonScalar) (v : Value) (e : ℕ) → TreeLies 1 (tree_of x) c.input c.at e → settled o.limits null_element (says s (form_at o site) x) ≡ Some v → ⊥)
       → StandsNot (json_relations o) c site.table (scalar_place s site.place.time)
-  nothing_stands none v e stands =
-      let x = stands_scalar json_frames (json_rules o) c.input site.table (scalar_place s site.place.time) s refl (depth c) c.at v e stands in
-      let there = settled_in o.limits null_element x.0 (says s (form_at o site) x.0) v x.2 in
-      none x.0 v e (token_is_tree x.0 c.input (depth c) c.at e x.1 there.0) there.1
+  nothing_stands none = in_grammar_reads.nothing_stands rfc_8259 o c site s (λ x v e lies means. none x v e (in_grammar_tree s x c.input c.at e lies) means)
 
 -- ---- booleans
 
@@ -145,11 +136,7 @@ module _ (o : Settings) (c : Cursor) (site : Site) (s : Scalar) (timeless : (x :
 
   pub number_exceeds : ExceedsAt s c.input c.at → Exceeds (json_relations o) c site.table (scalar_place s site.place.time)
   number_exceeds h =
-      let token = tree_is_token h.found c.input (depth c) c.at h.e h.lies in (
-        h.e,
-        scalar_exceeds json_frames (json_rules o) c.input site.table (scalar_place s site.place.time) s refl (depth c) c.at h.found h.e token.0
-            (said_in h.found (says s (form_at o site) h.found) no_meaning token.1 ∙ timeless h.found ∙ h.is),
-      )
+      in_grammar_reads.says_exceeds rfc_8259 o c site s h.found h.e (tree_in_grammar s h.found c.input c.at h.e h.lies) (timeless h.found ∙ h.is)
 
   pub no_number_stands : NothingAt s c.input c.at → StandsNot (json_relations o) c site.table (scalar_place s site.place.time)
   no_number_stands none = nothing_stands o c site s (λ x v e lies means.
@@ -157,12 +144,9 @@ module _ (o : Settings) (c : Cursor) (site : Site) (s : Scalar) (timeless : (x :
       cc)
 
   pub no_number_exceeds : NothingAt s c.input c.at → Exceeds (json_relations o) c site.table (scalar_place s site.place.time) → ⊥
-  no_number_exceeds none (e, there) =
-      let x = exceeds_scalar json_frames (json_rules o) c.input site.table (scalar_place s site.place.time) s refl (depth c) c.at e there in
-      let there = answer_in x.0 (says s (form_at o site) x.0) wide (λ no. cc) x.2 in
-      let both : ◌≡◌ {A = Answer Value} no_meaning wide =
-      sym (timeless x.0 ∙ none x.0 e (token_is_tree x.0 c.input (depth c) c.at e x.1 there.0)) ∙ there.1 in
-      cc
+  no_number_exceeds none = in_grammar_reads.nothing_exceeds rfc_8259 o c site s (λ x e lies is.
+      let both : ◌≡◌ {A = Answer Value} no_meaning wide = sym (timeless x ∙ none x e (in_grammar_tree s x c.input c.at e lies)) ∙ is in
+      cc)
 
   -- within the limits nothing stands where a number leaves them
   pub exceeds_stands_not : o.limits ≡ kept → Exceeds (json_relations o) c site.table (scalar_place s site.place.time) → StandsNot (json_relations o) c site.table (scalar_place s site.place.time)
@@ -177,11 +161,7 @@ module _ (o : Settings) (c : Cursor) (site : Site) where
 
   pub instant_uncarried : UncarriedLies (form_at o site) c.input c.at → Uncarried (json_relations o) c site.table (scalar_place scalars.Timestamp site.place.time)
   instant_uncarried h =
-      let token = tree_is_token h.found c.input (depth c) c.at h.e h.lies in (
-        h.e,
-        scalar_uncarried json_frames (json_rules o) c.input site.table (scalar_place scalars.Timestamp site.place.time) scalars.Timestamp refl (depth c) c.at h.found h.e token.0
-            (said_in h.found (says scalars.Timestamp (form_at o site) h.found) no_meaning token.1 ∙ h.is),
-      )
+      in_grammar_reads.says_uncarried rfc_8259 o c site scalars.Timestamp h.found h.e (tree_in_grammar scalars.Timestamp h.found c.input c.at h.e h.lies) h.is
 
   pub no_instant_stands : NoInstantLies (form_at o site) c.input c.at → StandsNot (json_relations o) c site.table (scalar_place scalars.Timestamp site.place.time)
   no_instant_stands none = nothing_stands o c site scalars.Timestamp (λ x v e lies means.
@@ -189,12 +169,9 @@ module _ (o : Settings) (c : Cursor) (site : Site) where
       cc)
 
   pub all_carried : NoInstantLies (form_at o site) c.input c.at → Uncarried (json_relations o) c site.table (scalar_place scalars.Timestamp site.place.time) → ⊥
-  all_carried none (e, there) =
-      let x = uncarried_scalar json_frames (json_rules o) c.input site.table (scalar_place scalars.Timestamp site.place.time) scalars.Timestamp refl (depth c) c.at e there in
-      let there = answer_in x.0 (says scalars.Timestamp (form_at o site) x.0) uncarried (λ no. cc) x.2 in
-      let both : ◌≡◌ {A = Answer Value} no_meaning uncarried =
-      sym (none x.0 e (token_is_tree x.0 c.input (depth c) c.at e x.1 there.0)) ∙ there.1 in
-      cc
+  all_carried none = in_grammar_reads.nothing_uncarried rfc_8259 o c site scalars.Timestamp (λ x e lies is.
+      let both : ◌≡◌ {A = Answer Value} no_meaning uncarried = sym (none x e (in_grammar_tree scalars.Timestamp x c.input c.at e lies)) ∙ is in
+      cc)
 
   -- within the limits nothing stands where a number isn't carried
   pub uncarried_stands_not : o.limits ≡ kept → Uncarried (json_relations o) c site.table (scalar_place scalars.Timestamp site.place.time)

@@ -187,21 +187,21 @@ other_slice x i a e lies h =
 
 -- what a token means that lies somewhere, in the grammar alone
 pub wide_token : (s : Scalar) (form : TimestampFormat) (x : JsonScalar) (i : List ℕ) (d a e : ℕ) → json_frames.scalar i d x a e
-    → (if in_grammar rfc_8259 x then says s form x else no_meaning) ≡ wide → IsWideJson s i
+    → (if in_grammar rfc_8259 s x then says s form x else no_meaning) ≡ wide → IsWideJson s i
 wide_token s form x i d a e lies h =
-    let there = answer_in x (says s form x) wide (λ no. cc) h in
+    let there = answer_in s x (says s form x) wide (λ no. cc) h in
     wide_slice s form x i a e (token_is_tree x i d a e lies there.0) there.1
 
 pub uncarried_token : (s : Scalar) (form : TimestampFormat) (x : JsonScalar) (i : List ℕ) (d a e : ℕ) → json_frames.scalar i d x a e
-    → (if in_grammar rfc_8259 x then says s form x else no_meaning) ≡ uncarried → (s ≡ scalars.Timestamp) × IsUncarriedJson i
+    → (if in_grammar rfc_8259 s x then says s form x else no_meaning) ≡ uncarried → (s ≡ scalars.Timestamp) × IsUncarriedJson i
 uncarried_token s form x i d a e lies h =
-    let there = answer_in x (says s form x) uncarried (λ no. cc) h in
+    let there = answer_in s x (says s form x) uncarried (λ no. cc) h in
     uncarried_slice s form x i a e (token_is_tree x i d a e lies there.0) there.1
 
 pub other_token : (x : JsonScalar) (i : List ℕ) (d a e : ℕ) → json_frames.scalar i d x a e
-    → (if in_grammar rfc_8259 x then document_says x else no_meaning) ≡ uncarried → HasUnheldNumber i
+    → (if in_grammar rfc_8259 scalars.BigDecimal x then document_says x else no_meaning) ≡ uncarried → HasUnheldNumber i
 other_token x i d a e lies h =
-    let there = answer_in x (document_says x) uncarried (λ no. cc) h in
+    let there = answer_in scalars.BigDecimal x (document_says x) uncarried (λ no. cc) h in
     other_slice x i a e (token_is_tree x i d a e lies there.0) there.1
 
 -- so what isn't carried at a place of documents holds such a number

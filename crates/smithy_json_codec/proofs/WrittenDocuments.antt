@@ -90,18 +90,18 @@ number_means n fits = (number (held_as (signed_decimal n) n), ap held_says (numb
 
 -- what a scalar is as a document, where it is in the grammar
 abbrev says : JsonScalar → Answer (Document Number)
-says x = if in_grammar rfc_8259 x then document_says x else no_meaning
+says x = if in_grammar rfc_8259 scalars.BigDecimal x then document_says x else no_meaning
 
 written_number : (n : ℤ) → is_document_number n ≡ true → (d : Document Number) × (says (a_number (signed_decimal n)) ≡ means d) × (whole_document d ≡ number n)
 written_number n fits =
     let is = number_means n fits in
     let leaf = a_number (signed_decimal n) in
-    (is.0, said_in leaf (document_says leaf) no_meaning (decimal_is_number n (number_fits n fits)) ∙ is.1, is.2)
+    (is.0, said_in scalars.BigDecimal leaf (document_says leaf) no_meaning (decimal_is_number n (number_fits n fits)) ∙ is.1, is.2)
 
 written_text : (s : List ℕ) → IsUtf8 s → says (a_string (escaped s)) ≡ means (text s)
 written_text s utf8 =
     let leaf = a_string (escaped s) in
-    said_in leaf (document_says leaf) no_meaning (quoted_is_string s utf8).1 ∙ ap (λ o. answer_of (option_map text o)) (unescaped_of_escaped s)
+    said_in scalars.BigDecimal leaf (document_says leaf) no_meaning (quoted_is_string s utf8).1 ∙ ap (λ o. answer_of (option_map text o)) (unescaped_of_escaped s)
 
 -- a null of a member that is a document is a document, and what was written means what it was written for
 pub json_reads_documents : (c : Settings) → ReadsDocuments (json_leaves c) (json_rules c)

@@ -118,15 +118,15 @@ scalar_is s form (instant n) is held = instant_is_value form n (instant_fits s n
 
 -- what can be written is in the grammar, so it means what it was written for
 written_means : (s : Scalar) (form : TimestampFormat) (x : ScalarValue) → is_of s x ≡ true → form_holds form x ≡ true
-    → (if in_grammar rfc_8259 (leaf_of form x) then says s form (leaf_of form x) else no_meaning) ≡ means (scalar_value x)
+    → (if in_grammar rfc_8259 s (leaf_of form x) then says s form (leaf_of form x) else no_meaning) ≡ means (scalar_value x)
 written_means s form x is held =
     let token = value_is_token (leaf_of form x) (leaf_bytes (leaf_of form x)) (scalar_is s form x is held) in
-    said_in (leaf_of form x) (says s form (leaf_of form x)) no_meaning token.1 ∙ scalar_means s form x is held
+    said_in s (leaf_of form x) (says s form (leaf_of form x)) no_meaning token.1 ∙ scalar_means s form x is held
 
 pub json_reads_leaves : (c : Settings) → ReadsLeaves (json_leaves c) (json_rules c)
 json_reads_leaves c = record {
   scalar_means = λ s time x is held. written_means s (form_or c.default_timestamp_format time) x is held;
-  key_means = λ key utf8. said_in (a_string (escaped key)) (unescaped (escaped key)) None (quoted_is_string key utf8).1 ∙ unescaped_of_escaped key;
+  key_means = λ key utf8. said_in scalars.String (a_string (escaped key)) (unescaped (escaped key)) None (quoted_is_string key utf8).1 ∙ unescaped_of_escaped key;
 }
 
 pub json_writes_leaves : (c : Settings) → WritesLeaves json_writes (json_leaves c)

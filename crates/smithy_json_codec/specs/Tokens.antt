@@ -18,14 +18,10 @@ abbrev pub is_numeric : ℕ → Bool
 is_numeric b =
     (nat_le 0x30 b && nat_le b 0x39) || ((b == minus_sign) || (b == plus_sign) || (b == decimal_point) || is_e b)
 
--- a number begins with a minus or a digit
-abbrev pub begins_number : ℕ → Bool
-begins_number b = (b == minus_sign) || (nat_le 0x30 b && nat_le b 0x39)
-
--- the bytes of a number
+-- at least one byte that a number may have
 abbrev pub IsNumberRun : List ℕ → Type 0
 IsNumberRun [] = ⊥
-IsNumberRun (b ∷ raw) = (begins_number b ≡ true) × AllByRecursion (λ b. is_numeric b ≡ true) (b ∷ raw)
+IsNumberRun (b ∷ raw) = AllByRecursion (λ b. is_numeric b ≡ true) (b ∷ raw)
 
 -- no number goes on with these bytes
 abbrev pub EndsRun : List ℕ → Type 0
@@ -89,7 +85,7 @@ token_frames Boundary = record {
   entry = EntryTokens;
   ends = λ form input b m e. Lies (IsByte (closing form)) input b e;
   follows = λ input depth e. EndsInside Boundary depth (drop e input);
-  is_over = λ input a. (input ≡ []) × (a ≡ 0);
+  is_over = λ input a e. ((input ≡ []) × (a ≡ 0)) × (e ≡ a);
   over_mark = end_mark;
   left = λ input b m. length input - b + (if m.entered then 0 else 1);
   begins_null = λ input a. begins_with_null (without_ws (drop a input));

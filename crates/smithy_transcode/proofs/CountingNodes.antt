@@ -27,7 +27,7 @@ size_is_some (container f xs) = omega arith
 size_is_some missing = omega arith
 
 module _ {L : Type 0} (w : Frames L) (wire : IsWire w) (i : List ℕ) where
-  module _ (goes_on : (a : ℕ) → w.is_over i a → ⊥) where
+  module _ (goes_on : (a e : ℕ) → w.is_over i a e → ⊥) where
     mutual
       -- where nothing is missing, each takes a byte of its own
       takes_bytes : (d : ℕ) (x : Node L) (a e : ℕ) → Lies w i d x a e → (a + size x ≤ e) × (e ≤ length i)
@@ -37,7 +37,7 @@ module _ {L : Type 0} (w : Frames L) (wire : IsWire w) (i : List ℕ) where
           let o = wire.opens_ahead f i a b m opens in
           let l = take_bytes d f xs b m e o.1 lie in
           (omega (arith, o.0, l.0), l.1)
-      takes_bytes d missing a e h = absurd (goes_on a h.0)
+      takes_bytes d missing a e h = absurd (goes_on a e h)
 
       take_bytes : (d : ℕ) (f : Form) (xs : Nodes L) (b : ℕ) (m : Mark) (e : ℕ) → b ≤ length i → NodesLie w f i (suc d) xs b m e → (b + sizes xs ≤ e) × (e ≤ length i)
       take_bytes d f no_nodes b m e low h = let l = wire.ends_ahead f i b m e low h in (omega (arith, l.0), l.1)
@@ -53,6 +53,6 @@ module _ {L : Type 0} (w : Frames L) (wire : IsWire w) (i : List ℕ) where
   size_is_bounded bounds d (container f xs) a e h =
       let o = wire.opens_ahead f i a h.0 h.1 h.2 in
       let some : 0 < length i = omega (arith, o.0, o.1) in
-      let l = takes_bytes (λ c over. bounds.over_is_empty i c over some) d (container f xs) a e h in
+      let l = takes_bytes (λ c e over. bounds.over_is_empty i c e over some) d (container f xs) a e h in
       omega (arith, l.0, l.1)
   size_is_bounded bounds d missing a e h = omega arith

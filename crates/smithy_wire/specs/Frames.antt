@@ -24,8 +24,8 @@ pub record Frames (L : Type 0) : Type 1 where
   pub ends : Form → List ℕ → ℕ → Mark → ℕ → Type 0
   -- a container whose inside has this depth may end at e
   pub follows : List ℕ → ℕ → ℕ → Type 0
-  -- the input ends at this position, and a structure may be missing there
-  pub is_over : List ℕ → ℕ → Type 0
+  -- from a to e the input is over, and a structure may be missing there
+  pub is_over : List ℕ → ℕ → ℕ → Type 0
   -- the mark inside of one that is missing
   pub over_mark : Mark
   -- how much is left to read in a container, how a null begins, and how many containers the bytes open at most
@@ -40,7 +40,7 @@ abbrev mutual
   Lies w i d (leaf x) a e = w.scalar i d x a e
   Lies w i d (container f xs) a e =
       (b : ℕ) × (m : Mark) × w.opens f i a b m × NodesLie w f i (suc d) xs b m e × w.follows i (suc d) e
-  Lies w i d missing a e = w.is_over i a × (e ≡ a)
+  Lies w i d missing a e = w.is_over i a e
 
   -- from b on with a mark these nodes lie, and the container ends at e
   pub NodesLie : {L : Type 0} → Frames L → Form → List ℕ → ℕ → Nodes L → ℕ → Mark → ℕ → Type 0
@@ -125,11 +125,11 @@ relations {L = L} w r = record {
   uncarried = λ i t p d a e. UncarriedAt w r (kind_of t p) p.time i d a e;
   opens = λ i t p d a b m.
       ((f : Form) × (is_in (kind_of t p) f ≡ true) × w.opens f i a b m)
-      ⊎ (IsStructure (kind_of t p) × w.is_over i a × (b ≡ a) × (m ≡ w.over_mark));
+      ⊎ (IsStructure (kind_of t p) × w.is_over i a b × (m ≡ w.over_mark));
   steps = λ i t p d b m key c n. (f : Form) × (is_in (kind_of t p) f ≡ true) × StepsIn w r (kind_of t p) f i d b m key c n;
   closes = λ i t p d b m e.
       ((f : Form) × (is_in (kind_of t p) f ≡ true) × EndsIn w r (kind_of t p) f i d b m e × w.follows i d e)
-      ⊎ (IsStructure (kind_of t p) × w.is_over i b × (e ≡ b) × (m ≡ w.over_mark) × (0 < d));
+      ⊎ (IsStructure (kind_of t p) × w.is_over i b e × (m ≡ w.over_mark) × (0 < d));
   left = w.left;
   begins_null = w.begins_null;
   openers = w.openers;

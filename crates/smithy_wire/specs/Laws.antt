@@ -1,6 +1,7 @@
 -- The laws of reading, once for all wires and kinds.
-use Rattle.std.specs.Prelude.{◌≡◌, ◌⊎◌, ◌<◌, ◌≤◌, ℕ, zero, suc, length, drop, List, Option, Some, None, true, false, refl}
+use Rattle.std.specs.Prelude.{◌≡◌, ◌⊎◌, ◌<◌, ◌≤◌, ℕ, zero, suc, nat_lt, length, drop, List, Bool, Option, Some, None, true, false, refl}
 use Rattle.std.proofs.Common.{sym, ◌∙◌, ap, arith, subst, inl, inr}
+use Rattle.std.proofs.lemmas.Bool.Decides.{nat_tests}
 use Rattle.smithy_shapes.specs.declared.place.Place.{Place}
 use Rattle.smithy_shapes.specs.Limits.{kept}
 use Rattle.smithy_shapes.specs.Table.{Table, Kind, kind_of, IsStructure, IsDocument}
@@ -20,6 +21,20 @@ use Rattle.smithy_wire.specs.Lemmas.Fitting.{meaning_fits}
 use Rattle.smithy_wire.specs.Lemmas.Lifting.{lifting_is_below}
 use Rattle.smithy_wire.specs.Lemmas.Containers.{folded_stands, stands_unfolded, is_missing, object_form}
 
+below_or_same : (a e : ℕ) → a ≤ e → (a < e) ⊎ (a ≡ e)
+below_or_same a e h = by (nat_lt a e) refl
+  where
+    by : (less : Bool) → nat_lt a e ≡ less → (a < e) ⊎ (a ≡ e)
+    by true is = inl (grind (arith, nat_tests))
+    by false is = inr (grind (arith, nat_tests))
+
+-- from a place up to the end of the input
+ahead_or_there : (i : List ℕ) (a e : ℕ) (P : Type 0) → (a ≤ e) × (e ≡ length i) → P → (a < e) ⊎ ((a ≡ e) × (e ≡ length i) × P)
+ahead_or_there i a e P h p = elim (below_or_same a e h.0) [
+  | inl less ↦ inl less
+  | inr same ↦ inr (same, h.1, p)
+]
+
 module _ {L : Type 0} (w : Frames L) (r : Rules L) (wire : IsWire w) where
   ahead : (i : List ℕ) (t : Table) (p : Place) (d a : ℕ) (v : Value) (e : ℕ) (x : Node L) → Lies w i d x a e → meaning r t p d x ≡ Some v
       → (a < e) ⊎ ((a ≡ e) × (e ≡ length i) × IsStructure (kind_of t p))
@@ -27,9 +42,9 @@ module _ {L : Type 0} (w : Frames L) (r : Rules L) (wire : IsWire w) where
   ahead i t p d a v e (leaf x) lies means = inl (wire.scalar_ahead i d x a e lies).0
   ahead i t p d a v e (container f xs) lies means = inl (lies_ahead w wire i d (container f xs) a e lies λ h. cc).0
   ahead i t p d a v e missing lies means =
-      let end = wire.over_is_end i a lies.0 in
+      let end = wire.over_is_end i a e lies in
       let there = chosen (is_shallow r (suc d)) (missing_meaning (kind_of t p)) v means in
-      inr (sym lies.1, lies.1 ∙ end, is_missing w r wire i t p d (kind_of t p) v there.1)
+      ahead_or_there i a e (IsStructure (kind_of t p)) end (is_missing w r wire i t p d (kind_of t p) v there.1)
 
   skipped_is_there : (d : ℕ) (x : Node L) → may_skip r d x ≡ true → sort_of x ≡ no_value → ⊥
   skipped_is_there d null_node h k = cc
@@ -53,7 +68,12 @@ module _ {L : Type 0} (w : Frames L) (r : Rules L) (wire : IsWire w) where
 
   passed : (i : List ℕ) (c e : ℕ) → IsBehind w i c e → IsPassed i c e
   passed i c e (inl less, within) = (inl less, within)
-  passed i c e (inr over, within) = (inr (over.0, sym over.0 ∙ wire.over_is_end i c over.1), within)
+  passed i c e (inr over, within) =
+      let end = wire.over_is_end i c e over in
+      elim (below_or_same c e end.0) [
+        | inl less ↦ (inl less, within)
+        | inr same ↦ (inr (same, end.1), within)
+      ]
 
   drops_fall : (i : List ℕ) (k : Kind) (f : Form) (count d b : ℕ) (m : Mark) (c : ℕ) (n : Mark) → DropsAll w r k f count i d b m c n → w.left i c n ≤ w.left i b m
   drops_fall i k f zero d b m c n h = rw (h.0, h.1) (omega arith)
@@ -72,14 +92,14 @@ module _ {L : Type 0} (w : Frames L) (r : Rules L) (wire : IsWire w) where
   inside : (i : List ℕ) (t : Table) (p : Place) (d a b : ℕ) (m : Mark) → (relations w r).opens i t p d a b m
       → (a < b) ⊎ ((a ≡ b) × (b ≡ length i) × IsStructure (kind_of t p))
   inside i t p d a b m (inl (f, is, opens)) = inl (wire.opens_ahead f i a b m opens).0
-  inside i t p d a b m (inr h) = inr (sym h.2, h.2 ∙ wire.over_is_end i a h.1, h.0)
+  inside i t p d a b m (inr h) = ahead_or_there i a b (IsStructure (kind_of t p)) (wire.over_is_end i a b h.1) h.0
 
   opening : (i : List ℕ) (t : Table) (p : Place) (d a b c : ℕ) (m n : Mark) → (relations w r).opens i t p d a b m → (relations w r).opens i t p d a c n → (b ≡ c) × (m ≡ n)
   opening i t p d a b c m n (inl (f, is, opens)) (inl (g, is', opens')) =
       wire.same_opens f i a b c m n opens (subst (λ z. w.opens z i a c n) (one_form (kind_of t p) g f is' is) opens')
-  opening i t p d a b c m n (inl (f, is, opens)) (inr h) = absurd (let clash = sym (wire.opens_sort f i a b m opens) ∙ wire.over_sort i a h.1 in cc)
-  opening i t p d a b c m n (inr h) (inl (g, is, opens)) = absurd (let clash = sym (wire.opens_sort g i a c n opens) ∙ wire.over_sort i a h.1 in cc)
-  opening i t p d a b c m n (inr h) (inr j) = (h.2 ∙ sym j.2, h.3 ∙ sym j.3)
+  opening i t p d a b c m n (inl (f, is, opens)) (inr h) = absurd (let clash = sym (wire.opens_sort f i a b m opens) ∙ wire.over_sort i a c h.1 in cc)
+  opening i t p d a b c m n (inr h) (inl (g, is, opens)) = absurd (let clash = sym (wire.opens_sort g i a c n opens) ∙ wire.over_sort i a b h.1 in cc)
+  opening i t p d a b c m n (inr h) (inr j) = ((wire.over_is_end i a b h.1).1 ∙ sym (wire.over_is_end i a c j.1).1, h.2 ∙ sym j.2)
 
   stepping : (i : List ℕ) (t : Table) (p : Place) (d b : ℕ) (m : Mark) (key key' : Option (List ℕ)) (c c' : ℕ) (n n' : Mark)
       → (relations w r).steps i t p d b m key c n → (relations w r).steps i t p d b m key' c' n' → (key ≡ key') × (c ≡ c') × (n ≡ n')
@@ -90,15 +110,15 @@ module _ {L : Type 0} (w : Frames L) (r : Rules L) (wire : IsWire w) where
   closing : (i : List ℕ) (t : Table) (p : Place) (d b : ℕ) (m : Mark) (e e' : ℕ) → (relations w r).closes i t p d b m e → (relations w r).closes i t p d b m e' → e ≡ e'
   closing i t p d b m e e' (inl (f, is, ends, follows)) (inl (g, is', ends', follows')) =
       same_close w r wire i (kind_of t p) f d b m e e' ends (subst (λ z. EndsIn w r (kind_of t p) z i d b m e') (one_form (kind_of t p) g f is' is) ends')
-  closing i t p d b m e e' (inl (f, is, ends, follows)) (inr h) = absurd (no_end_over w r wire i (kind_of t p) f d (object_form w r wire i t p d f h.0 is) b m h.1 h.3 e ends)
-  closing i t p d b m e e' (inr h) (inl (f, is, ends, follows)) = absurd (no_end_over w r wire i (kind_of t p) f d (object_form w r wire i t p d f h.0 is) b m h.1 h.3 e' ends)
-  closing i t p d b m e e' (inr h) (inr j) = h.2 ∙ sym j.2
+  closing i t p d b m e e' (inl (f, is, ends, follows)) (inr h) = absurd (no_end_over w r wire i (kind_of t p) f d (object_form w r wire i t p d f h.0 is) b e' m h.1 h.2 e ends)
+  closing i t p d b m e e' (inr h) (inl (f, is, ends, follows)) = absurd (no_end_over w r wire i (kind_of t p) f d (object_form w r wire i t p d f h.0 is) b e m h.1 h.2 e' ends)
+  closing i t p d b m e e' (inr h) (inr j) = (wire.over_is_end i b e h.1).1 ∙ sym (wire.over_is_end i b e' j.1).1
 
   never_both : (i : List ℕ) (t : Table) (p : Place) (d b : ℕ) (m : Mark) (key : Option (List ℕ)) (c : ℕ) (n : Mark) (e : ℕ)
       → (relations w r).steps i t p d b m key c n → (relations w r).closes i t p d b m e → ⊥
   never_both i t p d b m key c n e (f, is, steps) (inl (g, is', ends, follows)) =
       step_or_close w r wire i (kind_of t p) f d b m key c n e steps (subst (λ z. EndsIn w r (kind_of t p) z i d b m e) (one_form (kind_of t p) g f is' is) ends)
-  never_both i t p d b m key c n e (f, is, steps) (inr h) = no_step_over w r wire i (kind_of t p) f d (object_form w r wire i t p d f h.0 is) b m h.1 h.3 key c n steps
+  never_both i t p d b m key c n e (f, is, steps) (inr h) = no_step_over w r wire i (kind_of t p) f d (object_form w r wire i t p d f h.0 is) b e m h.1 h.2 key c n steps
 
   within : (i : List ℕ) (d a e : ℕ) (x : Node L) → Lies w i d x a e → (a ≤ e) × (e ≤ length i)
   within i d a e x lies = let l = lies_behind w wire i d x a e lies in (not_back w wire i a e l.0, l.1)
@@ -130,7 +150,7 @@ module _ {L : Type 0} (w : Frames L) (r : Rules L) (wire : IsWire w) where
     null_begins = wire.null_begins;
     value_begins = λ i t p d a v e h. begins i t p d a v e h.0 h.1 h.2;
     empty_structure = λ t p d structure'.
-        (w.over_mark, inr (structure', wire.empty_is_over, refl, refl), inr (structure', wire.empty_is_over, refl, refl, omega arith));
+        (w.over_mark, inr (structure', wire.empty_is_over, refl), inr (structure', wire.empty_is_over, refl, omega arith));
   }
 
 -- where what scalars mean is a value of their kind, what stands within the limits is a value of its place
@@ -145,7 +165,7 @@ module _ {L : Type 0} (w : Frames L) (r : Rules L) (bounds : BoundsOpeners w) wh
   opens_one : (i : List ℕ) (t : Table) (p : Place) (d a b : ℕ) (m : Mark) → 0 < length i → (relations w r).opens i t p d a b m
       → suc (w.openers (drop b i)) ≤ w.openers (drop a i)
   opens_one i t p d a b m some (inl (f, is, opens)) = bounds.opening_adds f i a b m opens
-  opens_one i t p d a b m some (inr h) = absurd (bounds.over_is_empty i a h.1 some)
+  opens_one i t p d a b m some (inr h) = absurd (bounds.over_is_empty i a b h.1 some)
 
   drops_take_none : (i : List ℕ) (k : Kind) (f : Form) (count d b : ℕ) (m : Mark) (c : ℕ) (n : Mark) → DropsAll w r k f count i d b m c n
       → w.openers (drop c i) ≤ w.openers (drop b i)
@@ -157,7 +177,7 @@ module _ {L : Type 0} (w : Frames L) (r : Rules L) (bounds : BoundsOpeners w) wh
       → w.openers (drop e i) ≤ suc (w.openers (drop b i))
   closes_one i t p d b m e (inl (f, is, ends, follows)) =
       omega (arith, drops_take_none i (kind_of t p) f ends.0 d b m ends.1 ends.2 ends.3, bounds.end_takes_one f i ends.1 ends.2 e ends.4)
-  closes_one i t p d b m e (inr h) = rw h.2 (omega arith)
+  closes_one i t p d b m e (inr h) = omega (arith, bounds.over_takes_none i b e h.1)
 
   step_takes : (i : List ℕ) (k : Kind) (f : Form) (d b : ℕ) (m : Mark) (key : Option (List ℕ)) (c : ℕ) (n : Mark) → StepsIn w r k f i d b m key c n
       → w.openers (drop c i) ≤ w.openers (drop b i)

@@ -133,10 +133,10 @@ module _ {L : Type 0} (w : Frames L) (r : Rules L) (i : List ℕ) (t : Table) (p
 
   module _ (wire : IsWire w) (f : Form) (within : is_in (kind_of t p) f ≡ true) (d : ℕ) where
     -- nothing opens where the wire opens nothing of this form, and no structure is missing
-    pub opens_not : (a : ℕ) → ((b : ℕ) (m : Mark) → w.opens f i a b m → ⊥) → (IsStructure (kind_of t p) → w.is_over i a → ⊥)
+    pub opens_not : (a : ℕ) → ((b : ℕ) (m : Mark) → w.opens f i a b m → ⊥) → (IsStructure (kind_of t p) → (e : ℕ) → w.is_over i a e → ⊥)
         → (b : ℕ) (m : Mark) → (relations w r).opens i t p d a b m → ⊥
     opens_not a none over b m (inl (g, is, opens)) = none b m (subst (λ z. w.opens z i a b m) (one_form (kind_of t p) g f is within) opens)
-    opens_not a none over b m (inr h) = over h.0 h.1
+    opens_not a none over b m (inr h) = over h.0 b h.1
 
     entry_back : (b at : ℕ) (m j : Mark) (key : Option L) (c : ℕ) (n : Mark) → (b ≡ at) × (m ≡ j) → w.entry f i b m key c n → w.entry f i at j key c n
     entry_back b at m j key c n h entry = subst (λ z. w.entry f i z j key c n) h.0 (subst (λ z. w.entry f i b z key c n) h.1 entry)
@@ -203,7 +203,7 @@ module _ {L : Type 0} (w : Frames L) (r : Rules L) (i : List ℕ) (t : Table) (p
 
     -- a reader that passed all that is dropped, and met neither an entry nor the end, can't go on
     pub cannot_go_on : (count b : ℕ) (m : Mark) (at : ℕ) (j : Mark) → DropsAll w r (kind_of t p) f count i d b m at j → NoEntry at j → NoDrop at j
-        → ((e : ℕ) → w.ends f i at j e → w.follows i d e → ⊥) → (IsStructure (kind_of t p) → m ≡ w.over_mark → w.is_over i b → 0 < d → ⊥)
+        → ((e : ℕ) → w.ends f i at j e → w.follows i d e → ⊥) → (IsStructure (kind_of t p) → m ≡ w.over_mark → (e : ℕ) → w.is_over i b e → 0 < d → ⊥)
         → ((key : Option (List ℕ)) (c : ℕ) (n : Mark) → (relations w r).steps i t p d b m key c n → ⊥)
         × ((e : ℕ) → (relations w r).closes i t p d b m e → ⊥)
     cannot_go_on count b m at j drops none fixed shut over = (steps, closes)
@@ -219,4 +219,4 @@ module _ {L : Type 0} (w : Frames L) (r : Rules L) (i : List ℕ) (t : Table) (p
           where
             here : EndsIn w r (kind_of t p) f i d b m e → ⊥
             here h = no_close count h.0 b m at h.1 j h.2 e drops fixed shut h.3 h.4 follows
-        closes e (inr h) = over h.0 h.3 h.1 h.4
+        closes e (inr h) = over h.0 h.2 e h.1 h.3

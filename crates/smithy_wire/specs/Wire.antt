@@ -23,7 +23,7 @@ pub data Sort : Type 0 where
 
 -- a child that begins at c ends at e, in the input
 abbrev pub IsBehind : {L : Type 0} → Frames L → List ℕ → ℕ → ℕ → Type 0
-IsBehind w i c e = ((c < e) ⊎ ((c ≡ e) × w.is_over i c)) × (e ≤ length i)
+IsBehind w i c e = ((c < e) ⊎ w.is_over i c e) × (e ≤ length i)
 
 -- all that the laws of reading need of a framing
 pub record IsWire {L : Type 0} (w : Frames L) : Type 0 where
@@ -40,17 +40,18 @@ pub record IsWire {L : Type 0} (w : Frames L) : Type 0 where
   pub null_sort : (i : List ℕ) (d a e : ℕ) → w.null i d a e → sort_at i a ≡ a_null
   pub scalar_sort : (i : List ℕ) (d : ℕ) (x : L) (a e : ℕ) → w.scalar i d x a e → sort_at i a ≡ a_scalar
   pub opens_sort : (s : Form) (i : List ℕ) (a b : ℕ) (m : Mark) → w.opens s i a b m → sort_at i a ≡ a_container s
-  pub over_sort : (i : List ℕ) (a : ℕ) → w.is_over i a → sort_at i a ≡ no_value
+  pub over_sort : (i : List ℕ) (a e : ℕ) → w.is_over i a e → sort_at i a ≡ no_value
   pub null_begins : (i : List ℕ) (d a e : ℕ) → w.null i d a e → w.begins_null i a ≡ true
   pub others_begin : (i : List ℕ) (a : ℕ) → (sort_at i a ≡ a_null → ⊥) → w.begins_null i a ≡ false
   -- ---- what follows: inside a container a null and a scalar end as a container does
   pub null_follows : (i : List ℕ) (d a e : ℕ) → w.null i (suc d) a e → w.follows i (suc (suc d)) e
   pub scalar_follows : (i : List ℕ) (d : ℕ) (x : L) (a e : ℕ) → w.scalar i (suc d) x a e → w.follows i (suc (suc d)) e
   -- ---- where the input ends
-  pub empty_is_over : w.is_over [] 0
-  pub over_is_end : (i : List ℕ) (a : ℕ) → w.is_over i a → a ≡ length i
-  pub no_entry_over : (i : List ℕ) (b : ℕ) (k : Option L) (c : ℕ) (n : Mark) → w.is_over i b → w.entry as_object i b w.over_mark k c n → ⊥
-  pub no_end_over : (i : List ℕ) (b e : ℕ) → w.is_over i b → w.ends as_object i b w.over_mark e → ⊥
+  pub empty_is_over : w.is_over [] 0 0
+  pub over_is_end : (i : List ℕ) (a e : ℕ) → w.is_over i a e → (a ≤ e) × (e ≡ length i)
+  pub over_stays : (i : List ℕ) (a e : ℕ) → w.is_over i a e → w.is_over i e e
+  pub no_entry_over : (i : List ℕ) (b e : ℕ) (k : Option L) (c : ℕ) (n : Mark) → w.is_over i b e → w.entry as_object i b w.over_mark k c n → ⊥
+  pub no_end_over : (i : List ℕ) (b e f : ℕ) → w.is_over i b e → w.ends as_object i b w.over_mark f → ⊥
   pub opens_inside : (s : Form) (i : List ℕ) (a b : ℕ) (m : Mark) → w.opens s i a b m → m ≡ w.over_mark → ⊥
   pub entry_inside : (s : Form) (i : List ℕ) (b : ℕ) (m : Mark) (k : Option L) (c : ℕ) (n : Mark) → w.entry s i b m k c n → n ≡ w.over_mark → ⊥
   -- ---- positions rise
@@ -66,7 +67,8 @@ pub record IsWire {L : Type 0} (w : Frames L) : Type 0 where
 
 -- the bytes alone bound how many containers are open
 pub record BoundsOpeners {L : Type 0} (w : Frames L) : Type 0 where
-  pub over_is_empty : (i : List ℕ) (a : ℕ) → w.is_over i a → 0 < length i → ⊥
+  pub over_is_empty : (i : List ℕ) (a e : ℕ) → w.is_over i a e → 0 < length i → ⊥
+  pub over_takes_none : (i : List ℕ) (a e : ℕ) → w.is_over i a e → w.openers (drop e i) ≤ w.openers (drop a i)
   pub null_takes_none : (i : List ℕ) (d a e : ℕ) → w.null i d a e → w.openers (drop e i) ≤ w.openers (drop a i)
   pub scalar_takes_none : (i : List ℕ) (d : ℕ) (x : L) (a e : ℕ) → w.scalar i d x a e → w.openers (drop e i) ≤ w.openers (drop a i)
   pub opening_adds : (s : Form) (i : List ℕ) (a b : ℕ) (m : Mark) → w.opens s i a b m → suc (w.openers (drop b i)) ≤ w.openers (drop a i)

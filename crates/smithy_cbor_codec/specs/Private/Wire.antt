@@ -84,15 +84,16 @@ cbor_is_wire = record {
   scalar_sort = λ i d x a e h. scalar_sort i x a e h.0 h.1;
   opens_sort = λ s i a b m h.
       head_sort s (drop a i) (record { major = major_in s; argument = h.0; length = b - a }) refl h.2.1 (opens_within (major_in s) h.0 i a b h.2);
-  over_sort = λ i a h. over_sort i a h.0 h.1;
+  over_sort = λ i a e h. over_sort i a h.0.0 h.0.1;
   null_begins = λ i d a e h. h.0;
   others_begin = λ i a h. others_begin (drop a i) h;
   null_follows = λ i d a e h. tt;
   scalar_follows = λ i d x a e h. tt;
-  empty_is_over = (refl, refl);
-  over_is_end = λ i a h. h.1 ∙ sym (ap length h.0);
-  no_entry_over = λ i b k c n over h. no_item h.1.0 i b c over.0 h.1.1;
-  no_end_over = λ i b e over h. no_end i b end_mark e over.0 refl h;
+  empty_is_over = ((refl, refl), refl);
+  over_is_end = λ i a e h. (omega (arith, h.1), h.1 ∙ (h.0.1 ∙ sym (ap length h.0.0)));
+  over_stays = λ i a e h. ((h.0.0, h.1 ∙ h.0.1), refl);
+  no_entry_over = λ i b e k c n over h. no_item h.1.0 i b c over.0.0 h.1.1;
+  no_end_over = λ i b e f over h. no_end i b end_mark f over.0.0 refl h;
   opens_inside = λ s i a b m h is. no_mark h.0 m h.1 is;
   entry_inside = λ s i b m k c n h is. next_inside i b m n (entry_next s i b m k c n h) is;
   null_ahead = λ i d a e h. (omega (arith, h.1), omega (arith, h.1, byte_within null_byte i a h.0));
@@ -113,7 +114,8 @@ is_counted as_object = inr refl
 
 pub cbor_bounds_openers : BoundsOpeners cbor_frames
 cbor_bounds_openers = record {
-  over_is_empty = λ i a over some. omega (arith, some, ap length over.0);
+  over_is_empty = λ i a e over some. omega (arith, some, ap length over.0.0);
+  over_takes_none = λ i a e over. rw over.1 (omega arith);
   null_takes_none = λ i d a e h. openers_fall i a e (omega (arith, h.1));
   scalar_takes_none = λ i d x a e h. openers_fall i a e (omega (arith, item_ahead x i a e h.1));
   opening_adds = λ s i a b m h. opens_adds (major_in s) h.0 i a b (is_counted s) h.2;

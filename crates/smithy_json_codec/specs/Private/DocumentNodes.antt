@@ -19,6 +19,7 @@ use Rattle.smithy_json.specs.Number.{natural_number, whole_number as written_num
 use Rattle.smithy_json.specs.Tree as tree
 use Rattle.smithy_json.specs.Tree.{Json, Elements, no_elements, element, Members, no_members, member}
 use Rattle.smithy_json.specs.Unescape.{unescaped}
+use Rattle.smithy_shapes.specs.declared.shape_type.Scalar.TheVariants as scalars
 use Rattle.smithy_json_codec.specs.Settings.{Settings}
 use Rattle.smithy_json_codec.specs.LexicalGrammar.{rfc_8259, in_grammar}
 use Rattle.smithy_json_codec.specs.Scalar.{JsonScalar, a_boolean, a_number, a_string, tree_of, held_says, document_says}
@@ -139,7 +140,7 @@ follows_at d (tree.object ms) s h k = k
 
 -- what a scalar is as a document, where it is in the grammar
 abbrev says : JsonScalar → Answer (Document Number)
-says x = if in_grammar rfc_8259 x then document_says x else no_meaning
+says x = if in_grammar rfc_8259 scalars.BigDecimal x then document_says x else no_meaning
 
 module _ (c : Settings) (i : List ℕ) (d a : ℕ) where
   stands_lies : (x : Document Number) (e : ℕ) → (json_relations c).documents i d a x e → DocumentStands (limit c) d i a x e
@@ -195,7 +196,7 @@ module _ (c : Settings) (i : List ℕ) (d a : ℕ) where
         let token = tree_is_token (a_number other.raw) i 1 h.at other.e other.lies in (
           other.e,
           part_uncarried json_frames (json_rules c) i t p kind d says refl a 1 h.at (a_number other.raw) other.e (due_ahead i h.containers a h.at h.due)
-              token.0 (said_in (a_number other.raw) (document_says (a_number other.raw)) no_meaning token.1 ∙ ap held_says other.not_held),
+              token.0 (said_in scalars.BigDecimal (a_number other.raw) (document_says (a_number other.raw)) no_meaning token.1 ∙ ap held_says other.not_held),
         )
 
 -- ---- what a scalar is as a document

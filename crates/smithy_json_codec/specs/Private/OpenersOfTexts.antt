@@ -64,7 +64,7 @@ numeric_plain b h = grind (arith, nat_tests)
 -- a number adds nothing
 number_adds : (raw : List ℕ) → IsNumberRun raw → AddsNothing raw
 number_adds [] h = absurd h
-number_adds (b ∷ raw) h = plain_bytes is_numeric numeric_plain (b ∷ raw) h.1
+number_adds (b ∷ raw) h = plain_bytes is_numeric numeric_plain (b ∷ raw) h
 
 ws_plain : (b : ℕ) → IsTrue (is_ws b) → is_counted b ≡ false
 ws_plain b h = grind (arith, nat_tests)

@@ -1,19 +1,21 @@
 -- Under the boundary of RFC 8259 a token lies exactly where its tree does, where it passes the tests of that grammar.
-use Rattle.std.specs.Prelude.{◌≡◌, ◌⊎◌, ◌==◌, ◌&&◌, ◌||◌, ◌≤◌, ℕ, drop, nat_le, List, [], ◌∷◌, ◌++◌, Bool, true, false, Some, None, if◌then◌else◌, refl}
-use Rattle.std.specs.Char.{is_ascii_hexdigit, IsAsciiDigit, IsAsciiHexdigit}
+use Rattle.std.specs.Prelude.{◌≡◌, ◌==◌, ◌&&◌, ◌||◌, ◌≤◌, ℕ, drop, nat_le, List, [], ◌∷◌, Bool, true, false, Some, None, if◌then◌else◌, refl}
+use Rattle.std.specs.Char.{is_ascii_hexdigit, IsAsciiHexdigit}
 use Rattle.std.specs.Str.{is_utf8}
 use Rattle.std.proofs.Common.{sym, ◌∙◌, ap, arith, inl, inr}
 use Rattle.std.proofs.lemmas.Bool.{and_parts}
 use Rattle.std.proofs.lemmas.Bool.Decides.{nat_tests}
 use Rattle.std.proofs.lemmas.Str.{IsUtf8-from_is_utf8, is_utf8-from_IsUtf8}
-use Rattle.smithy_json.specs.Ascii.{quotation_mark, escape, letter_u, minus_sign, space, is_short_escape}
-use Rattle.smithy_json.specs.Grammar.{IsInt, IsNumber, IsUnescaped, BeginsWithFourHexDigits, IsEscape, AreChars, IsStringText, IsBoundary, IsValue}
+use Rattle.smithy_json.specs.Ascii.{quotation_mark, escape, letter_u, space, is_short_escape}
+use Rattle.smithy_json.specs.Grammar.{IsNumber, IsUnescaped, BeginsWithFourHexDigits, IsEscape, AreChars, IsStringText, IsBoundary, IsValue}
 use Rattle.smithy_json.specs.Tree.{null}
 use Rattle.smithy_json.proofs.NumberTextLemmas.{tells_numbers}
-use Rattle.smithy_json_codec.specs.LexicalGrammar.{rfc_8259, is_unescaped, begins_with_four_hex_digits, is_escape, are_chars, in_grammar, is_skipped_in}
+use Rattle.smithy_shapes.specs.declared.shape_type.Scalar.{Scalar}
+use Rattle.smithy_shapes.specs.declared.shape_type.Scalar.TheVariants as scalars
+use Rattle.smithy_json_codec.specs.LexicalGrammar.{rfc_8259, is_unescaped, begins_with_four_hex_digits, is_escape, are_chars, is_number_as, in_grammar, is_skipped_in, LiesInGrammar}
 use Rattle.smithy_json_codec.specs.Scalar.{JsonScalar, a_boolean, a_number, a_string, tree_of}
 use Rattle.smithy_json_codec.specs.Standing.{Lies, TreeLies, IsName, Names, begins_with_alphanumeric, json_frames}
-use Rattle.smithy_json_codec.specs.Tokens.{begins_number, IsNumberRun, EndsRun, IsQuoted, IsToken, EndsToken, IsNameToken, NameTokens}
+use Rattle.smithy_json_codec.specs.Tokens.{IsNumberRun, EndsRun, IsQuoted, IsToken, EndsToken, IsNameToken, NameTokens}
 use Rattle.smithy_json_codec.specs.Private.Lexical.{number_pass, number_fills, boundary_stops, eq_false}
 use Rattle.smithy_wire.specs.Rules.{Answer, no_meaning, settled}
 use Rattle.smithy_shapes.specs.Limits.{Limits}
@@ -26,26 +28,9 @@ IsInGrammar (a_string raw) = IsStringText raw
 
 -- ---- numbers
 
-digit_begins : (b : ℕ) → IsAsciiDigit b → begins_number b ≡ true
-digit_begins b h = grind (arith, nat_tests)
-
-int_begins : (b : ℕ) (int more : List ℕ) → IsInt int → (rest : List ℕ) → b ∷ more ≡ int ++ rest → begins_number b ≡ true
-int_begins b [] more h rest is = absurd h
-int_begins b (d ∷ []) more h rest is = let same : b ≡ d = cc in rw same (digit_begins d h)
-int_begins b (d ∷ e ∷ ds) more h rest is = let same : b ≡ d = cc in rw same (digit_begins d h.0)
-
-number_begins : (b : ℕ) (more : List ℕ) → (h : IsNumber (b ∷ more)) → begins_number b ≡ true
-number_begins b more h = by h.minus h.is_minus h.parts
-  where
-    by : (minus : List ℕ) → (minus ≡ []) ⊎ (minus ≡ minus_sign ∷ []) → b ∷ more ≡ minus ++ (h.int ++ (h.frac ++ h.exp)) → begins_number b ≡ true
-    by minus (inl none) is = int_begins b h.int more h.is_int (h.frac ++ h.exp) (rw none at is)
-    by minus (inr one) is =
-        let parts : b ∷ more ≡ minus_sign ∷ (h.int ++ (h.frac ++ h.exp)) = rw one at is in
-        let same : ◌≡◌ {A = ℕ} b minus_sign = cc in rw same refl
-
 pub number_is_run : (raw : List ℕ) → IsNumber raw → IsNumberRun raw
 number_is_run [] h = absurd (number_fills h)
-number_is_run (b ∷ raw) h = (number_begins b raw h, number_pass (b ∷ raw) h)
+number_is_run (b ∷ raw) h = number_pass (b ∷ raw) h
 
 pub boundary_ends : (s : List ℕ) → IsBoundary s → EndsRun s
 boundary_ends [] h = tt
@@ -146,11 +131,31 @@ chars_are (b ∷ letter ∷ rest) h = by (b == escape) refl (chars_are (letter �
         let p = and_parts (is_unescaped b) (are_chars (letter ∷ rest)) (sym same ∙ h) in
         inl (unescaped_is b p.0, more p.1)
 
-pub grammar_is : (x : JsonScalar) → in_grammar rfc_8259 x ≡ true → IsInGrammar x
-grammar_is (a_boolean b) h = tt
-grammar_is (a_number raw) h = (tells_numbers raw).0 h
-grammar_is (a_string raw) h =
+-- every kind of numbers is read by the one test
+one_test : (s : Scalar) (raw : List ℕ) → is_number_as rfc_8259 s raw ≡ rfc_8259.is_number raw
+one_test scalars.BigInteger raw = refl
+one_test scalars.BigDecimal raw = refl
+one_test scalars.Timestamp raw = refl
+one_test _ raw = refl
+
+pub skipped_is : (x : JsonScalar) → is_skipped_in rfc_8259 x ≡ true → IsInGrammar x
+skipped_is (a_boolean b) h = tt
+skipped_is (a_number raw) h = (tells_numbers raw).0 h
+skipped_is (a_string raw) h =
     let p = and_parts (is_utf8 raw) (are_chars raw) h in (IsUtf8-from_is_utf8 raw p.0, chars_are raw p.1)
+
+pub in_good : (s : Scalar) (x : JsonScalar) → in_grammar rfc_8259 s x ≡ true → is_skipped_in rfc_8259 x ≡ true
+in_good s (a_boolean b) h = refl
+in_good s (a_number raw) h = sym (one_test s raw) ∙ h
+in_good s (a_string raw) h = h
+
+pub good_in : (s : Scalar) (x : JsonScalar) → is_skipped_in rfc_8259 x ≡ true → in_grammar rfc_8259 s x ≡ true
+good_in s (a_boolean b) h = refl
+good_in s (a_number raw) h = one_test s raw ∙ h
+good_in s (a_string raw) h = h
+
+pub grammar_is : (s : Scalar) (x : JsonScalar) → in_grammar rfc_8259 s x ≡ true → IsInGrammar x
+grammar_is s x h = skipped_is x (in_good s x h)
 
 -- ---- and they pass what is in it
 
@@ -201,46 +206,38 @@ skipped_in (a_boolean b) h = refl
 skipped_in (a_number raw) h = (tells_numbers raw).1 h
 skipped_in (a_string raw) h = rw (is_utf8-from_IsUtf8 raw h.0, chars_pass raw h.1) refl
 
-pub skipped_is : (x : JsonScalar) → is_skipped_in rfc_8259 x ≡ true → IsInGrammar x
-skipped_is (a_boolean b) h = tt
-skipped_is (a_number raw) h = grammar_is (a_number raw) h
-skipped_is (a_string raw) h = grammar_is (a_string raw) h
-
 -- ---- what means something only where it passes the tests
 
-pub in_good : (x : JsonScalar) → in_grammar rfc_8259 x ≡ true → is_skipped_in rfc_8259 x ≡ true
-in_good (a_boolean b) h = refl
-in_good (a_number raw) h = h
-in_good (a_string raw) h = h
+pub passes : (s : Scalar) (x : JsonScalar) → IsInGrammar x → in_grammar rfc_8259 s x ≡ true
+passes s x h = good_in s x (skipped_in x h)
 
-pub good_in : (x : JsonScalar) → is_skipped_in rfc_8259 x ≡ true → in_grammar rfc_8259 x ≡ true
-good_in (a_boolean b) h = refl
-good_in (a_number raw) h = h
-good_in (a_string raw) h = h
+-- a tree lies there exactly where its token does, in the grammar of the standard
+pub tree_in_grammar : (s : Scalar) (x : JsonScalar) (i : List ℕ) (a e : ℕ) → TreeLies 1 (tree_of x) i a e → LiesInGrammar rfc_8259 s x i a e
+tree_in_grammar s x i a e h = let token = tree_is_token x i 0 a e h in (token.0, passes s x token.1)
 
-pub passes : (x : JsonScalar) → IsInGrammar x → in_grammar rfc_8259 x ≡ true
-passes x h = good_in x (skipped_in x h)
+pub in_grammar_tree : (s : Scalar) (x : JsonScalar) (i : List ℕ) (a e : ℕ) → LiesInGrammar rfc_8259 s x i a e → TreeLies 1 (tree_of x) i a e
+in_grammar_tree s x i a e h = token_is_tree x i 0 a e h.0 (grammar_is s x h.1)
 
 -- what a token of the grammar says is what it says without the test
-pub said_in : {A : Type 0} (x : JsonScalar) (a other : A) → IsInGrammar x → (if in_grammar rfc_8259 x then a else other) ≡ a
-said_in x a other h = ap (λ b. if b then a else other) (passes x h)
+pub said_in : {A : Type 0} (s : Scalar) (x : JsonScalar) (a other : A) → IsInGrammar x → (if in_grammar rfc_8259 s x then a else other) ≡ a
+said_in s x a other h = ap (λ b. if b then a else other) (passes s x h)
 
 -- and what says something is a token of the grammar
-pub answer_in : {A : Type 0} (x : JsonScalar) (a b : Answer A) → (no_meaning ≡ b → ⊥) → (if in_grammar rfc_8259 x then a else no_meaning) ≡ b
+pub answer_in : {A : Type 0} (s : Scalar) (x : JsonScalar) (a b : Answer A) → (no_meaning ≡ b → ⊥) → (if in_grammar rfc_8259 s x then a else no_meaning) ≡ b
     → IsInGrammar x × (a ≡ b)
-answer_in x a b other h = by (in_grammar rfc_8259 x) refl h
+answer_in s x a b other h = by (in_grammar rfc_8259 s x) refl h
   where
-    by : (test : Bool) → in_grammar rfc_8259 x ≡ test → (if test then a else no_meaning) ≡ b → IsInGrammar x × (a ≡ b)
-    by true is h = (grammar_is x is, h)
+    by : (test : Bool) → in_grammar rfc_8259 s x ≡ test → (if test then a else no_meaning) ≡ b → IsInGrammar x × (a ≡ b)
+    by true is h = (grammar_is s x is, h)
     by false is h = absurd (other h)
 
-pub settled_in : {A : Type 0} (limits : Limits) (nil : A) (x : JsonScalar) (a : Answer A) (v : A)
-    → settled limits nil (if in_grammar rfc_8259 x then a else no_meaning) ≡ Some v → IsInGrammar x × (settled limits nil a ≡ Some v)
-settled_in limits nil x a v h = by (in_grammar rfc_8259 x) refl h
+pub settled_in : {A : Type 0} (limits : Limits) (nil : A) (s : Scalar) (x : JsonScalar) (a : Answer A) (v : A)
+    → settled limits nil (if in_grammar rfc_8259 s x then a else no_meaning) ≡ Some v → IsInGrammar x × (settled limits nil a ≡ Some v)
+settled_in limits nil s x a v h = by (in_grammar rfc_8259 s x) refl h
   where
-    by : (test : Bool) → in_grammar rfc_8259 x ≡ test → settled limits nil (if test then a else no_meaning) ≡ Some v
+    by : (test : Bool) → in_grammar rfc_8259 s x ≡ test → settled limits nil (if test then a else no_meaning) ≡ Some v
         → IsInGrammar x × (settled limits nil a ≡ Some v)
-    by true is h = (grammar_is x is, h)
+    by true is h = (grammar_is s x is, h)
     by false is h = absurd (let no : None ≡ Some v = h in cc)
 
 -- ---- nulls and names

@@ -13,6 +13,7 @@ use Rattle.smithy_shapes.specs.Table.{Table, scalar, kind_of}
 use Rattle.smithy_shapes.specs.TimeForms.{form_or}
 use Rattle.smithy_shapes.specs.Value.{Value, null_element}
 use Rattle.smithy_json.proofs.TextLemmas.{unescaped_is_utf8}
+use Rattle.smithy_shapes.specs.declared.shape_type.Scalar.TheVariants as scalars
 use Rattle.smithy_json_codec.specs.Settings.{Settings, kept, without_limits}
 use Rattle.smithy_json_codec.specs.Scalar.{JsonScalar, a_string, text_of, says as says_as, document_says}
 use Rattle.smithy_json_codec.specs.Standing.{json_frames, json_rules}
@@ -46,23 +47,23 @@ module _ (c : Settings) where
       → kind_of t p ≡ scalar s → c.limits ≡ kept → settled c.limits null_element ((json_rules c).says s p.time x) ≡ Some v → Fits t p v
   says i d x a e lies t p s v kind keeps h =
       let form = form_or c.default_timestamp_format p.time in
-      let there = settled_in c.limits null_element x (says_as s form x) v h in
+      let there = settled_in c.limits null_element s x (says_as s form x) v h in
       says_fits i d x a e (token_is_tree x i d a e lies there.0) t p s v kind form (settled_means c.limits null_element (says_as s form x) v keeps there.1)
 
   documents : (i : List ℕ) (d : ℕ) (x : JsonScalar) (a e : ℕ) → json_frames.scalar i d x a e
       → (says : JsonScalar → Answer (Document Number)) (v : Document Number) → (json_rules c).documents ≡ Some says → says x ≡ means v
       → DocumentFits (whole_document v) × (document_nesting v ≡ 1)
   documents i d x a e lies says v carried h =
-      let same = same_some (λ y. if in_grammar rfc_8259 y then document_says y else no_meaning) says carried in
-      let there = answer_in x (document_says x) (means v) (λ no. cc) (ap (λ f. f x) same ∙ h) in
+      let same = same_some (λ y. if in_grammar rfc_8259 scalars.BigDecimal y then document_says y else no_meaning) says carried in
+      let there = answer_in scalars.BigDecimal x (document_says x) (means v) (λ no. cc) (ap (λ f. f x) same ∙ h) in
       says_document i d x a e (token_is_tree x i d a e lies there.0) v there.1
 
   keys : (i : List ℕ) (b : ℕ) (m : Mark) (key : JsonScalar) (e : ℕ) (n : Mark) (text : List ℕ) → json_frames.entry as_object i b m (Some key) e n
       → (json_rules c).text_of key ≡ Some text → IsUtf8 text
   keys i b m key e n text (raw, is, mark, names) h =
       let same : key ≡ a_string raw = same_some key (a_string raw) is in
-      let there = chosen (in_grammar rfc_8259 (a_string raw)) (text_of (a_string raw)) text (rw same at h) in
-      unescaped_is_utf8 raw text (grammar_is (a_string raw) there.0).0 there.1
+      let there = chosen (in_grammar rfc_8259 scalars.String (a_string raw)) (text_of (a_string raw)) text (rw same at h) in
+      unescaped_is_utf8 raw text (grammar_is scalars.String (a_string raw) there.0).0 there.1
 
   -- what scalars mean is of their kind, and keys are texts
   pub rules_fit : RulesFit json_frames (json_rules c)

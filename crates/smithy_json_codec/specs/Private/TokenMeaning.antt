@@ -13,6 +13,8 @@ use Rattle.smithy_shapes.specs.Lemmas.Options.{step_apart, chosen, made}
 use Rattle.smithy_shapes.specs.Table.{Table, Kind, scalar, document, structure_of, union_of, list_of, map_of, kind_of, place_in, where_document}
 use Rattle.smithy_shapes.specs.Value.{Value, MemberValues, MapEntries, null_element}
 use Rattle.smithy_schema.specs.Reading.{Mark}
+use Rattle.smithy_shapes.specs.declared.shape_type.Scalar.{Scalar}
+use Rattle.smithy_shapes.specs.declared.shape_type.Scalar.TheVariants as scalars
 use Rattle.smithy_json_codec.specs.Settings.{Settings}
 use Rattle.smithy_json_codec.specs.Scalar.{JsonScalar, text_of, document_says}
 use Rattle.smithy_json_codec.specs.Meaning.{rules_of}
@@ -148,9 +150,9 @@ where_either : {A : Type 0} (k : Kind) (here elsewhere : Option A) (v : A) → w
 where_either document here elsewhere v h = inl h
 where_either _ here elsewhere v h = inr h
 
-guarded : {A : Type 0} (limits : Limits) (nil : A) (x : JsonScalar) (a : Answer A) (v : A)
-    → settled limits nil (if in_grammar rfc_8259 x then a else no_meaning) ≡ Some v → is_skipped_in rfc_8259 x ≡ true
-guarded limits nil x a v h = either (in_grammar rfc_8259 x) (λ is. in_good x is)
+guarded : {A : Type 0} (limits : Limits) (nil : A) (s : Scalar) (x : JsonScalar) (a : Answer A) (v : A)
+    → settled limits nil (if in_grammar rfc_8259 s x then a else no_meaning) ≡ Some v → is_skipped_in rfc_8259 x ≡ true
+guarded limits nil s x a v h = either (in_grammar rfc_8259 s x) (λ is. in_good s x is)
     (λ is. absurd (let no : None ≡ Some v = sym (ap (λ b. settled limits nil (if b then a else no_meaning)) is) ∙ h in cc))
 
 null_good : (x : Node JsonScalar) → is_null x ≡ true → all_pass (is_skipped_in rfc_8259) x ≡ true
@@ -176,7 +178,7 @@ module _ (c : Settings) (i : List ℕ) where
   r = token_rules rfc_8259 c
 
   abbrev says : JsonScalar → Answer (Document Number)
-  says x = if in_grammar rfc_8259 x then document_says x else no_meaning
+  says x = if in_grammar rfc_8259 scalars.BigDecimal x then document_says x else no_meaning
 
   abbrev good : JsonScalar → Bool
   good = is_skipped_in rfc_8259
@@ -186,7 +188,7 @@ module _ (c : Settings) (i : List ℕ) where
 
   key_good : (key : Option JsonScalar) (text : List ℕ) → option_and_then r.text_of key ≡ Some text → option_map_or good key true ≡ true
   key_good None text h = refl
-  key_good (Some x) text h = in_good x (chosen (in_grammar rfc_8259 x) (text_of x) text h).0
+  key_good (Some x) text h = in_good scalars.String x (chosen (in_grammar rfc_8259 scalars.String x) (text_of x) text h).0
 
   key_sound : (f : Form) (k : Kind) (d b : ℕ) (m : Mark) (key : Option JsonScalar) (x : Node JsonScalar) (at : ℕ) (n : Mark) (mean : Place → Option Value)
       → EntryTokens f i b m key at n → Serves f (entry_at r k f d key x mean) → option_map_or good key true ≡ true
@@ -199,7 +201,7 @@ module _ (c : Settings) (i : List ℕ) where
     pub document_sound : (d : ℕ) (x : Node JsonScalar) (a e : ℕ) (u : Document Number) → NodeLies w i d x a e → document_of r says d x ≡ Some u → all_pass good x ≡ true
     document_sound d null_node a e u lies h = refl
     document_sound d (leaf x) a e u lies h =
-        guarded c.limits null x (document_says x) u (chosen (is_shallow r (suc d)) (settled r.limits null (says x)) u h).1
+        guarded c.limits null scalars.BigDecimal x (document_says x) u (chosen (is_shallow r (suc d)) (settled r.limits null (says x)) u h).1
     document_sound d (container as_array xs) a e u lies h =
         let inside = made _ (elements_of r says (suc d) xs) u (chosen (is_shallow r (suc d)) _ u h).1 in
         elements_sound (suc d) xs lies.0 lies.1 e inside.0 lies.3 inside.1
@@ -231,10 +233,10 @@ module _ (c : Settings) (i : List ℕ) where
 
   leaf_sound : (k : Kind) (time : Option TimestampFormat) (d : ℕ) (x : JsonScalar) (v : Value)
       → where_document k (document_meaning r d (leaf x)) (leaf_meaning r k time x) ≡ Some v → good x ≡ true
-  leaf_sound (scalar s) time d x v h = guarded c.limits null_element x ((rules_of c).says s time x) v h
+  leaf_sound (scalar s) time d x v h = guarded c.limits null_element s x ((rules_of c).says s time x) v h
   leaf_sound document time d x v h =
       let u = made _ (document_of r says d (leaf x)) v h in
-      guarded c.limits null x (document_says x) u.0 (chosen (is_shallow r (suc d)) (settled r.limits null (says x)) u.0 u.1).1
+      guarded c.limits null scalars.BigDecimal x (document_says x) u.0 (chosen (is_shallow r (suc d)) (settled r.limits null (says x)) u.0 u.1).1
   leaf_sound _ time d x v h = cc
 
   child_sound : (t : Table) (k : Kind) (f : Form) (d : ℕ) (key : Option JsonScalar) (x : Node JsonScalar)

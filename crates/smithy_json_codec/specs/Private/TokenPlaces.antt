@@ -54,7 +54,7 @@ token_read (a_boolean true) s r h ends = rw h refl
 token_read (a_boolean false) s r h ends = rw h refl
 token_read (a_number []) s r h ends = absurd h.1
 token_read (a_number (b ∷ raw)) s r h ends =
-    rw (h.0, h.1.1.0) (rw (run_all is_numeric raw r h.1.1.1 (ends_stops r ends), behind_all is_numeric raw r h.1.1.1 (ends_stops r ends)) refl)
+    rw (h.0, h.1.0) (rw (run_all is_numeric raw r h.1.1 (ends_stops r ends), behind_all is_numeric raw r h.1.1 (ends_stops r ends)) refl)
 token_read (a_string raw) s r h ends =
     let n = quoted_all raw r h.1 in
     rw (h.0, string_parts raw r) (rw (n.0, n.1) refl)
@@ -73,7 +73,7 @@ token_stops : (x : JsonScalar) (s r : List ℕ) → IsToken x s → Stops is_ws 
 token_stops (a_boolean true) s r h = rw h refl
 token_stops (a_boolean false) s r h = rw h refl
 token_stops (a_number []) s r h = absurd h.1
-token_stops (a_number (b ∷ raw)) s r h = rw h.0 (numeric_plain b h.1.1.0)
+token_stops (a_number (b ∷ raw)) s r h = rw h.0 (numeric_plain b h.1.0)
 token_stops (a_string raw) s r h = rw h.0 refl
 
 token_fills : (x : JsonScalar) (s : List ℕ) → IsToken x s → 0 < length s
@@ -98,7 +98,7 @@ token_sort : (x : JsonScalar) (s r : List ℕ) → IsToken x s → json_sort (s 
 token_sort (a_boolean true) s r h = rw h refl
 token_sort (a_boolean false) s r h = rw h refl
 token_sort (a_number []) s r h = absurd h.1
-token_sort (a_number (b ∷ raw)) s r h = rw h.0 (numeric_sort b (raw ++ r) h.1.1.0)
+token_sort (a_number (b ∷ raw)) s r h = rw h.0 (numeric_sort b (raw ++ r) h.1.0)
 token_sort (a_string raw) s r h = rw (h.0, no_n (quotation_mark ∷ ((raw ++ quotation_mark ∷ []) ++ r)) refl) refl
 
 -- ---- tokens that lie in the input

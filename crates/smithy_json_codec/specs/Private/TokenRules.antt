@@ -10,6 +10,8 @@ use Rattle.smithy_shapes.specs.declared.shape_type.TimestampFormat.{TimestampFor
 use Rattle.smithy_shapes.specs.Container.{Entry, container_of}
 use Rattle.smithy_shapes.specs.Table.{Table, Kind, scalar, kind_of, place_in, where_document}
 use Rattle.smithy_shapes.specs.Value.{Value, document_value, null_element}
+use Rattle.smithy_shapes.specs.declared.shape_type.Scalar.{Scalar}
+use Rattle.smithy_shapes.specs.declared.shape_type.Scalar.TheVariants as scalars
 use Rattle.smithy_json_codec.specs.Settings.{Settings}
 use Rattle.smithy_json_codec.specs.Scalar.{JsonScalar, text_of, document_says}
 use Rattle.smithy_json_codec.specs.Meaning.{rules_of}
@@ -32,18 +34,18 @@ module _ (c : Settings) where
   u = rules_of c
 
   abbrev says : JsonScalar → Answer (Document Number)
-  says x = if in_grammar rfc_8259 x then document_says x else no_meaning
+  says x = if in_grammar rfc_8259 scalars.BigDecimal x then document_says x else no_meaning
 
   abbrev good : JsonScalar → Bool
   good = is_skipped_in rfc_8259
 
-  same_says : {A : Type 0} (x : JsonScalar) (a : Answer A) → good x ≡ true → (if in_grammar rfc_8259 x then a else no_meaning) ≡ a
-  same_says x a h = ap (λ b. if b then a else no_meaning) (good_in x h)
+  same_says : {A : Type 0} (s : Scalar) (x : JsonScalar) (a : Answer A) → good x ≡ true → (if in_grammar rfc_8259 s x then a else no_meaning) ≡ a
+  same_says s x a h = ap (λ b. if b then a else no_meaning) (good_in s x h)
 
   same_key : (f : Form) (key : Option JsonScalar) → option_map_or good key true ≡ true → key_text r f key ≡ key_text u f key
   same_key as_array key h = refl
   same_key as_object None h = refl
-  same_key as_object (Some x) h = ap (λ b. if b then text_of x else None) (good_in x h)
+  same_key as_object (Some x) h = ap (λ b. if b then text_of x else None) (good_in scalars.String x h)
 
   mutual
     all_there : (x : Node JsonScalar) → all_pass good x ≡ true → all_pass (λ y. true) x ≡ true
@@ -64,7 +66,7 @@ module _ (c : Settings) where
   mutual
     pub same_document : (d : ℕ) (x : Node JsonScalar) → all_pass good x ≡ true → document_of r says d x ≡ document_of u document_says d x
     same_document d null_node h = refl
-    same_document d (leaf x) h = ap (λ a. at_depth u (suc d) (settled c.limits null a)) (same_says x (document_says x) h)
+    same_document d (leaf x) h = ap (λ a. at_depth u (suc d) (settled c.limits null a)) (same_says scalars.BigDecimal x (document_says x) h)
     same_document d (container as_array xs) h = ap (λ es. at_depth u (suc d) (option_map array es)) (same_elements (suc d) xs h)
     same_document d (container as_object xs) h =
         ap (λ pairs. at_depth u (suc d) (option_map (λ pairs. object (properties_by pairs)) pairs)) (same_pairs (suc d) xs h)
@@ -92,7 +94,7 @@ module _ (c : Settings) where
 
   -- at any place
   same_leaf : (k : Kind) (time : Option TimestampFormat) (x : JsonScalar) → good x ≡ true → leaf_meaning r k time x ≡ leaf_meaning u k time x
-  same_leaf (scalar s) time x h = ap (settled c.limits null_element) (same_says x (u.says s time x) h)
+  same_leaf (scalar s) time x h = ap (settled c.limits null_element) (same_says s x (u.says s time x) h)
   same_leaf _ time x h = refl
 
   same_where : (k : Kind) (a b o p : Option Value) → a ≡ b → o ≡ p → where_document k a o ≡ where_document k b p

@@ -98,15 +98,16 @@ tokens_are_wire Boundary = record {
   null_sort = λ i d a e h. rw (null_token_begins i a e h.0 h.1) refl;
   scalar_sort = λ i d x a e h. token_begins i x a e h.0;
   opens_sort = λ s i a b m h. opens_sort s i a b h.1;
-  over_sort = λ i a h. over_sort i a h.0 h.1;
+  over_sort = λ i a e h. over_sort i a h.0.0 h.0.1;
   null_begins = λ i d a e h. null_token_begins i a e h.0 h.1;
   others_begin = λ i a h. not_null_sort (without_ws (drop a i)) (begins_with_null (without_ws (drop a i))) h;
   null_follows = λ i d a e h. h.2;
   scalar_follows = λ i d x a e h. h.2;
-  empty_is_over = (refl, refl);
-  over_is_end = λ i a h. h.1 ∙ sym (ap length h.0);
-  no_entry_over = λ i b k c n over h. no_names i false b h.0 c over.0 h.3;
-  no_end_over = λ i b e over h. no_byte end_object i b e over.0 h;
+  empty_is_over = ((refl, refl), refl);
+  over_is_end = λ i a e h. (omega (arith, h.1), h.1 ∙ (h.0.1 ∙ sym (ap length h.0.0)));
+  over_stays = λ i a e h. ((h.0.0, h.1 ∙ h.0.1), refl);
+  no_entry_over = λ i b e k c n over h. no_names i false b h.0 c over.0.0 h.3;
+  no_end_over = λ i b e f over h. no_byte end_object i b f over.0.0 h;
   opens_inside = λ s i a b m h is. let same : fresh_mark ≡ end_mark = sym h.0 ∙ is in let clash = ap (λ (x : Mark). x.at_end) same in cc;
   entry_inside = entry_inside;
   null_ahead = λ i d a e h. (null_ahead i a e h.0, h.0.1);
@@ -136,7 +137,8 @@ end_takes_one as_object i b e h = across_end_object i b e h
 -- all that the laws of reading need of the count of brackets
 pub tokens_bound_openers : (Boundary : List ℕ → Type 0) → BoundsOpeners (token_frames Boundary)
 tokens_bound_openers Boundary = record {
-  over_is_empty = λ i a over some. omega (arith, some, ap length over.0);
+  over_is_empty = λ i a e over some. omega (arith, some, ap length over.0.0);
+  over_takes_none = λ i a e over. rw over.1 (omega arith);
   null_takes_none = λ i d a e h. omega (arith, across_null i a e h.0);
   scalar_takes_none = λ i d x a e h. omega (arith, across_token i x a e h.0);
   opening_adds = λ s i a b m h. opening_adds s i a b h.1;

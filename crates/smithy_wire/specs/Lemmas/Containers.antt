@@ -136,7 +136,7 @@ module _ {L : Type 0} (w : Frames L) (r : Rules L) (wire : IsWire w) (i : List �
       let here : EndsIn w r k f i (suc d) b m e = subst (λ z. EndsIn w r k z i (suc d) b m e) same ends in
       let nodes = drop_nodes here.0 b m here.1 here.2 no_nodes e here.3 here.4 in
       (nodes.0, nodes.1, follows, λ s. sym (nodes.2 s))
-  closed b m e inside (inr h) = absurd (inside h.3)
+  closed b m e inside (inr h) = absurd (inside h.2)
 
   stepped : (b : ℕ) (m : Mark) (text : Option (List ℕ)) (c : ℕ) (n : Mark) → (relations w r).steps i t p (suc d) b m text c n → StepsIn w r k f i (suc d) b m text c n
   stepped b m text c n (g, is, steps) = subst (λ z. StepsIn w r k z i (suc d) b m text c n) (one_form k g f is within) steps
@@ -265,16 +265,16 @@ module _ {L : Type 0} (w : Frames L) (r : Rules L) (wire : IsWire w) (i : List �
   pub object_form : (f : Form) → IsStructure (kind_of t p) → is_in (kind_of t p) f ≡ true → f ≡ as_object
   object_form f structure' within = one_form (kind_of t p) f as_object within (structure_is_object (kind_of t p) structure')
 
-  over_closed : (b : ℕ) (m : Mark) (e : ℕ) → IsStructure (kind_of t p) → w.is_over i b → m ≡ w.over_mark → (relations w r).closes i t p (suc d) b m e → e ≡ b
-  over_closed b m e structure' over is (inl (f, within, ends, follows)) =
-      absurd (no_end_over w r wire i (kind_of t p) f (suc d) (object_form f structure' within) b m over is e ends)
-  over_closed b m e structure' over is (inr h) = h.2
+  over_closed : (a b : ℕ) (m : Mark) (e : ℕ) → IsStructure (kind_of t p) → w.is_over i a b → m ≡ w.over_mark → (relations w r).closes i t p (suc d) b m e → e ≡ b
+  over_closed a b m e structure' over is (inl (f, within, ends, follows)) =
+      absurd (no_end_over w r wire i (kind_of t p) f (suc d) (object_form f structure' within) b b m (wire.over_stays i a b over) is e ends)
+  over_closed a b m e structure' over is (inr h) = (wire.over_is_end i b e h.1).1 ∙ sym (wire.over_is_end i a b over).1
 
-  over_chain : (b : ℕ) (m : Mark) (xs : List Child) (e : ℕ) → IsStructure (kind_of t p) → w.is_over i b → m ≡ w.over_mark → Chain (relations w r) i t p (suc d) b m xs e
+  over_chain : (a b : ℕ) (m : Mark) (xs : List Child) (e : ℕ) → IsStructure (kind_of t p) → w.is_over i a b → m ≡ w.over_mark → Chain (relations w r) i t p (suc d) b m xs e
       → (xs ≡ []) × (e ≡ b)
-  over_chain b m [] e structure' over is chain = (refl, over_closed b m e structure' over is chain)
-  over_chain b m (x ∷ xs) e structure' over is (text, c, n, g, (f, within, steps), child, chain) =
-      absurd (no_step_over w r wire i (kind_of t p) f (suc d) (object_form f structure' within) b m over is text c n steps)
+  over_chain a b m [] e structure' over is chain = (refl, over_closed a b m e structure' over is chain)
+  over_chain a b m (x ∷ xs) e structure' over is (text, c, n, g, (f, within, steps), child, chain) =
+      absurd (no_step_over w r wire i (kind_of t p) f (suc d) (object_form f structure' within) b b m (wire.over_stays i a b over) is text c n steps)
 
   missing_is : (k : Kind) → IsStructure k → (missing_meaning k ≡ Some (structure no_member_values)) × (container_of k [] ≡ Some (structure no_member_values))
   missing_is (structure_of members) h = (refl, refl)
@@ -289,12 +289,11 @@ module _ {L : Type 0} (w : Frames L) (r : Rules L) (wire : IsWire w) (i : List �
     where
       by : (relations w r).opens i t p d a box.inside box.mark → (relations w r).stands i t p d a v e
       by (inl (f, within, opens)) = opened_stands w r wire i t p f within d a box.inside box.mark box.children v e box.allowed opens box.chain box.means
-      by (inr (structure', over, at, is)) =
-          let over' : w.is_over i box.inside = subst (w.is_over i) (sym at) over in
-          let none = over_chain box.inside box.mark box.children e structure' over' is box.chain in
+      by (inr (structure', over, is)) =
+          let none = over_chain a box.inside box.mark box.children e structure' over is box.chain in
           let means : container_of (kind_of t p) [] ≡ Some v = subst (λ xs. container_of (kind_of t p) (map entry_of xs) ≡ Some v) none.0 box.means in
           let both = missing_is (kind_of t p) structure' in
-          (missing, (over, none.1 ∙ at), rw box.allowed (both.0 ∙ (sym both.1 ∙ means)), container_ends w (kind_of t p) i d e (structure_is_container (kind_of t p) structure'))
+          (missing, subst (w.is_over i a) (sym none.1) over, rw box.allowed (both.0 ∙ (sym both.1 ∙ means)), container_ends w (kind_of t p) i d e (structure_is_container (kind_of t p) structure'))
 
   pub stands_unfolded : (a : ℕ) (v : Value) (e : ℕ) → IsContainer (kind_of t p) → (relations w r).stands i t p d a v e → Contains (relations w r) i t p d a v e
   stands_unfolded a v e c (x, lies, means, ends) = of x lies means
@@ -317,11 +316,11 @@ module _ {L : Type 0} (w : Frames L) (r : Rules L) (wire : IsWire w) (i : List �
           let structure' = is_missing (kind_of t p) v deep.1 in
           let both = missing_is (kind_of t p) structure' in
           record {
-            inside = a;
+            inside = e;
             mark = w.over_mark;
             children = [];
             allowed = deep.0;
-            opens = inr (structure', lies.0, refl, refl);
-            chain = inr (structure', lies.0, lies.1, refl, omega arith);
+            opens = inr (structure', lies, refl);
+            chain = inr (structure', wire.over_stays i a e lies, refl, omega arith);
             means = both.1 ∙ (sym both.0 ∙ deep.1);
           }

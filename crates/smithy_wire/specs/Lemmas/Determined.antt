@@ -140,13 +140,13 @@ module _ {L : Type 0} (w : Frames L) (r : Rules L) (wire : IsWire w) (i : List �
       step_or_close_in h.count j.0 b m c e h.at j.1 h.mark j.2 n h.key h.drops h.entry (step_hands_on w r i k d f b m text c n h) j.3 j.4
 
   -- where the input ends a structure neither goes on nor ends
-  module _ (object : f ≡ as_object) (b : ℕ) (m : Mark) (over : w.is_over i b) (is : m ≡ w.over_mark) where
+  module _ (object : f ≡ as_object) (b o : ℕ) (m : Mark) (over : w.is_over i b o) (is : m ≡ w.over_mark) where
     no_entry : (key : Option L) (c : ℕ) (n : Mark) → w.entry f i b m key c n → ⊥
     no_entry key c n entry =
-        wire.no_entry_over i b key c n over (subst (λ s. w.entry s i b w.over_mark key c n) object (subst (λ z. w.entry f i b z key c n) is entry))
+        wire.no_entry_over i b o key c n over (subst (λ s. w.entry s i b w.over_mark key c n) object (subst (λ z. w.entry f i b z key c n) is entry))
 
     no_end : (e : ℕ) → w.ends f i b m e → ⊥
-    no_end e ends = wire.no_end_over i b e over (subst (λ s. w.ends s i b w.over_mark e) object (subst (λ z. w.ends f i b z e) is ends))
+    no_end e ends = wire.no_end_over i b o e over (subst (λ s. w.ends s i b w.over_mark e) object (subst (λ z. w.ends f i b z e) is ends))
 
     no_entry_all : (x at : ℕ) (j : Mark) (key : Option L) (c : ℕ) (n : Mark) → DropsAll w r k f x i d b m at j → w.entry f i at j key c n → ⊥
     no_entry_all zero at j key c n p entry = no_entry key c n (entry_back b at m j key c n p entry)
