@@ -1,5 +1,5 @@
 -- What the steps of a run say together.
-use Rattle.std.proofs.Common.{◌≡◌, ◌≢◌, ◌⊎◌, inl, inr, ℕ, List, Bool, Some, None, refl, subst}
+use Rattle.std.proofs.Common.{◌≡◌, ◌≢◌, inl, inr, ℕ, List, Bool, Some, None, refl, subst}
 use Rattle.smithy_model.specs.declared.fault.ModelFault.{ModelFault}
 use Rattle.smithy_model.specs.declared.fault.ModelFault.TheVariants as model_faults
 use Rattle.smithy_model_table.specs.declared.fault.WantedFault.{WantedFault}
@@ -10,7 +10,7 @@ use Rattle.smithy_table_commands.specs.declared.status.Status as kept
 use Rattle.smithy_table_commands.specs.declared.status.Status.TheVariants as statuses
 use Rattle.smithy_table_commands.specs.Command.{Task, command_of}
 use Rattle.smithy_table_commands.specs.Status.{status_code, line_of, status_of_model_fault, status_of_wanted_fault}
-use Rattle.smithy_table_commands.specs.RunAnswer.{IsModel, FailsToLoad, Refuses, HandsOut, SaysOf, TookLine, TaskAnswer, RunAnswer}
+use Rattle.smithy_table_commands.specs.RunAnswer.{IsModel, FailsToLoad, Refuses, SaysOf, TookLine, TaskAnswer, RunAnswer}
 
 -- the text is no model
 pub model_refused : (text : List ℕ) (fault : ModelFault) → RefusesText text fault → Refuses text (status_of_model_fault fault)

@@ -5,7 +5,7 @@ use Rattle.smithy_model.specs.declared.fault.ModelFault.TheVariants as faults
 use Rattle.smithy_model.specs.Model.{Model}
 use Rattle.smithy_model.specs.Reading.{IsModelText}
 use Rattle.smithy_model.specs.Faults.{RefusesText}
-use Rattle.smithy_model_table.specs.Leaving.{Reason, float, event_stream, outside, clash}
+use Rattle.smithy_model_table.specs.Leaving.{Reason, outside}
 use Rattle.smithy_model_table.specs.Outcomes.{LeftOut as Left}
 use Rattle.smithy_model_table.specs.ModelTable.{IsTableOf}
 use Rattle.smithy_outside.specs.Outside.{Shown, missing, MetOneFault, MetNoFault, IsWhole, IsLonger, Took, TookPrefix}

@@ -1,4 +1,4 @@
-use Rattle.std.proofs.Common.{◌≡◌, ◌∙◌, List, ℕ, Bool, true, false, map, subst, sym, refl}
+use Rattle.std.proofs.Common.{◌≡◌, ◌∙◌, List, ℕ, true, false, map, subst, sym, refl}
 use Rattle.smithy_model_table.specs.declared.left.Left as kept
 use Rattle.smithy_model_table.specs.Views.{left_view}
 use Rattle.smithy_outside.specs.Outside.{Took, TookPrefix}

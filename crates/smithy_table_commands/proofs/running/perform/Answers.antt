@@ -1,4 +1,4 @@
-use Rattle.std.proofs.Common.{◌≡◌, ◌⊎◌, inl, inr, List, ℕ, refl, subst}
+use Rattle.std.proofs.Common.{◌≡◌, inl, inr, List, ℕ, refl, subst}
 use Rattle.smithy_outside.specs.Outside.{Shown}
 use Rattle.smithy_table_commands.specs.Status.{line_of}
 use Rattle.smithy_table_commands.specs.RunAnswer.{SaysOf, TookLine}

@@ -1,4 +1,4 @@
-use Rattle.std.proofs.Common.{◌⊎◌, inl, inr, map, refl}
+use Rattle.std.proofs.Common.{inl, inr, map, refl}
 use Rattle.smithy_model_table.specs.Views.{left_view}
 use Rattle.smithy_table_commands.proofs.running.status_of.Goals as goal
 
