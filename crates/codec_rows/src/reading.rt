@@ -1,6 +1,7 @@
 //! Rows of calls on a reader.
 
 use crate::answers::{push_refusal, refused};
+use crate::consumers::consume_call;
 use crate::reads::{is_call, read_call};
 use crate::sized::{is_sized_call, sized_call};
 use smithy_cbor_codec::CborCodec;
@@ -22,6 +23,9 @@ fn read<R: ShapeDeserializer>(
         let count = answers.len();
         if is_sized_call(word) {
             let answer = sized_call(alloc, shapes, source, word, &field.value, &mut answers);
+            push_refusal(alloc, &mut answers, answer, count)?;
+        } else if word == "consume" {
+            let answer = consume_call(alloc, shapes, source, &field.value, &mut answers);
             push_refusal(alloc, &mut answers, answer, count)?;
         } else if is_call(word) {
             let answer = read_call(alloc, shapes, source, word, &field.value, &mut answers);

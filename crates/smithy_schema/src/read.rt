@@ -1,6 +1,5 @@
 //! Reading a value as a schema directs.
-ghost use Rattle.std.specs.Prelude.{◌≡◌, ◌≤◌, ℕ, length, Option, Some, None, Bool, true, false, ◌&&◌, IfOk, IsOk, OnOk, IsErrOf, IsErr, MatchBool, MatchOption, string_bytes};
-ghost use Rattle.std.specs.Prelude.{FitsSigned};
+ghost use Rattle.std.specs.Prelude.{◌≡◌, ◌≤◌, ℕ, length, Option, Some, None, Bool, true, false, ◌&&◌, IfOk, IsOk, OnOk, IsErrOf, IsErr, MatchBool, MatchOption, string_bytes, FitsSigned, OnErr, option_map};
 ghost use Rattle.std.specs.Int.{w128};
 ghost use Rattle.smithy_texts.specs.Numeral.{number};
 ghost use Rattle.smithy_texts.specs.Decimal.{mantissa, net_exponent};
@@ -11,7 +10,6 @@ ghost use Rattle.smithy_shapes.specs.Value.{Value, boolean, whole, text, bytes, 
 ghost use Rattle.smithy_shapes.specs.Site.{site_of, kind_at};
 ghost use Rattle.smithy_schema.specs.Reading.{ReadsScalar, ReadsDocument, AnswersWide, AnswersUncarried, RefusesNoScalar, Cursor, depth, Relations, Mark, IsLawful, StandsFit, CountsOpeners, IsBelow, Conducts, Passes, Enters, Steps, Leaves, MatchStep, CannotGoOn, OpensNot, SkipsNot, NullsNot, ReachesDepth, null_is_due, IsRefused, IsInvalid, IsNoAnswer, failed_at, passed_to, in_structure, in_list, in_map};
 ghost use Rattle.smithy_schema.specs.declared.error.SerdeError.TheVariants.{TooDeep, NoMemory};
-ghost use Rattle.std.specs.Prelude.{OnErr, option_map};
 ghost use Rattle.smithy_schema.specs.Consuming.{reader, site_in, Consumes, IsTaken, by_member, by_element, by_key};
 ghost use Rattle.smithy_schema.specs.Sizes.{Sizes, TellsSize};
 ghost use Rattle.smithy_schema.specs.Elements.{ReadsList, items_of};
@@ -51,10 +49,9 @@ impl<'s> Step<'s> {
 
 /// A reader of one input, which a schema directs call by call.
 ///
-/// It has a stack of open containers. A value is due on a fresh reader, and after a step that gave a
-/// member, an unknown entry, an element or a map's key, until it is read, opened or skipped. Positions are byte
-/// offsets from 0. After an answered error a reader has failed: it stays where it is, and answers
-/// `Failed` from then on.
+/// It has a stack of open containers. A value is due on a fresh reader, and after a step that gave a member, an unknown entry, an
+/// element or a map's key, until it is read, opened or skipped. Positions are byte offsets from 0. After an answered error a reader has
+/// failed: it stays where it is, and answers `Failed` from then on.
 pub trait ShapeDeserializer {
     ghost Settings: { Type 0 };
 
@@ -90,8 +87,7 @@ pub trait ShapeDeserializer {
         ensures same { settings self.new ≡ settings self.old }
         ensures fails { state self.new ≡ failed_at (state self.old) };
 
-    /// Enters the structure or the union that is due. Where one begins here, it is `TooDeep` exactly at the
-    /// greatest depth.
+    /// Enters the structure or the union that is due. Where one begins here, it is `TooDeep` exactly at the greatest depth.
     fn open_struct(&mut self, schema: &Schema<'_>) -> Result<(), SerdeError>
         requires place { HasMembers (kind_at (site_of schema.now)) }
         ensures same { settings self.new ≡ settings self.old }

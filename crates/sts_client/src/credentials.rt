@@ -8,7 +8,7 @@ ghost use Rattle.sts_client.specs.Shapes.{credentials_targets, credentials_field
 
 use smithy_schema::{
     Schema, SerdeError, ShapeDeserializer, ShapeSerializer, StructConsumer, WriteFields,
-    WriteMember, write_field, write_structure,
+    WriteMember, read_field, write_field, write_structure,
 };
 use smithy_types::DateTime;
 
@@ -43,19 +43,15 @@ impl StructConsumer for Credentials {
         };
         let position = schema.member_index();
         if position == Some(0) {
-            self.access_key_id = Some(source.read_string(schema)?);
-            return Ok(());
+            return read_field(source, schema, &mut self.access_key_id);
         }
         if position == Some(1) {
-            self.secret_access_key = Some(source.read_string(schema)?);
-            return Ok(());
+            return read_field(source, schema, &mut self.secret_access_key);
         }
         if position == Some(2) {
-            self.session_token = Some(source.read_string(schema)?);
-            return Ok(());
+            return read_field(source, schema, &mut self.session_token);
         }
-        self.expiration = Some(source.read_timestamp(schema)?);
-        Ok(())
+        read_field(source, schema, &mut self.expiration)
     }
 }
 

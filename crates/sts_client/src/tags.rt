@@ -8,7 +8,7 @@ ghost use Rattle.sts_client.specs.Shapes.{IsTag, AreTags, tag_values};
 
 use smithy_schema::{
     ListConsumer, Schema, SerdeError, ShapeDeserializer, ShapeSerializer, StructConsumer,
-    WriteFields, write_field,
+    WriteFields, read_field, write_field,
 };
 use std::alloc::Global;
 
@@ -38,11 +38,9 @@ impl StructConsumer for Tag {
             return Ok(());
         };
         if schema.member_index() == Some(0) {
-            self.key = Some(source.read_string(schema)?);
-            return Ok(());
+            return read_field(source, schema, &mut self.key);
         }
-        self.value = Some(source.read_string(schema)?);
-        Ok(())
+        read_field(source, schema, &mut self.value)
     }
 }
 

@@ -1,10 +1,10 @@
-use Rattle.std.proofs.Common.{◌≡◌, ◌≢◌, arith, rules, refl, Some, string_bytes}
-use Rattle.std.proofs.lemmas.Result.{err_from_is_err_and}
+use Rattle.std.proofs.Common.{◌≡◌, ◌≢◌, arith, rules, refl, sym, Some, string_bytes}
 use Rattle.smithy_shapes.specs.declared.shape_type.Scalar.TheVariants as scalars
 use Rattle.smithy_shapes.specs.Site.{site_of}
 use Rattle.smithy_shapes.specs.Value.{text, instant}
 use Rattle.smithy_schema.specs.Fields.{passed}
-use Rattle.smithy_schema.proofs.ReadFields.{took_scalar, broke_scalar}
+use Rattle.smithy_shapes.specs.Lemmas.Options.{same_some}
+use Rattle.smithy_schema.proofs.ReadFields.{filled_field, target_of}
 use Rattle.sts_client.specs.Shapes.{credentials_targets, credentials_fields}
 use Rattle.sts_client.proofs.ShapeFacts.{fourth}
 use Rattle.sts_client.proofs.credentials.CredentialsStructConsumer.member.Goals as goal
@@ -12,68 +12,37 @@ use Rattle.sts_client.proofs.credentials.CredentialsStructConsumer.member.Goals 
 pub returns-in_default-clause-called : goal.returns-in_default-clause-called
 returns-in_default-clause-called g c = rw c.in_default.is passed
 
-pub returns-in_err-read_string-clause-called : goal.returns-in_err-read_string-clause-called
-returns-in_err-read_string-clause-called g c =
-    let p = err_from_is_err_and c.from_residual.result c.from_residual.ensures.1 in
-    let site = site_of c.in-Some.schema.now in
-    let allowed = rw c.in-Some.is at c.requires.allowed in
-    let index : site.view.index ≡ Some 0 = search rules in
-    rw (p.1, p.2, c.in-Some.is) (broke_scalar credentials_fields credentials_targets scalars.String (λ s. text (string_bytes s)) _ site _ _ _ _ 0 _ allowed index refl c.in_err-read_string.ensures.read)
-
 pub returns-then-eq-clause-called : goal.returns-then-eq-clause-called
 returns-then-eq-clause-called g c =
     let site = site_of c.in-Some.schema.now in
     let allowed = rw c.in-Some.is at c.requires.allowed in
     let index : site.view.index ≡ Some 0 = search rules in
-    rw c.in-Some.is (took_scalar credentials_fields credentials_targets scalars.String (λ s. text (string_bytes s)) _ site _ _ _ _ 0 c.in_ok-read_string.field-0 allowed index refl (omega arith) refl c.in_ok-read_string.ensures.read)
-
-pub returns-in_err-read_string-2-clause-called : goal.returns-in_err-read_string-2-clause-called
-returns-in_err-read_string-2-clause-called g c =
-    let p = err_from_is_err_and c.from_residual-in_err-read_string-2.result c.from_residual-in_err-read_string-2.ensures.1 in
-    let site = site_of c.in-Some.schema.now in
-    let allowed = rw c.in-Some.is at c.requires.allowed in
-    let index : site.view.index ≡ Some 1 = search rules in
-    rw (p.1, p.2, c.in-Some.is) (broke_scalar credentials_fields credentials_targets scalars.String (λ s. text (string_bytes s)) _ site _ _ _ _ 1 _ allowed index refl c.in_err-read_string-2.ensures.read)
+    let target = sym (same_some _ _ (target_of credentials_targets site allowed 0 index)) in
+    rw c.in-Some.is (filled_field credentials_fields scalars.String (λ s. text (string_bytes s)) _ site (λ f. record c.args.self.now { access_key_id = f }) _ _ _ _ 0 _ index target (omega arith) (λ x. refl) c.read_field.ensures.fills)
 
 pub returns-then-eq-2-clause-called : goal.returns-then-eq-2-clause-called
 returns-then-eq-2-clause-called g c =
     let site = site_of c.in-Some.schema.now in
     let allowed = rw c.in-Some.is at c.requires.allowed in
     let index : site.view.index ≡ Some 1 = search rules in
-    rw c.in-Some.is (took_scalar credentials_fields credentials_targets scalars.String (λ s. text (string_bytes s)) _ site _ _ _ _ 1 c.in_ok-read_string-2.field-0 allowed index refl (omega arith) refl c.in_ok-read_string-2.ensures.read)
-
-pub returns-in_err-read_string-3-clause-called : goal.returns-in_err-read_string-3-clause-called
-returns-in_err-read_string-3-clause-called g c =
-    let p = err_from_is_err_and c.from_residual-in_err-read_string-3.result c.from_residual-in_err-read_string-3.ensures.1 in
-    let site = site_of c.in-Some.schema.now in
-    let allowed = rw c.in-Some.is at c.requires.allowed in
-    let index : site.view.index ≡ Some 2 = search rules in
-    rw (p.1, p.2, c.in-Some.is) (broke_scalar credentials_fields credentials_targets scalars.String (λ s. text (string_bytes s)) _ site _ _ _ _ 2 _ allowed index refl c.in_err-read_string-3.ensures.read)
+    let target = sym (same_some _ _ (target_of credentials_targets site allowed 1 index)) in
+    rw c.in-Some.is (filled_field credentials_fields scalars.String (λ s. text (string_bytes s)) _ site (λ f. record c.args.self.now { secret_access_key = f }) _ _ _ _ 1 _ index target (omega arith) (λ x. refl) c.read_field-then-eq-2.ensures.fills)
 
 pub returns-then-eq-3-clause-called : goal.returns-then-eq-3-clause-called
 returns-then-eq-3-clause-called g c =
     let site = site_of c.in-Some.schema.now in
     let allowed = rw c.in-Some.is at c.requires.allowed in
     let index : site.view.index ≡ Some 2 = search rules in
-    rw c.in-Some.is (took_scalar credentials_fields credentials_targets scalars.String (λ s. text (string_bytes s)) _ site _ _ _ _ 2 c.in_ok-read_string-3.field-0 allowed index refl (omega arith) refl c.in_ok-read_string-3.ensures.read)
-
-pub returns-in_err-read_timestamp-clause-called : goal.returns-in_err-read_timestamp-clause-called
-returns-in_err-read_timestamp-clause-called g c =
-    let p = err_from_is_err_and c.from_residual-in_err-read_timestamp.result c.from_residual-in_err-read_timestamp.ensures.1 in
-    let site = site_of c.in-Some.schema.now in
-    let allowed = rw c.in-Some.is at c.requires.allowed in
-    let first : site.view.index ≢ Some 0 = search rules in
-    let second : site.view.index ≢ Some 1 = search rules in
-    let third : site.view.index ≢ Some 2 = search rules in
-    let index = fourth site allowed first second third in
-    rw (p.1, p.2, c.in-Some.is) (broke_scalar credentials_fields credentials_targets scalars.Timestamp instant _ site _ _ _ _ 3 _ allowed index refl c.in_err-read_timestamp.ensures.read)
+    let target = sym (same_some _ _ (target_of credentials_targets site allowed 2 index)) in
+    rw c.in-Some.is (filled_field credentials_fields scalars.String (λ s. text (string_bytes s)) _ site (λ f. record c.args.self.now { session_token = f }) _ _ _ _ 2 _ index target (omega arith) (λ x. refl) c.read_field-then-eq-3.ensures.fills)
 
 pub returns-clause-called : goal.returns-clause-called
 returns-clause-called g c =
     let site = site_of c.in-Some.schema.now in
     let allowed = rw c.in-Some.is at c.requires.allowed in
-    let first : site.view.index ≢ Some 0 = search rules in
-    let second : site.view.index ≢ Some 1 = search rules in
-    let third : site.view.index ≢ Some 2 = search rules in
-    let index = fourth site allowed first second third in
-    rw c.in-Some.is (took_scalar credentials_fields credentials_targets scalars.Timestamp instant _ site _ _ _ _ 3 c.in_ok-read_timestamp.field-0 allowed index refl (omega arith) refl c.in_ok-read_timestamp.ensures.read)
+    let not_0 : site.view.index ≢ Some 0 = search rules in
+    let not_1 : site.view.index ≢ Some 1 = search rules in
+    let not_2 : site.view.index ≢ Some 2 = search rules in
+    let index = fourth site allowed not_0 not_1 not_2 in
+    let target = sym (same_some _ _ (target_of credentials_targets site allowed 3 index)) in
+    rw c.in-Some.is (filled_field credentials_fields scalars.Timestamp instant _ site (λ f. record c.args.self.now { expiration = f }) _ _ _ _ 3 _ index target (omega arith) (λ x. refl) c.read_field-2.ensures.fills)

@@ -1,0 +1,5 @@
+mod HalfRead
+mod MapEntries
+mod Places
+mod Variants
+mod HalfWritten

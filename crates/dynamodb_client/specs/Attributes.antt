@@ -1,0 +1,88 @@
+-- The value of an attribute of DynamoDB, which holds others of its kind, and what a read of it says.
+use Rattle.std.specs.Prelude.{◌≡◌, false, ℕ, List, [], ◌∷◌, map as mapped, Some, Result, IfOk, String, string_bytes}
+use Rattle.std.specs.declared.alloc.Global.{Global}
+use Rattle.smithy_schema.specs.declared.error.SerdeError.{SerdeError}
+use Rattle.smithy_shapes.specs.declared.place.Target.{Target}
+use Rattle.smithy_shapes.specs.declared.place.Target.TheVariants.{Simple}
+use Rattle.smithy_shapes.specs.declared.shape_type.Scalar.TheVariants as scalars
+use Rattle.smithy_shapes.specs.Table.{Table, Member, MapShape, ListShape, kind_of_target, union_of, map_of, list_of}
+use Rattle.smithy_shapes.specs.Value.{Value, boolean, text, bytes, scalar_value, list, map, union, values_of, MapEntries, no_map_entries, map_entry}
+use Rattle.smithy_shapes.specs.Site.{Site, member_site}
+use Rattle.smithy_schema.specs.Reading.{Cursor, Relations, Reads, StandsNot, IsRefused}
+use Rattle.dynamodb_client.specs.declared.attribute_value.AttributeValue as kept
+use Rattle.dynamodb_client.specs.declared.attribute_value.AttributeValue.TheOpen.{AttributeValue-F}
+
+-- ---- the value that a type of the program stands for
+
+-- entries by the bytes of their names, in order
+abbrev pub map_entries_of : List (String Global × Value) → MapEntries
+map_entries_of [] = no_map_entries
+map_entries_of (e ∷ es) = map_entry (string_bytes e.0) e.1 (map_entries_of es)
+
+-- one level, with each value inside already seen as what it stands for: S, N, B, BOOL, NULL, M, L
+abbrev pub attribute_step : AttributeValue-F Value → Value
+attribute_step (AttributeValue-F.S s) = union 0 (scalar_value (text (string_bytes s)))
+attribute_step (AttributeValue-F.N s) = union 1 (scalar_value (text (string_bytes s)))
+attribute_step (AttributeValue-F.B b) = union 2 (scalar_value (bytes b))
+attribute_step (AttributeValue-F.Bool b) = union 3 (scalar_value (boolean b))
+attribute_step (AttributeValue-F.Null b) = union 4 (scalar_value (boolean b))
+attribute_step (AttributeValue-F.M m) = union 5 (map (map_entries_of m.entries))
+attribute_step (AttributeValue-F.L v) = union 6 (list (values_of v.items))
+
+abbrev pub attribute_value : kept.AttributeValue → Value
+attribute_value = kept.fold-AttributeValue Value attribute_step
+
+abbrev pub attribute_values : List kept.AttributeValue → List Value
+attribute_values vs = mapped attribute_value vs
+
+abbrev pub attribute_entries : List (String Global × kept.AttributeValue) → MapEntries
+attribute_entries es = map_entries_of (mapped (λ (e : String Global × kept.AttributeValue). (e.0, attribute_value e.1)) es)
+
+-- ---- where it stands
+
+-- what the members are: S, N, B, BOOL, NULL, M, L
+abbrev pub variant_targets : Target → Target → List Target
+variant_targets entries elements =
+    Simple scalars.String ∷ Simple scalars.String ∷ Simple scalars.Blob ∷ Simple scalars.Boolean ∷ Simple scalars.Boolean ∷ entries ∷ elements ∷ []
+
+-- A table has these three declarations: the union of an attribute's value, the map of it, and the list of it. None of them holds nulls.
+pub record AreAttributes (table : Table) (value entries elements : Target) : Type 0 where
+  pub members : List Member
+  pub is_union : kind_of_target table value ≡ union_of members
+  pub targets : mapped (λ (m : Member). m.place.target) members ≡ variant_targets entries elements
+  pub map_shape : MapShape
+  pub is_map : kind_of_target table entries ≡ map_of map_shape
+  pub in_map : map_shape.place.target ≡ value
+  pub dense_map : map_shape.is_sparse ≡ false
+  pub list_shape : ListShape
+  pub is_list : kind_of_target table elements ≡ list_of list_shape
+  pub in_list : list_shape.place.target ≡ value
+  pub dense_list : list_shape.is_sparse ≡ false
+
+-- an attribute's value stands there
+abbrev pub IsAttribute : Site → Type 0
+IsAttribute site = (entries : Target) × (elements : Target) × AreAttributes site.table site.place.target entries elements
+
+-- a map of such values stands there
+abbrev pub AreEntries : Site → Type 0
+AreEntries site = (value : Target) × (elements : Target) × AreAttributes site.table value site.place.target elements
+
+-- a list of such values stands there
+abbrev pub AreElements : Site → Type 0
+AreElements site = (value : Target) × (entries : Target) × AreAttributes site.table value entries site.place.target
+
+-- a member of an attribute's value stands there
+abbrev pub IsVariant : Site → Type 0
+IsVariant site = (outer : Site) × (n : ℕ) × IsAttribute outer × (member_site outer n ≡ Some site)
+
+-- ---- what a read says
+
+-- What stood at the site is what was read; and a fault comes only where no value of the place stands.
+pub record ReadsAs {A : Type 0} (w : Relations) (old new : Cursor) (site : Site) (view : A → Value) (result : Result A SerdeError) : Type 0 where
+  pub ok : IfOk result (λ x. Reads w old new site.table site.place (view x))
+  pub refused : IsRefused result → StandsNot w old site.table site.place
+
+-- the same of the member of an attribute's value: the value is the union of this member
+pub record ReadsVariant (w : Relations) (old new : Cursor) (member : Site) (result : Result kept.AttributeValue SerdeError) : Type 0 where
+  pub ok : IfOk result (λ x. (n : ℕ) × (v : Value) × (member.view.index ≡ Some n) × (attribute_value x ≡ union n v) × Reads w old new member.table member.place v)
+  pub refused : IsRefused result → StandsNot w old member.table member.place

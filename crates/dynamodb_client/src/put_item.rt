@@ -1,0 +1,106 @@
+//! What PutItem is given.
+ghost use Rattle.std.specs.Prelude.{◌≡◌, false, true, IfOk, OnErr};
+ghost use Rattle.smithy_shapes.specs.Site.{site_of};
+ghost use Rattle.smithy_schema.specs.Reading.{Reads, StandsNot, IsRefused};
+ghost use Rattle.smithy_schema.specs.Writing.{events};
+ghost use Rattle.smithy_schema.specs.Written.{Runs, outcome};
+ghost use Rattle.smithy_schema.specs.Fields.{structure_with};
+ghost use Rattle.dynamodb_client.specs.PutItem.{IsPutItem, put_item_fields};
+
+use crate::attribute_value::{AttributeValue, read_attributes};
+use crate::attribute_writing::{member_under, write_attributes};
+use smithy_schema::{
+    Schema, SerdeError, ShapeDeserializer, ShapeSerializer, StructConsumer, WriteFields, Written,
+    read_field, write_field,
+};
+use std::collections::BTreeMap;
+
+/// An item to keep in a table.
+#[derive(Drop)]
+pub struct PutItemInput {
+    /// The member `TableName`.
+    pub table_name: Option<String>,
+    /// The member `Item`.
+    pub item: Option<BTreeMap<String, AttributeValue>>,
+}
+
+impl StructConsumer for PutItemInput {
+    ghost use Rattle.smithy_schema.specs.Fields.{TakesField};
+    ghost use Rattle.dynamodb_client.specs.PutItem.{put_item_fields, IsPutItem};
+
+    ghost call = { TakesField put_item_fields };
+
+    ghost can_take = { λ _ outer. IsPutItem outer };
+
+    fn member<D: ShapeDeserializer>(
+        &mut self,
+        member: Option<&Schema<'_>>,
+        source: &mut D,
+    ) -> Result<(), SerdeError> {
+        let Some(schema) = member else {
+            return Ok(());
+        };
+        if schema.member_index() == Some(0) {
+            return read_field(source, schema, &mut self.table_name);
+        }
+        self.item = Some(read_attributes(source, schema)?);
+        Ok(())
+    }
+}
+
+impl WriteFields for PutItemInput {
+    ghost use Rattle.dynamodb_client.specs.PutItem.{put_item_fields};
+
+    ghost fields = { put_item_fields };
+
+    fn write_fields<S: ShapeSerializer>(
+        &self,
+        sink: &mut S,
+        shape: &Schema<'_>,
+    ) -> Result<(), SerdeError> {
+        write_field(sink, shape, 0, &self.table_name)?;
+        let Some(item) = &self.item else {
+            return Ok(());
+        };
+        write_attributes(sink, &member_under(shape, 1), item)
+    }
+}
+
+/// Reads the input that is due.
+pub fn read_put_item<D: ShapeDeserializer>(
+    schema: &Schema<'_>,
+    source: &mut D,
+) -> Result<PutItemInput, SerdeError>
+    requires place { IsPutItem (site_of schema.now) }
+    ensures same { D.settings source.new ≡ D.settings source.old }
+
+    // What stood there is the structure of these fields.
+    ensures ok { IfOk result (λ input. Reads (D.wire (D.settings source.old)) (D.state source.old) (D.state source.new) schema.now.shapes.now schema.now.place (structure_with (put_item_fields input))) }
+
+    // A fault comes only where no such structure stands.
+    ensures refused { IsRefused result → (D.state source.old).due ≡ true → StandsNot (D.wire (D.settings source.old)) (D.state source.old) schema.now.shapes.now schema.now.place }
+    ensures fails { OnErr result ((D.state source.new).failed ≡ true) }
+{
+    let mut input = PutItemInput {
+        table_name: None,
+        item: None,
+    };
+    source.read_struct(schema, &mut input)?;
+    Ok(input)
+}
+
+/// Writes the input.
+pub fn write_put_item<S: ShapeSerializer>(
+    sink: &mut S,
+    schema: &Schema<'_>,
+    input: &PutItemInput,
+) -> Result<(), SerdeError>
+    // The members that are there are written in the table's order; a fault is that of this very run of calls.
+    ensures { S.failed sink.old ≡ false → Runs S.after (events (site_of schema.now) (structure_with (put_item_fields input.now))) (S.state sink.old) (outcome result (S.state sink.new)) }
+{
+    let written = Written {
+        shape: *schema,
+        fields: input,
+    };
+    sink.write_struct(schema, &written)
+}
