@@ -1,5 +1,6 @@
 use Rattle.std.proofs.Common.{◌++◌, arith}
 use Rattle.std.proofs.lemmas.Grind.{common_steps}
+use Rattle.std.proofs.lemmas.Grind.{common_steps}
 use Rattle.smithy_outside.proofs.Moved.{gave_more}
 use Rattle.smithy_outside.proofs.streams.read_to_end.Goals as goal
 
@@ -20,3 +21,12 @@ returns-then-branch-eq0-clause-no_further g c =
       gave_more _ _ (told c.args.source.now) (told c.loop-buffer.source) (told c.read_piece.new.source) c.loop-buffer.invariant.gave piece.1,
       grind (arith, common_steps),
     )
+
+pub returns-then-branch-eq0-clause-within : goal.returns-then-branch-eq0-clause-within
+returns-then-branch-eq0-clause-within g c = grind (arith, common_steps)
+
+pub loop-buffer-smaller : goal.loop-buffer-smaller
+loop-buffer-smaller g c = grind (arith, common_steps)
+
+pub loop-buffer-preserved : goal.loop-buffer-preserved
+loop-buffer-preserved g c = grind (arith, common_steps)

@@ -1,4 +1,5 @@
-use Rattle.std.proofs.Common.{◌≡◌, ◌&&◌, List, map, true, ap, subst, sym}
+use Rattle.std.proofs.Common.{◌≡◌, ◌&&◌, List, map, true, ap, subst, sym, arith}
+use Rattle.std.proofs.lemmas.Grind.{common_steps}
 use Rattle.smithy_shapes.specs.Site.{site_of}
 use Rattle.smithy_schema.specs.Writing.{Open, after_value}
 use Rattle.smithy_wire.specs.OpenContainers.{opens_of}
@@ -17,3 +18,6 @@ returns-clause-ok c =
     leaf_written (state_of self) _ (state_of c.push_leaf.new.self) view c.args.text.now _ after_value _ _ _ _
     (ap (λ k. state_of (record self { containers = k })) begun) can c.in_ok-push_leaf.ensures.ok
     c.in_ok-pass_value.ensures.taken (ap (map mark_of) c.in_ok-pass_value.ensures.marks) (ap opens_of c.succeed.ensures) (ap marks_of c.succeed.ensures)
+
+pub push_leaf-requires : goal.push_leaf-requires
+push_leaf-requires c = grind (arith, common_steps)
