@@ -21,6 +21,8 @@ mod process;
 #[cfg(test)]
 mod readers;
 #[cfg(test)]
+mod requests;
+#[cfg(test)]
 mod sizes;
 #[cfg(test)]
 mod walk;

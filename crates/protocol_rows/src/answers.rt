@@ -15,6 +15,18 @@ pub fn push(
     Ok(answers.push(line)?)
 }
 
+/// Adds a line with a text, or `none`.
+pub fn push_text(
+    alloc: Global,
+    answers: &mut Vec<Field>,
+    text: Option<&str>,
+) -> Result<(), AllocError> {
+    match text {
+        Some(text) => push(alloc, answers, "value", text.as_bytes()),
+        None => push(alloc, answers, "none", b""),
+    }
+}
+
 /// Adds a line for each header, in order.
 pub fn push_headers(
     alloc: Global,

@@ -1,7 +1,8 @@
-//! Rows of requests, headers and metadata of errors (docs/ROWS.md).
+//! Rows of requests, error answers, headers and metadata of errors (docs/ROWS.md).
 #![tactic(auto)]
 
 mod answers;
+mod errors;
 mod input;
 mod parts;
 mod program;

@@ -1,27 +1,11 @@
 //! Rows of headers, of codes of errors, and of metadata.
 
-use crate::answers::{push, push_headers};
+use crate::answers::{push_headers, push_text};
+use crate::errors::split;
 use smithy_error_metadata::{Builder, ErrorMetadata};
 use smithy_protocol::{Headers, parse_query_compatible_header, sanitize_error_code};
 use smithy_rows::{Field, Row};
 use std::alloc::{AllocError, Global};
-
-// Adds a line with a text, or `none`.
-fn push_text(
-    alloc: Global,
-    answers: &mut Vec<Field>,
-    text: Option<&str>,
-) -> Result<(), AllocError> {
-    match text {
-        Some(text) => push(alloc, answers, "value", text.as_bytes()),
-        None => push(alloc, answers, "none", b""),
-    }
-}
-
-// The first word of a text, and what stands behind it.
-fn split(text: &str) -> (&str, &str) {
-    text.split_once(' ').unwrap_or((text, ""))
-}
 
 /// What headers are once those of the row are inserted, and what stands under those that it asks for.
 pub fn headers(alloc: Global, row: &Row) -> Result<Vec<Field>, AllocError> {

@@ -1,11 +1,11 @@
 //! The kinds of rows.
 
-use crate::{parts, requests};
+use crate::{errors, parts, requests};
 use smithy_rows::{Field, Program, Row, Rows};
 use smithy_schema::{Shapes, TableText};
 use std::alloc::{AllocError, Global};
 
-/// Requests, headers, codes of errors, and metadata.
+/// Requests, error answers, headers, codes of errors, and metadata.
 pub struct Requests;
 
 fn shapes_of(alloc: Global, rows: &Rows, row: &Row) -> Option<Shapes> {
@@ -28,6 +28,9 @@ impl Program for Requests {
                 Some(shapes) => requests::answers(alloc, &shapes, row, protocol),
                 None => Ok(Vec::new(alloc)),
             };
+        }
+        if let Some(protocol) = row.text("error") {
+            return errors::answers(alloc, row, protocol);
         }
         match row.text("call") {
             Some("headers") => parts::headers(alloc, row),

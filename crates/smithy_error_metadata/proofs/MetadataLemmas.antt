@@ -1,11 +1,11 @@
 -- Further values of an error's metadata, by their texts.
-use Rattle.std.proofs.Common.{◌≡◌, ℕ, List, [], ◌∷◌, Option, Some, option_map, cond, is_eq, String, Global, Ordering, Less, Equal, Greater, nat_cmp, string_bytes, string_cmp, refl, ap, ◌∙◌}
+use Rattle.std.proofs.Common.{◌≡◌, ℕ, List, [], ◌∷◌, Option, Some, option_map, ◌&&◌, string_eq, cond, is_eq, String, Global, Ordering, Less, Equal, Greater, nat_cmp, string_bytes, string_cmp, refl, ap, ◌∙◌}
 use Rattle.std.specs.BTreeMap.{insert_entry, is_at}
-use Rattle.std.specs.Cmp.Lexicographic.{slice_cmp}
+use Rattle.std.specs.Cmp.Lexicographic.{slice_cmp, pointwise}
 use Rattle.std.specs.List.{AllZip}
 use Rattle.std.specs.Map.{lookup}
 use Rattle.std.specs.Ordering.{match_ordering}
-use Rattle.smithy_error_metadata.specs.Metadata.{extra_under, texts_of, with_extra}
+use Rattle.smithy_error_metadata.specs.Metadata.{extra_under, texts_of, same_values, with_extra}
 
 abbrev Entry : Type 0
 Entry = String Global × String Global
@@ -37,3 +37,10 @@ cloned_texts [] [] all = refl
 cloned_texts [] (f ∷ fs) all = absurd all
 cloned_texts (e ∷ es) [] all = absurd all
 cloned_texts (e ∷ es) (f ∷ fs) all = rw (all.0.0, all.0.1, cloned_texts es fs all.1) refl
+
+-- names and values are equal where their texts are
+pub equal_texts : (es fs : List Entry) → pointwise (λ (p q : Entry). string_eq p.0 q.0 && string_eq p.1 q.1) es fs ≡ same_values (texts_of es) (texts_of fs)
+equal_texts [] [] = refl
+equal_texts [] (f ∷ fs) = refl
+equal_texts (e ∷ es) [] = refl
+equal_texts (e ∷ es) (f ∷ fs) = ap (λ c. (string_eq e.0 f.0 && string_eq e.1 f.1) && c) (equal_texts es fs)

@@ -1,2 +1,4 @@
 -- to be believed
 pub mod Metadata
+-- for laws
+pub mod Private

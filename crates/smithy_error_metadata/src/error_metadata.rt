@@ -1,6 +1,6 @@
 //! What an error answer says of its error.
 ghost use Rattle.std.specs.Prelude.{◌≡◌, IfOk, OnOk, option_map, string_bytes};
-ghost use Rattle.smithy_error_metadata.specs.Metadata.{Metadata, no_metadata, texts_of, extras_of, extra_under, with_extra};
+ghost use Rattle.smithy_error_metadata.specs.Metadata.{Metadata, no_metadata, texts_of, extras_of, extra_under, same_values, with_extra};
 
 use std::alloc::{AllocError, Global};
 use std::collections::BTreeMap;
@@ -75,6 +75,45 @@ impl Default for ErrorMetadata {
     }
 }
 
+// The same further values.
+fn same_values(a: &Option<BTreeMap<String, String>>, b: &Option<BTreeMap<String, String>>) -> bool
+    ensures { result ≡ same_values (extras_of a.now) (extras_of b.now) }
+{
+    let Some(a) = a else {
+        let Some(b) = b else {
+            return true;
+        };
+        return b.is_empty();
+    };
+    let Some(b) = b else {
+        return a.is_empty();
+    };
+    a == b
+}
+
+/// The same code, the same message, and the same values under the same names.
+impl PartialEq for ErrorMetadata {
+    ghost use Rattle.std.specs.Cmp.{partial_equiv_from_equiv};
+    ghost use Rattle.smithy_error_metadata.specs.Private.Equal.{metadata_equiv};
+    ghost use Rattle.smithy_error_metadata.specs.Metadata.{same_metadata};
+
+    ghost eq = { same_metadata };
+
+    ghost laws = { partial_equiv_from_equiv metadata_equiv };
+
+    fn eq(&self, other: &ErrorMetadata) -> bool {
+        self.code == other.code
+            && self.message == other.message
+            && same_values(&self.extras, &other.extras)
+    }
+}
+
+impl Eq for ErrorMetadata {
+    ghost use Rattle.smithy_error_metadata.specs.Private.Equal.{metadata_equiv};
+
+    ghost laws = { metadata_equiv };
+}
+
 impl ErrorMetadata {
     ghost use Rattle.std.specs.Prelude.{◌≡◌, IfOk, option_map};
     ghost use Rattle.smithy_error_metadata.specs.Metadata.{no_metadata, extra_under};
@@ -99,14 +138,10 @@ impl ErrorMetadata {
     pub fn clone_in(&self, alloc: Global) -> Result<ErrorMetadata, AllocError>
         ensures { IfOk result (λ m. m ≡ self.now) }
     {
-        let extras = match &self.extras {
-            Some(extras) => Some(copy_of_extras(extras)?),
-            None => None,
-        };
         Ok(ErrorMetadata {
             code: copy_of(alloc, &self.code)?,
             message: copy_of(alloc, &self.message)?,
-            extras,
+            extras: copy_of_extras(&self.extras)?,
         })
     }
 
@@ -128,10 +163,7 @@ impl ErrorMetadata {
     pub fn extra(&self, key: &str) -> Option<&str>
         ensures { option_map (λ text. text.now) result ≡ extra_under key.now self.now.extras }
     {
-        match &self.extras {
-            Some(extras) => extra_in(extras, key),
-            None => None,
-        }
+        extra_in(self.extras.as_ref()?, key)
     }
 }
 
@@ -144,20 +176,22 @@ fn copy_of(alloc: Global, text: &Option<String>) -> Result<Option<String>, Alloc
     }
 }
 
-// A copy, with the same allocator.
-fn copy_of_extras(extras: &BTreeMap<String, String>) -> Result<BTreeMap<String, String>, AllocError>
-    ensures { IfOk result (λ m. texts_of m.entries ≡ texts_of extras.now.entries) }
+// A copy of the values that there are, with the same allocator.
+fn copy_of_extras(
+    extras: &Option<BTreeMap<String, String>>,
+) -> Result<Option<BTreeMap<String, String>>, AllocError>
+    ensures { IfOk result (λ m. extras_of m ≡ extras_of extras.now) }
 {
-    Ok(extras.clone()?)
+    let Some(extras) = extras else {
+        return Ok(None);
+    };
+    Ok(Some(extras.clone()?))
 }
 
 fn extra_in<'a>(extras: &'a BTreeMap<String, String>, key: &str) -> Option<&'a str>
     ensures { option_map (λ text. text.now) result ≡ extra_under key.now (texts_of extras.now.entries) }
 {
-    match extras.get(key) {
-        Some(value) => Some(value),
-        None => None,
-    }
+    Some(extras.get(key)?)
 }
 
 // The values that there are, in a map to which more may come.

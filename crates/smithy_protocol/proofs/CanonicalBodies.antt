@@ -17,7 +17,10 @@ use Rattle.smithy_cbor_codec.specs.Canonical.{canonical_cbor, cbor_holds}
 use Rattle.smithy_cbor_codec.specs.Codec.{strict_settings as strict_cbor}
 use Rattle.smithy_cbor_codec.specs.Writing.{CborState, cbor_after, fresh_state as fresh_cbor}
 use Rattle.smithy_cbor_codec.proofs.WritingLemmas.{value_adds as cbor_value_adds}
-use Rattle.smithy_protocol.specs.Bodies.{HandsOut, WritesMembers, IsJsonBody, IsCborBody}
+use Rattle.smithy_query_codec.specs.Canonical.{canonical_query}
+use Rattle.smithy_query_codec.specs.Writing.{QueryState, query_after, fresh_state as fresh_query}
+use Rattle.smithy_query_codec.proofs.WholeForms.{whole_state, fit_is_written}
+use Rattle.smithy_protocol.specs.Bodies.{HandsOut, WritesMembers, IsJsonBody, IsCborBody, IsQueryBody}
 
 ran_to : {S : Type 0} (after : Writer S) (events : List Event) (s t : S) → Runs after events s (Ok t) → run after events s ≡ Ok t
 ran_to after events s t (ran is) = is
@@ -68,3 +71,11 @@ pub cbor_bodies : {V : Type 0} (adds : Adds V) (site : Site) (value : V) (s : Cb
 cbor_bodies adds site value s (Ok body) fresh hands =
     λ ms writes held. cbor_canonical adds site value ms body.items (subst (λ t. HandsOut cbor_after (λ u. u.out) adds site value t (Ok body.items)) fresh hands) writes held
 cbor_bodies adds site value s (Err e) fresh hands = tt
+
+pub query_canonical : {V : Type 0} (adds : Adds V) (site : Site) (value : V) (action version body : List ℕ)
+    → HandsOut query_after (λ s. s.out) adds site value (fresh_query action version) (Ok body) → IsQueryBody adds site value action version body
+query_canonical adds site value action version body hands = λ ms writes nameless accepted fits short can.
+    sym hands.2
+    ∙ same_text (λ (s : QueryState). s.out) (write query_after site (structure ms) (fresh_query action version)) hands.0 (whole_state (canonical_query action version site (structure ms)))
+    (whole_run query_after site ms (adds QueryState query_after value) (fresh_query action version) hands.0 writes hands.1)
+    (fit_is_written site.table accepted site.place site.view ms fits short action version nameless can)

@@ -1,6 +1,8 @@
 -- What a serializer hands out once one structure is written.
 use Rattle.std.specs.Prelude.{◌≡◌, ℕ, List, Result, Ok, Err, None, true, false}
 use Rattle.smithy_schema.specs.declared.error.SerdeError.{SerdeError}
+use Rattle.smithy_shapes.specs.Accepted.{IsAccepted}
+use Rattle.smithy_shapes.specs.Fits.{Fits}
 use Rattle.smithy_shapes.specs.Site.{Site}
 use Rattle.smithy_shapes.specs.Value.{MemberValues, structure}
 use Rattle.smithy_shapes.specs.ScalarTest.{scalars_pass}
@@ -11,6 +13,10 @@ use Rattle.smithy_json_codec.specs.Codec.{strict_settings}
 use Rattle.smithy_json_codec.specs.Writing.{json_after}
 use Rattle.smithy_cbor_codec.specs.Canonical.{canonical_cbor, cbor_holds}
 use Rattle.smithy_cbor_codec.specs.Writing.{cbor_after}
+use Rattle.smithy_query_codec.specs.Canonical.{canonical_query}
+use Rattle.smithy_query_codec.specs.Counts.{HasPositions}
+use Rattle.smithy_query_codec.specs.Writable.{can_be_written}
+use Rattle.smithy_query_codec.specs.Writing.{query_after}
 
 -- From this state on the structure begins, its members are written, and it ends: what is then handed out, or the error of the first
 -- of these calls that is refused.
@@ -33,3 +39,11 @@ abbrev pub IsCborBody : {V : Type 0} → Adds V → Site → V → List ℕ → 
 IsCborBody adds site value body =
     (ms : MemberValues) → WritesMembers cbor_after adds site value ms → scalars_pass cbor_holds site (structure ms) ≡ true
     → body ≡ canonical_cbor site (structure ms)
+
+-- The body is the one form of the structure that the value writes, for a place without a name in an accepted table where the structure
+-- fits and a form can express it.
+abbrev pub IsQueryBody : {V : Type 0} → Adds V → Site → V → List ℕ → List ℕ → List ℕ → Type 0
+IsQueryBody adds site value action version body =
+    (ms : MemberValues) → WritesMembers query_after adds site value ms → site.view.name ≡ None → IsAccepted site.table
+    → Fits site.table site.place (structure ms) → HasPositions (structure ms) → can_be_written site (structure ms) ≡ true
+    → body ≡ canonical_query action version site (structure ms)

@@ -4,3 +4,4 @@ pub mod Headers
 pub mod Messages
 pub mod Protocols
 pub mod Bodies
+pub mod ErrorAnswers

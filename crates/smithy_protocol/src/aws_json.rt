@@ -7,12 +7,17 @@ ghost use Rattle.smithy_json_codec.specs.Cursor.{cursor_of, reading_settings_of}
 ghost use Rattle.smithy_json_codec.specs.Writing.{fresh_state, json_after};
 ghost use Rattle.smithy_wire.specs.Walking.{fresh_cursor};
 ghost use Rattle.smithy_protocol.specs.Bodies.{HandsOut, IsJsonBody};
+ghost use Rattle.smithy_error_bodies.specs.JsonErrors.{JsonSays};
+ghost use Rattle.smithy_protocol.specs.ErrorAnswers.{json_metadata, SaysMetadata, IsRefusedAnswer};
 ghost use Rattle.smithy_protocol.specs.Messages.{json_request, message_of};
 ghost use Rattle.smithy_protocol.specs.Protocols.{content_type, protocol_name};
 
 use crate::body::written_body;
+use crate::error_answer::{error_builder, refused};
 use crate::head::{post, target};
 use crate::message::{ProtocolConfig, Request, Response};
+use smithy_error_bodies::{ErrorBody, read_json_error};
+use smithy_error_metadata::Builder;
 use smithy_json_codec::{JsonCodec, JsonDeserializer};
 use smithy_schema::{Schema, SerdeError, SerializableStruct};
 use std::alloc::Global;
@@ -150,5 +155,28 @@ impl AwsJsonRpcProtocol {
         ensures fresh { cursor_of result ≡ fresh_cursor response.now.body.items }
     {
         JsonCodec::strict(false).create_deserializer(alloc, &response.body)
+    }
+    /// What an error answer says. The code is that of the header `x-amzn-errortype`, else the one that the body has under `code`, else
+    /// under `__type`, without its namespace and address; the message is that of the body. A header `x-amzn-query-error` with a `;`
+    /// counts over the code, and its second part is the value `type` beside them. An error is want of memory, or `InvalidInput`, as
+    /// `read_json_error` of smithy_error_bodies says of the body.
+    pub fn parse_error_metadata(
+        &self,
+        alloc: Global,
+        response: &Response,
+    ) -> Result<Builder, SerdeError>
+        ensures said { IfOk result (λ b. SaysMetadata JsonSays (json_metadata response.now.headers) response.now.body.items b.metadata) }
+        ensures refused { IfErr result (IsRefusedAnswer JsonSays response.now.body.items) }
+    {
+        let body = match read_json_error(alloc, &response.body) {
+            Ok(body) => body,
+            Err(fault) => return Err(refused(fault)),
+        };
+        let ErrorBody { code, message } = body;
+        let headers = &response.headers;
+        let Some(named) = headers.get("x-amzn-errortype") else {
+            return Ok(error_builder(alloc, headers, code.as_deref(), message)?);
+        };
+        Ok(error_builder(alloc, headers, Some(named), message)?)
     }
 }

@@ -4,7 +4,7 @@ ghost use Rattle.smithy_schema.specs.declared.error.SerdeError.{SerdeError};
 ghost use Rattle.smithy_schema.specs.declared.error.SerdeError.TheVariants.{NoMemory};
 ghost use Rattle.smithy_shapes.specs.Site.{site_of};
 ghost use Rattle.smithy_query_codec.specs.Writing.{fresh_state, query_after};
-ghost use Rattle.smithy_protocol.specs.Bodies.{HandsOut};
+ghost use Rattle.smithy_protocol.specs.Bodies.{HandsOut, IsQueryBody};
 ghost use Rattle.smithy_protocol.specs.Messages.{form_names, query_request, message_of};
 ghost use Rattle.smithy_protocol.specs.declared.aws_query.QueryRequestError.TheVariants as TheVariants;
 
@@ -53,6 +53,7 @@ fn form_request<V: SerializableStruct>(
 ) -> Result<Request, SerdeError>
     ensures head { IfOk result (λ r. message_of r ≡ query_request r.body.items) }
     ensures body { IfOk result (λ r. HandsOut query_after (λ s. s.out) V.adds (site_of input_schema.now) input.now (fresh_state action.now version.now) (Ok r.body.items)) }
+    ensures canonical { IfOk result (λ r. IsQueryBody V.adds (site_of input_schema.now) input.now action.now version.now r.body.items) }
     ensures refused { IfErr result (λ e. (e ≡ NoMemory) ⊎ HandsOut query_after (λ s. s.out) V.adds (site_of input_schema.now) input.now (fresh_state action.now version.now) (Err e)) }
 {
     let sink = QueryShapeSerializer::new(alloc, action, version)?;
@@ -101,6 +102,7 @@ impl AwsQueryProtocol {
         ensures missing { IsErrOf result TheVariants.Missing ↔ (form_names self.now config.now ≡ None) }
         ensures head { IfOk result (λ r. message_of r ≡ query_request r.body.items) }
         ensures body { IfOk result (λ r. IfSome (form_names self.now config.now) (λ n. HandsOut query_after (λ s. s.out) V.adds (site_of input_schema.now) input.now (fresh_state n.0 n.1) (Ok r.body.items))) }
+        ensures canonical { IfOk result (λ r. IfSome (form_names self.now config.now) (λ n. IsQueryBody V.adds (site_of input_schema.now) input.now n.0 n.1 r.body.items)) }
         ensures refused { (cause : SerdeError) → IsErrOf result (TheVariants.Serializer cause) → IfSome (form_names self.now config.now) (λ n. (cause ≡ NoMemory) ⊎ HandsOut query_after (λ s. s.out) V.adds (site_of input_schema.now) input.now (fresh_state n.0 n.1) (Err cause)) }
     {
         let Some(action) = config.operation.as_deref() else {

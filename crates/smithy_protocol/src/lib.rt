@@ -4,6 +4,7 @@
 mod aws_json;
 mod aws_query;
 mod body;
+mod error_answer;
 mod error_code;
 mod head;
 mod headers;

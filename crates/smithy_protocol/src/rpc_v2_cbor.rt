@@ -7,12 +7,17 @@ ghost use Rattle.smithy_cbor_codec.specs.Cursor.{cursor_of, reading_settings_of}
 ghost use Rattle.smithy_cbor_codec.specs.Writing.{fresh_state, cbor_after};
 ghost use Rattle.smithy_wire.specs.Walking.{fresh_cursor};
 ghost use Rattle.smithy_protocol.specs.Bodies.{HandsOut, IsCborBody};
+ghost use Rattle.smithy_error_bodies.specs.CborErrors.{CborSays};
+ghost use Rattle.smithy_protocol.specs.ErrorAnswers.{cbor_metadata, SaysMetadata, IsRefusedAnswer};
 ghost use Rattle.smithy_protocol.specs.Messages.{cbor_request, message_of};
 
 use crate::body::written_body;
+use crate::error_answer::{error_builder, refused};
 use crate::head::{operation_uri, post};
 use crate::message::{ProtocolConfig, Request, Response};
 use smithy_cbor_codec::{CborCodec, CborDeserializer};
+use smithy_error_bodies::{ErrorBody, read_cbor_error};
+use smithy_error_metadata::Builder;
 use smithy_schema::{Schema, SerdeError, SerializableStruct};
 use std::alloc::Global;
 
@@ -84,5 +89,23 @@ impl RpcV2CborProtocol {
         ensures fresh { cursor_of result ≡ fresh_cursor response.now.body.items }
     {
         CborCodec::strict().create_deserializer(alloc, &response.body)
+    }
+    /// What an error answer says: the code that the body has under `__type`, without its namespace and address, and its message. A
+    /// header `x-amzn-query-error` with a `;` counts over the code, and its second part is the value `type` beside them. An error is
+    /// want of memory, or `InvalidInput`, as `read_cbor_error` of smithy_error_bodies says of the body.
+    pub fn parse_error_metadata(
+        &self,
+        alloc: Global,
+        response: &Response,
+    ) -> Result<Builder, SerdeError>
+        ensures said { IfOk result (λ b. SaysMetadata CborSays (cbor_metadata response.now.headers) response.now.body.items b.metadata) }
+        ensures refused { IfErr result (IsRefusedAnswer CborSays response.now.body.items) }
+    {
+        let body = match read_cbor_error(alloc, &response.body) {
+            Ok(body) => body,
+            Err(fault) => return Err(refused(fault)),
+        };
+        let ErrorBody { code, message } = body;
+        Ok(error_builder(alloc, &response.headers, code.as_deref(), message)?)
     }
 }

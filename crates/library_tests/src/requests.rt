@@ -1,0 +1,88 @@
+//! A request of a client, and the error that a service answers, as README shows them.
+ghost use Rattle.smithy_shapes.specs.Site.{site_of};
+
+use smithy_error_metadata::ErrorMetadata;
+use smithy_protocol::{AwsJsonRpcProtocol, Headers, ProtocolConfig, Request, Response};
+use smithy_schema::{Schema, SerdeError, SerializableStruct, ShapeSerializer, Shapes, TableText};
+use std::alloc::Global;
+use std::test::Fail;
+
+// A structure with the name of a table as its one member.
+#[derive(Clone, Copy)]
+struct PutItem<'s> {
+    shape: Schema<'s>,
+    table_name: &'s str,
+}
+
+impl<'s> SerializableStruct for PutItem<'s> {
+    ghost site = { λ input. site_of input.shape };
+
+    // The test tells what it adds.
+    ghost adds = { λ _ _ _ _ _. Unit {0} };
+
+    fn schema(&self) -> Schema<'_> {
+        self.shape
+    }
+
+    fn serialize_members<S: ShapeSerializer>(&self, sink: &mut S) -> Result<(), SerdeError> {
+        match self.shape.member_schema("TableName") {
+            Some(member) => sink.write_string(&member, self.table_name),
+            None => Ok(()),
+        }
+    }
+}
+
+// The request of PutItem of Amazon DynamoDB.
+fn put_item<V: SerializableStruct>(
+    alloc: Global,
+    input: &V,
+    schema: &Schema<'_>,
+) -> Result<Request, Fail> {
+    let config = ProtocolConfig {
+        operation: Some(String::from_str(alloc, "PutItem")?),
+        service_name: Some(String::from_str(alloc, "DynamoDB_20120810")?),
+        namespace: None,
+        version: None,
+    };
+    let protocol = AwsJsonRpcProtocol::aws_json_1_0();
+    Ok(protocol.serialize_request(alloc, input, schema, "", &config)?)
+}
+
+// Which error an answer is, and what it says.
+fn error_of(alloc: Global, body: &[u8]) -> Result<ErrorMetadata, Fail> {
+    let response = Response {
+        status: 400,
+        headers: Headers::new(alloc),
+        body: Vec::from_slice(alloc, body)?,
+    };
+    let protocol = AwsJsonRpcProtocol::aws_json_1_0();
+    Ok(protocol.parse_error_metadata(alloc, &response)?.build())
+}
+
+#[test]
+fn a_request_is_made(rt: HostRuntime) -> Result<(), Fail> {
+    let alloc = rt.alloc();
+    let table = TableText::read(alloc, b"structure S\nmember TableName string\n")?;
+    let shapes = Shapes::build(alloc, table)?;
+    let shape = shapes.schema(shapes.find("S").ok_or("no such shape")?);
+    let input = PutItem {
+        shape,
+        table_name: "Books",
+    };
+    let request = put_item(alloc, &input, &shape)?;
+    assert!(rt; request.headers.get("x-amz-target") == Some("DynamoDB_20120810.PutItem"));
+    assert!(rt; request.body.as_slice() == b"{\"TableName\":\"Books\"}".as_slice());
+    Ok(())
+}
+
+#[test]
+fn an_error_is_read(rt: HostRuntime) -> Result<(), Fail> {
+    let alloc = rt.alloc();
+    let body =
+        b"{\"__type\":\"com.amazonaws.dynamodb.v20120810#ResourceNotFoundException\",\"message\":\"..\"}";
+    let metadata = error_of(alloc, body)?;
+    assert!(rt; metadata.code() == Some("ResourceNotFoundException"));
+    assert!(rt; metadata.message() == Some(".."));
+    assert!(rt; metadata == metadata.clone_in(alloc)?);
+    Ok(())
+}

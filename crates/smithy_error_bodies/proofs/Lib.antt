@@ -1,0 +1,4 @@
+mod JsonTelling
+mod JsonShapes
+mod JsonObjects
+mod CborLemmas

@@ -1,0 +1,3 @@
+pub mod JsonKeys
+pub mod JsonSteps
+pub mod CborSteps
