@@ -10,8 +10,12 @@ pub returns-in-Err : goal.returns-in-Err
 returns-in-Err g c = (
   c.in-Err.status,
   c.code.ensures,
-  inl (c.in-Err.ensures.refused, refl, c.report.ensures (unloaded_before (g.F.Files.told c.args.files.now c.args.task.model.now) (g.F.Files.told c.load_model.new.files c.args.task.model.now)
-  c.in-Err.status c.in-Err.ensures.refused)),
+  inl (
+    c.in-Err.ensures.refused,
+    refl,
+    c.report.ensures (unloaded_before (g.F.Files.told c.args.files.now c.args.task.model.now) (g.F.Files.told c.load_model.new.files c.args.task.model.now)
+        c.in-Err.status c.in-Err.ensures.refused),
+  ),
 )
 
 pub returns : goal.returns
@@ -28,6 +32,6 @@ returns g c =
         c.in-Ok.text.items,
         c.in-Ok.ensures.loaded,
         reported c.in-Ok.text.items task (told c.args.out.now) (told c.status_of-status.new.out) status (err c.args.err.now) (err c.status_of-status.new.err)
-        (λ (before : Shown). TookLine (line_of status) before (err c.report-2.new.err) (g.E.Sink.holds_back c.report-2.new.err)) says c.report-2.ensures,
+            (λ (before : Shown). TookLine (line_of status) before (err c.report-2.new.err) (g.E.Sink.holds_back c.report-2.new.err)) says c.report-2.ensures,
       ),
     )
