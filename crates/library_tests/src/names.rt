@@ -59,6 +59,7 @@ fn what_a_caller_states_prints_its_name(rt: HostRuntime) {
     let alloc = rt.alloc();
     let inexpressible = TranscodeError::Inexpressible(Unfit::Instant);
     assert!(rt; prints(alloc, inexpressible, "Inexpressible"));
+    assert!(rt; prints(alloc, SerdeError::TypeMismatch, "TypeMismatch"));
     assert!(rt; prints(alloc, Failed, "Failed"));
     assert!(rt; prints(alloc, LoadFault::Failed, "Failed"));
     assert!(rt; prints(alloc, LoadFault::TooLong, "TooLong"));

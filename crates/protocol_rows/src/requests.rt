@@ -6,9 +6,8 @@ use smithy_protocol::{
     AwsJsonRpcProtocol, AwsQueryProtocol, ProtocolConfig, Request, RpcV2CborProtocol,
 };
 use smithy_rows::{Field, Row};
-use smithy_schema::Shapes;
+use smithy_schema::{SerdeError, Shapes};
 use std::alloc::{AllocError, Global};
-use std::fmt::Display;
 
 fn text_in(alloc: Global, row: &Row, word: &str) -> Result<Option<String>, AllocError> {
     match row.text(word) {
@@ -27,10 +26,10 @@ fn config_of(alloc: Global, row: &Row) -> Result<ProtocolConfig, AllocError> {
 }
 
 // The lines of an identifier, and of a request or of why there is none.
-fn lines<E: Display + Drop>(
+fn lines(
     alloc: Global,
     id: &str,
-    answered: Result<Request, E>,
+    answered: Result<Request, SerdeError>,
 ) -> Result<Vec<Field>, AllocError> {
     let mut answers = Vec::new(alloc);
     push(alloc, &mut answers, "id", id.as_bytes())?;

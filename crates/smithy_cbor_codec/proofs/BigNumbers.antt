@@ -13,7 +13,7 @@ use Rattle.smithy_texts.proofs.WrittenNumerals.{fits_signed-wide, small_wide, sm
 use Rattle.smithy_shapes.specs.declared.shape_type.Scalar.{Scalar}
 use Rattle.smithy_shapes.specs.declared.shape_type.Scalar.TheVariants as scalars
 use Rattle.smithy_schema.specs.declared.error.SerdeError.{SerdeError}
-use Rattle.smithy_schema.specs.declared.error.SerdeError.TheVariants.{InvalidInput, TooDeep, TooWide, NotCarried, Unsupported, Unwritable, Failed, NoMemory}
+use Rattle.smithy_schema.specs.declared.error.SerdeError.TheVariants.{InvalidInput, TypeMismatch, TooDeep, TooWide, NotCarried, Unsupported, Unwritable, Missing, Failed, NoMemory}
 use Rattle.smithy_schema.specs.Reading.{IsInvalid}
 use Rattle.smithy_shapes.specs.Value.{whole, decimal, Value, scalar_value}
 use Rattle.cbor_item.specs.declared.error.ItemError.{ItemError}
@@ -186,11 +186,13 @@ decimal_leaves input at kind (inr (inr is)) h = let both : NoMemory ≡ TooWide 
 
 pub invalid_is : (A : Type 0) (e : SerdeError) → IsInvalid {A = A} (Err e) → e ≡ InvalidInput
 invalid_is A InvalidInput h = refl
+invalid_is A TypeMismatch h = absurd h
 invalid_is A TooDeep h = absurd h
 invalid_is A TooWide h = absurd h
 invalid_is A NotCarried h = absurd h
 invalid_is A Unsupported h = absurd h
 invalid_is A Unwritable h = absurd h
+invalid_is A Missing h = absurd h
 invalid_is A Failed h = absurd h
 invalid_is A NoMemory h = absurd h
 

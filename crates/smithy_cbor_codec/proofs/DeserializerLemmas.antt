@@ -4,7 +4,7 @@ use Rattle.std.specs.Prelude.{IsTrue}
 use Rattle.std.specs.Result.{OnOk}
 use Rattle.std.proofs.lemmas.Bool.Decides.{nat_tests}
 use Rattle.smithy_schema.specs.declared.error.SerdeError.{SerdeError}
-use Rattle.smithy_schema.specs.declared.error.SerdeError.TheVariants.{InvalidInput, Unsupported, Unwritable, Failed, NoMemory}
+use Rattle.smithy_schema.specs.declared.error.SerdeError.TheVariants.{InvalidInput, Failed, NoMemory}
 use Rattle.smithy_shapes.specs.declared.place.Place.{Place}
 use Rattle.smithy_shapes.specs.Table.{Table, kind_of, IsList, IsMap, IsStructure}
 use Rattle.smithy_schema.specs.Reading.{Cursor, Frame, depth, Mark, Enters, Steps, Leaves, Conducts, OpensNot, SkipsNot, CannotGoOn, IsFault, in_list, in_map}
@@ -161,8 +161,7 @@ pub goes_ahead : (A : Type 0) (old new : Cursor) (x : A) (at : ℕ) → old.fail
 goes_ahead A old new x at sound place input ahead within = record {
   failed = (λ h. let no : ◌≡◌ {A = Result A SerdeError} (Ok x) (Err Failed) = h in cc, λ h. absurd (let both : true ≡ false = sym h ∙ sound in cc));
   stays = tt;
-  readable = λ h. let no : ◌≡◌ {A = Result A SerdeError} (Ok x) (Err Unwritable) = h in cc;
-  supported = λ h. let no : ◌≡◌ {A = Result A SerdeError} (Ok x) (Err Unsupported) = h in cc;
+  reading = tt;
   ahead = rw place ahead;
   within = rw (place, input) within;
 }

@@ -1,7 +1,7 @@
 -- Where a structure or a union goes on to, as the contract of reading says it.
 use Rattle.std.proofs.Common.{◌≡◌, ℕ, List, ◌∷◌, Bool, Some, Option, Result, Ok, Err, refl, sym, ap, subst, ◌∙◌, false}
 use Rattle.smithy_schema.specs.declared.error.SerdeError.{SerdeError}
-use Rattle.smithy_schema.specs.declared.error.SerdeError.TheVariants.{InvalidInput, TooDeep, TooWide, NotCarried, Unsupported, Unwritable, Failed, NoMemory}
+use Rattle.smithy_schema.specs.declared.error.SerdeError.TheVariants.{InvalidInput, TypeMismatch, TooDeep, TooWide, NotCarried, Unsupported, Unwritable, Missing, Failed, NoMemory}
 use Rattle.smithy_shapes.specs.declared.place.Place.{Place}
 use Rattle.smithy_schema.specs.declared.read.Step.{Step}
 use Rattle.smithy_schema.specs.declared.read.Step.TheVariants.{Member as ToMember, Unknown, End}
@@ -86,10 +86,12 @@ stays_undue o c t p due h = subst (λ x. CannotGoOn (cbor_relations o) x t p) (u
 pub invalid_refused : {A : Type 0} (r : Result A SerdeError) → IsInvalid r → IsRefused r
 invalid_refused (Ok x) h = absurd h
 invalid_refused (Err InvalidInput) h = tt
+invalid_refused (Err TypeMismatch) h = absurd h
 invalid_refused (Err TooDeep) h = absurd h
 invalid_refused (Err TooWide) h = absurd h
 invalid_refused (Err NotCarried) h = absurd h
 invalid_refused (Err Unsupported) h = absurd h
 invalid_refused (Err Unwritable) h = absurd h
+invalid_refused (Err Missing) h = absurd h
 invalid_refused (Err Failed) h = absurd h
 invalid_refused (Err NoMemory) h = absurd h

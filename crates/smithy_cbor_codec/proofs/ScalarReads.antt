@@ -6,7 +6,7 @@ use Rattle.smithy_texts.specs.Ranges.{fits_signed}
 use Rattle.smithy_shapes.specs.declared.shape_type.Scalar.{Scalar}
 use Rattle.smithy_shapes.specs.declared.shape_type.Scalar.TheVariants as scalars
 use Rattle.smithy_schema.specs.declared.error.SerdeError.{SerdeError}
-use Rattle.smithy_schema.specs.declared.error.SerdeError.TheVariants.{InvalidInput, TooDeep, TooWide, NotCarried, Unsupported, Unwritable, Failed, NoMemory}
+use Rattle.smithy_schema.specs.declared.error.SerdeError.TheVariants.{InvalidInput, TypeMismatch, TooDeep, TooWide, NotCarried, Unsupported, Unwritable, Missing, Failed, NoMemory}
 use Rattle.smithy_shapes.specs.Table.{scalar_place}
 use Rattle.smithy_shapes.specs.Site.{Site}
 use Rattle.smithy_shapes.specs.Value.{ScalarValue, boolean, whole, text, bytes, instant, Value, scalar_value, null_element}
@@ -325,11 +325,13 @@ with_memory (Err e) (inr is) = inr (inl is)
 by_error : {A : Type 0} (found : Result A SerdeError) (Q : Type 0) → IfErr found (λ e. e ≡ InvalidInput → Q) → IsInvalid found → Q
 by_error (Ok x) Q h invalid = absurd invalid
 by_error (Err InvalidInput) Q h invalid = h refl
+by_error (Err TypeMismatch) Q h invalid = absurd invalid
 by_error (Err TooDeep) Q h invalid = absurd invalid
 by_error (Err TooWide) Q h invalid = absurd invalid
 by_error (Err NotCarried) Q h invalid = absurd invalid
 by_error (Err Unsupported) Q h invalid = absurd invalid
 by_error (Err Unwritable) Q h invalid = absurd invalid
+by_error (Err Missing) Q h invalid = absurd invalid
 by_error (Err Failed) Q h invalid = absurd invalid
 by_error (Err NoMemory) Q h invalid = absurd invalid
 

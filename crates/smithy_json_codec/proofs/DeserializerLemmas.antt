@@ -4,10 +4,10 @@ use Rattle.std.proofs.lemmas.Bool.Decides.{nat_tests}
 use Rattle.std.specs.Prelude.{nat_le}
 use Rattle.std.specs.Result.{IsErrOf, IsOk, IfOk}
 use Rattle.smithy_schema.specs.declared.error.SerdeError.{SerdeError}
-use Rattle.smithy_schema.specs.declared.error.SerdeError.TheVariants.{InvalidInput, Unsupported, Unwritable, Failed, NoMemory}
+use Rattle.smithy_schema.specs.declared.error.SerdeError.TheVariants.{InvalidInput, Failed, NoMemory}
 use Rattle.smithy_shapes.specs.declared.place.Place.{Place}
 use Rattle.smithy_shapes.specs.Table.{Table, kind_of, IsList, IsMap, IsStructure}
-use Rattle.smithy_schema.specs.Reading.{Cursor, depth, Steps, Conducts, OpensNot, SkipsNot, CannotGoOn, IsFault, failed_at, passed_to, in_list, in_map}
+use Rattle.smithy_schema.specs.Reading.{Cursor, depth, Steps, Conducts, OpensNot, SkipsNot, CannotGoOn, IsFault, IsOfReader, failed_at, passed_to, in_list, in_map}
 use Rattle.smithy_json.specs.Ascii.{end_array, end_object}
 use Rattle.smithy_json.specs.Tree.{nesting}
 use Rattle.smithy_json.specs.Unescape.{unescaped}
@@ -143,13 +143,12 @@ pub error_of : {A : Type 0} (e f : SerdeError) → IsErrOf {T = A} (Err e) f →
 error_of {A} e f h = let same : ◌≡◌ {A = Result A SerdeError} (Err e) (Err f) = h in cc
 
 -- a refusal of the input by a reader that hadn't failed
-pub refusal_conducts : {A : Type 0} (old new : Cursor) (error given : SerdeError) → error ≡ given → old.failed ≡ false → given ≢ Failed → given ≢ Unwritable → given ≢ Unsupported → old.at ≤ length old.input
+pub refusal_conducts : {A : Type 0} (old new : Cursor) (error given : SerdeError) → error ≡ given → old.failed ≡ false → given ≢ Failed → IsOfReader given → old.at ≤ length old.input
     → new ≡ failed_at old → Conducts {A = A} old new (Err error)
-refusal_conducts {A} old new error given same sound other readable supported within is = rw (is, same) (record {
+refusal_conducts {A} old new error given same sound other reading within is = rw (is, same) (record {
   failed = (λ h. absurd (other (error_of {A = A} given Failed h)), λ h. absurd (let both : true ≡ false = sym h ∙ sound in cc));
   stays = refl;
-  readable = λ h. readable (error_of {A = A} given Unwritable h);
-  supported = λ h. supported (error_of {A = A} given Unsupported h);
+  reading = reading;
   ahead = omega arith;
   within = within;
 })
@@ -160,8 +159,7 @@ pub goes_ahead : (A : Type 0) (old new : Cursor) (x : A) (at : ℕ) → old.fail
 goes_ahead A old new x at sound place input ahead within = record {
   failed = (λ h. let no : ◌≡◌ {A = Result A SerdeError} (Ok x) (Err Failed) = h in cc, λ h. absurd (let both : true ≡ false = sym h ∙ sound in cc));
   stays = tt;
-  readable = λ h. let no : ◌≡◌ {A = Result A SerdeError} (Ok x) (Err Unwritable) = h in cc;
-  supported = λ h. let no : ◌≡◌ {A = Result A SerdeError} (Ok x) (Err Unsupported) = h in cc;
+  reading = tt;
   ahead = rw place ahead;
   within = rw (place, input) within;
 }

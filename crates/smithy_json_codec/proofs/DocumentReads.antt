@@ -6,7 +6,7 @@ use Rattle.smithy_types.specs.declared.number.Number.{Number}
 use Rattle.smithy_types.specs.DocumentView.{document_view}
 use Rattle.smithy_types.specs.declared.document.Document as code
 use Rattle.smithy_schema.specs.declared.error.SerdeError.{SerdeError}
-use Rattle.smithy_schema.specs.declared.error.SerdeError.TheVariants.{InvalidInput, TooDeep, TooWide, NotCarried, Unsupported, Unwritable, Failed, NoMemory}
+use Rattle.smithy_schema.specs.declared.error.SerdeError.TheVariants.{InvalidInput, TypeMismatch, TooDeep, TooWide, NotCarried, Unsupported, Unwritable, Missing, Failed, NoMemory}
 use Rattle.smithy_shapes.specs.declared.place.Place.{Place}
 use Rattle.smithy_shapes.specs.Table.{document_place}
 use Rattle.smithy_shapes.specs.Site.{Site}
@@ -25,11 +25,13 @@ use Rattle.smithy_wire.proofs.ScalarReads.{if_ok}
 module _ (greatest depth : ℕ) (i : List ℕ) (a : ℕ) where
   pub lies_refused : (e : SerdeError) → RefusesDocument greatest depth i a e → RefusesStanding greatest depth i a e
   lies_refused InvalidInput h = (λ d e there. h.0 d e there.0, λ d e there. h.1 d e there.0)
+  lies_refused TypeMismatch h = absurd h
   lies_refused TooDeep h = (h.0, h.1, λ d e there. h.2 d e there.0)
   lies_refused TooWide h = absurd h
   lies_refused NotCarried h = (h.0, λ d e there. h.1 d e there.0)
   lies_refused Unsupported h = absurd h
   lies_refused Unwritable h = absurd h
+  lies_refused Missing h = absurd h
   lies_refused Failed h = absurd h
   lies_refused NoMemory h = tt
 
@@ -68,33 +70,39 @@ module _ (o : Settings) (keeps : o.limits ≡ kept) (old : Cursor) (site : Site)
   kind : (found : Result (code.Document × ℕ) SerdeError) → Refuses found → IfErr found (λ e. (e ≡ InvalidInput) ⊎ (e ≡ TooDeep) ⊎ (e ≡ NotCarried) ⊎ (e ≡ NoMemory))
   kind (Ok r) h = tt
   kind (Err InvalidInput) h = inl refl
+  kind (Err TypeMismatch) h = absurd h
   kind (Err TooDeep) h = inr (inl refl)
   kind (Err TooWide) h = absurd h
   kind (Err NotCarried) h = inr (inr (inl refl))
   kind (Err Unsupported) h = absurd h
   kind (Err Unwritable) h = absurd h
+  kind (Err Missing) h = absurd h
   kind (Err Failed) h = absurd h
   kind (Err NoMemory) h = inr (inr (inr refl))
 
   none : (found : Result (code.Document × ℕ) SerdeError) → Refuses found → IsRefused found → StandsNot (json_relations o) old site.table at
   none (Ok r) h fault = absurd fault
   none (Err InvalidInput) h fault = none_kept h.1
+  none (Err TypeMismatch) h fault = absurd h
   none (Err TooDeep) h fault = none_kept h.2
   none (Err TooWide) h fault = absurd h
   none (Err NotCarried) h fault = none_kept h.1
   none (Err Unsupported) h fault = absurd h
   none (Err Unwritable) h fault = absurd h
+  none (Err Missing) h fault = absurd h
   none (Err Failed) h fault = absurd h
   none (Err NoMemory) h fault = absurd fault
 
   none_without_limits : (found : Result (code.Document × ℕ) SerdeError) → Refuses found → IsInvalid found → StandsNot (json_relations (without_limits o)) old site.table at
   none_without_limits (Ok r) h fault = absurd fault
   none_without_limits (Err InvalidInput) h fault = none_lifted h.0
+  none_without_limits (Err TypeMismatch) h fault = absurd h
   none_without_limits (Err TooDeep) h fault = absurd fault
   none_without_limits (Err TooWide) h fault = absurd fault
   none_without_limits (Err NotCarried) h fault = absurd fault
   none_without_limits (Err Unsupported) h fault = absurd fault
   none_without_limits (Err Unwritable) h fault = absurd fault
+  none_without_limits (Err Missing) h fault = absurd h
   none_without_limits (Err Failed) h fault = absurd fault
   none_without_limits (Err NoMemory) h fault = absurd fault
 
@@ -137,11 +145,13 @@ module _ (greatest depth : ℕ) (i : List ℕ) (a : ℕ) (found : Result (code.D
 
 refusal_means_nothing : (greatest depth : ℕ) (i : List ℕ) (a : ℕ) (e : SerdeError) → RefusesStanding greatest depth i a e → IsFault e → NoDocumentStands (Some greatest) depth i a
 refusal_means_nothing greatest depth i a InvalidInput h fault = h.1
+refusal_means_nothing greatest depth i a TypeMismatch h fault = absurd h
 refusal_means_nothing greatest depth i a TooDeep h fault = h.2
 refusal_means_nothing greatest depth i a TooWide h fault = absurd h
 refusal_means_nothing greatest depth i a NotCarried h fault = h.1
 refusal_means_nothing greatest depth i a Unsupported h fault = absurd h
 refusal_means_nothing greatest depth i a Unwritable h fault = absurd h
+refusal_means_nothing greatest depth i a Missing h fault = absurd h
 refusal_means_nothing greatest depth i a Failed h fault = absurd h
 refusal_means_nothing greatest depth i a NoMemory h fault = absurd fault
 

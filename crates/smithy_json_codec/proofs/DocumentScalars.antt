@@ -2,7 +2,7 @@
 use Rattle.std.proofs.Common.{◌≡◌, ◌+◌, ◌⊎◌, ◌∙◌, ℕ, suc, List, [], Bool, Option, Some, None, option_map, Result, Ok, Err, refl, sym, ap, subst, arith, inl, inr}
 use Rattle.smithy_schema.specs.Reading.{IsInvalid}
 use Rattle.smithy_schema.specs.declared.error.SerdeError.{SerdeError}
-use Rattle.smithy_schema.specs.declared.error.SerdeError.TheVariants.{InvalidInput, TooDeep, TooWide, NotCarried, Unsupported, Unwritable, Failed, NoMemory}
+use Rattle.smithy_schema.specs.declared.error.SerdeError.TheVariants.{InvalidInput, TypeMismatch, TooDeep, TooWide, NotCarried, Unsupported, Unwritable, Missing, Failed, NoMemory}
 use Rattle.smithy_types.specs.Document.{Document, null, boolean, number, text, array, object, properties_by}
 use Rattle.smithy_types.specs.declared.number.Number.{Number}
 use Rattle.smithy_json.specs.Ascii.{quotation_mark, begin_array, begin_object}
@@ -107,11 +107,13 @@ other_no_document greatest depth i a h d e there =
 -- what keeps a value from beginning keeps a document from lying there
 pub begins_refuses : (greatest depth : ℕ) (i : List ℕ) (a : ℕ) (e : SerdeError) → BeginsDocument i a (Err e) → RefusesDocument greatest depth i a e
 begins_refuses greatest depth i a InvalidInput h = (h None depth, h (Some greatest) depth)
+begins_refuses greatest depth i a TypeMismatch h = absurd h
 begins_refuses greatest depth i a TooDeep h = absurd h
 begins_refuses greatest depth i a TooWide h = absurd h
 begins_refuses greatest depth i a NotCarried h = (record { containers = []; at = a; due = refl; other = h }, other_no_document greatest depth i a h)
 begins_refuses greatest depth i a Unsupported h = absurd h
 begins_refuses greatest depth i a Unwritable h = absurd h
+begins_refuses greatest depth i a Missing h = absurd h
 begins_refuses greatest depth i a Failed h = absurd h
 begins_refuses greatest depth i a NoMemory h = tt
 
@@ -127,11 +129,13 @@ module _ (i : List ℕ) (at b start : ℕ) (here : IsFirstByte i at b start) whe
   begins_before (Ok (Container kind inside)) h = lies_before i at b start here _ inside h
   begins_before (Err InvalidInput) h = λ limits depth d e there.
       h limits depth d e (record { tree = there.tree; lies = value_behind i at b start here 1 there.tree e there.lies; means = there.means })
+  begins_before (Err TypeMismatch) h = h
   begins_before (Err TooDeep) h = h
   begins_before (Err TooWide) h = h
   begins_before (Err NotCarried) h = record { raw = h.raw; e = h.e; lies = tree_before (tree.number h.raw) h.e h.lies; not_held = h.not_held }
   begins_before (Err Unsupported) h = h
   begins_before (Err Unwritable) h = h
+  begins_before (Err Missing) h = h
   begins_before (Err Failed) h = h
   begins_before (Err NoMemory) h = tt
 

@@ -1,7 +1,7 @@
 -- The walk through a document: what holds from step to step, and what a refusal on the way says of the whole.
 use Rattle.std.proofs.Common.{◌≡◌, ◌+◌, ◌<◌, ◌≤◌, ◌∙◌, ℕ, suc, length, map, List, [], ◌∷◌, ◌++◌, Bool, true, false, Option, Some, None, Ok, Err, refl, sym, ap, subst, arith, inl, inr, length-append}
 use Rattle.smithy_schema.specs.declared.error.SerdeError.{SerdeError}
-use Rattle.smithy_schema.specs.declared.error.SerdeError.TheVariants.{InvalidInput, TooDeep, TooWide, NotCarried, Unsupported, Unwritable, Failed, NoMemory}
+use Rattle.smithy_schema.specs.declared.error.SerdeError.TheVariants.{InvalidInput, TypeMismatch, TooDeep, TooWide, NotCarried, Unsupported, Unwritable, Missing, Failed, NoMemory}
 use Rattle.smithy_types.specs.Document.{Document, Documents, Properties}
 use Rattle.smithy_types.specs.DocumentView.{document_view}
 use Rattle.smithy_types.specs.declared.document.Document as code
@@ -222,6 +222,7 @@ refused_from greatest depth ws i start at walk TooDeep h =
     length-kinds : (ws : List Waiting) → length (kinds ws) ≡ length ws
     length-kinds [] = refl
     length-kinds (w ∷ ws) = ap suc (length-kinds ws)
+refused_from greatest depth ws i start at walk TypeMismatch h = absurd h
 refused_from greatest depth ws i start at walk TooWide h = absurd h
 refused_from greatest depth ws i start at walk NotCarried h =
     let here = h.0 in (
@@ -235,6 +236,7 @@ refused_from greatest depth ws i start at walk NotCarried h =
     )
 refused_from greatest depth ws i start at walk Unsupported h = absurd h
 refused_from greatest depth ws i start at walk Unwritable h = absurd h
+refused_from greatest depth ws i start at walk Missing h = absurd h
 refused_from greatest depth ws i start at walk Failed h = absurd h
 refused_from greatest depth ws i start at walk NoMemory h = tt
 

@@ -60,17 +60,17 @@ pub record MeetsOtherNumber (input : List ℕ) (a : ℕ) : Type 0 where
   pub due : IsDueInside containers input a at
   pub other : OtherNumberLies input at
 
--- What an error says where a document was refused at the place a, inside of `depth` containers. `Missing` says that no document
+-- What an error says where a document was refused at the place a, inside of `depth` containers. `Absent` says that no document
 -- is there under some limits: that holds with each fault, and with `InvalidInput` also without limits. Want of memory says
 -- nothing.
 abbrev pub Refuses : (Option ℕ → Type 0) → ℕ → ℕ → List ℕ → ℕ → SerdeError → Type 0
-Refuses Missing greatest depth input a InvalidInput = Missing None × Missing (Some greatest)
-Refuses Missing greatest depth input a TooDeep =
+Refuses Absent greatest depth input a InvalidInput = Absent None × Absent (Some greatest)
+Refuses Absent greatest depth input a TooDeep =
     OpensDocumentTooDeep greatest depth input a × (greatest ≤ depth + json_openers (drop a input))
-    × Missing (Some greatest)
-Refuses Missing greatest depth input a NotCarried = MeetsOtherNumber input a × Missing (Some greatest)
-Refuses Missing greatest depth input a NoMemory = Unit {0}
-Refuses Missing greatest depth input a _ = ⊥
+    × Absent (Some greatest)
+Refuses Absent greatest depth input a NotCarried = MeetsOtherNumber input a × Absent (Some greatest)
+Refuses Absent greatest depth input a NoMemory = Unit {0}
+Refuses Absent greatest depth input a _ = ⊥
 
 -- what an error says where a document was refused because none lies at the place a
 abbrev pub RefusesDocument : ℕ → ℕ → List ℕ → ℕ → SerdeError → Type 0

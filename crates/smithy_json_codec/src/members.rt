@@ -1,8 +1,8 @@
 //! Which member of an object comes next, behind the entries that are passed over.
 
 ghost use Rattle.std.specs.Prelude.{◌≡◌, ◌≢◌, ◌≤◌, ◌+◌, ◌↔◌, ℕ, length, drop, IfOk, IfErr, IsErrOf, IsTrue};
-ghost use Rattle.smithy_schema.specs.Reading.{IsInvalid, IsRefused};
-ghost use Rattle.smithy_schema.specs.declared.error.SerdeError.TheVariants.{Failed, TooDeep, TooWide, NotCarried, Unsupported, Unwritable};
+ghost use Rattle.smithy_schema.specs.Reading.{IsInvalid, IsOfReader, IsRefused};
+ghost use Rattle.smithy_schema.specs.declared.error.SerdeError.TheVariants.{Failed, TooDeep, TooWide, NotCarried};
 ghost use Rattle.smithy_shapes.specs.Site.{site_of, kind_at};
 ghost use Rattle.smithy_shapes.specs.Table.{IsDocument};
 ghost use Rattle.smithy_json_codec.specs.Codec.{held_settings};
@@ -103,8 +103,7 @@ fn entry_at<'a>(
     ensures refused { IsRefused result → EntryMissing (NoSkipWithin input.entry.settings.max_depth depth input.entry.bytes.now) (passing (held_settings input.entry.settings) (site_of schema.now)) depth input.entry.bytes.now at entered }
     ensures none_without_limits { IsInvalid result → EntryMissing (NoSkip depth input.entry.bytes.now) (passing (held_settings input.entry.settings) (site_of schema.now)) depth input.entry.bytes.now at entered }
     ensures sound { IfErr result (λ e. e ≢ Failed) }
-    ensures readable { IfErr result (λ e. e ≢ Unwritable) }
-    ensures supported { IfErr result (λ e. e ≢ Unsupported) }
+    ensures reading { IfErr result IsOfReader }
     ensures narrow { IfErr result (λ e. (e ≢ TooWide) × (e ≢ NotCarried)) }
     ensures deep { IsErrOf result TooDeep → input.entry.settings.max_depth ≤ depth + json_openers (drop at input.entry.bytes.now) }
     ensures too_deep { IsErrOf result TooDeep → (q : ℕ) × (at ≤ q) × OpensTooDeep input.entry.settings.max_depth depth input.entry.bytes.now q }
@@ -144,8 +143,7 @@ pub(crate) fn next_present<'a>(
     ensures refused { IsRefused result → NothingComes (NoSkipWithin input.entry.settings.max_depth depth input.entry.bytes.now) (passing (held_settings input.entry.settings) (site_of schema.now)) input.entry.settings.max_depth depth input.entry.bytes.now at entered }
     ensures none_without_limits { IsInvalid result → NothingComes (NoSkip depth input.entry.bytes.now) (passing (held_settings input.entry.settings) (site_of schema.now)) input.entry.settings.max_depth depth input.entry.bytes.now at entered }
     ensures sound { IfErr result (λ e. e ≢ Failed) }
-    ensures readable { IfErr result (λ e. e ≢ Unwritable) }
-    ensures supported { IfErr result (λ e. e ≢ Unsupported) }
+    ensures reading { IfErr result IsOfReader }
     ensures narrow { IfErr result (λ e. (e ≢ TooWide) × (e ≢ NotCarried)) }
     ensures deep { IsErrOf result TooDeep → input.entry.settings.max_depth ≤ depth + json_openers (drop at input.entry.bytes.now) }
     ensures too_deep { IsErrOf result TooDeep → (q : ℕ) × (at ≤ q) × OpensTooDeep input.entry.settings.max_depth depth input.entry.bytes.now q }

@@ -1,8 +1,8 @@
 //! Where a value ends that is skipped.
 
 ghost use Rattle.std.specs.Prelude.{◌≡◌, ◌≢◌, ◌<◌, ◌≤◌, ◌+◌, ◌-◌, ℕ, List, length, get_or, drop, false, IfOk, IfErr, OnErr, IsErrOf, IfSome, IfNone, MatchBool};
-ghost use Rattle.smithy_schema.specs.declared.error.SerdeError.TheVariants.{TooDeep, TooWide, NotCarried, Unsupported, Unwritable};
-ghost use Rattle.smithy_schema.specs.Reading.{IsFault, IsInvalid};
+ghost use Rattle.smithy_schema.specs.declared.error.SerdeError.TheVariants.{TooDeep, TooWide, NotCarried};
+ghost use Rattle.smithy_schema.specs.Reading.{IsFault, IsInvalid, IsOfReader};
 ghost use Rattle.smithy_json.specs.Ascii.{begin_array, begin_object};
 ghost use Rattle.smithy_json_codec.specs.Deepest.{OpensTooDeep};
 ghost use Rattle.smithy_json_codec.specs.Documents.{ValueOpens};
@@ -137,8 +137,7 @@ pub(crate) fn skipped_end(input: Input<'_>, at: usize, depth: usize) -> Result<u
     requires shallow { depth ≤ input.settings.max_depth }
     ensures ok { IfOk result (λ e. SkipsTo input.entry.settings.max_depth depth input.entry.bytes.now at e) }
     ensures fault { IfErr result IsFault }
-    ensures readable { IfErr result (λ e. e ≢ Unwritable) }
-    ensures supported { IfErr result (λ e. e ≢ Unsupported) }
+    ensures reading { IfErr result IsOfReader }
     ensures narrow { IfErr result (λ e. (e ≢ TooWide) × (e ≢ NotCarried)) }
     ensures refused { OnErr result ((e : ℕ) → SkipsTo input.entry.settings.max_depth depth input.entry.bytes.now at e → ⊥) }
     ensures none_without_limits { IsInvalid result → (greatest e : ℕ) → SkipsTo greatest depth input.entry.bytes.now at e → ⊥ }
@@ -157,8 +156,7 @@ fn container_end(input: Input<'_>, at: usize, depth: usize) -> Result<usize, Ser
     requires shallow { depth ≤ input.settings.max_depth }
     ensures ok { IfOk result (λ e. SkipsTo input.entry.settings.max_depth depth input.entry.bytes.now at e) }
     ensures fault { IfErr result IsFault }
-    ensures readable { IfErr result (λ e. e ≢ Unwritable) }
-    ensures supported { IfErr result (λ e. e ≢ Unsupported) }
+    ensures reading { IfErr result IsOfReader }
     ensures narrow { IfErr result (λ e. (e ≢ TooWide) × (e ≢ NotCarried)) }
     ensures refused { OnErr result ((e : ℕ) → SkipsTo input.entry.settings.max_depth depth input.entry.bytes.now at e → ⊥) }
     ensures none_without_limits { IsInvalid result → (greatest e : ℕ) → SkipsTo greatest depth input.entry.bytes.now at e → ⊥ }

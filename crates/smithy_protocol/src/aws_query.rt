@@ -1,12 +1,10 @@
 //! The protocol AWS Query.
-ghost use Rattle.std.specs.Prelude.{◌≡◌, ◌⊎◌, ◌↔◌, Ok, Err, Some, None, codes, IfOk, IfErr, IfSome, IsErrOf};
-ghost use Rattle.smithy_schema.specs.declared.error.SerdeError.{SerdeError};
-ghost use Rattle.smithy_schema.specs.declared.error.SerdeError.TheVariants.{NoMemory};
+ghost use Rattle.std.specs.Prelude.{◌≡◌, ◌⊎◌, Ok, Err, Some, None, codes, IfOk, IfErr, IfSome, IsErrOf};
+ghost use Rattle.smithy_schema.specs.declared.error.SerdeError.TheVariants.{Missing, NoMemory};
 ghost use Rattle.smithy_shapes.specs.Site.{site_of};
 ghost use Rattle.smithy_query_codec.specs.Writing.{fresh_state, query_after};
 ghost use Rattle.smithy_protocol.specs.Bodies.{HandsOut, IsQueryBody};
 ghost use Rattle.smithy_protocol.specs.Messages.{form_names, query_request, message_of};
-ghost use Rattle.smithy_protocol.specs.declared.aws_query.QueryRequestError.TheVariants as TheVariants;
 
 use crate::body::written_body;
 use crate::head::post;
@@ -15,18 +13,6 @@ use smithy_query_codec::QueryShapeSerializer;
 use smithy_schema::{Schema, SerdeError, SerializableStruct};
 use std::alloc::Global;
 use std::marker::Model;
-use thiserror::Error;
-
-/// Why no request of AWS Query is made. `Display` writes the variant's name, or that of the serializer's error.
-#[derive(Clone, Copy, Debug, Drop, PartialEq, Eq, Error)]
-pub enum QueryRequestError {
-    /// The operation or the version is absent.
-    #[error("Missing")]
-    Missing,
-    /// Want of memory, or what the serializer answers for the structure.
-    #[error("{0}")]
-    Serializer(SerdeError),
-}
 
 /// The protocol that posts a structure as a form, with the operation and the version of the service before its leaves.
 #[derive(Debug, Drop)]
@@ -90,7 +76,8 @@ impl AwsQueryProtocol {
     }
 
     /// The request that has the form of a structure as its body, with the operation of the configuration as its action, and the version
-    /// that is set, else that of the configuration. It is `Missing` exactly where the operation or both versions are absent.
+    /// that is set, else that of the configuration. Where the operation or both versions are absent, the answer is `Missing`. Else an
+    /// error is want of memory, or what a serializer of forms or the structure's own calls answer.
     pub fn serialize_request<V: SerializableStruct>(
         &self,
         alloc: Global,
@@ -98,23 +85,20 @@ impl AwsQueryProtocol {
         input_schema: &Schema<'_>,
         _endpoint: &str,
         config: &ProtocolConfig,
-    ) -> Result<Request, QueryRequestError>
-        ensures missing { IsErrOf result TheVariants.Missing ↔ (form_names self.now config.now ≡ None) }
+    ) -> Result<Request, SerdeError>
+        ensures missing { form_names self.now config.now ≡ None → IsErrOf result Missing }
         ensures head { IfOk result (λ r. message_of r ≡ query_request r.body.items) }
         ensures body { IfOk result (λ r. IfSome (form_names self.now config.now) (λ n. HandsOut query_after (λ s. s.out) V.adds (site_of input_schema.now) input.now (fresh_state n.0 n.1) (Ok r.body.items))) }
         ensures canonical { IfOk result (λ r. IfSome (form_names self.now config.now) (λ n. IsQueryBody V.adds (site_of input_schema.now) input.now n.0 n.1 r.body.items)) }
-        ensures refused { (cause : SerdeError) → IsErrOf result (TheVariants.Serializer cause) → IfSome (form_names self.now config.now) (λ n. (cause ≡ NoMemory) ⊎ HandsOut query_after (λ s. s.out) V.adds (site_of input_schema.now) input.now (fresh_state n.0 n.1) (Err cause)) }
+        ensures refused { IfErr result (λ e. IfSome (form_names self.now config.now) (λ n. (e ≡ NoMemory) ⊎ HandsOut query_after (λ s. s.out) V.adds (site_of input_schema.now) input.now (fresh_state n.0 n.1) (Err e))) }
     {
         let Some(action) = config.operation.as_deref() else {
-            return Err(QueryRequestError::Missing);
+            return Err(SerdeError::Missing);
         };
         let Some(version) = self.version.as_deref().or(config.version.as_deref()) else {
-            return Err(QueryRequestError::Missing);
+            return Err(SerdeError::Missing);
         };
-        match form_request(alloc, action, version, input, input_schema) {
-            Ok(request) => Ok(request),
-            Err(cause) => Err(QueryRequestError::Serializer(cause)),
-        }
+        form_request(alloc, action, version, input, input_schema)
     }
 }
 

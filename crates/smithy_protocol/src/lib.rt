@@ -12,7 +12,7 @@ mod message;
 mod rpc_v2_cbor;
 
 pub use aws_json::AwsJsonRpcProtocol;
-pub use aws_query::{AwsQueryProtocol, QueryRequestError};
+pub use aws_query::AwsQueryProtocol;
 pub use error_code::{parse_query_compatible_header, sanitize_error_code};
 pub use headers::Headers;
 pub use message::{ProtocolConfig, Request, Response};

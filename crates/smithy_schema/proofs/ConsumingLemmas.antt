@@ -2,7 +2,7 @@
 use Rattle.std.proofs.Common.{◌≡◌, ◌⊎◌, ◌↔◌, ◌<◌, ◌≤◌, ℕ, suc, ◌+◌, length, List, ◌∷◌, Option, Some, None, Bool, true, false, cond, Result, Ok, Err, refl, sym, ◌∙◌, ap, subst, arith, IsErrOf, inl, inr}
 use Rattle.smithy_shapes.specs.declared.place.Place.{Place}
 use Rattle.smithy_schema.specs.declared.error.SerdeError.{SerdeError}
-use Rattle.smithy_schema.specs.declared.error.SerdeError.TheVariants.{InvalidInput, TooDeep, TooWide, NotCarried, Unsupported, Unwritable, Failed, NoMemory}
+use Rattle.smithy_schema.specs.declared.error.SerdeError.TheVariants.{InvalidInput, TypeMismatch, TooDeep, TooWide, NotCarried, Unsupported, Unwritable, Missing, Failed, NoMemory}
 use Rattle.smithy_shapes.specs.Table.{Table, IsStructure, kind_of}
 use Rattle.smithy_schema.specs.declared.read.Step.{Step}
 use Rattle.smithy_schema.specs.declared.read.Step.TheVariants.{Member as to_member_step, Unknown, End}
@@ -24,21 +24,25 @@ is_invalid A e h = subst (λ x. IsInvalid {A = A} (Err x)) (sym h) tt
 
 pub no_answer : (A : Type 0) (e : SerdeError) → IsNoAnswer {A = A} (Err e) → IsNoAnswer {A = Unit {0}} (Err e)
 no_answer A InvalidInput h = h
+no_answer A TypeMismatch h = h
 no_answer A TooDeep h = h
 no_answer A TooWide h = h
 no_answer A NotCarried h = h
 no_answer A Unsupported h = h
 no_answer A Unwritable h = h
+no_answer A Missing h = h
 no_answer A Failed h = h
 no_answer A NoMemory h = h
 
 pub of_cursor : (A : Type 0) (old new : Cursor) (e : SerdeError) → Conducts {A = A} old new (Err e) → RefusesNoScalar {A = A} (Err e) → IsOfCursor e
 of_cursor A old new InvalidInput conduct narrow = tt
+of_cursor A old new TypeMismatch conduct narrow = conduct.reading
 of_cursor A old new TooDeep conduct narrow = tt
 of_cursor A old new TooWide conduct narrow = narrow.0 refl
 of_cursor A old new NotCarried conduct narrow = narrow.1 refl
-of_cursor A old new Unsupported conduct narrow = conduct.supported refl
-of_cursor A old new Unwritable conduct narrow = conduct.readable refl
+of_cursor A old new Unsupported conduct narrow = conduct.reading
+of_cursor A old new Unwritable conduct narrow = conduct.reading
+of_cursor A old new Missing conduct narrow = conduct.reading
 of_cursor A old new Failed conduct narrow = tt
 of_cursor A old new NoMemory conduct narrow = tt
 

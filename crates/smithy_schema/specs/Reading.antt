@@ -1,5 +1,5 @@
 -- What a reader tells, the relations of a wire, the laws that they obey, and what a call does.
-use Rattle.std.specs.Prelude.{◌≡◌, ◌⊎◌, ◌↔◌, ◌<◌, ◌≤◌, ◌&&◌, ℕ, suc, ◌+◌, length, drop, List, [], ◌∷◌, map, Option, Some, None, Bool, true, false, option_and_then, Result, Ok, Err, IsErrOf, OnErr, IfOk}
+use Rattle.std.specs.Prelude.{◌≡◌, ◌⊎◌, ◌↔◌, ◌<◌, ◌≤◌, ◌&&◌, ℕ, suc, ◌+◌, length, drop, List, [], ◌∷◌, map, Option, Some, None, Bool, true, false, option_and_then, Result, Ok, Err, IsErrOf, OnErr, IfOk, IfErr}
 use Rattle.smithy_types.specs.Document.{Document, whole_document}
 use Rattle.smithy_types.specs.DocumentView.{document_view}
 use Rattle.smithy_types.specs.declared.number.Number.{Number}
@@ -9,7 +9,7 @@ use Rattle.smithy_shapes.specs.declared.shape_type.Scalar.{Scalar}
 use Rattle.smithy_schema.specs.declared.read.Step.{Step}
 use Rattle.smithy_schema.specs.declared.read.Step.TheVariants.{Member as ToMember, Unknown, End}
 use Rattle.smithy_schema.specs.declared.error.SerdeError.{SerdeError}
-use Rattle.smithy_schema.specs.declared.error.SerdeError.TheVariants.{InvalidInput, TooDeep, TooWide, NotCarried, Unsupported, Unwritable, Failed, NoMemory}
+use Rattle.smithy_schema.specs.declared.error.SerdeError.TheVariants.{InvalidInput, TypeMismatch, TooDeep, TooWide, NotCarried, Unsupported, Unwritable, Missing, Failed, NoMemory}
 use Rattle.smithy_shapes.specs.Table.{Table, kind_of, place_in, scalar_place, document_place, IsStructure, IsContainer, IsInside, IsSparse, IsDocument}
 use Rattle.smithy_shapes.specs.Value.{ScalarValue, Value, scalar_value, document_value}
 use Rattle.smithy_shapes.specs.Fits.{Fits}
@@ -245,25 +245,43 @@ pub record IsBelow (w u : Relations) : Type 0 where
 
 -- ---- what a call does
 
--- an answer that finds fault with the input: neither an earlier failure nor want of memory
+-- an answer that finds fault with the input, with what is written, or with what is asked for: neither an earlier failure nor want
+-- of memory
 abbrev pub IsFault : SerdeError → Type 0
 IsFault InvalidInput = Unit {0}
+IsFault TypeMismatch = Unit {0}
 IsFault TooDeep = Unit {0}
 IsFault TooWide = Unit {0}
 IsFault NotCarried = Unit {0}
 IsFault Unsupported = Unit {0}
 IsFault Unwritable = Unit {0}
+IsFault Missing = Unit {0}
 IsFault Failed = ⊥
 IsFault NoMemory = ⊥
+
+-- an answer of a reader, which has no fault of writing, nor of a request; no reader tells values of other kinds apart yet
+abbrev pub IsOfReader : SerdeError → Type 0
+IsOfReader InvalidInput = Unit {0}
+IsOfReader TypeMismatch = ⊥
+IsOfReader TooDeep = Unit {0}
+IsOfReader TooWide = Unit {0}
+IsOfReader NotCarried = Unit {0}
+IsOfReader Unsupported = ⊥
+IsOfReader Unwritable = ⊥
+IsOfReader Missing = ⊥
+IsOfReader Failed = Unit {0}
+IsOfReader NoMemory = Unit {0}
 
 -- an answer of a cursor call, which finds no fault with a scalar
 abbrev pub IsOfCursor : SerdeError → Type 0
 IsOfCursor InvalidInput = Unit {0}
+IsOfCursor TypeMismatch = ⊥
 IsOfCursor TooDeep = Unit {0}
 IsOfCursor TooWide = ⊥
 IsOfCursor NotCarried = ⊥
 IsOfCursor Unsupported = ⊥
 IsOfCursor Unwritable = ⊥
+IsOfCursor Missing = ⊥
 IsOfCursor Failed = Unit {0}
 IsOfCursor NoMemory = Unit {0}
 
@@ -271,15 +289,17 @@ abbrev pub IsRefused : {A : Type 0} → Result A SerdeError → Type 0
 IsRefused (Ok x) = ⊥
 IsRefused (Err e) = IsFault e
 
--- the input is no such value at all, whatever the limits
+-- the answer is `InvalidInput`: the input is no such value at all, whatever the limits
 abbrev pub IsInvalid : {A : Type 0} → Result A SerdeError → Type 0
 IsInvalid (Ok x) = ⊥
 IsInvalid (Err InvalidInput) = Unit {0}
+IsInvalid (Err TypeMismatch) = ⊥
 IsInvalid (Err TooDeep) = ⊥
 IsInvalid (Err TooWide) = ⊥
 IsInvalid (Err NotCarried) = ⊥
 IsInvalid (Err Unsupported) = ⊥
 IsInvalid (Err Unwritable) = ⊥
+IsInvalid (Err Missing) = ⊥
 IsInvalid (Err Failed) = ⊥
 IsInvalid (Err NoMemory) = ⊥
 
@@ -287,11 +307,13 @@ IsInvalid (Err NoMemory) = ⊥
 abbrev pub IsNoAnswer : {A : Type 0} → Result A SerdeError → Type 0
 IsNoAnswer (Ok x) = ⊥
 IsNoAnswer (Err InvalidInput) = Unit {0}
+IsNoAnswer (Err TypeMismatch) = ⊥
 IsNoAnswer (Err TooDeep) = ⊥
 IsNoAnswer (Err TooWide) = ⊥
 IsNoAnswer (Err NotCarried) = ⊥
 IsNoAnswer (Err Unsupported) = ⊥
 IsNoAnswer (Err Unwritable) = ⊥
+IsNoAnswer (Err Missing) = ⊥
 IsNoAnswer (Err Failed) = Unit {0}
 IsNoAnswer (Err NoMemory) = Unit {0}
 
@@ -308,9 +330,7 @@ pub record Conducts {A : Type 0} (old new : Cursor) (result : Result A SerdeErro
   -- `Failed` comes exactly after a failure
   pub failed : IsErrOf result Failed ↔ (old.failed ≡ true)
   pub stays : OnErr result (new ≡ failed_at old)
-  -- reading has no fault of writing
-  pub readable : IsErrOf result Unwritable → ⊥
-  pub supported : IsErrOf result Unsupported → ⊥
+  pub reading : IfErr result IsOfReader
   -- positions never fall, and never pass the end
   pub ahead : old.at ≤ new.at
   pub within : new.at ≤ length new.input

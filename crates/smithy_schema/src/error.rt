@@ -11,6 +11,9 @@ pub enum SerdeError {
     /// No value of the wanted kind stands here, no value is due, or one was left unread.
     #[error("InvalidInput")]
     InvalidInput,
+    /// A value of another kind of JSON stands where one of the wanted kind is due. No call answers it yet.
+    #[error("TypeMismatch")]
+    TypeMismatch,
     /// The call opens one container more than the codec's depth allows, or reads a document that nests deeper.
     #[error("TooDeep")]
     TooDeep,
@@ -27,6 +30,9 @@ pub enum SerdeError {
     /// The value or the state of the writer is one that the wire can't write.
     #[error("Unwritable")]
     Unwritable,
+    /// The operation or the version is absent in a request of AWS Query.
+    #[error("Missing")]
+    Missing,
     /// An earlier call was refused, or was `fail`.
     #[error("Failed")]
     Failed,

@@ -1,7 +1,7 @@
 -- A reader that begins a body, and what it reads there, as what the whole input spells.
 use Rattle.std.proofs.Common.{◌≡◌, ◌≤◌, ◌<◌, ℕ, List, Bool, true, false, [], ◌∷◌, length, inl, inr, Result, Ok, Err, IsErrOf, refl, sym, ◌∙◌, ap, subst, arith}
 use Rattle.smithy_schema.specs.declared.error.SerdeError.{SerdeError}
-use Rattle.smithy_schema.specs.declared.error.SerdeError.TheVariants.{InvalidInput, TooDeep, TooWide, NotCarried, Unsupported, Unwritable, Failed, NoMemory}
+use Rattle.smithy_schema.specs.declared.error.SerdeError.TheVariants.{InvalidInput, TypeMismatch, TooDeep, TooWide, NotCarried, Unsupported, Unwritable, Missing, Failed, NoMemory}
 use Rattle.smithy_shapes.specs.declared.place.Place.{Place}
 use Rattle.smithy_shapes.specs.declared.schema.Schema.{Schema}
 use Rattle.smithy_shapes.specs.Table.{Table, kind_of, shape_place, IsStructure}
@@ -131,8 +131,10 @@ module _ {w : Wire} {r l : Relations} {max : ℕ} {old : Cursor} {s : Schema} {t
   deep_opens (Err TooWide) new refused unmoved counted deep is = absurd (let both : Err TooWide ≡ Err TooDeep = is in cc)
   deep_opens (Err NotCarried) new refused unmoved counted deep is = absurd (let both : Err NotCarried ≡ Err TooDeep = is in cc)
   deep_opens (Err InvalidInput) new refused unmoved counted deep is = absurd (let both : Err InvalidInput ≡ Err TooDeep = is in cc)
+  deep_opens (Err TypeMismatch) new refused unmoved counted deep is = absurd (let both : Err TypeMismatch ≡ Err TooDeep = is in cc)
   deep_opens (Err Unsupported) new refused unmoved counted deep is = absurd (let both : Err Unsupported ≡ Err TooDeep = is in cc)
   deep_opens (Err Unwritable) new refused unmoved counted deep is = absurd (let both : Err Unwritable ≡ Err TooDeep = is in cc)
+  deep_opens (Err Missing) new refused unmoved counted deep is = absurd (let both : Err Missing ≡ Err TooDeep = is in cc)
   deep_opens (Err Failed) new refused unmoved counted deep is = absurd (let both : Err Failed ≡ Err TooDeep = is in cc)
   deep_opens (Err NoMemory) new refused unmoved counted deep is = absurd (let both : Err NoMemory ≡ Err TooDeep = is in cc)
 

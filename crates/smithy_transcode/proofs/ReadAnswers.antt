@@ -4,7 +4,7 @@ use Rattle.smithy_shapes.specs.declared.place.Place.{Place}
 use Rattle.smithy_shapes.specs.declared.shape_type.Scalar.{Scalar}
 use Rattle.smithy_shapes.specs.declared.shape_type.ShapeType.TheVariants as types
 use Rattle.smithy_schema.specs.declared.error.SerdeError.{SerdeError}
-use Rattle.smithy_schema.specs.declared.error.SerdeError.TheVariants.{InvalidInput, TooDeep, TooWide, NotCarried, Unsupported, Unwritable, Failed, NoMemory}
+use Rattle.smithy_schema.specs.declared.error.SerdeError.TheVariants.{InvalidInput, TooDeep, TooWide, NotCarried, Failed, NoMemory}
 use Rattle.smithy_shapes.specs.Table.{scalar_type, type_of, IsContainer}
 use Rattle.smithy_shapes.specs.Site.{Site, kind_at}
 use Rattle.smithy_shapes.specs.Value.{ScalarValue, Value, scalar_value, document_value}
@@ -64,8 +64,7 @@ module _ (w u : Relations) (tells_without_limits : Type 0) (max : ℕ) where
     refused = refused;
     none_without_limits = none_without_limits;
     failed = ((λ is. absurd (reached.going (conduct.failed.0 (error_as {A = B} {B = A} e Failed is)))), λ failed. absurd (reached.fresh failed));
-    supported = λ is. conduct.supported (error_as {A = B} {B = A} e Unsupported is);
-    readable = λ is. conduct.readable (error_as {A = B} {B = A} e Unwritable is);
+    reading = conduct.reading;
     deep = λ is. subst (ReachesDepth w max) (sym conduct.stays) (deep (error_as {A = B} {B = A} e TooDeep is));
     nested = λ is. inl (limited (error_as {A = B} {B = A} e TooDeep is));
     wide = λ is. absurd (narrow.0 (error_as {A = B} {B = A} e TooWide is));
@@ -90,8 +89,7 @@ module _ (w u : Relations) (tells_without_limits : Type 0) (max : ℕ) where
         let found = over.unfolded s0.input site.table site.place (depth s0) s0.at v end kind stands in
         none_without_limits strict invalid due found.inside found.mark found.opens;
     failed = ((λ is. conduct.failed.0 (error_as {A = B} {B = A} e Failed is)), λ failed. error_as {A = A} {B = B} e Failed (conduct.failed.1 failed));
-    supported = λ is. conduct.supported (error_as {A = B} {B = A} e Unsupported is);
-    readable = λ is. conduct.readable (error_as {A = B} {B = A} e Unwritable is);
+    reading = conduct.reading;
     deep = λ is.
         let most = deepest (error_as {A = B} {B = A} e TooDeep is) in
         let level : depth s1 ≡ depth s0 = ap depth conduct.stays in
@@ -113,8 +111,7 @@ module _ (w u : Relations) (tells_without_limits : Type 0) (max : ℕ) where
         refused = λ fault. absurd fault;
         none_without_limits = λ strict invalid. absurd invalid;
         failed = ((λ is. absurd (not_memory {A = B} Failed (λ e. cc) is)), λ failed. absurd (reached.fresh failed));
-        supported = not_memory {A = B} Unsupported (λ e. cc);
-        readable = not_memory {A = B} Unwritable (λ e. cc);
+        reading = tt;
         deep = λ is. absurd (not_memory {A = B} TooDeep (λ e. cc) is);
         nested = λ is. absurd (not_memory {A = B} TooDeep (λ e. cc) is);
         wide = λ is. absurd (not_memory {A = B} TooWide (λ e. cc) is);
@@ -132,8 +129,7 @@ module _ (w u : Relations) (tells_without_limits : Type 0) (max : ℕ) where
     refused = λ fault. refused;
     none_without_limits = λ strict invalid. none_without_limits;
     failed = ((λ is. absurd (not_invalid {A = B} Failed (λ e. cc) is)), λ failed. absurd (reached.fresh failed));
-    supported = not_invalid {A = B} Unsupported (λ e. cc);
-    readable = not_invalid {A = B} Unwritable (λ e. cc);
+    reading = tt;
     deep = λ is. absurd (not_invalid {A = B} TooDeep (λ e. cc) is);
     nested = λ is. absurd (not_invalid {A = B} TooDeep (λ e. cc) is);
     wide = λ is. absurd (not_invalid {A = B} TooWide (λ e. cc) is);
@@ -154,8 +150,7 @@ module _ (w u : Relations) (tells_without_limits : Type 0) (max : ℕ) where
     refused = λ fault. refused (reads.refused fault);
     none_without_limits = λ strict invalid. none_without_limits (reads.none_without_limits strict invalid);
     failed = ((λ is. absurd (reached.going (reads.failed.0 (error_as {A = B} {B = A} e Failed is)))), λ failed. absurd (reached.fresh failed));
-    supported = λ is. reads.supported (error_as {A = B} {B = A} e Unsupported is);
-    readable = λ is. reads.readable (error_as {A = B} {B = A} e Unwritable is);
+    reading = reads.reading;
     deep = λ is. reads.deep (error_as {A = B} {B = A} e TooDeep is);
     nested = λ is. ends_inside w max s0 s1 s2 site.table child.table site.place child.place inside (reads.nested (error_as {A = B} {B = A} e TooDeep is));
     wide = λ is. inside w.exceeds (reads.wide (error_as {A = B} {B = A} e TooWide is));
@@ -175,8 +170,7 @@ module _ (w u : Relations) (tells_without_limits : Type 0) (max : ℕ) where
         refused = λ fault. subst (λ (p : Place). StandsNot w old site.table p) (sym here) (reads.refused fault due);
         none_without_limits = λ strict invalid. subst (λ (p : Place). StandsNot u old site.table p) (sym here) (reads.none_without_limits strict invalid due);
         failed = ((λ is. reads.conduct.failed.0 (error_as {A = B} {B = A} e Failed is)), λ failed. error_as {A = A} {B = B} e Failed (reads.conduct.failed.1 failed));
-        supported = λ is. reads.conduct.supported (error_as {A = B} {B = A} e Unsupported is);
-        readable = λ is. reads.conduct.readable (error_as {A = B} {B = A} e Unwritable is);
+        reading = reads.conduct.reading;
         deep = λ is. absurd (reads.shallow (error_as {A = B} {B = A} e TooDeep is));
         nested = λ is. absurd (reads.shallow (error_as {A = B} {B = A} e TooDeep is));
         wide = scalar_inside {A = A} {B = B} w.exceeds old new site kind (Err e) e TooWide refl reads.conduct reads.wide is;
@@ -196,8 +190,7 @@ module _ (w u : Relations) (tells_without_limits : Type 0) (max : ℕ) where
         refused = λ fault. subst (λ (p : Place). StandsNot w old site.table p) (sym here) (reads.refused fault due);
         none_without_limits = λ strict invalid. subst (λ (p : Place). StandsNot u old site.table p) (sym here) (reads.none_without_limits strict invalid due);
         failed = ((λ is. reads.conduct.failed.0 (error_as {A = B} {B = Document} e Failed is)), λ failed. error_as {A = Document} {B = B} e Failed (reads.conduct.failed.1 failed));
-        supported = λ is. reads.conduct.supported (error_as {A = B} {B = Document} e Unsupported is);
-        readable = λ is. reads.conduct.readable (error_as {A = B} {B = Document} e Unwritable is);
+        reading = reads.conduct.reading;
         deep = λ is. subst (ReachesDepth w max) (sym reads.conduct.stays) (reads.deep (error_as {A = B} {B = Document} e TooDeep is));
         nested = λ is. inl (reads.limited (error_as {A = B} {B = Document} e TooDeep is));
         wide = λ is. absurd (reads.narrow (error_as {A = B} {B = Document} e TooWide is));
@@ -215,8 +208,7 @@ module _ (w u : Relations) (tells_without_limits : Type 0) (max : ℕ) where
     refused = λ fault. absurd fault;
     none_without_limits = λ strict invalid. absurd invalid;
     failed = ((λ is. absurd (no_error {A = B} x Failed is)), λ failed. absurd (fresh failed));
-    supported = no_error {A = B} x Unsupported;
-    readable = no_error {A = B} x Unwritable;
+    reading = tt;
     deep = λ is. absurd (no_error {A = B} x TooDeep is);
     nested = λ is. absurd (no_error {A = B} x TooDeep is);
     wide = λ is. absurd (no_error {A = B} x TooWide is);

@@ -231,8 +231,10 @@ told t root from i to serde.NotCarried refusal tells nothing none_without_limits
   nodes_are_bounded = nodes_are_bounded from t root i;
 })
 told t root from i to serde.NoMemory refusal tells nothing none_without_limits deep wide uncarried = rw tells (no_memory t root from i to)
+told t root from i to serde.TypeMismatch refusal tells nothing none_without_limits deep wide uncarried = absurd tells
 told t root from i to serde.Unsupported refusal tells nothing none_without_limits deep wide uncarried = absurd tells
 told t root from i to serde.Unwritable refusal tells nothing none_without_limits deep wide uncarried = absurd tells
+told t root from i to serde.Missing refusal tells nothing none_without_limits deep wide uncarried = absurd tells
 told t root from i to serde.Failed refusal tells nothing none_without_limits deep wide uncarried = absurd tells
 
 pub refused : {A : Type 0} (t : Table) (root : ℕ) (from : Wire) (i : List ℕ) (to : Wire) (r : Result A SerdeError) (e : SerdeError) (refusal : TranscodeError) → r ≡ Err e → IsToldAs e refusal

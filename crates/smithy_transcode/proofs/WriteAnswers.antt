@@ -1,7 +1,7 @@
 -- What a write of a value answers, by each way out of it: one record for each.
 use Rattle.std.proofs.Common.{◌≡◌, ◌↔◌, [], ◌∷◌, Bool, true, false, Result, Ok, Err, IfErr, IsErr, IsErrOf, OnOk, ap, refl, sym, ◌∙◌}
 use Rattle.smithy_schema.specs.declared.error.SerdeError.{SerdeError}
-use Rattle.smithy_schema.specs.declared.error.SerdeError.TheVariants.{InvalidInput, TooDeep, TooWide, NotCarried, Unsupported, Unwritable, Failed, NoMemory}
+use Rattle.smithy_schema.specs.declared.error.SerdeError.TheVariants.{InvalidInput, TypeMismatch, TooDeep, TooWide, NotCarried, Unsupported, Unwritable, Missing, Failed, NoMemory}
 use Rattle.smithy_schema.specs.Reading.{IsFault}
 use Rattle.smithy_schema.specs.Writing.{Event, Writer, run}
 use Rattle.smithy_schema.proofs.WritingLemmas.{call_made, call_refused}
@@ -33,11 +33,13 @@ failed_as {A} e is = ap Err is
 -- where nothing is at fault and no failure came before, memory ran out
 pub only_memory : (e : SerdeError) → (IsFault e → ⊥) → (e ≡ Failed → ⊥) → e ≡ NoMemory
 only_memory InvalidInput none first = absurd (none tt)
+only_memory TypeMismatch none first = absurd (none tt)
 only_memory TooDeep none first = absurd (none tt)
 only_memory TooWide none first = absurd (none tt)
 only_memory NotCarried none first = absurd (none tt)
 only_memory Unsupported none first = absurd (none tt)
 only_memory Unwritable none first = absurd (none tt)
+only_memory Missing none first = absurd (none tt)
 only_memory Failed none first = absurd (first refl)
 only_memory NoMemory none first = refl
 

@@ -1,10 +1,10 @@
 -- What a read of a value says of its answer.
-use Rattle.std.specs.Prelude.{◌≡◌, ◌↔◌, ℕ, true, Result, IfOk, IsErrOf}
+use Rattle.std.specs.Prelude.{◌≡◌, ◌↔◌, ℕ, true, Result, IfOk, IfErr, IsErrOf}
 use Rattle.smithy_schema.specs.declared.error.SerdeError.{SerdeError}
-use Rattle.smithy_schema.specs.declared.error.SerdeError.TheVariants.{TooDeep, TooWide, NotCarried, Unsupported, Unwritable, Failed}
+use Rattle.smithy_schema.specs.declared.error.SerdeError.TheVariants.{TooDeep, TooWide, NotCarried, Failed}
 use Rattle.smithy_shapes.specs.Site.{Site}
 use Rattle.smithy_shapes.specs.Value.{Value}
-use Rattle.smithy_schema.specs.Reading.{Cursor, Relations, Reads, StandsNot, IsRefused, IsInvalid, ReachesDepth, EndsTooDeep, ExceedsInside, UncarriedInside, IsCounted}
+use Rattle.smithy_schema.specs.Reading.{Cursor, Relations, Reads, StandsNot, IsRefused, IsInvalid, IsOfReader, ReachesDepth, EndsTooDeep, ExceedsInside, UncarriedInside, IsCounted}
 
 -- What a read says where a value was due at the site and the tree that was read stands for `view` of it: by the relations w, and
 -- by u, the relations with the limits lifted.
@@ -15,8 +15,7 @@ pub record ReadsValue {A : Type 0} (w u : Relations) (tells_without_limits : Typ
   pub refused : IsRefused result → StandsNot w old site.table site.place
   pub none_without_limits : tells_without_limits → IsInvalid result → StandsNot u old site.table site.place
   pub failed : IsErrOf result Failed ↔ (old.failed ≡ true)
-  pub supported : IsErrOf result Unsupported → ⊥
-  pub readable : IsErrOf result Unwritable → ⊥
+  pub reading : IfErr result IsOfReader
   -- `TooDeep`: where the reader failed, the bytes from there on reach the greatest depth
   pub deep : IsErrOf result TooDeep → ReachesDepth w max new
   -- and as many containers are open as may be where one more is due, or the wire limits the depth of what is skipped, too

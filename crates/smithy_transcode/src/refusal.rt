@@ -1,15 +1,16 @@
 //! Why a body is refused, as a transcoding says it.
 ghost use Rattle.std.specs.Prelude.{◌≢◌};
+ghost use Rattle.smithy_schema.specs.Reading.{IsOfReader};
 ghost use Rattle.smithy_transcode.specs.Refusal.{IsToldAs};
 
 use crate::wire::TranscodeError;
 use smithy_schema::SerdeError;
 
-// The refusal of a transcoding. Its readers and serializers haven't failed before, and write what was read.
+// The refusal of a transcoding. Its readers and serializers haven't failed before, and what was read is written unless memory is
+// wanting.
 pub(crate) fn refusal(error: SerdeError) -> TranscodeError
     requires sound { error ≢ SerdeError.Failed }
-    requires supported { error ≢ SerdeError.Unsupported }
-    requires written { error ≢ SerdeError.Unwritable }
+    requires reading { IsOfReader error }
     ensures { IsToldAs error result }
 {
     match error {
@@ -18,6 +19,10 @@ pub(crate) fn refusal(error: SerdeError) -> TranscodeError
         SerdeError::TooWide => TranscodeError::TooWide,
         SerdeError::NotCarried => TranscodeError::NotCarried,
         SerdeError::NoMemory => TranscodeError::NoMemory,
-        SerdeError::Failed | SerdeError::Unsupported | SerdeError::Unwritable => unreachable!(),
+        SerdeError::TypeMismatch
+        | SerdeError::Unsupported
+        | SerdeError::Unwritable
+        | SerdeError::Missing
+        | SerdeError::Failed => unreachable!(),
     }
 }

@@ -2,7 +2,7 @@
 ghost use Rattle.std.specs.Prelude.{◌≡◌, ◌≤◌, ◌<◌, ◌^◌, length, None, IfOk, IfErr, IsErrOf};
 ghost use Rattle.smithy_shapes.specs.Accepted.{IsAccepted};
 ghost use Rattle.smithy_shapes.specs.Fits.{Fits};
-ghost use Rattle.smithy_schema.specs.Reading.{IsRefused, IsInvalid};
+ghost use Rattle.smithy_schema.specs.Reading.{IsRefused, IsInvalid, IsOfReader};
 ghost use Rattle.smithy_shapes.specs.Table.{IsStructure, kind_of, shape_place};
 ghost use Rattle.smithy_transcode.specs.Causes.{IsTooDeep, IsWide, IsUncarried};
 ghost use Rattle.smithy_transcode.specs.Spelling.{Spells, body};
@@ -68,8 +68,7 @@ fn read_body(
     ensures wide { IsErrOf result SerdeError.TooWide → IsWide (wire_of from.now) shapes.now input.now }
     ensures uncarried { IsErrOf result SerdeError.NotCarried → IsUncarried (wire_of from.now) shapes.now input.now }
     ensures sound { IsErrOf result SerdeError.Failed → ⊥ }
-    ensures supported { IsErrOf result SerdeError.Unsupported → ⊥ }
-    ensures readable { IsErrOf result SerdeError.Unwritable → ⊥ }
+    ensures reading { IfErr result IsOfReader }
 {
     let schema = shapes.schema(root);
     match from {

@@ -38,7 +38,7 @@ module _ (w u : Relations) (tells_without_limits : Type 0) (max : ℕ) (site : S
   pub refuses : (old new : Cursor) → new ≡ failed_at old → old.at ≤ length old.input → old.failed ≡ false
       → (old.due ≡ true → StandsNot w old site.table at × StandsNot u old site.table at) → Says old new (Err InvalidInput)
   refuses old new stays within sound none = record {
-    conduct = conducts old new InvalidInput stays within sound (λ h. cc) (λ h. cc) (λ h. cc);
+    conduct = conducts old new InvalidInput stays within sound (λ h. cc) tt;
     deep = λ h. cc;
     limited = λ h. cc;
     narrow = λ h. cc;
@@ -53,7 +53,7 @@ module _ (w u : Relations) (tells_without_limits : Type 0) (max : ℕ) (site : S
   -- want of memory
   pub runs_out : (old new : Cursor) → new ≡ failed_at old → old.at ≤ length old.input → old.failed ≡ false → Says old new (Err NoMemory)
   runs_out old new stays within sound = record {
-    conduct = conducts old new NoMemory stays within sound (λ h. cc) (λ h. cc) (λ h. cc);
+    conduct = conducts old new NoMemory stays within sound (λ h. cc) tt;
     deep = λ h. cc;
     limited = λ h. cc;
     narrow = λ h. cc;
@@ -69,7 +69,7 @@ module _ (w u : Relations) (tells_without_limits : Type 0) (max : ℕ) (site : S
   pub is_too_deep : (old new : Cursor) → new ≡ failed_at old → old.at ≤ length old.input → old.failed ≡ false → old.due ≡ true
       → ReachesDepth w max old → w.limits_skips ≡ true → StandsNot w old site.table at → Says old new (Err TooDeep)
   is_too_deep old new stays within sound due reaches limits none = record {
-    conduct = conducts old new TooDeep stays within sound (λ h. cc) (λ h. cc) (λ h. cc);
+    conduct = conducts old new TooDeep stays within sound (λ h. cc) tt;
     deep = λ h. reaches;
     limited = λ h. limits;
     narrow = λ h. cc;
@@ -85,7 +85,7 @@ module _ (w u : Relations) (tells_without_limits : Type 0) (max : ℕ) (site : S
   pub carries_not : (old new : Cursor) → new ≡ failed_at old → old.at ≤ length old.input → old.failed ≡ false → old.due ≡ true
       → Uncarried w old site.table at → StandsNot w old site.table at → Says old new (Err NotCarried)
   carries_not old new stays within sound due there none = record {
-    conduct = conducts old new NotCarried stays within sound (λ h. cc) (λ h. cc) (λ h. cc);
+    conduct = conducts old new NotCarried stays within sound (λ h. cc) tt;
     deep = λ h. cc;
     limited = λ h. cc;
     narrow = λ h. cc;

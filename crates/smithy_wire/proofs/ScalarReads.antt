@@ -4,11 +4,11 @@ use Rattle.std.specs.Prelude.{IsErrOf, Result, Ok, Err, OnErr, IfOk, IfErr, IsOk
 use Rattle.smithy_texts.specs.Ranges.{fits_signed}
 use Rattle.smithy_shapes.specs.declared.shape_type.Scalar.{Scalar}
 use Rattle.smithy_schema.specs.declared.error.SerdeError.{SerdeError}
-use Rattle.smithy_schema.specs.declared.error.SerdeError.TheVariants.{InvalidInput, TooWide, NotCarried, Unsupported, Unwritable, Failed, NoMemory}
+use Rattle.smithy_schema.specs.declared.error.SerdeError.TheVariants.{InvalidInput, TooWide, NotCarried, Failed, NoMemory}
 use Rattle.smithy_shapes.specs.Table.{scalar_place}
 use Rattle.smithy_shapes.specs.Site.{Site}
 use Rattle.smithy_shapes.specs.Value.{ScalarValue, scalar_value}
-use Rattle.smithy_schema.specs.Reading.{Cursor, depth, Relations, IsLawful, StandsNot, IsInvalid, Exceeds, Uncarried, Conducts, ReadsScalar, AnswersWide, AnswersUncarried, failed_at, passed_to}
+use Rattle.smithy_schema.specs.Reading.{Cursor, depth, Relations, IsLawful, StandsNot, IsInvalid, IsOfReader, Exceeds, Uncarried, Conducts, ReadsScalar, AnswersWide, AnswersUncarried, failed_at, passed_to}
 use Rattle.smithy_wire.specs.Narrowing.{IsNarrowed, IsWider}
 
 -- what holds of an answer, said in other words
@@ -37,8 +37,7 @@ pub fails_again : {A : Type 0} (old new : Cursor) → new ≡ failed_at old → 
 fails_again old new stays within failed = record {
   failed = (λ h. failed, λ h. refl);
   stays = stays;
-  readable = λ h. cc;
-  supported = λ h. cc;
+  reading = tt;
   ahead = rw stays (omega arith);
   within = rw stays within;
 }
@@ -48,12 +47,11 @@ same_error e f h = cc
 
 -- a refusal that is neither an earlier failure nor a fault of writing
 pub conducts : {A : Type 0} (old new : Cursor) (e : SerdeError) → new ≡ failed_at old → old.at ≤ length old.input → old.failed ≡ false
-    → (e ≡ Failed → ⊥) → (e ≡ Unwritable → ⊥) → (e ≡ Unsupported → ⊥) → Conducts {A = A} old new (Err e)
-conducts old new e stays within sound unfailed readable supported = record {
+    → (e ≡ Failed → ⊥) → IsOfReader e → Conducts {A = A} old new (Err e)
+conducts old new e stays within sound unfailed reading = record {
   failed = (λ h. absurd (unfailed (same_error e Failed h)), λ h. absurd (let both : true ≡ false = sym h ∙ sound in cc));
   stays = stays;
-  readable = λ h. readable (same_error e Unwritable h);
-  supported = λ h. supported (same_error e Unsupported h);
+  reading = reading;
   ahead = rw stays (omega arith);
   within = rw stays within;
 }
@@ -63,8 +61,7 @@ pub goes_on : {A : Type 0} (old new : Cursor) (x : A) → old.failed ≡ false �
 goes_on old new x sound ahead within = record {
   failed = (λ h. cc, λ h. absurd (let both : true ≡ false = sym h ∙ sound in cc));
   stays = tt;
-  readable = λ h. cc;
-  supported = λ h. cc;
+  reading = tt;
   ahead = ahead;
   within = within;
 }
@@ -94,7 +91,7 @@ module _ {A : Type 0} (w u : Relations) (tells_without_limits : Type 0) (site : 
   pub refuses : (old new : Cursor) → new ≡ failed_at old → old.at ≤ length old.input → old.failed ≡ false → (old.due ≡ true → NoneStands old)
       → Says old new (Err InvalidInput)
   refuses old new stays within sound none = record {
-    conduct = conducts old new InvalidInput stays within sound (λ h. cc) (λ h. cc) (λ h. cc);
+    conduct = conducts old new InvalidInput stays within sound (λ h. cc) tt;
     shallow = λ h. cc;
     wide = λ h. cc;
     uncarried = λ h. cc;
@@ -107,7 +104,7 @@ module _ {A : Type 0} (w u : Relations) (tells_without_limits : Type 0) (site : 
   -- want of memory
   pub runs_out : (old new : Cursor) → new ≡ failed_at old → old.at ≤ length old.input → old.failed ≡ false → Says old new (Err NoMemory)
   runs_out old new stays within sound = record {
-    conduct = conducts old new NoMemory stays within sound (λ h. cc) (λ h. cc) (λ h. cc);
+    conduct = conducts old new NoMemory stays within sound (λ h. cc) tt;
     shallow = λ h. cc;
     wide = λ h. cc;
     uncarried = λ h. cc;
@@ -121,7 +118,7 @@ module _ {A : Type 0} (w u : Relations) (tells_without_limits : Type 0) (site : 
   pub exceeds_limits : (old new : Cursor) → new ≡ failed_at old → old.at ≤ length old.input → old.failed ≡ false → old.due ≡ true
       → Exceeds w old site.table (scalar_place s site.place.time) → StandsNot w old site.table (scalar_place s site.place.time) → Says old new (Err TooWide)
   exceeds_limits old new stays within sound due there none = record {
-    conduct = conducts old new TooWide stays within sound (λ h. cc) (λ h. cc) (λ h. cc);
+    conduct = conducts old new TooWide stays within sound (λ h. cc) tt;
     shallow = λ h. cc;
     wide = λ h. there;
     uncarried = λ h. cc;
@@ -135,7 +132,7 @@ module _ {A : Type 0} (w u : Relations) (tells_without_limits : Type 0) (site : 
   pub carries_not : (old new : Cursor) → new ≡ failed_at old → old.at ≤ length old.input → old.failed ≡ false → old.due ≡ true
       → Uncarried w old site.table (scalar_place s site.place.time) → StandsNot w old site.table (scalar_place s site.place.time) → Says old new (Err NotCarried)
   carries_not old new stays within sound due there none = record {
-    conduct = conducts old new NotCarried stays within sound (λ h. cc) (λ h. cc) (λ h. cc);
+    conduct = conducts old new NotCarried stays within sound (λ h. cc) tt;
     shallow = λ h. cc;
     wide = λ h. cc;
     uncarried = λ h. there;

@@ -72,19 +72,13 @@ returns-in-Json-clause-sound c =
     let begins = json_begins (wire_of c.args.from.now) c.in-Json.use_json_name (reading_settings_of c.create_deserializer-source.result) (cursor_of c.create_deserializer-source.result) c.schema-schema.result c.args.shapes.now c.args.root.0 c.args.input.now (ap wire_of c.in-Json.is) (c.create_deserializer-source.ensures.settings ∙ c.strict.ensures) c.create_deserializer-source.ensures.fresh c.schema-schema.ensures.site c.requires.root in
     λ is. had_not_failed begins (c.read_tree.ensures.reads.failed.0 is)
 
-pub returns-in-Json-clause-supported : goal.returns-in-Json-clause-supported
-returns-in-Json-clause-supported c = c.read_tree.ensures.reads.supported
-
-pub returns-in-Json-clause-readable : goal.returns-in-Json-clause-readable
-returns-in-Json-clause-readable c = c.read_tree.ensures.reads.readable
+pub returns-in-Json-clause-reading : goal.returns-in-Json-clause-reading
+returns-in-Json-clause-reading c = c.read_tree.ensures.reads.reading
 
 pub returns-in-Cbor-clause-sound : goal.returns-in-Cbor-clause-sound
 returns-in-Cbor-clause-sound c =
     let begins = cbor_begins (wire_of c.args.from.now) (cbor_settings_of c.create_deserializer-source-in-Cbor.result) (cbor_cursor_of c.create_deserializer-source-in-Cbor.result) c.schema-schema.result c.args.shapes.now c.args.root.0 c.args.input.now (ap wire_of c.in-Cbor.is) (c.create_deserializer-source-in-Cbor.ensures.settings ∙ c.strict-in-Cbor.ensures) c.create_deserializer-source-in-Cbor.ensures.fresh c.schema-schema.ensures.site c.requires.root in
     λ is. had_not_failed begins (c.read_tree-in-Cbor.ensures.reads.failed.0 is)
 
-pub returns-in-Cbor-clause-supported : goal.returns-in-Cbor-clause-supported
-returns-in-Cbor-clause-supported c = c.read_tree-in-Cbor.ensures.reads.supported
-
-pub returns-in-Cbor-clause-readable : goal.returns-in-Cbor-clause-readable
-returns-in-Cbor-clause-readable c = c.read_tree-in-Cbor.ensures.reads.readable
+pub returns-in-Cbor-clause-reading : goal.returns-in-Cbor-clause-reading
+returns-in-Cbor-clause-reading c = c.read_tree-in-Cbor.ensures.reads.reading

@@ -53,7 +53,7 @@ returns-in-Ok-End-clause-ok c =
 pub returns-in-Err-clause-conduct : goal.returns-in-Err-clause-conduct
 returns-in-Err-clause-conduct c =
     refusal_conducts (cursor_of c.args.self.now) (walk_cursor c.refuse.new.self) c.refuse.result c.in-Err.error c.refuse.ensures.error c.requires.sound
-    c.in-Err.ensures.sound c.in-Err.ensures.readable c.in-Err.ensures.supported (search rules) c.refuse.ensures.stays
+    c.in-Err.ensures.sound c.in-Err.ensures.reading (search rules) c.refuse.ensures.stays
 
 pub returns-in-Err-clause-refused : goal.returns-in-Err-clause-refused
 returns-in-Err-clause-refused c = λ fault.

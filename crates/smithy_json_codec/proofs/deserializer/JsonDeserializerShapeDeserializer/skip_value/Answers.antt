@@ -18,7 +18,7 @@ pub returns-in-Err-clause-conduct : goal.returns-in-Err-clause-conduct
 returns-in-Err-clause-conduct c =
     let same : c.ready.new.self ≡ c.args.self.now.walk = c.in_ok-ready.ensures.ok in
     let sound : c.args.self.now.walk.failed ≡ false = search rules in
-    refusal_conducts (cursor_of c.args.self.now) (walk_cursor c.refuse.new.self) c.refuse.result c.in-Err.error c.refuse.ensures.error sound (search rules) (search rules) (search rules) (search rules) (rw same at c.refuse.ensures.stays)
+    refusal_conducts (cursor_of c.args.self.now) (walk_cursor c.refuse.new.self) c.refuse.result c.in-Err.error c.refuse.ensures.error sound (search rules) c.in-Err.ensures.reading (search rules) (rw same at c.refuse.ensures.stays)
 
 pub returns-in-Err-clause-refused : goal.returns-in-Err-clause-refused
 returns-in-Err-clause-refused c =
