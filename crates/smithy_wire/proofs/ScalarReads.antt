@@ -1,6 +1,7 @@
 -- A read of a scalar: what was found stands there, and where nothing was found nothing stands.
 use Rattle.std.proofs.Common.{◌≡◌, ◌≤◌, ℕ, ℤ, length, Bool, true, false, Option, Some, None, refl, sym, ◌∙◌, ap, subst, arith, ◌⊎◌, inl, inr}
-use Rattle.std.specs.Prelude.{IsErrOf, Result, Ok, Err, OnErr, IfOk, IfErr, IsOk, IsErr, IfSome, IfNone, IsSome, IsNone, if◌then◌else◌}
+use Rattle.std.specs.Prelude.{IsErrOf, Result, Ok, Err, OnErr, IfOk, IfErr, IsOk, IsErr, IfSome, IfNone, IsSome, IsNone, MatchOption, if◌then◌else◌}
+use Rattle.std.specs.declared.alloc.AllocError.{AllocError}
 use Rattle.smithy_texts.specs.Ranges.{fits_signed}
 use Rattle.smithy_shapes.specs.declared.shape_type.Scalar.{Scalar}
 use Rattle.smithy_schema.specs.declared.error.SerdeError.{SerdeError}
@@ -9,6 +10,9 @@ use Rattle.smithy_shapes.specs.Table.{scalar_place}
 use Rattle.smithy_shapes.specs.Site.{Site}
 use Rattle.smithy_shapes.specs.Value.{ScalarValue, scalar_value}
 use Rattle.smithy_schema.specs.Reading.{Cursor, depth, Relations, IsLawful, StandsNot, IsInvalid, IsOfReader, Exceeds, Uncarried, Conducts, ReadsScalar, AnswersWide, AnswersUncarried, failed_at, passed_to}
+use Rattle.smithy_wire.specs.declared.found.Found.{Found}
+use Rattle.smithy_wire.specs.declared.found.Found.TheVariants.{Value, Nothing, Beyond}
+use Rattle.smithy_wire.specs.Finding.{MatchFound, Takes, TakesWithin}
 use Rattle.smithy_wire.specs.Narrowing.{IsNarrowed, IsWider}
 
 -- what holds of an answer, said in other words
@@ -23,6 +27,17 @@ if_none (Some x) P Q turn h = tt
 pub if_ok : {A E : Type 0} (answer : Result A E) (P Q : A → Type 0) → ((x : A) → P x → Q x) → IfOk answer P → IfOk answer Q
 if_ok (Ok x) P Q turn h = turn x h
 if_ok (Err e) P Q turn h = tt
+
+pub if_matched : {A : Type 0} (answer : Option A) (M N : Type 0) (P Q : A → Type 0) → (M → N) → ((x : A) → P x → Q x)
+    → MatchOption answer M P → MatchOption answer N Q
+if_matched None M N P Q none turn h = none h
+if_matched (Some x) M N P Q none turn h = turn x h
+
+pub if_found : {A : Type 0} (answer : Found A) (P Q : A → Type 0) (M N B C : Type 0) → ((x : A) → P x → Q x) → (M → N) → (B → C)
+    → MatchFound answer P M B → MatchFound answer Q N C
+if_found (Value x) P Q M N B C turn none beyond h = turn x h
+if_found Nothing P Q M N B C turn none beyond h = none h
+if_found Beyond P Q M N B C turn none beyond h = beyond h
 
 -- a reader that is ready hasn't failed, and a value is due
 pub was_ready : (failed due : Bool) → ◌≡◌ {A = Result Unit SerdeError} (Ok tt) (if failed then Err Failed else (if due then Ok tt else Err InvalidInput)) → (failed ≡ false) × (due ≡ true)
@@ -180,6 +195,63 @@ module _ {A : Type 0} (w u : Relations) (tells_without_limits : Type 0) (site : 
     takes new None (Ok x) stands none taken some fails stays error = absurd (let no' = some refl in cc)
     takes new (Some r) (Err e) stands none taken some fails stays error = absurd (let no' = fails refl in cc)
     takes new None (Err e) stands none taken some fails stays error = rw error (refuses old new stays within sound (λ due. none))
+
+    -- of what a search that takes memory found, or not
+    pub takes_found : (new : Cursor) (found : Result (Option (A × ℕ)) AllocError) (result : Result A SerdeError)
+        → IfOk found (λ o. MatchOption o (NoneStands old) (λ r. Stands r.0 r.1)) → Takes old new found result → Says old new result
+    takes_found new (Ok (Some r)) result stands taken = rw taken.0 (reads new r.0 r.1 stands taken.1)
+    takes_found new (Ok None) result none taken = rw taken.0 (refuses old new taken.1 within sound (λ due. none))
+    takes_found new (Err e) result none taken = rw taken.0 (runs_out old new taken.1 within sound)
+
+    -- the same of a kind that excludes something, which is refused with an error of its own
+    takes_excluding : (own : SerdeError) (There : Type 0) (new : Cursor) (found : Result (Found (A × ℕ)) AllocError) (result : Result A SerdeError)
+        → (new ≡ failed_at old → There → StandsNot w old site.table (scalar_place s site.place.time) → Says old new (Err own))
+        → IfOk found (λ f. MatchFound f (λ r. Stands r.0 r.1) (NoneStands old) (There × StandsNot w old site.table (scalar_place s site.place.time)))
+        → TakesWithin old new own found result → Says old new result
+    takes_excluding own There new (Ok (Value r)) result says stands taken = rw taken.0 (reads new r.0 r.1 stands taken.1)
+    takes_excluding own There new (Ok Nothing) result says none taken = rw taken.0 (refuses old new taken.1 within sound (λ due. none))
+    takes_excluding own There new (Ok Beyond) result says there taken = rw taken.0 (says taken.1 there.0 there.1)
+    takes_excluding own There new (Err e) result says none taken = rw taken.0 (runs_out old new taken.1 within sound)
+
+    -- it answers so wherever such a thing stands
+    answers_excluded : (own : SerdeError) (There : Type 0) (new : Cursor) (found : Result (Found (A × ℕ)) AllocError) (result : Result A SerdeError)
+        → (There → StandsNot w old site.table (scalar_place s site.place.time))
+        → IfOk found (λ f. MatchFound f (λ r. Stands r.0 r.1) (There → ⊥) (Unit {0})) → TakesWithin old new own found result → There
+        → IsErrOf result own ⊎ IsErrOf result NoMemory
+    answers_excluded own There new (Ok (Value r)) result not' stands taken there = absurd (not' there (scalar_value (value r.0)) r.1 stands)
+    answers_excluded own There new (Ok Nothing) result not' none taken there = absurd (none there)
+    answers_excluded own There new (Ok Beyond) result not' tt taken there = inl taken.0
+    answers_excluded own There new (Err e) result not' none taken there = inr taken.0
+
+    -- of a big number, which may leave its limits
+    pub takes_within_limits : (new : Cursor) (found : Result (Found (A × ℕ)) AllocError) (result : Result A SerdeError)
+        → IfOk found (λ f. MatchFound f (λ r. Stands r.0 r.1) (NoneStands old)
+        (Exceeds w old site.table (scalar_place s site.place.time) × StandsNot w old site.table (scalar_place s site.place.time)))
+        → TakesWithin old new TooWide found result → Says old new result
+    takes_within_limits new found result =
+        takes_excluding TooWide (Exceeds w old site.table (scalar_place s site.place.time)) new found result (λ stays there none. exceeds_limits old new stays within sound due there none)
+
+    pub answers_past_limits : (new : Cursor) (found : Result (Found (A × ℕ)) AllocError) (result : Result A SerdeError)
+        → (Exceeds w old site.table (scalar_place s site.place.time) → StandsNot w old site.table (scalar_place s site.place.time))
+        → IfOk found (λ f. MatchFound f (λ r. Stands r.0 r.1) (Exceeds w old site.table (scalar_place s site.place.time) → ⊥) (Unit {0}))
+        → TakesWithin old new TooWide found result → AnswersWide w old site s result
+    answers_past_limits new found result not' stands taken due' sound' there =
+        answers_excluded TooWide (Exceeds w old site.table (scalar_place s site.place.time)) new found result not' stands taken there
+
+    -- of a kind that can't carry all that is written like it
+    pub takes_what_is_carried : (new : Cursor) (found : Result (Found (A × ℕ)) AllocError) (result : Result A SerdeError)
+        → IfOk found (λ f. MatchFound f (λ r. Stands r.0 r.1) (NoneStands old)
+        (Uncarried w old site.table (scalar_place s site.place.time) × StandsNot w old site.table (scalar_place s site.place.time)))
+        → TakesWithin old new NotCarried found result → Says old new result
+    takes_what_is_carried new found result =
+        takes_excluding NotCarried (Uncarried w old site.table (scalar_place s site.place.time)) new found result (λ stays there none. carries_not old new stays within sound due there none)
+
+    pub answers_what_is_not : (new : Cursor) (found : Result (Found (A × ℕ)) AllocError) (result : Result A SerdeError)
+        → (Uncarried w old site.table (scalar_place s site.place.time) → StandsNot w old site.table (scalar_place s site.place.time))
+        → IfOk found (λ f. MatchFound f (λ r. Stands r.0 r.1) (Uncarried w old site.table (scalar_place s site.place.time) → ⊥) (Unit {0}))
+        → TakesWithin old new NotCarried found result → AnswersUncarried w old site s result
+    answers_what_is_not new found result not' stands taken due' sound' there =
+        answers_excluded NotCarried (Uncarried w old site.table (scalar_place s site.place.time)) new found result not' stands taken there
 
     -- the same of what took memory to find
     pub takes_result : (new : Cursor) (found : Result (A × ℕ) SerdeError) (result : Result A SerdeError) → IfOk found (λ r. Stands r.0 r.1)

@@ -16,8 +16,9 @@ pub mod Written
 pub mod Writes
 -- whole numbers in the bits of their kinds
 pub mod Narrowing
--- where a reader stands, and which containers a serializer has open
+-- where a reader stands, what it finds there, and which containers a serializer has open
 pub mod Walking
+pub mod Finding
 pub mod OpenContainers
 -- what the laws are proved by
 pub mod Lemmas

@@ -1,8 +1,9 @@
 //! Where a reader stands in an input, and the moves that every reader makes.
 ghost use Rattle.std.specs.Prelude.{◌≤◌, length, vec_len};
 
+use crate::found::Found;
 use smithy_schema::SerdeError;
-use std::alloc::Global;
+use std::alloc::{AllocError, Global};
 
 /// What a frame is of: a kind of container, or what stands outside of all containers.
 #[derive(Clone, Copy)]
@@ -54,6 +55,7 @@ impl<'a> Walk<'a> {
     ghost use Rattle.std.specs.Prelude.{◌≡◌, ◌≤◌, ◌<◌, ◌∷◌, length, Ok, Err, IfOk, IfErr, IfSome, IsOk, IsErr, IsSome, IsNone, OnOk, OnErr, IsErrOf, true, false, if◌then◌else◌, vec_len};
     ghost use Rattle.smithy_schema.specs.Reading.{IsOfReader, RefusesNoScalar, depth, failed_at, passed_to};
     ghost use Rattle.smithy_schema.specs.declared.error.SerdeError.TheVariants.{Failed, InvalidInput, NoMemory, TooDeep};
+    ghost use Rattle.smithy_wire.specs.Finding.{MatchFound, Takes, TakesWithin};
     ghost use Rattle.smithy_wire.specs.Walking.{cursor_of, fresh_cursor, entered_into, gone_on_to, frame_of};
 
     /// A walk that begins.
@@ -160,6 +162,46 @@ impl<'a> Walk<'a> {
                 Ok(value)
             }
             Err(error) => Err(self.refuse(error)),
+        }
+    }
+
+    /// Goes on behind what a search that takes memory found, or refuses: nothing stands there, or memory was wanting.
+    pub fn take_found<T: Drop>(
+        &mut self,
+        found: Result<Option<(T, usize)>, AllocError>,
+    ) -> Result<T, SerdeError>
+        requires { IfOk found (λ o. IfSome o (λ r. r.1 ≤ length self.old.input.now)) }
+        ensures same { self.new.max_depth ≡ self.old.max_depth }
+        ensures taken { Takes (cursor_of self.old) (cursor_of self.new) found result }
+    {
+        match found {
+            Ok(Some((value, end))) => {
+                self.pass(end);
+                Ok(value)
+            }
+            Ok(None) => Err(self.refuse(SerdeError::InvalidInput)),
+            Err(_) => Err(self.refuse(SerdeError::NoMemory)),
+        }
+    }
+
+    /// The same of a kind that excludes something, which is refused with an error of its own.
+    pub fn take_within<T: Drop>(
+        &mut self,
+        found: Result<Found<(T, usize)>, AllocError>,
+        beyond: SerdeError,
+    ) -> Result<T, SerdeError>
+        requires { IfOk found (λ f. MatchFound f (λ r. r.1 ≤ length self.old.input.now) (Unit {0}) (Unit {0})) }
+        ensures same { self.new.max_depth ≡ self.old.max_depth }
+        ensures taken { TakesWithin (cursor_of self.old) (cursor_of self.new) beyond found result }
+    {
+        match found {
+            Ok(Found::Value((value, end))) => {
+                self.pass(end);
+                Ok(value)
+            }
+            Ok(Found::Nothing) => Err(self.refuse(SerdeError::InvalidInput)),
+            Ok(Found::Beyond) => Err(self.refuse(beyond)),
+            Err(_) => Err(self.refuse(SerdeError::NoMemory)),
         }
     }
 

@@ -1,0 +1,34 @@
+-- What a search for a value of one kind answers, and what a walk makes of it.
+use Rattle.std.specs.Prelude.{◌≡◌, ℕ, Result, Ok, Err, MatchResult, Option, MatchOption}
+use Rattle.std.specs.declared.alloc.AllocError.{AllocError}
+use Rattle.smithy_schema.specs.Reading.{Cursor, failed_at, passed_to}
+use Rattle.smithy_schema.specs.declared.error.SerdeError.{SerdeError}
+use Rattle.smithy_schema.specs.declared.error.SerdeError.TheVariants.{InvalidInput, NoMemory}
+use Rattle.smithy_wire.specs.declared.found.Found.{Found}
+use Rattle.smithy_wire.specs.declared.found.Found.TheVariants.{Value, Nothing, Beyond}
+
+-- the first holds of the value, the second where nothing of the kind stands, the third where something does that the kind excludes
+abbrev pub MatchFound : {A : Type 0} → Found A → (A → Type 0) → Type 0 → Type 0 → Type 0
+MatchFound (Value x) P none beyond = P x
+MatchFound Nothing P none beyond = none
+MatchFound Beyond P none beyond = beyond
+
+-- the read answers the value, and goes on behind it
+abbrev pub Passes : {A : Type 0} → Cursor → Cursor → A × ℕ → Result A SerdeError → Type 0
+Passes old new found result = (result ≡ Ok found.0) × (new ≡ passed_to old found.1)
+
+-- the read is refused with the error, and the reader has failed
+abbrev pub Refuses : {A : Type 0} → Cursor → Cursor → SerdeError → Result A SerdeError → Type 0
+Refuses old new error result = (result ≡ Err error) × (new ≡ failed_at old)
+
+-- the read answers what was found
+abbrev pub Takes : {A : Type 0} → Cursor → Cursor → Result (Option (A × ℕ)) AllocError → Result A SerdeError → Type 0
+Takes old new found result = MatchResult found
+    (λ o. MatchOption o (Refuses old new InvalidInput result) (λ r. Passes old new r result))
+    (λ _. Refuses old new NoMemory result)
+
+-- the same of a kind that excludes something, which is refused with an error of its own
+abbrev pub TakesWithin : {A : Type 0} → Cursor → Cursor → SerdeError → Result (Found (A × ℕ)) AllocError → Result A SerdeError → Type 0
+TakesWithin old new beyond found result = MatchResult found
+    (λ f. MatchFound f (λ r. Passes old new r result) (Refuses old new InvalidInput result) (Refuses old new beyond result))
+    (λ _. Refuses old new NoMemory result)
