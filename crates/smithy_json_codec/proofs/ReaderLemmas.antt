@@ -1,5 +1,5 @@
 -- What a reader finds in an input, as a relation of reading, and what it doesn't find.
-use Rattle.std.proofs.Common.{◌≡◌, ◌⊎◌, ◌<◌, ℕ, zero, suc, List, [], drop, Option, Some, None, Bool, true, false, refl, sym, ◌∙◌, ap, subst, inl, inr}
+use Rattle.std.proofs.Common.{◌≡◌, ◌⊎◌, ◌<◌, ℕ, zero, suc, List, [], drop, Option, Some, None, Bool, true, false, not, refl, sym, ◌∙◌, ap, subst, inl, inr}
 use Rattle.std.specs.Str.{bytes_eq}
 use Rattle.std.proofs.lemmas.Slice.Eq.{bytes_eq-Decides}
 use Rattle.smithy_shapes.specs.declared.place.Place.{Place}
@@ -97,16 +97,16 @@ module _ (o : Settings) (i : List ℕ) (t : Table) (p : Place) (kind : IsMap (ki
 -- ---- a structure or a union at a place
 
 -- under a mark a null is dropped, as no member has this name
-unnamed_drops_null : (r : Rules JsonScalar) (k : Kind) (position : Option ℕ) → HasMembers k → position ≡ None → drops_null r k position ≡ true
-unnamed_drops_null r (structure_of members) position h is = rw is refl
-unnamed_drops_null r (union_of members) position h is = rw is refl
-unnamed_drops_null r _ position h is = absurd h
+unnamed_drops_null : (r : Rules JsonScalar) → r.keeps_null None ≡ false → (k : Kind) (position : Option ℕ) → HasMembers k → position ≡ None → drops_null r k position ≡ true
+unnamed_drops_null r none (structure_of members) position h is = rw is (ap not none)
+unnamed_drops_null r none (union_of members) position h is = rw is (ap not none)
+unnamed_drops_null r none _ position h is = absurd h
 
-mark_drops_null : (r : Rules JsonScalar) (k : Kind) (text : List ℕ) → HasMembers k → is_mark r k (Some text) ≡ true → drops_null r k (position_in r k (Some text)) ≡ true
-mark_drops_null r k text h is = by (position_in r k (Some text)) refl
+mark_drops_null : (r : Rules JsonScalar) → r.keeps_null None ≡ false → (k : Kind) (text : List ℕ) → HasMembers k → is_mark r k (Some text) ≡ true → drops_null r k (position_in r k (Some text)) ≡ true
+mark_drops_null r none k text h is = by (position_in r k (Some text)) refl
   where
     by : (position : Option ℕ) → position_in r k (Some text) ≡ position → drops_null r k (position_in r k (Some text)) ≡ true
-    by None same = unnamed_drops_null r k (position_in r k (Some text)) h same
+    by None same = unnamed_drops_null r none k (position_in r k (Some text)) h same
     by (Some n) same = absurd (let clash : true ≡ false = sym is ∙ member_is_no_mark r k text n same in cc)
 
 module _ (o : Settings) (i : List ℕ) (t : Table) (p : Place) (kind : HasMembers (kind_of t p)) where
@@ -204,7 +204,7 @@ module _ (o : Settings) (i : List ℕ) (t : Table) (p : Place) (kind : HasMember
           → json_frames.null i d c e ⊎ (IsMark × (json_relations o).skips i d c e) → ⊥
       mark_not_dropped at entered mark IsMark c e same (inl null_lies) =
           mark.no_null e (subst (λ c. TreeLies 1 null i c e) same (token_null i d c e null_lies))
-          (type_name, mark.is_mark, dropped type_name ∙ mark_drops_null (json_rules o) (kind_of t p) type_name kind (sym marked ∙ mark.passes_marks))
+          (type_name, mark.is_mark, dropped type_name ∙ mark_drops_null (json_rules o) refl (kind_of t p) type_name kind (sym marked ∙ mark.passes_marks))
       mark_not_dropped at entered mark IsMark c e same (inr (is, skipped)) =
           stays_unskipped mark.value mark.stays e (subst (λ c. (json_relations o).skips i d c e) same skipped)
 

@@ -1,5 +1,6 @@
 -- What a JSON value means at a place of a table: what its node means under the rules of JSON.
-use Rattle.std.specs.Prelude.{ℕ, Option, Some, None, true}
+use Rattle.std.specs.Prelude.{ℕ, Option, Some, None, true, false}
+use Rattle.std.specs.Option.{option_map_or}
 use Rattle.smithy_shapes.specs.declared.place.Place.{Place}
 use Rattle.smithy_shapes.specs.Table.{Table, is_document_place}
 use Rattle.smithy_shapes.specs.TimeForms.{form_or}
@@ -40,7 +41,7 @@ rules_of c = record {
   name_of = name_of c;
   max_depth = c.max_depth;
   limits = c.limits;
-  keeps_null = is_document_place;
+  keeps_null = λ place. option_map_or is_document_place place false;
   may_skip_scalar = λ x. true;
 }
 

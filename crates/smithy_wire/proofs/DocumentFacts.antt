@@ -1,4 +1,5 @@
 -- Examples of what nodes mean where documents are due, and of the nodes that are written for them, by computing.
+use Rattle.std.specs.Option.{option_map_or}
 use Rattle.std.specs.Prelude.{◌≡◌, ℕ, ℤ, pos, neg_ℤ, int_lt, unsigned_abs, List, [], ◌∷◌, map as list_map, Bool, true, false, Option, Some, None, refl, codes, if◌then◌else◌}
 use Rattle.smithy_types.specs.Document.{Document, null, boolean, number, text, array, object, no_documents, item, no_properties, property}
 use Rattle.smithy_types.specs.declared.number.Number.{Number}
@@ -44,7 +45,7 @@ rules documents limits = record {
   name_of = λ m. m.name;
   max_depth = 4;
   limits = limits;
-  keeps_null = is_document_place;
+  keeps_null = λ q. option_map_or is_document_place q false;
   may_skip_scalar = λ x. true;
 }
 

@@ -58,7 +58,7 @@ variant_member t k members n v kind fits =
     (m.0, union_member k members n m.0 kind m.1, m.2)
 
 -- a null that a member keeps is there
-kept_stays : {L : Type 0} (r : Rules L) (k : Kind) (n : ℕ) (q : Place) → place_in k (Some n) ≡ Some q → r.keeps_null q ≡ true → drops_null r k (Some n) ≡ false
+kept_stays : {L : Type 0} (r : Rules L) (k : Kind) (n : ℕ) (q : Place) → place_in k (Some n) ≡ Some q → r.keeps_null (Some q) ≡ true → drops_null r k (Some n) ≡ false
 kept_stays r (structure_of members) n q placed keeps = rw (placed, keeps) refl
 kept_stays r (union_of members) n q placed keeps = rw (placed, keeps) refl
 kept_stays r _ n q placed keeps = refl

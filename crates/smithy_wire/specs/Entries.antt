@@ -12,17 +12,9 @@ use Rattle.smithy_wire.specs.Frames.{Frames, Lies, IsTold, Drops, DropsAll, rela
 use Rattle.smithy_wire.specs.Lemmas.Places.{members_are_object, list_is_array, map_is_object}
 
 -- where no place keeps nulls, structures and unions drop each
-pub drops_each : {L : Type 0} (r : Rules L) → ((q : Place) → r.keeps_null q ≡ false) → (k : Kind) → HasMembers k → (n : Option ℕ) → drops_null r k n ≡ true
-drops_each r none (structure_of members) h n = nowhere (member_place members n)
-  where
-    nowhere : (q : Option Place) → not (option_map_or r.keeps_null q false) ≡ true
-    nowhere None = refl
-    nowhere (Some q) = ap not (none q)
-drops_each r none (union_of members) h n = nowhere (member_place members n)
-  where
-    nowhere : (q : Option Place) → not (option_map_or r.keeps_null q false) ≡ true
-    nowhere None = refl
-    nowhere (Some q) = ap not (none q)
+pub drops_each : {L : Type 0} (r : Rules L) → ((q : Option Place) → r.keeps_null q ≡ false) → (k : Kind) → HasMembers k → (n : Option ℕ) → drops_null r k n ≡ true
+drops_each r none (structure_of members) h n = ap not (none (member_place members n))
+drops_each r none (union_of members) h n = ap not (none (member_place members n))
 drops_each r none _ h n = absurd h
 
 -- lists and maps drop none

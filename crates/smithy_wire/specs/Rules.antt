@@ -59,8 +59,8 @@ pub record Rules (L : Type 0) : Type 0 where
   pub name_of : Member → List ℕ
   pub max_depth : ℕ
   pub limits : Limits
-  -- a null of a member with this place is handed on; any other null drops its entry
-  pub keeps_null : Place → Bool
+  -- a null of a member with this place, or of a key that names none, is handed on; any other null drops its entry
+  pub keeps_null : Option Place → Bool
   -- a scalar or a key that may stand in what is skipped
   pub may_skip_scalar : L → Bool
 
@@ -99,9 +99,9 @@ position_in r k key = option_and_then (position_named r.name_of (members_of k)) 
 -- a null under a key is dropped: in structures and unions alone, and not where its member keeps it
 abbrev pub drops_null : {L : Type 0} → Rules L → Kind → Option ℕ → Bool
 drops_null r (structure_of members) position =
-    not (option_map_or r.keeps_null (member_place members position) false)
+    not (r.keeps_null (member_place members position))
 drops_null r (union_of members) position =
-    not (option_map_or r.keeps_null (member_place members position) false)
+    not (r.keeps_null (member_place members position))
 drops_null r _ position = false
 
 -- an entry that is as good as not there

@@ -115,7 +115,7 @@ pub record ReadsLeaves {L : Type 0} (l : Leaves L) (r : Rules L) : Type 0 where
 pub record ReadsDocuments {L : Type 0} (l : Leaves L) (r : Rules L) : Type 0 where
   pub says : L → Answer (Document Number)
   pub carried : r.documents ≡ Some says
-  pub null_is_kept : (p : Place) → is_document_place p ≡ true → r.keeps_null p ≡ true
+  pub null_is_kept : (p : Place) → is_document_place p ≡ true → r.keeps_null (Some p) ≡ true
   pub boolean_means : (b : Bool) → says (l.leaf_of scalars.Boolean None (boolean b)) ≡ means (Document.boolean b)
   pub number_means : (n : ℤ) → is_document_number n ≡ true
       → (d : Document Number) × (says (l.leaf_of scalars.BigInteger None (whole n)) ≡ means d) × (whole_document d ≡ Document.number n)
