@@ -191,13 +191,14 @@ IsNoDate input at e =
     IsHeadFault (IsTag 1) input at e
     ⊎ IsFaultBehind (OpensAt 6 (Some 1)) (IsHeadFault IsSeconds) input at e
 
--- why no big integer is read; want of memory says nothing
+-- why no big integer is read; memory is wanted for one that stands there and fits
 abbrev pub IsBigIntegerFault : List ℕ → ℕ → DecodeKind → Type 0
 IsBigIntegerFault input at kind =
     IsKindOf (IsNoBigInteger input at) kind
     ⊎ ((kind ≡ TooWide)
     × ((z : ℤ) × (end : ℕ) × IsBigIntegerAt z input at end × ¬ (FitsSigned w128 z)))
-    ⊎ (kind ≡ NoMemory)
+    ⊎ ((kind ≡ NoMemory)
+    × ((z : ℤ) × (end : ℕ) × IsBigIntegerAt z input at end × FitsSigned w128 z))
 
 -- why no decimal is read
 abbrev pub IsDecimalFault : List ℕ → ℕ → DecodeKind → Type 0
@@ -206,7 +207,8 @@ IsDecimalFault input at kind =
     ⊎ ((kind ≡ TooWide)
     × ((exponent mantissa : ℤ) × (end : ℕ) × IsDecimalAt exponent mantissa input at end
     × ¬ (FitsDecimal exponent mantissa)))
-    ⊎ (kind ≡ NoMemory)
+    ⊎ ((kind ≡ NoMemory)
+    × ((exponent mantissa : ℤ) × (end : ℕ) × IsDecimalAt exponent mantissa input at end × FitsDecimal exponent mantissa))
 
 -- why no instant is read: no date stands there, one of a float, or one that leaves 64 bits
 abbrev pub IsInstantFault : List ℕ → ℕ → DecodeKind → Type 0

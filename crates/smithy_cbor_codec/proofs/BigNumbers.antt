@@ -101,7 +101,7 @@ pub integer_refused : (input : List ℕ) (at : ℕ) (kind : DecodeKind) → IsBi
 integer_refused input at kind (inl (err, same, fault)) other some x e there =
     none_or big_integer (big_integer_of x) refl (λ z is. no_big_integer_at x z input at e err is there fault)
 integer_refused input at kind (inr (inl (is, out))) other some x e there = absurd (other (ap number_refusal is))
-integer_refused input at kind (inr (inr is)) other some x e there = absurd (some (ap number_refusal is))
+integer_refused input at kind (inr (inr is)) other some x e there = absurd (some (ap number_refusal is.0))
 
 pub integer_leaves : (input : List ℕ) (at : ℕ) (kind : DecodeKind) → IsBigIntegerFault input at kind → number_refusal kind ≡ TooWide
     → (e : ℕ) × AnswersAt scalars.BigInteger input at e wide
@@ -115,7 +115,7 @@ integer_leaves input at kind (inr (inl (is, (z, e, (i, there, number_is), misfit
     is = ap big_integer number_is ∙ bounded_exceeds (fits_signed 128) (λ n. scalar_value (whole n)) z (leaves_wide z misfit);
   },
 )
-integer_leaves input at kind (inr (inr is)) h = let both : NoMemory ≡ TooWide = sym (ap number_refusal is) ∙ h in cc
+integer_leaves input at kind (inr (inr is)) h = let both : NoMemory ≡ TooWide = sym (ap number_refusal is.0) ∙ h in cc
 
 -- ---- decimal fractions
 
@@ -166,7 +166,7 @@ pub decimal_refused : (input : List ℕ) (at : ℕ) (kind : DecodeKind) → IsDe
 decimal_refused input at kind (inl (err, same, fault)) other some x e there =
     none_or (λ o. big_decimal (option_map form_of o)) (decimal_fraction_of x) refl (λ p is. no_decimal_at x p.0 p.1 input at e err is there fault)
 decimal_refused input at kind (inr (inl (is, out))) other some x e there = absurd (other (ap number_refusal is))
-decimal_refused input at kind (inr (inr is)) other some x e there = absurd (some (ap number_refusal is))
+decimal_refused input at kind (inr (inr is)) other some x e there = absurd (some (ap number_refusal is.0))
 
 pub decimal_leaves : (input : List ℕ) (at : ℕ) (kind : DecodeKind) → IsDecimalFault input at kind → number_refusal kind ≡ TooWide
     → (e : ℕ) × AnswersAt scalars.BigDecimal input at e wide
@@ -180,7 +180,7 @@ decimal_leaves input at kind (inr (inl (is, (x, m, e, (i, there, fraction), misf
     is = fraction_says i x m fraction ∙ bounded_exceeds is_in_limits value_of (form_of (x, m)) (parts_leave x m misfit);
   },
 )
-decimal_leaves input at kind (inr (inr is)) h = let both : NoMemory ≡ TooWide = sym (ap number_refusal is) ∙ h in cc
+decimal_leaves input at kind (inr (inr is)) h = let both : NoMemory ≡ TooWide = sym (ap number_refusal is.0) ∙ h in cc
 
 -- ---- refusals
 

@@ -45,3 +45,15 @@ returns-in-Ok-from_parts-clause-read c =
       same_input = refl;
       stands = (parts.0, found.0, found.1, (sym (ap is_exponent kept) ∙ exponent.0, mantissa.0), text);
     }
+
+pub returns-in-Err-from_parts-clause-refused : goal.returns-in-Err-from_parts-clause-refused
+returns-in-Err-from_parts-clause-refused c =
+    let parts = c.in-Ok.found in
+    let found = c.in-Ok.ensures.found in
+    let kept = to_z-of_z w128 parts.0 c.in-Ok.ensures.fits in
+    let mantissa = subst (λ (o : Option ℤ). SomeIff o (FitsSigned w128 found.0) found.0) c.in-Some-mantissa.is found.2 in
+    let refused = c.refused-in-Err-from_parts.ensures in
+    record {
+      cause = inr (inr (refused.kind, (parts.0, found.0, parts.2, found.1, (sym (ap is_exponent kept) ∙ c.in-Some.ensures.value.0, mantissa.0))));
+      place = refused.place;
+    }
