@@ -10,6 +10,7 @@ mod places;
 mod program;
 mod reading;
 mod reads;
+mod settings;
 mod sized;
 mod writes;
 mod writing;

@@ -3,6 +3,7 @@
 use crate::answers::{push_refusal, refused};
 use crate::consumers::consume_call;
 use crate::reads::{is_call, read_call};
+use crate::settings::cbor_settings;
 use crate::sized::{is_sized_call, sized_call};
 use smithy_cbor_codec::CborCodec;
 use smithy_json_codec::JsonCodec;
@@ -48,7 +49,7 @@ fn json_read(
 
 fn cbor_read(alloc: Global, shapes: &Shapes, row: &Row) -> Result<Vec<Field>, AllocError> {
     let input = row.bytes("input").unwrap_or(b"");
-    let mut source = CborCodec::strict().create_deserializer(alloc, input);
+    let mut source = CborCodec::new(cbor_settings(row)).create_deserializer(alloc, input);
     read(alloc, shapes, row, &mut source)
 }
 

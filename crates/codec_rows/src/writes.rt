@@ -40,6 +40,8 @@ pub fn write_call<S: ShapeSerializer>(
         "begin_struct" => Some(sink.begin_struct(&place)),
         "begin_list" => Some(sink.begin_list(&place, None)),
         "begin_map" => Some(sink.begin_map(&place, None)),
+        "begin_list_of" => Some(sink.begin_list(&place, Some(value.parse::<usize>().ok()?))),
+        "begin_map_of" => Some(sink.begin_map(&place, Some(value.parse::<usize>().ok()?))),
         "write_null" => Some(sink.write_null(&place)),
         _ => write_value(alloc, sink, &place, word, value),
     }

@@ -1,6 +1,7 @@
 //! Rows of calls on a serializer.
 
 use crate::answers::{push, push_refusal, push_shown, refused};
+use crate::settings::cbor_settings;
 use crate::writes::{is_call, write_call};
 use smithy_cbor_codec::CborCodec;
 use smithy_json_codec::JsonCodec;
@@ -46,7 +47,7 @@ fn json_written(
 }
 
 fn cbor_written(alloc: Global, shapes: &Shapes, row: &Row) -> Result<Vec<Field>, AllocError> {
-    let codec = CborCodec::strict();
+    let codec = CborCodec::new(cbor_settings(row));
     written(alloc, shapes, row, codec.create_serializer(alloc))
 }
 

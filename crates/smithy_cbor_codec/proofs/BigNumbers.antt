@@ -1,6 +1,6 @@
 -- What a decoder reads as a big number, and what it refuses, as what an item says.
 use Rattle.std.proofs.Common.{◌≡◌, inl, inr, ℕ, ℤ, List, Option, Some, None, refl, sym, ◌∙◌, ap, subst, Bool, true, false}
-use Rattle.std.specs.Prelude.{◌&&◌, ◌^◌, pos, negsuc, neg_ℤ, int_le, int_lt, option_map, FitsSigned, Result, Err, IsErrOf}
+use Rattle.std.specs.Prelude.{◌&&◌, ◌^◌, pos, negsuc, neg_ℤ, int_le, int_lt, option_map, FitsSigned, Result, Ok, Err, IfOk}
 use Rattle.std.specs.Fmt.{signed_decimal}
 use Rattle.std.proofs.Common.{arith}
 use Rattle.std.proofs.lemmas.Int.{ints}
@@ -12,22 +12,25 @@ use Rattle.smithy_texts.specs.Ranges.{fits_signed, is_exponent}
 use Rattle.smithy_texts.proofs.WrittenNumerals.{fits_signed-wide, small_wide, small_exponent, written_number, written_parts}
 use Rattle.smithy_shapes.specs.declared.shape_type.Scalar.{Scalar}
 use Rattle.smithy_shapes.specs.declared.shape_type.Scalar.TheVariants as scalars
-use Rattle.smithy_schema.specs.declared.error.SerdeError.{SerdeError}
-use Rattle.smithy_schema.specs.declared.error.SerdeError.TheVariants.{InvalidInput, TypeMismatch, TooDeep, TooWide, NotCarried, Unsupported, Unwritable, Missing, Failed, NoMemory}
-use Rattle.smithy_schema.specs.Reading.{IsInvalid}
-use Rattle.smithy_shapes.specs.Value.{whole, decimal, Value, scalar_value}
+use Rattle.smithy_shapes.specs.Value.{ScalarValue, whole, decimal, Value, scalar_value}
 use Rattle.cbor_item.specs.declared.error.ItemError.{ItemError}
 use Rattle.cbor_item.specs.declared.error.ItemError.TheVariants as item_errors
 use Rattle.cbor_item.specs.Item.{Item, unsigned, negative, byte_string, text_string, array, map, tag, simple, float}
 use Rattle.cbor_item.specs.WellFormed.{IsItemAt}
 use Rattle.smithy_cbor.specs.declared.error.DecodeKind.{DecodeKind}
+use Rattle.smithy_cbor.specs.declared.error.DecodeKind.TheVariants as kinds
 use Rattle.smithy_cbor.specs.Kind.{kind_of_item_error}
 use Rattle.smithy_cbor.specs.Scalar.{big_integer_of, decimal_fraction_of}
 use Rattle.smithy_cbor.specs.Reading.{IsBigIntegerText, IsDecimalText, FitsDecimal, IsBigIntegerFault, IsDecimalFault}
 use Rattle.smithy_cbor_codec.specs.Meaning.{node_of}
 use Rattle.smithy_cbor_codec.specs.Scalar.{says}
-use Rattle.smithy_cbor_codec.specs.Private.ScalarAtPlace.{number_refusal}
+use Rattle.smithy_cbor_codec.specs.Standing.{Follows}
+use Rattle.smithy_cbor_codec.specs.Private.ItemPlaces.{one_item}
+use Rattle.smithy_cbor_codec.specs.Private.ScalarAtPlace.{MeansAt, ExceedsAt, NothingAt, IsUnread}
 use Rattle.smithy_cbor_codec.proofs.BigNumberPlaces.{no_big_integer_at, no_decimal_at, fraction_is}
+use Rattle.smithy_wire.specs.declared.found.Found.{Found}
+use Rattle.smithy_wire.specs.declared.found.Found.TheVariants.{Value as FoundValue, Nothing, Beyond}
+use Rattle.smithy_wire.specs.Finding.{MatchFound}
 use Rattle.smithy_wire.specs.Node.{leaf}
 use Rattle.smithy_wire.specs.Rules.{Answer, means, no_meaning, wide}
 use Rattle.smithy_wire.specs.BigNumbers.{big_integer, is_in_limits, big_decimal}
@@ -45,7 +48,7 @@ abbrev pub NoneOf : Scalar → List ℕ → ℕ → Type 0
 NoneOf s input at = (x : Item) (e : ℕ) → IsItemAt x input at e → says s None x ≡ no_meaning
 
 -- the fault of an item is no number
-no_width : (e : ItemError) → number_refusal (kind_of_item_error e) ≡ TooWide → ⊥
+no_width : (e : ItemError) → kind_of_item_error e ≡ kinds.TooWide → ⊥
 no_width item_errors.Truncated h = cc
 no_width item_errors.NotWellFormed h = cc
 no_width item_errors.WrongType h = cc
@@ -96,16 +99,16 @@ none_or : {A B : Type 0} (f : Option A → Answer B) (o : Option A) → f None �
 none_or f None is never = is
 none_or f (Some a) is never = absurd (never a refl)
 
-pub integer_refused : (input : List ℕ) (at : ℕ) (kind : DecodeKind) → IsBigIntegerFault input at kind → (number_refusal kind ≡ TooWide → ⊥) → (number_refusal kind ≡ NoMemory → ⊥)
+pub integer_refused : (input : List ℕ) (at : ℕ) (kind : DecodeKind) → IsBigIntegerFault input at kind → (kind ≡ kinds.TooWide → ⊥) → (kind ≡ kinds.NoMemory → ⊥)
     → NoneOf scalars.BigInteger input at
 integer_refused input at kind (inl (err, same, fault)) other some x e there =
     none_or big_integer (big_integer_of x) refl (λ z is. no_big_integer_at x z input at e err is there fault)
-integer_refused input at kind (inr (inl (is, out))) other some x e there = absurd (other (ap number_refusal is))
-integer_refused input at kind (inr (inr is)) other some x e there = absurd (some (ap number_refusal is.0))
+integer_refused input at kind (inr (inl (is, out))) other some x e there = absurd (other is)
+integer_refused input at kind (inr (inr is)) other some x e there = absurd (some is)
 
-pub integer_leaves : (input : List ℕ) (at : ℕ) (kind : DecodeKind) → IsBigIntegerFault input at kind → number_refusal kind ≡ TooWide
+pub integer_leaves : (input : List ℕ) (at : ℕ) (kind : DecodeKind) → IsBigIntegerFault input at kind → kind ≡ kinds.TooWide
     → (e : ℕ) × AnswersAt scalars.BigInteger input at e wide
-integer_leaves input at kind (inl (err, same, fault)) h = absurd (no_width err (sym (ap number_refusal same) ∙ h))
+integer_leaves input at kind (inl (err, same, fault)) h = absurd (no_width err (sym same ∙ h))
 integer_leaves input at kind (inr (inl (is, (z, e, (i, there, number_is), misfit)))) h = (
   e,
   record {
@@ -115,7 +118,7 @@ integer_leaves input at kind (inr (inl (is, (z, e, (i, there, number_is), misfit
     is = ap big_integer number_is ∙ bounded_exceeds (fits_signed 128) (λ n. scalar_value (whole n)) z (leaves_wide z misfit);
   },
 )
-integer_leaves input at kind (inr (inr is)) h = let both : NoMemory ≡ TooWide = sym (ap number_refusal is.0) ∙ h in cc
+integer_leaves input at kind (inr (inr is)) h = let both : kinds.NoMemory ≡ kinds.TooWide = sym is ∙ h in cc
 
 -- ---- decimal fractions
 
@@ -161,16 +164,16 @@ decimal_fits t input at e (x, m, there, fits, text_is) =
     let w = written_parts m x (small_wide m fits.1) (small_exponent x fits.0) in
     subst (FitsSigned w128) (sym (ap mantissa text_is ∙ w.mantissa_is)) fits.1
 
-pub decimal_refused : (input : List ℕ) (at : ℕ) (kind : DecodeKind) → IsDecimalFault input at kind → (number_refusal kind ≡ TooWide → ⊥) → (number_refusal kind ≡ NoMemory → ⊥)
+pub decimal_refused : (input : List ℕ) (at : ℕ) (kind : DecodeKind) → IsDecimalFault input at kind → (kind ≡ kinds.TooWide → ⊥) → (kind ≡ kinds.NoMemory → ⊥)
     → NoneOf scalars.BigDecimal input at
 decimal_refused input at kind (inl (err, same, fault)) other some x e there =
     none_or (λ o. big_decimal (option_map form_of o)) (decimal_fraction_of x) refl (λ p is. no_decimal_at x p.0 p.1 input at e err is there fault)
-decimal_refused input at kind (inr (inl (is, out))) other some x e there = absurd (other (ap number_refusal is))
-decimal_refused input at kind (inr (inr is)) other some x e there = absurd (some (ap number_refusal is.0))
+decimal_refused input at kind (inr (inl (is, out))) other some x e there = absurd (other is)
+decimal_refused input at kind (inr (inr is)) other some x e there = absurd (some is)
 
-pub decimal_leaves : (input : List ℕ) (at : ℕ) (kind : DecodeKind) → IsDecimalFault input at kind → number_refusal kind ≡ TooWide
+pub decimal_leaves : (input : List ℕ) (at : ℕ) (kind : DecodeKind) → IsDecimalFault input at kind → kind ≡ kinds.TooWide
     → (e : ℕ) × AnswersAt scalars.BigDecimal input at e wide
-decimal_leaves input at kind (inl (err, same, fault)) h = absurd (no_width err (sym (ap number_refusal same) ∙ h))
+decimal_leaves input at kind (inl (err, same, fault)) h = absurd (no_width err (sym same ∙ h))
 decimal_leaves input at kind (inr (inl (is, (x, m, e, (i, there, fraction), misfit)))) h = (
   e,
   record {
@@ -180,24 +183,31 @@ decimal_leaves input at kind (inr (inl (is, (x, m, e, (i, there, fraction), misf
     is = fraction_says i x m fraction ∙ bounded_exceeds is_in_limits value_of (form_of (x, m)) (parts_leave x m misfit);
   },
 )
-decimal_leaves input at kind (inr (inr is)) h = let both : NoMemory ≡ TooWide = sym (ap number_refusal is.0) ∙ h in cc
+decimal_leaves input at kind (inr (inr is)) h = let both : kinds.NoMemory ≡ kinds.TooWide = sym is ∙ h in cc
 
--- ---- refusals
+-- ---- what is found where no number is read
 
-pub invalid_is : (A : Type 0) (e : SerdeError) → IsInvalid {A = A} (Err e) → e ≡ InvalidInput
-invalid_is A InvalidInput h = refl
-invalid_is A TypeMismatch h = absurd h
-invalid_is A TooDeep h = absurd h
-invalid_is A TooWide h = absurd h
-invalid_is A NotCarried h = absurd h
-invalid_is A Unsupported h = absurd h
-invalid_is A Unwritable h = absurd h
-invalid_is A Missing h = absurd h
-invalid_is A Failed h = absurd h
-invalid_is A NoMemory h = absurd h
+module _ {A E : Type 0} (s : Scalar) (value : A → ScalarValue) (input : List ℕ) (at depth : ℕ) (kind : DecodeKind) where
+  pub unread_is : ((kind ≡ kinds.TooWide → ⊥) → (kind ≡ kinds.NoMemory → ⊥) → NoneOf s input at) → (kind ≡ kinds.TooWide → (e : ℕ) × AnswersAt s input at e wide)
+      → (found : Result (Found (A × ℕ)) E) → IfOk found (IsUnread kind input at depth)
+      → IfOk found (λ f. MatchFound f (λ r. MeansAt s input at depth (value r.0) r.1) (NothingAt s input at depth) (ExceedsAt s input at depth))
+  unread_is refused leaves (Err e) h = tt
+  unread_is refused leaves (Ok (FoundValue r)) h = absurd h
+  unread_is refused leaves (Ok Nothing) (inl (is, none)) = λ x e lies. absurd (none e (record { found = x; stands = lies.1; follows = lies.2 }))
+  unread_is refused leaves (Ok Nothing) (inr (other, some)) = λ x e lies. refused other some x e lies.1
+  unread_is refused leaves (Ok Beyond) (is, (end, skips)) =
+      let number = leaves is in
+      let same = (one_item number.1.found skips.found input at number.0 end number.1.stands skips.stands).1 in
+      record {
+        found = number.1.found;
+        e = number.0;
+        lies = (number.1.is_leaf, number.1.stands, subst (Follows depth input) (sym same) skips.follows);
+        is = number.1.is;
+      }
 
-pub error_of : {A : Type 0} (e f : SerdeError) → IsErrOf {T = A} {E = SerdeError} (Err e) f → e ≡ f
-error_of {A} e f h = let same : ◌≡◌ {A = Result A SerdeError} (Err e) (Err f) = h in cc
-
-pub not_wide : {A : Type 0} → IsErrOf {T = A} {E = SerdeError} (Err InvalidInput) TooWide → ⊥
-not_wide is = cc
+  -- and no value is
+  pub unread_fits : (P : A × ℕ → Type 0) (found : Result (Found (A × ℕ)) E) → IfOk found (IsUnread kind input at depth) → IfOk found (λ f. MatchFound f P (Unit {0}) (Unit {0}))
+  unread_fits P (Err e) h = tt
+  unread_fits P (Ok (FoundValue r)) h = absurd h
+  unread_fits P (Ok Nothing) h = tt
+  unread_fits P (Ok Beyond) h = tt

@@ -1,13 +1,13 @@
 -- What a reader finds at a place, as the contract of reading says it.
-use Rattle.std.proofs.Common.{◌≡◌, ◌≤◌, ◌<◌, ◌⊎◌, ◌↔◌, inl, inr, ℕ, suc, length, List, [], ◌∷◌, Bool, true, false, Option, Some, None, Result, Ok, Err, refl, sym, ap, ◌∙◌, arith}
+use Rattle.std.proofs.Common.{◌≡◌, ◌≤◌, ◌<◌, ◌↔◌, ℕ, suc, length, List, [], ◌∷◌, Bool, true, false, Option, Some, None, Result, Ok, Err, refl, sym, ap, ◌∙◌, arith}
 use Rattle.std.specs.Prelude.{IsTrue}
 use Rattle.std.specs.Result.{OnOk}
 use Rattle.std.proofs.lemmas.Bool.Decides.{nat_tests}
 use Rattle.smithy_schema.specs.declared.error.SerdeError.{SerdeError}
-use Rattle.smithy_schema.specs.declared.error.SerdeError.TheVariants.{InvalidInput, Failed, NoMemory}
+use Rattle.smithy_schema.specs.declared.error.SerdeError.TheVariants.{Failed}
 use Rattle.smithy_shapes.specs.declared.place.Place.{Place}
 use Rattle.smithy_shapes.specs.Table.{Table, kind_of, IsList, IsMap, IsStructure}
-use Rattle.smithy_schema.specs.Reading.{Cursor, Frame, depth, Mark, Enters, Steps, Leaves, Conducts, OpensNot, SkipsNot, CannotGoOn, IsFault, in_list, in_map}
+use Rattle.smithy_schema.specs.Reading.{Cursor, Frame, depth, Mark, Enters, Steps, Leaves, Conducts, OpensNot, SkipsNot, CannotGoOn, in_list, in_map}
 use Rattle.smithy_cbor_codec.specs.Cursor.{inside_of}
 use Rattle.smithy_cbor_codec.specs.Settings.{Settings, Limits, kept, lifted, is_within}
 use Rattle.smithy_cbor_codec.specs.Standing.{FollowsInside, HasEntry, IsOver, mark_with, end_mark, cbor_relations}
@@ -148,12 +148,7 @@ module _ (o : Settings) (c : Cursor) (held : ℕ) (same : held ≡ depth c) wher
       let s = (skips_are o c.input (depth c) c.at e).1 skips in
       (one_item h.found s.found c.input c.at end e h.stands s.stands).1
 
--- ---- refusals
-
--- a refusal that isn't want of memory
-pub input_fault : (error : SerdeError) → (error ≡ InvalidInput) ⊎ (error ≡ NoMemory) → IsFault error → error ≡ InvalidInput
-input_fault error (inl is) fault = is
-input_fault error (inr is) fault = absurd (rw is at fault)
+-- ---- conduct
 
 -- an answer of a reader that hadn't failed, and went on
 pub goes_ahead : (A : Type 0) (old new : Cursor) (x : A) (at : ℕ) → old.failed ≡ false → new.at ≡ at → new.input ≡ old.input → old.at ≤ at → at ≤ length old.input

@@ -1,22 +1,19 @@
 -- A read of a document answers that none is carried wherever something stands, and refuses the input elsewhere.
-use Rattle.std.proofs.Common.{◌≡◌, ◌≤◌, ◌⊎◌, inl, inr, ℕ, List, length, true, false, Some, refl, sym, ◌∙◌, subst}
-use Rattle.std.specs.Prelude.{Err, IsErrOf}
-use Rattle.smithy_types.specs.declared.document.Document.{Document}
+use Rattle.std.proofs.Common.{◌≡◌, ◌≤◌, ℕ, List, length, true, false, Some, refl, subst}
+use Rattle.std.specs.Prelude.{Err}
 use Rattle.smithy_schema.specs.declared.error.SerdeError.{SerdeError}
-use Rattle.smithy_schema.specs.declared.error.SerdeError.TheVariants.{InvalidInput, TooDeep, NotCarried, NoMemory}
+use Rattle.smithy_schema.specs.declared.error.SerdeError.TheVariants.{InvalidInput, NotCarried, NoMemory}
 use Rattle.smithy_shapes.specs.declared.place.Place.{Place}
 use Rattle.smithy_shapes.specs.Table.{Table, document, document_place, kind_of}
 use Rattle.smithy_shapes.specs.Site.{Site}
 use Rattle.smithy_shapes.specs.Value.{Value}
-use Rattle.smithy_schema.specs.Reading.{Cursor, depth, StandsNot, SkipsNot, IsInvalid, ReadsDocument, failed_at}
+use Rattle.smithy_schema.specs.Reading.{Cursor, depth, StandsNot, ReadsDocument, failed_at}
 use Rattle.cbor_item.specs.Item.{Item}
 use Rattle.smithy_cbor_codec.specs.Settings.{Settings, kept, without_limits}
 use Rattle.smithy_cbor_codec.specs.Meaning.{rules_of}
 use Rattle.smithy_cbor_codec.specs.Standing.{cbor_frames, cbor_relations}
 use Rattle.smithy_cbor_codec.specs.Private.NodePlaces.{lies_item, lies_full}
 use Rattle.smithy_cbor_codec.specs.Private.Skipping.{SkipsTo}
-use Rattle.smithy_cbor_codec.proofs.BigNumbers.{invalid_is}
-use Rattle.smithy_cbor_codec.proofs.SkippedValues.{skips_are}
 use Rattle.smithy_wire.specs.Documents.{document_meaning}
 use Rattle.smithy_wire.specs.Node.{Node, null_node, leaf, container, missing}
 use Rattle.smithy_wire.specs.Readers.{stands_node, none_carried, none_stands}
@@ -50,39 +47,19 @@ module _ (o : Settings) (keeps : o.limits ≡ kept) (max : ℕ) (old new : Curso
   no_document : StandsNot (cbor_relations o) old site.table at
   no_document v e stands = none_stands cbor_frames (rules_of o) old.input site.table at refl (depth old) refl keeps old.at v e stands
 
-  pub refuses_document : (e : SerdeError) (held : ℕ) → held ≡ depth old → (e ≡ InvalidInput → (f : ℕ) → SkipsTo old.input old.at held f → ⊥)
-      → (e ≡ InvalidInput) ⊎ (e ≡ NotCarried) ⊎ (e ≡ NoMemory) → Says e
-  refuses_document e held same none (inl is) =
-      let nothing : (f : ℕ) → SkipsTo old.input old.at (depth old) f → ⊥ = subst (λ d. (f : ℕ) → SkipsTo old.input old.at d f → ⊥) same (none is) in
-      rw is
-      (refuses (cbor_relations o) (cbor_relations (without_limits o)) (Unit {0}) max site old new stays within sound
-      (λ due. (no_document, λ v f stands. nothing f (document_skips (without_limits o) (depth old) old.input site.table at old.at v f refl stands))))
-  refuses_document e held same none (inr (inl is)) =
-      rw is
-      (carries_not (cbor_relations o) (cbor_relations (without_limits o)) (Unit {0}) max site old new stays within sound due
-      (old.at, none_carried cbor_frames (rules_of o) old.input site.table at refl (depth old) refl old.at old.at) no_document)
-  refuses_document e held same none (inr (inr is)) =
-      rw is (runs_out (cbor_relations o) (cbor_relations (without_limits o)) (Unit {0}) max site old new stays within sound)
+  -- something lies there
+  pub document_uncarried : Says NotCarried
+  document_uncarried =
+      carries_not (cbor_relations o) (cbor_relations (without_limits o)) (Unit {0}) max site old new stays within sound due
+      (old.at, none_carried cbor_frames (rules_of o) old.input site.table at refl (depth old) refl old.at old.at) no_document
 
--- ---- both directions
+  -- nothing does
+  pub no_document_lies : (held : ℕ) → held ≡ depth old → ((f : ℕ) → SkipsTo old.input old.at held f → ⊥) → Says InvalidInput
+  no_document_lies held same none =
+      let nothing : (f : ℕ) → SkipsTo old.input old.at (depth old) f → ⊥ = subst (λ d. (f : ℕ) → SkipsTo old.input old.at d f → ⊥) same none in
+      refuses (cbor_relations o) (cbor_relations (without_limits o)) (Unit {0}) max site old new stays within sound
+      (λ due. (no_document, λ v f stands. nothing f (document_skips (without_limits o) (depth old) old.input site.table at old.at v f refl stands)))
 
--- where it says that none is carried, an item lies
-pub carried_not_lies : {A : Type 0} (o : Settings) (old : Cursor) (e f : SerdeError) → f ≡ e → (held : ℕ) → held ≡ depth old
-    → (e ≡ NotCarried → (g : ℕ) × SkipsTo old.input old.at held g) → IsErrOf {T = A} (Err f) NotCarried → (g : ℕ) × (cbor_relations o).skips old.input (depth old) old.at g
-carried_not_lies o old e f answer held same lies is =
-    let carried : e ≡ NotCarried = cc in
-    let h = lies carried in
-    (h.0, (skips_are o old.input (depth old) old.at h.0).0 (subst (λ d. SkipsTo old.input old.at d h.0) same h.1))
-
--- and where it refuses the input, none does
-pub refused_lies_not : (o : Settings) (old : Cursor) (e f : SerdeError) → f ≡ e → (held : ℕ) → held ≡ depth old
-    → (e ≡ InvalidInput → (g : ℕ) → SkipsTo old.input old.at held g → ⊥) → IsInvalid {A = Document} (Err f) → SkipsNot (cbor_relations o) old
-refused_lies_not o old e f answer held same none invalid g skips =
-    none (sym answer ∙ invalid_is Document f invalid) g (subst (λ d. SkipsTo old.input old.at d g) (sym same) ((skips_are o old.input (depth old) old.at g).1 skips))
-
--- it is never too deep, as no item of CBOR is
-pub document_is_shallow : {A : Type 0} (e f : SerdeError) → f ≡ e → (e ≡ InvalidInput) ⊎ (e ≡ NotCarried) ⊎ (e ≡ NoMemory)
-    → IsErrOf {T = A} (Err f) TooDeep → ⊥
-document_is_shallow e f answer (inl is) deep = cc
-document_is_shallow e f answer (inr (inl is)) deep = cc
-document_is_shallow e f answer (inr (inr is)) deep = cc
+  -- memory is wanting
+  pub document_wants_memory : Says NoMemory
+  document_wants_memory = runs_out (cbor_relations o) (cbor_relations (without_limits o)) (Unit {0}) max site old new stays within sound

@@ -28,5 +28,6 @@ pub mod BigNumbers
 pub mod NumberWriting
 pub mod InstantPlaces
 pub mod InstantWriting
+pub mod LengthWriting
 pub mod DocumentReads
 pub mod WideSlices

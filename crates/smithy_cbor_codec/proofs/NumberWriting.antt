@@ -12,16 +12,19 @@ use Rattle.smithy_shapes.specs.Site.{View}
 use Rattle.smithy_schema.specs.Writing.{Open}
 use Rattle.smithy_cbor.specs.declared.error.EncodeError.{EncodeError}
 use Rattle.smithy_cbor.specs.declared.error.EncodeError.TheVariants as encoding
+use Rattle.smithy_cbor_codec.specs.Lengths.{counted_in}
 use Rattle.smithy_cbor_codec.specs.Settings.{Settings}
+use Rattle.smithy_cbor_codec.specs.declared.lengths.Length.{Length}
 use Rattle.smithy_cbor_codec.specs.Writing.{CborState, lead, wrote, where_taken, where_in_width}
 use Rattle.smithy_cbor_codec.proofs.BigNumbers.{leaves_wide}
 
 -- the bytes behind what stands before a value
-pub wrote_is : (s : CborState) (view : View) (bytes o : List ℕ) (after : List Open) (held : Settings) → held ≡ s.settings → o ≡ (s.out ++ lead s view) ++ bytes
-    → wrote s view bytes after ≡ record { settings = held; out = o; frames = after }
-wrote_is s view bytes o after held same is =
-    ap (λ (x : List ℕ). record { settings = s.settings; out = x; frames = after }) (sym (is ∙ append_assoc s.out (lead s view) bytes))
-    ∙ ap (λ (c : Settings). record { settings = c; out = o; frames = after }) (sym same)
+pub wrote_is : (s : CborState) (view : View) (bytes o : List ℕ) (after : List Open) (lengths : List Length) (held : Settings) → held ≡ s.settings → o ≡ (s.out ++ lead s view) ++ bytes
+    → lengths ≡ counted_in s.frames s.lengths → wrote s view bytes after ≡ record { settings = held; out = o; frames = after; lengths = lengths }
+wrote_is s view bytes o after lengths held same is counted =
+    ap (λ (x : List ℕ). record { settings = s.settings; out = x; frames = after; lengths = counted_in s.frames s.lengths }) (sym (is ∙ append_assoc s.out (lead s view) bytes))
+    ∙ ap (λ (c : Settings). record { settings = c; out = o; frames = after; lengths = counted_in s.frames s.lengths }) (sym same)
+    ∙ ap (λ (x : List Length). record { settings = held; out = o; frames = after; lengths = x }) (sym counted)
 
 pub call_written : (make : List Open → CborState) (r : Result (List Open) SerdeError) (after : List Open) (t : CborState) → r ≡ Ok after → make after ≡ t → where_taken make r ≡ Ok t
 call_written make r after t is same = ap (where_taken make) is ∙ ap Ok same

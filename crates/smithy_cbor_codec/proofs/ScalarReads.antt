@@ -1,16 +1,16 @@
 -- What a reader finds at the place of a scalar stands there, and where it finds nothing, nothing does.
 use Rattle.std.proofs.Common.{◌≡◌, ◌≤◌, ◌⊎◌, ◌-◌, ◌^◌, ℕ, ℤ, List, length, Bool, true, false, subst, Option, Some, None, refl, sym, ◌∙◌, ap, inl, inr, drop, arith, ◌<◌, ◌++◌, ◌∷◌, []}
-use Rattle.std.specs.Prelude.{option_map, IsErrOf, Result, Ok, Err, OnErr, IfOk, IfErr, IsOk, IsErr, IfSome, IfNone, IsSome, IsNone, slice_range, FitsSigned, pos, negsuc, neg_ℤ, int_le, int_lt}
+use Rattle.std.specs.Prelude.{option_map, IsErrOf, Result, Ok, Err, OnErr, IfOk, IfErr, IsOk, IsErr, IfSome, IfNone, IsSome, IsNone, MatchOption, slice_range, FitsSigned, pos, negsuc, neg_ℤ, int_le, int_lt}
 use Rattle.smithy_texts.specs.Base64Text.{are_bytes}
 use Rattle.smithy_texts.specs.Ranges.{fits_signed}
 use Rattle.smithy_shapes.specs.declared.shape_type.Scalar.{Scalar}
 use Rattle.smithy_shapes.specs.declared.shape_type.Scalar.TheVariants as scalars
 use Rattle.smithy_schema.specs.declared.error.SerdeError.{SerdeError}
-use Rattle.smithy_schema.specs.declared.error.SerdeError.TheVariants.{InvalidInput, TypeMismatch, TooDeep, TooWide, NotCarried, Unsupported, Unwritable, Missing, Failed, NoMemory}
+use Rattle.smithy_schema.specs.declared.error.SerdeError.TheVariants.{InvalidInput, TooWide, NotCarried, NoMemory}
 use Rattle.smithy_shapes.specs.Table.{scalar_place}
 use Rattle.smithy_shapes.specs.Site.{Site}
 use Rattle.smithy_shapes.specs.Value.{ScalarValue, boolean, whole, text, bytes, instant, Value, scalar_value, null_element}
-use Rattle.smithy_schema.specs.Reading.{Cursor, depth, StandsNot, IsInvalid, Exceeds, Uncarried, ReadsScalar, AnswersWide, AnswersUncarried, passed_to, failed_at}
+use Rattle.smithy_schema.specs.Reading.{Cursor, depth, StandsNot, Exceeds, Uncarried, ReadsScalar, AnswersWide, AnswersUncarried, passed_to, failed_at}
 use Rattle.smithy_shapes.specs.Lemmas.Options.{same_some, made}
 use Rattle.smithy_shapes.proofs.ScalarLemmas.{fits_more}
 use Rattle.cbor_item.specs.WellFormed.{IsItemAt, IsSimple}
@@ -25,12 +25,16 @@ use Rattle.smithy_cbor_codec.specs.Private.Fits.{boolean_is, whole_is, blob_is}
 use Rattle.smithy_cbor_codec.specs.Private.ScalarAtPlace.{IsAt, IsWholeAt, HasTextAt, IsBlobAt, MeansAt, ExceedsAt, UncarriedAt, NothingAt}
 use Rattle.smithy_cbor_codec.specs.Private.Wire.{cbor_is_wire}
 use Rattle.smithy_cbor_codec.specs.Private.ItemPlaces.{one_item, item_front}
+use Rattle.smithy_wire.specs.declared.found.Found.{Found}
+use Rattle.smithy_wire.specs.declared.found.Found.TheVariants.{Value as FoundValue, Nothing, Beyond}
+use Rattle.smithy_wire.specs.Finding.{MatchFound, Takes, TakesWithin}
 use Rattle.smithy_wire.specs.Node.{leaf}
 use Rattle.smithy_wire.specs.Rules.{Answer, no_meaning, wide, uncarried, answer_of, settled}
 use Rattle.smithy_wire.specs.Narrowing.{IsNarrowed, IsWider}
 use Rattle.smithy_wire.specs.Readers.{settled_answer, scalar_stands, stands_scalar, scalar_exceeds, exceeds_scalar, scalar_uncarried, uncarried_scalar}
 use Rattle.smithy_wire.proofs.Bounds.{exceeds_not, uncarried_not}
-use Rattle.smithy_wire.proofs.ScalarReads.{takes, takes_result, takes_big, answers_wide, takes_carried, answers_uncarried, narrow_found, narrow_none, if_some, if_none, if_ok}
+use Rattle.smithy_wire.proofs.ScalarReads.{takes, takes_found, takes_within_limits, answers_past_limits, takes_what_is_carried, answers_what_is_not, narrow_found, narrow_none, if_some, if_none, if_ok, if_matched, if_found}
+use Rattle.std.specs.declared.alloc.AllocError.{AllocError}
 use Rattle.std.specs.Bool.{then_some}
 use Rattle.std.specs.Int.{w64}
 use Rattle.std.proofs.lemmas.Int.{ints}
@@ -315,26 +319,6 @@ module _ (o : Settings) (c : Cursor) (site : Site) (s : Scalar) (timeless : (x :
 
 -- ---- the answer of a read
 
--- what takes no memory doesn't want for it
-with_memory : {A : Type 0} (found : Result A SerdeError) → IfErr found (λ e. (e ≡ InvalidInput) ⊎ (e ≡ NotCarried)) → IfErr found (λ e. (e ≡ InvalidInput) ⊎ (e ≡ NotCarried) ⊎ (e ≡ NoMemory))
-with_memory (Ok x) kind = tt
-with_memory (Err e) (inl is) = inl is
-with_memory (Err e) (inr is) = inr (inl is)
-
--- a refusal of the input, by its error
-by_error : {A : Type 0} (found : Result A SerdeError) (Q : Type 0) → IfErr found (λ e. e ≡ InvalidInput → Q) → IsInvalid found → Q
-by_error (Ok x) Q h invalid = absurd invalid
-by_error (Err InvalidInput) Q h invalid = h refl
-by_error (Err TypeMismatch) Q h invalid = absurd invalid
-by_error (Err TooDeep) Q h invalid = absurd invalid
-by_error (Err TooWide) Q h invalid = absurd invalid
-by_error (Err NotCarried) Q h invalid = absurd invalid
-by_error (Err Unsupported) Q h invalid = absurd invalid
-by_error (Err Unwritable) Q h invalid = absurd invalid
-by_error (Err Missing) Q h invalid = absurd invalid
-by_error (Err Failed) Q h invalid = absurd invalid
-by_error (Err NoMemory) Q h invalid = absurd invalid
-
 module _ (o : Settings) (old : Cursor) (site : Site) (sound : old.failed ≡ false) (due : old.due ≡ true) (within : old.at ≤ length old.input) where
   -- of a boolean
   pub reads_boolean : (new : Cursor) (found : Option (Bool × ℕ)) (result : Result Bool SerdeError)
@@ -375,97 +359,79 @@ module _ (o : Settings) (old : Cursor) (site : Site) (sound : old.failed ≡ fal
       (same_number old.input old.at (depth old)) here none wider)
 
   -- of a text
-  pub reads_text : {A : Type 0} (text_of : A → List ℕ) (new : Cursor) (found : Result (A × ℕ) SerdeError) (result : Result A SerdeError)
-      → IfOk found (λ r. TextStands old.input old.at (depth old) (text_of r.0) r.1) → IfErr found (λ e. (e ≡ InvalidInput) ⊎ (e ≡ NoMemory))
-      → IfErr found (λ e. e ≡ InvalidInput → (t : List ℕ) (e : ℕ) → HasTextAt t old.input old.at e → Follows (depth old) old.input e → ⊥)
-      → IfOk result (λ x. IfOk found (λ r. (r.0 ≡ x) × (new ≡ passed_to old r.1))) → (IsOk result → IsOk found)
-      → OnErr result (new ≡ failed_at old) → IfErr result (λ e. found ≡ Err e)
-      → ReadsScalar (cbor_relations o) (cbor_relations (without_limits o)) (Unit {0}) old new site scalars.String (λ x. text (text_of x)) result
-  reads_text text_of new found result here kind none =
-      takes_result (cbor_relations o) (cbor_relations (without_limits o)) (Unit {0}) site scalars.String (λ x. text (text_of x)) (lawful o) old sound due within new found result
-      (if_ok found _ _ (λ r. text_stands o old site (text_of r.0) r.1) here) kind
-      (λ invalid. let nothing = by_error found _ none invalid in (no_text_stands o old site nothing, no_text_stands (without_limits o) old site nothing))
+  pub reads_text : {A : Type 0} (text_of : A → List ℕ) (new : Cursor) (found : Result (Option (A × ℕ)) AllocError) (result : Result A SerdeError)
+      → IfOk found (λ o. MatchOption o ((t : List ℕ) (e : ℕ) → HasTextAt t old.input old.at e → Follows (depth old) old.input e → ⊥) (λ r. TextStands old.input old.at (depth old) (text_of r.0) r.1))
+      → Takes old new found result → ReadsScalar (cbor_relations o) (cbor_relations (without_limits o)) (Unit {0}) old new site scalars.String (λ x. text (text_of x)) result
+  reads_text text_of new found result here =
+      takes_found (cbor_relations o) (cbor_relations (without_limits o)) (Unit {0}) site scalars.String (λ x. text (text_of x)) (lawful o) old sound due within new found result
+      (if_ok found _ _ (λ f. if_matched f _ _ _ _ (λ nothing. (no_text_stands o old site nothing, no_text_stands (without_limits o) old site nothing)) (λ r. text_stands o old site (text_of r.0) r.1)) here)
 
   -- of bytes, wherever they are kept
-  pub reads_bytes : {A : Type 0} (bytes_in : A → List ℕ) (new : Cursor) (found : Result (A × ℕ) SerdeError) (result : Result A SerdeError)
-      → IfOk found (λ r. IsBlobAt (bytes_in r.0) old.input old.at (depth old) r.1) → IfErr found (λ e. (e ≡ InvalidInput) ⊎ (e ≡ NoMemory))
-      → IfErr found (λ e. e ≡ InvalidInput → (b : List ℕ) (e : ℕ) → IsBlobAt b old.input old.at (depth old) e → ⊥)
-      → IfOk result (λ x. IfOk found (λ r. (r.0 ≡ x) × (new ≡ passed_to old r.1))) → (IsOk result → IsOk found)
-      → OnErr result (new ≡ failed_at old) → IfErr result (λ e. found ≡ Err e)
-      → ReadsScalar (cbor_relations o) (cbor_relations (without_limits o)) (Unit {0}) old new site scalars.Blob (λ x. bytes (bytes_in x)) result
-  reads_bytes bytes_in new found result here kind none =
-      takes_result (cbor_relations o) (cbor_relations (without_limits o)) (Unit {0}) site scalars.Blob (λ x. bytes (bytes_in x)) (lawful o) old sound due within new found result
-      (if_ok found _ _ (λ r. blob_stands o old site (bytes_in r.0) r.1) here) kind
-      (λ invalid. let nothing = by_error found _ none invalid in (no_blob_stands o old site nothing, no_blob_stands (without_limits o) old site nothing))
+  pub reads_bytes : {A : Type 0} (bytes_in : A → List ℕ) (new : Cursor) (found : Result (Option (A × ℕ)) AllocError) (result : Result A SerdeError)
+      → IfOk found (λ o. MatchOption o ((b : List ℕ) (e : ℕ) → IsBlobAt b old.input old.at (depth old) e → ⊥) (λ r. IsBlobAt (bytes_in r.0) old.input old.at (depth old) r.1))
+      → Takes old new found result → ReadsScalar (cbor_relations o) (cbor_relations (without_limits o)) (Unit {0}) old new site scalars.Blob (λ x. bytes (bytes_in x)) result
+  reads_bytes bytes_in new found result here =
+      takes_found (cbor_relations o) (cbor_relations (without_limits o)) (Unit {0}) site scalars.Blob (λ x. bytes (bytes_in x)) (lawful o) old sound due within new found result
+      (if_ok found _ _ (λ f. if_matched f _ _ _ _ (λ nothing. (no_blob_stands o old site nothing, no_blob_stands (without_limits o) old site nothing)) (λ r. blob_stands o old site (bytes_in r.0) r.1)) here)
 
   -- of bytes
-  pub reads_blob : (new : Cursor) (found : Result (List ℕ × ℕ) SerdeError) (result : Result (List ℕ) SerdeError)
-      → IfOk found (λ r. IsBlobAt r.0 old.input old.at (depth old) r.1) → IfErr found (λ e. (e ≡ InvalidInput) ⊎ (e ≡ NoMemory))
-      → IfErr found (λ e. e ≡ InvalidInput → (b : List ℕ) (e : ℕ) → IsBlobAt b old.input old.at (depth old) e → ⊥)
-      → IfOk result (λ x. IfOk found (λ r. (r.0 ≡ x) × (new ≡ passed_to old r.1))) → (IsOk result → IsOk found)
-      → OnErr result (new ≡ failed_at old) → IfErr result (λ e. found ≡ Err e)
-      → ReadsScalar (cbor_relations o) (cbor_relations (without_limits o)) (Unit {0}) old new site scalars.Blob bytes result
-  reads_blob new found result here kind none =
-      takes_result (cbor_relations o) (cbor_relations (without_limits o)) (Unit {0}) site scalars.Blob bytes (lawful o) old sound due within new found result
-      (if_ok found _ _ (λ r. blob_stands o old site r.0 r.1) here) kind
-      (λ invalid. let nothing = by_error found _ none invalid in (no_blob_stands o old site nothing, no_blob_stands (without_limits o) old site nothing))
+  pub reads_blob : (new : Cursor) (found : Result (Option (List ℕ × ℕ)) AllocError) (result : Result (List ℕ) SerdeError)
+      → IfOk found (λ o. MatchOption o ((b : List ℕ) (e : ℕ) → IsBlobAt b old.input old.at (depth old) e → ⊥) (λ r. IsBlobAt r.0 old.input old.at (depth old) r.1))
+      → Takes old new found result → ReadsScalar (cbor_relations o) (cbor_relations (without_limits o)) (Unit {0}) old new site scalars.Blob bytes result
+  reads_blob new found result here = reads_bytes (λ b. b) new found result here
 
   -- of a big number
   module _ (keeps : o.limits ≡ kept) (s : Scalar) (timeless : (x : Item) → says s site.place.time x ≡ says s None x) {A : Type 0} (value : A → ScalarValue)
-      (found : Result (A × ℕ) SerdeError) (result : Result A SerdeError)
-      (here : IfOk found (λ r. MeansAt s old.input old.at (depth old) (value r.0) r.1)) (kind : IfErr found (λ e. (e ≡ InvalidInput) ⊎ (e ≡ TooWide) ⊎ (e ≡ NoMemory)))
-      (none : IsInvalid found → NothingAt s old.input old.at (depth old)) where
-    pub reads_big : (new : Cursor) → (IsErrOf found TooWide → ExceedsAt s old.input old.at (depth old))
-        → IfOk result (λ x. IfOk found (λ r. (r.0 ≡ x) × (new ≡ passed_to old r.1))) → (IsOk result → IsOk found)
-        → OnErr result (new ≡ failed_at old) → IfErr result (λ e. found ≡ Err e)
-        → ReadsScalar (cbor_relations o) (cbor_relations (without_limits o)) (Unit {0}) old new site s value result
-    reads_big new leaves =
-        takes_big (cbor_relations o) (cbor_relations (without_limits o)) (Unit {0}) site s value (lawful o) old sound due within new found result
-        (if_ok found _ _ (λ r. number_stands o old site s timeless (value r.0) r.1) here) kind
-        (λ invalid. (no_number_stands o old site s timeless (none invalid), no_number_stands (without_limits o) old site s timeless (none invalid)))
-        (λ is. let there = number_exceeds o old site s timeless (leaves is) in (there, exceeds_stands_not o old site s timeless keeps there))
+      (new : Cursor) (found : Result (Found (A × ℕ)) AllocError) (result : Result A SerdeError)
+      (here : IfOk found (λ f. MatchFound f (λ r. MeansAt s old.input old.at (depth old) (value r.0) r.1) (NothingAt s old.input old.at (depth old)) (ExceedsAt s old.input old.at (depth old)))) where
+    pub reads_big : TakesWithin old new TooWide found result → ReadsScalar (cbor_relations o) (cbor_relations (without_limits o)) (Unit {0}) old new site s value result
+    reads_big =
+        takes_within_limits (cbor_relations o) (cbor_relations (without_limits o)) (Unit {0}) site s value (lawful o) old sound due within new found result
+        (if_ok found _ _ (λ f. if_found f _ _ _ _ _ _ (λ r. number_stands o old site s timeless (value r.0) r.1)
+        (λ none. (no_number_stands o old site s timeless none, no_number_stands (without_limits o) old site s timeless none))
+        (λ leaves. let there = number_exceeds o old site s timeless leaves in (there, exceeds_stands_not o old site s timeless keeps there))) here)
 
-    pub answers_big : (IsOk result → IsOk found) → IfErr result (λ e. found ≡ Err e) → AnswersWide (cbor_relations o) old site s result
+    pub answers_big : TakesWithin old new TooWide found result → AnswersWide (cbor_relations o) old site s result
     answers_big =
-        answers_wide (cbor_relations o) (cbor_relations (without_limits o)) (Unit {0}) site s value (lawful o) old sound due within found result
-        (if_ok found _ _ (λ r. number_stands o old site s timeless (value r.0) r.1) here) kind
+        answers_past_limits (cbor_relations o) (cbor_relations (without_limits o)) (Unit {0}) site s value (lawful o) old sound due within new found result
         (exceeds_stands_not o old site s timeless keeps)
-        (λ invalid. no_number_exceeds o old site s timeless (none invalid))
+        (if_ok found _ _ (λ f. if_found f _ _ _ _ _ _ (λ r. number_stands o old site s timeless (value r.0) r.1) (λ none. no_number_exceeds o old site s timeless none) (λ leaves. tt)) here)
 
   -- of an instant
-  module _ (keeps : o.limits ≡ kept) (found : Result (ℤ × ℕ) SerdeError) (result : Result ℤ SerdeError)
-      (here : IfOk found (λ r. MeansAt scalars.Timestamp old.input old.at (depth old) (instant r.0) r.1)) (kind : IfErr found (λ e. (e ≡ InvalidInput) ⊎ (e ≡ NotCarried)))
-      (none : IsInvalid found → NothingAt scalars.Timestamp old.input old.at (depth old)) where
-    pub reads_instant : (new : Cursor) → (IsErrOf found NotCarried → UncarriedAt scalars.Timestamp old.input old.at (depth old))
-        → IfOk result (λ x. IfOk found (λ r. (r.0 ≡ x) × (new ≡ passed_to old r.1))) → (IsOk result → IsOk found)
-        → OnErr result (new ≡ failed_at old) → IfErr result (λ e. found ≡ Err e)
+  module _ (keeps : o.limits ≡ kept) (new : Cursor) (found : Found (ℤ × ℕ)) (result : Result ℤ SerdeError)
+      (here : MatchFound found (λ r. MeansAt scalars.Timestamp old.input old.at (depth old) (instant r.0) r.1)
+      (NothingAt scalars.Timestamp old.input old.at (depth old)) (UncarriedAt scalars.Timestamp old.input old.at (depth old))) where
+    pub reads_instant : TakesWithin old new NotCarried (Ok found) result
         → ReadsScalar (cbor_relations o) (cbor_relations (without_limits o)) (Unit {0}) old new site scalars.Timestamp instant result
-    reads_instant new floats =
-        takes_carried (cbor_relations o) (cbor_relations (without_limits o)) (Unit {0}) site scalars.Timestamp instant (lawful o) old sound due within new found result
-        (if_ok found _ _ (λ r. number_stands o old site scalars.Timestamp (λ x. refl) (instant r.0) r.1) here) (with_memory found kind)
-        (λ invalid. (no_number_stands o old site scalars.Timestamp (λ x. refl) (none invalid), no_number_stands (without_limits o) old site scalars.Timestamp (λ x. refl) (none invalid)))
-        (λ is. let there = not_carried o old site scalars.Timestamp (λ x. refl) (floats is) in (there, uncarried_stands_not o old site scalars.Timestamp (λ x. refl) keeps there))
+    reads_instant =
+        takes_what_is_carried (cbor_relations o) (cbor_relations (without_limits o)) (Unit {0}) site scalars.Timestamp instant (lawful o) old sound due within new (Ok found) result
+        (if_found found _ _ _ _ _ _ (λ r. number_stands o old site scalars.Timestamp (λ x. refl) (instant r.0) r.1)
+        (λ none. (no_number_stands o old site scalars.Timestamp (λ x. refl) none, no_number_stands (without_limits o) old site scalars.Timestamp (λ x. refl) none))
+        (λ floats. let there = not_carried o old site scalars.Timestamp (λ x. refl) floats in (there, uncarried_stands_not o old site scalars.Timestamp (λ x. refl) keeps there)) here)
 
-    pub answers_instant : (IsOk result → IsOk found) → IfErr result (λ e. found ≡ Err e) → AnswersUncarried (cbor_relations o) old site scalars.Timestamp result
+    pub answers_instant : TakesWithin old new NotCarried (Ok found) result → AnswersUncarried (cbor_relations o) old site scalars.Timestamp result
     answers_instant =
-        answers_uncarried (cbor_relations o) (cbor_relations (without_limits o)) (Unit {0}) site scalars.Timestamp instant (lawful o) old sound due within found result
-        (if_ok found _ _ (λ r. number_stands o old site scalars.Timestamp (λ x. refl) (instant r.0) r.1) here) (with_memory found kind)
+        answers_what_is_not (cbor_relations o) (cbor_relations (without_limits o)) (Unit {0}) site scalars.Timestamp instant (lawful o) old sound due within new (Ok found) result
         (uncarried_stands_not o old site scalars.Timestamp (λ x. refl) keeps)
-        (λ invalid. all_carried o old site scalars.Timestamp (λ x. refl) (none invalid))
+        (if_found found _ _ _ _ _ _ (λ r. number_stands o old site scalars.Timestamp (λ x. refl) (instant r.0) r.1) (λ none. all_carried o old site scalars.Timestamp (λ x. refl) none) (λ floats. tt) here)
 
 -- a read of an instant takes no memory
-pub no_memory_taken : (found : Result (ℤ × ℕ) SerdeError) (result : Result ℤ SerdeError) → IfErr found (λ e. (e ≡ InvalidInput) ⊎ (e ≡ NotCarried)) → IfErr result (λ e. found ≡ Err e)
-    → IsErrOf result NoMemory → ⊥
-no_memory_taken found (Ok x) kind error is = cc
-no_memory_taken (Ok r) (Err e) kind error is = absurd (let no' : ◌≡◌ {A = Result (ℤ × ℕ) SerdeError} (Ok r) (Err e) = error in cc)
-no_memory_taken (Err g) (Err e) kind error is = by kind
-  where
-    same : g ≡ e
-    same = cc
+pub no_memory_taken : (old new : Cursor) (found : Found (ℤ × ℕ)) (result : Result ℤ SerdeError) → TakesWithin old new NotCarried (Ok found) result → IsErrOf result NoMemory → ⊥
+no_memory_taken old new (FoundValue r) result taken is = let both : ◌≡◌ {A = Result ℤ SerdeError} (Ok r.0) (Err NoMemory) = sym taken.0 ∙ is in cc
+no_memory_taken old new Nothing result taken is = let both : ◌≡◌ {A = Result ℤ SerdeError} (Err InvalidInput) (Err NoMemory) = sym taken.0 ∙ is in cc
+no_memory_taken old new Beyond result taken is = let both : ◌≡◌ {A = Result ℤ SerdeError} (Err NotCarried) (Err NoMemory) = sym taken.0 ∙ is in cc
 
-    memory : e ≡ NoMemory
-    memory = cc
+-- what a read answers is what was found
+module _ {A : Type 0} (old new : Cursor) (result : Result A SerdeError) where
+  pub found_is : (P : A → ℕ → Type 0) (found : Result (Option (A × ℕ)) AllocError) → IfOk found (λ o. IfSome o (λ r. P r.0 r.1)) → Takes old new found result
+      → IfOk result (λ x. P x new.at)
+  found_is P (Ok (Some r)) here taken = rw (taken.0, taken.1) here
+  found_is P (Ok None) here taken = rw taken.0 tt
+  found_is P (Err e) here taken = rw taken.0 tt
 
-    by : (g ≡ InvalidInput) ⊎ (g ≡ NotCarried) → ⊥
-    by (inl invalid) = let both : InvalidInput ≡ NoMemory = sym invalid ∙ same ∙ memory in cc
-    by (inr other) = let both : NotCarried ≡ NoMemory = sym other ∙ same ∙ memory in cc
+  pub value_is : (P : A → Type 0) (own : SerdeError) (found : Result (Found (A × ℕ)) AllocError) → IfOk found (λ f. MatchFound f (λ r. P r.0) (Unit {0}) (Unit {0}))
+      → TakesWithin old new own found result → IfOk result P
+  value_is P own (Ok (FoundValue r)) here taken = rw taken.0 here
+  value_is P own (Ok Nothing) here taken = rw taken.0 tt
+  value_is P own (Ok Beyond) here taken = rw taken.0 tt
+  value_is P own (Err e) here taken = rw taken.0 tt

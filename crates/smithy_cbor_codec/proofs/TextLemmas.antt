@@ -15,9 +15,8 @@ use Rattle.cbor_item.specs.Strings.{IsTextFault}
 use Rattle.cbor_item.proofs.FirstByte.{item_major, major_of, not_empty}
 use Rattle.cbor_item.proofs.HeadLemmas.{head_is_only}
 use Rattle.smithy_shapes.specs.Lemmas.Options.{same_some}
-use Rattle.smithy_schema.specs.declared.error.SerdeError.TheVariants.{InvalidInput}
 use Rattle.smithy_cbor.specs.Scalar.{joined_text, text_of, bytes_of}
-use Rattle.smithy_cbor_codec.specs.Private.ScalarAtPlace.{HasTextAt, IsBlobAt, refusal_of}
+use Rattle.smithy_cbor_codec.specs.Private.ScalarAtPlace.{HasTextAt, IsBlobAt}
 use Rattle.smithy_cbor_codec.specs.Private.ItemPlaces.{item_front, one_item}
 
 -- ---- texts
@@ -72,7 +71,7 @@ major_at i input at e h there begins =
     (subst (λ (l : List ℕ). BeginsWithHead l h) (item_front i input at e there) begins)
 
 -- where no text can be read, for another cause than want of memory, none stands
-pub no_text_at : (input : List ℕ) (at : ℕ) (error : ItemError) → refusal_of error ≡ InvalidInput → IsTextFault input at error → (text : List ℕ) (e : ℕ) → HasTextAt text input at e → ⊥
+pub no_text_at : (input : List ℕ) (at : ℕ) (error : ItemError) → (error ≡ item.NoMemory → ⊥) → IsTextFault input at error → (text : List ℕ) (e : ℕ) → HasTextAt text input at e → ⊥
 no_text_at input at item.Truncated told fault text e h = fault.1.0 h.found e h.stands
 no_text_at input at item.NotWellFormed told fault text e h = fault.1.0 h.found e h.stands
 no_text_at input at item.WrongType told fault text e h =
@@ -81,7 +80,7 @@ no_text_at input at item.WrongType told fault text e h =
 no_text_at input at item.InvalidUtf8 told (extent, chunks, end, there, bad) text e h =
     let same = one_item h.found (text_string extent chunks) input at e end h.stands there in
     bad (joined_utf8 chunks text (sym (ap text_of same.0) ∙ h.is))
-no_text_at input at item.NoMemory told fault text e h = absurd (cc)
+no_text_at input at item.NoMemory told fault text e h = absurd (told refl)
 
 -- a text that stands there has one end, and no other text stands there
 pub one_text_at : (input : List ℕ) (at : ℕ) (text other : List ℕ) (e f : ℕ) → HasTextAt text input at e → HasTextAt other input at f → (text ≡ other) × (e ≡ f)
@@ -108,14 +107,14 @@ unfolding major_of
 bytes_major extent chunks = refl
 
 -- where no bytes can be read, for another cause than want of memory, none stand
-pub no_blob_at : (input : List ℕ) (at : ℕ) (error : ItemError) → refusal_of error ≡ InvalidInput → IsStringFault 2 input at error → (blob : List ℕ) (depth e : ℕ) → IsBlobAt blob input at depth e → ⊥
+pub no_blob_at : (input : List ℕ) (at : ℕ) (error : ItemError) → (error ≡ item.NoMemory → ⊥) → IsStringFault 2 input at error → (blob : List ℕ) (depth e : ℕ) → IsBlobAt blob input at depth e → ⊥
 no_blob_at input at item.Truncated told fault blob depth e h = fault.1.0 h.found e h.stands
 no_blob_at input at item.NotWellFormed told fault blob depth e h = fault.1.0 h.found e h.stands
 no_blob_at input at item.WrongType told fault blob depth e h =
     let b = bytes_is h.found blob h.is in
     fault.2 (major_at h.found input at e fault.0 h.stands fault.1 ∙ ap major_of b.2 ∙ bytes_major b.0 b.1)
 no_blob_at input at item.InvalidUtf8 told fault blob depth e h = absurd fault.1
-no_blob_at input at item.NoMemory told fault blob depth e h = absurd (cc)
+no_blob_at input at item.NoMemory told fault blob depth e h = absurd (told refl)
 
 -- bytes that stand there have one end
 pub same_blob_end : (input : List ℕ) (at : ℕ) (blob : List ℕ) (x : Item) (depth e end : ℕ) → IsBlobAt blob input at depth e → IsItemAt x input at end → e ≡ end

@@ -6,9 +6,11 @@ use Rattle.smithy_schema.specs.declared.error.SerdeError.TheVariants.{Unwritable
 use Rattle.smithy_shapes.specs.Site.{Site, shape_site, site_of_member, nameless_site}
 use Rattle.smithy_shapes.specs.Value as values
 use Rattle.smithy_shapes.specs.Value.{whole, text, Value, no_map_entries, map_entry, null_element, no_values, no_member_values, member_value}
-use Rattle.smithy_schema.specs.Writing.{begin_structure, end_structure, begin_list, end_list, begin_map, end_map, null_of, scalar_of, Open, open_structure, open_list, open_map_at_key, open_map_at_value, write}
+use Rattle.smithy_schema.specs.Writing.{begin_structure, end_structure, begin_list, end_list, begin_map, end_map, null_of, scalar_of, Open, open_structure, open_list, open_map_at_key, open_map_at_value, write, run}
 use Rattle.smithy_cbor_codec.specs.Openers.{cbor_openers}
 use Rattle.smithy_cbor_codec.specs.Codec.{strict_settings}
+use Rattle.smithy_cbor_codec.specs.Settings.{Settings}
+use Rattle.smithy_cbor_codec.specs.declared.lengths.Length.TheVariants.{Unwritten}
 use Rattle.smithy_cbor_codec.specs.Writing.{CborState, fresh_state, cbor_after}
 use Rattle.smithy_cbor_codec.proofs.Examples.{whole_value, text_value, one_long, long_renamed, one_string, three_members, map_of_longs, two_variants, lists_of_lists, lists_of_strings, nodes, long_place, plain_member, in_lists, empty_structure, first_alone, written}
 
@@ -69,7 +71,7 @@ deepest_lists = refl
 -- ---- the calls of a serializer
 
 abbrev made : List ℕ → List Open → Result CborState SerdeError
-made out frames = Ok (record { settings = strict_settings; out = out; frames = frames })
+made out frames = Ok (record { settings = strict_settings; out = out; frames = frames; lengths = map (λ _. Unwritten) frames })
 
 -- what writes a value adds its canonical encoding
 pub written_in_turn : (write cbor_after (shape_site nodes 1) two_nodes (fresh_state strict_settings) ≡ made two_nodes_bytes [])
@@ -81,7 +83,7 @@ abbrev a_site : Site
 a_site = site_of_member one_long 0 (plain_member (codes "a") long_place)
 
 abbrev inside : List Open → CborState
-inside frames = record { settings = strict_settings; out = []; frames = frames }
+inside frames = record { settings = strict_settings; out = []; frames = frames; lengths = map (λ _. Unwritten) frames }
 
 -- a key stands in a structure alone, and not under a nameless schema
 pub keys : (cbor_after (scalar_of a_site (whole (pos 1))) (inside (open_structure ∷ [])) ≡ made (0x61 ∷ 0x61 ∷ 0x01 ∷ []) (open_structure ∷ []))
@@ -116,6 +118,30 @@ pub in_a_map : (cbor_after (scalar_of a_site (text (codes "k"))) (inside (open_m
     × (cbor_after (begin_structure a_site) (inside (open_map_at_key ∷ [])) ≡ Err Unwritable)
     × (cbor_after end_structure (inside (open_map_at_key ∷ [])) ≡ Err Unwritable)
 in_a_map = (refl, refl, refl, refl, refl, refl, refl, refl)
+
+-- ---- definite lengths
+
+abbrev definite : Settings
+definite = record strict_settings { use_definite_lengths = true }
+
+-- what the calls of a body write, where it is written whole
+abbrev whole_body : List ℕ → Result CborState SerdeError
+whole_body out = Ok (record { settings = definite; out = out; frames = []; lengths = [] })
+
+-- ["x", null], {"a": 1, "b": null} and {_ "i": ["x", null]}: lists and maps are written with their lengths, and structures are not
+pub with_lengths : (write cbor_after (shape_site (lists_of_strings true) 0) x_and_null (fresh_state definite) ≡ whole_body (0x82 ∷ 0x61 ∷ 0x78 ∷ 0xf6 ∷ []))
+    × (write cbor_after (shape_site (map_of_longs true) 0) (values.map (map_entry (codes "a") (whole_value (pos 1)) (map_entry (codes "b") null_element no_map_entries))) (fresh_state definite)
+    ≡ whole_body (0xa2 ∷ 0x61 ∷ 0x61 ∷ 0x01 ∷ 0x61 ∷ 0x62 ∷ 0xf6 ∷ []))
+    × (write cbor_after (shape_site (lists_of_strings true) 1) (first_alone x_and_null) (fresh_state definite) ≡ whole_body (0xbf ∷ 0x61 ∷ 0x69 ∷ 0x82 ∷ 0x61 ∷ 0x78 ∷ 0xf6 ∷ 0xff ∷ []))
+with_lengths = (refl, refl, refl)
+
+-- a list that is begun with no length has a break, and one with another number of elements can't be ended
+pub other_lengths : (run cbor_after (begin_list a_site None ∷ null_of a_site ∷ end_list ∷ []) (fresh_state definite) ≡ whole_body (0x9f ∷ 0xf6 ∷ 0xff ∷ []))
+    × (run cbor_after (begin_list a_site (Some 2) ∷ null_of a_site ∷ end_list ∷ []) (fresh_state definite) ≡ Err Unwritable)
+    × (run cbor_after (begin_list a_site (Some 0) ∷ null_of a_site ∷ end_list ∷ []) (fresh_state definite) ≡ Err Unwritable)
+    × (run cbor_after (begin_map a_site (Some 1) ∷ end_map ∷ []) (fresh_state definite) ≡ Err Unwritable)
+    × (run cbor_after (begin_list a_site (Some 2) ∷ null_of a_site ∷ end_list ∷ []) (fresh_state strict_settings) ≡ Ok (record { settings = strict_settings; out = 0x9f ∷ 0xf6 ∷ 0xff ∷ []; frames = []; lengths = [] }))
+other_lengths = (refl, refl, refl, refl, refl)
 
 -- ---- openers
 

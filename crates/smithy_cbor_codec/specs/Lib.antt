@@ -12,6 +12,7 @@ pub mod ContainerSize
 -- For contracts.
 pub mod Cursor
 pub mod Standing
+pub mod Lengths
 pub mod Writing
 pub mod Serializing
 -- The laws of reading, and that the calls of writing nest.

@@ -40,8 +40,8 @@ refused false r h = refl
 made_there : (e : Event) (s t : CborState) → cbor_after e s ≡ Ok t → where_taken (made e s) (open_after e s.frames) ≡ Ok t
 made_there e s t h =
     let taken = where_taken (made e s) (open_after e s.frames) in
-    let writable = where_writable (is_writable e) taken in
-    was_writable (is_writable e) taken t
+    let writable = where_writable (is_writable e s) taken in
+    was_writable (is_writable e s) taken t
     (written (is_in_width e) writable t (was_supported (is_supported e) (where_in_width (is_in_width e) writable) t h))
 
 -- the open containers are those of any serializer, and where none takes a call this one refuses it
@@ -50,9 +50,9 @@ cbor_nests = record {
   goes = λ e s t h. taken_frames e s t (open_after e s.frames) (made_there e s t h);
   stops = λ e s h.
       let taken = where_taken (made e s) (open_after e s.frames) in
-      let writable = where_writable (is_writable e) taken in
+      let writable = where_writable (is_writable e s) taken in
       supported_or_not (is_supported e) (where_in_width (is_in_width e) writable)
-      (stopped (is_in_width e) writable (refused (is_writable e) taken (ap (where_taken (made e s)) h)));
+      (stopped (is_in_width e) writable (refused (is_writable e s) taken (ap (where_taken (made e s)) h)));
 }
 
 -- no call takes back a byte

@@ -5,6 +5,8 @@ pub use Rattle.smithy_shapes.specs.Limits.{Limits, kept, lifted, is_within}
 pub record Settings : Type 0 where
   pub max_depth : ℕ
   pub limits : Limits
+  -- lists and maps whose length is told are written with it
+  pub use_definite_lengths : Bool
 
 abbrev pub keep_limits : Settings → Settings
 keep_limits c = record c { limits = kept }

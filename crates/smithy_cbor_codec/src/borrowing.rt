@@ -31,7 +31,7 @@ impl<'a> BorrowDeserializer<'a> for CborDeserializer<'a> {
             self.walk.position,
             self.walk.depth(),
         );
-        self.walk.take_result(found)
+        self.walk.take_found(found)
     }
 
     fn read_bytes(&mut self, _schema: &Schema<'_>) -> Result<CowSlice<'a, u8, Global>, SerdeError>
@@ -48,6 +48,6 @@ impl<'a> BorrowDeserializer<'a> for CborDeserializer<'a> {
             self.walk.position,
             self.walk.depth(),
         );
-        self.walk.take_result(found)
+        self.walk.take_found(found)
     }
 }

@@ -1,30 +1,35 @@
 //! The maker of readers and serializers.
 use crate::deserializer::CborDeserializer;
 use crate::serializer::CborSerializer;
-use crate::settings::Settings;
+use crate::settings::CborCodecSettings;
 use std::alloc::Global;
 
 /// The settings under which bodies in CBOR are read and written. It makes readers and serializers.
 #[derive(Debug, Drop)]
 pub struct CborCodec {
-    pub(crate) settings: Settings,
+    pub(crate) settings: CborCodecSettings,
 }
 
 impl CborCodec {
     ghost use Rattle.std.specs.Prelude.{◌≡◌, false};
-    ghost use Rattle.smithy_cbor_codec.specs.Codec.{settings_of, strict_settings};
+    ghost use Rattle.smithy_cbor_codec.specs.Codec.{settings_of, held_settings, strict_settings};
     ghost use Rattle.smithy_cbor_codec.specs.Cursor.{cursor_of, reading_settings_of};
     ghost use Rattle.smithy_cbor_codec.specs.Serializing.{state_of, has_failed};
     ghost use Rattle.smithy_cbor_codec.specs.Writing.{fresh_state};
     ghost use Rattle.smithy_wire.specs.Walking.{fresh_cursor};
 
+    /// A codec of these settings.
+    pub fn new(settings: CborCodecSettings) -> CborCodec
+        ensures { settings_of result ≡ held_settings settings }
+    {
+        CborCodec { settings }
+    }
+
     /// A codec that reads one item and nothing behind it, to a depth of 128 containers.
     pub fn strict() -> CborCodec
         ensures { settings_of result ≡ strict_settings }
     {
-        CborCodec {
-            settings: Settings::strict(),
-        }
+        CborCodec::new(CborCodecSettings::strict())
     }
 
     /// A serializer that has written nothing yet. It takes no memory.

@@ -2,14 +2,13 @@
 ghost use Rattle.std.specs.Prelude.{◌≡◌};
 
 use crate::container_size::container_size_at;
-use crate::documents::document_refusal;
 use crate::frames::{frame, is_missing, missing};
 use crate::instants::instant_at;
 use crate::members::{Next, next_in_map};
 use crate::numbers::{big_decimal_at, big_integer_at};
 use crate::places::{EntryOrEnd, array_at, entry_or_end, is_null_at, map_at, may_leave, null_end};
-use crate::settings::Settings;
-use crate::values::{blob_at, boolean_at, long_at, skipped_end, string_at};
+use crate::settings::CborCodecSettings;
+use crate::values::{blob_at, boolean_at, item_stands, long_at, skipped_end, string_at};
 use smithy_schema::{Schema, SerdeError, ShapeDeserializer, Step};
 use smithy_types::{BigDecimal, BigInteger, Blob, DateTime, Document};
 use smithy_wire::{ContainerKind, Walk, byte_found, integer_found, short_found};
@@ -20,7 +19,7 @@ use std::alloc::{AllocError, Global};
 pub struct CborDeserializer<'a> {
     pub(crate) walk: Walk<'a>,
     pub(crate) alloc: Global,
-    pub(crate) settings: Settings,
+    pub(crate) settings: CborCodecSettings,
     // As many containers may be open as the settings say.
     ghost limit: { walk.max_depth ≡ settings.max_depth },
 }
@@ -31,7 +30,11 @@ impl<'a> CborDeserializer<'a> {
     ghost use Rattle.smithy_wire.specs.Walking.{fresh_cursor};
 
     // A fresh reader.
-    pub(crate) fn new(input: &'a [u8], alloc: Global, settings: Settings) -> CborDeserializer<'a>
+    pub(crate) fn new(
+        input: &'a [u8],
+        alloc: Global,
+        settings: CborCodecSettings,
+    ) -> CborDeserializer<'a>
         ensures state { cursor_of result ≡ fresh_cursor input.now }
         ensures settings { result.settings ≡ settings }
     {
@@ -148,8 +151,9 @@ impl ShapeDeserializer for CborDeserializer<'_> {
             self.walk.position,
             self.walk.depth(),
         ) {
-            Ok(end) => self.step_from(end, schema),
-            Err(error) => Err(self.walk.refuse(error)),
+            Ok(Some(end)) => self.step_from(end, schema),
+            Ok(None) => Err(self.walk.refuse(SerdeError::InvalidInput)),
+            Err(_) => Err(self.walk.refuse(SerdeError::NoMemory)),
         }
     }
 
@@ -215,18 +219,19 @@ impl ShapeDeserializer for CborDeserializer<'_> {
             self.walk.inner.mark.due,
             self.walk.depth(),
         ) {
-            Ok(Next::Pair(text, value, due)) => match text.into_owned(self.alloc) {
+            Ok(Some(Next::Pair(text, value, due))) => match text.into_owned(self.alloc) {
                 Ok(key) => {
                     self.walk.go_on(value, frame(ContainerKind::Map, due));
                     Ok(Some(key))
                 }
-                Err(error) => Err(self.walk.refuse(SerdeError::from(error))),
+                Err(_) => Err(self.walk.refuse(SerdeError::NoMemory)),
             },
-            Ok(Next::End(end)) => {
+            Ok(Some(Next::End(end))) => {
                 self.walk.leave(end);
                 Ok(None)
             }
-            Err(error) => Err(self.walk.refuse(error)),
+            Ok(None) => Err(self.walk.refuse(SerdeError::InvalidInput)),
+            Err(_) => Err(self.walk.refuse(SerdeError::NoMemory)),
         }
     }
 
@@ -286,11 +291,12 @@ impl ShapeDeserializer for CborDeserializer<'_> {
             self.walk.position,
             self.walk.depth(),
         ) {
-            Ok(end) => {
+            Ok(Some(end)) => {
                 self.walk.pass(end);
                 Ok(())
             }
-            Err(fault) => Err(self.walk.refuse(fault)),
+            Ok(None) => Err(self.walk.refuse(SerdeError::InvalidInput)),
+            Err(_) => Err(self.walk.refuse(SerdeError::NoMemory)),
         }
     }
 
@@ -345,7 +351,7 @@ impl ShapeDeserializer for CborDeserializer<'_> {
             self.walk.position,
             self.walk.depth(),
         );
-        self.walk.take_result(found)
+        self.walk.take_found(found)
     }
 
     fn read_blob(&mut self, _schema: &Schema<'_>) -> Result<Blob, SerdeError> {
@@ -356,7 +362,7 @@ impl ShapeDeserializer for CborDeserializer<'_> {
             self.walk.position,
             self.walk.depth(),
         );
-        self.walk.take_result(found)
+        self.walk.take_found(found)
     }
 
     fn read_big_integer(&mut self, _schema: &Schema<'_>) -> Result<BigInteger, SerdeError> {
@@ -367,7 +373,7 @@ impl ShapeDeserializer for CborDeserializer<'_> {
             self.walk.position,
             self.walk.depth(),
         );
-        self.walk.take_result(found)
+        self.walk.take_within(found, SerdeError::TooWide)
     }
 
     fn read_big_decimal(&mut self, _schema: &Schema<'_>) -> Result<BigDecimal, SerdeError> {
@@ -378,7 +384,7 @@ impl ShapeDeserializer for CborDeserializer<'_> {
             self.walk.position,
             self.walk.depth(),
         );
-        self.walk.take_result(found)
+        self.walk.take_within(found, SerdeError::TooWide)
     }
 
     // It takes no memory.
@@ -390,7 +396,7 @@ impl ShapeDeserializer for CborDeserializer<'_> {
     {
         self.walk.ready()?;
         let found = instant_at(self.walk.input, self.walk.position, self.walk.depth());
-        self.walk.take_result(found)
+        self.walk.take_within(Ok(found), SerdeError::NotCarried)
     }
 
     // CBOR carries no documents: wherever an item stands, none is carried.
@@ -403,12 +409,15 @@ impl ShapeDeserializer for CborDeserializer<'_> {
         ensures nothing { IsInvalid result → (cursor_of self.old).due ≡ true → SkipsNot (cbor_relations (reading_settings_of self.old)) (cursor_of self.old) }
     {
         self.walk.ready()?;
-        let error = document_refusal(
+        match item_stands(
             self.alloc,
             self.walk.input,
             self.walk.position,
             self.walk.depth(),
-        );
-        Err(self.walk.refuse(error))
+        ) {
+            Ok(true) => Err(self.walk.refuse(SerdeError::NotCarried)),
+            Ok(false) => Err(self.walk.refuse(SerdeError::InvalidInput)),
+            Err(_) => Err(self.walk.refuse(SerdeError::NoMemory)),
+        }
     }
 }

@@ -58,16 +58,17 @@ impl CborDeserializer<'_> {
             self.walk.depth(),
             schema,
         ) {
-            Ok(Next::Pair(name, value, due)) => {
+            Ok(Some(Next::Pair(name, value, due))) => {
                 let step = step_to(schema, name.as_str());
                 self.walk.go_on(value, frame(ContainerKind::Structure, due));
                 Ok(step)
             }
-            Ok(Next::End(end)) => {
+            Ok(Some(Next::End(end))) => {
                 self.walk.leave(end);
                 Ok(Step::End)
             }
-            Err(error) => Err(self.walk.refuse(error)),
+            Ok(None) => Err(self.walk.refuse(SerdeError::InvalidInput)),
+            Err(_) => Err(self.walk.refuse(SerdeError::NoMemory)),
         }
     }
 }

@@ -1,15 +1,14 @@
 //! Which entry of a map comes next: in a structure or a union behind those that are passed over.
 
-ghost use Rattle.std.specs.Prelude.{◌≡◌, ◌⊎◌, ◌≤◌, length, IfOk, IfErr};
-ghost use Rattle.smithy_schema.specs.declared.error.SerdeError.TheVariants.{InvalidInput, NoMemory};
+ghost use Rattle.std.specs.Prelude.{◌≡◌, ◌≤◌, length, IfOk, MatchOption};
 ghost use Rattle.smithy_shapes.specs.Site.{site_of, kind_at};
 ghost use Rattle.smithy_cbor_codec.specs.Private.MemberSteps.{StepsTo};
 ghost use Rattle.smithy_cbor_codec.specs.Private.PassedEntries.{is_mark, IsPairOrEnd, PairMissing, IsEntry, IsNext, EntryMissing, NothingComes};
 
 use crate::places::{EntryOrEnd, entry_or_end, may_leave, null_end};
 use crate::values::{skipped_end, text_at};
-use smithy_schema::{Schema, SerdeError, Step};
-use std::alloc::Global;
+use smithy_schema::{Schema, Step};
+use std::alloc::{AllocError, Global};
 use std::borrow::CowStr;
 
 // An entry of a map, by its key, the offset of its value and how many are due behind it, or the end of the map.
@@ -51,24 +50,24 @@ pub(crate) fn next_in_map<'a>(
     at: usize,
     due: Option<u64>,
     depth: usize,
-) -> Result<Next<'a>, SerdeError>
+) -> Result<Option<Next<'a>>, AllocError>
     requires { at ≤ length input.now }
-    ensures ok { IfOk result (IsPairOrEnd input.now at due depth) }
-    ensures none { IfErr result (λ e. e ≡ InvalidInput → PairMissing input.now at due depth) }
-    ensures kind { IfErr result (λ e. (e ≡ InvalidInput) ⊎ (e ≡ NoMemory)) }
+    ensures { IfOk result (λ o. MatchOption o (PairMissing input.now at due depth) (IsPairOrEnd input.now at due depth)) }
 {
     match entry_or_end(input, at, due) {
         Some(EntryOrEnd::Entry(after)) => {
-            let (key, value) = text_at(alloc, input, at)?;
-            Ok(Next::Pair(key, value, after))
+            let Some((key, value)) = text_at(alloc, input, at)? else {
+                return Ok(None);
+            };
+            Ok(Some(Next::Pair(key, value, after)))
         }
         Some(EntryOrEnd::End(end)) => {
             if may_leave(input, end, depth) {
-                return Ok(Next::End(end));
+                return Ok(Some(Next::End(end)));
             }
-            Err(SerdeError::InvalidInput)
+            Ok(None)
         }
-        None => Err(SerdeError::InvalidInput),
+        None => Ok(None),
     }
 }
 
@@ -81,24 +80,25 @@ fn entry_at<'a>(
     due: Option<u64>,
     depth: usize,
     schema: &Schema<'_>,
-) -> Result<Entry<'a>, SerdeError>
+) -> Result<Option<Entry<'a>>, AllocError>
     requires { at ≤ length input.now }
-    ensures ok { IfOk result (IsEntry (kind_at (site_of schema.now)) input.now at due depth) }
-    ensures none { IfErr result (λ e. e ≡ InvalidInput → EntryMissing (kind_at (site_of schema.now)) input.now at due depth) }
-    ensures kind { IfErr result (λ e. (e ≡ InvalidInput) ⊎ (e ≡ NoMemory)) }
+    ensures { IfOk result (λ o. MatchOption o (EntryMissing (kind_at (site_of schema.now)) input.now at due depth) (IsEntry (kind_at (site_of schema.now)) input.now at due depth)) }
 {
     match next_in_map(alloc, input, at, due, depth)? {
-        Next::Pair(key, value, after) => {
+        Some(Next::Pair(key, value, after)) => {
             if let Some(end) = null_end(input, value, depth) {
-                return Ok(Entry::Passed(end, after));
+                return Ok(Some(Entry::Passed(end, after)));
             }
             if !is_mark(schema, key.as_str()) {
-                return Ok(Entry::Kept(Next::Pair(key, value, after)));
+                return Ok(Some(Entry::Kept(Next::Pair(key, value, after))));
             }
-            let end = skipped_end(alloc, input, value, depth)?;
-            Ok(Entry::Passed(end, after))
+            match skipped_end(alloc, input, value, depth)? {
+                Some(end) => Ok(Some(Entry::Passed(end, after))),
+                None => Ok(None),
+            }
         }
-        Next::End(end) => Ok(Entry::Kept(Next::End(end))),
+        Some(Next::End(end)) => Ok(Some(Entry::Kept(Next::End(end)))),
+        None => Ok(None),
     }
 }
 
@@ -110,21 +110,20 @@ pub(crate) fn next_present<'a>(
     due: Option<u64>,
     depth: usize,
     schema: &Schema<'_>,
-) -> Result<Next<'a>, SerdeError>
+) -> Result<Option<Next<'a>>, AllocError>
     requires { at ≤ length input.now }
-    ensures ok { IfOk result (IsNext (kind_at (site_of schema.now)) input.now at due depth) }
-    ensures none { IfErr result (λ e. e ≡ InvalidInput → NothingComes (kind_at (site_of schema.now)) input.now at due depth) }
-    ensures kind { IfErr result (λ e. (e ≡ InvalidInput) ⊎ (e ≡ NoMemory)) }
+    ensures { IfOk result (λ o. MatchOption o (NothingComes (kind_at (site_of schema.now)) input.now at due depth) (IsNext (kind_at (site_of schema.now)) input.now at due depth)) }
 {
     let mut at = at;
     let mut due = due;
     loop {
         match entry_at(alloc, input, at, due, depth, schema)? {
-            Entry::Passed(end, after) => {
+            Some(Entry::Passed(end, after)) => {
                 at = end;
                 due = after;
             }
-            Entry::Kept(next) => return Ok(next),
+            Some(Entry::Kept(next)) => return Ok(Some(next)),
+            None => return Ok(None),
         }
     }
 }

@@ -1,44 +1,42 @@
 //! Big numbers that stand at a place of an input.
 
-ghost use Rattle.std.specs.Prelude.{◌≡◌, ◌⊎◌, ◌≤◌, ℕ, length, IfOk, IfErr, IsErrOf, FitsSigned};
+ghost use Rattle.std.specs.Prelude.{◌≤◌, length, IfOk, FitsSigned};
 ghost use Rattle.std.specs.Int.{w128};
-ghost use Rattle.smithy_schema.specs.Reading.{IsInvalid};
-ghost use Rattle.smithy_schema.specs.declared.error.SerdeError.TheVariants.{InvalidInput, TooWide, NoMemory};
 ghost use Rattle.smithy_shapes.specs.declared.shape_type.Scalar.TheVariants as scalars;
 ghost use Rattle.smithy_shapes.specs.Value.{whole, decimal};
 ghost use Rattle.smithy_texts.specs.Numeral.{number as number_of};
 ghost use Rattle.smithy_texts.specs.Decimal.{mantissa, net_exponent};
-ghost use Rattle.smithy_cbor_codec.specs.Private.ScalarAtPlace.{MeansAt, ExceedsAt, NothingAt, number_refusal};
-ghost use Rattle.smithy_cbor_codec.specs.Private.Skipping.{SkipsTo};
+ghost use Rattle.smithy_cbor_codec.specs.Private.ScalarAtPlace.{MeansAt, ExceedsAt, NothingAt, IsUnread};
+ghost use Rattle.smithy_wire.specs.Finding.{MatchFound};
 
 use crate::places::{decoder_at, may_end};
-use crate::values::skipped_end;
+use crate::values::item_stands;
 use smithy_cbor::DecodeKind;
-use smithy_schema::SerdeError;
 use smithy_types::{BigDecimal, BigInteger};
-use std::alloc::Global;
+use smithy_wire::Found;
+use std::alloc::{AllocError, Global};
 
-// The refusal of a big number that a decoder doesn't read.
-fn number_refusal(kind: DecodeKind) -> SerdeError
-    ensures { result ≡ number_refusal kind }
+// What is found where a decoder reads no big number for this cause: one that leaves its limits, where a value may end
+// behind it, or nothing.
+fn unread_number<T>(
+    kind: DecodeKind,
+    alloc: Global,
+    input: &[u8],
+    at: usize,
+    depth: usize,
+) -> Result<Found<T>, AllocError>
+    requires { at ≤ length input.now }
+    ensures { IfOk result (IsUnread kind input.now at depth) }
 {
     match kind {
-        DecodeKind::TooWide => SerdeError::TooWide,
-        DecodeKind::NoMemory => SerdeError::NoMemory,
-        _ => SerdeError::InvalidInput,
-    }
-}
-
-// The refusal of a number that leaves its limits: as one that is too wide, where a value may end behind it.
-fn wide_refusal(alloc: Global, input: &[u8], at: usize, depth: usize) -> SerdeError
-    requires { at ≤ length input.now }
-    ensures wide { result ≡ TooWide → (e : ℕ) × SkipsTo input.now at depth e }
-    ensures none { result ≡ InvalidInput → (e : ℕ) → SkipsTo input.now at depth e → ⊥ }
-    ensures kind { (result ≡ InvalidInput) ⊎ (result ≡ TooWide) ⊎ (result ≡ NoMemory) }
-{
-    match skipped_end(alloc, input, at, depth) {
-        Ok(_) => SerdeError::TooWide,
-        Err(error) => error,
+        DecodeKind::TooWide => {
+            if item_stands(alloc, input, at, depth)? {
+                return Ok(Found::Beyond);
+            }
+            Ok(Found::Nothing)
+        }
+        DecodeKind::NoMemory => Err(AllocError),
+        _ => Ok(Found::Nothing),
     }
 }
 
@@ -48,28 +46,22 @@ pub(crate) fn big_integer_at(
     input: &[u8],
     at: usize,
     depth: usize,
-) -> Result<(BigInteger, usize), SerdeError>
+) -> Result<Found<(BigInteger, usize)>, AllocError>
     requires { at ≤ length input.now }
-    ensures found { IfOk result (λ r. MeansAt scalars.BigInteger input.now at depth (whole (number_of r.0)) r.1) }
-    ensures fits { IfOk result (λ r. FitsSigned w128 (number_of r.0)) }
-    ensures none { IsInvalid result → NothingAt scalars.BigInteger input.now at depth }
-    ensures wide { IsErrOf result TooWide → ExceedsAt scalars.BigInteger input.now at depth }
-    ensures kind { IfErr result (λ e. (e ≡ InvalidInput) ⊎ (e ≡ TooWide) ⊎ (e ≡ NoMemory)) }
+    ensures found { IfOk result (λ f. MatchFound f (λ r. MeansAt scalars.BigInteger input.now at depth (whole (number_of r.0)) r.1)
+        (NothingAt scalars.BigInteger input.now at depth) (ExceedsAt scalars.BigInteger input.now at depth)) }
+    ensures fits { IfOk result (λ f. MatchFound f (λ r. FitsSigned w128 (number_of r.0)) (Unit {0}) (Unit {0})) }
 {
     let mut decoder = decoder_at(input, at);
     match decoder.big_integer(alloc) {
         Ok(number) => {
             let end = decoder.position();
             if !may_end(input, end, depth) {
-                return Err(SerdeError::InvalidInput);
+                return Ok(Found::Nothing);
             }
-            Ok((number, end))
+            Ok(Found::Value((number, end)))
         }
-        Err(error) => match number_refusal(error.kind) {
-            SerdeError::TooWide => Err(wide_refusal(alloc, input, at, depth)),
-            SerdeError::NoMemory => Err(SerdeError::NoMemory),
-            _ => Err(SerdeError::InvalidInput),
-        },
+        Err(error) => unread_number(error.kind, alloc, input, at, depth),
     }
 }
 
@@ -79,27 +71,21 @@ pub(crate) fn big_decimal_at(
     input: &[u8],
     at: usize,
     depth: usize,
-) -> Result<(BigDecimal, usize), SerdeError>
+) -> Result<Found<(BigDecimal, usize)>, AllocError>
     requires { at ≤ length input.now }
-    ensures found { IfOk result (λ r. MeansAt scalars.BigDecimal input.now at depth (decimal (mantissa r.0) (net_exponent r.0)) r.1) }
-    ensures fits { IfOk result (λ r. FitsSigned w128 (mantissa r.0)) }
-    ensures none { IsInvalid result → NothingAt scalars.BigDecimal input.now at depth }
-    ensures wide { IsErrOf result TooWide → ExceedsAt scalars.BigDecimal input.now at depth }
-    ensures kind { IfErr result (λ e. (e ≡ InvalidInput) ⊎ (e ≡ TooWide) ⊎ (e ≡ NoMemory)) }
+    ensures found { IfOk result (λ f. MatchFound f (λ r. MeansAt scalars.BigDecimal input.now at depth (decimal (mantissa r.0) (net_exponent r.0)) r.1)
+        (NothingAt scalars.BigDecimal input.now at depth) (ExceedsAt scalars.BigDecimal input.now at depth)) }
+    ensures fits { IfOk result (λ f. MatchFound f (λ r. FitsSigned w128 (mantissa r.0)) (Unit {0}) (Unit {0})) }
 {
     let mut decoder = decoder_at(input, at);
     match decoder.big_decimal(alloc) {
         Ok(number) => {
             let end = decoder.position();
             if !may_end(input, end, depth) {
-                return Err(SerdeError::InvalidInput);
+                return Ok(Found::Nothing);
             }
-            Ok((number, end))
+            Ok(Found::Value((number, end)))
         }
-        Err(error) => match number_refusal(error.kind) {
-            SerdeError::TooWide => Err(wide_refusal(alloc, input, at, depth)),
-            SerdeError::NoMemory => Err(SerdeError::NoMemory),
-            _ => Err(SerdeError::InvalidInput),
-        },
+        Err(error) => unread_number(error.kind, alloc, input, at, depth),
     }
 }

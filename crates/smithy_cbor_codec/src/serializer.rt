@@ -9,9 +9,12 @@ ghost use Rattle.smithy_cbor.specs.Written.{text_bytes, big_integer_bytes};
 ghost use Rattle.smithy_cbor_codec.specs.Canonical.{key_bytes};
 ghost use Rattle.smithy_cbor_codec.specs.Codec.{held_settings};
 ghost use Rattle.smithy_cbor_codec.specs.Serializing.{state_of, has_failed};
-ghost use Rattle.smithy_cbor_codec.specs.Writing.{CborState, fresh_state, key_in, lead, cbor_after};
+ghost use Rattle.smithy_cbor_codec.specs.Lengths.{counted_in, may_end};
+ghost use Rattle.smithy_cbor_codec.specs.Writing.{CborState, fresh_state, key_in, lead, closed, where_taken, where_writable, cbor_after};
+ghost use Rattle.smithy_wire.specs.OpenContainers.{after_end};
 
-use crate::settings::Settings;
+use crate::lengths::{Length, begin_array, begin_map, begun, count_value, is_complete, write_end};
+use crate::settings::CborCodecSettings;
 use smithy_cbor::{EncodeError, Encoder};
 use smithy_schema::{FinishSerializer, Schema, SerdeError, ShapeSerializer};
 use smithy_types::{BigDecimal, BigInteger, DateTime, Document};
@@ -20,12 +23,13 @@ use std::alloc::{AllocError, Global};
 
 /// Writes one body: a value in its canonical encoding.
 ///
-/// Members and the entries of a map are written by name; containers are of indefinite length.
+/// Members and the entries of a map are written by name; containers are of indefinite length, but for lists and maps whose length
+/// is told where the settings say so.
 #[derive(Debug, Drop)]
 pub struct CborSerializer {
-    settings: Settings,
+    settings: CborCodecSettings,
     encoder: Encoder,
-    containers: OpenContainers<()>,
+    containers: OpenContainers<Length>,
 }
 
 // Writes the name of a member; nothing for what has none.
@@ -59,7 +63,7 @@ fn refusal_of(error: EncodeError) -> SerdeError
 }
 
 impl CborSerializer {
-    pub(crate) fn new(settings: Settings, alloc: Global) -> CborSerializer
+    pub(crate) fn new(settings: CborCodecSettings, alloc: Global) -> CborSerializer
         ensures state { state_of result ≡ fresh_state (held_settings settings) }
         ensures sound { has_failed result ≡ false }
     {
@@ -79,13 +83,16 @@ impl CborSerializer {
         ensures same { (state_of self.new).settings ≡ (state_of self.old).settings }
         ensures lead { OnOk result ((state_of self.new).out ≡ (state_of self.old).out ++ lead (state_of self.old) (site_of schema.now).view) }
         ensures taken { OnOk result (after_value (state_of self.old).frames ≡ Ok (state_of self.new).frames) }
+        ensures lengths { OnOk result ((state_of self.new).lengths ≡ counted_in (state_of self.old).frames (state_of self.old).lengths) }
         ensures refused { IfErr result (λ e. IsFault e → after_value (state_of self.old).frames ≡ Err e) }
     {
         self.containers.begin()?;
         if let Some(Container::Structure) = self.containers.innermost() {
             write_name(&mut self.encoder, schema)?;
         }
-        self.containers.pass_value()
+        self.containers.pass_value()?;
+        count_value(&mut self.containers)?;
+        Ok(())
     }
 
     // Begins the call of a text, which is a key where a map's key is due: its value is due then.
@@ -95,6 +102,7 @@ impl CborSerializer {
         ensures same { (state_of self.new).settings ≡ (state_of self.old).settings }
         ensures lead { OnOk result ((state_of self.new).out ≡ (state_of self.old).out ++ lead (state_of self.old) (site_of schema.now).view) }
         ensures taken { OnOk result (after_text (state_of self.old).frames ≡ Ok (state_of self.new).frames) }
+        ensures lengths { OnOk result ((state_of self.new).lengths ≡ counted_in (state_of self.old).frames (state_of self.old).lengths) }
         ensures refused { IfErr result (λ e. IsFault e → after_text (state_of self.old).frames ≡ Err e) }
     {
         if let Some(Container::MapAtKey) = self.containers.innermost() {
@@ -103,6 +111,23 @@ impl CborSerializer {
         } else {
             self.begin_value(schema)
         }
+    }
+
+    // Ends the innermost container, which has to be of this kind and, where its length is written, to be of this length.
+    fn end_container(&mut self, container: Container) -> Result<(), SerdeError>
+        ensures failed { IsErrOf result Failed ↔ (has_failed self.old ≡ true) }
+        ensures broken { IsErr result ↔ (has_failed self.new ≡ true) }
+        ensures ok { OnOk result (where_writable (may_end (state_of self.old).lengths) (where_taken (closed (state_of self.old)) (after_end container (state_of self.old).frames)) ≡ Ok (state_of self.new)) }
+        ensures refused { IfErr result (λ e. IsFault e → where_writable (may_end (state_of self.old).lengths) (where_taken (closed (state_of self.old)) (after_end container (state_of self.old).frames)) ≡ Err e) }
+    {
+        self.containers.begin()?;
+        let length = self.containers.pop(container)?;
+        if !is_complete(length) {
+            return Err(SerdeError::Unwritable);
+        }
+        write_end(&mut self.encoder, length)?;
+        self.containers.succeed();
+        Ok(())
     }
 }
 
@@ -132,53 +157,40 @@ impl ShapeSerializer for CborSerializer {
     fn begin_struct(&mut self, schema: &Schema<'_>) -> Result<(), SerdeError> {
         self.begin_value(schema)?;
         self.encoder.begin_map()?;
-        self.containers.push(Container::Structure, ())?;
+        self.containers
+            .push(Container::Structure, Length::Unwritten)?;
         self.containers.succeed();
         Ok(())
     }
 
     fn end_struct(&mut self) -> Result<(), SerdeError> {
-        self.containers.begin()?;
-        self.containers.pop(Container::Structure)?;
-        self.encoder.end()?;
-        self.containers.succeed();
-        Ok(())
+        self.end_container(Container::Structure)
     }
 
-    fn begin_list(
-        &mut self,
-        schema: &Schema<'_>,
-        _length: Option<usize>,
-    ) -> Result<(), SerdeError> {
+    fn begin_list(&mut self, schema: &Schema<'_>, length: Option<usize>) -> Result<(), SerdeError> {
         self.begin_value(schema)?;
-        self.encoder.begin_array()?;
-        self.containers.push(Container::List, ())?;
+        let length = self.settings.written_length(length);
+        begin_array(&mut self.encoder, length)?;
+        self.containers.push(Container::List, begun(length))?;
         self.containers.succeed();
         Ok(())
     }
 
     fn end_list(&mut self) -> Result<(), SerdeError> {
-        self.containers.begin()?;
-        self.containers.pop(Container::List)?;
-        self.encoder.end()?;
-        self.containers.succeed();
-        Ok(())
+        self.end_container(Container::List)
     }
 
-    fn begin_map(&mut self, schema: &Schema<'_>, _length: Option<usize>) -> Result<(), SerdeError> {
+    fn begin_map(&mut self, schema: &Schema<'_>, length: Option<usize>) -> Result<(), SerdeError> {
         self.begin_value(schema)?;
-        self.encoder.begin_map()?;
-        self.containers.push(Container::MapAtKey, ())?;
+        let length = self.settings.written_length(length);
+        begin_map(&mut self.encoder, length)?;
+        self.containers.push(Container::MapAtKey, begun(length))?;
         self.containers.succeed();
         Ok(())
     }
 
     fn end_map(&mut self) -> Result<(), SerdeError> {
-        self.containers.begin()?;
-        self.containers.pop(Container::MapAtKey)?;
-        self.encoder.end()?;
-        self.containers.succeed();
-        Ok(())
+        self.end_container(Container::MapAtKey)
     }
 
     fn write_null(&mut self, schema: &Schema<'_>) -> Result<(), SerdeError> {

@@ -1,34 +1,19 @@
 //! What stands at a place of an input: integers, texts, bytes, and what is skipped.
 
-ghost use Rattle.std.specs.Prelude.{◌≡◌, ◌⊎◌, ◌≤◌, ℕ, ℤ, Bool, true, List, length, IfSome, IfNone, IfOk, IfErr, string_bytes};
+ghost use Rattle.std.specs.Prelude.{◌≡◌, ◌≤◌, ℕ, ℤ, Bool, true, List, length, IfSome, IfNone, IfOk, MatchOption, MatchBool, string_bytes};
 ghost use Rattle.std.specs.Cow.{cow_str_bytes, cow_slice_items};
 ghost use Rattle.smithy_texts.specs.Base64Text.{are_bytes};
-ghost use Rattle.smithy_schema.specs.declared.error.SerdeError.TheVariants.{InvalidInput, NoMemory};
 ghost use Rattle.smithy_cbor.specs.Scalar.{boolean_item};
 ghost use Rattle.smithy_cbor_codec.specs.Standing.{Follows};
 ghost use Rattle.smithy_cbor_codec.specs.Borrowed.{BorrowsText, BorrowsBytes};
-ghost use Rattle.smithy_cbor_codec.specs.Private.ScalarAtPlace.{IsAt, IsWholeAt, HasTextAt, IsBlobAt, refusal_of};
+ghost use Rattle.smithy_cbor_codec.specs.Private.ScalarAtPlace.{IsAt, IsWholeAt, HasTextAt, IsBlobAt};
 ghost use Rattle.smithy_cbor_codec.specs.Private.Skipping.{SkipsTo};
 
 use crate::places::{decoder_at, may_end};
 use cbor_item::{ItemError, byte_chunks, skip_item, text_chunks};
-use smithy_schema::SerdeError;
 use smithy_types::Blob;
 use std::alloc::{AllocError, Global};
 use std::borrow::{CowSlice, CowStr};
-
-// The refusal of what can't be read for the item's fault.
-fn refusal_of(error: ItemError) -> SerdeError
-    ensures { result ≡ refusal_of error }
-{
-    match error {
-        ItemError::NoMemory => SerdeError::NoMemory,
-        ItemError::Truncated
-        | ItemError::NotWellFormed
-        | ItemError::WrongType
-        | ItemError::InvalidUtf8 => SerdeError::InvalidInput,
-    }
-}
 
 // The boolean at the offset, with its end, where a value may end there.
 pub(crate) fn boolean_at(input: &[u8], at: usize, depth: usize) -> Option<(bool, usize)>
@@ -67,16 +52,17 @@ pub(crate) fn text_at<'a>(
     alloc: Global,
     input: &'a [u8],
     at: usize,
-) -> Result<(CowStr<'a, Global>, usize), SerdeError>
+) -> Result<Option<(CowStr<'a, Global>, usize)>, AllocError>
     requires { at ≤ length input.now }
-    ensures ok { IfOk result (λ r. HasTextAt (cow_str_bytes r.0) input.now at r.1) }
-    ensures borrowed { IfOk result (λ r. BorrowsText input.now at r.0 r.1) }
-    ensures none { IfErr result (λ error. error ≡ InvalidInput → (text : List ℕ) (e : ℕ) → HasTextAt text input.now at e → ⊥) }
-    ensures kind { IfErr result (λ e. (e ≡ InvalidInput) ⊎ (e ≡ NoMemory)) }
+    ensures found { IfOk result (λ o. MatchOption o ((text : List ℕ) (e : ℕ) → HasTextAt text input.now at e → ⊥) (λ r. HasTextAt (cow_str_bytes r.0) input.now at r.1)) }
+    ensures borrowed { IfOk result (λ o. IfSome o (λ r. BorrowsText input.now at r.0 r.1)) }
 {
     match text_chunks(alloc, input, at) {
-        Ok((text, end)) => Ok((text, end)),
-        Err(error) => Err(refusal_of(error)),
+        Ok((text, end)) => Ok(Some((text, end))),
+        Err(error) => match error {
+            ItemError::NoMemory => Err(AllocError),
+            _ => Ok(None),
+        },
     }
 }
 
@@ -86,17 +72,18 @@ pub(crate) fn string_at(
     input: &[u8],
     at: usize,
     depth: usize,
-) -> Result<(String, usize), SerdeError>
+) -> Result<Option<(String, usize)>, AllocError>
     requires { at ≤ length input.now }
-    ensures ok { IfOk result (λ r. HasTextAt (string_bytes r.0) input.now at r.1 × Follows depth input.now r.1) }
-    ensures none { IfErr result (λ error. error ≡ InvalidInput → (text : List ℕ) (e : ℕ) → HasTextAt text input.now at e → Follows depth input.now e → ⊥) }
-    ensures kind { IfErr result (λ e. (e ≡ InvalidInput) ⊎ (e ≡ NoMemory)) }
+    ensures { IfOk result (λ o. MatchOption o ((text : List ℕ) (e : ℕ) → HasTextAt text input.now at e → Follows depth input.now e → ⊥)
+        (λ r. HasTextAt (string_bytes r.0) input.now at r.1 × Follows depth input.now r.1)) }
 {
-    let (text, end) = text_at(alloc, input, at)?;
+    let Some((text, end)) = text_at(alloc, input, at)? else {
+        return Ok(None);
+    };
     if !may_end(input, end, depth) {
-        return Err(SerdeError::InvalidInput);
+        return Ok(None);
     }
-    Ok((text.into_owned(alloc)?, end))
+    Ok(Some((text.into_owned(alloc)?, end)))
 }
 
 // The text at the offset, with its end, where a value may end there. It is borrowed where it stands in one piece.
@@ -105,18 +92,19 @@ pub(crate) fn text_piece_at<'a>(
     input: &'a [u8],
     at: usize,
     depth: usize,
-) -> Result<(CowStr<'a, Global>, usize), SerdeError>
+) -> Result<Option<(CowStr<'a, Global>, usize)>, AllocError>
     requires { at ≤ length input.now }
-    ensures ok { IfOk result (λ r. HasTextAt (cow_str_bytes r.0) input.now at r.1 × Follows depth input.now r.1) }
-    ensures none { IfErr result (λ error. error ≡ InvalidInput → (text : List ℕ) (e : ℕ) → HasTextAt text input.now at e → Follows depth input.now e → ⊥) }
-    ensures kind { IfErr result (λ e. (e ≡ InvalidInput) ⊎ (e ≡ NoMemory)) }
-    ensures borrowed { IfOk result (λ r. BorrowsText input.now at r.0 r.1) }
+    ensures found { IfOk result (λ o. MatchOption o ((text : List ℕ) (e : ℕ) → HasTextAt text input.now at e → Follows depth input.now e → ⊥)
+        (λ r. HasTextAt (cow_str_bytes r.0) input.now at r.1 × Follows depth input.now r.1)) }
+    ensures borrowed { IfOk result (λ o. IfSome o (λ r. BorrowsText input.now at r.0 r.1)) }
 {
-    let (text, end) = text_at(alloc, input, at)?;
+    let Some((text, end)) = text_at(alloc, input, at)? else {
+        return Ok(None);
+    };
     if !may_end(input, end, depth) {
-        return Err(SerdeError::InvalidInput);
+        return Ok(None);
     }
-    Ok((text, end))
+    Ok(Some((text, end)))
 }
 
 // Tells the proof that what a slice of bytes holds is below 256.
@@ -150,21 +138,22 @@ pub(crate) fn blob_at(
     input: &[u8],
     at: usize,
     depth: usize,
-) -> Result<(Blob, usize), SerdeError>
+) -> Result<Option<(Blob, usize)>, AllocError>
     requires { at ≤ length input.now }
-    ensures ok { IfOk result (λ r. IsBlobAt r.0 input.now at depth r.1) }
-    ensures none { IfErr result (λ error. error ≡ InvalidInput → (blob : List ℕ) (e : ℕ) → IsBlobAt blob input.now at depth e → ⊥) }
-    ensures kind { IfErr result (λ e. (e ≡ InvalidInput) ⊎ (e ≡ NoMemory)) }
+    ensures { IfOk result (λ o. MatchOption o ((blob : List ℕ) (e : ℕ) → IsBlobAt blob input.now at depth e → ⊥) (λ r. IsBlobAt r.0 input.now at depth r.1)) }
 {
     match byte_chunks(alloc, input, at) {
         Ok((bytes, end)) => {
             if !may_end(input, end, depth) {
-                return Err(SerdeError::InvalidInput);
+                return Ok(None);
             }
             let blob = owned_blob(alloc, bytes)?;
-            Ok((blob, end))
+            Ok(Some((blob, end)))
         }
-        Err(error) => Err(refusal_of(error)),
+        Err(error) => match error {
+            ItemError::NoMemory => Err(AllocError),
+            _ => Ok(None),
+        },
     }
 }
 
@@ -181,22 +170,23 @@ pub(crate) fn bytes_piece_at<'a>(
     input: &'a [u8],
     at: usize,
     depth: usize,
-) -> Result<(CowSlice<'a, u8, Global>, usize), SerdeError>
+) -> Result<Option<(CowSlice<'a, u8, Global>, usize)>, AllocError>
     requires { at ≤ length input.now }
-    ensures ok { IfOk result (λ r. IsBlobAt (cow_slice_items r.0) input.now at depth r.1) }
-    ensures none { IfErr result (λ error. error ≡ InvalidInput → (blob : List ℕ) (e : ℕ) → IsBlobAt blob input.now at depth e → ⊥) }
-    ensures kind { IfErr result (λ e. (e ≡ InvalidInput) ⊎ (e ≡ NoMemory)) }
-    ensures borrowed { IfOk result (λ r. BorrowsBytes input.now at r.0 r.1) }
+    ensures found { IfOk result (λ o. MatchOption o ((blob : List ℕ) (e : ℕ) → IsBlobAt blob input.now at depth e → ⊥) (λ r. IsBlobAt (cow_slice_items r.0) input.now at depth r.1)) }
+    ensures borrowed { IfOk result (λ o. IfSome o (λ r. BorrowsBytes input.now at r.0 r.1)) }
 {
     match byte_chunks(alloc, input, at) {
         Ok((bytes, end)) => {
             if !may_end(input, end, depth) {
-                return Err(SerdeError::InvalidInput);
+                return Ok(None);
             }
             cow_holds_bytes(&bytes);
-            Ok((bytes, end))
+            Ok(Some((bytes, end)))
         }
-        Err(error) => Err(refusal_of(error)),
+        Err(error) => match error {
+            ItemError::NoMemory => Err(AllocError),
+            _ => Ok(None),
+        },
     }
 }
 
@@ -206,15 +196,36 @@ pub(crate) fn skipped_end(
     input: &[u8],
     at: usize,
     depth: usize,
-) -> Result<usize, SerdeError>
+) -> Result<Option<usize>, AllocError>
     requires { at ≤ length input.now }
-    ensures ok { IfOk result (SkipsTo input.now at depth) }
-    ensures none { IfErr result (λ error. error ≡ InvalidInput → (e : ℕ) → SkipsTo input.now at depth e → ⊥) }
-    ensures kind { IfErr result (λ e. (e ≡ InvalidInput) ⊎ (e ≡ NoMemory)) }
+    ensures { IfOk result (λ o. MatchOption o ((e : ℕ) → SkipsTo input.now at depth e → ⊥) (SkipsTo input.now at depth)) }
 {
-    let end = skip_item(alloc, input, at).map_err(refusal_of)?;
-    if !may_end(input, end, depth) {
-        return Err(SerdeError::InvalidInput);
+    match skip_item(alloc, input, at) {
+        Ok(end) => {
+            if !may_end(input, end, depth) {
+                return Ok(None);
+            }
+            Ok(Some(end))
+        }
+        Err(error) => match error {
+            ItemError::NoMemory => Err(AllocError),
+            _ => Ok(None),
+        },
     }
-    Ok(end)
+}
+
+// Whether an item stands at the offset, where a value may end behind it.
+pub(crate) fn item_stands(
+    alloc: Global,
+    input: &[u8],
+    at: usize,
+    depth: usize,
+) -> Result<bool, AllocError>
+    requires { at ≤ length input.now }
+    ensures { IfOk result (λ stands. MatchBool stands ((e : ℕ) × SkipsTo input.now at depth e) ((e : ℕ) → SkipsTo input.now at depth e → ⊥)) }
+{
+    match skipped_end(alloc, input, at, depth)? {
+        Some(_) => Ok(true),
+        None => Ok(false),
+    }
 }

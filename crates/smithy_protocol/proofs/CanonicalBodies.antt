@@ -58,7 +58,7 @@ pub cbor_canonical : {V : Type 0} (adds : Adds V) (site : Site) (value : V) (ms 
 cbor_canonical adds site value ms body hands writes held =
     let v = structure ms in
     sym hands.2
-    ∙ same_text (λ (s : CborState). s.out) (write cbor_after site v (fresh_cbor strict_cbor)) hands.0 _ (whole_run cbor_after site ms (adds CborState cbor_after value) (fresh_cbor strict_cbor) hands.0 writes hands.1) (cbor_value_adds strict_cbor site v [] [] [] held refl)
+    ∙ same_text (λ (s : CborState). s.out) (write cbor_after site v (fresh_cbor strict_cbor)) hands.0 _ (whole_run cbor_after site ms (adds CborState cbor_after value) (fresh_cbor strict_cbor) hands.0 writes hands.1) (cbor_value_adds strict_cbor refl site v [] [] [] [] held refl)
 
 pub json_bodies : {V : Type 0} (adds : Adds V) (site : Site) (value : V) (s : JsonState) (r : Result (Vec ℕ Global) SerdeError) → s ≡ fresh_state (strict_settings false)
     → IfOk r (λ body. HandsOut json_after (λ t. t.out) adds site value s (Ok body.items)) → IfOk r (λ body. IsJsonBody adds site value body.items)

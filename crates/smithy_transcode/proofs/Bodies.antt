@@ -86,11 +86,11 @@ json_adds b site v s fresh nameless held =
 -- ---- CBOR
 
 abbrev pub cbor_body : Site → Value → CborState
-cbor_body site v = record { settings = strict_cbor; out = canonical_cbor site v; frames = [] }
+cbor_body site v = record { settings = strict_cbor; out = canonical_cbor site v; frames = []; lengths = [] }
 
 pub cbor_adds : (site : Site) (v : Value) (s : CborState) → s ≡ fresh_cbor_state strict_cbor → scalars_pass (holds cbor) site v ≡ true
     → write cbor_after site v s ≡ Ok (cbor_body site v)
-cbor_adds site v s fresh held = ap (write cbor_after site v) fresh ∙ cbor_value_adds strict_cbor site v [] [] [] held refl
+cbor_adds site v s fresh held = ap (write cbor_after site v) fresh ∙ cbor_value_adds strict_cbor refl site v [] [] [] [] held refl
 
 -- ---- the body of the root, at the schema of the root
 

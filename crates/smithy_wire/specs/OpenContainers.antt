@@ -25,6 +25,11 @@ abbrev pub innermost : {A : Type 0} → List A → Option A
 innermost [] = None
 innermost (x ∷ xs) = Some x
 
+-- the list with this in the place of the innermost
+abbrev pub with_innermost : {A : Type 0} → A → List A → List A
+with_innermost x [] = []
+with_innermost x (y ∷ ys) = x ∷ ys
+
 -- the open containers once one of this kind has ended that is innermost: no map ends behind a key whose value hasn't come
 abbrev pub after_end : Container → List Open → Result (List Open) SerdeError
 after_end Structure os = after_end_structure os

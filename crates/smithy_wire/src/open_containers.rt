@@ -3,7 +3,7 @@ ghost use Rattle.std.specs.Prelude.{◌≡◌, ◌↔◌, [], ◌∷◌, Ok, tru
 ghost use Rattle.smithy_schema.specs.declared.error.SerdeError.TheVariants.{Failed, Unwritable};
 ghost use Rattle.smithy_schema.specs.Reading.{IsFault};
 ghost use Rattle.smithy_schema.specs.Writing.{after_value, after_text};
-ghost use Rattle.smithy_wire.specs.OpenContainers.{open_of, opens_of, marks_of, innermost, after_end};
+ghost use Rattle.smithy_wire.specs.OpenContainers.{open_of, opens_of, marks_of, innermost, with_innermost, after_end};
 
 use smithy_schema::SerdeError;
 use std::alloc::{AllocError, Global};
@@ -73,6 +73,24 @@ impl<M: Copy> OpenContainers<M> {
         match self.stack.last() {
             Some(innermost) => Some(innermost.mark),
             None => None,
+        }
+    }
+
+    /// Keeps this of the innermost container from now on.
+    pub fn set_mark(&mut self, mark: M) -> Result<(), AllocError>
+        ensures containers { OnOk result (opens_of self.new ≡ opens_of self.old) }
+        ensures marks { OnOk result (marks_of self.new ≡ with_innermost mark (marks_of self.old)) }
+        ensures broken { self.new.failed ≡ self.old.failed }
+    {
+        match self.stack.last() {
+            Some(innermost) => {
+                let mut changed = *innermost;
+                changed.mark = mark;
+                self.stack.pop();
+                self.stack.push(changed)?;
+                Ok(())
+            }
+            None => Ok(()),
         }
     }
 

@@ -1,16 +1,16 @@
 -- What a call makes of the open containers and of the bytes.
-use Rattle.std.specs.Prelude.{◌≡◌, ℕ, List, [], ◌∷◌, ◌++◌, Result, Ok, Err, refl}
+use Rattle.std.specs.Prelude.{◌≡◌, ℕ, List, [], ◌++◌, None, Result, Ok, Err, refl}
 use Rattle.std.proofs.Common.{sym, ◌∙◌, ap}
 use Rattle.std.proofs.lemmas.List.{append-nil}
 use Rattle.smithy_schema.specs.declared.error.SerdeError.{SerdeError}
 use Rattle.smithy_schema.specs.Writing.{Event, begin_structure, end_structure, begin_list, end_list, begin_map, end_map, null_of, scalar_of, big_integer_of, big_decimal_of, document_of, Open}
 use Rattle.cbor_item.specs.Head.{shortest_head}
-use Rattle.cbor_item.specs.WellFormed.{break}
 use Rattle.smithy_cbor.specs.Scalar.{null_value}
-use Rattle.smithy_cbor.specs.Written.{opening_bytes, big_integer_bytes, decimal_fraction_bytes}
+use Rattle.smithy_cbor.specs.Written.{big_integer_bytes, decimal_fraction_bytes}
 use Rattle.smithy_texts.specs.Numeral.{number}
 use Rattle.smithy_texts.specs.Decimal.{mantissa, net_exponent}
 use Rattle.smithy_cbor_codec.specs.Canonical.{scalar_bytes}
+use Rattle.smithy_cbor_codec.specs.Lengths.{written_length, head_of, ending}
 use Rattle.smithy_cbor_codec.specs.Writing.{CborState, lead, made, where_taken}
 
 -- a state that a call makes has the open containers that the call is told of
@@ -29,12 +29,12 @@ made_frames (document_of site d) s frames = refl
 
 -- the bytes of a state that a call makes begin with the bytes before the call
 made_grows : (e : Event) (s : CborState) (frames : List Open) → (more : List ℕ) × ((made e s frames).out ≡ s.out ++ more)
-made_grows (begin_structure site) s frames = (lead s site.view ++ opening_bytes 5, refl)
-made_grows end_structure s frames = (break ∷ [], refl)
-made_grows (begin_list site length) s frames = (lead s site.view ++ opening_bytes 4, refl)
-made_grows end_list s frames = (break ∷ [], refl)
-made_grows (begin_map site length) s frames = (lead s site.view ++ opening_bytes 5, refl)
-made_grows end_map s frames = (break ∷ [], refl)
+made_grows (begin_structure site) s frames = (lead s site.view ++ head_of 5 None, refl)
+made_grows end_structure s frames = (ending s.lengths, refl)
+made_grows (begin_list site length) s frames = (lead s site.view ++ head_of 4 (written_length s.settings length), refl)
+made_grows end_list s frames = (ending s.lengths, refl)
+made_grows (begin_map site length) s frames = (lead s site.view ++ head_of 5 (written_length s.settings length), refl)
+made_grows end_map s frames = (ending s.lengths, refl)
 made_grows (null_of site) s frames = (lead s site.view ++ shortest_head 7 null_value, refl)
 made_grows (scalar_of site x) s frames = (lead s site.view ++ scalar_bytes x, refl)
 made_grows (big_integer_of site written) s frames = (lead s site.view ++ big_integer_bytes (number written), refl)

@@ -1,29 +1,20 @@
 -- The null, the integer or the text that stands at a place, as private functions answer it.
-use Rattle.std.specs.Prelude.{◌≡◌, ℕ, suc, ℤ, List, drop, Some, None, true}
+use Rattle.std.specs.Prelude.{◌≡◌, ◌⊎◌, ℕ, suc, ℤ, List, drop, Some, None, true}
 use Rattle.smithy_cbor.specs.declared.error.DecodeKind.{DecodeKind}
-use Rattle.smithy_cbor.specs.declared.error.DecodeKind.TheVariants as kinds
+use Rattle.smithy_cbor.specs.declared.error.DecodeKind.TheVariants.{TooWide, NoMemory}
 use Rattle.smithy_shapes.specs.declared.shape_type.Scalar.{Scalar}
 use Rattle.smithy_shapes.specs.Value.{ScalarValue, scalar_value}
+use Rattle.smithy_wire.specs.declared.found.Found.{Found}
 use Rattle.smithy_cbor_codec.specs.Scalar.{says}
+use Rattle.smithy_wire.specs.Finding.{MatchFound}
 use Rattle.smithy_wire.specs.Rules.{means, no_meaning, wide, uncarried}
-use Rattle.cbor_item.specs.declared.error.ItemError.{ItemError}
-use Rattle.cbor_item.specs.declared.error.ItemError.TheVariants as item
 use Rattle.cbor_item.specs.Item.{Item}
 use Rattle.cbor_item.specs.WellFormed.{IsItemAt}
-use Rattle.smithy_schema.specs.declared.error.SerdeError.{SerdeError}
-use Rattle.smithy_schema.specs.declared.error.SerdeError.TheVariants.{InvalidInput, TooWide, NoMemory}
 use Rattle.smithy_cbor.specs.Scalar.{integer_of, text_of, bytes_of}
 use Rattle.smithy_texts.specs.Base64Text.{are_bytes}
 use Rattle.smithy_texts.specs.Ranges.{fits_signed}
 use Rattle.smithy_cbor_codec.specs.Standing.{null_byte, begins_with, Follows, cbor_frames}
-
--- the refusal of what isn't read for the item's fault
-abbrev pub refusal_of : ItemError → SerdeError
-refusal_of item.NoMemory = NoMemory
-refusal_of item.Truncated = InvalidInput
-refusal_of item.NotWellFormed = InvalidInput
-refusal_of item.WrongType = InvalidInput
-refusal_of item.InvalidUtf8 = InvalidInput
+use Rattle.smithy_cbor_codec.specs.Private.Skipping.{SkipsTo}
 
 -- from at to e is a null, where a value may end behind it
 abbrev pub IsNullAt : List ℕ → ℕ → ℕ → ℕ → Type 0
@@ -56,12 +47,6 @@ pub record IsBlobAt (blob : List ℕ) (input : List ℕ) (at depth e : ℕ) : Ty
   pub bytes : are_bytes blob ≡ true
   pub follows : Follows depth input e
 
--- the refusal of a big number that a decoder doesn't read
-abbrev pub number_refusal : DecodeKind → SerdeError
-number_refusal kinds.TooWide = TooWide
-number_refusal kinds.NoMemory = NoMemory
-number_refusal _ = InvalidInput
-
 -- what stands at the place is this value as the kind, which has no time forms; a value may end behind it
 pub record MeansAt (s : Scalar) (input : List ℕ) (at depth : ℕ) (v : ScalarValue) (e : ℕ) : Type 0 where
   pub found : Item
@@ -85,3 +70,9 @@ pub record UncarriedAt (s : Scalar) (input : List ℕ) (at depth : ℕ) : Type 0
 -- whatever scalar stands at the place, it means nothing as the kind
 abbrev pub NothingAt : Scalar → List ℕ → ℕ → ℕ → Type 0
 NothingAt s input at depth = (x : Item) (e : ℕ) → cbor_frames.scalar input depth x at e → says s None x ≡ no_meaning
+
+-- what is found where a decoder reads no big number for this cause, unless memory ran out
+abbrev pub IsUnread : {A : Type 0} → DecodeKind → List ℕ → ℕ → ℕ → Found A → Type 0
+IsUnread kind input at depth found = MatchFound found (λ _. ⊥)
+    (((kind ≡ TooWide) × ((e : ℕ) → SkipsTo input at depth e → ⊥)) ⊎ ((kind ≡ TooWide → ⊥) × (kind ≡ NoMemory → ⊥)))
+    ((kind ≡ TooWide) × ((e : ℕ) × SkipsTo input at depth e))

@@ -1,13 +1,14 @@
-use Rattle.std.proofs.Common.{◌≡◌, ℕ, true, false, sym, subst, ◌∙◌, rules}
-use Rattle.smithy_texts.specs.declared.big_integer.BigInteger.{BigInteger}
-use Rattle.smithy_schema.specs.declared.error.SerdeError.TheVariants.{TooWide}
+use Rattle.std.proofs.Common.{◌≡◌, true, false, sym, subst, ◌∙◌}
+use Rattle.smithy_texts.specs.Numeral.{number}
+use Rattle.smithy_shapes.specs.Value.{whole}
+use Rattle.smithy_shapes.specs.declared.shape_type.Scalar.TheVariants as scalars
 use Rattle.smithy_cbor_codec.specs.Standing.{Follows}
 use Rattle.smithy_cbor_codec.specs.Private.ItemPlaces.{one_item}
-use Rattle.smithy_cbor_codec.proofs.BigNumbers.{integer_read, integer_fits, integer_refused, invalid_is, error_of, not_wide, integer_leaves}
+use Rattle.smithy_cbor_codec.proofs.BigNumbers.{integer_read, integer_fits, integer_refused, integer_leaves, unread_is, unread_fits}
 use Rattle.smithy_cbor_codec.proofs.numbers.big_integer_at.Goals as goal
 
-pub returns-then-not-may_end-clause-none : goal.returns-then-not-may_end-clause-none
-returns-then-not-may_end-clause-none c = λ invalid x e lies.
+pub returns-then-not-may_end-clause-found : goal.returns-then-not-may_end-clause-found
+returns-then-not-may_end-clause-found c = λ x e lies.
     let start = c.decoder_at-decoder.ensures in
     let stands = rw (start.input, start.position, ← c.position-end.ensures) at c.in-Ok.ensures.read.stands in
     let number = integer_read c.in-Ok.number c.args.input.now c.args.at c.position-end.result stands in
@@ -30,33 +31,14 @@ returns-else-not-may_end-clause-found c =
 pub returns-else-not-may_end-clause-fits : goal.returns-else-not-may_end-clause-fits
 returns-else-not-may_end-clause-fits c = integer_fits c.in-Ok.number _ _ _ c.in-Ok.ensures.read.stands
 
-pub returns-in-TooWide-clause-none : goal.returns-in-TooWide-clause-none
-returns-in-TooWide-clause-none c = λ invalid x e lies.
-    absurd (c.wide_refusal.ensures.none (invalid_is (BigInteger × ℕ) c.wide_refusal.result invalid) e (record { found = x; stands = lies.1; follows = lies.2 }))
-
-pub returns-in-TooWide-clause-wide : goal.returns-in-TooWide-clause-wide
-returns-in-TooWide-clause-wide c = λ is.
+pub returns-in-Err-clause-found : goal.returns-in-Err-clause-found
+returns-in-Err-clause-found c =
     let start = c.decoder_at-decoder.ensures in
     let cause = rw (start.input, start.position) at c.in-Err.ensures.refused.cause in
-    let number = integer_leaves c.args.input.now c.args.at c.in-Err.error.kind cause (sym c.number_refusal.ensures ∙ c.in-TooWide.is) in
-    let end = c.wide_refusal.ensures.wide (error_of c.wide_refusal.result TooWide is) in
-    let same = (one_item number.1.found end.1.found c.args.input.now c.args.at number.0 end.0 number.1.stands end.1.stands).1 in
-    record {
-      found = number.1.found;
-      e = number.0;
-      lies = (number.1.is_leaf, number.1.stands, subst (Follows c.args.depth c.args.input.now) (sym same) end.1.follows);
-      is = number.1.is;
-    }
+    unread_is scalars.BigInteger (λ n. whole (number n)) c.args.input.now c.args.at c.args.depth c.in-Err.error.kind
+    (integer_refused c.args.input.now c.args.at c.in-Err.error.kind cause) (integer_leaves c.args.input.now c.args.at c.in-Err.error.kind cause)
+    c.unread_number.result c.unread_number.ensures
 
-pub returns-in_default : goal.returns-in_default
-returns-in_default c = record {
-  found = tt;
-  fits = tt;
-  none = λ invalid x e lies.
-      let start = c.decoder_at-decoder.ensures in
-      let cause = rw (start.input, start.position) at c.in-Err.ensures.refused.cause in
-      integer_refused c.args.input.now c.args.at c.in-Err.error.kind cause
-      (λ is. c.in_default.not-TooWide (c.number_refusal.ensures ∙ is)) (λ is. c.in_default.not-NoMemory (c.number_refusal.ensures ∙ is)) x e lies.1;
-  wide = λ is. absurd (not_wide is);
-  kind = search rules;
-}
+pub returns-in-Err-clause-fits : goal.returns-in-Err-clause-fits
+returns-in-Err-clause-fits c =
+    unread_fits scalars.BigInteger (λ n. whole (number n)) c.args.input.now c.args.at c.args.depth c.in-Err.error.kind _ c.unread_number.result c.unread_number.ensures

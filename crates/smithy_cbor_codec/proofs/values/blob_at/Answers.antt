@@ -4,15 +4,15 @@ use Rattle.smithy_cbor_codec.specs.Standing.{Follows}
 use Rattle.smithy_cbor_codec.proofs.TextLemmas.{no_blob_at, same_blob_end}
 use Rattle.smithy_cbor_codec.proofs.values.blob_at.Goals as goal
 
-pub returns-then-not-may_end-clause-none : goal.returns-then-not-may_end-clause-none
-returns-then-not-may_end-clause-none c = λ invalid blob e h.
+pub returns-then-not-may_end : goal.returns-then-not-may_end
+returns-then-not-may_end c = λ blob e h.
     let found = c.in-Ok.ensures.found in
     let same = same_blob_end c.args.input.now c.args.at blob (byte_string found.extent found.chunks) c.args.depth e _ h found.stands in
     let may : c.may_end.result ≡ true = c.may_end.ensures.1 (subst (Follows c.args.depth c.args.input.now) same h.follows) in
     let both : true ≡ false = sym may ∙ c.if-not-may_end.true in cc
 
-pub returns-in_ok-blob-in-Ok-clause-ok : goal.returns-in_ok-blob-in-Ok-clause-ok
-returns-in_ok-blob-in-Ok-clause-ok c =
+pub returns-in_ok-blob-in-Ok : goal.returns-in_ok-blob-in-Ok
+returns-in_ok-blob-in-Ok c =
     let found = c.in-Ok.ensures.found in
     record {
       found = byte_string found.extent found.chunks;
@@ -22,6 +22,5 @@ returns-in_ok-blob-in-Ok-clause-ok c =
       follows = c.may_end.ensures.0 c.if-not-may_end.false;
     }
 
-pub returns-in-Err-clause-none : goal.returns-in-Err-clause-none
-returns-in-Err-clause-none c = λ invalid blob e.
-    no_blob_at c.args.input.now c.args.at c.in-Err.error (sym c.refusal_of.ensures ∙ invalid) c.in-Err.ensures.fault blob c.args.depth e
+pub returns-in_default : goal.returns-in_default
+returns-in_default c = λ blob e. no_blob_at c.args.input.now c.args.at c.in-Err.error c.in_default.not-NoMemory c.in-Err.ensures.fault blob c.args.depth e

@@ -1,8 +1,9 @@
 use Rattle.std.proofs.Common.{◌≡◌, ◌≤◌, length, sym, ◌∙◌, rules}
 use Rattle.std.specs.Cow.{cow_slice_items}
 use Rattle.smithy_shapes.specs.Site.{site_of}
+use Rattle.smithy_cbor_codec.specs.Borrowed.{BorrowsBytes}
 use Rattle.smithy_cbor_codec.specs.Cursor.{cursor_of, reading_settings_of}
-use Rattle.smithy_cbor_codec.proofs.ScalarReads.{reads_bytes}
+use Rattle.smithy_cbor_codec.proofs.ScalarReads.{reads_bytes, found_is}
 use Rattle.smithy_wire.proofs.ScalarReads.{was_ready}
 use Rattle.smithy_cbor_codec.proofs.borrowing.CborDeserializerBorrowDeserializer.read_bytes.Goals as goal
 
@@ -12,6 +13,13 @@ returns-clause-read c =
     let was = was_ready c.args.self.now.walk.failed c.args.self.now.walk.due (sym c.in_ok-ready.was ∙ c.ready.ensures.answer) in
     let within : c.args.self.now.walk.position ≤ length c.args.self.now.walk.input.now = search rules in
     let found = rw (c.depth.ensures, same) at c.bytes_piece_at-found.ensures in
-    let take = rw same at c.take_result.ensures in
-    reads_bytes (reading_settings_of c.args.self.now) (cursor_of c.args.self.now) (site_of c.args._schema.now) was.0 was.1 within cow_slice_items _ c.bytes_piece_at-found.result c.take_result.result
-    found.ok found.kind found.none take.ok take.some take.err take.error
+    let take = rw same at c.take_found.ensures in
+    reads_bytes (reading_settings_of c.args.self.now) (cursor_of c.args.self.now) (site_of c.args._schema.now) was.0 was.1 within cow_slice_items _ c.bytes_piece_at-found.result c.take_found.result
+    found.found take.taken
+
+pub returns-clause-borrowed : goal.returns-clause-borrowed
+returns-clause-borrowed c =
+    let same : c.ready.new.self ≡ c.args.self.now.walk = c.in_ok-ready.ensures.ok in
+    let found = rw (c.depth.ensures, same) at c.bytes_piece_at-found.ensures in
+    let take = rw same at c.take_found.ensures in
+    found_is (cursor_of c.args.self.now) _ c.take_found.result (BorrowsBytes (cursor_of c.args.self.now).input (cursor_of c.args.self.now).at) c.bytes_piece_at-found.result found.borrowed take.taken

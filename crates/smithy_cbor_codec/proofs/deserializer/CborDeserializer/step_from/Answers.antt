@@ -1,60 +1,59 @@
-use Rattle.std.proofs.Common.{◌≡◌, arith, ap, ◌∙◌}
+use Rattle.std.proofs.Common.{arith, ap, ◌∙◌}
 use Rattle.std.proofs.lemmas.Grind.{common_steps}
-use Rattle.smithy_schema.specs.declared.error.SerdeError.TheVariants.{InvalidInput}
 use Rattle.smithy_shapes.specs.Site.{site_of, kind_at}
 use Rattle.smithy_cbor_codec.specs.Cursor.{cursor_of, reading_settings_of}
 use Rattle.smithy_cbor_codec.specs.Standing.{mark_with}
 use Rattle.smithy_cbor_codec.specs.Private.MemberSteps.{StepsTo}
-use Rattle.smithy_cbor_codec.proofs.DeserializerLemmas.{goes_ahead, input_fault, not_missing}
+use Rattle.smithy_cbor_codec.proofs.DeserializerLemmas.{goes_ahead, not_missing}
 use Rattle.smithy_cbor_codec.proofs.MemberStepLemmas.{steps_to, leaves_at, map_closes, cannot_step}
 use Rattle.smithy_cbor_codec.proofs.PassedEntryLemmas.{value_place, end_place}
 use Rattle.smithy_wire.specs.Walking.{cursor_of as walk_cursor, gone_on_to}
 use Rattle.smithy_cbor_codec.proofs.deserializer.CborDeserializer.step_from.Goals as goal
 
-pub leave-requires-in-Ok-End-clause-within : goal.leave-requires-in-Ok-End-clause-within
-leave-requires-in-Ok-End-clause-within c =
-    let next = rw c.in-Ok-End.field-0-is at c.in-Ok-End.ensures.ok in
+pub leave-requires-in-Ok-Some-End-clause-within : goal.leave-requires-in-Ok-Some-End-clause-within
+leave-requires-in-Ok-Some-End-clause-within c =
+    let next = rw (c.in-Ok-Some-End.field-0-is, c.in-Ok-Some-End.field-0-0-is) at c.in-Ok-Some-End.ensures in
     let old = cursor_of c.args.self.now in
-    (end_place (kind_at (site_of c.args.schema.now)) old.input c.depth.result c.args.at (mark_with old.inner.mark.due) c.in-Ok-End.end c.requires.within next.0).1
+    (end_place (kind_at (site_of c.args.schema.now)) old.input c.depth.result c.args.at (mark_with old.inner.mark.due) c.in-Ok-Some-End.end c.requires.within next.0).1
 
-pub returns-in-Ok-Pair-clause-conduct : goal.returns-in-Ok-Pair-clause-conduct
-returns-in-Ok-Pair-clause-conduct c =
-    let next = rw c.in-Ok-Pair.field-0-is at c.in-Ok-Pair.ensures.ok in
+pub returns-in-Ok-Some-Pair-clause-conduct : goal.returns-in-Ok-Some-Pair-clause-conduct
+returns-in-Ok-Some-Pair-clause-conduct c =
+    let next = rw (c.in-Ok-Some-Pair.field-0-is, c.in-Ok-Some-Pair.field-0-0-is) at c.in-Ok-Some-Pair.ensures in
     let old = cursor_of c.args.self.now in
-    let place = value_place (kind_at (site_of c.args.schema.now)) old.input c.depth.result c.args.at (mark_with old.inner.mark.due) _ c.in-Ok-Pair.value (mark_with c.in-Ok-Pair.due) next in
-    goes_ahead _ old (walk_cursor c.go_on.new.self) c.step_to-step.result c.in-Ok-Pair.value c.requires.sound (ap (λ x. x.at) c.go_on.ensures.gone) (ap (λ x. x.input) c.go_on.ensures.gone) (omega (arith, c.requires.ahead, place.0)) place.1
+    let place = value_place (kind_at (site_of c.args.schema.now)) old.input c.depth.result c.args.at (mark_with old.inner.mark.due) _ c.in-Ok-Some-Pair.value (mark_with c.in-Ok-Some-Pair.due) next in
+    goes_ahead _ old (walk_cursor c.go_on.new.self) c.step_to-step.result c.in-Ok-Some-Pair.value c.requires.sound (ap (λ x. x.at) c.go_on.ensures.gone) (ap (λ x. x.input) c.go_on.ensures.gone) (omega (arith, c.requires.ahead, place.0)) place.1
 
-pub returns-in-Ok-Pair-clause-ok : goal.returns-in-Ok-Pair-clause-ok
-returns-in-Ok-Pair-clause-ok c =
-    let next = rw c.in-Ok-Pair.field-0-is at c.in-Ok-Pair.ensures.ok in
+pub returns-in-Ok-Some-Pair-clause-ok : goal.returns-in-Ok-Some-Pair-clause-ok
+returns-in-Ok-Some-Pair-clause-ok c =
+    let next = rw (c.in-Ok-Some-Pair.field-0-is, c.in-Ok-Some-Pair.field-0-0-is) at c.in-Ok-Some-Pair.ensures in
     let o = reading_settings_of c.args.self.now in
     let old = cursor_of c.args.self.now in
-    let gone = c.go_on.ensures.gone ∙ ap (λ f. gone_on_to old c.in-Ok-Pair.value f) c.frame.ensures in
+    let gone = c.go_on.ensures.gone ∙ ap (λ f. gone_on_to old c.in-Ok-Some-Pair.value f) c.frame.ensures in
     let leads : StepsTo c.step_to-step.result (site_of c.args.schema.now) c.as_str.result.now = c.step_to-step.ensures in
     steps_to o old (walk_cursor c.go_on.new.self) c.args.at (site_of c.args.schema.now) c.requires.place
-    c.in-Ok-Pair.value c.as_str.result.now c.in-Ok-Pair.due c.step_to-step.result c.depth.result c.depth.ensures c.requires.inside c.requires.sound gone (rw c.as_str.ensures.value next) leads
+    c.in-Ok-Some-Pair.value c.as_str.result.now c.in-Ok-Some-Pair.due c.step_to-step.result c.depth.result c.depth.ensures c.requires.inside c.requires.sound gone (rw c.as_str.ensures.value next) leads
 
-pub returns-in-Ok-End-clause-conduct : goal.returns-in-Ok-End-clause-conduct
-returns-in-Ok-End-clause-conduct c =
-    let next = rw c.in-Ok-End.field-0-is at c.in-Ok-End.ensures.ok in
+pub returns-in-Ok-Some-End-clause-conduct : goal.returns-in-Ok-Some-End-clause-conduct
+returns-in-Ok-Some-End-clause-conduct c =
+    let next = rw (c.in-Ok-Some-End.field-0-is, c.in-Ok-Some-End.field-0-0-is) at c.in-Ok-Some-End.ensures in
     let old = cursor_of c.args.self.now in
-    let place = end_place (kind_at (site_of c.args.schema.now)) old.input c.depth.result c.args.at (mark_with old.inner.mark.due) c.in-Ok-End.end c.requires.within next.0 in
-    goes_ahead _ old (walk_cursor c.leave-in-Ok-End.new.self) _ c.in-Ok-End.end c.requires.sound c.leave-in-Ok-End.ensures.at c.leave-in-Ok-End.ensures.input (omega (arith, c.requires.ahead, place.0)) place.1
+    let place = end_place (kind_at (site_of c.args.schema.now)) old.input c.depth.result c.args.at (mark_with old.inner.mark.due) c.in-Ok-Some-End.end c.requires.within next.0 in
+    goes_ahead _ old (walk_cursor c.leave-in-Ok-Some-End.new.self) _ c.in-Ok-Some-End.end c.requires.sound c.leave-in-Ok-Some-End.ensures.at c.leave-in-Ok-Some-End.ensures.input (omega (arith, c.requires.ahead, place.0)) place.1
 
-pub returns-in-Ok-End-clause-ok : goal.returns-in-Ok-End-clause-ok
-returns-in-Ok-End-clause-ok c =
-    let next = rw c.in-Ok-End.field-0-is at c.in-Ok-End.ensures.ok in
+pub returns-in-Ok-Some-End-clause-ok : goal.returns-in-Ok-Some-End-clause-ok
+returns-in-Ok-Some-End-clause-ok c =
+    let next = rw (c.in-Ok-Some-End.field-0-is, c.in-Ok-Some-End.field-0-0-is) at c.in-Ok-Some-End.ensures in
     let o = reading_settings_of c.args.self.now in
     let old = cursor_of c.args.self.now in
-    let new = walk_cursor c.leave-in-Ok-End.new.self in
-    leaves_at o old new c.args.at (site_of c.args.schema.now) c.requires.place c.in-Ok-End.end
-    (map_closes o old new c.args.at (site_of c.args.schema.now) c.requires.place c.in-Ok-End.end c.depth.result c.depth.ensures next)
-    c.leave-in-Ok-End.ensures.input c.leave-in-Ok-End.ensures.at c.leave-in-Ok-End.ensures.outer c.leave-in-Ok-End.ensures.due c.leave-in-Ok-End.ensures.failed c.requires.sound
+    let new = walk_cursor c.leave-in-Ok-Some-End.new.self in
+    leaves_at o old new c.args.at (site_of c.args.schema.now) c.requires.place c.in-Ok-Some-End.end
+    (map_closes o old new c.args.at (site_of c.args.schema.now) c.requires.place c.in-Ok-Some-End.end c.depth.result c.depth.ensures next)
+    c.leave-in-Ok-Some-End.ensures.input c.leave-in-Ok-Some-End.ensures.at c.leave-in-Ok-Some-End.ensures.outer c.leave-in-Ok-Some-End.ensures.due c.leave-in-Ok-Some-End.ensures.failed c.requires.sound
 
-pub returns-in-Err-clause-refused : goal.returns-in-Err-clause-refused
-returns-in-Err-clause-refused c = λ fault o.
-    let same : c.in-Err.error ≡ InvalidInput = input_fault c.in-Err.error c.in-Err.ensures.kind (rw c.refuse.ensures.error at fault) in
-    cannot_step o (cursor_of c.args.self.now) (walk_cursor c.refuse.new.self) c.args.at (site_of c.args.schema.now) c.requires.place c.depth.result c.depth.ensures (c.in-Err.ensures.none same)
+pub returns-in-Ok-None-clause-refused : goal.returns-in-Ok-None-clause-refused
+returns-in-Ok-None-clause-refused c = λ fault o.
+    let nothing = rw c.in-Ok-None.field-0-is at c.in-Ok-None.ensures in
+    cannot_step o (cursor_of c.args.self.now) (walk_cursor c.refuse.new.self) c.args.at (site_of c.args.schema.now) c.requires.place c.depth.result c.depth.ensures nothing
     (not_missing c.ends_empty.result _ _ c.ends_empty.ensures c.if-ends_empty.false)
 
 pub leave-requires-clause-within : goal.leave-requires-clause-within
@@ -69,5 +68,5 @@ next_present-requires c = grind (arith, common_steps)
 pub go_on-requires : goal.go_on-requires
 go_on-requires c = grind (arith, common_steps)
 
-pub leave-requires-in-Ok-End-clause-inside : goal.leave-requires-in-Ok-End-clause-inside
-leave-requires-in-Ok-End-clause-inside c = grind (arith, common_steps)
+pub leave-requires-in-Ok-Some-End-clause-inside : goal.leave-requires-in-Ok-Some-End-clause-inside
+leave-requires-in-Ok-Some-End-clause-inside c = grind (arith, common_steps)

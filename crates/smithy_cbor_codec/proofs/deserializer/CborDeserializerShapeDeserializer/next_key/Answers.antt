@@ -1,49 +1,45 @@
-use Rattle.std.proofs.Common.{◌≡◌, ap, ◌∙◌, inl, inr, arith}
+use Rattle.std.proofs.Common.{◌≡◌, ap, ◌∙◌, arith}
 use Rattle.std.proofs.lemmas.Grind.{common_steps}
 use Rattle.std.specs.Cow.{cow_str_bytes}
 use Rattle.std.specs.Prelude.{string_bytes}
-use Rattle.smithy_schema.specs.declared.error.SerdeError.TheVariants.{InvalidInput}
 use Rattle.smithy_cbor_codec.specs.Cursor.{cursor_of, reading_settings_of}
 use Rattle.smithy_cbor_codec.specs.Settings.{without_limits}
 use Rattle.smithy_cbor_codec.specs.Standing.{mark_with}
-use Rattle.smithy_cbor_codec.proofs.DeserializerLemmas.{goes_ahead, input_fault, entry_steps, map_left, map_stuck}
+use Rattle.smithy_cbor_codec.proofs.DeserializerLemmas.{goes_ahead, entry_steps, map_left, map_stuck}
 use Rattle.smithy_cbor_codec.proofs.EntryLemmas.{key_ahead}
 use Rattle.smithy_wire.specs.Walking.{cursor_of as walk_cursor, gone_on_to}
 use Rattle.smithy_cbor_codec.proofs.deserializer.CborDeserializerShapeDeserializer.next_key.Goals as goal
 
 pub returns-in-Ok-clause-conduct : goal.returns-in-Ok-clause-conduct
 returns-in-Ok-clause-conduct c =
-    let pair = rw c.in-Ok-Pair.field-0-is at c.in-Ok-Pair.ensures.ok in
+    let pair = rw (c.in-Ok-Some-Pair.field-0-is, c.in-Ok-Some-Pair.field-0-0-is) at c.in-Ok-Some-Pair.ensures in
     let old = cursor_of c.args.self.now in
-    let ahead = key_ahead old.input old.at (mark_with old.inner.mark.due) (cow_str_bytes c.in-Ok-Pair.text) c.in-Ok-Pair.value (mark_with c.in-Ok-Pair.due) pair in
-    goes_ahead _ old (walk_cursor c.go_on.new.self) _ c.in-Ok-Pair.value c.if-self.false (ap (λ x. x.at) c.go_on.ensures.gone) (ap (λ x. x.input) c.go_on.ensures.gone) (omega (arith, ahead)) pair.1.1.0
+    let ahead = key_ahead old.input old.at (mark_with old.inner.mark.due) (cow_str_bytes c.in-Ok-Some-Pair.text) c.in-Ok-Some-Pair.value (mark_with c.in-Ok-Some-Pair.due) pair in
+    goes_ahead _ old (walk_cursor c.go_on.new.self) _ c.in-Ok-Some-Pair.value c.if-self.false (ap (λ x. x.at) c.go_on.ensures.gone) (ap (λ x. x.input) c.go_on.ensures.gone) (omega (arith, ahead)) pair.1.1.0
 
 pub returns-in-Ok-clause-ok : goal.returns-in-Ok-clause-ok
 returns-in-Ok-clause-ok c = λ due t p map.
-    let pair = rw c.in-Ok-Pair.field-0-is at c.in-Ok-Pair.ensures.ok in
+    let pair = rw (c.in-Ok-Some-Pair.field-0-is, c.in-Ok-Some-Pair.field-0-0-is) at c.in-Ok-Some-Pair.ensures in
     let old = cursor_of c.args.self.now in
-    let gone = c.go_on.ensures.gone ∙ ap (λ f. gone_on_to old c.in-Ok-Pair.value f) c.frame.ensures in
-    let same : string_bytes c.in-Ok.key ≡ cow_str_bytes c.in-Ok-Pair.text = c.in-Ok.ensures.ok in
-    entry_steps (reading_settings_of c.args.self.now) old t p map (walk_cursor c.go_on.new.self) (string_bytes c.in-Ok.key) c.in-Ok-Pair.value c.in-Ok-Pair.due c.requires.within c.if-self.false gone (rw same pair)
+    let gone = c.go_on.ensures.gone ∙ ap (λ f. gone_on_to old c.in-Ok-Some-Pair.value f) c.frame.ensures in
+    let same : string_bytes c.in-Ok.key ≡ cow_str_bytes c.in-Ok-Some-Pair.text = c.in-Ok.ensures.ok in
+    entry_steps (reading_settings_of c.args.self.now) old t p map (walk_cursor c.go_on.new.self) (string_bytes c.in-Ok.key) c.in-Ok-Some-Pair.value c.in-Ok-Some-Pair.due c.requires.within c.if-self.false gone (rw same pair)
 
-pub returns-in-Ok-End-clause-ok : goal.returns-in-Ok-End-clause-ok
-returns-in-Ok-End-clause-ok c = λ due t p map.
-    let end = rw c.in-Ok-End.field-0-is at c.in-Ok-End.ensures.ok in
-    map_left (reading_settings_of c.args.self.now) (cursor_of c.args.self.now) t p map (walk_cursor c.leave.new.self) c.in-Ok-End.end c.depth.result c.depth.ensures
+pub returns-in-Ok-Some-End-clause-ok : goal.returns-in-Ok-Some-End-clause-ok
+returns-in-Ok-Some-End-clause-ok c = λ due t p map.
+    let end = rw (c.in-Ok-Some-End.field-0-is, c.in-Ok-Some-End.field-0-0-is) at c.in-Ok-Some-End.ensures in
+    map_left (reading_settings_of c.args.self.now) (cursor_of c.args.self.now) t p map (walk_cursor c.leave.new.self) c.in-Ok-Some-End.end c.depth.result c.depth.ensures
     c.leave.ensures.input c.leave.ensures.at c.leave.ensures.outer c.leave.ensures.due c.leave.ensures.failed c.if-self.false end
 
-pub returns-in-Err-clause-refused : goal.returns-in-Err-clause-refused
-returns-in-Err-clause-refused c = λ fault due t p map.
-    let is : c.in-Err.error ≡ InvalidInput = input_fault c.in-Err.error c.in-Err.ensures.kind (rw c.refuse-in-Err.ensures.error at fault) in
-    map_stuck (reading_settings_of c.args.self.now) (cursor_of c.args.self.now) t p map c.depth.result c.depth.ensures (c.in-Err.ensures.none is)
+pub returns-in-Ok-None-clause-refused : goal.returns-in-Ok-None-clause-refused
+returns-in-Ok-None-clause-refused c = λ fault due t p map.
+    let missing = rw c.in-Ok-None.field-0-is at c.in-Ok-None.ensures in
+    map_stuck (reading_settings_of c.args.self.now) (cursor_of c.args.self.now) t p map c.depth.result c.depth.ensures missing
 
-pub returns-in-Err-clause-none_without_limits : goal.returns-in-Err-clause-none_without_limits
-returns-in-Err-clause-none_without_limits c = λ strict invalid due t p map.
-    let is : c.in-Err.error ≡ InvalidInput = elim c.in-Err.ensures.kind [
-      | inl input ↦ input
-      | inr memory ↦ absurd (rw (c.refuse-in-Err.ensures.error, memory) at invalid)
-    ] in
-    map_stuck (without_limits (reading_settings_of c.args.self.now)) (cursor_of c.args.self.now) t p map c.depth.result c.depth.ensures (c.in-Err.ensures.none is)
+pub returns-in-Ok-None-clause-none_without_limits : goal.returns-in-Ok-None-clause-none_without_limits
+returns-in-Ok-None-clause-none_without_limits c = λ strict invalid due t p map.
+    let missing = rw c.in-Ok-None.field-0-is at c.in-Ok-None.ensures in
+    map_stuck (without_limits (reading_settings_of c.args.self.now)) (cursor_of c.args.self.now) t p map c.depth.result c.depth.ensures missing
 
 pub leave-requires-clause-within : goal.leave-requires-clause-within
 leave-requires-clause-within c = grind (arith, common_steps)

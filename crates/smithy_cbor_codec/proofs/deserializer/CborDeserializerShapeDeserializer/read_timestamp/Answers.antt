@@ -11,9 +11,9 @@ returns-clause-read c =
     let was = was_ready c.args.self.now.walk.failed c.args.self.now.walk.due (sym c.in_ok-ready.was ∙ c.ready.ensures.answer) in
     let within : c.args.self.now.walk.position ≤ length c.args.self.now.walk.input.now = search rules in
     let found = rw (c.depth.ensures, same) at c.instant_at-found.ensures in
-    let take = rw same at c.take_result.ensures in
+    let take = rw same at c.take_within.ensures in
     reads_instant (reading_settings_of c.args.self.now) (cursor_of c.args.self.now) (site_of c.args._schema.now) was.0 was.1 within refl
-    c.instant_at-found.result c.take_result.result found.found found.kind found.none _ found.uncarried take.ok take.some take.err take.error
+    _ c.instant_at-found.result c.take_within.result found take.taken
 
 pub returns-clause-uncarried : goal.returns-clause-uncarried
 returns-clause-uncarried c =
@@ -21,9 +21,9 @@ returns-clause-uncarried c =
     let was = was_ready c.args.self.now.walk.failed c.args.self.now.walk.due (sym c.in_ok-ready.was ∙ c.ready.ensures.answer) in
     let within : c.args.self.now.walk.position ≤ length c.args.self.now.walk.input.now = search rules in
     let found = rw (c.depth.ensures, same) at c.instant_at-found.ensures in
-    let take = rw same at c.take_result.ensures in
+    let take = rw same at c.take_within.ensures in
     answers_instant (reading_settings_of c.args.self.now) (cursor_of c.args.self.now) (site_of c.args._schema.now) was.0 was.1 within refl
-    c.instant_at-found.result c.take_result.result found.found found.kind found.none take.some take.error
+    _ c.instant_at-found.result c.take_within.result found take.taken
 
 pub returns-clause-memory : goal.returns-clause-memory
-returns-clause-memory c = no_memory_taken c.instant_at-found.result c.take_result.result c.instant_at-found.ensures.kind c.take_result.ensures.error
+returns-clause-memory c = no_memory_taken _ _ c.instant_at-found.result c.take_within.result c.take_within.ensures.taken

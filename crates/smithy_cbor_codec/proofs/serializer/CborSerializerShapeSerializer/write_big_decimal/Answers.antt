@@ -17,7 +17,7 @@ returns-in-Ok-clause-ok c =
     let after = (state_of c.begin_value.new.self).frames in
     rw c.succeed.ensures (
     number_written (mantissa text) (made (big_decimal_of site text) s) (after_value s.frames) after _ c.in_ok-begin_value.ensures.taken
-    (wrote_is s site.view bytes _ after _ c.in_ok-begin_value.ensures.same (c.in-Ok.ensures.ok ∙ ap (λ o. o ++ bytes) c.in_ok-begin_value.ensures.lead)) c.in-Ok.ensures.wide.1)
+    (wrote_is s site.view bytes _ after _ _ c.in_ok-begin_value.ensures.same (c.in-Ok.ensures.ok ∙ ap (λ o. o ++ bytes) c.in_ok-begin_value.ensures.lead) c.in_ok-begin_value.ensures.lengths) c.in-Ok.ensures.wide.1)
 
 pub returns-in-Err-clause-refused : goal.returns-in-Err-clause-refused
 returns-in-Err-clause-refused c =

@@ -23,4 +23,4 @@ returns-clause-ok c =
     ∙ ap (λ (z : ℤ). before ++ decimal_fraction_bytes z m) (to_z-of_z w64 e c.ranges.exponent) in
     rw c.succeed.ensures (
     call_written (made (scalar_of site (decimal m e)) s) (after_value s.frames) after _ c.in_ok-begin_value.ensures.taken
-    (wrote_is s site.view bytes _ after _ c.in_ok-begin_value.ensures.same (c.in_ok-decimal_fraction.ensures.ok ∙ same ∙ ap (λ o. o ++ bytes) c.in_ok-begin_value.ensures.lead)))
+    (wrote_is s site.view bytes _ after _ _ c.in_ok-begin_value.ensures.same (c.in_ok-decimal_fraction.ensures.ok ∙ same ∙ ap (λ o. o ++ bytes) c.in_ok-begin_value.ensures.lead) c.in_ok-begin_value.ensures.lengths))

@@ -19,4 +19,4 @@ returns-clause-ok c =
     let same = ap (λ (z : ℤ). c.begin_value.new.self.encoder ++ big_integer_bytes z) (to_z-of_z w128 c.args.value c.ranges.value) in
     rw c.succeed.ensures (
     call_written (made (scalar_of site (whole c.args.value)) s) (after_value s.frames) after _ c.in_ok-begin_value.ensures.taken
-    (wrote_is s site.view bytes _ after _ c.in_ok-begin_value.ensures.same (c.in_ok-whole.ensures.ok ∙ same ∙ ap (λ o. o ++ bytes) c.in_ok-begin_value.ensures.lead)))
+    (wrote_is s site.view bytes _ after _ _ c.in_ok-begin_value.ensures.same (c.in_ok-whole.ensures.ok ∙ same ∙ ap (λ o. o ++ bytes) c.in_ok-begin_value.ensures.lead) c.in_ok-begin_value.ensures.lengths))
