@@ -1,40 +1,44 @@
 -- What a reader finds at a place, as the contract of reading says it.
-use Rattle.std.proofs.Common.{◌≡◌, ◌≢◌, ◌≤◌, ◌+◌, ◌⊎◌, inl, inr, ℕ, length, List, [], ◌∷◌, true, false, Some, None, Result, Ok, Err, refl, sym, ap, subst, ◌∙◌, arith}
+use Rattle.std.proofs.Common.{◌≡◌, ◌≢◌, ◌≤◌, ◌+◌, inr, ℕ, length, List, [], ◌∷◌, true, false, Some, None, Result, Ok, Err, refl, sym, ap, subst, ◌∙◌, arith}
 use Rattle.std.proofs.lemmas.Bool.Decides.{nat_tests}
 use Rattle.std.specs.Prelude.{nat_le}
-use Rattle.std.specs.Result.{IsErrOf, IsOk, IfOk}
+use Rattle.std.specs.Result.{IsErrOf, IfOk}
+use Rattle.std.specs.declared.alloc.AllocError.{AllocError}
 use Rattle.smithy_schema.specs.declared.error.SerdeError.{SerdeError}
-use Rattle.smithy_schema.specs.declared.error.SerdeError.TheVariants.{InvalidInput, Failed, NoMemory}
+use Rattle.smithy_schema.specs.declared.error.SerdeError.TheVariants.{Failed}
+use Rattle.smithy_schema.specs.declared.error.SerdeError.TheVariants as errors
 use Rattle.smithy_shapes.specs.declared.place.Place.{Place}
 use Rattle.smithy_shapes.specs.Table.{Table, kind_of, IsList, IsMap, IsStructure}
-use Rattle.smithy_schema.specs.Reading.{Cursor, depth, Steps, Conducts, OpensNot, SkipsNot, CannotGoOn, IsFault, IsOfReader, failed_at, passed_to, in_list, in_map}
+use Rattle.smithy_schema.specs.Reading.{Cursor, depth, Steps, Conducts, OpensNot, SkipsNot, CannotGoOn, IsFault, IsInvalid, IsOfReader, RefusesNoScalar, failed_at, in_list, in_map}
 use Rattle.smithy_json.specs.Ascii.{end_array, end_object}
 use Rattle.smithy_json.specs.Tree.{nesting}
 use Rattle.smithy_json.specs.Unescape.{unescaped}
+use Rattle.smithy_json_codec.specs.declared.members.EntryFault.{EntryFault}
+use Rattle.smithy_json_codec.specs.declared.members.EntryFault.TheVariants as entry_faults
+use Rattle.smithy_json_codec.specs.declared.skip.SkipFault.{SkipFault}
+use Rattle.smithy_json_codec.specs.declared.skip.SkipFault.TheVariants as skip_faults
 use Rattle.smithy_json_codec.specs.Cursor.{inside_of}
+use Rattle.smithy_wire.specs.declared.found.Found.{Found}
+use Rattle.smithy_wire.specs.declared.found.Found.TheVariants.{Value, Nothing, Beyond}
+use Rattle.smithy_wire.specs.Finding.{MatchFound, TakesWithin}
 use Rattle.smithy_wire.specs.Walking.{gone_on_to}
 use Rattle.smithy_json_codec.specs.Settings.{Settings, without_limits, is_shallow, kept}
 use Rattle.smithy_json_codec.specs.Standing.{json_relations, end_mark, Names}
 use Rattle.smithy_json_codec.specs.Private.NextInContainer.{ElementBegins, ClosesBy, GoesOnInList, GoesOnInObject}
-use Rattle.smithy_json_codec.specs.Private.Skipping.{SkipsTo}
+use Rattle.smithy_json_codec.specs.Private.Skipping.{SkipsTo, skip_refusal}
+use Rattle.smithy_json_codec.specs.Private.PassedEntries.{entry_refusal}
 use Rattle.smithy_json_codec.proofs.ReaderLemmas.{steps_in_list, list_is_stuck, steps_in_map, map_is_stuck, one_tree, same_names, names_or_end}
 use Rattle.smithy_json_codec.proofs.SkippedValues.{skips_are}
 use Rattle.smithy_wire.specs.Frames.{IsTold}
 use Rattle.smithy_wire.specs.Node.{as_object}
 
 -- what a read answers lies from where the reader was to where it is
-pub answers_found : {A : Type 0} (P : A → ℕ → Type 0) (old new : Cursor) (found : Result (A × ℕ) SerdeError) (result : Result A SerdeError)
-    → IfOk found (λ r. P r.0 r.1) → IfOk result (λ x. IfOk found (λ r. (r.0 ≡ x) × (new ≡ passed_to old r.1))) → (IsOk result → IsOk found)
-    → IfOk result (λ x. P x new.at)
-answers_found P old new (Ok r) (Ok x) here taken some =
-    subst (λ (n : Cursor). P x n.at) (sym taken.1) (subst (λ y. P y r.1) taken.0 here)
-answers_found P old new (Err e) (Ok x) here taken some = absurd (let no = some refl in cc)
-answers_found P old new found (Err e) here taken some = tt
-
--- a refusal by a text that isn't want of memory
-pub text_fault : (error : SerdeError) → (error ≡ InvalidInput) ⊎ (error ≡ NoMemory) → IsFault error → error ≡ InvalidInput
-text_fault error (inl is) fault = is
-text_fault error (inr is) fault = absurd (rw is at fault)
+pub answers_within : {A : Type 0} (P : A → ℕ → Type 0) (old new : Cursor) (beyond : SerdeError) (found : Result (Found (A × ℕ)) AllocError) (result : Result A SerdeError)
+    → IfOk found (λ f. MatchFound f (λ r. P r.0 r.1) (Unit {0}) (Unit {0})) → TakesWithin old new beyond found result → IfOk result (λ x. P x new.at)
+answers_within P old new beyond (Ok (Value r)) result here taken = rw (taken.0, taken.1) here
+answers_within P old new beyond (Ok Nothing) result here taken = rw taken.0 tt
+answers_within P old new beyond (Ok Beyond) result here taken = rw taken.0 tt
+answers_within P old new beyond (Err e) result here taken = rw taken.0 tt
 
 -- ---- containers
 
@@ -139,8 +143,55 @@ module _ (o : Settings) (c : Cursor) where
 -- ---- refusals
 
 -- which error an answer holds
-pub error_of : {A : Type 0} (e f : SerdeError) → IsErrOf {T = A} (Err e) f → e ≡ f
-error_of {A} e f h = let same : ◌≡◌ {A = Result A SerdeError} (Err e) (Err f) = h in cc
+pub error_of : {A E : Type 0} (e f : E) → IsErrOf {T = A} (Err e) f → e ≡ f
+error_of {A} {E} e f h = let same : ◌≡◌ {A = Result A E} (Err e) (Err f) = h in cc
+
+-- what a refusal tells where nothing is skipped
+pub skip_reads : (f : SkipFault) → (skip_refusal f ≢ Failed) × IsOfReader (skip_refusal f)
+skip_reads skip_faults.NoValue = ((λ h. cc), tt)
+skip_reads skip_faults.TooDeep = ((λ h. cc), tt)
+
+pub skip_narrow : (A : Type 0) (f : SkipFault) → RefusesNoScalar {A = A} (Err (skip_refusal f))
+skip_narrow A skip_faults.NoValue = ((λ h. cc), λ h. cc)
+skip_narrow A skip_faults.TooDeep = ((λ h. cc), λ h. cc)
+
+pub skip_takes_no_memory : (A : Type 0) (f : SkipFault) → IsErrOf {T = A} (Err (skip_refusal f)) errors.NoMemory → ⊥
+skip_takes_no_memory A skip_faults.NoValue h = cc
+skip_takes_no_memory A skip_faults.TooDeep h = cc
+
+pub skip_invalid : (A : Type 0) (f : SkipFault) → IsInvalid {A = A} (Err (skip_refusal f)) → f ≡ skip_faults.NoValue
+skip_invalid A skip_faults.NoValue h = refl
+skip_invalid A skip_faults.TooDeep h = absurd h
+
+pub skip_deep : (f : SkipFault) → skip_refusal f ≡ errors.TooDeep → f ≡ skip_faults.TooDeep
+skip_deep skip_faults.NoValue h = cc
+skip_deep skip_faults.TooDeep h = refl
+
+-- what a refusal tells where nothing comes
+pub entry_reads : (f : EntryFault) → (entry_refusal f ≢ Failed) × IsOfReader (entry_refusal f)
+entry_reads entry_faults.NoEntry = ((λ h. cc), tt)
+entry_reads entry_faults.TooDeep = ((λ h. cc), tt)
+entry_reads entry_faults.NoMemory = ((λ h. cc), tt)
+
+pub entry_narrow : (A : Type 0) (f : EntryFault) → RefusesNoScalar {A = A} (Err (entry_refusal f))
+entry_narrow A entry_faults.NoEntry = ((λ h. cc), λ h. cc)
+entry_narrow A entry_faults.TooDeep = ((λ h. cc), λ h. cc)
+entry_narrow A entry_faults.NoMemory = ((λ h. cc), λ h. cc)
+
+pub entry_refused : (f : EntryFault) → IsFault (entry_refusal f) → f ≡ entry_faults.NoMemory → ⊥
+entry_refused entry_faults.NoEntry h is = cc
+entry_refused entry_faults.TooDeep h is = cc
+entry_refused entry_faults.NoMemory h is = h
+
+pub entry_invalid : (A : Type 0) (f : EntryFault) → IsInvalid {A = A} (Err (entry_refusal f)) → f ≡ entry_faults.NoEntry
+entry_invalid A entry_faults.NoEntry h = refl
+entry_invalid A entry_faults.TooDeep h = absurd h
+entry_invalid A entry_faults.NoMemory h = absurd h
+
+pub entry_deep : (f : EntryFault) → entry_refusal f ≡ errors.TooDeep → f ≡ entry_faults.TooDeep
+entry_deep entry_faults.NoEntry h = cc
+entry_deep entry_faults.TooDeep h = refl
+entry_deep entry_faults.NoMemory h = cc
 
 -- a refusal of the input by a reader that hadn't failed
 pub refusal_conducts : {A : Type 0} (old new : Cursor) (error given : SerdeError) → error ≡ given → old.failed ≡ false → given ≢ Failed → IsOfReader given → old.at ≤ length old.input

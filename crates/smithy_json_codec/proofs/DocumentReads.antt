@@ -1,38 +1,33 @@
 -- What is read as a document stands at a place of documents, and where none is read, none does.
-use Rattle.std.proofs.Common.{◌≡◌, ◌≤◌, ◌⊎◌, ◌+◌, ℕ, suc, List, length, drop, true, false, Option, Some, None, refl, sym, ap, subst, inl, inr, arith}
-use Rattle.std.specs.Prelude.{IsErrOf, Result, Ok, Err, OnErr, IfOk, IfErr, IsOk}
+use Rattle.std.proofs.Common.{◌≡◌, ◌≤◌, ◌+◌, ℕ, suc, List, length, drop, true, false, Option, Some, None, refl, sym, ap, subst, arith}
+use Rattle.std.specs.Prelude.{Ok, Err}
 use Rattle.smithy_types.specs.Document.{Document}
 use Rattle.smithy_types.specs.declared.number.Number.{Number}
 use Rattle.smithy_types.specs.DocumentView.{document_view}
 use Rattle.smithy_types.specs.declared.document.Document as code
-use Rattle.smithy_schema.specs.declared.error.SerdeError.{SerdeError}
-use Rattle.smithy_schema.specs.declared.error.SerdeError.TheVariants.{InvalidInput, TypeMismatch, TooDeep, TooWide, NotCarried, Unsupported, Unwritable, Missing, Failed, NoMemory}
+use Rattle.smithy_schema.specs.declared.error.SerdeError.TheVariants as errors
 use Rattle.smithy_shapes.specs.declared.place.Place.{Place}
 use Rattle.smithy_shapes.specs.Table.{document_place}
 use Rattle.smithy_shapes.specs.Site.{Site}
-use Rattle.smithy_schema.specs.Reading.{Cursor, depth, StandsNot, IsFault, IsRefused, IsInvalid, Uncarried, ReachesDepth, ReadsDocument, passed_to, failed_at}
+use Rattle.smithy_schema.specs.Reading.{Cursor, depth, StandsNot, IsFault, ReadsDocument, passed_to, failed_at}
+use Rattle.smithy_json_codec.specs.declared.documents.DocumentFault.{DocumentFault}
+use Rattle.smithy_json_codec.specs.declared.documents.DocumentFault.TheVariants.{NoDocument, TooDeep, NotCarried, NoMemory}
 use Rattle.smithy_json_codec.specs.Settings.{Settings, kept, without_limits}
-use Rattle.smithy_json_codec.specs.Documents.{DocumentLies, OpensDocumentTooDeep, MeetsOtherNumber, RefusesDocument, depth_limit, DocumentStands, NoDocumentStands, RefusesStanding}
+use Rattle.smithy_json_codec.specs.Documents.{DocumentLies, OpensDocumentTooDeep, MeetsOtherNumber, depth_limit, DocumentStands, NoDocumentStands}
+use Rattle.smithy_json_codec.specs.Private.OpenDocuments.{RefusesDocument, RefusesStanding, document_refusal}
 use Rattle.smithy_json_codec.specs.Laws.{lawful}
 use Rattle.smithy_json_codec.specs.Standing.{FollowsContainer, FollowsInside, json_relations}
 use Rattle.smithy_json_codec.specs.Private.DocumentNodes.{limit, value_stands, no_value_stands, other_is_uncarried}
 use Rattle.smithy_json_codec.specs.Private.ValuePlaces.{one_tree}
-use Rattle.smithy_wire.proofs.DocumentReads.{takes_document}
-use Rattle.smithy_wire.proofs.ScalarReads.{if_ok}
+use Rattle.smithy_wire.proofs.DocumentReads.{refuses, runs_out, is_too_deep, carries_not, reads}
 
 -- ---- where no document lies, none stands
 
 module _ (greatest depth : ℕ) (i : List ℕ) (a : ℕ) where
-  pub lies_refused : (e : SerdeError) → RefusesDocument greatest depth i a e → RefusesStanding greatest depth i a e
-  lies_refused InvalidInput h = (λ d e there. h.0 d e there.0, λ d e there. h.1 d e there.0)
-  lies_refused TypeMismatch h = absurd h
+  pub lies_refused : (f : DocumentFault) → RefusesDocument greatest depth i a f → RefusesStanding greatest depth i a f
+  lies_refused NoDocument h = (λ d e there. h.0 d e there.0, λ d e there. h.1 d e there.0)
   lies_refused TooDeep h = (h.0, h.1, λ d e there. h.2 d e there.0)
-  lies_refused TooWide h = absurd h
   lies_refused NotCarried h = (h.0, λ d e there. h.1 d e there.0)
-  lies_refused Unsupported h = absurd h
-  lies_refused Unwritable h = absurd h
-  lies_refused Missing h = absurd h
-  lies_refused Failed h = absurd h
   lies_refused NoMemory h = tt
 
   -- nor where something else comes behind the document that lies there
@@ -43,7 +38,7 @@ module _ (greatest depth : ℕ) (i : List ℕ) (a : ℕ) where
       other (subst (λ n. FollowsContainer depth (drop n i)) (sym same) there.1)
 
   pub followed_refused : (d : Document Number) (e : ℕ) → DocumentLies (Some greatest) depth i a d e → (FollowsInside (depth + 1) (drop e i) → ⊥)
-      → RefusesStanding greatest depth i a InvalidInput
+      → RefusesStanding greatest depth i a NoDocument
   followed_refused d e here other =
       let one : suc depth ≡ depth + 1 = omega arith in
       let none : FollowsContainer depth (drop e i) → ⊥ = λ follows. other (subst (λ n. FollowsInside n (drop e i)) one follows) in
@@ -64,98 +59,46 @@ module _ (o : Settings) (keeps : o.limits ≡ kept) (old : Cursor) (site : Site)
   none_lifted : NoDocumentStands None (depth old) old.input old.at → StandsNot (json_relations (without_limits o)) old site.table at
   none_lifted none = no_value_stands (without_limits o) old.input (depth old) old.at site.table at refl none
 
-  abbrev Refuses : Result (code.Document × ℕ) SerdeError → Type 0
-  Refuses found = IfErr found (RefusesStanding o.max_depth (depth old) old.input old.at)
-
-  kind : (found : Result (code.Document × ℕ) SerdeError) → Refuses found → IfErr found (λ e. (e ≡ InvalidInput) ⊎ (e ≡ TooDeep) ⊎ (e ≡ NotCarried) ⊎ (e ≡ NoMemory))
-  kind (Ok r) h = tt
-  kind (Err InvalidInput) h = inl refl
-  kind (Err TypeMismatch) h = absurd h
-  kind (Err TooDeep) h = inr (inl refl)
-  kind (Err TooWide) h = absurd h
-  kind (Err NotCarried) h = inr (inr (inl refl))
-  kind (Err Unsupported) h = absurd h
-  kind (Err Unwritable) h = absurd h
-  kind (Err Missing) h = absurd h
-  kind (Err Failed) h = absurd h
-  kind (Err NoMemory) h = inr (inr (inr refl))
-
-  none : (found : Result (code.Document × ℕ) SerdeError) → Refuses found → IsRefused found → StandsNot (json_relations o) old site.table at
-  none (Ok r) h fault = absurd fault
-  none (Err InvalidInput) h fault = none_kept h.1
-  none (Err TypeMismatch) h fault = absurd h
-  none (Err TooDeep) h fault = none_kept h.2
-  none (Err TooWide) h fault = absurd h
-  none (Err NotCarried) h fault = none_kept h.1
-  none (Err Unsupported) h fault = absurd h
-  none (Err Unwritable) h fault = absurd h
-  none (Err Missing) h fault = absurd h
-  none (Err Failed) h fault = absurd h
-  none (Err NoMemory) h fault = absurd fault
-
-  none_without_limits : (found : Result (code.Document × ℕ) SerdeError) → Refuses found → IsInvalid found → StandsNot (json_relations (without_limits o)) old site.table at
-  none_without_limits (Ok r) h fault = absurd fault
-  none_without_limits (Err InvalidInput) h fault = none_lifted h.0
-  none_without_limits (Err TypeMismatch) h fault = absurd h
-  none_without_limits (Err TooDeep) h fault = absurd fault
-  none_without_limits (Err TooWide) h fault = absurd fault
-  none_without_limits (Err NotCarried) h fault = absurd fault
-  none_without_limits (Err Unsupported) h fault = absurd fault
-  none_without_limits (Err Unwritable) h fault = absurd fault
-  none_without_limits (Err Missing) h fault = absurd h
-  none_without_limits (Err Failed) h fault = absurd fault
-  none_without_limits (Err NoMemory) h fault = absurd fault
-
-  deep : (found : Result (code.Document × ℕ) SerdeError) → Refuses found → IsErrOf found TooDeep → ReachesDepth (json_relations o) o.max_depth old
-  deep found h is = (rw is at h).1
-
-  cause : (found : Result (code.Document × ℕ) SerdeError) → Refuses found → IsErrOf found NotCarried → Uncarried (json_relations o) old site.table at
-  cause found h is = other_is_uncarried o old.input (depth old) old.at site.table at refl (rw is at h).0
-
   module _ (sound : old.failed ≡ false) (due : old.due ≡ true) (within : old.at ≤ length old.input) where
     -- of a document
-    pub reads_document : (new : Cursor) (found : Result (code.Document × ℕ) SerdeError) (result : Result code.Document SerdeError)
-        → IfOk found (λ r. DocumentStands (Some o.max_depth) (depth old) old.input old.at (document_view r.0) r.1) → Refuses found
-        → IfOk result (λ x. IfOk found (λ r. (r.0 ≡ x) × (new ≡ passed_to old r.1))) → (IsOk result → IsOk found)
-        → OnErr result (new ≡ failed_at old) → IfErr result (λ e. found ≡ Err e)
-        → ReadsDocument (json_relations o) (json_relations (without_limits o)) (Unit {0}) o.max_depth old new site result
-    reads_document new found result stands refuses =
-        takes_document (json_relations o) (json_relations (without_limits o)) (Unit {0}) o.max_depth site (lawful o) old sound due within new found result
-        (if_ok found _ _ (λ r here. value_stands o old.input (depth old) old.at site.table at refl (document_view r.0) r.1
-        (subst (λ l. DocumentStands l (depth old) old.input old.at (document_view r.0) r.1) kept_limit here)) stands)
-        (kind found refuses) (none found refuses) (none_without_limits found refuses) (deep found refuses) (λ is. refl) (cause found refuses)
+    pub reads_document : (new : Cursor) (x : code.Document) (e : ℕ) → DocumentStands (Some o.max_depth) (depth old) old.input old.at (document_view x) e → new ≡ passed_to old e
+        → ReadsDocument (json_relations o) (json_relations (without_limits o)) (Unit {0}) o.max_depth old new site (Ok x)
+    reads_document new x e stands =
+        reads (json_relations o) (json_relations (without_limits o)) (Unit {0}) o.max_depth site (lawful o) old sound due within new x e
+        (value_stands o old.input (depth old) old.at site.table at refl (document_view x) e
+        (subst (λ l. DocumentStands l (depth old) old.input old.at (document_view x) e) kept_limit stands))
+
+    -- where none was read
+    pub refuses_document : (new : Cursor) → new ≡ failed_at old → (f : DocumentFault) → RefusesStanding o.max_depth (depth old) old.input old.at f
+        → ReadsDocument (json_relations o) (json_relations (without_limits o)) (Unit {0}) o.max_depth old new site (Err (document_refusal f))
+    refuses_document new stays NoDocument h =
+        refuses (json_relations o) (json_relations (without_limits o)) (Unit {0}) o.max_depth site old new stays within sound (λ due. (none_kept h.1, none_lifted h.0))
+    refuses_document new stays TooDeep h =
+        is_too_deep (json_relations o) (json_relations (without_limits o)) (Unit {0}) o.max_depth site old new stays within sound due h.1 refl (none_kept h.2)
+    refuses_document new stays NotCarried h =
+        carries_not (json_relations o) (json_relations (without_limits o)) (Unit {0}) o.max_depth site old new stays within sound due
+        (other_is_uncarried o old.input (depth old) old.at site.table at refl h.0) (none_kept h.1)
+    refuses_document new stays NoMemory h =
+        runs_out (json_relations o) (json_relations (without_limits o)) (Unit {0}) o.max_depth site old new stays within sound
 
 -- ---- why none was read
 
-module _ (greatest depth : ℕ) (i : List ℕ) (a : ℕ) (found : Result (code.Document × ℕ) SerdeError) (result : Result code.Document SerdeError)
-    (refuses : IfErr found (RefusesStanding greatest depth i a)) (error : IfErr result (λ e. found ≡ Err e)) where
-  pub too_deep_found : IsErrOf result TooDeep → OpensDocumentTooDeep greatest depth i a
-  too_deep_found is =
-      let none : found ≡ Err TooDeep = rw is at error in
-      let why : RefusesStanding greatest depth i a TooDeep = rw none at refuses in
-      why.0
+module _ (greatest depth : ℕ) (i : List ℕ) (a : ℕ) where
+  pub too_deep_found : (f : DocumentFault) → RefusesStanding greatest depth i a f → document_refusal f ≡ errors.TooDeep → OpensDocumentTooDeep greatest depth i a
+  too_deep_found NoDocument h is = cc
+  too_deep_found TooDeep h is = h.0
+  too_deep_found NotCarried h is = cc
+  too_deep_found NoMemory h is = cc
 
-  pub other_found : IsErrOf result NotCarried → MeetsOtherNumber i a
-  other_found is =
-      let none : found ≡ Err NotCarried = rw is at error in
-      let why : RefusesStanding greatest depth i a NotCarried = rw none at refuses in
-      why.0
+  pub other_found : (f : DocumentFault) → RefusesStanding greatest depth i a f → document_refusal f ≡ errors.NotCarried → MeetsOtherNumber i a
+  other_found NoDocument h is = cc
+  other_found TooDeep h is = cc
+  other_found NotCarried h is = h.0
+  other_found NoMemory h is = cc
 
--- ---- a refusal means that nothing there means a document
-
-refusal_means_nothing : (greatest depth : ℕ) (i : List ℕ) (a : ℕ) (e : SerdeError) → RefusesStanding greatest depth i a e → IsFault e → NoDocumentStands (Some greatest) depth i a
-refusal_means_nothing greatest depth i a InvalidInput h fault = h.1
-refusal_means_nothing greatest depth i a TypeMismatch h fault = absurd h
-refusal_means_nothing greatest depth i a TooDeep h fault = h.2
-refusal_means_nothing greatest depth i a TooWide h fault = absurd h
-refusal_means_nothing greatest depth i a NotCarried h fault = h.1
-refusal_means_nothing greatest depth i a Unsupported h fault = absurd h
-refusal_means_nothing greatest depth i a Unwritable h fault = absurd h
-refusal_means_nothing greatest depth i a Missing h fault = absurd h
-refusal_means_nothing greatest depth i a Failed h fault = absurd h
-refusal_means_nothing greatest depth i a NoMemory h fault = absurd fault
-
-pub refused_means_nothing : (greatest depth : ℕ) (i : List ℕ) (a : ℕ) (found : Result (code.Document × ℕ) SerdeError) (result : Result code.Document SerdeError)
-    → IfErr found (RefusesStanding greatest depth i a) → IfErr result (λ e. found ≡ Err e) → IsRefused result → NoDocumentStands (Some greatest) depth i a
-refused_means_nothing greatest depth i a found (Ok x) refuses error fault = absurd fault
-refused_means_nothing greatest depth i a found (Err e) refuses error fault = refusal_means_nothing greatest depth i a e (rw error at refuses) fault
+  -- a refusal means that nothing there means a document
+  pub refused_means_nothing : (f : DocumentFault) → RefusesStanding greatest depth i a f → IsFault (document_refusal f) → NoDocumentStands (Some greatest) depth i a
+  refused_means_nothing NoDocument h fault = h.1
+  refused_means_nothing TooDeep h fault = h.2
+  refused_means_nothing NotCarried h fault = h.1
+  refused_means_nothing NoMemory h fault = absurd fault

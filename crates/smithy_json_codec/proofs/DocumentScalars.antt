@@ -1,8 +1,5 @@
 -- How a document's value begins: scalars mean documents, and where none is found, none lies.
-use Rattle.std.proofs.Common.{◌≡◌, ◌+◌, ◌⊎◌, ◌∙◌, ℕ, suc, List, [], Bool, Option, Some, None, option_map, Result, Ok, Err, refl, sym, ap, subst, arith, inl, inr}
-use Rattle.smithy_schema.specs.Reading.{IsInvalid}
-use Rattle.smithy_schema.specs.declared.error.SerdeError.{SerdeError}
-use Rattle.smithy_schema.specs.declared.error.SerdeError.TheVariants.{InvalidInput, TypeMismatch, TooDeep, TooWide, NotCarried, Unsupported, Unwritable, Missing, Failed, NoMemory}
+use Rattle.std.proofs.Common.{◌≡◌, ◌+◌, ◌∙◌, ℕ, suc, List, [], Bool, Option, Some, None, option_map, Result, Ok, Err, refl, sym, ap, arith}
 use Rattle.smithy_types.specs.Document.{Document, null, boolean, number, text, array, object, properties_by}
 use Rattle.smithy_types.specs.declared.number.Number.{Number}
 use Rattle.smithy_json.specs.Ascii.{quotation_mark, begin_array, begin_object}
@@ -12,15 +9,18 @@ use Rattle.smithy_json.specs.HeldNumber.{number_of}
 use Rattle.smithy_json.specs.Unescape.{unescaped}
 use Rattle.smithy_json.specs.DocumentMeaning.{at_depth, number_meaning, document_meaning, elements_meaning, members_meaning}
 use Rattle.smithy_json.proofs.DocumentLemmas.{some_of_map}
+use Rattle.smithy_json_codec.specs.declared.documents.DocumentFault.TheVariants as faults
+use Rattle.smithy_json_codec.specs.declared.documents.scalars.BeginFault.{BeginFault}
+use Rattle.smithy_json_codec.specs.declared.documents.scalars.BeginFault.TheVariants.{NoValue, NotCarried, NoMemory}
 use Rattle.smithy_json_codec.specs.declared.documents.scalars.Begun.{Begun}
 use Rattle.smithy_json_codec.specs.declared.documents.scalars.Begun.TheVariants.{Scalar, Container}
 use Rattle.smithy_json_codec.specs.Standing.{TreeLies}
-use Rattle.smithy_json_codec.specs.Documents.{NoDocumentLies, OtherNumberLies, ValueOpens, RefusesDocument}
+use Rattle.smithy_json_codec.specs.Documents.{NoDocumentLies, OtherNumberLies, ValueOpens}
 use Rattle.smithy_json_codec.specs.Private.ValuePlaces.{one_tree}
 use Rattle.smithy_json_codec.specs.Private.NextInContainer.{IsFirstByte}
 use Rattle.smithy_json_codec.specs.Private.ScalarAtPlace.{TextLies}
 use Rattle.smithy_json_codec.specs.Private.Skipping.{NoValueLies}
-use Rattle.smithy_json_codec.specs.Private.OpenDocuments.{ScalarMeans, HeldNumberLies, BeginsDocument}
+use Rattle.smithy_json_codec.specs.Private.OpenDocuments.{ScalarMeans, HeldNumberLies, BeginsDocument, RefusesDocument, begin_fault}
 use Rattle.smithy_json_codec.proofs.FirstBytes.{BeginsWith}
 use Rattle.smithy_json_codec.proofs.FirstBytePlaces.{first_lies}
 use Rattle.smithy_json_codec.proofs.ValueFirstByte.{begins_with_byte, lies_before, value_behind}
@@ -77,23 +77,6 @@ no_text_no_document i a start here none limits depth d e h =
     go (tree.array es) lies begins means = let no : ◌≡◌ {A = ℕ} quotation_mark begin_array = begins in omega arith
     go (tree.object ms) lies begins means = let no : ◌≡◌ {A = ℕ} quotation_mark begin_object = begins in omega arith
 
--- ---- why none was found
-
-module _ (i : List ℕ) (a : ℕ) (e : SerdeError) where
-  -- where a string was looked for
-  pub text_refused : (e ≡ InvalidInput) ⊎ (e ≡ NoMemory) → (e ≡ InvalidInput → NoDocument i a) → BeginsDocument i a (Err e)
-  text_refused (inl is) none = subst (λ x. BeginsDocument i a (Err x)) (sym is) (none is)
-  text_refused (inr is) none = subst (λ x. BeginsDocument i a (Err x)) (sym is) tt
-
-  -- where a number was
-  pub number_refused : (e ≡ InvalidInput) ⊎ (e ≡ NotCarried) → (e ≡ InvalidInput → NoDocument i a) → (e ≡ NotCarried → OtherNumberLies i a) → BeginsDocument i a (Err e)
-  number_refused (inl is) none other = subst (λ x. BeginsDocument i a (Err x)) (sym is) (none is)
-  number_refused (inr is) none other = subst (λ x. BeginsDocument i a (Err x)) (sym is) (other is)
-
--- the input is no such value at all
-pub is_invalid : (A : Type 0) (e : SerdeError) → e ≡ InvalidInput → IsInvalid {A = A} (Err e)
-is_invalid A e is = subst (λ x. IsInvalid {A = A} (Err x)) (sym is) tt
-
 -- ---- a number that no document holds
 
 other_no_document : (greatest depth : ℕ) (i : List ℕ) (a : ℕ) → OtherNumberLies i a → NoDocumentLies (Some greatest) depth i a
@@ -105,16 +88,9 @@ other_no_document greatest depth i a h d e there =
     cc
 
 -- what keeps a value from beginning keeps a document from lying there
-pub begins_refuses : (greatest depth : ℕ) (i : List ℕ) (a : ℕ) (e : SerdeError) → BeginsDocument i a (Err e) → RefusesDocument greatest depth i a e
-begins_refuses greatest depth i a InvalidInput h = (h None depth, h (Some greatest) depth)
-begins_refuses greatest depth i a TypeMismatch h = absurd h
-begins_refuses greatest depth i a TooDeep h = absurd h
-begins_refuses greatest depth i a TooWide h = absurd h
+pub begins_refuses : (greatest depth : ℕ) (i : List ℕ) (a : ℕ) (f : BeginFault) → BeginsDocument i a (Err f) → RefusesDocument greatest depth i a (begin_fault f)
+begins_refuses greatest depth i a NoValue h = (h None depth, h (Some greatest) depth)
 begins_refuses greatest depth i a NotCarried h = (record { containers = []; at = a; due = refl; other = h }, other_no_document greatest depth i a h)
-begins_refuses greatest depth i a Unsupported h = absurd h
-begins_refuses greatest depth i a Unwritable h = absurd h
-begins_refuses greatest depth i a Missing h = absurd h
-begins_refuses greatest depth i a Failed h = absurd h
 begins_refuses greatest depth i a NoMemory h = tt
 
 -- ---- behind blanks
@@ -124,19 +100,12 @@ module _ (i : List ℕ) (at b start : ℕ) (here : IsFirstByte i at b start) whe
   tree_before x e h = (lies_before i at b start here _ e h.0, h.1)
 
   -- how a value begins at the first byte, it begins before the blanks
-  pub begins_before : (r : Result Begun SerdeError) → BeginsDocument i start r → BeginsDocument i at r
+  pub begins_before : (r : Result Begun BeginFault) → BeginsDocument i start r → BeginsDocument i at r
   begins_before (Ok (Scalar d e)) h = record { tree = h.tree; lies = tree_before h.tree e h.lies; means = h.means }
   begins_before (Ok (Container kind inside)) h = lies_before i at b start here _ inside h
-  begins_before (Err InvalidInput) h = λ limits depth d e there.
+  begins_before (Err NoValue) h = λ limits depth d e there.
       h limits depth d e (record { tree = there.tree; lies = value_behind i at b start here 1 there.tree e there.lies; means = there.means })
-  begins_before (Err TypeMismatch) h = h
-  begins_before (Err TooDeep) h = h
-  begins_before (Err TooWide) h = h
   begins_before (Err NotCarried) h = record { raw = h.raw; e = h.e; lies = tree_before (tree.number h.raw) h.e h.lies; not_held = h.not_held }
-  begins_before (Err Unsupported) h = h
-  begins_before (Err Unwritable) h = h
-  begins_before (Err Missing) h = h
-  begins_before (Err Failed) h = h
   begins_before (Err NoMemory) h = tt
 
 -- ---- inside of as many containers as there may be
@@ -155,9 +124,9 @@ module _ (i : List ℕ) (a n : ℕ) where
   none_at_limit : NoDocumentLies (Some n) n i a
   none_at_limit d e h = let may = meaning_allowed (Some n) n h.tree d h.means in omega (arith, may)
 
-  pub too_deep_at_limit : ValueOpens i a → RefusesDocument n n i a TooDeep
+  pub too_deep_at_limit : ValueOpens i a → RefusesDocument n n i a faults.TooDeep
   too_deep_at_limit opens =
       (record { containers = []; at = a; due = refl; opens = opens; deepest = omega arith }, omega arith, none_at_limit)
 
-  pub invalid_at_limit : NoValueLies i a → RefusesDocument n n i a InvalidInput
+  pub invalid_at_limit : NoValueLies i a → RefusesDocument n n i a faults.NoDocument
   invalid_at_limit none = (no_value_no_document i a none None n, none_at_limit)

@@ -1,18 +1,18 @@
 -- The steps of the walk through a document, as the code takes them.
-use Rattle.std.proofs.Common.{◌≡◌, ◌+◌, ◌≤◌, ◌⊎◌, ◌∙◌, ℕ, suc, length, List, [], ◌∷◌, Bool, true, Some, None, Result, Ok, Err, refl, sym, ap, subst, arith, inl, inr}
-use Rattle.smithy_schema.specs.declared.error.SerdeError.{SerdeError}
-use Rattle.smithy_schema.specs.declared.error.SerdeError.TheVariants.{InvalidInput, NoMemory}
+use Rattle.std.proofs.Common.{◌≡◌, ◌+◌, ◌≤◌, ◌∙◌, ℕ, suc, length, List, [], ◌∷◌, Bool, true, Some, None, Result, Ok, Err, refl, sym, ap, subst, arith, inl, inr}
 use Rattle.smithy_types.specs.Document.{Document, Documents, Properties}
 use Rattle.smithy_types.specs.declared.number.Number.{Number}
 use Rattle.smithy_json.specs.Unescape.{unescaped}
+use Rattle.smithy_json_codec.specs.declared.documents.DocumentFault.{DocumentFault}
+use Rattle.smithy_json_codec.specs.declared.documents.DocumentFault.TheVariants.{NoDocument}
 use Rattle.smithy_json_codec.specs.declared.documents.Frame.{Frame}
 use Rattle.smithy_json_codec.specs.declared.documents.Step.{Step}
 use Rattle.smithy_json_codec.specs.declared.documents.Step.TheVariants.{Inside, Opens, Ends}
 use Rattle.smithy_json_codec.specs.Standing.{Names}
-use Rattle.smithy_json_codec.specs.Documents.{DocumentLies, RefusesDocument}
+use Rattle.smithy_json_codec.specs.Documents.{DocumentLies}
 use Rattle.smithy_json_codec.specs.Private.NamePlaces.{same_names, names_or_end}
 use Rattle.smithy_json_codec.specs.Private.NextInContainer.{GoesOnInList, GoesOnInObject}
-use Rattle.smithy_json_codec.specs.Private.OpenDocuments.{OpenContainer, open_array, open_object, Waiting, with_value, frames_view, TakesEntry, TakesStep}
+use Rattle.smithy_json_codec.specs.Private.OpenDocuments.{OpenContainer, open_array, open_object, Waiting, with_value, frames_view, RefusesDocument, TakesEntry, TakesStep}
 use Rattle.smithy_json_codec.proofs.DocumentFrames.{frames-length}
 use Rattle.smithy_json_codec.proofs.DocumentWalk.{IsWalking, level-length, value_put, walk_ends}
 use Rattle.smithy_json_codec.proofs.OpenDocumentLemmas.{level, inside, behind}
@@ -20,29 +20,29 @@ use Rattle.smithy_json_codec.proofs.OpenDocumentLemmas.{level, inside, behind}
 -- ---- a value
 
 -- where there may be no more containers
-pub refused_at_limit : (greatest depth : ℕ) (input : List ℕ) (a : ℕ) (e : SerdeError) → depth ≤ greatest → greatest ≤ depth
-    → ((n : ℕ) → RefusesDocument n n input a e) → RefusesDocument greatest depth input a e
-refused_at_limit greatest depth input a e shallow deep all =
-    let same : depth ≡ greatest = omega arith in subst (λ n. RefusesDocument n depth input a e) same (all depth)
+pub refused_at_limit : (greatest depth : ℕ) (input : List ℕ) (a : ℕ) (f : DocumentFault) → depth ≤ greatest → greatest ≤ depth
+    → ((n : ℕ) → RefusesDocument n n input a f) → RefusesDocument greatest depth input a f
+refused_at_limit greatest depth input a f shallow deep all =
+    let same : depth ≡ greatest = omega arith in subst (λ n. RefusesDocument n depth input a f) same (all depth)
 
 -- ---- an entry
 
 module _ (greatest depth : ℕ) (input : List ℕ) (at : ℕ) (entered : Bool) where
-  pub entry_taken : (o : OpenContainer) (r : Result Step SerdeError) → TakesEntry greatest depth input at entered o r → TakesStep greatest depth input at entered o r
+  pub entry_taken : (o : OpenContainer) (r : Result Step DocumentFault) → TakesEntry greatest depth input at entered o r → TakesStep greatest depth input at entered o r
   entry_taken o (Ok (Inside more e)) h = h
   entry_taken o (Ok (Opens frame kind b)) h = h
   entry_taken o (Ok (Ends d e)) h = absurd h.3
   entry_taken o (Err e) h = inl h
 
-  pub no_element_step : (ds : Documents Number) → GoesOnInList input at entered 2 None → TakesStep greatest depth input at entered (open_array ds) (Err InvalidInput)
+  pub no_element_step : (ds : Documents Number) → GoesOnInList input at entered 2 None → TakesStep greatest depth input at entered (open_array ds) (Err NoDocument)
   no_element_step ds none = inr (inl (refl, (λ w c h. none.0 c h.1, none.1)))
 
-  pub no_member_step : (ps : Properties Number) → GoesOnInObject input at entered 2 None → TakesStep greatest depth input at entered (open_object ps) (Err InvalidInput)
+  pub no_member_step : (ps : Properties Number) → GoesOnInObject input at entered 2 None → TakesStep greatest depth input at entered (open_object ps) (Err NoDocument)
   no_member_step ps none = inr (inl (refl, (λ w c h. none.0 h.0 c h.3, none.1)))
 
   -- a name that has no text
-  nameless_step : (ps : Properties Number) (raw : List ℕ) (c : ℕ) → Names entered input at raw c → unescaped raw ≡ None
-      → TakesStep greatest depth input at entered (open_object ps) (Err InvalidInput)
+  pub nameless_step : (ps : Properties Number) (raw : List ℕ) (c : ℕ) → Names entered input at raw c → unescaped raw ≡ None
+      → TakesStep greatest depth input at entered (open_object ps) (Err NoDocument)
   nameless_step ps raw c names none = inr (inl (
     refl,
     (
@@ -52,12 +52,6 @@ module _ (greatest depth : ℕ) (input : List ℕ) (at : ℕ) (entered : Bool) w
       λ e h. names_or_end input entered at raw c e names h.0,
     ),
   ))
-
-  pub name_refused : (ps : Properties Number) (raw : List ℕ) (c : ℕ) (e : SerdeError) → Names entered input at raw c → (e ≡ InvalidInput) ⊎ (e ≡ NoMemory)
-      → (e ≡ InvalidInput → unescaped raw ≡ None) → TakesStep greatest depth input at entered (open_object ps) (Err e)
-  name_refused ps raw c e names (inl is) none =
-      subst (λ x. TakesStep greatest depth input at entered (open_object ps) (Err x)) (sym is) (nameless_step ps raw c names (none is))
-  name_refused ps raw c e names (inr is) none = inr (inr is)
 
 -- ---- the loop
 

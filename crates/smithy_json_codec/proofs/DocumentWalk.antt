@@ -1,23 +1,23 @@
 -- The walk through a document: what holds from step to step, and what a refusal on the way says of the whole.
 use Rattle.std.proofs.Common.{◌≡◌, ◌+◌, ◌<◌, ◌≤◌, ◌∙◌, ℕ, suc, length, map, List, [], ◌∷◌, ◌++◌, Bool, true, false, Option, Some, None, Ok, Err, refl, sym, ap, subst, arith, inl, inr, length-append}
-use Rattle.smithy_schema.specs.declared.error.SerdeError.{SerdeError}
-use Rattle.smithy_schema.specs.declared.error.SerdeError.TheVariants.{InvalidInput, TypeMismatch, TooDeep, TooWide, NotCarried, Unsupported, Unwritable, Missing, Failed, NoMemory}
 use Rattle.smithy_types.specs.Document.{Document, Documents, Properties}
 use Rattle.smithy_types.specs.DocumentView.{document_view}
 use Rattle.smithy_types.specs.declared.document.Document as code
 use Rattle.smithy_types.specs.declared.number.Number.{Number}
 use Rattle.smithy_json.specs.Unescape.{unescaped}
+use Rattle.smithy_json_codec.specs.declared.documents.DocumentFault.{DocumentFault}
+use Rattle.smithy_json_codec.specs.declared.documents.DocumentFault.TheVariants.{NoDocument, TooDeep, NotCarried, NoMemory}
 use Rattle.smithy_json_codec.specs.declared.documents.Open.{Open}
 use Rattle.smithy_json_codec.specs.declared.documents.Frame.{Frame}
 use Rattle.smithy_json_codec.specs.declared.documents.Step.TheVariants.{Inside, Opens, Ends}
 use Rattle.smithy_json_codec.specs.Standing.{Lies, IsByte, Names}
 use Rattle.smithy_json_codec.specs.Deepest.{IsDueInside}
-use Rattle.smithy_json_codec.specs.Documents.{DocumentLies, RefusesDocument}
+use Rattle.smithy_json_codec.specs.Documents.{DocumentLies}
 use Rattle.smithy_json_codec.specs.Private.BytePlaces.{byte_ahead}
 use Rattle.smithy_json_codec.specs.Private.ValuePlaces.{tree_ahead}
 use Rattle.smithy_json_codec.specs.Private.NextInContainer.{ElementBegins, ClosesBy}
 use Rattle.smithy_json_codec.specs.Private.Skipping.{opening, closing}
-use Rattle.smithy_json_codec.specs.Private.OpenDocuments.{OpenContainer, open_array, open_object, Waiting, waiting_array, waiting_object, with_value, fresh, document_of, is_object, open_view, frame_view, ScalarMeans, EntryBegins, TakesStep}
+use Rattle.smithy_json_codec.specs.Private.OpenDocuments.{OpenContainer, open_array, open_object, Waiting, waiting_array, waiting_object, with_value, fresh, document_of, is_object, open_view, frame_view, ScalarMeans, RefusesDocument, EntryBegins, TakesStep}
 use Rattle.smithy_json_codec.proofs.OpenersLemmas.{OpensInAll, nothing_opened, past_begin_array, past_begin_object, past_value, past_separator, past_name, past_end_array, past_end_object}
 use Rattle.smithy_json_codec.proofs.DeepestLemmas.{HasCome, passed, entered as come_in, gone_on, left as come_out}
 use Rattle.smithy_json_codec.proofs.SkipSteps.{value_place}
@@ -203,8 +203,8 @@ due_inside (k ∷ ks) js i a b p outer h = (h.0, h.1, h.2, h.3, due_inside ks js
 
 -- what is refused where a value is due is refused as a whole
 pub refused_from : (greatest depth : ℕ) (ws : List Waiting) (i : List ℕ) (start at : ℕ) → IsWalking greatest depth due ws i start at
-    → (e : SerdeError) → RefusesDocument greatest (level depth ws) i at e → RefusesDocument greatest depth i start e
-refused_from greatest depth ws i start at walk InvalidInput h =
+    → (f : DocumentFault) → RefusesDocument greatest (level depth ws) i at f → RefusesDocument greatest depth i start f
+refused_from greatest depth ws i start at walk NoDocument h =
     (no_value_left None depth ws i start at walk.lifted h.0, no_value_left (Some greatest) depth ws i start at walk.kept h.1)
 refused_from greatest depth ws i start at walk TooDeep h =
     let here = h.0 in (
@@ -222,8 +222,6 @@ refused_from greatest depth ws i start at walk TooDeep h =
     length-kinds : (ws : List Waiting) → length (kinds ws) ≡ length ws
     length-kinds [] = refl
     length-kinds (w ∷ ws) = ap suc (length-kinds ws)
-refused_from greatest depth ws i start at walk TypeMismatch h = absurd h
-refused_from greatest depth ws i start at walk TooWide h = absurd h
 refused_from greatest depth ws i start at walk NotCarried h =
     let here = h.0 in (
       record {
@@ -234,10 +232,6 @@ refused_from greatest depth ws i start at walk NotCarried h =
       },
       no_value_left (Some greatest) depth ws i start at walk.kept h.1,
     )
-refused_from greatest depth ws i start at walk Unsupported h = absurd h
-refused_from greatest depth ws i start at walk Unwritable h = absurd h
-refused_from greatest depth ws i start at walk Missing h = absurd h
-refused_from greatest depth ws i start at walk Failed h = absurd h
 refused_from greatest depth ws i start at walk NoMemory h = tt
 
 -- ---- the steps of the code
@@ -261,14 +255,14 @@ module _ (greatest depth n : ℕ) (ws : List Waiting) (i : List ℕ) (start at :
   step_ends d e (closes, is) =
       subst (λ x. IsWalking greatest depth (behind x) ws i start e) (sym is) (container_left greatest depth ws i start at m o walk e closes)
 
-  pub step_refuses : (e : SerdeError) → TakesStep greatest n i at m o (Err e) → RefusesDocument greatest depth i start e
-  step_refuses e (inl (w, c, begins, refuses)) =
-      refused_from greatest depth (w ∷ ws) i start c (entry_begun greatest depth ws i start at m o walk w c begins) e
-      (subst (λ l. RefusesDocument greatest l i c e) deep refuses)
-  step_refuses e (inr (inl (is, none))) =
+  pub step_refuses : (f : DocumentFault) → TakesStep greatest n i at m o (Err f) → RefusesDocument greatest depth i start f
+  step_refuses f (inl (w, c, begins, refuses)) =
+      refused_from greatest depth (w ∷ ws) i start c (entry_begun greatest depth ws i start at m o walk w c begins) f
+      (subst (λ l. RefusesDocument greatest l i c f) deep refuses)
+  step_refuses f (inr (inl (is, none))) =
       subst (RefusesDocument greatest depth i start) (sym is)
       (nothing_left None depth ws i start at m o walk.lifted none, nothing_left (Some greatest) depth ws i start at m o walk.kept none)
-  step_refuses e (inr (inr is)) = subst (RefusesDocument greatest depth i start) (sym is) tt
+  step_refuses f (inr (inr is)) = subst (RefusesDocument greatest depth i start) (sym is) tt
 
   -- each goes ahead
   pub ahead_inside : (more : Open) (e : ℕ) → TakesStep greatest n i at m o (Ok (Inside more e)) → at < e

@@ -1,8 +1,11 @@
 -- What comes behind entries that are passed over.
 use Rattle.std.proofs.Common.{◌≡◌, ◌<◌, ◌≤◌, ◌+◌, ℕ, zero, suc, length, List, drop, Bool, true, false, Some, refl, sym, ◌∙◌, ap, arith, inl, inr}
 use Rattle.smithy_shapes.specs.Lemmas.Options.{same_some}
+use Rattle.smithy_json_codec.specs.declared.members.EntryFault.TheVariants.{NoEntry, TooDeep}
 use Rattle.smithy_json_codec.specs.declared.members.Next.{Next}
 use Rattle.smithy_json_codec.specs.declared.members.Next.TheVariants.{Member, End}
+use Rattle.smithy_json_codec.specs.declared.skip.SkipFault.{SkipFault}
+use Rattle.smithy_json_codec.specs.declared.skip.SkipFault.TheVariants as skip_faults
 use Rattle.smithy_json.specs.Tree.{null}
 use Rattle.smithy_json.specs.Unescape.{unescaped}
 use Rattle.smithy_json_codec.specs.Deepest.{OpensTooDeep}
@@ -11,7 +14,7 @@ use Rattle.smithy_json_codec.specs.Standing.{Names, TreeLies}
 use Rattle.smithy_json_codec.specs.Private.NamePlaces.{names_ahead}
 use Rattle.smithy_json_codec.specs.Private.OpenersAtPlaces.{across_value, across_name}
 use Rattle.smithy_json_codec.specs.Private.Skipping.{SkipsTo}
-use Rattle.smithy_json_codec.specs.Private.PassedEntries.{type_name, Passing, NoNull, IsPassed, Passes, PassesTo, StepsToMember, ClosesMembers, IsKept, IsNext, EntryMissing, NothingComes}
+use Rattle.smithy_json_codec.specs.Private.PassedEntries.{entry_fault, type_name, Passing, NoNull, IsPassed, Passes, PassesTo, StepsToMember, ClosesMembers, IsKept, IsNext, EntryMissing, NothingComes}
 
 module _ (passing : Passing) (greatest depth : ℕ) (input : List ℕ) where
   -- one more at the end
@@ -110,3 +113,13 @@ module _ (passing : Passing) (greatest depth : ℕ) (input : List ℕ) where
     -- where containers open from there on as deep as may be, they do so from the first entry on
     pub reaches_from : (held max : ℕ) → max ≤ held + json_openers (drop place input) → max ≤ held + json_openers (drop at input)
     reaches_from held max deep = let ahead = passes_ahead count at entered place after passes in omega (arith, ahead.1, deep)
+
+-- ---- why a mark isn't passed over
+
+pub unskipped_mark : (f : SkipFault) → entry_fault f ≡ NoEntry → f ≡ skip_faults.NoValue
+unskipped_mark skip_faults.NoValue h = refl
+unskipped_mark skip_faults.TooDeep h = cc
+
+pub too_deep_mark : (f : SkipFault) → entry_fault f ≡ TooDeep → f ≡ skip_faults.TooDeep
+too_deep_mark skip_faults.NoValue h = cc
+too_deep_mark skip_faults.TooDeep h = refl

@@ -1,16 +1,17 @@
 -- What a reader finds at the place of a scalar stands there, and where it finds nothing, nothing does.
-use Rattle.std.proofs.Common.{◌≡◌, ◌≤◌, ◌⊎◌, ◌-◌, ◌^◌, ℕ, ℤ, List, length, Bool, true, false, Option, Some, None, refl, sym, ◌∙◌, ap}
-use Rattle.std.specs.Prelude.{option_map, IsErrOf, Result, Err, OnErr, IfOk, IfErr, IsOk, IsErr, IfSome, IfNone, IsSome, IsNone}
+use Rattle.std.proofs.Common.{◌≡◌, ◌≤◌, ◌-◌, ◌^◌, ℕ, ℤ, List, length, Bool, true, false, Option, Some, None, refl, sym, ◌∙◌, ap}
+use Rattle.std.specs.Prelude.{option_map, Result, OnErr, IfOk, IfErr, IsOk, IsErr, IfSome, IfNone, IsSome, IsNone, MatchOption}
+use Rattle.std.specs.declared.alloc.AllocError.{AllocError}
 use Rattle.smithy_texts.specs.Ranges.{fits_signed}
 use Rattle.smithy_shapes.specs.declared.shape_type.Scalar.{Scalar}
 use Rattle.smithy_shapes.specs.declared.shape_type.Scalar.TheVariants as scalars
 use Rattle.smithy_schema.specs.declared.error.SerdeError.{SerdeError}
-use Rattle.smithy_schema.specs.declared.error.SerdeError.TheVariants.{InvalidInput, TooWide, NotCarried, NoMemory}
+use Rattle.smithy_schema.specs.declared.error.SerdeError.TheVariants.{InvalidInput, TooWide, NotCarried}
 use Rattle.smithy_shapes.specs.declared.shape_type.TimestampFormat.TheVariants.{EpochSeconds}
 use Rattle.smithy_shapes.specs.Table.{scalar_place}
 use Rattle.smithy_shapes.specs.Site.{Site}
 use Rattle.smithy_shapes.specs.Value.{ScalarValue, boolean, whole, text, bytes, instant, Value, scalar_value, null_element}
-use Rattle.smithy_schema.specs.Reading.{Cursor, depth, StandsNot, IsInvalid, Exceeds, Uncarried, ReadsScalar, AnswersWide, AnswersUncarried, passed_to, failed_at}
+use Rattle.smithy_schema.specs.Reading.{Cursor, depth, StandsNot, Exceeds, Uncarried, ReadsScalar, AnswersWide, AnswersUncarried, passed_to, failed_at}
 use Rattle.smithy_shapes.specs.Lemmas.Options.{same_some, made}
 use Rattle.smithy_shapes.proofs.ScalarLemmas.{fits_more}
 use Rattle.smithy_json.specs.Tree.{boolean as boolean_tree, number}
@@ -28,10 +29,12 @@ use Rattle.smithy_json_codec.proofs.GrammarReads as in_grammar_reads
 use Rattle.smithy_json_codec.specs.Private.Wire.{json_is_wire}
 use Rattle.smithy_wire.specs.Rules.{Answer, no_meaning, wide, uncarried, answer_of, settled}
 use Rattle.smithy_json_codec.specs.Private.ValuePlaces.{one_tree}
+use Rattle.smithy_wire.specs.declared.found.Found.{Found}
+use Rattle.smithy_wire.specs.Finding.{MatchFound, Takes, TakesWithin}
 use Rattle.smithy_wire.specs.Narrowing.{IsNarrowed, IsWider}
 use Rattle.smithy_wire.specs.Readers.{settled_answer}
 use Rattle.smithy_wire.proofs.Bounds.{exceeds_not, uncarried_not}
-use Rattle.smithy_wire.proofs.ScalarReads.{takes, takes_result, takes_big, answers_wide, takes_carried, answers_uncarried, narrow_found, narrow_none, if_some, if_none, if_ok}
+use Rattle.smithy_wire.proofs.ScalarReads.{takes, takes_found, takes_within_limits, answers_past_limits, takes_what_is_carried, answers_what_is_not, narrow_found, narrow_none, if_some, if_none, if_ok, if_matched, if_found}
 
 module _ (o : Settings) (c : Cursor) (site : Site) (s : Scalar) where
   abbrev pub Stands : ScalarValue → ℕ → Type 0
@@ -221,80 +224,65 @@ module _ (o : Settings) (old : Cursor) (site : Site) (sound : old.failed ≡ fal
       (same_number old.input old.at) here none wider)
 
   -- of a text
-  pub reads_text : {A : Type 0} (text_of : A → List ℕ) (new : Cursor) (found : Result (A × ℕ) SerdeError) (result : Result A SerdeError)
-      → IfOk found (λ r. TextLies old.input old.at (text_of r.0) r.1) → IfErr found (λ e. (e ≡ InvalidInput) ⊎ (e ≡ NoMemory))
-      → (IsInvalid found → (t : List ℕ) (e : ℕ) → TextLies old.input old.at t e → ⊥)
-      → IfOk result (λ x. IfOk found (λ r. (r.0 ≡ x) × (new ≡ passed_to old r.1))) → (IsOk result → IsOk found)
-      → OnErr result (new ≡ failed_at old) → IfErr result (λ e. found ≡ Err e)
+  pub reads_text : {A : Type 0} (text_of : A → List ℕ) (new : Cursor) (found : Result (Option (A × ℕ)) AllocError) (result : Result A SerdeError)
+      → IfOk found (λ o. MatchOption o ((t : List ℕ) (e : ℕ) → TextLies old.input old.at t e → ⊥) (λ r. TextLies old.input old.at (text_of r.0) r.1))
+      → Takes old new found result
       → ReadsScalar (json_relations o) (json_relations (without_limits o)) (Unit {0}) old new site scalars.String (λ x. text (text_of x)) result
-  reads_text text_of new found result here kind none =
-      takes_result (json_relations o) (json_relations (without_limits o)) (Unit {0}) site scalars.String (λ x. text (text_of x)) (lawful o) old sound due within new found result
-      (if_ok found _ _ (λ r. text_stands o old site (text_of r.0) r.1) here) kind
-      (λ invalid. (no_text_stands o old site (none invalid), no_text_stands (without_limits o) old site (none invalid)))
+  reads_text text_of new found result here =
+      takes_found (json_relations o) (json_relations (without_limits o)) (Unit {0}) site scalars.String (λ x. text (text_of x)) (lawful o) old sound due within new found result
+      (if_ok found _ _ (λ a. if_matched a _ _ _ _ (λ none. (no_text_stands o old site none, no_text_stands (without_limits o) old site none)) (λ r. text_stands o old site (text_of r.0) r.1)) here)
 
   -- of bytes, wherever they are kept
-  pub reads_bytes : {A : Type 0} (bytes_in : A → List ℕ) (new : Cursor) (found : Result (A × ℕ) SerdeError) (result : Result A SerdeError)
-      → IfOk found (λ r. BlobLies old.input old.at (bytes_in r.0) r.1) → IfErr found (λ e. (e ≡ InvalidInput) ⊎ (e ≡ NoMemory))
-      → (IsInvalid found → (b : List ℕ) (e : ℕ) → BlobLies old.input old.at b e → ⊥)
-      → IfOk result (λ x. IfOk found (λ r. (r.0 ≡ x) × (new ≡ passed_to old r.1))) → (IsOk result → IsOk found)
-      → OnErr result (new ≡ failed_at old) → IfErr result (λ e. found ≡ Err e)
+  pub reads_bytes : {A : Type 0} (bytes_in : A → List ℕ) (new : Cursor) (found : Result (Option (A × ℕ)) AllocError) (result : Result A SerdeError)
+      → IfOk found (λ o. MatchOption o ((b : List ℕ) (e : ℕ) → BlobLies old.input old.at b e → ⊥) (λ r. BlobLies old.input old.at (bytes_in r.0) r.1))
+      → Takes old new found result
       → ReadsScalar (json_relations o) (json_relations (without_limits o)) (Unit {0}) old new site scalars.Blob (λ x. bytes (bytes_in x)) result
-  reads_bytes bytes_in new found result here kind none =
-      takes_result (json_relations o) (json_relations (without_limits o)) (Unit {0}) site scalars.Blob (λ x. bytes (bytes_in x)) (lawful o) old sound due within new found result
-      (if_ok found _ _ (λ r. blob_stands o old site (bytes_in r.0) r.1) here) kind
-      (λ invalid. (no_blob_stands o old site (none invalid), no_blob_stands (without_limits o) old site (none invalid)))
+  reads_bytes bytes_in new found result here =
+      takes_found (json_relations o) (json_relations (without_limits o)) (Unit {0}) site scalars.Blob (λ x. bytes (bytes_in x)) (lawful o) old sound due within new found result
+      (if_ok found _ _ (λ a. if_matched a _ _ _ _ (λ none. (no_blob_stands o old site none, no_blob_stands (without_limits o) old site none)) (λ r. blob_stands o old site (bytes_in r.0) r.1)) here)
 
   -- of bytes
-  pub reads_blob : (new : Cursor) (found : Result (List ℕ × ℕ) SerdeError) (result : Result (List ℕ) SerdeError)
-      → IfOk found (λ r. BlobLies old.input old.at r.0 r.1) → IfErr found (λ e. (e ≡ InvalidInput) ⊎ (e ≡ NoMemory))
-      → (IsInvalid found → (b : List ℕ) (e : ℕ) → BlobLies old.input old.at b e → ⊥)
-      → IfOk result (λ x. IfOk found (λ r. (r.0 ≡ x) × (new ≡ passed_to old r.1))) → (IsOk result → IsOk found)
-      → OnErr result (new ≡ failed_at old) → IfErr result (λ e. found ≡ Err e)
+  pub reads_blob : (new : Cursor) (found : Result (Option (List ℕ × ℕ)) AllocError) (result : Result (List ℕ) SerdeError)
+      → IfOk found (λ o. MatchOption o ((b : List ℕ) (e : ℕ) → BlobLies old.input old.at b e → ⊥) (λ r. BlobLies old.input old.at r.0 r.1))
+      → Takes old new found result
       → ReadsScalar (json_relations o) (json_relations (without_limits o)) (Unit {0}) old new site scalars.Blob bytes result
-  reads_blob new found result here kind none =
-      takes_result (json_relations o) (json_relations (without_limits o)) (Unit {0}) site scalars.Blob bytes (lawful o) old sound due within new found result
-      (if_ok found _ _ (λ r. blob_stands o old site r.0 r.1) here) kind
-      (λ invalid. (no_blob_stands o old site (none invalid), no_blob_stands (without_limits o) old site (none invalid)))
+  reads_blob = reads_bytes (λ b. b)
 
   -- of a big number
   module _ (keeps : o.limits ≡ kept) (s : Scalar) (timeless : (x : JsonScalar) → says s (form_at o site) x ≡ says s EpochSeconds x) {A : Type 0} (value : A → ScalarValue)
-      (found : Result (A × ℕ) SerdeError) (result : Result A SerdeError)
-      (here : IfOk found (λ r. MeansAt s old.input old.at (value r.0) r.1)) (kind : IfErr found (λ e. (e ≡ InvalidInput) ⊎ (e ≡ TooWide) ⊎ (e ≡ NoMemory)))
-      (none : IsInvalid found → NothingAt s old.input old.at) where
-    pub reads_big : (new : Cursor) → (IsErrOf found TooWide → ExceedsAt s old.input old.at)
-        → IfOk result (λ x. IfOk found (λ r. (r.0 ≡ x) × (new ≡ passed_to old r.1))) → (IsOk result → IsOk found)
-        → OnErr result (new ≡ failed_at old) → IfErr result (λ e. found ≡ Err e)
-        → ReadsScalar (json_relations o) (json_relations (without_limits o)) (Unit {0}) old new site s value result
-    reads_big new leaves =
-        takes_big (json_relations o) (json_relations (without_limits o)) (Unit {0}) site s value (lawful o) old sound due within new found result
-        (if_ok found _ _ (λ r. number_stands o old site s timeless (value r.0) r.1) here) kind
-        (λ invalid. (no_number_stands o old site s timeless (none invalid), no_number_stands (without_limits o) old site s timeless (none invalid)))
-        (λ is. let there = number_exceeds o old site s timeless (leaves is) in (there, exceeds_stands_not o old site s timeless keeps there))
+      (new : Cursor) (found : Result (Found (A × ℕ)) AllocError) (result : Result A SerdeError)
+      (here : IfOk found (λ f. MatchFound f (λ r. MeansAt s old.input old.at (value r.0) r.1) (NothingAt s old.input old.at) (ExceedsAt s old.input old.at)))
+      (taken : TakesWithin old new TooWide found result) where
+    pub reads_big : ReadsScalar (json_relations o) (json_relations (without_limits o)) (Unit {0}) old new site s value result
+    reads_big =
+        takes_within_limits (json_relations o) (json_relations (without_limits o)) (Unit {0}) site s value (lawful o) old sound due within new found result
+        (if_ok found _ _ (λ f. if_found f _ _ _ _ _ _ (λ r. number_stands o old site s timeless (value r.0) r.1)
+        (λ none. (no_number_stands o old site s timeless none, no_number_stands (without_limits o) old site s timeless none))
+        (λ wide. let there = number_exceeds o old site s timeless wide in (there, exceeds_stands_not o old site s timeless keeps there))) here)
+        taken
 
-    pub answers_big : (IsOk result → IsOk found) → IfErr result (λ e. found ≡ Err e) → AnswersWide (json_relations o) old site s result
+    pub answers_big : AnswersWide (json_relations o) old site s result
     answers_big =
-        answers_wide (json_relations o) (json_relations (without_limits o)) (Unit {0}) site s value (lawful o) old sound due within found result
-        (if_ok found _ _ (λ r. number_stands o old site s timeless (value r.0) r.1) here) kind
+        answers_past_limits (json_relations o) (json_relations (without_limits o)) (Unit {0}) site s value (lawful o) old sound due within new found result
         (exceeds_stands_not o old site s timeless keeps)
-        (λ invalid. no_number_exceeds o old site s timeless (none invalid))
+        (if_ok found _ _ (λ f. if_found f _ _ _ _ _ _ (λ r. number_stands o old site s timeless (value r.0) r.1) (no_number_exceeds o old site s timeless) (λ wide. tt)) here)
+        taken
 
   -- of an instant
-  module _ (keeps : o.limits ≡ kept) (found : Result (ℤ × ℕ) SerdeError) (result : Result ℤ SerdeError)
-      (here : IfOk found (λ r. InstantLies (form_at o site) old.input old.at r.0 r.1)) (kind : IfErr found (λ e. (e ≡ InvalidInput) ⊎ (e ≡ NotCarried) ⊎ (e ≡ NoMemory)))
-      (none : IsInvalid found → NoInstantLies (form_at o site) old.input old.at) where
-    pub reads_instant : (new : Cursor) → (IsErrOf found NotCarried → UncarriedLies (form_at o site) old.input old.at)
-        → IfOk result (λ x. IfOk found (λ r. (r.0 ≡ x) × (new ≡ passed_to old r.1))) → (IsOk result → IsOk found)
-        → OnErr result (new ≡ failed_at old) → IfErr result (λ e. found ≡ Err e)
-        → ReadsScalar (json_relations o) (json_relations (without_limits o)) (Unit {0}) old new site scalars.Timestamp instant result
-    reads_instant new leaves =
-        takes_carried (json_relations o) (json_relations (without_limits o)) (Unit {0}) site scalars.Timestamp instant (lawful o) old sound due within new found result
-        (if_ok found _ _ (λ r. instant_stands o old site r.0 r.1) here) kind
-        (λ invalid. (no_instant_stands o old site (none invalid), no_instant_stands (without_limits o) old site (none invalid)))
-        (λ is. let there = instant_uncarried o old site (leaves is) in (there, uncarried_stands_not o old site keeps there))
+  module _ (keeps : o.limits ≡ kept) (new : Cursor) (found : Result (Found (ℤ × ℕ)) AllocError) (result : Result ℤ SerdeError)
+      (here : IfOk found (λ f. MatchFound f (λ r. InstantLies (form_at o site) old.input old.at r.0 r.1) (NoInstantLies (form_at o site) old.input old.at) (UncarriedLies (form_at o site) old.input old.at)))
+      (taken : TakesWithin old new NotCarried found result) where
+    pub reads_instant : ReadsScalar (json_relations o) (json_relations (without_limits o)) (Unit {0}) old new site scalars.Timestamp instant result
+    reads_instant =
+        takes_what_is_carried (json_relations o) (json_relations (without_limits o)) (Unit {0}) site scalars.Timestamp instant (lawful o) old sound due within new found result
+        (if_ok found _ _ (λ f. if_found f _ _ _ _ _ _ (λ r. instant_stands o old site r.0 r.1)
+        (λ none. (no_instant_stands o old site none, no_instant_stands (without_limits o) old site none))
+        (λ other. let there = instant_uncarried o old site other in (there, uncarried_stands_not o old site keeps there))) here)
+        taken
 
-    pub answers_instant : (IsOk result → IsOk found) → IfErr result (λ e. found ≡ Err e) → AnswersUncarried (json_relations o) old site scalars.Timestamp result
+    pub answers_instant : AnswersUncarried (json_relations o) old site scalars.Timestamp result
     answers_instant =
-        answers_uncarried (json_relations o) (json_relations (without_limits o)) (Unit {0}) site scalars.Timestamp instant (lawful o) old sound due within found result
-        (if_ok found _ _ (λ r. instant_stands o old site r.0 r.1) here) kind
+        answers_what_is_not (json_relations o) (json_relations (without_limits o)) (Unit {0}) site scalars.Timestamp instant (lawful o) old sound due within new found result
         (uncarried_stands_not o old site keeps)
-        (λ invalid. all_carried o old site (none invalid))
+        (if_ok found _ _ (λ f. if_found f _ _ _ _ _ _ (λ r. instant_stands o old site r.0 r.1) (all_carried o old site) (λ other. tt)) here)
+        taken

@@ -1,13 +1,10 @@
 -- Which documents lie in an input, and what it means that none is read.
-use Rattle.std.specs.Prelude.{◌≡◌, ◌⊎◌, ◌≤◌, ◌+◌, ℕ, length, drop, List, Bool, Option, Some, None}
-use Rattle.smithy_schema.specs.declared.error.SerdeError.{SerdeError}
-use Rattle.smithy_schema.specs.declared.error.SerdeError.TheVariants.{InvalidInput, TooDeep, NotCarried, NoMemory}
+use Rattle.std.specs.Prelude.{◌≡◌, ◌⊎◌, ◌+◌, ℕ, length, drop, List, Bool, Option, Some, None}
 use Rattle.smithy_types.specs.Document.{Document}
 use Rattle.smithy_types.specs.declared.number.Number.{Number}
 use Rattle.smithy_json.specs.Tree.{Json, number}
 use Rattle.smithy_json.specs.HeldNumber.{number_of}
 use Rattle.smithy_json.specs.DocumentMeaning.{document_meaning}
-use Rattle.smithy_json_codec.specs.Openers.{json_openers}
 use Rattle.smithy_json_codec.specs.Settings.{Limits, kept, lifted}
 use Rattle.smithy_json_codec.specs.Standing.{Lies, IsByte, TreeLies, FollowsContainer}
 use Rattle.smithy_json_codec.specs.Deepest.{IsDueInside}
@@ -60,23 +57,6 @@ pub record MeetsOtherNumber (input : List ℕ) (a : ℕ) : Type 0 where
   pub due : IsDueInside containers input a at
   pub other : OtherNumberLies input at
 
--- What an error says where a document was refused at the place a, inside of `depth` containers. `Absent` says that no document
--- is there under some limits: that holds with each fault, and with `InvalidInput` also without limits. Want of memory says
--- nothing.
-abbrev pub Refuses : (Option ℕ → Type 0) → ℕ → ℕ → List ℕ → ℕ → SerdeError → Type 0
-Refuses Absent greatest depth input a InvalidInput = Absent None × Absent (Some greatest)
-Refuses Absent greatest depth input a TooDeep =
-    OpensDocumentTooDeep greatest depth input a × (greatest ≤ depth + json_openers (drop a input))
-    × Absent (Some greatest)
-Refuses Absent greatest depth input a NotCarried = MeetsOtherNumber input a × Absent (Some greatest)
-Refuses Absent greatest depth input a NoMemory = Unit {0}
-Refuses Absent greatest depth input a _ = ⊥
-
--- what an error says where a document was refused because none lies at the place a
-abbrev pub RefusesDocument : ℕ → ℕ → List ℕ → ℕ → SerdeError → Type 0
-RefusesDocument greatest depth input a e =
-    Refuses (λ limits. NoDocumentLies limits depth input a) greatest depth input a e
-
 -- ---- documents at a place
 
 -- a document lies from a to e, and behind it comes what may follow a container
@@ -88,8 +68,3 @@ DocumentStands limits depth input a d e =
 abbrev pub NoDocumentStands : Option ℕ → ℕ → List ℕ → ℕ → Type 0
 NoDocumentStands limits depth input a =
     (d : Document Number) (e : ℕ) → DocumentStands limits depth input a d e → ⊥
-
--- what an error says where a document was refused because none lies at the place a with what may follow a container behind it
-abbrev pub RefusesStanding : ℕ → ℕ → List ℕ → ℕ → SerdeError → Type 0
-RefusesStanding greatest depth input a e =
-    Refuses (λ limits. NoDocumentStands limits depth input a) greatest depth input a e

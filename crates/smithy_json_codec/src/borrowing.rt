@@ -27,7 +27,7 @@ impl<'a> BorrowDeserializer<'a> for JsonDeserializer<'a> {
     {
         self.walk.ready()?;
         let found = text_piece_at(self.alloc, self.walk.input, self.walk.position);
-        self.walk.take_result(found)
+        self.walk.take_found(found)
     }
 
     fn read_bytes(&mut self, _schema: &Schema<'_>) -> Result<CowSlice<'a, u8, Global>, SerdeError>
@@ -39,6 +39,6 @@ impl<'a> BorrowDeserializer<'a> for JsonDeserializer<'a> {
     {
         self.walk.ready()?;
         let found = bytes_piece_at(self.alloc, self.walk.input, self.walk.position);
-        self.walk.take_result(found)
+        self.walk.take_found(found)
     }
 }

@@ -165,7 +165,7 @@ impl ShapeDeserializer for JsonDeserializer<'_> {
         }
         match skipped_end(self.input(), at, self.walk.depth()) {
             Ok(end) => self.step_from(end, schema),
-            Err(error) => Err(self.walk.refuse(error)),
+            Err(fault) => Err(self.walk.refuse(fault.refusal())),
         }
     }
 
@@ -228,11 +228,12 @@ impl ShapeDeserializer for JsonDeserializer<'_> {
                 name.raw,
                 name.has_escape,
             ) {
-                Ok(key) => {
+                Ok(Some(key)) => {
                     self.walk.go_on(name.end, frame(ContainerKind::Map, true));
                     Ok(Some(key))
                 }
-                Err(error) => Err(self.walk.refuse(error)),
+                Ok(None) => Err(self.walk.refuse(SerdeError::InvalidInput)),
+                Err(_) => Err(self.walk.refuse(SerdeError::NoMemory)),
             },
             Some(InObject::End(end)) => {
                 self.walk.leave(end);
@@ -298,7 +299,7 @@ impl ShapeDeserializer for JsonDeserializer<'_> {
                 self.walk.pass(end);
                 Ok(())
             }
-            Err(error) => Err(self.walk.refuse(error)),
+            Err(fault) => Err(self.walk.refuse(fault.refusal())),
         }
     }
 
@@ -342,13 +343,13 @@ impl ShapeDeserializer for JsonDeserializer<'_> {
     fn read_string(&mut self, _schema: &Schema<'_>) -> Result<String, SerdeError> {
         self.walk.ready()?;
         let found = text_at(self.alloc, self.walk.input, self.walk.position);
-        self.walk.take_result(found)
+        self.walk.take_found(found)
     }
 
     fn read_blob(&mut self, _schema: &Schema<'_>) -> Result<Blob, SerdeError> {
         self.walk.ready()?;
         let found = blob_at(self.alloc, self.walk.input, self.walk.position);
-        self.walk.take_result(found)
+        self.walk.take_found(found)
     }
 
     fn read_big_integer(&mut self, _schema: &Schema<'_>) -> Result<BigInteger, SerdeError>
@@ -362,7 +363,7 @@ impl ShapeDeserializer for JsonDeserializer<'_> {
     {
         self.walk.ready()?;
         let found = big_integer_at(self.alloc, self.walk.input, self.walk.position);
-        self.walk.take_result(found)
+        self.walk.take_within(found, SerdeError::TooWide)
     }
 
     fn read_big_decimal(&mut self, _schema: &Schema<'_>) -> Result<BigDecimal, SerdeError>
@@ -376,14 +377,14 @@ impl ShapeDeserializer for JsonDeserializer<'_> {
     {
         self.walk.ready()?;
         let found = big_decimal_at(self.alloc, self.walk.input, self.walk.position);
-        self.walk.take_result(found)
+        self.walk.take_within(found, SerdeError::TooWide)
     }
 
     fn read_timestamp(&mut self, schema: &Schema<'_>) -> Result<DateTime, SerdeError> {
         self.walk.ready()?;
         let form = form_at(schema, self.settings.default_timestamp_format);
         let found = instant_at(self.alloc, self.walk.input, self.walk.position, form);
-        self.walk.take_result(found)
+        self.walk.take_within(found, SerdeError::NotCarried)
     }
 
     fn read_document(&mut self, _schema: &Schema<'_>) -> Result<Document, SerdeError>
@@ -400,12 +401,17 @@ impl ShapeDeserializer for JsonDeserializer<'_> {
         ensures no_meaning { IsRefused result → (cursor_of self.old).due ≡ true → NoDocumentStands (Some (reading_settings_of self.old).max_depth) (depth (cursor_of self.old)) (cursor_of self.old).input (cursor_of self.old).at }
     {
         self.walk.ready()?;
-        let found = standing_document_at(
+        match standing_document_at(
             self.alloc,
             self.input(),
             self.walk.position,
             self.walk.depth(),
-        );
-        self.walk.take_result(found)
+        ) {
+            Ok((document, end)) => {
+                self.walk.pass(end);
+                Ok(document)
+            }
+            Err(fault) => Err(self.walk.refuse(fault.refusal())),
+        }
     }
 }

@@ -1,25 +1,72 @@
 //! Documents: JSON values of no shape, read in one pass.
 
-ghost use Rattle.std.specs.Prelude.{◌≡◌, ◌≤◌, ℕ, [], ◌∷◌, length, vec_items, string_bytes, Some, IfOk, IfErr, MatchOption, MatchResult};
-ghost use Rattle.smithy_schema.specs.declared.error.SerdeError.TheVariants.{NoMemory};
+ghost use Rattle.std.specs.Prelude.{◌≡◌, ◌≤◌, ℕ, [], ◌∷◌, length, vec_items, string_bytes, Some, IfOk, IfErr, MatchOption};
 ghost use Rattle.smithy_types.specs.DocumentView.{document_view, elements_view, properties_view};
-ghost use Rattle.smithy_json_codec.specs.Documents.{DocumentLies, RefusesDocument, DocumentStands, RefusesStanding};
-ghost use Rattle.smithy_json_codec.specs.Private.OpenDocuments.{open_array, open_object, with_value, fresh, open_view, frame_view, frames_view, TakesValue, TakesStep};
+ghost use Rattle.smithy_json_codec.specs.declared.documents.DocumentFault.TheVariants.{NoMemory};
+ghost use Rattle.smithy_json_codec.specs.Documents.{DocumentLies, DocumentStands};
+ghost use Rattle.smithy_json_codec.specs.Private.OpenDocuments.{RefusesDocument, RefusesStanding, begin_fault, document_refusal, open_array, open_object, with_value, fresh, open_view, frame_view, frames_view, TakesValue, TakesStep};
 
 mod scalars;
 
-use crate::documents::scalars::{Begun, document_begun};
+use crate::documents::scalars::{BeginFault, Begun, document_begun};
 use crate::input::Input;
 use crate::places::{InList, InObject, may_end, next_in_list, next_in_object};
 use crate::skip::begins_value;
 use crate::texts::owned_text;
 use smithy_schema::SerdeError;
 use smithy_types::Document;
-use std::alloc::Global;
+use std::alloc::{AllocError, Global};
 use std::collections::BTreeMap;
 
 /// A depth at which a container ends before any boundary, as inside of another one.
 const INNER_DEPTH: usize = 2;
+
+/// Why no document is read.
+#[derive(Clone, Copy)]
+pub(crate) enum DocumentFault {
+    /// No document is there, whatever the limits.
+    NoDocument,
+    /// A value comes inside of as many containers as may be open.
+    TooDeep,
+    /// A number comes that no document holds.
+    NotCarried,
+    /// An allocation was refused.
+    NoMemory,
+}
+
+impl From<AllocError> for DocumentFault {
+    ghost from_gives = { λ _ fault. fault ≡ NoMemory };
+
+    fn from(_error: AllocError) -> DocumentFault {
+        DocumentFault::NoMemory
+    }
+}
+
+impl From<BeginFault> for DocumentFault {
+    ghost from_gives = { λ begin fault. fault ≡ begin_fault begin };
+
+    fn from(fault: BeginFault) -> DocumentFault {
+        match fault {
+            BeginFault::NoValue => DocumentFault::NoDocument,
+            BeginFault::NotCarried => DocumentFault::NotCarried,
+            BeginFault::NoMemory => DocumentFault::NoMemory,
+        }
+    }
+}
+
+impl DocumentFault {
+    /// The error of a reader that refuses for it.
+    pub(crate) fn refusal(self) -> SerdeError
+        ensures { result ≡ document_refusal self }
+    {
+        match self {
+            DocumentFault::NoDocument => SerdeError::InvalidInput,
+            DocumentFault::TooDeep => SerdeError::TooDeep,
+            DocumentFault::NotCarried => SerdeError::NotCarried,
+            DocumentFault::NoMemory => SerdeError::NoMemory,
+        }
+    }
+}
 
 // The innermost open container of a document: an array with its elements so far, or an object with
 // its properties so far.
@@ -58,8 +105,8 @@ fn fresh(alloc: Global, is_object: bool) -> Open
 }
 
 #[inline(always)]
-fn with_element(elements: Vec<Document>, value: Document) -> Result<Open, SerdeError>
-    ensures { MatchResult result (λ o. open_view o ≡ with_value (frame_view (Frame.InArray elements)) (document_view value)) (λ e. e ≡ NoMemory) }
+fn with_element(elements: Vec<Document>, value: Document) -> Result<Open, AllocError>
+    ensures { IfOk result (λ o. open_view o ≡ with_value (frame_view (Frame.InArray elements)) (document_view value)) }
 {
     let mut elements = elements;
     elements.push(value)?;
@@ -71,8 +118,8 @@ fn with_property(
     properties: BTreeMap<String, Document>,
     name: String,
     value: Document,
-) -> Result<Open, SerdeError>
-    ensures { MatchResult result (λ o. open_view o ≡ with_value (frame_view (Frame.BehindName properties name)) (document_view value)) (λ e. e ≡ NoMemory) }
+) -> Result<Open, AllocError>
+    ensures { IfOk result (λ o. open_view o ≡ with_value (frame_view (Frame.BehindName properties name)) (document_view value)) }
 {
     let mut properties = properties;
     drop(properties.insert(name, value)?);
@@ -81,8 +128,8 @@ fn with_property(
 
 // The container with the value that was due.
 #[inline(always)]
-fn with_value(frame: Frame, value: Document) -> Result<Open, SerdeError>
-    ensures { MatchResult result (λ o. open_view o ≡ with_value (frame_view frame) (document_view value)) (λ e. e ≡ NoMemory) }
+fn with_value(frame: Frame, value: Document) -> Result<Open, AllocError>
+    ensures { IfOk result (λ o. open_view o ≡ with_value (frame_view frame) (document_view value)) }
 {
     match frame {
         Frame::InArray(elements) => with_element(elements, value),
@@ -94,14 +141,14 @@ fn with_value(frame: Frame, value: Document) -> Result<Open, SerdeError>
 // begins there.
 #[cold]
 #[inline(never)]
-fn fault_at_limit(input: &[u8], at: usize) -> SerdeError
+fn fault_at_limit(input: &[u8], at: usize) -> DocumentFault
     requires { at ≤ length input.now }
     ensures { (n : ℕ) → RefusesDocument n n input.now at result }
 {
     if begins_value(input, at) {
-        SerdeError::TooDeep
+        DocumentFault::TooDeep
     } else {
-        SerdeError::InvalidInput
+        DocumentFault::NoDocument
     }
 }
 
@@ -114,7 +161,7 @@ fn value_step(
     at: usize,
     frame: Frame,
     depth: usize,
-) -> Result<Step, SerdeError>
+) -> Result<Step, DocumentFault>
     requires within { at ≤ length input.bytes.now }
     requires shallow { depth ≤ input.settings.max_depth }
     ensures { TakesValue input.entry.settings.max_depth depth input.entry.bytes.now at (frame_view frame) result }
@@ -136,7 +183,7 @@ fn array_step(
     entered: bool,
     elements: Vec<Document>,
     depth: usize,
-) -> Result<Step, SerdeError>
+) -> Result<Step, DocumentFault>
     requires within { at ≤ length input.bytes.now }
     requires shallow { depth ≤ input.settings.max_depth }
     ensures { TakesStep input.entry.settings.max_depth depth input.entry.bytes.now at entered (open_array (elements_view elements.items)) result }
@@ -146,7 +193,7 @@ fn array_step(
             value_step(alloc, input, start, Frame::InArray(elements), depth)
         }
         Some(InList::End(end)) => Ok(Step::Ends(Document::Array(elements), end)),
-        None => Err(SerdeError::InvalidInput),
+        None => Err(DocumentFault::NoDocument),
     }
 }
 
@@ -158,19 +205,21 @@ fn object_step(
     entered: bool,
     properties: BTreeMap<String, Document>,
     depth: usize,
-) -> Result<Step, SerdeError>
+) -> Result<Step, DocumentFault>
     requires within { at ≤ length input.bytes.now }
     requires shallow { depth ≤ input.settings.max_depth }
     ensures { TakesStep input.entry.settings.max_depth depth input.entry.bytes.now at entered (open_object (properties_view properties.entries)) result }
 {
     match next_in_object(input.bytes, at, entered, INNER_DEPTH) {
         Some(InObject::Member(name)) => {
-            let key = owned_text(alloc, name.raw, name.has_escape)?;
+            let Some(key) = owned_text(alloc, name.raw, name.has_escape)? else {
+                return Err(DocumentFault::NoDocument);
+            };
             let frame = Frame::BehindName(properties, key);
             value_step(alloc, input, name.end, frame, depth)
         }
         Some(InObject::End(end)) => Ok(Step::Ends(Document::Object(properties), end)),
-        None => Err(SerdeError::InvalidInput),
+        None => Err(DocumentFault::NoDocument),
     }
 }
 
@@ -183,7 +232,7 @@ fn next_step(
     entered: bool,
     inner: Open,
     depth: usize,
-) -> Result<Step, SerdeError>
+) -> Result<Step, DocumentFault>
     requires within { at ≤ length input.bytes.now }
     requires shallow { depth ≤ input.settings.max_depth }
     ensures { TakesStep input.entry.settings.max_depth depth input.entry.bytes.now at entered (open_view inner) result }
@@ -196,8 +245,8 @@ fn next_step(
 
 // One more container that waits, the innermost.
 #[tactic(auto, using(crate::proofs::DocumentFrames::frames_push))]
-fn push(frames: &mut Vec<Frame>, frame: Frame) -> Result<(), SerdeError>
-    ensures { MatchResult result (λ _. frames_view (vec_items frames.new) ≡ frame_view frame ∷ frames_view (vec_items frames.old)) (λ e. e ≡ NoMemory) }
+fn push(frames: &mut Vec<Frame>, frame: Frame) -> Result<(), AllocError>
+    ensures { IfOk result (λ _. frames_view (vec_items frames.new) ≡ frame_view frame ∷ frames_view (vec_items frames.old)) }
 {
     frames.push(frame)?;
     Ok(())
@@ -220,7 +269,7 @@ fn document_at(
     input: Input<'_>,
     at: usize,
     depth: usize,
-) -> Result<(Document, usize), SerdeError>
+) -> Result<(Document, usize), DocumentFault>
     requires within { at ≤ length input.bytes.now }
     requires shallow { depth ≤ input.settings.max_depth }
     ensures ok { IfOk result (λ r. DocumentLies (Some input.entry.settings.max_depth) depth input.entry.bytes.now at (document_view r.0) r.1) }
@@ -269,7 +318,7 @@ pub(crate) fn standing_document_at(
     input: Input<'_>,
     at: usize,
     depth: usize,
-) -> Result<(Document, usize), SerdeError>
+) -> Result<(Document, usize), DocumentFault>
     requires within { at ≤ length input.bytes.now }
     requires shallow { depth ≤ input.settings.max_depth }
     ensures ok { IfOk result (λ r. DocumentStands (Some input.entry.settings.max_depth) depth input.entry.bytes.now at (document_view r.0) r.1) }
@@ -277,7 +326,7 @@ pub(crate) fn standing_document_at(
 {
     let (document, end) = document_at(alloc, input, at, depth)?;
     if !may_end(input.bytes, end, depth + 1) {
-        return Err(SerdeError::InvalidInput);
+        return Err(DocumentFault::NoDocument);
     }
     Ok((document, end))
 }

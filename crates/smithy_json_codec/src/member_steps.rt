@@ -74,7 +74,7 @@ impl JsonDeserializer<'_> {
                 self.walk.leave(end);
                 Ok(Step::End)
             }
-            Err(error) => Err(self.walk.refuse(error)),
+            Err(fault) => Err(self.walk.refuse(fault.refusal())),
         }
     }
 }

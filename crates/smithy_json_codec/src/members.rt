@@ -1,24 +1,66 @@
 //! Which member of an object comes next, behind the entries that are passed over.
 
-ghost use Rattle.std.specs.Prelude.{◌≡◌, ◌≢◌, ◌≤◌, ◌+◌, ◌↔◌, ℕ, length, drop, IfOk, IfErr, IsErrOf, IsTrue};
-ghost use Rattle.smithy_schema.specs.Reading.{IsInvalid, IsOfReader, IsRefused};
-ghost use Rattle.smithy_schema.specs.declared.error.SerdeError.TheVariants.{Failed, TooDeep, TooWide, NotCarried};
+ghost use Rattle.std.specs.Prelude.{◌≡◌, ◌≤◌, ◌+◌, ◌↔◌, ℕ, length, drop, IfOk, IfErr, IsErrOf, IsTrue};
 ghost use Rattle.smithy_shapes.specs.Site.{site_of, kind_at};
 ghost use Rattle.smithy_shapes.specs.Table.{IsDocument};
 ghost use Rattle.smithy_json_codec.specs.Codec.{held_settings};
 ghost use Rattle.smithy_json_codec.specs.Deepest.{OpensTooDeep};
 ghost use Rattle.smithy_json_codec.specs.Openers.{json_openers};
+ghost use Rattle.smithy_json_codec.specs.declared.members.EntryFault.TheVariants.{NoEntry, TooDeep, NoMemory};
 ghost use Rattle.smithy_json_codec.specs.Private.MemberSteps.{StepsTo, passing, passes_marks, passes_null};
-ghost use Rattle.smithy_json_codec.specs.Private.PassedEntries.{type_name, IsEntry, IsNext, EntryMissing, NothingComes, NoSkip, NoSkipWithin};
+ghost use Rattle.smithy_json_codec.specs.Private.PassedEntries.{entry_fault, entry_refusal, type_name, IsEntry, IsNext, EntryMissing, NothingComes, NoSkip, NoSkipWithin};
 
 use crate::input::Input;
 use crate::places::{InObject, next_in_object, null_end};
 use crate::settings::Settings;
-use crate::skip::skipped_end;
+use crate::skip::{SkipFault, skipped_end};
 use crate::texts::text_of;
 use smithy_schema::{Schema, SerdeError, ShapeType, Step};
-use std::alloc::Global;
+use std::alloc::{AllocError, Global};
 use std::borrow::CowStr;
+
+/// Why nothing comes in an object.
+#[derive(Clone, Copy)]
+pub(crate) enum EntryFault {
+    /// Neither an entry whose name has a text nor the end comes, or a value to pass over is none.
+    NoEntry,
+    /// A value to pass over opens a container inside of as many as may be open.
+    TooDeep,
+    /// An allocation was refused.
+    NoMemory,
+}
+
+impl From<AllocError> for EntryFault {
+    ghost from_gives = { λ _ fault. fault ≡ NoMemory };
+
+    fn from(_error: AllocError) -> EntryFault {
+        EntryFault::NoMemory
+    }
+}
+
+impl From<SkipFault> for EntryFault {
+    ghost from_gives = { λ skipped fault. fault ≡ entry_fault skipped };
+
+    fn from(fault: SkipFault) -> EntryFault {
+        match fault {
+            SkipFault::NoValue => EntryFault::NoEntry,
+            SkipFault::TooDeep => EntryFault::TooDeep,
+        }
+    }
+}
+
+impl EntryFault {
+    /// The error of a reader that refuses for it.
+    pub(crate) fn refusal(self) -> SerdeError
+        ensures { result ≡ entry_refusal self }
+    {
+        match self {
+            EntryFault::NoEntry => SerdeError::InvalidInput,
+            EntryFault::TooDeep => SerdeError::TooDeep,
+            EntryFault::NoMemory => SerdeError::NoMemory,
+        }
+    }
+}
 
 // A member that isn't passed over, by the text of its name and the offset of its value, or the end of
 // the object.
@@ -96,24 +138,23 @@ fn entry_at<'a>(
     entered: bool,
     depth: usize,
     schema: &Schema<'_>,
-) -> Result<Entry<'a>, SerdeError>
+) -> Result<Entry<'a>, EntryFault>
     requires within { at ≤ length input.bytes.now }
     requires shallow { depth ≤ input.settings.max_depth }
     ensures ok { IfOk result (IsEntry (passing (held_settings input.entry.settings) (site_of schema.now)) input.entry.settings.max_depth depth input.entry.bytes.now at entered) }
-    ensures refused { IsRefused result → EntryMissing (NoSkipWithin input.entry.settings.max_depth depth input.entry.bytes.now) (passing (held_settings input.entry.settings) (site_of schema.now)) depth input.entry.bytes.now at entered }
-    ensures none_without_limits { IsInvalid result → EntryMissing (NoSkip depth input.entry.bytes.now) (passing (held_settings input.entry.settings) (site_of schema.now)) depth input.entry.bytes.now at entered }
-    ensures sound { IfErr result (λ e. e ≢ Failed) }
-    ensures reading { IfErr result IsOfReader }
-    ensures narrow { IfErr result (λ e. (e ≢ TooWide) × (e ≢ NotCarried)) }
+    ensures refused { IfErr result (λ e. (e ≡ NoMemory → ⊥) → EntryMissing (NoSkipWithin input.entry.settings.max_depth depth input.entry.bytes.now) (passing (held_settings input.entry.settings) (site_of schema.now)) depth input.entry.bytes.now at entered) }
+    ensures none_without_limits { IsErrOf result NoEntry → EntryMissing (NoSkip depth input.entry.bytes.now) (passing (held_settings input.entry.settings) (site_of schema.now)) depth input.entry.bytes.now at entered }
     ensures deep { IsErrOf result TooDeep → input.entry.settings.max_depth ≤ depth + json_openers (drop at input.entry.bytes.now) }
     ensures too_deep { IsErrOf result TooDeep → (q : ℕ) × (at ≤ q) × OpensTooDeep input.entry.settings.max_depth depth input.entry.bytes.now q }
 {
     let name = match next_in_object(input.bytes, at, entered, depth) {
         Some(InObject::Member(name)) => name,
         Some(InObject::End(end)) => return Ok(Entry::Kept(Next::End(end))),
-        None => return Err(SerdeError::InvalidInput),
+        None => return Err(EntryFault::NoEntry),
     };
-    let text = text_of(alloc, name.raw, name.has_escape)?;
+    let Some(text) = text_of(alloc, name.raw, name.has_escape)? else {
+        return Err(EntryFault::NoEntry);
+    };
     if let Some(end) = null_end(input.bytes, name.end) {
         if passes_null(schema, input.settings, text.as_str()) {
             return Ok(Entry::Passed(end));
@@ -136,15 +177,12 @@ pub(crate) fn next_present<'a>(
     entered: bool,
     depth: usize,
     schema: &Schema<'_>,
-) -> Result<Next<'a>, SerdeError>
+) -> Result<Next<'a>, EntryFault>
     requires within { at ≤ length input.bytes.now }
     requires shallow { depth ≤ input.settings.max_depth }
     ensures ok { IfOk result (IsNext (passing (held_settings input.entry.settings) (site_of schema.now)) input.entry.settings.max_depth depth input.entry.bytes.now at entered) }
-    ensures refused { IsRefused result → NothingComes (NoSkipWithin input.entry.settings.max_depth depth input.entry.bytes.now) (passing (held_settings input.entry.settings) (site_of schema.now)) input.entry.settings.max_depth depth input.entry.bytes.now at entered }
-    ensures none_without_limits { IsInvalid result → NothingComes (NoSkip depth input.entry.bytes.now) (passing (held_settings input.entry.settings) (site_of schema.now)) input.entry.settings.max_depth depth input.entry.bytes.now at entered }
-    ensures sound { IfErr result (λ e. e ≢ Failed) }
-    ensures reading { IfErr result IsOfReader }
-    ensures narrow { IfErr result (λ e. (e ≢ TooWide) × (e ≢ NotCarried)) }
+    ensures refused { IfErr result (λ e. (e ≡ NoMemory → ⊥) → NothingComes (NoSkipWithin input.entry.settings.max_depth depth input.entry.bytes.now) (passing (held_settings input.entry.settings) (site_of schema.now)) input.entry.settings.max_depth depth input.entry.bytes.now at entered) }
+    ensures none_without_limits { IsErrOf result NoEntry → NothingComes (NoSkip depth input.entry.bytes.now) (passing (held_settings input.entry.settings) (site_of schema.now)) input.entry.settings.max_depth depth input.entry.bytes.now at entered }
     ensures deep { IsErrOf result TooDeep → input.entry.settings.max_depth ≤ depth + json_openers (drop at input.entry.bytes.now) }
     ensures too_deep { IsErrOf result TooDeep → (q : ℕ) × (at ≤ q) × OpensTooDeep input.entry.settings.max_depth depth input.entry.bytes.now q }
 {

@@ -1,10 +1,8 @@
 //! Big numbers: the text of a number or a string, and what it is as one.
 
-ghost use Rattle.std.specs.Prelude.{◌≡◌, ◌⊎◌, ◌≤◌, ℕ, List, length, None, IfSome, IfNone, IfOk, IfErr, IsErrOf, FitsSigned};
+ghost use Rattle.std.specs.Prelude.{◌≡◌, ◌≤◌, ℕ, List, length, IfSome, IfNone, IfOk, MatchOption, FitsSigned};
 ghost use Rattle.std.specs.Cow.{cow_str_bytes};
 ghost use Rattle.std.specs.Int.{w128};
-ghost use Rattle.smithy_schema.specs.Reading.{IsInvalid};
-ghost use Rattle.smithy_schema.specs.declared.error.SerdeError.TheVariants.{InvalidInput, TooWide, NoMemory};
 ghost use Rattle.smithy_shapes.specs.declared.shape_type.Scalar.TheVariants as scalars;
 ghost use Rattle.smithy_shapes.specs.Value.{whole, decimal, scalar_value};
 ghost use Rattle.smithy_texts.specs.Numeral.{number as number_of};
@@ -15,14 +13,15 @@ ghost use Rattle.smithy_json_codec.specs.Standing.{TreeLies};
 ghost use Rattle.smithy_json_codec.specs.NumberText.{NumberTextLies};
 ghost use Rattle.smithy_json_codec.specs.Private.ScalarAtPlace.{MeansAt, ExceedsAt, NothingAt};
 ghost use Rattle.smithy_wire.specs.Rules.{means, no_meaning, wide};
+ghost use Rattle.smithy_wire.specs.Finding.{MatchFound};
 
 use crate::texts::text_of;
 use crate::values::string_at;
 use smithy_json::number_text::scan_number;
 use smithy_json::scan::skip_blanks;
-use smithy_schema::SerdeError;
 use smithy_types::{BigDecimal, BigInteger, BigNumberError};
-use std::alloc::Global;
+use smithy_wire::Found;
+use std::alloc::{AllocError, Global};
 use std::borrow::CowStr;
 use std::str;
 
@@ -43,58 +42,52 @@ fn number_text_at<'a>(
     alloc: Global,
     input: &'a [u8],
     at: usize,
-) -> Result<(CowStr<'a, Global>, usize), SerdeError>
+) -> Result<Option<(CowStr<'a, Global>, usize)>, AllocError>
     requires { at ≤ length input.now }
-    ensures found { IfOk result (λ r. NumberTextLies input.now at (cow_str_bytes r.0) r.1) }
-    ensures none { IsInvalid result → (text : List ℕ) (e : ℕ) → NumberTextLies input.now at text e → ⊥ }
-    ensures kind { IfErr result (λ e. (e ≡ InvalidInput) ⊎ (e ≡ NoMemory)) }
+    ensures { IfOk result (λ o. MatchOption o ((text : List ℕ) (e : ℕ) → NumberTextLies input.now at text e → ⊥) (λ r. NumberTextLies input.now at (cow_str_bytes r.0) r.1)) }
 {
     if let Some((text, end)) = number_at(input, at) {
-        return Ok((CowStr::Borrowed(text), end));
+        return Ok(Some((CowStr::Borrowed(text), end)));
     }
     let Some(string) = string_at(input, at) else {
-        return Err(SerdeError::InvalidInput);
+        return Ok(None);
     };
-    let text = text_of(alloc, string.text, string.has_escape)?;
-    Ok((text, string.closing + 1))
+    let Some(text) = text_of(alloc, string.text, string.has_escape)? else {
+        return Ok(None);
+    };
+    Ok(Some((text, string.closing + 1)))
 }
 
 // The whole number that a text writes, where 128 bits hold it.
-fn big_integer_of(alloc: Global, text: &str) -> Result<BigInteger, SerdeError>
-    ensures ok { IfOk result (λ n. big_number scalars.BigInteger text.now ≡ means (scalar_value (whole (number_of n)))) }
-    ensures text { IfOk result (λ n. n ≡ text.now) }
-    ensures fits { IfOk result (λ n. FitsSigned w128 (number_of n)) }
-    ensures none { IsInvalid result → big_number scalars.BigInteger text.now ≡ no_meaning }
-    ensures wide { IsErrOf result TooWide → big_number scalars.BigInteger text.now ≡ wide }
-    ensures kind { IfErr result (λ e. (e ≡ InvalidInput) ⊎ (e ≡ TooWide) ⊎ (e ≡ NoMemory)) }
+fn big_integer_of(alloc: Global, text: &str) -> Result<Found<BigInteger>, AllocError>
+    ensures answer { IfOk result (λ f. MatchFound f (λ n. big_number scalars.BigInteger text.now ≡ means (scalar_value (whole (number_of n)))) (big_number scalars.BigInteger text.now ≡ no_meaning) (big_number scalars.BigInteger text.now ≡ wide)) }
+    ensures text { IfOk result (λ f. MatchFound f (λ n. n ≡ text.now) (Unit {0}) (Unit {0})) }
+    ensures fits { IfOk result (λ f. MatchFound f (λ n. FitsSigned w128 (number_of n)) (Unit {0}) (Unit {0})) }
 {
     match BigInteger::from_str(alloc, text) {
         Ok(number) => match number.to_i128() {
-            Ok(_) => Ok(number),
-            Err(_) => Err(SerdeError::TooWide),
+            Ok(_) => Ok(Found::Value(number)),
+            Err(_) => Ok(Found::Beyond),
         },
-        Err(BigNumberError::InvalidFormat) => Err(SerdeError::InvalidInput),
-        Err(_) => Err(SerdeError::NoMemory),
+        Err(BigNumberError::InvalidFormat) => Ok(Found::Nothing),
+        Err(_) => Err(AllocError),
     }
 }
 
 // The decimal number that a text writes, where its parts are within their limits.
-fn big_decimal_of(alloc: Global, text: &str) -> Result<BigDecimal, SerdeError>
-    ensures ok { IfOk result (λ n. big_number scalars.BigDecimal text.now ≡ means (scalar_value (decimal (mantissa n) (net_exponent n)))) }
-    ensures text { IfOk result (λ n. n ≡ text.now) }
-    ensures fits { IfOk result (λ n. FitsSigned w128 (mantissa n)) }
-    ensures none { IsInvalid result → big_number scalars.BigDecimal text.now ≡ no_meaning }
-    ensures wide { IsErrOf result TooWide → big_number scalars.BigDecimal text.now ≡ wide }
-    ensures kind { IfErr result (λ e. (e ≡ InvalidInput) ⊎ (e ≡ TooWide) ⊎ (e ≡ NoMemory)) }
+fn big_decimal_of(alloc: Global, text: &str) -> Result<Found<BigDecimal>, AllocError>
+    ensures answer { IfOk result (λ f. MatchFound f (λ n. big_number scalars.BigDecimal text.now ≡ means (scalar_value (decimal (mantissa n) (net_exponent n)))) (big_number scalars.BigDecimal text.now ≡ no_meaning) (big_number scalars.BigDecimal text.now ≡ wide)) }
+    ensures text { IfOk result (λ f. MatchFound f (λ n. n ≡ text.now) (Unit {0}) (Unit {0})) }
+    ensures fits { IfOk result (λ f. MatchFound f (λ n. FitsSigned w128 (mantissa n)) (Unit {0}) (Unit {0})) }
 {
     match BigDecimal::from_str(alloc, text) {
         Ok(number) => match number.to_parts() {
-            Ok(_) => Ok(number),
-            Err(_) => Err(SerdeError::TooWide),
+            Ok(_) => Ok(Found::Value(number)),
+            Err(_) => Ok(Found::Beyond),
         },
-        Err(BigNumberError::InvalidFormat) => Err(SerdeError::InvalidInput),
-        Err(BigNumberError::ExponentOutOfRange) => Err(SerdeError::TooWide),
-        Err(BigNumberError::NoMemory) => Err(SerdeError::NoMemory),
+        Err(BigNumberError::InvalidFormat) => Ok(Found::Nothing),
+        Err(BigNumberError::ExponentOutOfRange) => Ok(Found::Beyond),
+        Err(BigNumberError::NoMemory) => Err(AllocError),
     }
 }
 
@@ -103,18 +96,20 @@ pub(crate) fn big_integer_at(
     alloc: Global,
     input: &[u8],
     at: usize,
-) -> Result<(BigInteger, usize), SerdeError>
+) -> Result<Found<(BigInteger, usize)>, AllocError>
     requires { at ≤ length input.now }
-    ensures found { IfOk result (λ r. MeansAt scalars.BigInteger input.now at (whole (number_of r.0)) r.1) }
-    ensures text { IfOk result (λ r. NumberTextLies input.now at r.0 r.1) }
-    ensures fits { IfOk result (λ r. FitsSigned w128 (number_of r.0)) }
-    ensures none { IsInvalid result → NothingAt scalars.BigInteger input.now at }
-    ensures wide { IsErrOf result TooWide → ExceedsAt scalars.BigInteger input.now at }
-    ensures kind { IfErr result (λ e. (e ≡ InvalidInput) ⊎ (e ≡ TooWide) ⊎ (e ≡ NoMemory)) }
+    ensures found { IfOk result (λ f. MatchFound f (λ r. MeansAt scalars.BigInteger input.now at (whole (number_of r.0)) r.1) (NothingAt scalars.BigInteger input.now at) (ExceedsAt scalars.BigInteger input.now at)) }
+    ensures text { IfOk result (λ f. MatchFound f (λ r. NumberTextLies input.now at r.0 r.1) (Unit {0}) (Unit {0})) }
+    ensures fits { IfOk result (λ f. MatchFound f (λ r. FitsSigned w128 (number_of r.0)) (Unit {0}) (Unit {0})) }
 {
-    let (text, end) = number_text_at(alloc, input, at)?;
-    let number = big_integer_of(alloc, text.as_str())?;
-    Ok((number, end))
+    let Some((text, end)) = number_text_at(alloc, input, at)? else {
+        return Ok(Found::Nothing);
+    };
+    match big_integer_of(alloc, text.as_str())? {
+        Found::Value(number) => Ok(Found::Value((number, end))),
+        Found::Nothing => Ok(Found::Nothing),
+        Found::Beyond => Ok(Found::Beyond),
+    }
 }
 
 // The decimal number that comes first behind blanks, with its end, where a value may end behind it.
@@ -122,16 +117,18 @@ pub(crate) fn big_decimal_at(
     alloc: Global,
     input: &[u8],
     at: usize,
-) -> Result<(BigDecimal, usize), SerdeError>
+) -> Result<Found<(BigDecimal, usize)>, AllocError>
     requires { at ≤ length input.now }
-    ensures found { IfOk result (λ r. MeansAt scalars.BigDecimal input.now at (decimal (mantissa r.0) (net_exponent r.0)) r.1) }
-    ensures text { IfOk result (λ r. NumberTextLies input.now at r.0 r.1) }
-    ensures fits { IfOk result (λ r. FitsSigned w128 (mantissa r.0)) }
-    ensures none { IsInvalid result → NothingAt scalars.BigDecimal input.now at }
-    ensures wide { IsErrOf result TooWide → ExceedsAt scalars.BigDecimal input.now at }
-    ensures kind { IfErr result (λ e. (e ≡ InvalidInput) ⊎ (e ≡ TooWide) ⊎ (e ≡ NoMemory)) }
+    ensures found { IfOk result (λ f. MatchFound f (λ r. MeansAt scalars.BigDecimal input.now at (decimal (mantissa r.0) (net_exponent r.0)) r.1) (NothingAt scalars.BigDecimal input.now at) (ExceedsAt scalars.BigDecimal input.now at)) }
+    ensures text { IfOk result (λ f. MatchFound f (λ r. NumberTextLies input.now at r.0 r.1) (Unit {0}) (Unit {0})) }
+    ensures fits { IfOk result (λ f. MatchFound f (λ r. FitsSigned w128 (mantissa r.0)) (Unit {0}) (Unit {0})) }
 {
-    let (text, end) = number_text_at(alloc, input, at)?;
-    let number = big_decimal_of(alloc, text.as_str())?;
-    Ok((number, end))
+    let Some((text, end)) = number_text_at(alloc, input, at)? else {
+        return Ok(Found::Nothing);
+    };
+    match big_decimal_of(alloc, text.as_str())? {
+        Found::Value(number) => Ok(Found::Value((number, end))),
+        Found::Nothing => Ok(Found::Nothing),
+        Found::Beyond => Ok(Found::Beyond),
+    }
 }

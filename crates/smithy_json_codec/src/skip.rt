@@ -1,14 +1,13 @@
 //! Where a value ends that is skipped.
 
-ghost use Rattle.std.specs.Prelude.{◌≡◌, ◌≢◌, ◌<◌, ◌≤◌, ◌+◌, ◌-◌, ℕ, List, length, get_or, drop, false, IfOk, IfErr, OnErr, IsErrOf, IfSome, IfNone, MatchBool};
-ghost use Rattle.smithy_schema.specs.declared.error.SerdeError.TheVariants.{TooDeep, TooWide, NotCarried};
-ghost use Rattle.smithy_schema.specs.Reading.{IsFault, IsInvalid, IsOfReader};
+ghost use Rattle.std.specs.Prelude.{◌≡◌, ◌<◌, ◌≤◌, ◌+◌, ◌-◌, ℕ, List, length, get_or, drop, false, IfOk, OnErr, IsErrOf, IfSome, IfNone, MatchBool};
 ghost use Rattle.smithy_json.specs.Ascii.{begin_array, begin_object};
 ghost use Rattle.smithy_json_codec.specs.Deepest.{OpensTooDeep};
 ghost use Rattle.smithy_json_codec.specs.Documents.{ValueOpens};
 ghost use Rattle.smithy_json_codec.specs.Openers.{json_openers};
 ghost use Rattle.smithy_json_codec.specs.Private.NextInContainer.{IsFirstByte};
-ghost use Rattle.smithy_json_codec.specs.Private.Skipping.{SkipsTo, ScalarLies, NoValueLies, BeginsAs, GoesOnInside, IsNextStep};
+ghost use Rattle.smithy_json_codec.specs.declared.skip.SkipFault.TheVariants.{NoValue, TooDeep};
+ghost use Rattle.smithy_json_codec.specs.Private.Skipping.{skip_refusal, SkipsTo, ScalarLies, NoValueLies, BeginsAs, GoesOnInside, IsNextStep};
 
 use crate::input::Input;
 use crate::places::{InList, InObject, first_byte, next_in_list, next_in_object, null_end};
@@ -17,6 +16,27 @@ use smithy_schema::SerdeError;
 
 // The greatest depth that settings may allow.
 const MAX_ALLOWED_DEPTH: usize = 512;
+
+/// Why nothing is skipped.
+#[derive(Clone, Copy)]
+pub(crate) enum SkipFault {
+    /// No value lies there, however many containers may be open.
+    NoValue,
+    /// A container opens inside of as many as may be open.
+    TooDeep,
+}
+
+impl SkipFault {
+    /// The error of a reader that refuses for it.
+    pub(crate) fn refusal(self) -> SerdeError
+        ensures { result ≡ skip_refusal self }
+    {
+        match self {
+            SkipFault::NoValue => SerdeError::InvalidInput,
+            SkipFault::TooDeep => SerdeError::TooDeep,
+        }
+    }
+}
 
 // How a value begins: as an object or an array, with the offset of its inside, or as a scalar, with
 // its end.
@@ -132,34 +152,28 @@ fn next_step(
 
 // The end of the value that lies at the offset inside so many containers, of whatever kind. No
 // more containers may be open at once than the settings say.
-pub(crate) fn skipped_end(input: Input<'_>, at: usize, depth: usize) -> Result<usize, SerdeError>
+pub(crate) fn skipped_end(input: Input<'_>, at: usize, depth: usize) -> Result<usize, SkipFault>
     requires within { at ≤ length input.bytes.now }
     requires shallow { depth ≤ input.settings.max_depth }
     ensures ok { IfOk result (λ e. SkipsTo input.entry.settings.max_depth depth input.entry.bytes.now at e) }
-    ensures fault { IfErr result IsFault }
-    ensures reading { IfErr result IsOfReader }
-    ensures narrow { IfErr result (λ e. (e ≢ TooWide) × (e ≢ NotCarried)) }
     ensures refused { OnErr result ((e : ℕ) → SkipsTo input.entry.settings.max_depth depth input.entry.bytes.now at e → ⊥) }
-    ensures none_without_limits { IsInvalid result → (greatest e : ℕ) → SkipsTo greatest depth input.entry.bytes.now at e → ⊥ }
+    ensures none_without_limits { IsErrOf result NoValue → (greatest e : ℕ) → SkipsTo greatest depth input.entry.bytes.now at e → ⊥ }
     ensures deep { IsErrOf result TooDeep → input.entry.settings.max_depth ≤ depth + json_openers (drop at input.entry.bytes.now) }
     ensures too_deep { IsErrOf result TooDeep → OpensTooDeep input.entry.settings.max_depth depth input.entry.bytes.now at }
 {
     match beginning_of(input.bytes, at) {
         Some(Beginning::Scalar(end)) => Ok(end),
         Some(Beginning::Container(_, _)) => container_end(input, at, depth),
-        None => Err(SerdeError::InvalidInput),
+        None => Err(SkipFault::NoValue),
     }
 }
 
-fn container_end(input: Input<'_>, at: usize, depth: usize) -> Result<usize, SerdeError>
+fn container_end(input: Input<'_>, at: usize, depth: usize) -> Result<usize, SkipFault>
     requires within { at ≤ length input.bytes.now }
     requires shallow { depth ≤ input.settings.max_depth }
     ensures ok { IfOk result (λ e. SkipsTo input.entry.settings.max_depth depth input.entry.bytes.now at e) }
-    ensures fault { IfErr result IsFault }
-    ensures reading { IfErr result IsOfReader }
-    ensures narrow { IfErr result (λ e. (e ≢ TooWide) × (e ≢ NotCarried)) }
     ensures refused { OnErr result ((e : ℕ) → SkipsTo input.entry.settings.max_depth depth input.entry.bytes.now at e → ⊥) }
-    ensures none_without_limits { IsInvalid result → (greatest e : ℕ) → SkipsTo greatest depth input.entry.bytes.now at e → ⊥ }
+    ensures none_without_limits { IsErrOf result NoValue → (greatest e : ℕ) → SkipsTo greatest depth input.entry.bytes.now at e → ⊥ }
     ensures deep { IsErrOf result TooDeep → input.entry.settings.max_depth ≤ depth + json_openers (drop at input.entry.bytes.now) }
     ensures too_deep { IsErrOf result TooDeep → OpensTooDeep input.entry.settings.max_depth depth input.entry.bytes.now at }
 {
@@ -178,7 +192,7 @@ fn container_end(input: Input<'_>, at: usize, depth: usize) -> Result<usize, Ser
             open,
             depth + open,
         ) else {
-            return Err(SerdeError::InvalidInput);
+            return Err(SkipFault::NoValue);
         };
         match step {
             Step::PastScalar(end) => {
@@ -188,7 +202,7 @@ fn container_end(input: Input<'_>, at: usize, depth: usize) -> Result<usize, Ser
             }
             Step::IntoContainer(kind, inside) => {
                 if depth + open >= input.settings.max_depth {
-                    return Err(SerdeError::TooDeep);
+                    return Err(SkipFault::TooDeep);
                 }
                 is_object[open] = kind;
                 open += 1;

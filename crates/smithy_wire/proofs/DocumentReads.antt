@@ -116,7 +116,7 @@ module _ (w u : Relations) (tells_without_limits : Type 0) (max : ℕ) (site : S
         w.stands old.input site.table at (depth old) old.at (document_value (whole_document (document_view x))) e
         × w.documents old.input (depth old) old.at (document_view x) e
 
-    reads : (new : Cursor) (x : Document) (e : ℕ) → Stands x e → new ≡ passed_to old e → Says old new (Ok x)
+    pub reads : (new : Cursor) (x : Document) (e : ℕ) → Stands x e → new ≡ passed_to old e → Says old new (Ok x)
     reads new x e stands passed =
         let ends = laws.stands_within old.input site.table at (depth old) old.at (document_value (whole_document (document_view x))) e stands.0 in
         rw passed (record {

@@ -1,7 +1,7 @@
 -- What the open arrays and objects of a document hold so far, and one step of the walk through it.
-use Rattle.std.specs.Prelude.{◌≡◌, ◌⊎◌, ◌<◌, ℕ, suc, List, Bool, true, false, map, reverse, string_bytes, Option, Some, Result, Ok, Err}
+use Rattle.std.specs.Prelude.{◌≡◌, ◌⊎◌, ◌<◌, ◌≤◌, ◌+◌, ℕ, suc, List, drop, Bool, true, false, map, reverse, string_bytes, Option, Some, None, Result, Ok, Err}
 use Rattle.smithy_schema.specs.declared.error.SerdeError.{SerdeError}
-use Rattle.smithy_schema.specs.declared.error.SerdeError.TheVariants.{InvalidInput, NotCarried, NoMemory}
+use Rattle.smithy_schema.specs.declared.error.SerdeError.TheVariants as errors
 use Rattle.smithy_types.specs.Document.{Document, array, object, Documents, no_documents, item, Properties, no_properties, put_property}
 use Rattle.smithy_types.specs.DocumentView.{document_view, elements_view, properties_view}
 use Rattle.smithy_types.specs.declared.number.Number.{Number}
@@ -13,12 +13,17 @@ use Rattle.smithy_json_codec.specs.declared.documents.Open.{Open}
 use Rattle.smithy_json_codec.specs.declared.documents.Open.TheVariants.{Array, Object}
 use Rattle.smithy_json_codec.specs.declared.documents.Frame.{Frame}
 use Rattle.smithy_json_codec.specs.declared.documents.Frame.TheVariants.{InArray, BehindName}
+use Rattle.smithy_json_codec.specs.declared.documents.DocumentFault.{DocumentFault}
+use Rattle.smithy_json_codec.specs.declared.documents.DocumentFault.TheVariants.{NoDocument, TooDeep, NotCarried, NoMemory}
+use Rattle.smithy_json_codec.specs.declared.documents.scalars.BeginFault.{BeginFault}
+use Rattle.smithy_json_codec.specs.declared.documents.scalars.BeginFault.TheVariants as begin_faults
 use Rattle.smithy_json_codec.specs.declared.documents.scalars.Begun.{Begun}
 use Rattle.smithy_json_codec.specs.declared.documents.scalars.Begun.TheVariants.{Scalar, Container}
 use Rattle.smithy_json_codec.specs.declared.documents.Step.{Step}
 use Rattle.smithy_json_codec.specs.declared.documents.Step.TheVariants.{Inside, Opens, Ends}
+use Rattle.smithy_json_codec.specs.Openers.{json_openers}
 use Rattle.smithy_json_codec.specs.Standing.{Lies, IsByte, Names, TreeLies}
-use Rattle.smithy_json_codec.specs.Documents.{OtherNumberLies, NoDocumentLies, RefusesDocument}
+use Rattle.smithy_json_codec.specs.Documents.{OtherNumberLies, NoDocumentLies, NoDocumentStands, OpensDocumentTooDeep, MeetsOtherNumber}
 use Rattle.smithy_json_codec.specs.Private.NextInContainer.{ElementBegins, ClosesBy}
 use Rattle.smithy_json_codec.specs.Private.Skipping.{opening, closing}
 
@@ -88,14 +93,49 @@ pub record HeldNumberLies (input : List ℕ) (a : ℕ) (n : Number) (e : ℕ) : 
 
 -- how a value begins at a: a scalar is read, with its end, or a container opens; or no document lies there, whatever
 -- the limits, or a number that none holds
-abbrev pub BeginsDocument : List ℕ → ℕ → Result Begun SerdeError → Type 0
+abbrev pub BeginsDocument : List ℕ → ℕ → Result Begun BeginFault → Type 0
 BeginsDocument input a (Ok (Scalar d e)) = ScalarMeans input a (document_view d) e
 BeginsDocument input a (Ok (Container kind inside)) = Lies (IsByte (opening kind)) input a inside
-BeginsDocument input a (Err InvalidInput) =
+BeginsDocument input a (Err begin_faults.NoValue) =
     (limits : Option ℕ) (depth : ℕ) → NoDocumentLies limits depth input a
-BeginsDocument input a (Err NotCarried) = OtherNumberLies input a
-BeginsDocument input a (Err NoMemory) = Unit {0}
-BeginsDocument input a (Err _) = ⊥
+BeginsDocument input a (Err begin_faults.NotCarried) = OtherNumberLies input a
+BeginsDocument input a (Err begin_faults.NoMemory) = Unit {0}
+
+-- ---- refusals
+
+-- What a fault says where a document was refused at the place a, inside of `depth` containers. `Absent` says that no document
+-- is there under some limits: that holds with each fault, and with `NoDocument` also without limits. Want of memory says
+-- nothing.
+abbrev pub Refuses : (Option ℕ → Type 0) → ℕ → ℕ → List ℕ → ℕ → DocumentFault → Type 0
+Refuses Absent greatest depth input a NoDocument = Absent None × Absent (Some greatest)
+Refuses Absent greatest depth input a TooDeep =
+    OpensDocumentTooDeep greatest depth input a × (greatest ≤ depth + json_openers (drop a input))
+    × Absent (Some greatest)
+Refuses Absent greatest depth input a NotCarried = MeetsOtherNumber input a × Absent (Some greatest)
+Refuses Absent greatest depth input a NoMemory = Unit {0}
+
+-- what a fault says where a document was refused because none lies at the place a
+abbrev pub RefusesDocument : ℕ → ℕ → List ℕ → ℕ → DocumentFault → Type 0
+RefusesDocument greatest depth input a f =
+    Refuses (λ limits. NoDocumentLies limits depth input a) greatest depth input a f
+
+-- what a fault says where a document was refused because none lies at the place a with what may follow a container behind it
+abbrev pub RefusesStanding : ℕ → ℕ → List ℕ → ℕ → DocumentFault → Type 0
+RefusesStanding greatest depth input a f =
+    Refuses (λ limits. NoDocumentStands limits depth input a) greatest depth input a f
+
+-- why no document is read where none begins
+abbrev pub begin_fault : BeginFault → DocumentFault
+begin_fault begin_faults.NoValue = NoDocument
+begin_fault begin_faults.NotCarried = NotCarried
+begin_fault begin_faults.NoMemory = NoMemory
+
+-- the error of a reader that refuses where no document is read
+abbrev pub document_refusal : DocumentFault → SerdeError
+document_refusal NoDocument = errors.InvalidInput
+document_refusal TooDeep = errors.TooDeep
+document_refusal NotCarried = errors.NotCarried
+document_refusal NoMemory = errors.NoMemory
 
 -- ---- a container goes on
 
@@ -114,7 +154,7 @@ NoEntry input at entered o =
     × ((e : ℕ) → ClosesBy (closing (is_object o)) input at 2 e → ⊥)
 
 -- what is made of the value that is due at c inside so many containers
-abbrev pub TakesValue : ℕ → ℕ → List ℕ → ℕ → Waiting → Result Step SerdeError → Type 0
+abbrev pub TakesValue : ℕ → ℕ → List ℕ → ℕ → Waiting → Result Step DocumentFault → Type 0
 TakesValue greatest depth input c w (Ok (Inside more e)) =
     (depth < greatest)
     × ((d : Document Number) × ScalarMeans input c d e × (open_view more ≡ with_value w d))
@@ -124,13 +164,13 @@ TakesValue greatest depth input c w (Ok (Ends d e)) = ⊥
 TakesValue greatest depth input c w (Err e) = RefusesDocument greatest depth input c e
 
 -- at the place another entry of the container begins, and the step is what is made of the entry's value
-abbrev pub TakesEntry : ℕ → ℕ → List ℕ → ℕ → Bool → OpenContainer → Result Step SerdeError → Type 0
+abbrev pub TakesEntry : ℕ → ℕ → List ℕ → ℕ → Bool → OpenContainer → Result Step DocumentFault → Type 0
 TakesEntry greatest depth input at entered o r =
     (w : Waiting) × (c : ℕ) × EntryBegins input at entered o w c
     × TakesValue greatest depth input c w r
 
 -- the next step inside of a container that is the innermost of so many
-abbrev pub TakesStep : ℕ → ℕ → List ℕ → ℕ → Bool → OpenContainer → Result Step SerdeError → Type 0
+abbrev pub TakesStep : ℕ → ℕ → List ℕ → ℕ → Bool → OpenContainer → Result Step DocumentFault → Type 0
 TakesStep greatest depth input at entered o (Ok (Inside more e)) =
     TakesEntry greatest depth input at entered o (Ok (Inside more e))
 TakesStep greatest depth input at entered o (Ok (Opens frame kind inside)) =
@@ -139,4 +179,4 @@ TakesStep greatest depth input at entered o (Ok (Ends d e)) =
     ClosesBy (closing (is_object o)) input at 2 e × (document_view d ≡ document_of o)
 TakesStep greatest depth input at entered o (Err e) =
     TakesEntry greatest depth input at entered o (Err e)
-    ⊎ (((e ≡ InvalidInput) × NoEntry input at entered o) ⊎ (e ≡ NoMemory))
+    ⊎ (((e ≡ NoDocument) × NoEntry input at entered o) ⊎ (e ≡ NoMemory))

@@ -1,6 +1,8 @@
 -- What comes in an object behind the entries that are passed over, as private functions answer it.
 use Rattle.std.specs.Prelude.{◌≡◌, ◌⊎◌, ℕ, zero, suc, List, drop, Bool, true, Some, None, codes}
 use Rattle.std.specs.Cow.{cow_str_bytes}
+use Rattle.smithy_schema.specs.declared.error.SerdeError.{SerdeError}
+use Rattle.smithy_schema.specs.declared.error.SerdeError.TheVariants as errors
 use Rattle.smithy_json.specs.Ascii.{end_object}
 use Rattle.smithy_json.specs.Tree.{null}
 use Rattle.smithy_json.specs.Unescape.{unescaped}
@@ -8,6 +10,10 @@ use Rattle.smithy_json_codec.specs.declared.members.Next.{Next}
 use Rattle.smithy_json_codec.specs.declared.members.Next.TheVariants.{Member, End}
 use Rattle.smithy_json_codec.specs.declared.members.Entry.{Entry}
 use Rattle.smithy_json_codec.specs.declared.members.Entry.TheVariants.{Passed, Kept}
+use Rattle.smithy_json_codec.specs.declared.members.EntryFault.{EntryFault}
+use Rattle.smithy_json_codec.specs.declared.members.EntryFault.TheVariants.{NoEntry, TooDeep, NoMemory}
+use Rattle.smithy_json_codec.specs.declared.skip.SkipFault.{SkipFault}
+use Rattle.smithy_json_codec.specs.declared.skip.SkipFault.TheVariants as skip_faults
 use Rattle.smithy_json_codec.specs.Standing.{Lies, IsByte, Names, TreeLies, FollowsInside}
 use Rattle.smithy_json_codec.specs.Private.NextInContainer.{ClosesBy}
 use Rattle.smithy_json_codec.specs.Private.Skipping.{SkipsTo}
@@ -117,3 +123,16 @@ pub record NothingComes (Stays : ℕ → Type 0) (passing : Passing) (greatest d
   pub after : Bool
   pub passes : Passes passing greatest depth count input at entered place after
   pub missing : EntryMissing Stays passing depth input place after
+
+-- ---- refusals
+
+-- why no entry comes where the value of a mark isn't skipped
+abbrev pub entry_fault : SkipFault → EntryFault
+entry_fault skip_faults.NoValue = NoEntry
+entry_fault skip_faults.TooDeep = TooDeep
+
+-- the error of a reader that refuses where nothing comes
+abbrev pub entry_refusal : EntryFault → SerdeError
+entry_refusal NoEntry = errors.InvalidInput
+entry_refusal TooDeep = errors.TooDeep
+entry_refusal NoMemory = errors.NoMemory

@@ -1,11 +1,15 @@
 -- A value that is skipped, and what is open on the way through it.
 use Rattle.std.specs.Prelude.{◌≡◌, ◌≤◌, ◌+◌, ◌⊎◌, ℕ, List, Bool, true, false, Option, Some, None}
+use Rattle.smithy_schema.specs.declared.error.SerdeError.{SerdeError}
+use Rattle.smithy_schema.specs.declared.error.SerdeError.TheVariants as errors
 use Rattle.smithy_json.specs.Ascii.{begin_array, begin_object, end_array, end_object}
 use Rattle.smithy_json.specs.Tree.{Json, nesting}
 use Rattle.smithy_json_codec.specs.declared.places.InList.{InList}
 use Rattle.smithy_json_codec.specs.declared.places.InList.TheVariants.{Element, End}
 use Rattle.smithy_json_codec.specs.declared.skip.Beginning.{Beginning}
 use Rattle.smithy_json_codec.specs.declared.skip.Beginning.TheVariants.{Container, Scalar}
+use Rattle.smithy_json_codec.specs.declared.skip.SkipFault.{SkipFault}
+use Rattle.smithy_json_codec.specs.declared.skip.SkipFault.TheVariants.{NoValue, TooDeep}
 use Rattle.smithy_json_codec.specs.declared.skip.Step.{Step}
 use Rattle.smithy_json_codec.specs.declared.skip.Step.TheVariants.{PastScalar, IntoContainer, ToValue, OutOfContainer}
 use Rattle.smithy_json_codec.specs.Standing.{Lies, IsByte, Names, TreeLies}
@@ -61,3 +65,8 @@ IsNextStep input at due is_object entered depth (Some (ToValue c)) = (due ≡ fa
 IsNextStep input at due is_object entered depth (Some (OutOfContainer e)) = (due ≡ false) × ClosesBy (closing is_object) input at depth e
 IsNextStep input at due is_object entered depth None =
     ((due ≡ true) × NoValueLies input at) ⊎ ((due ≡ false) × GoesOnInside input at is_object entered depth None)
+
+-- the error of a reader that refuses where nothing is skipped
+abbrev pub skip_refusal : SkipFault → SerdeError
+skip_refusal NoValue = errors.InvalidInput
+skip_refusal TooDeep = errors.TooDeep

@@ -1,13 +1,13 @@
 //! How a document's value begins, and its scalars.
 
-ghost use Rattle.std.specs.Prelude.{◌≡◌, ◌⊎◌, ◌<◌, ◌≤◌, ◌==◌, ℕ, ℤ, List, length, slice_index, unsigned_abs, IfOk, IfErr, IsErrOf, if◌then◌else◌};
+ghost use Rattle.std.specs.Prelude.{◌≡◌, ◌⊎◌, ◌<◌, ◌≤◌, ◌==◌, ℕ, ℤ, List, length, slice_index, unsigned_abs, if◌then◌else◌};
 ghost use Rattle.std.specs.Char.{IsAsciiDigit};
-ghost use Rattle.smithy_schema.specs.Reading.{IsInvalid};
-ghost use Rattle.smithy_schema.specs.declared.error.SerdeError.TheVariants.{InvalidInput, NotCarried, NoMemory};
 ghost use Rattle.smithy_types.specs.declared.number.Number.TheVariants.{PosInt, NegInt};
 ghost use Rattle.smithy_json.specs.Ascii.{minus_sign, begin_array, begin_object};
 ghost use Rattle.smithy_json.specs.HeldNumber.{number_of};
 ghost use Rattle.smithy_json.specs.Tree.{number};
+ghost use Rattle.smithy_wire.specs.Finding.{MatchFound};
+ghost use Rattle.smithy_json_codec.specs.declared.documents.scalars.BeginFault.TheVariants.{NoMemory};
 ghost use Rattle.smithy_json_codec.specs.Documents.{OtherNumberLies};
 ghost use Rattle.smithy_json_codec.specs.Standing.{TreeLies};
 ghost use Rattle.smithy_json_codec.specs.Private.NextInContainer.{IsFirstByte};
@@ -19,9 +19,9 @@ use crate::places::{first_byte, null_end};
 use crate::texts::text_at;
 use crate::values::{boolean_at, long_at};
 use smithy_json::{number_of_long, number_of_text};
-use smithy_schema::SerdeError;
 use smithy_types::{Document, Number};
-use std::alloc::Global;
+use smithy_wire::Found;
+use std::alloc::{AllocError, Global};
 
 // How a value begins: as a scalar that is read, with its end, or as an object or an array, with the
 // offset of its inside.
@@ -31,70 +31,85 @@ pub(crate) enum Begun {
     Container(bool, usize),
 }
 
+/// Why no value of a document begins.
+#[derive(Clone, Copy)]
+pub(crate) enum BeginFault {
+    /// No document begins there, whatever the limits.
+    NoValue,
+    /// A number lies there that no document holds.
+    NotCarried,
+    /// An allocation was refused.
+    NoMemory,
+}
+
+impl From<AllocError> for BeginFault {
+    ghost from_gives = { λ _ fault. fault ≡ NoMemory };
+
+    fn from(_error: AllocError) -> BeginFault {
+        BeginFault::NoMemory
+    }
+}
+
 // The number at the offset, with its end. It stays a call, so that the common case is short.
 #[inline(never)]
-fn large_number_at(input: &[u8], at: usize) -> Result<(Number, usize), SerdeError>
+fn large_number_at(input: &[u8], at: usize) -> Found<(Number, usize)>
     requires { at ≤ length input.now }
-    ensures found { IfOk result (λ r. HeldNumberLies input.now at r.0 r.1) }
-    ensures none { IsInvalid result → (raw : List ℕ) (e : ℕ) → TreeLies 1 (number raw) input.now at e → ⊥ }
-    ensures other { IsErrOf result NotCarried → OtherNumberLies input.now at }
-    ensures kind { IfErr result (λ e. (e ≡ InvalidInput) ⊎ (e ≡ NotCarried)) }
+    ensures { MatchFound result (λ r. HeldNumberLies input.now at r.0 r.1) ((raw : List ℕ) (e : ℕ) → TreeLies 1 (number raw) input.now at e → ⊥) (OtherNumberLies input.now at) }
 {
     let Some((text, end)) = number_at(input, at) else {
-        return Err(SerdeError::InvalidInput);
+        return Found::Nothing;
     };
     match number_of_text(text) {
-        Some(number) => Ok((number, end)),
-        None => Err(SerdeError::NotCarried),
+        Some(number) => Found::Value((number, end)),
+        None => Found::Beyond,
     }
 }
 
 // The number at the offset, which begins with this byte, with its end.
 #[inline(always)]
-fn held_number_at(input: &[u8], at: usize, first: u8) -> Result<(Number, usize), SerdeError>
+fn held_number_at(input: &[u8], at: usize, first: u8) -> Found<(Number, usize)>
     requires first { IsFirstByte input.now at first at }
-    ensures found { IfOk result (λ r. HeldNumberLies input.now at r.0 r.1) }
-    ensures none { IsInvalid result → (raw : List ℕ) (e : ℕ) → TreeLies 1 (number raw) input.now at e → ⊥ }
-    ensures other { IsErrOf result NotCarried → OtherNumberLies input.now at }
-    ensures kind { IfErr result (λ e. (e ≡ InvalidInput) ⊎ (e ≡ NotCarried)) }
+    ensures { MatchFound result (λ r. HeldNumberLies input.now at r.0 r.1) ((raw : List ℕ) (e : ℕ) → TreeLies 1 (number raw) input.now at e → ⊥) (OtherNumberLies input.now at) }
 {
     match long_at(input, at) {
-        Some((value, end)) => Ok((number_of_long(first == b'-', value), end)),
+        Some((value, end)) => Found::Value((number_of_long(first == b'-', value), end)),
         None => large_number_at(input, at),
     }
 }
 
-fn text_begun(alloc: Global, input: &[u8], at: usize) -> Result<Begun, SerdeError>
+fn text_begun(alloc: Global, input: &[u8], at: usize) -> Result<Begun, BeginFault>
     requires { IsFirstByte input.now at 0x22 at }
     ensures { BeginsDocument input.now at result }
 {
-    let (text, end) = text_at(alloc, input, at)?;
+    let Some((text, end)) = text_at(alloc, input, at)? else {
+        return Err(BeginFault::NoValue);
+    };
     Ok(Begun::Scalar(Document::String(text), end))
 }
 
-fn null_begun(input: &[u8], at: usize) -> Result<Begun, SerdeError>
+fn null_begun(input: &[u8], at: usize) -> Result<Begun, BeginFault>
     requires { IsFirstByte input.now at 0x6e at }
     ensures { BeginsDocument input.now at result }
 {
     match null_end(input, at) {
         Some(end) => Ok(Begun::Scalar(Document::Null, end)),
-        None => Err(SerdeError::InvalidInput),
+        None => Err(BeginFault::NoValue),
     }
 }
 
-fn boolean_begun(input: &[u8], at: usize, first: u8) -> Result<Begun, SerdeError>
+fn boolean_begun(input: &[u8], at: usize, first: u8) -> Result<Begun, BeginFault>
     requires first { IsFirstByte input.now at first at }
     requires letter { (first ≡ 0x74) ⊎ (first ≡ 0x66) }
     ensures { BeginsDocument input.now at result }
 {
     match boolean_at(input, at) {
         Some((value, end)) => Ok(Begun::Scalar(Document::Bool(value), end)),
-        None => Err(SerdeError::InvalidInput),
+        None => Err(BeginFault::NoValue),
     }
 }
 
 #[inline(always)]
-fn number_begun(input: &[u8], at: usize, first: u8) -> Result<Begun, SerdeError>
+fn number_begun(input: &[u8], at: usize, first: u8) -> Result<Begun, BeginFault>
     requires first { IsFirstByte input.now at first at }
     requires no_string { first ≡ 0x22 → ⊥ }
     requires no_null { first ≡ 0x6e → ⊥ }
@@ -104,13 +119,16 @@ fn number_begun(input: &[u8], at: usize, first: u8) -> Result<Begun, SerdeError>
     requires no_object { first ≡ begin_object → ⊥ }
     ensures { BeginsDocument input.now at result }
 {
-    let (number, end) = held_number_at(input, at, first)?;
-    Ok(Begun::Scalar(Document::Number(number), end))
+    match held_number_at(input, at, first) {
+        Found::Value((number, end)) => Ok(Begun::Scalar(Document::Number(number), end)),
+        Found::Nothing => Err(BeginFault::NoValue),
+        Found::Beyond => Err(BeginFault::NotCarried),
+    }
 }
 
 // The scalar at the offset, which begins with this byte.
 #[inline(always)]
-fn scalar_begun(alloc: Global, input: &[u8], at: usize, first: u8) -> Result<Begun, SerdeError>
+fn scalar_begun(alloc: Global, input: &[u8], at: usize, first: u8) -> Result<Begun, BeginFault>
     requires first { IsFirstByte input.now at first at }
     requires no_array { first ≡ begin_array → ⊥ }
     requires no_object { first ≡ begin_object → ⊥ }
@@ -130,12 +148,12 @@ fn scalar_begun(alloc: Global, input: &[u8], at: usize, first: u8) -> Result<Beg
 
 /// How the value begins that comes first behind blanks.
 #[inline(always)]
-pub(crate) fn document_begun(alloc: Global, input: &[u8], at: usize) -> Result<Begun, SerdeError>
+pub(crate) fn document_begun(alloc: Global, input: &[u8], at: usize) -> Result<Begun, BeginFault>
     requires { at ≤ length input.now }
     ensures { BeginsDocument input.now at result }
 {
     let Some((first, start)) = first_byte(input, at) else {
-        return Err(SerdeError::InvalidInput);
+        return Err(BeginFault::NoValue);
     };
     if first == b'[' {
         return Ok(Begun::Container(false, start + 1));

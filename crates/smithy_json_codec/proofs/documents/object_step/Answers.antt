@@ -1,26 +1,23 @@
-use Rattle.std.proofs.Common.{String, Global, string_bytes, refl}
-use Rattle.std.proofs.lemmas.Result.{err_from_is_err_and}
+use Rattle.std.proofs.Common.{string_bytes, option_map, refl, ap, ◌∙◌}
 use Rattle.smithy_types.specs.DocumentView.{properties_view}
 use Rattle.smithy_json_codec.specs.Private.OpenDocuments.{open_object, waiting_object}
-use Rattle.smithy_json_codec.proofs.DocumentScalars.{is_invalid}
-use Rattle.smithy_json_codec.proofs.DocumentSteps.{entry_taken, no_member_step, name_refused}
+use Rattle.smithy_json_codec.proofs.DocumentSteps.{entry_taken, no_member_step, nameless_step}
 use Rattle.smithy_json_codec.proofs.documents.object_step.Goals as goal
 
-pub returns-in_ok-key-in-Some-Member : goal.returns-in_ok-key-in-Some-Member
-returns-in_ok-key-in-Some-Member c =
+pub returns-in-Some : goal.returns-in-Some
+returns-in-Some c =
     let stands = rw c.in-Some-Member.field-0-is at c.in-Some-Member.ensures in
     let ps = properties_view c.args.properties.entries in
-    let name = string_bytes c.in_ok-key-in-Some-Member.key in
+    let name = string_bytes c.in-Some.key in
+    let told = c.in_ok-key-in-Some-Member.ensures ∙ ap (option_map string_bytes) c.in-Some.is in
     entry_taken c.args.input.settings.max_depth c.args.depth c.args.input.bytes.now c.args.at c.args.entered (open_object ps) c.value_step.result
-    (waiting_object ps name, c.in-Some-Member.name.end, (c.in-Some-Member.name.raw.now, name, refl, stands.names, c.in_ok-key-in-Some-Member.ensures.ok), c.value_step.ensures)
+    (waiting_object ps name, c.in-Some-Member.name.end, (c.in-Some-Member.name.raw.now, name, refl, stands.names, told), c.value_step.ensures)
 
-pub returns-in_err-key-in-Some-Member : goal.returns-in_err-key-in-Some-Member
-returns-in_err-key-in-Some-Member c =
-    let p = err_from_is_err_and c.from_residual.result c.from_residual.ensures.1 in
+pub returns-in_default : goal.returns-in_default
+returns-in_default c =
     let stands = rw c.in-Some-Member.field-0-is at c.in-Some-Member.ensures in
-    rw (p.1, p.2) (name_refused c.args.input.settings.max_depth c.args.depth c.args.input.bytes.now c.args.at c.args.entered (properties_view c.args.properties.entries)
-    c.in-Some-Member.name.raw.now c.in-Some-Member.name.end c.in_err-key-in-Some-Member.field-0.0 stands.names c.in_err-key-in-Some-Member.ensures.kind
-    (λ is. c.in_err-key-in-Some-Member.ensures.none (is_invalid (String Global) c.in_err-key-in-Some-Member.field-0.0 is)))
+    nameless_step c.args.input.settings.max_depth c.args.depth c.args.input.bytes.now c.args.at c.args.entered (properties_view c.args.properties.entries)
+    c.in-Some-Member.name.raw.now c.in-Some-Member.name.end stands.names (c.in_ok-key-in-Some-Member.ensures ∙ ap (option_map string_bytes) c.in_default.is)
 
 pub returns-in-None : goal.returns-in-None
 returns-in-None c =

@@ -1,16 +1,16 @@
-use Rattle.std.proofs.Common.{◌≡◌, Some, Err, true, false, sym, ap, ◌∙◌, arith}
+use Rattle.std.proofs.Common.{◌≡◌, Some, Err, true, false, sym, ap, ◌∙◌, inl, inr, option_map, arith}
 use Rattle.std.proofs.lemmas.Grind.{common_steps}
 use Rattle.std.specs.Cow.{cow_str_bytes}
 use Rattle.std.proofs.lemmas.Result.{err_from_is_err_and}
 use Rattle.smithy_shapes.specs.Lemmas.Options.{same_some}
-use Rattle.smithy_schema.specs.declared.error.SerdeError.TheVariants.{TooDeep}
+use Rattle.smithy_json_codec.specs.declared.members.EntryFault.TheVariants.{NoEntry, TooDeep}
 use Rattle.smithy_shapes.specs.Site.{site_of}
 use Rattle.smithy_json_codec.specs.Codec.{held_settings}
 use Rattle.smithy_json_codec.specs.Private.MemberSteps.{passing, passes_null}
 use Rattle.smithy_json_codec.specs.Private.PassedEntries.{type_name, IsNoMark, NoSkip, NoSkipWithin}
 use Rattle.smithy_json_codec.proofs.DeserializerLemmas.{error_of}
 use Rattle.smithy_json_codec.proofs.MemberStepLemmas.{no_mark_kept}
-use Rattle.smithy_json_codec.proofs.PassedEntryLemmas.{null_passes, null_kept, mark_passes, mark_stays, reaches_from_name, too_deep_from_name}
+use Rattle.smithy_json_codec.proofs.PassedEntryLemmas.{unskipped_mark, too_deep_mark, null_passes, null_kept, mark_passes, mark_stays, reaches_from_name, too_deep_from_name}
 use Rattle.smithy_json_codec.proofs.members.entry_at.Goals as goal
 use Rattle.smithy_json_codec.proofs.members.entry_at.Goals.{then-not-is_type_name-via-then-not-is_type_name, then-not-is_type_name-via-else-not-is_type_name+then-not-passes_marks}
 
@@ -21,42 +21,45 @@ text_of-requires c =
 pub returns-then-passes_null-clause-ok : goal.returns-then-passes_null-clause-ok
 returns-then-passes_null-clause-ok c =
     let stands = rw c.in-Some-Member.field-0-is at c.in-Some-Member.ensures in
+    let told = c.in_ok-text.ensures.text ∙ ap (option_map cow_str_bytes) c.in-Some.is in
     let site = site_of c.args.schema.now in
     let passes = ap (passes_null (held_settings c.args.input.settings) site) (sym c.as_str.ensures.value) ∙ (sym c.passes_null.ensures ∙ c.if-passes_null.true) in
     null_passes (passing (held_settings c.args.input.settings) site) c.args.input.settings.max_depth c.args.depth c.args.input.bytes.now c.args.at c.args.entered c.in-Some-Member.name.raw.now c.in-Some-Member.name.end stands.names
-    _ c.in_ok-text.ensures.ok passes c.in-Some.end c.in-Some.ensures.found
+    _ told passes c.in-Some-null_end.end c.in-Some-null_end.ensures.found
 
-pub returns-in-Some-clause-ok : goal.returns-in-Some-clause-ok
-returns-in-Some-clause-ok c =
+pub returns-in-Some-null_end-clause-ok : goal.returns-in-Some-null_end-clause-ok
+returns-in-Some-null_end-clause-ok c =
     let stands = rw c.in-Some-Member.field-0-is at c.in-Some-Member.ensures in
+    let told = c.in_ok-text.ensures.text ∙ ap (option_map cow_str_bytes) c.in-Some.is in
     let site = site_of c.args.schema.now in
     let raw = c.in-Some-Member.name.raw.now in
     let stays = ap (passes_null (held_settings c.args.input.settings) site) (sym c.as_str.ensures.value) ∙ (sym c.passes_null.ensures ∙ c.if-passes_null.false) in (
       raw,
-      c.in_ok-text.ensures.ok,
+      told,
       stands.names,
-      no_mark_kept (held_settings c.args.input.settings) site raw _ c.in_ok-text.ensures.ok stays,
-      null_kept (passing (held_settings c.args.input.settings) site) c.args.input.settings.max_depth c.args.depth c.args.input.bytes.now c.args.at c.args.entered raw c.in-Some-Member.name.end stands.names _ c.in_ok-text.ensures.ok stays,
+      no_mark_kept (held_settings c.args.input.settings) site raw _ told stays,
+      null_kept (passing (held_settings c.args.input.settings) site) c.args.input.settings.max_depth c.args.depth c.args.input.bytes.now c.args.at c.args.entered raw c.in-Some-Member.name.end stands.names _ told stays,
     )
 
 pub returns-then-not-is_type_name-clause-ok : goal.returns-then-not-is_type_name-clause-ok
 returns-then-not-is_type_name-clause-ok c =
     let stands = rw c.in-Some-Member.field-0-is at c.in-Some-Member.ensures in
+    let told = c.in_ok-text.ensures.text ∙ ap (option_map cow_str_bytes) c.in-Some.is in
     let marks = (passing (held_settings c.args.input.settings) (site_of c.args.schema.now)) in
     let other : IsNoMark marks c.in-Some-Member.name.raw.now = elim c.then-not-is_type_name.branch [
       | then-not-is_type_name-via-then-not-is_type_name w ↦ λ passes is.
-          let same = same_some (cow_str_bytes c.in_ok-text.text) type_name (sym c.in_ok-text.ensures.ok ∙ is) in
+          let same = same_some (cow_str_bytes c.in-Some.text) type_name (sym told ∙ is) in
           let clash : true ≡ false = sym (c.is_type_name.ensures.1 (c.as_str-2.ensures.value ∙ same)) ∙ w.if-not-is_type_name.true in
           cc
       | then-not-is_type_name-via-else-not-is_type_name+then-not-passes_marks w ↦ λ passes is.
           let clash : true ≡ false = sym passes ∙ sym w.passes_marks.ensures ∙ w.if-not-passes_marks.true in cc
     ] in
-    (c.in-Some-Member.name.raw.now, c.in_ok-text.ensures.ok, stands.names, other, λ e lies passes. c.in_default.ensures.none e lies)
+    (c.in-Some-Member.name.raw.now, told, stands.names, other, λ e lies passes. c.in_default-null_end.ensures.none e lies)
 
 pub returns-clause-ok : goal.returns-clause-ok
 returns-clause-ok c =
     let stands = rw c.in-Some-Member.field-0-is at c.in-Some-Member.ensures in
-    let is = c.in_ok-text.ensures.ok ∙ ap Some (sym c.as_str-2.ensures.value ∙ c.is_type_name.ensures.0 c.if-not-is_type_name.false) in
+    let is = c.in_ok-text.ensures.text ∙ ap (option_map cow_str_bytes) c.in-Some.is ∙ ap Some (sym c.as_str-2.ensures.value ∙ c.is_type_name.ensures.0 c.if-not-is_type_name.false) in
     mark_passes (passing (held_settings c.args.input.settings) (site_of c.args.schema.now)) c.args.input.settings.max_depth c.args.depth c.args.input.bytes.now c.args.at c.args.entered c.in-Some-Member.name.raw.now c.in-Some-Member.name.end stands.names
     (sym c.passes_marks.ensures ∙ c.if-not-passes_marks.false) is c.in_ok-end.end c.in_ok-end.ensures.ok
 
@@ -65,18 +68,18 @@ returns-in_err-end-clause-refused c =
     let p = err_from_is_err_and c.from_residual-in_err-end.result c.from_residual-in_err-end.ensures.1 in
     rw (p.1, p.2) (λ fault.
     let stands = rw c.in-Some-Member.field-0-is at c.in-Some-Member.ensures in
-    let is = c.in_ok-text.ensures.ok ∙ ap Some (sym c.as_str-2.ensures.value ∙ c.is_type_name.ensures.0 c.if-not-is_type_name.false) in
+    let is = c.in_ok-text.ensures.text ∙ ap (option_map cow_str_bytes) c.in-Some.is ∙ ap Some (sym c.as_str-2.ensures.value ∙ c.is_type_name.ensures.0 c.if-not-is_type_name.false) in
     mark_stays (passing (held_settings c.args.input.settings) (site_of c.args.schema.now)) c.args.input.settings.max_depth c.args.depth c.args.input.bytes.now c.args.at c.args.entered c.in-Some-Member.name.raw.now c.in-Some-Member.name.end stands.names
-    (sym c.passes_marks.ensures ∙ c.if-not-passes_marks.false) is (λ e lies passes. c.in_default.ensures.none e lies) (NoSkipWithin c.args.input.settings.max_depth c.args.depth c.args.input.bytes.now) c.in_err-end.ensures.refused)
+    (sym c.passes_marks.ensures ∙ c.if-not-passes_marks.false) is (λ e lies passes. c.in_default-null_end.ensures.none e lies) (NoSkipWithin c.args.input.settings.max_depth c.args.depth c.args.input.bytes.now) c.in_err-end.ensures.refused)
 
 pub returns-in_err-end-clause-none_without_limits : goal.returns-in_err-end-clause-none_without_limits
 returns-in_err-end-clause-none_without_limits c =
     let p = err_from_is_err_and c.from_residual-in_err-end.result c.from_residual-in_err-end.ensures.1 in
     rw (p.1, p.2) (λ invalid.
     let stands = rw c.in-Some-Member.field-0-is at c.in-Some-Member.ensures in
-    let is = c.in_ok-text.ensures.ok ∙ ap Some (sym c.as_str-2.ensures.value ∙ c.is_type_name.ensures.0 c.if-not-is_type_name.false) in
+    let is = c.in_ok-text.ensures.text ∙ ap (option_map cow_str_bytes) c.in-Some.is ∙ ap Some (sym c.as_str-2.ensures.value ∙ c.is_type_name.ensures.0 c.if-not-is_type_name.false) in
     mark_stays (passing (held_settings c.args.input.settings) (site_of c.args.schema.now)) c.args.input.settings.max_depth c.args.depth c.args.input.bytes.now c.args.at c.args.entered c.in-Some-Member.name.raw.now c.in-Some-Member.name.end stands.names
-    (sym c.passes_marks.ensures ∙ c.if-not-passes_marks.false) is (λ e lies passes. c.in_default.ensures.none e lies) (NoSkip c.args.depth c.args.input.bytes.now) (c.in_err-end.ensures.none_without_limits invalid))
+    (sym c.passes_marks.ensures ∙ c.if-not-passes_marks.false) is (λ e lies passes. c.in_default-null_end.ensures.none e lies) (NoSkip c.args.depth c.args.input.bytes.now) (c.in_err-end.ensures.none_without_limits (ap Err (unskipped_mark c.in_err-end.field-0.0 (error_of _ NoEntry invalid)))))
 
 pub returns-in_err-end-clause-deep : goal.returns-in_err-end-clause-deep
 returns-in_err-end-clause-deep c =
@@ -84,7 +87,7 @@ returns-in_err-end-clause-deep c =
     rw (p.1, p.2) (λ deep.
     let stands = rw c.in-Some-Member.field-0-is at c.in-Some-Member.ensures in
     reaches_from_name (passing (held_settings c.args.input.settings) (site_of c.args.schema.now)) c.args.input.settings.max_depth c.args.depth c.args.input.bytes.now c.args.at c.args.entered c.in-Some-Member.name.raw.now c.in-Some-Member.name.end stands.names
-    c.args.input.settings.max_depth (c.in_err-end.ensures.deep (ap Err (error_of c.in_err-end.field-0.0 TooDeep deep))))
+    c.args.input.settings.max_depth (c.in_err-end.ensures.deep (ap Err (too_deep_mark c.in_err-end.field-0.0 (error_of _ TooDeep deep)))))
 
 pub returns-in_err-end-clause-too_deep : goal.returns-in_err-end-clause-too_deep
 returns-in_err-end-clause-too_deep c =
@@ -92,7 +95,17 @@ returns-in_err-end-clause-too_deep c =
     rw (p.1, p.2) (λ deep.
     let stands = rw c.in-Some-Member.field-0-is at c.in-Some-Member.ensures in
     too_deep_from_name (passing (held_settings c.args.input.settings) (site_of c.args.schema.now)) c.args.input.settings.max_depth c.args.depth c.args.input.bytes.now c.args.at c.args.entered c.in-Some-Member.name.raw.now c.in-Some-Member.name.end stands.names
-    c.args.input.settings.max_depth (c.in_err-end.ensures.too_deep (ap Err (error_of c.in_err-end.field-0.0 TooDeep deep))))
+    c.args.input.settings.max_depth (c.in_err-end.ensures.too_deep (ap Err (too_deep_mark c.in_err-end.field-0.0 (error_of _ TooDeep deep)))))
+
+pub returns-in_default-clause-refused : goal.returns-in_default-clause-refused
+returns-in_default-clause-refused c = λ other.
+    let stands = rw c.in-Some-Member.field-0-is at c.in-Some-Member.ensures in
+    inr (inl (c.in-Some-Member.name.raw.now, c.in-Some-Member.name.end, stands.names, c.in_ok-text.ensures.text ∙ ap (option_map cow_str_bytes) c.in_default.is))
+
+pub returns-in_default-clause-none_without_limits : goal.returns-in_default-clause-none_without_limits
+returns-in_default-clause-none_without_limits c = λ invalid.
+    let stands = rw c.in-Some-Member.field-0-is at c.in-Some-Member.ensures in
+    inr (inl (c.in-Some-Member.name.raw.now, c.in-Some-Member.name.end, stands.names, c.in_ok-text.ensures.text ∙ ap (option_map cow_str_bytes) c.in_default.is))
 
 pub next_in_object-requires : goal.next_in_object-requires
 next_in_object-requires c = grind (arith, common_steps)

@@ -1,6 +1,6 @@
 use Rattle.std.proofs.Common.{Err, ap, arith}
 use Rattle.std.proofs.lemmas.Result.{err_from_is_err_and}
-use Rattle.smithy_schema.specs.declared.error.SerdeError.TheVariants.{TooDeep}
+use Rattle.smithy_json_codec.specs.declared.members.EntryFault.TheVariants.{NoEntry, TooDeep}
 use Rattle.smithy_json_codec.specs.Deepest.{OpensTooDeep}
 use Rattle.smithy_shapes.specs.Site.{site_of}
 use Rattle.smithy_json_codec.specs.Codec.{held_settings}
@@ -46,7 +46,7 @@ returns-in_err-end-clause-none_without_limits c =
     rw (p.1, p.2) (λ invalid.
     let passes = c.loop-end.invariant.passes in
     nothing_kept (passing (held_settings c.args.input.settings) (site_of c.args.schema.now)) c.args.input.settings.max_depth c.args.depth c.args.input.bytes.now c.args.at c.args.entered passes.0 c.loop-end.at c.loop-end.entered passes.1
-    (NoSkip c.args.depth c.args.input.bytes.now) (c.in_err-end.ensures.none_without_limits invalid))
+    (NoSkip c.args.depth c.args.input.bytes.now) (c.in_err-end.ensures.none_without_limits (ap Err (error_of c.in_err-end.field-0.0 NoEntry invalid))))
 
 pub returns-in_err-end-clause-deep : goal.returns-in_err-end-clause-deep
 returns-in_err-end-clause-deep c =

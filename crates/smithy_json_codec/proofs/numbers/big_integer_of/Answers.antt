@@ -8,14 +8,14 @@ use Rattle.smithy_json_codec.specs.Scalar.{big_number}
 use Rattle.smithy_json_codec.proofs.NumberTexts.{integer_means, integer_exceeds}
 use Rattle.smithy_json_codec.proofs.numbers.big_integer_of.Goals as goal
 
-pub returns-in-Ok-to_i128-clause-ok : goal.returns-in-Ok-to_i128-clause-ok
-returns-in-Ok-to_i128-clause-ok c = subst (λ t. big_number scalars.BigInteger t ≡ means (scalar_value (whole (number c.in-Ok.number)))) c.in-Ok.ensures.ok
+pub returns-in-Ok-to_i128-clause-answer : goal.returns-in-Ok-to_i128-clause-answer
+returns-in-Ok-to_i128-clause-answer c = subst (λ t. big_number scalars.BigInteger t ≡ means (scalar_value (whole (number c.in-Ok.number)))) c.in-Ok.ensures.ok
     (integer_means c.in-Ok.number (number c.in-Ok.number) c.in-Ok-to_i128.ensures.form c.in-Ok-to_i128.ensures.value.0)
 
-pub returns-in-Err-to_i128-clause-wide : goal.returns-in-Err-to_i128-clause-wide
-returns-in-Err-to_i128-clause-wide c = λ is.
+pub returns-in-Err-to_i128-clause-answer : goal.returns-in-Err-to_i128-clause-answer
+returns-in-Err-to_i128-clause-answer c =
     subst (λ t. big_number scalars.BigInteger t ≡ wide) c.in-Ok.ensures.ok
     (integer_exceeds c.in-Ok.number (number c.in-Ok.number) c.in-Err-to_i128.ensures.form c.in-Err-to_i128.ensures.value)
 
-pub returns-in-Err-InvalidFormat-clause-none : goal.returns-in-Err-InvalidFormat-clause-none
-returns-in-Err-InvalidFormat-clause-none c = λ invalid. ap big_integer (c.in-Err-InvalidFormat.ensures.err c.in-Err-InvalidFormat.field-0-is)
+pub returns-in-Err-InvalidFormat-clause-answer : goal.returns-in-Err-InvalidFormat-clause-answer
+returns-in-Err-InvalidFormat-clause-answer c = ap big_integer (c.in-Err-InvalidFormat.ensures.err c.in-Err-InvalidFormat.field-0-is)

@@ -12,6 +12,6 @@ returns-clause-read c =
     let was = was_ready c.args.self.now.walk.failed c.args.self.now.walk.due (sym c.in_ok-ready.was ∙ c.ready.ensures.answer) in
     let within : c.args.self.now.walk.position ≤ length c.args.self.now.walk.input.now = search rules in
     let found = rw same at c.bytes_piece_at-found.ensures in
-    let take = rw same at c.take_result.ensures in
-    reads_bytes (reading_settings_of c.args.self.now) (cursor_of c.args.self.now) (site_of c.args._schema.now) was.0 was.1 within cow_slice_items _ c.bytes_piece_at-found.result c.take_result.result
-    found.found found.kind found.none take.ok take.some take.err take.error
+    let taken = rw same at c.take_found.ensures.taken in
+    reads_bytes (reading_settings_of c.args.self.now) (cursor_of c.args.self.now) (site_of c.args._schema.now) was.0 was.1 within cow_slice_items _ c.bytes_piece_at-found.result c.take_found.result
+    found.found taken

@@ -1,13 +1,14 @@
 use Rattle.std.proofs.Common.{◌≡◌, Err, false, true, arith, sym, ap, ◌∙◌, refl, rules}
 use Rattle.std.proofs.lemmas.Grind.{common_steps}
 use Rattle.smithy_schema.specs.declared.error.SerdeError.TheVariants.{TooDeep}
+use Rattle.smithy_schema.specs.declared.read.Step.{Step}
 use Rattle.smithy_schema.specs.Reading.{depth}
 use Rattle.smithy_shapes.specs.Site.{site_of, kind_at}
 use Rattle.smithy_json_codec.specs.Cursor.{cursor_of, reading_settings_of}
 use Rattle.smithy_json_codec.specs.Settings.{without_limits}
 use Rattle.smithy_json_codec.specs.Private.MemberSteps.{StepsTo, passing}
-use Rattle.smithy_json_codec.specs.Private.PassedEntries.{NoSkip, NoSkipWithin}
-use Rattle.smithy_json_codec.proofs.DeserializerLemmas.{error_of, goes_ahead, refusal_conducts}
+use Rattle.smithy_json_codec.specs.Private.PassedEntries.{NoSkip, NoSkipWithin, entry_refusal}
+use Rattle.smithy_json_codec.proofs.DeserializerLemmas.{error_of, goes_ahead, refusal_conducts, entry_reads, entry_narrow, entry_refused, entry_invalid, entry_deep}
 use Rattle.smithy_json_codec.proofs.PassedEntryLemmas.{value_place, end_place}
 use Rattle.smithy_json_codec.proofs.MemberStepLemmas.{mark_is_unnamed, null_is_unkept, skips_within, skips_lifted, unskipped_within, unskipped_lifted, steps_to, leaves_at, bracket_closes, cannot_step}
 use Rattle.smithy_wire.specs.Walking.{cursor_of as walk_cursor, gone_on_to}
@@ -52,15 +53,19 @@ returns-in-Ok-End-clause-ok c =
 
 pub returns-in-Err-clause-conduct : goal.returns-in-Err-clause-conduct
 returns-in-Err-clause-conduct c =
-    refusal_conducts (cursor_of c.args.self.now) (walk_cursor c.refuse.new.self) c.refuse.result c.in-Err.error c.refuse.ensures.error c.requires.sound
-    c.in-Err.ensures.sound c.in-Err.ensures.reading (search rules) c.refuse.ensures.stays
+    let reads = entry_reads c.in-Err.fault in
+    refusal_conducts (cursor_of c.args.self.now) (walk_cursor c.refuse.new.self) c.refuse.result (entry_refusal c.in-Err.fault) (c.refuse.ensures.error ∙ c.refusal.ensures) c.requires.sound
+    reads.0 reads.1 (search rules) c.refuse.ensures.stays
+
+pub returns-in-Err-clause-narrow : goal.returns-in-Err-clause-narrow
+returns-in-Err-clause-narrow c = rw (c.refuse.ensures.error ∙ c.refusal.ensures) (entry_narrow _ c.in-Err.fault)
 
 pub returns-in-Err-clause-refused : goal.returns-in-Err-clause-refused
 returns-in-Err-clause-refused c = λ fault.
     let o = reading_settings_of c.args.self.now in
     let old = cursor_of c.args.self.now in
     let held = c.args.self.now.settings.max_depth in
-    let nothing = rw (c.input.ensures, c.depth.ensures) at (c.in-Err.ensures.refused (rw c.refuse.ensures.error at fault)) in
+    let nothing = rw (c.input.ensures, c.depth.ensures) at (c.in-Err.ensures.refused (entry_refused c.in-Err.fault (rw (c.refuse.ensures.error ∙ c.refusal.ensures) at fault))) in
     cannot_step o old (walk_cursor c.refuse.new.self) c.args.at (site_of c.args.schema.now) c.requires.place (passing (reading_settings_of c.args.self.now) (site_of c.args.schema.now)) (mark_is_unnamed (reading_settings_of c.args.self.now) (kind_at (site_of c.args.schema.now)) c.requires.place)
     (null_is_unkept (reading_settings_of c.args.self.now) (site_of c.args.schema.now) c.requires.place)
     held (skips_within o old.input (depth old) held refl refl)
@@ -75,7 +80,7 @@ returns-in-Err-clause-none_without_limits c = λ invalid.
     let o = reading_settings_of c.args.self.now in
     let old = cursor_of c.args.self.now in
     let held = c.args.self.now.settings.max_depth in
-    let nothing = rw (c.input.ensures, c.depth.ensures) at (c.in-Err.ensures.none_without_limits (rw c.refuse.ensures.error at invalid)) in
+    let nothing = rw (c.input.ensures, c.depth.ensures) at (c.in-Err.ensures.none_without_limits (ap Err (entry_invalid Step c.in-Err.fault (rw (c.refuse.ensures.error ∙ c.refusal.ensures) at invalid)))) in
     cannot_step (without_limits o) old (walk_cursor c.refuse.new.self) c.args.at (site_of c.args.schema.now) c.requires.place (passing (reading_settings_of c.args.self.now) (site_of c.args.schema.now)) (mark_is_unnamed (reading_settings_of c.args.self.now) (kind_at (site_of c.args.schema.now)) c.requires.place)
     (null_is_unkept (reading_settings_of c.args.self.now) (site_of c.args.schema.now) c.requires.place)
     held (skips_lifted o old.input (depth old) held)
@@ -87,11 +92,11 @@ returns-in-Err-clause-none_without_limits c = λ invalid.
 
 pub returns-in-Err-clause-deep : goal.returns-in-Err-clause-deep
 returns-in-Err-clause-deep c = λ deep.
-    rw (c.input.ensures, c.depth.ensures) at (c.in-Err.ensures.deep (ap Err (sym c.refuse.ensures.error ∙ error_of c.refuse.result TooDeep deep)))
+    rw (c.input.ensures, c.depth.ensures) at (c.in-Err.ensures.deep (ap Err (entry_deep c.in-Err.fault (sym (c.refuse.ensures.error ∙ c.refusal.ensures) ∙ error_of c.refuse.result TooDeep deep))))
 
 pub returns-in-Err-clause-too_deep : goal.returns-in-Err-clause-too_deep
 returns-in-Err-clause-too_deep c = λ deep.
-    rw (c.input.ensures, c.depth.ensures) at (c.in-Err.ensures.too_deep (ap Err (sym c.refuse.ensures.error ∙ error_of c.refuse.result TooDeep deep)))
+    rw (c.input.ensures, c.depth.ensures) at (c.in-Err.ensures.too_deep (ap Err (entry_deep c.in-Err.fault (sym (c.refuse.ensures.error ∙ c.refusal.ensures) ∙ error_of c.refuse.result TooDeep deep))))
 
 pub next_present-requires-clause-shallow : goal.next_present-requires-clause-shallow
 next_present-requires-clause-shallow c = grind (arith, common_steps)

@@ -1,9 +1,8 @@
-use Rattle.std.proofs.Common.{◌≡◌, ◌∙◌, ap, arith}
+use Rattle.std.proofs.Common.{◌∙◌, ap, option_map, string_bytes, arith}
 use Rattle.std.proofs.lemmas.Grind.{common_steps}
-use Rattle.smithy_schema.specs.declared.error.SerdeError.TheVariants.{InvalidInput}
 use Rattle.smithy_json_codec.specs.Cursor.{cursor_of, reading_settings_of}
 use Rattle.smithy_json_codec.specs.Settings.{without_limits}
-use Rattle.smithy_json_codec.proofs.DeserializerLemmas.{text_fault, entry_steps, map_stuck, key_stuck}
+use Rattle.smithy_json_codec.proofs.DeserializerLemmas.{entry_steps, map_stuck, key_stuck}
 use Rattle.smithy_wire.specs.Walking.{cursor_of as walk_cursor, gone_on_to}
 use Rattle.smithy_json_codec.proofs.deserializer.JsonDeserializerShapeDeserializer.next_key.Goals as goal
 
@@ -11,25 +10,24 @@ pub owned_text-requires : goal.owned_text-requires
 owned_text-requires c =
     let stands = rw c.in-Some-Member.field-0-is at c.in-Some-Member.ensures in stands.has_escape
 
-pub returns-in-Ok-clause-ok : goal.returns-in-Ok-clause-ok
-returns-in-Ok-clause-ok c =
+pub returns-in-Ok-Some-clause-ok : goal.returns-in-Ok-Some-clause-ok
+returns-in-Ok-Some-clause-ok c =
     let stands = rw c.in-Some-Member.field-0-is at c.in-Some-Member.ensures in
     λ due t p map. entry_steps (reading_settings_of c.args.self.now) (cursor_of c.args.self.now) (walk_cursor c.go_on.new.self) t p c.in-Some-Member.name.raw.now _ c.in-Some-Member.name.end map c.requires.within c.if-self.false
-    (c.go_on.ensures.gone ∙ ap (gone_on_to (cursor_of c.args.self.now) c.in-Some-Member.name.end) c.frame.ensures) stands.names c.in-Ok.ensures.ok
+    (c.go_on.ensures.gone ∙ ap (gone_on_to (cursor_of c.args.self.now) c.in-Some-Member.name.end) c.frame.ensures) stands.names
+    (c.in-Ok-Some.ensures ∙ ap (option_map string_bytes) c.in-Ok-Some.field-0-is)
 
-pub returns-in-Err-clause-refused : goal.returns-in-Err-clause-refused
-returns-in-Err-clause-refused c =
+pub returns-in-Ok-None-clause-refused : goal.returns-in-Ok-None-clause-refused
+returns-in-Ok-None-clause-refused c =
     let stands = rw c.in-Some-Member.field-0-is at c.in-Some-Member.ensures in
-    λ fault due t p map.
-    let same : c.in-Err.error ≡ InvalidInput = text_fault c.in-Err.error c.in-Err.ensures.kind (rw c.refuse-in-Err.ensures.error at fault) in
-    key_stuck (reading_settings_of c.args.self.now) (cursor_of c.args.self.now) t p c.in-Some-Member.name.raw.now c.in-Some-Member.name.end map stands.names (c.in-Err.ensures.none (rw same tt))
+    λ fault due t p map. key_stuck (reading_settings_of c.args.self.now) (cursor_of c.args.self.now) t p c.in-Some-Member.name.raw.now c.in-Some-Member.name.end map stands.names
+    (c.in-Ok-None.ensures ∙ ap (option_map string_bytes) c.in-Ok-None.field-0-is)
 
-pub returns-in-Err-clause-none_without_limits : goal.returns-in-Err-clause-none_without_limits
-returns-in-Err-clause-none_without_limits c =
+pub returns-in-Ok-None-clause-none_without_limits : goal.returns-in-Ok-None-clause-none_without_limits
+returns-in-Ok-None-clause-none_without_limits c =
     let stands = rw c.in-Some-Member.field-0-is at c.in-Some-Member.ensures in
-    λ strict invalid due t p map.
-    key_stuck (without_limits (reading_settings_of c.args.self.now)) (cursor_of c.args.self.now) t p c.in-Some-Member.name.raw.now c.in-Some-Member.name.end map stands.names
-    (c.in-Err.ensures.none (rw c.refuse-in-Err.ensures.error at invalid))
+    λ strict invalid due t p map. key_stuck (without_limits (reading_settings_of c.args.self.now)) (cursor_of c.args.self.now) t p c.in-Some-Member.name.raw.now c.in-Some-Member.name.end map stands.names
+    (c.in-Ok-None.ensures ∙ ap (option_map string_bytes) c.in-Ok-None.field-0-is)
 
 pub returns-in-None-clause-refused : goal.returns-in-None-clause-refused
 returns-in-None-clause-refused c =

@@ -2,12 +2,13 @@ use Rattle.std.proofs.Common.{ℕ, arith, refl, sym, ap, subst, ◌∙◌, Err}
 use Rattle.std.proofs.lemmas.Grind.{common_steps}
 use Rattle.std.proofs.lemmas.Result.{IfOk-weaker}
 use Rattle.smithy_schema.specs.declared.error.SerdeError.TheVariants.{TooDeep}
+use Rattle.smithy_schema.specs.declared.read.Step.{Step}
 use Rattle.smithy_shapes.specs.Site.{site_of}
 use Rattle.smithy_schema.specs.Reading.{depth, CannotGoOn, MatchStep, passed_to}
 use Rattle.smithy_json_codec.specs.Cursor.{cursor_of, reading_settings_of}
 use Rattle.smithy_json_codec.specs.Settings.{without_limits}
 use Rattle.smithy_json_codec.specs.Standing.{json_relations}
-use Rattle.smithy_json_codec.proofs.DeserializerLemmas.{error_of, skips_not, skips_never, skips_same, skips_here}
+use Rattle.smithy_json_codec.proofs.DeserializerLemmas.{error_of, skip_invalid, skip_deep, skips_not, skips_never, skips_same, skips_here}
 use Rattle.smithy_json_codec.proofs.MemberStepLemmas.{stays_undue, reaches_behind, too_deep_behind}
 use Rattle.smithy_json_codec.specs.Deepest.{OpensTooDeep}
 use Rattle.smithy_json_codec.proofs.SkipStepOpeners.{reader_reaches}
@@ -53,19 +54,19 @@ returns-in-Err-clause-unread_refused c = λ refused due e skips.
 pub returns-in-Err-clause-unread_would : goal.returns-in-Err-clause-unread_would
 returns-in-Err-clause-unread_would c = λ strict invalid due e skips.
     absurd (skips_never (reading_settings_of c.args.self.now) (cursor_of c.args.self.now) c.depth.result c.depth.ensures
-    (rw c.input.ensures at (c.in-Err.ensures.none_without_limits (rw c.refuse-in-Err.ensures.error at invalid))) e skips)
+    (rw c.input.ensures at (c.in-Err.ensures.none_without_limits (ap Err (skip_invalid Step c.in-Err.fault (rw (c.refuse-in-Err.ensures.error ∙ c.refusal.ensures) at invalid))))) e skips)
 
 pub returns-in-Err-clause-deep : goal.returns-in-Err-clause-deep
 returns-in-Err-clause-deep c = λ deep.
     reader_reaches (reading_settings_of c.args.self.now) (cursor_of c.args.self.now) c.depth.result c.args.self.now.settings.max_depth c.depth.ensures
-    (rw c.input.ensures at (c.in-Err.ensures.deep (ap Err (sym c.refuse-in-Err.ensures.error ∙ error_of c.refuse-in-Err.result TooDeep deep))))
+    (rw c.input.ensures at (c.in-Err.ensures.deep (ap Err (skip_deep c.in-Err.fault (sym (c.refuse-in-Err.ensures.error ∙ c.refusal.ensures) ∙ error_of c.refuse-in-Err.result TooDeep deep)))))
 
 pub returns-in-Err-clause-too_deep : goal.returns-in-Err-clause-too_deep
 returns-in-Err-clause-too_deep c = λ deep. (
   c.args.self.now.walk.position,
   omega arith,
   subst (λ n. OpensTooDeep c.args.self.now.settings.max_depth n c.args.self.now.walk.input.now c.args.self.now.walk.position) c.depth.ensures
-      (rw c.input.ensures at (c.in-Err.ensures.too_deep (ap Err (sym c.refuse-in-Err.ensures.error ∙ error_of c.refuse-in-Err.result TooDeep deep)))),
+      (rw c.input.ensures at (c.in-Err.ensures.too_deep (ap Err (skip_deep c.in-Err.fault (sym (c.refuse-in-Err.ensures.error ∙ c.refusal.ensures) ∙ error_of c.refuse-in-Err.result TooDeep deep))))),
 )
 
 -- behind a value that isn't due, or is skipped

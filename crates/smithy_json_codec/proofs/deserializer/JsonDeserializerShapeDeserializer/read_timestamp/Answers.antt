@@ -12,9 +12,9 @@ returns-clause-read c =
     let was = was_ready c.args.self.now.walk.failed c.args.self.now.walk.due (sym c.in_ok-ready.was ∙ c.ready.ensures.answer) in
     let within : c.args.self.now.walk.position ≤ length c.args.self.now.walk.input.now = search rules in
     let found = rw (same, c.form_at-form.ensures) at c.instant_at-found.ensures in
-    let take = rw same at c.take_result.ensures in
+    let taken = rw same at c.take_within.ensures.taken in
     reads_instant (keep_limits (reading_settings_of c.args.self.now)) (cursor_of c.args.self.now) (site_of c.args.schema.now) was.0 was.1 within refl
-    c.instant_at-found.result c.take_result.result found.found found.kind found.none _ found.uncarried take.ok take.some take.err take.error
+    _ c.instant_at-found.result c.take_within.result found taken
 
 pub returns-clause-uncarried : goal.returns-clause-uncarried
 returns-clause-uncarried c =
@@ -22,6 +22,6 @@ returns-clause-uncarried c =
     let was = was_ready c.args.self.now.walk.failed c.args.self.now.walk.due (sym c.in_ok-ready.was ∙ c.ready.ensures.answer) in
     let within : c.args.self.now.walk.position ≤ length c.args.self.now.walk.input.now = search rules in
     let found = rw (same, c.form_at-form.ensures) at c.instant_at-found.ensures in
-    let take = rw same at c.take_result.ensures in
+    let taken = rw same at c.take_within.ensures.taken in
     answers_instant (keep_limits (reading_settings_of c.args.self.now)) (cursor_of c.args.self.now) (site_of c.args.schema.now) was.0 was.1 within refl
-    c.instant_at-found.result c.take_result.result found.found found.kind found.none take.some take.error
+    _ c.instant_at-found.result c.take_within.result found taken

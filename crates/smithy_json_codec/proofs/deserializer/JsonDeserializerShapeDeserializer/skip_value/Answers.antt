@@ -2,8 +2,9 @@ use Rattle.std.proofs.Common.{◌≡◌, false, refl, rules, sym, ap, subst, ◌
 use Rattle.std.proofs.lemmas.Grind.{common_steps}
 use Rattle.smithy_schema.specs.declared.error.SerdeError.TheVariants.{TooDeep}
 use Rattle.smithy_json_codec.specs.Cursor.{cursor_of, reading_settings_of}
-use Rattle.smithy_json_codec.proofs.DeserializerLemmas.{error_of, skips_here, skips_not, skips_never, refusal_conducts}
+use Rattle.smithy_json_codec.proofs.DeserializerLemmas.{error_of, skips_here, skips_not, skips_never, refusal_conducts, skip_reads, skip_narrow, skip_takes_no_memory, skip_invalid, skip_deep}
 use Rattle.smithy_json_codec.specs.Deepest.{OpensTooDeep}
+use Rattle.smithy_json_codec.specs.Private.Skipping.{skip_refusal}
 use Rattle.smithy_json_codec.proofs.SkipStepOpeners.{reader_reaches}
 use Rattle.smithy_wire.specs.Walking.{cursor_of as walk_cursor}
 use Rattle.smithy_json_codec.proofs.deserializer.JsonDeserializerShapeDeserializer.skip_value.Goals as goal
@@ -18,7 +19,15 @@ pub returns-in-Err-clause-conduct : goal.returns-in-Err-clause-conduct
 returns-in-Err-clause-conduct c =
     let same : c.ready.new.self ≡ c.args.self.now.walk = c.in_ok-ready.ensures.ok in
     let sound : c.args.self.now.walk.failed ≡ false = search rules in
-    refusal_conducts (cursor_of c.args.self.now) (walk_cursor c.refuse.new.self) c.refuse.result c.in-Err.error c.refuse.ensures.error sound (search rules) c.in-Err.ensures.reading (search rules) (rw same at c.refuse.ensures.stays)
+    let reads = skip_reads c.in-Err.fault in
+    refusal_conducts (cursor_of c.args.self.now) (walk_cursor c.refuse.new.self) c.refuse.result (skip_refusal c.in-Err.fault) (c.refuse.ensures.error ∙ c.refusal.ensures) sound reads.0 reads.1 (search rules)
+    (rw same at c.refuse.ensures.stays)
+
+pub returns-in-Err-clause-narrow : goal.returns-in-Err-clause-narrow
+returns-in-Err-clause-narrow c = rw (c.refuse.ensures.error ∙ c.refusal.ensures) (skip_narrow _ c.in-Err.fault)
+
+pub returns-in-Err-clause-memory : goal.returns-in-Err-clause-memory
+returns-in-Err-clause-memory c = rw (c.refuse.ensures.error ∙ c.refusal.ensures) (skip_takes_no_memory _ c.in-Err.fault)
 
 pub returns-in-Err-clause-refused : goal.returns-in-Err-clause-refused
 returns-in-Err-clause-refused c =
@@ -29,20 +38,20 @@ pub returns-in-Err-clause-none_without_limits : goal.returns-in-Err-clause-none_
 returns-in-Err-clause-none_without_limits c =
     let same : c.ready.new.self ≡ c.args.self.now.walk = c.in_ok-ready.ensures.ok in
     λ invalid due. skips_never (reading_settings_of c.args.self.now) (cursor_of c.args.self.now) c.depth.result (rw same at c.depth.ensures)
-    (rw (c.input.ensures, same) at (c.in-Err.ensures.none_without_limits (rw c.refuse.ensures.error at invalid)))
+    (rw (c.input.ensures, same) at (c.in-Err.ensures.none_without_limits (ap Err (skip_invalid (Unit {0}) c.in-Err.fault (rw (c.refuse.ensures.error ∙ c.refusal.ensures) at invalid)))))
 
 pub returns-in-Err-clause-deep : goal.returns-in-Err-clause-deep
 returns-in-Err-clause-deep c = λ deep.
     let same : c.ready.new.self ≡ c.args.self.now.walk = c.in_ok-ready.ensures.ok in
     reader_reaches (reading_settings_of c.args.self.now) (cursor_of c.args.self.now) c.depth.result c.args.self.now.settings.max_depth (rw same at c.depth.ensures)
-    (rw (c.input.ensures, same) at (c.in-Err.ensures.deep (ap Err (sym c.refuse.ensures.error ∙ error_of c.refuse.result TooDeep deep))))
+    (rw (c.input.ensures, same) at (c.in-Err.ensures.deep (ap Err (skip_deep c.in-Err.fault (sym (c.refuse.ensures.error ∙ c.refusal.ensures) ∙ error_of c.refuse.result TooDeep deep)))))
 
 pub returns-in-Err-clause-too_deep : goal.returns-in-Err-clause-too_deep
 returns-in-Err-clause-too_deep c = λ deep.
     let same : c.ready.new.self ≡ c.args.self.now.walk = c.in_ok-ready.ensures.ok in
     let held = rw same at c.depth.ensures in
     subst (λ n. OpensTooDeep c.args.self.now.settings.max_depth n c.args.self.now.walk.input.now c.args.self.now.walk.position) held
-    (rw (c.input.ensures, same) at (c.in-Err.ensures.too_deep (ap Err (sym c.refuse.ensures.error ∙ error_of c.refuse.result TooDeep deep))))
+    (rw (c.input.ensures, same) at (c.in-Err.ensures.too_deep (ap Err (skip_deep c.in-Err.fault (sym (c.refuse.ensures.error ∙ c.refusal.ensures) ∙ error_of c.refuse.result TooDeep deep)))))
 
 pub skipped_end-requires-clause-shallow : goal.skipped_end-requires-clause-shallow
 skipped_end-requires-clause-shallow c = grind (arith, common_steps)

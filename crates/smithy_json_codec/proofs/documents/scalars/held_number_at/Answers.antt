@@ -7,8 +7,8 @@ use Rattle.smithy_json_codec.specs.Private.OpenDocuments.{HeldNumberLies}
 use Rattle.smithy_json_codec.proofs.HeldNumbers.{long_is_held}
 use Rattle.smithy_json_codec.proofs.documents.scalars.held_number_at.Goals as goal
 
-pub returns-in-Some-clause-found : goal.returns-in-Some-clause-found
-returns-in-Some-clause-found c =
+pub returns-in-Some : goal.returns-in-Some
+returns-in-Some c =
     let long = c.in-Some.ensures.found in
     let Lies : ℤ → Type 0 = λ z. HeldNumberLies c.args.input.now c.args.at (cond (c.args.first == minus_sign) (NegInt z) (PosInt (unsigned_abs z))) c.in-Some.end in
     let back = to_z-of_z w64 c.in-Some.value (long_fits c.in-Some.value long.fits) in
