@@ -9,8 +9,12 @@ pub mod NumberRestLemmas
 pub mod WholeLemmas
 pub mod NumberPlaceLemmas
 pub mod NumberTextLemmas
+pub mod AllowedNumberLemmas
 pub mod RunValueLemmas
 pub mod LongLemmas
+pub mod SignedLemmas
+pub mod NumberRunLemmas
+pub mod IntegralLemmas
 pub mod UnescapeLemmas
 pub mod UnescapingLemmas
 pub mod EscapeLemmas

@@ -127,7 +127,7 @@ digits_are_int (d ∷ e ∷ digits) rest start end are size test =
     zero_not true is other = cc
     zero_not false is other = grind (arith, nat_tests)
 
-long_of_some : (negative : Bool) (magnitude : ℕ) (n : ℤ) → long_of negative magnitude ≡ Some n → (cond negative (neg_ℤ (pos magnitude)) (pos magnitude) ≡ n) × (fits_signed 64 n ≡ true)
+pub long_of_some : (negative : Bool) (magnitude : ℕ) (n : ℤ) → long_of negative magnitude ≡ Some n → (cond negative (neg_ℤ (pos magnitude)) (pos magnitude) ≡ n) × (fits_signed 64 n ≡ true)
 long_of_some negative magnitude n e = go (fits_signed 64 (cond negative (neg_ℤ (pos magnitude)) (pos magnitude))) refl
   where
     go : (fits : Bool) → fits_signed 64 (cond negative (neg_ℤ (pos magnitude)) (pos magnitude)) ≡ fits → (cond negative (neg_ℤ (pos magnitude)) (pos magnitude) ≡ n) × (fits_signed 64 n ≡ true)

@@ -33,7 +33,7 @@ first_digits (b ∷ s) = go (is_ascii_digit b) refl (digit_count s) (first_digit
         subst (λ k. AllByRecursion IsAsciiDigit (take k (b ∷ s))) one (digit_test b digit, rest)
     go false digit n rest = tt
 
-begins_digits : (s rest : List ℕ) → after_digits s ≡ Some rest → Begins AreDigits s rest
+pub begins_digits : (s rest : List ℕ) → after_digits s ≡ Some rest → Begins AreDigits s rest
 begins_digits s rest e = go (digit_count s == 0) refl
   where
     go : (none : Bool) → (digit_count s == 0) ≡ none → Begins AreDigits s rest
@@ -50,7 +50,7 @@ begins_digits s rest e = go (digit_count s == 0) refl
         }
 
 -- a first byte that isn't 0 is there
-first_is : (s : List ℕ) (b : ℕ) → first_byte s ≡ b → 0 < b → s ≡ b ∷ drop 1 s
+pub first_is : (s : List ℕ) (b : ℕ) → first_byte s ≡ b → 0 < b → s ≡ b ∷ drop 1 s
 first_is [] b e some = absurd (omega arith)
 first_is (c ∷ s) b e some = ap (λ x. x ∷ s) e
 
@@ -61,7 +61,7 @@ begins_minus s = go (first_byte s == minus_sign) refl
     go true minus = record { part = minus_sign ∷ []; split = first_is s minus_sign (grind (arith, nat_tests)) (omega arith); is = inr refl }
     go false minus = record { part = []; split = refl; is = inl refl }
 
-begins_sign : (s : List ℕ) → Begins IsSign s (after_sign s)
+pub begins_sign : (s : List ℕ) → Begins IsSign s (after_sign s)
 begins_sign s = go (first_byte s == minus_sign) refl (first_byte s == plus_sign) refl
   where
     go : (minus : Bool) → (first_byte s == minus_sign) ≡ minus → (plus : Bool) → (first_byte s == plus_sign) ≡ plus → Begins IsSign s (cond (minus || plus) (drop 1 s) s)

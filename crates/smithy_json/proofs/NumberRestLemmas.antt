@@ -13,7 +13,7 @@ use Rattle.smithy_json.proofs.NumberLemmas.{IsMinus}
 abbrev pub NoDigit : List ℕ → Type 0
 NoDigit s = is_ascii_digit (first_byte s) ≡ false
 
-digit_test : (b : ℕ) → IsAsciiDigit b → is_ascii_digit b ≡ true
+pub digit_test : (b : ℕ) → IsAsciiDigit b → is_ascii_digit b ≡ true
 digit_test b h = grind (arith, nat_tests)
 
 pub digit_count-digits : (digits rest : List ℕ) → AllByRecursion IsAsciiDigit digits → NoDigit rest → digit_count (digits ++ rest) ≡ length digits
@@ -23,13 +23,13 @@ digit_count-digits (d ∷ digits) rest are none =
     let one : 1 + length digits ≡ suc (length digits) = omega arith in
     rw (digit_test d are.0, digit_count-digits digits rest are.1 none) one
 
-after_digits-digits : (digits rest : List ℕ) → AreDigits digits → NoDigit rest → after_digits (digits ++ rest) ≡ Some rest
+pub after_digits-digits : (digits rest : List ℕ) → AreDigits digits → NoDigit rest → after_digits (digits ++ rest) ≡ Some rest
 after_digits-digits digits rest are none =
     let some : (length digits == 0) ≡ false = let positive = are.0 in grind (arith, nat_tests) in
     rw (digit_count-digits digits rest are.1 none, some) (ap Some (drop_at digits rest _ refl))
 
 -- a digit is neither a sign nor a point
-digit_alone : (b : ℕ) → IsAsciiDigit b → ((b == minus_sign) ≡ false) × ((b == plus_sign) ≡ false)
+pub digit_alone : (b : ℕ) → IsAsciiDigit b → ((b == minus_sign) ≡ false) × ((b == plus_sign) ≡ false)
 digit_alone b h = (grind (arith, nat_tests), grind (arith, nat_tests))
 
 pub after_minus-minus : (minus int rest : List ℕ) → IsMinus minus → IsInt int → after_minus (minus ++ (int ++ rest)) ≡ int ++ rest
@@ -38,7 +38,7 @@ after_minus-minus minus (d ∷ []) rest (inl none) int_is = rw (none, (digit_alo
 after_minus-minus minus (d ∷ e ∷ int) rest (inl none) int_is = rw (none, (digit_alone d int_is.0).0) refl
 after_minus-minus minus (d ∷ int) rest (inr one) int_is = rw one refl
 
-after_sign-sign : (sign digits rest : List ℕ) → IsSign sign → AreDigits digits → after_sign (sign ++ (digits ++ rest)) ≡ digits ++ rest
+pub after_sign-sign : (sign digits rest : List ℕ) → IsSign sign → AreDigits digits → after_sign (sign ++ (digits ++ rest)) ≡ digits ++ rest
 after_sign-sign sign [] rest is are = absurd (omega (arith, are.0))
 after_sign-sign sign (d ∷ digits) rest (inl none) are = rw (none, (digit_alone d are.1.0).0, (digit_alone d are.1.0).1) refl
 after_sign-sign sign (d ∷ digits) rest (inr (inl plus)) are = rw plus refl
@@ -47,7 +47,7 @@ after_sign-sign sign (d ∷ digits) rest (inr (inr minus)) are = rw minus refl
 not_zero : (b : ℕ) → b ≢ digit_zero → (b == digit_zero) ≡ false
 not_zero b h = grind (arith, nat_tests)
 
-after_int-int : (int rest : List ℕ) → IsInt int → NoDigit rest → after_int (int ++ rest) ≡ Some rest
+pub after_int-int : (int rest : List ℕ) → IsInt int → NoDigit rest → after_int (int ++ rest) ≡ Some rest
 after_int-int [] rest is none = absurd is
 after_int-int (d ∷ []) rest is none = go (d == digit_zero) refl
   where
@@ -61,7 +61,7 @@ after_frac-frac : (frac rest : List ℕ) → IsFrac frac → NoDigit rest → (f
 after_frac-frac [] rest is none other = rw other refl
 after_frac-frac (point ∷ digits) rest is none other = rw is.0 (after_digits-digits digits rest is.1 none)
 
-after_exp-exp : (exp rest : List ℕ) → IsExp exp → NoDigit rest → is_e (first_byte rest) ≡ false → after_exp (exp ++ rest) ≡ Some rest
+pub after_exp-exp : (exp rest : List ℕ) → IsExp exp → NoDigit rest → is_e (first_byte rest) ≡ false → after_exp (exp ++ rest) ≡ Some rest
 after_exp-exp [] rest is none other = rw other refl
 after_exp-exp (e ∷ signed) rest is none other =
     let sign = is.1.0 in
@@ -84,7 +84,7 @@ boundary_ends (b ∷ rest) (inr (inr (inr h))) = rw h (refl, refl, refl)
 e_ends : (b : ℕ) → is_e b ≡ true → (is_ascii_digit b ≡ false) × ((b == decimal_point) ≡ false)
 e_ends b h = (grind (arith, nat_tests), grind (arith, nat_tests))
 
-before_exp : (exp rest : List ℕ) → IsExp exp → IsBoundary rest → NoDigit (exp ++ rest) × ((first_byte (exp ++ rest) == decimal_point) ≡ false)
+pub before_exp : (exp rest : List ℕ) → IsExp exp → IsBoundary rest → NoDigit (exp ++ rest) × ((first_byte (exp ++ rest) == decimal_point) ≡ false)
 before_exp [] rest is ends = let b = boundary_ends rest ends in (b.0, b.1)
 before_exp (e ∷ exp) rest is ends = e_ends e is.0
 

@@ -23,7 +23,7 @@ number_passes text n =
     ap (λ r. option_map_or (λ rest. length rest == 0) r false) behind
 
 -- a step of two that gives something
-both_steps : {A B : Type 0} (f : A → Option B) (o : Option A) (b : B) → option_and_then f o ≡ Some b → (a : A) × (o ≡ Some a) × (f a ≡ Some b)
+pub both_steps : {A B : Type 0} (f : A → Option B) (o : Option A) (b : B) → option_and_then f o ≡ Some b → (a : A) × (o ≡ Some a) × (f a ≡ Some b)
 both_steps f None b h = cc
 both_steps f (Some a) b h = (a, refl, h)
 
@@ -31,7 +31,7 @@ empty_is : (rest : List ℕ) → (length rest == 0) ≡ true → rest ≡ []
 empty_is [] h = refl
 empty_is (b ∷ rest) h = absurd (grind (arith, nat_tests))
 
-nothing_left : (o : Option (List ℕ)) → option_map_or (λ rest. length rest == 0) o false ≡ true → o ≡ Some []
+pub nothing_left : (o : Option (List ℕ)) → option_map_or (λ rest. length rest == 0) o false ≡ true → o ≡ Some []
 nothing_left None h = cc
 nothing_left (Some rest) h = ap Some (empty_is rest h)
 

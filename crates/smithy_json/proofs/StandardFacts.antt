@@ -1,11 +1,14 @@
 -- Examples of RFC 8259, and near misses, by computing.
-use Rattle.std.proofs.Common.{◌≡◌, ◌≢◌, ◌≤◌, ℕ, [], ◌∷◌, ◌++◌, map, Some, None, Ok, Err, true, refl, pos, neg_ℤ, codes, ◌^◌, arith, inl, inr}
+use Rattle.std.proofs.Common.{◌≡◌, ◌≢◌, ◌≤◌, ℕ, [], ◌∷◌, ◌++◌, map, List, Some, None, Ok, Err, Bool, true, false, refl, pos, neg_ℤ, codes, ◌^◌, arith, inl, inr}
 use Rattle.std.proofs.lemmas.Str.{IsUtf8-from_is_utf8}
 use Rattle.std.specs.Char.{encode_utf8}
 use Rattle.std.specs.Str.{is_utf8, chars}
 use Rattle.smithy_json.specs.Escape.{escaped, quoted}
 use Rattle.smithy_json.specs.Grammar.{IsInt, IsFrac, IsNumber, IsUnescaped, AreChars, IsStringText, IsValue, IsJsonText, IsBoundary}
-use Rattle.smithy_json.specs.Number.{whole_number}
+use Rattle.smithy_json.specs.Number.{whole_number, signed_number, integral_number}
+use Rattle.smithy_json.specs.NumberGrammar.{standard_numbers}
+use Rattle.smithy_json.specs.NumberText.{is_number, is_number_of}
+use Rattle.smithy_json.specs.declared.number_grammar.NumberGrammar.{NumberGrammar}
 use Rattle.smithy_json.specs.Tree.{null, boolean, number, string, array, object, no_elements, element, no_members, member, nesting}
 use Rattle.smithy_json.specs.Unescape.{code_unit, unescape}
 use Rattle.smithy_json.specs.declared.escape_error.EscapeError.TheVariants.{UnexpectedEndOfString, InvalidEscapeCharacter, InvalidUnicodeEscape, ExpectedSurrogatePair, InvalidSurrogatePair}
@@ -94,6 +97,45 @@ whole_numbers = refl
 pub other_numbers : map whole_number (codes "1.0" ∷ codes "1e3" ∷ codes "-" ∷ codes "+1" ∷ [] ∷ [])
     ≡ None ∷ None ∷ None ∷ None ∷ None ∷ []
 other_numbers = refl
+
+-- ---- numbers with what may be allowed
+
+-- where nothing is allowed they are those of the standard
+pub nothing_allowed : (text : List ℕ) → is_number_of standard_numbers text ≡ is_number text
+nothing_allowed text = refl
+
+abbrev allowing : Bool → Bool → Bool → NumberGrammar
+allowing zeros point empty = record { allow_leading_zeros = zeros; allow_trailing_decimal_point = point; allow_empty_integer_part = empty }
+
+pub leading_zeros : map (is_number_of (allowing true false false)) (codes "007" ∷ codes "-00.50" ∷ codes "0" ∷ codes "12." ∷ codes "-.5" ∷ codes "+7" ∷ [])
+    ≡ true ∷ true ∷ true ∷ false ∷ false ∷ false ∷ []
+leading_zeros = refl
+
+pub trailing_points : map (is_number_of (allowing false true false)) (codes "12." ∷ codes "-0.e3" ∷ codes "007" ∷ codes "-.5" ∷ codes "." ∷ codes "1..5" ∷ [])
+    ≡ true ∷ true ∷ false ∷ false ∷ false ∷ false ∷ []
+trailing_points = refl
+
+pub empty_integer_parts : map (is_number_of (allowing false false true)) (codes "-.5" ∷ codes "-.5e3" ∷ codes ".5" ∷ codes "-.e3" ∷ codes "12." ∷ codes "-" ∷ [])
+    ≡ true ∷ true ∷ false ∷ false ∷ false ∷ false ∷ []
+empty_integer_parts = refl
+
+-- where all is allowed a number still has a digit before its exponent
+pub all_allowed : map (is_number_of (allowing true true true)) (codes "-00.e1" ∷ codes "-." ∷ codes "-.e1" ∷ codes "1e" ∷ codes "--1" ∷ [])
+    ≡ true ∷ false ∷ false ∷ false ∷ false ∷ []
+all_allowed = refl
+
+pub signed_numbers : map signed_number (codes "+5" ∷ codes "-007" ∷ codes "-0" ∷ codes "+" ∷ codes "+-5" ∷ codes "5+" ∷ [])
+    ≡ Some (pos 5) ∷ Some (neg_ℤ (pos 7)) ∷ Some (pos 0) ∷ None ∷ None ∷ None ∷ []
+signed_numbers = refl
+
+pub integral_numbers : map integral_number (codes "1.5e1" ∷ codes "100e-2" ∷ codes "-0.0" ∷ codes "-922337203685477580.8e1" ∷ codes "7" ∷ [])
+    ≡ Some (pos 15) ∷ Some (pos 1) ∷ Some (pos 0) ∷ Some (neg_ℤ (pos (2 ^ 63))) ∷ Some (pos 7) ∷ []
+integral_numbers = refl
+
+-- a part of a whole number, beyond 64 bits, and an exponent beyond 64 bits
+pub no_integral_numbers : map integral_number (codes "1.5" ∷ codes "1e-1" ∷ codes "1.0e19" ∷ codes "1e400" ∷ codes "0e99999999999999999999" ∷ codes "1e" ∷ [])
+    ≡ None ∷ None ∷ None ∷ None ∷ None ∷ None ∷ []
+no_integral_numbers = refl
 
 -- ---- texts
 

@@ -48,7 +48,7 @@ not_all : (digits : List ℕ) (b : ℕ) (rest : List ℕ) → AllByRecursion IsA
 not_all [] b rest are other = rw other refl
 not_all (d ∷ digits) b rest are other = rw (digit_test d are.0, not_all digits b rest are.1 other) refl
 
-natural_digits : (d : ℕ) (digits : List ℕ) → AllByRecursion IsAsciiDigit (d ∷ digits) → natural_number (d ∷ digits) ≡ Some (digits_value 10 (d ∷ digits))
+pub natural_digits : (d : ℕ) (digits : List ℕ) → AllByRecursion IsAsciiDigit (d ∷ digits) → natural_number (d ∷ digits) ≡ Some (digits_value 10 (d ∷ digits))
 natural_digits d digits are = ap (λ all. cond all (Some (digits_value 10 (d ∷ digits))) None) (all_digits (d ∷ digits) are)
 
 natural_more : (d : ℕ) (digits : List ℕ) (b : ℕ) (rest : List ℕ) → AllByRecursion IsAsciiDigit (d ∷ digits) → is_ascii_digit b ≡ false → natural_number (d ∷ digits ++ b ∷ rest) ≡ None

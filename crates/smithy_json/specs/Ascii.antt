@@ -1,5 +1,5 @@
 -- The bytes that RFC 8259 names, under its names (sections 2, 6 and 7).
-use Rattle.std.specs.Prelude.{ℕ, Bool, ◌||◌, ◌==◌}
+use Rattle.std.specs.Prelude.{ℕ, Bool, ◌||◌, ◌&&◌, ◌==◌, nat_le}
 
 -- "
 abbrev pub quotation_mark : ℕ
@@ -108,6 +108,11 @@ is_ws b = (b == space) || (b == tab) || (b == line_feed) || (b == carriage_retur
 -- e: either case
 abbrev pub is_e : ℕ → Bool
 is_e b = (b == 0x65) || (b == 0x45)
+
+-- a byte that a number may have: a digit, a sign, a point or the letter of an exponent
+abbrev pub is_numeric : ℕ → Bool
+is_numeric b =
+    (nat_le 0x30 b && nat_le b 0x39) || ((b == minus_sign) || (b == plus_sign) || (b == decimal_point) || is_e b)
 
 -- what makes an escape of two bytes with the byte before it: " \ / b f n r t
 abbrev pub is_short_escape : ℕ → Bool

@@ -3,6 +3,7 @@ pub mod Ascii
 pub mod Tree
 pub mod Grammar
 pub mod Number
+pub mod NumberGrammar
 pub mod HeldNumber
 pub mod Unescape
 pub mod Escape

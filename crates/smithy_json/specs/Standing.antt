@@ -1,8 +1,8 @@
 -- Where a text stands in an input.
 use Rattle.std.specs.Prelude.{◌≡◌, ◌<◌, ◌≤◌, ℕ, ◌+◌, List, length, drop, Bool, true, false, slice_index, slice_range, ℤ, Some}
-use Rattle.smithy_json.specs.Ascii.{quotation_mark}
+use Rattle.smithy_json.specs.Ascii.{quotation_mark, is_numeric}
 use Rattle.smithy_json.specs.Grammar.{IsNumber, IsStringText, IsBoundary}
-use Rattle.smithy_json.specs.Number.{whole_number}
+use Rattle.smithy_json.specs.Number.{whole_number, signed_number}
 use Rattle.smithy_texts.specs.Ranges.{fits_signed}
 
 -- from at to end stands the longest run of bytes that pass the test
@@ -31,4 +31,10 @@ pub record IsStringAt (input : List ℕ) (opening closing : ℕ) : Type 0 where
 pub record IsLongAt (input : List ℕ) (at end : ℕ) (n : ℤ) : Type 0 where
   pub number : StandsAt IsNumber input at end
   pub value : whole_number (slice_range input at end) ≡ Some n
+  pub fits : fits_signed 64 n ≡ true
+
+-- the longest run of bytes of numbers that stands there is an optional sign and digits, a number of 64 bits
+pub record IsSignedAt (input : List ℕ) (at end : ℕ) (n : ℤ) : Type 0 where
+  pub run : IsRunAt is_numeric input at end
+  pub value : signed_number (slice_range input at end) ≡ Some n
   pub fits : fits_signed 64 n ≡ true

@@ -21,7 +21,7 @@ pub struct ScannedNumber {
 
 // The byte at the offset, and 0 at the input's end.
 #[inline(always)]
-fn byte_at(input: &[u8], at: usize) -> u8
+pub(crate) fn byte_at(input: &[u8], at: usize) -> u8
     requires { at ≤ length input.now }
     ensures { result ≡ first_byte (drop at input.now) }
 {
@@ -30,7 +30,7 @@ fn byte_at(input: &[u8], at: usize) -> u8
 
 // Where the digits end that come at the offset.
 #[inline(always)]
-fn digit_run_end(input: &[u8], at: usize) -> usize
+pub(crate) fn digit_run_end(input: &[u8], at: usize) -> usize
     requires { at ≤ length input.now }
     ensures value { result ≡ at + digit_count (drop at input.now) }
     ensures within { result ≤ length input.now }
@@ -43,7 +43,7 @@ fn digit_run_end(input: &[u8], at: usize) -> usize
 }
 
 #[inline(always)]
-fn digits_end(input: &[u8], at: usize) -> Option<usize>
+pub(crate) fn digits_end(input: &[u8], at: usize) -> Option<usize>
     requires { at ≤ length input.now }
     ensures { EndsAt input.now at result (after_digits (drop at input.now)) }
 {
@@ -52,7 +52,7 @@ fn digits_end(input: &[u8], at: usize) -> Option<usize>
 }
 
 #[inline(always)]
-fn minus_end(input: &[u8], at: usize) -> usize
+pub(crate) fn minus_end(input: &[u8], at: usize) -> usize
     requires { at ≤ length input.now }
     ensures value { drop result input.now ≡ after_minus (drop at input.now) }
     ensures ordered { at ≤ result }
@@ -66,7 +66,7 @@ fn minus_end(input: &[u8], at: usize) -> usize
 }
 
 #[inline(always)]
-fn sign_end(input: &[u8], at: usize) -> usize
+pub(crate) fn sign_end(input: &[u8], at: usize) -> usize
     requires { at ≤ length input.now }
     ensures value { drop result input.now ≡ after_sign (drop at input.now) }
     ensures ordered { at ≤ result }
@@ -111,7 +111,7 @@ fn is_e(byte: u8) -> bool
 }
 
 #[inline(always)]
-fn exp_end(input: &[u8], at: usize) -> Option<usize>
+pub(crate) fn exp_end(input: &[u8], at: usize) -> Option<usize>
     requires { at ≤ length input.now }
     ensures { EndsAt input.now at result (after_exp (drop at input.now)) }
 {
@@ -179,7 +179,7 @@ pub fn is_number(text: &[u8]) -> bool
 // The number of the digits that come at the offset, with their end. There is none where no digit
 // comes, or where they write 2^64 or more.
 #[inline(always)]
-fn read_natural(input: &[u8], at: usize) -> Option<(u64, usize)>
+pub(crate) fn read_natural(input: &[u8], at: usize) -> Option<(u64, usize)>
     requires { at ≤ length input.now }
     ensures { ReadsNatural input.now at result }
 {
@@ -204,7 +204,7 @@ fn is_int_between(input: &[u8], start: usize, end: usize) -> bool
 
 // The number with this magnitude, where it is one of 64 bits.
 #[inline(always)]
-fn signed(is_negative: bool, magnitude: u64) -> Option<i64>
+pub(crate) fn signed(is_negative: bool, magnitude: u64) -> Option<i64>
     ensures { result ≡ long_of is_negative magnitude }
 {
     if is_negative {

@@ -1,6 +1,7 @@
 //! Rows of texts: of values, of JSON and of its tokens (docs/ROWS.md).
 #![tactic(auto)]
 
+mod allowed_numbers;
 mod answer;
 mod documents;
 mod instants;
