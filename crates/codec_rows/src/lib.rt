@@ -2,6 +2,7 @@
 #![tactic(auto)]
 
 mod answers;
+mod clients;
 mod consumers;
 mod containers;
 mod first_two;

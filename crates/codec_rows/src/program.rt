@@ -2,7 +2,7 @@
 
 use crate::answers::refused;
 use crate::places::shapes_of;
-use crate::{reading, writing};
+use crate::{clients, reading, writing};
 use smithy_rows::{Field, Program, Row, Rows};
 use std::alloc::{AllocError, Global};
 
@@ -23,6 +23,7 @@ impl Program for Codecs {
             "body" | "refused" => true,
             "value" | "done" | "position" | "is_null" => true,
             "size" | "count" | "entry" => true,
+            "json" | "cbor" | "query" => true,
             _ => is_met(word),
         }
     }
@@ -33,6 +34,9 @@ impl Program for Codecs {
         };
         if let Some(wire) = row.text("serializer") {
             return writing::answers(alloc, &shapes, row, wire);
+        }
+        if let Some(name) = row.text("client") {
+            return clients::answers(alloc, &shapes, row, name);
         }
         match row.text("reader") {
             Some(wire) => reading::answers(alloc, &shapes, row, wire),

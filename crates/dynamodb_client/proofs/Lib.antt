@@ -1,5 +1,3 @@
-mod HalfRead
 mod MapEntries
 mod Places
 mod Variants
-mod HalfWritten

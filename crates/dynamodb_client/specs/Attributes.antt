@@ -1,14 +1,14 @@
--- The value of an attribute of DynamoDB, which holds others of its kind, and what a read of it says.
-use Rattle.std.specs.Prelude.{◌≡◌, false, ℕ, List, [], ◌∷◌, map as mapped, Some, Result, IfOk, String, string_bytes}
+-- The value of an attribute of DynamoDB, which holds others of its kind.
+use Rattle.std.specs.Prelude.{◌≡◌, ℕ, List, [], ◌∷◌, map as mapped, Some, String, codes, string_bytes}
 use Rattle.std.specs.declared.alloc.Global.{Global}
-use Rattle.smithy_schema.specs.declared.error.SerdeError.{SerdeError}
 use Rattle.smithy_shapes.specs.declared.place.Target.{Target}
 use Rattle.smithy_shapes.specs.declared.place.Target.TheVariants.{Simple}
 use Rattle.smithy_shapes.specs.declared.shape_type.Scalar.TheVariants as scalars
-use Rattle.smithy_shapes.specs.Table.{Table, Member, MapShape, ListShape, kind_of_target, union_of, map_of, list_of}
+use Rattle.smithy_shapes.specs.declared.shape_type.ShapeType.TheVariants as types
+use Rattle.smithy_shapes.specs.Table.{Table, type_of, members_of, kind_of_target}
+use Rattle.smithy_shapes.specs.Declares.{row_of, Holds}
 use Rattle.smithy_shapes.specs.Value.{Value, boolean, text, bytes, scalar_value, list, map, union, values_of, MapEntries, no_map_entries, map_entry}
 use Rattle.smithy_shapes.specs.Site.{Site, member_site}
-use Rattle.smithy_schema.specs.Reading.{Cursor, Relations, Reads, StandsNot, IsRefused}
 use Rattle.dynamodb_client.specs.declared.attribute_value.AttributeValue as kept
 use Rattle.dynamodb_client.specs.declared.attribute_value.AttributeValue.TheOpen.{AttributeValue-F}
 
@@ -40,24 +40,17 @@ attribute_entries es = map_entries_of (mapped (λ (e : String Global × kept.Att
 
 -- ---- where it stands
 
--- what the members are: S, N, B, BOOL, NULL, M, L
-abbrev pub variant_targets : Target → Target → List Target
-variant_targets entries elements =
-    Simple scalars.String ∷ Simple scalars.String ∷ Simple scalars.Blob ∷ Simple scalars.Boolean ∷ Simple scalars.Boolean ∷ entries ∷ elements ∷ []
+abbrev pub variant_members : Target → Target → List (List ℕ × Target)
+variant_members entries elements =
+    (codes "S", Simple scalars.String) ∷ (codes "N", Simple scalars.String) ∷ (codes "B", Simple scalars.Blob) ∷ (codes "BOOL", Simple scalars.Boolean)
+    ∷ (codes "NULL", Simple scalars.Boolean) ∷ (codes "M", entries) ∷ (codes "L", elements) ∷ []
 
 -- A table has these three declarations: the union of an attribute's value, the map of it, and the list of it. None of them holds nulls.
 pub record AreAttributes (table : Table) (value entries elements : Target) : Type 0 where
-  pub members : List Member
-  pub is_union : kind_of_target table value ≡ union_of members
-  pub targets : mapped (λ (m : Member). m.place.target) members ≡ variant_targets entries elements
-  pub map_shape : MapShape
-  pub is_map : kind_of_target table entries ≡ map_of map_shape
-  pub in_map : map_shape.place.target ≡ value
-  pub dense_map : map_shape.is_sparse ≡ false
-  pub list_shape : ListShape
-  pub is_list : kind_of_target table elements ≡ list_of list_shape
-  pub in_list : list_shape.place.target ≡ value
-  pub dense_list : list_shape.is_sparse ≡ false
+  pub is_union : type_of (kind_of_target table value) ≡ Some types.Union
+  pub members : mapped row_of (members_of (kind_of_target table value)) ≡ variant_members entries elements
+  pub map : Holds table entries types.Map value
+  pub list : Holds table elements types.List value
 
 -- an attribute's value stands there
 abbrev pub IsAttribute : Site → Type 0
@@ -74,15 +67,3 @@ AreElements site = (value : Target) × (entries : Target) × AreAttributes site.
 -- a member of an attribute's value stands there
 abbrev pub IsVariant : Site → Type 0
 IsVariant site = (outer : Site) × (n : ℕ) × IsAttribute outer × (member_site outer n ≡ Some site)
-
--- ---- what a read says
-
--- What stood at the site is what was read; and a fault comes only where no value of the place stands.
-pub record ReadsAs {A : Type 0} (w : Relations) (old new : Cursor) (site : Site) (view : A → Value) (result : Result A SerdeError) : Type 0 where
-  pub ok : IfOk result (λ x. Reads w old new site.table site.place (view x))
-  pub refused : IsRefused result → StandsNot w old site.table site.place
-
--- the same of the member of an attribute's value: the value is the union of this member
-pub record ReadsVariant (w : Relations) (old new : Cursor) (member : Site) (result : Result kept.AttributeValue SerdeError) : Type 0 where
-  pub ok : IfOk result (λ x. (n : ℕ) × (v : Value) × (member.view.index ≡ Some n) × (attribute_value x ≡ union n v) × Reads w old new member.table member.place v)
-  pub refused : IsRefused result → StandsNot w old member.table member.place

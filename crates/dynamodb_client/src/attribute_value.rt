@@ -2,13 +2,16 @@
 //!
 //! A consumer can't read its own type again, since no measure falls there. So these are functions over the reader's calls, one for
 //! each kind of container, which call one another; what falls is the number of containers that may still be opened.
-ghost use Rattle.std.specs.Prelude.{◌≡◌, true, string_bytes, OnOk, IfErr};
+ghost use Rattle.std.specs.Prelude.{◌≡◌, ◌↔◌, IsTrue, true, string_bytes, OnOk, IfErr};
 ghost use Rattle.smithy_shapes.specs.Site.{site_of};
 ghost use Rattle.smithy_shapes.specs.Value.{list, map, values_of, put_entry};
 ghost use Rattle.smithy_schema.specs.declared.error.SerdeError.TheVariants.{NoMemory};
-ghost use Rattle.dynamodb_client.specs.Attributes.{IsAttribute, AreEntries, AreElements, IsVariant, attribute_value, attribute_values, attribute_entries, ReadsAs, ReadsVariant};
+ghost use Rattle.dynamodb_client.specs.Attributes.{IsAttribute, AreEntries, AreElements, IsVariant, attribute_value, attribute_values, attribute_entries};
+ghost use Rattle.smithy_schema.specs.Typed.{ReadsAs, ReadsVariant};
 
-use smithy_schema::{Schema, SerdeError, ShapeDeserializer, Step};
+use smithy_schema::{
+    Accept, Scalar, Schema, SerdeError, ShapeDeserializer, ShapeType, Step, Target,
+};
 use smithy_types::Blob;
 use std::collections::BTreeMap;
 
@@ -29,6 +32,54 @@ pub enum AttributeValue {
     M(BTreeMap<String, AttributeValue>),
     /// Values in order.
     L(Vec<AttributeValue>),
+}
+
+impl Accept for AttributeValue {
+    ghost use Rattle.dynamodb_client.specs.Attributes.{IsAttribute};
+
+    ghost place = { IsAttribute };
+
+    fn is_at(schema: &Schema<'_>) -> bool {
+        let (Some(entries), Some(elements)) = (schema.member_at(5), schema.member_at(6)) else {
+            return false;
+        };
+        let is_declared = schema.declares(
+            ShapeType::Union,
+            &[
+                ("S", Target::Simple(Scalar::String)),
+                ("N", Target::Simple(Scalar::String)),
+                ("B", Target::Simple(Scalar::Blob)),
+                ("BOOL", Target::Simple(Scalar::Boolean)),
+                ("NULL", Target::Simple(Scalar::Boolean)),
+                ("M", entries.target()),
+                ("L", elements.target()),
+            ],
+        );
+        let value = schema.target();
+        if !is_declared {
+            return false;
+        }
+        if !entries.holds(ShapeType::Map, value) {
+            return false;
+        }
+        elements.holds(ShapeType::List, value)
+    }
+}
+
+/// Whether a map of such values stands at the place.
+pub fn are_attributes(schema: &Schema<'_>) -> bool
+    ensures { IsTrue result ↔ AreEntries (site_of schema.now) }
+{
+    let Some(value) = schema.member() else {
+        return false;
+    };
+    let Some(entries) = value.member_at(5) else {
+        return false;
+    };
+    if entries.target() != schema.target() {
+        return false;
+    }
+    AttributeValue::is_at(&value)
 }
 
 /// Reads the value that is due.
@@ -64,7 +115,7 @@ fn read_variant<D: ShapeDeserializer>(
     requires due { (D.state source.old).due ≡ true }
     requires place { IsVariant (site_of member.now) }
     ensures same { D.settings source.new ≡ D.settings source.old }
-    ensures reads { ReadsVariant (D.wire (D.settings source.old)) (D.state source.old) (D.state source.new) (site_of member.now) result }
+    ensures reads { ReadsVariant (D.wire (D.settings source.old)) (D.state source.old) (D.state source.new) (site_of member.now) attribute_value result }
 {
     let position = member.member_index();
     if position == Some(0) {

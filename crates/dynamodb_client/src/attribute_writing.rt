@@ -4,7 +4,7 @@ ghost use Rattle.smithy_shapes.specs.Site.{site_of, member_of, element_of, key_o
 ghost use Rattle.smithy_shapes.specs.Value.{list, map, values_of};
 ghost use Rattle.smithy_schema.specs.Writing.{events};
 ghost use Rattle.dynamodb_client.specs.Attributes.{attribute_value, attribute_values, attribute_entries};
-ghost use Rattle.dynamodb_client.specs.Writing.{variant_events, WritesAs};
+ghost use Rattle.smithy_schema.specs.Typed.{variant_events, WritesAs};
 
 use crate::attribute_value::AttributeValue;
 use smithy_schema::{Schema, SerdeError, ShapeSerializer, ShapeType};

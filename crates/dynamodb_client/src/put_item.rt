@@ -7,11 +7,11 @@ ghost use Rattle.smithy_schema.specs.Written.{Runs, outcome};
 ghost use Rattle.smithy_schema.specs.Fields.{structure_with};
 ghost use Rattle.dynamodb_client.specs.PutItem.{IsPutItem, put_item_fields};
 
-use crate::attribute_value::{AttributeValue, read_attributes};
+use crate::attribute_value::{AttributeValue, are_attributes, read_attributes};
 use crate::attribute_writing::{member_under, write_attributes};
 use smithy_schema::{
-    Schema, SerdeError, ShapeDeserializer, ShapeSerializer, StructConsumer, WriteFields, Written,
-    read_field, write_field,
+    Accept, Scalar, Schema, SerdeError, ShapeDeserializer, ShapeSerializer, ShapeType,
+    StructConsumer, Target, WriteFields, Written, read_field, write_field,
 };
 use std::collections::BTreeMap;
 
@@ -45,6 +45,26 @@ impl StructConsumer for PutItemInput {
         }
         self.item = Some(read_attributes(source, schema)?);
         Ok(())
+    }
+}
+
+impl Accept for PutItemInput {
+    ghost use Rattle.dynamodb_client.specs.PutItem.{IsPutItem};
+
+    ghost place = { IsPutItem };
+
+    fn is_at(schema: &Schema<'_>) -> bool {
+        let Some(item) = schema.member_at(1) else {
+            return false;
+        };
+        let is_declared = schema.declares(
+            ShapeType::Structure,
+            &[
+                ("TableName", Target::Simple(Scalar::String)),
+                ("Item", item.target()),
+            ],
+        );
+        is_declared && are_attributes(&item)
     }
 }
 

@@ -19,6 +19,10 @@ pub mod ConsumedMaps
 pub mod ReadTexts
 pub mod ConsumedStructures
 pub mod RefusedStructures
+pub mod DeclaredMembers
 pub mod ReadFields
+-- a type that holds itself
+pub mod HalfRead
 -- what is written of fields
 pub mod WrittenFields
+pub mod HalfWritten

@@ -1,23 +1,25 @@
 -- What a consumer that keeps fields has read.
-use Rattle.std.proofs.Common.{◌≡◌, ◌<◌, ◌+◌, ℕ, zero, suc, List, [], ◌∷◌, map, length, true, Option, Some, None, option_map, Result, Ok, Err, OnOk, refl, sym, ◌∙◌, ap, subst, arith}
+use Rattle.std.proofs.Common.{◌≡◌, ◌<◌, ◌+◌, ℕ, zero, suc, List, [], ◌∷◌, length, true, Option, Some, None, Result, Ok, Err, OnOk, refl, sym, ◌∙◌, ap, subst, arith}
 use Rattle.std.specs.declared.cmp.Ordering.{Ordering}
 use Rattle.std.specs.declared.cmp.Ordering.TheVariants.{Less, Equal, Greater}
 use Rattle.std.specs.Ordering.{MatchOrdering, nat_cmp, match_ordering}
 use Rattle.std.proofs.lemmas.Cmp.{ranked}
-use Rattle.std.specs.List.{slice_get}
 use Rattle.smithy_schema.specs.declared.error.SerdeError.{SerdeError}
 use Rattle.smithy_shapes.specs.declared.place.Place.{Place}
 use Rattle.smithy_shapes.specs.declared.place.Target.{Target}
 use Rattle.smithy_shapes.specs.declared.place.Target.TheVariants.{Simple}
 use Rattle.smithy_shapes.specs.declared.shape_type.Scalar.{Scalar}
-use Rattle.smithy_shapes.specs.Table.{Member, structure_of, place_in, scalar_place, IsStructure}
+use Rattle.smithy_shapes.specs.declared.shape_type.ShapeType.TheVariants as types
+use Rattle.smithy_shapes.specs.Declares.{Declares}
+use Rattle.smithy_shapes.specs.Table.{scalar_place, IsStructure}
 use Rattle.smithy_shapes.specs.Site.{Site, kind_at, member_site}
 use Rattle.smithy_shapes.specs.Value.{Value, ScalarValue, scalar_value, MemberValues, no_member_values, member_value, put_member}
 use Rattle.smithy_shapes.specs.Lemmas.Options.{same_some}
 use Rattle.smithy_schema.specs.Reading.{Cursor, depth, in_structure, IsLawful, Reads, ReadsScalar, StandsNot, IsFault}
-use Rattle.smithy_schema.specs.Consuming.{Reader, Consumes, by_member, IsTaken, IsMemberOf}
-use Rattle.smithy_schema.specs.Fields.{HasTargets, members_at, structure_with, TakesField, took, passed, broke, FillsField, filled, refused}
+use Rattle.smithy_schema.specs.Consuming.{Reader, Consumes, by_member, IsTaken}
+use Rattle.smithy_schema.specs.Fields.{members_at, structure_with, TakesField, took, passed, broke, FillsField, filled, refused}
 use Rattle.smithy_schema.proofs.ConsumingLemmas.{same_error}
+use Rattle.smithy_schema.proofs.DeclaredMembers.{structure_type}
 use Rattle.smithy_schema.proofs.ReadStructures.{site_told}
 use Rattle.smithy_schema.proofs.ConsumedStructures.{TakesMembers, structure_read}
 use Rattle.smithy_schema.proofs.RefusedStructures.{RefusesMembers, structure_refused}
@@ -70,8 +72,8 @@ field_set n (suc i) v (Some w ∷ fs) within =
 
 -- ---- the calls
 
-pub has_structure : (targets : List Target) (outer : Site) → HasTargets targets outer → IsStructure (kind_at outer)
-has_structure targets outer of = subst IsStructure (sym of.kind) tt
+pub has_structure : (rows : List (List ℕ × Target)) (outer : Site) → Declares types.Structure rows outer → IsStructure (kind_at outer)
+has_structure rows outer declared = structure_type (kind_at outer) declared.kind
 
 same_position : (m n : ℕ) → Some m ≡ Some n → m ≡ n
 same_position m n h = cc
@@ -137,29 +139,18 @@ pub members_refused : {C : Type 0} (fields : C → List (Option Value)) (r : Rea
 members_refused fields r outer laws is_structure s t c g result consumes =
     structure_refused r outer (TakesField fields r) (λ s. members_at 0 (fields s)) laws is_structure (fields_take fields r outer) (fields_refuse fields r outer) s t c g result consumes
 
--- the same of structures whose members are told by their targets
-pub fields_read : {C : Type 0} (fields : C → List (Option Value)) (targets : List Target) (r : Reader) (outer : Site) → IsLawful r.wire → HasTargets targets outer
+-- the same of structures whose members are told by their names and targets
+pub fields_read : {C : Type 0} (fields : C → List (Option Value)) (rows : List (List ℕ × Target)) (r : Reader) (outer : Site) → IsLawful r.wire → Declares types.Structure rows outer
     → (s t : C) (c g : Cursor) (result : Result (Unit {0}) SerdeError) → members_at 0 (fields s) ≡ no_member_values → Consumes r outer in_structure (by_member r outer) (TakesField fields r) s c result t g
     → OnOk result (IsTaken c g) → OnOk result (Reads r.wire c g outer.table outer.place (structure_with (fields t)))
-fields_read fields targets r outer laws of = members_read fields r outer laws (has_structure targets outer of)
+fields_read fields rows r outer laws declared = members_read fields r outer laws (has_structure rows outer declared)
 
-pub fields_refused : {C : Type 0} (fields : C → List (Option Value)) (targets : List Target) (r : Reader) (outer : Site) → IsLawful r.wire → HasTargets targets outer
+pub fields_refused : {C : Type 0} (fields : C → List (Option Value)) (rows : List (List ℕ × Target)) (r : Reader) (outer : Site) → IsLawful r.wire → Declares types.Structure rows outer
     → (s t : C) (c g : Cursor) (result : Result (Unit {0}) SerdeError) → Consumes r outer in_structure (by_member r outer) (TakesField fields r) s c result t g
     → (e : SerdeError) → result ≡ Err e → IsFault e → c.due ≡ true → StandsNot r.wire c outer.table outer.place
-fields_refused fields targets r outer laws of = members_refused fields r outer laws (has_structure targets outer of)
+fields_refused fields rows r outer laws declared = members_refused fields r outer laws (has_structure rows outer declared)
 
 -- ---- a member that is a scalar
-
-target_in : (ms : List Member) (n : ℕ) (p : Place) → place_in (structure_of ms) (Some n) ≡ Some p → slice_get (map (λ (m : Member). m.place.target) ms) n ≡ Some p.target
-target_in [] n p h = absurd (let none : None ≡ Some p = h in cc)
-target_in (m ∷ ms) zero p h = ap (λ o. option_map (λ (q : Place). q.target) o) h
-target_in (m ∷ ms) (suc n) p h = target_in ms n p h
-
--- the target of a member by its position
-pub target_at : (targets : List Target) (outer : Site) → HasTargets targets outer → (n : ℕ) (site : Site) → member_site outer n ≡ Some site → (site.view.index ≡ Some n) × (slice_get targets n ≡ Some site.place.target)
-target_at targets outer of n site told =
-    let there = site_told outer n site told in
-    (there.2, subst (λ ts. slice_get ts n ≡ Some site.place.target) of.are (target_in of.members n site.place (subst (λ k. place_in k (Some n) ≡ Some site.place) of.kind there.1)))
 
 simple_place : (s : Scalar) (p : Place) → p.target ≡ Simple s → scalar_place s p.time ≡ p
 simple_place s p h = ap (λ x. let q : Place = record { target = x; time = p.time } in q) (sym h)
@@ -172,31 +163,6 @@ read_there s scalar r d f site x is reads = subst (λ p. Reads r.wire d f site.t
 pub none_read_there : {A : Type 0} (s : Scalar) (scalar : A → ScalarValue) (r : Reader) (d f : Cursor) (site : Site) (e : SerdeError) → site.place.target ≡ Simple s
     → ReadsScalar {A = A} r.wire r.lifted r.tells_without_limits d f site s scalar (Err e) → IsFault e → d.due ≡ true → StandsNot r.wire d site.table site.place
 none_read_there s scalar r d f site e is reads fault due = subst (λ p. StandsNot r.wire d site.table p) (simple_place s site.place is) (reads.refused fault due)
-
--- the target of the member that a consumer may be called for
-pub target_of : (targets : List Target) (site : Site) → (outer : Site) × HasTargets targets outer × IsMemberOf outer (Some site) → (i : ℕ) → site.view.index ≡ Some i → slice_get targets i ≡ Some site.place.target
-target_of targets site (outer, of, (n, told)) i index =
-    let there = target_at targets outer of n site told in
-    subst (λ k. slice_get targets k ≡ Some site.place.target) (same_position n i (sym there.0 ∙ index)) there.1
-
--- a member was read as a scalar and set
-pub took_scalar : {C A : Type 0} (fields : C → List (Option Value)) (targets : List Target) (s : Scalar) (scalar : A → ScalarValue) (r : Reader) (site : Site) (before after : C) (c f : Cursor) (i : ℕ) (x : A)
-    → (outer : Site) × HasTargets targets outer × IsMemberOf outer (Some site) → site.view.index ≡ Some i → slice_get targets i ≡ Some (Simple s) → i < length (fields before)
-    → fields after ≡ set_field (fields before) i (scalar_value (scalar x)) → ReadsScalar {A = A} r.wire r.lifted r.tells_without_limits c f site s scalar (Ok x)
-    → TakesField fields r (Some site) before c (Ok tt) after f
-took_scalar fields targets s scalar r site before after c f i x allowed index target within set reads =
-    let here = same_some site.place.target (Simple s) (sym (target_of targets site allowed i index) ∙ target) in
-    let same : 0 + i ≡ i = omega arith in
-    took i (scalar_value (scalar x)) index (read_there s scalar r c f site x here reads)
-    (ap (members_at 0) set ∙ field_set 0 i (scalar_value (scalar x)) (fields before) within ∙ ap (λ k. put_member k (scalar_value (scalar x)) (members_at 0 (fields before))) same)
-
--- a member couldn't be read as a scalar
-pub broke_scalar : {C A : Type 0} (fields : C → List (Option Value)) (targets : List Target) (s : Scalar) (scalar : A → ScalarValue) (r : Reader) (site : Site) (before after : C) (c f : Cursor) (i : ℕ) (e : SerdeError)
-    → (outer : Site) × HasTargets targets outer × IsMemberOf outer (Some site) → site.view.index ≡ Some i → slice_get targets i ≡ Some (Simple s)
-    → ReadsScalar {A = A} r.wire r.lifted r.tells_without_limits c f site s scalar (Err e) → TakesField fields r (Some site) before c (Err e) after f
-broke_scalar fields targets s scalar r site before after c f i e allowed index target reads =
-    let here = same_some site.place.target (Simple s) (sym (target_of targets site allowed i index) ∙ target) in
-    broke (none_read_there s scalar r c f site e here reads)
 
 -- a member was read into its field, or couldn't be read
 pub filled_field : {C A : Type 0} (fields : C → List (Option Value)) (kind : Scalar) (scalar : A → ScalarValue) (r : Reader) (site : Site) (put : Option A → C) (old new : Option A) (c d : Cursor) (i : ℕ)

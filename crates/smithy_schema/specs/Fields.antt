@@ -1,20 +1,12 @@
 -- A structure that a type of the caller's keeps as fields, by the positions of its members.
 use Rattle.std.specs.Prelude.{◌≡◌, ℕ, suc, List, [], ◌∷◌, map, true, Option, Some, None, Result, Ok, Err}
 use Rattle.smithy_schema.specs.declared.error.SerdeError.{SerdeError}
-use Rattle.smithy_shapes.specs.declared.place.Target.{Target}
-use Rattle.smithy_shapes.specs.Table.{Member, structure_of}
 use Rattle.smithy_shapes.specs.declared.shape_type.Scalar.{Scalar}
 use Rattle.smithy_shapes.specs.Value.{ScalarValue, Value, MemberValues, no_member_values, member_value, put_member, structure}
-use Rattle.smithy_shapes.specs.Site.{Site, kind_at, member_of}
+use Rattle.smithy_shapes.specs.Site.{Site, member_of}
 use Rattle.smithy_schema.specs.Reading.{Cursor, Reads, ReadsScalar, StandsNot, IsFault}
 use Rattle.smithy_schema.specs.Writing.{Event, events}
 use Rattle.smithy_schema.specs.Consuming.{Reader}
-
--- a structure stands there whose members have these targets, in order
-pub record HasTargets (targets : List Target) (site : Site) : Type 0 where
-  pub members : List Member
-  pub kind : kind_at site ≡ structure_of members
-  pub are : map (λ (m : Member). m.place.target) members ≡ targets
 
 -- the members that are there, by their positions from n on
 abbrev pub members_at : ℕ → List (Option Value) → MemberValues

@@ -6,3 +6,4 @@ pub mod TextMaps
 pub mod Fields
 pub mod Writing
 pub mod Written
+pub mod Typed

@@ -1,6 +1,7 @@
 //! The traits by which values are read and written as a table of shapes directs. The tables themselves are handed on.
 #![tactic(auto)]
 
+mod accept;
 mod borrow;
 mod consume;
 mod elements;
@@ -13,6 +14,7 @@ mod write;
 mod written;
 mod written_instant;
 
+pub use accept::Accept;
 pub use borrow::BorrowDeserializer;
 pub use consume::{ListConsumer, MapConsumer, StructConsumer};
 pub use elements::{Elements, ReadScalar};

@@ -1,7 +1,7 @@
 -- The one schema of what is inside a list or a map.
-use Rattle.std.proofs.Common.{◌≡◌, Option, Some, option_map, refl, ◌∙◌}
+use Rattle.std.proofs.Common.{◌≡◌, Option, Some, None, option_map, refl, ◌∙◌}
 use Rattle.std.specs.Option.{option_or}
-use Rattle.smithy_shapes.specs.Table.{Table, Kind, list_of, map_of, list_shape_of, map_shape_of, IsList, IsMap}
+use Rattle.smithy_shapes.specs.Table.{Table, Kind, list_of, map_of, structure_of, union_of, place_in, list_shape_of, map_shape_of, IsList, IsMap}
 use Rattle.smithy_shapes.specs.Site.{Site, kind_at, site_of_element, site_of_value, element_site, value_site, inner_site}
 
 -- the site of the elements of a list, or of the values of a map
@@ -24,3 +24,11 @@ inner_element site inner is found = found ∙ in_list site.table (kind_at site) 
 -- of a map it is that of its values
 pub inner_value : (site inner : Site) → IsMap (kind_at site) → Some inner ≡ inner_site site → Some inner ≡ value_site site
 inner_value site inner is found = found ∙ in_map site.table (kind_at site) is
+
+-- and it is where a child without a position stands
+pub inner_place : (table : Table) (kind : Kind) → option_map (λ (s : Site). s.place) (inner_in table kind) ≡ place_in kind None
+inner_place table (list_of l) = refl
+inner_place table (map_of m) = refl
+inner_place table (structure_of members) = refl
+inner_place table (union_of members) = refl
+inner_place table _ = refl

@@ -14,6 +14,7 @@ pub mod NestingLemmas
 pub mod NamedLemmas
 pub mod SiteLemmas
 mod MembersLemmas
+mod RowLemmas
 pub mod ScalarLemmas
 pub mod TimeFormLemmas
 pub mod InstantLemmas

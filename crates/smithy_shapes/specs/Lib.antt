@@ -16,6 +16,7 @@ pub mod TimeForms
 pub mod ScalarTest
 pub mod Targets
 pub mod Holding
+pub mod Declares
 -- what the types of the program stand for
 pub mod Views
 pub mod DeclViews

@@ -4,6 +4,7 @@
 mod acceptance;
 mod build;
 mod decl;
+mod declares;
 mod fault;
 mod members;
 mod members_iter;

@@ -1,2 +1,1 @@
-mod ShapeFacts
 mod TagFacts

@@ -1,36 +1,23 @@
 -- What the calls along a list of tags have read.
-use Rattle.std.proofs.Common.{◌≡◌, List, [], ◌∷◌, map, true, false, Some, None, Result, Ok, Err, OnOk, refl, sym, ◌∙◌, subst, inl}
+use Rattle.std.proofs.Common.{◌≡◌, List, [], ◌∷◌, true, Some, None, Result, Ok, Err, OnOk, refl, sym, ◌∙◌, subst, inl}
 use Rattle.std.proofs.lemmas.List.{map-append}
 use Rattle.smithy_schema.specs.declared.error.SerdeError.{SerdeError}
 use Rattle.smithy_shapes.specs.declared.place.Place.{Place}
-use Rattle.smithy_shapes.specs.declared.place.Target.{Target}
-use Rattle.smithy_shapes.specs.Table.{Kind, Member, structure_of, place_in, HasMembers, IsSparse, is_sparse}
+use Rattle.smithy_shapes.specs.Table.{place_in}
 use Rattle.smithy_shapes.specs.Site.{Site, kind_at, inner_site}
 use Rattle.smithy_shapes.specs.Value.{list, values_of}
 use Rattle.smithy_shapes.specs.Lemmas.Options.{same_some}
 use Rattle.smithy_schema.specs.Reading.{Cursor, in_list, IsLawful, Reads, StandsNot, IsFault}
 use Rattle.smithy_schema.specs.Consuming.{Reader, Consumes, by_element}
-use Rattle.smithy_schema.specs.Fields.{HasTargets, structure_with}
+use Rattle.smithy_schema.specs.Fields.{structure_with}
 use Rattle.smithy_schema.proofs.ConsumingLemmas.{same_error}
-use Rattle.smithy_schema.proofs.ReadLists.{list_place, sparse_is}
+use Rattle.smithy_schema.proofs.ReadLists.{list_place}
+use Rattle.smithy_schema.proofs.DeclaredMembers.{list_type}
 use Rattle.smithy_schema.proofs.Blame.{of_wire}
 use Rattle.smithy_schema.proofs.ConsumedLists.{TakesElement, NoElement, list_read, list_refused}
 use Rattle.smithy_schema.proofs.ReadElements.{consumes_through}
 use Rattle.sts_client.specs.declared.tags.Tag.{Tag}
-use Rattle.sts_client.specs.Shapes.{tag_targets, tag_fields, targets_of, IsTag, AreTags, tag_values, TakesTag, put, broke}
-
-members_in : (k : Kind) (ts : List Target) → targets_of k ≡ Some ts → (ms : List Member) × (k ≡ structure_of ms) × (map (λ (m : Member). m.place.target) ms ≡ ts)
-members_in (structure_of ms) ts is = (ms, refl, same_some _ _ is)
-members_in _ ts is = absurd (let none : None ≡ Some ts = is in cc)
-
-pub tag_shape : (site : Site) → IsTag site → HasTargets tag_targets site
-tag_shape site is = let ms = members_in (kind_at site) tag_targets is in record { members = ms.0; kind = ms.1; are = ms.2 }
-
-pub tag_has_members : (site : Site) → IsTag site → HasMembers (kind_at site)
-tag_has_members site is = let ms = members_in (kind_at site) tag_targets is in subst HasMembers (sym ms.1) tt
-
-never_null : (k : Kind) → is_sparse k ≡ false → IsSparse k → ⊥
-never_null k dense sparse = let both : true ≡ false = sym (sparse_is k sparse) ∙ dense in cc
+use Rattle.sts_client.specs.Shapes.{tag_fields, AreTags, tag_values, TakesTag, put, broke}
 
 -- a consumer that keeps its site and its tags
 pub through_tags : {E : Type 0} (r : Reader) (outer inner : Site) (tags : E → List Tag) (site : E → Site)
@@ -45,10 +32,10 @@ through_tags r outer inner tags site e f c g result there fresh consumes =
 
 module _ (r : Reader) (outer inner : Site) (are : AreTags outer) (is : inner_site outer ≡ Some inner) where
   here : (q : Place) → place_in (kind_at outer) None ≡ Some q → q ≡ inner.place
-  here q place = same_some q inner.place (sym place ∙ (list_place (kind_at outer) outer.table inner are.is_list (sym is)).1)
+  here q place = same_some q inner.place (sym place ∙ (list_place (kind_at outer) outer.table inner (list_type (kind_at outer) are.is_list) (sym is)).1)
 
   table : inner.table ≡ outer.table
-  table = (list_place (kind_at outer) outer.table inner are.is_list (sym is)).0
+  table = (list_place (kind_at outer) outer.table inner (list_type (kind_at outer) are.is_list) (sym is)).0
 
   taken : (q : Place) → place_in (kind_at outer) None ≡ Some q → (ts us : List Tag) (d f : Cursor) (result : Result (Unit {0}) SerdeError) → TakesTag r inner ts d result us f
       → OnOk result (TakesElement r outer q (tag_values ts) (tag_values us) d f)
@@ -56,7 +43,7 @@ module _ (r : Reader) (outer inner : Site) (are : AreTags outer) (is : inner_sit
       inl (
         structure_with (tag_fields tag),
         subst (λ p. Reads r.wire d f outer.table p (structure_with (tag_fields tag))) (sym (here q place)) (subst (λ t. Reads r.wire d f t inner.place (structure_with (tag_fields tag))) table reads),
-        (λ sparse. absurd (never_null (kind_at outer) are.dense sparse)),
+        (λ sparse. absurd (are.dense sparse)),
         map-append (λ t. structure_with (tag_fields t)) ts (tag ∷ []),
       )
   taken q place ts us d f result (broke why) = tt
@@ -67,17 +54,17 @@ module _ (r : Reader) (outer inner : Site) (are : AreTags outer) (is : inner_sit
   none_there q place ts us d f result (broke {e = h} why) e fails fault due =
       inl (
         subst (λ p. StandsNot r.wire d outer.table p) (sym (here q place)) (subst (λ t. StandsNot r.wire d t inner.place) table (why (subst IsFault (sym (same_error (Unit {0}) h e fails)) fault) due)),
-        (λ sparse. absurd (never_null (kind_at outer) are.dense sparse)),
+        (λ sparse. absurd (are.dense sparse)),
       )
 
   pub tags_read : IsLawful r.wire → (ts : List Tag) (c g : Cursor) (result : Result (Unit {0}) SerdeError) → Consumes r outer in_list (by_element r outer) (λ element. TakesTag r inner) [] c result ts g
       → OnOk result (Reads r.wire c g outer.table outer.place (list (values_of (tag_values ts))))
   tags_read laws ts c g result consumes =
-      list_read r outer laws are.is_list (λ element. TakesTag r inner) tag_values (λ q place xs ys d f called due. taken q place xs ys d f (Ok tt) called) [] ts c g result refl consumes
+      list_read r outer laws (list_type (kind_at outer) are.is_list) (λ element. TakesTag r inner) tag_values (λ q place xs ys d f called due. taken q place xs ys d f (Ok tt) called) [] ts c g result refl consumes
 
   pub tags_refused : IsLawful r.wire → (ts : List Tag) (c g : Cursor) (result : Result (Unit {0}) SerdeError) → Consumes r outer in_list (by_element r outer) (λ element. TakesTag r inner) [] c result ts g
       → (e : SerdeError) → result ≡ Err e → IsFault e → c.due ≡ true → StandsNot r.wire c outer.table outer.place
   tags_refused laws ts c g result consumes =
-      list_refused r r.wire IsFault outer (of_wire r outer laws) laws are.is_list (λ element. TakesTag r inner) tag_values (λ q place xs ys d f called due. taken q place xs ys d f (Ok tt) called)
+      list_refused r r.wire IsFault outer (of_wire r outer laws) laws (list_type (kind_at outer) are.is_list) (λ element. TakesTag r inner) tag_values (λ q place xs ys d f called due. taken q place xs ys d f (Ok tt) called)
       (λ q place xs ys d f e called fault due. none_there q place xs ys d f (Err e) called e refl fault due)
       [] ts c g result refl consumes

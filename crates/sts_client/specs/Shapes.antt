@@ -1,16 +1,18 @@
 -- The structures of AssumeRole, as the client's types have them.
-use Rattle.std.specs.Prelude.{◌≡◌, ◌<◌, ℕ, ℤ, List, [], ◌∷◌, ◌++◌, map, false, true, Option, Some, None, option_map, Result, Ok, Err, String}
+use Rattle.std.specs.Prelude.{◌≡◌, ℕ, ℤ, List, [], ◌∷◌, ◌++◌, map, true, Option, Some, option_map, Result, Ok, Err, String, codes}
 use Rattle.std.specs.declared.alloc.Global.{Global}
 use Rattle.smithy_schema.specs.declared.error.SerdeError.{SerdeError}
 use Rattle.smithy_shapes.specs.declared.place.Target.{Target}
 use Rattle.smithy_shapes.specs.declared.place.Target.TheVariants.{Simple}
 use Rattle.smithy_shapes.specs.declared.shape_type.Scalar.TheVariants as scalars
-use Rattle.smithy_shapes.specs.Table.{Kind, Member, structure_of, IsStructure, IsList, is_sparse}
+use Rattle.smithy_shapes.specs.declared.shape_type.ShapeType.TheVariants as types
+use Rattle.smithy_shapes.specs.Table.{type_of, IsSparse}
+use Rattle.smithy_shapes.specs.Declares.{Declares}
 use Rattle.smithy_shapes.specs.Value.{Value, scalar_value, whole, instant, list, values_of}
 use Rattle.smithy_shapes.specs.Site.{Site, kind_at, member_site, inner_site}
 use Rattle.smithy_schema.specs.Reading.{Cursor, Reads, StandsNot, IsFault}
 use Rattle.smithy_schema.specs.Consuming.{Reader}
-use Rattle.smithy_schema.specs.Fields.{HasTargets, structure_with}
+use Rattle.smithy_schema.specs.Fields.{structure_with}
 use Rattle.smithy_schema.specs.TextMaps.{text_value}
 use Rattle.sts_client.specs.declared.credentials.Credentials.{Credentials}
 use Rattle.sts_client.specs.declared.tags.Tag.{Tag}
@@ -30,36 +32,37 @@ instant_field field = option_map (λ t. scalar_value (instant t)) field
 abbrev pub whole_field : Option ℤ → Option Value
 whole_field field = option_map (λ n. scalar_value (whole n)) field
 
--- AccessKeyId, SecretAccessKey, SessionToken, Expiration
-abbrev pub credentials_targets : List Target
-credentials_targets = Simple scalars.String ∷ Simple scalars.String ∷ Simple scalars.String ∷ Simple scalars.Timestamp ∷ []
+abbrev pub credentials_members : List (List ℕ × Target)
+credentials_members =
+    (codes "AccessKeyId", Simple scalars.String) ∷ (codes "SecretAccessKey", Simple scalars.String) ∷ (codes "SessionToken", Simple scalars.String)
+    ∷ (codes "Expiration", Simple scalars.Timestamp) ∷ []
+
+-- credentials stand there
+abbrev pub IsCredentials : Site → Type 0
+IsCredentials = Declares types.Structure credentials_members
 
 abbrev pub credentials_fields : Credentials → List (Option Value)
 credentials_fields keys =
     text_field keys.access_key_id ∷ text_field keys.secret_access_key ∷ text_field keys.session_token
     ∷ instant_field keys.expiration ∷ []
 
--- Key, Value
-abbrev pub tag_targets : List Target
-tag_targets = Simple scalars.String ∷ Simple scalars.String ∷ []
+abbrev pub tag_members : List (List ℕ × Target)
+tag_members = (codes "Key", Simple scalars.String) ∷ (codes "Value", Simple scalars.String) ∷ []
+
+-- a tag stands there
+abbrev pub IsTag : Site → Type 0
+IsTag = Declares types.Structure tag_members
 
 abbrev pub tag_fields : Tag → List (Option Value)
 tag_fields tag = text_field tag.key ∷ text_field tag.value ∷ []
 
--- the targets of the members, where a structure stands
-abbrev pub targets_of : Kind → Option (List Target)
-targets_of (structure_of members) = Some (map (λ (m : Member). m.place.target) members)
-targets_of _ = None
-
--- a tag stands there
-abbrev pub IsTag : Site → Type 0
-IsTag site = targets_of (kind_at site) ≡ Some tag_targets
-
 -- a list of tags stands there, none of which may be null
 pub record AreTags (site : Site) : Type 0 where
-  pub is_list : IsList (kind_at site)
-  pub dense : is_sparse (kind_at site) ≡ false
-  pub tags : (inner : Site) → inner_site site ≡ Some inner → IsTag inner
+  pub is_list : type_of (kind_at site) ≡ Some types.List
+  pub dense : IsSparse (kind_at site) → ⊥
+  pub tag : Site
+  pub inside : inner_site site ≡ Some tag
+  pub is_tag : IsTag tag
 
 abbrev pub tag_values : List Tag → List Value
 tag_values tags = map (λ tag. structure_with (tag_fields tag)) tags
@@ -71,7 +74,11 @@ pub data TakesTag (r : Reader) (site : Site) : List Tag → Cursor → Result (U
 
 -- ---- what AssumeRole is given, and what it answers
 
--- RoleArn, RoleSessionName, Policy, DurationSeconds, Tags
+abbrev pub request_members : Target → List (List ℕ × Target)
+request_members tags =
+    (codes "RoleArn", Simple scalars.String) ∷ (codes "RoleSessionName", Simple scalars.String) ∷ (codes "Policy", Simple scalars.String)
+    ∷ (codes "DurationSeconds", Simple scalars.Integer) ∷ (codes "Tags", tags) ∷ []
+
 abbrev pub request_fields : AssumeRoleRequest → List (Option Value)
 request_fields request =
     text_field request.role_arn ∷ text_field request.role_session_name ∷ text_field request.policy ∷ whole_field request.duration_seconds
@@ -79,22 +86,26 @@ request_fields request =
 
 -- such a structure stands there
 pub record IsRequest (site : Site) : Type 0 where
-  pub is_structure : IsStructure (kind_at site)
-  pub few : (n : ℕ) (member : Site) → member_site site n ≡ Some member → n < 5
-  pub role_arn : (member : Site) → member_site site 0 ≡ Some member → member.place.target ≡ Simple scalars.String
-  pub role_session_name : (member : Site) → member_site site 1 ≡ Some member → member.place.target ≡ Simple scalars.String
-  pub policy : (member : Site) → member_site site 2 ≡ Some member → member.place.target ≡ Simple scalars.String
-  pub duration_seconds : (member : Site) → member_site site 3 ≡ Some member → member.place.target ≡ Simple scalars.Integer
-  pub tags : (member : Site) → member_site site 4 ≡ Some member → AreTags member
+  pub tags : Site
+  pub fifth : member_site site 4 ≡ Some tags
+  pub members : Declares types.Structure (request_members tags.place.target) site
+  pub are_tags : AreTags tags
 
--- AssumedRoleId, Arn
-abbrev pub user_targets : List Target
-user_targets = Simple scalars.String ∷ Simple scalars.String ∷ []
+abbrev pub user_members : List (List ℕ × Target)
+user_members = (codes "AssumedRoleId", Simple scalars.String) ∷ (codes "Arn", Simple scalars.String) ∷ []
+
+-- a user stands there
+abbrev pub IsUser : Site → Type 0
+IsUser = Declares types.Structure user_members
 
 abbrev pub user_fields : AssumedRoleUser → List (Option Value)
 user_fields user = text_field user.assumed_role_id ∷ text_field user.arn ∷ []
 
--- Credentials, AssumedRoleUser, PackedPolicySize, SourceIdentity
+abbrev pub response_members : Target → Target → List (List ℕ × Target)
+response_members credentials user =
+    (codes "Credentials", credentials) ∷ (codes "AssumedRoleUser", user) ∷ (codes "PackedPolicySize", Simple scalars.Integer)
+    ∷ (codes "SourceIdentity", Simple scalars.String) ∷ []
+
 abbrev pub response_fields : AssumeRoleResponse → List (Option Value)
 response_fields response =
     option_map (λ keys. structure_with (credentials_fields keys)) response.credentials
@@ -103,9 +114,10 @@ response_fields response =
 
 -- such a structure stands there
 pub record IsResponse (site : Site) : Type 0 where
-  pub is_structure : IsStructure (kind_at site)
-  pub few : (n : ℕ) (member : Site) → member_site site n ≡ Some member → n < 4
-  pub credentials : (member : Site) → member_site site 0 ≡ Some member → HasTargets credentials_targets member
-  pub assumed_role_user : (member : Site) → member_site site 1 ≡ Some member → HasTargets user_targets member
-  pub packed_policy_size : (member : Site) → member_site site 2 ≡ Some member → member.place.target ≡ Simple scalars.Integer
-  pub source_identity : (member : Site) → member_site site 3 ≡ Some member → member.place.target ≡ Simple scalars.String
+  pub credentials : Site
+  pub first : member_site site 0 ≡ Some credentials
+  pub user : Site
+  pub second : member_site site 1 ≡ Some user
+  pub members : Declares types.Structure (response_members credentials.place.target user.place.target) site
+  pub are_credentials : IsCredentials credentials
+  pub is_user : IsUser user

@@ -3,12 +3,12 @@ ghost use Rattle.std.specs.Prelude.{◌≡◌, IfOk, OnOk, OnErr, true};
 ghost use Rattle.smithy_schema.specs.Consuming.{IsTaken};
 ghost use Rattle.smithy_shapes.specs.Site.{site_of};
 ghost use Rattle.smithy_schema.specs.Reading.{Reads, StandsNot, IsRefused};
-ghost use Rattle.smithy_schema.specs.Fields.{HasTargets, structure_with};
-ghost use Rattle.sts_client.specs.Shapes.{credentials_targets, credentials_fields};
+ghost use Rattle.smithy_schema.specs.Fields.{structure_with};
+ghost use Rattle.sts_client.specs.Shapes.{IsCredentials, credentials_fields};
 
 use smithy_schema::{
-    Schema, SerdeError, ShapeDeserializer, ShapeSerializer, StructConsumer, WriteFields,
-    WriteMember, read_field, write_field, write_structure,
+    Accept, Scalar, Schema, SerdeError, ShapeDeserializer, ShapeSerializer, ShapeType,
+    StructConsumer, Target, WriteFields, WriteMember, read_field, write_field, write_structure,
 };
 use smithy_types::DateTime;
 
@@ -26,12 +26,12 @@ pub struct Credentials {
 }
 
 impl StructConsumer for Credentials {
-    ghost use Rattle.smithy_schema.specs.Fields.{TakesField, HasTargets};
-    ghost use Rattle.sts_client.specs.Shapes.{credentials_targets, credentials_fields};
+    ghost use Rattle.smithy_schema.specs.Fields.{TakesField};
+    ghost use Rattle.sts_client.specs.Shapes.{IsCredentials, credentials_fields};
 
     ghost call = { TakesField credentials_fields };
 
-    ghost can_take = { λ _ outer. HasTargets credentials_targets outer };
+    ghost can_take = { λ _ outer. IsCredentials outer };
 
     fn member<D: ShapeDeserializer>(
         &mut self,
@@ -52,6 +52,24 @@ impl StructConsumer for Credentials {
             return read_field(source, schema, &mut self.session_token);
         }
         read_field(source, schema, &mut self.expiration)
+    }
+}
+
+impl Accept for Credentials {
+    ghost use Rattle.sts_client.specs.Shapes.{IsCredentials};
+
+    ghost place = { IsCredentials };
+
+    fn is_at(schema: &Schema<'_>) -> bool {
+        schema.declares(
+            ShapeType::Structure,
+            &[
+                ("AccessKeyId", Target::Simple(Scalar::String)),
+                ("SecretAccessKey", Target::Simple(Scalar::String)),
+                ("SessionToken", Target::Simple(Scalar::String)),
+                ("Expiration", Target::Simple(Scalar::Timestamp)),
+            ],
+        )
     }
 }
 
@@ -91,7 +109,7 @@ pub fn read_credentials<D: ShapeDeserializer>(
     schema: &Schema<'_>,
     source: &mut D,
 ) -> Result<Credentials, SerdeError>
-    requires place { HasTargets credentials_targets (site_of schema.now) }
+    requires place { IsCredentials (site_of schema.now) }
     ensures same { D.settings source.new ≡ D.settings source.old }
 
     // What stood there is the structure of these fields.

@@ -9,4 +9,4 @@ mod tags;
 pub use credentials::{Credentials, read_credentials};
 pub use request::{AssumeRoleRequest, read_request, write_request};
 pub use response::{AssumeRoleResponse, AssumedRoleUser, read_response, write_response};
-pub use tags::{Tag, read_tags};
+pub use tags::{Tag, are_tags, read_tags};

@@ -7,10 +7,10 @@ ghost use Rattle.smithy_schema.specs.Written.{Runs, outcome};
 ghost use Rattle.smithy_schema.specs.Fields.{structure_with};
 ghost use Rattle.sts_client.specs.Shapes.{IsRequest, request_fields};
 
-use crate::tags::{Tag, read_tags};
+use crate::tags::{Tag, are_tags, read_tags};
 use smithy_schema::{
-    Schema, SerdeError, ShapeDeserializer, ShapeSerializer, StructConsumer, WriteFields, Written,
-    read_field, write_field,
+    Accept, Scalar, Schema, SerdeError, ShapeDeserializer, ShapeSerializer, ShapeType,
+    StructConsumer, Target, WriteFields, Written, read_field, write_field,
 };
 
 /// A role to take on for a while.
@@ -60,6 +60,29 @@ impl StructConsumer for AssumeRoleRequest {
         let tags = read_tags(source.allocator(), schema, source)?;
         self.tags = Some(tags);
         Ok(())
+    }
+}
+
+impl Accept for AssumeRoleRequest {
+    ghost use Rattle.sts_client.specs.Shapes.{IsRequest};
+
+    ghost place = { IsRequest };
+
+    fn is_at(schema: &Schema<'_>) -> bool {
+        let Some(tags) = schema.member_at(4) else {
+            return false;
+        };
+        let is_declared = schema.declares(
+            ShapeType::Structure,
+            &[
+                ("RoleArn", Target::Simple(Scalar::String)),
+                ("RoleSessionName", Target::Simple(Scalar::String)),
+                ("Policy", Target::Simple(Scalar::String)),
+                ("DurationSeconds", Target::Simple(Scalar::Integer)),
+                ("Tags", tags.target()),
+            ],
+        );
+        is_declared && are_tags(&tags)
     }
 }
 

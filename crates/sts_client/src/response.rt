@@ -5,13 +5,14 @@ ghost use Rattle.smithy_schema.specs.Consuming.{IsTaken};
 ghost use Rattle.smithy_schema.specs.Reading.{Reads, StandsNot, IsRefused};
 ghost use Rattle.smithy_schema.specs.Writing.{events};
 ghost use Rattle.smithy_schema.specs.Written.{Runs, outcome};
-ghost use Rattle.smithy_schema.specs.Fields.{HasTargets, structure_with};
-ghost use Rattle.sts_client.specs.Shapes.{user_targets, user_fields, IsResponse, response_fields};
+ghost use Rattle.smithy_schema.specs.Fields.{structure_with};
+ghost use Rattle.sts_client.specs.Shapes.{IsUser, user_fields, IsResponse, response_fields};
 
 use crate::credentials::{Credentials, read_credentials};
 use smithy_schema::{
-    Schema, SerdeError, ShapeDeserializer, ShapeSerializer, StructConsumer, WriteFields,
-    WriteMember, Written, read_field, write_field, write_structure,
+    Accept, Scalar, Schema, SerdeError, ShapeDeserializer, ShapeSerializer, ShapeType,
+    StructConsumer, Target, WriteFields, WriteMember, Written, read_field, write_field,
+    write_structure,
 };
 
 /// Who takes on the role.
@@ -24,12 +25,12 @@ pub struct AssumedRoleUser {
 }
 
 impl StructConsumer for AssumedRoleUser {
-    ghost use Rattle.smithy_schema.specs.Fields.{TakesField, HasTargets};
-    ghost use Rattle.sts_client.specs.Shapes.{user_targets, user_fields};
+    ghost use Rattle.smithy_schema.specs.Fields.{TakesField};
+    ghost use Rattle.sts_client.specs.Shapes.{IsUser, user_fields};
 
     ghost call = { TakesField user_fields };
 
-    ghost can_take = { λ _ outer. HasTargets user_targets outer };
+    ghost can_take = { λ _ outer. IsUser outer };
 
     fn member<D: ShapeDeserializer>(
         &mut self,
@@ -43,6 +44,22 @@ impl StructConsumer for AssumedRoleUser {
             return read_field(source, schema, &mut self.assumed_role_id);
         }
         read_field(source, schema, &mut self.arn)
+    }
+}
+
+impl Accept for AssumedRoleUser {
+    ghost use Rattle.sts_client.specs.Shapes.{IsUser};
+
+    ghost place = { IsUser };
+
+    fn is_at(schema: &Schema<'_>) -> bool {
+        schema.declares(
+            ShapeType::Structure,
+            &[
+                ("AssumedRoleId", Target::Simple(Scalar::String)),
+                ("Arn", Target::Simple(Scalar::String)),
+            ],
+        )
     }
 }
 
@@ -80,7 +97,7 @@ fn read_user<D: ShapeDeserializer>(
     schema: &Schema<'_>,
     source: &mut D,
 ) -> Result<AssumedRoleUser, SerdeError>
-    requires place { HasTargets user_targets (site_of schema.now) }
+    requires place { IsUser (site_of schema.now) }
     ensures same { D.settings source.new ≡ D.settings source.old }
     ensures ok { IfOk result (λ user. Reads (D.wire (D.settings source.old)) (D.state source.old) (D.state source.new) schema.now.shapes.now schema.now.place (structure_with (user_fields user))) }
     ensures takes { OnOk result (IsTaken (D.state source.old) (D.state source.new)) }
@@ -136,6 +153,28 @@ impl StructConsumer for AssumeRoleResponse {
             return read_field(source, schema, &mut self.packed_policy_size);
         }
         read_field(source, schema, &mut self.source_identity)
+    }
+}
+
+impl Accept for AssumeRoleResponse {
+    ghost use Rattle.sts_client.specs.Shapes.{IsResponse};
+
+    ghost place = { IsResponse };
+
+    fn is_at(schema: &Schema<'_>) -> bool {
+        let (Some(credentials), Some(user)) = (schema.member_at(0), schema.member_at(1)) else {
+            return false;
+        };
+        let is_declared = schema.declares(
+            ShapeType::Structure,
+            &[
+                ("Credentials", credentials.target()),
+                ("AssumedRoleUser", user.target()),
+                ("PackedPolicySize", Target::Simple(Scalar::Integer)),
+                ("SourceIdentity", Target::Simple(Scalar::String)),
+            ],
+        );
+        is_declared && Credentials::is_at(&credentials) && AssumedRoleUser::is_at(&user)
     }
 }
 

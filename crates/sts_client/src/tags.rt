@@ -1,5 +1,5 @@
 //! The tags of a session, which AssumeRole is given.
-ghost use Rattle.std.specs.Prelude.{◌≡◌, IfOk, OnOk, OnErr, true};
+ghost use Rattle.std.specs.Prelude.{◌≡◌, ◌↔◌, IsTrue, IfOk, OnOk, OnErr, true};
 ghost use Rattle.smithy_schema.specs.Consuming.{IsTaken};
 ghost use Rattle.smithy_shapes.specs.Value.{list, values_of};
 ghost use Rattle.smithy_shapes.specs.Site.{site_of};
@@ -7,8 +7,8 @@ ghost use Rattle.smithy_schema.specs.Reading.{Reads, StandsNot, IsRefused};
 ghost use Rattle.sts_client.specs.Shapes.{IsTag, AreTags, tag_values};
 
 use smithy_schema::{
-    ListConsumer, Schema, SerdeError, ShapeDeserializer, ShapeSerializer, StructConsumer,
-    WriteFields, read_field, write_field,
+    Accept, ListConsumer, Scalar, Schema, SerdeError, ShapeDeserializer, ShapeSerializer,
+    ShapeType, StructConsumer, Target, WriteFields, read_field, write_field,
 };
 use std::alloc::Global;
 
@@ -22,12 +22,12 @@ pub struct Tag {
 }
 
 impl StructConsumer for Tag {
-    ghost use Rattle.smithy_schema.specs.Fields.{TakesField, HasTargets};
-    ghost use Rattle.sts_client.specs.Shapes.{tag_targets, tag_fields};
+    ghost use Rattle.smithy_schema.specs.Fields.{TakesField};
+    ghost use Rattle.sts_client.specs.Shapes.{IsTag, tag_fields};
 
     ghost call = { TakesField tag_fields };
 
-    ghost can_take = { λ _ outer. HasTargets tag_targets outer };
+    ghost can_take = { λ _ outer. IsTag outer };
 
     fn member<D: ShapeDeserializer>(
         &mut self,
@@ -41,6 +41,22 @@ impl StructConsumer for Tag {
             return read_field(source, schema, &mut self.key);
         }
         read_field(source, schema, &mut self.value)
+    }
+}
+
+impl Accept for Tag {
+    ghost use Rattle.sts_client.specs.Shapes.{IsTag};
+
+    ghost place = { IsTag };
+
+    fn is_at(schema: &Schema<'_>) -> bool {
+        schema.declares(
+            ShapeType::Structure,
+            &[
+                ("Key", Target::Simple(Scalar::String)),
+                ("Value", Target::Simple(Scalar::String)),
+            ],
+        )
     }
 }
 
@@ -80,6 +96,19 @@ impl<'s> ListConsumer for Tags<'s> {
         source.read_struct(&self.shape, &mut tag)?;
         self.tags.push(tag)?;
         Ok(())
+    }
+}
+
+/// Whether a list of tags stands at the place.
+pub fn are_tags(schema: &Schema<'_>) -> bool
+    ensures { IsTrue result ↔ AreTags (site_of schema.now) }
+{
+    if schema.shape_type() != ShapeType::List || schema.is_sparse() {
+        return false;
+    }
+    match schema.member() {
+        Some(tag) => Tag::is_at(&tag),
+        None => false,
     }
 }
 

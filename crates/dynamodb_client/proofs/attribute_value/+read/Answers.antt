@@ -2,6 +2,7 @@ use Rattle.std.proofs.Common.{◌≡◌, ◌≢◌, ap, arith, rules, refl, ◌�
 use Rattle.std.proofs.lemmas.List.{map-append}
 use Rattle.std.proofs.lemmas.Result.{err_from_is_err_and}
 use Rattle.smithy_shapes.specs.declared.shape_type.Scalar.TheVariants as scalars
+use Rattle.smithy_shapes.specs.declared.place.Target.TheVariants.{Simple}
 use Rattle.smithy_shapes.specs.Site.{site_of, kind_at}
 use Rattle.smithy_shapes.specs.Value.{list, map, values_of, text, bytes, boolean}
 use Rattle.smithy_schema.specs.Reading.{depth}
@@ -15,7 +16,7 @@ use Rattle.dynamodb_client.specs.declared.attribute_value.AttributeValue.TheVari
 use Rattle.dynamodb_client.specs.declared.attribute_value.AttributeValue.TheViews as views
 use Rattle.dynamodb_client.proofs.Variants.{view-S, view-N, view-B, view-Bool, view-Null, view-M, view-L}
 use Rattle.dynamodb_client.proofs.Places.{entries_there, elements_there, attribute_union, entries_map, elements_list, entries_inside, elements_inside, variant_at, last_variant, map_variant, list_variant}
-use Rattle.dynamodb_client.proofs.HalfRead.{fails, not_opened, goes_no_further, ends, element_passed, element_fails, list_falls, entry_passed, entry_fails, map_falls, behind_variant, variant_fails, scalar_variant, scalar_fails, inner_variant, inner_fails}
+use Rattle.smithy_schema.proofs.HalfRead.{fails, not_opened, goes_no_further, ends, element_passed, element_fails, list_falls, entry_passed, entry_fails, map_falls, behind_variant, variant_fails, scalar_variant, scalar_fails, inner_variant, inner_fails}
 use Rattle.dynamodb_client.proofs.attribute_value.+read.Goals as goal
 
 pub read_attribute_value-open_struct-requires : goal.read_attribute_value-open_struct-requires
@@ -95,7 +96,7 @@ read_attribute_value-returns-in_err-value-clause-reads g t c =
     let half = begin_union w w max laws laws (itself w) _ _ _ _ kind c.in_ok-open_struct.ensures.ok in
     let step = rw (c.in-Member.is, c.open_struct.ensures.same) at (c.in_ok-member.ensures.ok half.due) in
     let p = err_from_is_err_and c.from_residual-in_err-value.result c.from_residual-in_err-value.ensures.1 in
-    rw (p.1, p.2) (variant_fails w max laws outer c.in-Member.member _ _ _ _ _ _ _ kind half step (rw (c.next_member.ensures.same, c.open_struct.ensures.same) at c.in_err-value.ensures.reads))
+    rw (p.1, p.2) (variant_fails w max laws attribute_value outer c.in-Member.member _ _ _ _ _ _ _ kind half step (rw (c.next_member.ensures.same, c.open_struct.ensures.same) at c.in_err-value.ensures.reads))
 
 pub read_attribute_value-next_member-requires-2 : goal.read_attribute_value-next_member-requires-2
 read_attribute_value-next_member-requires-2 g t c =
@@ -109,7 +110,7 @@ read_attribute_value-next_member-requires-2 g t c =
     let half = begin_union w w max laws laws (itself w) _ _ _ _ kind c.in_ok-open_struct.ensures.ok in
     let step = rw (c.in-Member.is, c.open_struct.ensures.same) at (c.in_ok-member.ensures.ok half.due) in
     let reads = rw (c.next_member.ensures.same, c.open_struct.ensures.same) at c.in_ok-value.ensures.reads in
-    let behind = behind_variant w max laws outer c.in-Member.member _ _ _ _ _ half step reads in
+    let behind = behind_variant w max laws attribute_value outer c.in-Member.member _ _ _ _ _ half step reads in
     let same = c.read_variant.ensures.same ∙ c.next_member.ensures.same ∙ c.open_struct.ensures.same in
     record { within = behind.within; place = union_has_members _ kind }
 
@@ -125,7 +126,7 @@ read_attribute_value-returns-in_err-next_member-clause-reads g t c =
     let half = begin_union w w max laws laws (itself w) _ _ _ _ kind c.in_ok-open_struct.ensures.ok in
     let step = rw (c.in-Member.is, c.open_struct.ensures.same) at (c.in_ok-member.ensures.ok half.due) in
     let reads = rw (c.next_member.ensures.same, c.open_struct.ensures.same) at c.in_ok-value.ensures.reads in
-    let behind = behind_variant w max laws outer c.in-Member.member _ _ _ _ _ half step reads in
+    let behind = behind_variant w max laws attribute_value outer c.in-Member.member _ _ _ _ _ half step reads in
     let same = c.read_variant.ensures.same ∙ c.next_member.ensures.same ∙ c.open_struct.ensures.same in
     let p = err_from_is_err_and c.from_residual-in_err-next_member.result c.from_residual-in_err-next_member.ensures.1 in
     rw (p.1, p.2) (goes_no_further w max laws attribute_value outer _ _ _ _ _ _ behind (rw same at c.in_err-next_member.ensures.refused))
@@ -142,7 +143,7 @@ read_attribute_value-returns-in_default-2 g t c =
     let half = begin_union w w max laws laws (itself w) _ _ _ _ kind c.in_ok-open_struct.ensures.ok in
     let step = rw (c.in-Member.is, c.open_struct.ensures.same) at (c.in_ok-member.ensures.ok half.due) in
     let reads = rw (c.next_member.ensures.same, c.open_struct.ensures.same) at c.in_ok-value.ensures.reads in
-    let behind = behind_variant w max laws outer c.in-Member.member _ _ _ _ _ half step reads in
+    let behind = behind_variant w max laws attribute_value outer c.in-Member.member _ _ _ _ _ half step reads in
     let same = c.read_variant.ensures.same ∙ c.next_member.ensures.same ∙ c.open_struct.ensures.same in
     let next = rw same at (c.in_ok-next_member.ensures.ok behind.due) in
     record {
@@ -162,7 +163,7 @@ read_attribute_value-returns-clause-reads g t c =
     let half = begin_union w w max laws laws (itself w) _ _ _ _ kind c.in_ok-open_struct.ensures.ok in
     let step = rw (c.in-Member.is, c.open_struct.ensures.same) at (c.in_ok-member.ensures.ok half.due) in
     let reads = rw (c.next_member.ensures.same, c.open_struct.ensures.same) at c.in_ok-value.ensures.reads in
-    let behind = behind_variant w max laws outer c.in-Member.member _ _ _ _ _ half step reads in
+    let behind = behind_variant w max laws attribute_value outer c.in-Member.member _ _ _ _ _ half step reads in
     let same = c.read_variant.ensures.same ∙ c.next_member.ensures.same ∙ c.open_struct.ensures.same in
     let leaves = rw (c.in-End.is, same) at (c.in_ok-next_member.ensures.ok behind.due) in
     ends w max laws attribute_value outer _ _ _ _ _ _ behind leaves refl
@@ -176,7 +177,7 @@ read_variant-returns-in_err-read_string-clause-reads g t c =
     let index : member.view.index ≡ Some 0 = search rules in
     let v = variant_at member 0 c.requires.place index in
     let p = err_from_is_err_and c.from_residual.result c.from_residual.ensures.1 in
-    rw (p.1, p.2) (scalar_fails scalars.String (λ s. text (string_bytes s)) r _ _ member _ v.target c.requires.due c.in_err-read_string.ensures.read)
+    rw (p.1, p.2) (scalar_fails scalars.String (λ s. text (string_bytes s)) attribute_value r _ _ member _ (v.target (Simple scalars.String) refl) c.requires.due c.in_err-read_string.ensures.read)
 
 pub read_variant-returns-then-eq-clause-reads : goal.read_variant-returns-then-eq-clause-reads
 read_variant-returns-then-eq-clause-reads g t c =
@@ -186,7 +187,7 @@ read_variant-returns-then-eq-clause-reads g t c =
     let member = site_of c.args.member.now in
     let index : member.view.index ≡ Some 0 = search rules in
     let v = variant_at member 0 c.requires.place index in
-    scalar_variant scalars.String (λ s. text (string_bytes s)) r _ _ member 0 _ (variants.S c.in_ok-read_string.field-0) index v.target c.in_ok-read_string.ensures.read (view-S c.in_ok-read_string.field-0)
+    scalar_variant scalars.String (λ s. text (string_bytes s)) attribute_value r _ _ member 0 _ (variants.S c.in_ok-read_string.field-0) index (v.target (Simple scalars.String) refl) c.in_ok-read_string.ensures.read (view-S c.in_ok-read_string.field-0)
 
 pub read_variant-returns-in_err-read_string-2-clause-reads : goal.read_variant-returns-in_err-read_string-2-clause-reads
 read_variant-returns-in_err-read_string-2-clause-reads g t c =
@@ -197,7 +198,7 @@ read_variant-returns-in_err-read_string-2-clause-reads g t c =
     let index : member.view.index ≡ Some 1 = search rules in
     let v = variant_at member 1 c.requires.place index in
     let p = err_from_is_err_and c.from_residual-in_err-read_string-2.result c.from_residual-in_err-read_string-2.ensures.1 in
-    rw (p.1, p.2) (scalar_fails scalars.String (λ s. text (string_bytes s)) r _ _ member _ v.target c.requires.due c.in_err-read_string-2.ensures.read)
+    rw (p.1, p.2) (scalar_fails scalars.String (λ s. text (string_bytes s)) attribute_value r _ _ member _ (v.target (Simple scalars.String) refl) c.requires.due c.in_err-read_string-2.ensures.read)
 
 pub read_variant-returns-then-eq-2-clause-reads : goal.read_variant-returns-then-eq-2-clause-reads
 read_variant-returns-then-eq-2-clause-reads g t c =
@@ -207,7 +208,7 @@ read_variant-returns-then-eq-2-clause-reads g t c =
     let member = site_of c.args.member.now in
     let index : member.view.index ≡ Some 1 = search rules in
     let v = variant_at member 1 c.requires.place index in
-    scalar_variant scalars.String (λ s. text (string_bytes s)) r _ _ member 1 _ (variants.N c.in_ok-read_string-2.field-0) index v.target c.in_ok-read_string-2.ensures.read (view-N c.in_ok-read_string-2.field-0)
+    scalar_variant scalars.String (λ s. text (string_bytes s)) attribute_value r _ _ member 1 _ (variants.N c.in_ok-read_string-2.field-0) index (v.target (Simple scalars.String) refl) c.in_ok-read_string-2.ensures.read (view-N c.in_ok-read_string-2.field-0)
 
 pub read_variant-returns-in_err-read_blob-clause-reads : goal.read_variant-returns-in_err-read_blob-clause-reads
 read_variant-returns-in_err-read_blob-clause-reads g t c =
@@ -218,7 +219,7 @@ read_variant-returns-in_err-read_blob-clause-reads g t c =
     let index : member.view.index ≡ Some 2 = search rules in
     let v = variant_at member 2 c.requires.place index in
     let p = err_from_is_err_and c.from_residual-in_err-read_blob.result c.from_residual-in_err-read_blob.ensures.1 in
-    rw (p.1, p.2) (scalar_fails scalars.Blob bytes r _ _ member _ v.target c.requires.due c.in_err-read_blob.ensures.read)
+    rw (p.1, p.2) (scalar_fails scalars.Blob bytes attribute_value r _ _ member _ (v.target (Simple scalars.Blob) refl) c.requires.due c.in_err-read_blob.ensures.read)
 
 pub read_variant-returns-then-eq-3-clause-reads : goal.read_variant-returns-then-eq-3-clause-reads
 read_variant-returns-then-eq-3-clause-reads g t c =
@@ -228,7 +229,7 @@ read_variant-returns-then-eq-3-clause-reads g t c =
     let member = site_of c.args.member.now in
     let index : member.view.index ≡ Some 2 = search rules in
     let v = variant_at member 2 c.requires.place index in
-    scalar_variant scalars.Blob bytes r _ _ member 2 _ (variants.B c.in_ok-read_blob.field-0) index v.target c.in_ok-read_blob.ensures.read (view-B c.in_ok-read_blob.field-0)
+    scalar_variant scalars.Blob bytes attribute_value r _ _ member 2 _ (variants.B c.in_ok-read_blob.field-0) index (v.target (Simple scalars.Blob) refl) c.in_ok-read_blob.ensures.read (view-B c.in_ok-read_blob.field-0)
 
 pub read_variant-returns-in_err-read_boolean-clause-reads : goal.read_variant-returns-in_err-read_boolean-clause-reads
 read_variant-returns-in_err-read_boolean-clause-reads g t c =
@@ -239,7 +240,7 @@ read_variant-returns-in_err-read_boolean-clause-reads g t c =
     let index : member.view.index ≡ Some 3 = search rules in
     let v = variant_at member 3 c.requires.place index in
     let p = err_from_is_err_and c.from_residual-in_err-read_boolean.result c.from_residual-in_err-read_boolean.ensures.1 in
-    rw (p.1, p.2) (scalar_fails scalars.Boolean boolean r _ _ member _ v.target c.requires.due c.in_err-read_boolean.ensures.read)
+    rw (p.1, p.2) (scalar_fails scalars.Boolean boolean attribute_value r _ _ member _ (v.target (Simple scalars.Boolean) refl) c.requires.due c.in_err-read_boolean.ensures.read)
 
 pub read_variant-returns-then-eq-4-clause-reads : goal.read_variant-returns-then-eq-4-clause-reads
 read_variant-returns-then-eq-4-clause-reads g t c =
@@ -249,7 +250,7 @@ read_variant-returns-then-eq-4-clause-reads g t c =
     let member = site_of c.args.member.now in
     let index : member.view.index ≡ Some 3 = search rules in
     let v = variant_at member 3 c.requires.place index in
-    scalar_variant scalars.Boolean boolean r _ _ member 3 _ (variants.Bool c.in_ok-read_boolean.field-0) index v.target c.in_ok-read_boolean.ensures.read (view-Bool c.in_ok-read_boolean.field-0)
+    scalar_variant scalars.Boolean boolean attribute_value r _ _ member 3 _ (variants.Bool c.in_ok-read_boolean.field-0) index (v.target (Simple scalars.Boolean) refl) c.in_ok-read_boolean.ensures.read (view-Bool c.in_ok-read_boolean.field-0)
 
 pub read_variant-returns-in_err-read_boolean-2-clause-reads : goal.read_variant-returns-in_err-read_boolean-2-clause-reads
 read_variant-returns-in_err-read_boolean-2-clause-reads g t c =
@@ -260,7 +261,7 @@ read_variant-returns-in_err-read_boolean-2-clause-reads g t c =
     let index : member.view.index ≡ Some 4 = search rules in
     let v = variant_at member 4 c.requires.place index in
     let p = err_from_is_err_and c.from_residual-in_err-read_boolean-2.result c.from_residual-in_err-read_boolean-2.ensures.1 in
-    rw (p.1, p.2) (scalar_fails scalars.Boolean boolean r _ _ member _ v.target c.requires.due c.in_err-read_boolean-2.ensures.read)
+    rw (p.1, p.2) (scalar_fails scalars.Boolean boolean attribute_value r _ _ member _ (v.target (Simple scalars.Boolean) refl) c.requires.due c.in_err-read_boolean-2.ensures.read)
 
 pub read_variant-returns-then-eq-5-clause-reads : goal.read_variant-returns-then-eq-5-clause-reads
 read_variant-returns-then-eq-5-clause-reads g t c =
@@ -270,7 +271,7 @@ read_variant-returns-then-eq-5-clause-reads g t c =
     let member = site_of c.args.member.now in
     let index : member.view.index ≡ Some 4 = search rules in
     let v = variant_at member 4 c.requires.place index in
-    scalar_variant scalars.Boolean boolean r _ _ member 4 _ (variants.Null c.in_ok-read_boolean-2.field-0) index v.target c.in_ok-read_boolean-2.ensures.read (view-Null c.in_ok-read_boolean-2.field-0)
+    scalar_variant scalars.Boolean boolean attribute_value r _ _ member 4 _ (variants.Null c.in_ok-read_boolean-2.field-0) index (v.target (Simple scalars.Boolean) refl) c.in_ok-read_boolean-2.ensures.read (view-Null c.in_ok-read_boolean-2.field-0)
 
 pub read_variant-read_attributes-requires : goal.read_variant-read_attributes-requires
 read_variant-read_attributes-requires g t c κs within =
@@ -291,7 +292,7 @@ read_variant-returns-in_err-read_attributes-clause-reads g t c =
     let index : member.view.index ≡ Some 5 = search rules in
     let v = variant_at member 5 c.requires.place index in
     let p = err_from_is_err_and c.from_residual-in_err-read_attributes.result c.from_residual-in_err-read_attributes.ensures.1 in
-    rw (p.1, p.2) (inner_fails (λ m. map (attribute_entries m.entries)) (d.wire s0) _ _ member _ c.in_err-read_attributes.ensures.reads)
+    rw (p.1, p.2) (inner_fails (λ m. map (attribute_entries m.entries)) attribute_value (d.wire s0) _ _ member _ c.in_err-read_attributes.ensures.reads)
 
 pub read_variant-returns-then-eq-6-clause-reads : goal.read_variant-returns-then-eq-6-clause-reads
 read_variant-returns-then-eq-6-clause-reads g t c =
@@ -301,7 +302,7 @@ read_variant-returns-then-eq-6-clause-reads g t c =
     let member = site_of c.args.member.now in
     let index : member.view.index ≡ Some 5 = search rules in
     let v = variant_at member 5 c.requires.place index in
-    inner_variant (λ m. map (attribute_entries m.entries)) (d.wire s0) _ _ member 5 _ (views.M c.in_ok-read_attributes.field-0) index c.in_ok-read_attributes.ensures.reads (view-M c.in_ok-read_attributes.field-0)
+    inner_variant (λ m. map (attribute_entries m.entries)) attribute_value (d.wire s0) _ _ member 5 _ (views.M c.in_ok-read_attributes.field-0) index c.in_ok-read_attributes.ensures.reads (view-M c.in_ok-read_attributes.field-0)
 
 pub read_variant-read_attribute_list-requires : goal.read_variant-read_attribute_list-requires
 read_variant-read_attribute_list-requires g t c κs within =
@@ -315,7 +316,7 @@ read_variant-read_attribute_list-requires g t c κs within =
     let not_3 : member.view.index ≢ Some 3 = search rules in
     let not_4 : member.view.index ≢ Some 4 = search rules in
     let not_5 : member.view.index ≢ Some 5 = search rules in
-    let index = last_variant member c.requires.place not_0 not_1 not_2 not_3 not_4 not_5 in
+    let index = last_variant member c.requires.place (not_5, (not_4, (not_3, (not_2, (not_1, (not_0, tt)))))) in
     (omega (arith, c.decreases), (search rules, (c.requires.due, list_variant member (variant_at member 6 c.requires.place index))))
 
 pub read_variant-returns-in_err-read_attribute_list-clause-reads : goal.read_variant-returns-in_err-read_attribute_list-clause-reads
@@ -325,7 +326,7 @@ read_variant-returns-in_err-read_attribute_list-clause-reads g t c =
     let r = reader (d.wire s0) (d.lifted s0) (d.tells_without_limits s0) (d.max_depth s0) in
     let member = site_of c.args.member.now in
     let p = err_from_is_err_and c.from_residual-in_err-read_attribute_list.result c.from_residual-in_err-read_attribute_list.ensures.1 in
-    rw (p.1, p.2) (inner_fails (λ v. list (values_of (attribute_values v.items))) (d.wire s0) _ _ member _ c.in_err-read_attribute_list.ensures.reads)
+    rw (p.1, p.2) (inner_fails (λ v. list (values_of (attribute_values v.items))) attribute_value (d.wire s0) _ _ member _ c.in_err-read_attribute_list.ensures.reads)
 
 pub read_variant-returns-clause-reads : goal.read_variant-returns-clause-reads
 read_variant-returns-clause-reads g t c =
@@ -339,8 +340,8 @@ read_variant-returns-clause-reads g t c =
     let not_3 : member.view.index ≢ Some 3 = search rules in
     let not_4 : member.view.index ≢ Some 4 = search rules in
     let not_5 : member.view.index ≢ Some 5 = search rules in
-    let index = last_variant member c.requires.place not_0 not_1 not_2 not_3 not_4 not_5 in
-    inner_variant (λ v. list (values_of (attribute_values v.items))) (d.wire s0) _ _ member 6 _ (views.L c.in_ok-read_attribute_list.field-0) index c.in_ok-read_attribute_list.ensures.reads (view-L c.in_ok-read_attribute_list.field-0)
+    let index = last_variant member c.requires.place (not_5, (not_4, (not_3, (not_2, (not_1, (not_0, tt)))))) in
+    inner_variant (λ v. list (values_of (attribute_values v.items))) attribute_value (d.wire s0) _ _ member 6 _ (views.L c.in_ok-read_attribute_list.field-0) index c.in_ok-read_attribute_list.ensures.reads (view-L c.in_ok-read_attribute_list.field-0)
 
 pub read_attributes-unreachable-unreachable : goal.read_attributes-unreachable-unreachable
 read_attributes-unreachable-unreachable g t c =
@@ -410,7 +411,7 @@ read_attributes-read_attribute_value-requires g t c κs within =
     let most : d.max_depth (d.settings c.next_key.new.self) ≡ max = ap d.max_depth same in
     let level : depth (d.state c.next_key.new.self) ≡ suc (depth (d.state c.args.source.now)) = ap length (step.outer ∙ half.outer) in
     let shallow = half.shallow in
-    (omega (arith, most, level, shallow, c.decreases), (search rules, (step.due, inside.attribute)))
+    (omega (arith, most, level, shallow, c.decreases), (search rules, (step.due, inside.1)))
 
 pub read_attributes-returns-in_err-value-clause-reads : goal.read_attributes-returns-in_err-value-clause-reads
 read_attributes-returns-in_err-value-clause-reads g t c =
@@ -426,7 +427,7 @@ read_attributes-returns-in_err-value-clause-reads g t c =
     let same = c.loop-entries.invariant.same in
     let step = rw (c.in-Some-2.is, same) at (c.in_ok-key.ensures.ok half.due c.args.schema.now.shapes.now c.args.schema.now.place kind) in
     let p = err_from_is_err_and c.from_residual-in_err-value.result c.from_residual-in_err-value.ensures.1 in
-    rw (p.1, p.2) (entry_fails w max laws attribute_value (λ m. map (attribute_entries m.entries)) outer (site_of c.in-Some.inner) _ _ _ _ _ _ _ _ kind inside half step (rw (c.next_key.ensures.same, same) at c.in_err-value.ensures.reads))
+    rw (p.1, p.2) (entry_fails w max laws attribute_value (λ m. map (attribute_entries m.entries)) outer (site_of c.in-Some.inner) _ _ _ _ _ _ _ _ kind inside.0 half step (rw (c.next_key.ensures.same, same) at c.in_err-value.ensures.reads))
 
 pub read_attributes-returns-in_err-put_attribute-clause-reads : goal.read_attributes-returns-in_err-put_attribute-clause-reads
 read_attributes-returns-in_err-put_attribute-clause-reads g t c =
@@ -455,7 +456,7 @@ read_attributes-loop-entries-preserved g t c =
     let reads = rw (c.next_key.ensures.same, same) at c.in_ok-value.ensures.reads in
     record {
       same = c.read_attribute_value.ensures.same ∙ c.next_key.ensures.same ∙ same;
-      half = entry_passed w max laws attribute_value outer (site_of c.in-Some.inner) _ _ _ _ _ _ _ (string_bytes c.in-Some-2.key) _ kind inside half step reads c.in_ok-put_attribute.ensures.ok;
+      half = entry_passed w max laws attribute_value outer (site_of c.in-Some.inner) _ _ _ _ _ _ _ (string_bytes c.in-Some-2.key) _ kind inside.0 half step reads c.in_ok-put_attribute.ensures.ok;
     }
 
 pub read_attributes-returns-clause-reads : goal.read_attributes-returns-clause-reads
@@ -488,7 +489,7 @@ read_attributes-loop-entries-smaller g t c =
     let step = rw (c.in-Some-2.is, same) at (c.in_ok-key.ensures.ok half.due c.args.schema.now.shapes.now c.args.schema.now.place kind) in
     let reads = rw (c.next_key.ensures.same, same) at c.in_ok-value.ensures.reads in
     rw (c.read_attribute_value.ensures.same, c.next_key.ensures.same, same)
-    (map_falls w max laws attribute_value outer (site_of c.in-Some.inner) _ _ _ _ _ (string_bytes c.in-Some-2.key) _ kind inside half step reads)
+    (map_falls w max laws attribute_value outer (site_of c.in-Some.inner) _ _ _ _ _ (string_bytes c.in-Some-2.key) _ kind inside.0 half step reads)
 
 pub read_attribute_list-unreachable-unreachable : goal.read_attribute_list-unreachable-unreachable
 read_attribute_list-unreachable-unreachable g t c =
@@ -558,7 +559,7 @@ read_attribute_list-read_attribute_value-requires g t c κs within =
     let most : d.max_depth (d.settings c.next_element.new.self) ≡ max = ap d.max_depth same in
     let level : depth (d.state c.next_element.new.self) ≡ suc (depth (d.state c.args.source.now)) = ap length (step.outer ∙ half.outer) in
     let shallow = half.shallow in
-    (omega (arith, most, level, shallow, c.decreases), (search rules, (step.due, inside.attribute)))
+    (omega (arith, most, level, shallow, c.decreases), (search rules, (step.due, inside.1)))
 
 pub read_attribute_list-returns-in_err-value-clause-reads : goal.read_attribute_list-returns-in_err-value-clause-reads
 read_attribute_list-returns-in_err-value-clause-reads g t c =
@@ -574,7 +575,7 @@ read_attribute_list-returns-in_err-value-clause-reads g t c =
     let same = c.loop-values.invariant.same in
     let step = rw (c.if-branch.true, same) at (c.in_ok-next_element.ensures.ok half.due c.args.schema.now.shapes.now c.args.schema.now.place kind) in
     let p = err_from_is_err_and c.from_residual-in_err-value.result c.from_residual-in_err-value.ensures.1 in
-    rw (p.1, p.2) (element_fails w max laws attribute_value (λ v. list (values_of (attribute_values v.items))) outer (site_of c.in-Some.inner) _ _ _ _ _ _ _ kind inside half step (rw (c.next_element.ensures.same, same) at c.in_err-value.ensures.reads))
+    rw (p.1, p.2) (element_fails w max laws attribute_value (λ v. list (values_of (attribute_values v.items))) outer (site_of c.in-Some.inner) _ _ _ _ _ _ _ kind inside.0 half step (rw (c.next_element.ensures.same, same) at c.in_err-value.ensures.reads))
 
 pub read_attribute_list-returns-in_err-push-clause-reads : goal.read_attribute_list-returns-in_err-push-clause-reads
 read_attribute_list-returns-in_err-push-clause-reads g t c =
@@ -607,7 +608,7 @@ read_attribute_list-loop-values-preserved g t c =
     let reads = rw (c.next_element.ensures.same, same) at c.in_ok-value.ensures.reads in
     record {
       same = c.read_attribute_value.ensures.same ∙ c.next_element.ensures.same ∙ same;
-      half = rw (c.in_ok-push.ensures.items, map-append attribute_value c.loop-values.values.items (c.in_ok-value.value ∷ [])) (element_passed w max laws attribute_value outer (site_of c.in-Some.inner) _ _ _ _ _ _ _ inside half step reads);
+      half = rw (c.in_ok-push.ensures.items, map-append attribute_value c.loop-values.values.items (c.in_ok-value.value ∷ [])) (element_passed w max laws attribute_value outer (site_of c.in-Some.inner) _ _ _ _ _ _ _ inside.0 half step reads);
     }
 
 pub read_attribute_list-returns-clause-reads : goal.read_attribute_list-returns-clause-reads
@@ -640,4 +641,4 @@ read_attribute_list-loop-values-smaller g t c =
     let step = rw (c.if-branch.true, same) at (c.in_ok-next_element.ensures.ok half.due c.args.schema.now.shapes.now c.args.schema.now.place kind) in
     let reads = rw (c.next_element.ensures.same, same) at c.in_ok-value.ensures.reads in
     rw (c.read_attribute_value.ensures.same, c.next_element.ensures.same, same)
-    (list_falls w max laws attribute_value outer (site_of c.in-Some.inner) _ _ _ _ _ _ inside half step reads)
+    (list_falls w max laws attribute_value outer (site_of c.in-Some.inner) _ _ _ _ _ _ inside.0 half step reads)

@@ -8,9 +8,10 @@ use Rattle.smithy_schema.proofs.WrittenFields.{called, not_had}
 use Rattle.smithy_schema.proofs.WrittenLemmas.{not_failed}
 use Rattle.smithy_schema.proofs.WrittenLists.{next_element, element_nests}
 use Rattle.dynamodb_client.specs.Attributes.{attribute_value, attribute_values, attribute_entries}
-use Rattle.dynamodb_client.specs.Writing.{WritesAs}
+use Rattle.smithy_schema.specs.Typed.{WritesAs}
 use Rattle.dynamodb_client.proofs.Variants.{is_union, view-S, view-N, view-B, view-Bool, view-Null, view-M, view-L}
-use Rattle.dynamodb_client.proofs.HalfWritten.{first_fails, union_fails, union_ends, list_fails, list_begun, element_fails, element_goes, map_fails, map_begun, key_fails, value_fails, entry_goes, counts, entry_nests}
+use Rattle.smithy_schema.proofs.HalfWritten.{first_fails, union_fails, union_ends, list_fails, list_begun, element_fails, element_goes, map_fails, map_begun, key_fails, value_fails, entry_goes, entry_nests}
+use Rattle.dynamodb_client.proofs.MapEntries.{counts}
 use Rattle.dynamodb_client.proofs.attribute_writing.+write.Goals as goal
 
 pub write_attribute_value-returns-in_err-begin_struct : goal.write_attribute_value-returns-in_err-begin_struct
@@ -160,7 +161,7 @@ write_attributes-returns-in_err-begin_map g t c =
     let told = c.len.ensures.len ∙ counts all in
     let p = err_from_is_err_and c.from_residual.result c.from_residual.ensures.1 in
     let call = c.in_err-begin_map.ensures in
-    record { writes = rw (p.1, p.2) (record { runs = map_fails s.after site all _ first _ _ told c.requires.sound call.failed call.refused; sound = tt }) }
+    record { writes = rw (p.1, p.2) (record { runs = map_fails s.after site (attribute_entries all) _ first _ _ told c.requires.sound call.failed call.refused; sound = tt }) }
 
 pub write_attributes-loop-key-init : goal.write_attributes-loop-key-init
 write_attributes-loop-key-init g t c =
@@ -172,7 +173,7 @@ write_attributes-loop-key-init g t c =
     let begun = c.iter-left.ensures.rest in
     record {
       sound = not_failed _ _ c.in_ok-begin_map.ensures.broken;
-      rest = λ r more. map_begun s.after site all _ first _ r told c.in_ok-begin_map.ensures.ok (rw begun at more);
+      rest = λ r more. map_begun s.after site (attribute_entries all) _ first _ r told c.in_ok-begin_map.ensures.ok (rw begun at more);
       nests = rw begun (omega arith);
     }
 
@@ -272,7 +273,7 @@ write_attribute_list-returns-in_err-begin_list g t c =
     let all = c.args.values.now in
     let p = err_from_is_err_and c.from_residual.result c.from_residual.ensures.1 in
     let call = c.in_err-begin_list.ensures in
-    record { writes = rw (p.1, p.2) (record { runs = list_fails s.after site all (length all) first _ _ refl c.requires.sound call.failed call.refused; sound = tt }) }
+    record { writes = rw (p.1, p.2) (record { runs = list_fails s.after attribute_value site all (length all) first _ _ refl c.requires.sound call.failed call.refused; sound = tt }) }
 
 pub write_attribute_list-loop-value-init : goal.write_attribute_list-loop-value-init
 write_attribute_list-loop-value-init g t c =
@@ -282,7 +283,7 @@ write_attribute_list-loop-value-init g t c =
     let all = c.args.values.now in
     record {
       sound = not_failed _ _ c.in_ok-begin_list.ensures.broken;
-      rest = λ r more. list_begun s.after site all (length all) first _ r refl c.in_ok-begin_list.ensures.ok more;
+      rest = λ r more. list_begun s.after attribute_value site all (length all) first _ r refl c.in_ok-begin_list.ensures.ok more;
       nests = omega arith;
     }
 

@@ -3,19 +3,19 @@ use Rattle.std.proofs.lemmas.Result.{err_from_is_err_and}
 use Rattle.smithy_schema.specs.Consuming.{reader}
 use Rattle.smithy_shapes.specs.Site.{site_of, kind_at}
 use Rattle.smithy_schema.proofs.ReadContainers.{structure_has_members}
-use Rattle.smithy_schema.proofs.ReadFields.{members_read, members_refused}
+use Rattle.smithy_schema.proofs.ReadFields.{has_structure, members_read, members_refused}
 use Rattle.sts_client.specs.Shapes.{response_fields}
 use Rattle.sts_client.proofs.response.read_response.Goals as goal
 
 pub read_struct-requires : goal.read_struct-requires
 read_struct-requires g c = record {
-  place = structure_has_members (kind_at (site_of c.args.schema.now)) c.requires.place.is_structure;
+  place = structure_has_members (kind_at (site_of c.args.schema.now)) (has_structure _ _ c.requires.place.members);
   allowed = c.requires.place;
 }
 
 pub returns-clause-ok : goal.returns-clause-ok
 returns-clause-ok g c =
-    members_read response_fields _ (site_of c.args.schema.now) (g.met.D.ShapeDeserializer.lawful _) c.requires.place.is_structure _ _ _ _ _ refl c.in_ok-read_struct.ensures.consumes c.in_ok-read_struct.ensures.takes
+    members_read response_fields _ (site_of c.args.schema.now) (g.met.D.ShapeDeserializer.lawful _) (has_structure _ _ c.requires.place.members) _ _ _ _ _ refl c.in_ok-read_struct.ensures.consumes c.in_ok-read_struct.ensures.takes
 
 pub returns-in_err-read_struct-clause-refused : goal.returns-in_err-read_struct-clause-refused
 returns-in_err-read_struct-clause-refused g c =
@@ -23,5 +23,5 @@ returns-in_err-read_struct-clause-refused g c =
     let d = g.D.ShapeDeserializer in
     let s = d.settings c.args.source.now in
     rw (p.1, p.2)
-    (λ fault due. members_refused response_fields (reader (d.wire s) (d.lifted s) (d.tells_without_limits s) (d.max_depth s)) (site_of c.args.schema.now) (g.met.D.ShapeDeserializer.lawful s) c.requires.place.is_structure
+    (λ fault due. members_refused response_fields (reader (d.wire s) (d.lifted s) (d.tells_without_limits s) (d.max_depth s)) (site_of c.args.schema.now) (g.met.D.ShapeDeserializer.lawful s) (has_structure _ _ c.requires.place.members)
     _ _ _ _ _ c.in_err-read_struct.ensures.consumes c.in_err-read_struct.field-0.0 refl fault due)

@@ -1,12 +1,14 @@
-use Rattle.std.proofs.Common.{◌≡◌, [], rules, refl, sym}
+use Rattle.std.proofs.Common.{◌≡◌, [], rules, refl, sym, ◌∙◌, subst}
 use Rattle.std.proofs.lemmas.Result.{err_from_is_err_and}
 use Rattle.smithy_schema.specs.Consuming.{reader}
 use Rattle.smithy_shapes.specs.Site.{site_of}
+use Rattle.smithy_shapes.specs.Lemmas.Options.{same_some}
+use Rattle.sts_client.specs.Shapes.{IsTag}
 use Rattle.sts_client.proofs.TagFacts.{through_tags, tags_read, tags_refused}
 use Rattle.sts_client.proofs.tags.read_tags.Goals as goal
 
 pub invariant_of-tags : goal.invariant_of-tags
-invariant_of-tags g c = record { is_tag = c.requires.place.tags (site_of c.in-Some.shape) (sym c.in-Some.ensures) }
+invariant_of-tags g c = record { is_tag = subst IsTag (same_some _ _ (sym c.requires.place.inside ∙ sym c.in-Some.ensures)) c.requires.place.is_tag }
 
 pub returns-clause-ok : goal.returns-clause-ok
 returns-clause-ok g c =

@@ -1,14 +1,16 @@
-use Rattle.std.proofs.Common.{◌≡◌, ◌≢◌, arith, rules, refl, inr, Some, string_bytes}
+use Rattle.std.proofs.Common.{◌≡◌, ◌≢◌, arith, rules, refl, sym, ◌∙◌, subst, inr, Some, string_bytes}
 use Rattle.std.proofs.lemmas.Result.{err_from_is_err_and}
 use Rattle.smithy_shapes.specs.declared.shape_type.Scalar.TheVariants as scalars
+use Rattle.smithy_shapes.specs.declared.place.Target.TheVariants.{Simple}
 use Rattle.smithy_shapes.specs.Site.{site_of}
+use Rattle.smithy_shapes.specs.Lemmas.Options.{same_some}
 use Rattle.smithy_shapes.specs.Value.{text, map}
 use Rattle.smithy_schema.specs.Fields.{passed, broke}
 use Rattle.smithy_schema.proofs.ReadFields.{filled_field, field_taken}
-use Rattle.dynamodb_client.specs.Attributes.{attribute_entries}
-use Rattle.dynamodb_client.specs.PutItem.{put_item_fields}
-use Rattle.dynamodb_client.proofs.HalfRead.{taken}
-use Rattle.dynamodb_client.proofs.Places.{member_at, second_member}
+use Rattle.smithy_schema.proofs.DeclaredMembers.{at_index, at_last, count_of, target_there}
+use Rattle.dynamodb_client.specs.Attributes.{attribute_entries, AreEntries}
+use Rattle.dynamodb_client.specs.PutItem.{put_item_fields, IsPutItem}
+use Rattle.smithy_schema.proofs.HalfRead.{taken}
 use Rattle.dynamodb_client.proofs.put_item.PutItemInputStructConsumer.member.Goals as goal
 
 pub returns-in_default-clause-called : goal.returns-in_default-clause-called
@@ -19,16 +21,16 @@ returns-then-eq-clause-called g c =
     let site = site_of c.in-Some.schema.now in
     let allowed = rw c.in-Some.is at c.requires.allowed in
     let index : site.view.index ≡ Some 0 = search rules in
-    let there = member_at site allowed 0 index in
-    rw c.in-Some.is (filled_field put_item_fields scalars.String (λ s. text (string_bytes s)) _ site (λ f. record c.args.self.now { table_name = f }) _ _ _ _ 0 _ index (there.1.table_name site there.2) (omega arith) (λ x. refl) c.read_field.ensures.fills)
+    let there = at_index IsPutItem site allowed 0 index in
+    rw c.in-Some.is (filled_field put_item_fields scalars.String (λ s. text (string_bytes s)) _ site (λ f. record c.args.self.now { table_name = f }) _ _ _ _ 0 _ index (target_there _ _ there.0 there.1.members 0 site there.2 (Simple scalars.String) refl) (omega arith) (λ x. refl) c.read_field.ensures.fills)
 
 pub read_attributes-requires : goal.read_attributes-requires
 read_attributes-requires g c =
     let site = site_of c.in-Some.schema.now in
     let allowed = rw c.in-Some.is at c.requires.allowed in
     let other : site.view.index ≢ Some 0 = search rules in
-    let there = member_at site allowed 1 (second_member site allowed other) in
-    record { due = c.requires.due; place = there.1.item site there.2 }
+    let there = at_index IsPutItem site allowed 1 (at_last IsPutItem site allowed 1 (λ o is. count_of _ _ o is.members) (other, tt)) in
+    record { due = c.requires.due; place = subst AreEntries (same_some _ _ (sym there.1.second ∙ there.2)) there.1.are_entries }
 
 pub returns-in_err-read_attributes-clause-called : goal.returns-in_err-read_attributes-clause-called
 returns-in_err-read_attributes-clause-called g c =
@@ -40,7 +42,7 @@ returns-clause-called g c =
     let site = site_of c.in-Some.schema.now in
     let allowed = rw c.in-Some.is at c.requires.allowed in
     let other : site.view.index ≢ Some 0 = search rules in
-    let index = second_member site allowed other in
+    let index = at_last IsPutItem site allowed 1 (λ o is. count_of _ _ o is.members) (other, tt) in
     rw c.in-Some.is (field_taken put_item_fields _ site _ _ _ _ 1 (map (attribute_entries c.in_ok-read_attributes.field-0.entries)) index (omega arith) refl c.in_ok-read_attributes.ensures.reads.ok)
 
 pub returns-clause-rests : goal.returns-clause-rests

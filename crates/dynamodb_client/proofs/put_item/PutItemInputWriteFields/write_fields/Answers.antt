@@ -6,7 +6,7 @@ use Rattle.smithy_schema.specs.TextMaps.{text_value}
 use Rattle.smithy_schema.specs.Writing.{events}
 use Rattle.smithy_schema.proofs.WrittenFields.{first_field, field_fails, last_field, value_added, nothing_added}
 use Rattle.dynamodb_client.specs.Attributes.{attribute_entries}
-use Rattle.dynamodb_client.specs.Writing.{WritesAs}
+use Rattle.smithy_schema.specs.Typed.{WritesAs}
 use Rattle.dynamodb_client.proofs.put_item.PutItemInputWriteFields.write_fields.Goals as goal
 
 pub returns-in_err-write_field : goal.returns-in_err-write_field

@@ -1,12 +1,12 @@
-use Rattle.std.proofs.Common.{◌≡◌, ◌≢◌, arith, rules, refl, sym, Some, string_bytes}
+use Rattle.std.proofs.Common.{◌≡◌, ◌≢◌, arith, rules, refl, Some, string_bytes}
 use Rattle.smithy_shapes.specs.declared.shape_type.Scalar.TheVariants as scalars
 use Rattle.smithy_shapes.specs.Site.{site_of}
 use Rattle.smithy_shapes.specs.Value.{text, instant}
 use Rattle.smithy_schema.specs.Fields.{passed}
-use Rattle.smithy_shapes.specs.Lemmas.Options.{same_some}
-use Rattle.smithy_schema.proofs.ReadFields.{filled_field, target_of}
-use Rattle.sts_client.specs.Shapes.{credentials_targets, credentials_fields}
-use Rattle.sts_client.proofs.ShapeFacts.{fourth}
+use Rattle.smithy_shapes.specs.declared.place.Target.TheVariants.{Simple}
+use Rattle.smithy_schema.proofs.ReadFields.{filled_field}
+use Rattle.smithy_schema.proofs.DeclaredMembers.{at_index, at_last, count_of, target_there}
+use Rattle.sts_client.specs.Shapes.{IsCredentials, credentials_fields}
 use Rattle.sts_client.proofs.credentials.CredentialsStructConsumer.member.Goals as goal
 
 pub returns-in_default-clause-called : goal.returns-in_default-clause-called
@@ -17,24 +17,24 @@ returns-then-eq-clause-called g c =
     let site = site_of c.in-Some.schema.now in
     let allowed = rw c.in-Some.is at c.requires.allowed in
     let index : site.view.index ≡ Some 0 = search rules in
-    let target = sym (same_some _ _ (target_of credentials_targets site allowed 0 index)) in
-    rw c.in-Some.is (filled_field credentials_fields scalars.String (λ s. text (string_bytes s)) _ site (λ f. record c.args.self.now { access_key_id = f }) _ _ _ _ 0 _ index target (omega arith) (λ x. refl) c.read_field.ensures.fills)
+    let there = at_index IsCredentials site allowed 0 index in
+    rw c.in-Some.is (filled_field credentials_fields scalars.String (λ s. text (string_bytes s)) _ site (λ f. record c.args.self.now { access_key_id = f }) _ _ _ _ 0 _ index (target_there _ _ there.0 there.1 0 site there.2 (Simple scalars.String) refl) (omega arith) (λ x. refl) c.read_field.ensures.fills)
 
 pub returns-then-eq-2-clause-called : goal.returns-then-eq-2-clause-called
 returns-then-eq-2-clause-called g c =
     let site = site_of c.in-Some.schema.now in
     let allowed = rw c.in-Some.is at c.requires.allowed in
     let index : site.view.index ≡ Some 1 = search rules in
-    let target = sym (same_some _ _ (target_of credentials_targets site allowed 1 index)) in
-    rw c.in-Some.is (filled_field credentials_fields scalars.String (λ s. text (string_bytes s)) _ site (λ f. record c.args.self.now { secret_access_key = f }) _ _ _ _ 1 _ index target (omega arith) (λ x. refl) c.read_field-then-eq-2.ensures.fills)
+    let there = at_index IsCredentials site allowed 1 index in
+    rw c.in-Some.is (filled_field credentials_fields scalars.String (λ s. text (string_bytes s)) _ site (λ f. record c.args.self.now { secret_access_key = f }) _ _ _ _ 1 _ index (target_there _ _ there.0 there.1 1 site there.2 (Simple scalars.String) refl) (omega arith) (λ x. refl) c.read_field-then-eq-2.ensures.fills)
 
 pub returns-then-eq-3-clause-called : goal.returns-then-eq-3-clause-called
 returns-then-eq-3-clause-called g c =
     let site = site_of c.in-Some.schema.now in
     let allowed = rw c.in-Some.is at c.requires.allowed in
     let index : site.view.index ≡ Some 2 = search rules in
-    let target = sym (same_some _ _ (target_of credentials_targets site allowed 2 index)) in
-    rw c.in-Some.is (filled_field credentials_fields scalars.String (λ s. text (string_bytes s)) _ site (λ f. record c.args.self.now { session_token = f }) _ _ _ _ 2 _ index target (omega arith) (λ x. refl) c.read_field-then-eq-3.ensures.fills)
+    let there = at_index IsCredentials site allowed 2 index in
+    rw c.in-Some.is (filled_field credentials_fields scalars.String (λ s. text (string_bytes s)) _ site (λ f. record c.args.self.now { session_token = f }) _ _ _ _ 2 _ index (target_there _ _ there.0 there.1 2 site there.2 (Simple scalars.String) refl) (omega arith) (λ x. refl) c.read_field-then-eq-3.ensures.fills)
 
 pub returns-clause-called : goal.returns-clause-called
 returns-clause-called g c =
@@ -43,6 +43,6 @@ returns-clause-called g c =
     let not_0 : site.view.index ≢ Some 0 = search rules in
     let not_1 : site.view.index ≢ Some 1 = search rules in
     let not_2 : site.view.index ≢ Some 2 = search rules in
-    let index = fourth site allowed not_0 not_1 not_2 in
-    let target = sym (same_some _ _ (target_of credentials_targets site allowed 3 index)) in
-    rw c.in-Some.is (filled_field credentials_fields scalars.Timestamp instant _ site (λ f. record c.args.self.now { expiration = f }) _ _ _ _ 3 _ index target (omega arith) (λ x. refl) c.read_field-2.ensures.fills)
+    let index = at_last IsCredentials site allowed 3 (λ o is. count_of _ _ o is) (not_2, (not_1, (not_0, tt))) in
+    let there = at_index IsCredentials site allowed 3 index in
+    rw c.in-Some.is (filled_field credentials_fields scalars.Timestamp instant _ site (λ f. record c.args.self.now { expiration = f }) _ _ _ _ 3 _ index (target_there _ _ there.0 there.1 3 site there.2 (Simple scalars.Timestamp) refl) (omega arith) (λ x. refl) c.read_field-2.ensures.fills)

@@ -1,12 +1,14 @@
-use Rattle.std.proofs.Common.{◌≡◌, ◌≢◌, arith, rules, refl, Some, string_bytes}
+use Rattle.std.proofs.Common.{◌≡◌, ◌≢◌, arith, rules, refl, sym, ◌∙◌, subst, Some, string_bytes}
 use Rattle.std.proofs.lemmas.Result.{err_from_is_err_and}
 use Rattle.smithy_shapes.specs.declared.shape_type.Scalar.TheVariants as scalars
+use Rattle.smithy_shapes.specs.declared.place.Target.TheVariants.{Simple}
 use Rattle.smithy_shapes.specs.Site.{site_of}
 use Rattle.smithy_shapes.specs.Value.{text, whole, list, values_of}
+use Rattle.smithy_shapes.specs.Lemmas.Options.{same_some}
 use Rattle.smithy_schema.specs.Fields.{passed, broke}
 use Rattle.smithy_schema.proofs.ReadFields.{filled_field, field_taken}
-use Rattle.sts_client.specs.Shapes.{request_fields, IsRequest, tag_values}
-use Rattle.sts_client.proofs.ShapeFacts.{at_index, fifth}
+use Rattle.smithy_schema.proofs.DeclaredMembers.{at_index, at_last, count_of, target_there}
+use Rattle.sts_client.specs.Shapes.{request_fields, IsRequest, AreTags, tag_values}
 use Rattle.sts_client.proofs.request.AssumeRoleRequestStructConsumer.member.Goals as goal
 
 pub returns-in_default-clause-called : goal.returns-in_default-clause-called
@@ -18,7 +20,7 @@ returns-then-eq-clause-called g c =
     let allowed = rw c.in-Some.is at c.requires.allowed in
     let index : site.view.index ≡ Some 0 = search rules in
     let there = at_index IsRequest site allowed 0 index in
-    rw c.in-Some.is (filled_field request_fields scalars.String (λ s. text (string_bytes s)) _ site (λ f. record c.args.self.now { role_arn = f }) _ _ _ _ 0 _ index (there.1.role_arn site there.2) (omega arith) (λ x. refl) c.read_field.ensures.fills)
+    rw c.in-Some.is (filled_field request_fields scalars.String (λ s. text (string_bytes s)) _ site (λ f. record c.args.self.now { role_arn = f }) _ _ _ _ 0 _ index (target_there _ _ there.0 there.1.members 0 site there.2 (Simple scalars.String) refl) (omega arith) (λ x. refl) c.read_field.ensures.fills)
 
 pub returns-then-eq-2-clause-called : goal.returns-then-eq-2-clause-called
 returns-then-eq-2-clause-called g c =
@@ -26,7 +28,7 @@ returns-then-eq-2-clause-called g c =
     let allowed = rw c.in-Some.is at c.requires.allowed in
     let index : site.view.index ≡ Some 1 = search rules in
     let there = at_index IsRequest site allowed 1 index in
-    rw c.in-Some.is (filled_field request_fields scalars.String (λ s. text (string_bytes s)) _ site (λ f. record c.args.self.now { role_session_name = f }) _ _ _ _ 1 _ index (there.1.role_session_name site there.2) (omega arith) (λ x. refl) c.read_field-then-eq-2.ensures.fills)
+    rw c.in-Some.is (filled_field request_fields scalars.String (λ s. text (string_bytes s)) _ site (λ f. record c.args.self.now { role_session_name = f }) _ _ _ _ 1 _ index (target_there _ _ there.0 there.1.members 1 site there.2 (Simple scalars.String) refl) (omega arith) (λ x. refl) c.read_field-then-eq-2.ensures.fills)
 
 pub returns-then-eq-3-clause-called : goal.returns-then-eq-3-clause-called
 returns-then-eq-3-clause-called g c =
@@ -34,7 +36,7 @@ returns-then-eq-3-clause-called g c =
     let allowed = rw c.in-Some.is at c.requires.allowed in
     let index : site.view.index ≡ Some 2 = search rules in
     let there = at_index IsRequest site allowed 2 index in
-    rw c.in-Some.is (filled_field request_fields scalars.String (λ s. text (string_bytes s)) _ site (λ f. record c.args.self.now { policy = f }) _ _ _ _ 2 _ index (there.1.policy site there.2) (omega arith) (λ x. refl) c.read_field-then-eq-3.ensures.fills)
+    rw c.in-Some.is (filled_field request_fields scalars.String (λ s. text (string_bytes s)) _ site (λ f. record c.args.self.now { policy = f }) _ _ _ _ 2 _ index (target_there _ _ there.0 there.1.members 2 site there.2 (Simple scalars.String) refl) (omega arith) (λ x. refl) c.read_field-then-eq-3.ensures.fills)
 
 pub returns-then-eq-4-clause-called : goal.returns-then-eq-4-clause-called
 returns-then-eq-4-clause-called g c =
@@ -42,7 +44,7 @@ returns-then-eq-4-clause-called g c =
     let allowed = rw c.in-Some.is at c.requires.allowed in
     let index : site.view.index ≡ Some 3 = search rules in
     let there = at_index IsRequest site allowed 3 index in
-    rw c.in-Some.is (filled_field request_fields scalars.Integer whole _ site (λ f. record c.args.self.now { duration_seconds = f }) _ _ _ _ 3 _ index (there.1.duration_seconds site there.2) (omega arith) (λ x. refl) c.read_field-then-eq-4.ensures.fills)
+    rw c.in-Some.is (filled_field request_fields scalars.Integer whole _ site (λ f. record c.args.self.now { duration_seconds = f }) _ _ _ _ 3 _ index (target_there _ _ there.0 there.1.members 3 site there.2 (Simple scalars.Integer) refl) (omega arith) (λ x. refl) c.read_field-then-eq-4.ensures.fills)
 
 pub read_tags-requires : goal.read_tags-requires
 read_tags-requires g c =
@@ -52,9 +54,9 @@ read_tags-requires g c =
     let not_1 : site.view.index ≢ Some 1 = search rules in
     let not_2 : site.view.index ≢ Some 2 = search rules in
     let not_3 : site.view.index ≢ Some 3 = search rules in
-    let index = fifth site allowed not_0 not_1 not_2 not_3 in
+    let index = at_last IsRequest site allowed 4 (λ o is. count_of _ _ o is.members) (not_3, (not_2, (not_1, (not_0, tt)))) in
     let there = at_index IsRequest site allowed 4 index in
-    record { place = there.1.tags site there.2 }
+    record { place = subst AreTags (same_some _ _ (sym there.1.fifth ∙ there.2)) there.1.are_tags }
 
 pub returns-in_err-tags-clause-called : goal.returns-in_err-tags-clause-called
 returns-in_err-tags-clause-called g c =
@@ -69,6 +71,6 @@ returns-clause-called g c =
     let not_1 : site.view.index ≢ Some 1 = search rules in
     let not_2 : site.view.index ≢ Some 2 = search rules in
     let not_3 : site.view.index ≢ Some 3 = search rules in
-    let index = fifth site allowed not_0 not_1 not_2 not_3 in
+    let index = at_last IsRequest site allowed 4 (λ o is. count_of _ _ o is.members) (not_3, (not_2, (not_1, (not_0, tt)))) in
     let there = at_index IsRequest site allowed 4 index in
     rw c.in-Some.is (field_taken request_fields _ site _ _ _ _ 4 (list (values_of (tag_values c.in_ok-tags.tags.items))) index (omega arith) refl c.in_ok-tags.ensures.ok)

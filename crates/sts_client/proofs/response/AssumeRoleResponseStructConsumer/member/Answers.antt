@@ -1,12 +1,14 @@
-use Rattle.std.proofs.Common.{◌≡◌, ◌≢◌, arith, rules, refl, Some, string_bytes}
+use Rattle.std.proofs.Common.{◌≡◌, ◌≢◌, arith, rules, refl, sym, ◌∙◌, subst, Some, string_bytes}
 use Rattle.std.proofs.lemmas.Result.{err_from_is_err_and}
 use Rattle.smithy_shapes.specs.declared.shape_type.Scalar.TheVariants as scalars
+use Rattle.smithy_shapes.specs.declared.place.Target.TheVariants.{Simple}
 use Rattle.smithy_shapes.specs.Site.{site_of}
 use Rattle.smithy_shapes.specs.Value.{text, whole}
+use Rattle.smithy_shapes.specs.Lemmas.Options.{same_some}
 use Rattle.smithy_schema.specs.Fields.{passed, broke, structure_with}
 use Rattle.smithy_schema.proofs.ReadFields.{filled_field, field_taken}
-use Rattle.sts_client.specs.Shapes.{response_fields, IsResponse, credentials_fields, user_fields}
-use Rattle.sts_client.proofs.ShapeFacts.{at_index, fourth_member}
+use Rattle.smithy_schema.proofs.DeclaredMembers.{at_index, at_last, count_of, target_there}
+use Rattle.sts_client.specs.Shapes.{response_fields, IsResponse, IsCredentials, IsUser, credentials_fields, user_fields}
 use Rattle.sts_client.proofs.response.AssumeRoleResponseStructConsumer.member.Goals as goal
 
 pub returns-in_default-clause-called : goal.returns-in_default-clause-called
@@ -18,7 +20,7 @@ read_credentials-requires g c =
     let allowed = rw c.in-Some.is at c.requires.allowed in
     let index : site.view.index ≡ Some 0 = search rules in
     let there = at_index IsResponse site allowed 0 index in
-    record { place = there.1.credentials site there.2 }
+    record { place = subst IsCredentials (same_some _ _ (sym there.1.first ∙ there.2)) there.1.are_credentials }
 
 pub returns-in_err-read_credentials-clause-called : goal.returns-in_err-read_credentials-clause-called
 returns-in_err-read_credentials-clause-called g c =
@@ -39,7 +41,7 @@ read_user-requires g c =
     let allowed = rw c.in-Some.is at c.requires.allowed in
     let index : site.view.index ≡ Some 1 = search rules in
     let there = at_index IsResponse site allowed 1 index in
-    record { place = there.1.assumed_role_user site there.2 }
+    record { place = subst IsUser (same_some _ _ (sym there.1.second ∙ there.2)) there.1.is_user }
 
 pub returns-in_err-read_user-clause-called : goal.returns-in_err-read_user-clause-called
 returns-in_err-read_user-clause-called g c =
@@ -60,7 +62,7 @@ returns-then-eq-3-clause-called g c =
     let allowed = rw c.in-Some.is at c.requires.allowed in
     let index : site.view.index ≡ Some 2 = search rules in
     let there = at_index IsResponse site allowed 2 index in
-    rw c.in-Some.is (filled_field response_fields scalars.Integer whole _ site (λ f. record c.args.self.now { packed_policy_size = f }) _ _ _ _ 2 _ index (there.1.packed_policy_size site there.2) (omega arith) (λ x. refl) c.read_field.ensures.fills)
+    rw c.in-Some.is (filled_field response_fields scalars.Integer whole _ site (λ f. record c.args.self.now { packed_policy_size = f }) _ _ _ _ 2 _ index (target_there _ _ there.0 there.1.members 2 site there.2 (Simple scalars.Integer) refl) (omega arith) (λ x. refl) c.read_field.ensures.fills)
 
 pub returns-clause-called : goal.returns-clause-called
 returns-clause-called g c =
@@ -69,6 +71,6 @@ returns-clause-called g c =
     let not_0 : site.view.index ≢ Some 0 = search rules in
     let not_1 : site.view.index ≢ Some 1 = search rules in
     let not_2 : site.view.index ≢ Some 2 = search rules in
-    let index = fourth_member site allowed not_0 not_1 not_2 in
+    let index = at_last IsResponse site allowed 3 (λ o is. count_of _ _ o is.members) (not_2, (not_1, (not_0, tt))) in
     let there = at_index IsResponse site allowed 3 index in
-    rw c.in-Some.is (filled_field response_fields scalars.String (λ s. text (string_bytes s)) _ site (λ f. record c.args.self.now { source_identity = f }) _ _ _ _ 3 _ index (there.1.source_identity site there.2) (omega arith) (λ x. refl) c.read_field-2.ensures.fills)
+    rw c.in-Some.is (filled_field response_fields scalars.String (λ s. text (string_bytes s)) _ site (λ f. record c.args.self.now { source_identity = f }) _ _ _ _ 3 _ index (target_there _ _ there.0 there.1.members 3 site there.2 (Simple scalars.String) refl) (omega arith) (λ x. refl) c.read_field-2.ensures.fills)

@@ -1,11 +1,17 @@
 use Rattle.std.proofs.Common.{refl}
 use Rattle.std.proofs.lemmas.Result.{err_from_is_err_and}
 use Rattle.smithy_schema.specs.Consuming.{reader}
-use Rattle.smithy_shapes.specs.Site.{site_of}
-use Rattle.smithy_schema.proofs.ReadFields.{fields_read, fields_refused}
-use Rattle.sts_client.specs.Shapes.{tag_targets, tag_fields, put, broke}
-use Rattle.sts_client.proofs.TagFacts.{tag_shape}
+use Rattle.smithy_shapes.specs.Site.{site_of, kind_at}
+use Rattle.smithy_schema.proofs.ReadContainers.{structure_has_members}
+use Rattle.smithy_schema.proofs.ReadFields.{has_structure, fields_read, fields_refused}
+use Rattle.sts_client.specs.Shapes.{tag_members, tag_fields, put, broke}
 use Rattle.sts_client.proofs.tags.TagsListConsumer.element.Goals as goal
+
+pub read_struct-requires : goal.read_struct-requires
+read_struct-requires g c = record {
+  place = structure_has_members (kind_at (site_of c.args.self.now.shape)) (has_structure _ _ c.args.self.now.is_tag);
+  allowed = c.args.self.now.is_tag;
+}
 
 pub returns-in_err-read_struct-clause-called : goal.returns-in_err-read_struct-clause-called
 returns-in_err-read_struct-clause-called g c =
@@ -14,7 +20,7 @@ returns-in_err-read_struct-clause-called g c =
     let s = d.settings c.args.source.now in
     let site = site_of c.args.self.now.shape in
     rw (p.1, p.2) (
-      broke (λ fault due. fields_refused tag_fields tag_targets (reader (d.wire s) (d.lifted s) (d.tells_without_limits s) (d.max_depth s)) site (g.met.D.ShapeDeserializer.lawful s) (tag_shape site c.args.self.now.is_tag)
+      broke (λ fault due. fields_refused tag_fields tag_members (reader (d.wire s) (d.lifted s) (d.tells_without_limits s) (d.max_depth s)) site (g.met.D.ShapeDeserializer.lawful s) c.args.self.now.is_tag
           _ _ _ _ _ c.in_err-read_struct.ensures.consumes c.in_err-read_struct.field-0.0 refl fault due),
       refl,
     )
@@ -29,6 +35,6 @@ returns-clause-called g c =
     let site = site_of c.args.self.now.shape in
     rw c.in_ok-push.ensures.items (
       put c.read_struct.new.consumer
-          (fields_read tag_fields tag_targets _ site (g.met.D.ShapeDeserializer.lawful _) (tag_shape site c.args.self.now.is_tag) _ _ _ _ _ refl c.in_ok-read_struct.ensures.consumes c.in_ok-read_struct.ensures.takes),
+          (fields_read tag_fields tag_members _ site (g.met.D.ShapeDeserializer.lawful _) c.args.self.now.is_tag _ _ _ _ _ refl c.in_ok-read_struct.ensures.consumes c.in_ok-read_struct.ensures.takes),
       refl,
     )

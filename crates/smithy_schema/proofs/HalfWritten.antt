@@ -1,5 +1,5 @@
--- An attribute's value, a map of such values or a list of them that is half written.
-use Rattle.std.proofs.Common.{arith, ◌≡◌, ◌↔◌, ◌≤◌, max, ℕ, suc, List, [], ◌∷◌, ◌++◌, length, String, Global, Some, Bool, true, false, Result, Ok, Err, IsErrOf, refl, sym, ◌∙◌, ap, subst, append_assoc}
+-- A value of a caller's own type that is half written by the serializer's calls.
+use Rattle.std.proofs.Common.{arith, ◌≡◌, ◌↔◌, ◌≤◌, max, ℕ, List, [], ◌∷◌, ◌++◌, map as mapped, length, Some, Bool, true, false, Result, Ok, Err, IsErrOf, refl, sym, ◌∙◌, ap, subst, append_assoc}
 use Rattle.std.proofs.Math.Nat.{le-max_left, le-max_right}
 use Rattle.smithy_schema.specs.declared.error.SerdeError.{SerdeError}
 use Rattle.smithy_schema.specs.declared.error.SerdeError.TheVariants.{Failed}
@@ -11,8 +11,6 @@ use Rattle.smithy_schema.specs.Written.{Runs, ran, broke}
 use Rattle.smithy_schema.proofs.WritingLemmas.{call_made, call_refused, child_written, child_refused}
 use Rattle.smithy_schema.proofs.WrittenFields.{runs_ok}
 use Rattle.smithy_schema.proofs.WrittenLists.{count-elements, told as counted}
-use Rattle.dynamodb_client.specs.Attributes.{attribute_value, attribute_values, attribute_entries}
-use Rattle.dynamodb_client.specs.declared.attribute_value.AttributeValue.{AttributeValue}
 
 other_error : {S : Type 0} (e f : SerdeError) → ◌≡◌ {A = Result S SerdeError} (Err e) (Err f) → e ≡ f
 other_error e f h = cc
@@ -50,15 +48,15 @@ module _ {S : Type 0} (after : Writer S) where
 
   -- ---- lists
 
-  pub list_fails : (site : Site) (vs : List AttributeValue) (n : ℕ) (s : S) (had : Bool) (e : SerdeError) → n ≡ length vs → had ≡ false → IsErrOf {T = Unit {0}} {E = SerdeError} (Err e) Failed ↔ (had ≡ true) → (IsFault e → after (begin_list site (Some n)) s ≡ Err e)
-      → Runs after (events site (list (values_of (attribute_values vs)))) s (Err e)
-  list_fails site vs n s had e told sound failed refused =
-      rw (count-elements (attribute_values vs), ← counted attribute_value vs, ← told) (first_fails (begin_list site (Some n)) (element_events (element_of site) (values_of (attribute_values vs)) ++ end_list ∷ []) s had e sound failed refused)
+  pub list_fails : {A : Type 0} (view : A → Value) (site : Site) (vs : List A) (n : ℕ) (s : S) (had : Bool) (e : SerdeError) → n ≡ length vs → had ≡ false → IsErrOf {T = Unit {0}} {E = SerdeError} (Err e) Failed ↔ (had ≡ true) → (IsFault e → after (begin_list site (Some n)) s ≡ Err e)
+      → Runs after (events site (list (values_of (mapped view vs)))) s (Err e)
+  list_fails view site vs n s had e told sound failed refused =
+      rw (count-elements (mapped view vs), ← counted view vs, ← told) (first_fails (begin_list site (Some n)) (element_events (element_of site) (values_of (mapped view vs)) ++ end_list ∷ []) s had e sound failed refused)
 
-  pub list_begun : (site : Site) (vs : List AttributeValue) (n : ℕ) (s t : S) (r : Result S SerdeError) → n ≡ length vs → after (begin_list site (Some n)) s ≡ Ok t
-      → Runs after (element_events (element_of site) (values_of (attribute_values vs)) ++ end_list ∷ []) t r → Runs after (events site (list (values_of (attribute_values vs)))) s r
-  list_begun site vs n s t r told begun rest =
-      rw (count-elements (attribute_values vs), ← counted attribute_value vs, ← told) (runs_first (begin_list site (Some n)) (element_events (element_of site) (values_of (attribute_values vs)) ++ end_list ∷ []) s t r begun rest)
+  pub list_begun : {A : Type 0} (view : A → Value) (site : Site) (vs : List A) (n : ℕ) (s t : S) (r : Result S SerdeError) → n ≡ length vs → after (begin_list site (Some n)) s ≡ Ok t
+      → Runs after (element_events (element_of site) (values_of (mapped view vs)) ++ end_list ∷ []) t r → Runs after (events site (list (values_of (mapped view vs)))) s r
+  list_begun view site vs n s t r told begun rest =
+      rw (count-elements (mapped view vs), ← counted view vs, ← told) (runs_first (begin_list site (Some n)) (element_events (element_of site) (values_of (mapped view vs)) ++ end_list ∷ []) s t r begun rest)
 
   pub element_fails : (site : Site) (v : Value) (vs ws : List Value) (s : S) (e : SerdeError) → vs ≡ v ∷ ws → Runs after (events site v) s (Err e)
       → Runs after (element_events site (values_of vs) ++ end_list ∷ []) s (Err e)
@@ -70,15 +68,15 @@ module _ {S : Type 0} (after : Writer S) where
 
   -- ---- maps
 
-  pub map_fails : (site : Site) (es : List (String Global × AttributeValue)) (n : ℕ) (s : S) (had : Bool) (e : SerdeError) → n ≡ entry_count (attribute_entries es) → had ≡ false → IsErrOf {T = Unit {0}} {E = SerdeError} (Err e) Failed ↔ (had ≡ true)
-      → (IsFault e → after (begin_map site (Some n)) s ≡ Err e) → Runs after (events site (map (attribute_entries es))) s (Err e)
+  pub map_fails : (site : Site) (es : MapEntries) (n : ℕ) (s : S) (had : Bool) (e : SerdeError) → n ≡ entry_count es → had ≡ false → IsErrOf {T = Unit {0}} {E = SerdeError} (Err e) Failed ↔ (had ≡ true)
+      → (IsFault e → after (begin_map site (Some n)) s ≡ Err e) → Runs after (events site (map es)) s (Err e)
   map_fails site es n s had e told sound failed refused =
-      rw (← told) (first_fails (begin_map site (Some n)) (entry_events (key_of site) (value_of site) (attribute_entries es) ++ end_map ∷ []) s had e sound failed refused)
+      rw (← told) (first_fails (begin_map site (Some n)) (entry_events (key_of site) (value_of site) es ++ end_map ∷ []) s had e sound failed refused)
 
-  pub map_begun : (site : Site) (es : List (String Global × AttributeValue)) (n : ℕ) (s t : S) (r : Result S SerdeError) → n ≡ entry_count (attribute_entries es) → after (begin_map site (Some n)) s ≡ Ok t
-      → Runs after (entry_events (key_of site) (value_of site) (attribute_entries es) ++ end_map ∷ []) t r → Runs after (events site (map (attribute_entries es))) s r
+  pub map_begun : (site : Site) (es : MapEntries) (n : ℕ) (s t : S) (r : Result S SerdeError) → n ≡ entry_count es → after (begin_map site (Some n)) s ≡ Ok t
+      → Runs after (entry_events (key_of site) (value_of site) es ++ end_map ∷ []) t r → Runs after (events site (map es)) s r
   map_begun site es n s t r told begun rest =
-      rw (← told) (runs_first (begin_map site (Some n)) (entry_events (key_of site) (value_of site) (attribute_entries es) ++ end_map ∷ []) s t r begun rest)
+      rw (← told) (runs_first (begin_map site (Some n)) (entry_events (key_of site) (value_of site) es ++ end_map ∷ []) s t r begun rest)
 
   pub key_fails : (keys values : Site) (key : List ℕ) (v : Value) (es rest : MapEntries) (s : S) (had : Bool) (e : SerdeError) → es ≡ map_entry key v rest → had ≡ false → IsErrOf {T = Unit {0}} {E = SerdeError} (Err e) Failed ↔ (had ≡ true)
       → (IsFault e → after (scalar_of keys (text key)) s ≡ Err e) → Runs after (entry_events keys values es ++ end_map ∷ []) s (Err e)
@@ -94,11 +92,6 @@ module _ {S : Type 0} (after : Writer S) where
       → Runs after (entry_events keys values rest ++ end_map ∷ []) u r → Runs after (entry_events keys values es ++ end_map ∷ []) s r
   entry_goes keys values key v es rest s t u r next begun written more =
       rw (next, append_assoc) (runs_first (scalar_of keys (text key)) (events values v ++ (entry_events keys values rest ++ end_map ∷ [])) s t r begun (runs_on (events values v) (entry_events keys values rest ++ end_map ∷ []) t u r written more))
-
--- a map is told as long as it is
-pub counts : (es : List (String Global × AttributeValue)) → length es ≡ entry_count (attribute_entries es)
-counts [] = refl
-counts (e ∷ es) = ap suc (counts es)
 
 -- the first of what is left nests no deeper than all
 pub entry_nests : (all es : MapEntries) (key : List ℕ) (v : Value) (rest : MapEntries) → es ≡ map_entry key v rest → entries_nesting es ≤ entries_nesting all

@@ -1,12 +1,11 @@
--- An attribute's value, a map of such values or a list of them that is half read, and what its reading answers.
+-- A value of a caller's own type that is half read by the reader's calls, and what its reading answers.
 use Rattle.std.proofs.Common.{◌≡◌, ◌<◌, ◌⊎◌, inl, inr, length, ℕ, List, [], ◌∷◌, ◌++◌, Option, Some, None, Bool, true, false, Ok, Err, sym, subst}
 use Rattle.smithy_schema.specs.declared.error.SerdeError.{SerdeError}
-use Rattle.smithy_shapes.specs.declared.place.Target.{Target}
 use Rattle.smithy_shapes.specs.declared.place.Target.TheVariants.{Simple}
 use Rattle.smithy_schema.specs.declared.read.Step.TheVariants.{Member as ToMember}
 use Rattle.smithy_shapes.specs.declared.schema.Schema.{Schema}
 use Rattle.smithy_shapes.specs.declared.shape_type.Scalar.{Scalar}
-use Rattle.smithy_shapes.specs.Table.{IsContainer, IsList, IsMap, IsUnion}
+use Rattle.smithy_shapes.specs.Table.{place_in, IsContainer, IsList, IsMap, IsUnion, IsSparse}
 use Rattle.smithy_shapes.specs.Site.{Site, site_of, kind_at}
 use Rattle.smithy_shapes.specs.Value.{Value, ScalarValue, scalar_value, union, MapEntries, put_entry}
 use Rattle.smithy_schema.specs.Reading.{Cursor, ContainerKind, in_structure, in_list, in_map, Relations, Child, child_value, named, depth, IsLawful, Steps, Leaves, MatchStep, Reads, ReadsScalar, StandsNot, OpensNot, CannotGoOn, IsFault, IsBehind}
@@ -17,9 +16,13 @@ use Rattle.smithy_schema.proofs.ReadMaps.{map_value, value_child, entry_refused,
 use Rattle.smithy_schema.proofs.ReadStructures.{member_child, member_refused}
 use Rattle.smithy_schema.proofs.ReadUnions.{union_value, union_has_members}
 use Rattle.smithy_schema.proofs.ReadFields.{read_there, none_read_there}
-use Rattle.dynamodb_client.specs.Attributes.{attribute_value, ReadsAs, ReadsVariant}
-use Rattle.dynamodb_client.specs.declared.attribute_value.AttributeValue as kept
-use Rattle.dynamodb_client.proofs.Places.{Inside}
+use Rattle.smithy_schema.specs.Typed.{ReadsAs, ReadsVariant}
+
+-- a place inside of a list or a map that holds no nulls
+pub record Inside (outer inner : Site) : Type 0 where
+  pub table : inner.table ≡ outer.table
+  pub place : place_in (kind_at outer) None ≡ Some inner.place
+  pub dense : IsSparse (kind_at outer) → ⊥
 
 -- a refusal
 pub fails : {A : Type 0} (w : Relations) (view : A → Value) (site : Site) (s0 s1 : Cursor) (e : SerdeError) → (IsFault e → StandsNot w s0 site.table site.place) → ReadsAs {A = A} w s0 s1 site view (Err e)
@@ -91,53 +94,44 @@ module _ (w : Relations) (max : ℕ) (laws : IsLawful w) where
   map_falls view outer inner s0 s s1 s2 worth key x kind inside half steps reads =
       entry_falls w w max laws s0 s s1 s2 outer.table outer.place inner.place worth key (view x) kind half steps (no_null outer inner s1 inside) inside.place (subst (λ t. Reads w s1 s2 t inner.place (view x)) inside.table reads.ok)
 
-  -- ---- the union
+  -- ---- unions
 
   -- behind its member
-  pub behind_variant : (outer : Site) (m : Schema) (s0 s s1 s2 : Cursor) (x : kept.AttributeValue)
-      → InContainer w w max s0 s outer.table outer.place in_structure (union_value None) → MatchStep (ToMember m) w s s1 outer → ReadsVariant w s1 s2 (site_of m) (Ok x)
-      → InContainer w w max s0 s2 outer.table outer.place in_structure (union_value (Some (attribute_value x)))
-  behind_variant outer m s0 s s1 s2 x half step reads =
+  pub behind_variant : {A : Type 0} (view : A → Value) (outer : Site) (m : Schema) (s0 s s1 s2 : Cursor) (x : A)
+      → InContainer w w max s0 s outer.table outer.place in_structure (union_value None) → MatchStep (ToMember m) w s s1 outer → ReadsVariant {A = A} w s1 s2 (site_of m) view (Ok x)
+      → InContainer w w max s0 s2 outer.table outer.place in_structure (union_value (Some (view x)))
+  behind_variant view outer m s0 s s1 s2 x half step reads =
       let (n, v, index, value, here) = reads.ok in
       subst (λ z. InContainer w w max s0 s2 outer.table outer.place in_structure (union_value (Some z))) (sym value)
       (child_read w w max laws (itself w) s0 s s1 s2 outer.table outer.place in_structure (union_value None) (Some step.0) (child_value (Some step.0) (Some n) v) half step.2
       (member_child w s s1 outer m n v s2.at step index here.stands) here.passes)
 
-  pub variant_fails : (outer : Site) (m : Schema) (s0 s s1 s2 s3 : Cursor) (worth : List Child → Option Value) (e : SerdeError) → IsUnion (kind_at outer)
-      → InContainer w w max s0 s outer.table outer.place in_structure worth → MatchStep (ToMember m) w s s1 outer → ReadsVariant w s1 s2 (site_of m) (Err e) → ReadsAs w s0 s3 outer attribute_value (Err e)
-  variant_fails outer m s0 s s1 s2 s3 worth e kind half step reads =
-      fails w attribute_value outer s0 s3 e (λ fault. member_refused w w max laws (itself w) s0 s s1 outer m worth (union_has_members _ kind) half step (reads.refused fault))
+  pub variant_fails : {A : Type 0} (view : A → Value) (outer : Site) (m : Schema) (s0 s s1 s2 s3 : Cursor) (worth : List Child → Option Value) (e : SerdeError) → IsUnion (kind_at outer)
+      → InContainer w w max s0 s outer.table outer.place in_structure worth → MatchStep (ToMember m) w s s1 outer → ReadsVariant {A = A} w s1 s2 (site_of m) view (Err e) → ReadsAs {A = A} w s0 s3 outer view (Err e)
+  variant_fails view outer m s0 s s1 s2 s3 worth e kind half step reads =
+      fails w view outer s0 s3 e (λ fault. member_refused w w max laws (itself w) s0 s s1 outer m worth (union_has_members _ kind) half step (reads.refused fault))
 
--- ---- the members
+-- ---- the members of a union
 
--- a scalar was read
-pub scalar_variant : {A : Type 0} (kind : Scalar) (scalar : A → ScalarValue) (r : Reader) (c d : Cursor) (member : Site) (n : ℕ) (x : A) (made : kept.AttributeValue) → member.view.index ≡ Some n → Some (Simple kind) ≡ Some member.place.target
-    → ReadsScalar {A = A} r.wire r.lifted r.tells_without_limits c d member kind scalar (Ok x) → attribute_value made ≡ union n (scalar_value (scalar x)) → ReadsVariant r.wire c d member (Ok made)
-scalar_variant kind scalar r c d member n x made index target reads value = record {
-  ok = (n, scalar_value (scalar x), index, value, read_there kind scalar r c d member x (same_target member.place.target (Simple kind) target) reads);
+-- a scalar was read, of which the value was made
+pub scalar_variant : {A B : Type 0} (kind : Scalar) (scalar : A → ScalarValue) (view : B → Value) (r : Reader) (c d : Cursor) (member : Site) (n : ℕ) (x : A) (made : B) → member.view.index ≡ Some n → member.place.target ≡ Simple kind
+    → ReadsScalar {A = A} r.wire r.lifted r.tells_without_limits c d member kind scalar (Ok x) → view made ≡ union n (scalar_value (scalar x)) → ReadsVariant {A = B} r.wire c d member view (Ok made)
+scalar_variant kind scalar view r c d member n x made index target reads value = record {
+  ok = (n, scalar_value (scalar x), index, value, read_there kind scalar r c d member x target reads);
   refused = λ fault. absurd fault;
 }
-  where
-    same_target : (s t : Target) → Some t ≡ Some s → s ≡ t
-    same_target s t h = cc
 
-pub scalar_fails : {A : Type 0} (kind : Scalar) (scalar : A → ScalarValue) (r : Reader) (c d : Cursor) (member : Site) (e : SerdeError) → Some (Simple kind) ≡ Some member.place.target → c.due ≡ true
-    → ReadsScalar {A = A} r.wire r.lifted r.tells_without_limits c d member kind scalar (Err e) → ReadsVariant r.wire c d member (Err e)
-scalar_fails kind scalar r c d member e target due reads = record {
-  ok = tt;
-  refused = λ fault. none_read_there kind scalar r c d member e (same_target member.place.target (Simple kind) target) reads fault due;
-}
-  where
-    same_target : (s t : Target) → Some t ≡ Some s → s ≡ t
-    same_target s t h = cc
+pub scalar_fails : {A B : Type 0} (kind : Scalar) (scalar : A → ScalarValue) (view : B → Value) (r : Reader) (c d : Cursor) (member : Site) (e : SerdeError) → member.place.target ≡ Simple kind → c.due ≡ true
+    → ReadsScalar {A = A} r.wire r.lifted r.tells_without_limits c d member kind scalar (Err e) → ReadsVariant {A = B} r.wire c d member view (Err e)
+scalar_fails kind scalar view r c d member e target due reads = record { ok = tt; refused = λ fault. none_read_there kind scalar r c d member e target reads fault due }
 
--- a map or a list was read
-pub inner_variant : {A : Type 0} (view : A → Value) (w : Relations) (c d : Cursor) (member : Site) (n : ℕ) (x : A) (made : kept.AttributeValue) → member.view.index ≡ Some n → ReadsAs {A = A} w c d member view (Ok x)
-    → attribute_value made ≡ union n (view x) → ReadsVariant w c d member (Ok made)
-inner_variant view w c d member n x made index reads value = record { ok = (n, view x, index, value, reads.ok); refused = λ fault. absurd fault }
+-- a value of another type was read, of which the value was made
+pub inner_variant : {A B : Type 0} (inner : A → Value) (view : B → Value) (w : Relations) (c d : Cursor) (member : Site) (n : ℕ) (x : A) (made : B) → member.view.index ≡ Some n → ReadsAs {A = A} w c d member inner (Ok x)
+    → view made ≡ union n (inner x) → ReadsVariant {A = B} w c d member view (Ok made)
+inner_variant inner view w c d member n x made index reads value = record { ok = (n, inner x, index, value, reads.ok); refused = λ fault. absurd fault }
 
-pub inner_fails : {A : Type 0} (view : A → Value) (w : Relations) (c d : Cursor) (member : Site) (e : SerdeError) → ReadsAs {A = A} w c d member view (Err e) → ReadsVariant w c d member (Err e)
-inner_fails view w c d member e reads = record { ok = tt; refused = reads.refused }
+pub inner_fails : {A B : Type 0} (inner : A → Value) (view : B → Value) (w : Relations) (c d : Cursor) (member : Site) (e : SerdeError) → ReadsAs {A = A} w c d member inner (Err e) → ReadsVariant {A = B} w c d member view (Err e)
+inner_fails inner view w c d member e reads = record { ok = tt; refused = reads.refused }
 
 -- a value that was read was taken whole
 pub taken : {A : Type 0} (w : Relations) → IsLawful w → (view : A → Value) (site : Site) (c d : Cursor) (x : A) → ReadsAs {A = A} w c d site view (Ok x) → IsTaken c d

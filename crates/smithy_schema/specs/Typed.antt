@@ -1,0 +1,28 @@
+-- What a call says that reads or writes a value of a caller's own type, which stands for the value that a view gives of it.
+use Rattle.std.specs.Prelude.{◌≡◌, Bool, false, ℕ, List, [], Some, Result, IfOk, OnOk}
+use Rattle.smithy_schema.specs.declared.error.SerdeError.{SerdeError}
+use Rattle.smithy_shapes.specs.Site.{Site, member_of}
+use Rattle.smithy_shapes.specs.Value.{Value, union}
+use Rattle.smithy_schema.specs.Reading.{Cursor, Relations, Reads, StandsNot, IsRefused}
+use Rattle.smithy_schema.specs.Writing.{Event, Writer, events}
+use Rattle.smithy_schema.specs.Written.{Runs, outcome}
+
+-- What stood at the site is what was read; and a fault comes only where no value of the place stands.
+pub record ReadsAs {A : Type 0} (w : Relations) (old new : Cursor) (site : Site) (view : A → Value) (result : Result A SerdeError) : Type 0 where
+  pub ok : IfOk result (λ x. Reads w old new site.table site.place (view x))
+  pub refused : IsRefused result → StandsNot w old site.table site.place
+
+-- the same of a union, where its member is read: the value is the union of this member
+pub record ReadsVariant {A : Type 0} (w : Relations) (old new : Cursor) (member : Site) (view : A → Value) (result : Result A SerdeError) : Type 0 where
+  pub ok : IfOk result (λ x. (n : ℕ) × (v : Value) × (member.view.index ≡ Some n) × (view x ≡ union n v) × Reads w old new member.table member.place v)
+  pub refused : IsRefused result → StandsNot w old member.table member.place
+
+-- the calls between those that begin and end a union: its member, under the member's site
+abbrev pub variant_events : Site → Value → List Event
+variant_events site (union n v) = events (member_of site n) v
+variant_events site _ = []
+
+-- These calls are made one after the other, and any error is that of one of them; after an Ok the serializer hasn't failed.
+pub record WritesAs {S : Type 0} (after : Writer S) (calls : List Event) (old : S) (has_failed : Bool) (new : S) (result : Result (Unit {0}) SerdeError) : Type 0 where
+  pub runs : Runs after calls old (outcome result new)
+  pub sound : OnOk result (has_failed ≡ false)
