@@ -57,17 +57,15 @@ MissesTarget ids is_a_target _ = ⊥
 abbrev pub RefusesLinks : List Shape → ModelFault → Type 0
 RefusesLinks shapes = MissesTarget (ids_of shapes) (λ id. list_any (λ (s : Shape). has_target id s.kind) shapes)
 
--- a mixin isn't there, or a shape takes in itself: where one takes in mixins at all
+-- the shape of this id takes in mixins
+abbrev pub is_mixed : List ℕ → Shape → Bool
+is_mixed id s = bytes_eq s.id id && takes_mixins s
+
+-- the shape of this id takes in mixins, of which one isn't there, or leads to itself: of that nothing is said
 abbrev pub RefusesMixins : List Shape → ModelFault → Type 0
-RefusesMixins shapes (faults.BadMixin id) = list_any takes_mixins shapes ≡ true
+RefusesMixins shapes (faults.BadMixin id) = list_any (is_mixed id.now) shapes ≡ true
 RefusesMixins shapes faults.NoMemory = Unit {0}
 RefusesMixins shapes _ = ⊥
-
--- what the steps of taking in mixins may answer
-abbrev pub IsMixinFault : ModelFault → Type 0
-IsMixinFault (faults.BadMixin id) = Unit {0}
-IsMixinFault faults.NoMemory = Unit {0}
-IsMixinFault _ = ⊥
 
 -- the fault of what stands under an id and is no shape
 abbrev pub refusal_of : Bor (List ℕ) → Json → ModelFault

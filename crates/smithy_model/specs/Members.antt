@@ -3,16 +3,31 @@ use Rattle.std.specs.Prelude.{ℕ, List, [], ◌∷◌, ◌||◌, Bool, false, O
 use Rattle.std.specs.Option.{option_map_or}
 use Rattle.json.specs.Json.{Json}
 use Rattle.json.specs.Find.{get}
-use Rattle.smithy_model.specs.Objects.{Entry, text_in, is_there, is_set, entries_in, trait_text, has_trait}
+use Rattle.smithy_model.specs.Objects.{Entry, text_in, is_set, entries_in, trait_text, has_trait}
 use Rattle.smithy_model.specs.Model.{Member}
 use Rattle.smithy_model.specs.Form.{Form, smithy, json_service, xml_service, ec2_service}
 
--- a trait binds the member to a part of the message other than the body (Smithy 2.0, "HTTP bindings")
-abbrev pub is_bound_outside : Json → Bool
-is_bound_outside spec =
+-- the part of a message that a service-2.json names
+abbrev pub has_location : List ℕ → Json → Bool
+has_location name spec = option_map_or (λ given. bytes_eq given name) (text_in (codes "location") spec) false
+
+-- the member is bound to headers (Smithy 2.0, "HTTP bindings")
+abbrev pub is_in_headers : Form → Json → Bool
+is_in_headers smithy spec =
     has_trait (codes "smithy.api#httpHeader") spec || has_trait (codes "smithy.api#httpPrefixHeaders") spec
-    || has_trait (codes "smithy.api#httpLabel") spec || has_trait (codes "smithy.api#httpQuery") spec
-    || has_trait (codes "smithy.api#httpQueryParams") spec || has_trait (codes "smithy.api#httpResponseCode") spec
+is_in_headers _ spec = has_location (codes "header") spec || has_location (codes "headers") spec
+
+-- to the path or the query
+abbrev pub is_in_request_line : Form → Json → Bool
+is_in_request_line smithy spec =
+    has_trait (codes "smithy.api#httpLabel") spec || has_trait (codes "smithy.api#httpQuery") spec
+    || has_trait (codes "smithy.api#httpQueryParams") spec
+is_in_request_line _ spec = has_location (codes "uri") spec || has_location (codes "querystring") spec
+
+-- to the status code
+abbrev pub is_in_status_line : Form → Json → Bool
+is_in_status_line smithy spec = has_trait (codes "smithy.api#httpResponseCode") spec
+is_in_status_line _ spec = has_location (codes "statusCode") spec
 
 -- a member of a Smithy model with its traits: none without a target; its number is given later
 abbrev pub smithy_member : List ℕ → Json → Option Member
@@ -25,7 +40,9 @@ smithy_member name spec = option_map (λ target. record {
   ec2_name = trait_text (codes "aws.protocols#ec2QueryName") spec;
   is_flattened = has_trait (codes "smithy.api#xmlFlattened") spec;
   time_format = trait_text (codes "smithy.api#timestampFormat") spec;
-  is_outside = is_bound_outside spec;
+  in_headers = is_in_headers smithy spec;
+  in_request_line = is_in_request_line smithy spec;
+  in_status_line = is_in_status_line smithy spec;
   is_payload = has_trait (codes "smithy.api#httpPayload") spec;
 }) (text_in (codes "target") spec)
 
@@ -72,7 +89,9 @@ service_member form outer name spec = option_map (λ target. record {
   ec2_name = ec2_given form (text_in (codes "queryName") spec);
   is_flattened = is_set (codes "flattened") spec;
   time_format = service_time spec;
-  is_outside = is_there (codes "location") spec;
+  in_headers = is_in_headers form spec;
+  in_request_line = is_in_request_line form spec;
+  in_status_line = is_in_status_line form spec;
   is_payload = is_named_payload outer name;
 }) (text_in (codes "shape") spec)
 

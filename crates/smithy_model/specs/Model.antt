@@ -13,8 +13,10 @@ pub record Member : Type 0 where
   pub ec2_name : Option (List ℕ)
   pub is_flattened : Bool
   pub time_format : Option (List ℕ)
-  -- HTTP bindings: outside of the body, or the whole body
-  pub is_outside : Bool
+  -- HTTP bindings: to headers, to the path or the query, to the status code, or to the whole body
+  pub in_headers : Bool
+  pub in_request_line : Bool
+  pub in_status_line : Bool
   pub is_payload : Bool
 
 -- what a shape is; a scalar but a float, or a document, by its name in a table

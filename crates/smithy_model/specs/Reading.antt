@@ -80,10 +80,15 @@ undeclared _ = []
 abbrev pub takes_mixins : Shape → Bool
 takes_mixins s = not (length s.mixins == 0)
 
--- The shapes with the members of their mixins: the own ones where none takes in mixins, as in every service-2.json. Of others nothing is
--- said.
+-- A shape with the members of its mixins: without mixins it is the shape itself, and with mixins it is the same but for its kind, of
+-- which nothing is said.
+pub record IsKept (own s : Shape) : Type 0 where
+  pub but_kind : s ≡ record own { kind = s.kind }
+  pub alone : takes_mixins own ≡ false → s ≡ own
+
+-- The shapes with the members of their mixins. A service-2.json has none.
 abbrev pub AreWhole : Form → List Shape → List Shape → Type 0
-AreWhole smithy own whole = list_any takes_mixins own ≡ false → whole ≡ own
+AreWhole smithy own whole = AllZip IsKept own whole
 AreWhole _ own whole = whole ≡ own
 
 -- the member with the number of the shape that is its target

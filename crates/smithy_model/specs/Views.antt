@@ -31,7 +31,9 @@ member_view m = record {
   ec2_name = option_map (λ t. t.now) m.ec2_name;
   is_flattened = m.is_flattened;
   time_format = option_map (λ t. t.now) m.time_format;
-  is_outside = m.is_outside;
+  in_headers = m.in_headers;
+  in_request_line = m.in_request_line;
+  in_status_line = m.in_status_line;
   is_payload = m.is_payload;
 }
 

@@ -1,25 +1,60 @@
 //! Members: of structures and unions, of lists and of maps.
 ghost use Rattle.std.specs.Prelude.{◌≡◌, None, Some, List, map, option_map, IfOk, IfErr};
 ghost use Rattle.json.specs.Value.{value_view};
-ghost use Rattle.smithy_model.specs.Members.{is_bound_outside, smithy_member, service_time, is_named_payload, service_member, member_in, part_in, members_in};
+ghost use Rattle.smithy_model.specs.Members.{has_location, is_in_headers, is_in_request_line, is_in_status_line, smithy_member, service_time, is_named_payload, service_member, member_in, part_in, members_in};
 ghost use Rattle.smithy_model.specs.Views.{member_view, form_view};
 
 use crate::format::Format;
 use crate::model::Member;
-use crate::objects::{entries, has_trait, is_set, is_there, text, trait_text};
+use crate::objects::{entries, has_trait, is_set, text, trait_text};
 use json::Value;
 use std::alloc::{AllocError, Global};
 
-// Whether a trait binds a member to a header, the path, the query string or the status line.
-fn is_bound_outside(spec: &Value<'_>) -> bool
-    ensures { result ≡ is_bound_outside (value_view spec.now) }
+// Whether a `service-2.json` binds a member to this part of a message.
+fn has_location(spec: &Value<'_>, name: &str) -> bool
+    ensures { result ≡ has_location name.now (value_view spec.now) }
 {
-    has_trait(spec, "smithy.api#httpHeader")
-        || has_trait(spec, "smithy.api#httpPrefixHeaders")
-        || has_trait(spec, "smithy.api#httpLabel")
-        || has_trait(spec, "smithy.api#httpQuery")
-        || has_trait(spec, "smithy.api#httpQueryParams")
-        || has_trait(spec, "smithy.api#httpResponseCode")
+    match text(spec, "location") {
+        Some(given) => given == name,
+        None => false,
+    }
+}
+
+// Whether a member is bound to headers.
+fn is_in_headers(format: Format, spec: &Value<'_>) -> bool
+    ensures { result ≡ is_in_headers (form_view format) (value_view spec.now) }
+{
+    match format {
+        Format::Smithy => {
+            has_trait(spec, "smithy.api#httpHeader")
+                || has_trait(spec, "smithy.api#httpPrefixHeaders")
+        }
+        _ => has_location(spec, "header") || has_location(spec, "headers"),
+    }
+}
+
+// Whether a member is bound to the path or the query.
+fn is_in_request_line(format: Format, spec: &Value<'_>) -> bool
+    ensures { result ≡ is_in_request_line (form_view format) (value_view spec.now) }
+{
+    match format {
+        Format::Smithy => {
+            has_trait(spec, "smithy.api#httpLabel")
+                || has_trait(spec, "smithy.api#httpQuery")
+                || has_trait(spec, "smithy.api#httpQueryParams")
+        }
+        _ => has_location(spec, "uri") || has_location(spec, "querystring"),
+    }
+}
+
+// Whether a member is bound to the status code.
+fn is_in_status_line(format: Format, spec: &Value<'_>) -> bool
+    ensures { result ≡ is_in_status_line (form_view format) (value_view spec.now) }
+{
+    match format {
+        Format::Smithy => has_trait(spec, "smithy.api#httpResponseCode"),
+        _ => has_location(spec, "statusCode"),
+    }
 }
 
 // A member of a Smithy model, with its traits.
@@ -35,7 +70,9 @@ fn smithy_member<'a>(name: &'a str, spec: &Value<'a>) -> Option<Member<'a>>
         ec2_name: trait_text(spec, "aws.protocols#ec2QueryName"),
         is_flattened: has_trait(spec, "smithy.api#xmlFlattened"),
         time_format: trait_text(spec, "smithy.api#timestampFormat"),
-        is_outside: is_bound_outside(spec),
+        in_headers: is_in_headers(Format::Smithy, spec),
+        in_request_line: is_in_request_line(Format::Smithy, spec),
+        in_status_line: is_in_status_line(Format::Smithy, spec),
         is_payload: has_trait(spec, "smithy.api#httpPayload"),
     })
 }
@@ -87,7 +124,9 @@ fn service_member<'a>(
         ec2_name,
         is_flattened: is_set(spec, "flattened"),
         time_format: service_time(spec),
-        is_outside: is_there(spec, "location"),
+        in_headers: is_in_headers(format, spec),
+        in_request_line: is_in_request_line(format, spec),
+        in_status_line: is_in_status_line(format, spec),
         is_payload: is_named_payload(outer, name),
     })
 }

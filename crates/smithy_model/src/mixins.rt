@@ -1,9 +1,9 @@
 //! The members that shapes take over from their mixins (Smithy 2.0, "Mixins").
-ghost use Rattle.std.specs.Prelude.{◌≡◌, false, map, OnOk, IfErr};
-ghost use Rattle.std.specs.List.{list_any};
-ghost use Rattle.smithy_model.specs.Reading.{takes_mixins};
-ghost use Rattle.smithy_model.specs.Faults.{IsMixinFault, RefusesMixins};
-ghost use Rattle.smithy_model.specs.Views.{shape_view};
+ghost use Rattle.std.specs.Prelude.{◌≡◌, true, [], ◌∷◌, map, OnOk, IfErr, IfSome};
+ghost use Rattle.std.specs.List.{list_any, AllZip};
+ghost use Rattle.smithy_model.specs.Reading.{takes_mixins, IsKept};
+ghost use Rattle.smithy_model.specs.Faults.{is_mixed, RefusesMixins};
+ghost use Rattle.smithy_model.specs.Views.{kind_view, shape_view};
 
 use crate::fault::ModelFault;
 use crate::model::{Kind, Member, Shape};
@@ -47,7 +47,7 @@ fn mixed<'a>(
     done: &[bool],
     shape: &Shape<'a>,
 ) -> Result<Option<Vec<Member<'a>>>, ModelFault<'a>>
-    ensures { IfErr result IsMixinFault }
+    ensures { takes_mixins (shape_view shape.now) ≡ true → IfErr result (RefusesMixins (shape_view shape.now ∷ [])) }
 {
     let mut members = Vec::new(alloc);
     for id in &shape.mixins {
@@ -76,6 +76,45 @@ fn with_members<'a>(kind: &Kind<'a>, members: Vec<Member<'a>>) -> Kind<'a> {
     }
 }
 
+// Whether a shape takes in mixins.
+fn takes_mixins(shape: &Shape<'_>) -> bool
+    ensures { result ≡ takes_mixins (shape_view shape.now) }
+{
+    !shape.mixins.is_empty()
+}
+
+// Gives a shape another kind.
+fn set_kind<'a>(shape: &mut Shape<'a>, kind: Kind<'a>)
+    ensures { shape_view shape.new ≡ record (shape_view shape.old) { kind = kind_view kind.entry } }
+{
+    shape.kind = kind;
+}
+
+// Takes in the mixins of the shape of this number, where it takes in some and they are done, and tells whether it did.
+fn take_in<'a>(
+    alloc: Global,
+    shapes: &mut Vec<Shape<'a>>,
+    numbers: &Numbers<'a>,
+    done: &[bool],
+    number: usize,
+) -> Result<bool, ModelFault<'a>>
+    ensures kept { OnOk result (AllZip IsKept (map shape_view shapes.old.items) (map shape_view shapes.new.items)) }
+    ensures refused { IfErr result (RefusesMixins (map shape_view shapes.old.items)) }
+{
+    if number >= shapes.len() {
+        return Ok(false);
+    }
+    if !takes_mixins(&shapes[number]) {
+        return Ok(false);
+    }
+    let Some(members) = mixed(alloc, shapes, numbers, done, &shapes[number])? else {
+        return Ok(false);
+    };
+    let kind = with_members(&shapes[number].kind, members);
+    set_kind(&mut shapes[number], kind);
+    Ok(true)
+}
+
 // Takes in the mixins of each shape whose mixins are done, and tells whether there was one.
 fn take_in_some<'a>(
     alloc: Global,
@@ -83,16 +122,15 @@ fn take_in_some<'a>(
     numbers: &Numbers<'a>,
     done: &mut Vec<bool>,
 ) -> Result<bool, ModelFault<'a>>
-    ensures { IfErr result IsMixinFault }
+    ensures kept { OnOk result (AllZip IsKept (map shape_view shapes.old.items) (map shape_view shapes.new.items)) }
+    ensures refused { IfErr result (RefusesMixins (map shape_view shapes.old.items)) }
 {
     let mut found = false;
     for number in 0..shapes.len().min(done.len()) {
         if done[number] {
             continue;
         }
-        if let Some(members) = mixed(alloc, shapes, numbers, done, &shapes[number])? {
-            let kind = with_members(&shapes[number].kind, members);
-            shapes[number].kind = kind;
+        if take_in(alloc, shapes, numbers, done, number)? {
             done[number] = true;
             found = true;
         }
@@ -100,16 +138,35 @@ fn take_in_some<'a>(
     Ok(found)
 }
 
-// Whether one of these shapes takes in mixins.
-fn have_mixins(shapes: &[Shape<'_>]) -> bool
-    ensures { result ≡ list_any takes_mixins (map shape_view shapes.now) }
+// Takes in mixins until no shape is left whose mixins are done.
+fn take_in_all<'a>(
+    alloc: Global,
+    shapes: &mut Vec<Shape<'a>>,
+    numbers: &Numbers<'a>,
+    done: &mut Vec<bool>,
+) -> Result<(), ModelFault<'a>>
+    ensures kept { OnOk result (AllZip IsKept (map shape_view shapes.old.items) (map shape_view shapes.new.items)) }
+    ensures refused { IfErr result (RefusesMixins (map shape_view shapes.old.items)) }
 {
-    for shape in shapes {
-        if !shape.mixins.is_empty() {
-            return true;
+    // Each turn but the last finishes a shape.
+    for _ in 0..shapes.len() {
+        if !take_in_some(alloc, shapes, numbers, done)? {
+            return Ok(());
         }
     }
-    false
+    Ok(())
+}
+
+// The id of a shape whose mixins aren't done.
+fn unfinished<'a>(shapes: &[Shape<'a>], done: &[bool]) -> Option<&'a str>
+    ensures { IfSome result (λ id. list_any (is_mixed id.now) (map shape_view shapes.now) ≡ true) }
+{
+    for number in 0..shapes.len().min(done.len()) {
+        if !done[number] && takes_mixins(&shapes[number]) {
+            return Some(shapes[number].id);
+        }
+    }
+    None
 }
 
 /// Gives each shape the members of its mixins.
@@ -117,25 +174,17 @@ pub(crate) fn take_in_mixins<'a>(
     alloc: Global,
     shapes: &mut Vec<Shape<'a>>,
 ) -> Result<(), ModelFault<'a>>
-    ensures none { OnOk result (list_any takes_mixins (map shape_view shapes.old.items) ≡ false → map shape_view shapes.new.items ≡ map shape_view shapes.old.items) }
+    ensures kept { OnOk result (AllZip IsKept (map shape_view shapes.old.items) (map shape_view shapes.new.items)) }
     ensures refused { IfErr result (RefusesMixins (map shape_view shapes.old.items)) }
 {
-    if !have_mixins(shapes) {
-        return Ok(());
-    }
     let mut done = Vec::with_capacity(alloc, shapes.len())?;
     for shape in &*shapes {
-        done.push(shape.mixins.is_empty())?;
+        done.push(!takes_mixins(shape))?;
     }
     let numbers = Numbers::of(alloc, shapes)?;
-    // Each turn but the last finishes a shape.
-    for _ in 0..shapes.len() {
-        if !take_in_some(alloc, shapes, &numbers, &mut done)? {
-            break;
-        }
-    }
-    match done.iter().position(|is_done| !*is_done) {
-        Some(number) if number < shapes.len() => Err(ModelFault::BadMixin(shapes[number].id)),
-        _ => Ok(()),
+    take_in_all(alloc, shapes, &numbers, &mut done)?;
+    match unfinished(shapes, &done) {
+        Some(id) => Err(ModelFault::BadMixin(id)),
+        None => Ok(()),
     }
 }

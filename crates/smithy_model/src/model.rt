@@ -18,8 +18,12 @@ pub struct Member<'a> {
     pub is_flattened: bool,
     /// `@timestampFormat`
     pub time_format: Option<&'a str>,
-    /// It travels in a header, the path, the query string or the status line, where the protocol has HTTP bindings.
-    pub is_outside: bool,
+    /// It is bound to headers, where the protocol has HTTP bindings.
+    pub in_headers: bool,
+    /// It is bound to the path or the query.
+    pub in_request_line: bool,
+    /// It is bound to the status code.
+    pub in_status_line: bool,
     /// It is the whole body, where the protocol has HTTP bindings.
     pub is_payload: bool,
 }

@@ -1,2 +1,5 @@
+mod Fewest
+mod Found
 mod OutcomeLemmas
+mod Roots
 mod Settled

@@ -1,5 +1,6 @@
 -- The declarations of a model's shapes: what each trait becomes (docs/TABLES.md, "From a Smithy model").
-use Rattle.std.specs.Prelude.{ℕ, List, [], ◌||◌, ◌&&◌, not, Bool, false, Option, Some, None, option_and_then, unwrap_or, if◌then◌else◌, slice_get, codes, bytes_eq}
+use Rattle.std.specs.Prelude.{ℕ, List, [], ◌++◌, take, drop, map as list_map, ◌||◌, ◌&&◌, not, Bool, false, Option, Some, None, option_and_then, unwrap_or, if◌then◌else◌, slice_get, codes, bytes_eq}
+use Rattle.std.specs.Char.{to_ascii_uppercase}
 use Rattle.std.specs.Option.{option_map_or, option_or}
 use Rattle.smithy_model.specs.Model as model
 use Rattle.smithy_model.specs.Model.{Member, Kind, Shape, Model}
@@ -61,17 +62,28 @@ xml_name_at member s _ = member.xml_name
 abbrev pub xml_name_of : Model → Member → Option (List ℕ)
 xml_name_of m member = option_map_or (λ (s : Shape). xml_name_at member s s.kind) (target_of m member) member.xml_name
 
--- the name in a form of awsQuery, where it isn't the member's own
-abbrev pub form_name_of : Model → Member → Option (List ℕ)
-form_name_of m member = option_and_then (unless_usual member.name) (xml_name_of m member)
+-- a text with a capital in front, if it begins with a letter of ASCII
+abbrev pub capitalized : List ℕ → List ℕ
+capitalized text = list_map to_ascii_uppercase (take 1 text) ++ drop 1 text
 
--- the declaration of a member, with this name in a form
-abbrev pub member_decl : Model → Names → Member → Option (List ℕ) → MemberDecl
-member_decl m names member form_name = record {
+-- The name in a form of ec2Query (Smithy 2.0, "AWS EC2 query protocol", "Query key resolution"): `@ec2QueryName`, else `@xmlName` with a
+-- capital, else the member's name with a capital.
+abbrev pub ec2_name_of : Member → List ℕ
+ec2_name_of member = unwrap_or member.ec2_name (capitalized (unwrap_or member.xml_name member.name))
+
+-- the name in a form, where it isn't the member's own
+abbrev pub form_name_of : Model → Member → Option (List ℕ)
+form_name_of m member =
+    if m.is_ec2 then unless_usual member.name (ec2_name_of member)
+    else option_and_then (unless_usual member.name) (xml_name_of m member)
+
+-- the declaration of a member
+abbrev pub member_decl : Model → Names → Member → MemberDecl
+member_decl m names member = record {
   name = member.name;
   target = target_word m names member;
   json = option_and_then (unless_usual member.name) member.json_name;
-  xml = form_name;
+  xml = form_name_of m member;
   is_flat = is_flat m member;
   time = time_of m member;
 }

@@ -1,5 +1,6 @@
 -- to be believed, in this order
 pub mod Declaring
+pub mod Bindings
 pub mod Leaving
 pub mod Outcomes
 pub mod Naming

@@ -3,12 +3,18 @@ use Rattle.std.specs.Prelude.{ℕ, List, map}
 use Rattle.smithy_model_table.specs.declared.wanted.Wanted as kept_wanted
 use Rattle.smithy_model_table.specs.declared.wanted.Wanted.TheVariants as wanteds
 use Rattle.smithy_model_table.specs.Wanted.{Wanted, input, output, shape, service}
+use Rattle.smithy_model_table.specs.declared.bindings.Bindings as kept_bindings
+use Rattle.smithy_model_table.specs.Bindings.{Bindings}
 use Rattle.smithy_model_table.specs.declared.names.Names as kept_names
 use Rattle.smithy_model_table.specs.declared.left.Reason as kept
 use Rattle.smithy_model_table.specs.declared.left.Reason.TheVariants as reasons
 use Rattle.smithy_model_table.specs.declared.left.Left as kept_left
 use Rattle.smithy_model_table.specs.declared.outcomes.Outcome as kept_outcome
 use Rattle.smithy_model_table.specs.declared.outcomes.Outcome.TheVariants as outcomes
+use Rattle.smithy_shapes.specs.declared.fault.TableFault.{TableFault}
+use Rattle.smithy_shapes.specs.declared.fault.TableFault.TheVariants as table_faults
+use Rattle.smithy_model_table.specs.declared.fault.WantedFault.{WantedFault}
+use Rattle.smithy_model_table.specs.declared.fault.WantedFault.TheVariants as faults
 use Rattle.smithy_shapes.specs.DeclViews.{member_decl_of}
 use Rattle.smithy_model_table.specs.Outcomes.{Outcome, declared, left_out, LeftOut}
 use Rattle.smithy_model_table.specs.Leaving.{Reason, float, event_stream, outside, clash}
@@ -18,6 +24,9 @@ reason_view reasons.Float = float
 reason_view reasons.EventStream = event_stream
 reason_view reasons.Outside = outside
 reason_view reasons.Clash = clash
+
+abbrev pub bindings_view : kept_bindings.Bindings → Bindings
+bindings_view b = record { headers = b.headers; request_line = b.request_line; status_line = b.status_line }
 
 abbrev pub names_view : kept_names.Names → List (List ℕ)
 names_view n = map (λ t. t.now) n.names.items
@@ -29,6 +38,11 @@ left_view l = record { shape = l.shape.now; member = l.member.now; reason = reas
 abbrev pub outcome_view : List ℕ → kept_outcome.Outcome → Outcome
 outcome_view name (outcomes.Declared d) = declared (member_decl_of d)
 outcome_view name (outcomes.Left reason) = left_out name (reason_view reason)
+
+-- what a fault of the table is
+abbrev pub fault_of_table : TableFault → WantedFault
+fault_of_table table_faults.NoMemory = faults.NoMemory
+fault_of_table fault = faults.TableRefused fault
 
 abbrev pub wanted_view : kept_wanted.Wanted → Wanted
 wanted_view (wanteds.Input name) = input name.now

@@ -1,31 +1,124 @@
 -- What a table is wanted for, and the shapes of a model that this is.
-use Rattle.std.specs.Prelude.{◌≡◌, ℕ, List, [], ◌∷◌, false, Some, slice_get}
-use Rattle.std.specs.Option.{IsSomeAnd}
-use Rattle.smithy_model.specs.Model.{Shape, Operation, Model}
-use Rattle.smithy_model_table.specs.Naming.{IsNameIn}
+use Rattle.std.specs.Prelude.{◌≡◌, ◌≢◌, ◌⊎◌, ◌||◌, ℕ, List, [], ◌∷◌, ◌++◌, length, Bool, true, false, Option, Some, None, IsSome, if◌then◌else◌, slice_get, map, flat_map, option_and_then, option_to_list, bytes_eq}
+use Rattle.std.specs.List.{list_any, filter, find}
+use Rattle.std.specs.Option.{option_map_or, IsSomeAnd}
+use Rattle.smithy_model.specs.Model as model
+use Rattle.smithy_model.specs.Model.{Member, Kind, Shape, Operation, Model}
+use Rattle.smithy_model.specs.Reading.{ids_of}
+use Rattle.smithy_model_table.specs.declared.fault.WantedFault.{WantedFault}
+use Rattle.smithy_model_table.specs.declared.fault.WantedFault.TheVariants as faults
+use Rattle.smithy_model_table.specs.Naming.{name_in}
+use Rattle.smithy_model_table.specs.Leaving.{is_marked}
 
 -- the input or the output of an operation, a shape, or each operation of the service
 pub data Wanted : Type 0 where
   input output shape : List ℕ → Wanted
   service : Wanted
 
--- the shape of this number has this id, or this name in its id
-abbrev pub IsShapeNamed : Model → List ℕ → ℕ → Type 0
-IsShapeNamed m name number = IsSomeAnd (slice_get m.shapes number) (λ (s : Shape). IsNameIn s.id name)
+-- the id, or the name in it, is this
+abbrev pub is_named : List ℕ → List ℕ → Bool
+is_named name id = bytes_eq id name || bytes_eq (name_in id) name
 
--- an operation of the model that has this id, or this name in its id
+-- the place of the only id that is named so
+abbrev pub IsOnly : List (List ℕ) → List ℕ → ℕ → Type 0
+IsOnly ids name number = (id : List ℕ) × (slice_get ids number ≡ Some id) × (filter (is_named name) ids ≡ id ∷ [])
+
+-- none of these ids is named so, or several are
+abbrev pub HasNotOne : List (List ℕ) → List ℕ → Type 0
+HasNotOne ids name = length (filter (is_named name) ids) ≢ 1
+
+-- none of these ids is this
+abbrev pub IsUnknown : List (List ℕ) → List ℕ → Type 0
+IsUnknown ids id = list_any (λ other. bytes_eq other id) ids ≡ false
+
+-- the place of this id, or of the only one of this name
+abbrev pub IsIdNamed : List (List ℕ) → List ℕ → ℕ → Type 0
+IsIdNamed ids name number = (slice_get ids number ≡ Some name) ⊎ IsOnly ids name number
+
+-- the ids of a model's operations
+abbrev pub operation_ids : Model → List (List ℕ)
+operation_ids m = map (λ (o : Operation). o.id) m.operations
+
+-- the only operation of this id or name
 abbrev pub IsOperationNamed : Model → List ℕ → Operation → Type 0
-IsOperationNamed m name o = (number : ℕ) × (slice_get m.operations number ≡ Some o) × IsNameIn o.id name
+IsOperationNamed m name o = (number : ℕ) × IsOnly (operation_ids m) name number × (slice_get m.operations number ≡ Some o)
 
--- The body of the structure of this id: that structure. With HTTP bindings it may be a payload of it, and nothing is said.
+-- a shape of this kind has a declaration
+abbrev pub is_declared : Kind → Bool
+is_declared (model.structure members) = true
+is_declared (model.union members) = true
+is_declared (model.list element) = true
+is_declared (model.map key value) = true
+is_declared _ = false
+
+-- the members of the structure of this number
+abbrev pub members_of : Kind → Option (List Member)
+members_of (model.structure members) = Some members
+members_of _ = None
+
+abbrev pub structure_at : Model → ℕ → Option (List Member)
+structure_at m number = option_and_then (λ (s : Shape). members_of s.kind) (slice_get m.shapes number)
+
+-- the body of the structure of this number, which has these members: with HTTP bindings the target of the first with
+-- `@httpPayload`, if there is one
+abbrev pub body_of : Model → ℕ → List Member → ℕ
+body_of m number members =
+    if m.has_http_bindings
+    then option_map_or (λ (p : Member). p.number) (find (λ (p : Member). p.is_payload) members) number
+    else number
+
+-- the structure that is the body of the one of this id
 abbrev pub IsBody : Model → List ℕ → ℕ → Type 0
-IsBody m id root = (number : ℕ) × IsShapeNamed m id number × (m.has_http_bindings ≡ false → root ≡ number)
+IsBody m id root =
+    (number : ℕ) × (members : List Member) × (slice_get (ids_of m.shapes) number ≡ Some id)
+    × (structure_at m number ≡ Some members) × (root ≡ body_of m number members) × IsSome (structure_at m root)
 
--- the numbers of the shapes that are wanted; of those of a whole service nothing is said
-abbrev pub AreRoots : Model → Wanted → List ℕ → Type 0
-AreRoots m (input name) roots =
+-- the shape of this id has no such body: it is no structure, or its payload is none
+abbrev pub HasNoBody : Model → List ℕ → Type 0
+HasNoBody m id =
+    (number : ℕ) × (slice_get (ids_of m.shapes) number ≡ Some id)
+    × ((structure_at m number ≡ None)
+    ⊎ ((members : List Member) × (structure_at m number ≡ Some members) × (structure_at m (body_of m number members) ≡ None)))
+
+-- why the structure of this id has no body
+abbrev pub RefusesBody : Model → List ℕ → WantedFault → Type 0
+RefusesBody m id faults.NoSuchName = IsUnknown (ids_of m.shapes) id
+RefusesBody m id faults.NoDeclaration = HasNoBody m id
+RefusesBody m id _ = ⊥
+
+-- the ids of the structures of an operation, in this order
+abbrev pub structure_ids : Operation → List (List ℕ)
+structure_ids o = option_to_list o.input ++ (option_to_list o.output ++ o.errors)
+
+-- the bodies of the structures of these ids, in order, but for what has none
+abbrev pub AreBodies : Model → List (List ℕ) → List ℕ → Type 0
+AreBodies m [] roots = roots ≡ []
+AreBodies m (id ∷ ids) roots =
+    ((root : ℕ) × (rest : List ℕ) × IsBody m id root × AreBodies m ids rest × (roots ≡ root ∷ rest))
+    ⊎ ((IsUnknown (ids_of m.shapes) id ⊎ HasNoBody m id) × AreBodies m ids roots)
+
+-- the shape of this id or name has a declaration
+abbrev pub IsDeclared : Model → List Bool → List ℕ → ℕ → Type 0
+IsDeclared m marks name number =
+    (s : Shape) × IsIdNamed (ids_of m.shapes) name number × (slice_get m.shapes number ≡ Some s)
+    × (is_declared s.kind ≡ true) × (is_marked marks number ≡ false)
+
+-- the numbers of the shapes that are wanted
+abbrev pub AreRoots : Model → List Bool → Wanted → List ℕ → Type 0
+AreRoots m marks (input name) roots =
     (o : Operation) × (id : List ℕ) × (root : ℕ) × IsOperationNamed m name o × (o.input ≡ Some id) × IsBody m id root × (roots ≡ root ∷ [])
-AreRoots m (output name) roots =
+AreRoots m marks (output name) roots =
     (o : Operation) × (id : List ℕ) × (root : ℕ) × IsOperationNamed m name o × (o.output ≡ Some id) × IsBody m id root × (roots ≡ root ∷ [])
-AreRoots m (shape name) roots = (root : ℕ) × IsShapeNamed m name root × (roots ≡ root ∷ [])
-AreRoots m service roots = Unit {0}
+AreRoots m marks (shape name) roots = (root : ℕ) × IsDeclared m marks name root × (roots ≡ root ∷ [])
+AreRoots m marks service roots = AreBodies m (flat_map structure_ids m.operations) roots
+
+-- What is wanted has no name in the model, or not that of one alone. A structure of an operation may be missing, too.
+abbrev pub LacksName : Model → Wanted → Type 0
+LacksName m (input name) =
+    HasNotOne (operation_ids m) name
+    ⊎ ((o : Operation) × IsOperationNamed m name o × IsSomeAnd o.input (IsUnknown (ids_of m.shapes)))
+LacksName m (output name) =
+    HasNotOne (operation_ids m) name
+    ⊎ ((o : Operation) × IsOperationNamed m name o × IsSomeAnd o.output (IsUnknown (ids_of m.shapes)))
+LacksName m (shape name) = IsUnknown (ids_of m.shapes) name × HasNotOne (ids_of m.shapes) name
+LacksName m service = ⊥

@@ -1,9 +1,12 @@
 //! Which shapes a table can hold.
-ghost use Rattle.std.specs.Prelude.{◌≡◌, true, map, IfOk};
+ghost use Rattle.std.specs.Prelude.{◌≡◌, ◌≢◌, true, map, IfOk, IfErr};
 ghost use Rattle.std.specs.List.{list_all};
 ghost use Rattle.smithy_model.specs.Views.{model_view, member_view, kind_view};
-ghost use Rattle.smithy_model_table.specs.Leaving.{is_marked, is_outside, is_left_out, is_uncarried, AreSettled};
+ghost use Rattle.smithy_model_table.specs.Leaving.{is_marked, has_mark, is_outside, is_left_out, is_uncarried, AreSettled, IsNoFurther, AreFewest};
+ghost use Rattle.smithy_model_table.specs.declared.fault.WantedFault.TheVariants as faults;
+ghost use Rattle.smithy_model_table.specs.Views.{bindings_view};
 
+use crate::bindings::Bindings;
 use crate::fault::WantedFault;
 use smithy_model::{Kind, Member, Model, Shape};
 use std::alloc::Global;
@@ -18,26 +21,28 @@ pub(crate) fn is_marked(marks: &[bool], number: usize) -> bool
     }
 }
 
-/// Whether a member travels outside of the body.
-pub(crate) fn is_outside(model: &Model<'_>, member: &Member<'_>) -> bool
-    ensures { result ≡ is_outside (model_view model.now) (member_view member.now) }
+/// Whether a member travels outside of the body, where these bindings count.
+pub(crate) fn is_outside(counting: Bindings, member: &Member<'_>) -> bool
+    ensures { result ≡ is_outside (bindings_view counting) (member_view member.now) }
 {
-    model.has_http_bindings && member.is_outside
+    counting.headers && member.in_headers
+        || counting.request_line && member.in_request_line
+        || counting.status_line && member.in_status_line
 }
 
-/// Whether no body has a member: its target is marked, or it travels outside.
-pub(crate) fn is_left_out(model: &Model<'_>, marks: &[bool], member: &Member<'_>) -> bool
-    ensures { result ≡ is_left_out (model_view model.now) marks.now (member_view member.now) }
+/// Whether no table has a member: its target is marked, or it travels outside.
+pub(crate) fn is_left_out(marks: &[bool], counting: Bindings, member: &Member<'_>) -> bool
+    ensures { result ≡ is_left_out marks.now (bindings_view counting) (member_view member.now) }
 {
-    is_marked(marks, member.number) || is_outside(model, member)
+    is_marked(marks, member.number) || is_outside(counting, member)
 }
 
-// Whether no body has any of these members.
-fn are_left_out(model: &Model<'_>, marks: &[bool], members: &[Member<'_>]) -> bool
-    ensures { result ≡ list_all (is_left_out (model_view model.now) marks.now) (map member_view members.now) }
+// Whether the targets of all of these members are marked.
+fn are_marked(marks: &[bool], members: &[Member<'_>]) -> bool
+    ensures { result ≡ list_all (has_mark marks.now) (map member_view members.now) }
 {
     for member in members {
-        if !is_left_out(model, marks, member) {
+        if !is_marked(marks, member.number) {
             return false;
         }
     }
@@ -46,25 +51,28 @@ fn are_left_out(model: &Model<'_>, marks: &[bool], members: &[Member<'_>]) -> bo
 
 // Whether nothing of a shape can stand in a table: it is a float or a stream of events, or a list, a map or a union of
 // nothing but such.
-fn is_uncarried(model: &Model<'_>, marks: &[bool], shape: &Shape<'_>) -> bool
-    ensures { result ≡ is_uncarried (model_view model.now) marks.now (kind_view shape.now.kind) }
+fn is_uncarried(marks: &[bool], shape: &Shape<'_>) -> bool
+    ensures { result ≡ is_uncarried marks.now (kind_view shape.now.kind) }
 {
     match &shape.kind {
         Kind::Float => true,
         Kind::EventStream => true,
         Kind::List(element) => is_marked(marks, element.number),
         Kind::Map(entry) => is_marked(marks, entry.value.number),
-        Kind::Union(members) => are_left_out(model, marks, members),
+        Kind::Union(members) => are_marked(marks, members),
         _ => false,
     }
 }
 
 // Marks what follows from the marks so far.
-fn mark_more(model: &Model<'_>, marks: &mut Vec<bool>) {
+fn mark_more(model: &Model<'_>, marks: &mut Vec<bool>)
+    ensures { IsNoFurther (model_view model.now) marks.old.items marks.new.items }
+{
     for number in 0..model.shapes.len().min(marks.len()) {
-        if is_uncarried(model, marks, &model.shapes[number]) {
-            marks[number] = true;
+        if !is_uncarried(marks, &model.shapes[number]) {
+            continue;
         }
+        marks[number] = true;
     }
 }
 
@@ -76,7 +84,7 @@ fn are_settled(model: &Model<'_>, marks: &[bool]) -> bool
         return false;
     }
     for number in 0..marks.len() {
-        if is_uncarried(model, marks, &model.shapes[number]) != marks[number] {
+        if is_uncarried(marks, &model.shapes[number]) != marks[number] {
             return false;
         }
     }
@@ -85,7 +93,8 @@ fn are_settled(model: &Model<'_>, marks: &[bool]) -> bool
 
 /// For each shape whether nothing of it can stand in a table.
 pub(crate) fn uncarried(alloc: Global, model: &Model<'_>) -> Result<Vec<bool>, WantedFault>
-    ensures { IfOk result (λ marks. AreSettled (model_view model.now) marks.items) }
+    ensures fewest { IfOk result (λ marks. AreFewest (model_view model.now) marks.items) }
+    ensures named { IfErr result (λ fault. fault ≢ faults.NoSuchName) }
 {
     let mut marks = Vec::from_elem(alloc, false, model.shapes.len())?;
     // Each turn but the last marks a shape, so the marks are settled behind the last.

@@ -7,9 +7,10 @@ ghost use Rattle.smithy_model_table.specs.Views.{names_view, left_view};
 ghost use Rattle.smithy_shapes.specs.Decl.{list, map};
 ghost use Rattle.smithy_shapes.specs.DeclViews.{decl_of};
 
+use crate::bindings::{bindings_of, no_bindings};
 use crate::left::Left;
 use crate::names::Names;
-use crate::outcomes::declare_members;
+use crate::outcomes::{Owner, declare_members};
 use crate::places::{owned, owned_if, part_name, shape_at, target_word, time_of};
 use smithy_model::{Entry, Kind, Member, Model, Shape};
 use smithy_shapes::Decl;
@@ -87,14 +88,26 @@ fn declare_shape<'a>(
     };
     let name = names.name(number);
     match &shape.kind {
-        Kind::Structure(members) => Ok(Some(Decl::Structure {
-            name: owned(alloc, name)?,
-            members: declare_members(alloc, model, marks, names, shape.id, members, left)?,
-        })),
-        Kind::Union(members) => Ok(Some(Decl::Union {
-            name: owned(alloc, name)?,
-            members: declare_members(alloc, model, marks, names, shape.id, members, left)?,
-        })),
+        Kind::Structure(members) => {
+            let owner = Owner {
+                id: shape.id,
+                counting: bindings_of(model, number, shape.id),
+            };
+            Ok(Some(Decl::Structure {
+                name: owned(alloc, name)?,
+                members: declare_members(alloc, model, marks, names, &owner, members, left)?,
+            }))
+        }
+        Kind::Union(members) => {
+            let owner = Owner {
+                id: shape.id,
+                counting: no_bindings(),
+            };
+            Ok(Some(Decl::Union {
+                name: owned(alloc, name)?,
+                members: declare_members(alloc, model, marks, names, &owner, members, left)?,
+            }))
+        }
         Kind::List(element) => Ok(Some(declare_list(alloc, model, names, name, shape, element)?)),
         Kind::Map(entry) => Ok(Some(declare_map(alloc, model, names, name, shape, entry)?)),
         _ => Ok(None),

@@ -13,7 +13,7 @@ pub enum WantedFault {
     TooLong,
     /// The table is refused.
     TableRefused(TableFault),
-    /// The text doesn't read as the declarations, as where a name has a blank.
+    /// The text isn't read as the declarations, as where a name has a blank.
     Unwritable,
     /// An allocation was refused.
     NoMemory,
@@ -42,6 +42,11 @@ impl<T: Drop> From<AllocFailed<T>> for WantedFault {
 }
 
 impl From<TableFault> for WantedFault {
+    ghost use Rattle.std.specs.Prelude.{◌≡◌};
+    ghost use Rattle.smithy_model_table.specs.Views.{fault_of_table};
+
+    ghost from_gives = { λ fault wanted. wanted ≡ fault_of_table fault };
+
     fn from(fault: TableFault) -> WantedFault {
         match fault {
             TableFault::NoMemory => WantedFault::NoMemory,

@@ -4,10 +4,13 @@
 //! it leaves out.
 #![tactic(auto)]
 
+mod bindings;
+mod bodies;
 mod carried;
 mod declaring;
 mod equal;
 mod fault;
+mod finding;
 mod left;
 mod members;
 mod names;
@@ -22,4 +25,3 @@ pub use fault::WantedFault;
 pub use left::{Left, Reason};
 pub use table::{ModelTable, table_of};
 pub use wanted::Wanted;
-pub use writing::write_table;

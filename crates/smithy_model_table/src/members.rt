@@ -1,7 +1,7 @@
 //! The declarations of members.
-ghost use Rattle.std.specs.Prelude.{◌≡◌, false, option_map, string_bytes, IfOk};
+ghost use Rattle.std.specs.Prelude.{◌≡◌, ◌<◌, length, get_or, true, false, option_map, string_bytes, IfOk};
 ghost use Rattle.smithy_model.specs.Views.{model_view, member_view};
-ghost use Rattle.smithy_model_table.specs.Declaring.{is_flat, xml_name_of, form_name_of, member_decl};
+ghost use Rattle.smithy_model_table.specs.Declaring.{is_flat, xml_name_of, unless_usual, capitalized, ec2_name_of, form_name_of, member_decl};
 ghost use Rattle.smithy_model_table.specs.Views.{names_view};
 ghost use Rattle.smithy_shapes.specs.DeclViews.{member_decl_of};
 
@@ -25,32 +25,45 @@ fn is_flat(model: &Model<'_>, member: &Member<'_>) -> bool
     }
 }
 
-// A text with its first letter as a capital.
-fn capitalized(alloc: Global, text: &str) -> Result<String, AllocError> {
-    let mut out = String::new(alloc);
-    let mut is_first = true;
-    for letter in text.chars() {
-        if is_first {
-            out.push(letter.to_ascii_uppercase())?;
-            is_first = false;
-        } else {
-            out.push(letter)?;
-        }
+// Whether a text begins with a character of ASCII.
+fn begins_with_ascii(text: &str) -> bool
+    ensures ascii { result ≡ true → (0 < length text.now) × (get_or text.now 0 0 < 128) }
+    ensures other { result ≡ false → capitalized text.now ≡ text.now }
+{
+    match text.as_bytes().first() {
+        Some(byte) => *byte < 128,
+        None => false,
     }
+}
+
+// A text with its first letter as a capital.
+fn capitalized(alloc: Global, text: &str) -> Result<String, AllocError>
+    ensures { IfOk result (λ own. string_bytes own ≡ capitalized text.now) }
+{
+    if !begins_with_ascii(text) {
+        return owned(alloc, text);
+    }
+    let mut out = text[..1].to_ascii_uppercase(alloc)?;
+    out.push_str(&text[1..])?;
     Ok(out)
 }
 
 // The name in a form of EC2 (Smithy 2.0, "AWS EC2 query protocol"): `@ec2QueryName`, else `@xmlName` or the name with a
 // capital.
-fn ec2_name(alloc: Global, member: &Member<'_>) -> Result<Option<String>, AllocError> {
-    if member.ec2_name.is_some() {
-        return unless_usual(alloc, member.name, member.ec2_name);
+fn ec2_name(alloc: Global, member: &Member<'_>) -> Result<Option<String>, AllocError>
+    ensures { IfOk result (λ own. option_map string_bytes own ≡ unless_usual (member_view member.now).name (ec2_name_of (member_view member.now))) }
+{
+    if let Some(name) = member.ec2_name {
+        return unless_usual(alloc, member.name, Some(name));
     }
-    let name = capitalized(alloc, member.xml_name.unwrap_or(member.name))?;
-    if name.as_str() == member.name {
+    let given = match member.xml_name {
+        Some(name) => capitalized(alloc, name)?,
+        None => capitalized(alloc, member.name)?,
+    };
+    if given.as_str() == member.name {
         return Ok(None);
     }
-    Ok(Some(name))
+    Ok(Some(given))
 }
 
 // The XML name of a member. A `service-2.json` names the entries of a list that is flattened wherever it stands at its
@@ -79,7 +92,7 @@ fn form_name(
     model: &Model<'_>,
     member: &Member<'_>,
 ) -> Result<Option<String>, AllocError>
-    ensures { IfOk result (λ own. model.now.is_ec2 ≡ false → option_map string_bytes own ≡ form_name_of (model_view model.now) (member_view member.now)) }
+    ensures { IfOk result (λ own. option_map string_bytes own ≡ form_name_of (model_view model.now) (member_view member.now)) }
 {
     if model.is_ec2 {
         return ec2_name(alloc, member);
@@ -94,9 +107,7 @@ pub(crate) fn declare_member<'a>(
     names: &Names<'a>,
     member: &Member<'a>,
 ) -> Result<MemberDecl, AllocError>
-    // In a form of EC2 nothing is said of the name.
-    ensures declared { IfOk result (λ d. member_decl_of d ≡ member_decl (model_view model.now) (names_view names.now) (member_view member.now) (option_map string_bytes d.xml)) }
-    ensures form { IfOk result (λ d. model.now.is_ec2 ≡ false → option_map string_bytes d.xml ≡ form_name_of (model_view model.now) (member_view member.now)) }
+    ensures { IfOk result (λ d. member_decl_of d ≡ member_decl (model_view model.now) (names_view names.now) (member_view member.now)) }
 {
     Ok(MemberDecl {
         name: owned(alloc, member.name)?,

@@ -5,7 +5,8 @@ ghost use Rattle.smithy_model_table.specs.Declaring.{name_of};
 ghost use Rattle.smithy_model_table.specs.Naming.{IsNameIn, AreNamesOf};
 ghost use Rattle.smithy_model_table.specs.Views.{names_view};
 
-use crate::wanted::{is_declared, name_in};
+use crate::finding::name_in;
+use crate::wanted::is_declared;
 use smithy_model::Model;
 use std::alloc::{AllocError, Global};
 use std::collections::BTreeMap;

@@ -2,10 +2,12 @@
 ghost use Rattle.std.specs.Prelude.{◌≡◌, ◌++◌, List, [], ◌∷◌, map, option_map, IfOk, OnOk};
 ghost use Rattle.smithy_model.specs.Views.{model_view, member_view};
 ghost use Rattle.smithy_model_table.specs.Leaving.{reason_of};
-ghost use Rattle.smithy_model_table.specs.Outcomes.{LeftOut, IsOutcome, AreOutcomes, declared_of, left_of};
-ghost use Rattle.smithy_model_table.specs.Views.{names_view, reason_view, left_view, outcome_view};
+ghost use Rattle.smithy_model_table.specs.Outcomes.{LeftOut, clashes, IsOutcome, AreOutcomes, declared_of, left_of};
+ghost use Rattle.smithy_model_table.specs.Views.{bindings_view, names_view, reason_view, left_view, outcome_view};
+ghost use Rattle.smithy_shapes.specs.Acceptance.{json_name_of, query_name_of};
 ghost use Rattle.smithy_shapes.specs.DeclViews.{member_decl_of};
 
+use crate::bindings::Bindings;
 use crate::carried::{is_marked, is_outside};
 use crate::left::{Left, Reason};
 use crate::members::declare_member;
@@ -13,6 +15,13 @@ use crate::names::Names;
 use smithy_model::{Kind, Member, Model};
 use smithy_shapes::MemberDecl;
 use std::alloc::{AllocError, Global};
+
+/// The structure or the union that has members: its id, and which bindings count in it.
+#[derive(Clone, Copy)]
+pub(crate) struct Owner<'a> {
+    pub(crate) id: &'a str,
+    pub(crate) counting: Bindings,
+}
 
 /// What becomes of a member.
 #[derive(Drop)]
@@ -22,10 +31,15 @@ pub(crate) enum Outcome {
 }
 
 // Why a member is left out, whatever stands before it.
-fn reason(model: &Model<'_>, marks: &[bool], member: &Member<'_>) -> Option<Reason>
-    ensures { option_map reason_view result ≡ reason_of (model_view model.now) marks.now (member_view member.now) }
+fn reason(
+    model: &Model<'_>,
+    marks: &[bool],
+    counting: Bindings,
+    member: &Member<'_>,
+) -> Option<Reason>
+    ensures { option_map reason_view result ≡ reason_of (model_view model.now) marks.now (bindings_view counting) (member_view member.now) }
 {
-    if is_outside(model, member) {
+    if is_outside(counting, member) {
         return Some(Reason::Outside);
     }
     if !is_marked(marks, member.number) {
@@ -41,7 +55,9 @@ fn reason(model: &Model<'_>, marks: &[bool], member: &Member<'_>) -> Option<Reas
 }
 
 // The name of a declared member in JSON.
-fn json_name(decl: &MemberDecl) -> &str {
+fn json_name(decl: &MemberDecl) -> &str
+    ensures { result.now ≡ json_name_of (member_decl_of decl.now) }
+{
     match &decl.json {
         Some(name) => name.as_str(),
         None => decl.name.as_str(),
@@ -49,7 +65,9 @@ fn json_name(decl: &MemberDecl) -> &str {
 }
 
 // The name of a declared member in a form.
-fn form_name(decl: &MemberDecl) -> &str {
+fn form_name(decl: &MemberDecl) -> &str
+    ensures { result.now ≡ query_name_of (member_decl_of decl.now) }
+{
     match &decl.xml {
         Some(name) => name.as_str(),
         None => decl.name.as_str(),
@@ -57,7 +75,9 @@ fn form_name(decl: &MemberDecl) -> &str {
 }
 
 // Whether a name of the member in JSON or in a form is that of an earlier one.
-fn clashes(decls: &[MemberDecl], decl: &MemberDecl) -> bool {
+fn clashes(decls: &[MemberDecl], decl: &MemberDecl) -> bool
+    ensures { result ≡ clashes (map member_decl_of decls.now) (member_decl_of decl.now) }
+{
     for earlier in decls {
         if json_name(earlier) == json_name(decl) || form_name(earlier) == form_name(decl) {
             return true;
@@ -72,12 +92,13 @@ fn decide<'a>(
     model: &Model<'a>,
     marks: &[bool],
     names: &Names<'a>,
+    counting: Bindings,
     decls: &[MemberDecl],
     member: &Member<'a>,
 ) -> Result<Outcome, AllocError>
-    ensures { IfOk result (λ o. IsOutcome (model_view model.now) marks.now (names_view names.now) (member_view member.now) (outcome_view member.now.name.now o)) }
+    ensures { IfOk result (λ o. IsOutcome (model_view model.now) marks.now (names_view names.now) (bindings_view counting) (map member_decl_of decls.now) (member_view member.now) (outcome_view member.now.name.now o)) }
 {
-    if let Some(reason) = reason(model, marks, member) {
+    if let Some(reason) = reason(model, marks, counting, member) {
         return Ok(Outcome::Left(reason));
     }
     let decl = declare_member(alloc, model, names, member)?;
@@ -114,17 +135,17 @@ pub(crate) fn declare_members<'a>(
     model: &Model<'a>,
     marks: &[bool],
     names: &Names<'a>,
-    shape: &'a str,
+    owner: &Owner<'a>,
     members: &[Member<'a>],
     left: &mut Vec<Left<'a>>,
 ) -> Result<Vec<MemberDecl>, AllocError>
     ensures { IfOk result (λ decls. (added : List LeftOut) × (map left_view left.new.items ≡ map left_view left.old.items ++ added)
-        × AreOutcomes (model_view model.now) marks.now (names_view names.now) shape.now (map member_view members.now) (map member_decl_of decls.items) added) }
+        × AreOutcomes (model_view model.now) marks.now (names_view names.now) (bindings_view owner.now.counting) owner.now.id.now (map member_view members.now) (map member_decl_of decls.items) added) }
 {
     let mut decls = Vec::new(alloc);
     for member in members {
-        let outcome = decide(alloc, model, marks, names, &decls, member)?;
-        add_outcome(shape, member.name, outcome, &mut decls, left)?;
+        let outcome = decide(alloc, model, marks, names, owner.counting, &decls, member)?;
+        add_outcome(owner.id, member.name, outcome, &mut decls, left)?;
     }
     Ok(decls)
 }

@@ -1,4 +1,5 @@
 //! The shapes that roots reach.
+use crate::bindings::{Bindings, bindings_of, no_bindings};
 use crate::carried::is_left_out;
 use smithy_model::{Kind, Member, Model};
 use std::alloc::{AllocError, Global};
@@ -14,14 +15,14 @@ fn visit(seen: &mut Vec<bool>, order: &mut Vec<usize>, number: usize) -> Result<
 
 // Adds the targets of members that a table holds.
 fn visit_all(
-    model: &Model<'_>,
     marks: &[bool],
+    counting: Bindings,
     seen: &mut Vec<bool>,
     order: &mut Vec<usize>,
     members: &[Member<'_>],
 ) -> Result<(), AllocError> {
     for member in members {
-        if !is_left_out(model, marks, member) {
+        if !is_left_out(marks, counting, member) {
             visit(seen, order, member.number)?;
         }
     }
@@ -49,8 +50,13 @@ pub(crate) fn reached(
             break;
         };
         match &shape.kind {
-            Kind::Structure(members) => visit_all(model, marks, &mut seen, &mut order, members)?,
-            Kind::Union(members) => visit_all(model, marks, &mut seen, &mut order, members)?,
+            Kind::Structure(members) => {
+                let counting = bindings_of(model, order[turn], shape.id);
+                visit_all(marks, counting, &mut seen, &mut order, members)?
+            }
+            Kind::Union(members) => {
+                visit_all(marks, no_bindings(), &mut seen, &mut order, members)?
+            }
             Kind::List(element) => visit(&mut seen, &mut order, element.number)?,
             Kind::Map(entry) => visit(&mut seen, &mut order, entry.value.number)?,
             _ => {}

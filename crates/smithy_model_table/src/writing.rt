@@ -3,7 +3,7 @@ use smithy_shapes::{Decl, MemberDecl};
 use std::alloc::{AllocError, Global};
 
 /// The text of declarations, a line for each and for each member.
-pub fn write_table(alloc: Global, decls: &[Decl]) -> Result<Vec<u8>, AllocError> {
+pub(crate) fn write_table(alloc: Global, decls: &[Decl]) -> Result<Vec<u8>, AllocError> {
     let mut out = Vec::new(alloc);
     for decl in decls {
         write_decl(&mut out, decl)?;

@@ -7,12 +7,13 @@ use Rattle.smithy_model.specs.Reading.{IsModelText}
 use Rattle.smithy_model.specs.Faults.{RefusesText}
 use Rattle.smithy_model_table.specs.Leaving.{Reason, outside}
 use Rattle.smithy_model_table.specs.Outcomes.{LeftOut as Left}
+use Rattle.smithy_model_table.specs.Wanted.{Wanted, LacksName}
 use Rattle.smithy_model_table.specs.ModelTable.{IsTableOf}
 use Rattle.smithy_outside.specs.Outside.{Shown, missing, MetOneFault, MetNoFault, IsWhole, IsLonger, Took, TookPrefix}
 use Rattle.smithy_table_commands.specs.declared.status.Status.{Status}
 use Rattle.smithy_table_commands.specs.declared.status.Status.TheVariants.{Done, Usage, ReadFailed, WriteFailed, OutOfMemory, TableRefused, NoSuchName, NoDeclaration, TooLong, NotJson, NotAModel, BadShape, UnknownTarget, BadMixin, Applied, Unwritable, LeftOut, NameTwice}
 use Rattle.smithy_table_commands.specs.Command.{Task, command_of}
-use Rattle.smithy_table_commands.specs.Status.{status_code, line_of}
+use Rattle.smithy_table_commands.specs.Status.{status_code, line_of, said}
 
 -- in bytes
 abbrev pub longest_model : ℕ
@@ -35,26 +36,27 @@ FailsToLoad old new _ = ⊥
 abbrev pub IsModel : List ℕ → Type 0
 IsModel text = (m : Model) × IsModelText text m
 
--- Why there is no table: the text is no model, by this cause, or it is one, and what is wanted of it has no table that is accepted.
-abbrev pub Refuses : List ℕ → Status → Type 0
-Refuses text Done = ⊥
-Refuses text Usage = ⊥
-Refuses text ReadFailed = ⊥
-Refuses text WriteFailed = ⊥
-Refuses text LeftOut = ⊥
-Refuses text OutOfMemory = Unit {0}
-Refuses text NotJson = RefusesText text faults.NotJson
-Refuses text NameTwice = RefusesText text faults.NameTwice
-Refuses text NotAModel = RefusesText text faults.NotAModel
-Refuses text (BadShape id) = RefusesText text (faults.BadShape id)
-Refuses text (UnknownTarget id) = RefusesText text (faults.UnknownTarget id)
-Refuses text (BadMixin id) = RefusesText text (faults.BadMixin id)
-Refuses text (Applied id) = RefusesText text (faults.Applied id)
-Refuses text NoSuchName = IsModel text
-Refuses text NoDeclaration = IsModel text
-Refuses text TooLong = IsModel text
-Refuses text (TableRefused fault) = IsModel text
-Refuses text Unwritable = IsModel text
+-- Why there is no table: the text is no model, by this cause, or it is one, and what is wanted of it has no table that is accepted. Of the
+-- latter's causes only one is told: the model lacks the name.
+abbrev pub Refuses : List ℕ → Wanted → Status → Type 0
+Refuses text wanted Done = ⊥
+Refuses text wanted Usage = ⊥
+Refuses text wanted ReadFailed = ⊥
+Refuses text wanted WriteFailed = ⊥
+Refuses text wanted LeftOut = ⊥
+Refuses text wanted OutOfMemory = Unit {0}
+Refuses text wanted NotJson = RefusesText text faults.NotJson
+Refuses text wanted NameTwice = RefusesText text faults.NameTwice
+Refuses text wanted NotAModel = RefusesText text faults.NotAModel
+Refuses text wanted (BadShape id) = RefusesText text (faults.BadShape id)
+Refuses text wanted (UnknownTarget id) = RefusesText text (faults.UnknownTarget id)
+Refuses text wanted (BadMixin id) = RefusesText text (faults.BadMixin id)
+Refuses text wanted (Applied id) = RefusesText text (faults.Applied id)
+Refuses text wanted NoSuchName = (m : Model) × IsModelText text m × LacksName m wanted
+Refuses text wanted NoDeclaration = IsModel text
+Refuses text wanted TooLong = IsModel text
+Refuses text wanted (TableRefused fault) = IsModel text
+Refuses text wanted Unwritable = IsModel text
 
 -- a body may have such a member: only one that travels outside of it is in none
 abbrev pub is_lost : Reason → Bool
@@ -69,42 +71,44 @@ loses_data left = list_any (λ (l : Left). is_lost l.reason) left
 abbrev pub is_forbidden : List Left → Bool → Bool
 is_forbidden left is_partial = loses_data left && not is_partial
 
--- what becomes of a table: the output took it whole, or a front of it and met a fault, or it may not be written
-abbrev pub HandsOut : (table : List ℕ) → List Left → (is_partial : Bool) → (old new : Shown) → Status → Type 0
-HandsOut table left is_partial old new Done = (is_forbidden left is_partial ≡ false) × Took table old new
-HandsOut table left is_partial old new WriteFailed =
+-- what becomes of a table: the output took it whole and holds nothing back, or it took a front of it and met a fault, or the table may
+-- not be written
+abbrev pub HandsOut : (table : List ℕ) → List Left → (is_partial : Bool) → (old new : Shown) → (holds_back : Bool) → Status → Type 0
+HandsOut table left is_partial old new holds_back Done =
+    (is_forbidden left is_partial ≡ false) × MetNoFault old new × Took table old new × (holds_back ≡ false)
+HandsOut table left is_partial old new holds_back WriteFailed =
     (is_forbidden left is_partial ≡ false) × MetOneFault old new × TookPrefix table old new
-HandsOut table left is_partial old new LeftOut = (is_forbidden left is_partial ≡ true) × (new ≡ old)
-HandsOut table left is_partial old new _ = ⊥
+HandsOut table left is_partial old new holds_back LeftOut = (is_forbidden left is_partial ≡ true) × (new ≡ old)
+HandsOut table left is_partial old new holds_back _ = ⊥
 
 -- A sink met no fault that shows, took the line and holds nothing back; or it met one fault, and took a front of it.
 abbrev pub TookLine : List ℕ → (old new : Shown) → (new_holds_back : Bool) → Type 0
 TookLine line old new new_holds_back =
     (MetNoFault old new × Took line old new × (new_holds_back ≡ false)) ⊎ (MetOneFault old new × TookPrefix line old new)
 
--- What a status says of the text of a model: it has no table, the output stays, and P holds of standard error; or it has this table.
-abbrev pub SaysOf : List ℕ → Task → (old new : Shown) → Status → (P : Type 0) → Type 0
-SaysOf text task old new status P =
-    (Refuses text status × (new ≡ old) × P)
+-- What a status says of the text of a model: it has no table, the output stays, and standard error took the last line; or it has this
+-- table, and standard error took a line for each member that the table leaves out, and the last line.
+abbrev pub SaysOf : List ℕ → Task → (old new : Shown) → (holds_back : Bool) → (old_err new_err : Shown) → (err_holds_back : Bool) → Status → Type 0
+SaysOf text task old new holds_back old_err new_err err_holds_back status =
+    (Refuses text task.wanted status × (new ≡ old) × TookLine (line_of status) old_err new_err err_holds_back)
     ⊎ ((m : Model) × (table : List ℕ) × (left : List Left) × IsModelText text m × IsTableOf m task.wanted table left
-    × HandsOut table left task.is_partial old new status)
+    × HandsOut table left task.is_partial old new holds_back status
+    × TookLine (said left status) old_err new_err err_holds_back)
 
--- What a status says where the words ask for a task: of the file of the model, of the output, and, where there is no table, P of
--- standard error.
-abbrev pub TaskAnswer : Task → (old_file new_file old_out new_out : Shown) → Status → (P : Type 0) → Type 0
-TaskAnswer task old_file new_file old_out new_out status P =
-    (FailsToLoad old_file new_file status × (new_out ≡ old_out) × P)
-    ⊎ ((text : List ℕ) × IsLoaded text old_file × SaysOf text task old_out new_out status P)
+-- What a status says where the words ask for a task: of the file of the model, of the output and of standard error.
+abbrev pub TaskAnswer : Task → (old_file new_file old_out new_out : Shown) → (out_holds_back : Bool) → (old_err new_err : Shown) → (err_holds_back : Bool) → Status → Type 0
+TaskAnswer task old_file new_file old_out new_out out_holds_back old_err new_err err_holds_back status =
+    (FailsToLoad old_file new_file status × (new_out ≡ old_out) × TookLine (line_of status) old_err new_err err_holds_back)
+    ⊎ ((text : List ℕ) × IsLoaded text old_file
+    × SaysOf text task old_out new_out out_holds_back old_err new_err err_holds_back status)
 
 -- What the number says that `run` answers: it is that of a status.
-pub record RunAnswer (words : List (List ℕ)) (old_files new_files : List ℕ → Shown) (old_out new_out old_err new_err : Shown) (err_holds_back : Bool) (code : ℕ) : Type 0 where
+pub record RunAnswer (words : List (List ℕ)) (old_files new_files : List ℕ → Shown) (old_out new_out old_err new_err : Shown) (out_holds_back err_holds_back : Bool) (code : ℕ) : Type 0 where
   pub status : Status
   pub has_code : code ≡ status_code status
   pub is_usage : (status ≡ Usage) ↔ (command_of words ≡ None)
-  -- where there is no table, standard error took the line of the status
   pub answers : (task : Task) → command_of words ≡ Some task
-      → TaskAnswer task (old_files task.model_path) (new_files task.model_path) old_out new_out status
-      (TookLine (line_of status) old_err new_err err_holds_back)
+      → TaskAnswer task (old_files task.model_path) (new_files task.model_path) old_out new_out out_holds_back old_err new_err err_holds_back status
   -- words that ask for no task move nothing but standard error
   pub only_for_a_task : command_of words ≡ None
       → (new_files ≡ old_files) × (new_out ≡ old_out) × TookLine (line_of status) old_err new_err err_holds_back

@@ -1,5 +1,7 @@
 -- The numbers that the program ends with, and what the last line on standard error says.
-use Rattle.std.specs.Prelude.{ℕ, List, [], ◌++◌, codes, decimal}
+use Rattle.std.specs.Prelude.{ℕ, List, [], ◌++◌, codes, decimal, flat_map}
+use Rattle.smithy_model_table.specs.Leaving.{Reason, float, event_stream, outside, clash}
+use Rattle.smithy_model_table.specs.Outcomes.{LeftOut as Left}
 use Rattle.smithy_shapes.specs.declared.fault.TableFault.{TableFault}
 use Rattle.smithy_shapes.specs.declared.fault.TableFault.TheVariants as table_faults
 use Rattle.smithy_outside.specs.declared.outside.LoadFault.{LoadFault}
@@ -100,3 +102,25 @@ text_of NameTwice = codes "a name twice in an object"
 -- the last line of a status other than 0
 abbrev pub line_of : Status → List ℕ
 line_of status = codes "smithy_table: " ++ text_of status ++ codes "\n"
+
+-- with 0 there is none
+abbrev pub last_line : Status → List ℕ
+last_line Done = []
+last_line status = line_of status
+
+-- what a line says of a reason
+abbrev pub reason_text : Reason → List ℕ
+reason_text float = codes "a float"
+reason_text event_stream = codes "an event stream"
+reason_text outside = codes "outside of the body"
+reason_text clash = codes "a name that is taken"
+
+-- the line of a member that is left out
+abbrev pub left_line : Left → List ℕ
+left_line left =
+    (codes "smithy_table: left out: " ++ left.shape)
+    ++ ((codes "$" ++ left.member) ++ ((codes ": " ++ reason_text left.reason) ++ codes "\n"))
+
+-- all that is said where there is a table: a line for each member that it leaves out, and the last line
+abbrev pub said : List Left → Status → List ℕ
+said left status = flat_map left_line left ++ last_line status

@@ -1,16 +1,30 @@
 //! The arguments of the process.
+ghost use Rattle.std.specs.Prelude.{◌≡◌, drop, map, string_bytes, IfErr, IfOk, MatchResult};
+ghost use Rattle.std.specs.IoError.{error_kind};
+ghost use Rattle.std.specs.Vec.Iter.{into_iter_items};
+ghost use Rattle.smithy_table_commands.specs.System.{words_of, IsUnread};
+
 use crate::status::Status;
-use std::alloc::Global;
+use std::alloc::{AllocError, Global};
 use std::env::Args;
 use std::io;
 use std::io::{Error, ErrorKind};
 
 // The status where the arguments weren't read. Those that are no text are no command.
-fn unread(error: &Error) -> Status<'static> {
+fn unread(error: &Error) -> Status<'static>
+    ensures { IsUnread (error_kind error.now) result }
+{
     match error.kind() {
         ErrorKind::OutOfMemory => Status::OutOfMemory,
         _ => Status::Usage,
     }
+}
+
+// The arguments without the first.
+fn without_name(alloc: Global, arguments: Args) -> Result<Vec<String>, AllocError>
+    ensures { IfOk result (λ words. words.items ≡ drop 1 (into_iter_items arguments)) }
+{
+    arguments.skip(1).collect(alloc)
 }
 
 /// All arguments but the program's own name, or the status that the program ends with: where the arguments
@@ -18,9 +32,12 @@ fn unread(error: &Error) -> Status<'static> {
 pub(crate) fn read_words(
     alloc: Global,
     arguments: io::Result<Args>,
-) -> Result<Vec<String>, Status<'static>> {
+) -> Result<Vec<String>, Status<'static>>
+    ensures read { IfOk arguments (λ arguments. MatchResult result (λ words. map string_bytes words.items ≡ words_of arguments) (λ status. status ≡ Status.OutOfMemory)) }
+    ensures unread { IfErr arguments (λ error. MatchResult result (λ _. ⊥) (IsUnread (error_kind error))) }
+{
     match arguments {
-        Ok(arguments) => match arguments.skip(1).collect(alloc) {
+        Ok(arguments) => match without_name(alloc, arguments) {
             Ok(words) => Ok(words),
             Err(_) => Err(Status::OutOfMemory),
         },

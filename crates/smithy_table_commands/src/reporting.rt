@@ -2,7 +2,7 @@
 ghost use Rattle.std.specs.Prelude.{◌≡◌, ◌≢◌, ◌++◌, false, codes, OnOk};
 ghost use Rattle.smithy_outside.specs.Outside.{IsWritten};
 ghost use Rattle.smithy_table_commands.specs.RunAnswer.{TookLine};
-ghost use Rattle.smithy_table_commands.specs.Status.{refusal_text, fault_text, text_of, line_of};
+ghost use Rattle.smithy_table_commands.specs.Status.{refusal_text, fault_text, text_of, line_of, last_line};
 
 use crate::status::Status;
 use itoa::Buffer;
@@ -45,8 +45,8 @@ fn write_table_refused<E: Sink>(err: &mut E, fault: TableFault) -> Result<(), Fa
     write_refusal(err, fault)
 }
 
-// Writes what is wrong, and the id of the shape.
-fn write_shape<E: Sink>(err: &mut E, text: &[u8], id: &str) -> Result<(), Failed>
+/// Writes two texts.
+pub(crate) fn write_two<E: Sink>(err: &mut E, text: &[u8], id: &str) -> Result<(), Failed>
     ensures { IsWritten (text.now ++ id.now) result (E.told err.old) (E.told err.new) }
 {
     write_bytes(err, text)?;
@@ -69,10 +69,10 @@ fn write_text<E: Sink>(err: &mut E, status: Status<'_>) -> Result<(), Failed>
         Status::TooLong => write_bytes(err, b"too long"),
         Status::NotJson => write_bytes(err, b"no JSON"),
         Status::NotAModel => write_bytes(err, b"no model"),
-        Status::BadShape(id) => write_shape(err, b"a part is wrong or missing: ", id),
-        Status::UnknownTarget(id) => write_shape(err, b"unknown target: ", id),
-        Status::BadMixin(id) => write_shape(err, b"wrong mixins: ", id),
-        Status::Applied(id) => write_shape(err, b"applied traits: ", id),
+        Status::BadShape(id) => write_two(err, b"a part is wrong or missing: ", id),
+        Status::UnknownTarget(id) => write_two(err, b"unknown target: ", id),
+        Status::BadMixin(id) => write_two(err, b"wrong mixins: ", id),
+        Status::Applied(id) => write_two(err, b"applied traits: ", id),
         Status::Unwritable => write_bytes(err, b"a name that no table can have"),
         Status::LeftOut => write_bytes(err, b"members left out; the word `partial` allows it"),
         Status::NameTwice => write_bytes(err, b"a name twice in an object"),
@@ -87,6 +87,17 @@ fn write_line<E: Sink>(err: &mut E, status: Status<'_>) -> Result<(), Failed>
     write_bytes(err, b"smithy_table: ")?;
     write_text(err, status)?;
     write_all(err, b"\n")
+}
+
+/// Writes the last line, and then what is held back: with 0 there is none.
+pub(crate) fn write_last<E: Sink>(err: &mut E, status: Status<'_>) -> Result<(), Failed>
+    ensures written { IsWritten (last_line status.entry) result (E.told err.old) (E.told err.new) }
+    ensures passed_on { OnOk result (E.holds_back err.new ≡ false) }
+{
+    match status {
+        Status::Done => write_all(err, b""),
+        _ => write_line(err, status),
+    }
 }
 
 /// Says how a run ended, unless the table is written. That standard error fails is said nowhere.

@@ -5,11 +5,11 @@ ghost use Rattle.smithy_model.specs.Reading.{IsModelText};
 ghost use Rattle.smithy_model_table.specs.ModelTable.{IsTableOf};
 ghost use Rattle.smithy_model_table.specs.Views.{left_view, wanted_view};
 ghost use Rattle.smithy_table_commands.specs.declared.status.Status as kept;
-ghost use Rattle.smithy_table_commands.specs.RunAnswer.{IsLoaded, FailsToLoad, Refuses, HandsOut, SaysOf, TookLine, TaskAnswer, RunAnswer};
-ghost use Rattle.smithy_table_commands.specs.Status.{status_code, line_of};
+ghost use Rattle.smithy_table_commands.specs.RunAnswer.{IsLoaded, FailsToLoad, Refuses, HandsOut, SaysOf, TaskAnswer, RunAnswer};
+ghost use Rattle.smithy_table_commands.specs.Status.{status_code};
 ghost use Rattle.smithy_table_commands.specs.Views.{task_view};
 
-use crate::left_out::{is_forbidden, tell_left};
+use crate::left_out::{is_forbidden, say};
 use crate::reporting::report;
 use crate::status::Status;
 use crate::task::Task;
@@ -42,23 +42,17 @@ fn table_from<'a>(
     wanted: Wanted<'_>,
 ) -> Result<ModelTable<'a>, Status<'a>>
     ensures table { IfOk result (λ table. (m : Model) × IsModelText text.now m × IsTableOf m (wanted_view wanted.entry) table.text.items (map left_view table.left.items)) }
-    ensures refused { IfErr result (Refuses text.now) }
+    ensures refused { IfErr result (Refuses text.now (wanted_view wanted.entry)) }
 {
     let model = read_model(alloc, text, scratch)?;
     let table = table_of(alloc, &model, wanted)?;
     Ok(table)
 }
 
-// Writes a table, and says what it leaves out.
-fn hand_out<'a, K: Sink, E: Sink>(
-    table: &ModelTable<'a>,
-    is_partial: bool,
-    out: &mut K,
-    err: &mut E,
-) -> Status<'a>
-    ensures { HandsOut table.now.text.items (map left_view table.now.left.items) is_partial (K.told out.old) (K.told out.new) result }
+// Writes a table, where the words allow it.
+fn hand_out<'a, K: Sink>(table: &ModelTable<'a>, is_partial: bool, out: &mut K) -> Status<'a>
+    ensures { HandsOut table.now.text.items (map left_view table.now.left.items) is_partial (K.told out.old) (K.told out.new) (K.holds_back out.new) result }
 {
-    tell_left(err, &table.left);
     if is_forbidden(&table.left, is_partial) {
         return Status::LeftOut;
     }
@@ -68,7 +62,7 @@ fn hand_out<'a, K: Sink, E: Sink>(
     }
 }
 
-// How the task over a model's text ends.
+// Does what the task asks for over a model's text, says how it ended, and answers it.
 fn status_of<'a, K: Sink, E: Sink>(
     alloc: Global,
     text: &'a [u8],
@@ -77,11 +71,19 @@ fn status_of<'a, K: Sink, E: Sink>(
     out: &mut K,
     err: &mut E,
 ) -> Status<'a>
-    ensures { SaysOf text.now (task_view task.entry) (K.told out.old) (K.told out.new) result (E.told err.new ≡ E.told err.old) }
+    ensures { SaysOf text.now (task_view task.entry) (K.told out.old) (K.told out.new) (K.holds_back out.new)
+        (E.told err.old) (E.told err.new) (E.holds_back err.new) result }
 {
     match table_from(alloc, text, scratch, task.wanted) {
-        Ok(table) => hand_out(&table, task.is_partial, out, err),
-        Err(status) => status,
+        Ok(table) => {
+            let status = hand_out(&table, task.is_partial, out);
+            say(err, &table.left, status);
+            status
+        }
+        Err(status) => {
+            report(err, status);
+            status
+        }
     }
 }
 
@@ -94,7 +96,7 @@ fn perform<F: Files, K: Sink, E: Sink>(
     err: &mut E,
 ) -> u8
     ensures { (status : kept.Status) × (result ≡ status_code status) × TaskAnswer (task_view task.entry) (F.told files.old (task_view task.entry).model_path) (F.told files.new (task_view task.entry).model_path)
-        (K.told out.old) (K.told out.new) status (TookLine (line_of status) (E.told err.old) (E.told err.new) (E.holds_back err.new)) }
+        (K.told out.old) (K.told out.new) (K.holds_back out.new) (E.told err.old) (E.told err.new) (E.holds_back err.new) status }
 {
     let text = match load_model(alloc, files, task.model) {
         Ok(text) => text,
@@ -105,7 +107,6 @@ fn perform<F: Files, K: Sink, E: Sink>(
     };
     let mut scratch = Scratch::new(alloc);
     let status = status_of(alloc, &text, &mut scratch, task, out, err);
-    report(err, status);
     status.code()
 }
 
@@ -119,7 +120,7 @@ pub fn run<F: Files, K: Sink, E: Sink>(
     err: &mut E,
 ) -> u8
     ensures { RunAnswer (map string_bytes words.now) (F.told files.old) (F.told files.new) (K.told out.old) (K.told out.new)
-        (E.told err.old) (E.told err.new) (E.holds_back err.new) result }
+        (E.told err.old) (E.told err.new) (K.holds_back out.new) (E.holds_back err.new) result }
 {
     match Task::from_words(words) {
         Some(task) => perform(alloc, task, files, out, err),

@@ -1,4 +1,9 @@
 //! A run over the arguments, files and streams of a process.
+ghost use Rattle.std.specs.Prelude.{IfErr, IfOk};
+ghost use Rattle.std.specs.IoError.{error_kind};
+ghost use Rattle.std.specs.Process.{exit_status};
+ghost use Rattle.smithy_table_commands.specs.System.{words_of, EndsAsRun, EndsUnread};
+
 use crate::arguments::read_words;
 use crate::reporting::report;
 use crate::running::run;
@@ -17,7 +22,10 @@ pub fn run_on_system<F: rt::Files + Drop, W: Write + Drop, E: Write + Drop>(
     files: F,
     out: W,
     err: E,
-) -> ExitCode {
+) -> ExitCode
+    ensures read { IfOk arguments (λ arguments. EndsAsRun (words_of arguments) (exit_status result)) }
+    ensures unread { IfErr arguments (λ error. EndsUnread (error_kind error) (exit_status result)) }
+{
     let mut err = OsSink::new(err);
     let words = match read_words(alloc, arguments) {
         Ok(words) => words,
@@ -28,5 +36,6 @@ pub fn run_on_system<F: rt::Files + Drop, W: Write + Drop, E: Write + Drop>(
     };
     let mut files = OsFiles::new(files);
     let mut out = OsSink::new(out);
-    ExitCode::from(run(alloc, &words, &mut files, &mut out, &mut err))
+    let code = run(alloc, &words, &mut files, &mut out, &mut err);
+    ExitCode::from(code)
 }

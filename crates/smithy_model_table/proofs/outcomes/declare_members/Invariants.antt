@@ -1,7 +1,7 @@
 use Rattle.std.proofs.Common.{◌≡◌, ◌++◌, List, map, take}
 use Rattle.smithy_model.specs.Views.{model_view, member_view}
 use Rattle.smithy_model_table.specs.Outcomes.{LeftOut, AreOutcomes}
-use Rattle.smithy_model_table.specs.Views.{names_view, left_view}
+use Rattle.smithy_model_table.specs.Views.{bindings_view, names_view, left_view}
 use Rattle.smithy_shapes.specs.DeclViews.{member_decl_of}
 use Rattle.smithy_model_table.proofs.outcomes.declare_members.Given as goal
 
@@ -9,4 +9,4 @@ use Rattle.smithy_model_table.proofs.outcomes.declare_members.Given as goal
 abbrev pub invariant-loop-member : goal.invariant-loop-member
 invariant-loop-member l =
     (added : List LeftOut) × (map left_view l.left.items ≡ map left_view l.initial.left.items ++ added)
-    × AreOutcomes (model_view l.model) l.marks (names_view l.names) l.shape (map member_view (take l.member-index l.members)) (map member_decl_of l.decls.items) added
+    × AreOutcomes (model_view l.model) l.marks (names_view l.names) (bindings_view l.owner.counting) l.owner.id.now (map member_view (take l.member-index l.members)) (map member_decl_of l.decls.items) added

@@ -7,10 +7,10 @@ pub returns-in-NoDeclaration : goal.returns-in-NoDeclaration
 returns-in-NoDeclaration g c = rw c.in-NoDeclaration.is c.write_bytes-in-NoDeclaration.ensures.written
 
 pub returns-in-BadShape : goal.returns-in-BadShape
-returns-in-BadShape g c = rw c.in-BadShape.is c.write_shape.ensures
+returns-in-BadShape g c = rw c.in-BadShape.is c.write_two.ensures
 
 pub returns-in-UnknownTarget : goal.returns-in-UnknownTarget
-returns-in-UnknownTarget g c = rw c.in-UnknownTarget.is c.write_shape-in-UnknownTarget.ensures
+returns-in-UnknownTarget g c = rw c.in-UnknownTarget.is c.write_two-in-UnknownTarget.ensures
 
 pub returns-in-Unwritable : goal.returns-in-Unwritable
 returns-in-Unwritable g c = rw c.in-Unwritable.is c.write_bytes-in-Unwritable.ensures.written

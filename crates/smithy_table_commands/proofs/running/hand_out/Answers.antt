@@ -7,20 +7,20 @@ use Rattle.smithy_table_commands.proofs.running.hand_out.Goals as goal
 
 pub returns-then-is_forbidden : goal.returns-then-is_forbidden
 returns-then-is_forbidden g c =
-    let forbidden = subst (λ (left : List kept.Left). is_forbidden (map left_view left) c.args.is_partial ≡ true) c.deref-2.ensures.value
+    let forbidden = subst (λ (left : List kept.Left). is_forbidden (map left_view left) c.args.is_partial ≡ true) c.deref.ensures.value
     (sym c.is_forbidden.ensures ∙ c.if-is_forbidden.true) in
     (forbidden, refl)
 
 pub returns-in-Ok : goal.returns-in-Ok
 returns-in-Ok g c =
     let told = g.K.Sink.told in
-    let allowed = subst (λ (left : List kept.Left). is_forbidden (map left_view left) c.args.is_partial ≡ false) c.deref-2.ensures.value
+    let allowed = subst (λ (left : List kept.Left). is_forbidden (map left_view left) c.args.is_partial ≡ false) c.deref.ensures.value
     (sym c.is_forbidden.ensures ∙ c.if-is_forbidden.false) in
-    (allowed, subst (λ (bytes : List ℕ). Took bytes (told c.args.out.now) (told c.write_all.new.sink)) c.deref-3.ensures.value c.in-Ok.ensures.written.1)
+    (allowed, c.in-Ok.ensures.written.0, subst (λ (bytes : List ℕ). Took bytes (told c.args.out.now) (told c.write_all.new.sink)) c.deref-2.ensures.value c.in-Ok.ensures.written.1, c.in-Ok.ensures.passed_on)
 
 pub returns-in-Err : goal.returns-in-Err
 returns-in-Err g c =
     let told = g.K.Sink.told in
-    let allowed = subst (λ (left : List kept.Left). is_forbidden (map left_view left) c.args.is_partial ≡ false) c.deref-2.ensures.value
+    let allowed = subst (λ (left : List kept.Left). is_forbidden (map left_view left) c.args.is_partial ≡ false) c.deref.ensures.value
     (sym c.is_forbidden.ensures ∙ c.if-is_forbidden.false) in
-    (allowed, c.in-Err.ensures.written.0, subst (λ (bytes : List ℕ). TookPrefix bytes (told c.args.out.now) (told c.write_all.new.sink)) c.deref-3.ensures.value c.in-Err.ensures.written.1)
+    (allowed, c.in-Err.ensures.written.0, subst (λ (bytes : List ℕ). TookPrefix bytes (told c.args.out.now) (told c.write_all.new.sink)) c.deref-2.ensures.value c.in-Err.ensures.written.1)

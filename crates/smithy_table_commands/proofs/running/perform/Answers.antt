@@ -1,9 +1,7 @@
-use Rattle.std.proofs.Common.{◌≡◌, inl, inr, List, ℕ, refl, subst}
-use Rattle.smithy_outside.specs.Outside.{Shown}
-use Rattle.smithy_table_commands.specs.Status.{line_of}
-use Rattle.smithy_table_commands.specs.RunAnswer.{SaysOf, TookLine}
+use Rattle.std.proofs.Common.{inl, inr, List, ℕ, refl, subst}
+use Rattle.smithy_table_commands.specs.RunAnswer.{SaysOf}
 use Rattle.smithy_table_commands.specs.Views.{task_view}
-use Rattle.smithy_table_commands.proofs.RunLemmas.{unloaded_before, reported}
+use Rattle.smithy_table_commands.proofs.RunLemmas.{unloaded_before}
 use Rattle.smithy_table_commands.proofs.running.perform.Goals as goal
 
 pub returns-in-Err : goal.returns-in-Err
@@ -24,14 +22,7 @@ returns g c =
     let err = g.E.Sink.told in
     let status = c.status_of-status.result in
     let task = task_view c.args.task in
-    let says = subst (λ (text : List ℕ). SaysOf text task (told c.args.out.now) (told c.status_of-status.new.out) status (err c.status_of-status.new.err ≡ err c.args.err.now))
-    c.deref.ensures.value c.status_of-status.ensures in (
-      status,
-      c.code-2.ensures,
-      inr (
-        c.in-Ok.text.items,
-        c.in-Ok.ensures.loaded,
-        reported c.in-Ok.text.items task (told c.args.out.now) (told c.status_of-status.new.out) status (err c.args.err.now) (err c.status_of-status.new.err)
-            (λ (before : Shown). TookLine (line_of status) before (err c.report-2.new.err) (g.E.Sink.holds_back c.report-2.new.err)) says c.report-2.ensures,
-      ),
-    )
+    let says = subst (λ (text : List ℕ). SaysOf text task (told c.args.out.now) (told c.status_of-status.new.out) (g.K.Sink.holds_back c.status_of-status.new.out)
+    (err c.args.err.now) (err c.status_of-status.new.err) (g.E.Sink.holds_back c.status_of-status.new.err) status)
+    c.deref.ensures.value c.status_of-status.ensures in
+    (status, c.code-2.ensures, inr (c.in-Ok.text.items, c.in-Ok.ensures.loaded, says))

@@ -1,0 +1,42 @@
+-- How the process ends, by its arguments.
+use Rattle.std.specs.Prelude.{◌≡◌, ◌≢◌, ◌⊎◌, ℕ, List, Bool, drop, map, string_bytes, String}
+use Rattle.std.specs.declared.alloc.Global.{Global}
+use Rattle.std.specs.declared.io.ErrorKind.{ErrorKind}
+use Rattle.std.specs.declared.io.ErrorKind.TheVariants as kinds
+use Rattle.std.specs.declared.vec.IntoIter.{IntoIter}
+use Rattle.std.specs.Vec.Iter.{into_iter_items}
+use Rattle.smithy_outside.specs.Outside.{Shown}
+use Rattle.smithy_outside.specs.Os.{only_counts}
+use Rattle.smithy_table_commands.specs.declared.status.Status.{Status}
+use Rattle.smithy_table_commands.specs.declared.status.Status.TheVariants.{Usage, OutOfMemory}
+use Rattle.smithy_table_commands.specs.Status.{status_code, line_of}
+use Rattle.smithy_table_commands.specs.RunAnswer.{TookLine, RunAnswer}
+
+-- the words of the program: all arguments but the first, which is its own name
+abbrev pub words_of : IntoIter (String Global) Global → List (List ℕ)
+words_of arguments = map string_bytes (drop 1 (into_iter_items arguments))
+
+-- what the real files and streams tell before a run: none of them met a fault
+abbrev pub at_start : Shown
+at_start = only_counts 0
+
+-- the process ends with a status, and standard error alone moved, which took the line
+abbrev pub EndsWithLine : Status → ℕ → Type 0
+EndsWithLine status code =
+    (new : Shown) × (holds_back : Bool) × TookLine (line_of status) at_start new holds_back × (code ≡ status_code status)
+
+-- a process with these words ends as a run over the real files and streams does, if memory for the words isn't wanting
+abbrev pub EndsAsRun : List (List ℕ) → ℕ → Type 0
+EndsAsRun words code =
+    ((files : List ℕ → Shown) × (out err : Shown) × (out_holds_back err_holds_back : Bool)
+    × RunAnswer words (λ path. at_start) files at_start out at_start err out_holds_back err_holds_back code)
+    ⊎ EndsWithLine OutOfMemory code
+
+-- the status where the arguments weren't read, by the error
+abbrev pub IsUnread : ErrorKind → Status → Type 0
+IsUnread kind status =
+    (kind ≡ kinds.OutOfMemory → status ≡ OutOfMemory) × (kind ≢ kinds.OutOfMemory → status ≡ Usage)
+
+-- a process whose arguments weren't read ends with this status
+abbrev pub EndsUnread : ErrorKind → ℕ → Type 0
+EndsUnread kind code = (status : Status) × IsUnread kind status × EndsWithLine status code
