@@ -23,7 +23,7 @@ impl Program for Runs {
     fn is_answer(&self, word: &str) -> bool {
         matches!(
             word,
-            "status" | "output" | "error" | "error-part" | "error-faults"
+            "status" | "output" | "lost" | "error" | "error-part" | "error-faults"
         )
     }
 

@@ -2,7 +2,9 @@
 ghost use Rattle.std.specs.Prelude.{◌<◌};
 
 use smithy_commands::run;
-use smithy_outside::{MemoryFiles, MemorySink, MemorySource};
+use smithy_outside::{
+    MemoryFiles, MemorySink, MemorySource, Sink, Source, SteadySink, SteadySource,
+};
 use smithy_rows::{Field, Row, Rows};
 use std::alloc::{AllocError, Global};
 use std::collections::BTreeMap;
@@ -30,6 +32,14 @@ fn piece(row: &Row, word: &str) -> usize
 {
     let piece = number(row, word).unwrap_or(4096).max(1);
     usize::try_from(piece).unwrap_or(4096).max(1)
+}
+
+// The most bytes that standard output keeps; without the line, many.
+fn room(row: &Row) -> usize {
+    let Some(room) = number(row, "room") else {
+        return ROOM;
+    };
+    usize::try_from(room).unwrap_or(ROOM)
 }
 
 // The number of the call that fails by this line, if there is one.
@@ -68,25 +78,65 @@ pub fn lines_of(alloc: Global, err: &MemorySink) -> Result<Vec<Field>, AllocErro
     Ok(fields)
 }
 
-/// Runs the program, and tells its status, what standard output took, and what standard error took.
-pub fn ended(alloc: Global, rows: &Rows, row: &Row) -> Result<Vec<Field>, AllocError> {
+// Runs the program over this input and output, and tells its status and what standard error took.
+fn status_and_error<S: Source, K: Sink>(
+    alloc: Global,
+    rows: &Rows,
+    row: &Row,
+    input: &mut S,
+    out: &mut K,
+) -> Result<(Field, Vec<Field>), AllocError> {
     let words = words_of(alloc, row.text("run").unwrap_or(""))?;
-    let moved = piece(row, "piece");
-    let bytes = row.bytes("input").unwrap_or(b"").to_vec(alloc)?;
     let mut files = files_of(alloc, rows, row)?;
-    let mut input = MemorySource::new(bytes, moved, failing(alloc, row, "fail-input")?);
-    let mut out = MemorySink::new(alloc, moved, ROOM, failing(alloc, row, "fail-output")?)?;
     let told = piece(row, "error-piece");
     let mut err = MemorySink::new(alloc, told, ROOM, failing(alloc, row, "fail-error")?)?;
-    let status = run(alloc, &words, &mut files, &mut input, &mut out, &mut err);
-    let mut fields = Vec::new(alloc);
+    let status = run(alloc, &words, &mut files, input, out, &mut err);
     let number = format!(in alloc; "{status}")?;
-    fields.push(Field::new(alloc, "status", number.as_bytes())?)?;
-    if !out.bytes.is_empty() {
-        fields.push(Field::new(alloc, "output", &out.bytes)?)?;
+    let field = Field::new(alloc, "status", number.as_bytes())?;
+    Ok((field, lines_of(alloc, &err)?))
+}
+
+// The lines of an answer, in their order.
+fn answered(
+    alloc: Global,
+    status: Field,
+    output: &[u8],
+    is_lost: bool,
+    error: Vec<Field>,
+) -> Result<Vec<Field>, AllocError> {
+    let mut fields = Vec::new(alloc);
+    fields.push(status)?;
+    if !output.is_empty() {
+        fields.push(Field::new(alloc, "output", output)?)?;
     }
-    for field in lines_of(alloc, &err)? {
+    if is_lost {
+        fields.push(Field::new(alloc, "lost", b"")?)?;
+    }
+    for field in error {
         fields.push(field)?;
     }
     Ok(fields)
+}
+
+// A run over an input and an output that never fail.
+fn ended_steadily(alloc: Global, rows: &Rows, row: &Row) -> Result<Vec<Field>, AllocError> {
+    let bytes = row.bytes("input").unwrap_or(b"").to_vec(alloc)?;
+    let moved = piece(row, "piece");
+    let mut input = SteadySource::new(bytes, moved);
+    let mut out = SteadySink::new(alloc, moved, room(row))?;
+    let (status, error) = status_and_error(alloc, rows, row, &mut input, &mut out)?;
+    answered(alloc, status, &out.bytes, out.lost, error)
+}
+
+/// Runs the program, and tells its status, what standard output took, and what standard error took.
+pub fn ended(alloc: Global, rows: &Rows, row: &Row) -> Result<Vec<Field>, AllocError> {
+    if row.text("steady").is_some() {
+        return ended_steadily(alloc, rows, row);
+    }
+    let bytes = row.bytes("input").unwrap_or(b"").to_vec(alloc)?;
+    let moved = piece(row, "piece");
+    let mut input = MemorySource::new(bytes, moved, failing(alloc, row, "fail-input")?);
+    let mut out = MemorySink::new(alloc, moved, room(row), failing(alloc, row, "fail-output")?)?;
+    let (status, error) = status_and_error(alloc, rows, row, &mut input, &mut out)?;
+    answered(alloc, status, &out.bytes, false, error)
 }

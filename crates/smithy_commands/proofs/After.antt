@@ -1,7 +1,8 @@
 -- What holds after the checks of a task.
 use Rattle.std.proofs.Common.{List, ℕ}
 use Rattle.smithy_commands.specs.Task.{Task}
-use Rattle.smithy_commands.specs.RunAnswer.{Sources, AfterTranscoding}
+use Rattle.smithy_commands.specs.Checks.{Sources}
+use Rattle.smithy_commands.specs.TranscodeAnswer.{AfterTranscoding}
 
 -- what holds of each body of which P holds, holds of the body
 pub after_weaker : (task : Task) (old new : Sources) (P Q : List ℕ → Type 0) → ((bytes : List ℕ) → P bytes → Q bytes)

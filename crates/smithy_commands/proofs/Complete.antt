@@ -1,5 +1,5 @@
 -- What follows from what a status says: a run that is all in order is done, and one over a missing file isn't.
-use Rattle.std.proofs.Common.{◌≡◌, ◌<◌, ◌⊎◌, inl, inr, ℕ, length, List, Some, None, refl, sym, subst, ap, ◌∙◌, arith}
+use Rattle.std.proofs.Common.{◌≡◌, ◌≢◌, ◌<◌, ◌⊎◌, true, inl, inr, ℕ, length, List, Some, None, refl, sym, subst, ap, ◌∙◌, arith}
 use Rattle.smithy_shapes.specs.Table.{Table, IsStructure, kind_of, shape_place, declared_as}
 use Rattle.smithy_shapes.specs.Acceptance.{accepted, table_of}
 use Rattle.smithy_shapes.specs.Value.{Value}
@@ -7,11 +7,12 @@ use Rattle.smithy_transcode.specs.Spelling.{Spells}
 use Rattle.smithy_transcode.specs.Wires.{unfit}
 use Rattle.smithy_transcode.proofs.Transcodings.{one_value, not_both}
 use Rattle.smithy_commands.specs.declared.status.Status.{Status}
-use Rattle.smithy_commands.specs.declared.status.Status.TheVariants.{Done, Usage, ReadFailed, WriteFailed, OutOfMemory, InvalidInput, TooDeep, TooWide, NotCarried, Inexpressible, TableRefused, NoSuchShape, NotAStructure, TooLong}
+use Rattle.smithy_commands.specs.declared.status.Status.TheVariants.{Done, ReadFailed, WriteFailed, OutOfMemory, InvalidInput, TooDeep, TooWide, NotCarried, Inexpressible, TableRefused, NoSuchShape, NotAStructure, TooLong}
 use Rattle.smithy_commands.specs.Task.{Task}
 use Rattle.smithy_outside.specs.Outside.{Shown, Outside, missing, Shows, GavePast}
-use Rattle.smithy_commands.specs.RunAnswer.{sources_of, IsLoaded, IsRead, AfterInput, IsInOrder, Says, longest_input}
-use Rattle.smithy_outside.proofs.Faults.{has_failed}
+use Rattle.smithy_commands.specs.Checks.{IsLoaded, IsRead, AfterInput, longest_input}
+use Rattle.smithy_commands.specs.TranscodeAnswer.{sources_of, IsInOrder, Says}
+use Rattle.smithy_outside.proofs.Faults.{has_failed, steady_meets_none}
 use Rattle.smithy_outside.proofs.Moved.{gave_longer}
 
 -- what gave more than the limit had more
@@ -46,7 +47,7 @@ module _ (task : Task) (old new : Outside) (text input : List ℕ) (table : Tabl
   fit_there other n t r =
       subst (λ (m : ℕ). unfit task.to other m v ≡ None) r (subst (λ (u : Table). unfit task.to u root v ≡ None) t o.fit)
 
-  not_nothing : AfterInput task (sources_of task old) (sources_of task new) (λ other n bytes. (w : Value) → Spells task.from other n bytes w → ⊥) → ⊥
+  not_nothing : AfterInput task.root_name (sources_of task old) (sources_of task new) (λ other n bytes. (w : Value) → Spells task.from other n bytes w → ⊥) → ⊥
   not_nothing after =
       let there = after.2 in
       let found = there.2 in
@@ -56,7 +57,6 @@ module _ (task : Task) (old new : Outside) (text input : List ℕ) (table : Tabl
 
   pub complete_of : (status : Status) → Says task old new status → (status ≡ Done) ⊎ (status ≡ OutOfMemory)
   complete_of Done says = inl refl
-  complete_of Usage says = absurd says
   complete_of ReadFailed (inl first) = absurd (o.file_is_well (has_failed (old.files task.table_path) (new.files task.table_path) first.1))
   complete_of ReadFailed (inr after) = absurd (o.input_is_well (has_failed old.input new.input after.2.2.2.1))
   complete_of WriteFailed says = absurd (o.out_is_well (has_failed old.out new.out says.2.2.2.2.4.0))
@@ -100,11 +100,11 @@ module _ (task : Task) (old new : Outside) (text input : List ℕ) (table : Tabl
   complete_of TooLong (inl first) = let more = first.1.1 text o.file in absurd (omega (arith, more, o.file_is_within))
   complete_of TooLong (inr after) =
       let more = past_limit longest_input old.input new.input input after.2.2.2 o.source in absurd (omega (arith, more, o.input_is_within))
+  complete_of _ says = absurd says
 
 pub fault_of_missing : (task : Task) (old new : Outside) → (old.files task.table_path).content ≡ missing → (status : Status) → Says task old new status
     → (status ≡ ReadFailed) ⊎ (status ≡ OutOfMemory)
 fault_of_missing task old new gone Done says = absurd (says.1.there gone)
-fault_of_missing task old new gone Usage says = absurd says
 fault_of_missing task old new gone ReadFailed says = inl refl
 fault_of_missing task old new gone WriteFailed says = absurd (says.1.there gone)
 fault_of_missing task old new gone OutOfMemory says = inr refl
@@ -118,3 +118,15 @@ fault_of_missing task old new gone NoSuchShape says = absurd (says.1.1.there gon
 fault_of_missing task old new gone NotAStructure says = absurd (says.1.1.there gone)
 fault_of_missing task old new gone TooLong (inl first) = absurd (first.1.0 gone)
 fault_of_missing task old new gone TooLong (inr after) = absurd (after.1.there gone)
+fault_of_missing task old new gone _ says = absurd says
+
+-- a task that meets no fault, as all that it reads and writes is steady
+pub steady_of : (task : Task) (old new : Outside) → (old.files task.table_path).is_steady ≡ true → old.input.is_steady ≡ true → old.out.is_steady ≡ true
+    → (status : Status) → Says task old new status → (status ≢ ReadFailed) × (status ≢ WriteFailed)
+steady_of task old new file input out status says = (
+  λ e. read_fails_not (subst (Says task old new) e says),
+  λ e. let wrote = subst (Says task old new) e says in steady_meets_none old.out new.out out wrote.2.2.2.2.4.0,
+) where
+  read_fails_not : Says task old new ReadFailed → ⊥
+  read_fails_not (inl first) = steady_meets_none (old.files task.table_path) (new.files task.table_path) file first.1
+  read_fails_not (inr after) = steady_meets_none old.input new.input input after.2.2.2.1

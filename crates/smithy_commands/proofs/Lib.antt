@@ -1,4 +1,7 @@
 mod Refusals
 mod Complete
+mod TranscodeLemmas
+mod GenLemmas
+mod GeneratedInput
 mod RunLemmas
 mod After

@@ -13,13 +13,14 @@ use Rattle.smithy_transcode.specs.Transcoding.{Transcodes}
 use Rattle.smithy_commands.specs.Task.{Task}
 use Rattle.smithy_outside.specs.Outside.{Shown}
 use Rattle.smithy_commands.specs.Status.{status_of_table_fault, status_of_error}
-use Rattle.smithy_commands.specs.RunAnswer.{Sources, IsLoaded, IsRoot, IsRead, Refuses}
+use Rattle.smithy_commands.specs.Checks.{Sources, IsLoaded, IsRoot, IsRead}
+use Rattle.smithy_commands.specs.TranscodeAnswer.{Refuses}
 use Rattle.smithy_commands.specs.Private.Stages.{FailsToLoad}
 
-table_of_bad_line : (text : List ℕ) (n : ℕ) → declarations_of text ≡ Lines.bad_line n → table_of text ≡ refused bad_line n
+pub table_of_bad_line : (text : List ℕ) (n : ℕ) → declarations_of text ≡ Lines.bad_line n → table_of text ≡ refused bad_line n
 table_of_bad_line text n e = rw (e, table_of) refl
 
-table_of_declarations : (text : List ℕ) (decls : List Decl) → declarations_of text ≡ declarations decls → table_of text ≡ build_of decls
+pub table_of_declarations : (text : List ℕ) (decls : List Decl) → declarations_of text ≡ declarations decls → table_of text ≡ build_of decls
 table_of_declarations text decls e = rw (e, table_of) refl
 
 -- a line that is of no form
@@ -54,7 +55,7 @@ build_fails old new text decls NoMemory loaded e r = tt
 
 -- a body that spells nothing, or what the wanted wire can't express
 module _ (task : Task) (old new : Sources) (text input : List ℕ) (table : Table) (root : ℕ) (loaded : IsLoaded text old.table) (is : table_of text ≡ accepted table)
-    (there : IsRoot task table root) (read : IsRead input old.input new.input) where
+    (there : IsRoot task.root_name table root) (read : IsRead input old.input new.input) where
   pub transcode_fails : (error : TranscodeError) → Transcodes table root task.from input task.to (Err error) → Refuses task old new (status_of_error error)
   transcode_fails errors.InvalidInput told =
       (text, loaded, (table, is, (root, there, (input, read, (told.answers_invalid_input refl, told.answers_invalid_without_limits refl)))))

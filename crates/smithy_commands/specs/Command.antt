@@ -1,44 +1,16 @@
--- The words of the program, and the commands that they are.
-use Rattle.std.specs.Prelude.{List, [], ◌∷◌, ℕ, Option, Some, None, option_and_then, option_map, if◌then◌else◌, codes, bytes_eq}
+-- The commands of the program, and the words that they are. Each command has a line in either list.
+use Rattle.std.specs.Prelude.{List, [], ◌∷◌, ℕ, Option, None, option_map, if◌then◌else◌, codes, bytes_eq}
+use Rattle.smithy_commands.specs.Transcode.{Transcode, transcode_of}
+use Rattle.smithy_commands.specs.Gen.{Gen, gen_of}
 
--- a wire, as words name it
-pub data NamedWire : Type 0 where
-  json json_name cbor : NamedWire
-  -- with the action and the version
-  query : List ℕ → List ℕ → NamedWire
+pub data Command : Type 0 where
+  transcode : Transcode → Command
+  gen : Gen → Command
 
--- transcode TABLE ROOT FROM TO
-pub record Transcode : Type 0 where
-  pub table_path : List ℕ
-  pub root_name : List ℕ
-  pub from : NamedWire
-  pub to : NamedWire
-
--- json, json-name or cbor
-abbrev pub wire_named : List ℕ → Option NamedWire
-wire_named word =
-    if bytes_eq word (codes "json") then Some json
-    else if bytes_eq word (codes "json-name") then Some json_name
-    else if bytes_eq word (codes "cbor") then Some cbor
-    else None
-
--- what is wanted: one of these, or `query ACTION VERSION`
-abbrev pub wanted_wire : List (List ℕ) → Option NamedWire
-wanted_wire (to ∷ []) = wire_named to
-wanted_wire (to ∷ action ∷ version ∷ []) =
-    if bytes_eq to (codes "query") then Some (query action version) else None
-wanted_wire _ = None
-
--- TABLE ROOT FROM TO
-abbrev pub transcode_of : List (List ℕ) → Option Transcode
-transcode_of (table ∷ root ∷ from ∷ to) =
-    option_and_then (λ from. option_map
-    (λ to. record { table_path = table; root_name = root; from = from; to = to }) (wanted_wire to))
-    (wire_named from)
-transcode_of _ = None
-
--- the command that the words are
-abbrev pub command_of : List (List ℕ) → Option Transcode
+-- the command that the words are, by the first of them
+abbrev pub command_of : List (List ℕ) → Option Command
 command_of [] = None
 command_of (keyword ∷ words) =
-    if bytes_eq keyword (codes "transcode") then transcode_of words else None
+    if bytes_eq keyword (codes "transcode") then option_map transcode (transcode_of words)
+    else if bytes_eq keyword (codes "gen") then option_map gen (gen_of words)
+    else None

@@ -1,8 +1,14 @@
 -- to be believed, in this order
+pub mod Transcode
+pub mod SmallNumber
+pub mod Gen
 pub mod Command
 pub mod Task
 pub mod Status
 pub mod ErrorLine
+pub mod Checks
+pub mod TranscodeAnswer
+pub mod GenAnswer
 pub mod RunAnswer
 pub mod System
 -- what the types of the program stand for

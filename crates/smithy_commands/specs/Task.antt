@@ -1,8 +1,8 @@
--- What a command asks for.
-use Rattle.std.specs.Prelude.{ℕ, List, Option, option_map, false, true}
+-- What `transcode` asks for.
+use Rattle.std.specs.Prelude.{ℕ, List, false, true}
 use Rattle.smithy_transcode.specs.Wires as wires
 use Rattle.smithy_transcode.specs.Wires.{Wire}
-use Rattle.smithy_commands.specs.Command.{NamedWire, json, json_name, cbor, query, Transcode, command_of}
+use Rattle.smithy_commands.specs.Transcode.{NamedWire, json, json_name, cbor, query, Transcode}
 
 -- the body of this root, from wire to wire
 pub record Task : Type 0 where
@@ -26,7 +26,3 @@ task_of c = record {
   from = asked_wire c.from;
   to = asked_wire c.to;
 }
-
--- the task that words ask for
-abbrev pub task_asked : List (List ℕ) → Option Task
-task_asked words = option_map task_of (command_of words)

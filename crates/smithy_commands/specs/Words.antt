@@ -1,10 +1,15 @@
 -- What the types of a command stand for.
 use Rattle.smithy_transcode.specs.Wires.{wire_of}
-use Rattle.smithy_commands.specs.declared.words.WireWords.{WireWords}
-use Rattle.smithy_commands.specs.declared.words.WireWords.TheVariants.{Json, JsonName, Cbor, Query}
+use Rattle.smithy_commands.specs.declared.transcode_words.WireWords.{WireWords}
+use Rattle.smithy_commands.specs.declared.transcode_words.WireWords.TheVariants.{Json, JsonName, Cbor, Query}
+use Rattle.smithy_commands.specs.declared.transcode_words.Transcode as kept_transcode
+use Rattle.smithy_commands.specs.declared.gen_words.Gen as kept_gen
 use Rattle.smithy_commands.specs.declared.words.Command as kept_command
+use Rattle.smithy_commands.specs.declared.words.Command.TheVariants as commands
 use Rattle.smithy_commands.specs.declared.task.Task as kept_task
-use Rattle.smithy_commands.specs.Command.{NamedWire, json, json_name, cbor, query, Transcode}
+use Rattle.smithy_commands.specs.Transcode.{NamedWire, json, json_name, cbor, query, Transcode}
+use Rattle.smithy_commands.specs.Gen.{Gen}
+use Rattle.smithy_commands.specs.Command.{Command, transcode, gen}
 use Rattle.smithy_commands.specs.Task.{Task}
 
 -- the wire that the words name
@@ -14,10 +19,19 @@ named_wire JsonName = json_name
 named_wire Cbor = cbor
 named_wire (Query action version) = query action.now version.now
 
--- the command as plain data
-abbrev pub transcode_view : kept_command.Command → Transcode
+-- `transcode` as plain data
+abbrev pub transcode_view : kept_transcode.Transcode → Transcode
 transcode_view c =
     record { table_path = c.table.now; root_name = c.root.now; from = named_wire c.from; to = named_wire c.to }
+
+-- `gen` as plain data
+abbrev pub gen_view : kept_gen.Gen → Gen
+gen_view c = record { seed = c.seed; count = c.count }
+
+-- the command as plain data
+abbrev pub command_view : kept_command.Command → Command
+command_view (commands.Transcode c) = transcode (transcode_view c)
+command_view (commands.Gen c) = gen (gen_view c)
 
 -- the task as plain data
 abbrev pub task_view : kept_task.Task → Task

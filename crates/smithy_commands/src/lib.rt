@@ -5,11 +5,17 @@
 #![tactic(auto)]
 
 mod arguments;
+mod checks;
+mod gen_words;
+mod generating;
 mod reporting;
 mod running;
+mod small_number;
 mod status;
 mod system;
 mod task;
+mod transcode_words;
+mod transcoding;
 mod words;
 
 pub use reporting::report;

@@ -5,6 +5,7 @@ ghost use Rattle.smithy_commands.specs.Status.{status_code, status_of_load_fault
 use smithy_outside::LoadFault;
 use smithy_shapes::TableFault;
 use smithy_transcode::{TranscodeError, Unfit};
+use std::alloc::AllocError;
 
 /// How a run of the program ended.
 #[derive(Clone, Copy, Debug, PartialEq, Eq)]
@@ -62,6 +63,16 @@ impl Status {
             Status::NotAStructure => 22,
             Status::TooLong => 23,
         }
+    }
+}
+
+impl From<AllocError> for Status {
+    ghost use Rattle.smithy_commands.specs.declared.status.Status.TheVariants.{OutOfMemory};
+
+    ghost from_gives = { λ error status. status ≡ OutOfMemory };
+
+    fn from(_error: AllocError) -> Self {
+        Status::OutOfMemory
     }
 }
 

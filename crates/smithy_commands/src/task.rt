@@ -1,10 +1,10 @@
-//! What a command asks for.
+//! What `transcode` asks for.
 ghost use Rattle.std.specs.Prelude.{◌≡◌, IfOk, string_bytes};
 ghost use Rattle.smithy_transcode.specs.Wires.{wire_of};
 ghost use Rattle.smithy_commands.specs.Task.{asked_wire, task_of};
 ghost use Rattle.smithy_commands.specs.Words.{named_wire, transcode_view, task_view};
 
-use crate::words::{Command, WireWords};
+use crate::transcode_words::{Transcode, WireWords};
 use smithy_transcode::Wire;
 use std::alloc::{AllocError, Global};
 
@@ -51,7 +51,7 @@ fn wire_of_words(alloc: Global, words: WireWords<'_>) -> Result<Wire, AllocError
 
 impl<'a> Task<'a> {
     /// The task of a command.
-    pub fn of_command(alloc: Global, command: Command<'a>) -> Result<Task<'a>, AllocError>
+    pub fn of_command(alloc: Global, command: Transcode<'a>) -> Result<Task<'a>, AllocError>
         ensures { IfOk result (λ task. task_view task ≡ task_of (transcode_view command.entry)) }
     {
         Ok(Task {

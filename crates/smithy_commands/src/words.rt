@@ -1,73 +1,31 @@
 //! The command that the words of the program are.
 ghost use Rattle.std.specs.Prelude.{◌≡◌, map, option_map, string_bytes};
-ghost use Rattle.smithy_commands.specs.Command.{command_of, transcode_of, wanted_wire, wire_named};
-ghost use Rattle.smithy_commands.specs.Words.{named_wire, transcode_view};
+ghost use Rattle.smithy_commands.specs.Command.{command_of};
+ghost use Rattle.smithy_commands.specs.Words.{command_view};
 
-/// A wire, as words name it.
+use crate::gen_words::Gen;
+use crate::transcode_words::Transcode;
+
+/// A command of the program.
 #[derive(Clone, Copy)]
-pub enum WireWords<'a> {
-    /// JSON.
-    Json,
-    /// JSON, with the JSON names of members.
-    JsonName,
-    /// CBOR.
-    Cbor,
-    /// AWS Query, with the action and the version.
-    Query(&'a str, &'a str),
-}
-
-/// `transcode TABLE ROOT FROM TO`
-#[derive(Clone, Copy)]
-pub struct Command<'a> {
-    /// The path of the table.
-    pub table: &'a str,
-    /// The name of the shape that is transcoded.
-    pub root: &'a str,
-    /// The wire of the input.
-    pub from: WireWords<'a>,
-    /// The wire of the output.
-    pub to: WireWords<'a>,
-}
-
-// json, json-name or cbor.
-fn single_wire<'a>(word: &str) -> Option<WireWords<'a>>
-    ensures { option_map named_wire result ≡ wire_named word.now }
-{
-    match word {
-        "json" => Some(WireWords::Json),
-        "json-name" => Some(WireWords::JsonName),
-        "cbor" => Some(WireWords::Cbor),
-        _ => None,
-    }
-}
-
-// The wire of the output, by its words: json, json-name, cbor, or `query ACTION VERSION`.
-fn output_wire(words: &[String]) -> Option<WireWords<'_>>
-    ensures { option_map named_wire result ≡ wanted_wire (map string_bytes words.now) }
-{
-    match words {
-        [wire] => single_wire(wire.as_str()),
-        [wire, action, version] if wire.as_str() == "query" => {
-            Some(WireWords::Query(action.as_str(), version.as_str()))
-        }
-        _ => None,
-    }
+pub enum Command<'a> {
+    /// One body from wire to wire.
+    Transcode(Transcode<'a>),
+    /// An input that a number generates, in both wires.
+    Gen(Gen),
 }
 
 impl<'a> Command<'a> {
     /// The command that the words are, if they are one.
     pub fn from_words(words: &'a [String]) -> Option<Command<'a>>
-        ensures { option_map transcode_view result ≡ command_of (map string_bytes words.now) }
+        ensures { option_map command_view result ≡ command_of (map string_bytes words.now) }
     {
-        match words {
-            [keyword, table, root, from, to @ ..] if keyword.as_str() == "transcode" => {
-                Some(Command {
-                    table: table.as_str(),
-                    root: root.as_str(),
-                    from: single_wire(from.as_str())?,
-                    to: output_wire(to)?,
-                })
-            }
+        let [keyword, rest @ ..] = words else {
+            return None;
+        };
+        match keyword.as_str() {
+            "transcode" => Some(Command::Transcode(Transcode::from_words(rest)?)),
+            "gen" => Some(Command::Gen(Gen::from_words(rest)?)),
             _ => None,
         }
     }

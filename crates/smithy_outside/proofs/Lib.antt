@@ -1,3 +1,3 @@
 pub mod Moved
-pub mod Written
 pub mod Faults
+pub mod Written

@@ -1,5 +1,5 @@
 -- What the objects of the outside tell of themselves: what they hold, and how often they failed.
-use Rattle.std.specs.Prelude.{◌≡◌, ◌⊎◌, ◌<◌, ◌+◌, ◌-◌, ◌^◌, ℕ, min, List, [], ◌++◌, length, Bool, Result, Ok, Err}
+use Rattle.std.specs.Prelude.{◌≡◌, ◌⊎◌, ◌<◌, ◌+◌, ◌-◌, ◌^◌, ℕ, min, List, [], ◌++◌, length, Bool, false, Result, Ok, Err}
 use Rattle.smithy_outside.specs.declared.outside.LoadFault.{LoadFault}
 use Rattle.smithy_outside.specs.declared.outside.LoadFault.TheVariants as load_faults
 
@@ -14,6 +14,8 @@ pub record Shown : Type 0 where
   -- how many faults it has met; the count never falls, and stays at its last value
   pub faults : ℕ
   pub content : Content
+  -- told that no call on it meets a fault
+  pub is_steady : Bool
 
 -- all objects at one moment
 pub record Outside : Type 0 where
@@ -53,13 +55,13 @@ counted n = min (n + 1) last_count
 abbrev pub HasFailed : Shown → Shown → Type 0
 HasFailed old new = (old.faults < new.faults) ⊎ (new.faults ≡ last_count)
 
--- the object met one fault, and counted it
+-- the object met one fault, and counted it; a steady object meets none
 abbrev pub MetOneFault : Shown → Shown → Type 0
-MetOneFault old new = new.faults ≡ counted old.faults
+MetOneFault old new = (new.faults ≡ counted old.faults) × (old.is_steady ≡ false)
 
--- the object met no fault that shows: at the last count none does
+-- the object met no fault that shows: at the last count none does. It is as steady as it was.
 abbrev pub MetNoFault : Shown → Shown → Type 0
-MetNoFault old new = new.faults ≡ old.faults
+MetNoFault old new = (new.faults ≡ old.faults) × (new.is_steady ≡ old.is_steady)
 
 -- a call that fails meets one fault, and any other meets none
 abbrev pub IsCounted : {T E : Type 0} → Result T E → Shown → Shown → Type 0

@@ -2,6 +2,7 @@
 //!
 //! `Files`, `Source` and `Sink` are the traits, whose objects count their faults and may tell what they hold.
 //! `MemoryFiles`, `MemorySource` and `MemorySink` tell it, and fail at the calls that they are made to fail at;
+//! `SteadySource` and `SteadySink` never fail, and tell it.
 //! `OsFiles`, `OsSource` and `OsSink`, over a runtime, a reader and a writer, tell their counts alone.
 //! `read_to_end` and `write_all` move whole streams.
 #![tactic(auto)]
@@ -11,7 +12,7 @@ mod os;
 mod outside;
 mod streams;
 
-pub use memory::{MemoryFiles, MemorySink, MemorySource};
+pub use memory::{MemoryFiles, MemorySink, MemorySource, SteadySink, SteadySource};
 pub use os::{OsFiles, OsSink, OsSource};
 pub use outside::{Failed, Files, LoadFault, Sink, Source};
 pub use streams::{read_to_end, write_all, write_bytes};

@@ -6,10 +6,14 @@ ghost use Rattle.smithy_outside.specs.Outside.{counted};
 mod files;
 mod sink;
 mod source;
+mod steady_sink;
+mod steady_source;
 
 pub use files::MemoryFiles;
 pub use sink::MemorySink;
 pub use source::MemorySource;
+pub use steady_sink::SteadySink;
+pub use steady_source::SteadySource;
 
 // Counts a call, and says whether it is one that is to fail.
 fn is_failing_call(calls: &mut u64, fail: &[u64]) -> bool

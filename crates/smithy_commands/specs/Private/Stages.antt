@@ -5,7 +5,7 @@ use Rattle.smithy_shapes.specs.Acceptance.{table_of}
 use Rattle.smithy_commands.specs.declared.status.Status.{Status}
 use Rattle.smithy_commands.specs.declared.status.Status.TheVariants.{ReadFailed, OutOfMemory, TableRefused, NoSuchShape, NotAStructure, TooLong}
 use Rattle.smithy_outside.specs.Outside.{Shown, missing, MetOneFault, IsLonger}
-use Rattle.smithy_commands.specs.RunAnswer.{IsLoaded, IsRefusal, longest_table}
+use Rattle.smithy_commands.specs.Checks.{IsLoaded, IsRefusal, longest_table}
 
 -- why no table was loaded from a file
 abbrev pub FailsToLoad : Shown → Shown → Status → Type 0

@@ -1,5 +1,6 @@
 use Rattle.std.proofs.Common.{◌<◌, ◌^◌, ℕ, subst, rules}
-use Rattle.smithy_outside.specs.Outside.{untold, IsCountedLoad}
+use Rattle.smithy_outside.specs.Os.{only_counts}
+use Rattle.smithy_outside.specs.Outside.{IsCountedLoad}
 use Rattle.smithy_outside.proofs.Faults.{added_faults}
 use Rattle.smithy_outside.proofs.os.OsFilesFiles.load.Goals as goal
 
@@ -7,6 +8,6 @@ pub returns-clause-counts : goal.returns-clause-counts
 returns-clause-counts g c =
     let loaded = c.read_to_end-loaded in
     let bound : c.args.self.now.faults < 2 ^ 64 = search rules in
-    let counts = subst (λ (n : ℕ). IsCountedLoad loaded.result (record { faults = n; content = untold }) (record { faults = loaded.new.source.faults; content = untold }))
+    let counts = subst (λ (n : ℕ). IsCountedLoad loaded.result (only_counts n) (only_counts loaded.new.source.faults))
     c.new-source.ensures.faults loaded.ensures.counts in
     added_faults loaded.result c.args.self.now.faults loaded.new.source.faults c.saturating_add-self-2.result bound c.saturating_add-self-2.ensures counts

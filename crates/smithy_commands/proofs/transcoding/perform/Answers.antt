@@ -1,9 +1,9 @@
 use Rattle.std.proofs.Common.{◌≡◌, ◌∙◌, List, ℕ, subst}
 use Rattle.smithy_outside.specs.Outside.{Took}
-use Rattle.smithy_commands.specs.RunAnswer.{Sources}
+use Rattle.smithy_commands.specs.Checks.{Sources}
 use Rattle.smithy_commands.specs.Words.{task_view}
 use Rattle.smithy_commands.proofs.After.{after_weaker}
-use Rattle.smithy_commands.proofs.running.perform.Goals as goal
+use Rattle.smithy_commands.proofs.transcoding.perform.Goals as goal
 
 pub returns-in-Ok-write_all-clause-says : goal.returns-in-Ok-write_all-clause-says
 returns-in-Ok-write_all-clause-says g c = λ err err_behind held held_behind.

@@ -1,9 +1,9 @@
 use Rattle.std.proofs.Common.{map, rules}
 use Rattle.std.proofs.lemmas.Result.{err_from_is_err_and}
 use Rattle.smithy_shapes.specs.DeclViews.{decl_of}
-use Rattle.smithy_commands.specs.RunAnswer.{IsLoaded}
+use Rattle.smithy_commands.specs.Checks.{IsLoaded}
 use Rattle.smithy_commands.proofs.Refusals.{line_fails, build_fails}
-use Rattle.smithy_commands.proofs.running.load_table.Goals as goal
+use Rattle.smithy_commands.proofs.checks.load_table.Goals as goal
 
 pub returns-in_err-declarations-clause-refused : goal.returns-in_err-declarations-clause-refused
 returns-in_err-declarations-clause-refused g c =

@@ -1,0 +1,77 @@
+-- What the commands share: the checks before they answer, each where those before it passed, and what becomes of the output.
+use Rattle.std.specs.Prelude.{◌≡◌, ◌≢◌, ◌≤◌, ℕ, List, length, Some, false}
+use Rattle.smithy_shapes.specs.Table.{Table, IsStructure, kind_of, shape_place, declared_as}
+use Rattle.smithy_shapes.specs.Acceptance.{Fault, TableAnswer, accepted, refused, table_of}
+use Rattle.smithy_shapes.specs.declared.fault.TableFault.{TableFault}
+use Rattle.smithy_commands.specs.declared.status.Status.{Status}
+use Rattle.smithy_commands.specs.declared.status.Status.TheVariants.{Done, WriteFailed}
+use Rattle.smithy_commands.specs.ErrorLine.{refusal_of}
+use Rattle.smithy_outside.specs.Outside.{Shown, Outside, missing, MetNoFault, IsWhole, IsAtEnd}
+
+-- in bytes
+abbrev pub longest_table : ℕ
+longest_table = 1_048_576
+
+-- in bytes
+abbrev pub longest_input : ℕ
+longest_input = 16_777_216
+
+-- the file of a command's table, and the input
+pub record Sources : Type 0 where
+  pub table : Shown
+  pub input : Shown
+
+-- a file that isn't told to be missing was loaded whole, and is within the limit of a table
+pub record IsLoaded (text : List ℕ) (file : Shown) : Type 0 where
+  pub whole : IsWhole text file
+  pub there : file.content ≢ missing
+  pub within : length text ≤ longest_table
+
+-- a source was read whole, to its end, and is within the limit of an input
+pub record IsRead (bytes : List ℕ) (old new : Shown) : Type 0 where
+  pub whole : IsWhole bytes old
+  pub to_the_end : IsAtEnd new
+  pub within : length bytes ≤ longest_input
+
+-- the declaration of that number has the name of the root, and is a structure
+pub record IsRoot (root_name : List ℕ) (table : Table) (root : ℕ) : Type 0 where
+  pub named : declared_as table root_name ≡ Some root
+  pub structure : IsStructure (kind_of table (shape_place root))
+
+-- ---- the checks, each where those before it passed
+
+-- a text was loaded, and P holds of the table or the fault that it is
+abbrev pub AfterLoad : Sources → (TableAnswer → Type 0) → Type 0
+AfterLoad old P = (text : List ℕ) × IsLoaded text old.table × P (table_of text)
+
+-- the text is a table, of which P holds
+abbrev pub AfterTable : Sources → (Table → Type 0) → Type 0
+AfterTable old P = AfterLoad old (λ answer. (table : Table) × (answer ≡ accepted table) × P table)
+
+-- the root is there, and P holds of the table and the root
+abbrev pub AfterRoot : List ℕ → Sources → (Table → ℕ → Type 0) → Type 0
+AfterRoot root_name old P = AfterTable old (λ table. (root : ℕ) × IsRoot root_name table root × P table root)
+
+-- the input was read, and P holds of the table, the root and the input
+abbrev pub AfterInput : List ℕ → Sources → Sources → (Table → ℕ → List ℕ → Type 0) → Type 0
+AfterInput root_name old new P =
+    AfterRoot root_name old (λ table root. (input : List ℕ) × IsRead input old.input new.input × P table root input)
+
+-- P holds, and the input tells and counts what it did before
+abbrev pub BeforeInput : Sources → Sources → Type 0 → Type 0
+BeforeInput old new P = (new.input ≡ old.input) × P
+
+-- the answer is the fault with its number
+abbrev pub IsRefusal : TableFault → TableAnswer → Type 0
+IsRefusal fault answer = (f : Fault) × (n : ℕ) × (answer ≡ refused f n) × (refusal_of fault ≡ Some (f, n))
+
+-- ---- the output
+
+-- what becomes of the output of a command that writes all it has to say at once, and with no status but 0 and 7
+pub record WritesAtOnce (old new : Outside) (status : Status) : Type 0 where
+  pub nothing_is_held_back : status ≡ Done → new.out_holds_back ≡ false
+  -- a fault that shows in the count of the output ends the run with 7
+  pub out_met_no_fault : status ≢ WriteFailed → MetNoFault old.out new.out
+  -- what the output tells and counts stays
+  pub out_is_untouched : status ≢ Done → status ≢ WriteFailed
+      → (new.out ≡ old.out) × (new.out_holds_back ≡ old.out_holds_back)

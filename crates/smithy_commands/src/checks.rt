@@ -1,0 +1,45 @@
+//! The checks that commands share: the table of a file, and the root in it.
+ghost use Rattle.std.specs.Prelude.{◌≡◌, ◌≢◌, ℕ, List, Some, IfOk, IfErr};
+ghost use Rattle.smithy_shapes.specs.Table.{IsStructure, kind_of, shape_place, declared_as};
+ghost use Rattle.smithy_shapes.specs.Acceptance.{accepted, table_of};
+ghost use Rattle.smithy_outside.specs.Outside.{MetNoFault};
+ghost use Rattle.smithy_commands.specs.Checks.{IsLoaded};
+ghost use Rattle.smithy_commands.specs.Private.Stages.{FailsToLoad, FailsToFind};
+
+use crate::status::Status;
+use smithy_outside::Files;
+use smithy_shapes::{ShapeRef, ShapeType, Shapes, TableText};
+use std::alloc::Global;
+
+// The most bytes of a table's text.
+const MAX_TABLE_LEN: usize = 1_048_576;
+
+/// The table that a file holds.
+pub(crate) fn load_table<F: Files>(
+    alloc: Global,
+    files: &mut F,
+    path: &str,
+) -> Result<Shapes, Status>
+    ensures table { IfOk result (λ table. (text : List ℕ) × IsLoaded text (F.told files.old path.now) × (table_of text ≡ accepted table)) }
+    ensures refused { IfErr result (FailsToLoad (F.told files.old path.now) (F.told files.new path.now)) }
+    ensures no_fault { result ≢ Err Status.ReadFailed → MetNoFault (F.told files.old path.now) (F.told files.new path.now) }
+    ensures kept { (at : List ℕ) → (F.told files.new at).content ≡ (F.told files.old at).content }
+{
+    let text = files.load(alloc, path, MAX_TABLE_LEN)?;
+    let declarations = TableText::read(alloc, &text)?;
+    Ok(Shapes::build(alloc, declarations)?)
+}
+
+/// The declaration of the root, if it is a structure.
+pub(crate) fn find_root(table: &Shapes, name: &str) -> Result<ShapeRef, Status>
+    ensures root { IfOk result (λ root. (declared_as table.now name.now ≡ Some root.0) × IsStructure (kind_of table.now (shape_place root.0))) }
+    ensures refused { IfErr result (FailsToFind table.now name.now) }
+{
+    let Some(root) = table.find(name) else {
+        return Err(Status::NoSuchShape);
+    };
+    match table.schema(root).shape_type() {
+        ShapeType::Structure => Ok(root),
+        _ => Err(Status::NotAStructure),
+    }
+}

@@ -1,0 +1,72 @@
+//! The words of the command `transcode`.
+ghost use Rattle.std.specs.Prelude.{◌≡◌, map, option_map, string_bytes};
+ghost use Rattle.smithy_commands.specs.Transcode.{transcode_of, wanted_wire, wire_named};
+ghost use Rattle.smithy_commands.specs.Words.{named_wire, transcode_view};
+
+/// A wire, as words name it.
+#[derive(Clone, Copy)]
+pub enum WireWords<'a> {
+    /// JSON.
+    Json,
+    /// JSON, with the JSON names of members.
+    JsonName,
+    /// CBOR.
+    Cbor,
+    /// AWS Query, with the action and the version.
+    Query(&'a str, &'a str),
+}
+
+/// `transcode TABLE ROOT FROM TO`
+#[derive(Clone, Copy)]
+pub struct Transcode<'a> {
+    /// The path of the table.
+    pub table: &'a str,
+    /// The name of the shape that is transcoded.
+    pub root: &'a str,
+    /// The wire of the input.
+    pub from: WireWords<'a>,
+    /// The wire of the output.
+    pub to: WireWords<'a>,
+}
+
+// json, json-name or cbor.
+fn single_wire<'a>(word: &str) -> Option<WireWords<'a>>
+    ensures { option_map named_wire result ≡ wire_named word.now }
+{
+    match word {
+        "json" => Some(WireWords::Json),
+        "json-name" => Some(WireWords::JsonName),
+        "cbor" => Some(WireWords::Cbor),
+        _ => None,
+    }
+}
+
+// The wire of the output, by its words: json, json-name, cbor, or `query ACTION VERSION`.
+fn output_wire(words: &[String]) -> Option<WireWords<'_>>
+    ensures { option_map named_wire result ≡ wanted_wire (map string_bytes words.now) }
+{
+    match words {
+        [wire] => single_wire(wire.as_str()),
+        [wire, action, version] if wire.as_str() == "query" => {
+            Some(WireWords::Query(action.as_str(), version.as_str()))
+        }
+        _ => None,
+    }
+}
+
+impl<'a> Transcode<'a> {
+    /// The command that the words behind `transcode` are, if they are one.
+    pub fn from_words(words: &'a [String]) -> Option<Transcode<'a>>
+        ensures { option_map transcode_view result ≡ transcode_of (map string_bytes words.now) }
+    {
+        match words {
+            [table, root, from, to @ ..] => Some(Transcode {
+                table: table.as_str(),
+                root: root.as_str(),
+                from: single_wire(from.as_str())?,
+                to: output_wire(to)?,
+            }),
+            _ => None,
+        }
+    }
+}

@@ -1,0 +1,2 @@
+-- the tree of a generated input
+pub mod GeneratedTree
