@@ -113,6 +113,7 @@ fn read_value<R: ShapeDeserializer>(
     answers: &mut Vec<Field>,
 ) -> Option<Result<(), SerdeError>> {
     match word {
+        "read_boolean" => Some(boolean(alloc, source, place, answers)),
         "read_long" => Some(long(alloc, source, place, answers)),
         "read_string" => Some(string(alloc, source, place, answers)),
         "read_blob" => Some(blob(alloc, source, place, answers)),
@@ -123,6 +124,16 @@ fn read_value<R: ShapeDeserializer>(
         "read_document_number" => Some(number_held(alloc, source, place, answers)),
         _ => None,
     }
+}
+
+fn boolean<R: ShapeDeserializer>(
+    alloc: Global,
+    source: &mut R,
+    place: &Schema<'_>,
+    answers: &mut Vec<Field>,
+) -> Result<(), SerdeError> {
+    let value = source.read_boolean(place)?;
+    Ok(push_shown(alloc, answers, "value", value)?)
 }
 
 fn long<R: ShapeDeserializer>(

@@ -104,7 +104,7 @@ pub integer_refused : (input : List ℕ) (at : ℕ) (kind : DecodeKind) → IsBi
 integer_refused input at kind (inl (err, same, fault)) other some x e there =
     none_or big_integer (big_integer_of x) refl (λ z is. no_big_integer_at x z input at e err is there fault)
 integer_refused input at kind (inr (inl (is, out))) other some x e there = absurd (other is)
-integer_refused input at kind (inr (inr is)) other some x e there = absurd (some is)
+integer_refused input at kind (inr (inr is)) other some x e there = absurd (some is.0)
 
 pub integer_leaves : (input : List ℕ) (at : ℕ) (kind : DecodeKind) → IsBigIntegerFault input at kind → kind ≡ kinds.TooWide
     → (e : ℕ) × AnswersAt scalars.BigInteger input at e wide
@@ -118,7 +118,7 @@ integer_leaves input at kind (inr (inl (is, (z, e, (i, there, number_is), misfit
     is = ap big_integer number_is ∙ bounded_exceeds (fits_signed 128) (λ n. scalar_value (whole n)) z (leaves_wide z misfit);
   },
 )
-integer_leaves input at kind (inr (inr is)) h = let both : kinds.NoMemory ≡ kinds.TooWide = sym is ∙ h in cc
+integer_leaves input at kind (inr (inr is)) h = let both : kinds.NoMemory ≡ kinds.TooWide = sym is.0 ∙ h in cc
 
 -- ---- decimal fractions
 
@@ -169,7 +169,7 @@ pub decimal_refused : (input : List ℕ) (at : ℕ) (kind : DecodeKind) → IsDe
 decimal_refused input at kind (inl (err, same, fault)) other some x e there =
     none_or (λ o. big_decimal (option_map form_of o)) (decimal_fraction_of x) refl (λ p is. no_decimal_at x p.0 p.1 input at e err is there fault)
 decimal_refused input at kind (inr (inl (is, out))) other some x e there = absurd (other is)
-decimal_refused input at kind (inr (inr is)) other some x e there = absurd (some is)
+decimal_refused input at kind (inr (inr is)) other some x e there = absurd (some is.0)
 
 pub decimal_leaves : (input : List ℕ) (at : ℕ) (kind : DecodeKind) → IsDecimalFault input at kind → kind ≡ kinds.TooWide
     → (e : ℕ) × AnswersAt scalars.BigDecimal input at e wide
@@ -183,7 +183,7 @@ decimal_leaves input at kind (inr (inl (is, (x, m, e, (i, there, fraction), misf
     is = fraction_says i x m fraction ∙ bounded_exceeds is_in_limits value_of (form_of (x, m)) (parts_leave x m misfit);
   },
 )
-decimal_leaves input at kind (inr (inr is)) h = let both : kinds.NoMemory ≡ kinds.TooWide = sym is ∙ h in cc
+decimal_leaves input at kind (inr (inr is)) h = let both : kinds.NoMemory ≡ kinds.TooWide = sym is.0 ∙ h in cc
 
 -- ---- what is found where no number is read
 

@@ -86,7 +86,7 @@ stays_undue o c t p due h = subst (λ x. CannotGoOn (cbor_relations o) x t p) (u
 pub invalid_refused : {A : Type 0} (r : Result A SerdeError) → IsInvalid r → IsRefused r
 invalid_refused (Ok x) h = absurd h
 invalid_refused (Err InvalidInput) h = tt
-invalid_refused (Err TypeMismatch) h = absurd h
+invalid_refused (Err TypeMismatch) h = tt
 invalid_refused (Err TooDeep) h = absurd h
 invalid_refused (Err TooWide) h = absurd h
 invalid_refused (Err NotCarried) h = absurd h

@@ -327,7 +327,7 @@ module _ (o : Settings) (old : Cursor) (site : Site) (sound : old.failed ≡ fal
       → OnErr result (new ≡ failed_at old) → IfErr result (λ e. e ≡ InvalidInput)
       → ReadsScalar (cbor_relations o) (cbor_relations (without_limits o)) (Unit {0}) old new site scalars.Boolean boolean result
   reads_boolean new found result here none =
-      takes (cbor_relations o) (cbor_relations (without_limits o)) (Unit {0}) site scalars.Boolean boolean (lawful o) old sound due within new found result
+      takes (cbor_relations o) (cbor_relations (without_limits o)) (Unit {0}) site scalars.Boolean boolean (lawful o) old sound due within false refl new found result
       (if_some found _ _ (λ r. boolean_stands o old site r.0 r.1) here)
       (if_none found _ _ (λ nothing. (no_boolean_stands o old site nothing, no_boolean_stands (without_limits o) old site nothing)) none)
 
@@ -339,7 +339,7 @@ module _ (o : Settings) (old : Cursor) (site : Site) (sound : old.failed ≡ fal
       → OnErr result (new ≡ failed_at old) → IfErr result (λ e. e ≡ InvalidInput)
       → ReadsScalar (cbor_relations o) (cbor_relations (without_limits o)) (Unit {0}) old new site s whole result
   reads_whole s bits says_whole new found result here none =
-      takes (cbor_relations o) (cbor_relations (without_limits o)) (Unit {0}) site s whole (lawful o) old sound due within new found result
+      takes (cbor_relations o) (cbor_relations (without_limits o)) (Unit {0}) site s whole (lawful o) old sound due within false refl new found result
       (if_some found _ _ (λ r. whole_stands o old site s bits says_whole r.0 r.1) here)
       (if_none found _ _ (λ nothing. (no_whole_stands o old site s bits says_whole nothing, no_whole_stands (without_limits o) old site s bits says_whole nothing)) none)
 
@@ -363,7 +363,7 @@ module _ (o : Settings) (old : Cursor) (site : Site) (sound : old.failed ≡ fal
       → IfOk found (λ o. MatchOption o ((t : List ℕ) (e : ℕ) → HasTextAt t old.input old.at e → Follows (depth old) old.input e → ⊥) (λ r. TextStands old.input old.at (depth old) (text_of r.0) r.1))
       → Takes old new found result → ReadsScalar (cbor_relations o) (cbor_relations (without_limits o)) (Unit {0}) old new site scalars.String (λ x. text (text_of x)) result
   reads_text text_of new found result here =
-      takes_found (cbor_relations o) (cbor_relations (without_limits o)) (Unit {0}) site scalars.String (λ x. text (text_of x)) (lawful o) old sound due within new found result
+      takes_found (cbor_relations o) (cbor_relations (without_limits o)) (Unit {0}) site scalars.String (λ x. text (text_of x)) (lawful o) old sound due within false refl new found result
       (if_ok found _ _ (λ f. if_matched f _ _ _ _ (λ nothing. (no_text_stands o old site nothing, no_text_stands (without_limits o) old site nothing)) (λ r. text_stands o old site (text_of r.0) r.1)) here)
 
   -- of bytes, wherever they are kept
@@ -371,7 +371,7 @@ module _ (o : Settings) (old : Cursor) (site : Site) (sound : old.failed ≡ fal
       → IfOk found (λ o. MatchOption o ((b : List ℕ) (e : ℕ) → IsBlobAt b old.input old.at (depth old) e → ⊥) (λ r. IsBlobAt (bytes_in r.0) old.input old.at (depth old) r.1))
       → Takes old new found result → ReadsScalar (cbor_relations o) (cbor_relations (without_limits o)) (Unit {0}) old new site scalars.Blob (λ x. bytes (bytes_in x)) result
   reads_bytes bytes_in new found result here =
-      takes_found (cbor_relations o) (cbor_relations (without_limits o)) (Unit {0}) site scalars.Blob (λ x. bytes (bytes_in x)) (lawful o) old sound due within new found result
+      takes_found (cbor_relations o) (cbor_relations (without_limits o)) (Unit {0}) site scalars.Blob (λ x. bytes (bytes_in x)) (lawful o) old sound due within false refl new found result
       (if_ok found _ _ (λ f. if_matched f _ _ _ _ (λ nothing. (no_blob_stands o old site nothing, no_blob_stands (without_limits o) old site nothing)) (λ r. blob_stands o old site (bytes_in r.0) r.1)) here)
 
   -- of bytes
@@ -386,14 +386,14 @@ module _ (o : Settings) (old : Cursor) (site : Site) (sound : old.failed ≡ fal
       (here : IfOk found (λ f. MatchFound f (λ r. MeansAt s old.input old.at (depth old) (value r.0) r.1) (NothingAt s old.input old.at (depth old)) (ExceedsAt s old.input old.at (depth old)))) where
     pub reads_big : TakesWithin old new TooWide found result → ReadsScalar (cbor_relations o) (cbor_relations (without_limits o)) (Unit {0}) old new site s value result
     reads_big =
-        takes_within_limits (cbor_relations o) (cbor_relations (without_limits o)) (Unit {0}) site s value (lawful o) old sound due within new found result
+        takes_within_limits (cbor_relations o) (cbor_relations (without_limits o)) (Unit {0}) site s value (lawful o) old sound due within false refl new found result
         (if_ok found _ _ (λ f. if_found f _ _ _ _ _ _ (λ r. number_stands o old site s timeless (value r.0) r.1)
         (λ none. (no_number_stands o old site s timeless none, no_number_stands (without_limits o) old site s timeless none))
         (λ leaves. let there = number_exceeds o old site s timeless leaves in (there, exceeds_stands_not o old site s timeless keeps there))) here)
 
     pub answers_big : TakesWithin old new TooWide found result → AnswersWide (cbor_relations o) old site s result
     answers_big =
-        answers_past_limits (cbor_relations o) (cbor_relations (without_limits o)) (Unit {0}) site s value (lawful o) old sound due within new found result
+        answers_past_limits (cbor_relations o) (cbor_relations (without_limits o)) (Unit {0}) site s value (lawful o) old sound due within false refl new found result
         (exceeds_stands_not o old site s timeless keeps)
         (if_ok found _ _ (λ f. if_found f _ _ _ _ _ _ (λ r. number_stands o old site s timeless (value r.0) r.1) (λ none. no_number_exceeds o old site s timeless none) (λ leaves. tt)) here)
 
@@ -404,14 +404,14 @@ module _ (o : Settings) (old : Cursor) (site : Site) (sound : old.failed ≡ fal
     pub reads_instant : TakesWithin old new NotCarried (Ok found) result
         → ReadsScalar (cbor_relations o) (cbor_relations (without_limits o)) (Unit {0}) old new site scalars.Timestamp instant result
     reads_instant =
-        takes_what_is_carried (cbor_relations o) (cbor_relations (without_limits o)) (Unit {0}) site scalars.Timestamp instant (lawful o) old sound due within new (Ok found) result
+        takes_what_is_carried (cbor_relations o) (cbor_relations (without_limits o)) (Unit {0}) site scalars.Timestamp instant (lawful o) old sound due within false refl new (Ok found) result
         (if_found found _ _ _ _ _ _ (λ r. number_stands o old site scalars.Timestamp (λ x. refl) (instant r.0) r.1)
         (λ none. (no_number_stands o old site scalars.Timestamp (λ x. refl) none, no_number_stands (without_limits o) old site scalars.Timestamp (λ x. refl) none))
         (λ floats. let there = not_carried o old site scalars.Timestamp (λ x. refl) floats in (there, uncarried_stands_not o old site scalars.Timestamp (λ x. refl) keeps there)) here)
 
     pub answers_instant : TakesWithin old new NotCarried (Ok found) result → AnswersUncarried (cbor_relations o) old site scalars.Timestamp result
     answers_instant =
-        answers_what_is_not (cbor_relations o) (cbor_relations (without_limits o)) (Unit {0}) site scalars.Timestamp instant (lawful o) old sound due within new (Ok found) result
+        answers_what_is_not (cbor_relations o) (cbor_relations (without_limits o)) (Unit {0}) site scalars.Timestamp instant (lawful o) old sound due within false refl new (Ok found) result
         (uncarried_stands_not o old site scalars.Timestamp (λ x. refl) keeps)
         (if_found found _ _ _ _ _ _ (λ r. number_stands o old site scalars.Timestamp (λ x. refl) (instant r.0) r.1) (λ none. all_carried o old site scalars.Timestamp (λ x. refl) none) (λ floats. tt) here)
 

@@ -33,13 +33,14 @@ abbrev mutual
   pair_nodes no_pairs = no_nodes
   pair_nodes (pair k v ps) = node (Some k) (node_of v) (pair_nodes ps)
 
--- the rules of CBOR under some settings: an entry that is null is dropped, what is skipped doesn't count as depth, and no
--- document is carried
+-- the rules of CBOR under some settings: an entry that is null is dropped, what is skipped doesn't count as depth, no document is
+-- carried, and no refusal tells the type
 abbrev pub rules_of : Settings → Rules Item
 rules_of c = record {
   text_of = text_of;
   says = says;
   documents = None;
+  mismatches = λ kind time input a. false;
   skips_count = false;
   name_of = λ m. m.name;
   max_depth = c.max_depth;

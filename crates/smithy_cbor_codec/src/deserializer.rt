@@ -48,7 +48,7 @@ impl<'a> CborDeserializer<'a> {
 
 impl ShapeDeserializer for CborDeserializer<'_> {
     ghost use Rattle.std.specs.Prelude.{◌≡◌, ℕ, OnOk, IfOk, IsOk, IsErr, IsErrOf, true, false, refl};
-    ghost use Rattle.smithy_schema.specs.Reading.{depth, in_structure, passed_to, null_is_due, Conducts, Passes, MatchStep, CannotGoOn, RefusesNoScalar, ReadsScalar, ReadsDocument, AnswersUncarried, IsRefused, IsInvalid, IsNoAnswer, NullsNot, SkipsNot, ReachesDepth};
+    ghost use Rattle.smithy_schema.specs.Reading.{depth, in_structure, passed_to, null_is_due, Conducts, Passes, MatchStep, CannotGoOn, RefusesNoKind, ReadsScalar, ReadsDocument, AnswersUncarried, IsRefused, IsInvalid, IsNoAnswer, NullsNot, SkipsNot, ReachesDepth};
     ghost use Rattle.smithy_shapes.specs.Table.{HasMembers};
     ghost use Rattle.smithy_shapes.specs.Site.{site_of, kind_at};
     ghost use Rattle.smithy_schema.specs.declared.error.SerdeError.TheVariants.{NoMemory, NotCarried, TooDeep};
@@ -120,7 +120,7 @@ impl ShapeDeserializer for CborDeserializer<'_> {
         requires place { HasMembers (kind_at (site_of schema.now)) }
         ensures same { reading_settings_of self.new ≡ reading_settings_of self.old }
         ensures conduct { Conducts (cursor_of self.old) (cursor_of self.new) result }
-        ensures narrow { RefusesNoScalar result }
+        ensures narrow { RefusesNoKind result }
         ensures ok { (cursor_of self.old).due ≡ false → IfOk result (λ step. MatchStep step (cbor_relations (reading_settings_of self.old)) (cursor_of self.old) (cursor_of self.new) (site_of schema.now)) }
         ensures refused { IsRefused result → (cursor_of self.old).due ≡ false
             → CannotGoOn (cbor_relations (reading_settings_of self.old)) (cursor_of self.old) schema.now.shapes.now schema.now.place }
@@ -242,7 +242,7 @@ impl ShapeDeserializer for CborDeserializer<'_> {
     fn read_null(&mut self) -> Result<(), SerdeError>
         ensures same { reading_settings_of self.new ≡ reading_settings_of self.old }
         ensures conduct { Conducts (cursor_of self.old) (cursor_of self.new) result }
-        ensures narrow { RefusesNoScalar result }
+        ensures narrow { RefusesNoKind result }
         ensures memory { IsErrOf result NoMemory → ⊥ }
         ensures shallow { IsErrOf result TooDeep → ⊥ }
         ensures ok { null_is_due (cbor_relations (reading_settings_of self.old)) (cursor_of self.old) ≡ true → OnOk result ((cbor_relations (reading_settings_of self.old)).nulls (cursor_of self.old).input (depth (cursor_of self.old)) (cursor_of self.old).at (cursor_of self.new).at) }
@@ -272,7 +272,7 @@ impl ShapeDeserializer for CborDeserializer<'_> {
     fn skip_value(&mut self) -> Result<(), SerdeError>
         ensures same { reading_settings_of self.new ≡ reading_settings_of self.old }
         ensures conduct { Conducts (cursor_of self.old) (cursor_of self.new) result }
-        ensures narrow { RefusesNoScalar result }
+        ensures narrow { RefusesNoKind result }
         ensures undue { (cursor_of self.old).due ≡ false → IsNoAnswer result }
         ensures ok { OnOk result ((cbor_relations (reading_settings_of self.old)).skips (cursor_of self.old).input (depth (cursor_of self.old)) (cursor_of self.old).at (cursor_of self.new).at) }
         ensures passes { OnOk result (Passes (cursor_of self.old) (cursor_of self.new)) }

@@ -1,7 +1,8 @@
 -- What a reader finds at a place, as the contract of reading says it.
-use Rattle.std.proofs.Common.{◌≡◌, ◌≢◌, ◌≤◌, ◌+◌, inr, ℕ, length, List, [], ◌∷◌, true, false, Some, None, Result, Ok, Err, refl, sym, ap, subst, ◌∙◌, arith}
+use Rattle.std.proofs.Common.{◌≡◌, ◌≢◌, ◌≤◌, ◌+◌, inr, ℕ, length, List, [], ◌∷◌, true, false, Option, Some, None, Result, Ok, Err, refl, sym, ap, subst, ◌∙◌, arith}
 use Rattle.std.proofs.lemmas.Bool.Decides.{nat_tests}
 use Rattle.std.specs.Prelude.{nat_le}
+use Rattle.std.specs.Prelude.{IfSome}
 use Rattle.std.specs.Result.{IsErrOf, IfOk}
 use Rattle.std.specs.declared.alloc.AllocError.{AllocError}
 use Rattle.smithy_schema.specs.declared.error.SerdeError.{SerdeError}
@@ -9,7 +10,7 @@ use Rattle.smithy_schema.specs.declared.error.SerdeError.TheVariants.{Failed}
 use Rattle.smithy_schema.specs.declared.error.SerdeError.TheVariants as errors
 use Rattle.smithy_shapes.specs.declared.place.Place.{Place}
 use Rattle.smithy_shapes.specs.Table.{Table, kind_of, IsList, IsMap, IsStructure}
-use Rattle.smithy_schema.specs.Reading.{Cursor, depth, Steps, Conducts, OpensNot, SkipsNot, CannotGoOn, IsFault, IsInvalid, IsOfReader, RefusesNoScalar, failed_at, in_list, in_map}
+use Rattle.smithy_schema.specs.Reading.{Cursor, depth, Steps, Conducts, OpensNot, SkipsNot, CannotGoOn, IsFault, IsInvalid, IsOfReader, RefusesNoKind, failed_at, in_list, in_map}
 use Rattle.smithy_json.specs.Ascii.{end_array, end_object}
 use Rattle.smithy_json.specs.Tree.{nesting}
 use Rattle.smithy_json.specs.Unescape.{unescaped}
@@ -20,7 +21,7 @@ use Rattle.smithy_json_codec.specs.declared.skip.SkipFault.TheVariants as skip_f
 use Rattle.smithy_json_codec.specs.Cursor.{inside_of}
 use Rattle.smithy_wire.specs.declared.found.Found.{Found}
 use Rattle.smithy_wire.specs.declared.found.Found.TheVariants.{Value, Nothing, Beyond}
-use Rattle.smithy_wire.specs.Finding.{MatchFound, TakesWithin}
+use Rattle.smithy_wire.specs.Finding.{MatchFound, Takes, TakesWithin}
 use Rattle.smithy_wire.specs.Walking.{gone_on_to}
 use Rattle.smithy_json_codec.specs.Settings.{Settings, without_limits, is_shallow, kept}
 use Rattle.smithy_json_codec.specs.Standing.{json_relations, end_mark, Names}
@@ -39,6 +40,12 @@ answers_within P old new beyond (Ok (Value r)) result here taken = rw (taken.0, 
 answers_within P old new beyond (Ok Nothing) result here taken = rw taken.0 tt
 answers_within P old new beyond (Ok Beyond) result here taken = rw taken.0 tt
 answers_within P old new beyond (Err e) result here taken = rw taken.0 tt
+
+pub takes_so : {A : Type 0} (P : A → ℕ → Type 0) (old new : Cursor) (found : Result (Option (A × ℕ)) AllocError) (result : Result A SerdeError)
+    → IfOk found (λ o. IfSome o (λ r. P r.0 r.1)) → Takes old new found result → IfOk result (λ x. P x new.at)
+takes_so P old new (Ok (Some r)) result here taken = rw (taken.0, taken.1) here
+takes_so P old new (Ok None) result here taken = rw taken.0 tt
+takes_so P old new (Err e) result here taken = rw taken.0 tt
 
 -- ---- containers
 
@@ -151,9 +158,9 @@ pub skip_reads : (f : SkipFault) → (skip_refusal f ≢ Failed) × IsOfReader (
 skip_reads skip_faults.NoValue = ((λ h. cc), tt)
 skip_reads skip_faults.TooDeep = ((λ h. cc), tt)
 
-pub skip_narrow : (A : Type 0) (f : SkipFault) → RefusesNoScalar {A = A} (Err (skip_refusal f))
-skip_narrow A skip_faults.NoValue = ((λ h. cc), λ h. cc)
-skip_narrow A skip_faults.TooDeep = ((λ h. cc), λ h. cc)
+pub skip_narrow : (A : Type 0) (f : SkipFault) → RefusesNoKind {A = A} (Err (skip_refusal f))
+skip_narrow A skip_faults.NoValue = (((λ h. cc), λ h. cc), λ h. cc)
+skip_narrow A skip_faults.TooDeep = (((λ h. cc), λ h. cc), λ h. cc)
 
 pub skip_takes_no_memory : (A : Type 0) (f : SkipFault) → IsErrOf {T = A} (Err (skip_refusal f)) errors.NoMemory → ⊥
 skip_takes_no_memory A skip_faults.NoValue h = cc
@@ -173,10 +180,10 @@ entry_reads entry_faults.NoEntry = ((λ h. cc), tt)
 entry_reads entry_faults.TooDeep = ((λ h. cc), tt)
 entry_reads entry_faults.NoMemory = ((λ h. cc), tt)
 
-pub entry_narrow : (A : Type 0) (f : EntryFault) → RefusesNoScalar {A = A} (Err (entry_refusal f))
-entry_narrow A entry_faults.NoEntry = ((λ h. cc), λ h. cc)
-entry_narrow A entry_faults.TooDeep = ((λ h. cc), λ h. cc)
-entry_narrow A entry_faults.NoMemory = ((λ h. cc), λ h. cc)
+pub entry_narrow : (A : Type 0) (f : EntryFault) → RefusesNoKind {A = A} (Err (entry_refusal f))
+entry_narrow A entry_faults.NoEntry = (((λ h. cc), λ h. cc), λ h. cc)
+entry_narrow A entry_faults.TooDeep = (((λ h. cc), λ h. cc), λ h. cc)
+entry_narrow A entry_faults.NoMemory = (((λ h. cc), λ h. cc), λ h. cc)
 
 pub entry_refused : (f : EntryFault) → IsFault (entry_refusal f) → f ≡ entry_faults.NoMemory → ⊥
 entry_refused entry_faults.NoEntry h is = cc

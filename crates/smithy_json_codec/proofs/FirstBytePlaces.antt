@@ -1,11 +1,13 @@
 -- Where the first byte behind white space lies.
-use Rattle.std.proofs.Common.{◌≡◌, ◌+◌, ℕ, List, [], ◌∷◌, ◌++◌, length, drop, slice_range, false, refl, sym, ap, ◌∙◌, arith, subst, append-nil}
+use Rattle.std.proofs.Common.{◌≡◌, ◌+◌, ◌==◌, ℕ, List, [], ◌∷◌, ◌++◌, length, drop, slice_range, false, refl, sym, ap, ◌∙◌, arith, subst, append-nil}
 use Rattle.std.proofs.lemmas.List.{length-drop, drop_more, take_rest}
+use Rattle.std.proofs.lemmas.Bool.Decides.{nat_tests}
 use Rattle.smithy_json.specs.Ascii.{is_ws}
 use Rattle.smithy_json.specs.Grammar.{IsWs}
 use Rattle.smithy_json.specs.Standing.{IsRunAt}
 use Rattle.smithy_json.proofs.SliceLemmas.{drop-slice}
 use Rattle.smithy_json_codec.specs.Standing.{Lies, IsByte, without_ws}
+use Rattle.smithy_json_codec.specs.TypeMismatch.{begins_by}
 use Rattle.smithy_json_codec.specs.Private.Lexical.{past_ws}
 use Rattle.smithy_json_codec.specs.Private.BytePlaces.{same_byte, past_byte}
 use Rattle.smithy_json_codec.specs.Private.NextInContainer.{IsFirstByte, IsNotFirst}
@@ -26,10 +28,19 @@ module _ (i : List ℕ) (at b start : ℕ) (here : IsFirstByte i at b start) whe
   pub not_first : (x : ℕ) → is_ws x ≡ false → (x ≡ b → ⊥) → IsNotFirst x i at
   not_first x plain differs e h = differs (same_first x e plain h).0
 
+-- another byte comes first
+pub first_differs : (i : List ℕ) (at b start : ℕ) → IsFirstByte i at b start → (x : ℕ) → (b ≡ x → ⊥) → begins_by (λ y. y == x) (without_ws (drop at i)) ≡ false
+first_differs i at b start here x differs =
+    let other : (b == x) ≡ false = grind (arith, nat_tests) in
+    rw (past_byte b (drop at i) (drop (start + 1) i) here.plain (first_lies i at b start here).2) other
+
 pub without_all : (s : List ℕ) → IsWs s → without_ws s ≡ []
 without_all s h = ap without_ws (sym (append-nil s)) ∙ past_ws s [] h tt
 
 -- where only white space is left, no byte comes first
+pub none_differs : (i : List ℕ) (at x : ℕ) → IsWs (drop at i) → begins_by (λ y. y == x) (without_ws (drop at i)) ≡ false
+none_differs i at x ws = rw (without_all (drop at i) ws) refl
+
 pub nothing_first : (i : List ℕ) (at x : ℕ) → IsWs (drop at i) → is_ws x ≡ false → IsNotFirst x i at
 nothing_first i at x ws plain e h =
     let same : ◌≡◌ {A = List ℕ} [] (x ∷ drop e i) = sym (without_all (drop at i) ws) ∙ past_byte x (drop at i) (drop e i) plain h.2 in cc

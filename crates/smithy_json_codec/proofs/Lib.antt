@@ -4,6 +4,7 @@ mod MeaningFacts
 mod InstantFacts
 mod DocumentFacts
 mod StandingFacts
+mod TypeFacts
 mod WritingFacts
 mod EntryFacts
 pub mod SpellingLemmas
@@ -11,6 +12,7 @@ pub mod ReaderLemmas
 pub mod SkippedValues
 pub mod ScannedPlaces
 pub mod FirstBytePlaces
+pub mod TypeLemmas
 pub mod FirstBytes
 pub mod ScannedValues
 pub mod OptionLemmas

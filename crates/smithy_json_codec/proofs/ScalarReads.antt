@@ -1,5 +1,5 @@
 -- What a reader finds at the place of a scalar stands there, and where it finds nothing, nothing does.
-use Rattle.std.proofs.Common.{◌≡◌, ◌≤◌, ◌-◌, ◌^◌, ℕ, ℤ, List, length, Bool, true, false, Option, Some, None, refl, sym, ◌∙◌, ap}
+use Rattle.std.proofs.Common.{◌≡◌, ◌≤◌, ◌-◌, ◌^◌, ℕ, ℤ, List, length, drop, Bool, true, false, Option, Some, None, refl, sym, ◌∙◌, ap}
 use Rattle.std.specs.Prelude.{option_map, Result, OnErr, IfOk, IfErr, IsOk, IsErr, IfSome, IfNone, IsSome, IsNone, MatchOption}
 use Rattle.std.specs.declared.alloc.AllocError.{AllocError}
 use Rattle.smithy_texts.specs.Ranges.{fits_signed}
@@ -19,7 +19,8 @@ use Rattle.smithy_json.specs.Number.{whole_number}
 use Rattle.smithy_json_codec.specs.Settings.{Settings, kept, without_limits}
 use Rattle.smithy_json_codec.specs.Scalar.{JsonScalar, a_boolean, a_number, a_string, tree_of, boolean_of, whole_of, text_of, bytes_of, says}
 use Rattle.smithy_json_codec.specs.Laws.{lawful}
-use Rattle.smithy_json_codec.specs.Standing.{TreeLies, json_frames, json_rules, json_relations}
+use Rattle.smithy_json_codec.specs.TypeMismatch.{scalar_mismatches}
+use Rattle.smithy_json_codec.specs.Standing.{without_ws, TreeLies, json_frames, json_rules, json_relations}
 use Rattle.smithy_json_codec.specs.Private.Fits.{whole_is}
 use Rattle.smithy_json_codec.specs.Private.ScalarAtPlace.{WholeLies, TextLies, BlobLies, MeansAt, ExceedsAt, NothingAt, InstantLies, UncarriedLies, NoInstantLies}
 use Rattle.smithy_json_codec.specs.LexicalGrammar.{rfc_8259}
@@ -30,7 +31,7 @@ use Rattle.smithy_json_codec.specs.Private.Wire.{json_is_wire}
 use Rattle.smithy_wire.specs.Rules.{Answer, no_meaning, wide, uncarried, answer_of, settled}
 use Rattle.smithy_json_codec.specs.Private.ValuePlaces.{one_tree}
 use Rattle.smithy_wire.specs.declared.found.Found.{Found}
-use Rattle.smithy_wire.specs.Finding.{MatchFound, Takes, TakesWithin}
+use Rattle.smithy_wire.specs.Finding.{MatchFound, Takes, TakesWithin, told}
 use Rattle.smithy_wire.specs.Narrowing.{IsNarrowed, IsWider}
 use Rattle.smithy_wire.specs.Readers.{settled_answer}
 use Rattle.smithy_wire.proofs.Bounds.{exceeds_not, uncarried_not}
@@ -185,40 +186,46 @@ module _ (o : Settings) (c : Cursor) (site : Site) where
 -- ---- the answer of a read
 
 module _ (o : Settings) (old : Cursor) (site : Site) (sound : old.failed ≡ false) (due : old.due ≡ true) (within : old.at ≤ length old.input) where
+  -- what comes is of another type
+  abbrev pub is_other : Scalar → Bool
+  is_other s = scalar_mismatches s (form_at o site) (without_ws (drop old.at old.input))
+
   -- of a boolean
   pub reads_boolean : (new : Cursor) (found : Option (Bool × ℕ)) (result : Result Bool SerdeError)
       → IfSome found (λ r. TreeLies 1 (boolean_tree r.0) old.input old.at r.1) → IfNone found ((b : Bool) (e : ℕ) → TreeLies 1 (boolean_tree b) old.input old.at e → ⊥)
       → IfOk result (λ x. IfSome found (λ r. (r.0 ≡ x) × (new ≡ passed_to old r.1))) → (IsOk result → IsSome found) → (IsErr result → IsNone found)
       → OnErr result (new ≡ failed_at old) → IfErr result (λ e. e ≡ InvalidInput)
-      → ReadsScalar (json_relations o) (json_relations (without_limits o)) (Unit {0}) old new site scalars.Boolean boolean result
+      → ReadsScalar (json_relations o) (json_relations (without_limits o)) (Unit {0}) old new site scalars.Boolean boolean (told (is_other scalars.Boolean) result)
   reads_boolean new found result here none =
-      takes (json_relations o) (json_relations (without_limits o)) (Unit {0}) site scalars.Boolean boolean (lawful o) old sound due within new found result
+      takes (json_relations o) (json_relations (without_limits o)) (Unit {0}) site scalars.Boolean boolean (lawful o) old sound due within (is_other scalars.Boolean) refl new found result
       (if_some found _ _ (λ r. boolean_stands o old site r.0 r.1) here)
       (if_none found _ _ (λ nothing. (no_boolean_stands o old site nothing, no_boolean_stands (without_limits o) old site nothing)) none)
 
   -- of a kind of whole numbers of so many bits
   pub reads_whole : (s : Scalar) (bits : ℕ) → ((x : JsonScalar) → says s (form_at o site) x ≡ answer_of (whole_of bits x))
+      → ((rest : List ℕ) → scalar_mismatches s (form_at o site) rest ≡ false)
       → (new : Cursor) (found : Option (ℤ × ℕ)) (result : Result ℤ SerdeError)
       → IfSome found (λ r. WholeLies bits old.input old.at r.0 r.1) → IfNone found ((n : ℤ) (e : ℕ) → WholeLies bits old.input old.at n e → ⊥)
       → IfOk result (λ x. IfSome found (λ r. (r.0 ≡ x) × (new ≡ passed_to old r.1))) → (IsOk result → IsSome found) → (IsErr result → IsNone found)
       → OnErr result (new ≡ failed_at old) → IfErr result (λ e. e ≡ InvalidInput)
       → ReadsScalar (json_relations o) (json_relations (without_limits o)) (Unit {0}) old new site s whole result
-  reads_whole s bits says_whole new found result here none =
-      takes (json_relations o) (json_relations (without_limits o)) (Unit {0}) site s whole (lawful o) old sound due within new found result
+  reads_whole s bits says_whole never new found result here none =
+      takes (json_relations o) (json_relations (without_limits o)) (Unit {0}) site s whole (lawful o) old sound due within false (never (without_ws (drop old.at old.input))) new found result
       (if_some found _ _ (λ r. whole_stands o old site s bits says_whole r.0 r.1) here)
       (if_none found _ _ (λ nothing. (no_whole_stands o old site s bits says_whole nothing, no_whole_stands (without_limits o) old site s bits says_whole nothing)) none)
 
   -- the same in fewer bits
   pub reads_narrow : (s : Scalar) (bits : ℕ) → 2 ^ (bits - 1) ≤ 2 ^ 63 → ((x : JsonScalar) → says s (form_at o site) x ≡ answer_of (whole_of bits x))
+      → ((rest : List ℕ) → scalar_mismatches s (form_at o site) rest ≡ false)
       → (new : Cursor) (broad found : Option (ℤ × ℕ)) (result : Result ℤ SerdeError)
       → IfSome broad (λ r. WholeLies 64 old.input old.at r.0 r.1) → IfNone broad ((n : ℤ) (e : ℕ) → WholeLies 64 old.input old.at n e → ⊥)
       → IfSome found (IsNarrowed bits broad) → IfNone found (IsWider bits broad)
       → IfOk result (λ x. IfSome found (λ r. (r.0 ≡ x) × (new ≡ passed_to old r.1))) → (IsOk result → IsSome found) → (IsErr result → IsNone found)
       → OnErr result (new ≡ failed_at old) → IfErr result (λ e. e ≡ InvalidInput)
       → ReadsScalar (json_relations o) (json_relations (without_limits o)) (Unit {0}) old new site s whole result
-  reads_narrow s bits fewer says_whole new broad found result here none narrow wider =
+  reads_narrow s bits fewer says_whole never new broad found result here none narrow wider =
       let At : ℕ → ℤ → ℕ → Type 0 = λ bits n e. WholeLies bits old.input old.at n e in
-      reads_whole s bits says_whole new found result
+      reads_whole s bits says_whole never new found result
       (narrow_found At bits broad found (λ n e h fits. record { raw = h.raw; lies = h.lies; is = h.is; fits = fits }) here narrow)
       (narrow_none At bits broad found (λ n e h. (record { raw = h.raw; lies = h.lies; is = h.is; fits = fits_more bits 64 n fewer h.fits }, h.fits))
       (same_number old.input old.at) here none wider)
@@ -227,25 +234,25 @@ module _ (o : Settings) (old : Cursor) (site : Site) (sound : old.failed ≡ fal
   pub reads_text : {A : Type 0} (text_of : A → List ℕ) (new : Cursor) (found : Result (Option (A × ℕ)) AllocError) (result : Result A SerdeError)
       → IfOk found (λ o. MatchOption o ((t : List ℕ) (e : ℕ) → TextLies old.input old.at t e → ⊥) (λ r. TextLies old.input old.at (text_of r.0) r.1))
       → Takes old new found result
-      → ReadsScalar (json_relations o) (json_relations (without_limits o)) (Unit {0}) old new site scalars.String (λ x. text (text_of x)) result
+      → ReadsScalar (json_relations o) (json_relations (without_limits o)) (Unit {0}) old new site scalars.String (λ x. text (text_of x)) (told (is_other scalars.String) result)
   reads_text text_of new found result here =
-      takes_found (json_relations o) (json_relations (without_limits o)) (Unit {0}) site scalars.String (λ x. text (text_of x)) (lawful o) old sound due within new found result
+      takes_found (json_relations o) (json_relations (without_limits o)) (Unit {0}) site scalars.String (λ x. text (text_of x)) (lawful o) old sound due within (is_other scalars.String) refl new found result
       (if_ok found _ _ (λ a. if_matched a _ _ _ _ (λ none. (no_text_stands o old site none, no_text_stands (without_limits o) old site none)) (λ r. text_stands o old site (text_of r.0) r.1)) here)
 
   -- of bytes, wherever they are kept
   pub reads_bytes : {A : Type 0} (bytes_in : A → List ℕ) (new : Cursor) (found : Result (Option (A × ℕ)) AllocError) (result : Result A SerdeError)
       → IfOk found (λ o. MatchOption o ((b : List ℕ) (e : ℕ) → BlobLies old.input old.at b e → ⊥) (λ r. BlobLies old.input old.at (bytes_in r.0) r.1))
       → Takes old new found result
-      → ReadsScalar (json_relations o) (json_relations (without_limits o)) (Unit {0}) old new site scalars.Blob (λ x. bytes (bytes_in x)) result
+      → ReadsScalar (json_relations o) (json_relations (without_limits o)) (Unit {0}) old new site scalars.Blob (λ x. bytes (bytes_in x)) (told (is_other scalars.Blob) result)
   reads_bytes bytes_in new found result here =
-      takes_found (json_relations o) (json_relations (without_limits o)) (Unit {0}) site scalars.Blob (λ x. bytes (bytes_in x)) (lawful o) old sound due within new found result
+      takes_found (json_relations o) (json_relations (without_limits o)) (Unit {0}) site scalars.Blob (λ x. bytes (bytes_in x)) (lawful o) old sound due within (is_other scalars.Blob) refl new found result
       (if_ok found _ _ (λ a. if_matched a _ _ _ _ (λ none. (no_blob_stands o old site none, no_blob_stands (without_limits o) old site none)) (λ r. blob_stands o old site (bytes_in r.0) r.1)) here)
 
   -- of bytes
   pub reads_blob : (new : Cursor) (found : Result (Option (List ℕ × ℕ)) AllocError) (result : Result (List ℕ) SerdeError)
       → IfOk found (λ o. MatchOption o ((b : List ℕ) (e : ℕ) → BlobLies old.input old.at b e → ⊥) (λ r. BlobLies old.input old.at r.0 r.1))
       → Takes old new found result
-      → ReadsScalar (json_relations o) (json_relations (without_limits o)) (Unit {0}) old new site scalars.Blob bytes result
+      → ReadsScalar (json_relations o) (json_relations (without_limits o)) (Unit {0}) old new site scalars.Blob bytes (told (is_other scalars.Blob) result)
   reads_blob = reads_bytes (λ b. b)
 
   -- of a big number
@@ -253,17 +260,17 @@ module _ (o : Settings) (old : Cursor) (site : Site) (sound : old.failed ≡ fal
       (new : Cursor) (found : Result (Found (A × ℕ)) AllocError) (result : Result A SerdeError)
       (here : IfOk found (λ f. MatchFound f (λ r. MeansAt s old.input old.at (value r.0) r.1) (NothingAt s old.input old.at) (ExceedsAt s old.input old.at)))
       (taken : TakesWithin old new TooWide found result) where
-    pub reads_big : ReadsScalar (json_relations o) (json_relations (without_limits o)) (Unit {0}) old new site s value result
+    pub reads_big : ReadsScalar (json_relations o) (json_relations (without_limits o)) (Unit {0}) old new site s value (told (is_other s) result)
     reads_big =
-        takes_within_limits (json_relations o) (json_relations (without_limits o)) (Unit {0}) site s value (lawful o) old sound due within new found result
+        takes_within_limits (json_relations o) (json_relations (without_limits o)) (Unit {0}) site s value (lawful o) old sound due within (is_other s) refl new found result
         (if_ok found _ _ (λ f. if_found f _ _ _ _ _ _ (λ r. number_stands o old site s timeless (value r.0) r.1)
         (λ none. (no_number_stands o old site s timeless none, no_number_stands (without_limits o) old site s timeless none))
         (λ wide. let there = number_exceeds o old site s timeless wide in (there, exceeds_stands_not o old site s timeless keeps there))) here)
         taken
 
-    pub answers_big : AnswersWide (json_relations o) old site s result
+    pub answers_big : AnswersWide (json_relations o) old site s (told (is_other s) result)
     answers_big =
-        answers_past_limits (json_relations o) (json_relations (without_limits o)) (Unit {0}) site s value (lawful o) old sound due within new found result
+        answers_past_limits (json_relations o) (json_relations (without_limits o)) (Unit {0}) site s value (lawful o) old sound due within (is_other s) refl new found result
         (exceeds_stands_not o old site s timeless keeps)
         (if_ok found _ _ (λ f. if_found f _ _ _ _ _ _ (λ r. number_stands o old site s timeless (value r.0) r.1) (no_number_exceeds o old site s timeless) (λ wide. tt)) here)
         taken
@@ -272,17 +279,17 @@ module _ (o : Settings) (old : Cursor) (site : Site) (sound : old.failed ≡ fal
   module _ (keeps : o.limits ≡ kept) (new : Cursor) (found : Result (Found (ℤ × ℕ)) AllocError) (result : Result ℤ SerdeError)
       (here : IfOk found (λ f. MatchFound f (λ r. InstantLies (form_at o site) old.input old.at r.0 r.1) (NoInstantLies (form_at o site) old.input old.at) (UncarriedLies (form_at o site) old.input old.at)))
       (taken : TakesWithin old new NotCarried found result) where
-    pub reads_instant : ReadsScalar (json_relations o) (json_relations (without_limits o)) (Unit {0}) old new site scalars.Timestamp instant result
+    pub reads_instant : ReadsScalar (json_relations o) (json_relations (without_limits o)) (Unit {0}) old new site scalars.Timestamp instant (told (is_other scalars.Timestamp) result)
     reads_instant =
-        takes_what_is_carried (json_relations o) (json_relations (without_limits o)) (Unit {0}) site scalars.Timestamp instant (lawful o) old sound due within new found result
+        takes_what_is_carried (json_relations o) (json_relations (without_limits o)) (Unit {0}) site scalars.Timestamp instant (lawful o) old sound due within (is_other scalars.Timestamp) refl new found result
         (if_ok found _ _ (λ f. if_found f _ _ _ _ _ _ (λ r. instant_stands o old site r.0 r.1)
         (λ none. (no_instant_stands o old site none, no_instant_stands (without_limits o) old site none))
         (λ other. let there = instant_uncarried o old site other in (there, uncarried_stands_not o old site keeps there))) here)
         taken
 
-    pub answers_instant : AnswersUncarried (json_relations o) old site scalars.Timestamp result
+    pub answers_instant : AnswersUncarried (json_relations o) old site scalars.Timestamp (told (is_other scalars.Timestamp) result)
     answers_instant =
-        answers_what_is_not (json_relations o) (json_relations (without_limits o)) (Unit {0}) site scalars.Timestamp instant (lawful o) old sound due within new found result
+        answers_what_is_not (json_relations o) (json_relations (without_limits o)) (Unit {0}) site scalars.Timestamp instant (lawful o) old sound due within (is_other scalars.Timestamp) refl new found result
         (uncarried_stands_not o old site keeps)
         (if_ok found _ _ (λ f. if_found f _ _ _ _ _ _ (λ r. instant_stands o old site r.0 r.1) (all_carried o old site) (λ other. tt)) here)
         taken

@@ -1,10 +1,11 @@
 -- Which tokens of JSON are in its grammar: what the settings of a reader decide of numbers, of strings, and of what follows a
 -- value. A token that isn't in the grammar means nothing as any kind, and isn't skipped.
-use Rattle.std.specs.Prelude.{◌≡◌, ℕ, ◌==◌, ◌&&◌, ◌||◌, List, [], ◌∷◌, Bool, true, false, not, Some, None, nat_le, if◌then◌else◌}
+use Rattle.std.specs.Prelude.{◌≡◌, ℕ, ◌==◌, ◌&&◌, ◌||◌, drop, List, [], ◌∷◌, Bool, true, false, not, Some, None, nat_le, if◌then◌else◌}
 use Rattle.std.specs.Char.{is_ascii_hexdigit}
 use Rattle.std.specs.Str.{is_utf8}
 use Rattle.smithy_shapes.specs.declared.shape_type.Scalar.{Scalar}
 use Rattle.smithy_shapes.specs.declared.shape_type.Scalar.TheVariants as scalars
+use Rattle.smithy_shapes.specs.TimeForms.{form_or}
 use Rattle.smithy_schema.specs.Reading.{Relations}
 use Rattle.smithy_json.specs.Ascii.{quotation_mark, escape, letter_u, space, is_short_escape}
 use Rattle.smithy_json.specs.Grammar.{IsBoundary}
@@ -12,6 +13,8 @@ use Rattle.smithy_json.specs.NumberText.{is_number}
 use Rattle.smithy_json_codec.specs.Settings.{Settings}
 use Rattle.smithy_json_codec.specs.Scalar.{JsonScalar, a_boolean, a_number, a_string, text_of, document_says}
 use Rattle.smithy_json_codec.specs.Meaning.{rules_of}
+use Rattle.smithy_json_codec.specs.Spans.{without_ws}
+use Rattle.smithy_json_codec.specs.TypeMismatch.{type_mismatches}
 use Rattle.smithy_json_codec.specs.Tokens.{token_frames}
 use Rattle.smithy_wire.specs.Rules.{Rules, no_meaning}
 use Rattle.smithy_wire.specs.Frames.{relations}
@@ -94,6 +97,7 @@ token_rules g c = record (rules_of c) {
   text_of = λ x. if in_grammar g scalars.String x then text_of x else None;
   says = λ s time x. if in_grammar g s x then (rules_of c).says s time x else no_meaning;
   documents = Some (λ x. if in_grammar g scalars.BigDecimal x then document_says x else no_meaning);
+  mismatches = λ kind time input a. type_mismatches kind (form_or c.default_timestamp_format time) (without_ws (drop a input));
   may_skip_scalar = is_skipped_in g;
 }
 

@@ -13,6 +13,7 @@ pub mod ContainerSize
 pub mod Cursor
 pub mod Spans
 pub mod Tokens
+pub mod TypeMismatch
 pub mod LexicalGrammar
 pub mod Standing
 pub mod Writing

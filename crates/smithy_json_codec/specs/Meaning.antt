@@ -31,12 +31,13 @@ abbrev mutual
   member_nodes (member raw x ms) = node (Some (a_string raw)) (node_of x) (member_nodes ms)
 
 -- the rules of JSON under some settings: a member that is null is dropped, unless it is a document, what is skipped counts as
--- depth, and instants have the form of their place
+-- depth, and instants have the form of their place. What is refused by its type is for the rules of tokens to say.
 abbrev pub rules_of : Settings → Rules JsonScalar
 rules_of c = record {
   text_of = text_of;
   says = λ s time x. says s (form_or c.default_timestamp_format time) x;
   documents = Some document_says;
+  mismatches = λ kind time input a. false;
   skips_count = true;
   name_of = name_of c;
   max_depth = c.max_depth;

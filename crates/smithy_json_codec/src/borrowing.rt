@@ -1,7 +1,8 @@
 //! Reading texts and bytes that borrow from the input.
 use crate::deserializer::JsonDeserializer;
+use crate::mismatch::told;
 use crate::texts::{bytes_piece_at, text_piece_at};
-use smithy_schema::{BorrowDeserializer, Schema, SerdeError};
+use smithy_schema::{BorrowDeserializer, Scalar, Schema, SerdeError};
 use std::alloc::Global;
 use std::borrow::{CowSlice, CowStr};
 
@@ -26,8 +27,12 @@ impl<'a> BorrowDeserializer<'a> for JsonDeserializer<'a> {
         ensures borrowed { IfOk result (λ t. BorrowsText (cursor_of self.old).input (cursor_of self.old).at t (cursor_of self.new).at) }
     {
         self.walk.ready()?;
-        let found = text_piece_at(self.alloc, self.walk.input, self.walk.position);
-        self.walk.take_found(found)
+        let input = self.walk.input;
+        let at = self.walk.position;
+        let found = text_piece_at(self.alloc, input, at);
+        let answer = self.walk.take_found(found);
+        let form = self.settings.default_timestamp_format;
+        told(answer, input, at, Scalar::String, form)
     }
 
     fn read_bytes(&mut self, _schema: &Schema<'_>) -> Result<CowSlice<'a, u8, Global>, SerdeError>
@@ -38,7 +43,11 @@ impl<'a> BorrowDeserializer<'a> for JsonDeserializer<'a> {
         ensures owned { IfOk result IsOwnedSlice }
     {
         self.walk.ready()?;
-        let found = bytes_piece_at(self.alloc, self.walk.input, self.walk.position);
-        self.walk.take_found(found)
+        let input = self.walk.input;
+        let at = self.walk.position;
+        let found = bytes_piece_at(self.alloc, input, at);
+        let answer = self.walk.take_found(found);
+        let form = self.settings.default_timestamp_format;
+        told(answer, input, at, Scalar::Blob, form)
     }
 }

@@ -5,6 +5,7 @@ use crate::documents::standing_document_at;
 use crate::frames::{frame, is_structure, missing};
 use crate::input::Input;
 use crate::instants::{form_at, instant_at};
+use crate::mismatch::{no_object, told};
 use crate::numbers::{big_decimal_at, big_integer_at};
 use crate::places::{InList, InObject, byte_end, next_in_list, next_in_object, null_end};
 use crate::settings::Settings;
@@ -12,7 +13,7 @@ use crate::skip::skipped_end;
 use crate::texts::{blob_at, owned_text, text_at};
 use crate::values::{begins_null, boolean_at, long_at};
 use smithy_json_tokens::container_size;
-use smithy_schema::{Schema, SerdeError, ShapeDeserializer, Step};
+use smithy_schema::{Scalar, Schema, SerdeError, ShapeDeserializer, Step};
 use smithy_types::{BigDecimal, BigInteger, Blob, DateTime, Document};
 use smithy_wire::{ContainerKind, Walk, byte_found, integer_found, short_found};
 use std::alloc::{AllocError, Global};
@@ -58,7 +59,7 @@ impl<'a> JsonDeserializer<'a> {
 
 impl ShapeDeserializer for JsonDeserializer<'_> {
     ghost use Rattle.std.specs.Prelude.{◌≡◌, ◌≤◌, ℕ, Some, true, false, refl, IfOk, IsOk, OnOk, IsErr, IsErrOf};
-    ghost use Rattle.smithy_schema.specs.Reading.{depth, in_structure, passed_to, ReadsDocument, Conducts, Passes, MatchStep, CannotGoOn, SkipsNot, NullsNot, ReadsScalar, AnswersWide, ReachesDepth, null_is_due, RefusesNoScalar, IsRefused, IsInvalid, IsNoAnswer};
+    ghost use Rattle.smithy_schema.specs.Reading.{depth, in_structure, passed_to, ReadsDocument, Conducts, Passes, MatchStep, CannotGoOn, SkipsNot, NullsNot, ReadsScalar, AnswersWide, ReachesDepth, null_is_due, RefusesNoKind, IsRefused, IsInvalid, IsNoAnswer};
     ghost use Rattle.smithy_shapes.specs.Table.{IsStructure, HasMembers};
     ghost use Rattle.smithy_shapes.specs.Site.{site_of, kind_at};
     ghost use Rattle.smithy_schema.specs.declared.error.SerdeError.TheVariants.{NoMemory, NotCarried, TooDeep};
@@ -127,7 +128,10 @@ impl ShapeDeserializer for JsonDeserializer<'_> {
             Some(inside) => self
                 .walk
                 .enter(inside, frame(ContainerKind::Structure, false)),
-            None => Err(self.walk.refuse(SerdeError::InvalidInput)),
+            None => {
+                let error = no_object(self.walk.input, self.walk.position, is_structure(schema));
+                Err(self.walk.refuse(error))
+            }
         }
     }
 
@@ -136,7 +140,7 @@ impl ShapeDeserializer for JsonDeserializer<'_> {
         requires place { HasMembers (kind_at (site_of schema.now)) }
         ensures same { reading_settings_of self.new ≡ reading_settings_of self.old }
         ensures conduct { Conducts (cursor_of self.old) (cursor_of self.new) result }
-        ensures narrow { RefusesNoScalar result }
+        ensures narrow { RefusesNoKind result }
         ensures ok { (cursor_of self.old).due ≡ false → IfOk result (λ step. MatchStep step (json_relations (reading_settings_of self.old)) (cursor_of self.old) (cursor_of self.new) (site_of schema.now)) }
         ensures refused { IsRefused result → (cursor_of self.old).due ≡ false
             → CannotGoOn (json_relations (reading_settings_of self.old)) (cursor_of self.old) schema.now.shapes.now schema.now.place }
@@ -173,7 +177,7 @@ impl ShapeDeserializer for JsonDeserializer<'_> {
         self.walk.ready()?;
         match byte_end(self.walk.input, self.walk.position, b'[') {
             Some(inside) => self.walk.enter(inside, frame(ContainerKind::List, false)),
-            None => Err(self.walk.refuse(SerdeError::InvalidInput)),
+            None => Err(self.walk.refuse(SerdeError::TypeMismatch)),
         }
     }
 
@@ -206,7 +210,7 @@ impl ShapeDeserializer for JsonDeserializer<'_> {
         self.walk.ready()?;
         match byte_end(self.walk.input, self.walk.position, b'{') {
             Some(inside) => self.walk.enter(inside, frame(ContainerKind::Map, false)),
-            None => Err(self.walk.refuse(SerdeError::InvalidInput)),
+            None => Err(self.walk.refuse(SerdeError::TypeMismatch)),
         }
     }
 
@@ -251,7 +255,7 @@ impl ShapeDeserializer for JsonDeserializer<'_> {
     fn read_null(&mut self) -> Result<(), SerdeError>
         ensures same { reading_settings_of self.new ≡ reading_settings_of self.old }
         ensures conduct { Conducts (cursor_of self.old) (cursor_of self.new) result }
-        ensures narrow { RefusesNoScalar result }
+        ensures narrow { RefusesNoKind result }
         ensures memory { IsErrOf result NoMemory → ⊥ }
         ensures shallow { IsErrOf result TooDeep → ⊥ }
         ensures ok { null_is_due (json_relations (reading_settings_of self.old)) (cursor_of self.old) ≡ true → OnOk result ((json_relations (reading_settings_of self.old)).nulls (cursor_of self.old).input (depth (cursor_of self.old)) (cursor_of self.old).at (cursor_of self.new).at) }
@@ -280,7 +284,7 @@ impl ShapeDeserializer for JsonDeserializer<'_> {
     fn skip_value(&mut self) -> Result<(), SerdeError>
         ensures same { reading_settings_of self.new ≡ reading_settings_of self.old }
         ensures conduct { Conducts (cursor_of self.old) (cursor_of self.new) result }
-        ensures narrow { RefusesNoScalar result }
+        ensures narrow { RefusesNoKind result }
         ensures memory { IsErrOf result NoMemory → ⊥ }
         ensures undue { (cursor_of self.old).due ≡ false → IsNoAnswer result }
         ensures ok { OnOk result ((json_relations (reading_settings_of self.old)).skips (cursor_of self.old).input (depth (cursor_of self.old)) (cursor_of self.old).at (cursor_of self.new).at) }
@@ -312,8 +316,12 @@ impl ShapeDeserializer for JsonDeserializer<'_> {
 
     fn read_boolean(&mut self, _schema: &Schema<'_>) -> Result<bool, SerdeError> {
         self.walk.ready()?;
-        let found = boolean_at(self.walk.input, self.walk.position);
-        self.walk.take(found)
+        let input = self.walk.input;
+        let at = self.walk.position;
+        let found = boolean_at(input, at);
+        let answer = self.walk.take(found);
+        let form = self.settings.default_timestamp_format;
+        told(answer, input, at, Scalar::Boolean, form)
     }
 
     fn read_byte(&mut self, _schema: &Schema<'_>) -> Result<i8, SerdeError> {
@@ -342,14 +350,22 @@ impl ShapeDeserializer for JsonDeserializer<'_> {
 
     fn read_string(&mut self, _schema: &Schema<'_>) -> Result<String, SerdeError> {
         self.walk.ready()?;
-        let found = text_at(self.alloc, self.walk.input, self.walk.position);
-        self.walk.take_found(found)
+        let input = self.walk.input;
+        let at = self.walk.position;
+        let found = text_at(self.alloc, input, at);
+        let answer = self.walk.take_found(found);
+        let form = self.settings.default_timestamp_format;
+        told(answer, input, at, Scalar::String, form)
     }
 
     fn read_blob(&mut self, _schema: &Schema<'_>) -> Result<Blob, SerdeError> {
         self.walk.ready()?;
-        let found = blob_at(self.alloc, self.walk.input, self.walk.position);
-        self.walk.take_found(found)
+        let input = self.walk.input;
+        let at = self.walk.position;
+        let found = blob_at(self.alloc, input, at);
+        let answer = self.walk.take_found(found);
+        let form = self.settings.default_timestamp_format;
+        told(answer, input, at, Scalar::Blob, form)
     }
 
     fn read_big_integer(&mut self, _schema: &Schema<'_>) -> Result<BigInteger, SerdeError>
@@ -362,8 +378,12 @@ impl ShapeDeserializer for JsonDeserializer<'_> {
         ensures text { IfOk result (λ n. NumberTextLies (cursor_of self.old).input (cursor_of self.old).at n (cursor_of self.new).at) }
     {
         self.walk.ready()?;
-        let found = big_integer_at(self.alloc, self.walk.input, self.walk.position);
-        self.walk.take_within(found, SerdeError::TooWide)
+        let input = self.walk.input;
+        let at = self.walk.position;
+        let found = big_integer_at(self.alloc, input, at);
+        let answer = self.walk.take_within(found, SerdeError::TooWide);
+        let form = self.settings.default_timestamp_format;
+        told(answer, input, at, Scalar::BigInteger, form)
     }
 
     fn read_big_decimal(&mut self, _schema: &Schema<'_>) -> Result<BigDecimal, SerdeError>
@@ -376,15 +396,22 @@ impl ShapeDeserializer for JsonDeserializer<'_> {
         ensures text { IfOk result (λ n. NumberTextLies (cursor_of self.old).input (cursor_of self.old).at n (cursor_of self.new).at) }
     {
         self.walk.ready()?;
-        let found = big_decimal_at(self.alloc, self.walk.input, self.walk.position);
-        self.walk.take_within(found, SerdeError::TooWide)
+        let input = self.walk.input;
+        let at = self.walk.position;
+        let found = big_decimal_at(self.alloc, input, at);
+        let answer = self.walk.take_within(found, SerdeError::TooWide);
+        let form = self.settings.default_timestamp_format;
+        told(answer, input, at, Scalar::BigDecimal, form)
     }
 
     fn read_timestamp(&mut self, schema: &Schema<'_>) -> Result<DateTime, SerdeError> {
         self.walk.ready()?;
         let form = form_at(schema, self.settings.default_timestamp_format);
-        let found = instant_at(self.alloc, self.walk.input, self.walk.position, form);
-        self.walk.take_within(found, SerdeError::NotCarried)
+        let input = self.walk.input;
+        let at = self.walk.position;
+        let found = instant_at(self.alloc, input, at, form);
+        let answer = self.walk.take_within(found, SerdeError::NotCarried);
+        told(answer, input, at, Scalar::Timestamp, form)
     }
 
     fn read_document(&mut self, _schema: &Schema<'_>) -> Result<Document, SerdeError>

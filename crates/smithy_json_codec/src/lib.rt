@@ -10,6 +10,7 @@ mod input;
 mod instants;
 mod member_steps;
 mod members;
+mod mismatch;
 mod numbers;
 mod output;
 mod places;

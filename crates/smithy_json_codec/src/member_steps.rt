@@ -7,7 +7,7 @@ use smithy_wire::ContainerKind;
 
 impl JsonDeserializer<'_> {
     ghost use Rattle.std.specs.Prelude.{◌≡◌, ◌≤◌, ◌↔◌, ◌+◌, ℕ, length, drop, IsTrue, IfOk, IsErrOf, false};
-    ghost use Rattle.smithy_schema.specs.Reading.{passed_to, depth, in_structure, Conducts, MatchStep, CannotGoOn, RefusesNoScalar, IsRefused, IsInvalid};
+    ghost use Rattle.smithy_schema.specs.Reading.{passed_to, depth, in_structure, Conducts, MatchStep, CannotGoOn, RefusesNoKind, IsRefused, IsInvalid};
     ghost use Rattle.smithy_shapes.specs.Table.{HasMembers};
     ghost use Rattle.smithy_shapes.specs.Site.{site_of, kind_at};
     ghost use Rattle.smithy_schema.specs.declared.error.SerdeError.TheVariants.{TooDeep};
@@ -44,7 +44,7 @@ impl JsonDeserializer<'_> {
         requires place { HasMembers (kind_at (site_of schema.now)) }
         ensures same { reading_settings_of self.new ≡ reading_settings_of self.old }
         ensures conduct { Conducts (cursor_of self.old) (cursor_of self.new) result }
-        ensures narrow { RefusesNoScalar result }
+        ensures narrow { RefusesNoKind result }
         ensures ok { IfOk result (λ step. MatchStep step (json_relations (reading_settings_of self.old)) (passed_to (cursor_of self.old) at) (cursor_of self.new) (site_of schema.now)) }
         ensures refused { IsRefused result → CannotGoOn (json_relations (reading_settings_of self.old)) (passed_to (cursor_of self.old) at) schema.now.shapes.now schema.now.place }
         ensures none_without_limits { IsInvalid result → CannotGoOn (json_relations (without_limits (reading_settings_of self.old))) (passed_to (cursor_of self.old) at) schema.now.shapes.now schema.now.place }

@@ -1,12 +1,13 @@
 //! Where the names, separators and brackets of containers lie in an input (RFC 8259, sections 2, 4
 //! and 5).
 
-ghost use Rattle.std.specs.Prelude.{◌≡◌, ◌≤◌, ◌↔◌, ℕ, List, length, drop, false, IsTrue, IfSome, IfNone};
+ghost use Rattle.std.specs.Prelude.{◌≡◌, ◌≤◌, ◌↔◌, ◌==◌, ℕ, List, length, drop, false, IsTrue, IfSome, IfNone};
 ghost use Rattle.smithy_json.specs.Ascii.{is_ws, end_array};
 ghost use Rattle.smithy_json.specs.Grammar.{IsWs};
 ghost use Rattle.smithy_json.specs.Tree.{null};
 ghost use Rattle.smithy_json.specs.Unescape.{has_escape};
-ghost use Rattle.smithy_json_codec.specs.Standing.{Lies, IsByte, IsName, TreeLies, FollowsInside};
+ghost use Rattle.smithy_json_codec.specs.Standing.{Lies, IsByte, IsName, TreeLies, FollowsInside, without_ws};
+ghost use Rattle.smithy_json_codec.specs.TypeMismatch.{begins_by};
 ghost use Rattle.smithy_json_codec.specs.Private.NextInContainer.{IsFirstByte, IsNotFirst, GoesOnInList, GoesOnInObject};
 
 use smithy_json::scan::{is_boundary, read_null, skip_blanks};
@@ -59,6 +60,7 @@ pub(crate) fn byte_end(input: &[u8], at: usize, byte: u8) -> Option<usize>
     requires plain { is_ws byte ≡ false }
     ensures found { IfSome result (λ e. Lies (IsByte byte) input.now at e) }
     ensures none { IfNone result (IsNotFirst byte input.now at) }
+    ensures other { IfNone result (begins_by (λ b. b == byte) (without_ws (drop at input.now)) ≡ false) }
 {
     match first_byte(input, at) {
         Some((first, start)) if first == byte => Some(start + 1),

@@ -1,10 +1,9 @@
 -- Of which relations a refusal speaks: of those of the wire, or where a body is read whole of those with the limits lifted.
 use Rattle.std.proofs.Common.{◌≡◌, true, false, Result, Ok, Err, OnOk}
 use Rattle.smithy_schema.specs.declared.error.SerdeError.{SerdeError}
-use Rattle.smithy_schema.specs.declared.error.SerdeError.TheVariants.{InvalidInput}
 use Rattle.smithy_shapes.specs.Table.{kind_of, IsContainer}
 use Rattle.smithy_shapes.specs.Site.{Site}
-use Rattle.smithy_schema.specs.Reading.{Cursor, Relations, depth, IsLawful, IsBelow, Contains, IsFault, StandsNot, OpensNot, CannotGoOn}
+use Rattle.smithy_schema.specs.Reading.{Cursor, Relations, depth, IsLawful, IsBelow, Contains, IsFault, FindsNone, StandsNot, OpensNot, CannotGoOn}
 use Rattle.smithy_schema.specs.Consuming.{Reader, Cleared, RefusesOpening, RefusesEntry, RefusesMember}
 use Rattle.smithy_schema.proofs.ReadContainers.{itself}
 
@@ -28,7 +27,7 @@ of_wire r outer laws = record {
 
 -- no such value at all
 abbrev pub IsInvalidBody : Reader → SerdeError → Type 0
-IsInvalidBody r e = r.tells_without_limits × (e ≡ InvalidInput)
+IsInvalidBody r e = r.tells_without_limits × FindsNone e
 
 -- and that of the ones without limits
 pub of_lifted : (r : Reader) (outer : Site) → IsLawful r.lifted → IsBelow r.wire r.lifted → Speaks r r.lifted (IsInvalidBody r) outer

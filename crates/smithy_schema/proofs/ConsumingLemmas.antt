@@ -7,7 +7,7 @@ use Rattle.smithy_shapes.specs.Table.{Table, IsStructure, kind_of}
 use Rattle.smithy_schema.specs.declared.read.Step.{Step}
 use Rattle.smithy_schema.specs.declared.read.Step.TheVariants.{Member as to_member_step, Unknown, End}
 use Rattle.smithy_shapes.specs.Site.{Site}
-use Rattle.smithy_schema.specs.Reading.{Cursor, Relations, ContainerKind, Frame, depth, Enters, Steps, Leaves, CannotGoOn, OpensNot, ReachesDepth, Conducts, RefusesNoScalar, IsNoAnswer, IsRefused, IsInvalid, IsOfCursor, IsBehind, IsLawful, MatchStep, passed_to}
+use Rattle.smithy_schema.specs.Reading.{Cursor, Relations, ContainerKind, Frame, depth, Enters, Steps, Leaves, CannotGoOn, OpensNot, ReachesDepth, Conducts, RefusesNoScalar, RefusesNoKind, IsNoAnswer, TellsType, IsRefused, IsInvalid, IsOfCursor, IsBehind, IsLawful, MatchStep, passed_to}
 use Rattle.smithy_schema.specs.Consuming.{Reader, Call, Rests, IsTaken, Cleared, nothing_due, skipped, Route, Along, went, RefusesOpening, RefusesMember, RefusesEntry, ToMember, ToEnd, IsMemberOf, site_in}
 
 -- ---- refusals
@@ -18,9 +18,6 @@ same_error A d e h = cc
 
 pub is_error : (A : Type 0) (d e : SerdeError) → d ≡ e → IsErrOf {T = A} (Err d) e
 is_error A d e h = ap Err h
-
-pub is_invalid : (A : Type 0) (e : SerdeError) → e ≡ InvalidInput → IsInvalid {A = A} (Err e)
-is_invalid A e h = subst (λ x. IsInvalid {A = A} (Err x)) (sym h) tt
 
 pub no_answer : (A : Type 0) (e : SerdeError) → IsNoAnswer {A = A} (Err e) → IsNoAnswer {A = Unit {0}} (Err e)
 no_answer A InvalidInput h = h
@@ -36,7 +33,7 @@ no_answer A NoMemory h = h
 
 pub of_cursor : (A : Type 0) (old new : Cursor) (e : SerdeError) → Conducts {A = A} old new (Err e) → RefusesNoScalar {A = A} (Err e) → IsOfCursor e
 of_cursor A old new InvalidInput conduct narrow = tt
-of_cursor A old new TypeMismatch conduct narrow = conduct.reading
+of_cursor A old new TypeMismatch conduct narrow = tt
 of_cursor A old new TooDeep conduct narrow = tt
 of_cursor A old new TooWide conduct narrow = narrow.0 refl
 of_cursor A old new NotCarried conduct narrow = narrow.1 refl
@@ -59,25 +56,27 @@ was_due false h = absurd (h refl)
 -- an opening that was refused
 pub opening_refused : (r : Reader) (site : Site) (old new : Cursor) (e : SerdeError) → Conducts {A = Unit {0}} old new (Err e) → RefusesNoScalar {A = Unit {0}} (Err e)
     → (old.due ≡ false → IsNoAnswer {A = Unit {0}} (Err e))
+    → (old.due ≡ true → TellsType (r.wire.mismatches old.input site.table site.place old.at) e)
     → (IsRefused {A = Unit {0}} (Err e) → old.due ≡ true → r.wire.allows (depth old) → OpensNot r.wire old site.table site.place)
     → (r.tells_without_limits → IsInvalid {A = Unit {0}} (Err e) → old.due ≡ true → OpensNot r.lifted old site.table site.place)
     → (IsInvalid {A = Unit {0}} (Err e) → old.due ≡ true → OpensNot r.wire old site.table site.place)
     → (IsErrOf {T = Unit {0}} (Err e) TooDeep → depth old ≡ r.max_depth)
     → (IsErrOf {T = Unit {0}} (Err e) TooDeep → OpensNot r.wire old site.table site.place → ⊥)
     → RefusesOpening r site old e
-opening_refused r site old new e conduct narrow undue refused none_without_limits invalid deepest deep = record {
+opening_refused r site old new e conduct narrow undue told refused none_without_limits invalid deepest deep = record {
   failed = (λ h. conduct.failed.0 (is_error _ e Failed h), λ h. same_error _ e Failed (conduct.failed.1 h));
   undue = undue;
+  told = told;
   refused = refused;
-  none_without_limits = λ strict h. none_without_limits strict (is_invalid (Unit {0}) e h);
-  invalid = λ h. invalid (is_invalid (Unit {0}) e h);
+  none_without_limits = none_without_limits;
+  invalid = invalid;
   deepest = λ h. deepest (is_error _ e TooDeep h);
   deep = λ h. deep (is_error _ e TooDeep h);
   narrow = of_cursor _ old new e conduct narrow;
 }
 
 -- a list or a map that doesn't go on
-pub entry_refused : (A : Type 0) (r : Reader) (site : Site) (old new : Cursor) (e : SerdeError) → Conducts {A = A} old new (Err e) → RefusesNoScalar {A = A} (Err e)
+pub entry_refused : (A : Type 0) (r : Reader) (site : Site) (old new : Cursor) (e : SerdeError) → Conducts {A = A} old new (Err e) → RefusesNoKind {A = A} (Err e)
     → (IsErrOf {T = A} (Err e) TooDeep → ⊥)
     → (old.due ≡ true → IsNoAnswer {A = A} (Err e))
     → (IsRefused {A = A} (Err e) → old.due ≡ false → CannotGoOn r.wire old site.table site.place)
@@ -87,9 +86,10 @@ entry_refused A r site old new e conduct narrow shallow unread refused none_with
   failed = (λ h. conduct.failed.0 (is_error _ e Failed h), λ h. same_error _ e Failed (conduct.failed.1 h));
   unread = λ due. no_answer A e (unread due);
   refused = refused;
-  none_without_limits = λ strict h. none_without_limits strict (is_invalid A e h);
+  none_without_limits = none_without_limits;
   shallow = λ h. shallow (is_error _ e TooDeep h);
-  narrow = of_cursor _ old new e conduct narrow;
+  narrow = of_cursor _ old new e conduct narrow.0;
+  no_mismatch = λ h. narrow.1 (is_error _ e TypeMismatch h);
 }
 
 -- ---- positions
@@ -312,7 +312,7 @@ cannot_from : (w : Relations) (old from : Cursor) (site : Site) → Cleared w ol
 cannot_from w old from site (nothing_due none) here behind = here none
 cannot_from w old from site (skipped e due skips) here behind = behind due e skips
 
-pub member_refused : (A : Type 0) (r : Reader) (site : Site) (old new : Cursor) (e : SerdeError) → Conducts {A = A} old new (Err e) → RefusesNoScalar {A = A} (Err e)
+pub member_refused : (A : Type 0) (r : Reader) (site : Site) (old new : Cursor) (e : SerdeError) → Conducts {A = A} old new (Err e) → RefusesNoKind {A = A} (Err e)
     → (IsRefused {A = A} (Err e) → old.due ≡ false → CannotGoOn r.wire old site.table site.place)
     → (r.tells_without_limits → IsInvalid {A = A} (Err e) → old.due ≡ false → CannotGoOn r.lifted old site.table site.place)
     → (IsRefused {A = A} (Err e) → old.due ≡ true → (a : ℕ) → r.wire.skips old.input (depth old) old.at a → CannotGoOn r.wire (passed_to old a) site.table site.place)
@@ -322,9 +322,10 @@ pub member_refused : (A : Type 0) (r : Reader) (site : Site) (old new : Cursor) 
 member_refused A r site old new e conduct narrow refused none_without_limits unread_refused unread_would deep = record {
   failed = (λ h. conduct.failed.0 (is_error A e Failed h), λ h. same_error A e Failed (conduct.failed.1 h));
   refused = λ fault from cleared. cannot_from r.wire old from site cleared (refused fault) (unread_refused fault);
-  none_without_limits = λ strict h from cleared. cannot_from r.lifted old from site cleared (none_without_limits strict (is_invalid A e h)) (unread_would strict (is_invalid A e h));
+  none_without_limits = λ strict h from cleared. cannot_from r.lifted old from site cleared (none_without_limits strict h) (unread_would strict h);
   deep = λ h. deep (is_error A e TooDeep h);
-  narrow = of_cursor A old new e conduct narrow;
+  narrow = of_cursor A old new e conduct narrow.0;
+  no_mismatch = λ h. narrow.1 (is_error A e TypeMismatch h);
 }
 
 -- how much is left, where a value that was left unread is skipped

@@ -2,7 +2,7 @@
 use Rattle.std.proofs.Common.{◌≡◌, ◌⊎◌, ◌<◌, ◌≤◌, ◌+◌, ℕ, suc, List, [], ◌∷◌, map, length, Some, None, true, false, Result, Ok, Err, OnOk, refl, sym, ◌∙◌, ap, subst, arith, inl, inr}
 use Rattle.std.proofs.lemmas.List.{map-append, length-append}
 use Rattle.smithy_schema.specs.declared.error.SerdeError.{SerdeError}
-use Rattle.smithy_schema.specs.declared.error.SerdeError.TheVariants.{InvalidInput, NoMemory}
+use Rattle.smithy_schema.specs.declared.error.SerdeError.TheVariants.{NoMemory}
 use Rattle.smithy_shapes.specs.declared.place.Place.{Place}
 use Rattle.smithy_shapes.specs.declared.place.Target.TheVariants.{Simple}
 use Rattle.smithy_shapes.specs.declared.shape_type.Scalar.{Scalar}
@@ -10,7 +10,7 @@ use Rattle.smithy_shapes.specs.Table.{Kind, ListShape, list_of, place_in, scalar
 use Rattle.smithy_shapes.specs.Site.{Site, kind_at, inner_site}
 use Rattle.smithy_shapes.specs.Value.{ScalarValue, Value, scalar_value}
 use Rattle.smithy_shapes.specs.Lemmas.Options.{same_some}
-use Rattle.smithy_schema.specs.Reading.{Cursor, ContainerKind, Relations, depth, in_list, IsLawful, IsBelow, Reads, ReadsScalar, StandsNot, IsFault, IsInvalid, failed_at}
+use Rattle.smithy_schema.specs.Reading.{Cursor, ContainerKind, Relations, depth, in_list, IsLawful, IsBelow, Reads, ReadsScalar, StandsNot, IsFault, failed_at}
 use Rattle.smithy_schema.specs.Consuming.{Reader, Call, Route, Along, ended, refused as stops, stopped, went, Consumes, unopened, entered, by_element}
 use Rattle.smithy_schema.specs.Elements.{IsListOf, ReadsElement, put, refused, no_room, no_memory, read, broke, ReadsList}
 use Rattle.smithy_schema.proofs.ConsumingLemmas.{same_error}
@@ -185,14 +185,10 @@ module _ {A : Type 0} (s : Scalar) (scalar : A → ScalarValue) (r : Reader) (ou
       none_without_limits = λ of strict invalid due.
           let within = inner_of s outer inner of is in
           list_refused r r.lifted (IsInvalidBody r) outer (of_lifted r outer over below) laws within.is_list call values (λ q place xs zs d f called was. taken within q place xs zs d f (Ok tt) called)
-          (λ q place xs zs d f h called blame was. none_there r.lifted (IsInvalidBody r) (λ no. let h : NoMemory ≡ InvalidInput = no.1 in cc) (λ d f h reads blame was. reads.none_without_limits blame.0 (subst (λ x. IsInvalid {A = A} (Err x)) (sym blame.1) tt) was)
+          (λ q place xs zs d f h called blame was. none_there r.lifted (IsInvalidBody r) (λ no. no.1) (λ d f h reads blame was. reads.none_without_limits blame.0 blame.1 was)
           within q place xs zs d f (Err h) called h refl blame was)
-          [] ys c g (Err e) refl consumes e refl (strict, its_fault e invalid) due;
+          [] ys c g (Err e) refl consumes e refl (strict, invalid) due;
     }
-      where
-        its_fault : (e : SerdeError) → IsInvalid {A = List A} (Err e) → e ≡ InvalidInput
-        its_fault InvalidInput h = refl
-        its_fault _ h = absurd h
 
     pub no_memory_for_it : (c : Cursor) → c.due ≡ true → c.failed ≡ false → ReadsList s scalar r outer c (Err NoMemory) (failed_at c)
     no_memory_for_it c due live = record {

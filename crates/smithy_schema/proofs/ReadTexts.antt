@@ -4,7 +4,7 @@ use Rattle.std.specs.BTreeMap.{insert_entry}
 use Rattle.std.specs.Ordering.{nat_cmp, match_ordering}
 use Rattle.std.specs.Cmp.Lexicographic.{slice_cmp}
 use Rattle.smithy_schema.specs.declared.error.SerdeError.{SerdeError}
-use Rattle.smithy_schema.specs.declared.error.SerdeError.TheVariants.{InvalidInput, NoMemory}
+use Rattle.smithy_schema.specs.declared.error.SerdeError.TheVariants.{NoMemory}
 use Rattle.smithy_shapes.specs.declared.place.Place.{Place}
 use Rattle.smithy_shapes.specs.declared.place.Target.TheVariants.{Simple}
 use Rattle.smithy_shapes.specs.declared.shape_type.Scalar.TheVariants as scalars
@@ -12,7 +12,7 @@ use Rattle.smithy_shapes.specs.Table.{Kind, MapShape, map_of, place_in, scalar_p
 use Rattle.smithy_shapes.specs.Site.{Site, kind_at, inner_site}
 use Rattle.smithy_shapes.specs.Value.{text, MapEntries, no_map_entries, map_entry, put_entry}
 use Rattle.smithy_shapes.specs.Lemmas.Options.{same_some}
-use Rattle.smithy_schema.specs.Reading.{Cursor, Relations, in_map, IsLawful, IsBelow, Reads, ReadsScalar, StandsNot, IsFault, IsInvalid}
+use Rattle.smithy_schema.specs.Reading.{Cursor, Relations, in_map, IsLawful, IsBelow, Reads, ReadsScalar, StandsNot, IsFault}
 use Rattle.smithy_schema.specs.Consuming.{Reader, Consumes, by_key}
 use Rattle.smithy_schema.specs.TextMaps.{IsMapOfTexts, text_value, text_entries, ReadsEntry, put, refused, no_room, read, broke, ReadsTexts}
 use Rattle.smithy_schema.proofs.ConsumingLemmas.{same_error}
@@ -135,11 +135,7 @@ module _ (r : Reader) (outer inner : Site) where
       none_without_limits = λ of strict invalid due.
           let within = inner_of outer inner of is in
           map_refused r r.lifted (IsInvalidBody r) outer (of_lifted r outer over below) laws within.is_map (ReadsEntry r inner) (λ fs. fs) (λ q place key xs zs d f called was. taken within q place key xs zs d f (Ok tt) called)
-          (λ q place key xs zs d f h called blame was. none_there r.lifted (IsInvalidBody r) (λ no. let h : NoMemory ≡ InvalidInput = no.1 in cc)
-          (λ d f h reads blame was. reads.none_without_limits blame.0 (subst (λ x. IsInvalid {A = String Global} (Err x)) (sym blame.1) tt) was) within q place key xs zs d f (Err h) called h refl blame was)
-          no_map_entries es c g (Err e) refl consumes e refl (strict, its_fault e invalid) due;
+          (λ q place key xs zs d f h called blame was. none_there r.lifted (IsInvalidBody r) (λ no. no.1)
+          (λ d f h reads blame was. reads.none_without_limits blame.0 blame.1 was) within q place key xs zs d f (Err h) called h refl blame was)
+          no_map_entries es c g (Err e) refl consumes e refl (strict, invalid) due;
     }
-      where
-        its_fault : (e : SerdeError) → IsInvalid {A = MapEntries} (Err e) → e ≡ InvalidInput
-        its_fault InvalidInput h = refl
-        its_fault _ h = absurd h

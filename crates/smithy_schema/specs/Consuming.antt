@@ -1,11 +1,11 @@
 -- What a call with a consumer does: it enters a container, and the consumer is called along the container's entries.
 use Rattle.std.specs.Prelude.{◌≡◌, ◌≢◌, ◌⊎◌, ◌↔◌, ◌≤◌, ℕ, List, Option, Some, None, true, false, Result, Ok, Err}
 use Rattle.smithy_schema.specs.declared.error.SerdeError.{SerdeError}
-use Rattle.smithy_schema.specs.declared.error.SerdeError.TheVariants.{InvalidInput, TooDeep, Failed, NoMemory}
+use Rattle.smithy_schema.specs.declared.error.SerdeError.TheVariants.{TypeMismatch, TooDeep, Failed, NoMemory}
 use Rattle.smithy_schema.specs.declared.read.Step.{Step}
 use Rattle.smithy_schema.specs.declared.read.Step.TheVariants.{Member, Unknown, End}
 use Rattle.smithy_shapes.specs.Site.{Site, site_of, member_site}
-use Rattle.smithy_schema.specs.Reading.{Cursor, Relations, ContainerKind, depth, Passes, Enters, Steps, Leaves, CannotGoOn, OpensNot, ReachesDepth, IsFault, IsNoAnswer, IsBehind, IsOfCursor, failed_at, passed_to}
+use Rattle.smithy_schema.specs.Reading.{Cursor, Relations, ContainerKind, depth, Passes, Enters, Steps, Leaves, CannotGoOn, OpensNot, ReachesDepth, IsFault, FindsNone, TellsType, IsNoAnswer, IsBehind, IsOfCursor, failed_at, passed_to}
 
 -- What the calls of a reader are told by: its relations with the limits kept and with the limits lifted, whether a refusal speaks
 -- of the lifted ones, and how many containers may be open.
@@ -78,8 +78,9 @@ pub record RefusesOpening (r : Reader) (site : Site) (c : Cursor) (e : SerdeErro
   pub failed : (e ≡ Failed) ↔ (c.failed ≡ true)
   pub undue : c.due ≡ false → IsNoAnswer {A = Unit {0}} (Err e)
   pub refused : IsFault e → c.due ≡ true → r.wire.allows (depth c) → OpensNot r.wire c site.table site.place
-  pub none_without_limits : r.tells_without_limits → e ≡ InvalidInput → c.due ≡ true → OpensNot r.lifted c site.table site.place
-  pub invalid : e ≡ InvalidInput → c.due ≡ true → OpensNot r.wire c site.table site.place
+  pub told : c.due ≡ true → TellsType (r.wire.mismatches c.input site.table site.place c.at) e
+  pub none_without_limits : r.tells_without_limits → FindsNone e → c.due ≡ true → OpensNot r.lifted c site.table site.place
+  pub invalid : FindsNone e → c.due ≡ true → OpensNot r.wire c site.table site.place
   pub deepest : e ≡ TooDeep → depth c ≡ r.max_depth
   pub deep : e ≡ TooDeep → OpensNot r.wire c site.table site.place → ⊥
   pub narrow : IsOfCursor e
@@ -126,9 +127,10 @@ pub record ToEnd (w : Relations) (outer : Site) (old new : Cursor) : Type 0 wher
 pub record RefusesMember (r : Reader) (outer : Site) (c : Cursor) (e : SerdeError) : Type 0 where
   pub failed : (e ≡ Failed) ↔ (c.failed ≡ true)
   pub refused : IsFault e → (from : Cursor) → Cleared r.wire c from → CannotGoOn r.wire from outer.table outer.place
-  pub none_without_limits : r.tells_without_limits → e ≡ InvalidInput → (from : Cursor) → Cleared r.lifted c from → CannotGoOn r.lifted from outer.table outer.place
+  pub none_without_limits : r.tells_without_limits → FindsNone e → (from : Cursor) → Cleared r.lifted c from → CannotGoOn r.lifted from outer.table outer.place
   pub deep : e ≡ TooDeep → ReachesDepth r.wire r.max_depth c
   pub narrow : IsOfCursor e
+  pub no_mismatch : e ≢ TypeMismatch
 
 -- each member, and each key that names none; what was left unread is skipped
 abbrev pub by_member : Reader → Site → Route (Option Site)
@@ -143,9 +145,10 @@ pub record RefusesEntry (r : Reader) (outer : Site) (c : Cursor) (e : SerdeError
   pub failed : (e ≡ Failed) ↔ (c.failed ≡ true)
   pub unread : c.due ≡ true → IsNoAnswer {A = Unit {0}} (Err e)
   pub refused : IsFault e → c.due ≡ false → CannotGoOn r.wire c outer.table outer.place
-  pub none_without_limits : r.tells_without_limits → e ≡ InvalidInput → c.due ≡ false → CannotGoOn r.lifted c outer.table outer.place
+  pub none_without_limits : r.tells_without_limits → FindsNone e → c.due ≡ false → CannotGoOn r.lifted c outer.table outer.place
   pub shallow : e ≢ TooDeep
   pub narrow : IsOfCursor e
+  pub no_mismatch : e ≢ TypeMismatch
 
 -- each entry has a key, or none in a list; a reader doesn't go on from a value that was left unread
 pub record ToEntry (w : Relations) (outer : Site) (key : Option (List ℕ)) (old new : Cursor) : Type 0 where

@@ -70,6 +70,8 @@ pub record Relations : Type 1 where
   pub exceeds : List ℕ → Table → Place → ℕ → ℕ → ℕ → Type 0
   -- from a to e stands what the place's kind can't carry; of a document, e ends a part that no document carries
   pub uncarried : List ℕ → Table → Place → ℕ → ℕ → ℕ → Type 0
+  -- what comes at a is of another type than the place wants
+  pub mismatches : List ℕ → Table → Place → ℕ → Bool
   -- a container of the place begins at a, and its inside at b with a mark
   pub opens : List ℕ → Table → Place → ℕ → ℕ → ℕ → Mark → Type 0
   -- from b on with a mark the next entry that isn't dropped has a key, or none in a list, and its
@@ -259,10 +261,10 @@ IsFault Missing = Unit {0}
 IsFault Failed = ⊥
 IsFault NoMemory = ⊥
 
--- an answer of a reader, which has no fault of writing, nor of a request; no reader tells values of other kinds apart yet
+-- an answer of a reader, which has no fault of writing, nor of a request
 abbrev pub IsOfReader : SerdeError → Type 0
 IsOfReader InvalidInput = Unit {0}
-IsOfReader TypeMismatch = ⊥
+IsOfReader TypeMismatch = Unit {0}
 IsOfReader TooDeep = Unit {0}
 IsOfReader TooWide = Unit {0}
 IsOfReader NotCarried = Unit {0}
@@ -275,7 +277,7 @@ IsOfReader NoMemory = Unit {0}
 -- an answer of a cursor call, which finds no fault with a scalar
 abbrev pub IsOfCursor : SerdeError → Type 0
 IsOfCursor InvalidInput = Unit {0}
-IsOfCursor TypeMismatch = ⊥
+IsOfCursor TypeMismatch = Unit {0}
 IsOfCursor TooDeep = Unit {0}
 IsOfCursor TooWide = ⊥
 IsOfCursor NotCarried = ⊥
@@ -289,19 +291,35 @@ abbrev pub IsRefused : {A : Type 0} → Result A SerdeError → Type 0
 IsRefused (Ok x) = ⊥
 IsRefused (Err e) = IsFault e
 
--- the answer is `InvalidInput`: the input is no such value at all, whatever the limits
+-- `InvalidInput` or `TypeMismatch`: the input is no such value at all, whatever the limits
+abbrev pub FindsNone : SerdeError → Type 0
+FindsNone InvalidInput = Unit {0}
+FindsNone TypeMismatch = Unit {0}
+FindsNone TooDeep = ⊥
+FindsNone TooWide = ⊥
+FindsNone NotCarried = ⊥
+FindsNone Unsupported = ⊥
+FindsNone Unwritable = ⊥
+FindsNone Missing = ⊥
+FindsNone Failed = ⊥
+FindsNone NoMemory = ⊥
+
 abbrev pub IsInvalid : {A : Type 0} → Result A SerdeError → Type 0
 IsInvalid (Ok x) = ⊥
-IsInvalid (Err InvalidInput) = Unit {0}
-IsInvalid (Err TypeMismatch) = ⊥
-IsInvalid (Err TooDeep) = ⊥
-IsInvalid (Err TooWide) = ⊥
-IsInvalid (Err NotCarried) = ⊥
-IsInvalid (Err Unsupported) = ⊥
-IsInvalid (Err Unwritable) = ⊥
-IsInvalid (Err Missing) = ⊥
-IsInvalid (Err Failed) = ⊥
-IsInvalid (Err NoMemory) = ⊥
+IsInvalid (Err e) = FindsNone e
+
+-- an error by whether what comes is of another type than the wanted one: `TypeMismatch` says that it is, and `InvalidInput` that it isn't
+abbrev pub TellsType : Bool → SerdeError → Type 0
+TellsType other InvalidInput = other ≡ false
+TellsType other TypeMismatch = other ≡ true
+TellsType other TooDeep = Unit {0}
+TellsType other TooWide = Unit {0}
+TellsType other NotCarried = Unit {0}
+TellsType other Unsupported = Unit {0}
+TellsType other Unwritable = Unit {0}
+TellsType other Missing = Unit {0}
+TellsType other Failed = Unit {0}
+TellsType other NoMemory = Unit {0}
 
 -- the answer is `InvalidInput` or a refusal that is no fault: `Failed` or `NoMemory`
 abbrev pub IsNoAnswer : {A : Type 0} → Result A SerdeError → Type 0
@@ -320,6 +338,10 @@ IsNoAnswer (Err NoMemory) = Unit {0}
 -- no scalar is refused: neither one that leaves the limits of its kind nor one that the kind can't carry
 abbrev pub RefusesNoScalar : {A : Type 0} → Result A SerdeError → Type 0
 RefusesNoScalar result = (IsErrOf result TooWide → ⊥) × (IsErrOf result NotCarried → ⊥)
+
+-- no scalar is refused, and nothing for being of another type
+abbrev pub RefusesNoKind : {A : Type 0} → Result A SerdeError → Type 0
+RefusesNoKind result = RefusesNoScalar result × (IsErrOf result TypeMismatch → ⊥)
 
 -- the cursor after a refusal: it stays where it is, and has failed
 abbrev pub failed_at : Cursor → Cursor
@@ -388,6 +410,7 @@ pub record ReadsScalar {A : Type 0} (w u : Relations) (tells_without_limits : Ty
   pub wide : IsErrOf result TooWide → Exceeds w old site.table (scalar_place s site.place.time)
   pub uncarried : IsErrOf result NotCarried → Uncarried w old site.table (scalar_place s site.place.time)
   pub undue : old.due ≡ false → IsNoAnswer result
+  pub told : old.due ≡ true → IfErr result (TellsType (w.mismatches old.input site.table (scalar_place s site.place.time) old.at))
   pub ok : IfOk result (λ x. Reads w old new site.table (scalar_place s site.place.time) (scalar_value (value x)))
   pub refused : IsRefused result → old.due ≡ true → StandsNot w old site.table (scalar_place s site.place.time)
   pub none_without_limits : tells_without_limits → IsInvalid result → old.due ≡ true → StandsNot u old site.table (scalar_place s site.place.time)
@@ -399,6 +422,7 @@ pub record ReadsDocument (w u : Relations) (tells_without_limits : Type 0) (max 
   pub deep : IsErrOf result TooDeep → ReachesDepth w max old
   pub limited : IsErrOf result TooDeep → w.limits_skips ≡ true
   pub narrow : IsErrOf result TooWide → ⊥
+  pub no_mismatch : IsErrOf result TypeMismatch → ⊥
   pub uncarried : IsErrOf result NotCarried → Uncarried w old site.table (document_place site.place.time)
   pub undue : old.due ≡ false → IsNoAnswer result
   pub ok : IfOk result (λ x. Reads w old new site.table (document_place site.place.time) (document_value (whole_document (document_view x))))

@@ -11,7 +11,7 @@ pub enum SerdeError {
     /// No value of the wanted kind stands here, no value is due, or one was left unread.
     #[error("InvalidInput")]
     InvalidInput,
-    /// A value of another kind of JSON stands where one of the wanted kind is due. No call answers it yet.
+    /// What comes here doesn't begin as a value of the wanted kind does. Only JSON tells it, and never of integers and documents.
     #[error("TypeMismatch")]
     TypeMismatch,
     /// The call opens one container more than the codec's depth allows, or reads a document that nests deeper.

@@ -1,5 +1,5 @@
 //! Reading a value as a schema directs.
-ghost use Rattle.std.specs.Prelude.{◌≡◌, ◌≤◌, ℕ, length, Option, Some, None, Bool, true, false, ◌&&◌, IfOk, IsOk, OnOk, IsErrOf, IsErr, MatchBool, MatchOption, string_bytes, FitsSigned, OnErr, option_map};
+ghost use Rattle.std.specs.Prelude.{◌≡◌, ◌≤◌, ℕ, length, Option, Some, None, Bool, true, false, ◌&&◌, IfOk, IfErr, IsOk, OnOk, IsErrOf, IsErr, MatchBool, MatchOption, string_bytes, FitsSigned, OnErr, option_map};
 ghost use Rattle.std.specs.Int.{w128};
 ghost use Rattle.smithy_texts.specs.Numeral.{number};
 ghost use Rattle.smithy_texts.specs.Decimal.{mantissa, net_exponent};
@@ -8,7 +8,7 @@ ghost use Rattle.smithy_shapes.specs.declared.shape_type.Scalar.TheVariants as s
 ghost use Rattle.smithy_shapes.specs.Table.{Table, kind_of, IsStructure, HasMembers, IsList, IsMap};
 ghost use Rattle.smithy_shapes.specs.Value.{Value, boolean, whole, text, bytes, decimal, instant};
 ghost use Rattle.smithy_shapes.specs.Site.{site_of, kind_at};
-ghost use Rattle.smithy_schema.specs.Reading.{ReadsScalar, ReadsDocument, AnswersWide, AnswersUncarried, RefusesNoScalar, Cursor, depth, Relations, Mark, IsLawful, StandsFit, CountsOpeners, IsBelow, Conducts, Passes, Enters, Steps, Leaves, MatchStep, CannotGoOn, OpensNot, SkipsNot, NullsNot, ReachesDepth, null_is_due, IsRefused, IsInvalid, IsNoAnswer, failed_at, passed_to, in_structure, in_list, in_map};
+ghost use Rattle.smithy_schema.specs.Reading.{ReadsScalar, ReadsDocument, AnswersWide, AnswersUncarried, RefusesNoScalar, RefusesNoKind, Cursor, depth, Relations, Mark, IsLawful, StandsFit, CountsOpeners, IsBelow, Conducts, Passes, Enters, Steps, Leaves, MatchStep, CannotGoOn, OpensNot, SkipsNot, NullsNot, ReachesDepth, null_is_due, IsRefused, IsInvalid, IsNoAnswer, TellsType, failed_at, passed_to, in_structure, in_list, in_map};
 ghost use Rattle.smithy_schema.specs.declared.error.SerdeError.TheVariants.{TooDeep, NoMemory};
 ghost use Rattle.smithy_schema.specs.Consuming.{reader, site_in, Consumes, IsTaken, by_member, by_element, by_key};
 ghost use Rattle.smithy_schema.specs.Sizes.{Sizes, TellsSize};
@@ -94,6 +94,7 @@ pub trait ShapeDeserializer {
         ensures conduct { Conducts (state self.old) (state self.new) result }
         ensures narrow { RefusesNoScalar result }
         ensures undue { (state self.old).due ≡ false → IsNoAnswer result }
+        ensures told { (state self.old).due ≡ true → IfErr result (TellsType ((wire (settings self.old)).mismatches (state self.old).input schema.now.shapes.now schema.now.place (state self.old).at)) }
         ensures ok { OnOk result (Enters (wire (settings self.old)) (max_depth (settings self.old)) (state self.old) (state self.new) schema.now.shapes.now schema.now.place in_structure) }
         ensures refused { IsRefused result → (state self.old).due ≡ true → (wire (settings self.old)).allows (depth (state self.old))
             → OpensNot (wire (settings self.old)) (state self.old) schema.now.shapes.now schema.now.place }
@@ -112,7 +113,7 @@ pub trait ShapeDeserializer {
         requires place { HasMembers (kind_at (site_of schema.now)) }
         ensures same { settings self.new ≡ settings self.old }
         ensures conduct { Conducts (state self.old) (state self.new) result }
-        ensures narrow { RefusesNoScalar result }
+        ensures narrow { RefusesNoKind result }
         ensures ok { (state self.old).due ≡ false → IfOk result (λ step. MatchStep step (wire (settings self.old)) (state self.old) (state self.new) (site_of schema.now)) }
         ensures refused { IsRefused result → (state self.old).due ≡ false
             → CannotGoOn (wire (settings self.old)) (state self.old) schema.now.shapes.now schema.now.place }
@@ -134,6 +135,7 @@ pub trait ShapeDeserializer {
         ensures conduct { Conducts (state self.old) (state self.new) result }
         ensures narrow { RefusesNoScalar result }
         ensures undue { (state self.old).due ≡ false → IsNoAnswer result }
+        ensures told { (state self.old).due ≡ true → IfErr result (TellsType ((wire (settings self.old)).mismatches (state self.old).input schema.now.shapes.now schema.now.place (state self.old).at)) }
         ensures ok { OnOk result (Enters (wire (settings self.old)) (max_depth (settings self.old)) (state self.old) (state self.new) schema.now.shapes.now schema.now.place in_list) }
         ensures refused { IsRefused result → (state self.old).due ≡ true → (wire (settings self.old)).allows (depth (state self.old))
             → OpensNot (wire (settings self.old)) (state self.old) schema.now.shapes.now schema.now.place }
@@ -150,7 +152,7 @@ pub trait ShapeDeserializer {
         requires within { (state self.old).inner.within ≡ in_list }
         ensures same { settings self.new ≡ settings self.old }
         ensures conduct { Conducts (state self.old) (state self.new) result }
-        ensures narrow { RefusesNoScalar result }
+        ensures narrow { RefusesNoKind result }
         ensures memory { IsErrOf result NoMemory → ⊥ }
         ensures shallow { IsErrOf result TooDeep → ⊥ }
         ensures unread { (state self.old).due ≡ true → IsNoAnswer result }
@@ -168,6 +170,7 @@ pub trait ShapeDeserializer {
         ensures conduct { Conducts (state self.old) (state self.new) result }
         ensures narrow { RefusesNoScalar result }
         ensures undue { (state self.old).due ≡ false → IsNoAnswer result }
+        ensures told { (state self.old).due ≡ true → IfErr result (TellsType ((wire (settings self.old)).mismatches (state self.old).input schema.now.shapes.now schema.now.place (state self.old).at)) }
         ensures ok { OnOk result (Enters (wire (settings self.old)) (max_depth (settings self.old)) (state self.old) (state self.new) schema.now.shapes.now schema.now.place in_map) }
         ensures refused { IsRefused result → (state self.old).due ≡ true → (wire (settings self.old)).allows (depth (state self.old))
             → OpensNot (wire (settings self.old)) (state self.old) schema.now.shapes.now schema.now.place }
@@ -184,7 +187,7 @@ pub trait ShapeDeserializer {
         requires within { (state self.old).inner.within ≡ in_map }
         ensures same { settings self.new ≡ settings self.old }
         ensures conduct { Conducts (state self.old) (state self.new) result }
-        ensures narrow { RefusesNoScalar result }
+        ensures narrow { RefusesNoKind result }
         ensures shallow { IsErrOf result TooDeep → ⊥ }
         ensures unread { (state self.old).due ≡ true → IsNoAnswer result }
         ensures ok { (state self.old).due ≡ false → (t : Table) (p : Place) → IsMap (kind_of t p)
@@ -203,7 +206,7 @@ pub trait ShapeDeserializer {
     fn read_null(&mut self) -> Result<(), SerdeError>
         ensures same { settings self.new ≡ settings self.old }
         ensures conduct { Conducts (state self.old) (state self.new) result }
-        ensures narrow { RefusesNoScalar result }
+        ensures narrow { RefusesNoKind result }
         ensures memory { IsErrOf result NoMemory → ⊥ }
         ensures shallow { IsErrOf result TooDeep → ⊥ }
         ensures ok { null_is_due (wire (settings self.old)) (state self.old) ≡ true → OnOk result ((wire (settings self.old)).nulls (state self.old).input (depth (state self.old)) (state self.old).at (state self.new).at) }
@@ -216,7 +219,7 @@ pub trait ShapeDeserializer {
     fn skip_value(&mut self) -> Result<(), SerdeError>
         ensures same { settings self.new ≡ settings self.old }
         ensures conduct { Conducts (state self.old) (state self.new) result }
-        ensures narrow { RefusesNoScalar result }
+        ensures narrow { RefusesNoKind result }
         ensures undue { (state self.old).due ≡ false → IsNoAnswer result }
         ensures ok { OnOk result ((wire (settings self.old)).skips (state self.old).input (depth (state self.old)) (state self.old).at (state self.new).at) }
         ensures passes { OnOk result (Passes (state self.old) (state self.new)) }

@@ -7,7 +7,7 @@ use Rattle.smithy_shapes.specs.declared.schema.Schema.{Schema}
 use Rattle.smithy_schema.specs.declared.error.SerdeError.{SerdeError}
 use Rattle.smithy_schema.specs.declared.error.SerdeError.TheVariants as serde
 use Rattle.smithy_shapes.specs.Fits.{Fits, FitsOr}
-use Rattle.smithy_schema.specs.Reading.{IsFault, IsRefused, IsInvalid}
+use Rattle.smithy_schema.specs.Reading.{IsFault, FindsNone, IsRefused, IsInvalid}
 use Rattle.smithy_shapes.specs.Table.{Table, IsStructure, kind_of, shape_place}
 use Rattle.smithy_shapes.specs.Value.{Value, nesting}
 use Rattle.smithy_shapes.specs.Site.{Site, whole_view, site_of, shape_site}
@@ -176,7 +176,7 @@ lacking t root from i to v u spelled lack = record {
 
 -- and so is a refusal of the input
 told : (t : Table) (root : ℕ) (from : Wire) (i : List ℕ) (to : Wire) (e : SerdeError) (refusal : TranscodeError) → IsToldAs e refusal
-    → (IsFault e → SpellNothing from t root i) → (e ≡ serde.InvalidInput → SpellNothingWithoutLimits from t root i) → (e ≡ serde.TooDeep → IsTooDeep from t root i) → (e ≡ serde.TooWide → IsWide from t i) → (e ≡ serde.NotCarried → IsUncarried from t i)
+    → (IsFault e → SpellNothing from t root i) → (FindsNone e → SpellNothingWithoutLimits from t root i) → (e ≡ serde.TooDeep → IsTooDeep from t root i) → (e ≡ serde.TooWide → IsWide from t i) → (e ≡ serde.NotCarried → IsUncarried from t i)
     → Transcodes t root from i to (Err refusal)
 told t root from i to serde.InvalidInput refusal tells nothing none_without_limits deep wide uncarried = rw tells (record {
   answers_ok = tt;
@@ -184,7 +184,20 @@ told t root from i to serde.InvalidInput refusal tells nothing none_without_limi
   unfit_is_refused = λ v u h lack. absurd (nothing tt v h);
   answers_inexpressible = λ u h. absurd (let x : Err InvalidInput ≡ Err (Inexpressible u) = h in cc);
   answers_invalid_input = λ h. nothing tt;
-  answers_invalid_without_limits = λ h. none_without_limits refl;
+  answers_invalid_without_limits = λ h. none_without_limits tt;
+  answers_too_deep = λ h. absurd (let x : Err InvalidInput ≡ Err TooDeep = h in cc);
+  answers_too_wide = λ h. absurd (let x : Err InvalidInput ≡ Err TooWide = h in cc);
+  answers_not_carried = λ h. absurd (let x : Err InvalidInput ≡ Err NotCarried = h in cc);
+  equal_bodies = λ read. tt;
+  nodes_are_bounded = nodes_are_bounded from t root i;
+})
+told t root from i to serde.TypeMismatch refusal tells nothing none_without_limits deep wide uncarried = rw tells (record {
+  answers_ok = tt;
+  spelled_is_ok = λ v h fit. absurd (nothing tt v h);
+  unfit_is_refused = λ v u h lack. absurd (nothing tt v h);
+  answers_inexpressible = λ u h. absurd (let x : Err InvalidInput ≡ Err (Inexpressible u) = h in cc);
+  answers_invalid_input = λ h. nothing tt;
+  answers_invalid_without_limits = λ h. none_without_limits tt;
   answers_too_deep = λ h. absurd (let x : Err InvalidInput ≡ Err TooDeep = h in cc);
   answers_too_wide = λ h. absurd (let x : Err InvalidInput ≡ Err TooWide = h in cc);
   answers_not_carried = λ h. absurd (let x : Err InvalidInput ≡ Err NotCarried = h in cc);
@@ -231,7 +244,6 @@ told t root from i to serde.NotCarried refusal tells nothing none_without_limits
   nodes_are_bounded = nodes_are_bounded from t root i;
 })
 told t root from i to serde.NoMemory refusal tells nothing none_without_limits deep wide uncarried = rw tells (no_memory t root from i to)
-told t root from i to serde.TypeMismatch refusal tells nothing none_without_limits deep wide uncarried = absurd tells
 told t root from i to serde.Unsupported refusal tells nothing none_without_limits deep wide uncarried = absurd tells
 told t root from i to serde.Unwritable refusal tells nothing none_without_limits deep wide uncarried = absurd tells
 told t root from i to serde.Missing refusal tells nothing none_without_limits deep wide uncarried = absurd tells
@@ -241,5 +253,5 @@ pub refused : {A : Type 0} (t : Table) (root : ℕ) (from : Wire) (i : List ℕ)
     → (IsRefused r → SpellNothing from t root i) → (IsInvalid r → SpellNothingWithoutLimits from t root i) → (IsErrOf r serde.TooDeep → IsTooDeep from t root i) → (IsErrOf r serde.TooWide → IsWide from t i) → (IsErrOf r serde.NotCarried → IsUncarried from t i)
     → Transcodes t root from i to (Err refusal)
 refused t root from i to r e refusal is tells nothing none_without_limits deep wide uncarried =
-    told t root from i to e refusal tells (λ fault. nothing (rw is fault)) (λ invalid. none_without_limits (rw (is, invalid) tt)) (λ depth. deep (is ∙ ap Err depth)) (λ width. wide (is ∙ ap Err width))
+    told t root from i to e refusal tells (λ fault. nothing (rw is fault)) (λ invalid. none_without_limits (rw is invalid)) (λ depth. deep (is ∙ ap Err depth)) (λ width. wide (is ∙ ap Err width))
     (λ other. uncarried (is ∙ ap Err other))

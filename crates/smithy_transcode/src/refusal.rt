@@ -15,12 +15,12 @@ pub(crate) fn refusal(error: SerdeError) -> TranscodeError
 {
     match error {
         SerdeError::InvalidInput => TranscodeError::InvalidInput,
+        SerdeError::TypeMismatch => TranscodeError::InvalidInput,
         SerdeError::TooDeep => TranscodeError::TooDeep,
         SerdeError::TooWide => TranscodeError::TooWide,
         SerdeError::NotCarried => TranscodeError::NotCarried,
         SerdeError::NoMemory => TranscodeError::NoMemory,
-        SerdeError::TypeMismatch
-        | SerdeError::Unsupported
+        SerdeError::Unsupported
         | SerdeError::Unwritable
         | SerdeError::Missing
         | SerdeError::Failed => unreachable!(),

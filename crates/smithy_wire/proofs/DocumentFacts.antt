@@ -41,6 +41,7 @@ rules documents limits = record {
   text_of = text_of;
   says = λ s time x. no_meaning;
   documents = documents;
+  mismatches = λ kind time input a. false;
   skips_count = true;
   name_of = λ m. m.name;
   max_depth = 4;

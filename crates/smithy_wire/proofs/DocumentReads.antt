@@ -26,6 +26,7 @@ module _ (w u : Relations) (tells_without_limits : Type 0) (max : ℕ) (site : S
     deep = λ h. cc;
     limited = λ h. cc;
     narrow = λ h. cc;
+    no_mismatch = λ h. cc;
     uncarried = λ h. cc;
     undue = λ h. tt;
     ok = tt;
@@ -42,6 +43,7 @@ module _ (w u : Relations) (tells_without_limits : Type 0) (max : ℕ) (site : S
     deep = λ h. cc;
     limited = λ h. cc;
     narrow = λ h. cc;
+    no_mismatch = λ h. cc;
     uncarried = λ h. cc;
     undue = λ h. tt;
     ok = tt;
@@ -57,6 +59,7 @@ module _ (w u : Relations) (tells_without_limits : Type 0) (max : ℕ) (site : S
     deep = λ h. cc;
     limited = λ h. cc;
     narrow = λ h. cc;
+    no_mismatch = λ h. cc;
     uncarried = λ h. cc;
     undue = λ h. tt;
     ok = tt;
@@ -73,6 +76,7 @@ module _ (w u : Relations) (tells_without_limits : Type 0) (max : ℕ) (site : S
     deep = λ h. reaches;
     limited = λ h. limits;
     narrow = λ h. cc;
+    no_mismatch = λ h. cc;
     uncarried = λ h. cc;
     undue = λ h. absurd (let both : true ≡ false = sym due ∙ h in cc);
     ok = tt;
@@ -89,6 +93,7 @@ module _ (w u : Relations) (tells_without_limits : Type 0) (max : ℕ) (site : S
     deep = λ h. cc;
     limited = λ h. cc;
     narrow = λ h. cc;
+    no_mismatch = λ h. cc;
     uncarried = λ h. there;
     undue = λ h. absurd (let both : true ≡ false = sym due ∙ h in cc);
     ok = tt;
@@ -124,6 +129,7 @@ module _ (w u : Relations) (tells_without_limits : Type 0) (max : ℕ) (site : S
           deep = λ h. cc;
           limited = λ h. cc;
           narrow = λ h. cc;
+          no_mismatch = λ h. cc;
           uncarried = λ h. cc;
           undue = λ h. absurd (let both : true ≡ false = sym due ∙ h in cc);
           ok = record { stands = stands.0; passes = record { input = refl; inner = refl; outer = refl; due = refl; failed = sound } };

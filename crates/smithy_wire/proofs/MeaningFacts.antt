@@ -33,6 +33,7 @@ rules limits = record {
   text_of = text_of;
   says = says;
   documents = None;
+  mismatches = λ kind time input a. false;
   skips_count = true;
   name_of = λ m. m.name;
   max_depth = 3;

@@ -5,14 +5,14 @@ use Rattle.std.specs.declared.alloc.AllocError.{AllocError}
 use Rattle.smithy_texts.specs.Ranges.{fits_signed}
 use Rattle.smithy_shapes.specs.declared.shape_type.Scalar.{Scalar}
 use Rattle.smithy_schema.specs.declared.error.SerdeError.{SerdeError}
-use Rattle.smithy_schema.specs.declared.error.SerdeError.TheVariants.{InvalidInput, TooWide, NotCarried, Failed, NoMemory}
+use Rattle.smithy_schema.specs.declared.error.SerdeError.TheVariants.{InvalidInput, TypeMismatch, TooDeep, TooWide, NotCarried, Unsupported, Unwritable, Missing, Failed, NoMemory}
 use Rattle.smithy_shapes.specs.Table.{scalar_place}
 use Rattle.smithy_shapes.specs.Site.{Site}
 use Rattle.smithy_shapes.specs.Value.{ScalarValue, scalar_value}
-use Rattle.smithy_schema.specs.Reading.{Cursor, depth, Relations, IsLawful, StandsNot, IsInvalid, IsOfReader, Exceeds, Uncarried, Conducts, ReadsScalar, AnswersWide, AnswersUncarried, failed_at, passed_to}
+use Rattle.smithy_schema.specs.Reading.{Cursor, depth, Relations, IsLawful, StandsNot, IsOfReader, TellsType, Exceeds, Uncarried, Conducts, ReadsScalar, AnswersWide, AnswersUncarried, failed_at, passed_to}
 use Rattle.smithy_wire.specs.declared.found.Found.{Found}
 use Rattle.smithy_wire.specs.declared.found.Found.TheVariants.{Value, Nothing, Beyond}
-use Rattle.smithy_wire.specs.Finding.{MatchFound, Takes, TakesWithin}
+use Rattle.smithy_wire.specs.Finding.{MatchFound, Takes, TakesWithin, typed, told_as, told}
 use Rattle.smithy_wire.specs.Narrowing.{IsNarrowed, IsWider}
 
 -- what holds of an answer, said in other words
@@ -44,6 +44,53 @@ pub was_ready : (failed due : Bool) → ◌≡◌ {A = Result Unit SerdeError} (
 was_ready true due h = cc
 was_ready false true h = (refl, refl)
 was_ready false false h = cc
+
+-- ---- how an answer is told
+
+-- what a told answer holds, it held before
+pub if_told : {A : Type 0} (other : Bool) (result : Result A SerdeError) (P : A → Type 0) → IfOk result P → IfOk (told other result) P
+if_told false result P h = h
+if_told true (Ok x) P h = h
+if_told true (Err e) P h = tt
+
+-- an error that is no `InvalidInput` is told as it is
+pub told_so : {A : Type 0} (other : Bool) (result : Result A SerdeError) (e : SerdeError) → typed e ≡ e → IsErrOf result e → IsErrOf (told other result) e
+told_so false result e same h = h
+told_so true result e same h = ap (told true) h ∙ ap Err same
+
+either_told : {A : Type 0} (other : Bool) (result : Result A SerdeError) (own : SerdeError) → typed own ≡ own → IsErrOf result own ⊎ IsErrOf result NoMemory
+    → IsErrOf (told other result) own ⊎ IsErrOf (told other result) NoMemory
+either_told other result own same (inl is) = inl (told_so other result own same is)
+either_told other result own same (inr is) = inr (told_so other result NoMemory refl is)
+
+-- nor is one told as want of memory
+pub no_memory_told : {A : Type 0} (other : Bool) (result : Result A SerdeError) → IfErr result (λ e. e ≡ InvalidInput) → IsErrOf (told other result) NoMemory → ⊥
+no_memory_told {A} false (Ok x) invalid h = cc
+no_memory_told {A} true (Ok x) invalid h = cc
+no_memory_told {A} false (Err e) invalid h = let no : ◌≡◌ {A = Result A SerdeError} (Err InvalidInput) (Err NoMemory) = rw invalid at h in cc
+no_memory_told {A} true (Err e) invalid h = let no : ◌≡◌ {A = Result A SerdeError} (Err TypeMismatch) (Err NoMemory) = rw invalid at h in cc
+
+-- case by case
+pub told_value : {A : Type 0} (other : Bool) (x : A) → told other (Ok x) ≡ Ok x
+told_value false x = refl
+told_value true x = refl
+
+pub told_refusal : {A : Type 0} (other : Bool) (e : SerdeError) → told {A = A} other (Err e) ≡ Err (told_as other e)
+told_refusal false e = refl
+told_refusal true e = refl
+
+pub told_unchanged : (other : Bool) (e : SerdeError) → (e ≡ InvalidInput → ⊥) → e ≡ told_as other e
+told_unchanged false e not' = refl
+told_unchanged true InvalidInput not' = absurd (not' refl)
+told_unchanged true TypeMismatch not' = refl
+told_unchanged true TooDeep not' = refl
+told_unchanged true TooWide not' = refl
+told_unchanged true NotCarried not' = refl
+told_unchanged true Unsupported not' = refl
+told_unchanged true Unwritable not' = refl
+told_unchanged true Missing not' = refl
+told_unchanged true Failed not' = refl
+told_unchanged true NoMemory not' = refl
 
 -- ---- the conduct of a read
 
@@ -82,25 +129,13 @@ goes_on old new x sound ahead within = record {
 }
 
 module _ {A : Type 0} (w u : Relations) (tells_without_limits : Type 0) (site : Site) (s : Scalar) (value : A → ScalarValue) where
+  -- what a read says where nothing is of another type: all is refused by `InvalidInput`
   abbrev Says : Cursor → Cursor → Result A SerdeError → Type 0
-  Says old new result = ReadsScalar w u tells_without_limits old new site s value result
+  Says old new result = ReadsScalar (record w { mismatches = λ i t p a. false }) u tells_without_limits old new site s value result
 
   -- nothing of the kind stands there, whatever the limits
   abbrev pub NoneStands : Cursor → Type 0
   NoneStands c = StandsNot w c site.table (scalar_place s site.place.time) × StandsNot u c site.table (scalar_place s site.place.time)
-
-  -- the reader failed before
-  failed_before : (old new : Cursor) → new ≡ failed_at old → old.at ≤ length old.input → old.failed ≡ true → Says old new (Err Failed)
-  failed_before old new stays within failed = record {
-    conduct = fails_again old new stays within failed;
-    shallow = λ h. cc;
-    wide = λ h. cc;
-    uncarried = λ h. cc;
-    undue = λ h. tt;
-    ok = tt;
-    refused = λ fault. absurd fault;
-    none_without_limits = λ strict fault. absurd fault;
-  }
 
   -- the input is refused, where nothing stands or no value is due
   pub refuses : (old new : Cursor) → new ≡ failed_at old → old.at ≤ length old.input → old.failed ≡ false → (old.due ≡ true → NoneStands old)
@@ -111,6 +146,7 @@ module _ {A : Type 0} (w u : Relations) (tells_without_limits : Type 0) (site : 
     wide = λ h. cc;
     uncarried = λ h. cc;
     undue = λ h. tt;
+    told = λ due. refl;
     ok = tt;
     refused = λ fault due. (none due).0;
     none_without_limits = λ strict fault due. (none due).1;
@@ -124,6 +160,7 @@ module _ {A : Type 0} (w u : Relations) (tells_without_limits : Type 0) (site : 
     wide = λ h. cc;
     uncarried = λ h. cc;
     undue = λ h. tt;
+    told = λ due. tt;
     ok = tt;
     refused = λ fault. absurd fault;
     none_without_limits = λ strict fault. absurd fault;
@@ -138,6 +175,7 @@ module _ {A : Type 0} (w u : Relations) (tells_without_limits : Type 0) (site : 
     wide = λ h. there;
     uncarried = λ h. cc;
     undue = λ h. absurd (let both : true ≡ false = sym due ∙ h in cc);
+    told = λ due. tt;
     ok = tt;
     refused = λ fault due. none;
     none_without_limits = λ strict fault. absurd fault;
@@ -152,24 +190,80 @@ module _ {A : Type 0} (w u : Relations) (tells_without_limits : Type 0) (site : 
     wide = λ h. cc;
     uncarried = λ h. there;
     undue = λ h. absurd (let both : true ≡ false = sym due ∙ h in cc);
+    told = λ due. tt;
     ok = tt;
     refused = λ fault due. none;
     none_without_limits = λ strict fault. absurd fault;
   }
 
-  -- a reader that isn't ready answers so
-  pub not_ready : (old new : Cursor) (e : SerdeError) → ◌≡◌ {A = Result Unit SerdeError} (Err e) (if old.failed then Err Failed else (if old.due then Ok tt else Err InvalidInput))
-      → new ≡ failed_at old → old.at ≤ length old.input → Says old new (Err e)
-  not_ready old new e answer stays within = by old.failed old.due refl refl answer
-    where
-      by : (failed due : Bool) → old.failed ≡ failed → old.due ≡ due → ◌≡◌ {A = Result Unit SerdeError} (Err e) (if failed then Err Failed else (if due then Ok tt else Err InvalidInput)) → Says old new (Err e)
-      by true due failed is answer = let same : e ≡ Failed = cc in rw same (failed_before old new stays within failed)
-      by false true sound is answer = cc
-      by false false sound is answer =
-          let same : e ≡ InvalidInput = cc in
-          rw same (refuses old new stays within sound (λ due. absurd (let both : true ≡ false = sym due ∙ is in cc)))
+  -- a refusal that tells the type
+  refused_so : (old new : Cursor) (e : SerdeError) → (old.due ≡ true → TellsType (w.mismatches old.input site.table (scalar_place s site.place.time) old.at) e) → Says old new (Err e)
+      → ReadsScalar w u tells_without_limits old new site s value (Err e)
+  refused_so old new e tells says = record {
+    conduct = says.conduct;
+    shallow = says.shallow;
+    wide = says.wide;
+    uncarried = says.uncarried;
+    undue = says.undue;
+    told = tells;
+    ok = tt;
+    refused = says.refused;
+    none_without_limits = says.none_without_limits;
+  }
 
-  module _ (laws : IsLawful w) (old : Cursor) (sound : old.failed ≡ false) (due : old.due ≡ true) (within : old.at ≤ length old.input) where
+  -- what comes is of another type
+  is_other : (old new : Cursor) → w.mismatches old.input site.table (scalar_place s site.place.time) old.at ≡ true → old.due ≡ true → Says old new (Err InvalidInput)
+      → ReadsScalar w u tells_without_limits old new site s value (Err TypeMismatch)
+  is_other old new is due says = record {
+    conduct = record {
+      failed = (λ h. cc, λ h. absurd (let no : ◌≡◌ {A = Result A SerdeError} (Err InvalidInput) (Err Failed) = says.conduct.failed.1 h in cc));
+      stays = says.conduct.stays;
+      reading = tt;
+      ahead = says.conduct.ahead;
+      within = says.conduct.within;
+    };
+    shallow = λ h. cc;
+    wide = λ h. cc;
+    uncarried = λ h. cc;
+    undue = λ h. absurd (let both : true ≡ false = sym due ∙ h in cc);
+    told = λ due. is;
+    ok = tt;
+    refused = says.refused;
+    none_without_limits = says.none_without_limits;
+  }
+
+  was_read : (old new : Cursor) (x : A) → Says old new (Ok x) → ReadsScalar w u tells_without_limits old new site s value (Ok x)
+  was_read old new x says = record {
+    conduct = says.conduct;
+    shallow = says.shallow;
+    wide = says.wide;
+    uncarried = says.uncarried;
+    undue = says.undue;
+    told = λ due. tt;
+    ok = record { stands = says.ok.stands; passes = says.ok.passes };
+    refused = says.refused;
+    none_without_limits = says.none_without_limits;
+  }
+
+  -- an answer as it is told
+  tells : (old new : Cursor) (other : Bool) → w.mismatches old.input site.table (scalar_place s site.place.time) old.at ≡ other → old.due ≡ true → (result : Result A SerdeError) → Says old new result
+      → ReadsScalar w u tells_without_limits old new site s value (told other result)
+  tells old new false is due (Ok x) says = was_read old new x says
+  tells old new true is due (Ok x) says = was_read old new x says
+  tells old new false is due (Err e) says = refused_so old new e (λ here. subst (λ b. TellsType b e) (sym is) (says.told here)) says
+  tells old new true is due (Err InvalidInput) says = is_other old new is due says
+  tells old new true is due (Err TypeMismatch) says = absurd (let no : false ≡ true = says.told due in cc)
+  tells old new true is due (Err TooDeep) says = refused_so old new TooDeep (λ here. tt) says
+  tells old new true is due (Err TooWide) says = refused_so old new TooWide (λ here. tt) says
+  tells old new true is due (Err NotCarried) says = refused_so old new NotCarried (λ here. tt) says
+  tells old new true is due (Err Unsupported) says = refused_so old new Unsupported (λ here. tt) says
+  tells old new true is due (Err Unwritable) says = refused_so old new Unwritable (λ here. tt) says
+  tells old new true is due (Err Missing) says = refused_so old new Missing (λ here. tt) says
+  tells old new true is due (Err Failed) says = refused_so old new Failed (λ here. tt) says
+  tells old new true is due (Err NoMemory) says = refused_so old new NoMemory (λ here. tt) says
+
+  module _ (laws : IsLawful w) (old : Cursor) (sound : old.failed ≡ false) (due : old.due ≡ true) (within : old.at ≤ length old.input)
+      (other : Bool) (is : w.mismatches old.input site.table (scalar_place s site.place.time) old.at ≡ other) where
     abbrev Stands : A → ℕ → Type 0
     Stands x e = w.stands old.input site.table (scalar_place s site.place.time) (depth old) old.at (scalar_value (value x)) e
 
@@ -182,26 +276,25 @@ module _ {A : Type 0} (w u : Relations) (tells_without_limits : Type 0) (site : 
           wide = λ h. cc;
           uncarried = λ h. cc;
           undue = λ h. absurd (let both : true ≡ false = sym due ∙ h in cc);
+          told = λ due. tt;
           ok = record { stands = stands; passes = record { input = refl; inner = refl; outer = refl; due = refl; failed = sound } };
           refused = λ fault. absurd fault;
           none_without_limits = λ strict fault. absurd fault;
         })
 
-    -- of what was found, or not
-    pub takes : (new : Cursor) (found : Option (A × ℕ)) (result : Result A SerdeError) → IfSome found (λ r. Stands r.0 r.1) → IfNone found (NoneStands old)
+    takes_plainly : (new : Cursor) (found : Option (A × ℕ)) (result : Result A SerdeError) → IfSome found (λ r. Stands r.0 r.1) → IfNone found (NoneStands old)
         → IfOk result (λ x. IfSome found (λ r. (r.0 ≡ x) × (new ≡ passed_to old r.1))) → (IsOk result → IsSome found) → (IsErr result → IsNone found)
         → OnErr result (new ≡ failed_at old) → IfErr result (λ e. e ≡ InvalidInput) → Says old new result
-    takes new (Some r) (Ok x) stands none taken some fails stays error = subst (λ y. Says old new (Ok y)) taken.0 (reads new r.0 r.1 stands taken.1)
-    takes new None (Ok x) stands none taken some fails stays error = absurd (let no' = some refl in cc)
-    takes new (Some r) (Err e) stands none taken some fails stays error = absurd (let no' = fails refl in cc)
-    takes new None (Err e) stands none taken some fails stays error = rw error (refuses old new stays within sound (λ due. none))
+    takes_plainly new (Some r) (Ok x) stands none taken some fails stays error = subst (λ y. Says old new (Ok y)) taken.0 (reads new r.0 r.1 stands taken.1)
+    takes_plainly new None (Ok x) stands none taken some fails stays error = absurd (let no' = some refl in cc)
+    takes_plainly new (Some r) (Err e) stands none taken some fails stays error = absurd (let no' = fails refl in cc)
+    takes_plainly new None (Err e) stands none taken some fails stays error = rw error (refuses old new stays within sound (λ due. none))
 
-    -- of what a search that takes memory found, or not
-    pub takes_found : (new : Cursor) (found : Result (Option (A × ℕ)) AllocError) (result : Result A SerdeError)
+    finds_plainly : (new : Cursor) (found : Result (Option (A × ℕ)) AllocError) (result : Result A SerdeError)
         → IfOk found (λ o. MatchOption o (NoneStands old) (λ r. Stands r.0 r.1)) → Takes old new found result → Says old new result
-    takes_found new (Ok (Some r)) result stands taken = rw taken.0 (reads new r.0 r.1 stands taken.1)
-    takes_found new (Ok None) result none taken = rw taken.0 (refuses old new taken.1 within sound (λ due. none))
-    takes_found new (Err e) result none taken = rw taken.0 (runs_out old new taken.1 within sound)
+    finds_plainly new (Ok (Some r)) result stands taken = rw taken.0 (reads new r.0 r.1 stands taken.1)
+    finds_plainly new (Ok None) result none taken = rw taken.0 (refuses old new taken.1 within sound (λ due. none))
+    finds_plainly new (Err e) result none taken = rw taken.0 (runs_out old new taken.1 within sound)
 
     -- the same of a kind that excludes something, which is refused with an error of its own
     takes_excluding : (own : SerdeError) (There : Type 0) (new : Cursor) (found : Result (Found (A × ℕ)) AllocError) (result : Result A SerdeError)
@@ -212,6 +305,18 @@ module _ {A : Type 0} (w u : Relations) (tells_without_limits : Type 0) (site : 
     takes_excluding own There new (Ok Nothing) result says none taken = rw taken.0 (refuses old new taken.1 within sound (λ due. none))
     takes_excluding own There new (Ok Beyond) result says there taken = rw taken.0 (says taken.1 there.0 there.1)
     takes_excluding own There new (Err e) result says none taken = rw taken.0 (runs_out old new taken.1 within sound)
+
+    -- of what was found, or not
+    pub takes : (new : Cursor) (found : Option (A × ℕ)) (result : Result A SerdeError) → IfSome found (λ r. Stands r.0 r.1) → IfNone found (NoneStands old)
+        → IfOk result (λ x. IfSome found (λ r. (r.0 ≡ x) × (new ≡ passed_to old r.1))) → (IsOk result → IsSome found) → (IsErr result → IsNone found)
+        → OnErr result (new ≡ failed_at old) → IfErr result (λ e. e ≡ InvalidInput) → ReadsScalar w u tells_without_limits old new site s value (told other result)
+    takes new found result stands none taken some fails stays error =
+        tells old new other is due result (takes_plainly new found result stands none taken some fails stays error)
+
+    -- of what a search that takes memory found, or not
+    pub takes_found : (new : Cursor) (found : Result (Option (A × ℕ)) AllocError) (result : Result A SerdeError)
+        → IfOk found (λ o. MatchOption o (NoneStands old) (λ r. Stands r.0 r.1)) → Takes old new found result → ReadsScalar w u tells_without_limits old new site s value (told other result)
+    takes_found new found result here taken = tells old new other is due result (finds_plainly new found result here taken)
 
     -- it answers so wherever such a thing stands
     answers_excluded : (own : SerdeError) (There : Type 0) (new : Cursor) (found : Result (Found (A × ℕ)) AllocError) (result : Result A SerdeError)
@@ -227,129 +332,33 @@ module _ {A : Type 0} (w u : Relations) (tells_without_limits : Type 0) (site : 
     pub takes_within_limits : (new : Cursor) (found : Result (Found (A × ℕ)) AllocError) (result : Result A SerdeError)
         → IfOk found (λ f. MatchFound f (λ r. Stands r.0 r.1) (NoneStands old)
         (Exceeds w old site.table (scalar_place s site.place.time) × StandsNot w old site.table (scalar_place s site.place.time)))
-        → TakesWithin old new TooWide found result → Says old new result
-    takes_within_limits new found result =
-        takes_excluding TooWide (Exceeds w old site.table (scalar_place s site.place.time)) new found result (λ stays there none. exceeds_limits old new stays within sound due there none)
+        → TakesWithin old new TooWide found result → ReadsScalar w u tells_without_limits old new site s value (told other result)
+    takes_within_limits new found result here taken =
+        tells old new other is due result
+        (takes_excluding TooWide (Exceeds w old site.table (scalar_place s site.place.time)) new found result (λ stays there none. exceeds_limits old new stays within sound due there none) here taken)
 
     pub answers_past_limits : (new : Cursor) (found : Result (Found (A × ℕ)) AllocError) (result : Result A SerdeError)
         → (Exceeds w old site.table (scalar_place s site.place.time) → StandsNot w old site.table (scalar_place s site.place.time))
         → IfOk found (λ f. MatchFound f (λ r. Stands r.0 r.1) (Exceeds w old site.table (scalar_place s site.place.time) → ⊥) (Unit {0}))
-        → TakesWithin old new TooWide found result → AnswersWide w old site s result
+        → TakesWithin old new TooWide found result → AnswersWide w old site s (told other result)
     answers_past_limits new found result not' stands taken due' sound' there =
-        answers_excluded TooWide (Exceeds w old site.table (scalar_place s site.place.time)) new found result not' stands taken there
+        either_told other result TooWide refl (answers_excluded TooWide (Exceeds w old site.table (scalar_place s site.place.time)) new found result not' stands taken there)
 
     -- of a kind that can't carry all that is written like it
     pub takes_what_is_carried : (new : Cursor) (found : Result (Found (A × ℕ)) AllocError) (result : Result A SerdeError)
         → IfOk found (λ f. MatchFound f (λ r. Stands r.0 r.1) (NoneStands old)
         (Uncarried w old site.table (scalar_place s site.place.time) × StandsNot w old site.table (scalar_place s site.place.time)))
-        → TakesWithin old new NotCarried found result → Says old new result
-    takes_what_is_carried new found result =
-        takes_excluding NotCarried (Uncarried w old site.table (scalar_place s site.place.time)) new found result (λ stays there none. carries_not old new stays within sound due there none)
+        → TakesWithin old new NotCarried found result → ReadsScalar w u tells_without_limits old new site s value (told other result)
+    takes_what_is_carried new found result here taken =
+        tells old new other is due result
+        (takes_excluding NotCarried (Uncarried w old site.table (scalar_place s site.place.time)) new found result (λ stays there none. carries_not old new stays within sound due there none) here taken)
 
     pub answers_what_is_not : (new : Cursor) (found : Result (Found (A × ℕ)) AllocError) (result : Result A SerdeError)
         → (Uncarried w old site.table (scalar_place s site.place.time) → StandsNot w old site.table (scalar_place s site.place.time))
         → IfOk found (λ f. MatchFound f (λ r. Stands r.0 r.1) (Uncarried w old site.table (scalar_place s site.place.time) → ⊥) (Unit {0}))
-        → TakesWithin old new NotCarried found result → AnswersUncarried w old site s result
+        → TakesWithin old new NotCarried found result → AnswersUncarried w old site s (told other result)
     answers_what_is_not new found result not' stands taken due' sound' there =
-        answers_excluded NotCarried (Uncarried w old site.table (scalar_place s site.place.time)) new found result not' stands taken there
-
-    -- the same of what took memory to find
-    pub takes_result : (new : Cursor) (found : Result (A × ℕ) SerdeError) (result : Result A SerdeError) → IfOk found (λ r. Stands r.0 r.1)
-        → IfErr found (λ e. (e ≡ InvalidInput) ⊎ (e ≡ NoMemory)) → (IsInvalid found → NoneStands old)
-        → IfOk result (λ x. IfOk found (λ r. (r.0 ≡ x) × (new ≡ passed_to old r.1))) → (IsOk result → IsOk found)
-        → OnErr result (new ≡ failed_at old) → IfErr result (λ e. found ≡ Err e) → Says old new result
-    takes_result new (Ok r) (Ok x) stands kind none taken some stays error = subst (λ y. Says old new (Ok y)) taken.0 (reads new r.0 r.1 stands taken.1)
-    takes_result new (Err e) (Ok x) stands kind none taken some stays error = absurd (let no' = some refl in cc)
-    takes_result new (Ok r) (Err e) stands kind none taken some stays error = absurd (let no' : ◌≡◌ {A = Result (A × ℕ) SerdeError} (Ok r) (Err e) = error in cc)
-    takes_result new (Err g) (Err e) stands kind none taken some stays error = by kind
-      where
-        same : g ≡ e
-        same = cc
-
-        by : (g ≡ InvalidInput) ⊎ (g ≡ NoMemory) → Says old new (Err e)
-        by (inl is) = rw (← same, is) (refuses old new stays within sound (λ due. none (rw is tt)))
-        by (inr is) = rw (← same, is) (runs_out old new stays within sound)
-
-    -- the same of a kind that has a refusal of its own, by something that stands there
-    takes_own : (own : SerdeError) (There : Type 0) (new : Cursor) (found : Result (A × ℕ) SerdeError) (result : Result A SerdeError)
-        → (new ≡ failed_at old → There → StandsNot w old site.table (scalar_place s site.place.time) → Says old new (Err own)) → IfOk found (λ r. Stands r.0 r.1)
-        → IfErr found (λ e. (e ≡ InvalidInput) ⊎ (e ≡ own) ⊎ (e ≡ NoMemory)) → (IsInvalid found → NoneStands old)
-        → (IsErrOf found own → There × StandsNot w old site.table (scalar_place s site.place.time))
-        → IfOk result (λ x. IfOk found (λ r. (r.0 ≡ x) × (new ≡ passed_to old r.1))) → (IsOk result → IsOk found)
-        → OnErr result (new ≡ failed_at old) → IfErr result (λ e. found ≡ Err e) → Says old new result
-    takes_own own There new (Ok r) (Ok x) says stands kind none cause taken some stays error = subst (λ y. Says old new (Ok y)) taken.0 (reads new r.0 r.1 stands taken.1)
-    takes_own own There new (Err e) (Ok x) says stands kind none cause taken some stays error = absurd (let no' = some refl in cc)
-    takes_own own There new (Ok r) (Err e) says stands kind none cause taken some stays error = absurd (let no' : ◌≡◌ {A = Result (A × ℕ) SerdeError} (Ok r) (Err e) = error in cc)
-    takes_own own There new (Err g) (Err e) says stands kind none cause taken some stays error = by kind
-      where
-        same : g ≡ e
-        same = cc
-
-        by : (g ≡ InvalidInput) ⊎ (g ≡ own) ⊎ (g ≡ NoMemory) → Says old new (Err e)
-        by (inl is) = rw (← same, is) (refuses old new stays within sound (λ due. none (rw is tt)))
-        by (inr (inl is)) = let there = cause (ap Err is) in rw (← same, is) (says stays there.0 there.1)
-        by (inr (inr is)) = rw (← same, is) (runs_out old new stays within sound)
-
-    -- it answers so wherever such a thing stands
-    answers_own : (own : SerdeError) (There : Type 0) (found : Result (A × ℕ) SerdeError) (result : Result A SerdeError) → IfOk found (λ r. Stands r.0 r.1)
-        → IfErr found (λ e. (e ≡ InvalidInput) ⊎ (e ≡ own) ⊎ (e ≡ NoMemory)) → (There → StandsNot w old site.table (scalar_place s site.place.time))
-        → (IsInvalid found → There → ⊥) → (IsOk result → IsOk found) → IfErr result (λ e. found ≡ Err e) → There
-        → IsErrOf result own ⊎ IsErrOf result NoMemory
-    answers_own own There (Ok r) (Ok x) stands kind not' none some error there = absurd (not' there (scalar_value (value r.0)) r.1 stands)
-    answers_own own There (Err e) (Ok x) stands kind not' none some error there = absurd (let no' = some refl in cc)
-    answers_own own There (Ok r) (Err e) stands kind not' none some error there = absurd (let no' : ◌≡◌ {A = Result (A × ℕ) SerdeError} (Ok r) (Err e) = error in cc)
-    answers_own own There (Err g) (Err e) stands kind not' none some error there = by kind
-      where
-        same : g ≡ e
-        same = cc
-
-        by : (g ≡ InvalidInput) ⊎ (g ≡ own) ⊎ (g ≡ NoMemory) → IsErrOf {T = A} (Err e) own ⊎ IsErrOf {T = A} (Err e) NoMemory
-        by (inl is) = absurd (none (rw is tt) there)
-        by (inr (inl is)) = inl (ap Err (sym same ∙ is))
-        by (inr (inr is)) = inr (ap Err (sym same ∙ is))
-
-    -- of a big number, which may leave its limits
-    pub takes_big : (new : Cursor) (found : Result (A × ℕ) SerdeError) (result : Result A SerdeError) → IfOk found (λ r. Stands r.0 r.1)
-        → IfErr found (λ e. (e ≡ InvalidInput) ⊎ (e ≡ TooWide) ⊎ (e ≡ NoMemory)) → (IsInvalid found → NoneStands old)
-        → (IsErrOf found TooWide → Exceeds w old site.table (scalar_place s site.place.time) × StandsNot w old site.table (scalar_place s site.place.time))
-        → IfOk result (λ x. IfOk found (λ r. (r.0 ≡ x) × (new ≡ passed_to old r.1))) → (IsOk result → IsOk found)
-        → OnErr result (new ≡ failed_at old) → IfErr result (λ e. found ≡ Err e) → Says old new result
-    takes_big new found result =
-        takes_own TooWide (Exceeds w old site.table (scalar_place s site.place.time)) new found result (λ stays there none. exceeds_limits old new stays within sound due there none)
-
-    pub answers_wide : (found : Result (A × ℕ) SerdeError) (result : Result A SerdeError) → IfOk found (λ r. Stands r.0 r.1)
-        → IfErr found (λ e. (e ≡ InvalidInput) ⊎ (e ≡ TooWide) ⊎ (e ≡ NoMemory)) → (Exceeds w old site.table (scalar_place s site.place.time) → StandsNot w old site.table (scalar_place s site.place.time))
-        → (IsInvalid found → Exceeds w old site.table (scalar_place s site.place.time) → ⊥) → (IsOk result → IsOk found) → IfErr result (λ e. found ≡ Err e)
-        → AnswersWide w old site s result
-    answers_wide found result stands kind not' none some error due' sound' there =
-        answers_own TooWide (Exceeds w old site.table (scalar_place s site.place.time)) found result stands kind not' none some error there
-
-    -- of a kind that can't carry all that is written like it
-    pub takes_carried : (new : Cursor) (found : Result (A × ℕ) SerdeError) (result : Result A SerdeError) → IfOk found (λ r. Stands r.0 r.1)
-        → IfErr found (λ e. (e ≡ InvalidInput) ⊎ (e ≡ NotCarried) ⊎ (e ≡ NoMemory)) → (IsInvalid found → NoneStands old)
-        → (IsErrOf found NotCarried → Uncarried w old site.table (scalar_place s site.place.time) × StandsNot w old site.table (scalar_place s site.place.time))
-        → IfOk result (λ x. IfOk found (λ r. (r.0 ≡ x) × (new ≡ passed_to old r.1))) → (IsOk result → IsOk found)
-        → OnErr result (new ≡ failed_at old) → IfErr result (λ e. found ≡ Err e) → Says old new result
-    takes_carried new found result =
-        takes_own NotCarried (Uncarried w old site.table (scalar_place s site.place.time)) new found result (λ stays there none. carries_not old new stays within sound due there none)
-
-    pub answers_uncarried : (found : Result (A × ℕ) SerdeError) (result : Result A SerdeError) → IfOk found (λ r. Stands r.0 r.1)
-        → IfErr found (λ e. (e ≡ InvalidInput) ⊎ (e ≡ NotCarried) ⊎ (e ≡ NoMemory)) → (Uncarried w old site.table (scalar_place s site.place.time) → StandsNot w old site.table (scalar_place s site.place.time))
-        → (IsInvalid found → Uncarried w old site.table (scalar_place s site.place.time) → ⊥) → (IsOk result → IsOk found) → IfErr result (λ e. found ≡ Err e)
-        → AnswersUncarried w old site s result
-    answers_uncarried found result stands kind not' none some error due' sound' there =
-        answers_own NotCarried (Uncarried w old site.table (scalar_place s site.place.time)) found result stands kind not' none some error there
-
--- a reader that isn't ready has nothing to answer
-pub not_ready_wide : {A : Type 0} (w : Relations) (old : Cursor) (site : Site) (s : Scalar) (result : Result A SerdeError) (e : SerdeError)
-    → ◌≡◌ {A = Result Unit SerdeError} (Err e) (if old.failed then Err Failed else (if old.due then Ok tt else Err InvalidInput)) → AnswersWide w old site s result
-not_ready_wide w old site s result e answer due sound there = by old.failed old.due due sound answer
-  where
-    by : (failed due : Bool) → due ≡ true → failed ≡ false → ◌≡◌ {A = Result Unit SerdeError} (Err e) (if failed then Err Failed else (if due then Ok tt else Err InvalidInput))
-        → IsErrOf result TooWide ⊎ IsErrOf result NoMemory
-    by true due is no' answer = cc
-    by false false is no' answer = cc
-    by false true is no' answer = cc
+        either_told other result NotCarried refl (answers_excluded NotCarried (Uncarried w old site.table (scalar_place s site.place.time)) new found result not' stands taken there)
 
 -- ---- whole numbers of fewer bits
 

@@ -1,9 +1,9 @@
 -- What a search for a value of one kind answers, and what a walk makes of it.
-use Rattle.std.specs.Prelude.{◌≡◌, ℕ, Result, Ok, Err, MatchResult, Option, MatchOption}
+use Rattle.std.specs.Prelude.{◌≡◌, ℕ, Bool, true, false, Result, Ok, Err, MatchResult, Option, MatchOption}
 use Rattle.std.specs.declared.alloc.AllocError.{AllocError}
 use Rattle.smithy_schema.specs.Reading.{Cursor, failed_at, passed_to}
 use Rattle.smithy_schema.specs.declared.error.SerdeError.{SerdeError}
-use Rattle.smithy_schema.specs.declared.error.SerdeError.TheVariants.{InvalidInput, NoMemory}
+use Rattle.smithy_schema.specs.declared.error.SerdeError.TheVariants.{InvalidInput, TypeMismatch, NoMemory}
 use Rattle.smithy_wire.specs.declared.found.Found.{Found}
 use Rattle.smithy_wire.specs.declared.found.Found.TheVariants.{Value, Nothing, Beyond}
 
@@ -32,3 +32,18 @@ abbrev pub TakesWithin : {A : Type 0} → Cursor → Cursor → SerdeError → R
 TakesWithin old new beyond found result = MatchResult found
     (λ f. MatchFound f (λ r. Passes old new r result) (Refuses old new InvalidInput result) (Refuses old new beyond result))
     (λ _. Refuses old new NoMemory result)
+
+-- a refusal of what is of another type
+abbrev pub typed : SerdeError → SerdeError
+typed InvalidInput = TypeMismatch
+typed e = e
+
+-- a refusal, and an answer, as they are told where what comes is of another type than the wanted one, or isn't
+abbrev pub told_as : Bool → SerdeError → SerdeError
+told_as false e = e
+told_as true e = typed e
+
+abbrev pub told : {A : Type 0} → Bool → Result A SerdeError → Result A SerdeError
+told false result = result
+told true (Ok x) = Ok x
+told true (Err e) = Err (typed e)

@@ -123,6 +123,7 @@ relations {L = L} w r = record {
   skips = λ i d a e. (x : Node L) × Lies w i d x a e × (may_skip r d x ≡ true);
   exceeds = λ i t p d a e. (x : L) × w.scalar i d x a e × IsTooWide r (kind_of t p) p.time x;
   uncarried = λ i t p d a e. UncarriedAt w r (kind_of t p) p.time i d a e;
+  mismatches = λ i t p a. r.mismatches (kind_of t p) p.time i a;
   opens = λ i t p d a b m.
       ((f : Form) × (is_in (kind_of t p) f ≡ true) × w.opens f i a b m)
       ⊎ (IsStructure (kind_of t p) × w.is_over i a b × (m ≡ w.over_mark));

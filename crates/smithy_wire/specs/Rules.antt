@@ -52,6 +52,8 @@ pub record Rules (L : Type 0) : Type 0 where
   pub says : Scalar → Option TimestampFormat → L → Answer Value
   -- what a scalar is as a document, where the wire carries documents
   pub documents : Option (L → Answer (Document Number))
+  -- what comes at a place of the input is of another type than the kind, by the time form of the place
+  pub mismatches : Kind → Option TimestampFormat → List ℕ → ℕ → Bool
   -- what is skipped counts as depth, and so do the parts of a document
   pub skips_count : Bool
   -- ---- settings

@@ -54,7 +54,7 @@ pub struct Walk<'a> {
 impl<'a> Walk<'a> {
     ghost use Rattle.std.specs.Prelude.{◌≡◌, ◌≤◌, ◌<◌, ◌∷◌, length, Ok, Err, IfOk, IfErr, IfSome, IsOk, IsErr, IsSome, IsNone, OnOk, OnErr, IsErrOf, true, false, if◌then◌else◌, vec_len};
     ghost use Rattle.smithy_schema.specs.Reading.{IsOfReader, RefusesNoScalar, depth, failed_at, passed_to};
-    ghost use Rattle.smithy_schema.specs.declared.error.SerdeError.TheVariants.{Failed, InvalidInput, NoMemory, TooDeep};
+    ghost use Rattle.smithy_schema.specs.declared.error.SerdeError.TheVariants.{Failed, InvalidInput, TypeMismatch, NoMemory, TooDeep};
     ghost use Rattle.smithy_wire.specs.Finding.{MatchFound, Takes, TakesWithin};
     ghost use Rattle.smithy_wire.specs.Walking.{cursor_of, fresh_cursor, entered_into, gone_on_to, frame_of};
 
@@ -226,6 +226,7 @@ impl<'a> Walk<'a> {
         ensures deepest { IsErrOf result TooDeep → depth (cursor_of self.old) ≡ self.old.max_depth }
         ensures no_failed { IsErrOf result Failed → ⊥ }
         ensures no_invalid { IsErrOf result InvalidInput → ⊥ }
+        ensures no_mismatch { IsErrOf result TypeMismatch → ⊥ }
         ensures reading { IfErr result IsOfReader }
         ensures narrow { RefusesNoScalar result }
     {

@@ -1,9 +1,10 @@
 use Rattle.std.proofs.Common.{◌≡◌, ◌≤◌, length, sym, ◌∙◌, rules}
-use Rattle.std.specs.Cow.{cow_slice_items}
+use Rattle.std.specs.Cow.{cow_slice_items, IsOwnedSlice}
 use Rattle.smithy_shapes.specs.Site.{site_of}
 use Rattle.smithy_json_codec.specs.Cursor.{cursor_of, reading_settings_of}
+use Rattle.smithy_json_codec.proofs.DeserializerLemmas.{takes_so}
 use Rattle.smithy_json_codec.proofs.ScalarReads.{reads_bytes}
-use Rattle.smithy_wire.proofs.ScalarReads.{was_ready}
+use Rattle.smithy_wire.proofs.ScalarReads.{was_ready, if_told}
 use Rattle.smithy_json_codec.proofs.borrowing.JsonDeserializerBorrowDeserializer.read_bytes.Goals as goal
 
 pub returns-clause-read : goal.returns-clause-read
@@ -12,6 +13,15 @@ returns-clause-read c =
     let was = was_ready c.args.self.now.walk.failed c.args.self.now.walk.due (sym c.in_ok-ready.was ∙ c.ready.ensures.answer) in
     let within : c.args.self.now.walk.position ≤ length c.args.self.now.walk.input.now = search rules in
     let found = rw same at c.bytes_piece_at-found.ensures in
-    let taken = rw same at c.take_found.ensures.taken in
-    reads_bytes (reading_settings_of c.args.self.now) (cursor_of c.args.self.now) (site_of c.args._schema.now) was.0 was.1 within cow_slice_items _ c.bytes_piece_at-found.result c.take_found.result
-    found.found taken
+    let taken = rw same at c.take_found-answer.ensures.taken in
+    rw (rw same at c.told.ensures)
+    (reads_bytes (reading_settings_of c.args.self.now) (cursor_of c.args.self.now) (site_of c.args._schema.now) was.0 was.1 within cow_slice_items _ c.bytes_piece_at-found.result c.take_found-answer.result
+    found.found taken)
+
+pub returns-clause-owned : goal.returns-clause-owned
+returns-clause-owned c =
+    let same : c.ready.new.self ≡ c.args.self.now.walk = c.in_ok-ready.ensures.ok in
+    let found = rw same at c.bytes_piece_at-found.ensures in
+    let taken = rw same at c.take_found-answer.ensures.taken in
+    rw c.told.ensures
+    (if_told _ c.take_found-answer.result _ (takes_so (λ x e. IsOwnedSlice x) (cursor_of c.args.self.now) _ c.bytes_piece_at-found.result c.take_found-answer.result found.owned taken))

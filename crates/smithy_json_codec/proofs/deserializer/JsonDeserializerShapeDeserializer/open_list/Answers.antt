@@ -1,7 +1,9 @@
-use Rattle.std.proofs.Common.{◌≡◌, arith}
+use Rattle.std.proofs.Common.{arith, false, sym, true, ◌∙◌, ◌≡◌}
 use Rattle.std.proofs.lemmas.Grind.{common_steps}
 use Rattle.smithy_json_codec.specs.Cursor.{cursor_of, reading_settings_of}
 use Rattle.smithy_json_codec.specs.Settings.{without_limits}
+use Rattle.smithy_json_codec.proofs.TypeLemmas.{list_told}
+use Rattle.smithy_wire.proofs.ScalarReads.{was_ready}
 use Rattle.smithy_json_codec.proofs.ReaderLemmas.{opens_list, opens_no_list}
 use Rattle.smithy_json_codec.specs.Standing.{fresh_mark}
 use Rattle.smithy_schema.specs.Reading.{depth}
@@ -36,3 +38,13 @@ byte_end-requires-clause-plain c = grind (arith, common_steps)
 
 pub enter-requires : goal.enter-requires
 enter-requires c = grind (arith, common_steps)
+
+pub returns-in-None-clause-told : goal.returns-in-None-clause-told
+returns-in-None-clause-told c =
+    let same : c.ready.new.self ≡ c.args.self.now.walk = c.in_ok-ready.ensures.ok in
+    λ due. rw c.refuse.ensures.error (list_told _ _ _ c.requires.place (rw same at c.in-None.ensures.other))
+
+pub returns-in-None-clause-undue : goal.returns-in-None-clause-undue
+returns-in-None-clause-undue c = λ undue.
+    let was = was_ready c.args.self.now.walk.failed c.args.self.now.walk.due (sym c.in_ok-ready.was ∙ c.ready.ensures.answer) in
+    absurd (let both : true ≡ false = sym was.1 ∙ undue in cc)

@@ -1,6 +1,8 @@
-use Rattle.std.proofs.Common.{◌≡◌}
+use Rattle.std.proofs.Common.{false, sym, true, ◌∙◌, ◌≡◌}
 use Rattle.smithy_json_codec.specs.Cursor.{cursor_of, reading_settings_of}
 use Rattle.smithy_json_codec.specs.Settings.{without_limits}
+use Rattle.smithy_json_codec.proofs.TypeLemmas.{map_told}
+use Rattle.smithy_wire.proofs.ScalarReads.{was_ready}
 use Rattle.smithy_json_codec.proofs.ReaderLemmas.{opens_map, opens_no_map}
 use Rattle.smithy_json_codec.specs.Standing.{fresh_mark}
 use Rattle.smithy_schema.specs.Reading.{depth}
@@ -26,3 +28,13 @@ pub returns-in-None-clause-invalid : goal.returns-in-None-clause-invalid
 returns-in-None-clause-invalid c =
     let same : c.ready.new.self ≡ c.args.self.now.walk = c.in_ok-ready.ensures.ok in
     λ fault due. opens_no_map (reading_settings_of c.args.self.now) c.args.self.now.walk.input.now c.args._schema.now.shapes.now c.args._schema.now.place c.requires.place (depth (cursor_of c.args.self.now)) c.args.self.now.walk.position (rw same at c.in-None.ensures.none)
+
+pub returns-in-None-clause-told : goal.returns-in-None-clause-told
+returns-in-None-clause-told c =
+    let same : c.ready.new.self ≡ c.args.self.now.walk = c.in_ok-ready.ensures.ok in
+    λ due. rw c.refuse.ensures.error (map_told _ _ _ c.requires.place (rw same at c.in-None.ensures.other))
+
+pub returns-in-None-clause-undue : goal.returns-in-None-clause-undue
+returns-in-None-clause-undue c = λ undue.
+    let was = was_ready c.args.self.now.walk.failed c.args.self.now.walk.due (sym c.in_ok-ready.was ∙ c.ready.ensures.answer) in
+    absurd (let both : true ≡ false = sym was.1 ∙ undue in cc)

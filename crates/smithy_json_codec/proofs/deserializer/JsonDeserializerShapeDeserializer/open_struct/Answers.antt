@@ -1,7 +1,10 @@
-use Rattle.std.proofs.Common.{◌≡◌, true, false, sym, ◌∙◌, rules, arith}
+use Rattle.std.proofs.Common.{◌≡◌, true, false, sym, ◌∙◌, subst, rules, arith}
 use Rattle.std.proofs.lemmas.Grind.{common_steps}
 use Rattle.smithy_json_codec.specs.Cursor.{cursor_of, reading_settings_of}
 use Rattle.smithy_json_codec.specs.Settings.{without_limits}
+use Rattle.smithy_json_codec.proofs.TypeLemmas.{members_told}
+use Rattle.smithy_wire.proofs.ScalarReads.{was_ready}
+use Rattle.smithy_schema.specs.Reading.{TellsType}
 use Rattle.smithy_json_codec.proofs.ReaderLemmas.{opens_members, opens_no_members}
 use Rattle.smithy_json_codec.proofs.DeserializerLemmas.{empty_opens, not_empty}
 use Rattle.smithy_json_codec.specs.Standing.{fresh_mark}
@@ -61,3 +64,16 @@ byte_end-requires-clause-plain c = grind (arith, common_steps)
 
 pub enter-requires-in-Some : goal.enter-requires-in-Some
 enter-requires-in-Some c = grind (arith, common_steps)
+
+pub returns-in-None-clause-told : goal.returns-in-None-clause-told
+returns-in-None-clause-told c =
+    let same : c.ready.new.self ≡ c.args.self.now.walk = c.in_ok-ready.ensures.ok in
+    λ due. rw c.refuse.ensures.error
+    (subst (λ b. TellsType b c.no_object-error.result)
+    (members_told _ _ _ c.requires.place c.is_structure-in-None.result c.is_structure-in-None.ensures (rw same at c.in-None.ensures.other))
+    (rw same at c.no_object-error.ensures.told))
+
+pub returns-in-None-clause-undue : goal.returns-in-None-clause-undue
+returns-in-None-clause-undue c = λ undue.
+    let was = was_ready c.args.self.now.walk.failed c.args.self.now.walk.due (sym c.in_ok-ready.was ∙ c.ready.ensures.answer) in
+    absurd (let both : true ≡ false = sym was.1 ∙ undue in cc)

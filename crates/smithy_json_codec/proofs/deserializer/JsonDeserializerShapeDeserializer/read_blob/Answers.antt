@@ -11,6 +11,7 @@ returns-clause-read c =
     let was = was_ready c.args.self.now.walk.failed c.args.self.now.walk.due (sym c.in_ok-ready.was ∙ c.ready.ensures.answer) in
     let within : c.args.self.now.walk.position ≤ length c.args.self.now.walk.input.now = search rules in
     let found = rw same at c.blob_at-found.ensures in
-    let taken = rw same at c.take_found.ensures.taken in
-    reads_blob (reading_settings_of c.args.self.now) (cursor_of c.args.self.now) (site_of c.args._schema.now) was.0 was.1 within _ c.blob_at-found.result c.take_found.result
-    found taken
+    let taken = rw same at c.take_found-answer.ensures.taken in
+    rw (rw same at c.told.ensures)
+    (reads_blob (reading_settings_of c.args.self.now) (cursor_of c.args.self.now) (site_of c.args._schema.now) was.0 was.1 within _ c.blob_at-found.result c.take_found-answer.result
+    found taken)

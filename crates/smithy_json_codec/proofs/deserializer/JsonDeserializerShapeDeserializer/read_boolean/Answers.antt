@@ -2,7 +2,7 @@ use Rattle.std.proofs.Common.{◌≡◌, ◌≤◌, length, sym, ◌∙◌, rule
 use Rattle.smithy_shapes.specs.Site.{site_of}
 use Rattle.smithy_json_codec.specs.Cursor.{cursor_of, reading_settings_of}
 use Rattle.smithy_json_codec.proofs.ScalarReads.{reads_boolean}
-use Rattle.smithy_wire.proofs.ScalarReads.{was_ready}
+use Rattle.smithy_wire.proofs.ScalarReads.{was_ready, no_memory_told}
 use Rattle.smithy_json_codec.proofs.deserializer.JsonDeserializerShapeDeserializer.read_boolean.Goals as goal
 
 pub returns-clause-read : goal.returns-clause-read
@@ -11,6 +11,10 @@ returns-clause-read c =
     let was = was_ready c.args.self.now.walk.failed c.args.self.now.walk.due (sym c.in_ok-ready.was ∙ c.ready.ensures.answer) in
     let within : c.args.self.now.walk.position ≤ length c.args.self.now.walk.input.now = search rules in
     let found = rw same at c.boolean_at-found.ensures in
-    let take = rw same at c.take.ensures in
-    reads_boolean (reading_settings_of c.args.self.now) (cursor_of c.args.self.now) (site_of c.args._schema.now) was.0 was.1 within _ c.boolean_at-found.result c.take.result
-    found.found found.none take.ok take.some take.none take.err take.error
+    let take = rw same at c.take-answer.ensures in
+    rw (rw same at c.told.ensures)
+    (reads_boolean (reading_settings_of c.args.self.now) (cursor_of c.args.self.now) (site_of c.args._schema.now) was.0 was.1 within _ c.boolean_at-found.result c.take-answer.result
+    found.found found.none take.ok take.some take.none take.err take.error)
+
+pub returns-clause-memory : goal.returns-clause-memory
+returns-clause-memory c = rw c.told.ensures (no_memory_told _ c.take-answer.result c.take-answer.ensures.error)

@@ -13,5 +13,5 @@ returns-clause-read c =
     let within : c.args.self.now.walk.position ≤ length c.args.self.now.walk.input.now = search rules in
     let found = rw same at c.long_at-found.ensures in
     let take = rw same at c.take.ensures in
-    reads_whole (reading_settings_of c.args.self.now) (cursor_of c.args.self.now) (site_of c.args._schema.now) was.0 was.1 within scalars.Long 64 (λ x. refl) _ c.long_at-found.result c.take.result
+    reads_whole (reading_settings_of c.args.self.now) (cursor_of c.args.self.now) (site_of c.args._schema.now) was.0 was.1 within scalars.Long 64 (λ x. refl) (λ rest. refl) _ c.long_at-found.result c.take.result
     found.found found.none take.ok take.some take.none take.err take.error

@@ -14,5 +14,5 @@ returns-clause-read c =
     let wide = rw same at c.long_at.ensures in
     let narrow = c.short_found-found.ensures in
     let take = rw same at c.take.ensures in
-    reads_narrow (reading_settings_of c.args.self.now) (cursor_of c.args.self.now) (site_of c.args._schema.now) was.0 was.1 within scalars.Short 16 (lit≤ tt) (λ x. refl) _ c.long_at.result c.short_found-found.result c.take.result
+    reads_narrow (reading_settings_of c.args.self.now) (cursor_of c.args.self.now) (site_of c.args._schema.now) was.0 was.1 within scalars.Short 16 (lit≤ tt) (λ x. refl) (λ rest. refl) _ c.long_at.result c.short_found-found.result c.take.result
     wide.found wide.none narrow.some narrow.none take.ok take.some take.none take.err take.error

@@ -12,9 +12,10 @@ returns-clause-read c =
     let was = was_ready c.args.self.now.walk.failed c.args.self.now.walk.due (sym c.in_ok-ready.was ∙ c.ready.ensures.answer) in
     let within : c.args.self.now.walk.position ≤ length c.args.self.now.walk.input.now = search rules in
     let found = rw (same, c.form_at-form.ensures) at c.instant_at-found.ensures in
-    let taken = rw same at c.take_within.ensures.taken in
-    reads_instant (keep_limits (reading_settings_of c.args.self.now)) (cursor_of c.args.self.now) (site_of c.args.schema.now) was.0 was.1 within refl
-    _ c.instant_at-found.result c.take_within.result found taken
+    let taken = rw same at c.take_within-answer.ensures.taken in
+    rw (rw (same, c.form_at-form.ensures) at c.told.ensures)
+    (reads_instant (keep_limits (reading_settings_of c.args.self.now)) (cursor_of c.args.self.now) (site_of c.args.schema.now) was.0 was.1 within refl
+    _ c.instant_at-found.result c.take_within-answer.result found taken)
 
 pub returns-clause-uncarried : goal.returns-clause-uncarried
 returns-clause-uncarried c =
@@ -22,6 +23,7 @@ returns-clause-uncarried c =
     let was = was_ready c.args.self.now.walk.failed c.args.self.now.walk.due (sym c.in_ok-ready.was ∙ c.ready.ensures.answer) in
     let within : c.args.self.now.walk.position ≤ length c.args.self.now.walk.input.now = search rules in
     let found = rw (same, c.form_at-form.ensures) at c.instant_at-found.ensures in
-    let taken = rw same at c.take_within.ensures.taken in
-    answers_instant (keep_limits (reading_settings_of c.args.self.now)) (cursor_of c.args.self.now) (site_of c.args.schema.now) was.0 was.1 within refl
-    _ c.instant_at-found.result c.take_within.result found taken
+    let taken = rw same at c.take_within-answer.ensures.taken in
+    rw (rw (same, c.form_at-form.ensures) at c.told.ensures)
+    (answers_instant (keep_limits (reading_settings_of c.args.self.now)) (cursor_of c.args.self.now) (site_of c.args.schema.now) was.0 was.1 within refl
+    _ c.instant_at-found.result c.take_within-answer.result found taken)

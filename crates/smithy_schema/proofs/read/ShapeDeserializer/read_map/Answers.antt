@@ -10,7 +10,7 @@ returns-in_err-open_map-clause-consumes g c =
     let p = err_from_is_err_and c.from_residual.result c.from_residual.ensures.1 in
     let e = c.in_err-open_map.ensures in
     rw (p.1, p.2, e.conduct.stays)
-    (unopened (opening_refused _ _ _ _ _ e.conduct e.narrow e.undue e.refused e.none_without_limits e.invalid e.deepest e.deep))
+    (unopened (opening_refused _ _ _ _ _ e.conduct e.narrow e.undue e.told e.refused e.none_without_limits e.invalid e.deepest e.deep))
 
 pub loop-key-init : goal.loop-key-init
 loop-key-init g c =

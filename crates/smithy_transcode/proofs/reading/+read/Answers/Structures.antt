@@ -44,7 +44,7 @@ read_structure-returns-in_err-member-clause-reads g t c =
     let told = c.in_err-member.ensures in
     let p = err_from_is_err_and c.from_residual-in_err-member.result c.from_residual-in_err-member.ensures.1 in
     rw (p.1, p.2)
-    (goes_no_further _ _ _ _ laws g.T.Tree.view outer _ _ _ _ _ _ half told.conduct told.narrow (rw same at told.deep) (rw same at told.limited) (rw same at told.refused) (rw same at told.none_without_limits))
+    (goes_no_further _ _ _ _ laws g.T.Tree.view outer _ _ _ _ _ _ half told.conduct told.narrow.0 (rw same at told.deep) (rw same at told.limited) (rw same at told.refused) (rw same at told.none_without_limits))
 
 -- the value of a member was refused
 pub read_structure-returns-in_err-value-in-Member-clause-reads : goal.read_structure-returns-in_err-value-in-Member-clause-reads
@@ -104,7 +104,7 @@ read_structure-returns-in_err-skip_value-in-Unknown-clause-reads g t c =
     let told = c.in_err-skip_value-in-Unknown.ensures in
     let p = err_from_is_err_and c.from_residual-in_err-skip_value-in-Unknown.result c.from_residual-in_err-skip_value-in-Unknown.ensures.1 in
     rw (p.1, p.2)
-    (unknown_fails _ _ _ _ laws g.T.Tree.view outer _ _ _ _ _ _ c.requires.place half step told.conduct told.narrow (rw (c.next_member.ensures.same, same) at told.deep) (rw (c.next_member.ensures.same, same) at told.limited) (rw (c.next_member.ensures.same, same) at told.refused) (rw (c.next_member.ensures.same, same) at told.none_without_limits))
+    (unknown_fails _ _ _ _ laws g.T.Tree.view outer _ _ _ _ _ _ c.requires.place half step told.conduct told.narrow.0 (rw (c.next_member.ensures.same, same) at told.deep) (rw (c.next_member.ensures.same, same) at told.limited) (rw (c.next_member.ensures.same, same) at told.refused) (rw (c.next_member.ensures.same, same) at told.none_without_limits))
 
 -- an unknown entry was skipped
 pub read_structure-loop-members-preserved : goal.read_structure-loop-members-preserved
