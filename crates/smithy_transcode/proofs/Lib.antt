@@ -1,5 +1,6 @@
 pub mod Begun
 pub mod Bodies
+mod BodiesRead
 mod CompactVariants
 mod EntryOrder
 mod HalfElements

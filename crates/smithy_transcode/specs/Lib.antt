@@ -10,6 +10,7 @@ pub mod View
 pub mod Refusal
 -- what a read of a value, and a write of one, say of their answers
 pub mod ReadValue
+pub mod ReadBody
 pub mod WriteValue
 -- for private clauses
 pub mod Private

@@ -1,20 +1,18 @@
 //! One body from wire to wire.
-ghost use Rattle.std.specs.Prelude.{◌≡◌, ◌≤◌, ◌<◌, ◌^◌, length, None, IfOk, IfErr, IsErrOf};
+ghost use Rattle.std.specs.Prelude.{◌≡◌, ◌≤◌, ◌<◌, ◌^◌, length, None, IfOk, IfErr};
 ghost use Rattle.smithy_shapes.specs.Accepted.{IsAccepted};
 ghost use Rattle.smithy_shapes.specs.Fits.{Fits};
-ghost use Rattle.smithy_schema.specs.Reading.{IsRefused, IsInvalid, IsOfReader};
 ghost use Rattle.smithy_shapes.specs.Table.{IsStructure, kind_of, shape_place};
-ghost use Rattle.smithy_transcode.specs.Causes.{IsTooDeep, IsWide, IsUncarried};
-ghost use Rattle.smithy_transcode.specs.Spelling.{Spells, body};
-ghost use Rattle.smithy_transcode.specs.Transcoding.{Transcodes, SpellNothing, SpellNothingWithoutLimits};
+ghost use Rattle.smithy_transcode.specs.Spelling.{body};
+ghost use Rattle.smithy_transcode.specs.Transcoding.{Transcodes};
 ghost use Rattle.smithy_transcode.specs.Wires.{wire_of, unfit as unfit_for};
 ghost use Rattle.smithy_transcode.specs.Private.Positions.{CanCount};
 ghost use Rattle.smithy_transcode.specs.Private.Tree.{compact_view as view};
 
 use crate::compact_value::CompactValue;
 use crate::expressing::unfit;
-use crate::reading::read_tree;
 use crate::refusal::refusal;
+use crate::whole_input::read_whole;
 use crate::whole_output::body_of_value;
 use crate::wire::{TranscodeError, Wire};
 use smithy_cbor_codec::CborCodec;
@@ -38,7 +36,7 @@ pub fn transcode(
     requires root { IsStructure (kind_of shapes.now (shape_place root.0)) }
     ensures { Transcodes shapes.now root.0 (wire_of from.now) input.now (wire_of to.now) result }
 {
-    let value = match read_body(alloc, shapes, root, from, input) {
+    let value = match read_whole::<CompactValue>(alloc, shapes, root, from, input) {
         Ok(value) => value,
         Err(error) => return Err(refusal(error)),
     };
@@ -48,42 +46,6 @@ pub fn transcode(
     match write_body(alloc, shapes, root, to, &value) {
         Ok(body) => Ok(body),
         Err(error) => Err(refusal(error)),
-    }
-}
-
-// The value that the whole input spells.
-fn read_body(
-    alloc: Global,
-    shapes: &Shapes,
-    root: ShapeRef,
-    from: &Wire,
-    input: &[u8],
-) -> Result<CompactValue, SerdeError>
-    requires root { IsStructure (kind_of shapes.now (shape_place root.0)) }
-    ensures accepted { IsAccepted shapes.now }
-    ensures ok { IfOk result (λ v. Spells (wire_of from.now) shapes.now root.0 input.now (view v)) }
-    ensures refused { IsRefused result → SpellNothing (wire_of from.now) shapes.now root.0 input.now }
-    ensures none_without_limits { IsInvalid result → SpellNothingWithoutLimits (wire_of from.now) shapes.now root.0 input.now }
-    ensures deep { IsErrOf result SerdeError.TooDeep → IsTooDeep (wire_of from.now) shapes.now root.0 input.now }
-    ensures wide { IsErrOf result SerdeError.TooWide → IsWide (wire_of from.now) shapes.now input.now }
-    ensures uncarried { IsErrOf result SerdeError.NotCarried → IsUncarried (wire_of from.now) shapes.now input.now }
-    ensures sound { IsErrOf result SerdeError.Failed → ⊥ }
-    ensures reading { IfErr result IsOfReader }
-{
-    let schema = shapes.schema(root);
-    match from {
-        Wire::Json { use_json_name } => {
-            let mut source = JsonCodec::strict(*use_json_name).create_deserializer(alloc, input);
-            read_tree(alloc, &mut source, &schema)
-        }
-        Wire::Cbor => {
-            let mut source = CborCodec::strict().create_deserializer(alloc, input);
-            read_tree(alloc, &mut source, &schema)
-        }
-        Wire::Query {
-            action: _,
-            version: _,
-        } => Err(SerdeError::InvalidInput),
     }
 }
 

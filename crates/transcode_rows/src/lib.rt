@@ -1,7 +1,8 @@
-//! Rows of bodies that are transcoded, and of the tables that direct it (docs/ROWS.md).
+//! Rows of bodies that are transcoded or compared, and of the tables that direct it (docs/ROWS.md).
 #![tactic(auto)]
 
 mod bodies;
+mod comparing;
 mod expressing;
 mod places;
 mod program;

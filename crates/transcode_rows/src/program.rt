@@ -1,6 +1,6 @@
 //! The kinds of rows.
 
-use crate::{bodies, expressing, places, questions, tables};
+use crate::{bodies, comparing, expressing, places, questions, tables};
 use smithy_rows::{Field, Program, Row, Rows};
 use std::alloc::{AllocError, Global};
 
@@ -18,7 +18,7 @@ impl Program for Transcoding {
     fn is_answer(&self, word: &str) -> bool {
         matches!(
             word,
-            "body" | "refused" | "expressible" | "unfit" | "accepted" | "none"
+            "body" | "refused" | "expressible" | "unfit" | "same" | "differs" | "accepted" | "none"
         ) || questions::is_question(word)
     }
 
@@ -26,6 +26,7 @@ impl Program for Transcoding {
         match row.text("call") {
             None | Some("write_value") => bodies::answers(alloc, rows, row),
             Some("expressible") => expressing::answers(alloc, rows, row),
+            Some("compare") => comparing::answers(alloc, rows, row),
             Some("build") => tables::answers(alloc, row),
             Some("schema") => places::answers(alloc, rows, row),
             Some(_) => one(alloc, "refused", "no such call"),

@@ -5,8 +5,8 @@ use Rattle.smithy_transcode.proofs.transcoding.transcode.Goals as goal
 
 pub returns-in-Err : goal.returns-in-Err
 returns-in-Err c =
-    refused c.args.shapes.now c.args.root.0 (wire_of c.args.from.now) c.args.input.now (wire_of c.args.to.now) c.read_body.result c.in-Err.error c.refusal.result c.in-Err.is c.refusal.ensures
-    c.read_body.ensures.refused c.read_body.ensures.none_without_limits c.read_body.ensures.deep c.read_body.ensures.wide c.read_body.ensures.uncarried
+    refused c.args.shapes.now c.args.root.0 (wire_of c.args.from.now) c.args.input.now (wire_of c.args.to.now) c.read_whole.result c.in-Err.error c.refusal.result c.in-Err.is c.refusal.ensures
+    c.read_whole.ensures.refused c.read_whole.ensures.none_without_limits c.read_whole.ensures.deep c.read_whole.ensures.wide c.read_whole.ensures.uncarried
 
 pub returns-in-Some : goal.returns-in-Some
 returns-in-Some c =

@@ -1,0 +1,4 @@
+-- Words that private clauses cite.
+pub mod Nodes
+pub mod Pairs
+pub mod Refusals

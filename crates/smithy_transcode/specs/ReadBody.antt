@@ -1,0 +1,38 @@
+-- What `read_body` promises, for every table, root, wire and input.
+use Rattle.std.specs.Prelude.{◌≡◌, ◌≢◌, ℕ, List, Result, Ok, Err, IfOk, IfErr}
+use Rattle.smithy_shapes.specs.Table.{Table}
+use Rattle.smithy_shapes.specs.Value.{Value}
+use Rattle.smithy_transcode.specs.declared.value.Value as kept
+use Rattle.smithy_transcode.specs.declared.wire.TranscodeError.{TranscodeError}
+use Rattle.smithy_transcode.specs.declared.wire.TranscodeError.TheVariants.{InvalidInput, TooDeep, TooWide, NotCarried, Inexpressible, NoMemory}
+use Rattle.smithy_transcode.specs.Wires.{Wire}
+use Rattle.smithy_transcode.specs.Spelling.{Spells}
+use Rattle.smithy_transcode.specs.Causes.{IsTooDeep, IsWide, IsUncarried}
+use Rattle.smithy_transcode.specs.Transcoding.{SpellNothing, SpellNothingWithoutLimits}
+use Rattle.smithy_transcode.specs.View.{view}
+
+-- Why an input is refused: it spells nothing, and has what the error names. Want of memory is no such refusal, and what another
+-- wire can't express is no matter of reading.
+abbrev pub IsRefusedFor : Wire → Table → ℕ → List ℕ → TranscodeError → Type 0
+IsRefusedFor from table root input InvalidInput =
+    SpellNothing from table root input × SpellNothingWithoutLimits from table root input
+IsRefusedFor from table root input TooDeep = SpellNothing from table root input × IsTooDeep from table root input
+IsRefusedFor from table root input TooWide = SpellNothing from table root input × IsWide from table input
+IsRefusedFor from table root input NotCarried = SpellNothing from table root input × IsUncarried from table input
+IsRefusedFor from table root input (Inexpressible u) = ⊥
+IsRefusedFor from table root input NoMemory = ⊥
+
+-- the answer is this value, or want of memory
+abbrev pub GivesValue : Value → Result kept.Value TranscodeError → Type 0
+GivesValue v (Ok x) = view x ≡ v
+GivesValue v (Err NoMemory) = Unit {0}
+GivesValue v (Err _) = ⊥
+
+-- What an answer says, where the root is a structure of the table.
+pub record ReadsBody (table : Table) (root : ℕ) (from : Wire) (input : List ℕ) (answer : Result kept.Value TranscodeError) : Type 0 where
+  -- Ok: the whole input spells this value
+  pub ok : IfOk answer (λ x. Spells from table root input (view x))
+  -- what the whole input spells is the answer, want of memory aside
+  pub spelled : (v : Value) → Spells from table root input v → GivesValue v answer
+  -- each other refusal comes by its cause
+  pub refused : IfErr answer (λ e. (e ≢ NoMemory) → IsRefusedFor from table root input e)
