@@ -1,5 +1,6 @@
 mod Fewest
 mod Found
+mod Gained
 mod OutcomeLemmas
 mod Roots
 mod Settled

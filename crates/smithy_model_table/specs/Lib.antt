@@ -1,6 +1,7 @@
 -- to be believed, in this order
 pub mod Declaring
 pub mod Bindings
+pub mod Roles
 pub mod Leaving
 pub mod Outcomes
 pub mod Naming

@@ -1,8 +1,9 @@
 //! The declarations of shapes.
-ghost use Rattle.std.specs.Prelude.{◌≡◌, ◌++◌, List, map as list_map, option_map, option_to_list, IfOk, OnOk};
+ghost use Rattle.std.specs.Prelude.{◌≡◌, ◌++◌, List, true, map as list_map, option_map, option_to_list, IfOk, OnOk};
 ghost use Rattle.smithy_model.specs.Views.{model_view, member_view, shape_view};
 ghost use Rattle.smithy_model_table.specs.Declaring.{is_sparse, list_decl, map_decl};
 ghost use Rattle.smithy_model_table.specs.Outcomes.{LeftOut, IsPartAt, AreParts};
+ghost use Rattle.smithy_model_table.specs.Roles.{AreRolesOf};
 ghost use Rattle.smithy_model_table.specs.Views.{names_view, left_view};
 ghost use Rattle.smithy_shapes.specs.Decl.{list, map};
 ghost use Rattle.smithy_shapes.specs.DeclViews.{decl_of};
@@ -12,6 +13,7 @@ use crate::left::Left;
 use crate::names::Names;
 use crate::outcomes::{Owner, declare_members};
 use crate::places::{owned, owned_if, part_name, shape_at, target_word, time_of};
+use crate::roles::Roles;
 use smithy_model::{Entry, Kind, Member, Model, Shape};
 use smithy_shapes::Decl;
 use std::alloc::{AllocError, Global};
@@ -75,11 +77,13 @@ fn declare_map<'a>(
 fn declare_shape<'a>(
     alloc: Global,
     model: &Model<'a>,
+    roles: &Roles<'a>,
     marks: &[bool],
     names: &Names<'a>,
     number: usize,
     left: &mut Vec<Left<'a>>,
 ) -> Result<Option<Decl>, AllocError>
+    requires { (model_view model.now).has_http_bindings ≡ true → AreRolesOf (model_view model.now) roles.now }
     ensures { IfOk result (λ d. (added : List LeftOut) × (list_map left_view left.new.items ≡ list_map left_view left.old.items ++ added)
         × IsPartAt (model_view model.now) marks.now (names_view names.now) number (record { decls = option_to_list (option_map decl_of d); left = added })) }
 {
@@ -91,7 +95,7 @@ fn declare_shape<'a>(
         Kind::Structure(members) => {
             let owner = Owner {
                 id: shape.id,
-                counting: bindings_of(model, number, shape.id),
+                counting: bindings_of(model, roles, number, shape.id),
             };
             Ok(Some(Decl::Structure {
                 name: owned(alloc, name)?,
@@ -128,16 +132,18 @@ fn add_decl(decls: &mut Vec<Decl>, decl: Option<Decl>) -> Result<(), AllocError>
 pub(crate) fn declare_all<'a>(
     alloc: Global,
     model: &Model<'a>,
+    roles: &Roles<'a>,
     marks: &[bool],
     names: &Names<'a>,
     order: &[usize],
 ) -> Result<Declared<'a>, AllocError>
+    requires { (model_view model.now).has_http_bindings ≡ true → AreRolesOf (model_view model.now) roles.now }
     ensures { IfOk result (λ all. AreParts (model_view model.now) marks.now (names_view names.now) order.now (list_map decl_of all.decls.items) (list_map left_view all.left.items)) }
 {
     let mut decls = Vec::new(alloc);
     let mut left = Vec::new(alloc);
     for number in order {
-        let decl = declare_shape(alloc, model, marks, names, *number, &mut left)?;
+        let decl = declare_shape(alloc, model, roles, marks, names, *number, &mut left)?;
         add_decl(&mut decls, decl)?;
     }
     Ok(Declared { decls, left })

@@ -17,6 +17,7 @@ mod names;
 mod outcomes;
 mod places;
 mod reached;
+mod roles;
 mod table;
 mod wanted;
 mod writing;

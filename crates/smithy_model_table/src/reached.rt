@@ -1,6 +1,11 @@
 //! The shapes that roots reach.
+ghost use Rattle.std.specs.Prelude.{◌≡◌, true};
+ghost use Rattle.smithy_model.specs.Views.{model_view};
+ghost use Rattle.smithy_model_table.specs.Roles.{AreRolesOf};
+
 use crate::bindings::{Bindings, bindings_of, no_bindings};
 use crate::carried::is_left_out;
+use crate::roles::Roles;
 use smithy_model::{Kind, Member, Model};
 use std::alloc::{AllocError, Global};
 
@@ -33,9 +38,12 @@ fn visit_all(
 pub(crate) fn reached(
     alloc: Global,
     model: &Model<'_>,
+    roles: &Roles<'_>,
     marks: &[bool],
     roots: &[usize],
-) -> Result<Vec<usize>, AllocError> {
+) -> Result<Vec<usize>, AllocError>
+    requires { (model_view model.now).has_http_bindings ≡ true → AreRolesOf (model_view model.now) roles.now }
+{
     let mut seen = Vec::from_elem(alloc, false, model.shapes.len())?;
     let mut order = Vec::new(alloc);
     for root in roots {
@@ -51,7 +59,7 @@ pub(crate) fn reached(
         };
         match &shape.kind {
             Kind::Structure(members) => {
-                let counting = bindings_of(model, order[turn], shape.id);
+                let counting = bindings_of(model, roles, order[turn], shape.id);
                 visit_all(marks, counting, &mut seen, &mut order, members)?
             }
             Kind::Union(members) => {

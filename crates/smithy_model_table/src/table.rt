@@ -17,6 +17,7 @@ use crate::fault::WantedFault;
 use crate::left::Left;
 use crate::names::Names;
 use crate::reached::reached;
+use crate::roles::Roles;
 use crate::wanted::{Wanted, roots_of};
 use crate::writing::write_table;
 use smithy_model::Model;
@@ -94,13 +95,14 @@ pub fn table_of<'a>(
     }
     let marks = uncarried(alloc, model)?;
     let roots = roots_of(alloc, model, &marks, wanted)?;
-    let order = reached(alloc, model, &marks, &roots)?;
+    let roles = Roles::of(alloc, model)?;
+    let order = reached(alloc, model, &roles, &marks, &roots)?;
     // It never does: a root is a shape of the model, and the first is visited before all.
     if begins_otherwise(&order, &roots) {
         return Err(WantedFault::NoDeclaration);
     }
     let names = Names::of(alloc, model)?;
-    let declared = declare_all(alloc, model, &marks, &names, &order)?;
+    let declared = declare_all(alloc, model, &roles, &marks, &names, &order)?;
     let text = text_of(alloc, &declared.decls)?;
     Ok(ModelTable {
         text,

@@ -1,6 +1,6 @@
 -- A read of a document: what was found stands there, and why nothing was.
-use Rattle.std.proofs.Common.{◌≡◌, ◌≤◌, ℕ, length, Bool, true, false, refl, sym, ◌∙◌, ap, subst, ◌⊎◌, inl, inr}
-use Rattle.std.specs.Prelude.{IsErrOf, Result, Ok, Err, OnErr, IfOk, IfErr, IsOk, if◌then◌else◌}
+use Rattle.std.proofs.Common.{◌≡◌, ◌≤◌, ℕ, length, Bool, true, false, refl, sym, ◌∙◌}
+use Rattle.std.specs.Prelude.{Result, Ok, Err, if◌then◌else◌}
 use Rattle.smithy_types.specs.Document.{whole_document}
 use Rattle.smithy_types.specs.DocumentView.{document_view}
 use Rattle.smithy_types.specs.declared.document.Document.{Document}
@@ -10,7 +10,7 @@ use Rattle.smithy_shapes.specs.declared.place.Place.{Place}
 use Rattle.smithy_shapes.specs.Table.{document_place}
 use Rattle.smithy_shapes.specs.Site.{Site}
 use Rattle.smithy_shapes.specs.Value.{document_value}
-use Rattle.smithy_schema.specs.Reading.{Cursor, depth, Relations, IsLawful, StandsNot, IsRefused, IsInvalid, Uncarried, ReachesDepth, ReadsDocument, failed_at, passed_to}
+use Rattle.smithy_schema.specs.Reading.{Cursor, depth, Relations, IsLawful, StandsNot, Uncarried, ReachesDepth, ReadsDocument, failed_at, passed_to}
 use Rattle.smithy_wire.proofs.ScalarReads.{fails_again, conducts, goes_on}
 
 module _ (w u : Relations) (tells_without_limits : Type 0) (max : ℕ) (site : Site) where
@@ -137,24 +137,3 @@ module _ (w u : Relations) (tells_without_limits : Type 0) (max : ℕ) (site : S
           refused = λ fault. absurd fault;
           none_without_limits = λ strict fault. absurd fault;
         })
-
-    -- of what was found, or not
-    pub takes_document : (new : Cursor) (found : Result (Document × ℕ) SerdeError) (result : Result Document SerdeError) → IfOk found (λ r. Stands r.0 r.1)
-        → IfErr found (λ e. (e ≡ InvalidInput) ⊎ (e ≡ TooDeep) ⊎ (e ≡ NotCarried) ⊎ (e ≡ NoMemory))
-        → (IsRefused found → StandsNot w old site.table at) → (IsInvalid found → StandsNot u old site.table at)
-        → (IsErrOf found TooDeep → ReachesDepth w max old) → (IsErrOf found TooDeep → w.limits_skips ≡ true) → (IsErrOf found NotCarried → Uncarried w old site.table at)
-        → IfOk result (λ x. IfOk found (λ r. (r.0 ≡ x) × (new ≡ passed_to old r.1))) → (IsOk result → IsOk found)
-        → OnErr result (new ≡ failed_at old) → IfErr result (λ e. found ≡ Err e) → Says old new result
-    takes_document new (Ok r) (Ok x) stands kind none none_without_limits deep limits cause taken some stays error = subst (λ y. Says old new (Ok y)) taken.0 (reads new r.0 r.1 stands taken.1)
-    takes_document new (Err e) (Ok x) stands kind none none_without_limits deep limits cause taken some stays error = absurd (let no' = some refl in cc)
-    takes_document new (Ok r) (Err e) stands kind none none_without_limits deep limits cause taken some stays error = absurd (let no' : ◌≡◌ {A = Result (Document × ℕ) SerdeError} (Ok r) (Err e) = error in cc)
-    takes_document new (Err g) (Err e) stands kind none none_without_limits deep limits cause taken some stays error = by kind
-      where
-        same : g ≡ e
-        same = cc
-
-        by : (g ≡ InvalidInput) ⊎ (g ≡ TooDeep) ⊎ (g ≡ NotCarried) ⊎ (g ≡ NoMemory) → Says old new (Err e)
-        by (inl is) = rw (← same, is) (refuses old new stays within sound (λ due. (none (rw is tt), none_without_limits (rw is tt))))
-        by (inr (inl is)) = rw (← same, is) (is_too_deep old new stays within sound due (deep (ap Err is)) (limits (ap Err is)) (none (rw is tt)))
-        by (inr (inr (inl is))) = rw (← same, is) (carries_not old new stays within sound due (cause (ap Err is)) (none (rw is tt)))
-        by (inr (inr (inr is))) = rw (← same, is) (runs_out old new stays within sound)

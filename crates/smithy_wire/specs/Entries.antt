@@ -1,6 +1,5 @@
 -- How a reader goes on in a container: past what is dropped to an entry or the end, as the relations of reading say it.
 use Rattle.std.specs.Prelude.{◌≡◌, ◌&&◌, ◌||◌, not, ℕ, List, Option, Some, None, is_none, Bool, true, false, refl, codes, bytes_eq}
-use Rattle.std.specs.Option.{option_map_or}
 use Rattle.std.proofs.Common.{sym, ◌∙◌, ap, inl, inr, ◌⊎◌}
 use Rattle.smithy_shapes.specs.declared.place.Place.{Place}
 use Rattle.smithy_shapes.specs.Table.{Table, Kind, structure_of, union_of, list_of, map_of, kind_of, member_place, has_members, IsList, IsMap, HasMembers}

@@ -144,27 +144,6 @@ impl<'a> Walk<'a> {
         }
     }
 
-    /// Goes on behind what was found, or refuses with the error for which nothing was, which may be want of memory.
-    pub fn take_result<T: Drop>(
-        &mut self,
-        found: Result<(T, usize), SerdeError>,
-    ) -> Result<T, SerdeError>
-        requires { IfOk found (λ r. r.1 ≤ length self.old.input.now) }
-        ensures same { self.new.max_depth ≡ self.old.max_depth }
-        ensures ok { IfOk result (λ v. IfOk found (λ r. (r.0 ≡ v) × (cursor_of self.new ≡ passed_to (cursor_of self.old) r.1))) }
-        ensures some { IsOk result → IsOk found }
-        ensures err { OnErr result (cursor_of self.new ≡ failed_at (cursor_of self.old)) }
-        ensures error { IfErr result (λ e. found ≡ Err e) }
-    {
-        match found {
-            Ok((value, end)) => {
-                self.pass(end);
-                Ok(value)
-            }
-            Err(error) => Err(self.refuse(error)),
-        }
-    }
-
     /// Goes on behind what a search that takes memory found, or refuses: nothing stands there, or memory was wanting.
     pub fn take_found<T: Drop>(
         &mut self,

@@ -1,0 +1,26 @@
+-- What was gathered of the operations and the shapes of a model, so that nothing is looked for twice.
+use Rattle.std.specs.Prelude.{◌≡◌, ◌||◌, ℕ, List, Bool}
+use Rattle.std.specs.Borrow.{Bor}
+use Rattle.std.specs.BTreeSet.{BTreeSet, contains_by}
+use Rattle.std.specs.Cmp.Lexicographic.{slice_cmp}
+use Rattle.std.specs.Ordering.{nat_cmp}
+use Rattle.smithy_model.specs.Model.{Model}
+use Rattle.smithy_model_table.specs.declared.roles.Roles as kept
+use Rattle.smithy_model_table.specs.Bindings.{is_input, is_output, is_error, is_nested}
+
+abbrev pub has_id : BTreeSet (Bor (List ℕ)) → List ℕ → Bool
+has_id ids id = contains_by (λ (k : Bor (List ℕ)). slice_cmp nat_cmp id k.now) ids
+
+abbrev pub has_number : BTreeSet ℕ → ℕ → Bool
+has_number numbers number = contains_by (nat_cmp number) numbers
+
+-- what passed the test before, and what passes this one
+abbrev pub Gains : {A : Type 0} → (A → Bool) → (A → Bool) → (A → Bool) → Type 0
+Gains test before behind = (x : _) → behind x ≡ (test x || before x)
+
+-- for each id and each number, what the model says of it
+pub record AreRolesOf (m : Model) (roles : kept.Roles) : Type 0 where
+  pub inputs : (id : List ℕ) → has_id roles.inputs id ≡ is_input m id
+  pub outputs : (id : List ℕ) → has_id roles.outputs id ≡ is_output m id
+  pub errors : (id : List ℕ) → has_id roles.errors id ≡ is_error m id
+  pub nested : (number : ℕ) → has_number roles.nested number ≡ is_nested m number

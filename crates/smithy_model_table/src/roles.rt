@@ -1,0 +1,153 @@
+//! What the operations and the shapes of a model name: structures by their ids, and targets by their numbers.
+ghost use Rattle.std.specs.Prelude.{◌≡◌, ◌==◌, ℕ, List, true, false, map, option_map, bytes_eq, IfOk, OnOk};
+ghost use Rattle.std.specs.List.{list_any};
+ghost use Rattle.std.specs.Option.{option_map_or};
+ghost use Rattle.smithy_model.specs.Views.{model_view, member_view, kind_view};
+ghost use Rattle.smithy_model_table.specs.Bindings.{is_input, is_output, is_error, leads_to, is_nested};
+ghost use Rattle.smithy_model_table.specs.Roles.{has_id, has_number, Gains, AreRolesOf};
+
+use smithy_model::{Kind, Member, Model};
+use std::alloc::{AllocError, Global};
+use std::collections::BTreeSet;
+
+/// The ids that operations name as inputs, outputs and errors, and the numbers of the shapes that are targets.
+#[derive(Drop)]
+pub(crate) struct Roles<'a> {
+    pub(crate) inputs: BTreeSet<&'a str>,
+    pub(crate) outputs: BTreeSet<&'a str>,
+    pub(crate) errors: BTreeSet<&'a str>,
+    pub(crate) nested: BTreeSet<usize>,
+}
+
+// Adds an id.
+fn add_id<'a>(ids: &mut BTreeSet<&'a str>, id: &'a str) -> Result<(), AllocError>
+    ensures { OnOk result (Gains (λ other. bytes_eq id.now other) (has_id ids.old) (has_id ids.new)) }
+{
+    ids.insert(id)?;
+    Ok(())
+}
+
+// Adds an id, if it is given.
+fn add_given<'a>(ids: &mut BTreeSet<&'a str>, given: Option<&'a str>) -> Result<(), AllocError>
+    ensures { OnOk result (Gains (λ other. option_map_or (λ given. bytes_eq given other) (option_map (λ t. t.now) given.entry) false) (has_id ids.old) (has_id ids.new)) }
+{
+    match given {
+        Some(id) => add_id(ids, id),
+        None => Ok(()),
+    }
+}
+
+// Adds all of these ids.
+fn add_all<'a>(ids: &mut BTreeSet<&'a str>, given: &[&'a str]) -> Result<(), AllocError>
+    ensures { OnOk result (Gains (λ other. list_any (λ id. bytes_eq id other) (map (λ t. t.now) given.now)) (has_id ids.old) (has_id ids.new)) }
+{
+    for id in given {
+        add_id(ids, *id)?;
+    }
+    Ok(())
+}
+
+// The ids of the inputs of operations.
+fn inputs<'a>(alloc: Global, model: &Model<'a>) -> Result<BTreeSet<&'a str>, AllocError>
+    ensures { IfOk result (λ ids. (id : List ℕ) → has_id ids id ≡ is_input (model_view model.now) id) }
+{
+    let mut ids = BTreeSet::new(alloc);
+    for operation in &model.operations {
+        add_given(&mut ids, operation.input)?;
+    }
+    Ok(ids)
+}
+
+// The ids of the outputs.
+fn outputs<'a>(alloc: Global, model: &Model<'a>) -> Result<BTreeSet<&'a str>, AllocError>
+    ensures { IfOk result (λ ids. (id : List ℕ) → has_id ids id ≡ is_output (model_view model.now) id) }
+{
+    let mut ids = BTreeSet::new(alloc);
+    for operation in &model.operations {
+        add_given(&mut ids, operation.output)?;
+    }
+    Ok(ids)
+}
+
+// The ids of the errors.
+fn errors<'a>(alloc: Global, model: &Model<'a>) -> Result<BTreeSet<&'a str>, AllocError>
+    ensures { IfOk result (λ ids. (id : List ℕ) → has_id ids id ≡ is_error (model_view model.now) id) }
+{
+    let mut ids = BTreeSet::new(alloc);
+    for operation in &model.operations {
+        add_all(&mut ids, &operation.errors)?;
+    }
+    Ok(ids)
+}
+
+// Adds a number.
+fn add_number(numbers: &mut BTreeSet<usize>, number: usize) -> Result<(), AllocError>
+    ensures { OnOk result (Gains (λ other. number == other) (has_number numbers.old) (has_number numbers.new)) }
+{
+    numbers.insert(number)?;
+    Ok(())
+}
+
+// Adds the targets of these members.
+fn add_members(numbers: &mut BTreeSet<usize>, members: &[Member<'_>]) -> Result<(), AllocError>
+    ensures { OnOk result (Gains (λ other. list_any (λ part. part.number == other) (map member_view members.now)) (has_number numbers.old) (has_number numbers.new)) }
+{
+    for member in members {
+        add_number(numbers, member.number)?;
+    }
+    Ok(())
+}
+
+// Adds the targets of the parts of a shape.
+fn add_targets(numbers: &mut BTreeSet<usize>, kind: &Kind<'_>) -> Result<(), AllocError>
+    ensures { OnOk result (Gains (λ other. leads_to other (kind_view kind.now)) (has_number numbers.old) (has_number numbers.new)) }
+{
+    match kind {
+        Kind::Structure(members) => add_members(numbers, members),
+        Kind::Union(members) => add_members(numbers, members),
+        Kind::List(element) => add_number(numbers, element.number),
+        Kind::Map(entry) => {
+            add_number(numbers, entry.key.number)?;
+            add_number(numbers, entry.value.number)
+        }
+        _ => Ok(()),
+    }
+}
+
+// The numbers of the shapes whose bodies may stand inside of others.
+fn nested(alloc: Global, model: &Model<'_>) -> Result<BTreeSet<usize>, AllocError>
+    ensures { IfOk result (λ numbers. (number : ℕ) → has_number numbers number ≡ is_nested (model_view model.now) number) }
+{
+    let mut numbers = BTreeSet::new(alloc);
+    for shape in &model.shapes {
+        add_targets(&mut numbers, &shape.kind)?;
+    }
+    Ok(numbers)
+}
+
+impl<'a> Roles<'a> {
+    // None at all.
+    fn none(alloc: Global) -> Roles<'a> {
+        Roles {
+            inputs: BTreeSet::new(alloc),
+            outputs: BTreeSet::new(alloc),
+            errors: BTreeSet::new(alloc),
+            nested: BTreeSet::new(alloc),
+        }
+    }
+
+    /// Those of this model. Without HTTP bindings no one asks for them, and nothing is gathered.
+    pub(crate) fn of(alloc: Global, model: &Model<'a>) -> Result<Roles<'a>, AllocError>
+        ensures { IfOk result (λ roles. (model_view model.now).has_http_bindings ≡ true → AreRolesOf (model_view model.now) roles) }
+    {
+        if !model.has_http_bindings {
+            return Ok(Roles::none(alloc));
+        }
+        Ok(Roles {
+            inputs: inputs(alloc, model)?,
+            outputs: outputs(alloc, model)?,
+            errors: errors(alloc, model)?,
+            nested: nested(alloc, model)?,
+        })
+    }
+}
