@@ -34,7 +34,7 @@ fn piece(row: &Row, word: &str) -> usize
     usize::try_from(piece).unwrap_or(4096).max(1)
 }
 
-// The most bytes that standard output keeps; without the line, many.
+// The most bytes that standard output keeps; without the line, those of `ROOM`.
 fn room(row: &Row) -> usize {
     let Some(room) = number(row, "room") else {
         return ROOM;

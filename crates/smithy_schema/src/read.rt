@@ -68,7 +68,7 @@ pub trait ShapeDeserializer {
     // The relations of the wire with the limits lifted on depth, on the size of numbers and on what is carried.
     ghost lifted: { Settings → Relations };
 
-    // Under these settings a refusal by `InvalidInput` says that nothing of the kind is there with the limits lifted either.
+    // Under these settings a refusal by `InvalidInput` or `TypeMismatch` says that nothing of the kind is there with the limits lifted either.
     ghost tells_without_limits: { Settings → Type 0 };
 
     // What the wire tells of the sizes of containers before they are read.

@@ -13,13 +13,13 @@ abbrev pub TookWhole : List ℕ → Shown → Shown → Type 0
 TookWhole bytes old new = MetNoFault old new × Took bytes old new
 
 pub took_none : (s : Shown) → TookWhole [] s s
-took_none s = (refl, λ after shows. (after, shows, sym (append-nil after)))
+took_none s = ((refl, refl), λ after shows. (after, shows, sym (append-nil after)))
 
 -- one more text
 pub one_more : {W : Type 0} (f : W → List ℕ) (ws : List W) (i : ℕ) (d : W) → i < length ws → (a b c : Shown) → TookWhole (flat_map f (take i ws)) a b
     → TookWhole (f (get_or ws i d)) b c → TookWhole (flat_map f (take (i + 1) ws)) a c
 one_more f ws i d within a b c so_far one = (
-  one.0 ∙ so_far.0,
+  (one.0.0 ∙ so_far.0.0, one.0.1 ∙ so_far.0.1),
   rw (take_more ws i d within, flat_map-append f (take i ws) (get_or ws i d ∷ []), append-nil (f (get_or ws i d)))
       (took_more (flat_map f (take i ws)) (f (get_or ws i d)) a b c so_far.1 one.1),
 )

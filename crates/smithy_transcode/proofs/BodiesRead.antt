@@ -2,7 +2,7 @@
 use Rattle.std.proofs.Common.{◌≡◌, ℕ, List, Result, Ok, Err, IsErrOf, refl, ◌∙◌, ap}
 use Rattle.smithy_schema.specs.declared.error.SerdeError.{SerdeError}
 use Rattle.smithy_schema.specs.declared.error.SerdeError.TheVariants as serde
-use Rattle.smithy_schema.specs.Reading.{IsFault, IsRefused, IsInvalid}
+use Rattle.smithy_schema.specs.Reading.{IsFault, IsRefused, IsInvalid, FindsNone}
 use Rattle.smithy_shapes.specs.Table.{Table}
 use Rattle.smithy_transcode.specs.declared.value.Value as kept
 use Rattle.smithy_transcode.specs.declared.wire.TranscodeError.{TranscodeError}
@@ -23,10 +23,12 @@ body_read t root from i x spelled = record {
 }
 
 told : (t : Table) (root : ℕ) (from : Wire) (i : List ℕ) (e : SerdeError) (refusal : TranscodeError) → IsToldAs e refusal
-    → (IsFault e → SpellNothing from t root i) → (e ≡ serde.InvalidInput → SpellNothingWithoutLimits from t root i) → (e ≡ serde.TooDeep → IsTooDeep from t root i) → (e ≡ serde.TooWide → IsWide from t i) → (e ≡ serde.NotCarried → IsUncarried from t i)
+    → (IsFault e → SpellNothing from t root i) → (FindsNone e → SpellNothingWithoutLimits from t root i) → (e ≡ serde.TooDeep → IsTooDeep from t root i) → (e ≡ serde.TooWide → IsWide from t i) → (e ≡ serde.NotCarried → IsUncarried from t i)
     → ReadsBody t root from i (Err refusal)
 told t root from i serde.InvalidInput refusal tells nothing free deep wide uncarried =
-    rw tells (record { ok = tt; spelled = λ v h. absurd (nothing tt v h); refused = λ other. (nothing tt, free refl) })
+    rw tells (record { ok = tt; spelled = λ v h. absurd (nothing tt v h); refused = λ other. (nothing tt, free tt) })
+told t root from i serde.TypeMismatch refusal tells nothing free deep wide uncarried =
+    rw tells (record { ok = tt; spelled = λ v h. absurd (nothing tt v h); refused = λ other. (nothing tt, free tt) })
 told t root from i serde.TooDeep refusal tells nothing free deep wide uncarried =
     rw tells (record { ok = tt; spelled = λ v h. absurd (nothing tt v h); refused = λ other. (nothing tt, deep refl) })
 told t root from i serde.TooWide refusal tells nothing free deep wide uncarried =
@@ -35,7 +37,6 @@ told t root from i serde.NotCarried refusal tells nothing free deep wide uncarri
     rw tells (record { ok = tt; spelled = λ v h. absurd (nothing tt v h); refused = λ other. (nothing tt, uncarried refl) })
 told t root from i serde.NoMemory refusal tells nothing free deep wide uncarried =
     rw tells (record { ok = tt; spelled = λ v h. tt; refused = λ other. absurd (other refl) })
-told t root from i serde.TypeMismatch refusal tells nothing free deep wide uncarried = absurd tells
 told t root from i serde.Unsupported refusal tells nothing free deep wide uncarried = absurd tells
 told t root from i serde.Unwritable refusal tells nothing free deep wide uncarried = absurd tells
 told t root from i serde.Missing refusal tells nothing free deep wide uncarried = absurd tells
@@ -45,5 +46,5 @@ pub body_refused : {A : Type 0} (t : Table) (root : ℕ) (from : Wire) (i : List
     → (IsRefused r → SpellNothing from t root i) → (IsInvalid r → SpellNothingWithoutLimits from t root i) → (IsErrOf r serde.TooDeep → IsTooDeep from t root i) → (IsErrOf r serde.TooWide → IsWide from t i) → (IsErrOf r serde.NotCarried → IsUncarried from t i)
     → ReadsBody t root from i (Err refusal)
 body_refused t root from i r e refusal is tells nothing free deep wide uncarried =
-    told t root from i e refusal tells (λ fault. nothing (rw is fault)) (λ invalid. free (rw (is, invalid) tt)) (λ depth. deep (is ∙ ap Err depth)) (λ width. wide (is ∙ ap Err width))
+    told t root from i e refusal tells (λ fault. nothing (rw is fault)) (λ invalid. free (rw is invalid)) (λ depth. deep (is ∙ ap Err depth)) (λ width. wide (is ∙ ap Err width))
     (λ other. uncarried (is ∙ ap Err other))

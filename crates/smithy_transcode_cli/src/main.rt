@@ -1,8 +1,10 @@
-//! Transcodes one body, as a table of shapes directs.
+//! Transcodes one body, as a table of shapes directs, or one that a number generates.
 //!
 //! `transcode TABLE ROOT FROM TO` reads the table from the file TABLE and a body of the shape ROOT from
 //! standard input, in the wire FROM, and writes it to standard output in its one canonical form in the
-//! wire TO. The process ends with the number of the `Status`, and says it on standard error unless it is 0.
+//! wire TO. `gen SEED COUNT` generates a body of so many items, and writes its length and those of its
+//! canonical bodies. The process ends with the number of the `Status`, and says it on standard error unless
+//! it is 0.
 #![tactic(auto)]
 
 use smithy_commands::run_on_system;

@@ -9,7 +9,7 @@ use Rattle.smithy_schema.specs.declared.error.SerdeError.TheVariants.{InvalidInp
 use Rattle.smithy_shapes.specs.Table.{scalar_place}
 use Rattle.smithy_shapes.specs.Site.{Site}
 use Rattle.smithy_shapes.specs.Value.{ScalarValue, scalar_value}
-use Rattle.smithy_schema.specs.Reading.{Cursor, depth, Relations, IsLawful, StandsNot, IsOfReader, Exceeds, Uncarried, Conducts, ReadsScalar, AnswersWide, AnswersUncarried, failed_at, passed_to}
+use Rattle.smithy_schema.specs.Reading.{Cursor, depth, Relations, IsLawful, StandsNot, IsOfReader, TellsType, Exceeds, Uncarried, Conducts, ReadsScalar, AnswersWide, AnswersUncarried, failed_at, passed_to}
 use Rattle.smithy_wire.specs.declared.found.Found.{Found}
 use Rattle.smithy_wire.specs.declared.found.Found.TheVariants.{Value, Nothing, Beyond}
 use Rattle.smithy_wire.specs.Finding.{MatchFound, Takes, TakesWithin, typed, told_as, told}
@@ -358,18 +358,7 @@ module _ {A : Type 0} (w u : Relations) (tells_without_limits : Type 0) (site : 
         → IfOk found (λ f. MatchFound f (λ r. Stands r.0 r.1) (Uncarried w old site.table (scalar_place s site.place.time) → ⊥) (Unit {0}))
         → TakesWithin old new NotCarried found result → AnswersUncarried w old site s (told other result)
     answers_what_is_not new found result not' stands taken due' sound' there =
-        answers_excluded NotCarried (Uncarried w old site.table (scalar_place s site.place.time)) new found result not' stands taken there
-
--- a reader that isn't ready has nothing to answer
-pub not_ready_wide : {A : Type 0} (w : Relations) (old : Cursor) (site : Site) (s : Scalar) (result : Result A SerdeError) (e : SerdeError)
-    → ◌≡◌ {A = Result Unit SerdeError} (Err e) (if old.failed then Err Failed else (if old.due then Ok tt else Err InvalidInput)) → AnswersWide w old site s result
-not_ready_wide w old site s result e answer due sound there = by old.failed old.due due sound answer
-  where
-    by : (failed due : Bool) → due ≡ true → failed ≡ false → ◌≡◌ {A = Result Unit SerdeError} (Err e) (if failed then Err Failed else (if due then Ok tt else Err InvalidInput))
-        → IsErrOf result TooWide ⊎ IsErrOf result NoMemory
-    by true due is no' answer = cc
-    by false false is no' answer = cc
-    by false true is no' answer = cc
+        either_told other result NotCarried refl (answers_excluded NotCarried (Uncarried w old site.table (scalar_place s site.place.time)) new found result not' stands taken there)
 
 -- ---- whole numbers of fewer bits
 
