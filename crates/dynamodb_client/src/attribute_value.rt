@@ -157,7 +157,10 @@ pub fn read_attributes<D: ShapeDeserializer>(
     let mut entries = BTreeMap::new(source.allocator());
     while let Some(key) = source.next_key()? {
         let value = read_attribute_value(source, &inner)?;
-        put_attribute(&mut entries, key, value)?;
+        if let Err(error) = put_attribute(&mut entries, key, value) {
+            source.fail();
+            return Err(error);
+        }
     }
     Ok(entries)
 }
@@ -193,7 +196,10 @@ fn read_attribute_list<D: ShapeDeserializer>(
     let mut values = Vec::new(source.allocator());
     while source.next_element()? {
         let value = read_attribute_value(source, &inner)?;
-        values.push(value)?;
+        if let Err(error) = values.push(value) {
+            source.fail();
+            return Err(SerdeError::from(error));
+        }
     }
     Ok(values)
 }

@@ -1,7 +1,8 @@
 //! What PutItem is given.
-ghost use Rattle.std.specs.Prelude.{◌≡◌, false, true, IfOk, OnErr};
+ghost use Rattle.std.specs.Prelude.{◌≡◌, false, true, IfOk};
 ghost use Rattle.smithy_shapes.specs.Site.{site_of};
 ghost use Rattle.smithy_schema.specs.Reading.{Reads, StandsNot, IsRefused};
+ghost use Rattle.smithy_schema.specs.Typed.{FailsAsReader};
 ghost use Rattle.smithy_schema.specs.Writing.{events};
 ghost use Rattle.smithy_schema.specs.Written.{Runs, outcome};
 ghost use Rattle.smithy_schema.specs.Fields.{structure_with};
@@ -99,7 +100,7 @@ pub fn read_put_item<D: ShapeDeserializer>(
 
     // A fault comes only where no such structure stands.
     ensures refused { IsRefused result → (D.state source.old).due ≡ true → StandsNot (D.wire (D.settings source.old)) (D.state source.old) schema.now.shapes.now schema.now.place }
-    ensures fails { OnErr result ((D.state source.new).failed ≡ true) }
+    ensures fails { FailsAsReader (D.state source.old) (D.state source.new) result }
 {
     let mut input = PutItemInput {
         table_name: None,

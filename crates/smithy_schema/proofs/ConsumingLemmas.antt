@@ -318,12 +318,14 @@ pub member_refused : (A : Type 0) (r : Reader) (site : Site) (old new : Cursor) 
     → (IsRefused {A = A} (Err e) → old.due ≡ true → (a : ℕ) → r.wire.skips old.input (depth old) old.at a → CannotGoOn r.wire (passed_to old a) site.table site.place)
     → (r.tells_without_limits → IsInvalid {A = A} (Err e) → old.due ≡ true → (a : ℕ) → r.lifted.skips old.input (depth old) old.at a → CannotGoOn r.lifted (passed_to old a) site.table site.place)
     → (IsErrOf {T = A} (Err e) TooDeep → ReachesDepth r.wire r.max_depth old)
+    → (IsErrOf {T = A} (Err e) TooDeep → r.wire.limits_skips ≡ true)
     → RefusesMember r site old e
-member_refused A r site old new e conduct narrow refused none_without_limits unread_refused unread_would deep = record {
+member_refused A r site old new e conduct narrow refused none_without_limits unread_refused unread_would deep limited = record {
   failed = (λ h. conduct.failed.0 (is_error A e Failed h), λ h. same_error A e Failed (conduct.failed.1 h));
   refused = λ fault from cleared. cannot_from r.wire old from site cleared (refused fault) (unread_refused fault);
   none_without_limits = λ strict h from cleared. cannot_from r.lifted old from site cleared (none_without_limits strict h) (unread_would strict h);
   deep = λ h. deep (is_error A e TooDeep h);
+  limited = λ h. limited (is_error A e TooDeep h);
   narrow = of_cursor A old new e conduct narrow.0;
   no_mismatch = λ h. narrow.1 (is_error A e TypeMismatch h);
 }

@@ -21,6 +21,7 @@ pub mod ConsumedStructures
 pub mod RefusedStructures
 pub mod DeclaredMembers
 pub mod ReadFields
+pub mod AnsweredErrors
 -- a type that holds itself
 pub mod HalfRead
 -- what is written of fields

@@ -5,6 +5,7 @@ use Rattle.std.specs.declared.cmp.Ordering.TheVariants.{Less, Equal, Greater}
 use Rattle.std.specs.Ordering.{MatchOrdering, nat_cmp, match_ordering}
 use Rattle.std.proofs.lemmas.Cmp.{ranked}
 use Rattle.smithy_schema.specs.declared.error.SerdeError.{SerdeError}
+use Rattle.smithy_schema.specs.declared.error.SerdeError.TheVariants.{Failed}
 use Rattle.smithy_shapes.specs.declared.place.Place.{Place}
 use Rattle.smithy_shapes.specs.declared.place.Target.{Target}
 use Rattle.smithy_shapes.specs.declared.place.Target.TheVariants.{Simple}
@@ -18,7 +19,7 @@ use Rattle.smithy_shapes.specs.Lemmas.Options.{same_some}
 use Rattle.smithy_schema.specs.Reading.{Cursor, depth, in_structure, IsLawful, Reads, ReadsScalar, StandsNot, IsFault}
 use Rattle.smithy_schema.specs.Consuming.{Reader, Consumes, by_member, IsTaken}
 use Rattle.smithy_schema.specs.Fields.{members_at, structure_with, TakesField, took, passed, broke, FillsField, filled, refused}
-use Rattle.smithy_schema.proofs.ConsumingLemmas.{same_error}
+use Rattle.smithy_schema.proofs.ConsumingLemmas.{same_error, is_error}
 use Rattle.smithy_schema.proofs.DeclaredMembers.{structure_type}
 use Rattle.smithy_schema.proofs.ReadStructures.{site_told}
 use Rattle.smithy_schema.proofs.ConsumedStructures.{TakesMembers, structure_read}
@@ -87,7 +88,7 @@ fields_take {C} fields r outer = record {
     left : (m : Option Site) (s t : C) (d f : Cursor) (result : Result (Unit {0}) SerdeError) → TakesField fields r m s d result t f → m ≡ None → OnOk result ((f ≡ d) × (members_at 0 (fields t) ≡ members_at 0 (fields s)))
     left m s t d f result (took n v index reads after) none = absurd (let h : m ≡ None = none in cc)
     left m s t d f result passed none = (refl, refl)
-    left m s t d f result (broke why) none = tt
+    left m s t d f result (broke may why) none = tt
 
     set : (n : ℕ) (site : Site) (m : Option Site) (s t : C) (d f : Cursor) (result : Result (Unit {0}) SerdeError) → member_site outer n ≡ Some site → TakesField fields r m s d result t f → m ≡ Some site
         → OnOk result ((v : Value) × Reads r.wire d f site.table site.place v × (members_at 0 (fields t) ≡ put_member n v (members_at 0 (fields s))))
@@ -99,7 +100,7 @@ fields_take {C} fields r outer = record {
           subst (λ x. members_at 0 (fields t) ≡ put_member x v (members_at 0 (fields s))) position after,
         )
     set n site m s t d f result told passed is = absurd (let h : None ≡ Some site = is in cc)
-    set n site m s t d f result told (broke why) is = tt
+    set n site m s t d f result told (broke may why) is = tt
 
 fields_refuse : {C : Type 0} (fields : C → List (Option Value)) (r : Reader) (outer : Site) → RefusesMembers r outer (TakesField fields r)
 fields_refuse {C} fields r outer = record {
@@ -110,13 +111,13 @@ fields_refuse {C} fields r outer = record {
     fine : {e : SerdeError} (m : Option Site) (s t : C) (d f : Cursor) (result : Result (Unit {0}) SerdeError) → TakesField fields r m s d result t f → m ≡ None → result ≡ Err e → ⊥
     fine m s t d f result (took n v index reads after) none is = cc
     fine m s t d f result passed none is = cc
-    fine m s t d f result (broke why) none is = cc
+    fine m s t d f result (broke may why) none is = cc
 
     none_there : {e : SerdeError} (site : Site) (m : Option Site) (s t : C) (d f : Cursor) (result : Result (Unit {0}) SerdeError) → TakesField fields r m s d result t f → m ≡ Some site → result ≡ Err e → IsFault e → d.due ≡ true
         → StandsNot r.wire d site.table site.place
     none_there site m s t d f result (took n v index reads after) is fails fault due = cc
     none_there site m s t d f result passed is fails fault due = cc
-    none_there {e} site m s t d f result (broke {site = at} {e = h} why) is fails fault due =
+    none_there {e} site m s t d f result (broke {site = at} {e = h} may why) is fails fault due =
         let same : at ≡ site = same_some at site is in
         subst (λ (x : Site). StandsNot r.wire d x.table x.place) same (why (subst IsFault (sym (same_error (Unit {0}) h e fails)) fault) due)
 
@@ -173,8 +174,8 @@ filled_field fields kind scalar r site put old new c d i result index here withi
     let same : 0 + i ≡ i = omega arith in
     took i (scalar_value (scalar x)) index (read_there kind scalar r c d site x here reads)
     (ap (members_at 0) (sets x) ∙ field_set 0 i (scalar_value (scalar x)) (fields (put old)) within ∙ ap (λ k. put_member k (scalar_value (scalar x)) (members_at 0 (fields (put old)))) same)
-filled_field fields kind scalar r site put old new c d i result index here within sets (refused {e = e} reads) =
-    broke (none_read_there kind scalar r c d site e here reads)
+filled_field {A = A} fields kind scalar r site put old new c d i result index here within sets (refused {e = e} reads) =
+    broke (reads.conduct.reading, λ is. reads.conduct.failed.0 (is_error A e Failed is)) (none_read_there kind scalar r c d site e here reads)
 
 -- a member whose value was read whole, and is set
 pub field_taken : {C : Type 0} (fields : C → List (Option Value)) (r : Reader) (site : Site) (before after : C) (c d : Cursor) (i : ℕ) (v : Value)

@@ -129,6 +129,7 @@ pub record RefusesMember (r : Reader) (outer : Site) (c : Cursor) (e : SerdeErro
   pub refused : IsFault e → (from : Cursor) → Cleared r.wire c from → CannotGoOn r.wire from outer.table outer.place
   pub none_without_limits : r.tells_without_limits → FindsNone e → (from : Cursor) → Cleared r.lifted c from → CannotGoOn r.lifted from outer.table outer.place
   pub deep : e ≡ TooDeep → ReachesDepth r.wire r.max_depth c
+  pub limited : e ≡ TooDeep → r.wire.limits_skips ≡ true
   pub narrow : IsOfCursor e
   pub no_mismatch : e ≢ TypeMismatch
 

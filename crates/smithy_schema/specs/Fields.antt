@@ -7,6 +7,7 @@ use Rattle.smithy_shapes.specs.Site.{Site, member_of}
 use Rattle.smithy_schema.specs.Reading.{Cursor, Reads, ReadsScalar, StandsNot, IsFault}
 use Rattle.smithy_schema.specs.Writing.{Event, events}
 use Rattle.smithy_schema.specs.Consuming.{Reader}
+use Rattle.smithy_schema.specs.Typed.{MayAnswer}
 
 -- the members that are there, by their positions from n on
 abbrev pub members_at : ℕ → List (Option Value) → MemberValues
@@ -24,7 +25,7 @@ pub data TakesField {C : Type 0} (fields : C → List (Option Value)) (r : Reade
   took : {site : Site} {s t : C} {c f : Cursor} (n : ℕ) (v : Value) → site.view.index ≡ Some n → Reads r.wire c f site.table site.place v
       → members_at 0 (fields t) ≡ put_member n v (members_at 0 (fields s)) → TakesField fields r (Some site) s c (Ok tt) t f
   passed : {s : C} {c : Cursor} → TakesField fields r None s c (Ok tt) s c
-  broke : {site : Site} {s t : C} {c f : Cursor} {e : SerdeError} → (IsFault e → c.due ≡ true → StandsNot r.wire c site.table site.place) → TakesField fields r (Some site) s c (Err e) t f
+  broke : {site : Site} {s t : C} {c f : Cursor} {e : SerdeError} → MayAnswer c e → (IsFault e → c.due ≡ true → StandsNot r.wire c site.table site.place) → TakesField fields r (Some site) s c (Err e) t f
 
 -- a scalar is read into a field
 pub data FillsField {A : Type 0} (kind : Scalar) (scalar : A → ScalarValue) (r : Reader) (site : Site) : Option A → Cursor → Result (Unit {0}) SerdeError → Option A → Cursor → Type 0 where

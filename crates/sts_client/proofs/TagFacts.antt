@@ -1,7 +1,8 @@
 -- What the calls along a list of tags have read.
-use Rattle.std.proofs.Common.{◌≡◌, List, [], ◌∷◌, true, Some, None, Result, Ok, Err, OnOk, refl, sym, ◌∙◌, subst, inl}
+use Rattle.std.proofs.Common.{◌≡◌, List, [], ◌∷◌, true, Some, None, Result, Ok, Err, OnOk, OnErr, refl, sym, ◌∙◌, subst, inl}
 use Rattle.std.proofs.lemmas.List.{map-append}
 use Rattle.smithy_schema.specs.declared.error.SerdeError.{SerdeError}
+use Rattle.smithy_schema.specs.declared.error.SerdeError.TheVariants.{NoMemory}
 use Rattle.smithy_shapes.specs.declared.place.Place.{Place}
 use Rattle.smithy_shapes.specs.Table.{place_in}
 use Rattle.smithy_shapes.specs.Site.{Site, kind_at, inner_site}
@@ -10,14 +11,20 @@ use Rattle.smithy_shapes.specs.Lemmas.Options.{same_some}
 use Rattle.smithy_schema.specs.Reading.{Cursor, in_list, IsLawful, Reads, StandsNot, IsFault}
 use Rattle.smithy_schema.specs.Consuming.{Reader, Consumes, by_element}
 use Rattle.smithy_schema.specs.Fields.{structure_with}
+use Rattle.smithy_schema.specs.Typed.{MayAnswer, FailsAsReader}
 use Rattle.smithy_schema.proofs.ConsumingLemmas.{same_error}
 use Rattle.smithy_schema.proofs.ReadLists.{list_place}
 use Rattle.smithy_schema.proofs.DeclaredMembers.{list_type}
 use Rattle.smithy_schema.proofs.Blame.{of_wire}
 use Rattle.smithy_schema.proofs.ConsumedLists.{TakesElement, NoElement, list_read, list_refused}
 use Rattle.smithy_schema.proofs.ReadElements.{consumes_through}
+use Rattle.smithy_schema.proofs.AnsweredErrors.{elements_fail}
 use Rattle.sts_client.specs.declared.tags.Tag.{Tag}
 use Rattle.sts_client.specs.Shapes.{tag_fields, AreTags, tag_values, TakesTag, put, broke}
+
+-- there is no room for a tag that was read
+pub tag_unkept : (r : Reader) (site : Site) (tags after : List Tag) (c d : Cursor) → TakesTag r site tags c (Err NoMemory) after d
+tag_unkept r site tags after c d = broke (tt, λ is. cc) (λ fault due. absurd fault)
 
 -- a consumer that keeps its site and its tags
 pub through_tags : {E : Type 0} (r : Reader) (outer inner : Site) (tags : E → List Tag) (site : E → Site)
@@ -46,12 +53,12 @@ module _ (r : Reader) (outer inner : Site) (are : AreTags outer) (is : inner_sit
         (λ sparse. absurd (are.dense sparse)),
         map-append (λ t. structure_with (tag_fields t)) ts (tag ∷ []),
       )
-  taken q place ts us d f result (broke why) = tt
+  taken q place ts us d f result (broke may why) = tt
 
   none_there : (q : Place) → place_in (kind_at outer) None ≡ Some q → (ts us : List Tag) (d f : Cursor) (result : Result (Unit {0}) SerdeError) → TakesTag r inner ts d result us f
       → (e : SerdeError) → result ≡ Err e → IsFault e → d.due ≡ true → NoElement r r.wire outer q d
   none_there q place ts us d f result (put tag reads) e fails fault due = cc
-  none_there q place ts us d f result (broke {e = h} why) e fails fault due =
+  none_there q place ts us d f result (broke {e = h} may why) e fails fault due =
       inl (
         subst (λ p. StandsNot r.wire d outer.table p) (sym (here q place)) (subst (λ t. StandsNot r.wire d t inner.place) table (why (subst IsFault (sym (same_error (Unit {0}) h e fails)) fault) due)),
         (λ sparse. absurd (are.dense sparse)),
@@ -68,3 +75,12 @@ module _ (r : Reader) (outer inner : Site) (are : AreTags outer) (is : inner_sit
       list_refused r r.wire IsFault outer (of_wire r outer laws) laws (list_type (kind_at outer) are.is_list) (λ element. TakesTag r inner) tag_values (λ q place xs ys d f called due. taken q place xs ys d f (Ok tt) called)
       (λ q place xs ys d f e called fault due. none_there q place xs ys d f (Err e) called e refl fault due)
       [] ts c g result refl consumes
+
+  tag_answers : (ts us : List Tag) (d f : Cursor) (result : Result (Unit {0}) SerdeError) → TakesTag r inner ts d result us f → (e : SerdeError) → result ≡ Err e → MayAnswer d e
+  tag_answers ts us d f result (put tag reads) e fails = cc
+  tag_answers ts us d f result (broke {e = h} may why) e fails = subst (MayAnswer d) (same_error (Unit {0}) h e fails) may
+
+  pub tags_fail : (ts : List Tag) (c g : Cursor) (result : Result (Unit {0}) SerdeError) → Consumes r outer in_list (by_element r outer) (λ element. TakesTag r inner) [] c result ts g
+      → OnErr result (g.failed ≡ true) → FailsAsReader c g result
+  tags_fail ts c g result consumes =
+      elements_fail r outer (λ element. TakesTag r inner) (λ xs ys d f e called. tag_answers xs ys d f (Err e) called e refl) [] ts c g result consumes

@@ -13,6 +13,7 @@ use Rattle.smithy_shapes.specs.Site.{Site, kind_at, member_site, inner_site}
 use Rattle.smithy_schema.specs.Reading.{Cursor, Reads, StandsNot, IsFault}
 use Rattle.smithy_schema.specs.Consuming.{Reader}
 use Rattle.smithy_schema.specs.Fields.{structure_with}
+use Rattle.smithy_schema.specs.Typed.{MayAnswer}
 use Rattle.smithy_schema.specs.TextMaps.{text_value}
 use Rattle.sts_client.specs.declared.credentials.Credentials.{Credentials}
 use Rattle.sts_client.specs.declared.tags.Tag.{Tag}
@@ -70,7 +71,7 @@ tag_values tags = map (λ tag. structure_with (tag_fields tag)) tags
 -- an element is read as a tag, and comes behind those so far; a fault comes only where no tag stands
 pub data TakesTag (r : Reader) (site : Site) : List Tag → Cursor → Result (Unit {0}) SerdeError → List Tag → Cursor → Type 0 where
   put : {tags : List Tag} {c d : Cursor} (tag : Tag) → Reads r.wire c d site.table site.place (structure_with (tag_fields tag)) → TakesTag r site tags c (Ok tt) (tags ++ tag ∷ []) d
-  broke : {tags after : List Tag} {c d : Cursor} {e : SerdeError} → (IsFault e → c.due ≡ true → StandsNot r.wire c site.table site.place) → TakesTag r site tags c (Err e) after d
+  broke : {tags after : List Tag} {c d : Cursor} {e : SerdeError} → MayAnswer c e → (IsFault e → c.due ≡ true → StandsNot r.wire c site.table site.place) → TakesTag r site tags c (Err e) after d
 
 -- ---- what AssumeRole is given, and what it answers
 

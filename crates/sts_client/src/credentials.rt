@@ -1,8 +1,9 @@
 //! The credentials that AssumeRole answers.
-ghost use Rattle.std.specs.Prelude.{◌≡◌, IfOk, OnOk, OnErr, true};
+ghost use Rattle.std.specs.Prelude.{◌≡◌, IfOk, OnOk, true};
 ghost use Rattle.smithy_schema.specs.Consuming.{IsTaken};
 ghost use Rattle.smithy_shapes.specs.Site.{site_of};
 ghost use Rattle.smithy_schema.specs.Reading.{Reads, StandsNot, IsRefused};
+ghost use Rattle.smithy_schema.specs.Typed.{FailsAsReader};
 ghost use Rattle.smithy_schema.specs.Fields.{structure_with};
 ghost use Rattle.sts_client.specs.Shapes.{IsCredentials, credentials_fields};
 
@@ -118,7 +119,7 @@ pub fn read_credentials<D: ShapeDeserializer>(
 
     // A fault comes only where no such structure stands.
     ensures refused { IsRefused result → (D.state source.old).due ≡ true → StandsNot (D.wire (D.settings source.old)) (D.state source.old) schema.now.shapes.now schema.now.place }
-    ensures fails { OnErr result ((D.state source.new).failed ≡ true) }
+    ensures fails { FailsAsReader (D.state source.old) (D.state source.new) result }
 {
     let mut keys = Credentials {
         access_key_id: None,

@@ -1,8 +1,9 @@
 //! What AssumeRole answers.
-ghost use Rattle.std.specs.Prelude.{◌≡◌, false, true, IfOk, OnOk, OnErr};
+ghost use Rattle.std.specs.Prelude.{◌≡◌, false, true, IfOk, OnOk};
 ghost use Rattle.smithy_shapes.specs.Site.{site_of};
 ghost use Rattle.smithy_schema.specs.Consuming.{IsTaken};
 ghost use Rattle.smithy_schema.specs.Reading.{Reads, StandsNot, IsRefused};
+ghost use Rattle.smithy_schema.specs.Typed.{FailsAsReader};
 ghost use Rattle.smithy_schema.specs.Writing.{events};
 ghost use Rattle.smithy_schema.specs.Written.{Runs, outcome};
 ghost use Rattle.smithy_schema.specs.Fields.{structure_with};
@@ -102,6 +103,7 @@ fn read_user<D: ShapeDeserializer>(
     ensures ok { IfOk result (λ user. Reads (D.wire (D.settings source.old)) (D.state source.old) (D.state source.new) schema.now.shapes.now schema.now.place (structure_with (user_fields user))) }
     ensures takes { OnOk result (IsTaken (D.state source.old) (D.state source.new)) }
     ensures refused { IsRefused result → (D.state source.old).due ≡ true → StandsNot (D.wire (D.settings source.old)) (D.state source.old) schema.now.shapes.now schema.now.place }
+    ensures fails { FailsAsReader (D.state source.old) (D.state source.new) result }
 {
     let mut user = AssumedRoleUser {
         assumed_role_id: None,
@@ -208,7 +210,7 @@ pub fn read_response<D: ShapeDeserializer>(
 
     // A fault comes only where no such structure stands.
     ensures refused { IsRefused result → (D.state source.old).due ≡ true → StandsNot (D.wire (D.settings source.old)) (D.state source.old) schema.now.shapes.now schema.now.place }
-    ensures fails { OnErr result ((D.state source.new).failed ≡ true) }
+    ensures fails { FailsAsReader (D.state source.old) (D.state source.new) result }
 {
     let mut response = AssumeRoleResponse {
         credentials: None,

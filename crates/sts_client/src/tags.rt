@@ -1,9 +1,10 @@
 //! The tags of a session, which AssumeRole is given.
-ghost use Rattle.std.specs.Prelude.{◌≡◌, ◌↔◌, IsTrue, IfOk, OnOk, OnErr, true};
+ghost use Rattle.std.specs.Prelude.{◌≡◌, ◌↔◌, IsTrue, IfOk, OnOk, true};
 ghost use Rattle.smithy_schema.specs.Consuming.{IsTaken};
 ghost use Rattle.smithy_shapes.specs.Value.{list, values_of};
 ghost use Rattle.smithy_shapes.specs.Site.{site_of};
 ghost use Rattle.smithy_schema.specs.Reading.{Reads, StandsNot, IsRefused};
+ghost use Rattle.smithy_schema.specs.Typed.{FailsAsReader};
 ghost use Rattle.sts_client.specs.Shapes.{IsTag, AreTags, tag_values};
 
 use smithy_schema::{
@@ -127,7 +128,7 @@ pub fn read_tags<D: ShapeDeserializer>(
 
     // A fault comes only where no such list stands.
     ensures refused { IsRefused result → (D.state source.old).due ≡ true → StandsNot (D.wire (D.settings source.old)) (D.state source.old) schema.now.shapes.now schema.now.place }
-    ensures fails { OnErr result ((D.state source.new).failed ≡ true) }
+    ensures fails { FailsAsReader (D.state source.old) (D.state source.new) result }
 {
     let Some(shape) = schema.member() else {
         unreachable!()

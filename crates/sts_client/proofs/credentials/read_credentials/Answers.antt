@@ -4,6 +4,7 @@ use Rattle.smithy_schema.specs.Consuming.{reader}
 use Rattle.smithy_shapes.specs.Site.{site_of, kind_at}
 use Rattle.smithy_schema.proofs.ReadContainers.{structure_has_members}
 use Rattle.smithy_schema.proofs.ReadFields.{has_structure, fields_read, fields_refused}
+use Rattle.smithy_schema.proofs.AnsweredErrors.{fields_fail, same_success, same_failure}
 use Rattle.sts_client.specs.Shapes.{credentials_members, credentials_fields}
 use Rattle.sts_client.proofs.credentials.read_credentials.Goals as goal
 
@@ -25,3 +26,11 @@ returns-in_err-read_struct-clause-refused g c =
     rw (p.1, p.2)
     (λ fault due. fields_refused credentials_fields credentials_members (reader (d.wire s) (d.lifted s) (d.tells_without_limits s) (d.max_depth s)) (site_of c.args.schema.now) (g.met.D.ShapeDeserializer.lawful s) c.requires.place
     _ _ _ _ _ c.in_err-read_struct.ensures.consumes c.in_err-read_struct.field-0.0 refl fault due)
+
+pub returns-clause-fails : goal.returns-clause-fails
+returns-clause-fails g c = same_success _ _ _ _ (fields_fail credentials_fields _ (site_of c.args.schema.now) _ _ _ _ _ c.in_ok-read_struct.ensures.consumes tt)
+
+pub returns-in_err-read_struct-clause-fails : goal.returns-in_err-read_struct-clause-fails
+returns-in_err-read_struct-clause-fails g c =
+    let p = err_from_is_err_and c.from_residual.result c.from_residual.ensures.1 in
+    rw (p.1, p.2) (same_failure _ _ _ (fields_fail credentials_fields _ (site_of c.args.schema.now) _ _ _ _ _ c.in_err-read_struct.ensures.consumes c.in_err-read_struct.ensures.fails))

@@ -4,7 +4,8 @@ use Rattle.smithy_schema.specs.Consuming.{reader}
 use Rattle.smithy_shapes.specs.Site.{site_of}
 use Rattle.smithy_shapes.specs.Lemmas.Options.{same_some}
 use Rattle.sts_client.specs.Shapes.{IsTag}
-use Rattle.sts_client.proofs.TagFacts.{through_tags, tags_read, tags_refused}
+use Rattle.smithy_schema.proofs.AnsweredErrors.{same_success, same_failure}
+use Rattle.sts_client.proofs.TagFacts.{through_tags, tags_read, tags_refused, tags_fail}
 use Rattle.sts_client.proofs.tags.read_tags.Goals as goal
 
 pub invariant_of-tags : goal.invariant_of-tags
@@ -30,3 +31,21 @@ returns-in_err-read_list-clause-refused g c =
     rw (p.1, p.2)
     (λ fault due. tags_refused r outer inner c.requires.place (sym c.in-Some.ensures) (g.met.D.ShapeDeserializer.lawful s) c.read_list.new.consumer.tags.items _ _ _
     (through_tags r outer inner (λ e. e.tags.items) (λ e. site_of e.shape) _ _ _ _ _ refl fresh c.in_err-read_list.ensures.consumes) c.in_err-read_list.field-0.0 refl fault due)
+
+pub returns-clause-fails : goal.returns-clause-fails
+returns-clause-fails g c =
+    let outer = site_of c.args.schema.now in
+    let inner = site_of c.in-Some.shape in
+    let fresh : c.new.result.items ≡ [] = search rules in
+    same_success _ _ _ _ (tags_fail _ outer inner c.requires.place (sym c.in-Some.ensures) c.read_list.new.consumer.tags.items _ _ _
+    (through_tags _ outer inner (λ e. e.tags.items) (λ e. site_of e.shape) _ _ _ _ _ refl fresh c.in_ok-read_list.ensures.consumes) tt)
+
+pub returns-in_err-read_list-clause-fails : goal.returns-in_err-read_list-clause-fails
+returns-in_err-read_list-clause-fails g c =
+    let p = err_from_is_err_and c.from_residual.result c.from_residual.ensures.1 in
+    let outer = site_of c.args.schema.now in
+    let inner = site_of c.in-Some.shape in
+    let fresh : c.new.result.items ≡ [] = search rules in
+    rw (p.1, p.2)
+    (same_failure _ _ _ (tags_fail _ outer inner c.requires.place (sym c.in-Some.ensures) c.read_list.new.consumer.tags.items _ _ _
+    (through_tags _ outer inner (λ e. e.tags.items) (λ e. site_of e.shape) _ _ _ _ _ refl fresh c.in_err-read_list.ensures.consumes) c.in_err-read_list.ensures.fails))

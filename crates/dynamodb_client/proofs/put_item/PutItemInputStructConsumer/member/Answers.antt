@@ -7,6 +7,7 @@ use Rattle.smithy_shapes.specs.Lemmas.Options.{same_some}
 use Rattle.smithy_shapes.specs.Value.{text, map}
 use Rattle.smithy_schema.specs.Fields.{passed, broke}
 use Rattle.smithy_schema.proofs.ReadFields.{filled_field, field_taken}
+use Rattle.smithy_schema.proofs.AnsweredErrors.{may_answer}
 use Rattle.smithy_schema.proofs.DeclaredMembers.{at_index, at_last, count_of, target_there}
 use Rattle.dynamodb_client.specs.Attributes.{attribute_entries, AreEntries}
 use Rattle.dynamodb_client.specs.PutItem.{put_item_fields, IsPutItem}
@@ -35,7 +36,7 @@ read_attributes-requires g c =
 pub returns-in_err-read_attributes-clause-called : goal.returns-in_err-read_attributes-clause-called
 returns-in_err-read_attributes-clause-called g c =
     let p = err_from_is_err_and c.from_residual.result c.from_residual.ensures.1 in
-    rw (p.1, p.2, c.in-Some.is) (broke (λ fault due. c.in_err-read_attributes.ensures.reads.refused fault))
+    rw (p.1, p.2, c.in-Some.is) (broke (may_answer _ _ _ c.in_err-read_attributes.ensures.reads.fails) (λ fault due. c.in_err-read_attributes.ensures.reads.refused fault))
 
 pub returns-clause-called : goal.returns-clause-called
 returns-clause-called g c =

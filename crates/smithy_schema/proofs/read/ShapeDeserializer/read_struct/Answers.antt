@@ -35,7 +35,7 @@ returns-in_err-step-clause-consumes g c =
     let e = c.in_err-step.ensures in
     rw (p.1, p.2, e.conduct.stays)
     (entered (was_sound _ _ c.in_ok-open_struct.ensures.conduct.failed) (was_due _ c.in_ok-open_struct.ensures.undue) c.in_ok-open_struct.ensures.ok (inside.along _ _ _ (refused
-    (rw inside.same at (member_refused _ (reader (d.wire s) (d.lifted s) (d.tells_without_limits s) (d.max_depth s)) (site_of c.args.schema.now) _ _ _ e.conduct e.narrow e.refused e.none_without_limits e.unread_refused e.unread_would e.deep)))))
+    (rw inside.same at (member_refused _ (reader (d.wire s) (d.lifted s) (d.tells_without_limits s) (d.max_depth s)) (site_of c.args.schema.now) _ _ _ e.conduct e.narrow e.refused e.none_without_limits e.unread_refused e.unread_would e.deep e.limited)))))
 
 pub returns-in_err-step-clause-same : goal.returns-in_err-step-clause-same
 returns-in_err-step-clause-same g c = c.next_member.ensures.same ∙ c.members.invariant.inside.same

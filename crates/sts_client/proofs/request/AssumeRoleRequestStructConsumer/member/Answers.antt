@@ -7,6 +7,7 @@ use Rattle.smithy_shapes.specs.Value.{text, whole, list, values_of}
 use Rattle.smithy_shapes.specs.Lemmas.Options.{same_some}
 use Rattle.smithy_schema.specs.Fields.{passed, broke}
 use Rattle.smithy_schema.proofs.ReadFields.{filled_field, field_taken}
+use Rattle.smithy_schema.proofs.AnsweredErrors.{may_answer}
 use Rattle.smithy_schema.proofs.DeclaredMembers.{at_index, at_last, count_of, target_there}
 use Rattle.sts_client.specs.Shapes.{request_fields, IsRequest, AreTags, tag_values}
 use Rattle.sts_client.proofs.request.AssumeRoleRequestStructConsumer.member.Goals as goal
@@ -61,7 +62,7 @@ read_tags-requires g c =
 pub returns-in_err-tags-clause-called : goal.returns-in_err-tags-clause-called
 returns-in_err-tags-clause-called g c =
     let p = err_from_is_err_and c.from_residual.result c.from_residual.ensures.1 in
-    rw (p.1, p.2, c.in-Some.is) (broke c.in_err-tags.ensures.refused)
+    rw (p.1, p.2, c.in-Some.is) (broke (may_answer _ _ _ c.in_err-tags.ensures.fails) c.in_err-tags.ensures.refused)
 
 pub returns-clause-called : goal.returns-clause-called
 returns-clause-called g c =

@@ -7,6 +7,7 @@ use Rattle.smithy_shapes.specs.Value.{text, whole}
 use Rattle.smithy_shapes.specs.Lemmas.Options.{same_some}
 use Rattle.smithy_schema.specs.Fields.{passed, broke, structure_with}
 use Rattle.smithy_schema.proofs.ReadFields.{filled_field, field_taken}
+use Rattle.smithy_schema.proofs.AnsweredErrors.{may_answer}
 use Rattle.smithy_schema.proofs.DeclaredMembers.{at_index, at_last, count_of, target_there}
 use Rattle.sts_client.specs.Shapes.{response_fields, IsResponse, IsCredentials, IsUser, credentials_fields, user_fields}
 use Rattle.sts_client.proofs.response.AssumeRoleResponseStructConsumer.member.Goals as goal
@@ -25,7 +26,7 @@ read_credentials-requires g c =
 pub returns-in_err-read_credentials-clause-called : goal.returns-in_err-read_credentials-clause-called
 returns-in_err-read_credentials-clause-called g c =
     let p = err_from_is_err_and c.from_residual.result c.from_residual.ensures.1 in
-    rw (p.1, p.2, c.in-Some.is) (broke c.in_err-read_credentials.ensures.refused)
+    rw (p.1, p.2, c.in-Some.is) (broke (may_answer _ _ _ c.in_err-read_credentials.ensures.fails) c.in_err-read_credentials.ensures.refused)
 
 pub returns-then-eq-clause-called : goal.returns-then-eq-clause-called
 returns-then-eq-clause-called g c =
@@ -46,7 +47,7 @@ read_user-requires g c =
 pub returns-in_err-read_user-clause-called : goal.returns-in_err-read_user-clause-called
 returns-in_err-read_user-clause-called g c =
     let p = err_from_is_err_and c.from_residual-in_err-read_user.result c.from_residual-in_err-read_user.ensures.1 in
-    rw (p.1, p.2, c.in-Some.is) (broke c.in_err-read_user.ensures.refused)
+    rw (p.1, p.2, c.in-Some.is) (broke (may_answer _ _ _ c.in_err-read_user.ensures.fails) c.in_err-read_user.ensures.refused)
 
 pub returns-then-eq-2-clause-called : goal.returns-then-eq-2-clause-called
 returns-then-eq-2-clause-called g c =

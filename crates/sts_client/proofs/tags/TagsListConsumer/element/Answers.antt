@@ -4,7 +4,9 @@ use Rattle.smithy_schema.specs.Consuming.{reader}
 use Rattle.smithy_shapes.specs.Site.{site_of, kind_at}
 use Rattle.smithy_schema.proofs.ReadContainers.{structure_has_members}
 use Rattle.smithy_schema.proofs.ReadFields.{has_structure, fields_read, fields_refused}
+use Rattle.smithy_schema.proofs.AnsweredErrors.{fields_fail, may_answer}
 use Rattle.sts_client.specs.Shapes.{tag_members, tag_fields, put, broke}
+use Rattle.sts_client.proofs.TagFacts.{tag_unkept}
 use Rattle.sts_client.proofs.tags.TagsListConsumer.element.Goals as goal
 
 pub read_struct-requires : goal.read_struct-requires
@@ -20,7 +22,8 @@ returns-in_err-read_struct-clause-called g c =
     let s = d.settings c.args.source.now in
     let site = site_of c.args.self.now.shape in
     rw (p.1, p.2) (
-      broke (λ fault due. fields_refused tag_fields tag_members (reader (d.wire s) (d.lifted s) (d.tells_without_limits s) (d.max_depth s)) site (g.met.D.ShapeDeserializer.lawful s) c.args.self.now.is_tag
+      broke (may_answer _ _ _ (fields_fail tag_fields _ site _ _ _ _ _ c.in_err-read_struct.ensures.consumes c.in_err-read_struct.ensures.fails))
+          (λ fault due. fields_refused tag_fields tag_members (reader (d.wire s) (d.lifted s) (d.tells_without_limits s) (d.max_depth s)) site (g.met.D.ShapeDeserializer.lawful s) c.args.self.now.is_tag
           _ _ _ _ _ c.in_err-read_struct.ensures.consumes c.in_err-read_struct.field-0.0 refl fault due),
       refl,
     )
@@ -28,7 +31,7 @@ returns-in_err-read_struct-clause-called g c =
 pub returns-in_err-push-clause-called : goal.returns-in_err-push-clause-called
 returns-in_err-push-clause-called g c =
     let p = err_from_is_err_and c.from_residual-in_err-push.result c.from_residual-in_err-push.ensures.1 in
-    rw (p.1, p.2) (broke (λ fault due. absurd fault), refl)
+    rw (p.1, p.2) (tag_unkept _ _ _ _ _ _, refl)
 
 pub returns-clause-called : goal.returns-clause-called
 returns-clause-called g c =
