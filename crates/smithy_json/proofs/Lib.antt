@@ -3,6 +3,8 @@ pub mod LiteralLemmas
 pub mod CharsLemmas
 pub mod LaneLemmas
 pub mod StringLemmas
+pub mod QuotedPlaceLemmas
+pub mod LenientTextLemmas
 pub mod AsciiRunLemmas
 pub mod NumberLemmas
 pub mod NumberRestLemmas

@@ -10,6 +10,7 @@ pub mod Escape
 pub mod ValueTexts
 pub mod DocumentMeaning
 pub mod DocumentText
+pub mod StringText
 pub mod Standing
 -- what contracts see of a type
 pub mod EscapedText

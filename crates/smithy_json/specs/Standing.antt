@@ -3,6 +3,7 @@ use Rattle.std.specs.Prelude.{◌≡◌, ◌<◌, ◌≤◌, ℕ, ◌+◌, List,
 use Rattle.smithy_json.specs.Ascii.{quotation_mark, is_numeric}
 use Rattle.smithy_json.specs.Grammar.{IsNumber, IsStringText, IsBoundary}
 use Rattle.smithy_json.specs.Number.{whole_number, signed_number}
+use Rattle.smithy_json.specs.StringText.{IsQuoted}
 use Rattle.smithy_texts.specs.Ranges.{fits_signed}
 
 -- from at to end stands the longest run of bytes that pass the test
@@ -25,6 +26,14 @@ pub record IsStringAt (input : List ℕ) (opening closing : ℕ) : Type 0 where
   pub within : closing < length input
   pub opens : slice_index input opening ≡ quotation_mark
   pub text : IsStringText (slice_range input (opening + 1) closing)
+  pub closes : slice_index input closing ≡ quotation_mark
+
+-- between these quotation marks stands something, of which each backslash takes the next byte
+pub record IsQuotedAt (input : List ℕ) (opening closing : ℕ) : Type 0 where
+  pub ordered : opening < closing
+  pub within : closing < length input
+  pub opens : slice_index input opening ≡ quotation_mark
+  pub quoted : IsQuoted (slice_range input (opening + 1) closing)
   pub closes : slice_index input closing ≡ quotation_mark
 
 -- a number stands there that is a whole number of 64 bits

@@ -8,6 +8,7 @@ mod held_number;
 pub mod number_grammar;
 pub mod number_run;
 pub mod number_text;
+pub mod quoted_text;
 mod scalar_writer;
 pub mod scan;
 pub mod string_text;

@@ -139,7 +139,7 @@ fn ascii_stops(bytes: u8x16) -> u64
         | bytes.simd_gt(u8x16::splat(0x7f))).to_bitmask()
 }
 
-fn begins_with_four_hex_digits(input: &[u8]) -> bool
+pub(crate) fn begins_with_four_hex_digits(input: &[u8]) -> bool
     ensures { result ≡ begins_with_four_hex_digits input.now }
 {
     match input {

@@ -49,6 +49,19 @@ abbrev mutual
 abbrev pub closing_from : List ℕ → ℕ → Option ℕ
 closing_from input at = option_map (λ n. at + n) (chars_length (drop at input))
 
+-- how many bytes come before the first quotation mark that no backslash takes
+abbrev pub quoted_length : List ℕ → Option ℕ
+quoted_length [] = None
+quoted_length (b ∷ []) = if b == quotation_mark then Some 0 else None
+quoted_length (b ∷ c ∷ rest) =
+    if b == quotation_mark then Some 0
+    else (if b == escape then option_map (λ n. suc (suc n)) (quoted_length rest)
+    else option_map suc (quoted_length (c ∷ rest)))
+
+-- where that mark stands, from the offset on
+abbrev pub quoted_from : List ℕ → ℕ → Option ℕ
+quoted_from input at = option_map (λ n. at + n) (quoted_length (drop at input))
+
 -- the text goes on at the end that is answered, as from the offset, and else it has no closing mark
 abbrev pub GoesOnAt : List ℕ → ℕ → Option ℕ → Type 0
 GoesOnAt input at result =
