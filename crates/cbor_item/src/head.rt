@@ -80,15 +80,29 @@ fn head_of(major: u8, argument: u64, length: u8) -> Head
 }
 
 /// Writes the shortest head of a major type and an argument.
+#[inline(always)]
 pub fn write_head(out: &mut Vec<u8>, major: u8, argument: u64) -> Result<(), AllocError>
     requires { major ≤ 7 }
     ensures ok { OnOk result (out.new.items ≡ out.old.items ++ shortest_head major argument) }
     ensures err { OnErr result (out.new.items ≡ out.old.items) }
 {
+    if argument < 24 {
+        return Ok(out.push(32 * major + argument as u8)?);
+    }
+    write_long_head(out, major, argument)
+}
+
+/// Writes the head of an argument that its initial byte doesn't hold.
+#[inline(never)]
+fn write_long_head(out: &mut Vec<u8>, major: u8, argument: u64) -> Result<(), AllocError>
+    requires major { major ≤ 7 }
+    requires long { 24 ≤ argument }
+    ensures ok { OnOk result (out.new.items ≡ out.old.items ++ shortest_head major argument) }
+    ensures err { OnErr result (out.new.items ≡ out.old.items) }
+{
     let kind = 32 * major;
     match argument {
-        0..=23 => Ok(out.push(kind + argument as u8)?),
-        24..=0xff => out.extend_from_slice(&[kind + 24, argument as u8]),
+        0..=0xff => out.extend_from_slice(&[kind + 24, argument as u8]),
         0x100..=0xffff => {
             let [a, b] = (argument as u16).to_be_bytes();
             out.extend_from_slice(&[kind + 25, a, b])

@@ -133,6 +133,30 @@ parts_epoch text b m places a p few value =
     ∙ ap (λ k. option_map (signed b) (scaled k (net_exponent text +ℤ pos 9))) p.digits
     ∙ ap (λ e. option_map (signed b) (scaled m (e +ℤ pos 9))) p.net ∙ ap (λ e. option_map (signed b) (scaled m e)) power ∙ ap (λ k. Some (signed b k)) value
 
+-- a text of digits alone, of any size
+plain_of_digits : (ds : List ℕ) → all_ascii_digits ds ≡ true → 0 < length ds → IsPlain ds false (magnitude ds) 0
+plain_of_digits ds digits some =
+    let sign = no_sign ds digits in
+    let mark = none_in_digits is_exponent_mark mark_is_no_digit ds digits in
+    let point = none_in_digits is_point point_is_no_digit ds digits in
+    let before : before_first is_point ds ≡ ds = ap (λ n. take n ds) point ∙ take-length ds in
+    let after : after_first is_point ds ≡ [] = drop_of_length-le ds (omega (arith, point)) in
+    let form : are_digits_with_point ds ≡ true = ap (λ a. are_digits (a ++ after_first is_point ds)) before ∙ ap (λ b. are_digits (ds ++ b)) after ∙ ap are_digits (append-nil ds) ∙ grind (arith, nat_tests) in
+    record {
+      no_mark = mark;
+      form = ap are_digits_with_point sign.sign ∙ form;
+      sign = sign.begins;
+      digits = refl;
+      behind = ap length after;
+    }
+
+-- its seconds
+pub digits_epoch : (ds : List ℕ) → are_digits ds ≡ true → epoch_nanos ds ≡ Some (pos (magnitude ds * 10 ^ 9))
+digits_epoch ds are =
+    let digits : all_ascii_digits ds ≡ true = grind (arith, nat_tests) in
+    let some : 0 < length ds = grind (arith, nat_tests) in
+    parts_epoch ds false (magnitude ds) 0 (magnitude ds * 10 ^ 9) (parts_of_plain ds false (magnitude ds) 0 (plain_of_digits ds digits some)) (omega arith) refl
+
 -- the text of seconds without a sign
 record IsBody (text : List ℕ) (q r : ℕ) : Type 0 where
   number : ℕ

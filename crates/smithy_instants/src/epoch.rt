@@ -2,9 +2,9 @@
 
 ghost use Rattle.std.specs.Prelude.{◌≡◌, ◌≢◌, ◌≤◌, ◌<◌, ◌*◌, ◌^◌, ◌%◌, ◌⊎◌, ◌≤ℤ◌, unsigned_abs, take, length, true, false, pos, neg_ℤ, ◌+ℤ◌, ℤ, Option, Some, None, IfOk, IfErr, IfSome, IsTrue, FitsSigned};
 ghost use Rattle.std.specs.Option.{SomeIff};
-ghost use Rattle.std.specs.Int.{is_in_range, w128};
+ghost use Rattle.std.specs.Int.{is_in_range, w64, w128};
 ghost use Rattle.std.specs.Str.{byte};
-ghost use Rattle.smithy_texts.specs.Numeral.{magnitude, begins_with, signed};
+ghost use Rattle.smithy_texts.specs.Numeral.{are_digits, magnitude, begins_with, signed};
 ghost use Rattle.smithy_texts.specs.Decimal.{coefficient, net_exponent};
 ghost use Rattle.smithy_instants.specs.Epoch.{is_epoch, epoch_nanos, scaled};
 ghost use Rattle.smithy_instants.specs.Instant.{is_instant};
@@ -84,8 +84,41 @@ fn nanos_power(exponent: i128, zeros: usize) -> i128
     exponent + 9 + zeros as i128
 }
 
+// The number of a text of one to eighteen digits and nothing else.
+fn few_digits(text: &[u8]) -> Option<i64>
+    ensures digits { IfSome result (λ n. (are_digits text.now ≡ true) × (n ≡ pos (magnitude text.now))) }
+    ensures fits { IfSome result (λ n. FitsSigned w64 n) }
+{
+    if text.is_empty() || text.len() > 18 {
+        return None;
+    }
+    let mut value: u64 = 0;
+    for byte in text {
+        if !byte.is_ascii_digit() {
+            return None;
+        }
+        value = value * 10 + u64::from(byte - b'0');
+    }
+    i64::try_from(value).ok()
+}
+
 /// The instant of a decimal text in seconds.
 pub fn read_epoch(text: &[u8]) -> Result<DateTime, EpochError>
+    ensures ok { IfOk result (λ d. epoch_nanos text.now ≡ Some d) }
+    ensures instant { IfOk result (λ d. is_instant d ≡ true) }
+    ensures whole { IfErr result (λ e. e ≡ NotWhole → epoch_nanos text.now ≡ None) }
+    ensures range { IfErr result (λ e. e ≡ OutOfRange
+        → (n : ℤ) × (epoch_nanos text.now ≡ Some n) × (is_instant n ≡ false)) }
+{
+    match few_digits(text) {
+        Some(seconds) => Ok(DateTime::from_secs(seconds)),
+        None => read_decimal(text),
+    }
+}
+
+// The instant of a decimal text in seconds, whatever its form.
+#[inline(never)]
+fn read_decimal(text: &[u8]) -> Result<DateTime, EpochError>
     ensures ok { IfOk result (λ d. epoch_nanos text.now ≡ Some d) }
     ensures instant { IfOk result (λ d. is_instant d ≡ true) }
     ensures whole { IfErr result (λ e. e ≡ NotWhole → epoch_nanos text.now ≡ None) }
