@@ -2,14 +2,13 @@
 use Rattle.std.proofs.Common.{ℕ, suc, ℤ, List, [], ◌∷◌, Bool, true, false, Option, Some, None, option_map, codes}
 use Rattle.smithy_shapes.specs.declared.place.Place.{Place}
 use Rattle.smithy_shapes.specs.declared.shape_type.Scalar.TheVariants as scalars
-use Rattle.smithy_shapes.specs.declared.shape_type.TimestampFormat.TheVariants.{EpochSeconds}
 use Rattle.smithy_shapes.specs.Table as table
 use Rattle.smithy_shapes.specs.Table.{Table, Member, Shape, Declaration, scalar_place, shape_place}
 use Rattle.smithy_shapes.specs.Site.{shape_site}
 use Rattle.smithy_shapes.specs.Value as values
 use Rattle.smithy_shapes.specs.Value.{whole, text, Value, scalar_value, no_values, no_member_values, member_value}
 use Rattle.smithy_json.specs.Tree.{Json, array, object, no_elements, element, no_members, member}
-use Rattle.smithy_json_codec.specs.Settings.{Settings, kept, without_limits}
+use Rattle.smithy_json_codec.specs.Settings.{Settings, strict_settings, without_limits}
 use Rattle.smithy_json_codec.specs.Meaning.{json_meaning}
 use Rattle.smithy_json_codec.specs.Canonical.{canonical_json}
 
@@ -113,12 +112,7 @@ first_alone v = values.structure (member_value 0 v no_member_values)
 
 -- the settings of a strict reader
 abbrev pub strict : Bool → Settings
-strict use_json_name = record {
-  use_json_name = use_json_name;
-  max_depth = 128;
-  default_timestamp_format = EpochSeconds;
-  limits = kept;
-}
+strict = strict_settings
 
 -- what a tree means at the declaration of that number, by member names
 abbrev pub means_at : Table → ℕ → Json → Option Value

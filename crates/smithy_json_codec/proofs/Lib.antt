@@ -1,4 +1,5 @@
 mod Examples
+mod SettingsFacts
 mod StandardFacts
 mod MeaningFacts
 mod InstantFacts
@@ -18,6 +19,7 @@ pub mod ScannedValues
 pub mod OptionLemmas
 pub mod TextLemmas
 pub mod NextInContainerLemmas
+pub mod MapEnds
 pub mod ValueFirstByte
 pub mod ScalarLemmas
 pub mod SkipSteps

@@ -1,20 +1,23 @@
 -- Which tokens of JSON are in its grammar: what the settings of a reader decide of numbers, of strings, and of what follows a
--- value. A token that isn't in the grammar means nothing as any kind, and isn't skipped.
+-- value. A token that isn't in the grammar means nothing as the kind that is wanted, and isn't skipped.
 use Rattle.std.specs.Prelude.{◌≡◌, ℕ, ◌==◌, ◌&&◌, ◌||◌, drop, List, [], ◌∷◌, Bool, true, false, not, Some, None, nat_le, if◌then◌else◌}
 use Rattle.std.specs.Char.{is_ascii_hexdigit}
+use Rattle.std.specs.List.{list_all}
 use Rattle.std.specs.Str.{is_utf8}
+use Rattle.smithy_texts.specs.Numeral.{are_digits, without_sign, without_minus}
+use Rattle.smithy_texts.specs.Decimal.{is_decimal}
 use Rattle.smithy_shapes.specs.declared.shape_type.Scalar.{Scalar}
 use Rattle.smithy_shapes.specs.declared.shape_type.Scalar.TheVariants as scalars
 use Rattle.smithy_shapes.specs.TimeForms.{form_or}
 use Rattle.smithy_schema.specs.Reading.{Relations}
 use Rattle.smithy_json.specs.Ascii.{quotation_mark, escape, letter_u, space, is_short_escape}
 use Rattle.smithy_json.specs.Grammar.{IsBoundary}
-use Rattle.smithy_json.specs.NumberText.{is_number}
+use Rattle.smithy_json.specs.NumberText.{is_number, is_number_of}
 use Rattle.smithy_json_codec.specs.Settings.{Settings}
 use Rattle.smithy_json_codec.specs.Scalar.{JsonScalar, a_boolean, a_number, a_string, text_of, document_says}
 use Rattle.smithy_json_codec.specs.Meaning.{rules_of}
 use Rattle.smithy_json_codec.specs.Spans.{without_ws}
-use Rattle.smithy_json_codec.specs.TypeMismatch.{type_mismatches}
+use Rattle.smithy_json_codec.specs.TypeMismatch.{type_mismatches, begins_as_number}
 use Rattle.smithy_json_codec.specs.Tokens.{token_frames}
 use Rattle.smithy_wire.specs.Rules.{Rules, no_meaning}
 use Rattle.smithy_wire.specs.Frames.{relations}
@@ -57,6 +60,65 @@ are_chars (b ∷ letter ∷ rest) =
 
 abbrev pub is_string_text : List ℕ → Bool
 is_string_text raw = is_utf8 raw && are_chars raw
+
+-- ---- strings and numbers where less is asked for
+
+-- each backslash begins an escape
+abbrev pub escapes_are_valid : List ℕ → Bool
+escapes_are_valid [] = true
+escapes_are_valid (b ∷ []) = not (b == escape)
+escapes_are_valid (b ∷ letter ∷ rest) =
+    if b == escape then is_escape letter rest && escapes_are_valid rest else escapes_are_valid (letter ∷ rest)
+
+-- UTF-8 without control characters below 0x20
+abbrev pub is_plain : List ℕ → Bool
+is_plain raw = is_utf8 raw && list_all (nat_le space) raw
+
+-- what a string that is read may hold, where control characters are refused, and where not
+abbrev pub reads_text : Bool → List ℕ → Bool
+reads_text true raw = is_string_text raw
+reads_text false raw = is_utf8 raw && escapes_are_valid raw
+
+-- what a skipped string may hold, where it is in UTF-8 without control characters, and where its escapes are valid
+abbrev pub skips_text : Bool → Bool → List ℕ → Bool
+skips_text true true raw = is_string_text raw
+skips_text true false raw = is_plain raw
+skips_text false true raw = escapes_are_valid raw
+skips_text false false raw = true
+
+-- an integer: of the grammar of numbers, where it may be a whole decimal, or else a sign and digits
+abbrev pub is_lenient_integer : Settings → List ℕ → Bool
+is_lenient_integer c raw =
+    if c.allow_integral_float_numbers then is_number_of c.numbers raw else are_digits (without_sign raw)
+
+abbrev pub is_lenient_big_integer : List ℕ → Bool
+is_lenient_big_integer raw = are_digits (without_minus raw)
+
+abbrev pub is_lenient_decimal : List ℕ → Bool
+is_lenient_decimal raw = begins_as_number raw && is_decimal raw
+
+-- ---- grammars
+
+-- a number of the grammar, or where nothing is strict one that passes the other test
+abbrev pub number_test : Settings → (List ℕ → Bool) → List ℕ → Bool
+number_test c lenient raw = if c.enforce_strictness then is_number_of c.numbers raw else lenient raw
+
+-- what may follow a value, where that is strict
+abbrev pub BoundaryBy : Bool → List ℕ → Type 0
+BoundaryBy true rest = IsBoundary rest
+BoundaryBy false rest = Unit {0}
+
+-- the grammar of some settings
+abbrev pub grammar_of : Settings → LexicalGrammar
+grammar_of c = record {
+  is_number = is_number_of c.numbers;
+  is_integer = number_test c (is_lenient_integer c);
+  is_big_integer = number_test c is_lenient_big_integer;
+  is_decimal = number_test c is_lenient_decimal;
+  is_text = reads_text c.enforce_strictness;
+  is_skipped_text = skips_text c.validate_skipped_string_encoding c.validate_skipped_values;
+  Boundary = BoundaryBy c.enforce_strictness;
+}
 
 -- the grammar of the standard
 abbrev pub rfc_8259 : LexicalGrammar

@@ -1,6 +1,7 @@
 -- to be believed, in this order
 pub mod Settings
 pub mod Codec
+pub mod WrittenNumber
 pub mod Scalar
 pub mod Meaning
 pub mod Spelling

@@ -7,22 +7,26 @@ use Rattle.smithy_json.specs.Grammar.{IsWs, IsStringText, IsValue, IsBoundary}
 use Rattle.smithy_json_codec.specs.Settings.{Settings}
 use Rattle.smithy_json_codec.specs.Scalar.{JsonScalar}
 use Rattle.smithy_json_codec.specs.Tokens.{EndsContainer, EndsInside, token_frames}
-use Rattle.smithy_json_codec.specs.LexicalGrammar.{rfc_8259, token_rules, token_relations}
+use Rattle.smithy_json_codec.specs.LexicalGrammar.{LexicalGrammar, rfc_8259, token_rules, token_relations}
 use Rattle.smithy_wire.specs.Rules.{Rules}
 use Rattle.smithy_wire.specs.Frames.{Frames}
 pub use Rattle.smithy_json_codec.specs.Spans.{IsFront, Lies, IsByte, fresh_mark, end_mark, entry_mark, IsSeparated, without_ws, begins_with_alphanumeric, begins_with_null, opening, closing}
 
 -- ---- relations of reading
 
--- the framing, the rules and the relations of JSON by the grammar of the standard
+-- the grammar by which JSON is read under some settings
+abbrev pub json_grammar : Settings → LexicalGrammar
+json_grammar c = rfc_8259
+
+-- the framing, the rules and the relations of JSON by that grammar
 abbrev pub json_frames : Frames JsonScalar
 json_frames = token_frames IsBoundary
 
 abbrev pub json_rules : Settings → Rules JsonScalar
-json_rules = token_rules rfc_8259
+json_rules c = token_rules (json_grammar c) c
 
 abbrev pub json_relations : Settings → Relations
-json_relations = token_relations rfc_8259
+json_relations c = token_relations (json_grammar c) c
 
 -- ---- trees
 

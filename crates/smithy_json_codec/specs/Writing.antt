@@ -1,5 +1,5 @@
 -- What each call of a serializer makes of its state.
-use Rattle.std.specs.Prelude.{ℕ, List, [], ◌∷◌, ◌++◌, Bool, true, false, if◌then◌else◌, Result, Ok, Err, codes}
+use Rattle.std.specs.Prelude.{ℕ, List, [], ◌∷◌, ◌++◌, Bool, true, false, if◌then◌else◌, Result, Ok, Err, is_some, unwrap_or, codes}
 use Rattle.std.specs.Option.{option_map_or}
 use Rattle.smithy_schema.specs.declared.error.SerdeError.{SerdeError}
 use Rattle.smithy_schema.specs.declared.error.SerdeError.TheVariants.{Unwritable}
@@ -9,9 +9,9 @@ use Rattle.smithy_shapes.specs.Value.{ScalarValue, text_in}
 use Rattle.smithy_shapes.specs.TimeForms.{form_or}
 use Rattle.smithy_schema.specs.Writing.{Event, Writer, begin_structure, end_structure, begin_list, end_list, begin_map, end_map, null_of, scalar_of, big_integer_of, big_decimal_of, document_of, Open, open_structure, open_map_at_key, open_after}
 use Rattle.smithy_json.specs.Ascii.{value_separator, begin_array, end_array, begin_object, end_object}
-use Rattle.smithy_json.specs.NumberText.{is_number}
 use Rattle.smithy_json_codec.specs.Canonical.{name_text, key_text, scalar_text, document_text, can_write}
 use Rattle.smithy_json_codec.specs.Settings.{Settings}
+use Rattle.smithy_json_codec.specs.WrittenNumber.{written_number}
 
 pub record JsonState : Type 0 where
   pub settings : Settings
@@ -78,6 +78,10 @@ opened s view bracket frames =
 abbrev pub closed : JsonState → ℕ → List Open → JsonState
 closed s bracket frames = record s { out = s.out ++ bracket ∷ []; needs_comma = true; frames = frames }
 
+-- the bytes of a big number: where it can't be written, they count as none
+abbrev pub big_number_text : Settings → List ℕ → List ℕ
+big_number_text c written = unwrap_or (written_number c written) []
+
 -- what a call makes of the state, with the containers that are open behind it
 abbrev pub made : Event → JsonState → List Open → JsonState
 made (begin_structure site) s frames = opened s site.view begin_object frames
@@ -88,8 +92,8 @@ made (begin_map site length) s frames = opened s site.view begin_object frames
 made end_map s frames = closed s end_object frames
 made (null_of site) s frames = wrote s site.view (codes "null") frames
 made (scalar_of site x) s frames = scalar_wrote s site x frames
-made (big_integer_of site written) s frames = wrote s site.view written frames
-made (big_decimal_of site written) s frames = wrote s site.view written frames
+made (big_integer_of site written) s frames = wrote s site.view (big_number_text s.settings written) frames
+made (big_decimal_of site written) s frames = wrote s site.view (big_number_text s.settings written) frames
 made (document_of site d) s frames = wrote s site.view (document_text d) frames
 
 -- the state that is made of the open containers, unless the call is refused
@@ -97,12 +101,11 @@ abbrev pub where_taken : (List Open → JsonState) → Result (List Open) SerdeE
 where_taken make (Ok frames) = Ok (make frames)
 where_taken make (Err e) = Err e
 
--- the text of a big number is written as it stands, so it has to be a number of JSON; an instant has to be one that the form
--- of its site can write
+-- a big number has to be one that can be written under the settings, and an instant one that the form of its site can write
 abbrev pub is_writable : JsonState → Event → Bool
 is_writable s (scalar_of site x) = (can_write s.settings).scalar site.place.time x
-is_writable s (big_integer_of site written) = is_number written
-is_writable s (big_decimal_of site written) = is_number written
+is_writable s (big_integer_of site written) = is_some (written_number s.settings written)
+is_writable s (big_decimal_of site written) = is_some (written_number s.settings written)
 is_writable s _ = true
 
 -- a call is refused where no serializer takes it, and where JSON can't have its text

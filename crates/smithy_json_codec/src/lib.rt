@@ -1,6 +1,7 @@
 //! The JSON wire: a reader and a serializer that a schema directs (RFC 8259).
 #![tactic(auto)]
 
+mod big_numbers;
 mod borrowing;
 mod codec;
 mod deserializer;

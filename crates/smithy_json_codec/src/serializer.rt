@@ -1,5 +1,5 @@
 //! Writing a body as a schema directs.
-ghost use Rattle.std.specs.Prelude.{if◌then◌else◌, ◌≡◌, ◌↔◌, [], ◌∷◌, ◌++◌, Ok, Err, true, false, OnOk, IfErr, IsErr, IsErrOf};
+ghost use Rattle.std.specs.Prelude.{if◌then◌else◌, ◌≡◌, ◌↔◌, [], ◌∷◌, ◌++◌, Ok, Err, true, false, is_some, OnOk, IfErr, IsErr, IsErrOf};
 ghost use Rattle.smithy_schema.specs.declared.error.SerdeError.TheVariants.{Failed, NoMemory, Unwritable};
 ghost use Rattle.smithy_schema.specs.Reading.{IsFault};
 ghost use Rattle.smithy_shapes.specs.Site.{site_of};
@@ -10,13 +10,14 @@ ghost use Rattle.smithy_types.specs.DocumentView.{document_view};
 ghost use Rattle.smithy_json.specs.Ascii.{quotation_mark};
 ghost use Rattle.smithy_texts.specs.Decimal.{exponent_text, decimal_text};
 ghost use Rattle.smithy_json.specs.Escape.{quoted};
-ghost use Rattle.smithy_json.specs.NumberText.{is_number};
 ghost use Rattle.smithy_json_codec.specs.Canonical.{in_form};
 ghost use Rattle.smithy_wire.specs.OpenContainers.{open_of};
 ghost use Rattle.smithy_json_codec.specs.Codec.{held_settings};
+ghost use Rattle.smithy_json_codec.specs.WrittenNumber.{normalized, written_number};
 ghost use Rattle.smithy_json_codec.specs.Serializing.{state_of, has_failed};
-ghost use Rattle.smithy_json_codec.specs.Writing.{JsonState, fresh_state, is_key_due, lead, wrote, key_wrote, opened, where_taken, json_after};
+ghost use Rattle.smithy_json_codec.specs.Writing.{JsonState, fresh_state, is_key_due, lead, wrote, key_wrote, opened, where_taken, big_number_text, json_after};
 
+use crate::big_numbers::push_normalized;
 use crate::instants::form_at;
 use crate::output::{
     push_base64, push_comma, push_key, push_name, push_quoted, push_whole_document,
@@ -109,18 +110,39 @@ impl JsonSerializer {
         Ok(())
     }
 
-    // Writes the text of a number as it stands, where it is one of JSON.
+    // Writes a big number whose text is no number of JSON by another text of the same number.
+    fn write_normalized(&mut self, schema: &Schema<'_>, text: &str) -> Result<(), SerdeError>
+        ensures failed { IsErrOf result Failed ↔ (has_failed self.old ≡ true) }
+        ensures broken { IsErr result ↔ (has_failed self.new ≡ true) }
+        ensures ok { OnOk result (where_taken (wrote (state_of self.old) (site_of schema.now).view (normalized text.now)) (after_value (state_of self.old).frames) ≡ Ok (state_of self.new)) }
+        ensures refused { IfErr result (λ e. IsFault e → after_value (state_of self.old).frames ≡ Err e) }
+    {
+        self.begin_value(schema)?;
+        push_normalized(&mut self.out, text.as_bytes())?;
+        self.needs_comma = true;
+        self.containers.succeed();
+        Ok(())
+    }
+
+    // Writes a big number by its text, as the settings say.
+    #[tactic(auto, unfolding(crate::specs::WrittenNumber::written_number))]
     fn write_number(&mut self, schema: &Schema<'_>, text: &str) -> Result<(), SerdeError>
         ensures failed { IsErrOf result Failed ↔ (has_failed self.old ≡ true) }
         ensures broken { IsErr result ↔ (has_failed self.new ≡ true) }
-        ensures ok { OnOk result ((if is_number text.now then where_taken (wrote (state_of self.old) (site_of schema.now).view text.now) (after_value (state_of self.old).frames) else Err Unwritable) ≡ Ok (state_of self.new)) }
-        ensures refused { IfErr result (λ e. IsFault e → (if is_number text.now then where_taken (wrote (state_of self.old) (site_of schema.now).view text.now) (after_value (state_of self.old).frames) else Err Unwritable) ≡ Err e) }
+        ensures ok { OnOk result ((if is_some (written_number (state_of self.old).settings text.now) then where_taken (wrote (state_of self.old) (site_of schema.now).view (big_number_text (state_of self.old).settings text.now)) (after_value (state_of self.old).frames) else Err Unwritable) ≡ Ok (state_of self.new)) }
+        ensures refused { IfErr result (λ e. IsFault e → (if is_some (written_number (state_of self.old).settings text.now) then where_taken (wrote (state_of self.old) (site_of schema.now).view (big_number_text (state_of self.old).settings text.now)) (after_value (state_of self.old).frames) else Err Unwritable) ≡ Err e) }
     {
-        if !is_number(text.as_bytes()) {
-            self.containers.begin()?;
-            return Err(SerdeError::Unwritable);
+        if self.settings.use_string_for_arbitrary_precision {
+            return self.write_quoted(schema, text);
         }
-        self.write_text(schema, text.as_bytes())
+        if is_number(text.as_bytes()) {
+            return self.write_text(schema, text.as_bytes());
+        }
+        if self.settings.normalize_arbitrary_precision {
+            return self.write_normalized(schema, text);
+        }
+        self.containers.begin()?;
+        Err(SerdeError::Unwritable)
     }
 
     // Writes a text that is a value.

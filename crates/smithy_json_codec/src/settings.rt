@@ -1,6 +1,8 @@
 //! The settings under which bodies are read and written.
-ghost use Rattle.std.specs.Prelude.{◌≤◌};
+ghost use Rattle.std.specs.Prelude.{◌≡◌, ◌≤◌, true, false};
+ghost use Rattle.smithy_json.specs.NumberGrammar.{standard_numbers};
 
+use smithy_json::number_grammar::NumberGrammar;
 use smithy_schema::TimestampFormat;
 
 /// The greatest depth of containers of strict codecs.
@@ -15,12 +17,37 @@ pub(crate) struct Settings {
     pub(crate) max_depth: usize,
     /// The form of instants at a place without one.
     pub(crate) default_timestamp_format: TimestampFormat,
+    /// Whether numbers are of the grammar, values end at a boundary, and strings that are read hold no bytes below 0x20.
+    pub(crate) enforce_strictness: bool,
+    /// Whether an integer may have a fraction or an exponent.
+    pub(crate) allow_integral_float_numbers: bool,
+    /// What numbers may have beyond RFC 8259.
+    pub(crate) numbers: NumberGrammar,
+    /// Whether skipped strings have valid escapes alone.
+    pub(crate) validate_skipped_values: bool,
+    /// Whether skipped strings are in UTF-8, without bytes below 0x20.
+    pub(crate) validate_skipped_string_encoding: bool,
+    /// Whether a number stands for an instant under epoch seconds alone, and a string under the other forms alone.
+    pub(crate) strict_timestamp_formats: bool,
+    /// Whether nulls of structures and unions are handed on.
+    pub(crate) dispatch_null_members: bool,
+    /// Whether big numbers are written as strings.
+    pub(crate) use_string_for_arbitrary_precision: bool,
+    /// Whether the text of a big number that is no JSON number is rewritten as one.
+    pub(crate) normalize_arbitrary_precision: bool,
     ghost greatest: { max_depth ≤ 512 },
+    ghost is_strict: { enforce_strictness ≡ true },
+    ghost no_integral_floats: { allow_integral_float_numbers ≡ false },
+    ghost are_standard: { numbers ≡ standard_numbers },
+    ghost validates_skipped: { validate_skipped_values ≡ true },
+    ghost validates_encoding: { validate_skipped_string_encoding ≡ true },
+    ghost forms_are_strict: { strict_timestamp_formats ≡ true },
+    ghost drops_nulls: { dispatch_null_members ≡ false },
 }
 
 impl Settings {
-    ghost use Rattle.std.specs.Prelude.{◌≡◌};
-    ghost use Rattle.smithy_json_codec.specs.Codec.{held_settings, strict_settings};
+    ghost use Rattle.smithy_json_codec.specs.Settings.{strict_settings};
+    ghost use Rattle.smithy_json_codec.specs.Codec.{held_settings};
 
     /// Those of a codec that reads RFC 8259 to the letter.
     pub(crate) fn strict(use_json_name: bool) -> Settings
@@ -30,6 +57,19 @@ impl Settings {
             use_json_name,
             max_depth: DEFAULT_MAX_DEPTH,
             default_timestamp_format: TimestampFormat::EpochSeconds,
+            enforce_strictness: true,
+            allow_integral_float_numbers: false,
+            numbers: NumberGrammar {
+                allow_leading_zeros: false,
+                allow_trailing_decimal_point: false,
+                allow_empty_integer_part: false,
+            },
+            validate_skipped_values: true,
+            validate_skipped_string_encoding: true,
+            strict_timestamp_formats: true,
+            dispatch_null_members: false,
+            use_string_for_arbitrary_precision: false,
+            normalize_arbitrary_precision: false,
         }
     }
 }

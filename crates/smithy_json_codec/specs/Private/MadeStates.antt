@@ -8,7 +8,7 @@ use Rattle.smithy_shapes.specs.Value.{text_in}
 use Rattle.smithy_schema.specs.Writing.{Event, begin_structure, end_structure, begin_list, end_list, begin_map, end_map, null_of, scalar_of, big_integer_of, big_decimal_of, document_of, Open}
 use Rattle.smithy_json.specs.Ascii.{begin_array, end_array, begin_object, end_object}
 use Rattle.smithy_json_codec.specs.Canonical.{name_text, scalar_text, document_text}
-use Rattle.smithy_json_codec.specs.Writing.{JsonState, comma_text, lead, form_at, key_wrote, wrote, is_key_due, made, where_taken}
+use Rattle.smithy_json_codec.specs.Writing.{JsonState, comma_text, lead, form_at, key_wrote, wrote, is_key_due, made, where_taken, big_number_text}
 
 -- a scalar has the containers that it is told of, as a key and as a value
 scalar_frames : (key : Option (List ℕ)) (due : Bool) (s : JsonState) (view : View) (bytes : List ℕ) (frames : List Open)
@@ -46,8 +46,8 @@ made_grows end_list s frames = (end_array ∷ [], refl)
 made_grows (begin_map site length) s frames = (lead s site.view ++ begin_object ∷ [], refl)
 made_grows end_map s frames = (end_object ∷ [], refl)
 made_grows (null_of site) s frames = (lead s site.view ++ codes "null", refl)
-made_grows (big_integer_of site written) s frames = (lead s site.view ++ written, refl)
-made_grows (big_decimal_of site written) s frames = (lead s site.view ++ written, refl)
+made_grows (big_integer_of site written) s frames = (lead s site.view ++ big_number_text s.settings written, refl)
+made_grows (big_decimal_of site written) s frames = (lead s site.view ++ big_number_text s.settings written, refl)
 made_grows (document_of site d) s frames = (lead s site.view ++ document_text d, refl)
 made_grows (scalar_of site x) s frames = scalar_grows (text_in x) (is_key_due s.frames) s site.view (scalar_text (form_at s site) x) frames
 

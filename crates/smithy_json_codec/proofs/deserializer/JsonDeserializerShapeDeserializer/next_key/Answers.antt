@@ -3,6 +3,7 @@ use Rattle.std.proofs.lemmas.Grind.{common_steps}
 use Rattle.smithy_json_codec.specs.Cursor.{cursor_of, reading_settings_of}
 use Rattle.smithy_json_codec.specs.Settings.{without_limits}
 use Rattle.smithy_json_codec.proofs.DeserializerLemmas.{entry_steps, map_stuck, key_stuck}
+use Rattle.smithy_json_codec.proofs.MapEnds.{map_left}
 use Rattle.smithy_wire.specs.Walking.{cursor_of as walk_cursor, gone_on_to}
 use Rattle.smithy_json_codec.proofs.deserializer.JsonDeserializerShapeDeserializer.next_key.Goals as goal
 
@@ -16,6 +17,11 @@ returns-in-Ok-Some-clause-ok c =
     λ due t p map. entry_steps (reading_settings_of c.args.self.now) (cursor_of c.args.self.now) (walk_cursor c.go_on.new.self) t p c.in-Some-Member.name.raw.now _ c.in-Some-Member.name.end map c.requires.within c.if-self.false
     (c.go_on.ensures.gone ∙ ap (gone_on_to (cursor_of c.args.self.now) c.in-Some-Member.name.end) c.frame.ensures) stands.names
     (c.in-Ok-Some.ensures ∙ ap (option_map string_bytes) c.in-Ok-Some.field-0-is)
+
+pub returns-in-Some-End-clause-ok : goal.returns-in-Some-End-clause-ok
+returns-in-Some-End-clause-ok c =
+    λ due t p map. map_left (reading_settings_of c.args.self.now) (cursor_of c.args.self.now) (walk_cursor c.leave.new.self) t p map c.if-self.false c.depth.result c.depth.ensures
+    c.in-Some-End.end (rw c.in-Some-End.field-0-is at c.in-Some-End.ensures) c.leave.ensures.input c.leave.ensures.at c.leave.ensures.outer c.leave.ensures.due c.leave.ensures.failed
 
 pub returns-in-Ok-None-clause-refused : goal.returns-in-Ok-None-clause-refused
 returns-in-Ok-None-clause-refused c =
