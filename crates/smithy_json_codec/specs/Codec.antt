@@ -1,8 +1,8 @@
 -- What contracts see of the settings that a codec, a reader and a serializer hold.
+use Rattle.std.specs.Prelude.{Bool, true}
 use Rattle.smithy_json_codec.specs.declared.codec.JsonCodec.{JsonCodec}
 use Rattle.smithy_json_codec.specs.declared.settings.Settings.{Settings as HeldSettings}
-use Rattle.smithy_json_codec.specs.Settings.{Settings, kept}
-pub use Rattle.smithy_json_codec.specs.Settings.{strict_settings}
+use Rattle.smithy_json_codec.specs.Settings.{Settings, kept, default_settings}
 
 -- the settings that are held, which keep the limits
 abbrev pub held_settings : HeldSettings → Settings
@@ -25,3 +25,12 @@ held_settings s = record {
 -- those of a codec
 abbrev pub settings_of : JsonCodec → Settings
 settings_of codec = held_settings codec.settings
+
+-- those under which RFC 8259 is read to the letter
+abbrev pub strict_settings : Bool → Settings
+strict_settings use_json_name = record default_settings {
+  use_json_name = use_json_name;
+  enforce_strictness = true;
+  validate_skipped_string_encoding = true;
+  strict_timestamp_formats = true;
+}

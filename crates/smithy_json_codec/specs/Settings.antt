@@ -50,15 +50,6 @@ default_settings = record {
   normalize_arbitrary_precision = false;
 }
 
--- those under which RFC 8259 is read to the letter
-abbrev pub strict_settings : Bool → Settings
-strict_settings use_json_name = record default_settings {
-  use_json_name = use_json_name;
-  enforce_strictness = true;
-  validate_skipped_string_encoding = true;
-  strict_timestamp_formats = true;
-}
-
 abbrev pub keep_limits : Settings → Settings
 keep_limits c = record c { limits = kept }
 

@@ -46,8 +46,7 @@ pub(crate) struct Settings {
 }
 
 impl Settings {
-    ghost use Rattle.smithy_json_codec.specs.Settings.{strict_settings};
-    ghost use Rattle.smithy_json_codec.specs.Codec.{held_settings};
+    ghost use Rattle.smithy_json_codec.specs.Codec.{held_settings, strict_settings};
 
     /// Those of a codec that reads RFC 8259 to the letter.
     pub(crate) fn strict(use_json_name: bool) -> Settings

@@ -1,5 +1,6 @@
 //! Documents.
 
+use crate::coercions::{call_coercion, call_named};
 use crate::kinds::refuse;
 use crate::skips::items_of;
 use crate::takes::call_take;
@@ -94,6 +95,21 @@ fn call_on(alloc: Global, row: &Row, name: &str, answers: &mut Answers) -> Resul
     }
 }
 
+// Answers what the document of the row stands for.
+fn coerce(
+    alloc: Global,
+    row: &Row,
+    name: &str,
+    form: &str,
+    answers: &mut Answers,
+) -> Result<(), AllocError> {
+    match document_of(alloc, row)? {
+        Ok(document) if name == "named" => call_named(alloc, document, form, answers),
+        Ok(document) => call_coercion(alloc, document, name, form, answers),
+        Err(error) => refuse(&error, answers),
+    }
+}
+
 /// Answers a call by its name and what stands behind it.
 pub fn call_document(
     alloc: Global,
@@ -106,6 +122,7 @@ pub fn call_document(
         "expect_document" | "document_number" | "document_kind" => {
             call_on(alloc, row, name, answers)
         }
+        "as_blob" | "as_timestamp" | "named" => coerce(alloc, row, name, rest, answers),
         _ => call_take(alloc, row, name, rest, answers),
     }
 }

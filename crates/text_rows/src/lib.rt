@@ -3,6 +3,7 @@
 
 mod allowed_numbers;
 mod answer;
+mod coercions;
 mod documents;
 mod instants;
 mod kinds;
