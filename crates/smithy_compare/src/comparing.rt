@@ -1,7 +1,7 @@
 //! Whether two bodies spell one value, and else where their values first differ.
 ghost use Rattle.std.specs.Prelude.{◌≡◌};
 ghost use Rattle.smithy_shapes.specs.Table.{IsStructure, kind_of, shape_place};
-ghost use Rattle.smithy_transcode.specs.View.{view};
+ghost use Rattle.smithy_transcode.specs.Private.Tree.{compact_view as view};
 ghost use Rattle.smithy_transcode.specs.Wires.{wire_of};
 ghost use Rattle.smithy_compare.specs.Compares.{Compares, GivesPath};
 ghost use Rattle.smithy_compare.specs.FirstPath.{first_path};
@@ -11,8 +11,9 @@ use crate::node::Node;
 use crate::path::PathPart;
 use crate::walk::first_difference;
 use smithy_schema::{ShapeRef, Shapes};
-use smithy_transcode::{TranscodeError, Value, Wire, read_body};
+use smithy_transcode::{CompactValue, TranscodeError, Wire, read_body_as};
 use std::alloc::Global;
+use thiserror::Error;
 
 /// What a comparison finds.
 #[derive(Debug, Drop)]
@@ -23,14 +24,17 @@ pub enum Compared {
     Differs(Vec<PathPart>),
 }
 
-/// Why two bodies were not compared.
-#[derive(Clone, Copy, Debug, PartialEq, Eq)]
+/// Why two bodies were not compared. `Display` writes the variant's name.
+#[derive(Clone, Copy, Debug, PartialEq, Eq, Error)]
 pub enum CompareError {
     /// The first body spells no value.
+    #[error("First")]
     First(TranscodeError),
     /// The first body spells a value, and the second none.
+    #[error("Second")]
     Second(TranscodeError),
     /// An allocation was refused.
+    #[error("NoMemory")]
     NoMemory,
 }
 
@@ -78,11 +82,11 @@ pub fn compare(
     requires root { IsStructure (kind_of shapes.now (shape_place root.0)) }
     ensures { Compares shapes.now root.0 (wire_of wire1.now) body1.now (wire_of wire2.now) body2.now result }
 {
-    let first = match read_body(alloc, shapes, root, wire1, body1) {
+    let first = match read_body_as::<CompactValue>(alloc, shapes, root, wire1, body1) {
         Ok(value) => value,
         Err(error) => return Err(of_first(error)),
     };
-    let second = match read_body(alloc, shapes, root, wire2, body2) {
+    let second = match read_body_as::<CompactValue>(alloc, shapes, root, wire2, body2) {
         Ok(value) => value,
         Err(error) => return Err(of_second(error)),
     };
@@ -90,7 +94,11 @@ pub fn compare(
 }
 
 // Whether two values are one, and else where they first differ.
-fn values_compared(alloc: Global, first: &Value, second: &Value) -> Result<Compared, CompareError>
+fn values_compared(
+    alloc: Global,
+    first: &CompactValue,
+    second: &CompactValue,
+) -> Result<Compared, CompareError>
     ensures { GivesPath (first_path (view first.now) (view second.now)) result }
 {
     match first_difference(alloc, &Node::Value(first), &Node::Value(second)) {

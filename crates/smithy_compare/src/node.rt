@@ -4,19 +4,31 @@ ghost use Rattle.smithy_compare.specs.FirstPath.{same_top};
 ghost use Rattle.smithy_types.specs.Document.{whole_document};
 ghost use Rattle.smithy_types.specs.DocumentView.{document_view};
 ghost use Rattle.smithy_types.specs.Number.{whole_number};
-ghost use Rattle.smithy_transcode.specs.View.{view};
-ghost use Rattle.smithy_compare.specs.Tree.{tree, tree_of, document_tree};
+ghost use Rattle.smithy_transcode.specs.Private.Tree.{compact_view};
+ghost use Rattle.smithy_compare.specs.Tree.{member, union, tree, no_parts, part, tree_of, document_tree};
 ghost use Rattle.smithy_compare.specs.Private.Nodes.{node_tree, top_of, parts_of};
 
 use crate::parts::Parts;
-use smithy_transcode::Value;
+use smithy_transcode::{CompactValue, EntryIter};
 use smithy_types::{DateTime, Document, Number};
 
-/// A value, or a document that stands in one.
+/// A value or a document, by how it is kept.
 #[derive(Clone, Copy)]
 pub enum Node<'v> {
     /// A value.
-    Value(&'v Value),
+    Value(&'v CompactValue),
+    /// A whole number among such numbers.
+    Whole(i64),
+    /// A text that a union keeps beside its position.
+    Text(&'v str),
+    /// The elements of a list that a union keeps so.
+    List(&'v [CompactValue]),
+    /// The elements of a list of whole numbers that a union keeps so.
+    Wholes(&'v [i64]),
+    /// The entries of a map that a union keeps so.
+    Map(&'v [(String, CompactValue)]),
+    /// The members of a structure that a union keeps so.
+    Structure(&'v [(u32, CompactValue)]),
     /// A document.
     Document(&'v Document),
 }
@@ -67,30 +79,67 @@ impl<'v> Node<'v> {
     {
         match self {
             Node::Value(value) => split_value(*value),
+            Node::Whole(number) => (Top::Whole(i128::from(*number)), Parts::Nothing),
+            Node::Text(content) => (Top::Text(*content), Parts::Nothing),
+            Node::List(elements) => (Top::List, Parts::Elements(0, *elements)),
+            Node::Wholes(numbers) => (Top::List, Parts::Wholes(0, *numbers)),
+            Node::Map(entries) => (Top::Map, Parts::Entries(EntryIter::Slice(*entries))),
+            Node::Structure(members) => {
+                (Top::Structure, Parts::Members(EntryIter::Slice(*members)))
+            }
             Node::Document(document) => split_document(*document),
         }
     }
 }
 
+// The top of a union, and its one part.
+fn only(index: u32, value: Node<'_>) -> (Top<'_>, Parts<'_>)
+    ensures { tree (top_of result.0) (parts_of result.1) ≡ tree (union index) (part (member index) (node_tree value.entry) no_parts) }
+{
+    (Top::Union(index), Parts::Only((index, value)))
+}
+
 // The top of a value, and its parts.
-pub(crate) fn split_value(value: &Value) -> (Top<'_>, Parts<'_>)
-    ensures { tree (top_of result.0) (parts_of result.1) ≡ tree_of (view value.now) }
+fn split_value(value: &CompactValue) -> (Top<'_>, Parts<'_>)
+    ensures { tree (top_of result.0) (parts_of result.1) ≡ tree_of (compact_view value.now) }
 {
     match value {
-        Value::Boolean(value) => (Top::Boolean(*value), Parts::Nothing),
-        Value::Whole(number) => (Top::Whole(*number), Parts::Nothing),
-        Value::Text(content) => (Top::Text(content.as_str()), Parts::Nothing),
-        Value::Bytes(content) => (Top::Bytes(content.as_slice()), Parts::Nothing),
-        Value::Decimal(mantissa, exponent) => {
-            (Top::Decimal(*mantissa, *exponent), Parts::Nothing)
-        }
-        Value::Instant(value) => (Top::Instant(*value), Parts::Nothing),
-        Value::List(elements) => (Top::List, Parts::Elements(0, elements.as_slice())),
-        Value::Map(entries) => (Top::Map, Parts::Entries(entries.iter())),
-        Value::Structure(members) => (Top::Structure, Parts::Members(members.iter())),
-        Value::Union(index, value) => (Top::Union(*index), Parts::Only(*index, &**value)),
-        Value::Null => (Top::Null, Parts::Nothing),
-        Value::Document(document) => split_document(document),
+        CompactValue::Boolean(value) => (Top::Boolean(*value), Parts::Nothing),
+        CompactValue::Whole(number) => (Top::Whole(i128::from(*number)), Parts::Nothing),
+        CompactValue::Large(number) => (Top::Whole(**number), Parts::Nothing),
+        CompactValue::Text(content) => (Top::Text(content.as_str()), Parts::Nothing),
+        CompactValue::Bytes(blob) => (Top::Bytes(blob.as_ref()), Parts::Nothing),
+        CompactValue::Decimal(parts) => (Top::Decimal(parts.0, parts.1), Parts::Nothing),
+        CompactValue::Timestamp(value) => (Top::Instant(*value), Parts::Nothing),
+        CompactValue::List(elements) => (Top::List, Parts::Elements(0, elements.as_slice())),
+        CompactValue::Wholes(numbers) => (Top::List, Parts::Wholes(0, numbers.as_slice())),
+        CompactValue::Map(entries) => (
+            Top::Map,
+            Parts::Entries(EntryIter::Slice(entries.as_slice())),
+        ),
+        CompactValue::TreeMap(entries) => (
+            Top::Map,
+            Parts::Entries(EntryIter::Map(entries.iter())),
+        ),
+        CompactValue::Structure(members) => (
+            Top::Structure,
+            Parts::Members(EntryIter::Slice(members.as_slice())),
+        ),
+        CompactValue::StructureMap(members) => (
+            Top::Structure,
+            Parts::Members(EntryIter::Map(members.iter())),
+        ),
+        CompactValue::UnionText(index, content) => only(*index, Node::Text(content.as_str())),
+        CompactValue::UnionList(index, elements) => only(*index, Node::List(elements.as_slice())),
+        CompactValue::UnionWholes(index, numbers) => only(*index, Node::Wholes(numbers.as_slice())),
+        CompactValue::UnionMap(index, entries) => only(*index, Node::Map(entries.as_slice())),
+        CompactValue::UnionStructure(index, members) => only(
+            *index,
+            Node::Structure(members.as_slice()),
+        ),
+        CompactValue::Union(index, value) => only(*index, Node::Value(&**value)),
+        CompactValue::Null => (Top::Null, Parts::Nothing),
+        CompactValue::Document(document) => split_document(&**document),
     }
 }
 

@@ -5,7 +5,7 @@ ghost use Rattle.smithy_compare.specs.Tree.{no_parts, part};
 ghost use Rattle.smithy_compare.specs.Private.Nodes.{node_tree, step_at, parts_of};
 
 use crate::node::Node;
-use smithy_transcode::Value;
+use smithy_transcode::{CompactValue, EntryIter};
 use smithy_types::Document;
 use std::cmp::Ordering;
 use std::collections::btree_map::Iter;
@@ -50,13 +50,15 @@ pub enum Parts<'v> {
     /// None.
     Nothing,
     /// The elements of a list from an index on.
-    Elements(usize, &'v [Value]),
+    Elements(usize, &'v [CompactValue]),
+    /// The elements of a list of whole numbers from an index on.
+    Wholes(usize, &'v [i64]),
     /// The entries that are left of a map.
-    Entries(Iter<'v, String, Value>),
+    Entries(EntryIter<'v, String, CompactValue>),
     /// The members that are left of a structure.
-    Members(Iter<'v, u32, Value>),
-    /// The member of a union, until it was given.
-    Only(u32, &'v Value),
+    Members(EntryIter<'v, u32, CompactValue>),
+    /// The position and the value of the member of a union, until it was given.
+    Only((u32, Node<'v>)),
     /// The elements of an array from an index on.
     Items(usize, &'v [Document]),
     /// The properties that are left of an object.
@@ -72,41 +74,37 @@ impl<'v> Parts<'v> {
             Parts::Nothing => None,
             Parts::Elements(index, elements) => {
                 let at = *index;
-                let Some(element) = elements.get(at) else {
-                    return None;
-                };
+                let element = elements.get(at)?;
                 *index = at + 1;
                 Some((Label::Element(at), Node::Value(element)))
             }
+            Parts::Wholes(index, numbers) => {
+                let at = *index;
+                let number = numbers.get(at)?;
+                *index = at + 1;
+                Some((Label::Element(at), Node::Whole(*number)))
+            }
             Parts::Entries(entries) => {
-                let Some((key, value)) = entries.next() else {
-                    return None;
-                };
+                let (key, value) = entries.next_entry()?;
                 Some((Label::Key(key.as_str()), Node::Value(value)))
             }
             Parts::Members(members) => {
-                let Some((position, value)) = members.next() else {
-                    return None;
-                };
+                let (position, value) = members.next_entry()?;
                 Some((Label::Member(*position), Node::Value(value)))
             }
-            Parts::Only(position, value) => {
-                let only = (Label::Member(*position), Node::Value(*value));
+            Parts::Only(member) => {
+                let only = (Label::Member(member.0), member.1);
                 *self = Parts::Nothing;
                 Some(only)
             }
             Parts::Items(index, items) => {
                 let at = *index;
-                let Some(item) = items.get(at) else {
-                    return None;
-                };
+                let item = items.get(at)?;
                 *index = at + 1;
                 Some((Label::Element(at), Node::Document(item)))
             }
             Parts::Properties(properties) => {
-                let Some((name, document)) = properties.next() else {
-                    return None;
-                };
+                let (name, document) = properties.next()?;
                 Some((Label::Key(name.as_str()), Node::Document(document)))
             }
         }

@@ -1,7 +1,6 @@
 //! Paths into a value, and their texts.
-ghost use Rattle.std.specs.Prelude.{◌≡◌, ◌++◌, map as mapped, option_map, option_and_then, string_bytes, IfOk, OnOk};
+ghost use Rattle.std.specs.Prelude.{◌≡◌, ◌<◌, ◌++◌, length, map as mapped, option_map, option_and_then, string_bytes, IfOk, OnOk};
 ghost use Rattle.smithy_shapes.specs.Site.{site_of};
-ghost use Rattle.smithy_shapes.specs.Table.{IsStructure, kind_of, shape_place};
 ghost use Rattle.smithy_compare.specs.PathText.{site_behind, name_at, step_text, text_of_path};
 ghost use Rattle.smithy_compare.specs.View.{step_of};
 
@@ -21,7 +20,7 @@ pub enum PathPart {
     Key(String),
 }
 
-/// The text of a path into a value of the root, which is a structure of the table: `$`, and for each step `.` and the name of the
+/// The text of a path into a value of the root, which is a declaration of the table: `$`, and for each step `.` and the name of the
 /// member, the index in brackets, or in braces the key between quotation marks, with its escapes (RFC 8259, section 7).
 pub fn path_text(
     alloc: Global,
@@ -29,7 +28,7 @@ pub fn path_text(
     root: ShapeRef,
     path: &[PathPart],
 ) -> Result<String, AllocError>
-    requires root { IsStructure (kind_of shapes.now (shape_place root.0)) }
+    requires root { root.0 < length shapes.now }
     ensures { IfOk result (λ text. string_bytes text ≡ text_of_path shapes.now root.0 (mapped step_of path.now)) }
 {
     let mut text = String::from_str(alloc, "$")?;

@@ -19,6 +19,7 @@ pub mod LexicalGrammar
 pub mod Standing
 pub mod Writing
 pub mod Serializing
+pub mod NamedDocument
 pub mod Deepest
 pub mod Documents
 pub mod NumberText

@@ -12,6 +12,7 @@ mod instants;
 mod member_steps;
 mod members;
 mod mismatch;
+mod named_documents;
 mod numbers;
 mod output;
 mod places;

@@ -39,10 +39,10 @@ use std::alloc::{AllocError, Global};
 #[derive(Debug, Drop)]
 pub struct JsonSerializer {
     settings: Settings,
-    out: Vec<u8>,
+    pub(crate) out: Vec<u8>,
     // Whether a comma stands before whatever comes next but an end.
-    needs_comma: bool,
-    containers: OpenContainers<()>,
+    pub(crate) needs_comma: bool,
+    pub(crate) containers: OpenContainers<()>,
 }
 
 impl JsonSerializer {
@@ -61,7 +61,7 @@ impl JsonSerializer {
     // Begins the call of a value: with a comma where one is due, and the name of a member. Where a map's key is due no value
     // comes, and behind a map's value a key is due.
     #[inline(always)]
-    fn begin_value(&mut self, schema: &Schema<'_>) -> Result<(), SerdeError>
+    pub(crate) fn begin_value(&mut self, schema: &Schema<'_>) -> Result<(), SerdeError>
         ensures failed { IsErrOf result Failed ↔ (has_failed self.old ≡ true) }
         ensures broken { has_failed self.new ≡ true }
         ensures same { (state_of self.new).settings ≡ (state_of self.old).settings }

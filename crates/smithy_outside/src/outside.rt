@@ -57,8 +57,9 @@ pub trait Files {
         ensures missing_is_a_fault { (told self.old path.now).content ≡ missing → IsErrOf result LoadFault.Failed ⊎ IsErrOf result LoadFault.NoMemory }
         ensures counts { IsCountedLoad result (told self.old path.now) (told self.new path.now) }
 
-        // No path changes what it holds, and no count falls.
+        // No path changes what it holds or whether it is steady, and no count falls.
         ensures kept { (at : List ℕ) → (told self.new at).content ≡ (told self.old at).content }
+        ensures steady { (at : List ℕ) → (told self.new at).is_steady ≡ (told self.old at).is_steady }
         ensures later { (at : List ℕ) → (told self.old at).faults ≤ (told self.new at).faults };
 }
 

@@ -1,15 +1,13 @@
--- What `read_body` promises, for every table, root, wire and input.
+-- What `read_body` promises, for every table, root, wire and input, and `read_body_as` for every kind of tree too.
 use Rattle.std.specs.Prelude.{◌≡◌, ◌≢◌, ℕ, List, Result, Ok, Err, IfOk, IfErr}
 use Rattle.smithy_shapes.specs.Table.{Table}
 use Rattle.smithy_shapes.specs.Value.{Value}
-use Rattle.smithy_transcode.specs.declared.value.Value as kept
 use Rattle.smithy_transcode.specs.declared.wire.TranscodeError.{TranscodeError}
 use Rattle.smithy_transcode.specs.declared.wire.TranscodeError.TheVariants.{InvalidInput, TooDeep, TooWide, NotCarried, Inexpressible, NoMemory}
 use Rattle.smithy_transcode.specs.Wires.{Wire}
 use Rattle.smithy_transcode.specs.Spelling.{Spells}
 use Rattle.smithy_transcode.specs.Causes.{IsTooDeep, IsWide, IsUncarried}
 use Rattle.smithy_transcode.specs.Transcoding.{SpellNothing, SpellNothingWithoutLimits}
-use Rattle.smithy_transcode.specs.View.{view}
 
 -- Why an input is refused: it spells nothing, and has what the error names. Want of memory is no such refusal, and what another
 -- wire can't express is no matter of reading.
@@ -23,16 +21,16 @@ IsRefusedFor from table root input (Inexpressible u) = ⊥
 IsRefusedFor from table root input NoMemory = ⊥
 
 -- the answer is this value, or want of memory
-abbrev pub GivesValue : Value → Result kept.Value TranscodeError → Type 0
-GivesValue v (Ok x) = view x ≡ v
-GivesValue v (Err NoMemory) = Unit {0}
-GivesValue v (Err _) = ⊥
+abbrev pub GivesValue : {T : Type 0} → (T → Value) → Value → Result T TranscodeError → Type 0
+GivesValue view v (Ok x) = view x ≡ v
+GivesValue view v (Err NoMemory) = Unit {0}
+GivesValue view v (Err _) = ⊥
 
--- What an answer says, where the root is a structure of the table.
-pub record ReadsBody (table : Table) (root : ℕ) (from : Wire) (input : List ℕ) (answer : Result kept.Value TranscodeError) : Type 0 where
+-- What an answer says, where the root is a structure of the table, and a tree stands for the value that its view is.
+pub record ReadsBody {T : Type 0} (view : T → Value) (table : Table) (root : ℕ) (from : Wire) (input : List ℕ) (answer : Result T TranscodeError) : Type 0 where
   -- Ok: the whole input spells this value
   pub ok : IfOk answer (λ x. Spells from table root input (view x))
   -- what the whole input spells is the answer, want of memory aside
-  pub spelled : (v : Value) → Spells from table root input v → GivesValue v answer
+  pub spelled : (v : Value) → Spells from table root input v → GivesValue view v answer
   -- each other refusal comes by its cause
   pub refused : IfErr answer (λ e. (e ≢ NoMemory) → IsRefusedFor from table root input e)

@@ -20,10 +20,14 @@ mod whole_output;
 mod wire;
 mod writing;
 
+pub use compact_value::CompactValue;
+pub use entries::Entries;
+pub use entry_iter::EntryIter;
 pub use expressing::expressible;
 pub use reading::read_value;
 pub use transcoding::transcode;
+pub use tree::{Part, Tree, UnionValue};
 pub use value::Value;
-pub use whole_input::read_body;
+pub use whole_input::{read_body, read_body_as};
 pub use wire::{TranscodeError, Unfit, Wire};
 pub use writing::write_value;

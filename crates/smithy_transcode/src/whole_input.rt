@@ -7,6 +7,7 @@ ghost use Rattle.smithy_transcode.specs.Causes.{IsTooDeep, IsWide, IsUncarried};
 ghost use Rattle.smithy_transcode.specs.ReadBody.{ReadsBody};
 ghost use Rattle.smithy_transcode.specs.Spelling.{Spells};
 ghost use Rattle.smithy_transcode.specs.Transcoding.{SpellNothing, SpellNothingWithoutLimits};
+ghost use Rattle.smithy_transcode.specs.View.{view};
 ghost use Rattle.smithy_transcode.specs.Wires.{wire_of};
 
 use crate::reading::read_tree;
@@ -30,9 +31,23 @@ pub fn read_body(
     input: &[u8],
 ) -> Result<Value, TranscodeError>
     requires root { IsStructure (kind_of shapes.now (shape_place root.0)) }
-    ensures { ReadsBody shapes.now root.0 (wire_of from.now) input.now result }
+    ensures { ReadsBody view shapes.now root.0 (wire_of from.now) input.now result }
 {
-    match read_whole::<Value>(alloc, shapes, root, from, input) {
+    read_body_as::<Value>(alloc, shapes, root, from, input)
+}
+
+/// Reads a whole input as `read_body` does, into a tree of any kind.
+pub fn read_body_as<T: Tree>(
+    alloc: Global,
+    shapes: &Shapes,
+    root: ShapeRef,
+    from: &Wire,
+    input: &[u8],
+) -> Result<T, TranscodeError>
+    requires root { IsStructure (kind_of shapes.now (shape_place root.0)) }
+    ensures { ReadsBody T.view shapes.now root.0 (wire_of from.now) input.now result }
+{
+    match read_whole::<T>(alloc, shapes, root, from, input) {
         Ok(value) => Ok(value),
         Err(error) => Err(refusal(error)),
     }

@@ -5,7 +5,7 @@ use Rattle.smithy_types.specs.DocumentView.{document_view, elements_view, proper
 use Rattle.smithy_types.specs.Number.{whole_number}
 use Rattle.smithy_shapes.specs.Value as values
 use Rattle.smithy_shapes.specs.Value.{values_of}
-use Rattle.smithy_transcode.specs.View.{view, view_entries, view_members, view_elements}
+use Rattle.smithy_transcode.specs.Private.Tree.{compact_view, compact_elements, compact_entries, compact_members, entries_left, whole_values}
 use Rattle.smithy_compare.specs.declared.node.Node.{Node}
 use Rattle.smithy_compare.specs.declared.node.Node.TheVariants as nodes
 use Rattle.smithy_compare.specs.declared.node.Top as kept
@@ -14,10 +14,16 @@ use Rattle.smithy_compare.specs.declared.parts.Label.{Label}
 use Rattle.smithy_compare.specs.declared.parts.Label.TheVariants as labels
 use Rattle.smithy_compare.specs.declared.parts.Parts as left
 use Rattle.smithy_compare.specs.declared.parts.Parts.TheVariants as all_parts
-use Rattle.smithy_compare.specs.Tree.{Step, member, element, key, Top, scalar, null, list, map, structure, union, document_null, document_scalar, array, object, Tree, Parts, no_parts, part, tree_of, document_tree, item_parts, property_parts, element_parts, entry_parts, member_parts}
+use Rattle.smithy_compare.specs.Tree.{Step, member, element, key, Top, scalar, null, list, map, structure, union, document_null, document_scalar, array, object, Tree, tree, Parts, no_parts, part, tree_of, document_tree, item_parts, property_parts, element_parts, entry_parts, member_parts}
 
 abbrev pub node_tree : Node → Tree
-node_tree (nodes.Value v) = tree_of (view v.now)
+node_tree (nodes.Value v) = tree_of (compact_view v.now)
+node_tree (nodes.Whole n) = tree (scalar (values.whole n)) no_parts
+node_tree (nodes.Text s) = tree (scalar (values.text s.now)) no_parts
+node_tree (nodes.List vs) = tree list (element_parts 0 (values_of (compact_elements vs.now)))
+node_tree (nodes.Wholes ns) = tree list (element_parts 0 (values_of (whole_values ns.now)))
+node_tree (nodes.Map es) = tree map (entry_parts (compact_entries es.now))
+node_tree (nodes.Structure ms) = tree structure (member_parts (compact_members ms.now))
 node_tree (nodes.Document d) = document_tree (whole_document (document_view d.now))
 
 abbrev pub top_of : kept.Top → Top
@@ -46,9 +52,10 @@ step_at (labels.Key k) = key k.now
 
 abbrev pub parts_of : left.Parts → Parts
 parts_of all_parts.Nothing = no_parts
-parts_of (all_parts.Elements i vs) = element_parts i (values_of (view_elements (drop i vs.now)))
-parts_of (all_parts.Entries es) = entry_parts (view_entries es)
-parts_of (all_parts.Members ms) = member_parts (view_members ms)
-parts_of (all_parts.Only n v) = part (member n) (tree_of (view v.now)) no_parts
+parts_of (all_parts.Elements i vs) = element_parts i (values_of (compact_elements (drop i vs.now)))
+parts_of (all_parts.Wholes i ns) = element_parts i (values_of (whole_values (drop i ns.now)))
+parts_of (all_parts.Entries es) = entry_parts (compact_entries (entries_left es))
+parts_of (all_parts.Members ms) = member_parts (compact_members (entries_left ms))
+parts_of (all_parts.Only m) = part (member m.0) (node_tree m.1) no_parts
 parts_of (all_parts.Items i ds) = item_parts i (map_elements whole_number (elements_view (drop i ds.now)))
 parts_of (all_parts.Properties ps) = property_parts (map_properties whole_number (properties_view ps))

@@ -50,6 +50,7 @@ impl Files for MemoryFiles {
         ensures missing_is_a_fault { (files_told self.old path.now).content ≡ missing → IsErrOf result LoadFault.Failed ⊎ IsErrOf result LoadFault.NoMemory }
         ensures counts { IsCountedLoad result (files_told self.old path.now) (files_told self.new path.now) }
         ensures kept { (at : List ℕ) → (files_told self.new at).content ≡ (files_told self.old at).content }
+        ensures steady { (at : List ℕ) → (files_told self.new at).is_steady ≡ (files_told self.old at).is_steady }
         ensures later { (at : List ℕ) → (files_told self.old at).faults ≤ (files_told self.new at).faults }
 
         // Loads fail at the calls that are to fail, and for a path that isn't held.
