@@ -1,5 +1,5 @@
 -- What a reader finds at a place, as the contract of reading says it.
-use Rattle.std.proofs.Common.{◌≡◌, ◌≤◌, ◌<◌, ◌↔◌, ℕ, suc, length, List, [], ◌∷◌, Bool, true, false, Option, Some, None, Result, Ok, Err, refl, sym, ap, ◌∙◌, arith}
+use Rattle.std.proofs.Common.{◌≡◌, ◌≤◌, ◌<◌, ◌↔◌, ℕ, suc, length, List, ◌∷◌, Bool, true, false, Option, Some, None, Result, Ok, Err, refl, sym, ap, ◌∙◌, arith}
 use Rattle.std.specs.Prelude.{IsTrue}
 use Rattle.std.specs.Result.{OnOk}
 use Rattle.std.proofs.lemmas.Bool.Decides.{nat_tests}
@@ -10,7 +10,7 @@ use Rattle.smithy_shapes.specs.Table.{Table, kind_of, IsList, IsMap, IsStructure
 use Rattle.smithy_schema.specs.Reading.{Cursor, Frame, depth, Mark, Enters, Steps, Leaves, Conducts, OpensNot, SkipsNot, CannotGoOn, in_list, in_map}
 use Rattle.smithy_cbor_codec.specs.Cursor.{inside_of}
 use Rattle.smithy_cbor_codec.specs.Settings.{Settings, Limits, kept, lifted, is_within}
-use Rattle.smithy_cbor_codec.specs.Standing.{FollowsInside, HasEntry, IsOver, mark_with, end_mark, cbor_relations}
+use Rattle.smithy_cbor_codec.specs.Standing.{FollowsInside, RestIsEmpty, HasEntry, IsOver, mark_with, end_mark, end_depth, cbor_relations}
 use Rattle.smithy_cbor_codec.specs.Private.PassedEntries.{HasKey, PairMissing}
 use Rattle.smithy_cbor_codec.specs.Private.Skipping.{SkipsTo}
 use Rattle.smithy_cbor_codec.specs.Private.Entries.{same_over, entry_or_over}
@@ -22,14 +22,13 @@ use Rattle.smithy_wire.specs.Walking.{entered_into, gone_on_to}
 
 -- ---- containers
 
--- an empty input opens a structure
-pub empty_at : (o : Settings) (c : Cursor) (t : Table) (p : Place) → IsStructure (kind_of t p) → c.input ≡ [] → c.at ≤ length c.input
-    → (cbor_relations o).opens c.input t p (depth c) c.at 0 end_mark
-empty_at o c t p kind empty within =
-    opens_empty o c.input t p kind (depth c) c.at empty (omega (arith, ap length empty, within))
+-- where nothing is left a structure opens
+pub empty_at : (o : Settings) (c : Cursor) (t : Table) (p : Place) → IsStructure (kind_of t p) → RestIsEmpty o.enforce_strictness c.input c.at
+    → (cbor_relations o).opens c.input t p (depth c) c.at c.at end_mark
+empty_at o c t p kind rest = opens_empty o c.input t p kind (depth c) c.at rest
 
-pub empty_opens : (o : Settings) (c : Cursor) (t : Table) (p : Place) → IsStructure (kind_of t p) → c.input ≡ [] → c.at ≤ length c.input → OpensNot (cbor_relations o) c t p → ⊥
-empty_opens o c t p kind empty within none = none 0 end_mark (empty_at o c t p kind empty within)
+pub empty_opens : (o : Settings) (c : Cursor) (t : Table) (p : Place) → IsStructure (kind_of t p) → RestIsEmpty o.enforce_strictness c.input c.at → OpensNot (cbor_relations o) c t p → ⊥
+empty_opens o c t p kind rest none = none c.at end_mark (empty_at o c t p kind rest)
 
 -- what a test denies
 pub not_missing : (missing : Bool) (A B : Type 0) → IsTrue missing ↔ A × B → missing ≡ false → A → B → ⊥
@@ -72,7 +71,7 @@ module _ (o : Settings) (c : Cursor) (t : Table) (p : Place) (kind : IsList (kin
 
   -- it was left
   pub list_left : (new : Cursor) (e : ℕ) → new.input ≡ c.input → new.at ≡ e → c.outer ≡ new.inner ∷ new.outer → new.due ≡ false → new.failed ≡ c.failed → c.failed ≡ false
-      → IsOver c.input c.at (mark_with c.inner.mark.due) e → FollowsInside (depth c) c.input e → Leaves (cbor_relations o) c new t p
+      → IsOver c.input c.at (mark_with c.inner.mark.due) e → FollowsInside o.enforce_strictness (depth c) c.input e → Leaves (cbor_relations o) c new t p
   list_left new e input place around undue failed sound over follows = record {
     closes = rw place (closes_list o c.input t p kind (depth c) c.at c.inner.mark e (over_by_due c.input c.at (mark_with c.inner.mark.due) c.inner.mark e refl over) follows);
     input = input;
@@ -83,17 +82,17 @@ module _ (o : Settings) (c : Cursor) (t : Table) (p : Place) (kind : IsList (kin
 
   -- neither an element comes nor the end
   pub list_stuck : ((n : Mark) → HasEntry c.input c.at (mark_with c.inner.mark.due) n → ⊥)
-      → ((e : ℕ) → IsOver c.input c.at (mark_with c.inner.mark.due) e → FollowsInside (depth c) c.input e → ⊥) → CannotGoOn (cbor_relations o) c t p
+      → ((e : ℕ) → IsOver c.input c.at (mark_with c.inner.mark.due) e → FollowsInside o.enforce_strictness (depth c) c.input e → ⊥) → CannotGoOn (cbor_relations o) c t p
   list_stuck none shut =
       list_is_stuck o c.input t p kind (depth c) c.at c.inner.mark
       (λ n h. none n (entry_by_due c.input c.at c.inner.mark (mark_with c.inner.mark.due) n refl h))
       (λ e h follows. shut e (over_by_due c.input c.at c.inner.mark (mark_with c.inner.mark.due) e refl h) follows)
 
   -- nor where it is over and can't be left
-  pub list_shut : (end held : ℕ) → held ≡ depth c → IsOver c.input c.at (mark_with c.inner.mark.due) end → (FollowsInside held c.input end → ⊥) → CannotGoOn (cbor_relations o) c t p
-  list_shut end held same over shut =
+  pub list_shut : (end : ℕ) → IsOver c.input c.at (mark_with c.inner.mark.due) end → (FollowsInside o.enforce_strictness (depth c) c.input end → ⊥) → CannotGoOn (cbor_relations o) c t p
+  list_shut end over shut =
       list_stuck (λ n entry. entry_or_over c.input c.at (mark_with c.inner.mark.due) n end entry over)
-      (λ e ends follows. shut (rw (same, same_over c.input c.at (mark_with c.inner.mark.due) end e over ends) follows))
+      (λ e ends follows. shut (rw (same_over c.input c.at (mark_with c.inner.mark.due) end e over ends) follows))
 
 module _ (o : Settings) (c : Cursor) (t : Table) (p : Place) (kind : IsMap (kind_of t p)) where
   -- the map went on to an entry
@@ -110,10 +109,10 @@ module _ (o : Settings) (c : Cursor) (t : Table) (p : Place) (kind : IsMap (kind
   })
 
   -- it was left
-  pub map_left : (new : Cursor) (e held : ℕ) → held ≡ depth c → new.input ≡ c.input → new.at ≡ e → c.outer ≡ new.inner ∷ new.outer → new.due ≡ false → new.failed ≡ c.failed → c.failed ≡ false
-      → IsOver c.input c.at (mark_with c.inner.mark.due) e × FollowsInside held c.input e → Leaves (cbor_relations o) c new t p
-  map_left new e held same input place around undue failed sound h = record {
-    closes = rw place (closes_map o c.input t p kind (depth c) c.at c.inner.mark e (over_by_due c.input c.at (mark_with c.inner.mark.due) c.inner.mark e refl h.0) (rw same at h.1));
+  pub map_left : (new : Cursor) (e : ℕ) → new.input ≡ c.input → new.at ≡ e → c.outer ≡ new.inner ∷ new.outer → new.due ≡ false → new.failed ≡ c.failed → c.failed ≡ false
+      → IsOver c.input c.at (mark_with c.inner.mark.due) e → FollowsInside o.enforce_strictness (depth c) c.input e → Leaves (cbor_relations o) c new t p
+  map_left new e input place around undue failed sound over follows = record {
+    closes = rw place (closes_map o c.input t p kind (depth c) c.at c.inner.mark e (over_by_due c.input c.at (mark_with c.inner.mark.due) c.inner.mark e refl over) follows);
     input = input;
     outer = around;
     due = undue;
@@ -121,11 +120,23 @@ module _ (o : Settings) (c : Cursor) (t : Table) (p : Place) (kind : IsMap (kind
   }
 
   -- neither a key comes nor the end
-  pub map_stuck : (held : ℕ) → held ≡ depth c → PairMissing c.input c.at c.inner.mark.due held → CannotGoOn (cbor_relations o) c t p
-  map_stuck held same h =
+  pub map_stuck : PairMissing c.input c.at c.inner.mark.due → CannotGoOn (cbor_relations o) c t p
+  map_stuck h =
       map_is_stuck o c.input t p kind (depth c) c.at c.inner.mark
       (λ s v n key. h.0 s v n (key_by_due c.input c.at c.inner.mark (mark_with c.inner.mark.due) s v n refl key))
-      (λ e over follows. h.1 e (over_by_due c.input c.at c.inner.mark (mark_with c.inner.mark.due) e refl over) (rw (← same) at follows))
+      (λ e over follows. h.1 e (over_by_due c.input c.at c.inner.mark (mark_with c.inner.mark.due) e refl over))
+
+  -- nor where it is over and can't be left
+  pub map_shut : (end : ℕ) → IsOver c.input c.at (mark_with c.inner.mark.due) end → (FollowsInside o.enforce_strictness (depth c) c.input end → ⊥) → CannotGoOn (cbor_relations o) c t p
+  map_shut end over shut =
+      let here = over_by_due c.input c.at (mark_with c.inner.mark.due) c.inner.mark end refl over in
+      map_is_stuck o c.input t p kind (depth c) c.at c.inner.mark
+      (λ s v n key. entry_or_over c.input c.at c.inner.mark n end key.0 here)
+      (λ e ends follows. shut (rw (same_over c.input c.at c.inner.mark end e here ends) follows))
+
+-- where a reader may not leave a container, the container may not end
+pub stays_inside : (may : Bool) (P : Type 0) → IsTrue may ↔ P → may ≡ false → P → ⊥
+stays_inside may P is denied p = let told : may ≡ true = is.1 p in cc
 
 -- ---- skipped values
 
@@ -133,7 +144,7 @@ module _ (o : Settings) (c : Cursor) (t : Table) (p : Place) (kind : IsMap (kind
 pub skip_place : (input : List ℕ) (at held e : ℕ) → SkipsTo input at held e → (at ≤ e) × (e ≤ length input)
 skip_place input at held e h = let ahead = item_ahead h.found input at e h.stands in (omega arith, h.stands.0)
 
-module _ (o : Settings) (c : Cursor) (held : ℕ) (same : held ≡ depth c) where
+module _ (o : Settings) (c : Cursor) (held : ℕ) (same : held ≡ end_depth o.enforce_strictness (depth c)) where
   -- nothing can be skipped
   pub skips_not : ((e : ℕ) → SkipsTo c.input c.at held e → ⊥) → SkipsNot (cbor_relations o) c
   skips_not none e skips = none e (rw same ((skips_are o c.input (depth c) c.at e).1 skips))

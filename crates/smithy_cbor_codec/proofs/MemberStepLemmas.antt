@@ -10,10 +10,10 @@ use Rattle.smithy_shapes.specs.Site.{Site, kind_at}
 use Rattle.smithy_schema.specs.Reading.{Cursor, depth, Steps, Leaves, MatchStep, CannotGoOn, passed_to, in_structure, IsInvalid, IsRefused}
 use Rattle.smithy_cbor_codec.specs.Cursor.{inside_of}
 use Rattle.smithy_cbor_codec.specs.Settings.{Settings}
-use Rattle.smithy_cbor_codec.specs.Standing.{cbor_relations, FollowsInside, mark_with}
+use Rattle.smithy_cbor_codec.specs.Standing.{cbor_relations, FollowsInside, end_depth, mark_with}
 use Rattle.smithy_cbor_codec.specs.Private.PassedEntries.{Passes, StepsToMember, ClosesMembers, EntryMissing, NothingComes}
 use Rattle.smithy_cbor_codec.specs.Private.MemberSteps.{EndsEmpty, StepsTo}
-use Rattle.smithy_cbor_codec.proofs.ReaderLemmas.{steps_to_member, closes_members, members_are_stuck}
+use Rattle.smithy_cbor_codec.proofs.ReaderLemmas.{steps_to_member, closes_members, members_are_stuck, members_are_shut}
 use Rattle.smithy_wire.specs.Walking.{gone_on_to}
 
 -- nothing is due, so that the cursor is as it is behind what was due
@@ -25,7 +25,7 @@ undue c h = ap (λ (due : Bool). record c { due = due }) (sym h)
 module _ (o : Settings) (c new : Cursor) (at : ℕ) (outer : Site) (kind : HasMembers (kind_at outer)) where
   member_comes : (value : ℕ) (name : List ℕ) (after : Option ℕ) → c.inner.within ≡ in_structure → c.failed ≡ false
       → new ≡ gone_on_to c value (inside_of in_structure after)
-      → StepsToMember (kind_at outer) c.input (depth c) at (mark_with c.inner.mark.due) name value (mark_with after) → Steps (cbor_relations o) (passed_to c at) new outer.table outer.place (Some name)
+      → StepsToMember o.enforce_strictness (kind_at outer) c.input (end_depth o.enforce_strictness (depth c)) at (mark_with c.inner.mark.due) name value (mark_with after) → Steps (cbor_relations o) (passed_to c at) new outer.table outer.place (Some name)
   member_comes value name after within sound is s = rw is (record {
     steps = steps_to_member o c.input outer.table outer.place kind (depth c) at c.inner.mark name value (mark_with after) s;
     input = refl;
@@ -36,22 +36,22 @@ module _ (o : Settings) (c new : Cursor) (at : ℕ) (outer : Site) (kind : HasMe
   })
 
   -- the step to a member, or to an unknown entry
-  pub steps_to : (value : ℕ) (name : List ℕ) (after : Option ℕ) (step : Step) (held : ℕ) → held ≡ depth c → c.inner.within ≡ in_structure → c.failed ≡ false
+  pub steps_to : (value : ℕ) (name : List ℕ) (after : Option ℕ) (step : Step) (held : ℕ) → held ≡ end_depth o.enforce_strictness (depth c) → c.inner.within ≡ in_structure → c.failed ≡ false
       → new ≡ gone_on_to c value (inside_of in_structure after)
-      → StepsToMember (kind_at outer) c.input held at (mark_with c.inner.mark.due) name value (mark_with after) → StepsTo step outer name → MatchStep step (cbor_relations o) (passed_to c at) new outer
+      → StepsToMember o.enforce_strictness (kind_at outer) c.input held at (mark_with c.inner.mark.due) name value (mark_with after) → StepsTo step outer name → MatchStep step (cbor_relations o) (passed_to c at) new outer
   steps_to value name after step held same within sound is steps leads = go step leads
     where
       comes : Steps (cbor_relations o) (passed_to c at) new outer.table outer.place (Some name)
       comes =
           member_comes value name after within sound is
-          (subst (λ d. StepsToMember (kind_at outer) c.input d at (mark_with c.inner.mark.due) name value (mark_with after)) same steps)
+          (subst (λ d. StepsToMember o.enforce_strictness (kind_at outer) c.input d at (mark_with c.inner.mark.due) name value (mark_with after)) same steps)
 
       go : (step : Step) → StepsTo step outer name → MatchStep step (cbor_relations o) (passed_to c at) new outer
       go (ToMember s) leads = (name, leads.0, comes, leads.1, leads.2)
       go Unknown leads = (name, comes, leads)
       go End leads = absurd leads
 
-  -- it ends, by its map or in an empty input
+  -- it ends, by its map or where nothing is left
   pub leaves_at : (e : ℕ) → (cbor_relations o).closes c.input outer.table outer.place (depth c) at c.inner.mark e
       → new.input ≡ c.input → new.at ≡ e → c.outer ≡ new.inner ∷ new.outer → new.due ≡ false → new.failed ≡ c.failed → c.failed ≡ false
       → Leaves (cbor_relations o) (passed_to c at) new outer.table outer.place
@@ -63,19 +63,28 @@ module _ (o : Settings) (c new : Cursor) (at : ℕ) (outer : Site) (kind : HasMe
     failed = failed ∙ sound;
   }
 
-  pub map_closes : (e held : ℕ) → held ≡ depth c → ClosesMembers (kind_at outer) c.input held at (mark_with c.inner.mark.due) e × FollowsInside held c.input e
-      → (cbor_relations o).closes c.input outer.table outer.place (depth c) at c.inner.mark e
-  map_closes e held same h =
+  pub map_closes : (e held : ℕ) → held ≡ end_depth o.enforce_strictness (depth c) → ClosesMembers o.enforce_strictness (kind_at outer) c.input held at (mark_with c.inner.mark.due) e
+      → FollowsInside o.enforce_strictness (depth c) c.input e → (cbor_relations o).closes c.input outer.table outer.place (depth c) at c.inner.mark e
+  map_closes e held same h follows =
       closes_members o c.input outer.table outer.place kind (depth c) at c.inner.mark e
-      (subst (λ d. ClosesMembers (kind_at outer) c.input d at (mark_with c.inner.mark.due) e) same h.0) (subst (λ d. FollowsInside d c.input e) same h.1)
+      (subst (λ d. ClosesMembers o.enforce_strictness (kind_at outer) c.input d at (mark_with c.inner.mark.due) e) same h) follows
 
   -- neither a member nor the end comes
-  pub cannot_step : (held : ℕ) → held ≡ depth c → NothingComes (kind_at outer) c.input at c.inner.mark.due held → (IsStructure (kind_at outer) → EndsEmpty c → ⊥)
-      → CannotGoOn (cbor_relations o) (passed_to c at) outer.table outer.place
+  pub cannot_step : (held : ℕ) → held ≡ end_depth o.enforce_strictness (depth c) → NothingComes o.enforce_strictness (kind_at outer) c.input at c.inner.mark.due held
+      → (IsStructure (kind_at outer) → EndsEmpty o.enforce_strictness c at → ⊥) → CannotGoOn (cbor_relations o) (passed_to c at) outer.table outer.place
   cannot_step held same h full =
       members_are_stuck o c.input outer.table outer.place kind (depth c) h.count at c.inner.mark h.place h.after
-      (subst (λ d. Passes (kind_at outer) h.count c.input d at (mark_with c.inner.mark.due) h.place (mark_with h.after)) same h.passes)
-      (subst (λ d. EntryMissing (kind_at outer) c.input h.place h.after d) same h.missing) (λ is at_end empty some. full is (at_end, empty, some))
+      (subst (λ d. Passes o.enforce_strictness (kind_at outer) h.count c.input d at (mark_with c.inner.mark.due) h.place (mark_with h.after)) same h.passes)
+      (subst (λ d. EntryMissing (kind_at outer) c.input h.place h.after d) same h.missing) (λ is at_end rest some. full is (at_end, rest, some))
+
+  -- nor where it is over and can't be left
+  pub members_shut : (e held : ℕ) → held ≡ end_depth o.enforce_strictness (depth c) → ClosesMembers o.enforce_strictness (kind_at outer) c.input held at (mark_with c.inner.mark.due) e
+      → (FollowsInside o.enforce_strictness (depth c) c.input e → ⊥) → (IsStructure (kind_at outer) → EndsEmpty o.enforce_strictness c at → ⊥)
+      → CannotGoOn (cbor_relations o) (passed_to c at) outer.table outer.place
+  members_shut e held same h shut full =
+      members_are_shut o c.input outer.table outer.place kind (depth c) at c.inner.mark e
+      (subst (λ d. ClosesMembers o.enforce_strictness (kind_at outer) c.input d at (mark_with c.inner.mark.due) e) same h) shut
+      (λ is at_end rest some. full is (at_end, rest, some))
 
 -- where nothing was due
 pub stays_undue : (o : Settings) (c : Cursor) (t : Table) (p : Place) → c.due ≡ false

@@ -20,10 +20,10 @@ use Rattle.smithy_cbor.specs.Scalar.{boolean_item, integer_of, text_of, bytes_of
 use Rattle.smithy_cbor_codec.specs.Scalar.{boolean_of, whole_of, blob_of, says}
 use Rattle.smithy_cbor_codec.specs.Laws.{lawful}
 use Rattle.smithy_cbor_codec.specs.Meaning.{node_of, rules_of}
-use Rattle.smithy_cbor_codec.specs.Standing.{Follows, cbor_frames, cbor_relations}
+use Rattle.smithy_cbor_codec.specs.Standing.{Follows, end_depth, frames_of, cbor_relations}
 use Rattle.smithy_cbor_codec.specs.Private.Fits.{boolean_is, whole_is, blob_is}
 use Rattle.smithy_cbor_codec.specs.Private.ScalarAtPlace.{IsAt, IsWholeAt, HasTextAt, IsBlobAt, MeansAt, ExceedsAt, UncarriedAt, NothingAt}
-use Rattle.smithy_cbor_codec.specs.Private.Wire.{cbor_is_wire}
+use Rattle.smithy_cbor_codec.specs.Private.Wire.{wire_of}
 use Rattle.smithy_cbor_codec.specs.Private.ItemPlaces.{one_item, item_front}
 use Rattle.smithy_wire.specs.declared.found.Found.{Found}
 use Rattle.smithy_wire.specs.declared.found.Found.TheVariants.{Value as FoundValue, Nothing, Beyond}
@@ -167,15 +167,15 @@ module _ (o : Settings) (c : Cursor) (site : Site) (s : Scalar) where
   Stands v e = (cbor_relations o).stands c.input site.table (scalar_place s site.place.time) (depth c) c.at (scalar_value v) e
 
   -- what an item that is a scalar says stands there
-  says_stands : (x : Item) (v : Value) (e : ℕ) → cbor_frames.scalar c.input (depth c) x c.at e → settled o.limits null_element (says s site.place.time x) ≡ Some v
+  says_stands : (x : Item) (v : Value) (e : ℕ) → (frames_of o).scalar c.input (depth c) x c.at e → settled o.limits null_element (says s site.place.time x) ≡ Some v
       → (cbor_relations o).stands c.input site.table (scalar_place s site.place.time) (depth c) c.at v e
-  says_stands x v e lies means = scalar_stands cbor_frames (rules_of o) c.input site.table (scalar_place s site.place.time) s refl (depth c) c.at v e (x, lies, means)
+  says_stands x v e lies means = scalar_stands (frames_of o) (rules_of o) c.input site.table (scalar_place s site.place.time) s refl (depth c) c.at v e (x, lies, means)
 
   -- and nothing else does
-  nothing_stands : ((x : Item) (v : Value) (e : ℕ) → cbor_frames.scalar c.input (depth c) x c.at e → settled o.limits null_element (says s site.place.time x) ≡ Some v → ⊥)
+  nothing_stands : ((x : Item) (v : Value) (e : ℕ) → (frames_of o).scalar c.input (depth c) x c.at e → settled o.limits null_element (says s site.place.time x) ≡ Some v → ⊥)
       → StandsNot (cbor_relations o) c site.table (scalar_place s site.place.time)
   nothing_stands none v e stands =
-      let x = stands_scalar cbor_frames (rules_of o) c.input site.table (scalar_place s site.place.time) s refl (depth c) c.at v e stands in
+      let x = stands_scalar (frames_of o) (rules_of o) c.input site.table (scalar_place s site.place.time) s refl (depth c) c.at v e stands in
       none x.0 v e x.1 x.2
 
 -- ---- booleans
@@ -188,11 +188,11 @@ module _ (o : Settings) (c : Cursor) (site : Site) where
   settled_boolean : (x : Item) → settled o.limits null_element (says scalars.Boolean site.place.time x) ≡ boolean_of x
   settled_boolean x = settled_answer o.limits null_element (boolean_of x)
 
-  pub boolean_stands : (b : Bool) (e : ℕ) → IsAt (boolean_item b) c.input c.at (depth c) e → Stands o c site scalars.Boolean (boolean b) e
+  pub boolean_stands : (b : Bool) (e : ℕ) → IsAt (boolean_item b) c.input c.at (end_depth o.enforce_strictness (depth c)) e → Stands o c site scalars.Boolean (boolean b) e
   boolean_stands b e (stands, follows) =
       says_stands o c site scalars.Boolean (boolean_item b) (scalar_value (boolean b)) e (boolean_is_leaf b, stands, follows) (settled_boolean (boolean_item b) ∙ boolean_back b)
 
-  pub no_boolean_stands : ((b : Bool) (e : ℕ) → IsAt (boolean_item b) c.input c.at (depth c) e → ⊥) → StandsNot (cbor_relations o) c site.table (scalar_place scalars.Boolean site.place.time)
+  pub no_boolean_stands : ((b : Bool) (e : ℕ) → IsAt (boolean_item b) c.input c.at (end_depth o.enforce_strictness (depth c)) e → ⊥) → StandsNot (cbor_relations o) c site.table (scalar_place scalars.Boolean site.place.time)
   no_boolean_stands none = nothing_stands o c site scalars.Boolean (λ x v e lies means.
       let b = boolean_is x v (sym (settled_boolean x) ∙ means) in
       none b.0 e (subst (λ (y : Item). IsItemAt y c.input c.at e) b.1 lies.1, lies.2))
@@ -206,11 +206,11 @@ module _ (o : Settings) (c : Cursor) (site : Site) (s : Scalar) (bits : ℕ) (sa
   is_whole : (x : Item) (n : ℤ) → integer_of x ≡ Some n → fits_signed bits n ≡ true → whole_of bits x ≡ Some (scalar_value (whole n))
   is_whole x n is fits = rw (is, fits) refl
 
-  pub whole_stands : (n : ℤ) (e : ℕ) → IsWholeAt bits n c.input c.at (depth c) e → Stands o c site s (whole n) e
+  pub whole_stands : (n : ℤ) (e : ℕ) → IsWholeAt bits n c.input c.at (end_depth o.enforce_strictness (depth c)) e → Stands o c site s (whole n) e
   whole_stands n e h =
       says_stands o c site s h.found (scalar_value (whole n)) e (integer_is_leaf h.found n h.is, h.stands, h.follows) (settled_whole h.found ∙ is_whole h.found n h.is h.fits)
 
-  pub no_whole_stands : ((n : ℤ) (e : ℕ) → IsWholeAt bits n c.input c.at (depth c) e → ⊥) → StandsNot (cbor_relations o) c site.table (scalar_place s site.place.time)
+  pub no_whole_stands : ((n : ℤ) (e : ℕ) → IsWholeAt bits n c.input c.at (end_depth o.enforce_strictness (depth c)) e → ⊥) → StandsNot (cbor_relations o) c site.table (scalar_place s site.place.time)
   no_whole_stands none = nothing_stands o c site s (λ x v e lies means.
       let z = whole_is bits x v (sym (settled_whole x) ∙ means) in
       none z.0 e (record { found = x; stands = lies.1; is = z.1; fits = z.2; follows = lies.2 }))
@@ -230,12 +230,12 @@ module _ (o : Settings) (c : Cursor) (site : Site) where
   settled_text : (x : Item) → settled o.limits null_element (says scalars.String site.place.time x) ≡ option_map (λ s. scalar_value (text s)) (text_of x)
   settled_text x = settled_answer o.limits null_element (option_map (λ s. scalar_value (text s)) (text_of x))
 
-  pub text_stands : (t : List ℕ) (e : ℕ) → TextStands c.input c.at (depth c) t e → Stands o c site scalars.String (text t) e
+  pub text_stands : (t : List ℕ) (e : ℕ) → TextStands c.input c.at (end_depth o.enforce_strictness (depth c)) t e → Stands o c site scalars.String (text t) e
   text_stands t e (h, follows) =
       says_stands o c site scalars.String h.found (scalar_value (text t)) e (text_is_leaf h.found t h.is, h.stands, follows)
       (settled_text h.found ∙ ap (option_map (λ s. scalar_value (text s))) h.is)
 
-  pub no_text_stands : ((t : List ℕ) (e : ℕ) → HasTextAt t c.input c.at e → Follows (depth c) c.input e → ⊥)
+  pub no_text_stands : ((t : List ℕ) (e : ℕ) → HasTextAt t c.input c.at e → Follows (end_depth o.enforce_strictness (depth c)) c.input e → ⊥)
       → StandsNot (cbor_relations o) c site.table (scalar_place scalars.String site.place.time)
   no_text_stands none = nothing_stands o c site scalars.String (λ x v e lies means.
       let s = made (λ s. scalar_value (text s)) (text_of x) v (sym (settled_text x) ∙ means) in
@@ -261,12 +261,12 @@ module _ (o : Settings) (c : Cursor) (site : Site) where
   is_blob : (x : Item) (b : List ℕ) → bytes_of x ≡ Some b → are_bytes b ≡ true → option_map (λ b. scalar_value (bytes b)) (blob_of x) ≡ Some (scalar_value (bytes b))
   is_blob x b is small = rw (is, small) refl
 
-  pub blob_stands : (b : List ℕ) (e : ℕ) → IsBlobAt b c.input c.at (depth c) e → Stands o c site scalars.Blob (bytes b) e
+  pub blob_stands : (b : List ℕ) (e : ℕ) → IsBlobAt b c.input c.at (end_depth o.enforce_strictness (depth c)) e → Stands o c site scalars.Blob (bytes b) e
   blob_stands b e h =
       says_stands o c site scalars.Blob h.found (scalar_value (bytes b)) e (bytes_is_leaf h.found b h.is, h.stands, h.follows)
       (settled_blob h.found ∙ is_blob h.found b h.is h.bytes)
 
-  pub no_blob_stands : ((b : List ℕ) (e : ℕ) → IsBlobAt b c.input c.at (depth c) e → ⊥) → StandsNot (cbor_relations o) c site.table (scalar_place scalars.Blob site.place.time)
+  pub no_blob_stands : ((b : List ℕ) (e : ℕ) → IsBlobAt b c.input c.at (end_depth o.enforce_strictness (depth c)) e → ⊥) → StandsNot (cbor_relations o) c site.table (scalar_place scalars.Blob site.place.time)
   no_blob_stands none = nothing_stands o c site scalars.Blob (λ x v e lies means.
       let b = blob_is x v (sym (settled_blob x) ∙ means) in
       none b.0 e (record { found = x; stands = lies.1; is = b.1; bytes = b.2; follows = lies.2 }))
@@ -274,144 +274,144 @@ module _ (o : Settings) (c : Cursor) (site : Site) where
 -- ---- big numbers and instants, by a kind whose meaning asks no time form
 
 module _ (o : Settings) (c : Cursor) (site : Site) (s : Scalar) (timeless : (x : Item) → says s site.place.time x ≡ says s None x) where
-  pub number_stands : (v : ScalarValue) (e : ℕ) → MeansAt s c.input c.at (depth c) v e → Stands o c site s v e
+  pub number_stands : (v : ScalarValue) (e : ℕ) → MeansAt s c.input c.at (end_depth o.enforce_strictness (depth c)) v e → Stands o c site s v e
   number_stands v e h =
       says_stands o c site s h.found (scalar_value v) e h.lies (ap (settled o.limits null_element) (timeless h.found ∙ h.is))
 
-  pub number_exceeds : ExceedsAt s c.input c.at (depth c) → Exceeds (cbor_relations o) c site.table (scalar_place s site.place.time)
+  pub number_exceeds : ExceedsAt s c.input c.at (end_depth o.enforce_strictness (depth c)) → Exceeds (cbor_relations o) c site.table (scalar_place s site.place.time)
   number_exceeds h = (
     h.e,
-    scalar_exceeds cbor_frames (rules_of o) c.input site.table (scalar_place s site.place.time) s refl (depth c) c.at h.found h.e h.lies (timeless h.found ∙ h.is),
+    scalar_exceeds (frames_of o) (rules_of o) c.input site.table (scalar_place s site.place.time) s refl (depth c) c.at h.found h.e h.lies (timeless h.found ∙ h.is),
   )
 
-  pub no_number_stands : NothingAt s c.input c.at (depth c) → StandsNot (cbor_relations o) c site.table (scalar_place s site.place.time)
+  pub no_number_stands : NothingAt s c.input c.at (end_depth o.enforce_strictness (depth c)) → StandsNot (cbor_relations o) c site.table (scalar_place s site.place.time)
   no_number_stands none = nothing_stands o c site s (λ x v e lies means.
       let nothing : None ≡ Some v = sym (ap (settled o.limits null_element) (timeless x ∙ none x e lies)) ∙ means in
       cc)
 
-  pub no_number_exceeds : NothingAt s c.input c.at (depth c) → Exceeds (cbor_relations o) c site.table (scalar_place s site.place.time) → ⊥
+  pub no_number_exceeds : NothingAt s c.input c.at (end_depth o.enforce_strictness (depth c)) → Exceeds (cbor_relations o) c site.table (scalar_place s site.place.time) → ⊥
   no_number_exceeds none (e, there) =
-      let x = exceeds_scalar cbor_frames (rules_of o) c.input site.table (scalar_place s site.place.time) s refl (depth c) c.at e there in
+      let x = exceeds_scalar (frames_of o) (rules_of o) c.input site.table (scalar_place s site.place.time) s refl (depth c) c.at e there in
       let both : ◌≡◌ {A = Answer Value} no_meaning wide = sym (timeless x.0 ∙ none x.0 e x.1) ∙ x.2 in
       cc
 
   -- within the limits nothing stands where a number leaves them
   pub exceeds_stands_not : o.limits ≡ kept → Exceeds (cbor_relations o) c site.table (scalar_place s site.place.time) → StandsNot (cbor_relations o) c site.table (scalar_place s site.place.time)
   exceeds_stands_not keeps (e, there) v f stands =
-      exceeds_not cbor_frames (rules_of o) cbor_is_wire keeps c.input site.table (scalar_place s site.place.time) s refl (depth c) c.at e there v f stands
+      exceeds_not (frames_of o) (rules_of o) (wire_of o) keeps c.input site.table (scalar_place s site.place.time) s refl (depth c) c.at e there v f stands
 
-  pub not_carried : UncarriedAt s c.input c.at (depth c) → Uncarried (cbor_relations o) c site.table (scalar_place s site.place.time)
+  pub not_carried : UncarriedAt s c.input c.at (end_depth o.enforce_strictness (depth c)) → Uncarried (cbor_relations o) c site.table (scalar_place s site.place.time)
   not_carried h = (
     h.e,
-    scalar_uncarried cbor_frames (rules_of o) c.input site.table (scalar_place s site.place.time) s refl (depth c) c.at h.found h.e h.lies (timeless h.found ∙ h.is),
+    scalar_uncarried (frames_of o) (rules_of o) c.input site.table (scalar_place s site.place.time) s refl (depth c) c.at h.found h.e h.lies (timeless h.found ∙ h.is),
   )
 
-  pub all_carried : NothingAt s c.input c.at (depth c) → Uncarried (cbor_relations o) c site.table (scalar_place s site.place.time) → ⊥
+  pub all_carried : NothingAt s c.input c.at (end_depth o.enforce_strictness (depth c)) → Uncarried (cbor_relations o) c site.table (scalar_place s site.place.time) → ⊥
   all_carried none (e, there) =
-      let x = uncarried_scalar cbor_frames (rules_of o) c.input site.table (scalar_place s site.place.time) s refl (depth c) c.at e there in
+      let x = uncarried_scalar (frames_of o) (rules_of o) c.input site.table (scalar_place s site.place.time) s refl (depth c) c.at e there in
       let both : ◌≡◌ {A = Answer Value} no_meaning uncarried = sym (timeless x.0 ∙ none x.0 e x.1) ∙ x.2 in
       cc
 
   -- nor where something isn't carried
   pub uncarried_stands_not : o.limits ≡ kept → Uncarried (cbor_relations o) c site.table (scalar_place s site.place.time) → StandsNot (cbor_relations o) c site.table (scalar_place s site.place.time)
   uncarried_stands_not keeps (e, there) v f stands =
-      uncarried_not cbor_frames (rules_of o) cbor_is_wire keeps c.input site.table (scalar_place s site.place.time) s refl (depth c) c.at e there v f stands
+      uncarried_not (frames_of o) (rules_of o) (wire_of o) keeps c.input site.table (scalar_place s site.place.time) s refl (depth c) c.at e there v f stands
 
 -- ---- the answer of a read
 
 module _ (o : Settings) (old : Cursor) (site : Site) (sound : old.failed ≡ false) (due : old.due ≡ true) (within : old.at ≤ length old.input) where
   -- of a boolean
   pub reads_boolean : (new : Cursor) (found : Option (Bool × ℕ)) (result : Result Bool SerdeError)
-      → IfSome found (λ r. IsAt (boolean_item r.0) old.input old.at (depth old) r.1) → IfNone found ((b : Bool) (e : ℕ) → IsAt (boolean_item b) old.input old.at (depth old) e → ⊥)
+      → IfSome found (λ r. IsAt (boolean_item r.0) old.input old.at (end_depth o.enforce_strictness (depth old)) r.1) → IfNone found ((b : Bool) (e : ℕ) → IsAt (boolean_item b) old.input old.at (end_depth o.enforce_strictness (depth old)) e → ⊥)
       → IfOk result (λ x. IfSome found (λ r. (r.0 ≡ x) × (new ≡ passed_to old r.1))) → (IsOk result → IsSome found) → (IsErr result → IsNone found)
       → OnErr result (new ≡ failed_at old) → IfErr result (λ e. e ≡ InvalidInput)
-      → ReadsScalar (cbor_relations o) (cbor_relations (without_limits o)) (Unit {0}) old new site scalars.Boolean boolean result
+      → ReadsScalar (cbor_relations o) (cbor_relations (without_limits o)) (o.enforce_strictness ≡ true) old new site scalars.Boolean boolean result
   reads_boolean new found result here none =
-      takes (cbor_relations o) (cbor_relations (without_limits o)) (Unit {0}) site scalars.Boolean boolean (lawful o) old sound due within false refl new found result
+      takes (cbor_relations o) (cbor_relations (without_limits o)) (o.enforce_strictness ≡ true) site scalars.Boolean boolean (lawful o) old sound due within false refl new found result
       (if_some found _ _ (λ r. boolean_stands o old site r.0 r.1) here)
       (if_none found _ _ (λ nothing. (no_boolean_stands o old site nothing, no_boolean_stands (without_limits o) old site nothing)) none)
 
   -- of a kind of whole numbers of so many bits
   pub reads_whole : (s : Scalar) (bits : ℕ) → ((x : Item) → says s site.place.time x ≡ answer_of (whole_of bits x))
       → (new : Cursor) (found : Option (ℤ × ℕ)) (result : Result ℤ SerdeError)
-      → IfSome found (λ r. IsWholeAt bits r.0 old.input old.at (depth old) r.1) → IfNone found ((n : ℤ) (e : ℕ) → IsWholeAt bits n old.input old.at (depth old) e → ⊥)
+      → IfSome found (λ r. IsWholeAt bits r.0 old.input old.at (end_depth o.enforce_strictness (depth old)) r.1) → IfNone found ((n : ℤ) (e : ℕ) → IsWholeAt bits n old.input old.at (end_depth o.enforce_strictness (depth old)) e → ⊥)
       → IfOk result (λ x. IfSome found (λ r. (r.0 ≡ x) × (new ≡ passed_to old r.1))) → (IsOk result → IsSome found) → (IsErr result → IsNone found)
       → OnErr result (new ≡ failed_at old) → IfErr result (λ e. e ≡ InvalidInput)
-      → ReadsScalar (cbor_relations o) (cbor_relations (without_limits o)) (Unit {0}) old new site s whole result
+      → ReadsScalar (cbor_relations o) (cbor_relations (without_limits o)) (o.enforce_strictness ≡ true) old new site s whole result
   reads_whole s bits says_whole new found result here none =
-      takes (cbor_relations o) (cbor_relations (without_limits o)) (Unit {0}) site s whole (lawful o) old sound due within false refl new found result
+      takes (cbor_relations o) (cbor_relations (without_limits o)) (o.enforce_strictness ≡ true) site s whole (lawful o) old sound due within false refl new found result
       (if_some found _ _ (λ r. whole_stands o old site s bits says_whole r.0 r.1) here)
       (if_none found _ _ (λ nothing. (no_whole_stands o old site s bits says_whole nothing, no_whole_stands (without_limits o) old site s bits says_whole nothing)) none)
 
   -- the same in fewer bits
   pub reads_narrow : (s : Scalar) (bits : ℕ) → 2 ^ (bits - 1) ≤ 2 ^ 63 → ((x : Item) → says s site.place.time x ≡ answer_of (whole_of bits x))
       → (new : Cursor) (broad found : Option (ℤ × ℕ)) (result : Result ℤ SerdeError)
-      → IfSome broad (λ r. IsWholeAt 64 r.0 old.input old.at (depth old) r.1) → IfNone broad ((n : ℤ) (e : ℕ) → IsWholeAt 64 n old.input old.at (depth old) e → ⊥)
+      → IfSome broad (λ r. IsWholeAt 64 r.0 old.input old.at (end_depth o.enforce_strictness (depth old)) r.1) → IfNone broad ((n : ℤ) (e : ℕ) → IsWholeAt 64 n old.input old.at (end_depth o.enforce_strictness (depth old)) e → ⊥)
       → IfSome found (IsNarrowed bits broad) → IfNone found (IsWider bits broad)
       → IfOk result (λ x. IfSome found (λ r. (r.0 ≡ x) × (new ≡ passed_to old r.1))) → (IsOk result → IsSome found) → (IsErr result → IsNone found)
       → OnErr result (new ≡ failed_at old) → IfErr result (λ e. e ≡ InvalidInput)
-      → ReadsScalar (cbor_relations o) (cbor_relations (without_limits o)) (Unit {0}) old new site s whole result
+      → ReadsScalar (cbor_relations o) (cbor_relations (without_limits o)) (o.enforce_strictness ≡ true) old new site s whole result
   reads_narrow s bits fewer says_whole new broad found result here none narrow wider =
-      let At : ℕ → ℤ → ℕ → Type 0 = λ bits n e. IsWholeAt bits n old.input old.at (depth old) e in
+      let At : ℕ → ℤ → ℕ → Type 0 = λ bits n e. IsWholeAt bits n old.input old.at (end_depth o.enforce_strictness (depth old)) e in
       reads_whole s bits says_whole new found result
       (narrow_found At bits broad found (λ n e h fits. record { found = h.found; stands = h.stands; is = h.is; fits = fits; follows = h.follows }) here narrow)
       (narrow_none At bits broad found (λ n e h. (record { found = h.found; stands = h.stands; is = h.is; fits = fits_more bits 64 n fewer h.fits; follows = h.follows }, h.fits))
-      (same_number old.input old.at (depth old)) here none wider)
+      (same_number old.input old.at (end_depth o.enforce_strictness (depth old))) here none wider)
 
   -- of a text
   pub reads_text : {A : Type 0} (text_of : A → List ℕ) (new : Cursor) (found : Result (Option (A × ℕ)) AllocError) (result : Result A SerdeError)
-      → IfOk found (λ o. MatchOption o ((t : List ℕ) (e : ℕ) → HasTextAt t old.input old.at e → Follows (depth old) old.input e → ⊥) (λ r. TextStands old.input old.at (depth old) (text_of r.0) r.1))
-      → Takes old new found result → ReadsScalar (cbor_relations o) (cbor_relations (without_limits o)) (Unit {0}) old new site scalars.String (λ x. text (text_of x)) result
+      → IfOk found (λ it. MatchOption it ((t : List ℕ) (e : ℕ) → HasTextAt t old.input old.at e → Follows (end_depth o.enforce_strictness (depth old)) old.input e → ⊥) (λ r. TextStands old.input old.at (end_depth o.enforce_strictness (depth old)) (text_of r.0) r.1))
+      → Takes old new found result → ReadsScalar (cbor_relations o) (cbor_relations (without_limits o)) (o.enforce_strictness ≡ true) old new site scalars.String (λ x. text (text_of x)) result
   reads_text text_of new found result here =
-      takes_found (cbor_relations o) (cbor_relations (without_limits o)) (Unit {0}) site scalars.String (λ x. text (text_of x)) (lawful o) old sound due within false refl new found result
+      takes_found (cbor_relations o) (cbor_relations (without_limits o)) (o.enforce_strictness ≡ true) site scalars.String (λ x. text (text_of x)) (lawful o) old sound due within false refl new found result
       (if_ok found _ _ (λ f. if_matched f _ _ _ _ (λ nothing. (no_text_stands o old site nothing, no_text_stands (without_limits o) old site nothing)) (λ r. text_stands o old site (text_of r.0) r.1)) here)
 
   -- of bytes, wherever they are kept
   pub reads_bytes : {A : Type 0} (bytes_in : A → List ℕ) (new : Cursor) (found : Result (Option (A × ℕ)) AllocError) (result : Result A SerdeError)
-      → IfOk found (λ o. MatchOption o ((b : List ℕ) (e : ℕ) → IsBlobAt b old.input old.at (depth old) e → ⊥) (λ r. IsBlobAt (bytes_in r.0) old.input old.at (depth old) r.1))
-      → Takes old new found result → ReadsScalar (cbor_relations o) (cbor_relations (without_limits o)) (Unit {0}) old new site scalars.Blob (λ x. bytes (bytes_in x)) result
+      → IfOk found (λ it. MatchOption it ((b : List ℕ) (e : ℕ) → IsBlobAt b old.input old.at (end_depth o.enforce_strictness (depth old)) e → ⊥) (λ r. IsBlobAt (bytes_in r.0) old.input old.at (end_depth o.enforce_strictness (depth old)) r.1))
+      → Takes old new found result → ReadsScalar (cbor_relations o) (cbor_relations (without_limits o)) (o.enforce_strictness ≡ true) old new site scalars.Blob (λ x. bytes (bytes_in x)) result
   reads_bytes bytes_in new found result here =
-      takes_found (cbor_relations o) (cbor_relations (without_limits o)) (Unit {0}) site scalars.Blob (λ x. bytes (bytes_in x)) (lawful o) old sound due within false refl new found result
+      takes_found (cbor_relations o) (cbor_relations (without_limits o)) (o.enforce_strictness ≡ true) site scalars.Blob (λ x. bytes (bytes_in x)) (lawful o) old sound due within false refl new found result
       (if_ok found _ _ (λ f. if_matched f _ _ _ _ (λ nothing. (no_blob_stands o old site nothing, no_blob_stands (without_limits o) old site nothing)) (λ r. blob_stands o old site (bytes_in r.0) r.1)) here)
 
   -- of bytes
   pub reads_blob : (new : Cursor) (found : Result (Option (List ℕ × ℕ)) AllocError) (result : Result (List ℕ) SerdeError)
-      → IfOk found (λ o. MatchOption o ((b : List ℕ) (e : ℕ) → IsBlobAt b old.input old.at (depth old) e → ⊥) (λ r. IsBlobAt r.0 old.input old.at (depth old) r.1))
-      → Takes old new found result → ReadsScalar (cbor_relations o) (cbor_relations (without_limits o)) (Unit {0}) old new site scalars.Blob bytes result
+      → IfOk found (λ it. MatchOption it ((b : List ℕ) (e : ℕ) → IsBlobAt b old.input old.at (end_depth o.enforce_strictness (depth old)) e → ⊥) (λ r. IsBlobAt r.0 old.input old.at (end_depth o.enforce_strictness (depth old)) r.1))
+      → Takes old new found result → ReadsScalar (cbor_relations o) (cbor_relations (without_limits o)) (o.enforce_strictness ≡ true) old new site scalars.Blob bytes result
   reads_blob new found result here = reads_bytes (λ b. b) new found result here
 
   -- of a big number
   module _ (keeps : o.limits ≡ kept) (s : Scalar) (timeless : (x : Item) → says s site.place.time x ≡ says s None x) {A : Type 0} (value : A → ScalarValue)
       (new : Cursor) (found : Result (Found (A × ℕ)) AllocError) (result : Result A SerdeError)
-      (here : IfOk found (λ f. MatchFound f (λ r. MeansAt s old.input old.at (depth old) (value r.0) r.1) (NothingAt s old.input old.at (depth old)) (ExceedsAt s old.input old.at (depth old)))) where
-    pub reads_big : TakesWithin old new TooWide found result → ReadsScalar (cbor_relations o) (cbor_relations (without_limits o)) (Unit {0}) old new site s value result
+      (here : IfOk found (λ f. MatchFound f (λ r. MeansAt s old.input old.at (end_depth o.enforce_strictness (depth old)) (value r.0) r.1) (NothingAt s old.input old.at (end_depth o.enforce_strictness (depth old))) (ExceedsAt s old.input old.at (end_depth o.enforce_strictness (depth old))))) where
+    pub reads_big : TakesWithin old new TooWide found result → ReadsScalar (cbor_relations o) (cbor_relations (without_limits o)) (o.enforce_strictness ≡ true) old new site s value result
     reads_big =
-        takes_within_limits (cbor_relations o) (cbor_relations (without_limits o)) (Unit {0}) site s value (lawful o) old sound due within false refl new found result
+        takes_within_limits (cbor_relations o) (cbor_relations (without_limits o)) (o.enforce_strictness ≡ true) site s value (lawful o) old sound due within false refl new found result
         (if_ok found _ _ (λ f. if_found f _ _ _ _ _ _ (λ r. number_stands o old site s timeless (value r.0) r.1)
         (λ none. (no_number_stands o old site s timeless none, no_number_stands (without_limits o) old site s timeless none))
         (λ leaves. let there = number_exceeds o old site s timeless leaves in (there, exceeds_stands_not o old site s timeless keeps there))) here)
 
     pub answers_big : TakesWithin old new TooWide found result → AnswersWide (cbor_relations o) old site s result
     answers_big =
-        answers_past_limits (cbor_relations o) (cbor_relations (without_limits o)) (Unit {0}) site s value (lawful o) old sound due within false refl new found result
+        answers_past_limits (cbor_relations o) (cbor_relations (without_limits o)) (o.enforce_strictness ≡ true) site s value (lawful o) old sound due within false refl new found result
         (exceeds_stands_not o old site s timeless keeps)
         (if_ok found _ _ (λ f. if_found f _ _ _ _ _ _ (λ r. number_stands o old site s timeless (value r.0) r.1) (λ none. no_number_exceeds o old site s timeless none) (λ leaves. tt)) here)
 
   -- of an instant
   module _ (keeps : o.limits ≡ kept) (new : Cursor) (found : Found (ℤ × ℕ)) (result : Result ℤ SerdeError)
-      (here : MatchFound found (λ r. MeansAt scalars.Timestamp old.input old.at (depth old) (instant r.0) r.1)
-      (NothingAt scalars.Timestamp old.input old.at (depth old)) (UncarriedAt scalars.Timestamp old.input old.at (depth old))) where
+      (here : MatchFound found (λ r. MeansAt scalars.Timestamp old.input old.at (end_depth o.enforce_strictness (depth old)) (instant r.0) r.1)
+      (NothingAt scalars.Timestamp old.input old.at (end_depth o.enforce_strictness (depth old))) (UncarriedAt scalars.Timestamp old.input old.at (end_depth o.enforce_strictness (depth old)))) where
     pub reads_instant : TakesWithin old new NotCarried (Ok found) result
-        → ReadsScalar (cbor_relations o) (cbor_relations (without_limits o)) (Unit {0}) old new site scalars.Timestamp instant result
+        → ReadsScalar (cbor_relations o) (cbor_relations (without_limits o)) (o.enforce_strictness ≡ true) old new site scalars.Timestamp instant result
     reads_instant =
-        takes_what_is_carried (cbor_relations o) (cbor_relations (without_limits o)) (Unit {0}) site scalars.Timestamp instant (lawful o) old sound due within false refl new (Ok found) result
+        takes_what_is_carried (cbor_relations o) (cbor_relations (without_limits o)) (o.enforce_strictness ≡ true) site scalars.Timestamp instant (lawful o) old sound due within false refl new (Ok found) result
         (if_found found _ _ _ _ _ _ (λ r. number_stands o old site scalars.Timestamp (λ x. refl) (instant r.0) r.1)
         (λ none. (no_number_stands o old site scalars.Timestamp (λ x. refl) none, no_number_stands (without_limits o) old site scalars.Timestamp (λ x. refl) none))
         (λ floats. let there = not_carried o old site scalars.Timestamp (λ x. refl) floats in (there, uncarried_stands_not o old site scalars.Timestamp (λ x. refl) keeps there)) here)
 
     pub answers_instant : TakesWithin old new NotCarried (Ok found) result → AnswersUncarried (cbor_relations o) old site scalars.Timestamp result
     answers_instant =
-        answers_what_is_not (cbor_relations o) (cbor_relations (without_limits o)) (Unit {0}) site scalars.Timestamp instant (lawful o) old sound due within false refl new (Ok found) result
+        answers_what_is_not (cbor_relations o) (cbor_relations (without_limits o)) (o.enforce_strictness ≡ true) site scalars.Timestamp instant (lawful o) old sound due within false refl new (Ok found) result
         (uncarried_stands_not o old site scalars.Timestamp (λ x. refl) keeps)
         (if_found found _ _ _ _ _ _ (λ r. number_stands o old site scalars.Timestamp (λ x. refl) (instant r.0) r.1) (λ none. all_carried o old site scalars.Timestamp (λ x. refl) none) (λ floats. tt) here)
 

@@ -1,11 +1,12 @@
 -- Whole inputs: what spells a value is what stands at their start, up to their end.
-use Rattle.std.proofs.Common.{◌≡◌, ◌↔◌, ℕ, List, length, Some, refl, sym, ap, ◌∙◌, arith, subst, inl, inr}
+use Rattle.std.proofs.Common.{◌≡◌, ◌↔◌, ℕ, List, length, true, Some, refl, sym, ap, ◌∙◌, arith, subst, inl, inr}
 use Rattle.std.specs.List.{slice_range}
 use Rattle.std.proofs.lemmas.List.{take_rest}
 use Rattle.smithy_shapes.specs.declared.place.Place.{Place}
 use Rattle.smithy_shapes.specs.Table.{Table, Kind, scalar, document, structure_of, union_of, list_of, map_of, nothing, kind_of, IsStructure}
 use Rattle.smithy_shapes.specs.Value.{Value, structure, no_member_values}
 use Rattle.smithy_shapes.specs.Lemmas.Options.{same_some, chosen}
+use Rattle.smithy_schema.specs.Reading.{Relations}
 use Rattle.cbor_item.specs.Item.{Item}
 use Rattle.cbor_item.specs.WellFormed.{IsEncodingOf, IsItemAt}
 use Rattle.cbor_item.proofs.FirstByte.{not_empty}
@@ -13,11 +14,12 @@ use Rattle.cbor_item.proofs.OneItem.{same_item}
 use Rattle.smithy_cbor_codec.specs.Settings.{Settings, is_shallow}
 use Rattle.smithy_cbor_codec.specs.Meaning.{node_of, rules_of, cbor_meaning}
 use Rattle.smithy_cbor_codec.specs.Spelling.{cbor_spells}
-use Rattle.smithy_cbor_codec.specs.Standing.{Follows, cbor_frames, cbor_relations}
-use Rattle.smithy_cbor_codec.specs.Private.NodePlaces.{item_lies, lies_item, lies_full}
+use Rattle.smithy_cbor_codec.specs.Standing.{Follows, cbor_frames}
+use Rattle.smithy_cbor_codec.specs.Private.NodePlaces.{item_lies, lies_item, lies_full, all_there}
+use Rattle.smithy_cbor_codec.specs.Private.Wire.{nothing_left}
 use Rattle.smithy_wire.specs.Node.{Node, null_node, leaf, container, missing}
 use Rattle.smithy_wire.specs.Meaning.{missing_meaning, meaning}
-use Rattle.smithy_wire.specs.Frames.{Lies, EndsAs}
+use Rattle.smithy_wire.specs.Frames.{Lies, EndsAs, relations}
 use Rattle.smithy_wire.specs.Wire.{no_value}
 use Rattle.smithy_wire.specs.Lemmas.Nodes.{sort_of}
 
@@ -53,39 +55,43 @@ missing_is (map_of m) v h = cc
 missing_is nothing v h = cc
 
 -- a document ends where a value may
-pub ends_as : (k : Kind) (i : List ℕ) (d e : ℕ) → Follows d i e → EndsAs cbor_frames k i d e
+pub ends_as : (k : Kind) (i : List ℕ) (d e : ℕ) → Follows d i e → EndsAs (cbor_frames true) k i d e
 ends_as document i d e follows = follows
 ends_as _ i d e follows = tt
 
+-- the relations of strict reading
+abbrev pub strictly : Settings → Relations
+strictly c = relations (cbor_frames true) (rules_of c)
+
 -- what the input spells stands at its start
 pub spells_stands : (c : Settings) (t : Table) (p : Place) (i : List ℕ) (v : Value) → cbor_spells c t p i v
-    → (e : ℕ) × (cbor_relations c).stands i t p 0 0 v e
+    → (e : ℕ) × (strictly c).stands i t p 0 0 v e
 spells_stands c t p i v (inl h) =
-    (length i, (node_of h.0, item_lies 0 h.0 i 0 (length i) (encoding_stands h.0 i h.1) refl, h.2, ends_as (kind_of t p) i 0 (length i) refl))
+    (length i, (node_of h.0, item_lies true 0 h.0 i 0 (length i) (encoding_stands h.0 i h.1) refl, h.2, ends_as (kind_of t p) i 0 (length i) refl))
 spells_stands c t p i v (inr h) =
-    (0, (missing, ((h.0, refl), refl), rw h.2 (missing_says (kind_of t p) h.1 ∙ ap Some (sym h.3)), ends_as (kind_of t p) i 0 0 (sym (ap length h.0))))
+    (0, (missing, ((sym (ap length h.0), λ strict. refl), refl), rw h.2 (missing_says (kind_of t p) h.1 ∙ ap Some (sym h.3)), ends_as (kind_of t p) i 0 0 (sym (ap length h.0))))
 
 -- what stands at the start of the input is spelled by it
 pub stands_spells : (c : Settings) (t : Table) (p : Place) (i : List ℕ) (v : Value) (e : ℕ)
-    → (cbor_relations c).stands i t p 0 0 v e → cbor_spells c t p i v
+    → (strictly c).stands i t p 0 0 v e → cbor_spells c t p i v
 stands_spells c t p i v e (y, lies, means, ends) = of y lies means
   where
-    there : (y : Node Item) → (sort_of y ≡ no_value → ⊥) → Lies cbor_frames i 0 y 0 e → meaning (rules_of c) t p 0 y ≡ Some v → cbor_spells c t p i v
+    there : (y : Node Item) → (sort_of y ≡ no_value → ⊥) → Lies (cbor_frames true) i 0 y 0 e → meaning (rules_of c) t p 0 y ≡ Some v → cbor_spells c t p i v
     there y is lies means =
-        let x = lies_item 0 y i 0 e (lies_full 0 y i 0 e lies is) lies in
+        let x = lies_item true 0 y i 0 e (all_there 0 y i 0 e (lies_full 0 y i 0 e lies is) lies) lies in
         inl (x.0, standing_encodes x.0 i e x.1 x.2, ap (meaning (rules_of c) t p 0) x.3 ∙ means)
 
-    of : (y : Node Item) → Lies cbor_frames i 0 y 0 e → meaning (rules_of c) t p 0 y ≡ Some v → cbor_spells c t p i v
+    of : (y : Node Item) → Lies (cbor_frames true) i 0 y 0 e → meaning (rules_of c) t p 0 y ≡ Some v → cbor_spells c t p i v
     of null_node lies means = there null_node (λ h. cc) lies means
     of (leaf x) lies means = there (leaf x) (λ h. cc) lies means
     of (container f xs) lies means = there (container f xs) (λ h. cc) lies means
     of missing lies means =
         let deep = chosen (is_shallow c 1) (missing_meaning (kind_of t p)) v means in
         let is = missing_is (kind_of t p) v deep.1 in
-        inr (lies.0.0, is.0, deep.0, is.1)
+        inr (nothing_left i 0 lies.0.0, is.0, deep.0, is.1)
 
 pub spells_is_stands : (c : Settings) (t : Table) (p : Place) (i : List ℕ) (v : Value)
-    → cbor_spells c t p i v ↔ ((e : ℕ) × (cbor_relations c).stands i t p 0 0 v e)
+    → cbor_spells c t p i v ↔ ((e : ℕ) × (strictly c).stands i t p 0 0 v e)
 spells_is_stands c t p i v = (spells_stands c t p i v, λ h. stands_spells c t p i v h.0 h.1)
 
 -- at most one value is spelled

@@ -119,7 +119,7 @@ pub null_is_dropped : strictly.steps (0xa2 ∷ 0x61 ∷ 0x7a ∷ 0xf6 ∷ 0x61 �
 unfolding smithy_cbor_codec_on_literals
 null_is_dropped = (
   steps_to_member strict (0xa2 ∷ 0x61 ∷ 0x7a ∷ 0xf6 ∷ 0x61 ∷ 0x61 ∷ 0x01 ∷ []) one_long (shape_place 0) tt 1 1 (mark_with (Some 2)) (codes "a") 6 (mark_with (Some 0))
-      (1, 4, mark_with (Some 1), (codes "z", 3, 4, mark_with (Some 1), (inl (1, refl, refl), (z_key.item, (omega arith, z_key.is), refl)), inl (refl, refl, tt), (refl, refl)), (inl (0, refl, refl), (a_key.item, (omega arith, a_key.is), refl)), (refl, no_null (0xa2 ∷ 0x61 ∷ 0x7a ∷ 0xf6 ∷ 0x61 ∷ 0x61 ∷ 0x01 ∷ []) 6 1 refl)),
+      (1, 4, mark_with (Some 1), (codes "z", 3, 4, mark_with (Some 1), (inl (1, refl, refl), (z_key.item, (omega arith, z_key.is), refl)), inl (refl, (refl, refl, tt)), (refl, refl)), (inl (0, refl, refl), (a_key.item, (omega arith, a_key.is), refl)), (refl, λ e null. absurd (no_null (0xa2 ∷ 0x61 ∷ 0x7a ∷ 0xf6 ∷ 0x61 ∷ 0x61 ∷ 0x01 ∷ []) 6 1 refl e null))),
   closes_members strict (0xa2 ∷ 0x61 ∷ 0x7a ∷ 0xf6 ∷ 0x61 ∷ 0x61 ∷ 0x01 ∷ []) one_long (shape_place 0) tt 1 7 (mark_with (Some 0)) 7 (0, 7, mark_with (Some 0), (refl, refl), inl (refl, refl)) refl,
 )
 
@@ -129,9 +129,9 @@ pub null_before_the_end : strictly.closes (0xa1 ∷ 0x61 ∷ 0x61 ∷ 0xf6 ∷ [
 unfolding smithy_cbor_codec_on_literals
 null_before_the_end = (
   closes_members strict (0xa1 ∷ 0x61 ∷ 0x61 ∷ 0xf6 ∷ []) one_long (shape_place 0) tt 1 1 (mark_with (Some 1)) 4
-      (1, 4, mark_with (Some 0), (codes "a", 3, 4, mark_with (Some 0), (inl (0, refl, refl), (a_key.item, (omega arith, a_key.is), refl)), inl (refl, refl, tt), (refl, refl)), inl (refl, refl)) refl,
+      (1, 4, mark_with (Some 0), (codes "a", 3, 4, mark_with (Some 0), (inl (0, refl, refl), (a_key.item, (omega arith, a_key.is), refl)), inl (refl, (refl, refl, tt)), (refl, refl)), inl (refl, refl)) refl,
   closes_members strict (0xbf ∷ 0x61 ∷ 0x61 ∷ 0xf6 ∷ 0xff ∷ []) one_long (shape_place 0) tt 1 1 (mark_with None) 5
-      (1, 4, mark_with None, (codes "a", 3, 4, mark_with None, (inr (refl, omega arith, refl, refl), (a_key.item, (omega arith, a_key.is), refl)), inl (refl, refl, tt), (refl, refl)), inr (refl, refl, refl)) refl,
+      (1, 4, mark_with None, (codes "a", 3, 4, mark_with None, (inr (refl, omega arith, refl, refl), (a_key.item, (omega arith, a_key.is), refl)), inl (refl, (refl, refl, tt)), (refl, refl)), inr (refl, refl, refl)) refl,
 )
 
 -- undefined is no null: {"a": undefined} goes on to its value
@@ -139,7 +139,7 @@ pub undefined_is_due : strictly.steps (0xa1 ∷ 0x61 ∷ 0x61 ∷ 0xf7 ∷ []) o
 unfolding smithy_cbor_codec_on_literals
 undefined_is_due =
     steps_to_member strict (0xa1 ∷ 0x61 ∷ 0x61 ∷ 0xf7 ∷ []) one_long (shape_place 0) tt 1 1 (mark_with (Some 1)) (codes "a") 3 (mark_with (Some 0))
-    (0, 1, mark_with (Some 1), (refl, refl), (inl (0, refl, refl), (a_key.item, (omega arith, a_key.is), refl)), (refl, no_null (0xa1 ∷ 0x61 ∷ 0x61 ∷ 0xf7 ∷ []) 3 1 refl))
+    (0, 1, mark_with (Some 1), (refl, refl), (inl (0, refl, refl), (a_key.item, (omega arith, a_key.is), refl)), (refl, λ e null. absurd (no_null (0xa1 ∷ 0x61 ∷ 0x61 ∷ 0xf7 ∷ []) 3 1 refl e null)))
 
 -- a null under a key that isn't UTF-8 isn't dropped: a1 61 ff f6
 pub null_without_key : StepsNot (0xa1 ∷ 0x61 ∷ 0xff ∷ 0xf6 ∷ []) one_long 0 1 1 (mark_with (Some 1)) × ClosesNot (0xa1 ∷ 0x61 ∷ 0xff ∷ 0xf6 ∷ []) one_long 0 1 1 (mark_with (Some 1))
@@ -147,7 +147,7 @@ unfolding smithy_cbor_codec_on_literals
 null_without_key =
     members_are_stuck strict (0xa1 ∷ 0x61 ∷ 0xff ∷ 0xf6 ∷ []) one_long (shape_place 0) tt 1 0 1 (mark_with (Some 1)) 1 (Some 1) (refl, refl) (inl (
       λ text c n has. no_key (0xa1 ∷ 0x61 ∷ 0xff ∷ 0xf6 ∷ []) 1 3 (mark_with (Some 1)) no_text.item (omega arith, no_text.is) refl text c n has,
-      λ e over follows. going e over,
+      λ e over. going e over,
     )) (λ is at_end empty some. cc)
   where
     going : (e : ℕ) → IsOver (0xa1 ∷ 0x61 ∷ 0xff ∷ 0xf6 ∷ []) 1 (mark_with (Some 1)) e → ⊥
@@ -159,8 +159,8 @@ pub missing_pair : ClosesNot (0xa2 ∷ 0x61 ∷ 0x61 ∷ 0x01 ∷ []) one_long 0
 missing_pair =
     (members_are_stuck strict (0xa2 ∷ 0x61 ∷ 0x61 ∷ 0x01 ∷ []) one_long (shape_place 0) tt 1 0 4 (mark_with (Some 1)) 4 (Some 1) (refl, refl) (inl (
       λ text c n has. let (entry, (i, (within, there), text_is)) = has in nothing_there c within i there,
-      λ e over follows. going e over,
-    )) (λ is at_end empty some. cc)).1
+      λ e over. going e over,
+    )) (λ is at_end rest some. let wrong : ◌≡◌ {A = ℕ} 4 0 = rest.1 refl in omega arith)).1
   where
     nothing_there : (c : ℕ) → c ≤ 4 → (i : Item) → IsEncodingOf i (slice_range (0xa2 ∷ 0x61 ∷ 0x61 ∷ 0x01 ∷ []) 4 c) → ⊥
     nothing_there c within i there = let none : c - 4 ≡ 0 = omega arith in not_empty i (subst (λ (x : ℕ). IsEncodingOf i (take x [])) none there)
@@ -174,8 +174,8 @@ pub missing_break_of_map : StepsNot (0xbf ∷ 0x61 ∷ 0x61 ∷ 0x01 ∷ []) one
 missing_break_of_map =
     members_are_stuck strict (0xbf ∷ 0x61 ∷ 0x61 ∷ 0x01 ∷ []) one_long (shape_place 0) tt 1 0 4 (mark_with None) 4 None (refl, refl) (inl (
       λ text c n has. none n has.0,
-      λ e over follows. going e over,
-    )) (λ is at_end empty some. cc)
+      λ e over. going e over,
+    )) (λ is at_end rest some. let wrong : ◌≡◌ {A = ℕ} 4 0 = rest.1 refl in omega arith)
   where
     none : (n : Mark) → HasEntry (0xbf ∷ 0x61 ∷ 0x61 ∷ 0x01 ∷ []) 4 (mark_with None) n → ⊥
     none n (inl (count, due, mark)) = cc
@@ -200,7 +200,7 @@ mark_is_passed_over =
       mark_with (Some 1),
       (codes "__type", 8, 9, mark_with (Some 1), (inl (1, refl, refl), (type_key.item, (omega arith, type_key.is), refl)), inr (refl, record { found = unsigned 1; stands = (omega arith, (small 1 (omega arith)).is); follows = tt }), (refl, refl)),
       (inl (0, refl, refl), (a_key.item, (omega arith, a_key.is), refl)),
-      (refl, no_null (0xa2 ∷ 0x66 ∷ (codes "__type" ++ 0x01 ∷ 0x61 ∷ 0x61 ∷ 0x01 ∷ [])) 11 1 refl),
+      (refl, λ e null. absurd (no_null (0xa2 ∷ 0x66 ∷ (codes "__type" ++ 0x01 ∷ 0x61 ∷ 0x61 ∷ 0x01 ∷ [])) 11 1 refl e null)),
     )
 
 -- ---- entries of a map
@@ -239,14 +239,14 @@ byte_behind = (
   (leaf (unsigned 1), (refl, (omega arith, (small 1 (omega arith)).is), tt), refl, tt),
   (skips_are strict (0x01 ∷ 0x00 ∷ []) 1 0 1).0 (record { found = unsigned 1; stands = (omega arith, (small 1 (omega arith)).is); follows = tt }),
   closes_members strict (0xbf ∷ 0xff ∷ 0x00 ∷ []) one_long (shape_place 0) tt 2 1 (mark_with None) 2 (0, 1, mark_with None, (refl, refl), inr (refl, refl, refl)) tt,
-  λ v h. let wrong : ◌≡◌ {A = ℕ} 1 2 = (stands_scalar cbor_frames (rules_of strict) (0x01 ∷ 0x00 ∷ []) one_long long_place scalars.Long refl 0 0 v 1 h).1.2 in absurd (omega arith),
+  λ v h. let wrong : ◌≡◌ {A = ℕ} 1 2 = (stands_scalar (cbor_frames true) (rules_of strict) (0x01 ∷ 0x00 ∷ []) one_long long_place scalars.Long refl 0 0 v 1 h).1.2 in absurd (omega arith),
   λ h. let wrong : ◌≡◌ {A = ℕ} 1 2 = ((skips_are strict (0x01 ∷ 0x00 ∷ []) 0 0 1).1 h).follows in absurd (omega arith),
   closes,
 )
   where
     closes : strictly.closes (0xbf ∷ 0xff ∷ 0x00 ∷ []) one_long (shape_place 0) 1 1 (mark_with None) 2 → ⊥
     closes (inl (f, is, ends, follows)) = let wrong : ◌≡◌ {A = ℕ} 2 3 = follows in omega arith
-    closes (inr h) = let wrong = h.1.0 in cc
+    closes (inr h) = let wrong : ◌≡◌ {A = ℕ} 1 3 = h.1.0.0 in omega arith
 
 -- ---- an empty input
 
@@ -255,9 +255,9 @@ pub empty_input : strictly.opens [] one_long (shape_place 0) 0 0 0 end_mark
     × strictly.closes [] one_long (shape_place 0) 1 0 end_mark 0
     × strictly.stands [] one_long (shape_place 0) 0 0 empty_structure 0
 empty_input = (
-  opens_empty strict [] one_long (shape_place 0) tt 0 0 refl refl,
-  closes_empty strict [] one_long (shape_place 0) tt 1 0 end_mark refl refl refl (omega arith),
-  (missing, ((refl, refl), refl), refl, tt),
+  opens_empty strict [] one_long (shape_place 0) tt 0 0 (refl, λ strict. refl),
+  closes_empty strict [] one_long (shape_place 0) tt 1 0 end_mark refl (refl, λ strict. refl) (omega arith),
+  (missing, ((refl, λ strict. refl), refl), refl, tt),
 )
 
 -- no union and no map opens there

@@ -1,6 +1,6 @@
 -- The bytes that CBOR writes for nodes, and that they lie as it frames them: shortest heads, and containers of
 -- indefinite length.
-use Rattle.std.specs.Prelude.{◌≡◌, ◌≤◌, ◌<◌, ◌-◌, ◌^◌, ℕ, zero, suc, length, drop, List, [], ◌∷◌, ◌++◌, false, Option, Some, None, refl}
+use Rattle.std.specs.Prelude.{◌≡◌, ◌≤◌, ◌<◌, ◌-◌, ◌^◌, ℕ, zero, suc, length, drop, List, [], ◌∷◌, ◌++◌, false, true, Option, Some, None, refl}
 use Rattle.std.proofs.Common.{sym, ap, arith, subst, inl, inr, length-drop}
 use Rattle.cbor_item.specs.Head.{shortest_head, MayBeIndefinite, BeginsWithHead}
 use Rattle.cbor_item.specs.Item.{Item, definite, unsigned, negative, byte_string, text_string, array, tag, simple, no_items, item}
@@ -70,7 +70,7 @@ follows_at : (d : ℕ) (i : List ℕ) (e : ℕ) → e ≤ length i → Follows c
 follows_at zero i e within h = omega (arith, within, length-drop e i, ap length h)
 follows_at (suc d) i e within h = tt
 
-null_lies : (d : ℕ) (i : List ℕ) (a e : ℕ) → Stand (null_byte ∷ []) i a e → Follows cbor_writes d (drop e i) → cbor_frames.null i d a e
+null_lies : (d : ℕ) (i : List ℕ) (a e : ℕ) → Stand (null_byte ∷ []) i a e → Follows cbor_writes d (drop e i) → (cbor_frames true).null i d a e
 null_lies d i a e (front, end, within) follows = (rw front refl, omega (arith, end), follows_at d i e within follows)
 
 may_be : (f : Form) → MayBeIndefinite (major_in f)
@@ -105,7 +105,7 @@ opening_begins : (f : Form) (i : List ℕ) (a b : ℕ) → Stand (opening_bytes 
 opening_begins as_array i a b (front, end, within) = (rw front refl, omega (arith, end, within, length-drop a i))
 opening_begins as_object i a b (front, end, within) = (rw front refl, omega (arith, end, within, length-drop a i))
 
-pub cbor_writes_frames : WritesFrames cbor_writes cbor_frames
+pub cbor_writes_frames : WritesFrames cbor_writes (cbor_frames true)
 cbor_writes_frames = record {
   null_lies = λ i d a e stand follows. null_lies d i a e stand follows;
   scalar_lies = λ i d x a e is small stand follows. (is.0, stand_item x i a e is.1 small stand, follows_at d i e stand.2 follows);

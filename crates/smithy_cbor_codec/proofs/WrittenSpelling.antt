@@ -9,11 +9,12 @@ use Rattle.smithy_shapes.specs.Site.{whole_view, shape_site}
 use Rattle.smithy_shapes.specs.Value.{Value, nesting}
 use Rattle.smithy_cbor_codec.specs.Canonical.{cbor_holds, canonical_cbor}
 use Rattle.smithy_cbor_codec.specs.Codec.{strict_settings}
-use Rattle.smithy_cbor_codec.specs.Laws.{rules_fit, fit}
+use Rattle.smithy_cbor_codec.specs.Laws.{rules_fit}
 use Rattle.smithy_cbor_codec.specs.Meaning.{rules_of}
 use Rattle.smithy_cbor_codec.specs.Settings.{Settings, kept}
 use Rattle.smithy_cbor_codec.specs.Spelling.{cbor_spells}
 use Rattle.smithy_cbor_codec.specs.Standing.{cbor_frames}
+use Rattle.smithy_wire.specs.Laws.{stands_fit}
 use Rattle.smithy_wire.specs.Writes.{body_of}
 use Rattle.smithy_wire.proofs.AcceptedNames.{named_by_name}
 use Rattle.smithy_wire.proofs.NestedMeaning.{stands_within_depth}
@@ -25,13 +26,13 @@ use Rattle.smithy_cbor_codec.proofs.WrittenPlaces.{cbor_writes, cbor_writes_fram
 
 -- what is spelled is a value of the place
 pub spelled_fits : (c : Settings) (t : Table) (p : Place) (bytes : List ℕ) (v : Value) → c.limits ≡ kept → cbor_spells c t p bytes v → Fits t p v
-spelled_fits c t p bytes v keeps h = let s = spells_stands c t p bytes v h in (fit c keeps).fits bytes t p 0 0 v s.0 s.1
+spelled_fits c t p bytes v keeps h = let s = spells_stands c t p bytes v h in (stands_fit (cbor_frames true) (rules_of c) keeps (rules_fit true c)).fits bytes t p 0 0 v s.0 s.1
 
 -- and nests no deeper than the greatest depth
 pub shallow : (c : Settings) (t : Table) (p : Place) (bytes : List ℕ) (v : Value) → c.limits ≡ kept → cbor_spells c t p bytes v → nesting v ≤ c.max_depth
 shallow c t p bytes v keeps h =
     let s = spells_stands c t p bytes v h in
-    omega (arith, stands_within_depth cbor_frames (rules_of c) keeps (rules_fit c) bytes t p 0 0 v s.0 s.1)
+    omega (arith, stands_within_depth (cbor_frames true) (rules_of c) keeps (rules_fit true c) bytes t p 0 0 v s.0 s.1)
 
 -- the body of a declaration, where the value nests no deeper than may be read and a head can say its lengths
 pub canonical_spells : (t : Table) (root : ℕ) (v : Value) → IsAccepted t → Fits t (shape_place root) v → scalars_pass cbor_holds (shape_site t root) v ≡ true → nesting v ≤ 128
@@ -42,5 +43,5 @@ canonical_spells t root v accepted fits held deep short =
     let bytes = body_of cbor_writes cbor_leaves (λ (m : Member). m.name) t p v in
     subst (λ bytes. cbor_spells strict_settings t p bytes v) (sym same)
     (stands_spells strict_settings t p bytes v (length bytes)
-    (written_stands cbor_writes cbor_frames cbor_leaves (rules_of strict_settings) cbor_writes_frames cbor_writes_leaves (cbor_reads_leaves strict_settings) (λ documents. cc) t p whole_view v
+    (written_stands cbor_writes (cbor_frames true) cbor_leaves (rules_of strict_settings) cbor_writes_frames cbor_writes_leaves (cbor_reads_leaves strict_settings) (λ documents. cc) t p whole_view v
     (named_by_name t accepted) fits held deep (subst (λ (bytes : List ℕ). length bytes < 2 ^ 64) same short)))

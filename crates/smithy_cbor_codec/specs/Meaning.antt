@@ -1,6 +1,6 @@
 -- What an item means at a place of a table (the protocol smithy.protocols#rpcv2Cbor): what its node means under
 -- the rules of CBOR.
-use Rattle.std.specs.Prelude.{ℕ, ◌==◌, Option, Some, None, true, false, if◌then◌else◌}
+use Rattle.std.specs.Prelude.{ℕ, ◌==◌, Option, Some, None, Bool, true, false, ◌&&◌, not, is_some, if◌then◌else◌}
 use Rattle.smithy_shapes.specs.declared.place.Place.{Place}
 use Rattle.smithy_shapes.specs.Table.{Table}
 use Rattle.smithy_shapes.specs.Value.{Value}
@@ -33,7 +33,11 @@ abbrev mutual
   pair_nodes no_pairs = no_nodes
   pair_nodes (pair k v ps) = node (Some k) (node_of v) (pair_nodes ps)
 
--- the rules of CBOR under some settings: an entry that is null is dropped, what is skipped doesn't count as depth, no document is
+-- A null is handed on under the key of a member, where nothing is strict, and under no other key.
+abbrev pub keeps_null : Settings → Option Place → Bool
+keeps_null c place = not c.enforce_strictness && is_some place
+
+-- the rules of CBOR under some settings: what is skipped doesn't count as depth, no document is
 -- carried, and no refusal tells the type
 abbrev pub rules_of : Settings → Rules Item
 rules_of c = record {
@@ -45,7 +49,7 @@ rules_of c = record {
   name_of = λ m. m.name;
   max_depth = c.max_depth;
   limits = c.limits;
-  keeps_null = λ place. false;
+  keeps_null = keeps_null c;
   may_skip_scalar = λ x. true;
 }
 

@@ -6,7 +6,7 @@ use std::alloc::Global;
 use std::borrow::{CowSlice, CowStr};
 
 impl<'a> BorrowDeserializer<'a> for CborDeserializer<'a> {
-    ghost use Rattle.std.specs.Prelude.{◌≡◌, IfOk};
+    ghost use Rattle.std.specs.Prelude.{◌≡◌, IfOk, true};
     ghost use Rattle.std.specs.Cow.{cow_str_bytes, cow_slice_items};
     ghost use Rattle.smithy_shapes.specs.declared.shape_type.Scalar.TheVariants as scalars;
     ghost use Rattle.smithy_shapes.specs.Value.{text, bytes};
@@ -19,7 +19,7 @@ impl<'a> BorrowDeserializer<'a> for CborDeserializer<'a> {
 
     fn read_text(&mut self, _schema: &Schema<'_>) -> Result<CowStr<'a, Global>, SerdeError>
         ensures same { reading_settings_of self.new ≡ reading_settings_of self.old }
-        ensures read { ReadsScalar (cbor_relations (keep_limits (reading_settings_of self.old))) (cbor_relations (without_limits (reading_settings_of self.old))) (Unit {0}) (cursor_of self.old) (cursor_of self.new) (site_of _schema.now) scalars.String (λ s. text (cow_str_bytes s)) result }
+        ensures read { ReadsScalar (cbor_relations (keep_limits (reading_settings_of self.old))) (cbor_relations (without_limits (reading_settings_of self.old))) ((reading_settings_of self.old).enforce_strictness ≡ true) (cursor_of self.old) (cursor_of self.new) (site_of _schema.now) scalars.String (λ s. text (cow_str_bytes s)) result }
 
         // Borrowed exactly where the text is definite.
         ensures borrowed { IfOk result (λ t. BorrowsText (cursor_of self.old).input (cursor_of self.old).at t (cursor_of self.new).at) }
@@ -29,14 +29,14 @@ impl<'a> BorrowDeserializer<'a> for CborDeserializer<'a> {
             self.alloc,
             self.walk.input,
             self.walk.position,
-            self.walk.depth(),
+            self.end_depth(),
         );
         self.walk.take_found(found)
     }
 
     fn read_bytes(&mut self, _schema: &Schema<'_>) -> Result<CowSlice<'a, u8, Global>, SerdeError>
         ensures same { reading_settings_of self.new ≡ reading_settings_of self.old }
-        ensures read { ReadsScalar (cbor_relations (keep_limits (reading_settings_of self.old))) (cbor_relations (without_limits (reading_settings_of self.old))) (Unit {0}) (cursor_of self.old) (cursor_of self.new) (site_of _schema.now) scalars.Blob (λ b. bytes (cow_slice_items b)) result }
+        ensures read { ReadsScalar (cbor_relations (keep_limits (reading_settings_of self.old))) (cbor_relations (without_limits (reading_settings_of self.old))) ((reading_settings_of self.old).enforce_strictness ≡ true) (cursor_of self.old) (cursor_of self.new) (site_of _schema.now) scalars.Blob (λ b. bytes (cow_slice_items b)) result }
 
         // Borrowed exactly where the byte string is definite.
         ensures borrowed { IfOk result (λ b. BorrowsBytes (cursor_of self.old).input (cursor_of self.old).at b (cursor_of self.new).at) }
@@ -46,7 +46,7 @@ impl<'a> BorrowDeserializer<'a> for CborDeserializer<'a> {
             self.alloc,
             self.walk.input,
             self.walk.position,
-            self.walk.depth(),
+            self.end_depth(),
         );
         self.walk.take_found(found)
     }

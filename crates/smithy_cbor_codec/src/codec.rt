@@ -48,3 +48,15 @@ impl CborCodec {
         CborDeserializer::new(input, alloc, self.settings)
     }
 }
+
+impl Default for CborCodec {
+    ghost use Rattle.std.specs.Prelude.{◌≡◌};
+    ghost use Rattle.smithy_cbor_codec.specs.Codec.{settings_of, default_settings};
+
+    /// A codec of the settings that are asked for nothing.
+    fn default() -> CborCodec
+        ensures { settings_of result ≡ default_settings }
+    {
+        CborCodec::new(CborCodecSettings::default())
+    }
+}

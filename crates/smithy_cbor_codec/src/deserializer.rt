@@ -14,7 +14,7 @@ use smithy_types::{BigDecimal, BigInteger, Blob, DateTime, Document};
 use smithy_wire::{ContainerKind, Walk, byte_found, integer_found, short_found};
 use std::alloc::{AllocError, Global};
 
-/// A strict reader of one CBOR item.
+/// A reader of one CBOR item.
 #[derive(Drop)]
 pub struct CborDeserializer<'a> {
     pub(crate) walk: Walk<'a>,
@@ -26,7 +26,10 @@ pub struct CborDeserializer<'a> {
 
 impl<'a> CborDeserializer<'a> {
     ghost use Rattle.std.specs.Prelude.{◌≡◌};
-    ghost use Rattle.smithy_cbor_codec.specs.Cursor.{cursor_of};
+    ghost use Rattle.std.specs.Prelude.{◌↔◌, IsTrue};
+    ghost use Rattle.smithy_schema.specs.Reading.{depth};
+    ghost use Rattle.smithy_cbor_codec.specs.Cursor.{cursor_of, reading_settings_of};
+    ghost use Rattle.smithy_cbor_codec.specs.Standing.{FollowsInside, end_depth};
     ghost use Rattle.smithy_wire.specs.Walking.{fresh_cursor};
 
     // A fresh reader.
@@ -39,10 +42,33 @@ impl<'a> CborDeserializer<'a> {
         ensures settings { result.settings ≡ settings }
     {
         CborDeserializer {
-            walk: Walk::new(input, alloc, settings.max_depth),
+            walk: Walk::new(input, alloc, settings.max_depth as usize),
             alloc,
             settings,
         }
+    }
+    // By how many open containers it is judged where a value may end: where bytes may follow an item, by one more.
+    pub(crate) fn end_depth(&self) -> usize
+        ensures { result ≡ end_depth (reading_settings_of self.now).enforce_strictness (depth (cursor_of self.now)) }
+    {
+        let depth = self.walk.depth();
+        if self.settings.enforce_strictness {
+            depth
+        } else {
+            depth + 1
+        }
+    }
+
+    // Whether the innermost container may end at the offset.
+    pub(crate) fn may_leave_at(&self, at: usize) -> bool
+        ensures { IsTrue result ↔ FollowsInside (reading_settings_of self.now).enforce_strictness (depth (cursor_of self.now)) (cursor_of self.now).input at }
+    {
+        may_leave(
+            self.walk.input,
+            at,
+            self.walk.depth(),
+            self.settings.enforce_strictness,
+        )
     }
 }
 
@@ -74,8 +100,8 @@ impl ShapeDeserializer for CborDeserializer<'_> {
 
     ghost lifted = { λ c. cbor_relations (without_limits c) };
 
-    // The one maker gives settings of which all that is said of the lifted relations holds.
-    ghost tells_without_limits = { λ _. Unit {0} };
+    // Where reading is strict, nothing is missing behind other bytes.
+    ghost tells_without_limits = { λ (c : Settings). c.enforce_strictness ≡ true };
 
     ghost lawful = { λ c. cbor_is_lawful (keep_limits c) };
 
@@ -83,7 +109,7 @@ impl ShapeDeserializer for CborDeserializer<'_> {
 
     ghost fit = { λ c. cbor_fits (keep_limits c) refl };
 
-    ghost counts = { λ c _. cbor_counts (keep_limits c) };
+    ghost counts = { λ c strict. cbor_counts (keep_limits c) strict };
 
     ghost above = { λ c. limits_are_above (keep_limits c) };
 
@@ -103,8 +129,14 @@ impl ShapeDeserializer for CborDeserializer<'_> {
 
     fn open_struct(&mut self, schema: &Schema<'_>) -> Result<(), SerdeError> {
         self.walk.ready()?;
-        if is_missing(self.walk.input, schema) {
-            return self.walk.enter(0, missing());
+        if is_missing(
+            self.walk.input,
+            self.walk.position,
+            self.settings.enforce_strictness,
+            schema,
+        ) {
+            let at = self.walk.position;
+            return self.walk.enter(at, missing());
         }
         match map_at(self.walk.input, self.walk.position) {
             Some(opening) => self.walk.enter(
@@ -124,13 +156,13 @@ impl ShapeDeserializer for CborDeserializer<'_> {
         ensures ok { (cursor_of self.old).due ≡ false → IfOk result (λ step. MatchStep step (cbor_relations (reading_settings_of self.old)) (cursor_of self.old) (cursor_of self.new) (site_of schema.now)) }
         ensures refused { IsRefused result → (cursor_of self.old).due ≡ false
             → CannotGoOn (cbor_relations (reading_settings_of self.old)) (cursor_of self.old) schema.now.shapes.now schema.now.place }
-        ensures none_without_limits { Unit {0} → IsInvalid result → (cursor_of self.old).due ≡ false
+        ensures none_without_limits { (reading_settings_of self.old).enforce_strictness ≡ true → IsInvalid result → (cursor_of self.old).due ≡ false
             → CannotGoOn (cbor_relations (without_limits (reading_settings_of self.old))) (cursor_of self.old) schema.now.shapes.now schema.now.place }
         ensures unread { (cursor_of self.old).due ≡ true
             → IfOk result (λ step. (e : ℕ) × (cbor_relations (reading_settings_of self.old)).skips (cursor_of self.old).input (depth (cursor_of self.old)) (cursor_of self.old).at e × MatchStep step (cbor_relations (reading_settings_of self.old)) (passed_to (cursor_of self.old) e) (cursor_of self.new) (site_of schema.now)) }
         ensures unread_refused { IsRefused result → (cursor_of self.old).due ≡ true → (e : ℕ) → (cbor_relations (reading_settings_of self.old)).skips (cursor_of self.old).input (depth (cursor_of self.old)) (cursor_of self.old).at e
             → CannotGoOn (cbor_relations (reading_settings_of self.old)) (passed_to (cursor_of self.old) e) schema.now.shapes.now schema.now.place }
-        ensures unread_would { Unit {0} → IsInvalid result → (cursor_of self.old).due ≡ true → (e : ℕ) → (cbor_relations (without_limits (reading_settings_of self.old))).skips (cursor_of self.old).input (depth (cursor_of self.old)) (cursor_of self.old).at e
+        ensures unread_would { (reading_settings_of self.old).enforce_strictness ≡ true → IsInvalid result → (cursor_of self.old).due ≡ true → (e : ℕ) → (cbor_relations (without_limits (reading_settings_of self.old))).skips (cursor_of self.old).input (depth (cursor_of self.old)) (cursor_of self.old).at e
             → CannotGoOn (cbor_relations (without_limits (reading_settings_of self.old))) (passed_to (cursor_of self.old) e) schema.now.shapes.now schema.now.place }
         ensures deep { IsErrOf result TooDeep → ReachesDepth (cbor_relations (reading_settings_of self.old)) (reading_settings_of self.old).max_depth (cursor_of self.old) }
         ensures limited { IsErrOf result TooDeep → (cbor_relations (reading_settings_of self.old)).limits_skips ≡ true }
@@ -149,7 +181,7 @@ impl ShapeDeserializer for CborDeserializer<'_> {
             self.alloc,
             self.walk.input,
             self.walk.position,
-            self.walk.depth(),
+            self.end_depth(),
         ) {
             Ok(Some(end)) => self.step_from(end, schema),
             Ok(None) => Err(self.walk.refuse(SerdeError::InvalidInput)),
@@ -185,7 +217,7 @@ impl ShapeDeserializer for CborDeserializer<'_> {
                 Ok(true)
             }
             Some(EntryOrEnd::End(end)) => {
-                if may_leave(self.walk.input, end, self.walk.depth()) {
+                if self.may_leave_at(end) {
                     self.walk.leave(end);
                     return Ok(false);
                 }
@@ -217,7 +249,6 @@ impl ShapeDeserializer for CborDeserializer<'_> {
             self.walk.input,
             self.walk.position,
             self.walk.inner.mark.due,
-            self.walk.depth(),
         ) {
             Ok(Some(Next::Pair(text, value, due))) => match text.into_owned(self.alloc) {
                 Ok(key) => {
@@ -227,8 +258,11 @@ impl ShapeDeserializer for CborDeserializer<'_> {
                 Err(_) => Err(self.walk.refuse(SerdeError::NoMemory)),
             },
             Ok(Some(Next::End(end))) => {
-                self.walk.leave(end);
-                Ok(None)
+                if self.may_leave_at(end) {
+                    self.walk.leave(end);
+                    return Ok(None);
+                }
+                Err(self.walk.refuse(SerdeError::InvalidInput))
             }
             Ok(None) => Err(self.walk.refuse(SerdeError::InvalidInput)),
             Err(_) => Err(self.walk.refuse(SerdeError::NoMemory)),
@@ -248,7 +282,7 @@ impl ShapeDeserializer for CborDeserializer<'_> {
         ensures ok { null_is_due (cbor_relations (reading_settings_of self.old)) (cursor_of self.old) ≡ true → OnOk result ((cbor_relations (reading_settings_of self.old)).nulls (cursor_of self.old).input (depth (cursor_of self.old)) (cursor_of self.old).at (cursor_of self.new).at) }
         ensures passes { null_is_due (cbor_relations (reading_settings_of self.old)) (cursor_of self.old) ≡ true → OnOk result (Passes (cursor_of self.old) (cursor_of self.new)) }
         ensures refused { null_is_due (cbor_relations (reading_settings_of self.old)) (cursor_of self.old) ≡ true → IsRefused result → NullsNot (cbor_relations (reading_settings_of self.old)) (cursor_of self.old) }
-        ensures none_without_limits { Unit {0} → null_is_due (cbor_relations (reading_settings_of self.old)) (cursor_of self.old) ≡ true → IsInvalid result → NullsNot (cbor_relations (without_limits (reading_settings_of self.old))) (cursor_of self.old) }
+        ensures none_without_limits { (reading_settings_of self.old).enforce_strictness ≡ true → null_is_due (cbor_relations (reading_settings_of self.old)) (cursor_of self.old) ≡ true → IsInvalid result → NullsNot (cbor_relations (without_limits (reading_settings_of self.old))) (cursor_of self.old) }
         ensures nothing { null_is_due (cbor_relations (reading_settings_of self.old)) (cursor_of self.old) ≡ false → OnOk result (cursor_of self.new ≡ cursor_of self.old) }
 
         // Where no null is due, the call is refused.
@@ -260,7 +294,7 @@ impl ShapeDeserializer for CborDeserializer<'_> {
         if !self.is_null() {
             return Err(self.walk.refuse(SerdeError::InvalidInput));
         }
-        match null_end(self.walk.input, self.walk.position, self.walk.depth()) {
+        match null_end(self.walk.input, self.walk.position, self.end_depth()) {
             Some(end) => {
                 self.walk.pass(end);
                 Ok(())
@@ -277,7 +311,7 @@ impl ShapeDeserializer for CborDeserializer<'_> {
         ensures ok { OnOk result ((cbor_relations (reading_settings_of self.old)).skips (cursor_of self.old).input (depth (cursor_of self.old)) (cursor_of self.old).at (cursor_of self.new).at) }
         ensures passes { OnOk result (Passes (cursor_of self.old) (cursor_of self.new)) }
         ensures refused { IsRefused result → (cursor_of self.old).due ≡ true → SkipsNot (cbor_relations (reading_settings_of self.old)) (cursor_of self.old) }
-        ensures none_without_limits { Unit {0} → IsInvalid result → (cursor_of self.old).due ≡ true → SkipsNot (cbor_relations (without_limits (reading_settings_of self.old))) (cursor_of self.old) }
+        ensures none_without_limits { (reading_settings_of self.old).enforce_strictness ≡ true → IsInvalid result → (cursor_of self.old).due ≡ true → SkipsNot (cbor_relations (without_limits (reading_settings_of self.old))) (cursor_of self.old) }
         ensures deep { IsErrOf result TooDeep → ReachesDepth (cbor_relations (reading_settings_of self.old)) (reading_settings_of self.old).max_depth (cursor_of self.old) }
         ensures limited { IsErrOf result TooDeep → (cbor_relations (reading_settings_of self.old)).limits_skips ≡ true }
 
@@ -289,7 +323,7 @@ impl ShapeDeserializer for CborDeserializer<'_> {
             self.alloc,
             self.walk.input,
             self.walk.position,
-            self.walk.depth(),
+            self.end_depth(),
         ) {
             Ok(Some(end)) => {
                 self.walk.pass(end);
@@ -315,31 +349,32 @@ impl ShapeDeserializer for CborDeserializer<'_> {
 
     fn read_boolean(&mut self, _schema: &Schema<'_>) -> Result<bool, SerdeError> {
         self.walk.ready()?;
-        let found = boolean_at(self.walk.input, self.walk.position, self.walk.depth());
+        let found = boolean_at(self.walk.input, self.walk.position, self.end_depth());
         self.walk.take(found)
     }
 
     fn read_byte(&mut self, _schema: &Schema<'_>) -> Result<i8, SerdeError> {
         self.walk.ready()?;
-        let found = long_at(self.walk.input, self.walk.position, self.walk.depth());
+        let found = long_at(self.walk.input, self.walk.position, self.end_depth());
         self.walk.take(byte_found(found))
     }
 
     fn read_short(&mut self, _schema: &Schema<'_>) -> Result<i16, SerdeError> {
         self.walk.ready()?;
-        let found = long_at(self.walk.input, self.walk.position, self.walk.depth());
+        let found = long_at(self.walk.input, self.walk.position, self.end_depth());
         self.walk.take(short_found(found))
     }
 
     fn read_integer(&mut self, _schema: &Schema<'_>) -> Result<i32, SerdeError> {
         self.walk.ready()?;
-        let found = long_at(self.walk.input, self.walk.position, self.walk.depth());
+        let found = long_at(self.walk.input, self.walk.position, self.end_depth());
         self.walk.take(integer_found(found))
     }
 
+    #[inline(always)]
     fn read_long(&mut self, _schema: &Schema<'_>) -> Result<i64, SerdeError> {
         self.walk.ready()?;
-        let found = long_at(self.walk.input, self.walk.position, self.walk.depth());
+        let found = long_at(self.walk.input, self.walk.position, self.end_depth());
         self.walk.take(found)
     }
 
@@ -349,7 +384,7 @@ impl ShapeDeserializer for CborDeserializer<'_> {
             self.alloc,
             self.walk.input,
             self.walk.position,
-            self.walk.depth(),
+            self.end_depth(),
         );
         self.walk.take_found(found)
     }
@@ -360,7 +395,7 @@ impl ShapeDeserializer for CborDeserializer<'_> {
             self.alloc,
             self.walk.input,
             self.walk.position,
-            self.walk.depth(),
+            self.end_depth(),
         );
         self.walk.take_found(found)
     }
@@ -371,7 +406,7 @@ impl ShapeDeserializer for CborDeserializer<'_> {
             self.alloc,
             self.walk.input,
             self.walk.position,
-            self.walk.depth(),
+            self.end_depth(),
         );
         self.walk.take_within(found, SerdeError::TooWide)
     }
@@ -382,7 +417,7 @@ impl ShapeDeserializer for CborDeserializer<'_> {
             self.alloc,
             self.walk.input,
             self.walk.position,
-            self.walk.depth(),
+            self.end_depth(),
         );
         self.walk.take_within(found, SerdeError::TooWide)
     }
@@ -390,19 +425,19 @@ impl ShapeDeserializer for CborDeserializer<'_> {
     // It takes no memory.
     fn read_timestamp(&mut self, _schema: &Schema<'_>) -> Result<DateTime, SerdeError>
         ensures same { reading_settings_of self.new ≡ reading_settings_of self.old }
-        ensures read { ReadsScalar (cbor_relations (keep_limits (reading_settings_of self.old))) (cbor_relations (without_limits (reading_settings_of self.old))) (Unit {0}) (cursor_of self.old) (cursor_of self.new) (site_of _schema.now) scalars.Timestamp instant result }
+        ensures read { ReadsScalar (cbor_relations (keep_limits (reading_settings_of self.old))) (cbor_relations (without_limits (reading_settings_of self.old))) ((reading_settings_of self.old).enforce_strictness ≡ true) (cursor_of self.old) (cursor_of self.new) (site_of _schema.now) scalars.Timestamp instant result }
         ensures uncarried { AnswersUncarried (cbor_relations (keep_limits (reading_settings_of self.old))) (cursor_of self.old) (site_of _schema.now) scalars.Timestamp result }
         ensures memory { IsErrOf result NoMemory → ⊥ }
     {
         self.walk.ready()?;
-        let found = instant_at(self.walk.input, self.walk.position, self.walk.depth());
+        let found = instant_at(self.walk.input, self.walk.position, self.end_depth());
         self.walk.take_within(Ok(found), SerdeError::NotCarried)
     }
 
     // CBOR carries no documents: wherever an item stands, none is carried.
     fn read_document(&mut self, _schema: &Schema<'_>) -> Result<Document, SerdeError>
         ensures same { reading_settings_of self.new ≡ reading_settings_of self.old }
-        ensures read { ReadsDocument (cbor_relations (keep_limits (reading_settings_of self.old))) (cbor_relations (without_limits (reading_settings_of self.old))) (Unit {0}) (reading_settings_of self.old).max_depth (cursor_of self.old) (cursor_of self.new) (site_of _schema.now) result }
+        ensures read { ReadsDocument (cbor_relations (keep_limits (reading_settings_of self.old))) (cbor_relations (without_limits (reading_settings_of self.old))) ((reading_settings_of self.old).enforce_strictness ≡ true) (reading_settings_of self.old).max_depth (cursor_of self.old) (cursor_of self.new) (site_of _schema.now) result }
         ensures never { IsOk result → ⊥ }
         ensures shallow { IsErrOf result TooDeep → ⊥ }
         ensures lies { IsErrOf result NotCarried → (e : ℕ) × (cbor_relations (reading_settings_of self.old)).skips (cursor_of self.old).input (depth (cursor_of self.old)) (cursor_of self.old).at e }
@@ -413,7 +448,7 @@ impl ShapeDeserializer for CborDeserializer<'_> {
             self.alloc,
             self.walk.input,
             self.walk.position,
-            self.walk.depth(),
+            self.end_depth(),
         ) {
             Ok(true) => Err(self.walk.refuse(SerdeError::NotCarried)),
             Ok(false) => Err(self.walk.refuse(SerdeError::InvalidInput)),

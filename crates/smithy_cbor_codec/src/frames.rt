@@ -1,8 +1,9 @@
 //! What a reader keeps of an open container, and where a structure may be missing.
-ghost use Rattle.std.specs.Prelude.{◌≡◌, ◌↔◌, [], IsTrue};
+ghost use Rattle.std.specs.Prelude.{◌≡◌, ◌↔◌, IsTrue};
 ghost use Rattle.smithy_shapes.specs.Table.{IsStructure};
 ghost use Rattle.smithy_shapes.specs.Site.{site_of, kind_at};
 ghost use Rattle.smithy_cbor_codec.specs.Cursor.{inside_of, missing_frame};
+ghost use Rattle.smithy_cbor_codec.specs.Standing.{RestIsEmpty};
 ghost use Rattle.smithy_wire.specs.Walking.{within_of, frame_of};
 
 use smithy_schema::{Schema, ShapeType};
@@ -30,14 +31,21 @@ fn is_structure(schema: &Schema<'_>) -> bool
     schema.shape_type() == ShapeType::Structure
 }
 
-// Whether an empty input is the structure without members.
-pub(crate) fn is_missing(input: &[u8], schema: &Schema<'_>) -> bool
-    ensures { IsTrue result ↔ IsStructure (kind_at (site_of schema.now)) × (input.now ≡ []) }
+// Whether nothing is left from the offset on, where a structure may be missing: strictly, of an empty input alone.
+fn is_rest_empty(input: &[u8], at: usize, strict: bool) -> bool
+    ensures { IsTrue result ↔ RestIsEmpty strict input.now at }
 {
-    input.is_empty() && is_structure(schema)
+    at == input.len() && (at == 0 || !strict)
 }
 
-// What is kept of the structure without members that an empty input is.
+// Whether a structure without members is what nothing is left of.
+pub(crate) fn is_missing(input: &[u8], at: usize, strict: bool, schema: &Schema<'_>) -> bool
+    ensures { IsTrue result ↔ IsStructure (kind_at (site_of schema.now)) × RestIsEmpty strict input.now at }
+{
+    is_rest_empty(input, at, strict) && is_structure(schema)
+}
+
+// What is kept of the structure without members that an empty rest is.
 pub(crate) fn missing() -> Frame
     ensures { frame_of result ≡ missing_frame }
 {

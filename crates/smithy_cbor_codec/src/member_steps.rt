@@ -12,19 +12,24 @@ impl CborDeserializer<'_> {
     ghost use Rattle.smithy_shapes.specs.Site.{site_of, kind_at};
     ghost use Rattle.smithy_schema.specs.declared.error.SerdeError.TheVariants.{TooDeep};
     ghost use Rattle.smithy_cbor_codec.specs.Cursor.{cursor_of, reading_settings_of};
-    ghost use Rattle.smithy_cbor_codec.specs.Settings.{Settings};
+    ghost use Rattle.smithy_cbor_codec.specs.Settings.{Limits};
     ghost use Rattle.smithy_cbor_codec.specs.Standing.{cbor_relations};
     ghost use Rattle.smithy_cbor_codec.specs.Private.MemberSteps.{EndsEmpty};
 
-    // Whether the innermost container was opened at the end of an empty input, and ends there as a structure.
-    fn ends_empty(&self, schema: &Schema<'_>) -> bool
-        ensures { IsTrue result ↔ IsStructure (kind_at (site_of schema.now)) × EndsEmpty (cursor_of self.now) }
+    // Whether the innermost container was opened where nothing is left, and ends at the offset as a structure.
+    fn ends_empty(&self, at: usize, schema: &Schema<'_>) -> bool
+        ensures { IsTrue result ↔ IsStructure (kind_at (site_of schema.now)) × EndsEmpty (reading_settings_of self.now).enforce_strictness (cursor_of self.now) at }
     {
         let mark = self.walk.inner.mark;
         mark.at_end
             && !mark.entered
             && mark.due.is_none()
-            && is_missing(self.walk.input, schema)
+            && is_missing(
+                self.walk.input,
+                at,
+                self.settings.enforce_strictness,
+                schema,
+            )
             && self.walk.depth() > 0
     }
 
@@ -43,11 +48,11 @@ impl CborDeserializer<'_> {
         ensures conduct { Conducts (cursor_of self.old) (cursor_of self.new) result }
         ensures narrow { RefusesNoKind result }
         ensures ok { IfOk result (λ step. MatchStep step (cbor_relations (reading_settings_of self.old)) (passed_to (cursor_of self.old) at) (cursor_of self.new) (site_of schema.now)) }
-        ensures refused { IsRefused result → (o : Settings) → CannotGoOn (cbor_relations o) (passed_to (cursor_of self.old) at) schema.now.shapes.now schema.now.place }
+        ensures refused { IsRefused result → (limits : Limits) → CannotGoOn (cbor_relations (record (reading_settings_of self.old) { limits = limits })) (passed_to (cursor_of self.old) at) schema.now.shapes.now schema.now.place }
         ensures shallow { IsErrOf result TooDeep → ⊥ }
     {
-        if self.ends_empty(schema) {
-            self.walk.leave(0);
+        if self.ends_empty(at, schema) {
+            self.walk.leave(at);
             return Ok(Step::End);
         }
         match next_present(
@@ -55,8 +60,9 @@ impl CborDeserializer<'_> {
             self.walk.input,
             at,
             self.walk.inner.mark.due,
-            self.walk.depth(),
+            self.end_depth(),
             schema,
+            self.settings.enforce_strictness,
         ) {
             Ok(Some(Next::Pair(name, value, due))) => {
                 let step = step_to(schema, name.as_str());
@@ -64,8 +70,11 @@ impl CborDeserializer<'_> {
                 Ok(step)
             }
             Ok(Some(Next::End(end))) => {
-                self.walk.leave(end);
-                Ok(Step::End)
+                if self.may_leave_at(end) {
+                    self.walk.leave(end);
+                    return Ok(Step::End);
+                }
+                Err(self.walk.refuse(SerdeError::InvalidInput))
             }
             Ok(None) => Err(self.walk.refuse(SerdeError::InvalidInput)),
             Err(_) => Err(self.walk.refuse(SerdeError::NoMemory)),

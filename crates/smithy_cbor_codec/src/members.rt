@@ -3,9 +3,9 @@
 ghost use Rattle.std.specs.Prelude.{◌≡◌, ◌≤◌, length, IfOk, MatchOption};
 ghost use Rattle.smithy_shapes.specs.Site.{site_of, kind_at};
 ghost use Rattle.smithy_cbor_codec.specs.Private.MemberSteps.{StepsTo};
-ghost use Rattle.smithy_cbor_codec.specs.Private.PassedEntries.{is_mark, IsPairOrEnd, PairMissing, IsEntry, IsNext, EntryMissing, NothingComes};
+ghost use Rattle.smithy_cbor_codec.specs.Private.PassedEntries.{is_mark, passes_null, IsPairOrEnd, PairMissing, IsEntry, IsNext, EntryMissing, NothingComes};
 
-use crate::places::{EntryOrEnd, entry_or_end, may_leave, null_end};
+use crate::places::{EntryOrEnd, entry_or_end, null_end};
 use crate::values::{skipped_end, text_at};
 use smithy_schema::{Schema, Step};
 use std::alloc::{AllocError, Global};
@@ -43,16 +43,22 @@ fn is_mark(schema: &Schema<'_>, key: &str) -> bool
     key == "__type" && schema.member_schema(key).is_none()
 }
 
+// Whether a null under the key is passed over: each where the reading is strict, and else under a key that names no member.
+fn passes_null(schema: &Schema<'_>, key: &str, strict: bool) -> bool
+    ensures { result ≡ passes_null strict (kind_at (site_of schema.now)) key.now }
+{
+    strict || schema.member_schema(key).is_none()
+}
+
 // What comes next in the map inside of which the offset lies: a key with the place of its value, or the end of the map.
 pub(crate) fn next_in_map<'a>(
     alloc: Global,
     input: &'a [u8],
     at: usize,
     due: Option<u64>,
-    depth: usize,
 ) -> Result<Option<Next<'a>>, AllocError>
     requires { at ≤ length input.now }
-    ensures { IfOk result (λ o. MatchOption o (PairMissing input.now at due depth) (IsPairOrEnd input.now at due depth)) }
+    ensures { IfOk result (λ o. MatchOption o (PairMissing input.now at due) (IsPairOrEnd input.now at due)) }
 {
     match entry_or_end(input, at, due) {
         Some(EntryOrEnd::Entry(after)) => {
@@ -61,18 +67,13 @@ pub(crate) fn next_in_map<'a>(
             };
             Ok(Some(Next::Pair(key, value, after)))
         }
-        Some(EntryOrEnd::End(end)) => {
-            if may_leave(input, end, depth) {
-                return Ok(Some(Next::End(end)));
-            }
-            Ok(None)
-        }
+        Some(EntryOrEnd::End(end)) => Ok(Some(Next::End(end))),
         None => Ok(None),
     }
 }
 
 // What comes next in the structure or the union inside of which the offset lies. An entry is passed over where its value is a
-// null, or where its key is a mark.
+// null that isn't handed on, or where its key is a mark. By so many containers is judged where a value may end.
 fn entry_at<'a>(
     alloc: Global,
     input: &'a [u8],
@@ -80,14 +81,18 @@ fn entry_at<'a>(
     due: Option<u64>,
     depth: usize,
     schema: &Schema<'_>,
+    strict: bool,
 ) -> Result<Option<Entry<'a>>, AllocError>
     requires { at ≤ length input.now }
-    ensures { IfOk result (λ o. MatchOption o (EntryMissing (kind_at (site_of schema.now)) input.now at due depth) (IsEntry (kind_at (site_of schema.now)) input.now at due depth)) }
+    ensures { IfOk result (λ o. MatchOption o (EntryMissing (kind_at (site_of schema.now)) input.now at due depth) (IsEntry strict (kind_at (site_of schema.now)) input.now at due depth)) }
 {
-    match next_in_map(alloc, input, at, due, depth)? {
+    match next_in_map(alloc, input, at, due)? {
         Some(Next::Pair(key, value, after)) => {
             if let Some(end) = null_end(input, value, depth) {
-                return Ok(Some(Entry::Passed(end, after)));
+                if passes_null(schema, key.as_str(), strict) {
+                    return Ok(Some(Entry::Passed(end, after)));
+                }
+                return Ok(Some(Entry::Kept(Next::Pair(key, value, after))));
             }
             if !is_mark(schema, key.as_str()) {
                 return Ok(Some(Entry::Kept(Next::Pair(key, value, after))));
@@ -110,14 +115,15 @@ pub(crate) fn next_present<'a>(
     due: Option<u64>,
     depth: usize,
     schema: &Schema<'_>,
+    strict: bool,
 ) -> Result<Option<Next<'a>>, AllocError>
     requires { at ≤ length input.now }
-    ensures { IfOk result (λ o. MatchOption o (NothingComes (kind_at (site_of schema.now)) input.now at due depth) (IsNext (kind_at (site_of schema.now)) input.now at due depth)) }
+    ensures { IfOk result (λ o. MatchOption o (NothingComes strict (kind_at (site_of schema.now)) input.now at due depth) (IsNext strict (kind_at (site_of schema.now)) input.now at due depth)) }
 {
     let mut at = at;
     let mut due = due;
     loop {
-        match entry_at(alloc, input, at, due, depth, schema)? {
+        match entry_at(alloc, input, at, due, depth, schema, strict)? {
             Some(Entry::Passed(end, after)) => {
                 at = end;
                 due = after;

@@ -77,13 +77,13 @@ pub(crate) fn may_end(input: &[u8], at: usize, depth: usize) -> bool
     depth > 0 || at == input.len()
 }
 
-// Whether the innermost of `depth` open containers may end at the offset. The only one ends where the input does.
-pub(crate) fn may_leave(input: &[u8], at: usize, depth: usize) -> bool
-    ensures { IsTrue result ↔ FollowsInside depth input.now at }
+// Whether the innermost of `depth` open containers may end at the offset. Strictly, the only one ends where the input does.
+pub(crate) fn may_leave(input: &[u8], at: usize, depth: usize, strict: bool) -> bool
+    ensures { IsTrue result ↔ FollowsInside strict depth input.now at }
 {
     match depth {
         0 => false,
-        1 => at == input.len(),
+        1 => !strict || at == input.len(),
         _ => true,
     }
 }

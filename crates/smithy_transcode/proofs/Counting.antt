@@ -1,5 +1,5 @@
 -- A value counts, with all values inside it, at most one more than the bytes that spell it.
-use Rattle.std.specs.Prelude.{◌≤◌, ◌+◌, ℕ, length, List, refl}
+use Rattle.std.specs.Prelude.{◌≤◌, ◌+◌, ℕ, length, List, true, refl}
 use Rattle.std.proofs.Common.{arith}
 use Rattle.smithy_shapes.specs.Table.{Table, shape_place}
 use Rattle.smithy_shapes.specs.Value.{Value}
@@ -29,6 +29,6 @@ nodes_are_bounded (json b) t root i v h =
 nodes_are_bounded cbor t root i v h =
     let s = spelled_stands cbor t root i v h in
     let most =
-    stands_is_bounded cbor_frames (cbor_rules_of strict_cbor) cbor_is_wire cbor_bounds_openers refl (cbor_rules_fit strict_cbor) i t (shape_place root) 0 0 v s.0 s.1 in
+    stands_is_bounded (cbor_frames true) (cbor_rules_of strict_cbor) (cbor_is_wire true) (cbor_bounds_openers true refl) refl (cbor_rules_fit true strict_cbor) i t (shape_place root) 0 0 v s.0 s.1 in
     omega (arith, most)
 nodes_are_bounded (query action version) t root i v h = absurd h

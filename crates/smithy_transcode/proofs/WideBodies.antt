@@ -1,5 +1,5 @@
 -- What leaves its limits or isn't carried where a reader failed, as what the input says.
-use Rattle.std.proofs.Common.{◌≡◌, ℕ, zero, suc, List, Bool, Option, Some, refl, sym, ◌∙◌, ap, subst, inl, inr}
+use Rattle.std.proofs.Common.{◌≡◌, ℕ, zero, suc, List, Bool, true, Option, Some, refl, sym, ◌∙◌, ap, subst, inl, inr}
 use Rattle.smithy_shapes.specs.declared.place.Place.{Place}
 use Rattle.smithy_shapes.specs.declared.shape_type.Scalar.{Scalar}
 use Rattle.smithy_shapes.specs.declared.shape_type.Scalar.TheVariants.{Timestamp}
@@ -57,7 +57,7 @@ json_other b q (scalar s) i d a e (x, lies, other) = uncarried_token s (form_at 
 json_other b q document i d a e h = let (deeper, c, x, ahead, lies, other) = h in other_token x i deeper c e lies other
 json_other b q _ i d a e (x, lies, other) = absurd other
 
-cbor_other : (q : Place) (k : Kind) (i : List ℕ) (d a e : ℕ) → UncarriedAt cbor_frames (cbor_rules strict_cbor) k q.time i d a e → HasOther cbor i k
+cbor_other : (q : Place) (k : Kind) (i : List ℕ) (d a e : ℕ) → UncarriedAt (cbor_frames true) (cbor_rules strict_cbor) k q.time i d a e → HasOther cbor i k
 cbor_other q (scalar s) i d a e (x, lies, other) = cbor_uncarried_slice s q.time x i a e lies.1 other
 cbor_other q document i d a e h = tt
 cbor_other q _ i d a e (x, lies, other) = absurd other

@@ -48,7 +48,6 @@ pub struct Walk<'a> {
     // The offset is within the input, and no more containers are open than may be.
     ghost in_input: { position ≤ length input.now },
     ghost shallow: { vec_len outer ≤ max_depth },
-    ghost greatest: { max_depth ≤ 512 },
 }
 
 impl<'a> Walk<'a> {
@@ -60,7 +59,6 @@ impl<'a> Walk<'a> {
 
     /// A walk that begins.
     pub fn new(input: &'a [u8], alloc: Global, max_depth: usize) -> Walk<'a>
-        requires { max_depth ≤ 512 }
         ensures state { cursor_of result ≡ fresh_cursor input.now }
         ensures max_depth { result.max_depth ≡ max_depth }
     {

@@ -58,8 +58,3 @@ pub entry_falls : (i : List ℕ) (b : ℕ) (m n : Mark) → HasEntry i b m n
     → (unwrap_or n.due 0 < unwrap_or m.due 0) ⊎ ((unwrap_or n.due 0 ≤ unwrap_or m.due 0) × (b < length i))
 entry_falls i b m n (inl h) = inl (rw (h.1, h.2) (omega arith))
 entry_falls i b m n (inr h) = inr (rw (h.0, h.3) (omega arith), h.1)
-
--- in an empty input no container ends
-pub no_end : (i : List ℕ) (b : ℕ) (m : Mark) (e : ℕ) → i ≡ [] → m ≡ end_mark → IsOver i b m e → ⊥
-no_end i b m e empty is (inl h) = no_due m.due 0 h.0 (ap (λ (k : Mark). k.due) is)
-no_end i b m e empty is (inr h) = no_byte_in_nothing break i b empty h.1

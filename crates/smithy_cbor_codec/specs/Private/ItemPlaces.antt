@@ -39,7 +39,3 @@ one_item x y i a e f h k =
       same_item x y (slice_range i a e) h.1 (subst (λ (s : List ℕ). IsEncodingOf y s) (sym both.0) k.1),
       same_place i e f h.0 k.0 both.1,
     )
-
--- no item stands in an empty input
-pub no_item : (x : Item) (i : List ℕ) (a e : ℕ) → i ≡ [] → IsItemAt x i a e → ⊥
-no_item x i a e empty h = omega (arith, ap length empty, item_ahead x i a e h, h.0)

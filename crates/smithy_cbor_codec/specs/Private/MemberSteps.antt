@@ -1,15 +1,15 @@
 -- Where a structure or a union goes on to, as private functions answer it.
-use Rattle.std.specs.Prelude.{◌≡◌, ◌<◌, ℕ, List, [], Some, None}
+use Rattle.std.specs.Prelude.{◌≡◌, ◌<◌, ℕ, List, Bool, Some, None}
 use Rattle.smithy_schema.specs.declared.read.Step.{Step}
 use Rattle.smithy_schema.specs.declared.read.Step.TheVariants.{Member as ToMember, Unknown, End}
 use Rattle.smithy_schema.specs.Reading.{Cursor, depth}
 use Rattle.smithy_shapes.specs.Site.{Site, site_of, member_site, kind_at}
 use Rattle.smithy_shapes.specs.Table.{Member, members_of, position_named}
-use Rattle.smithy_cbor_codec.specs.Standing.{end_mark}
+use Rattle.smithy_cbor_codec.specs.Standing.{end_mark, RestIsEmpty}
 
--- the structure was opened at the end of an empty input, and ends there
-abbrev pub EndsEmpty : Cursor → Type 0
-EndsEmpty c = (c.inner.mark ≡ end_mark) × (c.input ≡ []) × (0 < depth c)
+-- the structure was opened where nothing is left, and ends there
+abbrev pub EndsEmpty : Bool → Cursor → ℕ → Type 0
+EndsEmpty strict c at = (c.inner.mark ≡ end_mark) × RestIsEmpty strict c.input at × (0 < depth c)
 
 -- the step that this name makes
 abbrev pub StepsTo : Step → Site → List ℕ → Type 0

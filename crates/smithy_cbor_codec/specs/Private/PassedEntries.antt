@@ -1,5 +1,5 @@
 -- What comes in a map behind the entries that are passed over, as private functions answer it.
-use Rattle.std.specs.Prelude.{◌≡◌, ◌⊎◌, ℕ, zero, suc, List, Option, Some, Bool, true, false}
+use Rattle.std.specs.Prelude.{◌≡◌, ◌⊎◌, ◌||◌, ℕ, zero, suc, List, Option, Some, is_none, Bool, true, false}
 use Rattle.std.specs.Cow.{cow_str_bytes}
 use Rattle.smithy_shapes.specs.Container.{is_type_mark}
 use Rattle.smithy_schema.specs.Reading.{Mark}
@@ -11,7 +11,7 @@ use Rattle.smithy_cbor_codec.specs.declared.members.Next.TheVariants.{Pair, End}
 use Rattle.smithy_cbor_codec.specs.declared.members.Entry.{Entry}
 use Rattle.smithy_cbor_codec.specs.declared.members.Entry.TheVariants.{Passed, Kept}
 use Rattle.smithy_cbor.specs.Scalar.{text_of}
-use Rattle.smithy_cbor_codec.specs.Standing.{HasEntry, IsOver, FollowsInside, mark_with}
+use Rattle.smithy_cbor_codec.specs.Standing.{HasEntry, IsOver, mark_with}
 use Rattle.smithy_cbor_codec.specs.Private.ScalarAtPlace.{IsNullAt}
 use Rattle.smithy_cbor_codec.specs.Private.Skipping.{SkipsTo}
 
@@ -22,16 +22,16 @@ abbrev pub HasKey : List ℕ → ℕ → Mark → List ℕ → ℕ → Mark → 
 HasKey input b m text c n =
     HasEntry input b m n × ((k : Item) × IsItemAt k input b c × (text_of k ≡ Some text))
 
--- an entry comes whose value is at c, or the map closes at e
-abbrev pub IsPairOrEnd : List ℕ → ℕ → Option ℕ → ℕ → Next → Type 0
-IsPairOrEnd input at due depth (Pair key c after) = HasKey input at (mark_with due) (cow_str_bytes key) c (mark_with after)
-IsPairOrEnd input at due depth (End e) = IsOver input at (mark_with due) e × FollowsInside depth input e
+-- an entry comes whose value is at c, or the entries are over
+abbrev pub IsPairOrEnd : List ℕ → ℕ → Option ℕ → Next → Type 0
+IsPairOrEnd input at due (Pair key c after) = HasKey input at (mark_with due) (cow_str_bytes key) c (mark_with after)
+IsPairOrEnd input at due (End e) = IsOver input at (mark_with due) e
 
 -- neither a key that is a text nor the end of the map stands at the place
-abbrev pub PairMissing : List ℕ → ℕ → Option ℕ → ℕ → Type 0
-PairMissing input at due depth =
+abbrev pub PairMissing : List ℕ → ℕ → Option ℕ → Type 0
+PairMissing input at due =
     ((text : List ℕ) (c : ℕ) (n : Mark) → HasKey input at (mark_with due) text c n → ⊥)
-    × ((e : ℕ) → IsOver input at (mark_with due) e → FollowsInside depth input e → ⊥)
+    × ((e : ℕ) → IsOver input at (mark_with due) e → ⊥)
 
 -- ---- structures and unions
 
@@ -39,57 +39,63 @@ PairMissing input at due depth =
 abbrev pub is_mark : Kind → List ℕ → Bool
 is_mark kind key = is_type_mark (position_named (λ (m : Member). m.name) (members_of kind) key) key
 
+-- a null under this key is passed over: each where the reading is strict, and else under a key that names no member
+abbrev pub passes_null : Bool → Kind → List ℕ → Bool
+passes_null strict kind key =
+    strict || is_none (position_named (λ (m : Member). m.name) (members_of kind) key)
+
 -- from c to e is a value that is passed over under this key: a null, and that of a mark
-abbrev pub IsPassed : Kind → List ℕ → ℕ → List ℕ → ℕ → ℕ → Type 0
-IsPassed kind input depth key c e =
-    IsNullAt input c depth e ⊎ ((is_mark kind key ≡ true) × SkipsTo input c depth e)
+abbrev pub IsPassed : Bool → Kind → List ℕ → ℕ → List ℕ → ℕ → ℕ → Type 0
+IsPassed strict kind input depth key c e =
+    ((passes_null strict kind key ≡ true) × IsNullAt input c depth e)
+    ⊎ ((is_mark kind key ≡ true) × SkipsTo input c depth e)
 
 -- from b to e so many entries come that are passed over
-abbrev pub Passes : Kind → ℕ → List ℕ → ℕ → ℕ → Mark → ℕ → Mark → Type 0
-Passes kind zero input depth b m e n = (b ≡ e) × (m ≡ n)
-Passes kind (suc count) input depth b m e n =
-    (text : List ℕ) × (c : ℕ) × (f : ℕ) × (k : Mark) × HasKey input b m text c k × IsPassed kind input depth text c f
-    × Passes kind count input depth f k e n
+abbrev pub Passes : Bool → Kind → ℕ → List ℕ → ℕ → ℕ → Mark → ℕ → Mark → Type 0
+Passes strict kind zero input depth b m e n = (b ≡ e) × (m ≡ n)
+Passes strict kind (suc count) input depth b m e n =
+    (text : List ℕ) × (c : ℕ) × (f : ℕ) × (k : Mark) × HasKey input b m text c k × IsPassed strict kind input depth text c f
+    × Passes strict kind count input depth f k e n
 
 -- under this key from c on comes a value that is handed on
-abbrev pub IsHandedOn : Kind → List ℕ → ℕ → List ℕ → ℕ → Type 0
-IsHandedOn kind input depth key c = (is_mark kind key ≡ false) × ((e : ℕ) → IsNullAt input c depth e → ⊥)
+abbrev pub IsHandedOn : Bool → Kind → List ℕ → ℕ → List ℕ → ℕ → Type 0
+IsHandedOn strict kind input depth key c = (is_mark kind key ≡ false) × ((e : ℕ) → IsNullAt input c depth e → passes_null strict kind key ≡ false)
 
 -- entries that are passed over, and then one with this key that isn't
-abbrev pub StepsToMember : Kind → List ℕ → ℕ → ℕ → Mark → List ℕ → ℕ → Mark → Type 0
-StepsToMember kind input depth b m text c n =
-    (count : ℕ) × (at : ℕ) × (k : Mark) × Passes kind count input depth b m at k × HasKey input at k text c n
-    × IsHandedOn kind input depth text c
+abbrev pub StepsToMember : Bool → Kind → List ℕ → ℕ → ℕ → Mark → List ℕ → ℕ → Mark → Type 0
+StepsToMember strict kind input depth b m text c n =
+    (count : ℕ) × (at : ℕ) × (k : Mark) × Passes strict kind count input depth b m at k × HasKey input at k text c n
+    × IsHandedOn strict kind input depth text c
 
 -- entries that are passed over, and then the end
-abbrev pub ClosesMembers : Kind → List ℕ → ℕ → ℕ → Mark → ℕ → Type 0
-ClosesMembers kind input depth b m e =
-    (count : ℕ) × (at : ℕ) × (k : Mark) × Passes kind count input depth b m at k × IsOver input at k e
+abbrev pub ClosesMembers : Bool → Kind → List ℕ → ℕ → ℕ → Mark → ℕ → Type 0
+ClosesMembers strict kind input depth b m e =
+    (count : ℕ) × (at : ℕ) × (k : Mark) × Passes strict kind count input depth b m at k × IsOver input at k e
 
 -- from at to e an entry comes that is passed over, and so many are due behind it
-pub record PassesTo (kind : Kind) (input : List ℕ) (at : ℕ) (due : Option ℕ) (depth e : ℕ) (after : Option ℕ) : Type 0 where
+pub record PassesTo (strict : Bool) (kind : Kind) (input : List ℕ) (at : ℕ) (due : Option ℕ) (depth e : ℕ) (after : Option ℕ) : Type 0 where
   pub text : List ℕ
   pub value : ℕ
   pub key : HasKey input at (mark_with due) text value (mark_with after)
-  pub passed : IsPassed kind input depth text value e
+  pub passed : IsPassed strict kind input depth text value e
 
--- a member comes, behind what is passed over, whose value is due at c, or the map closes at e
-abbrev pub IsNext : Kind → List ℕ → ℕ → Option ℕ → ℕ → Next → Type 0
-IsNext kind input at due depth (Pair key c after) =
-    StepsToMember kind input depth at (mark_with due) (cow_str_bytes key) c (mark_with after)
-IsNext kind input at due depth (End e) =
-    ClosesMembers kind input depth at (mark_with due) e × FollowsInside depth input e
+-- a member comes, behind what is passed over, whose value is due at c, or the entries are over
+abbrev pub IsNext : Bool → Kind → List ℕ → ℕ → Option ℕ → ℕ → Next → Type 0
+IsNext strict kind input at due depth (Pair key c after) =
+    StepsToMember strict kind input depth at (mark_with due) (cow_str_bytes key) c (mark_with after)
+IsNext strict kind input at due depth (End e) =
+    ClosesMembers strict kind input depth at (mark_with due) e
 
--- a member comes that isn't passed over, whose value is due at c, or the map closes at e
-abbrev pub IsKept : Kind → List ℕ → ℕ → Option ℕ → ℕ → Next → Type 0
-IsKept kind input at due depth (Pair key c after) =
+-- a member comes that isn't passed over, whose value is due at c, or the entries are over
+abbrev pub IsKept : Bool → Kind → List ℕ → ℕ → Option ℕ → ℕ → Next → Type 0
+IsKept strict kind input at due depth (Pair key c after) =
     HasKey input at (mark_with due) (cow_str_bytes key) c (mark_with after)
-    × IsHandedOn kind input depth (cow_str_bytes key) c
-IsKept kind input at due depth (End e) = IsOver input at (mark_with due) e × FollowsInside depth input e
+    × IsHandedOn strict kind input depth (cow_str_bytes key) c
+IsKept strict kind input at due depth (End e) = IsOver input at (mark_with due) e
 
-abbrev pub IsEntry : Kind → List ℕ → ℕ → Option ℕ → ℕ → Entry → Type 0
-IsEntry kind input at due depth (Passed e after) = PassesTo kind input at due depth e after
-IsEntry kind input at due depth (Kept next) = IsKept kind input at due depth next
+abbrev pub IsEntry : Bool → Kind → List ℕ → ℕ → Option ℕ → ℕ → Entry → Type 0
+IsEntry strict kind input at due depth (Passed e after) = PassesTo strict kind input at due depth e after
+IsEntry strict kind input at due depth (Kept next) = IsKept strict kind input at due depth next
 
 -- a mark stands there whose value can't be skipped
 pub record MarkStays (kind : Kind) (input : List ℕ) (at : ℕ) (due : Option ℕ) (depth : ℕ) : Type 0 where
@@ -102,12 +108,12 @@ pub record MarkStays (kind : Kind) (input : List ℕ) (at : ℕ) (due : Option �
 
 -- neither a key that is a text nor the end of the map stands at the place, or a mark does whose value can't be skipped
 abbrev pub EntryMissing : Kind → List ℕ → ℕ → Option ℕ → ℕ → Type 0
-EntryMissing kind input at due depth = PairMissing input at due depth ⊎ MarkStays kind input at due depth
+EntryMissing kind input at due depth = PairMissing input at due ⊎ MarkStays kind input at due depth
 
 -- behind what is passed over neither another member nor the end comes
-pub record NothingComes (kind : Kind) (input : List ℕ) (at : ℕ) (due : Option ℕ) (depth : ℕ) : Type 0 where
+pub record NothingComes (strict : Bool) (kind : Kind) (input : List ℕ) (at : ℕ) (due : Option ℕ) (depth : ℕ) : Type 0 where
   pub count : ℕ
   pub place : ℕ
   pub after : Option ℕ
-  pub passes : Passes kind count input depth at (mark_with due) place (mark_with after)
+  pub passes : Passes strict kind count input depth at (mark_with due) place (mark_with after)
   pub missing : EntryMissing kind input place after depth

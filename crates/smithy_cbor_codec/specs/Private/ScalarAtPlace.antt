@@ -13,7 +13,7 @@ use Rattle.cbor_item.specs.WellFormed.{IsItemAt}
 use Rattle.smithy_cbor.specs.Scalar.{integer_of, text_of, bytes_of}
 use Rattle.smithy_texts.specs.Base64Text.{are_bytes}
 use Rattle.smithy_texts.specs.Ranges.{fits_signed}
-use Rattle.smithy_cbor_codec.specs.Standing.{null_byte, begins_with, Follows, cbor_frames}
+use Rattle.smithy_cbor_codec.specs.Standing.{null_byte, begins_with, Follows, IsScalarAt}
 use Rattle.smithy_cbor_codec.specs.Private.Skipping.{SkipsTo}
 
 -- from at to e is a null, where a value may end behind it
@@ -50,26 +50,26 @@ pub record IsBlobAt (blob : List ℕ) (input : List ℕ) (at depth e : ℕ) : Ty
 -- what stands at the place is this value as the kind, which has no time forms; a value may end behind it
 pub record MeansAt (s : Scalar) (input : List ℕ) (at depth : ℕ) (v : ScalarValue) (e : ℕ) : Type 0 where
   pub found : Item
-  pub lies : cbor_frames.scalar input depth found at e
+  pub lies : IsScalarAt input depth found at e
   pub is : says s None found ≡ means (scalar_value v)
 
 -- at the place stands a number that leaves the limits of the kind; a value may end behind it
 pub record ExceedsAt (s : Scalar) (input : List ℕ) (at depth : ℕ) : Type 0 where
   pub found : Item
   pub e : ℕ
-  pub lies : cbor_frames.scalar input depth found at e
+  pub lies : IsScalarAt input depth found at e
   pub is : says s None found ≡ wide
 
 -- at the place stands what the kind can't carry; a value may end behind it
 pub record UncarriedAt (s : Scalar) (input : List ℕ) (at depth : ℕ) : Type 0 where
   pub found : Item
   pub e : ℕ
-  pub lies : cbor_frames.scalar input depth found at e
+  pub lies : IsScalarAt input depth found at e
   pub is : says s None found ≡ uncarried
 
 -- whatever scalar stands at the place, it means nothing as the kind
 abbrev pub NothingAt : Scalar → List ℕ → ℕ → ℕ → Type 0
-NothingAt s input at depth = (x : Item) (e : ℕ) → cbor_frames.scalar input depth x at e → says s None x ≡ no_meaning
+NothingAt s input at depth = (x : Item) (e : ℕ) → IsScalarAt input depth x at e → says s None x ≡ no_meaning
 
 -- what is found where a decoder reads no big number for this cause, unless memory ran out
 abbrev pub IsUnread : {A : Type 0} → DecodeKind → List ℕ → ℕ → ℕ → Found A → Type 0

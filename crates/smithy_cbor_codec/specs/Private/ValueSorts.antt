@@ -86,6 +86,3 @@ pub head_sort : (f : Form) (s : List ℕ) (h : HeadRead) → h.major ≡ major_i
 head_sort f [] h is begins some = absurd (omega (arith, some))
 head_sort as_array (b ∷ s) h is begins some = array_first b (sym is ∙ ap (λ (k : HeadRead). k.major) (head_is_only b s h begins))
 head_sort as_object (b ∷ s) h is begins some = map_first b (sym is ∙ ap (λ (k : HeadRead). k.major) (head_is_only b s h begins))
-
-pub over_sort : (i : List ℕ) (a : ℕ) → i ≡ [] → a ≡ 0 → cbor_sort (drop a i) ≡ no_value
-over_sort i a h k = rw (h, k) refl

@@ -10,8 +10,8 @@ returns-in_default c =
     let none = rw c.in_default.is at c.in_ok-key-in-Some-Entry.ensures.found in
     let entry = subst (λ next. IsEntryOrEnd c.args.input.now c.args.at c.args.due (Some next)) c.in-Some-Entry.field-0-is c.in-Some-Entry.ensures in (
       λ text e n h. none text e (key_text c.args.input.now c.args.at (mark_with c.args.due) text e n h),
-      λ e over follows. entry_or_over c.args.input.now c.args.at (mark_with c.args.due) (mark_with c.in-Some-Entry.after) e entry over,
+      λ e over. entry_or_over c.args.input.now c.args.at (mark_with c.args.due) (mark_with c.in-Some-Entry.after) e entry over,
     )
 
 pub returns-in-None : goal.returns-in-None
-returns-in-None c = (λ text e n h. c.in-None.ensures.0 n h.0, λ e over follows. c.in-None.ensures.1 e over)
+returns-in-None c = (λ text e n h. c.in-None.ensures.0 n h.0, λ e over. c.in-None.ensures.1 e over)

@@ -1,6 +1,7 @@
 use Rattle.std.proofs.Common.{◌∙◌, ap}
 use Rattle.smithy_json_codec.specs.Cursor.{cursor_of, reading_settings_of}
 use Rattle.smithy_cbor_codec.specs.Cursor.{cursor_of as cbor_cursor_of, reading_settings_of as cbor_settings_of}
+use Rattle.smithy_cbor_codec.specs.Settings.{Settings as CborSettings}
 use Rattle.smithy_transcode.specs.Wires.{wire_of}
 use Rattle.smithy_transcode.proofs.Begun.{json_begins, cbor_begins, read_is_spelled, unread_spells_nothing, unread_spells_nothing_without_limits, is_too_deep, exceeds_is_wide, uncarried_is_told, had_not_failed}
 use Rattle.smithy_transcode.proofs.Mapped.{mapped_ok}
@@ -39,12 +40,12 @@ returns-in-Cbor-clause-refused g c =
 pub returns-in-Cbor-clause-none_without_limits : goal.returns-in-Cbor-clause-none_without_limits
 returns-in-Cbor-clause-none_without_limits g c =
     let begins = cbor_begins (wire_of c.args.from.now) (cbor_settings_of c.create_deserializer-source-in-Cbor.result) (cbor_cursor_of c.create_deserializer-source-in-Cbor.result) c.schema-schema.result c.args.shapes.now c.args.root.0 c.args.input.now (ap wire_of c.in-Cbor.is) (c.create_deserializer-source-in-Cbor.ensures.settings ∙ c.strict-in-Cbor.ensures) c.create_deserializer-source-in-Cbor.ensures.fresh c.schema-schema.ensures.site c.requires.root in
-    λ invalid. unread_spells_nothing_without_limits begins (c.read_tree-in-Cbor.ensures.reads.none_without_limits tt invalid)
+    λ invalid. unread_spells_nothing_without_limits begins (c.read_tree-in-Cbor.ensures.reads.none_without_limits (ap (λ (o : CborSettings). o.enforce_strictness) (c.create_deserializer-source-in-Cbor.ensures.settings ∙ c.strict-in-Cbor.ensures)) invalid)
 
 pub returns-in-Cbor-clause-deep : goal.returns-in-Cbor-clause-deep
 returns-in-Cbor-clause-deep g c =
     let begins = cbor_begins (wire_of c.args.from.now) (cbor_settings_of c.create_deserializer-source-in-Cbor.result) (cbor_cursor_of c.create_deserializer-source-in-Cbor.result) c.schema-schema.result c.args.shapes.now c.args.root.0 c.args.input.now (ap wire_of c.in-Cbor.is) (c.create_deserializer-source-in-Cbor.ensures.settings ∙ c.strict-in-Cbor.ensures) c.create_deserializer-source-in-Cbor.ensures.fresh c.schema-schema.ensures.site c.requires.root in
-    is_too_deep begins c.read_tree-in-Cbor.result (cbor_cursor_of c.read_tree-in-Cbor.new.source) c.read_tree-in-Cbor.ensures.reads.refused c.read_tree-in-Cbor.ensures.reads.input (c.read_tree-in-Cbor.ensures.reads.counted tt) c.read_tree-in-Cbor.ensures.reads.deep c.read_tree-in-Cbor.ensures.reads.nested
+    is_too_deep begins c.read_tree-in-Cbor.result (cbor_cursor_of c.read_tree-in-Cbor.new.source) c.read_tree-in-Cbor.ensures.reads.refused c.read_tree-in-Cbor.ensures.reads.input (c.read_tree-in-Cbor.ensures.reads.counted (ap (λ (o : CborSettings). o.enforce_strictness) (c.create_deserializer-source-in-Cbor.ensures.settings ∙ c.strict-in-Cbor.ensures))) c.read_tree-in-Cbor.ensures.reads.deep c.read_tree-in-Cbor.ensures.reads.nested
 
 pub returns-in-Json-clause-wide : goal.returns-in-Json-clause-wide
 returns-in-Json-clause-wide g c =

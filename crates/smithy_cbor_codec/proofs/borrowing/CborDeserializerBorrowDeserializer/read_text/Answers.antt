@@ -12,7 +12,7 @@ returns-clause-read c =
     let same : c.ready.new.self ≡ c.args.self.now.walk = c.in_ok-ready.ensures.ok in
     let was = was_ready c.args.self.now.walk.failed c.args.self.now.walk.due (sym c.in_ok-ready.was ∙ c.ready.ensures.answer) in
     let within : c.args.self.now.walk.position ≤ length c.args.self.now.walk.input.now = search rules in
-    let found = rw (c.depth.ensures, same) at c.text_piece_at-found.ensures in
+    let found = rw (c.end_depth.ensures, same) at c.text_piece_at-found.ensures in
     let take = rw same at c.take_found.ensures in
     reads_text (reading_settings_of c.args.self.now) (cursor_of c.args.self.now) (site_of c.args._schema.now) was.0 was.1 within cow_str_bytes _ c.text_piece_at-found.result c.take_found.result
     found.found take.taken
@@ -20,6 +20,6 @@ returns-clause-read c =
 pub returns-clause-borrowed : goal.returns-clause-borrowed
 returns-clause-borrowed c =
     let same : c.ready.new.self ≡ c.args.self.now.walk = c.in_ok-ready.ensures.ok in
-    let found = rw (c.depth.ensures, same) at c.text_piece_at-found.ensures in
+    let found = rw (c.end_depth.ensures, same) at c.text_piece_at-found.ensures in
     let take = rw same at c.take_found.ensures in
     found_is (cursor_of c.args.self.now) _ c.take_found.result (BorrowsText (cursor_of c.args.self.now).input (cursor_of c.args.self.now).at) c.text_piece_at-found.result found.borrowed take.taken

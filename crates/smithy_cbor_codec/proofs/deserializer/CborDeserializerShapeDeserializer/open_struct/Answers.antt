@@ -16,15 +16,15 @@ returns-then-is_missing-clause-ok c =
     let sound : c.args.self.now.walk.failed ≡ false = search rules in
     let o = reading_settings_of c.args.self.now in
     let old = cursor_of c.args.self.now in
-    enters o old (walk_cursor c.enter.new.self) c.args.schema.now.shapes.now c.args.schema.now.place 0 missing_frame _ c.enter.result refl sound
+    enters o old (walk_cursor c.enter.new.self) c.args.schema.now.shapes.now c.args.schema.now.place old.at missing_frame _ c.enter.result refl sound
     c.missing.ensures (rw same at c.enter.ensures.ok) (rw c.args.self.now.limit at (rw same at c.enter.ensures.shallow))
-    (empty_at o old c.args.schema.now.shapes.now c.args.schema.now.place missing.0 (rw same at missing.1) (search rules))
+    (empty_at o old c.args.schema.now.shapes.now c.args.schema.now.place missing.0 (rw same at missing.1))
 
 pub returns-then-is_missing-clause-deep : goal.returns-then-is_missing-clause-deep
 returns-then-is_missing-clause-deep c =
     let same : c.ready.new.self ≡ c.args.self.now.walk = c.in_ok-ready.ensures.ok in
     let missing = c.is_missing.ensures.0 c.if-is_missing.true in
-    λ deep none. empty_opens (reading_settings_of c.args.self.now) (cursor_of c.args.self.now) c.args.schema.now.shapes.now c.args.schema.now.place missing.0 (rw same at missing.1) (search rules) none
+    λ deep none. empty_opens (reading_settings_of c.args.self.now) (cursor_of c.args.self.now) c.args.schema.now.shapes.now c.args.schema.now.place missing.0 (rw same at missing.1) none
 
 pub returns-in-Some-clause-ok : goal.returns-in-Some-clause-ok
 returns-in-Some-clause-ok c =

@@ -10,7 +10,7 @@ returns-clause-read c =
     let same : c.ready.new.self ≡ c.args.self.now.walk = c.in_ok-ready.ensures.ok in
     let was = was_ready c.args.self.now.walk.failed c.args.self.now.walk.due (sym c.in_ok-ready.was ∙ c.ready.ensures.answer) in
     let within : c.args.self.now.walk.position ≤ length c.args.self.now.walk.input.now = search rules in
-    let found = rw (c.depth.ensures, same) at c.boolean_at-found.ensures in
+    let found = rw (c.end_depth.ensures, same) at c.boolean_at-found.ensures in
     let take = rw same at c.take.ensures in
     reads_boolean (reading_settings_of c.args.self.now) (cursor_of c.args.self.now) (site_of c.args._schema.now) was.0 was.1 within _ c.boolean_at-found.result c.take.result
     found.found found.none take.ok take.some take.none take.err take.error

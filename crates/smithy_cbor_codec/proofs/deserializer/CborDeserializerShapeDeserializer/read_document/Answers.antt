@@ -20,7 +20,7 @@ pub returns-in-Ok-true-clause-lies : goal.returns-in-Ok-true-clause-lies
 returns-in-Ok-true-clause-lies c = λ is.
     let same : c.ready.new.self ≡ c.args.self.now.walk = c.in_ok-ready.ensures.ok in
     let lies = rw (c.in-Ok-true.field-0-test, same) at c.in-Ok-true.ensures in
-    (lies.0, skips_here (reading_settings_of c.args.self.now) (cursor_of c.args.self.now) c.depth.result (rw same at c.depth.ensures) lies.0 lies.1)
+    (lies.0, skips_here (reading_settings_of c.args.self.now) (cursor_of c.args.self.now) c.end_depth.result (rw same at c.end_depth.ensures) lies.0 lies.1)
 
 pub returns-in-Ok-false-clause-read : goal.returns-in-Ok-false-clause-read
 returns-in-Ok-false-clause-read c =
@@ -29,13 +29,13 @@ returns-in-Ok-false-clause-read c =
     let within : c.args.self.now.walk.position ≤ length c.args.self.now.walk.input.now = search rules in
     rw c.refuse-in-Ok-false.ensures.error
     (no_document_lies (reading_settings_of c.args.self.now) refl c.args.self.now.settings.max_depth (cursor_of c.args.self.now) _ (site_of c.args._schema.now)
-    (rw same at c.refuse-in-Ok-false.ensures.stays) within was.0 was.1 c.depth.result (rw same at c.depth.ensures) (rw (c.in-Ok-false.field-0-test, same) at c.in-Ok-false.ensures))
+    (rw same at c.refuse-in-Ok-false.ensures.stays) within was.0 was.1 c.end_depth.result (rw same at c.end_depth.ensures) (rw (c.in-Ok-false.field-0-test, same) at c.in-Ok-false.ensures))
 
 pub returns-in-Ok-false-clause-nothing : goal.returns-in-Ok-false-clause-nothing
 returns-in-Ok-false-clause-nothing c = λ invalid due.
     let same : c.ready.new.self ≡ c.args.self.now.walk = c.in_ok-ready.ensures.ok in
     let none = rw (c.in-Ok-false.field-0-test, same) at c.in-Ok-false.ensures in
-    skips_not (reading_settings_of c.args.self.now) (cursor_of c.args.self.now) c.depth.result (rw same at c.depth.ensures) none
+    skips_not (reading_settings_of c.args.self.now) (cursor_of c.args.self.now) c.end_depth.result (rw same at c.end_depth.ensures) none
 
 pub returns-in-Err-clause-read : goal.returns-in-Err-clause-read
 returns-in-Err-clause-read c =

@@ -11,7 +11,7 @@ returns-clause-read c =
     let same : c.ready.new.self ≡ c.args.self.now.walk = c.in_ok-ready.ensures.ok in
     let was = was_ready c.args.self.now.walk.failed c.args.self.now.walk.due (sym c.in_ok-ready.was ∙ c.ready.ensures.answer) in
     let within : c.args.self.now.walk.position ≤ length c.args.self.now.walk.input.now = search rules in
-    let wide = rw (c.depth.ensures, same) at c.long_at-found.ensures in
+    let wide = rw (c.end_depth.ensures, same) at c.long_at-found.ensures in
     let narrow = c.short_found.ensures in
     let take = rw same at c.take.ensures in
     reads_narrow (reading_settings_of c.args.self.now) (cursor_of c.args.self.now) (site_of c.args._schema.now) was.0 was.1 within scalars.Short 16 (lit≤ tt) (λ x. refl) _ c.long_at-found.result c.short_found.result c.take.result
