@@ -1,41 +1,54 @@
 -- What lies whole before the place that the walk through a skipped value has come to.
 use Rattle.std.proofs.Common.{◌≡◌, ◌+◌, ◌-◌, ◌<◌, ◌≤◌, ℕ, zero, suc, length, List, [], ◌∷◌, drop, Bool, true, false, get_or, set, refl, sym, ap, subst, arith}
-use Rattle.smithy_json.specs.Grammar.{IsBoundary}
-use Rattle.smithy_json.specs.Tree.{Json, array, object, Elements, no_elements, element, Members, no_members, member}
-use Rattle.smithy_json_codec.specs.Standing.{Lies, IsByte, TreeLies, FollowsInside}
+use Rattle.smithy_schema.specs.Reading.{Mark}
+use Rattle.smithy_json_codec.specs.Scalar.{JsonScalar}
+use Rattle.smithy_json_codec.specs.Spans.{Lies, IsByte, fresh_mark, entry_mark}
+use Rattle.smithy_json_codec.specs.Tokens.{EndsInside}
+use Rattle.smithy_json_codec.specs.LexicalGrammar.{LexicalGrammar, is_skipped_in, frames_of, NodeLies}
 use Rattle.smithy_json_codec.specs.Deepest.{has_come, EntriesLie, IsDueInside, OpensTooDeep}
-use Rattle.smithy_json_codec.specs.Private.ArrayPlaces.{ElementsLie, child_lies, elements_text}
-use Rattle.smithy_json_codec.specs.Private.ObjectPlaces.{MembersLie, members_text}
-use Rattle.smithy_json_codec.specs.Private.NextInContainer.{ClosesBy}
-use Rattle.smithy_json_codec.specs.Private.Skipping.{ScalarLies, opening, closing, ValueBegins}
-use Rattle.smithy_json_codec.proofs.OpenContainers.{stack_of, stack_of-push, stack_of-pop}
+use Rattle.smithy_json_codec.specs.Private.NextInContainer.{ClosesIn}
+use Rattle.smithy_json_codec.specs.Private.Skipping.{ScalarLies, form_of, opening, closing, ValueBegins}
+use Rattle.smithy_wire.specs.Node.{Form, Node, null_node, leaf, container, missing, Nodes, no_nodes, node, nodes_pass}
+use Rattle.smithy_wire.specs.Frames.{Lies as LiesAsNode, NodesLie}
+use Rattle.smithy_json_codec.proofs.OpenContainers.{inside_mark, begins_entry, parts_node, stack_of, stack_of-push, stack_of-pop}
 
-module _ (i : List ℕ) where
+-- ---- a node inside of containers lies inside of any number of them
+
+module _ (g : LexicalGrammar) (i : List ℕ) where
+  mutual
+    deeper : (d n : ℕ) (x : Node JsonScalar) (a e : ℕ) → LiesAsNode (frames_of g) i (suc d) x a e → LiesAsNode (frames_of g) i (suc n) x a e
+    deeper d n null_node a e h = h
+    deeper d n (leaf x) a e h = h
+    deeper d n (container f xs) a e (b, m, opens, lie, follows) = (b, m, opens, nodes_deeper (suc d) (suc n) f xs b m e lie, follows)
+    deeper d n missing a e h = h
+
+    nodes_deeper : (d n : ℕ) (f : Form) (xs : Nodes JsonScalar) (b : ℕ) (m : Mark) (e : ℕ) → NodesLie (frames_of g) f i (suc d) xs b m e
+        → NodesLie (frames_of g) f i (suc n) xs b m e
+    nodes_deeper d n f no_nodes b m e h = h
+    nodes_deeper d n f (node key x xs) b m e (c, o, h, entry, lies, lie) =
+        (c, o, h, entry, deeper d n x c h lies, nodes_deeper d n f xs h o e lie)
+
+module _ (g : LexicalGrammar) (test : JsonScalar → Bool) (i : List ℕ) where
   -- ---- entries and what comes behind them, from the first on
 
-  whole_members : (count b r f : ℕ) (ms : Members) → EntriesLie true count i b r → MembersLie ms (has_come count) i r f
-      → (ns : Members) × MembersLie ns false i b f
-  whole_members zero b r f ms entries lie = (ms, subst (λ y. MembersLie ms false i y f) (sym entries) lie)
-  whole_members (suc count) b r f ms (q, c, x, entries, begins, lies) lie =
-      whole_members count b q f (member begins.0 x ms) entries (c, r, begins.1, child_lies 0 x i c r lies, lie)
+  abbrev Whole : Bool → ℕ → ℕ → Type 0
+  Whole k b f = (xs : Nodes JsonScalar) × NodesLie (frames_of g) (form_of k) i 2 xs b fresh_mark f × (nodes_pass test xs ≡ true)
 
-  whole_elements : (count b r f : ℕ) (es : Elements) → EntriesLie false count i b r → ElementsLie es (has_come count) i r f
-      → (gs : Elements) × ElementsLie gs false i b f
-  whole_elements zero b r f es entries lie = (es, subst (λ y. ElementsLie es false i y f) (sym entries) lie)
-  whole_elements (suc count) b r f es (q, c, x, entries, begins, lies) lie =
-      whole_elements count b q f (element x es) entries (c, r, begins.0, child_lies 0 x i c r lies, lie)
+  whole_nodes : (k : Bool) (count b r f : ℕ) (xs : Nodes JsonScalar) → EntriesLie g test k count i b r
+      → NodesLie (frames_of g) (form_of k) i 2 xs r (inside_mark (has_come count)) f → nodes_pass test xs ≡ true → Whole k b f
+  whole_nodes k zero b r f xs entries lie passes = (xs, subst (λ y. NodesLie (frames_of g) (form_of k) i 2 xs y fresh_mark f) (sym entries) lie, passes)
+  whole_nodes k (suc count) b r f xs (q, c, x, entries, begins, lies) lie passes =
+      let (key, entry, named) = begins_entry g test i q (has_come count) c k begins in
+      whole_nodes k count b q f (node key x xs) entries (c, entry_mark, r, entry, deeper g i 0 1 x c r lies.0, lie) (parts_node test key x xs named lies.1 passes)
 
   -- inside another container, one that closes behind its entries is a whole value
-  whole : (k : Bool) (count q b p f : ℕ) → Lies (IsByte (opening k)) i q b → EntriesLie k count i b p
-      → Lies (IsByte (closing k)) i p f → IsBoundary (drop f i) → (x : Json) × TreeLies 1 x i q f
-  whole true count q b p f o entries closes follows =
-      let ms = whole_members count b p f no_members entries closes in
-      (object ms.0, members_text 1 ms.0 i q b f o ms.1 follows)
-  whole false count q b p f o entries closes follows =
-      let es = whole_elements count b p f no_elements entries closes in
-      (array es.0, elements_text 1 es.0 i q b f o es.1 follows)
+  whole : (k : Bool) (count q b p f : ℕ) → Lies (IsByte (opening k)) i q b → EntriesLie g test k count i b p
+      → Lies (IsByte (closing k)) i p f → g.Boundary (drop f i) → (x : Node JsonScalar) × NodeLies g test 1 x i q f
+  whole k count q b p f o entries closes follows =
+      let (xs, lie, passes) = whole_nodes k count b p f no_nodes entries closes refl in
+      (container (form_of k) xs, ((b, fresh_mark, (refl, o), lie, follows), passes))
 
-  boundary : (n f : ℕ) → 2 ≤ n → FollowsInside n (drop f i) → IsBoundary (drop f i)
+  boundary : (n f : ℕ) → 2 ≤ n → EndsInside g.Boundary n (drop f i) → g.Boundary (drop f i)
   boundary zero f deep h = absurd h
   boundary (suc zero) f deep h = absurd (omega arith)
   boundary (suc (suc n)) f deep h = h
@@ -43,35 +56,35 @@ module _ (i : List ℕ) where
 -- ---- the walk
 
 -- what has come where the walk is at p, and a value is due or not
-abbrev pub HasCome : List Bool → Bool → Bool → List ℕ → ℕ → ℕ → Type 0
-HasCome ks true entered i a p = IsDueInside ks i a p
-HasCome [] false entered i a p = Unit {0}
-HasCome (k ∷ ks) false entered i a p =
-    (q b count : ℕ) × IsDueInside ks i a q × Lies (IsByte (opening k)) i q b × EntriesLie k count i b p × (entered ≡ has_come count)
+abbrev pub HasCome : LexicalGrammar → (JsonScalar → Bool) → List Bool → Bool → Bool → List ℕ → ℕ → ℕ → Type 0
+HasCome g test ks true entered i a p = IsDueInside g test ks i a p
+HasCome g test [] false entered i a p = Unit {0}
+HasCome g test (k ∷ ks) false entered i a p =
+    (q b count : ℕ) × IsDueInside g test ks i a q × Lies (IsByte (opening k)) i q b × EntriesLie g test k count i b p × (entered ≡ has_come count)
 
-module _ (i : List ℕ) (a : ℕ) where
+module _ (g : LexicalGrammar) (test : JsonScalar → Bool) (i : List ℕ) (a : ℕ) where
   -- past a whole value
-  pub passed : (ks : List Bool) (p f : ℕ) (x : Json) → IsDueInside ks i a p → TreeLies 1 x i p f → HasCome ks false true i a f
+  pub passed : (ks : List Bool) (p f : ℕ) (x : Node JsonScalar) → IsDueInside g test ks i a p → NodeLies g test 1 x i p f → HasCome g test ks false true i a f
   passed [] p f x due lies = tt
   passed (k ∷ ks) p f x (q, b, count, r, outer, o, entries, begins) lies =
       (q, b, suc count, outer, o, (r, p, x, entries, begins, lies), refl)
 
   -- into a container
-  pub entered : (k : Bool) (ks : List Bool) (p b : ℕ) → IsDueInside ks i a p → Lies (IsByte (opening k)) i p b → HasCome (k ∷ ks) false false i a b
+  pub entered : (k : Bool) (ks : List Bool) (p b : ℕ) → IsDueInside g test ks i a p → Lies (IsByte (opening k)) i p b → HasCome g test (k ∷ ks) false false i a b
   entered k ks p b due o = (p, b, 0, due, o, refl, refl)
 
   -- to the value of an entry
-  pub gone_on : (k : Bool) (ks : List Bool) (some : Bool) (p c : ℕ) → HasCome (k ∷ ks) false some i a p → ValueBegins i p k some c
-      → IsDueInside (k ∷ ks) i a c
+  pub gone_on : (k : Bool) (ks : List Bool) (some : Bool) (p c : ℕ) → HasCome g test (k ∷ ks) false some i a p → ValueBegins test i p k some c
+      → IsDueInside g test (k ∷ ks) i a c
   gone_on k ks some p c (q, b, count, outer, o, entries, is) begins =
-      (q, b, count, p, outer, o, entries, subst (λ y. ValueBegins i p k y c) is begins)
+      (q, b, count, p, outer, o, entries, subst (λ y. ValueBegins test i p k y c) is begins)
 
   -- out of a container
-  pub left : (k : Bool) (ks : List Bool) (some : Bool) (p n f : ℕ) → HasCome (k ∷ ks) false some i a p
-      → ClosesBy (closing k) i p n f → suc (length ks) ≤ n → HasCome ks false true i a f
+  pub left : (k : Bool) (ks : List Bool) (some : Bool) (p n f : ℕ) → HasCome g test (k ∷ ks) false some i a p
+      → ClosesIn g (closing k) i p n f → suc (length ks) ≤ n → HasCome g test ks false true i a f
   left k [] some p n f h closes deep = tt
   left k (j ∷ ks) some p n f (q, b, count, outer, o, entries, is) closes deep =
-      let value = whole i k count q b p f o entries closes.0 (boundary i n f (omega (arith, deep)) closes.1) in
+      let value = whole g test i k count q b p f o entries closes.0 (boundary g test i n f (omega (arith, deep)) closes.1) in
       passed (j ∷ ks) q f value.0 outer value.1
 
 -- ---- the same by the array that holds the kinds
@@ -80,23 +93,23 @@ length-stack : (kinds : List Bool) (n : ℕ) → length (stack_of kinds n) ≡ n
 length-stack kinds zero = refl
 length-stack kinds (suc n) = ap suc (length-stack kinds n)
 
-module _ (d : ℕ) (kinds : List Bool) (count : ℕ) (due some : Bool) (i : List ℕ) (start at : ℕ)
-    (here : HasCome (stack_of kinds count) due some i start at) where
+module _ (g : LexicalGrammar) (d : ℕ) (kinds : List Bool) (count : ℕ) (due some : Bool) (i : List ℕ) (start at : ℕ)
+    (here : HasCome g (is_skipped_in g) (stack_of kinds count) due some i start at) where
   module _ (is : due ≡ true) where
-    due_here : IsDueInside (stack_of kinds count) i start at
-    due_here = subst (λ b. HasCome (stack_of kinds count) b some i start at) is here
+    due_here : IsDueInside g (is_skipped_in g) (stack_of kinds count) i start at
+    due_here = subst (λ b. HasCome g (is_skipped_in g) (stack_of kinds count) b some i start at) is here
 
-    pub comes_past_scalar : (f : ℕ) → ScalarLies i at f → HasCome (stack_of kinds count) false true i start f
-    comes_past_scalar f scalar = passed i start (stack_of kinds count) at f scalar.tree due_here scalar.lies
+    pub comes_past_scalar : (f : ℕ) → ScalarLies g (is_skipped_in g) i at f → HasCome g (is_skipped_in g) (stack_of kinds count) false true i start f
+    comes_past_scalar f scalar = passed g (is_skipped_in g) i start (stack_of kinds count) at f scalar.node due_here scalar.lies
 
     pub comes_into_container : (k : Bool) (b : ℕ) → Lies (IsByte (opening k)) i at b → count < length kinds
-        → HasCome (stack_of (set kinds count k) (count + 1)) false false i start b
+        → HasCome g (is_skipped_in g) (stack_of (set kinds count k) (count + 1)) false false i start b
     comes_into_container k b o room =
-        subst (λ ks. HasCome ks false false i start b) (sym (stack_of-push kinds count (count + 1) k room refl))
-        (entered i start k (stack_of kinds count) at b due_here o)
+        subst (λ ks. HasCome g (is_skipped_in g) ks false false i start b) (sym (stack_of-push kinds count (count + 1) k room refl))
+        (entered g (is_skipped_in g) i start k (stack_of kinds count) at b due_here o)
 
     pub comes_too_deep : (k : Bool) (b max : ℕ) → Lies (IsByte (opening k)) i at b → d + count ≤ max → max ≤ d + count
-        → OpensTooDeep max d i start
+        → OpensTooDeep g max d i start
     comes_too_deep k b max o shallow deep = record {
       containers = stack_of kinds count;
       is_object = k;
@@ -111,17 +124,17 @@ module _ (d : ℕ) (kinds : List Bool) (count : ℕ) (due some : Bool) (i : List
     abbrev pub kind : Bool
     kind = get_or kinds (count - 1) false
 
-    inside_here : HasCome (kind ∷ stack_of kinds (count - 1)) false some i start at
+    inside_here : HasCome g (is_skipped_in g) (kind ∷ stack_of kinds (count - 1)) false some i start at
     inside_here =
-        let none_due = subst (λ b. HasCome (stack_of kinds count) b some i start at) is here in
-        subst (λ ks. HasCome ks false some i start at) (stack_of-pop kinds count (count - 1) some_open refl) none_due
+        let none_due = subst (λ b. HasCome g (is_skipped_in g) (stack_of kinds count) b some i start at) is here in
+        subst (λ ks. HasCome g (is_skipped_in g) ks false some i start at) (stack_of-pop kinds count (count - 1) some_open refl) none_due
 
-    pub comes_to_value : (c : ℕ) → ValueBegins i at kind some c → HasCome (stack_of kinds count) true some i start c
+    pub comes_to_value : (c : ℕ) → ValueBegins (is_skipped_in g) i at kind some c → HasCome g (is_skipped_in g) (stack_of kinds count) true some i start c
     comes_to_value c begins =
-        subst (λ ks. HasCome ks true some i start c) (sym (stack_of-pop kinds count (count - 1) some_open refl))
-        (gone_on i start kind (stack_of kinds (count - 1)) some at c inside_here begins)
+        subst (λ ks. HasCome g (is_skipped_in g) ks true some i start c) (sym (stack_of-pop kinds count (count - 1) some_open refl))
+        (gone_on g (is_skipped_in g) i start kind (stack_of kinds (count - 1)) some at c inside_here begins)
 
-    pub comes_out_of_container : (f : ℕ) → ClosesBy (closing kind) i at (d + count) f → HasCome (stack_of kinds (count - 1)) due true i start f
+    pub comes_out_of_container : (f : ℕ) → ClosesIn g (closing kind) i at (d + count) f → HasCome g (is_skipped_in g) (stack_of kinds (count - 1)) due true i start f
     comes_out_of_container f closes =
-        let behind = left i start kind (stack_of kinds (count - 1)) some at (d + count) f inside_here closes (omega (arith, length-stack kinds (count - 1))) in
-        subst (λ b. HasCome (stack_of kinds (count - 1)) b true i start f) (sym is) behind
+        let behind = left g (is_skipped_in g) i start kind (stack_of kinds (count - 1)) some at (d + count) f inside_here closes (omega (arith, length-stack kinds (count - 1))) in
+        subst (λ b. HasCome g (is_skipped_in g) (stack_of kinds (count - 1)) b true i start f) (sym is) behind

@@ -12,7 +12,6 @@ use Rattle.smithy_shapes.specs.declared.place.Place.{Place}
 use Rattle.smithy_shapes.specs.Table.{Table, kind_of, IsList, IsMap, IsStructure}
 use Rattle.smithy_schema.specs.Reading.{Cursor, depth, Steps, Conducts, OpensNot, SkipsNot, CannotGoOn, IsFault, IsInvalid, IsOfReader, RefusesNoKind, failed_at, in_list, in_map}
 use Rattle.smithy_json.specs.Ascii.{end_array, end_object}
-use Rattle.smithy_json.specs.Tree.{nesting}
 use Rattle.smithy_json.specs.Unescape.{unescaped}
 use Rattle.smithy_json_codec.specs.declared.members.EntryFault.{EntryFault}
 use Rattle.smithy_json_codec.specs.declared.members.EntryFault.TheVariants as entry_faults
@@ -24,14 +23,17 @@ use Rattle.smithy_wire.specs.declared.found.Found.TheVariants.{Value, Nothing, B
 use Rattle.smithy_wire.specs.Finding.{MatchFound, Takes, TakesWithin}
 use Rattle.smithy_wire.specs.Walking.{gone_on_to}
 use Rattle.smithy_json_codec.specs.Settings.{Settings, without_limits, is_shallow, kept}
-use Rattle.smithy_json_codec.specs.Standing.{json_relations, end_mark, Names}
+use Rattle.smithy_json_codec.specs.LexicalGrammar.{rfc_8259}
+use Rattle.smithy_json_codec.specs.Standing.{json_relations, json_frames, end_mark, Names}
 use Rattle.smithy_json_codec.specs.Private.NextInContainer.{ElementBegins, ClosesBy, GoesOnInList, GoesOnInObject}
 use Rattle.smithy_json_codec.specs.Private.Skipping.{SkipsTo, skip_refusal}
 use Rattle.smithy_json_codec.specs.Private.PassedEntries.{entry_refusal}
-use Rattle.smithy_json_codec.proofs.ReaderLemmas.{steps_in_list, list_is_stuck, steps_in_map, map_is_stuck, one_tree, same_names, names_or_end}
+use Rattle.smithy_json_codec.proofs.ReaderLemmas.{steps_in_list, list_is_stuck, steps_in_map, map_is_stuck, same_names, names_or_end}
 use Rattle.smithy_json_codec.proofs.SkippedValues.{skips_are}
 use Rattle.smithy_wire.specs.Frames.{IsTold}
-use Rattle.smithy_wire.specs.Node.{as_object}
+use Rattle.smithy_wire.specs.Node.{as_object, nesting}
+use Rattle.smithy_wire.specs.Lemmas.Nodes.{one_node}
+use Rattle.smithy_json_codec.specs.Private.Wire.{json_is_wire}
 
 -- what a read answers lies from where the reader was to where it is
 pub answers_within : {A : Type 0} (P : A → ℕ → Type 0) (old new : Cursor) (beyond : SerdeError) (found : Result (Found (A × ℕ)) AllocError) (result : Result A SerdeError)
@@ -122,30 +124,31 @@ shallow_kept o d limits shallow = let test : nat_le d o.max_depth ≡ true = gri
 
 module _ (o : Settings) (c : Cursor) where
   -- nothing can be skipped, under limits that are kept
-  pub skips_not : (held : ℕ) → held ≡ depth c → o.limits ≡ kept → ((e : ℕ) → SkipsTo o.max_depth held c.input c.at e → ⊥) → SkipsNot (json_relations o) c
+  pub skips_not : (held : ℕ) → held ≡ depth c → o.limits ≡ kept → ((e : ℕ) → SkipsTo rfc_8259 o.max_depth held c.input c.at e → ⊥) → SkipsNot (json_relations o) c
   skips_not held same limits none e skips =
-      let s = (skips_are o c.input (depth c) c.at e).1 skips in
-      none e (rw same (record { tree = s.0; lies = s.1; shallow = kept_shallow o (depth c + nesting s.0) limits s.2 }))
+      let s = (skips_are rfc_8259 o c.input (depth c) c.at e).1 skips in
+      none e (rw same (record { node = s.0; lies = s.1; shallow = kept_shallow o (depth c + nesting s.0) limits s.2 }))
 
   -- nor with the limits lifted
-  pub skips_never : (held : ℕ) → held ≡ depth c → ((greatest e : ℕ) → SkipsTo greatest held c.input c.at e → ⊥) → SkipsNot (json_relations (without_limits o)) c
+  pub skips_never : (held : ℕ) → held ≡ depth c → ((greatest e : ℕ) → SkipsTo rfc_8259 greatest held c.input c.at e → ⊥) → SkipsNot (json_relations (without_limits o)) c
   skips_never held same none e skips =
-      let s = (skips_are (without_limits o) c.input (depth c) c.at e).1 skips in
-      none (depth c + nesting s.0) e (rw same (record { tree = s.0; lies = s.1; shallow = omega arith }))
+      let s = (skips_are rfc_8259 (without_limits o) c.input (depth c) c.at e).1 skips in
+      none (depth c + nesting s.0) e (rw same (record { node = s.0; lies = s.1; shallow = omega arith }))
 
   -- what was skipped is skipped there
-  pub skips_here : (held : ℕ) → held ≡ depth c → o.limits ≡ kept → (e : ℕ) → SkipsTo o.max_depth held c.input c.at e
+  pub skips_here : (held : ℕ) → held ≡ depth c → o.limits ≡ kept → (e : ℕ) → SkipsTo rfc_8259 o.max_depth held c.input c.at e
       → (json_relations o).skips c.input (depth c) c.at e
   skips_here held same limits e h =
-      let s : SkipsTo o.max_depth (depth c) c.input c.at e = rw same at h in
-      (skips_are o c.input (depth c) c.at e).0 (s.tree, s.lies, shallow_kept o (depth c + nesting s.tree) limits s.shallow)
+      let s : SkipsTo rfc_8259 o.max_depth (depth c) c.input c.at e = rw same at h in
+      (skips_are rfc_8259 o c.input (depth c) c.at e).0 (s.node, s.lies, shallow_kept o (depth c + nesting s.node) limits s.shallow)
 
   -- what is skipped ends at one place
-  pub skips_same : (held greatest : ℕ) → held ≡ depth c → (end e : ℕ) → SkipsTo greatest held c.input c.at end
+  pub skips_same : (held greatest : ℕ) → held ≡ depth c → (end e : ℕ) → SkipsTo rfc_8259 greatest held c.input c.at end
       → (json_relations o).skips c.input (depth c) c.at e → end ≡ e
   skips_same held greatest same end e h skips =
-      let s = (skips_are o c.input (depth c) c.at e).1 skips in
-      (one_tree held (depth c) h.tree s.0 c.input c.at end e h.lies s.1).1
+      let s = (skips_are rfc_8259 o c.input (depth c) c.at e).1 skips in
+      let here : SkipsTo rfc_8259 greatest (depth c) c.input c.at end = rw same at h in
+      (one_node json_frames json_is_wire c.input (depth c) here.node s.0 c.at end e here.lies.0 s.1.0).1
 
 -- ---- refusals
 

@@ -14,7 +14,10 @@ use Rattle.smithy_json_codec.specs.declared.documents.scalars.BeginFault.{BeginF
 use Rattle.smithy_json_codec.specs.declared.documents.scalars.BeginFault.TheVariants.{NoValue, NotCarried, NoMemory}
 use Rattle.smithy_json_codec.specs.declared.documents.scalars.Begun.{Begun}
 use Rattle.smithy_json_codec.specs.declared.documents.scalars.Begun.TheVariants.{Scalar, Container}
+use Rattle.smithy_json_codec.specs.LexicalGrammar.{rfc_8259, is_skipped_in}
+use Rattle.smithy_json_codec.specs.Meaning.{node_of}
 use Rattle.smithy_json_codec.specs.Standing.{TreeLies}
+use Rattle.smithy_json_codec.specs.Private.NodePlaces.{tree_lies}
 use Rattle.smithy_json_codec.specs.Documents.{NoDocumentLies, OtherNumberLies, ValueOpens}
 use Rattle.smithy_json_codec.specs.Private.ValuePlaces.{one_tree}
 use Rattle.smithy_json_codec.specs.Private.NextInContainer.{IsFirstByte}
@@ -54,8 +57,8 @@ module _ (i : List ℕ) (a : ℕ) where
 abbrev pub NoDocument : List ℕ → ℕ → Type 0
 NoDocument i a = (limits : Option ℕ) (depth : ℕ) → NoDocumentLies limits depth i a
 
-pub no_value_no_document : (i : List ℕ) (a : ℕ) → NoValueLies i a → NoDocument i a
-no_value_no_document i a none limits depth d e h = none 1 h.tree e h.lies
+pub no_value_no_document : (i : List ℕ) (a : ℕ) → NoValueLies rfc_8259 (is_skipped_in rfc_8259) i a → NoDocument i a
+no_value_no_document i a none limits depth d e h = none 1 (node_of h.tree) e (tree_lies 1 h.tree i a e h.lies)
 
 differ : (b x y : ℕ) → b ≡ x → b ≡ y → (x ≡ y → ⊥) → ⊥
 differ b x y h k other = other (sym h ∙ k)
@@ -128,5 +131,5 @@ module _ (i : List ℕ) (a n : ℕ) where
   too_deep_at_limit opens =
       (record { containers = []; at = a; due = refl; opens = opens; deepest = omega arith }, omega arith, none_at_limit)
 
-  pub invalid_at_limit : NoValueLies i a → RefusesDocument n n i a faults.NoDocument
+  pub invalid_at_limit : NoValueLies rfc_8259 (is_skipped_in rfc_8259) i a → RefusesDocument n n i a faults.NoDocument
   invalid_at_limit none = (no_value_no_document i a none None n, none_at_limit)

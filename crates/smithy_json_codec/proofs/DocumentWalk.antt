@@ -10,7 +10,10 @@ use Rattle.smithy_json_codec.specs.declared.documents.DocumentFault.TheVariants.
 use Rattle.smithy_json_codec.specs.declared.documents.Open.{Open}
 use Rattle.smithy_json_codec.specs.declared.documents.Frame.{Frame}
 use Rattle.smithy_json_codec.specs.declared.documents.Step.TheVariants.{Inside, Opens, Ends}
+use Rattle.smithy_json_codec.specs.LexicalGrammar.{rfc_8259, is_skipped_in}
+use Rattle.smithy_json_codec.specs.Meaning.{node_of}
 use Rattle.smithy_json_codec.specs.Standing.{Lies, IsByte, Names}
+use Rattle.smithy_json_codec.specs.Private.NodePlaces.{tree_lies}
 use Rattle.smithy_json_codec.specs.Deepest.{IsDueInside}
 use Rattle.smithy_json_codec.specs.Documents.{DocumentLies}
 use Rattle.smithy_json_codec.specs.Private.BytePlaces.{byte_ahead}
@@ -20,7 +23,7 @@ use Rattle.smithy_json_codec.specs.Private.Skipping.{opening, closing}
 use Rattle.smithy_json_codec.specs.Private.OpenDocuments.{OpenContainer, open_array, open_object, Waiting, waiting_array, waiting_object, with_value, fresh, document_of, is_object, open_view, frame_view, ScalarMeans, RefusesDocument, EntryBegins, TakesStep}
 use Rattle.smithy_json_codec.proofs.OpenersLemmas.{OpensInAll, nothing_opened, past_begin_array, past_begin_object, past_value, past_separator, past_name, past_end_array, past_end_object}
 use Rattle.smithy_json_codec.proofs.DeepestLemmas.{HasCome, passed, entered as come_in, gone_on, left as come_out}
-use Rattle.smithy_json_codec.proofs.SkipSteps.{value_place}
+use Rattle.smithy_json_codec.proofs.SkipSteps.{value_place, name_begins}
 use Rattle.smithy_json_codec.proofs.OpenDocumentLemmas.{Allows, allows_depth, level, Turn, due, inside, behind, IsLeft, left_all, left_behind, left_in_array, left_in_object, no_value_left, left_at_element, left_at_member, left_behind_container, nothing_left}
 
 -- ---- what holds
@@ -40,9 +43,9 @@ kinds ws = map kind_of ws
 
 -- what has come lies whole
 abbrev pub Come : Turn → List Waiting → List ℕ → ℕ → ℕ → Type 0
-Come due ws i a p = HasCome (kinds ws) true false i a p
-Come (inside o entered) ws i a p = HasCome (is_object o ∷ kinds ws) false entered i a p
-Come (behind x) ws i a p = HasCome (kinds ws) false true i a p
+Come due ws i a p = HasCome rfc_8259 (is_skipped_in rfc_8259) (kinds ws) true false i a p
+Come (inside o entered) ws i a p = HasCome rfc_8259 (is_skipped_in rfc_8259) (is_object o ∷ kinds ws) false entered i a p
+Come (behind x) ws i a p = HasCome rfc_8259 (is_skipped_in rfc_8259) (kinds ws) false true i a p
 
 pub record IsWalking (greatest depth : ℕ) (turn : Turn) (ws : List Waiting) (i : List ℕ) (start at : ℕ) : Type 0 where
   -- what is left makes the document, with the limits and without
@@ -86,7 +89,7 @@ module _ (greatest depth : ℕ) (ws : List Waiting) (i : List ℕ) (start at : �
     kept = left_behind (Some greatest) depth ws i start at walk.kept x f (scalar_lies (Some greatest) (level depth ws) i at x f (omega (arith, room)) scalar);
     lifted = left_behind None depth ws i start at walk.lifted x f (scalar_lies None (level depth ws) i at x f tt scalar);
     opens = past_value i start (length ws) at f walk.opens scalar.tree scalar.lies.0;
-    come = passed i start (kinds ws) at f scalar.tree walk.come scalar.lies;
+    come = passed rfc_8259 (is_skipped_in rfc_8259) i start (kinds ws) at f (node_of scalar.tree) walk.come (tree_lies 1 scalar.tree i at f scalar.lies);
     ahead = omega (arith, walk.ahead, scalar.lies.0.0);
     within = scalar.lies.0.1;
     shallow = walk.shallow;
@@ -97,7 +100,7 @@ module _ (greatest depth : ℕ) (ws : List Waiting) (i : List ℕ) (start at : �
     kept = left_in_array (Some greatest) depth ws i start at walk.kept b walk.within o;
     lifted = left_in_array None depth ws i start at walk.lifted b walk.within o;
     opens = let more = past_begin_array i start (length ws) at b walk.opens o in omega (arith, more);
-    come = come_in i start false (kinds ws) at b walk.come o;
+    come = come_in rfc_8259 (is_skipped_in rfc_8259) i start false (kinds ws) at b walk.come o;
     ahead = omega (arith, walk.ahead, o.0);
     within = o.1;
     shallow = omega (arith, level-length depth ws, room);
@@ -106,7 +109,7 @@ module _ (greatest depth : ℕ) (ws : List Waiting) (i : List ℕ) (start at : �
     kept = left_in_object (Some greatest) depth ws i start at walk.kept b walk.within o;
     lifted = left_in_object None depth ws i start at walk.lifted b walk.within o;
     opens = let more = past_begin_object i start (length ws) at b walk.opens o in omega (arith, more);
-    come = come_in i start true (kinds ws) at b walk.come o;
+    come = come_in rfc_8259 (is_skipped_in rfc_8259) i start true (kinds ws) at b walk.come o;
     ahead = omega (arith, walk.ahead, o.0);
     within = o.1;
     shallow = omega (arith, level-length depth ws, room);
@@ -118,12 +121,12 @@ module _ (greatest depth : ℕ) (ws : List Waiting) (i : List ℕ) (start at : �
   at_element : (ds : Documents Number) → IsWalking greatest depth (inside (open_array ds) m) ws i start at → (c : ℕ) → ElementBegins i at m c
       → IsWalking greatest depth due (waiting_array ds ∷ ws) i start c
   at_element ds walk c begins =
-      let place = value_place i at false m c begins walk.within in
+      let place = value_place (is_skipped_in rfc_8259) i at false m c begins walk.within in
       record {
         kept = left_at_element (Some greatest) depth ws i start at m ds walk.kept c begins;
         lifted = left_at_element None depth ws i start at m ds walk.lifted c begins;
         opens = past_separator i start (suc (length ws)) at c walk.opens m begins.0;
-        come = gone_on i start false (kinds ws) m at c walk.come begins;
+        come = gone_on rfc_8259 (is_skipped_in rfc_8259) i start false (kinds ws) m at c walk.come begins;
         ahead = omega (arith, walk.ahead, place.0);
         within = place.1;
         shallow = walk.shallow;
@@ -132,12 +135,12 @@ module _ (greatest depth : ℕ) (ws : List Waiting) (i : List ℕ) (start at : �
   at_member : (ps : Properties Number) → IsWalking greatest depth (inside (open_object ps) m) ws i start at → (raw name : List ℕ) (c : ℕ) → Names m i at raw c
       → unescaped raw ≡ Some name → IsWalking greatest depth due (waiting_object ps name ∷ ws) i start c
   at_member ps walk raw name c names text =
-      let place = value_place i at true m c (raw, names) walk.within in
+      let place = value_place (is_skipped_in rfc_8259) i at true m c (name_begins i at m raw c names) walk.within in
       record {
         kept = left_at_member (Some greatest) depth ws i start at m ps walk.kept raw name c names text;
         lifted = left_at_member None depth ws i start at m ps walk.lifted raw name c names text;
         opens = past_name i start (suc (length ws)) at c walk.opens m raw names;
-        come = gone_on i start true (kinds ws) m at c walk.come (raw, names);
+        come = gone_on rfc_8259 (is_skipped_in rfc_8259) i start true (kinds ws) m at c walk.come (name_begins i at m raw c names);
         ahead = omega (arith, walk.ahead, place.0);
         within = place.1;
         shallow = walk.shallow;
@@ -151,8 +154,8 @@ module _ (greatest depth : ℕ) (ws : List Waiting) (i : List ℕ) (start at : �
       subst (λ v. IsWalking greatest depth due (v ∷ ws) i start c) (sym begins.2) (at_member ps walk begins.0 begins.1 c begins.3 begins.4)
 
   pub entry_ahead : (o : OpenContainer) → at ≤ length i → (w : Waiting) (c : ℕ) → EntryBegins i at m o w c → at ≤ c
-  entry_ahead (open_array ds) within w c begins = (value_place i at false m c begins.1 within).0
-  entry_ahead (open_object ps) within w c begins = (value_place i at true m c (begins.0, begins.3) within).0
+  entry_ahead (open_array ds) within w c begins = (value_place (is_skipped_in rfc_8259) i at false m c begins.1 within).0
+  entry_ahead (open_object ps) within w c begins = (value_place (is_skipped_in rfc_8259) i at true m c (name_begins i at m begins.0 c begins.3) within).0
 
   closed : (o : OpenContainer) (f : ℕ) → OpensInAll i start (suc (length ws)) at → Lies (IsByte (closing (is_object o))) i at f → OpensInAll i start (length ws) f
   closed (open_array ds) f opens lies = let less = past_end_array i start (suc (length ws)) at f opens (omega arith) lies in omega (arith, less)
@@ -166,7 +169,7 @@ module _ (greatest depth : ℕ) (ws : List Waiting) (i : List ℕ) (start at : �
         kept = left_behind_container (Some greatest) depth ws i start at m o walk.kept may f closes;
         lifted = left_behind_container None depth ws i start at m o walk.lifted tt f closes;
         opens = closed o f walk.opens closes.0;
-        come = come_out i start (is_object o) (kinds ws) m at (suc (suc (length (kinds ws)))) f walk.come (closes.0, closes.1) (omega arith);
+        come = come_out rfc_8259 (is_skipped_in rfc_8259) i start (is_object o) (kinds ws) m at (suc (suc (length (kinds ws)))) f walk.come (closes.0, closes.1) (omega arith);
         ahead = omega (arith, walk.ahead, closes.0.0);
         within = closes.0.1;
         shallow = omega (arith, walk.shallow);
@@ -197,8 +200,8 @@ value_put greatest depth x (waiting_object ps name) ws i start at walk = record 
 -- ---- refusals
 
 -- what is due inside of a value that is due itself
-due_inside : (ks js : List Bool) (i : List ℕ) (a b p : ℕ) → IsDueInside js i a b → IsDueInside ks i b p → IsDueInside (ks ++ js) i a p
-due_inside [] js i a b p outer h = subst (λ x. IsDueInside js i a x) h outer
+due_inside : (ks js : List Bool) (i : List ℕ) (a b p : ℕ) → IsDueInside rfc_8259 (is_skipped_in rfc_8259) js i a b → IsDueInside rfc_8259 (is_skipped_in rfc_8259) ks i b p → IsDueInside rfc_8259 (is_skipped_in rfc_8259) (ks ++ js) i a p
+due_inside [] js i a b p outer h = subst (λ x. IsDueInside rfc_8259 (is_skipped_in rfc_8259) js i a x) h outer
 due_inside (k ∷ ks) js i a b p outer h = (h.0, h.1, h.2, h.3, due_inside ks js i a b h.0 outer h.4, h.5, h.6, h.7)
 
 -- what is refused where a value is due is refused as a whole

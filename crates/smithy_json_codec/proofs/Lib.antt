@@ -21,6 +21,7 @@ pub mod TextLemmas
 pub mod NextInContainerLemmas
 pub mod MapEnds
 pub mod ValueFirstByte
+pub mod NodeFirstBytes
 pub mod ScalarLemmas
 pub mod SkipSteps
 pub mod OpenContainers

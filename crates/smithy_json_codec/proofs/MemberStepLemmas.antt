@@ -1,7 +1,7 @@
 -- Where a structure or a union goes on to, as the contract of reading says it.
 use Rattle.std.proofs.Common.{◌≡◌, ◌≤◌, ◌<◌, ◌+◌, ℕ, zero, suc, length, drop, List, [], ◌∷◌, Bool, true, false, Some, None, refl, sym, ap, subst, ◌∙◌, arith}
 use Rattle.std.proofs.lemmas.Bool.Decides.{nat_tests}
-use Rattle.std.specs.Prelude.{◌↔◌, ◌&&◌, not, is_none, IsTrue, Option, option_and_then, option_map, slice_get, cond, nat_lt}
+use Rattle.std.specs.Prelude.{◌↔◌, ◌&&◌, ◌||◌, not, is_none, IsTrue, Option, option_and_then, option_map, slice_get, cond, nat_lt}
 use Rattle.std.specs.List.{position_or_len}
 use Rattle.std.specs.Option.{option_map_or}
 use Rattle.smithy_shapes.specs.declared.place.Place.{Place}
@@ -15,22 +15,25 @@ use Rattle.smithy_shapes.specs.Lemmas.Kinds.{document_place_is}
 use Rattle.smithy_shapes.specs.Lemmas.Options.{same_some, made}
 use Rattle.smithy_shapes.specs.Site.{Site, site_of, member_site, kind_at, site_of_member}
 use Rattle.smithy_schema.specs.Reading.{Cursor, depth, Steps, Leaves, MatchStep, CannotGoOn, passed_to, in_structure}
-use Rattle.smithy_json.specs.Tree.{nesting}
 use Rattle.smithy_json.specs.Unescape.{unescaped}
 use Rattle.smithy_json_codec.specs.Cursor.{inside_of}
 use Rattle.smithy_wire.specs.Walking.{gone_on_to}
-use Rattle.smithy_json_codec.specs.Settings.{Settings, kept, without_limits}
+use Rattle.smithy_json_codec.specs.Settings.{Settings, kept, without_limits, is_shallow}
 use Rattle.smithy_json_codec.specs.Meaning.{rules_of}
-use Rattle.smithy_json_codec.specs.Standing.{json_relations, FollowsInside}
-use Rattle.smithy_json_codec.specs.Private.PassedEntries.{type_name, Passing, IsNoMark, StepsToMember, ClosesMembers, NoSkip, NoSkipWithin, NothingComes}
+use Rattle.smithy_json_codec.specs.LexicalGrammar.{rfc_8259, is_skipped_in}
+use Rattle.smithy_json_codec.specs.Standing.{json_relations, json_frames, FollowsInside}
+use Rattle.smithy_json_codec.specs.Private.PassedEntries.{type_name, Passing, StepsToMember, ClosesMembers, NoSkip, NoSkipWithin, NothingComes}
 use Rattle.smithy_json_codec.specs.Openers.{json_openers}
-use Rattle.smithy_json_codec.specs.Private.OpenersAtPlaces.{across_value}
+use Rattle.smithy_json_codec.specs.Private.Wire.{json_bounds_openers}
 use Rattle.smithy_json_codec.specs.Private.MemberSteps.{EndsEmpty, StepsTo, passing, passes_null, passes_marks}
 use Rattle.smithy_json_codec.specs.Private.Skipping.{SkipsTo}
 use Rattle.smithy_json_codec.proofs.DeserializerLemmas.{kept_shallow, shallow_kept}
 use Rattle.smithy_json_codec.proofs.ReaderLemmas.{steps_to_member, closes_members, members_are_stuck}
 use Rattle.smithy_json_codec.proofs.SkippedValues.{skips_are}
+use Rattle.smithy_wire.specs.Node.{nesting}
 use Rattle.smithy_wire.specs.Rules.{position_in, drops_null, is_mark}
+use Rattle.smithy_wire.specs.Lemmas.Nodes.{takes_none}
+use Rattle.smithy_json_codec.proofs.SkipSteps.{node_ahead}
 
 -- nothing is due, so that the cursor is as it is behind what was due
 pub undue : (c : Cursor) → c.due ≡ false → passed_to c c.at ≡ c
@@ -82,7 +85,7 @@ pub null_is_unkept : (o : Settings) (outer : Site) → HasMembers (kind_at outer
     → passes_null o outer text ≡ drops_null (rules_of o) (kind_at outer) (position_in (rules_of o) (kind_at outer) (Some text))
 null_is_unkept o outer has text = by (kind_at outer) has (position_in (rules_of o) (kind_at outer) (Some text))
   where
-    by : (k : Kind) → HasMembers k → (n : Option ℕ) → not (option_map_or is_document_place (member_place (members_of k) n) false) ≡ drops_null (rules_of o) k n
+    by : (k : Kind) → HasMembers k → (n : Option ℕ) → not ((rules_of o).keeps_null (member_place (members_of k) n)) ≡ drops_null (rules_of o) k n
     by (structure_of members) h n = refl
     by (union_of members) h n = refl
     by _ h n = absurd h
@@ -101,65 +104,61 @@ document_test t p false h = by (is_document_place p) refl
     by true is = absurd (let clash : false ≡ true = h.1 (target_is_document t p.target is) in cc)
     by false is = ap not (sym is)
 
--- a null is passed over where its member is no document
-pub member_passes_null : (o : Settings) (outer : Site) (name : List ℕ) (s : Schema) (b : Bool)
-    → (n : ℕ) × (position_in (rules_of o) (kind_at outer) (Some name) ≡ Some n) × (member_site outer n ≡ Some (site_of s))
-    → IsTrue b ↔ IsDocument (kind_at (site_of s)) → not b ≡ passes_null o outer name
-member_passes_null o outer name s b (n, position, site) test =
-    let members = members_of (kind_at outer) in
-    let m = made (site_of_member outer.table n) (slice_get members n) (site_of s) site in
-    let place : member_place members (Some n) ≡ Some m.0.place = ap (option_map (λ (x : Member). x.place)) m.1 in
-    let here : IsTrue b ↔ IsDocument (kind_of outer.table m.0.place) = subst (λ (x : Site). IsTrue b ↔ IsDocument (kind_at x)) (sym m.2) test in
-    document_test outer.table m.0.place b here
-    ∙ sym (ap (λ found. not (option_map_or is_document_place (member_place members found) false)) position
-    ∙ ap (λ found. not (option_map_or is_document_place found false)) place)
+-- where the settings hand nulls on, none is passed over
+pub dispatch_passes_none : (o : Settings) (outer : Site) (name : List ℕ) → o.dispatch_null_members ≡ true → false ≡ passes_null o outer name
+dispatch_passes_none o outer name on =
+    let found = member_place (members_of (kind_at outer)) (position_in (rules_of o) (kind_at outer) (Some name)) in
+    sym (ap (λ b. not (b || option_map_or is_document_place found false)) on)
 
-pub unknown_passes_null : (o : Settings) (outer : Site) (name : List ℕ) → position_in (rules_of o) (kind_at outer) (Some name) ≡ None
-    → true ≡ passes_null o outer name
-unknown_passes_null o outer name none =
-    sym (ap (λ found. not (option_map_or is_document_place (member_place (members_of (kind_at outer)) found) false)) none)
+module _ (o : Settings) (outer : Site) (name : List ℕ) (off : o.dispatch_null_members ≡ false) where
+  by_member : (found : Option Place) → not (option_map_or is_document_place found false) ≡ not ((rules_of o).keeps_null found)
+  by_member found = sym (ap (λ b. not (b || option_map_or is_document_place found false)) off)
 
--- so under a name that is a mark each is
-pub mark_passes_null : (o : Settings) (outer : Site) → passes_marks o outer ≡ true → passes_null o outer type_name ≡ true
-mark_passes_null o outer is = by (position_in (rules_of o) (kind_at outer) (Some type_name)) refl
-  where
-    by : (found : Option ℕ) → position_in (rules_of o) (kind_at outer) (Some type_name) ≡ found → passes_null o outer type_name ≡ true
-    by None none = sym (unknown_passes_null o outer type_name none)
-    by (Some n) named = absurd (let clash : false ≡ true = sym (ap is_none named) ∙ is in cc)
+  -- else a null is passed over where its member is no document
+  pub member_passes_null : (s : Schema) (b : Bool)
+      → (n : ℕ) × (position_in (rules_of o) (kind_at outer) (Some name) ≡ Some n) × (member_site outer n ≡ Some (site_of s))
+      → IsTrue b ↔ IsDocument (kind_at (site_of s)) → not b ≡ passes_null o outer name
+  member_passes_null s b (n, position, site) test =
+      let members = members_of (kind_at outer) in
+      let m = made (site_of_member outer.table n) (slice_get members n) (site_of s) site in
+      let place : member_place members (Some n) ≡ Some m.0.place = ap (option_map (λ (x : Member). x.place)) m.1 in
+      let here : IsTrue b ↔ IsDocument (kind_of outer.table m.0.place) = subst (λ (x : Site). IsTrue b ↔ IsDocument (kind_at x)) (sym m.2) test in
+      document_test outer.table m.0.place b here
+      ∙ sym (ap (λ found. not (option_map_or is_document_place (member_place members found) false)) position
+      ∙ ap (λ found. not (option_map_or is_document_place found false)) place)
+      ∙ by_member (member_place members (position_in (rules_of o) (kind_at outer) (Some name)))
 
--- so under a name whose null isn't passed over comes no mark
-pub no_mark_kept : (o : Settings) (outer : Site) (raw text : List ℕ) → unescaped raw ≡ Some text → passes_null o outer text ≡ false
-    → IsNoMark (passing o outer) raw
-no_mark_kept o outer raw text is stays marks mark =
-    let same = same_some text type_name (sym is ∙ mark) in
-    let clash : false ≡ true = sym stays ∙ ap (passes_null o outer) same ∙ mark_passes_null o outer marks in
-    cc
+  pub unknown_passes_null : position_in (rules_of o) (kind_at outer) (Some name) ≡ None → true ≡ passes_null o outer name
+  unknown_passes_null none =
+      let members = members_of (kind_at outer) in
+      sym (ap (λ found. not (option_map_or is_document_place (member_place members found) false)) none)
+      ∙ by_member (member_place members (position_in (rules_of o) (kind_at outer) (Some name)))
 
 -- ---- which settings pass over what
 
 -- under limits that are kept what is skipped is skipped within them, and under others whatever its depth
-pub skips_within : (o : Settings) (input : List ℕ) (d greatest : ℕ) → o.limits ≡ kept → o.max_depth ≡ greatest → (c e : ℕ) → SkipsTo greatest d input c e → (json_relations o).skips input d c e
+pub skips_within : (o : Settings) (input : List ℕ) (d greatest : ℕ) → o.limits ≡ kept → o.max_depth ≡ greatest → (c e : ℕ) → SkipsTo rfc_8259 greatest d input c e → (json_relations o).skips input d c e
 skips_within o input d greatest limits most c e h =
-    (skips_are o input d c e).0 (h.tree, h.lies, shallow_kept o (d + nesting h.tree) limits (subst (λ n. d + nesting h.tree ≤ n) (sym most) h.shallow))
+    (skips_are rfc_8259 o input d c e).0 (h.node, h.lies, shallow_kept o (d + nesting h.node) limits (subst (λ n. d + nesting h.node ≤ n) (sym most) h.shallow))
 
-pub skips_lifted : (o : Settings) (input : List ℕ) (d greatest : ℕ) (c e : ℕ) → SkipsTo greatest d input c e → (json_relations (without_limits o)).skips input d c e
-skips_lifted o input d greatest c e h = (skips_are (without_limits o) input d c e).0 (h.tree, h.lies, refl)
+pub skips_lifted : (o : Settings) (input : List ℕ) (d greatest : ℕ) (c e : ℕ) → SkipsTo rfc_8259 greatest d input c e → (json_relations (without_limits o)).skips input d c e
+skips_lifted o input d greatest c e h = (skips_are rfc_8259 (without_limits o) input d c e).0 (h.node, h.lies, refl)
 
 pub unskipped_within : (o : Settings) (input : List ℕ) (d greatest : ℕ) → o.limits ≡ kept → o.max_depth ≡ greatest → (c : ℕ) → NoSkipWithin greatest d input c
     → (e : ℕ) → (json_relations o).skips input d c e → ⊥
 unskipped_within o input d greatest limits most c none e skips =
-    let s = (skips_are o input d c e).1 skips in
-    none e (record { tree = s.0; lies = s.1; shallow = subst (λ n. d + nesting s.0 ≤ n) most (kept_shallow o (d + nesting s.0) limits s.2) })
+    let s = (skips_are rfc_8259 o input d c e).1 skips in
+    none e (record { node = s.0; lies = s.1; shallow = subst (λ n. d + nesting s.0 ≤ n) most (kept_shallow o (d + nesting s.0) limits s.2) })
 
 pub unskipped_lifted : (o : Settings) (input : List ℕ) (d : ℕ) (c : ℕ) → NoSkip d input c → (e : ℕ) → (json_relations (without_limits o)).skips input d c e → ⊥
 unskipped_lifted o input d c none e skips =
-    let s = (skips_are (without_limits o) input d c e).1 skips in
-    none (d + nesting s.0) e (record { tree = s.0; lies = s.1; shallow = omega arith })
+    let s = (skips_are rfc_8259 (without_limits o) input d c e).1 skips in
+    none (d + nesting s.0) e (record { node = s.0; lies = s.1; shallow = omega arith })
 
 -- ---- steps and ends
 
 module _ (o : Settings) (c new : Cursor) (at : ℕ) (outer : Site) (kind : HasMembers (kind_at outer)) (passing : Passing) (marked : passing.marks ≡ is_mark (rules_of o) (kind_at outer) (Some type_name))
-    (dropped : (text : List ℕ) → passing.nulls text ≡ drops_null (rules_of o) (kind_at outer) (position_in (rules_of o) (kind_at outer) (Some text))) (greatest : ℕ) (skips : (b e : ℕ) → SkipsTo greatest (depth c) c.input b e → (json_relations o).skips c.input (depth c) b e) where
+    (dropped : (text : List ℕ) → passing.nulls text ≡ drops_null (rules_of o) (kind_at outer) (position_in (rules_of o) (kind_at outer) (Some text))) (greatest : ℕ) (skips : (b e : ℕ) → SkipsTo rfc_8259 greatest (depth c) c.input b e → (json_relations o).skips c.input (depth c) b e) where
   member_comes : (value : ℕ) (raw name : List ℕ) → c.inner.within ≡ in_structure → c.failed ≡ false
       → new ≡ gone_on_to c value (inside_of in_structure true) → unescaped raw ≡ Some name
       → StepsToMember passing greatest (depth c) c.input at c.inner.mark.entered raw value → Steps (json_relations o) (passed_to c at) new outer.table outer.place (Some name)
@@ -191,11 +190,11 @@ module _ (o : Settings) (c new : Cursor) (at : ℕ) (outer : Site) (kind : HasMe
       closes_members o c.input outer.table outer.place kind passing marked dropped greatest (depth c) skips s.0 at c.inner.mark s.1 s.2 e s.3 s.4 h.1
 
   -- neither a member nor the end comes
-  pub cannot_step : (Stays : ℕ → Type 0) → ((b : ℕ) → Stays b → (e : ℕ) → (json_relations o).skips c.input (depth c) b e → ⊥)
+  pub cannot_step : is_shallow o (depth c) ≡ true → (Stays : ℕ → Type 0) → ((b : ℕ) → Stays b → (e : ℕ) → (json_relations o).skips c.input (depth c) b e → ⊥)
       → NothingComes Stays passing greatest (depth c) c.input at c.inner.mark.entered → (IsStructure (kind_at outer) → EndsEmpty c → ⊥)
       → CannotGoOn (json_relations o) (passed_to c at) outer.table outer.place
-  cannot_step Stays stays h full =
-      members_are_stuck o c.input outer.table outer.place kind passing marked dropped greatest (depth c) skips Stays stays h.count at c.inner.mark h.place h.after h.passes
+  cannot_step shallow Stays stays h full =
+      members_are_stuck o c.input outer.table outer.place kind passing marked dropped greatest (depth c) skips shallow Stays stays h.count at c.inner.mark h.place h.after h.passes
       h.missing (λ structure' at_end empty inside. full structure' (at_end, empty, inside))
 
 -- the structure or union ends, in its bracket or in an empty input
@@ -211,12 +210,12 @@ leaves_at o c new at outer e closes input place around due failed sound = record
 }
 
 -- what is too deep behind a value that is skipped is so from that value on
-module _ (input : List ℕ) (greatest held at end : ℕ) (skips : SkipsTo greatest held input at end) where
+module _ (input : List ℕ) (greatest held at end : ℕ) (skips : SkipsTo rfc_8259 greatest held input at end) where
   pub reaches_behind : (max d : ℕ) → max ≤ d + json_openers (drop end input) → max ≤ d + json_openers (drop at input)
-  reaches_behind max d deep = omega (arith, across_value input skips.tree at end skips.lies.0, deep)
+  reaches_behind max d deep = omega (arith, takes_none json_frames json_bounds_openers input held skips.node at end skips.lies.0, deep)
 
   pub too_deep_behind : (Opens : ℕ → Type 0) → (q : ℕ) × (end ≤ q) × Opens q → (q : ℕ) × (at ≤ q) × Opens q
-  too_deep_behind Opens h = (h.0, omega (arith, skips.lies.0.0, h.1), h.2)
+  too_deep_behind Opens h = (h.0, omega (arith, node_ahead rfc_8259 (is_skipped_in rfc_8259) input held skips.node at end skips.lies, h.1), h.2)
 
 -- where nothing was due
 pub stays_undue : (o : Settings) (c : Cursor) (t : Table) (p : Place) → c.due ≡ false

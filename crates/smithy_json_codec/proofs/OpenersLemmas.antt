@@ -5,9 +5,16 @@ use Rattle.std.proofs.Common.{◌≤◌, ◌<◌, ◌+◌, ◌-◌, ℕ, List, d
 use Rattle.smithy_json.specs.Ascii.{begin_array, end_array, begin_object, end_object}
 use Rattle.smithy_json.specs.Tree.{Json}
 use Rattle.smithy_json.specs.Grammar.{IsValue}
+use Rattle.smithy_json_codec.specs.Scalar.{JsonScalar}
 use Rattle.smithy_json_codec.specs.Standing.{Lies, IsByte, IsSeparated, Names}
+use Rattle.smithy_json_codec.specs.Tokens.{NameTokens}
+use Rattle.smithy_json_codec.specs.LexicalGrammar.{LexicalGrammar, frames_of}
 use Rattle.smithy_json_codec.specs.Openers.{json_openers}
-use Rattle.smithy_json_codec.specs.Private.OpenersAtPlaces.{across_begin_array, across_begin_object, across_value, across_separator, across_name, across_end_array, across_end_object}
+use Rattle.smithy_json_codec.specs.Private.OpenersAtPlaces.{across_begin_array, across_begin_object, across_value, across_separator, across_name, across_name_token, across_end_array, across_end_object}
+use Rattle.smithy_json_codec.specs.Private.Wire.{tokens_bound_openers}
+use Rattle.smithy_wire.specs.Node.{Node}
+use Rattle.smithy_wire.specs.Frames.{Lies as LiesAsNode}
+use Rattle.smithy_wire.specs.Lemmas.Nodes.{takes_none}
 
 module _ (i : List ℕ) (start : ℕ) where
   -- the loop invariant, for a skipper that has come to `here` and has `count` containers open
@@ -36,6 +43,10 @@ module _ (i : List ℕ) (start : ℕ) where
     pub past_value : (x : Json) → Lies (IsValue x) i here next → OpensInAll count next
     past_value x lies = let takes = across_value i x here next lies in omega (arith, h, takes)
 
+    pub past_node : (g : LexicalGrammar) (d : ℕ) (x : Node JsonScalar) → LiesAsNode (frames_of g) i d x here next → OpensInAll count next
+    past_node g d x lies =
+        let takes = takes_none (frames_of g) (tokens_bound_openers g.Boundary) i d x here next lies in omega (arith, h, takes)
+
     -- to an element: past white space and a comma, unless it is the first
     pub past_separator : (entered : Bool) → IsSeparated entered i here next → OpensInAll count next
     past_separator entered separated =
@@ -45,6 +56,10 @@ module _ (i : List ℕ) (start : ℕ) where
     pub past_name : (entered : Bool) (raw : List ℕ) → Names entered i here raw next → OpensInAll count next
     past_name entered raw names =
         let same = across_name i entered here raw next names in omega (arith, h, same)
+
+    pub past_name_token : (entered : Bool) (raw : List ℕ) → NameTokens entered i here raw next → OpensInAll count next
+    past_name_token entered raw names =
+        let same = across_name_token i entered here raw next names in omega (arith, h, same)
 
     -- past white space and the closing bracket of a container that is open
     pub past_end_array : 0 < count → Lies (IsByte end_array) i here next → OpensInAll (count - 1) next

@@ -10,7 +10,11 @@ use Rattle.smithy_json.specs.Tree.{null}
 use Rattle.smithy_json.specs.Unescape.{unescaped}
 use Rattle.smithy_json_codec.specs.Deepest.{OpensTooDeep}
 use Rattle.smithy_json_codec.specs.Openers.{json_openers}
-use Rattle.smithy_json_codec.specs.Standing.{Names, TreeLies}
+use Rattle.smithy_json_codec.specs.LexicalGrammar.{rfc_8259, is_skipped_in}
+use Rattle.smithy_json_codec.specs.Standing.{Names, TreeLies, json_frames}
+use Rattle.smithy_json_codec.specs.Private.Wire.{json_bounds_openers}
+use Rattle.smithy_wire.specs.Lemmas.Nodes.{takes_none}
+use Rattle.smithy_json_codec.proofs.SkipSteps.{node_ahead}
 use Rattle.smithy_json_codec.specs.Private.NamePlaces.{names_ahead}
 use Rattle.smithy_json_codec.specs.Private.OpenersAtPlaces.{across_value, across_name}
 use Rattle.smithy_json_codec.specs.Private.Skipping.{SkipsTo}
@@ -26,7 +30,9 @@ module _ (passing : Passing) (greatest depth : ℕ) (input : List ℕ) where
   -- the value of an entry lies ahead, and as many containers open from its end on at most as from its start on
   passed_ahead : (raw : List ℕ) (c e : ℕ) → IsPassed passing greatest depth input raw c e → (c ≤ e) × (json_openers (drop e input) ≤ json_openers (drop c input))
   passed_ahead raw c e (inl null_value) = (null_value.0.0.0, across_value input null c e null_value.0.0)
-  passed_ahead raw c e (inr mark) = (mark.2.lies.0.0, across_value input mark.2.tree c e mark.2.lies.0)
+  passed_ahead raw c e (inr mark) =
+      let ahead = node_ahead rfc_8259 (is_skipped_in rfc_8259) input depth mark.2.node c e mark.2.lies in
+      (omega (arith, ahead.0), takes_none json_frames json_bounds_openers input depth mark.2.node c e mark.2.lies.0)
 
   -- and so do entries that are passed over
   pub passes_ahead : (k : ℕ) (b : ℕ) (m : Bool) (c : ℕ) (n : Bool) → Passes passing greatest depth k input b m c n
@@ -40,7 +46,7 @@ module _ (passing : Passing) (greatest depth : ℕ) (input : List ℕ) where
   -- an entry that is passed over ends further on, in the input
   passed_end : (raw : List ℕ) (c e : ℕ) → IsPassed passing greatest depth input raw c e → e ≤ length input
   passed_end raw c e (inl null_value) = null_value.0.0.1
-  passed_end raw c e (inr mark) = mark.2.lies.0.1
+  passed_end raw c e (inr mark) = (node_ahead rfc_8259 (is_skipped_in rfc_8259) input depth mark.2.node c e mark.2.lies).1
 
   pub passed_further : (b : ℕ) (m : Bool) (e : ℕ) → PassesTo passing greatest depth input b m e → (b < e) × (e ≤ length input)
   passed_further b m e h =
@@ -53,33 +59,31 @@ module _ (passing : Passing) (greatest depth : ℕ) (input : List ℕ) where
         → PassesTo passing greatest depth input at entered e
     null_passes text is passes e lies = record { raw = raw; value = value; names = names; passed = inl (lies, (text, is, passes)) }
 
-    -- a null under another name stays
-    pub null_kept : (text : List ℕ) → unescaped raw ≡ Some text → passing.nulls text ≡ false → NoNull passing input raw value
+    -- where none is passed over under this name, none does
+    pub null_kept : (text : List ℕ) → unescaped raw ≡ Some text → ((e : ℕ) → TreeLies 1 null input value e → passing.nulls text ≡ true → ⊥)
+        → NoNull passing input raw value
     null_kept text is stays e lies (other, same, passes) =
-        let one = same_some text other (sym is ∙ same) in
-        let clash : true ≡ false = sym passes ∙ (ap passing.nulls (sym one) ∙ stays) in
-        cc
+        let one = same_some text other (sym is ∙ same) in stays e lies (ap passing.nulls one ∙ passes)
 
     -- a mark is passed over where its value may be skipped, and stays where it may not
     module _ (passes_marks : passing.marks ≡ true) (is : unescaped raw ≡ Some type_name) where
-      pub mark_passes : (e : ℕ) → SkipsTo greatest depth input value e → PassesTo passing greatest depth input at entered e
+      pub mark_passes : (e : ℕ) → SkipsTo rfc_8259 greatest depth input value e → PassesTo passing greatest depth input at entered e
       mark_passes e skips = record { raw = raw; value = value; names = names; passed = inr (passes_marks, is, skips) }
 
-      pub mark_stays : NoNull passing input raw value → (Stays : ℕ → Type 0) → Stays value → EntryMissing Stays passing depth input at entered
-      mark_stays no_null Stays stays = inr (inr (record {
+      pub mark_stays : (Stays : ℕ → Type 0) → Stays value → EntryMissing Stays passing depth input at entered
+      mark_stays Stays stays = inr (inr (record {
         raw = raw;
         value = value;
         passes_marks = passes_marks;
         names = names;
         is_mark = is;
-        no_null = no_null;
         stays = stays;
       }))
 
     pub reaches_from_name : (max : ℕ) → max ≤ depth + json_openers (drop value input) → max ≤ depth + json_openers (drop at input)
     reaches_from_name max deep = omega (arith, across_name input entered at raw value names, deep)
 
-    pub too_deep_from_name : (max : ℕ) → OpensTooDeep max depth input value → (q : ℕ) × (at ≤ q) × OpensTooDeep max depth input q
+    pub too_deep_from_name : (max : ℕ) → OpensTooDeep rfc_8259 max depth input value → (q : ℕ) × (at ≤ q) × OpensTooDeep rfc_8259 max depth input q
     too_deep_from_name max opens = (value, omega (arith, names_ahead input entered at raw value names), opens)
 
   -- ---- the place of a member's value, and of an end

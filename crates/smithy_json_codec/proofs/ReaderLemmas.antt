@@ -1,5 +1,5 @@
 -- What a reader finds in an input, as a relation of reading, and what it doesn't find.
-use Rattle.std.proofs.Common.{◌≡◌, ◌⊎◌, ◌<◌, ℕ, zero, suc, List, [], drop, Option, Some, None, Bool, true, false, not, refl, sym, ◌∙◌, ap, subst, inl, inr}
+use Rattle.std.proofs.Common.{◌≡◌, ◌⊎◌, ◌<◌, ◌+◌, ℕ, zero, suc, List, [], drop, Option, Some, None, Bool, true, false, refl, sym, ◌∙◌, ap, subst, arith, inl, inr}
 use Rattle.std.specs.Str.{bytes_eq}
 use Rattle.std.proofs.lemmas.Slice.Eq.{bytes_eq-Decides}
 use Rattle.smithy_shapes.specs.declared.place.Place.{Place}
@@ -10,18 +10,19 @@ use Rattle.smithy_json.specs.Ascii.{begin_array, end_array, begin_object, end_ob
 use Rattle.smithy_json.specs.Tree.{null}
 use Rattle.smithy_json.specs.Unescape.{unescaped}
 use Rattle.smithy_json_codec.specs.Scalar.{JsonScalar, a_string}
-use Rattle.smithy_json_codec.specs.Settings.{Settings}
+use Rattle.smithy_json_codec.specs.Settings.{Settings, is_shallow}
+use Rattle.smithy_json_codec.specs.LexicalGrammar.{rfc_8259}
 use Rattle.smithy_json_codec.specs.Standing.{Lies, FollowsInside, TreeLies, IsByte, IsSeparated, Names, fresh_mark, end_mark, entry_mark, json_frames, json_rules, json_relations}
 use Rattle.smithy_json_codec.specs.Private.PassedEntries.{type_name, Passing, NoNull, IsNoMark, IsPassed, Passes, MarkStays, EntryMissing}
 use Rattle.smithy_json_codec.specs.Private.Skipping.{SkipsTo}
 use Rattle.smithy_json_codec.specs.Private.TokenEntries.{entry_of_names, entry_told}
 use Rattle.smithy_json_codec.specs.Private.TokenGrammar.{null_token, token_null}
 use Rattle.smithy_json_codec.specs.Private.Wire.{json_is_wire}
-use Rattle.smithy_wire.specs.Node.{as_array, as_object}
+use Rattle.smithy_wire.specs.Node.{as_array, as_object, null_node}
 use Rattle.smithy_wire.specs.Frames.{IsTold, Drops, DropsAll}
 use Rattle.smithy_wire.specs.Rules.{Rules, position_in, drops_null, is_mark, key_text}
 use Rattle.smithy_wire.specs.Readers.{opens_not, cannot_go_on}
-use Rattle.smithy_wire.specs.Entries.{other_is_no_mark, member_is_no_mark, drop_is, mark_is_dropped, null_is_dropped, step_to_entry, close_at_end, list_drops_nothing, step_to_element, map_drops_nothing, step_to_key}
+use Rattle.smithy_wire.specs.Entries.{other_is_no_mark, drop_is, mark_is_dropped, null_is_dropped, step_to_entry, close_at_end, list_drops_nothing, step_to_element, map_drops_nothing, step_to_key}
 use Rattle.smithy_wire.specs.Lemmas.Places.{members_are_object, list_is_array, map_is_object}
 -- what stands behind white space, in Private: a byte, a name and a value are determined, with their ends
 pub use Rattle.smithy_json_codec.specs.Private.Lexical.{past_ws, ws_boundary, value_begins}
@@ -96,18 +97,10 @@ module _ (o : Settings) (i : List ℕ) (t : Table) (p : Place) (kind : IsMap (ki
 
 -- ---- a structure or a union at a place
 
--- under a mark a null is dropped, as no member has this name
-unnamed_drops_null : (r : Rules JsonScalar) → r.keeps_null None ≡ false → (k : Kind) (position : Option ℕ) → HasMembers k → position ≡ None → drops_null r k position ≡ true
-unnamed_drops_null r none (structure_of members) position h is = rw is (ap not none)
-unnamed_drops_null r none (union_of members) position h is = rw is (ap not none)
-unnamed_drops_null r none _ position h is = absurd h
-
-mark_drops_null : (r : Rules JsonScalar) → r.keeps_null None ≡ false → (k : Kind) (text : List ℕ) → HasMembers k → is_mark r k (Some text) ≡ true → drops_null r k (position_in r k (Some text)) ≡ true
-mark_drops_null r none k text h is = by (position_in r k (Some text)) refl
-  where
-    by : (position : Option ℕ) → position_in r k (Some text) ≡ position → drops_null r k (position_in r k (Some text)) ≡ true
-    by None same = unnamed_drops_null r none k (position_in r k (Some text)) h same
-    by (Some n) same = absurd (let clash : true ≡ false = sym is ∙ member_is_no_mark r k text n same in cc)
+-- a null is skipped wherever its depth may be
+null_is_skipped : (o : Settings) (i : List ℕ) (d a e : ℕ) → is_shallow o d ≡ true → json_frames.null i d a e → (json_relations o).skips i d a e
+null_is_skipped o i d a e shallow lies =
+    let same : d + 0 ≡ d = omega arith in (null_node, lies, ap (is_shallow o) same ∙ shallow)
 
 module _ (o : Settings) (i : List ℕ) (t : Table) (p : Place) (kind : HasMembers (kind_of t p)) where
   -- with its bracket it opens
@@ -124,7 +117,7 @@ module _ (o : Settings) (i : List ℕ) (t : Table) (p : Place) (kind : HasMember
   -- Marks and nulls are passed over exactly where they are dropped, and what is passed over inside so many containers is skipped.
   module _ (passing : Passing) (marked : passing.marks ≡ is_mark (json_rules o) (kind_of t p) (Some type_name))
       (dropped : (text : List ℕ) → passing.nulls text ≡ drops_null (json_rules o) (kind_of t p) (position_in (json_rules o) (kind_of t p) (Some text))) (greatest d : ℕ)
-      (skips : (c e : ℕ) → SkipsTo greatest d i c e → (json_relations o).skips i d c e) where
+      (skips : (c e : ℕ) → SkipsTo rfc_8259 greatest d i c e → (json_relations o).skips i d c e) where
     one_passes : (b : ℕ) (m : Mark) (raw : List ℕ) (c e : ℕ) → Names m.entered i b raw c → IsPassed passing greatest d i raw c e
         → Drops json_frames (json_rules o) (kind_of t p) as_object i d b m e entry_mark
     one_passes b m raw c e names (inl (null_lies, text)) =
@@ -186,7 +179,7 @@ module _ (o : Settings) (i : List ℕ) (t : Table) (p : Place) (kind : HasMember
         close_at_end json_frames (json_rules o) i t p d kind k b m at passed.0 e passed.2 h follows
 
     -- a mark stays only where its value can't be skipped
-    module _ (Stays : ℕ → Type 0) (stays_unskipped : (c : ℕ) → Stays c → (e : ℕ) → (json_relations o).skips i d c e → ⊥) where
+    module _ (shallow : is_shallow o d ≡ true) (Stays : ℕ → Type 0) (stays_unskipped : (c : ℕ) → Stays c → (e : ℕ) → (json_relations o).skips i d c e → ⊥) where
       -- where no entry is, no name with a text comes that is handed on
       no_entry_told : (at : ℕ) (entered : Bool) → EntryMissing Stays passing d i at entered → (raw : List ℕ) (c : ℕ) → Names entered i at raw c
           → IsTold as_object (unescaped raw) → is_mark (json_rules o) (kind_of t p) (unescaped raw) ≡ false → ⊥
@@ -203,8 +196,8 @@ module _ (o : Settings) (i : List ℕ) (t : Table) (p : Place) (kind : HasMember
       mark_not_dropped : (at : ℕ) (entered : Bool) (mark : MarkStays Stays passing i at entered) (IsMark : Type 0) (c e : ℕ) → c ≡ mark.value
           → json_frames.null i d c e ⊎ (IsMark × (json_relations o).skips i d c e) → ⊥
       mark_not_dropped at entered mark IsMark c e same (inl null_lies) =
-          mark.no_null e (subst (λ c. TreeLies 1 null i c e) same (token_null i d c e null_lies))
-          (type_name, mark.is_mark, dropped type_name ∙ mark_drops_null (json_rules o) refl (kind_of t p) type_name kind (sym marked ∙ mark.passes_marks))
+          stays_unskipped mark.value mark.stays e
+          (null_is_skipped o i d mark.value e shallow (subst (λ c. json_frames.null i d c e) same null_lies))
       mark_not_dropped at entered mark IsMark c e same (inr (is, skipped)) =
           stays_unskipped mark.value mark.stays e (subst (λ c. (json_relations o).skips i d c e) same skipped)
 

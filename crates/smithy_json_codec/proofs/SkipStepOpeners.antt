@@ -2,27 +2,29 @@
 use Rattle.std.proofs.Common.{◌≡◌, ◌+◌, ◌-◌, ◌<◌, ◌≤◌, ℕ, List, drop, Bool, true, false, subst}
 use Rattle.smithy_schema.specs.Reading.{Cursor, depth, ReachesDepth}
 use Rattle.smithy_json_codec.specs.Settings.{Settings}
+use Rattle.smithy_json_codec.specs.Scalar.{JsonScalar}
 use Rattle.smithy_json_codec.specs.Standing.{Lies, IsByte, json_relations}
+use Rattle.smithy_json_codec.specs.LexicalGrammar.{LexicalGrammar}
 use Rattle.smithy_json_codec.specs.Openers.{json_openers}
-use Rattle.smithy_json_codec.specs.Private.NextInContainer.{ClosesBy}
+use Rattle.smithy_json_codec.specs.Private.NextInContainer.{ClosesIn}
 use Rattle.smithy_json_codec.specs.Private.Skipping.{ScalarLies, opening, closing, ValueBegins}
-use Rattle.smithy_json_codec.proofs.OpenersLemmas.{OpensInAll, past_begin_array, past_begin_object, past_value, past_separator, past_name, past_end_array, past_end_object}
+use Rattle.smithy_json_codec.proofs.OpenersLemmas.{OpensInAll, past_begin_array, past_begin_object, past_node, past_separator, past_name_token, past_end_array, past_end_object}
 
 module _ (i : List ℕ) (start count here next : ℕ) (h : OpensInAll i start count here) where
-  pub opens_past_scalar : ScalarLies i here next → OpensInAll i start count next
-  opens_past_scalar scalar = past_value i start count here next h scalar.tree scalar.lies.0
+  pub opens_past_scalar : (g : LexicalGrammar) (test : JsonScalar → Bool) → ScalarLies g test i here next → OpensInAll i start count next
+  opens_past_scalar g test scalar = past_node i start count here next h g 1 scalar.node scalar.lies.0
 
   pub opens_into_container : (k : Bool) → Lies (IsByte (opening k)) i here next → OpensInAll i start (count + 1) next
   opens_into_container true lies = past_begin_object i start count here next h lies
   opens_into_container false lies = past_begin_array i start count here next h lies
 
-  pub opens_to_value : (k entered : Bool) → ValueBegins i here k entered next → OpensInAll i start count next
-  opens_to_value true entered begins = past_name i start count here next h entered begins.0 begins.1
-  opens_to_value false entered begins = past_separator i start count here next h entered begins.0
+  pub opens_to_value : (test : JsonScalar → Bool) (k entered : Bool) → ValueBegins test i here k entered next → OpensInAll i start count next
+  opens_to_value test true entered begins = past_name_token i start count here next h entered begins.0 begins.1
+  opens_to_value test false entered begins = past_separator i start count here next h entered begins.0
 
-  pub opens_out_of_container : (k : Bool) (d : ℕ) → 0 < count → ClosesBy (closing k) i here d next → OpensInAll i start (count - 1) next
-  opens_out_of_container true d some closes = past_end_object i start count here next h some closes.0
-  opens_out_of_container false d some closes = past_end_array i start count here next h some closes.0
+  pub opens_out_of_container : (g : LexicalGrammar) (k : Bool) (d : ℕ) → 0 < count → ClosesIn g (closing k) i here d next → OpensInAll i start (count - 1) next
+  opens_out_of_container g true d some closes = past_end_object i start count here next h some closes.0
+  opens_out_of_container g false d some closes = past_end_array i start count here next h some closes.0
 
 -- a depth that the bytes reach inside so many containers as the reader has open
 pub reader_reaches : (o : Settings) (c : Cursor) (held max : ℕ) → held ≡ depth c → max ≤ held + json_openers (drop c.at c.input)

@@ -12,7 +12,6 @@ use Rattle.smithy_json_codec.specs.Private.ValuePlaces.{past_value}
 use Rattle.smithy_json_codec.specs.Private.NextInContainer.{IsFirstByte}
 use Rattle.smithy_json_codec.proofs.FirstBytes.{BeginsWith, tree_begins_with}
 use Rattle.smithy_json_codec.proofs.FirstBytePlaces.{first_lies, without_all}
-use Rattle.smithy_json_codec.specs.Private.Skipping.{NoValueLies}
 
 -- where this byte comes first, each value that lies there begins with it
 pub begins_with_byte : (i : List ℕ) (at b inside : ℕ) → is_ws b ≡ false → Lies (IsByte b) i at inside
@@ -48,7 +47,7 @@ module _ (i : List ℕ) (at b start : ℕ) (here : IsFirstByte i at b start) whe
         plain = here.plain;
       }
 
-  rest_there : without_ws (drop at i) ≡ drop start i
+  pub rest_there : without_ws (drop at i) ≡ drop start i
   rest_there =
       let byte = first_lies i at b start here in
       past_byte b (drop at i) (drop (start + 1) i) here.plain byte.2
@@ -69,7 +68,7 @@ module _ (i : List ℕ) (at b start : ℕ) (here : IsFirstByte i at b start) whe
       ((ordered, h.0.1, ([], h.0.2.1, left, tt, h.0.2.4)), h.1)
 
 -- where only white space is left, no value lies
-pub nothing_lies : (i : List ℕ) (at : ℕ) → IsWs (drop at i) → NoValueLies i at
+pub nothing_lies : (i : List ℕ) (at : ℕ) → IsWs (drop at i) → (d : ℕ) (x : Json) (e : ℕ) → TreeLies d x i at e → ⊥
 nothing_lies i at ws d x e h =
     let begins = value_begins x h.0.2.1 h.0.2.4 in
     let none : [] ≡ h.0.2.1 ++ drop e i = sym (without_all (drop at i) ws) ∙ past_value x (drop at i) (drop e i) h.0.2 in

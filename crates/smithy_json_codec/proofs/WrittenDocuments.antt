@@ -1,6 +1,8 @@
 -- What JSON writes for documents: it means them, can be written, and is their canonical text.
 use Rattle.std.proofs.Common.{◌≡◌, ℕ, ℤ, pos, negsuc, List, [], ◌∷◌, ◌++◌, Bool, true, false, Some, None, refl, ap, ◌∙◌, append_assoc, arith, decimal}
-use Rattle.std.specs.Prelude.{if◌then◌else◌, option_map, option_and_then, IsUtf8}
+use Rattle.std.specs.Prelude.{◌||◌, if◌then◌else◌, option_map, option_and_then, IsUtf8}
+use Rattle.smithy_shapes.specs.declared.place.Place.{Place}
+use Rattle.smithy_shapes.specs.Table.{is_document_place}
 use Rattle.std.specs.Fmt.{signed_decimal}
 use Rattle.std.proofs.lemmas.Bool.Decides.{nat_tests}
 use Rattle.smithy_types.specs.Document.{Document, null, boolean, number, text, array, object, Documents, no_documents, item, Properties, no_properties, property, whole_document, is_document_number}
@@ -103,12 +105,19 @@ written_text s utf8 =
     let leaf = a_string (escaped s) in
     said_in scalars.BigDecimal leaf (document_says leaf) no_meaning (quoted_is_string s utf8).1 ∙ ap (λ o. answer_of (option_map text o)) (unescaped_of_escaped s)
 
+document_is_kept : (c : Settings) (p : Place) → is_document_place p ≡ true → (json_rules c).keeps_null (Some p) ≡ true
+document_is_kept c p is = by c.dispatch_null_members
+  where
+    by : (on : Bool) → (on || is_document_place p) ≡ true
+    by true = refl
+    by false = is
+
 -- a null of a member that is a document is a document, and what was written means what it was written for
 pub json_reads_documents : (c : Settings) → ReadsDocuments (json_leaves c) (json_rules c)
 json_reads_documents c = record {
   says = says;
   carried = refl;
-  null_is_kept = λ p is. is;
+  null_is_kept = λ p is. document_is_kept c p is;
   boolean_means = λ b. refl;
   number_means = written_number;
   text_means = written_text;

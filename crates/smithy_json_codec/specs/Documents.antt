@@ -7,6 +7,7 @@ use Rattle.smithy_json.specs.HeldNumber.{number_of}
 use Rattle.smithy_json.specs.DocumentMeaning.{document_meaning}
 use Rattle.smithy_json_codec.specs.Settings.{Limits, kept, lifted}
 use Rattle.smithy_json_codec.specs.Standing.{Lies, IsByte, TreeLies, FollowsContainer}
+use Rattle.smithy_json_codec.specs.LexicalGrammar.{rfc_8259, is_skipped_in}
 use Rattle.smithy_json_codec.specs.Deepest.{IsDueInside}
 use Rattle.smithy_json_codec.specs.Private.Skipping.{ScalarLies, opening}
 
@@ -37,7 +38,7 @@ pub record OtherNumberLies (input : List ℕ) (a : ℕ) : Type 0 where
 abbrev pub ValueOpens : List ℕ → ℕ → Type 0
 ValueOpens input a =
     ((is_object : Bool) × (inside : ℕ) × Lies (IsByte (opening is_object)) input a inside)
-    ⊎ ((e : ℕ) × ScalarLies input a e)
+    ⊎ ((e : ℕ) × ScalarLies rfc_8259 (is_skipped_in rfc_8259) input a e)
 
 -- a value comes inside of as many containers as may be open, in the document that begins at a inside of `depth` containers
 pub record OpensDocumentTooDeep (greatest depth : ℕ) (input : List ℕ) (a : ℕ) : Type 0 where
@@ -45,7 +46,7 @@ pub record OpensDocumentTooDeep (greatest depth : ℕ) (input : List ℕ) (a : �
   -- array
   pub containers : List Bool
   pub at : ℕ
-  pub due : IsDueInside containers input a at
+  pub due : IsDueInside rfc_8259 (is_skipped_in rfc_8259) containers input a at
   pub opens : ValueOpens input at
   pub deepest : depth + length containers ≡ greatest
 
@@ -54,7 +55,7 @@ pub record MeetsOtherNumber (input : List ℕ) (a : ℕ) : Type 0 where
   -- the containers of the document around the number, the innermost first: true for an object, false for an array
   pub containers : List Bool
   pub at : ℕ
-  pub due : IsDueInside containers input a at
+  pub due : IsDueInside rfc_8259 (is_skipped_in rfc_8259) containers input a at
   pub other : OtherNumberLies input at
 
 -- ---- documents at a place

@@ -20,7 +20,8 @@ use Rattle.smithy_json_codec.specs.Spans.{without_ws}
 use Rattle.smithy_json_codec.specs.TypeMismatch.{type_mismatches, begins_as_number}
 use Rattle.smithy_json_codec.specs.Tokens.{token_frames}
 use Rattle.smithy_wire.specs.Rules.{Rules, no_meaning}
-use Rattle.smithy_wire.specs.Frames.{relations}
+use Rattle.smithy_wire.specs.Node.{Node, all_pass}
+use Rattle.smithy_wire.specs.Frames.{Frames, Lies, relations}
 
 pub record LexicalGrammar : Type 1 where
   -- a number that is skipped
@@ -163,9 +164,17 @@ token_rules g c = record (rules_of c) {
   may_skip_scalar = is_skipped_in g;
 }
 
+-- the framing by a grammar
+abbrev pub frames_of : LexicalGrammar → Frames JsonScalar
+frames_of g = token_frames g.Boundary
+
 abbrev pub token_relations : LexicalGrammar → Settings → Relations
-token_relations g c = relations (token_frames g.Boundary) (token_rules g c)
+token_relations g c = relations (frames_of g) (token_rules g c)
 
 -- from a to e lies a scalar of the grammar, as it is read as the kind
 abbrev pub LiesInGrammar : LexicalGrammar → Scalar → JsonScalar → List ℕ → ℕ → ℕ → Type 0
-LiesInGrammar g s x input a e = (token_frames g.Boundary).scalar input 0 x a e × (in_grammar g s x ≡ true)
+LiesInGrammar g s x input a e = (frames_of g).scalar input 0 x a e × (in_grammar g s x ≡ true)
+
+-- from a to e lies a node inside so many containers, of which each token passes the test
+abbrev pub NodeLies : LexicalGrammar → (JsonScalar → Bool) → ℕ → Node JsonScalar → List ℕ → ℕ → ℕ → Type 0
+NodeLies g test depth x input a e = Lies (frames_of g) input depth x a e × (all_pass test x ≡ true)

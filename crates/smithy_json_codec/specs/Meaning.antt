@@ -1,5 +1,5 @@
 -- What a JSON value means at a place of a table: what its node means under the rules of JSON.
-use Rattle.std.specs.Prelude.{ℕ, Option, Some, None, true, false}
+use Rattle.std.specs.Prelude.{ℕ, ◌||◌, Option, Some, None, true, false}
 use Rattle.std.specs.Option.{option_map_or}
 use Rattle.smithy_shapes.specs.declared.place.Place.{Place}
 use Rattle.smithy_shapes.specs.Table.{Table, is_document_place}
@@ -30,8 +30,8 @@ abbrev mutual
   member_nodes no_members = no_nodes
   member_nodes (member raw x ms) = node (Some (a_string raw)) (node_of x) (member_nodes ms)
 
--- the rules of JSON under some settings: a member that is null is dropped, unless it is a document, what is skipped counts as
--- depth, and instants have the form of their place. What is refused by its type is for the rules of tokens to say.
+-- the rules of JSON under some settings: a null is dropped, unless its member is a document or the settings hand nulls on, what is
+-- skipped counts as depth, and instants have the form of their place. What is refused by its type is for the rules of tokens to say.
 abbrev pub rules_of : Settings → Rules JsonScalar
 rules_of c = record {
   text_of = text_of;
@@ -42,7 +42,7 @@ rules_of c = record {
   name_of = name_of c;
   max_depth = c.max_depth;
   limits = c.limits;
-  keeps_null = λ place. option_map_or is_document_place place false;
+  keeps_null = λ place. c.dispatch_null_members || option_map_or is_document_place place false;
   may_skip_scalar = λ x. true;
 }
 

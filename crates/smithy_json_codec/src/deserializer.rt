@@ -68,6 +68,7 @@ impl ShapeDeserializer for JsonDeserializer<'_> {
     ghost use Rattle.smithy_json_codec.specs.Standing.{json_relations};
     ghost use Rattle.smithy_json_codec.specs.ContainerSize.{json_sizes};
     ghost use Rattle.smithy_json_codec.specs.Deepest.{OpensTooDeep};
+    ghost use Rattle.smithy_json_codec.specs.LexicalGrammar.{rfc_8259};
     ghost use Rattle.smithy_types.specs.DocumentView.{document_view};
     ghost use Rattle.std.specs.Prelude.{FitsSigned};
     ghost use Rattle.std.specs.Int.{w128};
@@ -158,7 +159,7 @@ impl ShapeDeserializer for JsonDeserializer<'_> {
         // `TooDeep` comes only of a container that begins at the greatest depth, in the value that is skipped here or in the
         // value of a mark behind it.
         ensures too_deep { IsErrOf result TooDeep
-            → (q : ℕ) × ((cursor_of self.old).at ≤ q) × OpensTooDeep (reading_settings_of self.old).max_depth (depth (cursor_of self.old)) (cursor_of self.old).input q }
+            → (q : ℕ) × ((cursor_of self.old).at ≤ q) × OpensTooDeep rfc_8259 (reading_settings_of self.old).max_depth (depth (cursor_of self.old)) (cursor_of self.old).input q }
     {
         if self.walk.failed {
             return Err(self.walk.refuse(SerdeError::Failed));
@@ -295,7 +296,7 @@ impl ShapeDeserializer for JsonDeserializer<'_> {
         ensures limited { IsErrOf result TooDeep → (json_relations (reading_settings_of self.old)).limits_skips ≡ true }
 
         // `TooDeep` comes only of a container that begins at the greatest depth, behind what is sound.
-        ensures too_deep { IsErrOf result TooDeep → OpensTooDeep (reading_settings_of self.old).max_depth (depth (cursor_of self.old)) (cursor_of self.old).input (cursor_of self.old).at }
+        ensures too_deep { IsErrOf result TooDeep → OpensTooDeep rfc_8259 (reading_settings_of self.old).max_depth (depth (cursor_of self.old)) (cursor_of self.old).input (cursor_of self.old).at }
     {
         self.walk.ready()?;
         match skipped_end(self.input(), self.walk.position, self.walk.depth()) {

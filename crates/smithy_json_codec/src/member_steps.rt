@@ -13,6 +13,7 @@ impl JsonDeserializer<'_> {
     ghost use Rattle.smithy_schema.specs.declared.error.SerdeError.TheVariants.{TooDeep};
     ghost use Rattle.smithy_json_codec.specs.Cursor.{cursor_of, reading_settings_of};
     ghost use Rattle.smithy_json_codec.specs.Deepest.{OpensTooDeep};
+    ghost use Rattle.smithy_json_codec.specs.LexicalGrammar.{rfc_8259};
     ghost use Rattle.smithy_json_codec.specs.Openers.{json_openers};
     ghost use Rattle.smithy_json_codec.specs.Settings.{without_limits};
     ghost use Rattle.smithy_json_codec.specs.Standing.{json_relations};
@@ -50,7 +51,7 @@ impl JsonDeserializer<'_> {
         ensures none_without_limits { IsInvalid result → CannotGoOn (json_relations (without_limits (reading_settings_of self.old))) (passed_to (cursor_of self.old) at) schema.now.shapes.now schema.now.place }
         ensures deep { IsErrOf result TooDeep → (reading_settings_of self.old).max_depth ≤ depth (cursor_of self.old) + json_openers (drop at (cursor_of self.old).input) }
         ensures too_deep { IsErrOf result TooDeep
-            → (q : ℕ) × (at ≤ q) × OpensTooDeep (reading_settings_of self.old).max_depth (depth (cursor_of self.old)) (cursor_of self.old).input q }
+            → (q : ℕ) × (at ≤ q) × OpensTooDeep rfc_8259 (reading_settings_of self.old).max_depth (depth (cursor_of self.old)) (cursor_of self.old).input q }
     {
         if self.ends_empty() && is_structure(schema) {
             self.walk.leave(0);

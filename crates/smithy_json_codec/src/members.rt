@@ -1,11 +1,14 @@
 //! Which member of an object comes next, behind the entries that are passed over.
 
-ghost use Rattle.std.specs.Prelude.{◌≡◌, ◌≤◌, ◌+◌, ◌↔◌, ℕ, length, drop, IfOk, IfErr, IsErrOf, IsTrue};
+ghost use Rattle.std.specs.Prelude.{◌≡◌, ◌≤◌, ◌+◌, ◌↔◌, ℕ, true, length, drop, IfOk, IfErr, IfSome, IfNone, IsErrOf, IsTrue};
 ghost use Rattle.smithy_shapes.specs.Site.{site_of, kind_at};
 ghost use Rattle.smithy_shapes.specs.Table.{IsDocument};
+ghost use Rattle.smithy_json.specs.Tree.{null};
 ghost use Rattle.smithy_json_codec.specs.Codec.{held_settings};
 ghost use Rattle.smithy_json_codec.specs.Deepest.{OpensTooDeep};
+ghost use Rattle.smithy_json_codec.specs.LexicalGrammar.{rfc_8259};
 ghost use Rattle.smithy_json_codec.specs.Openers.{json_openers};
+ghost use Rattle.smithy_json_codec.specs.Standing.{TreeLies};
 ghost use Rattle.smithy_json_codec.specs.declared.members.EntryFault.TheVariants.{NoEntry, TooDeep, NoMemory};
 ghost use Rattle.smithy_json_codec.specs.Private.MemberSteps.{StepsTo, passing, passes_marks, passes_null};
 ghost use Rattle.smithy_json_codec.specs.Private.PassedEntries.{entry_fault, entry_refusal, type_name, IsEntry, IsNext, EntryMissing, NothingComes, NoSkip, NoSkipWithin};
@@ -100,16 +103,31 @@ pub(crate) fn step_to<'s>(schema: &Schema<'s>, settings: Settings, name: &str) -
     }
 }
 
-// Whether a null under this name is passed over: it names no member of documents.
+// Whether a null under this name is passed over: it names no member of documents, and the settings don't hand nulls on.
 #[inline(never)]
 fn passes_null(schema: &Schema<'_>, settings: Settings, name: &str) -> bool
     ensures { result ≡ passes_null (held_settings settings) (site_of schema.now) name.now }
 {
+    if settings.dispatch_null_members {
+        return false;
+    }
     match step_to(schema, settings, name) {
         Step::Member(member) => !is_document(&member),
         Step::Unknown => true,
         Step::End => true,
     }
+}
+
+// The end of the null at the offset, where it is passed over under this name.
+#[inline(always)]
+fn passed_null(input: Input<'_>, at: usize, schema: &Schema<'_>, name: &str) -> Option<usize>
+    requires { at ≤ length input.bytes.now }
+    ensures found { IfSome result (λ e. TreeLies 1 null input.entry.bytes.now at e) }
+    ensures passes { IfSome result (λ _. passes_null (held_settings input.entry.settings) (site_of schema.now) name.now ≡ true) }
+    ensures none { IfNone result ((e : ℕ) → TreeLies 1 null input.entry.bytes.now at e → passes_null (held_settings input.entry.settings) (site_of schema.now) name.now ≡ true → ⊥) }
+{
+    let end = null_end(input.bytes, at)?;
+    passes_null(schema, input.settings, name).then_some(end)
 }
 
 // Whether each `__type` is a mark: where no member has this name.
@@ -129,7 +147,7 @@ fn is_type_name(name: &str) -> bool
 }
 
 // What comes next in the object inside of which the offset lies: a member, the end, or an entry to pass over, which is a mark, or
-// a null where no document is due.
+// a null that isn't handed on.
 #[inline(always)]
 fn entry_at<'a>(
     alloc: Global,
@@ -145,7 +163,7 @@ fn entry_at<'a>(
     ensures refused { IfErr result (λ e. (e ≡ NoMemory → ⊥) → EntryMissing (NoSkipWithin input.entry.settings.max_depth depth input.entry.bytes.now) (passing (held_settings input.entry.settings) (site_of schema.now)) depth input.entry.bytes.now at entered) }
     ensures none_without_limits { IsErrOf result NoEntry → EntryMissing (NoSkip depth input.entry.bytes.now) (passing (held_settings input.entry.settings) (site_of schema.now)) depth input.entry.bytes.now at entered }
     ensures deep { IsErrOf result TooDeep → input.entry.settings.max_depth ≤ depth + json_openers (drop at input.entry.bytes.now) }
-    ensures too_deep { IsErrOf result TooDeep → (q : ℕ) × (at ≤ q) × OpensTooDeep input.entry.settings.max_depth depth input.entry.bytes.now q }
+    ensures too_deep { IsErrOf result TooDeep → (q : ℕ) × (at ≤ q) × OpensTooDeep rfc_8259 input.entry.settings.max_depth depth input.entry.bytes.now q }
 {
     let name = match next_in_object(input.bytes, at, entered, depth) {
         Some(InObject::Member(name)) => name,
@@ -155,11 +173,8 @@ fn entry_at<'a>(
     let Some(text) = text_of(alloc, name.raw, name.has_escape)? else {
         return Err(EntryFault::NoEntry);
     };
-    if let Some(end) = null_end(input.bytes, name.end) {
-        if passes_null(schema, input.settings, text.as_str()) {
-            return Ok(Entry::Passed(end));
-        }
-        return Ok(Entry::Kept(Next::Member(text, name.end)));
+    if let Some(end) = passed_null(input, name.end, schema, text.as_str()) {
+        return Ok(Entry::Passed(end));
     }
     if !is_type_name(text.as_str()) || !passes_marks(schema, input.settings) {
         return Ok(Entry::Kept(Next::Member(text, name.end)));
@@ -184,7 +199,7 @@ pub(crate) fn next_present<'a>(
     ensures refused { IfErr result (λ e. (e ≡ NoMemory → ⊥) → NothingComes (NoSkipWithin input.entry.settings.max_depth depth input.entry.bytes.now) (passing (held_settings input.entry.settings) (site_of schema.now)) input.entry.settings.max_depth depth input.entry.bytes.now at entered) }
     ensures none_without_limits { IsErrOf result NoEntry → NothingComes (NoSkip depth input.entry.bytes.now) (passing (held_settings input.entry.settings) (site_of schema.now)) input.entry.settings.max_depth depth input.entry.bytes.now at entered }
     ensures deep { IsErrOf result TooDeep → input.entry.settings.max_depth ≤ depth + json_openers (drop at input.entry.bytes.now) }
-    ensures too_deep { IsErrOf result TooDeep → (q : ℕ) × (at ≤ q) × OpensTooDeep input.entry.settings.max_depth depth input.entry.bytes.now q }
+    ensures too_deep { IsErrOf result TooDeep → (q : ℕ) × (at ≤ q) × OpensTooDeep rfc_8259 input.entry.settings.max_depth depth input.entry.bytes.now q }
 {
     let mut at = at;
     let mut entered = entered;

@@ -4,6 +4,7 @@ ghost use Rattle.std.specs.Prelude.{◌≡◌, ◌<◌, ◌≤◌, ◌+◌, ◌-
 ghost use Rattle.smithy_json.specs.Ascii.{begin_array, begin_object};
 ghost use Rattle.smithy_json_codec.specs.Deepest.{OpensTooDeep};
 ghost use Rattle.smithy_json_codec.specs.Documents.{ValueOpens};
+ghost use Rattle.smithy_json_codec.specs.LexicalGrammar.{rfc_8259, is_skipped_in};
 ghost use Rattle.smithy_json_codec.specs.Openers.{json_openers};
 ghost use Rattle.smithy_json_codec.specs.Private.NextInContainer.{IsFirstByte};
 ghost use Rattle.smithy_json_codec.specs.declared.skip.SkipFault.TheVariants.{NoValue, TooDeep};
@@ -52,8 +53,8 @@ fn scalar_end(input: &[u8], at: usize, first: u8) -> Option<usize>
     requires first { IsFirstByte input.now at first at }
     requires no_array { first ≡ begin_array → ⊥ }
     requires no_object { first ≡ begin_object → ⊥ }
-    ensures found { IfSome result (λ e. ScalarLies input.now at e) }
-    ensures none { IfNone result (NoValueLies input.now at) }
+    ensures found { IfSome result (λ e. ScalarLies rfc_8259 (is_skipped_in rfc_8259) input.now at e) }
+    ensures none { IfNone result (NoValueLies rfc_8259 (is_skipped_in rfc_8259) input.now at) }
 {
     if first == b'"' {
         let string = string_at(input, at)?;
@@ -71,7 +72,7 @@ fn scalar_end(input: &[u8], at: usize, first: u8) -> Option<usize>
 #[inline(always)]
 fn beginning_of(input: &[u8], at: usize) -> Option<Beginning>
     requires { at ≤ length input.now }
-    ensures { BeginsAs input.now at result }
+    ensures { BeginsAs rfc_8259 input.now at result }
 {
     let (first, start) = first_byte(input, at)?;
     if first == b'[' {
@@ -87,7 +88,7 @@ fn beginning_of(input: &[u8], at: usize) -> Option<Beginning>
 /// Whether a value begins behind blanks: an object or an array, or a scalar that lies there whole.
 pub(crate) fn begins_value(input: &[u8], at: usize) -> bool
     requires { at ≤ length input.now }
-    ensures { MatchBool result (ValueOpens input.now at) (NoValueLies input.now at) }
+    ensures { MatchBool result (ValueOpens input.now at) (NoValueLies rfc_8259 (is_skipped_in rfc_8259) input.now at) }
 {
     beginning_of(input, at).is_some()
 }
@@ -102,7 +103,7 @@ fn next_inside(
     depth: usize,
 ) -> Option<InList>
     requires { at ≤ length input.now }
-    ensures { GoesOnInside input.now at is_object entered depth result }
+    ensures { GoesOnInside rfc_8259 input.now at is_object entered depth result }
 {
     if !is_object {
         return next_in_list(input, at, entered, depth);
@@ -136,7 +137,7 @@ fn next_step(
     requires within { at ≤ length input.now }
     requires inside { due ≡ false → 0 < count }
     requires room { count ≤ length is_object.now }
-    ensures { IsNextStep input.now at due (get_or is_object.now (count - 1) false) entered depth result }
+    ensures { IsNextStep rfc_8259 input.now at due (get_or is_object.now (count - 1) false) entered depth result }
 {
     if due {
         return match beginning_of(input, at)? {
@@ -155,11 +156,12 @@ fn next_step(
 pub(crate) fn skipped_end(input: Input<'_>, at: usize, depth: usize) -> Result<usize, SkipFault>
     requires within { at ≤ length input.bytes.now }
     requires shallow { depth ≤ input.settings.max_depth }
-    ensures ok { IfOk result (λ e. SkipsTo input.entry.settings.max_depth depth input.entry.bytes.now at e) }
-    ensures refused { OnErr result ((e : ℕ) → SkipsTo input.entry.settings.max_depth depth input.entry.bytes.now at e → ⊥) }
-    ensures none_without_limits { IsErrOf result NoValue → (greatest e : ℕ) → SkipsTo greatest depth input.entry.bytes.now at e → ⊥ }
+    ensures ok { IfOk result (λ e. SkipsTo rfc_8259 input.entry.settings.max_depth depth input.entry.bytes.now at e) }
+    ensures ahead { IfOk result (λ e. (at < e) × (e ≤ length input.entry.bytes.now)) }
+    ensures refused { OnErr result ((e : ℕ) → SkipsTo rfc_8259 input.entry.settings.max_depth depth input.entry.bytes.now at e → ⊥) }
+    ensures none_without_limits { IsErrOf result NoValue → (greatest e : ℕ) → SkipsTo rfc_8259 greatest depth input.entry.bytes.now at e → ⊥ }
     ensures deep { IsErrOf result TooDeep → input.entry.settings.max_depth ≤ depth + json_openers (drop at input.entry.bytes.now) }
-    ensures too_deep { IsErrOf result TooDeep → OpensTooDeep input.entry.settings.max_depth depth input.entry.bytes.now at }
+    ensures too_deep { IsErrOf result TooDeep → OpensTooDeep rfc_8259 input.entry.settings.max_depth depth input.entry.bytes.now at }
 {
     match beginning_of(input.bytes, at) {
         Some(Beginning::Scalar(end)) => Ok(end),
@@ -171,11 +173,11 @@ pub(crate) fn skipped_end(input: Input<'_>, at: usize, depth: usize) -> Result<u
 fn container_end(input: Input<'_>, at: usize, depth: usize) -> Result<usize, SkipFault>
     requires within { at ≤ length input.bytes.now }
     requires shallow { depth ≤ input.settings.max_depth }
-    ensures ok { IfOk result (λ e. SkipsTo input.entry.settings.max_depth depth input.entry.bytes.now at e) }
-    ensures refused { OnErr result ((e : ℕ) → SkipsTo input.entry.settings.max_depth depth input.entry.bytes.now at e → ⊥) }
-    ensures none_without_limits { IsErrOf result NoValue → (greatest e : ℕ) → SkipsTo greatest depth input.entry.bytes.now at e → ⊥ }
+    ensures ok { IfOk result (λ e. SkipsTo rfc_8259 input.entry.settings.max_depth depth input.entry.bytes.now at e) }
+    ensures refused { OnErr result ((e : ℕ) → SkipsTo rfc_8259 input.entry.settings.max_depth depth input.entry.bytes.now at e → ⊥) }
+    ensures none_without_limits { IsErrOf result NoValue → (greatest e : ℕ) → SkipsTo rfc_8259 greatest depth input.entry.bytes.now at e → ⊥ }
     ensures deep { IsErrOf result TooDeep → input.entry.settings.max_depth ≤ depth + json_openers (drop at input.entry.bytes.now) }
-    ensures too_deep { IsErrOf result TooDeep → OpensTooDeep input.entry.settings.max_depth depth input.entry.bytes.now at }
+    ensures too_deep { IsErrOf result TooDeep → OpensTooDeep rfc_8259 input.entry.settings.max_depth depth input.entry.bytes.now at }
 {
     let mut at = at;
     let mut due = true;

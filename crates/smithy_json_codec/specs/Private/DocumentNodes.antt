@@ -21,7 +21,7 @@ use Rattle.smithy_json.specs.Tree.{Json, Elements, no_elements, element, Members
 use Rattle.smithy_json.specs.Unescape.{unescaped}
 use Rattle.smithy_shapes.specs.declared.shape_type.Scalar.TheVariants as scalars
 use Rattle.smithy_json_codec.specs.Settings.{Settings}
-use Rattle.smithy_json_codec.specs.LexicalGrammar.{rfc_8259, in_grammar}
+use Rattle.smithy_json_codec.specs.LexicalGrammar.{LexicalGrammar, rfc_8259, in_grammar, is_skipped_in, frames_of, NodeLies}
 use Rattle.smithy_json_codec.specs.Scalar.{JsonScalar, a_boolean, a_number, a_string, tree_of, held_says, document_says}
 use Rattle.smithy_json_codec.specs.Meaning.{node_of, element_nodes, member_nodes, rules_of, json_meaning}
 use Rattle.smithy_json_codec.specs.Standing.{FollowsContainer, Follows, TreeLies, json_frames, json_rules, json_relations}
@@ -29,7 +29,8 @@ use Rattle.smithy_json_codec.specs.Documents.{MeetsOtherNumber, depth_limit, Doc
 use Rattle.smithy_json_codec.specs.Deepest.{has_come, EntriesLie, IsDueInside}
 use Rattle.smithy_json_codec.specs.Private.Skipping.{ValueBegins}
 use Rattle.smithy_json_codec.specs.Private.BytePlaces.{separated_ahead}
-use Rattle.smithy_json_codec.specs.Private.NamePlaces.{names_ahead}
+use Rattle.smithy_json_codec.specs.Private.TokenPlaces.{names_ahead}
+use Rattle.smithy_json_codec.specs.Private.Wire.{tokens_are_wire}
 use Rattle.smithy_json_codec.specs.Private.Lexical.{ws_is_boundary}
 use Rattle.smithy_json_codec.specs.Private.Fits.{text_is_utf8}
 use Rattle.smithy_json_codec.specs.Private.NodePlaces.{tree_lies, lies_tree}
@@ -40,7 +41,9 @@ use Rattle.smithy_wire.specs.Node.{Node}
 use Rattle.smithy_wire.specs.Rules.{Answer, means, no_meaning, settled, answer_of}
 use Rattle.smithy_wire.specs.Documents.{document_of, elements_of, pairs_of}
 use Rattle.smithy_wire.specs.Readers.{settled_answer, document_stands, stands_node, part_uncarried}
+use Rattle.smithy_wire.specs.Wire.{IsWire}
 use Rattle.smithy_wire.specs.Lemmas.Places.{means_document}
+use Rattle.smithy_wire.specs.Lemmas.Nodes.{lies_behind, not_back}
 use Rattle.smithy_wire.proofs.Bounds.{answer_means}
 
 -- the limit of documents under some settings
@@ -99,18 +102,26 @@ module _ (c : Settings) where
 
 -- ---- what is due in a document lies ahead
 
-begins_ahead : (i : List ℕ) (k entered : Bool) (b c : ℕ) → ValueBegins i b k entered c → b ≤ c
-begins_ahead i true entered b c h = omega (arith, names_ahead i entered b h.0 c h.1)
-begins_ahead i false entered b c h = separated_ahead i entered b c h.0
+module _ (g : LexicalGrammar) (test : JsonScalar → Bool) (i : List ℕ) where
+  begins_ahead : (k entered : Bool) (b c : ℕ) → ValueBegins test i b k entered c → b ≤ c
+  begins_ahead true entered b c h = omega (arith, names_ahead i entered b h.0 c h.1)
+  begins_ahead false entered b c h = separated_ahead i entered b c h.0
 
-entries_ahead : (i : List ℕ) (k : Bool) (count b r : ℕ) → EntriesLie k count i b r → b ≤ r
-entries_ahead i k zero b r h = omega (arith, h)
-entries_ahead i k (suc count) b r (q, c, x, entries, begins, lies) = omega (arith, entries_ahead i k count b q entries, begins_ahead i k (has_come count) q c begins, lies.0.0)
+  wire : IsWire (frames_of g)
+  wire = tokens_are_wire g.Boundary
 
-due_ahead : (i : List ℕ) (ks : List Bool) (a p : ℕ) → IsDueInside ks i a p → a ≤ p
-due_ahead i [] a p h = omega (arith, h)
-due_ahead i (k ∷ ks) a p (q, b, count, r, outer, opens, entries, begins) =
-    omega (arith, due_ahead i ks a q outer, opens.0, entries_ahead i k count b r entries, begins_ahead i k (has_come count) r p begins)
+  value_ahead : (x : Node JsonScalar) (c p : ℕ) → NodeLies g test 1 x i c p → c ≤ p
+  value_ahead x c p h = not_back (frames_of g) wire i c p (lies_behind (frames_of g) wire i 1 x c p h.0).0
+
+  entries_ahead : (k : Bool) (count b r : ℕ) → EntriesLie g test k count i b r → b ≤ r
+  entries_ahead k zero b r h = omega (arith, h)
+  entries_ahead k (suc count) b r (q, c, x, entries, begins, lies) =
+      omega (arith, entries_ahead k count b q entries, begins_ahead k (has_come count) q c begins, value_ahead x c r lies)
+
+  due_ahead : (ks : List Bool) (a p : ℕ) → IsDueInside g test ks i a p → a ≤ p
+  due_ahead [] a p h = omega (arith, h)
+  due_ahead (k ∷ ks) a p (q, b, count, r, outer, opens, entries, begins) =
+      omega (arith, due_ahead ks a q outer, opens.0, entries_ahead k count b r entries, begins_ahead k (has_come count) r p begins)
 
 -- ---- what follows a document
 
@@ -195,7 +206,7 @@ module _ (c : Settings) (i : List ℕ) (d a : ℕ) where
         let other = h.other in
         let token = tree_is_token (a_number other.raw) i 1 h.at other.e other.lies in (
           other.e,
-          part_uncarried json_frames (json_rules c) i t p kind d says refl a 1 h.at (a_number other.raw) other.e (due_ahead i h.containers a h.at h.due)
+          part_uncarried json_frames (json_rules c) i t p kind d says refl a 1 h.at (a_number other.raw) other.e (due_ahead rfc_8259 (is_skipped_in rfc_8259) i h.containers a h.at h.due)
               token.0 (said_in scalars.BigDecimal (a_number other.raw) (document_says (a_number other.raw)) no_meaning token.1 ∙ ap held_says other.not_held),
         )
 

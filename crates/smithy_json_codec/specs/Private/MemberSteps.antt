@@ -1,10 +1,9 @@
 -- Where a structure or a union goes on to, as private functions answer it.
 use Rattle.std.specs.Prelude.{◌≡◌, ◌<◌, ℕ, List, [], Bool, false, not, Some, None, is_none}
-use Rattle.std.specs.Option.{option_map_or}
 use Rattle.smithy_schema.specs.declared.read.Step.{Step}
 use Rattle.smithy_schema.specs.declared.read.Step.TheVariants.{Member, Unknown, End}
 use Rattle.smithy_schema.specs.Reading.{Cursor, depth}
-use Rattle.smithy_shapes.specs.Table.{members_of, member_place, is_document_place}
+use Rattle.smithy_shapes.specs.Table.{members_of, member_place}
 use Rattle.smithy_shapes.specs.Site.{Site, site_of, member_site, kind_at}
 use Rattle.smithy_json_codec.specs.Settings.{Settings}
 use Rattle.smithy_json_codec.specs.Meaning.{rules_of}
@@ -23,11 +22,11 @@ StepsTo (Member s) o outer name =
 StepsTo Unknown o outer name = position_in (rules_of o) (kind_at outer) (Some name) ≡ None
 StepsTo End o outer name = ⊥
 
--- a null under this name is passed over: it names no member of documents
+-- a null under this name is passed over: it names no member of documents, and the settings don't hand nulls on
 abbrev pub passes_null : Settings → Site → List ℕ → Bool
 passes_null o outer name =
-    not (option_map_or is_document_place
-    (member_place (members_of (kind_at outer)) (position_in (rules_of o) (kind_at outer) (Some name))) false)
+    not ((rules_of o).keeps_null
+    (member_place (members_of (kind_at outer)) (position_in (rules_of o) (kind_at outer) (Some name))))
 
 -- no member has the name of a mark, so that each `__type` is one
 abbrev pub passes_marks : Settings → Site → Bool

@@ -8,7 +8,9 @@ use Rattle.smithy_json_codec.specs.declared.places.InList.TheVariants.{Element, 
 use Rattle.smithy_json_codec.specs.declared.places.InObject.{InObject}
 use Rattle.smithy_json_codec.specs.declared.places.InObject.TheVariants.{Member, End as EndOfObject}
 use Rattle.smithy_json_codec.specs.declared.places.Name.{Name}
-use Rattle.smithy_json_codec.specs.Standing.{Lies, IsByte, IsSeparated, Names, FollowsInside}
+use Rattle.smithy_json_codec.specs.Standing.{Lies, IsByte, IsSeparated, Names}
+use Rattle.smithy_json_codec.specs.Tokens.{EndsInside}
+use Rattle.smithy_json_codec.specs.LexicalGrammar.{LexicalGrammar, rfc_8259}
 
 -- at `start` stands the first byte from `at` on that is no white space
 pub record IsFirstByte (input : List ℕ) (at byte start : ℕ) : Type 0 where
@@ -23,8 +25,11 @@ abbrev pub IsNotFirst : ℕ → List ℕ → ℕ → Type 0
 IsNotFirst byte input at = (e : ℕ) → Lies (IsByte byte) input at e → ⊥
 
 -- the innermost of `depth` open containers closes by this byte and ends at e, where it may end
+abbrev pub ClosesIn : LexicalGrammar → ℕ → List ℕ → ℕ → ℕ → ℕ → Type 0
+ClosesIn g byte input at depth e = Lies (IsByte byte) input at e × EndsInside g.Boundary depth (drop e input)
+
 abbrev pub ClosesBy : ℕ → List ℕ → ℕ → ℕ → ℕ → Type 0
-ClosesBy byte input at depth e = Lies (IsByte byte) input at e × FollowsInside depth (drop e input)
+ClosesBy = ClosesIn rfc_8259
 
 -- another element of an array is due at c
 abbrev pub ElementBegins : List ℕ → ℕ → Bool → ℕ → Type 0

@@ -14,6 +14,7 @@ use Rattle.smithy_json_codec.specs.declared.members.EntryFault.{EntryFault}
 use Rattle.smithy_json_codec.specs.declared.members.EntryFault.TheVariants.{NoEntry, TooDeep, NoMemory}
 use Rattle.smithy_json_codec.specs.declared.skip.SkipFault.{SkipFault}
 use Rattle.smithy_json_codec.specs.declared.skip.SkipFault.TheVariants as skip_faults
+use Rattle.smithy_json_codec.specs.LexicalGrammar.{rfc_8259}
 use Rattle.smithy_json_codec.specs.Standing.{Lies, IsByte, Names, TreeLies, FollowsInside}
 use Rattle.smithy_json_codec.specs.Private.NextInContainer.{ClosesBy}
 use Rattle.smithy_json_codec.specs.Private.Skipping.{SkipsTo}
@@ -46,7 +47,7 @@ IsNoMark passing raw = passing.marks ≡ true → unescaped raw ≡ Some type_na
 abbrev pub IsPassed : Passing → ℕ → ℕ → List ℕ → List ℕ → ℕ → ℕ → Type 0
 IsPassed passing greatest depth input raw c e =
     (TreeLies 1 null input c e × PassesNull passing raw)
-    ⊎ ((passing.marks ≡ true) × (unescaped raw ≡ Some type_name) × SkipsTo greatest depth input c e)
+    ⊎ ((passing.marks ≡ true) × (unescaped raw ≡ Some type_name) × SkipsTo rfc_8259 greatest depth input c e)
 
 -- from b to c come so many entries that are passed over
 abbrev pub Passes : Passing → ℕ → ℕ → ℕ → List ℕ → ℕ → Bool → ℕ → Bool → Type 0
@@ -94,10 +95,10 @@ IsEntry passing greatest depth input at entered (Kept next) = IsKept passing dep
 
 -- no value may be skipped at c inside so many containers: with the greatest depth, and whatever the depth
 abbrev pub NoSkipWithin : ℕ → ℕ → List ℕ → ℕ → Type 0
-NoSkipWithin greatest depth input c = (e : ℕ) → SkipsTo greatest depth input c e → ⊥
+NoSkipWithin greatest depth input c = (e : ℕ) → SkipsTo rfc_8259 greatest depth input c e → ⊥
 
 abbrev pub NoSkip : ℕ → List ℕ → ℕ → Type 0
-NoSkip depth input c = (greatest e : ℕ) → SkipsTo greatest depth input c e → ⊥
+NoSkip depth input c = (greatest e : ℕ) → SkipsTo rfc_8259 greatest depth input c e → ⊥
 
 -- a mark stands there that can't be passed over
 pub record MarkStays (Stays : ℕ → Type 0) (passing : Passing) (input : List ℕ) (at : ℕ) (entered : Bool) : Type 0 where
@@ -106,7 +107,6 @@ pub record MarkStays (Stays : ℕ → Type 0) (passing : Passing) (input : List 
   pub passes_marks : passing.marks ≡ true
   pub names : Names entered input at raw value
   pub is_mark : unescaped raw ≡ Some type_name
-  pub no_null : NoNull passing input raw value
   pub stays : Stays value
 
 -- at the place stands neither a name nor the closing bracket, or a name that has no text, or a mark that can't be passed over

@@ -84,7 +84,7 @@ token_fills (a_number (b ∷ raw)) s h = rw h.0 (omega arith)
 token_fills (a_string raw) s h = rw h.0 (omega arith)
 
 -- behind the white space come the token and the rest
-past_token : (x : JsonScalar) (s r : List ℕ) → (h : IsFront (IsToken x) s r) → without_ws s ≡ h.1 ++ r
+pub past_token : (x : JsonScalar) (s r : List ℕ) → (h : IsFront (IsToken x) s r) → without_ws s ≡ h.1 ++ r
 past_token x s r h = ap without_ws h.2 ∙ past_ws h.0 (h.1 ++ r) h.3 (token_stops x h.1 r h.4)
 
 numeric_sort : (b : ℕ) (rest : List ℕ) → is_numeric b ≡ true → json_sort (b ∷ rest) ≡ a_scalar
@@ -121,7 +121,7 @@ token_begins i x a e h = rw (past_token x (drop a i) (drop e i) h.2) (token_sort
 abbrev pub IsNullToken : List ℕ → Type 0
 IsNullToken bytes = bytes ≡ codes "null"
 
-past_null : (s r : List ℕ) → IsFront IsNullToken s r → without_ws s ≡ codes "null" ++ r
+pub past_null : (s r : List ℕ) → IsFront IsNullToken s r → without_ws s ≡ codes "null" ++ r
 past_null s r h = rw (h.2, h.4) (past_ws h.0 (codes "null" ++ r) h.3 refl)
 
 pub one_null : (i : List ℕ) (a e f : ℕ) → Lies IsNullToken i a e → Lies IsNullToken i a f → e ≡ f

@@ -9,7 +9,6 @@ use Rattle.smithy_json_codec.specs.Codec.{held_settings}
 use Rattle.smithy_json_codec.specs.Private.MemberSteps.{passing, passes_null}
 use Rattle.smithy_json_codec.specs.Private.PassedEntries.{type_name, IsNoMark, NoSkip, NoSkipWithin}
 use Rattle.smithy_json_codec.proofs.DeserializerLemmas.{error_of}
-use Rattle.smithy_json_codec.proofs.MemberStepLemmas.{no_mark_kept}
 use Rattle.smithy_json_codec.proofs.PassedEntryLemmas.{unskipped_mark, too_deep_mark, null_passes, null_kept, mark_passes, mark_stays, reaches_from_name, too_deep_from_name}
 use Rattle.smithy_json_codec.proofs.members.entry_at.Goals as goal
 use Rattle.smithy_json_codec.proofs.members.entry_at.Goals.{then-not-is_type_name-via-then-not-is_type_name, then-not-is_type_name-via-else-not-is_type_name+then-not-passes_marks}
@@ -18,28 +17,14 @@ pub text_of-requires : goal.text_of-requires
 text_of-requires c =
     let stands = rw c.in-Some-Member.field-0-is at c.in-Some-Member.ensures in stands.has_escape
 
-pub returns-then-passes_null-clause-ok : goal.returns-then-passes_null-clause-ok
-returns-then-passes_null-clause-ok c =
+pub returns-in-Some-passed_null-clause-ok : goal.returns-in-Some-passed_null-clause-ok
+returns-in-Some-passed_null-clause-ok c =
     let stands = rw c.in-Some-Member.field-0-is at c.in-Some-Member.ensures in
     let told = c.in_ok-text.ensures.text ∙ ap (option_map cow_str_bytes) c.in-Some.is in
     let site = site_of c.args.schema.now in
-    let passes = ap (passes_null (held_settings c.args.input.settings) site) (sym c.as_str.ensures.value) ∙ (sym c.passes_null.ensures ∙ c.if-passes_null.true) in
+    let passes = ap (passes_null (held_settings c.args.input.settings) site) (sym c.as_str.ensures.value) ∙ c.in-Some-passed_null.ensures.passes in
     null_passes (passing (held_settings c.args.input.settings) site) c.args.input.settings.max_depth c.args.depth c.args.input.bytes.now c.args.at c.args.entered c.in-Some-Member.name.raw.now c.in-Some-Member.name.end stands.names
-    _ told passes c.in-Some-null_end.end c.in-Some-null_end.ensures.found
-
-pub returns-in-Some-null_end-clause-ok : goal.returns-in-Some-null_end-clause-ok
-returns-in-Some-null_end-clause-ok c =
-    let stands = rw c.in-Some-Member.field-0-is at c.in-Some-Member.ensures in
-    let told = c.in_ok-text.ensures.text ∙ ap (option_map cow_str_bytes) c.in-Some.is in
-    let site = site_of c.args.schema.now in
-    let raw = c.in-Some-Member.name.raw.now in
-    let stays = ap (passes_null (held_settings c.args.input.settings) site) (sym c.as_str.ensures.value) ∙ (sym c.passes_null.ensures ∙ c.if-passes_null.false) in (
-      raw,
-      told,
-      stands.names,
-      no_mark_kept (held_settings c.args.input.settings) site raw _ told stays,
-      null_kept (passing (held_settings c.args.input.settings) site) c.args.input.settings.max_depth c.args.depth c.args.input.bytes.now c.args.at c.args.entered raw c.in-Some-Member.name.end stands.names _ told stays,
-    )
+    _ told passes c.in-Some-passed_null.end c.in-Some-passed_null.ensures.found
 
 pub returns-then-not-is_type_name-clause-ok : goal.returns-then-not-is_type_name-clause-ok
 returns-then-not-is_type_name-clause-ok c =
@@ -54,7 +39,10 @@ returns-then-not-is_type_name-clause-ok c =
       | then-not-is_type_name-via-else-not-is_type_name+then-not-passes_marks w ↦ λ passes is.
           let clash : true ≡ false = sym passes ∙ sym w.passes_marks.ensures ∙ w.if-not-passes_marks.true in cc
     ] in
-    (c.in-Some-Member.name.raw.now, told, stands.names, other, λ e lies passes. c.in_default-null_end.ensures.none e lies)
+    let site = site_of c.args.schema.now in
+    let stays = null_kept marks c.args.input.settings.max_depth c.args.depth c.args.input.bytes.now c.args.at c.args.entered c.in-Some-Member.name.raw.now c.in-Some-Member.name.end stands.names _ told
+    (λ e lies passes. c.in_default-passed_null.ensures.none e lies (ap (passes_null (held_settings c.args.input.settings) site) c.as_str.ensures.value ∙ passes)) in
+    (c.in-Some-Member.name.raw.now, told, stands.names, other, stays)
 
 pub returns-clause-ok : goal.returns-clause-ok
 returns-clause-ok c =
@@ -70,7 +58,7 @@ returns-in_err-end-clause-refused c =
     let stands = rw c.in-Some-Member.field-0-is at c.in-Some-Member.ensures in
     let is = c.in_ok-text.ensures.text ∙ ap (option_map cow_str_bytes) c.in-Some.is ∙ ap Some (sym c.as_str-2.ensures.value ∙ c.is_type_name.ensures.0 c.if-not-is_type_name.false) in
     mark_stays (passing (held_settings c.args.input.settings) (site_of c.args.schema.now)) c.args.input.settings.max_depth c.args.depth c.args.input.bytes.now c.args.at c.args.entered c.in-Some-Member.name.raw.now c.in-Some-Member.name.end stands.names
-    (sym c.passes_marks.ensures ∙ c.if-not-passes_marks.false) is (λ e lies passes. c.in_default-null_end.ensures.none e lies) (NoSkipWithin c.args.input.settings.max_depth c.args.depth c.args.input.bytes.now) c.in_err-end.ensures.refused)
+    (sym c.passes_marks.ensures ∙ c.if-not-passes_marks.false) is (NoSkipWithin c.args.input.settings.max_depth c.args.depth c.args.input.bytes.now) c.in_err-end.ensures.refused)
 
 pub returns-in_err-end-clause-none_without_limits : goal.returns-in_err-end-clause-none_without_limits
 returns-in_err-end-clause-none_without_limits c =
@@ -79,7 +67,7 @@ returns-in_err-end-clause-none_without_limits c =
     let stands = rw c.in-Some-Member.field-0-is at c.in-Some-Member.ensures in
     let is = c.in_ok-text.ensures.text ∙ ap (option_map cow_str_bytes) c.in-Some.is ∙ ap Some (sym c.as_str-2.ensures.value ∙ c.is_type_name.ensures.0 c.if-not-is_type_name.false) in
     mark_stays (passing (held_settings c.args.input.settings) (site_of c.args.schema.now)) c.args.input.settings.max_depth c.args.depth c.args.input.bytes.now c.args.at c.args.entered c.in-Some-Member.name.raw.now c.in-Some-Member.name.end stands.names
-    (sym c.passes_marks.ensures ∙ c.if-not-passes_marks.false) is (λ e lies passes. c.in_default-null_end.ensures.none e lies) (NoSkip c.args.depth c.args.input.bytes.now) (c.in_err-end.ensures.none_without_limits (ap Err (unskipped_mark c.in_err-end.field-0.0 (error_of _ NoEntry invalid)))))
+    (sym c.passes_marks.ensures ∙ c.if-not-passes_marks.false) is (NoSkip c.args.depth c.args.input.bytes.now) (c.in_err-end.ensures.none_without_limits (ap Err (unskipped_mark c.in_err-end.field-0.0 (error_of _ NoEntry invalid)))))
 
 pub returns-in_err-end-clause-deep : goal.returns-in_err-end-clause-deep
 returns-in_err-end-clause-deep c =
@@ -113,8 +101,8 @@ next_in_object-requires c = grind (arith, common_steps)
 pub text_of-requires-text-raw : goal.text_of-requires-text-raw
 text_of-requires-text-raw c κs = grind (arith, common_steps)
 
-pub null_end-requires : goal.null_end-requires
-null_end-requires c = grind (arith, common_steps)
+pub passed_null-requires : goal.passed_null-requires
+passed_null-requires c = grind (arith, common_steps)
 
 pub skipped_end-requires-clause-within : goal.skipped_end-requires-clause-within
 skipped_end-requires-clause-within c = grind (arith, common_steps)

@@ -2,6 +2,7 @@ use Rattle.std.proofs.Common.{Err, ap, arith}
 use Rattle.std.proofs.lemmas.Result.{err_from_is_err_and}
 use Rattle.smithy_json_codec.specs.declared.members.EntryFault.TheVariants.{NoEntry, TooDeep}
 use Rattle.smithy_json_codec.specs.Deepest.{OpensTooDeep}
+use Rattle.smithy_json_codec.specs.LexicalGrammar.{rfc_8259}
 use Rattle.smithy_shapes.specs.Site.{site_of}
 use Rattle.smithy_json_codec.specs.Codec.{held_settings}
 use Rattle.smithy_json_codec.specs.Private.MemberSteps.{passing}
@@ -62,4 +63,4 @@ returns-in_err-end-clause-too_deep c =
     rw (p.1, p.2) (λ deep.
     let passes = c.loop-end.invariant.passes in
     too_deep_from (passing (held_settings c.args.input.settings) (site_of c.args.schema.now)) c.args.input.settings.max_depth c.args.depth c.args.input.bytes.now c.args.at c.args.entered passes.0 c.loop-end.at c.loop-end.entered passes.1
-    (OpensTooDeep c.args.input.settings.max_depth c.args.depth c.args.input.bytes.now) (c.in_err-end.ensures.too_deep (ap Err (error_of c.in_err-end.field-0.0 TooDeep deep))))
+    (OpensTooDeep rfc_8259 c.args.input.settings.max_depth c.args.depth c.args.input.bytes.now) (c.in_err-end.ensures.too_deep (ap Err (error_of c.in_err-end.field-0.0 TooDeep deep))))

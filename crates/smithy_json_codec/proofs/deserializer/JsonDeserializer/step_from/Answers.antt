@@ -1,4 +1,4 @@
-use Rattle.std.proofs.Common.{◌≡◌, Err, false, true, arith, sym, ap, ◌∙◌, refl, rules}
+use Rattle.std.proofs.Common.{◌≡◌, ◌≤◌, Err, false, true, arith, sym, ap, ◌∙◌, refl, rules}
 use Rattle.std.proofs.lemmas.Grind.{common_steps}
 use Rattle.smithy_schema.specs.declared.error.SerdeError.TheVariants.{TooDeep}
 use Rattle.smithy_schema.specs.declared.read.Step.{Step}
@@ -8,7 +8,7 @@ use Rattle.smithy_json_codec.specs.Cursor.{cursor_of, reading_settings_of}
 use Rattle.smithy_json_codec.specs.Settings.{without_limits}
 use Rattle.smithy_json_codec.specs.Private.MemberSteps.{StepsTo, passing}
 use Rattle.smithy_json_codec.specs.Private.PassedEntries.{NoSkip, NoSkipWithin, entry_refusal}
-use Rattle.smithy_json_codec.proofs.DeserializerLemmas.{error_of, goes_ahead, refusal_conducts, entry_reads, entry_narrow, entry_refused, entry_invalid, entry_deep}
+use Rattle.smithy_json_codec.proofs.DeserializerLemmas.{shallow_kept, error_of, goes_ahead, refusal_conducts, entry_reads, entry_narrow, entry_refused, entry_invalid, entry_deep}
 use Rattle.smithy_json_codec.proofs.PassedEntryLemmas.{value_place, end_place}
 use Rattle.smithy_json_codec.proofs.MemberStepLemmas.{mark_is_unnamed, null_is_unkept, skips_within, skips_lifted, unskipped_within, unskipped_lifted, steps_to, leaves_at, bracket_closes, cannot_step}
 use Rattle.smithy_wire.specs.Walking.{cursor_of as walk_cursor, gone_on_to}
@@ -65,11 +65,12 @@ returns-in-Err-clause-refused c = λ fault.
     let o = reading_settings_of c.args.self.now in
     let old = cursor_of c.args.self.now in
     let held = c.args.self.now.settings.max_depth in
+    let shallow : c.depth.result ≤ held = grind (arith, common_steps) in
     let nothing = rw (c.input.ensures, c.depth.ensures) at (c.in-Err.ensures.refused (entry_refused c.in-Err.fault (rw (c.refuse.ensures.error ∙ c.refusal.ensures) at fault))) in
     cannot_step o old (walk_cursor c.refuse.new.self) c.args.at (site_of c.args.schema.now) c.requires.place (passing (reading_settings_of c.args.self.now) (site_of c.args.schema.now)) (mark_is_unnamed (reading_settings_of c.args.self.now) (kind_at (site_of c.args.schema.now)) c.requires.place)
     (null_is_unkept (reading_settings_of c.args.self.now) (site_of c.args.schema.now) c.requires.place)
     held (skips_within o old.input (depth old) held refl refl)
-    (NoSkipWithin held (depth old) old.input) (unskipped_within o old.input (depth old) held refl refl) nothing
+    (shallow_kept o (depth old) refl (rw c.depth.ensures at shallow)) (NoSkipWithin held (depth old) old.input) (unskipped_within o old.input (depth old) held refl refl) nothing
     (λ structure ended. elim c.else-ends_empty.branch [
       | else-ends_empty-via-then-ends_empty+else-is_structure w ↦ let clash : true ≡ false = sym (w.is_structure.ensures.1 structure) ∙ w.if-is_structure.false in cc
       | else-ends_empty-via-else-ends_empty w ↦ let clash : true ≡ false = sym (c.ends_empty.ensures.1 ended) ∙ w.if-ends_empty.false in cc
@@ -84,7 +85,7 @@ returns-in-Err-clause-none_without_limits c = λ invalid.
     cannot_step (without_limits o) old (walk_cursor c.refuse.new.self) c.args.at (site_of c.args.schema.now) c.requires.place (passing (reading_settings_of c.args.self.now) (site_of c.args.schema.now)) (mark_is_unnamed (reading_settings_of c.args.self.now) (kind_at (site_of c.args.schema.now)) c.requires.place)
     (null_is_unkept (reading_settings_of c.args.self.now) (site_of c.args.schema.now) c.requires.place)
     held (skips_lifted o old.input (depth old) held)
-    (NoSkip (depth old) old.input) (unskipped_lifted o old.input (depth old)) nothing
+    refl (NoSkip (depth old) old.input) (unskipped_lifted o old.input (depth old)) nothing
     (λ structure ended. elim c.else-ends_empty.branch [
       | else-ends_empty-via-then-ends_empty+else-is_structure w ↦ let clash : true ≡ false = sym (w.is_structure.ensures.1 structure) ∙ w.if-is_structure.false in cc
       | else-ends_empty-via-else-ends_empty w ↦ let clash : true ≡ false = sym (c.ends_empty.ensures.1 ended) ∙ w.if-ends_empty.false in cc

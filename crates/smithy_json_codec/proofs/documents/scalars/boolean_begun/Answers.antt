@@ -1,8 +1,11 @@
+use Rattle.smithy_json_codec.specs.LexicalGrammar.{rfc_8259, is_skipped_in}
+use Rattle.smithy_json_codec.specs.Scalar.{a_boolean}
 use Rattle.smithy_json_codec.proofs.DocumentScalars.{no_value_no_document}
-use Rattle.smithy_json_codec.proofs.ScalarLemmas.{no_boolean}
+use Rattle.smithy_json_codec.proofs.ScalarLemmas.{no_boolean, leaf_tree}
 use Rattle.smithy_json_codec.proofs.documents.scalars.boolean_begun.Goals as goal
 
 pub returns-in-None : goal.returns-in-None
 returns-in-None c =
     no_value_no_document c.args.input.now c.args.at
-    (no_boolean c.args.input.now c.args.at c.args.first c.args.at c.requires.first c.requires.letter c.in-None.ensures.none)
+    (no_boolean rfc_8259 (is_skipped_in rfc_8259) c.args.input.now c.args.at c.args.first c.args.at c.requires.first c.requires.letter
+    (λ b e h. c.in-None.ensures.none b e (leaf_tree c.args.input.now c.args.at e (a_boolean b) h)))

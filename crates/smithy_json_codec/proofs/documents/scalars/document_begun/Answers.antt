@@ -1,12 +1,13 @@
 use Rattle.std.proofs.Common.{◌+◌, subst}
+use Rattle.smithy_json_codec.specs.LexicalGrammar.{rfc_8259, is_skipped_in}
 use Rattle.smithy_json_codec.specs.Standing.{Lies, IsByte}
 use Rattle.smithy_json_codec.proofs.DocumentScalars.{no_value_no_document, begins_before}
 use Rattle.smithy_json_codec.proofs.FirstBytePlaces.{first_lies}
-use Rattle.smithy_json_codec.proofs.ValueFirstByte.{nothing_lies}
+use Rattle.smithy_json_codec.proofs.NodeFirstBytes.{nothing_lies}
 use Rattle.smithy_json_codec.proofs.documents.scalars.document_begun.Goals as goal
 
 pub returns-in_default : goal.returns-in_default
-returns-in_default c = no_value_no_document c.args.input.now c.args.at (nothing_lies c.args.input.now c.args.at c.in_default.ensures.none)
+returns-in_default c = no_value_no_document c.args.input.now c.args.at (nothing_lies rfc_8259 (is_skipped_in rfc_8259) c.args.input.now c.args.at c.in_default.ensures.none)
 
 pub returns-then-first-eq91 : goal.returns-then-first-eq91
 returns-then-first-eq91 c =

@@ -1,9 +1,11 @@
 use Rattle.std.proofs.Common.{refl}
+use Rattle.smithy_json_codec.specs.LexicalGrammar.{rfc_8259, is_skipped_in}
 use Rattle.smithy_json_codec.proofs.DocumentScalars.{no_value_no_document}
-use Rattle.smithy_json_codec.proofs.ScalarLemmas.{no_null}
+use Rattle.smithy_json_codec.proofs.ScalarLemmas.{no_null, null_tree}
 use Rattle.smithy_json_codec.proofs.documents.scalars.null_begun.Goals as goal
 
 pub returns-in-None : goal.returns-in-None
 returns-in-None c =
     no_value_no_document c.args.input.now c.args.at
-    (no_null c.args.input.now c.args.at 0x6e c.args.at c.requires refl c.in-None.ensures.none)
+    (no_null rfc_8259 (is_skipped_in rfc_8259) c.args.input.now c.args.at 0x6e c.args.at c.requires refl
+    (λ e h. c.in-None.ensures.none e (null_tree c.args.input.now c.args.at e h)))

@@ -1,8 +1,10 @@
 use Rattle.std.proofs.Common.{subst, sym}
+use Rattle.smithy_json_codec.specs.LexicalGrammar.{rfc_8259, is_skipped_in}
+use Rattle.smithy_json_codec.specs.Scalar.{a_number}
 use Rattle.smithy_json_codec.specs.Private.OpenDocuments.{ScalarMeans}
 use Rattle.smithy_json_codec.proofs.DocumentScalars.{number_means, no_value_no_document}
 use Rattle.smithy_json_codec.proofs.DocumentVariants.{view-Number}
-use Rattle.smithy_json_codec.proofs.ScalarLemmas.{only_number}
+use Rattle.smithy_json_codec.proofs.ScalarLemmas.{only_number, leaf_tree}
 use Rattle.smithy_json_codec.proofs.documents.scalars.number_begun.Goals as goal
 
 pub returns-in-Value : goal.returns-in-Value
@@ -13,5 +15,5 @@ returns-in-Value c =
 pub returns-in-Nothing : goal.returns-in-Nothing
 returns-in-Nothing c =
     no_value_no_document c.args.input.now c.args.at
-    (only_number c.args.input.now c.args.at c.args.first c.args.at c.requires.first c.requires.no_string c.requires.no_null c.requires.no_true c.requires.no_false
-    c.requires.no_array c.requires.no_object c.in-Nothing.ensures)
+    (only_number rfc_8259 (is_skipped_in rfc_8259) c.args.input.now c.args.at c.args.first c.args.at c.requires.first c.requires.no_string c.requires.no_null c.requires.no_true
+    c.requires.no_false c.requires.no_array c.requires.no_object (λ raw e h. c.in-Nothing.ensures raw e (leaf_tree c.args.input.now c.args.at e (a_number raw) h)))
