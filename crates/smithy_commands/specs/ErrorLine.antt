@@ -1,5 +1,5 @@
 -- The line that a run writes to standard error.
-use Rattle.std.specs.Prelude.{◌≡◌, ◌⊎◌, ◌++◌, ℕ, List, [], Bool, Option, Some, None, false, codes, decimal}
+use Rattle.std.specs.Prelude.{◌++◌, ℕ, List, [], Option, Some, None, codes, decimal}
 use Rattle.std.specs.Option.{option_map_or}
 use Rattle.smithy_shapes.specs.Acceptance.{Fault, bad_line, float_shape, unknown_target, unknown_time_format, duplicate_shape, name_clash, query_name, key_value_name, sparse_document, too_many}
 use Rattle.smithy_shapes.specs.declared.fault.TableFault.{TableFault}
@@ -7,7 +7,6 @@ use Rattle.smithy_shapes.specs.declared.fault.TableFault.TheVariants as table_fa
 use Rattle.smithy_commands.specs.declared.status.Status.{Status}
 use Rattle.smithy_transcode.specs.declared.wire.Unfit.TheVariants.{Document, Null, Instant}
 use Rattle.smithy_commands.specs.declared.status.Status.TheVariants.{Done, Usage, ReadFailed, WriteFailed, OutOfMemory, InvalidInput, TooDeep, TooWide, NotCarried, Inexpressible, TableRefused, NoSuchShape, NotAStructure, TooLong}
-use Rattle.smithy_outside.specs.Outside.{Shown, MetOneFault, MetNoFault, Took, TookPrefix}
 
 -- the name of a fault
 abbrev pub fault_name : Fault → List ℕ
@@ -63,10 +62,3 @@ text_of TooLong = codes "too long"
 -- the line of a status other than 0
 abbrev pub line_of : Status → List ℕ
 line_of status = codes "smithy_transcode: " ++ text_of status ++ codes "\n"
-
--- A sink met no fault that shows, took the line and holds nothing back; or it met one fault, and took a
--- prefix.
-abbrev pub TookLine : List ℕ → (old new : Shown) → (new_holds_back : Bool) → Type 0
-TookLine line old new new_holds_back =
-    (MetNoFault old new × Took line old new × (new_holds_back ≡ false))
-    ⊎ (MetOneFault old new × TookPrefix line old new)

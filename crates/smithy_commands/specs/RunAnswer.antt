@@ -7,8 +7,8 @@ use Rattle.smithy_commands.specs.Task.{task_of}
 use Rattle.smithy_commands.specs.TranscodeAnswer.{TranscodeAnswer}
 use Rattle.smithy_commands.specs.GenAnswer.{GenAnswer}
 use Rattle.smithy_commands.specs.Status.{status_code}
-use Rattle.smithy_commands.specs.ErrorLine.{line_of, TookLine}
-use Rattle.smithy_outside.specs.Outside.{Outside, OnlyErrMoved}
+use Rattle.smithy_commands.specs.ErrorLine.{line_of}
+use Rattle.smithy_outside.specs.Outside.{Outside, OnlyErrMoved, TookLine}
 
 -- what a status says where the words are this command
 abbrev pub CommandAnswer : Command → Outside → Outside → Status → Type 0

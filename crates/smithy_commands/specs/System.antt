@@ -1,21 +1,14 @@
 -- How the process ends, by its arguments.
-use Rattle.std.specs.Prelude.{◌≡◌, ◌≢◌, ◌⊎◌, ℕ, List, drop, map, string_bytes, String, false}
-use Rattle.std.specs.declared.alloc.Global.{Global}
+use Rattle.std.specs.Prelude.{◌≡◌, ◌≢◌, ◌⊎◌, ℕ, List, false}
 use Rattle.std.specs.declared.io.ErrorKind.{ErrorKind}
 use Rattle.std.specs.declared.io.ErrorKind.TheVariants as kinds
-use Rattle.std.specs.declared.vec.IntoIter.{IntoIter}
-use Rattle.std.specs.Vec.Iter.{into_iter_items}
-use Rattle.smithy_outside.specs.Outside.{Outside, OnlyErrMoved, outside}
+use Rattle.smithy_outside.specs.Outside.{Outside, OnlyErrMoved, outside, TookLine}
 use Rattle.smithy_outside.specs.Os.{only_counts}
 use Rattle.smithy_commands.specs.declared.status.Status.{Status}
 use Rattle.smithy_commands.specs.declared.status.Status.TheVariants.{Usage, OutOfMemory}
-use Rattle.smithy_commands.specs.ErrorLine.{line_of, TookLine}
+use Rattle.smithy_commands.specs.ErrorLine.{line_of}
 use Rattle.smithy_commands.specs.Status.{status_code}
 use Rattle.smithy_commands.specs.RunAnswer.{RunAnswer}
-
--- the words of the program: all arguments but the first, which is its own name
-abbrev pub words_of : IntoIter (String Global) Global → List (List ℕ)
-words_of arguments = map string_bytes (drop 1 (into_iter_items arguments))
 
 -- the real files and streams before a run: none of them met a fault
 abbrev pub at_start : Outside

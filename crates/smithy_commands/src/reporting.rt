@@ -1,8 +1,8 @@
 //! The line on standard error that says how a run ended. Writing it takes no memory.
 ghost use Rattle.std.specs.Prelude.{◌≡◌, ◌≢◌, ◌++◌, false, [], codes, decimal, OnOk};
 ghost use Rattle.std.specs.Option.{option_map_or};
-ghost use Rattle.smithy_outside.specs.Outside.{IsWritten};
-ghost use Rattle.smithy_commands.specs.ErrorLine.{refusal_of, refusal_text, text_of, line_of, TookLine};
+ghost use Rattle.smithy_outside.specs.Outside.{IsWritten, TookLine};
+ghost use Rattle.smithy_commands.specs.ErrorLine.{refusal_of, refusal_text, text_of, line_of};
 
 use crate::status::Status;
 use itoa::Buffer;

@@ -2,7 +2,8 @@
 ghost use Rattle.std.specs.Prelude.{IfErr, IfOk};
 ghost use Rattle.std.specs.IoError.{error_kind};
 ghost use Rattle.std.specs.Process.{exit_status};
-ghost use Rattle.smithy_commands.specs.System.{words_of, EndsAsRun, EndsUnread};
+ghost use Rattle.smithy_commands.specs.System.{EndsAsRun, EndsUnread};
+ghost use Rattle.smithy_outside.specs.Os.{words_of};
 
 use crate::arguments::read_words;
 use crate::reporting::report;

@@ -121,3 +121,9 @@ TookPrefix bytes old new = (front : List ℕ) × Begins front bytes × Took fron
 abbrev pub IsWritten : {T E : Type 0} → List ℕ → Result T E → Shown → Shown → Type 0
 IsWritten bytes (Ok x) old new = MetNoFault old new × Took bytes old new
 IsWritten bytes (Err e) old new = MetOneFault old new × TookPrefix bytes old new
+
+-- A sink met no fault that shows, took the line and holds nothing back; or it met one fault, and took a prefix.
+abbrev pub TookLine : List ℕ → (old new : Shown) → (new_holds_back : Bool) → Type 0
+TookLine line old new new_holds_back =
+    (MetNoFault old new × Took line old new × (new_holds_back ≡ false))
+    ⊎ (MetOneFault old new × TookPrefix line old new)

@@ -4,14 +4,16 @@
 //! `MemoryFiles`, `MemorySource` and `MemorySink` tell it, and fail at the calls that they are made to fail at;
 //! `SteadySource` and `SteadySink` never fail, and tell it.
 //! `OsFiles`, `OsSource` and `OsSink`, over a runtime, a reader and a writer, tell their counts alone.
-//! `read_to_end` and `write_all` move whole streams.
+//! `read_to_end` and `write_all` move whole streams. `words_behind_name` takes the words of a program from its arguments.
 #![tactic(auto)]
 
+mod arguments;
 mod memory;
 mod os;
 mod outside;
 mod streams;
 
+pub use arguments::words_behind_name;
 pub use memory::{MemoryFiles, MemorySink, MemorySource, SteadySink, SteadySource};
 pub use os::{OsFiles, OsSink, OsSource};
 pub use outside::{Failed, Files, LoadFault, Sink, Source};

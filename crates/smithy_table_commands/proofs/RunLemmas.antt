@@ -8,12 +8,12 @@ use Rattle.smithy_model.specs.Model.{Model}
 use Rattle.smithy_model.specs.Reading.{IsModelText}
 use Rattle.smithy_model.specs.Faults.{RefusesText}
 use Rattle.smithy_model_table.specs.Wanted.{Wanted, LacksName}
-use Rattle.smithy_outside.specs.Outside.{Shown}
+use Rattle.smithy_outside.specs.Outside.{Shown, TookLine}
 use Rattle.smithy_table_commands.specs.declared.status.Status as kept
 use Rattle.smithy_table_commands.specs.declared.status.Status.TheVariants as statuses
 use Rattle.smithy_table_commands.specs.Command.{Task, command_of}
 use Rattle.smithy_table_commands.specs.Status.{status_code, line_of, last_line, status_of_model_fault, status_of_wanted_fault}
-use Rattle.smithy_table_commands.specs.RunAnswer.{FailsToLoad, Refuses, TookLine, TaskAnswer, RunAnswer}
+use Rattle.smithy_table_commands.specs.RunAnswer.{FailsToLoad, Refuses, TaskAnswer, RunAnswer}
 
 -- the text is no model
 pub model_refused : (text : List ℕ) (w : Wanted) (fault : ModelFault) → RefusesText text fault → Refuses text w (status_of_model_fault fault)

@@ -9,7 +9,7 @@ use Rattle.smithy_model_table.specs.Leaving.{Reason, outside}
 use Rattle.smithy_model_table.specs.Outcomes.{LeftOut as Left}
 use Rattle.smithy_model_table.specs.Wanted.{Wanted, LacksName}
 use Rattle.smithy_model_table.specs.ModelTable.{IsTableOf}
-use Rattle.smithy_outside.specs.Outside.{Shown, missing, MetOneFault, MetNoFault, IsWhole, IsLonger, Took, TookPrefix}
+use Rattle.smithy_outside.specs.Outside.{Shown, missing, MetOneFault, MetNoFault, IsWhole, IsLonger, Took, TookPrefix, TookLine}
 use Rattle.smithy_table_commands.specs.declared.status.Status.{Status}
 use Rattle.smithy_table_commands.specs.declared.status.Status.TheVariants.{Done, Usage, ReadFailed, WriteFailed, OutOfMemory, TableRefused, NoSuchName, NoDeclaration, TooLong, NotJson, NotAModel, BadShape, UnknownTarget, BadMixin, Applied, Unwritable, LeftOut, NameTwice}
 use Rattle.smithy_table_commands.specs.Command.{Task, command_of}
@@ -80,11 +80,6 @@ HandsOut table left is_partial old new holds_back WriteFailed =
     (is_forbidden left is_partial ≡ false) × MetOneFault old new × TookPrefix table old new
 HandsOut table left is_partial old new holds_back LeftOut = (is_forbidden left is_partial ≡ true) × (new ≡ old)
 HandsOut table left is_partial old new holds_back _ = ⊥
-
--- A sink met no fault that shows, took the line and holds nothing back; or it met one fault, and took a front of it.
-abbrev pub TookLine : List ℕ → (old new : Shown) → (new_holds_back : Bool) → Type 0
-TookLine line old new new_holds_back =
-    (MetNoFault old new × Took line old new × (new_holds_back ≡ false)) ⊎ (MetOneFault old new × TookPrefix line old new)
 
 -- What a status says of the text of a model: it has no table, the output stays, and standard error took the last line; or it has this
 -- table, and standard error took a line for each member that the table leaves out, and the last line.

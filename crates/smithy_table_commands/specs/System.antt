@@ -1,20 +1,13 @@
 -- How the process ends, by its arguments.
-use Rattle.std.specs.Prelude.{◌≡◌, ◌≢◌, ◌⊎◌, ℕ, List, Bool, drop, map, string_bytes, String}
-use Rattle.std.specs.declared.alloc.Global.{Global}
+use Rattle.std.specs.Prelude.{◌≡◌, ◌≢◌, ◌⊎◌, ℕ, List, Bool}
 use Rattle.std.specs.declared.io.ErrorKind.{ErrorKind}
 use Rattle.std.specs.declared.io.ErrorKind.TheVariants as kinds
-use Rattle.std.specs.declared.vec.IntoIter.{IntoIter}
-use Rattle.std.specs.Vec.Iter.{into_iter_items}
-use Rattle.smithy_outside.specs.Outside.{Shown}
+use Rattle.smithy_outside.specs.Outside.{Shown, TookLine}
 use Rattle.smithy_outside.specs.Os.{only_counts}
 use Rattle.smithy_table_commands.specs.declared.status.Status.{Status}
 use Rattle.smithy_table_commands.specs.declared.status.Status.TheVariants.{Usage, OutOfMemory}
 use Rattle.smithy_table_commands.specs.Status.{status_code, line_of}
-use Rattle.smithy_table_commands.specs.RunAnswer.{TookLine, RunAnswer}
-
--- the words of the program: all arguments but the first, which is its own name
-abbrev pub words_of : IntoIter (String Global) Global → List (List ℕ)
-words_of arguments = map string_bytes (drop 1 (into_iter_items arguments))
+use Rattle.smithy_table_commands.specs.RunAnswer.{RunAnswer}
 
 -- what the real files and streams tell before a run: none of them met a fault
 abbrev pub at_start : Shown

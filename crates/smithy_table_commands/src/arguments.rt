@@ -1,11 +1,12 @@
 //! The arguments of the process.
-ghost use Rattle.std.specs.Prelude.{◌≡◌, drop, map, string_bytes, IfErr, IfOk, MatchResult};
+ghost use Rattle.std.specs.Prelude.{◌≡◌, map, string_bytes, IfErr, IfOk, MatchResult};
 ghost use Rattle.std.specs.IoError.{error_kind};
-ghost use Rattle.std.specs.Vec.Iter.{into_iter_items};
-ghost use Rattle.smithy_table_commands.specs.System.{words_of, IsUnread};
+ghost use Rattle.smithy_table_commands.specs.System.{IsUnread};
+ghost use Rattle.smithy_outside.specs.Os.{words_of};
 
 use crate::status::Status;
-use std::alloc::{AllocError, Global};
+use smithy_outside::words_behind_name;
+use std::alloc::Global;
 use std::env::Args;
 use std::io;
 use std::io::{Error, ErrorKind};
@@ -20,13 +21,6 @@ fn unread(error: &Error) -> Status<'static>
     }
 }
 
-// The arguments without the first.
-fn without_name(alloc: Global, arguments: Args) -> Result<Vec<String>, AllocError>
-    ensures { IfOk result (λ words. words.items ≡ drop 1 (into_iter_items arguments)) }
-{
-    arguments.skip(1).collect(alloc)
-}
-
 /// All arguments but the program's own name, or the status that the program ends with: where the arguments
 /// weren't read, as one of them is no text or memory is wanting, and where memory for the words is wanting.
 pub(crate) fn read_words(
@@ -37,7 +31,7 @@ pub(crate) fn read_words(
     ensures unread { IfErr arguments (λ error. MatchResult result (λ _. ⊥) (IsUnread (error_kind error))) }
 {
     match arguments {
-        Ok(arguments) => match without_name(alloc, arguments) {
+        Ok(arguments) => match words_behind_name(alloc, arguments) {
             Ok(words) => Ok(words),
             Err(_) => Err(Status::OutOfMemory),
         },

@@ -1,9 +1,9 @@
 //! The lines on standard error for the members that a table leaves out.
 ghost use Rattle.std.specs.Prelude.{◌≡◌, false, map, flat_map, OnOk};
-ghost use Rattle.smithy_outside.specs.Outside.{IsWritten};
+ghost use Rattle.smithy_outside.specs.Outside.{IsWritten, TookLine};
 ghost use Rattle.smithy_model_table.specs.Views.{reason_view, left_view};
 ghost use Rattle.smithy_table_commands.specs.Status.{reason_text, left_line, said};
-ghost use Rattle.smithy_table_commands.specs.RunAnswer.{TookLine, is_lost, loses_data, is_forbidden};
+ghost use Rattle.smithy_table_commands.specs.RunAnswer.{is_lost, loses_data, is_forbidden};
 
 use crate::reporting::{write_last, write_two};
 use crate::status::Status;

@@ -1,7 +1,6 @@
 //! The line on standard error that says how a run ended. Writing it takes no memory.
 ghost use Rattle.std.specs.Prelude.{◌≡◌, ◌≢◌, ◌++◌, false, codes, OnOk};
-ghost use Rattle.smithy_outside.specs.Outside.{IsWritten};
-ghost use Rattle.smithy_table_commands.specs.RunAnswer.{TookLine};
+ghost use Rattle.smithy_outside.specs.Outside.{IsWritten, TookLine};
 ghost use Rattle.smithy_table_commands.specs.Status.{refusal_text, fault_text, text_of, line_of, last_line};
 
 use crate::status::Status;

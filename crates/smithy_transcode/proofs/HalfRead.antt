@@ -1,15 +1,16 @@
 -- A container that is half read, of any kind, in both readings: how it goes on, and what its reading answers.
-use Rattle.std.proofs.Common.{◌≡◌, ℕ, List, [], ◌∷◌, Option, Some, true, false, Result, Ok, Err, IfOk, IfErr, IsErrOf, sym, ◌∙◌}
+use Rattle.std.proofs.Common.{◌≡◌, ℕ, List, [], ◌∷◌, Option, Some, true, false, Result, Ok, Err, IfOk, IfErr, IsErrOf, sym, ◌∙◌, ap}
 use Rattle.smithy_shapes.specs.declared.place.Place.{Place}
 use Rattle.smithy_schema.specs.declared.error.SerdeError.{SerdeError}
 use Rattle.smithy_schema.specs.declared.error.SerdeError.TheVariants.{TooDeep, NoMemory}
-use Rattle.smithy_shapes.specs.Table.{Table}
+use Rattle.smithy_shapes.specs.Table.{Table, kind_of, place_in, IsSparse, IsUnion}
 use Rattle.smithy_shapes.specs.Site.{Site}
 use Rattle.smithy_shapes.specs.Value.{Value}
-use Rattle.smithy_schema.specs.Reading.{Cursor, ContainerKind, Relations, Child, depth, IsCounted, Conducts, RefusesNoScalar, Enters, Steps, Leaves, Passes, CannotGoOn, ReachesDepth, IsFault, IsInvalid, IsChild}
+use Rattle.smithy_schema.specs.Reading.{Cursor, ContainerKind, Relations, Child, depth, IsCounted, Conducts, RefusesNoKind, Enters, Steps, Leaves, Passes, CannotGoOn, ReachesDepth, IsFault, IsInvalid, IsChild, named}
 use Rattle.smithy_schema.proofs.CountLemmas.{entry_counted, step_counted}
 use Rattle.smithy_transcode.specs.ReadValue.{ReadsValue}
 use Rattle.smithy_schema.proofs.ReadContainers.{InContainer, child_read, itself, end, stuck}
+use Rattle.smithy_transcode.proofs.ReadTypes.{CameTo, ToChild, one_came, one_deeper, goes_on}
 use Rattle.smithy_transcode.proofs.ReadAnswers.{ObeysLaws, Reached, not_failed, call_fails, tree_made}
 
 -- by the relations w and with the limits lifted, the container at s0 is read up to s
@@ -17,9 +18,13 @@ pub record HalfRead (w u : Relations) (tells_without_limits : Type 0) (max : ℕ
   pub kept : InContainer w w max s0 s t p k worth
   pub lifted : InContainer w u max s0 s t p k worth
   pub reached : Reached w tells_without_limits s0 s
+  pub came : CameTo w s0 s t p
 
 pub had_not : (s : Cursor) → s.failed ≡ false → s.failed ≡ true → ⊥
 had_not s none failed = let both : true ≡ false = sym failed ∙ none in cc
+
+pub not_due : (s : Cursor) → s.due ≡ false → s.due ≡ true → ⊥
+not_due s none due = let both : true ≡ false = sym due ∙ none in cc
 
 module _ (w u : Relations) (tells_without_limits : Type 0) (laws : ObeysLaws w u tells_without_limits) where
   -- a step was taken
@@ -60,7 +65,7 @@ module _ (w u : Relations) (tells_without_limits : Type 0) (max : ℕ) (laws : O
   }
 
   -- a child was read
-  pub child_passed : (s0 s s1 s2 : Cursor) (t : Table) (p : Place) (k : ContainerKind) (worth : List Child → Option Value) (key : Option (List ℕ)) (x : Child)
+  abbrev pub child_passed : (s0 s s1 s2 : Cursor) (t : Table) (p : Place) (k : ContainerKind) (worth : List Child → Option Value) (key : Option (List ℕ)) (x : Child)
       → HalfRead w u tells_without_limits max s0 s t p k worth → Steps w s s1 t p key → IsChild w s1.input t p (depth s1) key x s1.at s2.at → Passes s1 s2
       → (tells_without_limits → IsCounted w s1 → IsCounted w s2)
       → HalfRead w u tells_without_limits max s0 s2 t p k (λ xs. worth (x ∷ xs))
@@ -68,17 +73,34 @@ module _ (w u : Relations) (tells_without_limits : Type 0) (max : ℕ) (laws : O
     kept = child_read w w max laws.kept (itself w) s0 s s1 s2 t p k worth key x half.kept steps child passes;
     lifted = child_read w u max laws.lifted laws.below s0 s s1 s2 t p k worth key x half.lifted steps child passes;
     reached = passed_by w u tells_without_limits laws s0 s1 s2 (stepped_to w u tells_without_limits laws s0 s s1 t p key half.reached steps) passes counted;
+    came = one_came w w max s0 s s1 t p k worth half.kept key steps s2 x half.came child passes;
+  }
+
+  -- behind a step a child is due
+  pub to_child : (s0 s s1 : Cursor) (t v : Table) (p r : Place) (k : ContainerKind) (worth : List Child → Option Value) (key : Option (List ℕ)) (half : HalfRead w u tells_without_limits max s0 s t p k worth) → Steps w s s1 t p key
+      → v ≡ t → place_in (kind_of t p) (named w t p key) ≡ Some r → (IsSparse (kind_of t p) → w.begins_null s1.input s1.at ≡ false) → (IsUnion (kind_of t p) → half.came.any ≡ false)
+      → ToChild w s0 s1 t v p r
+  to_child s0 s s1 t v p r k worth key half steps table place value variant = record {
+    input = steps.input ∙ half.kept.input;
+    table = table;
+    level = one_deeper w w max s0 s s1 t p k worth half.kept key steps;
+    any = half.came.any;
+    key = key;
+    goes = goes_on w w max s0 s s1 t p k worth half.kept key steps half.came;
+    place = place;
+    value = λ sparse. ap (λ i. w.begins_null i s1.at) (sym (steps.input ∙ half.kept.input)) ∙ value sparse;
+    variant = variant;
   }
 
   -- neither another child nor the end comes
   pub goes_no_further : {A B : Type 0} (view : B → Value) (site : Site) (s0 s s1 : Cursor) (k : ContainerKind) (worth : List Child → Option Value) (e : SerdeError)
       → HalfRead w u tells_without_limits max s0 s site.table site.place k worth
-      → Conducts {A = A} s s1 (Err e) → RefusesNoScalar {A = A} (Err e) → (IsErrOf {T = A} {E = SerdeError} (Err e) TooDeep → ReachesDepth w max s) → (IsErrOf {T = A} {E = SerdeError} (Err e) TooDeep → w.limits_skips ≡ true)
+      → Conducts {A = A} s s1 (Err e) → RefusesNoKind {A = A} (Err e) → (IsErrOf {T = A} {E = SerdeError} (Err e) TooDeep → ReachesDepth w max s) → (IsErrOf {T = A} {E = SerdeError} (Err e) TooDeep → w.limits_skips ≡ true)
       → (IsFault e → s.due ≡ false → CannotGoOn w s site.table site.place)
       → (tells_without_limits → IsInvalid {A = A} (Err e) → s.due ≡ false → CannotGoOn u s site.table site.place)
       → ReadsValue {A = B} w u tells_without_limits max s0 s1 site view (Err e)
   goes_no_further {A} {B} view site s0 s s1 k worth e half conduct narrow deep limited refused none_without_limits =
-      call_fails w u tells_without_limits max {A = A} {B = B} view site s0 s s1 e half.reached conduct narrow deep limited
+      call_fails w u tells_without_limits max {A = A} {B = B} view site s0 s s1 e half.reached conduct narrow (λ due. absurd (not_due s half.kept.due due)) deep limited
       (λ fault. stuck w w max s0 s site.table site.place k worth half.kept (refused fault half.kept.due))
       (λ strict invalid. stuck w u max s0 s site.table site.place k worth half.lifted (none_without_limits strict invalid half.kept.due))
 

@@ -13,6 +13,7 @@ mod Maps
 mod NullsHeld
 mod ReadAnswers
 mod ReadViews
+mod ReadTypes
 mod ReadWide
 mod ReadDeep
 mod DepthFacts

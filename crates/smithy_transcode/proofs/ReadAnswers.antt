@@ -4,17 +4,19 @@ use Rattle.smithy_shapes.specs.declared.place.Place.{Place}
 use Rattle.smithy_shapes.specs.declared.shape_type.Scalar.{Scalar}
 use Rattle.smithy_shapes.specs.declared.shape_type.ShapeType.TheVariants as types
 use Rattle.smithy_schema.specs.declared.error.SerdeError.{SerdeError}
-use Rattle.smithy_schema.specs.declared.error.SerdeError.TheVariants.{InvalidInput, TooDeep, TooWide, NotCarried, Failed, NoMemory}
+use Rattle.smithy_schema.specs.declared.error.SerdeError.TheVariants.{InvalidInput, TypeMismatch, TooDeep, TooWide, NotCarried, Failed, NoMemory}
 use Rattle.smithy_shapes.specs.Table.{scalar_type, type_of, IsContainer}
 use Rattle.smithy_shapes.specs.Site.{Site, kind_at}
 use Rattle.smithy_shapes.specs.Value.{ScalarValue, Value, scalar_value, document_value}
 use Rattle.smithy_types.specs.Document.{whole_document}
 use Rattle.smithy_types.specs.DocumentView.{document_view}
 use Rattle.smithy_types.specs.declared.document.Document.{Document}
-use Rattle.smithy_schema.specs.Reading.{Cursor, depth, Relations, IsLawful, IsBelow, CountsOpeners, IsCounted, Conducts, RefusesNoScalar, Reads, ReadsScalar, ReadsDocument, StandsNot, OpensNot, ReachesDepth, IsFault, IsInvalid, failed_at}
+use Rattle.smithy_schema.specs.Reading.{Cursor, depth, Relations, IsLawful, IsBelow, CountsOpeners, IsCounted, Conducts, RefusesNoScalar, RefusesNoKind, TellsType, Reads, ReadsScalar, ReadsDocument, StandsNot, OpensNot, ReachesDepth, IsFault, IsInvalid, failed_at}
 use Rattle.smithy_schema.proofs.CountLemmas.{refusal_counted, value_counted}
 use Rattle.smithy_transcode.specs.ReadValue.{ReadsValue}
-use Rattle.smithy_transcode.proofs.ReadWide.{Lying, StandsInside, error_is, scalar_inside, scalar_read, place_told, document_told, document_inside, document_read}
+use Rattle.smithy_transcode.proofs.ReadWide.{Lying, StandsInside, error_is, scalar_inside, scalar_read, place_told, kind_of_document, document_told, document_inside, document_read}
+use Rattle.smithy_transcode.specs.DuePlaces.{AgreesInside, as_document, at_once}
+use Rattle.smithy_transcode.proofs.ReadTypes.{ToChild, mismatch_above, agrees_above, mismatch_told, agrees_told, stays_mismatching, stays_agreeing}
 use Rattle.smithy_transcode.proofs.ReadDeep.{ends_here, ends_inside}
 
 -- what a wire proves of its relations, and of those with the limits lifted
@@ -55,11 +57,11 @@ not_failed {A} old new x conduct failed = no_error {A = A} x Failed (conduct.fai
 module _ (w u : Relations) (tells_without_limits : Type 0) (max : ℕ) where
   -- a call refuses, inside of what is read
   pub call_fails : {A B : Type 0} (view : B → Value) (site : Site) (s0 s s1 : Cursor) (e : SerdeError) → Reached w tells_without_limits s0 s
-      → Conducts {A = A} s s1 (Err e) → RefusesNoScalar {A = A} (Err e) → (IsErrOf {T = A} {E = SerdeError} (Err e) TooDeep → ReachesDepth w max s) → (IsErrOf {T = A} {E = SerdeError} (Err e) TooDeep → w.limits_skips ≡ true)
+      → Conducts {A = A} s s1 (Err e) → RefusesNoKind {A = A} (Err e) → (s.due ≡ true → AgreesInside w s0 s site.table site.place) → (IsErrOf {T = A} {E = SerdeError} (Err e) TooDeep → ReachesDepth w max s) → (IsErrOf {T = A} {E = SerdeError} (Err e) TooDeep → w.limits_skips ≡ true)
       → (IsFault e → StandsNot w s0 site.table site.place)
       → (tells_without_limits → IsInvalid {A = A} (Err e) → StandsNot u s0 site.table site.place)
       → ReadsValue {A = B} w u tells_without_limits max s0 s1 site view (Err e)
-  call_fails {A} {B} view site s0 s s1 e reached conduct narrow deep limited refused none_without_limits = record {
+  call_fails {A} {B} view site s0 s s1 e reached conduct narrow agrees deep limited refused none_without_limits = record {
     ok = tt;
     refused = refused;
     none_without_limits = none_without_limits;
@@ -67,20 +69,22 @@ module _ (w u : Relations) (tells_without_limits : Type 0) (max : ℕ) where
     reading = conduct.reading;
     deep = λ is. subst (ReachesDepth w max) (sym conduct.stays) (deep (error_as {A = B} {B = A} e TooDeep is));
     nested = λ is. inl (limited (error_as {A = B} {B = A} e TooDeep is));
-    wide = λ is. absurd (narrow.0 (error_as {A = B} {B = A} e TooWide is));
-    uncarried = λ is. absurd (narrow.1 (error_as {A = B} {B = A} e NotCarried is));
+    wide = λ is. absurd (narrow.0.0 (error_as {A = B} {B = A} e TooWide is));
+    uncarried = λ is. absurd (narrow.0.1 (error_as {A = B} {B = A} e NotCarried is));
+    mismatched = λ is. absurd (narrow.1 (error_as {A = B} {B = A} e TypeMismatch is));
+    invalid = λ is. stays_agreeing w s0 s s1 site.table site.place conduct.stays agrees;
     input = ap (λ (c : Cursor). c.input) conduct.stays ∙ reached.input;
     counted = λ strict before. refusal_counted w s s1 conduct.stays (reached.counted strict before);
   }
 
   -- the container can't be entered
   pub open_fails : {A B : Type 0} (view : B → Value) (site : Site) (s0 s1 : Cursor) (e : SerdeError) → IsLawful w → IsLawful u → IsContainer (kind_at site) → s0.due ≡ true
-      → Conducts {A = A} s0 s1 (Err e) → RefusesNoScalar {A = A} (Err e)
+      → Conducts {A = A} s0 s1 (Err e) → RefusesNoScalar {A = A} (Err e) → (s0.due ≡ true → TellsType (w.mismatches s0.input site.table site.place s0.at) e)
       → (IsFault e → s0.due ≡ true → w.allows (depth s0) → OpensNot w s0 site.table site.place)
       → (tells_without_limits → IsInvalid {A = A} (Err e) → s0.due ≡ true → OpensNot u s0 site.table site.place)
       → (IsErrOf {T = A} {E = SerdeError} (Err e) TooDeep → depth s0 ≡ max)
       → ReadsValue {A = B} w u tells_without_limits max s0 s1 site view (Err e)
-  open_fails {A} {B} view site s0 s1 e laws over kind due conduct narrow refused none_without_limits deepest = record {
+  open_fails {A} {B} view site s0 s1 e laws over kind due conduct narrow told refused none_without_limits deepest = record {
     ok = tt;
     refused = λ fault v end stands.
         let found = laws.unfolded s0.input site.table site.place (depth s0) s0.at v end kind stands in
@@ -97,6 +101,8 @@ module _ (w u : Relations) (tells_without_limits : Type 0) (max : ℕ) where
     nested = λ is. ends_here w max s0 s1 site.table site.place (ap depth conduct.stays) (deepest (error_as {A = B} {B = A} e TooDeep is)) kind;
     wide = λ is. absurd (narrow.0 (error_as {A = B} {B = A} e TooWide is));
     uncarried = λ is. absurd (narrow.1 (error_as {A = B} {B = A} e NotCarried is));
+    mismatched = λ is. stays_mismatching w s0 s0 s1 site.table site.place conduct.stays (mismatch_told w s0 site.table site.place e (told due) (error_is {B = B} e TypeMismatch is));
+    invalid = λ is. stays_agreeing w s0 s0 s1 site.table site.place conduct.stays (λ here. agrees_told w s0 site.table site.place e (told here) (error_is {B = B} e InvalidInput is));
     input = ap (λ (c : Cursor). c.input) conduct.stays;
     counted = λ strict before. refusal_counted w s0 s1 conduct.stays before;
   }
@@ -116,15 +122,17 @@ module _ (w u : Relations) (tells_without_limits : Type 0) (max : ℕ) where
         nested = λ is. absurd (not_memory {A = B} TooDeep (λ e. cc) is);
         wide = λ is. absurd (not_memory {A = B} TooWide (λ e. cc) is);
         uncarried = λ is. absurd (not_memory {A = B} NotCarried (λ e. cc) is);
+        mismatched = λ is. absurd (not_memory {A = B} TypeMismatch (λ e. cc) is);
+        invalid = λ is. absurd (not_memory {A = B} InvalidInput (λ e. cc) is);
         input = reached.input;
         counted = reached.counted;
       })
 
   -- the reader is made to fail where it is
-  pub made_to_fail : {B : Type 0} (view : B → Value) (site : Site) (s0 s s1 : Cursor) → Reached w tells_without_limits s0 s → s1 ≡ failed_at s
+  pub made_to_fail : {B : Type 0} (view : B → Value) (site : Site) (s0 s s1 : Cursor) → Reached w tells_without_limits s0 s → s1 ≡ failed_at s → (s.due ≡ true → AgreesInside w s0 s site.table site.place)
       → StandsNot w s0 site.table site.place → StandsNot u s0 site.table site.place
       → ReadsValue {A = B} w u tells_without_limits max s0 s1 site view (Err InvalidInput)
-  made_to_fail {B} view site s0 s s1 reached stays refused none_without_limits = record {
+  made_to_fail {B} view site s0 s s1 reached stays agrees refused none_without_limits = record {
     ok = tt;
     refused = λ fault. refused;
     none_without_limits = λ strict invalid. none_without_limits;
@@ -134,6 +142,8 @@ module _ (w u : Relations) (tells_without_limits : Type 0) (max : ℕ) where
     nested = λ is. absurd (not_invalid {A = B} TooDeep (λ e. cc) is);
     wide = λ is. absurd (not_invalid {A = B} TooWide (λ e. cc) is);
     uncarried = λ is. absurd (not_invalid {A = B} NotCarried (λ e. cc) is);
+    mismatched = λ is. absurd (not_invalid {A = B} TypeMismatch (λ e. cc) is);
+    invalid = λ is. stays_agreeing w s0 s s1 site.table site.place stays agrees;
     input = ap (λ (c : Cursor). c.input) stays ∙ reached.input;
     counted = λ strict before. refusal_counted w s s1 stays (reached.counted strict before);
   }
@@ -144,8 +154,9 @@ module _ (w u : Relations) (tells_without_limits : Type 0) (max : ℕ) where
       → (StandsNot w s1 child.table child.place → StandsNot w s0 site.table site.place)
       → (StandsNot u s1 child.table child.place → StandsNot u s0 site.table site.place)
       → ((lies : Lying) → StandsInside lies s1 s2 child.table child.place → StandsInside lies s0 s2 site.table site.place)
+      → ToChild w s0 s1 site.table child.table site.place child.place
       → ReadsValue {A = B} w u tells_without_limits max s0 s2 site view (Err e)
-  inner_fails {A} {B} inner view child site s0 s1 s2 e reached reads refused none_without_limits inside = record {
+  inner_fails {A} {B} inner view child site s0 s1 s2 e reached reads refused none_without_limits inside to = record {
     ok = tt;
     refused = λ fault. refused (reads.refused fault);
     none_without_limits = λ strict invalid. none_without_limits (reads.none_without_limits strict invalid);
@@ -155,6 +166,8 @@ module _ (w u : Relations) (tells_without_limits : Type 0) (max : ℕ) where
     nested = λ is. ends_inside w max s0 s1 s2 site.table child.table site.place child.place inside (reads.nested (error_as {A = B} {B = A} e TooDeep is));
     wide = λ is. inside w.exceeds (reads.wide (error_as {A = B} {B = A} e TooWide is));
     uncarried = λ is. inside w.uncarried (reads.uncarried (error_as {A = B} {B = A} e NotCarried is));
+    mismatched = λ is. mismatch_above w s0 s1 s2 site.table child.table site.place child.place to (reads.mismatched (error_as {A = B} {B = A} e TypeMismatch is));
+    invalid = λ is due. agrees_above w s0 s1 s2 site.table child.table site.place child.place to (reads.invalid (error_as {A = B} {B = A} e InvalidInput is) due);
     input = reads.input ∙ reached.input;
     counted = λ strict before. reads.counted strict (reached.counted strict before);
   }
@@ -165,6 +178,7 @@ module _ (w u : Relations) (tells_without_limits : Type 0) (max : ℕ) where
       → ReadsValue {A = B} w u tells_without_limits max old new site view (Err e)
   scalar_fails {A} {B} kind value view site old new e is due reads =
       let here = place_told site.table site.place kind is in
+      let told : TellsType (w.mismatches old.input site.table site.place old.at) e = subst (λ (p : Place). TellsType (w.mismatches old.input site.table p old.at) e) (sym here) (reads.told due) in
       record {
         ok = tt;
         refused = λ fault. subst (λ (p : Place). StandsNot w old site.table p) (sym here) (reads.refused fault due);
@@ -175,6 +189,8 @@ module _ (w u : Relations) (tells_without_limits : Type 0) (max : ℕ) where
         nested = λ is. absurd (reads.shallow (error_as {A = B} {B = A} e TooDeep is));
         wide = scalar_inside {A = A} {B = B} w.exceeds old new site kind (Err e) e TooWide refl reads.conduct reads.wide is;
         uncarried = scalar_inside {A = A} {B = B} w.uncarried old new site kind (Err e) e NotCarried refl reads.conduct reads.uncarried is;
+        mismatched = λ is. stays_mismatching w old old new site.table site.place reads.conduct.stays (mismatch_told w old site.table site.place e told (error_is {B = B} e TypeMismatch is));
+        invalid = λ is. stays_agreeing w old old new site.table site.place reads.conduct.stays (λ here. agrees_told w old site.table site.place e told (error_is {B = B} e InvalidInput is));
         input = ap (λ (c : Cursor). c.input) reads.conduct.stays;
         counted = λ strict before. refusal_counted w old new reads.conduct.stays before;
       }
@@ -195,6 +211,8 @@ module _ (w u : Relations) (tells_without_limits : Type 0) (max : ℕ) where
         nested = λ is. inl (reads.limited (error_as {A = B} {B = Document} e TooDeep is));
         wide = λ is. absurd (reads.narrow (error_as {A = B} {B = Document} e TooWide is));
         uncarried = document_inside {A = Document} {B = B} w.uncarried old new site (Err e) e NotCarried refl reads.conduct reads.uncarried is;
+        mismatched = λ is. absurd (reads.no_mismatch (error_as {A = B} {B = Document} e TypeMismatch is));
+        invalid = λ refused. stays_agreeing w old old new site.table site.place reads.conduct.stays (λ here. as_document site.place at_once (kind_of_document (kind_at site) is));
         input = ap (λ (c : Cursor). c.input) reads.conduct.stays;
         counted = λ strict before. refusal_counted w old new reads.conduct.stays before;
       }
@@ -213,6 +231,8 @@ module _ (w u : Relations) (tells_without_limits : Type 0) (max : ℕ) where
     nested = λ is. absurd (no_error {A = B} x TooDeep is);
     wide = λ is. absurd (no_error {A = B} x TooWide is);
     uncarried = λ is. absurd (no_error {A = B} x NotCarried is);
+    mismatched = λ is. absurd (no_error {A = B} x TypeMismatch is);
+    invalid = λ is. absurd (no_error {A = B} x InvalidInput is);
     input = reads.passes.input;
     counted = λ strict. value_counted w (counts strict) old new site.table site.place v reads;
   }

@@ -106,7 +106,7 @@ place_told t p s h = ap (λ (x : Target). record { target = x; time = p.time }) 
 
 -- ---- the place of a document
 
-kind_of_document : (k : Kind) → Some types.Document ≡ type_of k → IsDocument k
+pub kind_of_document : (k : Kind) → Some types.Document ≡ type_of k → IsDocument k
 kind_of_document document h = tt
 kind_of_document (scalar s) h = absurd (let none : None ≡ Some s = ap back h ∙ back_is s in cc)
 kind_of_document (structure_of members) h = cc

@@ -9,6 +9,7 @@ pub mod View
 -- what the refusals of a transcoding tell
 pub mod Refusal
 -- what a read of a value, and a write of one, say of their answers
+pub mod DuePlaces
 pub mod ReadValue
 pub mod ReadBody
 pub mod WriteValue

@@ -1,10 +1,11 @@
 -- What a read of a value says of its answer.
 use Rattle.std.specs.Prelude.{◌≡◌, ◌↔◌, ℕ, true, Result, IfOk, IfErr, IsErrOf}
 use Rattle.smithy_schema.specs.declared.error.SerdeError.{SerdeError}
-use Rattle.smithy_schema.specs.declared.error.SerdeError.TheVariants.{TooDeep, TooWide, NotCarried, Failed}
+use Rattle.smithy_schema.specs.declared.error.SerdeError.TheVariants.{InvalidInput, TypeMismatch, TooDeep, TooWide, NotCarried, Failed}
 use Rattle.smithy_shapes.specs.Site.{Site}
 use Rattle.smithy_shapes.specs.Value.{Value}
 use Rattle.smithy_schema.specs.Reading.{Cursor, Relations, Reads, StandsNot, IsRefused, IsInvalid, IsOfReader, ReachesDepth, EndsTooDeep, ExceedsInside, UncarriedInside, IsCounted}
+use Rattle.smithy_transcode.specs.DuePlaces.{MismatchesInside, AgreesInside}
 
 -- What a read says where a value was due at the site and the tree that was read stands for `view` of it: by the relations w, and
 -- by u, the relations with the limits lifted.
@@ -24,6 +25,10 @@ pub record ReadsValue {A : Type 0} (w u : Relations) (tells_without_limits : Typ
   pub wide : IsErrOf result TooWide → ExceedsInside w old new site.table site.place
   -- `NotCarried`: where it failed stands what the kind that is due there can't carry
   pub uncarried : IsErrOf result NotCarried → UncarriedInside w old new site.table site.place
+  -- `TypeMismatch`: where it failed, a value was due, and what comes there is of another type
+  pub mismatched : IsErrOf result TypeMismatch → MismatchesInside w old new site.table site.place
+  -- `InvalidInput`: where it failed, nothing was due, or what comes there isn't of another type
+  pub invalid : IsErrOf result InvalidInput → new.due ≡ true → AgreesInside w old new site.table site.place
   -- the read keeps the input, whatever it answers
   pub input : new.input ≡ old.input
   pub counted : tells_without_limits → IsCounted w old → IsCounted w new

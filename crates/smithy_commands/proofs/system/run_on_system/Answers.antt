@@ -9,11 +9,11 @@ use Rattle.std.specs.Process.{exit_status}
 use Rattle.smithy_commands.specs.declared.status.Status.{Status}
 use Rattle.smithy_commands.specs.declared.status.Status.TheVariants.{Done, OutOfMemory}
 use Rattle.smithy_commands.specs.Status.{status_code}
-use Rattle.smithy_outside.specs.Outside.{Shown, Outside, outside}
-use Rattle.smithy_commands.specs.ErrorLine.{line_of, TookLine}
+use Rattle.smithy_outside.specs.Outside.{Shown, Outside, outside, TookLine}
+use Rattle.smithy_commands.specs.ErrorLine.{line_of}
 use Rattle.smithy_commands.specs.RunAnswer.{RunAnswer}
-use Rattle.smithy_outside.specs.Os.{only_counts}
-use Rattle.smithy_commands.specs.System.{words_of, IsUnread, EndsWithLine, EndsAsRun, EndsUnread}
+use Rattle.smithy_outside.specs.Os.{only_counts, words_of}
+use Rattle.smithy_commands.specs.System.{IsUnread, EndsWithLine, EndsAsRun, EndsUnread}
 use Rattle.smithy_commands.proofs.system.run_on_system.Goals as goal
 
 -- what `env::args` answers

@@ -2,7 +2,7 @@ use Rattle.std.proofs.Common.{inl, inr, List, map, refl, subst}
 use Rattle.smithy_model_table.specs.declared.left.Left as kept
 use Rattle.smithy_model_table.specs.Views.{left_view, wanted_view}
 use Rattle.smithy_table_commands.specs.Status.{said}
-use Rattle.smithy_table_commands.specs.RunAnswer.{TookLine}
+use Rattle.smithy_outside.specs.Outside.{TookLine}
 use Rattle.smithy_table_commands.proofs.RunLemmas.{refused_before}
 use Rattle.smithy_table_commands.proofs.running.status_of.Goals as goal
 

@@ -20,7 +20,7 @@ read_list-returns-in_err-open_list-clause-reads g t c =
     let told = c.in_err-open_list.ensures in
     let p = err_from_is_err_and c.from_residual.result c.from_residual.ensures.1 in
     rw (p.1, p.2)
-    (open_fails _ _ _ _ g.T.Tree.view (site_of c.args.schema.now) _ _ _ (d.lawful s0) (d.lifted_lawful s0) (list_contains _ c.requires.place) c.requires.due told.conduct told.narrow told.refused told.none_without_limits told.deepest)
+    (open_fails _ _ _ _ g.T.Tree.view (site_of c.args.schema.now) _ _ _ (d.lawful s0) (d.lifted_lawful s0) (list_contains _ c.requires.place) c.requires.due told.conduct told.narrow told.told told.refused told.none_without_limits told.deepest)
 
 -- it was entered
 pub read_list-loop-elements-init : goal.read_list-loop-elements-init
@@ -46,7 +46,7 @@ read_list-returns-in_err-next_element-clause-reads g t c =
     let told = c.in_err-next_element.ensures in
     let p = err_from_is_err_and c.from_residual-in_err-next_element.result c.from_residual-in_err-next_element.ensures.1 in
     rw (p.1, p.2)
-    (goes_no_further _ _ _ _ laws g.T.Tree.view outer _ _ _ _ _ _ half told.conduct told.narrow.0 (λ is. absurd (told.shallow is)) (λ is. absurd (told.shallow is))
+    (goes_no_further _ _ _ _ laws g.T.Tree.view outer _ _ _ _ _ _ half told.conduct told.narrow (λ is. absurd (told.shallow is)) (λ is. absurd (told.shallow is))
     (λ fault due. rw same at (told.refused fault due c.args.schema.now.shapes.now c.args.schema.now.place c.requires.place))
     (λ strict invalid due. rw same at (told.none_without_limits (rw same strict) invalid due c.args.schema.now.shapes.now c.args.schema.now.place c.requires.place)))
 
@@ -65,7 +65,7 @@ read_list-returns-in_err-read_null-clause-reads g t c =
     let told = c.in_err-read_null.ensures in
     let p = err_from_is_err_and c.from_residual-in_err-read_null.result c.from_residual-in_err-read_null.ensures.1 in
     rw (p.1, p.2)
-    (null_fails _ _ _ _ laws g.T.Tree.view outer _ _ _ _ _ _ _ c.requires.place place.1 (c.is_sparse-sparse.ensures.0 c.if-sparse.true) half step (rw (c.next_element.ensures.same, same) at begins) told.conduct told.narrow.0 told.shallow (rw (c.next_element.ensures.same, same) at told.refused) (rw (c.next_element.ensures.same, same) at told.none_without_limits))
+    (null_fails _ _ _ _ laws g.T.Tree.view outer _ _ _ _ _ _ _ c.requires.place place.1 (c.is_sparse-sparse.ensures.0 c.if-sparse.true) half step (rw (c.next_element.ensures.same, same) at begins) told.conduct told.narrow told.shallow (rw (c.next_element.ensures.same, same) at told.refused) (rw (c.next_element.ensures.same, same) at told.none_without_limits))
 
 -- memory ran out for it
 pub read_list-returns-in_err-push_element-clause-reads : goal.read_list-returns-in_err-push_element-clause-reads

@@ -7,7 +7,7 @@ use Rattle.smithy_schema.proofs.ReadContainers.{left_falls, structure_has_member
 use Rattle.smithy_schema.proofs.ReadStructures.{member_child, structure_contains}
 use Rattle.smithy_transcode.proofs.ReadAnswers.{obeyed, open_fails, memory_fails}
 use Rattle.smithy_transcode.proofs.HalfRead.{stepped_to, value_passed, goes_no_further, ends_whole}
-use Rattle.smithy_transcode.proofs.HalfMembers.{member_fails, structure_entered, member_passed, unknown_passed, unknown_fails}
+use Rattle.smithy_transcode.proofs.HalfMembers.{structure_or_union, member_fails, structure_entered, member_passed, unknown_passed, unknown_fails}
 use Rattle.smithy_transcode.proofs.reading.+read.Goals as goal
 
 -- the structure can not be entered
@@ -18,7 +18,7 @@ read_structure-returns-in_err-open_struct-clause-reads g t c =
     let told = c.in_err-open_struct.ensures in
     let p = err_from_is_err_and c.from_residual.result c.from_residual.ensures.1 in
     rw (p.1, p.2)
-    (open_fails _ _ _ _ g.T.Tree.view (site_of c.args.schema.now) _ _ _ (d.lawful s0) (d.lifted_lawful s0) (structure_contains _ c.requires.place) c.requires.due told.conduct told.narrow told.refused told.none_without_limits told.deepest)
+    (open_fails _ _ _ _ g.T.Tree.view (site_of c.args.schema.now) _ _ _ (d.lawful s0) (d.lifted_lawful s0) (structure_contains _ c.requires.place) c.requires.due told.conduct told.narrow told.told told.refused told.none_without_limits told.deepest)
 
 -- it was entered
 pub read_structure-loop-members-init : goal.read_structure-loop-members-init
@@ -44,7 +44,7 @@ read_structure-returns-in_err-member-clause-reads g t c =
     let told = c.in_err-member.ensures in
     let p = err_from_is_err_and c.from_residual-in_err-member.result c.from_residual-in_err-member.ensures.1 in
     rw (p.1, p.2)
-    (goes_no_further _ _ _ _ laws g.T.Tree.view outer _ _ _ _ _ _ half told.conduct told.narrow.0 (rw same at told.deep) (rw same at told.limited) (rw same at told.refused) (rw same at told.none_without_limits))
+    (goes_no_further _ _ _ _ laws g.T.Tree.view outer _ _ _ _ _ _ half told.conduct told.narrow (rw same at told.deep) (rw same at told.limited) (rw same at told.refused) (rw same at told.none_without_limits))
 
 -- the value of a member was refused
 pub read_structure-returns-in_err-value-in-Member-clause-reads : goal.read_structure-returns-in_err-value-in-Member-clause-reads
@@ -58,7 +58,7 @@ read_structure-returns-in_err-value-in-Member-clause-reads g t c =
     let step = rw (c.in-Member.is, same) at (c.in_ok-member.ensures.ok half.kept.due) in
     let p = err_from_is_err_and c.from_residual-in_err-value-in-Member.result c.from_residual-in_err-value-in-Member.ensures.1 in
     rw (p.1, p.2)
-    (member_fails _ _ _ _ laws g.T.Tree.view g.T.Tree.view outer c.in-Member.member _ _ _ _ _ _ (structure_has_members _ c.requires.place) half step (rw (c.next_member.ensures.same, same) at c.in_err-value-in-Member.ensures.reads))
+    (member_fails _ _ _ _ laws g.T.Tree.view g.T.Tree.view outer c.in-Member.member _ _ _ _ _ _ (structure_has_members _ c.requires.place) half (λ variant. absurd (structure_or_union _ c.requires.place variant)) step (rw (c.next_member.ensures.same, same) at c.in_err-value-in-Member.ensures.reads))
 
 -- memory ran out
 pub read_structure-returns-in_err-set_member-in-Member-clause-reads : goal.read_structure-returns-in_err-set_member-in-Member-clause-reads
@@ -104,7 +104,7 @@ read_structure-returns-in_err-skip_value-in-Unknown-clause-reads g t c =
     let told = c.in_err-skip_value-in-Unknown.ensures in
     let p = err_from_is_err_and c.from_residual-in_err-skip_value-in-Unknown.result c.from_residual-in_err-skip_value-in-Unknown.ensures.1 in
     rw (p.1, p.2)
-    (unknown_fails _ _ _ _ laws g.T.Tree.view outer _ _ _ _ _ _ c.requires.place half step told.conduct told.narrow.0 (rw (c.next_member.ensures.same, same) at told.deep) (rw (c.next_member.ensures.same, same) at told.limited) (rw (c.next_member.ensures.same, same) at told.refused) (rw (c.next_member.ensures.same, same) at told.none_without_limits))
+    (unknown_fails _ _ _ _ laws g.T.Tree.view outer _ _ _ _ _ _ c.requires.place half step told.conduct told.narrow (rw (c.next_member.ensures.same, same) at told.deep) (rw (c.next_member.ensures.same, same) at told.limited) (rw (c.next_member.ensures.same, same) at told.refused) (rw (c.next_member.ensures.same, same) at told.none_without_limits))
 
 -- an unknown entry was skipped
 pub read_structure-loop-members-preserved : goal.read_structure-loop-members-preserved

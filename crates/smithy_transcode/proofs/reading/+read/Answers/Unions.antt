@@ -1,5 +1,5 @@
 -- Answers on unions.
-use Rattle.std.proofs.Common.{refl, sym, ◌∙◌}
+use Rattle.std.proofs.Common.{true, false, refl, sym, ◌∙◌}
 use Rattle.std.proofs.lemmas.Result.{err_from_is_err_and}
 use Rattle.smithy_shapes.specs.Site.{site_of}
 use Rattle.smithy_schema.proofs.ReadUnions.{union_contains, union_has_members}
@@ -16,7 +16,7 @@ read_union-returns-in_err-open_struct-clause-reads g t c =
     let told = c.in_err-open_struct.ensures in
     let p = err_from_is_err_and c.from_residual.result c.from_residual.ensures.1 in
     rw (p.1, p.2)
-    (open_fails _ _ _ _ g.T.Tree.view (site_of c.args.schema.now) _ _ _ (d.lawful s0) (d.lifted_lawful s0) (union_contains _ c.requires.place) c.requires.due told.conduct told.narrow told.refused told.none_without_limits told.deepest)
+    (open_fails _ _ _ _ g.T.Tree.view (site_of c.args.schema.now) _ _ _ (d.lawful s0) (d.lifted_lawful s0) (union_contains _ c.requires.place) c.requires.due told.conduct told.narrow told.told told.refused told.none_without_limits told.deepest)
 
 -- it can not begin
 pub read_union-returns-in_err-member-clause-reads : goal.read_union-returns-in_err-member-clause-reads
@@ -29,7 +29,7 @@ read_union-returns-in_err-member-clause-reads g t c =
     let told = c.in_err-member.ensures in
     let p = err_from_is_err_and c.from_residual-in_err-member.result c.from_residual-in_err-member.ensures.1 in
     rw (p.1, p.2)
-    (goes_no_further _ _ _ _ laws g.T.Tree.view outer _ _ _ _ _ _ half told.conduct told.narrow.0 (rw c.open_struct.ensures.same at told.deep) (rw c.open_struct.ensures.same at told.limited) (rw c.open_struct.ensures.same at told.refused) (rw c.open_struct.ensures.same at told.none_without_limits))
+    (goes_no_further _ _ _ _ laws g.T.Tree.view outer _ _ _ _ _ _ half told.conduct told.narrow (rw c.open_struct.ensures.same at told.deep) (rw c.open_struct.ensures.same at told.limited) (rw c.open_struct.ensures.same at told.refused) (rw c.open_struct.ensures.same at told.none_without_limits))
 
 -- no variant came
 pub read_union-returns-in_default : goal.read_union-returns-in_default
@@ -56,7 +56,7 @@ read_union-returns-in_err-value-clause-reads g t c =
     let step = rw (c.in-Member.is, c.open_struct.ensures.same) at (c.in_ok-member.ensures.ok half.kept.due) in
     let p = err_from_is_err_and c.from_residual-in_err-value.result c.from_residual-in_err-value.ensures.1 in
     rw (p.1, p.2)
-    (member_fails _ _ _ _ laws g.T.Tree.view g.T.Tree.view outer c.in-Member.member _ _ _ _ _ _ (union_has_members _ c.requires.place) half step (rw (c.next_member.ensures.same, c.open_struct.ensures.same) at c.in_err-value.ensures.reads))
+    (member_fails _ _ _ _ laws g.T.Tree.view g.T.Tree.view outer c.in-Member.member _ _ _ _ _ _ (union_has_members _ c.requires.place) half (λ variant. refl {a = false}) step (rw (c.next_member.ensures.same, c.open_struct.ensures.same) at c.in_err-value.ensures.reads))
 
 -- the union can not go on behind the variant
 pub read_union-returns-in_err-next_member-clause-reads : goal.read_union-returns-in_err-next_member-clause-reads
@@ -73,7 +73,7 @@ read_union-returns-in_err-next_member-clause-reads g t c =
     let told = c.in_err-next_member.ensures in
     let p = err_from_is_err_and c.from_residual-in_err-next_member.result c.from_residual-in_err-next_member.ensures.1 in
     rw (p.1, p.2)
-    (goes_no_further _ _ _ _ laws g.T.Tree.view outer _ _ _ _ _ _ behind told.conduct told.narrow.0 (rw same at told.deep) (rw same at told.limited) (rw same at told.refused) (rw same at told.none_without_limits))
+    (goes_no_further _ _ _ _ laws g.T.Tree.view outer _ _ _ _ _ _ behind told.conduct told.narrow (rw same at told.deep) (rw same at told.limited) (rw same at told.refused) (rw same at told.none_without_limits))
 
 -- a second entry came
 pub read_union-returns-in_default-2 : goal.read_union-returns-in_default-2
@@ -90,7 +90,7 @@ read_union-returns-in_default-2 g t c =
     let next = rw same at (c.in_ok-next_member.ensures.ok behind.kept.due) in
     record {
       same = c.fail-in_default-2.ensures.same ∙ c.next_member-2.ensures.same ∙ same;
-      reads = second_variant_fails _ _ _ _ laws g.T.Tree.view outer _ _ _ _ _ _ c.in_default-2.not-End c.requires.place behind next c.fail-in_default-2.ensures.fails;
+      reads = second_variant_fails _ _ _ _ laws g.T.Tree.view outer _ _ _ _ _ _ c.in_default-2.not-End c.requires.place behind (refl {a = true}) next c.fail-in_default-2.ensures.fails;
     }
 
 -- the union ended behind its variant
