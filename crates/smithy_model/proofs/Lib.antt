@@ -2,7 +2,8 @@ mod Entries
 mod AllSome
 mod Refusals
 mod Zip
-mod Kept
+mod Put
+mod Mixing
 mod Ids
 mod Behind
 mod RootRefusals

@@ -14,7 +14,8 @@ use Rattle.smithy_model.specs.Objects.{Entry, entries_in}
 use Rattle.smithy_model.specs.Model.{Member, Kind, structure, union, list, map, Shape, Model}
 use Rattle.smithy_model.specs.Form.{Form}
 use Rattle.smithy_model.specs.Shapes.{operation_in, shape_in}
-use Rattle.smithy_model.specs.Reading.{form_in, has_type, is_of_values, is_operation, operations_name, shapes_among, takes_mixins, ids_of, IsUnlinked}
+use Rattle.smithy_model.specs.Mixins.{uses_of, MissesMixin, IsInCircle}
+use Rattle.smithy_model.specs.Reading.{form_in, has_type, is_of_values, is_operation, operations_name, shapes_among, ids_of, IsUnlinked}
 
 -- the fault of a text that isn't read as JSON
 abbrev pub fault_of_json : Error → ModelFault
@@ -57,15 +58,11 @@ MissesTarget ids is_a_target _ = ⊥
 abbrev pub RefusesLinks : List Shape → ModelFault → Type 0
 RefusesLinks shapes = MissesTarget (ids_of shapes) (λ id. list_any (λ (s : Shape). has_target id s.kind) shapes)
 
--- the shape of this id takes in mixins
-abbrev pub is_mixed : List ℕ → Shape → Bool
-is_mixed id s = bytes_eq s.id id && takes_mixins s
-
--- the shape of this id takes in mixins, of which one isn't there, or leads to itself: of that nothing is said
+-- a shape takes in a mixin that isn't there, or itself, or one that does so
 abbrev pub RefusesMixins : List Shape → ModelFault → Type 0
-RefusesMixins shapes (faults.BadMixin id) = list_any (is_mixed id.now) shapes ≡ true
-RefusesMixins shapes faults.NoMemory = Unit {0}
-RefusesMixins shapes _ = ⊥
+RefusesMixins own (faults.BadMixin id) = MissesMixin (uses_of own) id.now ⊎ IsInCircle own id.now
+RefusesMixins own faults.NoMemory = Unit {0}
+RefusesMixins own _ = ⊥
 
 -- the fault of what stands under an id and is no shape
 abbrev pub refusal_of : Bor (List ℕ) → Json → ModelFault

@@ -6,7 +6,10 @@ pub mod Members
 pub mod Kinds
 pub mod Shapes
 pub mod Prelude
+pub mod Mixins
 pub mod Reading
 pub mod Faults
 -- what the types stand for
 pub mod Views
+-- words for private functions
+pub mod Mixing

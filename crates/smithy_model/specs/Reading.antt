@@ -1,5 +1,5 @@
 -- Which model a text is (Smithy 2.0, "JSON AST"; a service-2.json has the same parts under other names).
-use Rattle.std.specs.Prelude.{◌≡◌, ◌==◌, length, ℕ, List, [], ◌++◌, true, slice_get, ◌||◌, ◌&&◌, not, Bool, false, Option, Some, None, option_and_then, unwrap_or, if◌then◌else◌, codes, bytes_eq, map as list_map}
+use Rattle.std.specs.Prelude.{◌≡◌, ℕ, List, [], ◌++◌, true, slice_get, ◌||◌, ◌&&◌, not, Bool, false, Option, Some, None, option_and_then, unwrap_or, if◌then◌else◌, codes, bytes_eq, map as list_map}
 use Rattle.std.specs.List.{filter, list_any, AllZip}
 use Rattle.std.specs.Option.{option_map_or}
 use Rattle.json.specs.Json.{Json, document}
@@ -9,6 +9,7 @@ use Rattle.smithy_model.specs.Model.{Member, Kind, structure, union, list, map, 
 use Rattle.smithy_model.specs.Form.{Form, smithy, json_service, xml_service, ec2_service}
 use Rattle.smithy_model.specs.Members.{all_some}
 use Rattle.smithy_model.specs.Shapes.{operation_in, shape_in}
+use Rattle.smithy_model.specs.Mixins.{AreMixed}
 use Rattle.smithy_model.specs.Prelude.{prelude}
 
 -- the protocol that a service-2.json names
@@ -76,19 +77,9 @@ abbrev pub undeclared : Form → List Shape
 undeclared smithy = prelude
 undeclared _ = []
 
--- the shape takes in mixins (Smithy 2.0, "Mixins")
-abbrev pub takes_mixins : Shape → Bool
-takes_mixins s = not (length s.mixins == 0)
-
--- A shape with the members of its mixins: without mixins it is the shape itself, and with mixins it is the same but for its kind, of
--- which nothing is said.
-pub record IsKept (own s : Shape) : Type 0 where
-  pub but_kind : s ≡ record own { kind = s.kind }
-  pub alone : takes_mixins own ≡ false → s ≡ own
-
 -- The shapes with the members of their mixins. A service-2.json has none.
 abbrev pub AreWhole : Form → List Shape → List Shape → Type 0
-AreWhole smithy own whole = AllZip IsKept own whole
+AreWhole smithy own whole = AreMixed own whole
 AreWhole _ own whole = whole ≡ own
 
 -- the member with the number of the shape that is its target

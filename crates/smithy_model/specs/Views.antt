@@ -11,10 +11,12 @@ use Rattle.smithy_model.specs.declared.model.Shape as kept_shape
 use Rattle.smithy_model.specs.declared.model.Operation as kept_operation
 use Rattle.smithy_model.specs.declared.model.Model as kept_model
 use Rattle.smithy_model.specs.declared.numbers.Numbers as kept_numbers
+use Rattle.smithy_model.specs.declared.mixins.Gathered as kept_gathered
 use Rattle.smithy_model.specs.declared.format.Format as kept_format
 use Rattle.smithy_model.specs.declared.format.Format.TheVariants as formats
 use Rattle.smithy_model.specs.Objects.{Entry}
 use Rattle.smithy_model.specs.Form.{Form, smithy, json_service, xml_service, ec2_service}
+use Rattle.smithy_model.specs.Mixins.{Gathered}
 use Rattle.smithy_model.specs.Model.{Member, Kind, simple, float, event_stream, structure, union, list, map, Shape, Operation, Model}
 
 -- a member of an object
@@ -81,3 +83,10 @@ form_view formats.Ec2 = ec2_service
 -- the ids that have numbers
 abbrev pub numbers_view : kept_numbers.Numbers → List (List ℕ)
 numbers_view n = list_map (λ t. t.now) n.ids.items
+
+abbrev pub gathered_view : kept_gathered.Gathered → Gathered
+gathered_view g = record {
+  members = list_map member_view g.members.items;
+  is_sparse = g.is_sparse;
+  time_format = option_map (λ t. t.now) g.time_format;
+}

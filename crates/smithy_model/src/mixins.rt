@@ -1,29 +1,81 @@
-//! The members that shapes take over from their mixins (Smithy 2.0, "Mixins").
-ghost use Rattle.std.specs.Prelude.{◌≡◌, true, [], ◌∷◌, map, OnOk, IfErr, IfSome};
-ghost use Rattle.std.specs.List.{list_any, AllZip};
-ghost use Rattle.smithy_model.specs.Reading.{takes_mixins, IsKept};
-ghost use Rattle.smithy_model.specs.Faults.{is_mixed, RefusesMixins};
-ghost use Rattle.smithy_model.specs.Views.{kind_view, shape_view};
+//! What shapes take over from their mixins (Smithy 2.0, "Mixins").
+ghost use Rattle.std.specs.Prelude.{◌≡◌, ◌<◌, ◌||◌, ℕ, option_map, List, not, None, Some, [], ◌∷◌, ◌++◌, map, length, slice_get, true, false, OnOk, IfOk, IfErr, IfSome};
+ghost use Rattle.std.specs.List.{fold, AllZip};
+ghost use Rattle.std.specs.Option.{option_or};
+ghost use Rattle.smithy_model.specs.Model as specs;
+ghost use Rattle.smithy_model.specs.Mixins.{takes_mixins, members_of, with_members, redefined, with_member, nothing, with_shape, with_gathered, uses_of, AreMixed};
+ghost use Rattle.smithy_model.specs.Mixing.{is_done, IsDone, TakesIn, IsWaiting, IsHeldUp, IsSettledAt, MissesIn, count_of_waiting};
+ghost use Rattle.smithy_model.specs.Reading.{ids_of};
+ghost use Rattle.smithy_model.specs.Faults.{RefusesMixins};
+ghost use Rattle.smithy_model.specs.Views.{kind_view, member_view, shape_view, numbers_view, gathered_view};
 
 use crate::fault::ModelFault;
 use crate::model::{Kind, Member, Shape};
 use crate::numbers::Numbers;
 use std::alloc::{AllocError, Global};
 
+/// What was gathered for a shape.
+#[derive(Drop)]
+pub(crate) struct Gathered<'a> {
+    pub(crate) members: Vec<Member<'a>>,
+    pub(crate) is_sparse: bool,
+    pub(crate) time_format: Option<&'a str>,
+}
+
 // The members of a structure or a union.
-fn members_of<'s, 'a>(shape: &'s Shape<'a>) -> &'s [Member<'a>] {
-    match &shape.kind {
+fn members_of<'s, 'a>(kind: &'s Kind<'a>) -> &'s [Member<'a>]
+    ensures { map member_view result.now ≡ members_of (kind_view kind.now) }
+{
+    match kind {
         Kind::Structure(members) => members.as_slice(),
         Kind::Union(members) => members.as_slice(),
         _ => &[],
     }
 }
 
+// The text that is given, and else the earlier one.
+fn text_of<'a>(given: Option<&'a str>, earlier: Option<&'a str>) -> Option<&'a str>
+    ensures { option_map (λ t. t.now) result ≡ option_or (option_map (λ t. t.now) given.entry) (option_map (λ t. t.now) earlier.entry) }
+{
+    match given {
+        Some(text) => Some(text),
+        None => earlier,
+    }
+}
+
+fn either(given: bool, earlier: bool) -> bool
+    ensures { result ≡ (given || earlier) }
+{
+    given || earlier
+}
+
+// A member that is defined again: what it isn't given again, it has from the earlier definition.
+fn redefined<'a>(earlier: &Member<'a>, given: &Member<'a>) -> Member<'a>
+    ensures { member_view result ≡ redefined (member_view earlier.now) (member_view given.now) }
+{
+    Member {
+        name: given.name,
+        target: given.target,
+        number: given.number,
+        json_name: text_of(given.json_name, earlier.json_name),
+        xml_name: text_of(given.xml_name, earlier.xml_name),
+        ec2_name: text_of(given.ec2_name, earlier.ec2_name),
+        is_flattened: either(given.is_flattened, earlier.is_flattened),
+        time_format: text_of(given.time_format, earlier.time_format),
+        in_headers: either(given.in_headers, earlier.in_headers),
+        in_request_line: either(given.in_request_line, earlier.in_request_line),
+        in_status_line: either(given.in_status_line, earlier.in_status_line),
+        is_payload: either(given.is_payload, earlier.is_payload),
+    }
+}
+
 // Adds a member, in the place of an earlier one of its name where there is one.
-fn put<'a>(members: &mut Vec<Member<'a>>, member: &Member<'a>) -> Result<(), AllocError> {
+fn put<'a>(members: &mut Vec<Member<'a>>, member: &Member<'a>) -> Result<(), AllocError>
+    ensures { OnOk result (map member_view members.new.items ≡ with_member (map member_view members.old.items) (member_view member.now)) }
+{
     for position in 0..members.len() {
         if members[position].name == member.name {
-            members[position] = *member;
+            members[position] = redefined(&members[position], member);
             return Ok(());
         }
     }
@@ -32,39 +84,89 @@ fn put<'a>(members: &mut Vec<Member<'a>>, member: &Member<'a>) -> Result<(), All
 }
 
 // Adds members, one after the other.
-fn put_all<'a>(members: &mut Vec<Member<'a>>, more: &[Member<'a>]) -> Result<(), AllocError> {
+fn put_all<'a>(members: &mut Vec<Member<'a>>, more: &[Member<'a>]) -> Result<(), AllocError>
+    ensures { OnOk result (map member_view members.new.items ≡ fold with_member (map member_view members.old.items) (map member_view more.now)) }
+{
     for member in more {
         put(members, member)?;
     }
     Ok(())
 }
 
-// The members of the mixins of a shape, in order, and then its own: none where a mixin isn't done yet.
-fn mixed<'a>(
+// Nothing yet.
+fn nothing<'a>(alloc: Global) -> Gathered<'a>
+    ensures { gathered_view result ≡ nothing }
+{
+    Gathered {
+        members: Vec::new(alloc),
+        is_sparse: false,
+        time_format: None,
+    }
+}
+
+// Adds what a shape has.
+fn add_shape<'a>(gathered: &mut Gathered<'a>, shape: &Shape<'a>) -> Result<(), AllocError>
+    ensures { OnOk result (gathered_view gathered.new ≡ with_shape (gathered_view gathered.old) (shape_view shape.now)) }
+{
+    put_all(&mut gathered.members, members_of(&shape.kind))?;
+    gathered.is_sparse = either(shape.is_sparse, gathered.is_sparse);
+    gathered.time_format = text_of(shape.time_format, gathered.time_format);
+    Ok(())
+}
+
+// Whether the mixins of the shape of this number were taken in.
+fn is_done(done: &[bool], number: usize) -> bool
+    ensures { result ≡ is_done done.now number }
+{
+    match done.get(number) {
+        Some(is_done) => *is_done,
+        None => false,
+    }
+}
+
+// The shape of this number, where its mixins were taken in.
+fn done_at<'s, 'a>(shapes: &'s [Shape<'a>], done: &[bool], number: usize) -> Option<&'s Shape<'a>>
+    ensures there { IfSome result (λ s. (slice_get (map shape_view shapes.now) number ≡ Some (shape_view s.now)) × (is_done done.now number ≡ true)) }
+    ensures waiting { result ≡ None → number < length shapes.now → is_done done.now number ≡ false }
+{
+    if !is_done(done, number) {
+        return None;
+    }
+    shapes.get(number)
+}
+
+// What the mixins of a shape have, in order, and then the shape itself: none where a mixin isn't done yet.
+fn gather<'a>(
     alloc: Global,
     shapes: &[Shape<'a>],
     numbers: &Numbers<'a>,
     done: &[bool],
     shape: &Shape<'a>,
-) -> Result<Option<Vec<Member<'a>>>, ModelFault<'a>>
-    ensures { takes_mixins (shape_view shape.now) ≡ true → IfErr result (RefusesMixins (shape_view shape.now ∷ [])) }
+) -> Result<Option<Gathered<'a>>, ModelFault<'a>>
+    requires { numbers_view numbers.now ≡ ids_of (map shape_view shapes.now) }
+    ensures gathered { IfOk result (λ found. IfSome found (λ g. (mixins : List specs.Shape) × AllZip (IsDone (map shape_view shapes.now) done.now) (shape_view shape.now).mixins mixins
+        × (gathered_view g ≡ fold with_shape nothing (mixins ++ shape_view shape.now ∷ [])))) }
+    ensures held_up { IfOk result (λ found. found ≡ None → IsHeldUp (map shape_view shapes.now) done.now (shape_view shape.now)) }
+    ensures refused { IfErr result (λ fault. (number : ℕ) → slice_get (map shape_view shapes.now) number ≡ Some (shape_view shape.now) → MissesIn (uses_of (map shape_view shapes.now)) fault) }
 {
-    let mut members = Vec::new(alloc);
+    let mut gathered = nothing(alloc);
     for id in &shape.mixins {
         let Some(number) = numbers.number(*id) else {
             return Err(ModelFault::BadMixin(shape.id));
         };
-        if number >= shapes.len() || number >= done.len() || !done[number] {
+        let Some(mixin) = done_at(shapes, done, number) else {
             return Ok(None);
-        }
-        put_all(&mut members, members_of(&shapes[number]))?;
+        };
+        add_shape(&mut gathered, mixin)?;
     }
-    put_all(&mut members, members_of(shape))?;
-    Ok(Some(members))
+    add_shape(&mut gathered, shape)?;
+    Ok(Some(gathered))
 }
 
 // A structure or a union with other members. Shapes of other kinds take none over.
-fn with_members<'a>(kind: &Kind<'a>, members: Vec<Member<'a>>) -> Kind<'a> {
+fn with_members<'a>(kind: &Kind<'a>, members: Vec<Member<'a>>) -> Kind<'a>
+    ensures { kind_view result ≡ with_members (kind_view kind.now) (map member_view members.entry.items) }
+{
     match kind {
         Kind::Structure(_) => Kind::Structure(members),
         Kind::Union(_) => Kind::Union(members),
@@ -76,42 +178,42 @@ fn with_members<'a>(kind: &Kind<'a>, members: Vec<Member<'a>>) -> Kind<'a> {
     }
 }
 
-// Whether a shape takes in mixins.
-fn takes_mixins(shape: &Shape<'_>) -> bool
-    ensures { result ≡ takes_mixins (shape_view shape.now) }
+// Gives a shape what was gathered for it.
+fn give<'a>(shape: &mut Shape<'a>, gathered: Gathered<'a>)
+    ensures { shape_view shape.new ≡ with_gathered (shape_view shape.old) (gathered_view gathered.entry) }
 {
-    !shape.mixins.is_empty()
+    shape.kind = with_members(&shape.kind, gathered.members);
+    shape.is_sparse = gathered.is_sparse;
+    shape.time_format = gathered.time_format;
 }
 
-// Gives a shape another kind.
-fn set_kind<'a>(shape: &mut Shape<'a>, kind: Kind<'a>)
-    ensures { shape_view shape.new ≡ record (shape_view shape.old) { kind = kind_view kind.entry } }
-{
-    shape.kind = kind;
-}
-
-// Takes in the mixins of the shape of this number, where it takes in some and they are done, and tells whether it did.
+// Takes in the mixins of the shape of this number, where they are done and it isn't, and tells whether it did.
 fn take_in<'a>(
     alloc: Global,
     shapes: &mut Vec<Shape<'a>>,
     numbers: &Numbers<'a>,
-    done: &[bool],
+    done: &mut Vec<bool>,
     number: usize,
 ) -> Result<bool, ModelFault<'a>>
-    ensures kept { OnOk result (AllZip IsKept (map shape_view shapes.old.items) (map shape_view shapes.new.items)) }
-    ensures refused { IfErr result (RefusesMixins (map shape_view shapes.old.items)) }
+    requires { numbers_view numbers.now ≡ ids_of (map shape_view shapes.now.items) }
+    ensures mixed { OnOk result (TakesIn (map shape_view shapes.old.items) (map shape_view shapes.new.items) done.old.items done.new.items) }
+    ensures uses { OnOk result (uses_of (map shape_view shapes.new.items) ≡ uses_of (map shape_view shapes.old.items)) }
+    ensures fewer { IfOk result (λ found. found ≡ true → count_of_waiting done.new.items < count_of_waiting done.old.items) }
+    ensures held_up { IfOk result (λ found. found ≡ false → (shapes.new ≡ shapes.old) × (done.new ≡ done.old)
+        × IsSettledAt (map shape_view shapes.old.items) done.old.items number) }
+    ensures refused { IfErr result (MissesIn (uses_of (map shape_view shapes.old.items))) }
 {
-    if number >= shapes.len() {
+    if number >= shapes.len() || number >= done.len() {
         return Ok(false);
     }
-    if !takes_mixins(&shapes[number]) {
+    if done[number] {
         return Ok(false);
     }
-    let Some(members) = mixed(alloc, shapes, numbers, done, &shapes[number])? else {
+    let Some(gathered) = gather(alloc, shapes, numbers, done, &shapes[number])? else {
         return Ok(false);
     };
-    let kind = with_members(&shapes[number].kind, members);
-    set_kind(&mut shapes[number], kind);
+    give(&mut shapes[number], gathered);
+    done[number] = true;
     Ok(true)
 }
 
@@ -122,18 +224,19 @@ fn take_in_some<'a>(
     numbers: &Numbers<'a>,
     done: &mut Vec<bool>,
 ) -> Result<bool, ModelFault<'a>>
-    ensures kept { OnOk result (AllZip IsKept (map shape_view shapes.old.items) (map shape_view shapes.new.items)) }
-    ensures refused { IfErr result (RefusesMixins (map shape_view shapes.old.items)) }
+    requires { numbers_view numbers.now ≡ ids_of (map shape_view shapes.now.items) }
+    ensures mixed { OnOk result (TakesIn (map shape_view shapes.old.items) (map shape_view shapes.new.items) done.old.items done.new.items) }
+    ensures uses { OnOk result (uses_of (map shape_view shapes.new.items) ≡ uses_of (map shape_view shapes.old.items)) }
+    ensures fewer { IfOk result (λ found. found ≡ true → count_of_waiting done.new.items < count_of_waiting done.old.items) }
+    ensures held_up { IfOk result (λ found. found ≡ false → (k : ℕ) → IsSettledAt (map shape_view shapes.new.items) done.new.items k) }
+    ensures refused { IfErr result (MissesIn (uses_of (map shape_view shapes.old.items))) }
 {
     let mut found = false;
-    for number in 0..shapes.len().min(done.len()) {
-        if done[number] {
+    for number in 0..shapes.len() {
+        if !take_in(alloc, shapes, numbers, done, number)? {
             continue;
         }
-        if take_in(alloc, shapes, numbers, done, number)? {
-            done[number] = true;
-            found = true;
-        }
+        found = true;
     }
     Ok(found)
 }
@@ -145,45 +248,51 @@ fn take_in_all<'a>(
     numbers: &Numbers<'a>,
     done: &mut Vec<bool>,
 ) -> Result<(), ModelFault<'a>>
-    ensures kept { OnOk result (AllZip IsKept (map shape_view shapes.old.items) (map shape_view shapes.new.items)) }
-    ensures refused { IfErr result (RefusesMixins (map shape_view shapes.old.items)) }
+    requires { numbers_view numbers.now ≡ ids_of (map shape_view shapes.now.items) }
+    ensures mixed { OnOk result (TakesIn (map shape_view shapes.old.items) (map shape_view shapes.new.items) done.old.items done.new.items) }
+    ensures held_up { OnOk result ((k : ℕ) → IsSettledAt (map shape_view shapes.new.items) done.new.items k) }
+    ensures refused { IfErr result (MissesIn (uses_of (map shape_view shapes.old.items))) }
 {
-    // Each turn but the last finishes a shape.
-    for _ in 0..shapes.len() {
-        if !take_in_some(alloc, shapes, numbers, done)? {
-            return Ok(());
-        }
-    }
+    while take_in_some(alloc, shapes, numbers, done)? {}
     Ok(())
 }
 
 // The id of a shape whose mixins aren't done.
-fn unfinished<'a>(shapes: &[Shape<'a>], done: &[bool]) -> Option<&'a str>
-    ensures { IfSome result (λ id. list_any (is_mixed id.now) (map shape_view shapes.now) ≡ true) }
+fn waiting<'a>(shapes: &[Shape<'a>], done: &[bool]) -> Option<&'a str>
+    ensures one { IfSome result (λ id. IsWaiting (map shape_view shapes.now) done.now id.now) }
+    ensures none { result ≡ None → (k : ℕ) → k < length shapes.now → is_done done.now k ≡ true }
 {
-    for number in 0..shapes.len().min(done.len()) {
-        if !done[number] && takes_mixins(&shapes[number]) {
+    for number in 0..shapes.len() {
+        if !is_done(done, number) {
             return Some(shapes[number].id);
         }
     }
     None
 }
 
-/// Gives each shape the members of its mixins.
+// For each shape whether it has no mixins to take in.
+fn complete_at_first(alloc: Global, shapes: &[Shape<'_>]) -> Result<Vec<bool>, AllocError>
+    ensures { IfOk result (λ done. done.items ≡ map (λ (s : specs.Shape). not (takes_mixins s)) (map shape_view shapes.now)) }
+{
+    let mut done = Vec::with_capacity(alloc, shapes.len())?;
+    for shape in shapes {
+        done.push(shape.mixins.is_empty())?;
+    }
+    Ok(done)
+}
+
+/// Gives each shape what its mixins have.
 pub(crate) fn take_in_mixins<'a>(
     alloc: Global,
     shapes: &mut Vec<Shape<'a>>,
 ) -> Result<(), ModelFault<'a>>
-    ensures kept { OnOk result (AllZip IsKept (map shape_view shapes.old.items) (map shape_view shapes.new.items)) }
+    ensures mixed { OnOk result (AreMixed (map shape_view shapes.old.items) (map shape_view shapes.new.items)) }
     ensures refused { IfErr result (RefusesMixins (map shape_view shapes.old.items)) }
 {
-    let mut done = Vec::with_capacity(alloc, shapes.len())?;
-    for shape in &*shapes {
-        done.push(!takes_mixins(shape))?;
-    }
+    let mut done = complete_at_first(alloc, shapes)?;
     let numbers = Numbers::of(alloc, shapes)?;
     take_in_all(alloc, shapes, &numbers, &mut done)?;
-    match unfinished(shapes, &done) {
+    match waiting(shapes, &done) {
         Some(id) => Err(ModelFault::BadMixin(id)),
         None => Ok(()),
     }

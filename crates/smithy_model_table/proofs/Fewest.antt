@@ -1,11 +1,13 @@
 -- Marks that are among all that follow from themselves.
-use Rattle.std.proofs.Common.{◌≡◌, ◌⊎◌, ◌<◌, ◌∙◌, inl, inr, ℕ, zero, suc, List, [], ◌∷◌, length, map, set, get_or, replicate, refl, sym, ap, subst, arith}
+use Rattle.std.proofs.Common.{◌≡◌, ◌≢◌, ◌⊎◌, ◌≤◌, ◌<◌, ◌∙◌, inl, inr, ℕ, zero, suc, List, [], ◌∷◌, length, map, set, get_or, replicate, slice_get, Some, true≢false, refl, sym, ap, ap₂, subst, arith}
 use Rattle.std.specs.Prelude.{Bool, true, false, ◌&&◌}
 use Rattle.std.specs.List.{list_all}
 use Rattle.std.proofs.lemmas.List.{length-map}
+use Rattle.std.proofs.lemmas.Option.{none-some}
 use Rattle.smithy_model.specs.Model as model
 use Rattle.smithy_model.specs.Model.{Member, Kind, Shape, Model}
 use Rattle.smithy_model_table.specs.Leaving.{is_marked, has_mark, is_uncarried, AreSettled, AreAmong, IsNoFurther}
+use Rattle.smithy_model_table.specs.Marking.{AreSupported, AreClosed, count_of_unmarked}
 
 both : (a b c d : Bool) → (a ≡ true → c ≡ true) → (b ≡ true → d ≡ true) → (a && b) ≡ true → (c && d) ≡ true
 both true b c d first second is = rw (first refl) (second is)
@@ -75,3 +77,81 @@ none_marked m marks v ws shapes none others settled number is =
     ap length (settled ∙ ap (map (λ (s : Shape). is_uncarried others s.kind)) shapes) ∙ length-map (map v ws) (λ (s : Shape). is_uncarried others s.kind)
     ∙ length-map ws v in
     among_none (length ws) others number long (subst (λ (ms : List Bool). is_marked ms number ≡ true) none is)
+
+past_mark : (marks : List Bool) (i k : ℕ) → i ≢ k → is_marked (set marks i true) k ≡ is_marked marks k
+past_mark [] i k other = refl
+past_mark (b ∷ marks) zero zero other = absurd (other refl)
+past_mark (b ∷ marks) zero (suc k) other = refl
+past_mark (b ∷ marks) (suc i) zero other = refl
+past_mark (b ∷ marks) (suc i) (suc k) other = past_mark marks i k (λ same. other (ap suc same))
+
+at_mark : (marks : List Bool) (i : ℕ) → is_marked (set marks i true) i ≡ true
+at_mark [] i = refl
+at_mark (b ∷ marks) zero = refl
+at_mark (b ∷ marks) (suc i) = at_mark marks i
+
+still_marked : (marks : List Bool) (i : ℕ) → AreAmong marks (set marks i true)
+still_marked [] i number is = is
+still_marked (b ∷ marks) zero zero is = refl
+still_marked (b ∷ marks) zero (suc number) is = is
+still_marked (b ∷ marks) (suc i) zero is = is
+still_marked (b ∷ marks) (suc i) (suc number) is = still_marked marks i number is
+
+-- one more mark follows from the marks still
+pub supported_more : (m : Model) (marks : List Bool) (i : ℕ) (s : Shape) → slice_get m.shapes i ≡ Some s → is_uncarried marks s.kind ≡ true
+    → AreSupported m marks → AreSupported m (set marks i true)
+supported_more m marks i s at follows supported = λ k x is marked. by k x is marked (marked_by marks i k marked)
+  where
+    by : (k : ℕ) (x : Shape) → slice_get m.shapes k ≡ Some x → is_marked (set marks i true) k ≡ true → (k ≡ i) ⊎ (is_marked marks k ≡ true)
+        → is_uncarried (set marks i true) x.kind ≡ true
+    by k x is marked (inl same) =
+        let equal : s ≡ x = cc (at, subst (λ j. slice_get m.shapes j ≡ Some x) same is) in
+        uncarried_among marks (set marks i true) x.kind (still_marked marks i) (subst (λ (y : Shape). is_uncarried marks y.kind ≡ true) equal follows)
+    by k x is marked (inr before) = uncarried_among marks (set marks i true) x.kind (still_marked marks i) (supported k x is before)
+
+pub one_unmarked : (marks : List Bool) (i : ℕ) (d : Bool) → i < length marks → get_or marks i d ≡ false
+    → count_of_unmarked (set marks i true) < count_of_unmarked marks
+one_unmarked [] i d within is = absurd (omega (arith, within))
+one_unmarked (b ∷ marks) zero d within is = rw (is) (omega arith)
+one_unmarked (b ∷ marks) (suc i) d within is = omega (arith, one_unmarked marks i d (omega (arith, within)) is)
+
+pub marked_there : (marks : List Bool) (i : ℕ) (d : Bool) → i < length marks → get_or marks i d ≡ true → is_marked marks i ≡ true
+marked_there [] i d within is = absurd (omega (arith, within))
+marked_there (b ∷ marks) zero d within is = is
+marked_there (b ∷ marks) (suc i) d within is = marked_there marks i d (omega (arith, within)) is
+
+shape_here : {W : Type 0} (v : W → Shape) (ws : List W) (i : ℕ) (d : W) → i < length ws → slice_get (map v ws) i ≡ Some (v (get_or ws i d))
+shape_here v [] i d within = absurd (omega (arith, within))
+shape_here v (w ∷ ws) zero d within = refl
+shape_here v (w ∷ ws) (suc i) d within = shape_here v ws i d (omega (arith, within))
+
+pub shape_found : {W : Type 0} (v : W → Shape) (ws : List W) (i : ℕ) (w : W) → i < length ws → w ≡ get_or ws i w → slice_get (map v ws) i ≡ Some (v w)
+shape_found v ws i w within is = shape_here v ws i w within ∙ ap (λ x. Some (v x)) (sym is)
+
+-- no marks follow from themselves
+pub none_supported : (m : Model) (n : ℕ) → length m.shapes ≤ n → AreSupported m (replicate n false)
+none_supported m n far number s at marked = absurd (not_there m.shapes n number s far at marked)
+  where
+    not_there : (ss : List Shape) (k number : ℕ) (x : Shape) → length ss ≤ k → slice_get ss number ≡ Some x → is_marked (replicate k false) number ≡ true → ⊥
+    not_there [] k number x less is marked = none-some x is
+    not_there (t ∷ ss) zero number x less is marked = absurd (omega (arith, less))
+    not_there (t ∷ ss) (suc k) zero x less is marked = true≢false (sym marked)
+    not_there (t ∷ ss) (suc k) (suc number) x less is marked = not_there ss k number x (omega (arith, less)) is marked
+
+same_bool : (a b : Bool) → (a ≡ true → b ≡ true) → (b ≡ true → a ≡ true) → a ≡ b
+same_bool true b first next = sym (first refl)
+same_bool false true first next = next refl
+same_bool false false first next = refl
+
+-- marks that follow, and from which no other follows
+pub settled_both : (m : Model) (marks : List Bool) → length marks ≡ length m.shapes → AreSupported m marks → AreClosed m marks → AreSettled m marks
+settled_both m marks long supported closed =
+    equal (λ (s : Shape). is_uncarried marks s.kind) m.shapes marks long
+    (λ k s at. same_bool (is_marked marks k) (is_uncarried marks s.kind) (supported k s at) (closed k s at))
+  where
+    equal : (f : Shape → Bool) (ss : List Shape) (ms : List Bool) → length ms ≡ length ss
+        → ((k : ℕ) (s : Shape) → slice_get ss k ≡ Some s → is_marked ms k ≡ f s) → ms ≡ map f ss
+    equal f [] [] same each = refl
+    equal f [] (b ∷ ms) same each = absurd (omega (arith, same))
+    equal f (s ∷ ss) [] same each = absurd (omega (arith, same))
+    equal f (s ∷ ss) (b ∷ ms) same each = ap₂ (λ x xs. x ∷ xs) (each 0 s refl) (equal f ss ms (omega (arith, same)) (λ k x at. each (suc k) x at))

@@ -3,4 +3,4 @@ mod Found
 mod Gained
 mod OutcomeLemmas
 mod Roots
-mod Settled
+mod Shared

@@ -9,7 +9,8 @@ use Rattle.smithy_model.specs.Model.{Kind, Shape, Operation, Model}
 use Rattle.smithy_shapes.specs.Decl.{Decl}
 use Rattle.smithy_model_table.specs.Declaring.{Names, name_of}
 use Rattle.smithy_model_table.specs.Outcomes.{LeftOut, Part, IsPart, IsPartOf, IsPartAt, AreParts}
-use Rattle.smithy_model_table.specs.Wanted.{Wanted, input, output, shape, service, members_of, is_declared, structure_ids, IsBody, AreBodies, AreRoots}
+use Rattle.smithy_model_table.specs.Naming.{is_declared}
+use Rattle.smithy_model_table.specs.Wanted.{Wanted, input, output, shape, service, members_of, structure_ids, IsBody, AreBodies, AreRoots}
 
 bodies_both : (m : Model) (front rest : List (List ℕ)) (r q : List ℕ) → AreBodies m front r → AreBodies m rest q → AreBodies m (front ++ rest) (r ++ q)
 bodies_both m [] rest r q first second = rw (first) second

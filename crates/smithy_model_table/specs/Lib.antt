@@ -1,11 +1,13 @@
 -- to be believed, in this order
 pub mod Declaring
+pub mod Naming
 pub mod Bindings
 pub mod Roles
 pub mod Leaving
 pub mod Outcomes
-pub mod Naming
 pub mod Wanted
 pub mod ModelTable
 -- what the types stand for
 pub mod Views
+-- words for private functions
+pub mod Marking

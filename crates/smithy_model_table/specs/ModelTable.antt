@@ -8,17 +8,17 @@ use Rattle.smithy_shapes.specs.TableText.{declarations_of, declarations}
 use Rattle.smithy_model_table.specs.Declaring.{Names, name_of}
 use Rattle.smithy_model_table.specs.Leaving.{AreFewest}
 use Rattle.smithy_model_table.specs.Outcomes.{LeftOut, AreParts}
-use Rattle.smithy_model_table.specs.Naming.{AreNamesOf}
+use Rattle.smithy_model_table.specs.Naming.{names_of}
 use Rattle.smithy_model_table.specs.Wanted.{Wanted, AreRoots}
 
 -- The text is an accepted table of what is wanted. It reads as the declarations of some shapes of the model, each of which is that of its shape, and
--- each member that they leave out is named. Since the table is accepted, it declares a shape of the name of each target of its lines.
+-- each member that they leave out is named. Since the table is accepted, it has no name twice, and declares each target that its lines name.
 pub record IsTableOf (m : Model) (w : Wanted) (text : List ℕ) (left : List LeftOut) : Type 0 where
   pub table : Table
   pub accepted_as : table_of text ≡ accepted table
   -- the names of the model's shapes
   pub names : Names
-  pub named : AreNamesOf m.shapes names
+  pub named : names ≡ names_of m
   -- which shapes are marked, as nothing of them can stand in a table
   pub marks : List Bool
   pub fewest : AreFewest m marks

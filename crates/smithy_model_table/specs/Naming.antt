@@ -1,7 +1,9 @@
 -- The names of a model's shapes in a table.
-use Rattle.std.specs.Prelude.{◌≡◌, ◌⊎◌, ◌==◌, ℕ, List, Bool, if◌then◌else◌}
-use Rattle.std.specs.List.{AllZip, list_any, after_first}
-use Rattle.smithy_model.specs.Model.{Shape}
+use Rattle.std.specs.Prelude.{◌==◌, ◌&&◌, ◌||◌, ℕ, List, [], ◌∷◌, ◌++◌, Bool, true, false, if◌then◌else◌, bytes_eq, map}
+use Rattle.std.specs.List.{list_any, after_first}
+use Rattle.smithy_model.specs.Model as model
+use Rattle.smithy_model.specs.Model.{Member, Kind, Shape, Model}
+use Rattle.smithy_shapes.specs.Names.{simple_targets, float_names}
 
 -- `#`
 abbrev pub is_number_sign : ℕ → Bool
@@ -11,14 +13,34 @@ is_number_sign b = b == 0x23
 abbrev pub name_in : List ℕ → List ℕ
 name_in id = if list_any is_number_sign id then after_first is_number_sign id else id
 
--- The name is the id, or the name in it. A table that is accepted has no name twice.
-abbrev pub IsNameIn : List ℕ → List ℕ → Type 0
-IsNameIn id name = (name ≡ id) ⊎ (name ≡ name_in id)
+-- a shape of this kind has a declaration
+abbrev pub is_declared : Kind → Bool
+is_declared (model.structure members) = true
+is_declared (model.union members) = true
+is_declared (model.list element) = true
+is_declared (model.map key value) = true
+is_declared _ = false
 
--- the name of a shape
-abbrev pub IsNameOf : Shape → List ℕ → Type 0
-IsNameOf shape name = IsNameIn shape.id name
+-- the shape has a declaration, and this is the name in its id
+abbrev pub is_declared_as : List ℕ → Shape → Bool
+is_declared_as name s = is_declared s.kind && bytes_eq (name_in s.id) name
 
--- the names of shapes, one by one
-abbrev pub AreNamesOf : List Shape → List (List ℕ) → Type 0
-AreNamesOf shapes names = AllZip IsNameOf shapes names
+-- two of these shapes have a declaration and this name in their ids
+abbrev pub is_shared : List Shape → List ℕ → Bool
+is_shared [] name = false
+is_shared (s ∷ shapes) name = is_declared_as name s && list_any (is_declared_as name) shapes || is_shared shapes name
+
+-- the words of tables for scalars, documents and floats
+abbrev pub table_words : List (List ℕ)
+table_words = map (λ p. p.0) simple_targets ++ float_names
+
+abbrev pub is_table_word : List ℕ → Bool
+is_table_word name = list_any (λ word. bytes_eq name word) table_words
+
+-- the name of a shape: the one in its id, but the whole id where that one is a word of tables or two shapes share it
+abbrev pub name_of_shape : Model → Shape → List ℕ
+name_of_shape m s = if is_table_word (name_in s.id) || is_shared m.shapes (name_in s.id) then s.id else name_in s.id
+
+-- the names of the shapes of a model, one by one
+abbrev pub names_of : Model → List (List ℕ)
+names_of m = map (name_of_shape m) m.shapes

@@ -4,8 +4,10 @@ use Rattle.std.specs.Borrow.{Bor}
 use Rattle.std.specs.BTreeSet.{BTreeSet, contains_by}
 use Rattle.std.specs.Cmp.Lexicographic.{slice_cmp}
 use Rattle.std.specs.Ordering.{nat_cmp}
-use Rattle.smithy_model.specs.Model.{Model}
+use Rattle.std.specs.List.{list_any}
+use Rattle.smithy_model.specs.Model.{Shape, Model}
 use Rattle.smithy_model_table.specs.declared.roles.Roles as kept
+use Rattle.smithy_model_table.specs.Naming.{is_declared_as, is_shared}
 use Rattle.smithy_model_table.specs.Bindings.{is_input, is_output, is_error, is_nested}
 
 abbrev pub has_id : BTreeSet (Bor (List ℕ)) → List ℕ → Bool
@@ -24,3 +26,8 @@ pub record AreRolesOf (m : Model) (roles : kept.Roles) : Type 0 where
   pub outputs : (id : List ℕ) → has_id roles.outputs id ≡ is_output m id
   pub errors : (id : List ℕ) → has_id roles.errors id ≡ is_error m id
   pub nested : (number : ℕ) → has_number roles.nested number ≡ is_nested m number
+
+-- the names of these shapes that have a declaration, and those that two of them have
+pub record AreShared (shapes : List Shape) (names shared : BTreeSet (Bor (List ℕ))) : Type 0 where
+  pub there : (name : List ℕ) → has_id names name ≡ list_any (is_declared_as name) shapes
+  pub twice : (name : List ℕ) → has_id shared name ≡ is_shared shapes name

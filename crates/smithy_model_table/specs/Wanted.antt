@@ -7,7 +7,7 @@ use Rattle.smithy_model.specs.Model.{Member, Kind, Shape, Operation, Model}
 use Rattle.smithy_model.specs.Reading.{ids_of}
 use Rattle.smithy_model_table.specs.declared.fault.WantedFault.{WantedFault}
 use Rattle.smithy_model_table.specs.declared.fault.WantedFault.TheVariants as faults
-use Rattle.smithy_model_table.specs.Naming.{name_in}
+use Rattle.smithy_model_table.specs.Naming.{name_in, is_declared}
 use Rattle.smithy_model_table.specs.Leaving.{is_marked}
 
 -- the input or the output of an operation, a shape, or each operation of the service
@@ -42,14 +42,6 @@ operation_ids m = map (λ (o : Operation). o.id) m.operations
 -- the only operation of this id or name
 abbrev pub IsOperationNamed : Model → List ℕ → Operation → Type 0
 IsOperationNamed m name o = (number : ℕ) × IsOnly (operation_ids m) name number × (slice_get m.operations number ≡ Some o)
-
--- a shape of this kind has a declaration
-abbrev pub is_declared : Kind → Bool
-is_declared (model.structure members) = true
-is_declared (model.union members) = true
-is_declared (model.list element) = true
-is_declared (model.map key value) = true
-is_declared _ = false
 
 -- the members of the structure of this number
 abbrev pub members_of : Kind → Option (List Member)

@@ -1,15 +1,14 @@
 //! Which shapes a table can hold.
-ghost use Rattle.std.specs.Prelude.{◌≡◌, ◌≢◌, true, map, IfOk, IfErr};
+ghost use Rattle.std.specs.Prelude.{◌≡◌, ◌<◌, true, false, length, map, IfOk};
 ghost use Rattle.std.specs.List.{list_all};
 ghost use Rattle.smithy_model.specs.Views.{model_view, member_view, kind_view};
-ghost use Rattle.smithy_model_table.specs.Leaving.{is_marked, has_mark, is_outside, is_left_out, is_uncarried, AreSettled, IsNoFurther, AreFewest};
-ghost use Rattle.smithy_model_table.specs.declared.fault.WantedFault.TheVariants as faults;
+ghost use Rattle.smithy_model_table.specs.Leaving.{is_marked, has_mark, is_outside, is_left_out, is_uncarried, IsNoFurther, AreFewest};
+ghost use Rattle.smithy_model_table.specs.Marking.{AreSupported, AreClosed, count_of_unmarked};
 ghost use Rattle.smithy_model_table.specs.Views.{bindings_view};
 
 use crate::bindings::Bindings;
-use crate::fault::WantedFault;
 use smithy_model::{Kind, Member, Model, Shape};
-use std::alloc::Global;
+use std::alloc::{AllocError, Global};
 
 /// Whether a shape is marked; one that isn't there is.
 pub(crate) fn is_marked(marks: &[bool], number: usize) -> bool
@@ -64,48 +63,34 @@ fn is_uncarried(marks: &[bool], shape: &Shape<'_>) -> bool
     }
 }
 
-// Marks what follows from the marks so far.
-fn mark_more(model: &Model<'_>, marks: &mut Vec<bool>)
-    ensures { IsNoFurther (model_view model.now) marks.old.items marks.new.items }
+// Marks what follows from the marks so far, and tells whether there was some.
+fn mark_more(model: &Model<'_>, marks: &mut Vec<bool>) -> bool
+    requires { length marks.now.items ≡ length model.now.shapes.items }
+    ensures further { IsNoFurther (model_view model.now) marks.old.items marks.new.items }
+    ensures supported { AreSupported (model_view model.now) marks.old.items → AreSupported (model_view model.now) marks.new.items }
+    ensures long { length marks.new.items ≡ length marks.old.items }
+    ensures fewer { result ≡ true → count_of_unmarked marks.new.items < count_of_unmarked marks.old.items }
+    ensures closed { result ≡ false → AreClosed (model_view model.now) marks.new.items }
 {
-    for number in 0..model.shapes.len().min(marks.len()) {
+    let mut found = false;
+    for number in 0..model.shapes.len() {
+        if marks[number] {
+            continue;
+        }
         if !is_uncarried(marks, &model.shapes[number]) {
             continue;
         }
         marks[number] = true;
+        found = true;
     }
-}
-
-// Whether each mark follows from the marks.
-fn are_settled(model: &Model<'_>, marks: &[bool]) -> bool
-    ensures { result ≡ true → AreSettled (model_view model.now) marks.now }
-{
-    if marks.len() != model.shapes.len() {
-        return false;
-    }
-    for number in 0..marks.len() {
-        if is_uncarried(marks, &model.shapes[number]) != marks[number] {
-            return false;
-        }
-    }
-    true
+    found
 }
 
 /// For each shape whether nothing of it can stand in a table.
-pub(crate) fn uncarried(alloc: Global, model: &Model<'_>) -> Result<Vec<bool>, WantedFault>
-    ensures fewest { IfOk result (λ marks. AreFewest (model_view model.now) marks.items) }
-    ensures named { IfErr result (λ fault. fault ≢ faults.NoSuchName) }
+pub(crate) fn uncarried(alloc: Global, model: &Model<'_>) -> Result<Vec<bool>, AllocError>
+    ensures { IfOk result (λ marks. AreFewest (model_view model.now) marks.items) }
 {
     let mut marks = Vec::from_elem(alloc, false, model.shapes.len())?;
-    // Each turn but the last marks a shape, so the marks are settled behind the last.
-    for _ in 0..model.shapes.len() {
-        if are_settled(model, &marks) {
-            break;
-        }
-        mark_more(model, &mut marks);
-    }
-    if !are_settled(model, &marks) {
-        return Err(WantedFault::NoDeclaration);
-    }
+    while mark_more(model, &mut marks) {}
     Ok(marks)
 }

@@ -1,15 +1,18 @@
 //! The names of shapes in a table.
-ghost use Rattle.std.specs.Prelude.{◌≡◌, IfOk};
-ghost use Rattle.smithy_model.specs.Views.{model_view};
+ghost use Rattle.std.specs.Prelude.{◌≡◌, ◌||◌, ◌++◌, ℕ, List, [], ◌∷◌, if◌then◌else◌, IfOk, OnOk};
+ghost use Rattle.smithy_model.specs.Model as model;
+ghost use Rattle.smithy_model.specs.Views.{model_view, shape_view};
 ghost use Rattle.smithy_model_table.specs.Declaring.{name_of};
-ghost use Rattle.smithy_model_table.specs.Naming.{IsNameIn, AreNamesOf};
+ghost use Rattle.smithy_model_table.specs.Naming.{name_in, is_shared, is_table_word, names_of};
+ghost use Rattle.smithy_model_table.specs.Roles.{has_id, AreShared};
 ghost use Rattle.smithy_model_table.specs.Views.{names_view};
 
 use crate::finding::name_in;
+use crate::roles::add_id;
 use crate::wanted::is_declared;
-use smithy_model::Model;
+use smithy_model::{Model, Shape};
 use std::alloc::{AllocError, Global};
-use std::collections::BTreeMap;
+use std::collections::BTreeSet;
 
 /// The names of the shapes of a model, by the numbers of the shapes.
 #[derive(Drop)]
@@ -17,62 +20,81 @@ pub(crate) struct Names<'a> {
     pub(crate) names: Vec<&'a str>,
 }
 
-// The words that no declaration has as its name.
-fn is_reserved(name: &str) -> bool {
+// Whether a name is a word of tables, which no declaration has as its name.
+fn is_table_word(name: &str) -> bool
+    ensures { result ≡ is_table_word name.now }
+{
     match name {
-        "boolean"
-        | "byte"
-        | "short"
-        | "integer"
-        | "long"
-        | "string"
-        | "blob"
-        | "bigInteger"
-        | "bigDecimal"
-        | "timestamp"
-        | "document"
-        | "float"
-        | "double" => true,
+        "boolean" => true,
+        "byte" => true,
+        "short" => true,
+        "integer" => true,
+        "long" => true,
+        "string" => true,
+        "blob" => true,
+        "timestamp" => true,
+        "bigInteger" => true,
+        "bigDecimal" => true,
+        "document" => true,
+        "float" => true,
+        "double" => true,
         _ => false,
     }
 }
 
-// How many shapes with a declaration have each name.
-fn counts<'a>(alloc: Global, model: &Model<'a>) -> Result<BTreeMap<&'a str, usize>, AllocError> {
-    let mut counts = BTreeMap::new(alloc);
-    for shape in &model.shapes {
-        if is_declared(&shape.kind) {
-            let name = name_in(shape.id);
-            let earlier: usize = counts.get(&name).copied().unwrap_or(0);
-            counts.insert(name, earlier.saturating_add(1))?;
-        }
+// Adds the name in a shape's id to those that are there, or to those that are there twice, where it has a declaration.
+fn add_shape<'a>(
+    shape: &Shape<'a>,
+    there: &mut BTreeSet<&'a str>,
+    shared: &mut BTreeSet<&'a str>,
+) -> Result<(), AllocError>
+    ensures { OnOk result ((before : List model.Shape) → AreShared before there.old shared.old → AreShared (before ++ shape_view shape.now ∷ []) there.new shared.new) }
+{
+    if !is_declared(&shape.kind) {
+        return Ok(());
     }
-    Ok(counts)
+    let name = name_in(shape.id);
+    if there.contains(name) {
+        return add_id(shared, name);
+    }
+    add_id(there, name)
 }
 
-// The name of a shape: that in its id, where it is no word of tables and no other shape with a declaration has it, and
-// else the whole id.
-fn name_for<'a>(counts: &BTreeMap<&'a str, usize>, id: &'a str) -> &'a str
-    ensures { IsNameIn id.now result.now }
+// The names that two shapes with a declaration have in their ids.
+fn shared_names<'a>(alloc: Global, model: &Model<'a>) -> Result<BTreeSet<&'a str>, AllocError>
+    ensures { IfOk result (λ shared. (name : List ℕ) → has_id shared name ≡ is_shared (model_view model.now).shapes name) }
+{
+    let mut there = BTreeSet::new(alloc);
+    let mut shared = BTreeSet::new(alloc);
+    for shape in &model.shapes {
+        add_shape(shape, &mut there, &mut shared)?;
+    }
+    Ok(shared)
+}
+
+// The name of a shape: the one in its id, but the whole id where that is a word of tables or is shared.
+fn name_for<'a>(shared: &BTreeSet<&'a str>, id: &'a str) -> &'a str
+    ensures { result.now ≡ (if is_table_word (name_in id.now) || has_id shared.now (name_in id.now) then id.now else name_in id.now) }
 {
     let name = name_in(id);
-    let count: usize = counts.get(&name).copied().unwrap_or(0);
-    if is_reserved(name) || count > 1 {
-        id
-    } else {
-        name
+    if is_table_word(name) {
+        return id;
     }
+    if shared.contains(name) {
+        return id;
+    }
+    name
 }
 
 impl<'a> Names<'a> {
     /// The names of the shapes of this model.
     pub(crate) fn of(alloc: Global, model: &Model<'a>) -> Result<Names<'a>, AllocError>
-        ensures { IfOk result (λ names. AreNamesOf (model_view model.now).shapes (names_view names)) }
+        ensures { IfOk result (λ names. names_view names ≡ names_of (model_view model.now)) }
     {
-        let counts = counts(alloc, model)?;
+        let shared = shared_names(alloc, model)?;
         let mut names = Vec::with_capacity(alloc, model.shapes.len())?;
         for shape in &model.shapes {
-            names.push(name_for(&counts, shape.id))?;
+            names.push(name_for(&shared, shape.id))?;
         }
         Ok(Names { names })
     }

@@ -19,8 +19,8 @@ pub(crate) struct Roles<'a> {
     pub(crate) nested: BTreeSet<usize>,
 }
 
-// Adds an id.
-fn add_id<'a>(ids: &mut BTreeSet<&'a str>, id: &'a str) -> Result<(), AllocError>
+/// Adds an id.
+pub(crate) fn add_id<'a>(ids: &mut BTreeSet<&'a str>, id: &'a str) -> Result<(), AllocError>
     ensures { OnOk result (Gains (λ other. bytes_eq id.now other) (has_id ids.old) (has_id ids.new)) }
 {
     ids.insert(id)?;

@@ -5,7 +5,8 @@ ghost use Rattle.smithy_model.specs.Reading.{ids_of};
 ghost use Rattle.smithy_model.specs.Views.{model_view, operation_view, kind_view};
 ghost use Rattle.smithy_model_table.specs.declared.fault.WantedFault.TheVariants as faults;
 ghost use Rattle.smithy_model_table.specs.Views.{wanted_view};
-ghost use Rattle.smithy_model_table.specs.Wanted.{shape, IsIdNamed, IsDeclared, IsOperationNamed, HasNotOne, IsUnknown, operation_ids, is_declared, IsBody, AreRoots, LacksName};
+ghost use Rattle.smithy_model_table.specs.Naming.{is_declared};
+ghost use Rattle.smithy_model_table.specs.Wanted.{shape, IsIdNamed, IsDeclared, IsOperationNamed, HasNotOne, IsUnknown, operation_ids, IsBody, AreRoots, LacksName};
 
 use crate::bodies::{body, service_roots};
 use crate::carried::is_marked;

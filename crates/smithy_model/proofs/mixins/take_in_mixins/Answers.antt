@@ -1,14 +1,39 @@
-use Rattle.std.proofs.Common.{◌≡◌, List, map, true, subst}
-use Rattle.std.specs.List.{list_any}
+use Rattle.std.proofs.Common.{◌≡◌, ◌<◌, ℕ, List, length, map, true, inr, subst, arith}
+use Rattle.std.specs.Prelude.{Bool, not}
+use Rattle.std.proofs.lemmas.Result.{err_from_is_err_and}
+use Rattle.std.proofs.lemmas.List.{length-map}
 use Rattle.smithy_model.specs.declared.model.Shape as kept
+use Rattle.smithy_model.specs.Model.{Shape}
+use Rattle.smithy_model.specs.Mixins.{takes_mixins}
+use Rattle.smithy_model.specs.Mixing.{is_done, AreHalfMixed, IsWaiting}
 use Rattle.smithy_model.specs.Views.{shape_view}
-use Rattle.smithy_model.specs.Faults.{is_mixed}
-use Rattle.smithy_model.specs.declared.fault.ModelFault.TheVariants as faults
-use Rattle.smithy_model.proofs.Kept.{refused_before}
+use Rattle.smithy_model.proofs.Mixing.{half_at_first, all_mixed, circle_left, missed_refused}
 use Rattle.smithy_model.proofs.mixins.take_in_mixins.Goals as goal
+
+pub returns-clause-mixed : goal.returns-clause-mixed
+returns-clause-mixed c =
+    let own = map shape_view c.args.shapes.now.items in
+    let shapes = c.take_in_all.new.shapes.items in
+    let first = subst (λ (xs : List kept.Shape). c.in_ok-done.done.items ≡ map (λ (s : Shape). not (takes_mixins s)) (map shape_view xs)) c.deref.ensures.value
+    c.in_ok-done.ensures in
+    let half = c.in_ok-take_in_all.ensures.mixed own (half_at_first own c.in_ok-done.done.items first) in
+    let all : (k : ℕ) → k < length shapes → is_done c.take_in_all.new.done.items k ≡ true =
+    subst (λ (ds : List Bool). (k : ℕ) → k < length shapes → is_done ds k ≡ true) c.deref-4.ensures.value
+    (subst (λ (xs : List kept.Shape). (k : ℕ) → k < length xs → is_done c.deref-4.result.now k ≡ true) c.deref-3.ensures.value (c.waiting.ensures.none c.in-None.is)) in
+    all_mixed own (map shape_view shapes) c.take_in_all.new.done.items half (λ k less. all k (omega (arith, less, length-map shapes shape_view)))
+
+pub returns-in_err-take_in_all-clause-refused : goal.returns-in_err-take_in_all-clause-refused
+returns-in_err-take_in_all-clause-refused c =
+    let p = err_from_is_err_and c.from_residual-in_err-take_in_all.result c.from_residual-in_err-take_in_all.ensures.1 in
+    rw (p.1, p.2) (missed_refused (map shape_view c.args.shapes.now.items) c.in_err-take_in_all.field-0.0 c.in_err-take_in_all.ensures.refused)
 
 pub returns-in-Some-clause-refused : goal.returns-in-Some-clause-refused
 returns-in-Some-clause-refused c =
-    refused_before (map shape_view c.args.shapes.now.items) (map shape_view c.take_in_all.new.shapes.items) c.in_ok-take_in_all.ensures.kept
-    (faults.BadMixin c.in-Some.id)
-    (subst (λ (shapes : List kept.Shape). list_any (is_mixed c.in-Some.id.now) (map shape_view shapes) ≡ true) c.deref-2.ensures.value c.in-Some.ensures)
+    let own = map shape_view c.args.shapes.now.items in
+    let shapes = c.take_in_all.new.shapes.items in
+    let first = subst (λ (xs : List kept.Shape). c.in_ok-done.done.items ≡ map (λ (s : Shape). not (takes_mixins s)) (map shape_view xs)) c.deref.ensures.value
+    c.in_ok-done.ensures in
+    let half = c.in_ok-take_in_all.ensures.mixed own (half_at_first own c.in_ok-done.done.items first) in
+    let waits = subst (λ (ds : List Bool). IsWaiting (map shape_view shapes) ds c.in-Some.id.now) c.deref-4.ensures.value
+    (subst (λ (xs : List kept.Shape). IsWaiting (map shape_view xs) c.deref-4.result.now c.in-Some.id.now) c.deref-3.ensures.value c.in-Some.ensures.one) in
+    inr (circle_left own (map shape_view shapes) c.take_in_all.new.done.items c.in-Some.id.now half c.in_ok-take_in_all.ensures.held_up waits)

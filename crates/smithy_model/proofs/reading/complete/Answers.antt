@@ -6,7 +6,7 @@ pub returns-in_ok-add_prelude-in-Smithy-clause-whole :
     goal.returns-in_ok-add_prelude-in-Smithy-clause-whole
 returns-in_ok-add_prelude-in-Smithy-clause-whole c = (
   map shape_view c.take_in_mixins.new.shapes.items,
-  rw (c.in-Smithy.is) c.in_ok-take_in_mixins-in-Smithy.ensures.kept,
+  rw (c.in-Smithy.is) c.in_ok-take_in_mixins-in-Smithy.ensures.mixed,
   rw (c.in_ok-add_prelude-in-Smithy.ensures, c.in-Smithy.is) refl,
 )
 

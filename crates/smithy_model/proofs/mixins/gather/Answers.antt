@@ -1,0 +1,57 @@
+use Rattle.std.proofs.Common.{◌≡◌, ◌<◌, ◌∙◌, ℕ, List, [], ◌∷◌, ◌++◌, Bor, length, map, get_or, slice_get, bytes_eq, Some, false, subst, rules, arith}
+use Rattle.std.proofs.lemmas.List.{length-map}
+use Rattle.std.specs.List.{list_any}
+use Rattle.smithy_model.specs.Mixins.{nothing, with_shape}
+use Rattle.smithy_model.specs.Mixing.{IsDone}
+use Rattle.smithy_model.specs.Views.{shape_view, numbers_view, gathered_view}
+use Rattle.smithy_model.proofs.Put.{fold_last}
+use Rattle.smithy_model.proofs.Zip.{zip_next}
+use Rattle.smithy_model.proofs.Mixing.{at_view, id_there, waiting_there, misses}
+use Rattle.smithy_model.proofs.mixins.gather.Goals as goal
+
+pub loop-id-preserved : goal.loop-id-preserved
+loop-id-preserved c =
+    let shapes = map shape_view c.args.shapes.now in
+    let i = c.loop-id.id-index in
+    let d : Bor (List ℕ) = record { ref_ptr = (0, 0); now = [] } in
+    let within : i < length c.args.shape.now.mixins.items = search rules in
+    let mixin = shape_view c.in-Some-done_at.mixin.now in
+    let there = c.in-Some-done_at.ensures.there in
+    let mixins = c.loop-id.invariant.0 in
+    let named = subst (λ (ws : List (Bor (List ℕ))). mixin.id ≡ (get_or ws i d).now) c.deref-id-items.ensures.value
+    (id_there shapes (numbers_view c.args.numbers.now) c.in-Some.number mixin _ c.requires c.in-Some.ensures.found there.0) in (
+      mixins ++ mixin ∷ [],
+      zip_next (IsDone shapes c.args.done.now) (λ (t : Bor (List ℕ)). t.now) c.args.shape.now.mixins.items i d mixins mixin within c.loop-id.invariant.1
+          (c.in-Some.number, there.0, there.1, named),
+      c.in_ok-add_shape.ensures ∙ fold_last with_shape nothing (gathered_view c.loop-id.gathered) mixins mixin c.loop-id.invariant.2,
+    )
+
+pub returns-in_default-clause-refused : goal.returns-in_default-clause-refused
+returns-in_default-clause-refused c =
+    let shapes = map shape_view c.args.shapes.now in
+    let i = c.loop-id.id-index in
+    let d : Bor (List ℕ) = record { ref_ptr = (0, 0); now = [] } in
+    let within : i < length c.args.shape.now.mixins.items = search rules in
+    let ids = numbers_view c.args.numbers.now in
+    let unknown = subst (λ (ws : List (Bor (List ℕ))). list_any (λ other. bytes_eq other (get_or ws i d).now) ids ≡ false) c.deref-id-items.ensures.value
+    (c.number.ensures.unknown c.in_default.is) in
+    λ number at.
+    misses shapes ids number i (shape_view c.args.shape.now) (get_or c.args.shape.now.mixins.items i d).now c.requires at
+    (at_view (λ (t : Bor (List ℕ)). t.now) c.args.shape.now.mixins.items i d within) unknown
+
+pub returns-in_default-done_at-clause-held_up : goal.returns-in_default-done_at-clause-held_up
+returns-in_default-done_at-clause-held_up c =
+    let shapes = map shape_view c.args.shapes.now in
+    let i = c.loop-id.id-index in
+    let d : Bor (List ℕ) = record { ref_ptr = (0, 0); now = [] } in
+    let within : i < length c.args.shape.now.mixins.items = search rules in
+    let ids = numbers_view c.args.numbers.now in
+    let mixins = c.args.shape.now.mixins.items in
+    let found = subst (λ (ws : List (Bor (List ℕ))). slice_get ids c.in-Some.number ≡ Some (get_or ws i d).now) c.deref-id-items.ensures.value
+    c.in-Some.ensures.found in
+    λ none. (
+      i,
+      (get_or mixins i d).now,
+      at_view (λ (t : Bor (List ℕ)). t.now) mixins i d within,
+      waiting_there shapes ids c.args.done.now c.in-Some.number (get_or mixins i d).now c.requires found (λ far. c.done_at.ensures.waiting c.in_default-done_at.is (omega (arith, far, length-map c.args.shapes.now shape_view))),
+    )

@@ -1,0 +1,58 @@
+-- Shapes whose mixins are taken in one after the other.
+use Rattle.std.specs.Prelude.{◌≡◌, ℕ, ◌+◌, List, [], ◌∷◌, length, MatchBool, Bool, true, false, Some, unwrap_or, if◌then◌else◌, slice_get}
+use Rattle.smithy_model.specs.Model.{Shape}
+use Rattle.smithy_model.specs.declared.fault.ModelFault.{ModelFault}
+use Rattle.smithy_model.specs.declared.fault.ModelFault.TheVariants as faults
+use Rattle.smithy_model.specs.Mixins.{takes_mixins, IsMixed, LeadsOn, MissesMixin}
+
+-- the mixins of the shape of this number were taken in
+abbrev pub is_done : List Bool → ℕ → Bool
+is_done done number = unwrap_or (slice_get done number) false
+
+-- one of the shapes whose mixins were taken in is the shape of this id
+abbrev pub IsDone : List Shape → List Bool → List ℕ → Shape → Type 0
+IsDone shapes done id s = (number : ℕ) × (slice_get shapes number ≡ Some s) × (is_done done number ≡ true) × (s.id ≡ id)
+
+-- the shape of this number, which was this one, has its mixins, or stays as it was
+abbrev pub IsHalfMixed : List Shape → List Bool → ℕ → Shape → Type 0
+IsHalfMixed shapes done number own =
+    (s : Shape) × (slice_get shapes number ≡ Some s)
+    × MatchBool (is_done done number) (IsMixed (IsDone shapes done) own s) ((s ≡ own) × (takes_mixins own ≡ true))
+
+-- what was taken in so far
+pub record AreHalfMixed (own shapes : List Shape) (done : List Bool) : Type 0 where
+  pub long : length shapes ≡ length own
+  pub marked : length done ≡ length shapes
+  pub each : (number : ℕ) (o : Shape) → slice_get own number ≡ Some o → IsHalfMixed shapes done number o
+  pub free : (ids : List ℕ → Bool) → LeadsOn own ids → (number : ℕ) (o : Shape) → slice_get own number ≡ Some o
+      → is_done done number ≡ true → ids o.id ≡ false
+
+-- a shape of this id waits for its mixins
+abbrev pub IsWaiting : List Shape → List Bool → List ℕ → Type 0
+IsWaiting shapes done id =
+    (number : ℕ) × (s : Shape) × (slice_get shapes number ≡ Some s) × (is_done done number ≡ false) × (s.id ≡ id)
+
+-- the shape takes in one that waits
+abbrev pub IsHeldUp : List Shape → List Bool → Shape → Type 0
+IsHeldUp shapes done s =
+    (place : ℕ) × (id : List ℕ) × (slice_get s.mixins place ≡ Some id) × IsWaiting shapes done id
+
+-- the shape of this number doesn't wait, or takes in one that waits
+abbrev pub IsSettledAt : List Shape → List Bool → ℕ → Type 0
+IsSettledAt shapes done number =
+    length done ≡ length shapes → (s : Shape) → slice_get shapes number ≡ Some s → is_done done number ≡ false → IsHeldUp shapes done s
+
+-- whatever the shapes were at first, what was taken in so far stays
+abbrev pub TakesIn : (old new : List Shape) → (before behind : List Bool) → Type 0
+TakesIn old new before behind = (own : List Shape) → AreHalfMixed own old before → AreHalfMixed own new behind
+
+-- how many shapes wait
+abbrev pub count_of_waiting : List Bool → ℕ
+count_of_waiting [] = 0
+count_of_waiting (d ∷ done) = (if d then 0 else 1) + count_of_waiting done
+
+-- why mixins aren't taken in, before all are looked at
+abbrev pub MissesIn : List (List ℕ × List (List ℕ)) → ModelFault → Type 0
+MissesIn uses (faults.BadMixin id) = MissesMixin uses id.now
+MissesIn uses faults.NoMemory = Unit {0}
+MissesIn uses _ = ⊥
