@@ -86,7 +86,7 @@ seconds_are_instant n small =
 seconds_mean : (n : ℕ) → n < 1000000 → means Timestamp (a_number (decimal n)) ≡ Some (scalar_value (instant (pos (n * nanos_per_second))))
 seconds_mean n small =
     ap (λ t. means Timestamp (a_number t)) (sym (seconds_text n))
-    ∙ ap (settled kept null_element) (instant_means EpochSeconds (pos (n * nanos_per_second)) (seconds_are_instant n small) refl)
+    ∙ ap (settled kept null_element) (instant_means strict None EpochSeconds refl refl (pos (n * nanos_per_second)) (seconds_are_instant n small) refl)
 
 item_means : (x : ℕ) → json_meaning strict generated_shapes (shape_place 1) 2 (item_tree x) ≡ Some (item_value x)
 item_means x =

@@ -1,11 +1,9 @@
 -- What a token of a grammar says as a kind stands at the place of a scalar, and nothing else does; whatever the grammar.
-use Rattle.std.specs.Prelude.{◌≡◌, ℕ, Bool, true, false, Some, None, if◌then◌else◌, refl}
+use Rattle.std.specs.Prelude.{◌≡◌, ℕ, List, Bool, true, false, Some, None, if◌then◌else◌, refl}
 use Rattle.std.proofs.Common.{◌∙◌, ap}
 use Rattle.smithy_shapes.specs.declared.shape_type.Scalar.{Scalar}
-use Rattle.smithy_shapes.specs.declared.shape_type.TimestampFormat.{TimestampFormat}
 use Rattle.smithy_shapes.specs.declared.place.Place.{Place}
 use Rattle.smithy_shapes.specs.Limits.{Limits}
-use Rattle.smithy_shapes.specs.TimeForms.{form_or}
 use Rattle.smithy_shapes.specs.Table.{scalar_place}
 use Rattle.smithy_shapes.specs.Site.{Site}
 use Rattle.smithy_shapes.specs.Value.{Value, null_element}
@@ -14,13 +12,10 @@ use Rattle.smithy_json_codec.specs.Settings.{Settings}
 use Rattle.smithy_json_codec.specs.Scalar.{JsonScalar, says}
 use Rattle.smithy_json_codec.specs.Tokens.{token_frames}
 use Rattle.smithy_json_codec.specs.LexicalGrammar.{LexicalGrammar, in_grammar, token_rules, token_relations, LiesInGrammar}
+use Rattle.smithy_json_codec.specs.Private.Wire.{tokens_are_wire}
 use Rattle.smithy_wire.specs.Frames.{Frames}
 use Rattle.smithy_wire.specs.Rules.{Answer, no_meaning, wide, uncarried, settled, Rules}
 use Rattle.smithy_wire.specs.Readers.{scalar_stands, stands_scalar, scalar_exceeds, exceeds_scalar, scalar_uncarried, uncarried_scalar}
-
--- the form of instants at a site
-abbrev pub form_at : Settings → Site → TimestampFormat
-form_at o site = form_or o.default_timestamp_format site.place.time
 
 -- what passes the test says what it says without the test
 tested : {A : Type 0} (test : Bool) (a : Answer A) → test ≡ true → (if test then a else no_meaning) ≡ a
@@ -36,6 +31,10 @@ settled_where : {A : Type 0} (limits : Limits) (nil : A) (test : Bool) (a : Answ
 settled_where limits nil true a v h = (refl, h)
 settled_where limits nil false a v h = absurd (let no : None ≡ Some v = h in cc)
 
+-- at one place lies one scalar of the grammar
+pub one_in_grammar : (g : LexicalGrammar) (s : Scalar) (i : List ℕ) (x y : JsonScalar) (a e f : ℕ) → LiesInGrammar g s x i a e → LiesInGrammar g s y i a f → x ≡ y
+one_in_grammar g s i x y a e f h k = ((tokens_are_wire g.Boundary).same_scalar i 0 x y a e f h.0 k.0).0
+
 module _ (g : LexicalGrammar) (o : Settings) (c : Cursor) (site : Site) (s : Scalar) where
   abbrev w : Frames JsonScalar
   w = token_frames g.Boundary
@@ -48,7 +47,7 @@ module _ (g : LexicalGrammar) (o : Settings) (c : Cursor) (site : Site) (s : Sca
 
   -- what the token says at the site
   abbrev said : JsonScalar → Answer Value
-  said x = says s (form_at o site) x
+  said x = says o s site.place.time x
 
   pub says_stands : (x : JsonScalar) (v : Value) (e : ℕ) → LiesInGrammar g s x c.input c.at e → settled o.limits null_element (said x) ≡ Some v
       → (token_relations g o).stands c.input site.table place (depth c) c.at v e

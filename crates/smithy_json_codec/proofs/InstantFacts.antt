@@ -16,7 +16,7 @@ use Rattle.smithy_json.specs.Unescape.{code_unit}
 use Rattle.smithy_wire.specs.Rules.{means, no_meaning, uncarried}
 use Rattle.smithy_json_codec.specs.Scalar.{a_boolean, a_number, a_string, says}
 use Rattle.smithy_json_codec.specs.Meaning.{json_meaning}
-use Rattle.smithy_json_codec.specs.Settings.{Settings, without_limits}
+use Rattle.smithy_json_codec.specs.Settings.{Settings, default_settings, without_limits}
 use Rattle.smithy_json_codec.specs.Canonical.{canonical_json, scalar_text, can_write, json_holds}
 use Rattle.smithy_json_codec.specs.Writing.{fresh_state, json_after}
 use Rattle.smithy_json_codec.proofs.Examples.{plain_member, named, alone, first_alone, strict}
@@ -27,20 +27,32 @@ instant_at n = scalar_value (instant n)
 -- ---- scalars
 
 -- whole nanoseconds, nanoseconds that aren't whole, seconds beyond 64 bits, and no number
-pub seconds : map (says scalars.Timestamp EpochSeconds) (a_number (codes "1.5") ∷ a_number (codes "-5E-1") ∷ a_number (codes "1e-10") ∷ a_number (codes "9223372036854775808") ∷ a_string (codes "0") ∷ a_boolean true ∷ [])
+pub seconds : map (says (strict false) scalars.Timestamp None) (a_number (codes "1.5") ∷ a_number (codes "-5E-1") ∷ a_number (codes "1e-10") ∷ a_number (codes "9223372036854775808") ∷ a_string (codes "0") ∷ a_boolean true ∷ [])
     ≡ means (instant_at (pos 1_500_000_000)) ∷ means (instant_at (neg_ℤ (pos 500_000_000))) ∷ uncarried ∷ no_meaning ∷ no_meaning ∷ no_meaning ∷ []
 seconds = refl
 
 -- a date, one with an escape, an offset, a date of the other form, half a surrogate and no string
-pub date_times : map (says scalars.Timestamp DateTime) (a_string (codes "1970-01-01T00:00:01.5Z") ∷ a_string (codes "1970-01-01T00:00:01\\u005a") ∷ a_string (codes "1970-01-01T00:00:01+00:00") ∷ a_string (codes "Thu, 01 Jan 1970 00:00:01 GMT") ∷ a_string (codes "\\ud800") ∷ a_number (codes "1") ∷ [])
+pub date_times : map (says (strict false) scalars.Timestamp (Some DateTime)) (a_string (codes "1970-01-01T00:00:01.5Z") ∷ a_string (codes "1970-01-01T00:00:01\\u005a") ∷ a_string (codes "1970-01-01T00:00:01+00:00") ∷ a_string (codes "Thu, 01 Jan 1970 00:00:01 GMT") ∷ a_string (codes "\\ud800") ∷ a_number (codes "1") ∷ [])
     ≡ means (instant_at (pos 1_500_000_000)) ∷ means (instant_at (pos 1_000_000_000)) ∷ no_meaning ∷ no_meaning ∷ no_meaning ∷ no_meaning ∷ []
 unfolding smithy_instants_on_literals encode_utf8 code_unit
 date_times = refl
 
-pub http_dates : map (says scalars.Timestamp HttpDate) (a_string (codes "Thu, 01 Jan 1970 00:00:01 GMT") ∷ a_string (codes "1970-01-01T00:00:01Z") ∷ a_boolean false ∷ [])
+pub http_dates : map (says (strict false) scalars.Timestamp (Some HttpDate)) (a_string (codes "Thu, 01 Jan 1970 00:00:01 GMT") ∷ a_string (codes "1970-01-01T00:00:01Z") ∷ a_boolean false ∷ [])
     ≡ means (instant_at (pos 1_000_000_000)) ∷ no_meaning ∷ no_meaning ∷ []
 unfolding smithy_instants_on_literals
 http_dates = refl
+
+-- where forms aren't strict: a number under any form, an offset under date-time, seconds in a string, and without a form a date
+-- and time with an offset, unless that of HTTP is the default
+pub lenient : (map (says default_settings scalars.Timestamp (Some DateTime)) (a_number (codes "1") ∷ a_string (codes "1970-01-01T01:00:01+01:00") ∷ a_string (codes "1") ∷ [])
+    ≡ means (instant_at (pos 1_000_000_000)) ∷ means (instant_at (pos 1_000_000_000)) ∷ no_meaning ∷ [])
+    × (map (says default_settings scalars.Timestamp (Some EpochSeconds)) (a_string (codes "1.5") ∷ a_string (codes "1e1") ∷ []) ≡ means (instant_at (pos 1_500_000_000)) ∷ no_meaning ∷ [])
+    × (map (says default_settings scalars.Timestamp None) (a_string (codes "1970-01-01T00:00:01Z") ∷ a_string (codes "Thu, 01 Jan 1970 00:00:01 GMT") ∷ a_string (codes "1") ∷ [])
+    ≡ means (instant_at (pos 1_000_000_000)) ∷ no_meaning ∷ no_meaning ∷ [])
+    × (map (says (record default_settings { default_timestamp_format = HttpDate }) scalars.Timestamp None) (a_string (codes "1970-01-01T00:00:01Z") ∷ a_string (codes "Thu, 01 Jan 1970 00:00:01 GMT") ∷ [])
+    ≡ no_meaning ∷ means (instant_at (pos 1_000_000_000)) ∷ [])
+unfolding smithy_instants_on_literals
+lenient = (refl, refl, refl, refl)
 
 -- ---- places
 

@@ -17,7 +17,7 @@ use Rattle.smithy_instants.proofs.FractionTexts.{fraction_is}
 use Rattle.smithy_instants.proofs.ReadBack.{written_reads}
 use Rattle.smithy_shapes.specs.declared.shape_type.TimestampFormat.{TimestampFormat}
 use Rattle.smithy_shapes.specs.declared.shape_type.TimestampFormat.TheVariants.{EpochSeconds, DateTime, HttpDate}
-use Rattle.smithy_shapes.specs.TimeForms.{format_of, form_holds}
+use Rattle.smithy_shapes.specs.TimeForms.{format_of, form_or, form_holds}
 use Rattle.smithy_shapes.specs.Value.{instant, scalar_value}
 use Rattle.smithy_shapes.proofs.InstantTexts.{instant_text_is_utf8}
 use Rattle.smithy_shapes.proofs.TimeFormLemmas.{held_writes}
@@ -27,6 +27,7 @@ use Rattle.smithy_json.specs.Unescape.{unescaped}
 use Rattle.smithy_json.specs.Grammar.{IsFrac, IsInt, IsNumber, IsValue}
 use Rattle.smithy_json.proofs.DecimalLemmas.{decimal_is_int}
 use Rattle.smithy_json.proofs.QuotedLemmas.{quoted_is_string, unescaped_of_escaped}
+use Rattle.smithy_json_codec.specs.Settings.{Settings}
 use Rattle.smithy_json_codec.specs.Scalar.{JsonScalar, a_number, a_string, tree_of, seconds_read_as, date_says, timestamp_says}
 use Rattle.smithy_json_codec.proofs.WrittenPlaces.{leaf_bytes}
 use Rattle.smithy_wire.specs.Rules.{means, answer_of}
@@ -102,17 +103,19 @@ date_of_held form n is held =
       reads = written_reads (format_of form) n t is held written;
     }
 
-date_means : (form : TimestampFormat) (n : ℤ) (t : List ℕ) → IsDate form n t → date_says form (unescaped (escaped t)) ≡ means (scalar_value (instant n))
+date_means : (form : TimestampFormat) (n : ℤ) (t : List ℕ) → IsDate form n t → date_says (Some (format_of form)) (unescaped (escaped t)) ≡ means (scalar_value (instant n))
 date_means form n t date =
     ap (λ o. answer_of (option_map (λ n. scalar_value (instant n)) (option_and_then (date_of (format_of form)) o))) (unescaped_of_escaped t)
     ∙ ap (λ o. answer_of (option_map (λ n. scalar_value (instant n)) o)) date.reads
 
 -- ---- in any form
 
-pub instant_means : (form : TimestampFormat) (n : ℤ) → is_instant n ≡ true → form_holds form (instant n) ≡ true → timestamp_says form (instant_leaf form n) ≡ means (scalar_value (instant n))
-instant_means EpochSeconds n is held = ap seconds_read_as (epoch_text_reads n is) ∙ rw is refl
-instant_means DateTime n is held = date_means DateTime n _ (date_of_held DateTime n is held)
-instant_means HttpDate n is held = date_means HttpDate n _ (date_of_held HttpDate n is held)
+-- what is written in the form of a place is read there, where forms are strict
+pub instant_means : (c : Settings) (time : Option TimestampFormat) (form : TimestampFormat) → c.strict_timestamp_formats ≡ true → form_or c.default_timestamp_format time ≡ form
+    → (n : ℤ) → is_instant n ≡ true → form_holds form (instant n) ≡ true → timestamp_says c time (instant_leaf form n) ≡ means (scalar_value (instant n))
+instant_means c time EpochSeconds strict same n is held = rw (strict, same) (ap seconds_read_as (epoch_text_reads n is) ∙ rw is refl)
+instant_means c time DateTime strict same n is held = rw (strict, same) (date_means DateTime n _ (date_of_held DateTime n is held))
+instant_means c time HttpDate strict same n is held = rw (strict, same) (date_means HttpDate n _ (date_of_held HttpDate n is held))
 
 pub instant_is_value : (form : TimestampFormat) (n : ℤ) → is_instant n ≡ true → form_holds form (instant n) ≡ true → IsValue (tree_of (instant_leaf form n)) (leaf_bytes (instant_leaf form n))
 instant_is_value EpochSeconds n is held = (refl, seconds_are_number n is)

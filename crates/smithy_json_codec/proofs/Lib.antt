@@ -50,6 +50,12 @@ pub mod DocumentReads
 pub mod HeldNumbers
 pub mod GrammarReads
 pub mod ScalarReads
+pub mod NumberReads
+pub mod NumberRuns
+pub mod IntegerReads
+pub mod NumberSorts
+pub mod IntegerRules
+pub mod StandardSettings
 pub mod NumberTexts
 pub mod InstantPlaces
 pub mod InstantWriting

@@ -14,11 +14,11 @@ use Rattle.smithy_texts.specs.Decimal.{DecimalForm, integer_form, is_decimal, de
 use Rattle.smithy_texts.specs.Ranges.{fits_signed, is_exponent}
 use Rattle.smithy_texts.proofs.WrittenNumerals.{fits_signed-wide}
 use Rattle.smithy_json.specs.Grammar.{IsNumber}
-use Rattle.smithy_json.specs.Tree.{number, string}
 use Rattle.smithy_json.specs.Unescape.{unescaped}
-use Rattle.smithy_json_codec.specs.Scalar.{JsonScalar, a_boolean, a_number, a_string, tree_of, number_text, big_number, number_says}
-use Rattle.smithy_json_codec.specs.Standing.{TreeLies}
+use Rattle.smithy_json_codec.specs.Scalar.{JsonScalar, a_boolean, a_number, a_string, number_text, big_number, number_says}
+use Rattle.smithy_json_codec.specs.LexicalGrammar.{LexicalGrammar, LiesInGrammar}
 use Rattle.smithy_json_codec.specs.Private.Lexical.{is_numeric, Pass, number_pass}
+use Rattle.smithy_json_codec.specs.Private.ScalarAtPlace.{NothingAt}
 use Rattle.smithy_json_codec.specs.NumberText.{NumberTextLies}
 use Rattle.smithy_wire.specs.Rules.{means, no_meaning, wide}
 use Rattle.smithy_wire.specs.BigNumbers.{is_in_limits, big_decimal}
@@ -27,7 +27,7 @@ use Rattle.smithy_wire.proofs.Bounds.{bounded_exceeds}
 numeric_is_ascii : (b : ℕ) → is_numeric b ≡ true → b < 128
 numeric_is_ascii b h = grind (arith, nat_tests)
 
-pass_is_ascii : (s : List ℕ) → Pass is_numeric s → IsAscii s
+pub pass_is_ascii : (s : List ℕ) → Pass is_numeric s → IsAscii s
 pass_is_ascii [] h i = omega arith
 pass_is_ascii (b ∷ s) h zero = numeric_is_ascii b h.0
 pass_is_ascii (b ∷ s) h (suc i) = pass_is_ascii s h.1 i
@@ -40,21 +40,21 @@ pub says_as_text : (s : Scalar) (x : JsonScalar) (t : List ℕ) → number_text 
 says_as_text s x t is = ap (number_says s) is
 
 -- where no text of a number lies, nothing lies that is one
-pub says_nothing : (s : Scalar) (input : List ℕ) (at : ℕ) → ((text : List ℕ) (e : ℕ) → NumberTextLies input at text e → ⊥)
-    → (x : JsonScalar) (e : ℕ) → TreeLies 1 (tree_of x) input at e → number_says s (number_text x) ≡ no_meaning
-says_nothing s input at none x e lies = by (number_text x) refl
+pub says_nothing : (g : LexicalGrammar) (s : Scalar) (input : List ℕ) (at : ℕ) → ((text : List ℕ) (e : ℕ) → NumberTextLies g s input at text e → ⊥)
+    → NothingAt g s input at
+says_nothing g s input at none x e lies = by (number_text x) refl
   where
     by : (o : Option (List ℕ)) → number_text x ≡ o → number_says s o ≡ no_meaning
     by None is = refl
     by (Some t) is = absurd (none t e (record { found = x; lies = lies; is = is }))
 
 -- no text of a number lies there where neither a number nor a string with a text does
-pub no_number_text : (input : List ℕ) (at : ℕ) → ((raw : List ℕ) (e : ℕ) → TreeLies 1 (number raw) input at e → ⊥)
-    → ((raw : List ℕ) (e : ℕ) → TreeLies 1 (string raw) input at e → (text : List ℕ) → unescaped raw ≡ Some text → ⊥)
-    → (text : List ℕ) (e : ℕ) → NumberTextLies input at text e → ⊥
-no_number_text input at no_number no_string text e h = by h.found h.lies h.is
+pub no_number_text : (g : LexicalGrammar) (s : Scalar) (input : List ℕ) (at : ℕ) → ((raw : List ℕ) (e : ℕ) → LiesInGrammar g s (a_number raw) input at e → ⊥)
+    → ((raw : List ℕ) (e : ℕ) → LiesInGrammar g s (a_string raw) input at e → (text : List ℕ) → unescaped raw ≡ Some text → ⊥)
+    → (text : List ℕ) (e : ℕ) → NumberTextLies g s input at text e → ⊥
+no_number_text g s input at no_number no_string text e h = by h.found h.lies h.is
   where
-    by : (x : JsonScalar) → TreeLies 1 (tree_of x) input at e → number_text x ≡ Some text → ⊥
+    by : (x : JsonScalar) → LiesInGrammar g s x input at e → number_text x ≡ Some text → ⊥
     by (a_boolean b) lies is = cc
     by (a_number raw) lies is = no_number raw e lies
     by (a_string raw) lies is = no_string raw e lies text is

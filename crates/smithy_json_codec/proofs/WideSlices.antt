@@ -5,8 +5,7 @@ use Rattle.std.proofs.lemmas.List.{take-append-drop}
 use Rattle.smithy_shapes.specs.declared.shape_type.Scalar.{Scalar}
 use Rattle.smithy_shapes.specs.declared.shape_type.Scalar.TheVariants as scalars
 use Rattle.smithy_shapes.specs.declared.shape_type.TimestampFormat.{TimestampFormat}
-use Rattle.smithy_shapes.specs.declared.shape_type.TimestampFormat.TheVariants.{EpochSeconds, DateTime, HttpDate}
-use Rattle.smithy_shapes.specs.Value.{instant, scalar_value}
+use Rattle.smithy_shapes.specs.Value.{instant, Value, scalar_value}
 use Rattle.smithy_instants.specs.Instant.{is_instant}
 use Rattle.smithy_instants.specs.Epoch.{epoch_nanos}
 use Rattle.smithy_texts.specs.Decimal.{integer_form, decimal_form}
@@ -17,14 +16,14 @@ use Rattle.smithy_shapes.specs.declared.place.Place.{Place}
 use Rattle.smithy_shapes.specs.Table.{Table, document, kind_of}
 use Rattle.smithy_types.specs.declared.number.Number.{Number}
 use Rattle.smithy_wire.specs.Frames.{UncarriedAt}
-use Rattle.smithy_json_codec.specs.Scalar.{JsonScalar, a_boolean, a_number, a_string, tree_of, number_text, big_number, number_says, seconds_read_as, timestamp_says, says, held_says, document_says}
+use Rattle.smithy_json_codec.specs.Scalar.{JsonScalar, a_boolean, a_number, a_string, tree_of, number_text, big_number, number_says, takes_seconds, seconds_read_as, timestamp_says, says, held_says, document_says}
 use Rattle.smithy_json_codec.specs.Standing.{TreeLies, json_frames, json_rules, json_relations}
 use Rattle.smithy_json_codec.specs.LexicalGrammar.{rfc_8259, in_grammar}
 use Rattle.smithy_json_codec.specs.Private.TokenGrammar.{token_is_tree, answer_in}
 use Rattle.smithy_json_codec.specs.Settings.{Settings}
 use Rattle.smithy_json_codec.specs.Uncarried.{IsUncarriedJson, HasUnheldNumber}
 use Rattle.smithy_json_codec.specs.Wide.{IsWideJson}
-use Rattle.smithy_wire.specs.Rules.{means, no_meaning, wide, uncarried}
+use Rattle.smithy_wire.specs.Rules.{Answer, means, no_meaning, wide, uncarried}
 use Rattle.smithy_wire.proofs.Bounds.{answer_not_wide, answer_is_carried, bounded_is_carried}
 
 text_wide : (s : Scalar) (o : Option (List ℕ)) → number_says s o ≡ wide → (t : List ℕ) × (o ≡ Some t) × (big_number s t ≡ wide)
@@ -39,25 +38,29 @@ seconds_not_wide (Some n) h = not_wide (is_instant n) h
     not_wide true h = cc
     not_wide false h = cc
 
-timestamp_not_wide : (form : TimestampFormat) (x : JsonScalar) → timestamp_says form x ≡ wide → ⊥
-timestamp_not_wide EpochSeconds (a_number raw) h = seconds_not_wide (epoch_nanos raw) h
-timestamp_not_wide EpochSeconds (a_boolean b) h = cc
-timestamp_not_wide EpochSeconds (a_string raw) h = cc
-timestamp_not_wide DateTime x h = answer_not_wide _ h
-timestamp_not_wide HttpDate x h = answer_not_wide _ h
+-- a number says something only where it may stand for an instant
+taken_seconds : (takes : Bool) (a b : Answer Value) → (no_meaning ≡ b → ⊥) → (if takes then a else no_meaning) ≡ b → a ≡ b
+taken_seconds true a b other h = h
+taken_seconds false a b other h = absurd (other h)
+
+timestamp_not_wide : (c : Settings) (time : Option TimestampFormat) (x : JsonScalar) → timestamp_says c time x ≡ wide → ⊥
+timestamp_not_wide c time (a_number raw) h =
+    seconds_not_wide (epoch_nanos raw) (taken_seconds (takes_seconds c time) (seconds_read_as (epoch_nanos raw)) wide (λ no. cc) h)
+timestamp_not_wide c time (a_boolean b) h = answer_not_wide _ h
+timestamp_not_wide c time (a_string raw) h = answer_not_wide _ h
 
 -- only the text of a big number is too wide
-wide_text : (s : Scalar) (form : TimestampFormat) (x : JsonScalar) → says s form x ≡ wide → (t : List ℕ) × (number_text x ≡ Some t) × (big_number s t ≡ wide)
-wide_text scalars.Boolean form x h = absurd (answer_not_wide _ h)
-wide_text scalars.Byte form x h = absurd (answer_not_wide _ h)
-wide_text scalars.Short form x h = absurd (answer_not_wide _ h)
-wide_text scalars.Integer form x h = absurd (answer_not_wide _ h)
-wide_text scalars.Long form x h = absurd (answer_not_wide _ h)
-wide_text scalars.String form x h = absurd (answer_not_wide _ h)
-wide_text scalars.Blob form x h = absurd (answer_not_wide _ h)
-wide_text scalars.Timestamp form x h = absurd (timestamp_not_wide form x h)
-wide_text scalars.BigInteger form x h = text_wide scalars.BigInteger (number_text x) h
-wide_text scalars.BigDecimal form x h = text_wide scalars.BigDecimal (number_text x) h
+wide_text : (c : Settings) (s : Scalar) (time : Option TimestampFormat) (x : JsonScalar) → says c s time x ≡ wide → (t : List ℕ) × (number_text x ≡ Some t) × (big_number s t ≡ wide)
+wide_text c scalars.Boolean time x h = absurd (answer_not_wide _ h)
+wide_text c scalars.Byte time x h = absurd (answer_not_wide _ h)
+wide_text c scalars.Short time x h = absurd (answer_not_wide _ h)
+wide_text c scalars.Integer time x h = absurd (answer_not_wide _ h)
+wide_text c scalars.Long time x h = absurd (answer_not_wide _ h)
+wide_text c scalars.String time x h = absurd (answer_not_wide _ h)
+wide_text c scalars.Blob time x h = absurd (answer_not_wide _ h)
+wide_text c scalars.Timestamp time x h = absurd (timestamp_not_wide c time x h)
+wide_text c scalars.BigInteger time x h = text_wide scalars.BigInteger (number_text x) h
+wide_text c scalars.BigDecimal time x h = text_wide scalars.BigDecimal (number_text x) h
 
 number_parts : (i before raw rest : List ℕ) (a : ℕ) → drop a i ≡ before ++ (raw ++ rest) → i ≡ (take a i ++ before) ++ (raw ++ rest)
 number_parts i before raw rest a is = sym (take-append-drop a i) ∙ ap (λ s. take a i ++ s) is ∙ sym (append_assoc (take a i) before (raw ++ rest))
@@ -68,8 +71,8 @@ string_parts i before raw rest a q is = sym (take-append-drop a i) ∙ ap (λ s.
     regroup : (front before raw rest : List ℕ) (q : ℕ) → front ++ (before ++ ((q ∷ (raw ++ q ∷ [])) ++ rest)) ≡ (front ++ (before ++ q ∷ [])) ++ (raw ++ q ∷ rest)
     regroup front before raw rest q = simp append_assoc
 
-wide_slice : (s : Scalar) (form : TimestampFormat) (x : JsonScalar) (i : List ℕ) (a e : ℕ) → TreeLies 1 (tree_of x) i a e → says s form x ≡ wide → IsWideJson s i
-wide_slice s form x i a e lies leaves = by x lies (wide_text s form x leaves)
+wide_slice : (c : Settings) (s : Scalar) (time : Option TimestampFormat) (x : JsonScalar) (i : List ℕ) (a e : ℕ) → TreeLies 1 (tree_of x) i a e → says c s time x ≡ wide → IsWideJson s i
+wide_slice c s time x i a e lies leaves = by x lies (wide_text c s time x leaves)
   where
     by : (x : JsonScalar) → TreeLies 1 (tree_of x) i a e → (t : List ℕ) × (number_text x ≡ Some t) × (big_number s t ≡ wide) → IsWideJson s i
     by (a_boolean b) lies (t, is, leaves) = cc
@@ -109,12 +112,11 @@ no_nanos (Some n) h = absurd (carried (is_instant n) h)
     carried false h = cc
 
 -- it is a number
-uncarried_number : (form : TimestampFormat) (x : JsonScalar) → timestamp_says form x ≡ uncarried → (raw : List ℕ) × (x ≡ a_number raw) × (epoch_nanos raw ≡ None)
-uncarried_number EpochSeconds (a_number raw) h = (raw, refl, no_nanos (epoch_nanos raw) h)
-uncarried_number EpochSeconds (a_boolean b) h = cc
-uncarried_number EpochSeconds (a_string raw) h = cc
-uncarried_number DateTime x h = absurd (answer_is_carried _ h)
-uncarried_number HttpDate x h = absurd (answer_is_carried _ h)
+uncarried_number : (c : Settings) (time : Option TimestampFormat) (x : JsonScalar) → timestamp_says c time x ≡ uncarried → (raw : List ℕ) × (x ≡ a_number raw) × (epoch_nanos raw ≡ None)
+uncarried_number c time (a_number raw) h =
+    (raw, refl, no_nanos (epoch_nanos raw) (taken_seconds (takes_seconds c time) (seconds_read_as (epoch_nanos raw)) uncarried (λ no. cc) h))
+uncarried_number c time (a_boolean b) h = absurd (answer_is_carried _ h)
+uncarried_number c time (a_string raw) h = absurd (answer_is_carried _ h)
 
 number_is_carried : (s : Scalar) (o : Option (List ℕ)) → number_says s o ≡ uncarried → ⊥
 number_is_carried s None h = cc
@@ -123,23 +125,23 @@ number_is_carried scalars.BigDecimal (Some raw) h = bounded_is_carried _ _ (deci
 number_is_carried _ (Some raw) h = cc
 
 -- of an instant alone
-uncarried_kind : (s : Scalar) (form : TimestampFormat) (x : JsonScalar) → says s form x ≡ uncarried → (s ≡ scalars.Timestamp) × (timestamp_says form x ≡ uncarried)
-uncarried_kind scalars.Boolean form x h = absurd (answer_is_carried _ h)
-uncarried_kind scalars.Byte form x h = absurd (answer_is_carried _ h)
-uncarried_kind scalars.Short form x h = absurd (answer_is_carried _ h)
-uncarried_kind scalars.Integer form x h = absurd (answer_is_carried _ h)
-uncarried_kind scalars.Long form x h = absurd (answer_is_carried _ h)
-uncarried_kind scalars.String form x h = absurd (answer_is_carried _ h)
-uncarried_kind scalars.Blob form x h = absurd (answer_is_carried _ h)
-uncarried_kind scalars.Timestamp form x h = (refl, h)
-uncarried_kind scalars.BigInteger form x h = absurd (number_is_carried scalars.BigInteger (number_text x) h)
-uncarried_kind scalars.BigDecimal form x h = absurd (number_is_carried scalars.BigDecimal (number_text x) h)
+uncarried_kind : (c : Settings) (s : Scalar) (time : Option TimestampFormat) (x : JsonScalar) → says c s time x ≡ uncarried → (s ≡ scalars.Timestamp) × (timestamp_says c time x ≡ uncarried)
+uncarried_kind c scalars.Boolean time x h = absurd (answer_is_carried _ h)
+uncarried_kind c scalars.Byte time x h = absurd (answer_is_carried _ h)
+uncarried_kind c scalars.Short time x h = absurd (answer_is_carried _ h)
+uncarried_kind c scalars.Integer time x h = absurd (answer_is_carried _ h)
+uncarried_kind c scalars.Long time x h = absurd (answer_is_carried _ h)
+uncarried_kind c scalars.String time x h = absurd (answer_is_carried _ h)
+uncarried_kind c scalars.Blob time x h = absurd (answer_is_carried _ h)
+uncarried_kind c scalars.Timestamp time x h = (refl, h)
+uncarried_kind c scalars.BigInteger time x h = absurd (number_is_carried scalars.BigInteger (number_text x) h)
+uncarried_kind c scalars.BigDecimal time x h = absurd (number_is_carried scalars.BigDecimal (number_text x) h)
 
-uncarried_slice : (s : Scalar) (form : TimestampFormat) (x : JsonScalar) (i : List ℕ) (a e : ℕ) → TreeLies 1 (tree_of x) i a e → says s form x ≡ uncarried
+uncarried_slice : (c : Settings) (s : Scalar) (time : Option TimestampFormat) (x : JsonScalar) (i : List ℕ) (a e : ℕ) → TreeLies 1 (tree_of x) i a e → says c s time x ≡ uncarried
     → (s ≡ scalars.Timestamp) × IsUncarriedJson i
-uncarried_slice s form x i a e lies h =
-    let (kind, says) = uncarried_kind s form x h in
-    let (raw, is, none) = uncarried_number form x says in
+uncarried_slice c s time x i a e lies h =
+    let (kind, says) = uncarried_kind c s time x h in
+    let (raw, is, none) = uncarried_number c time x says in
     (kind, number_there raw none (subst (λ y. TreeLies 1 (tree_of y) i a e) is lies))
   where
     number_there : (raw : List ℕ) → epoch_nanos raw ≡ None → TreeLies 1 (number raw) i a e → IsUncarriedJson i
@@ -186,17 +188,17 @@ other_slice x i a e lies h =
 -- ---- by tokens
 
 -- what a token means that lies somewhere, in the grammar alone
-pub wide_token : (s : Scalar) (form : TimestampFormat) (x : JsonScalar) (i : List ℕ) (d a e : ℕ) → json_frames.scalar i d x a e
-    → (if in_grammar rfc_8259 s x then says s form x else no_meaning) ≡ wide → IsWideJson s i
-wide_token s form x i d a e lies h =
-    let there = answer_in s x (says s form x) wide (λ no. cc) h in
-    wide_slice s form x i a e (token_is_tree x i d a e lies there.0) there.1
+pub wide_token : (c : Settings) (s : Scalar) (time : Option TimestampFormat) (x : JsonScalar) (i : List ℕ) (d a e : ℕ) → json_frames.scalar i d x a e
+    → (if in_grammar rfc_8259 s x then says c s time x else no_meaning) ≡ wide → IsWideJson s i
+wide_token c s time x i d a e lies h =
+    let there = answer_in s x (says c s time x) wide (λ no. cc) h in
+    wide_slice c s time x i a e (token_is_tree x i d a e lies there.0) there.1
 
-pub uncarried_token : (s : Scalar) (form : TimestampFormat) (x : JsonScalar) (i : List ℕ) (d a e : ℕ) → json_frames.scalar i d x a e
-    → (if in_grammar rfc_8259 s x then says s form x else no_meaning) ≡ uncarried → (s ≡ scalars.Timestamp) × IsUncarriedJson i
-uncarried_token s form x i d a e lies h =
-    let there = answer_in s x (says s form x) uncarried (λ no. cc) h in
-    uncarried_slice s form x i a e (token_is_tree x i d a e lies there.0) there.1
+pub uncarried_token : (c : Settings) (s : Scalar) (time : Option TimestampFormat) (x : JsonScalar) (i : List ℕ) (d a e : ℕ) → json_frames.scalar i d x a e
+    → (if in_grammar rfc_8259 s x then says c s time x else no_meaning) ≡ uncarried → (s ≡ scalars.Timestamp) × IsUncarriedJson i
+uncarried_token c s time x i d a e lies h =
+    let there = answer_in s x (says c s time x) uncarried (λ no. cc) h in
+    uncarried_slice c s time x i a e (token_is_tree x i d a e lies there.0) there.1
 
 pub other_token : (x : JsonScalar) (i : List ℕ) (d a e : ℕ) → json_frames.scalar i d x a e
     → (if in_grammar rfc_8259 scalars.BigDecimal x then document_says x else no_meaning) ≡ uncarried → HasUnheldNumber i

@@ -1,5 +1,5 @@
 -- What JSON writes for scalars that it holds and for names: it means them, can be written, and is their canonical text.
-use Rattle.std.specs.Prelude.{◌≡◌, ℕ, List, [], ◌∷◌, true, false, Option, Some, None, if◌then◌else◌, refl}
+use Rattle.std.specs.Prelude.{◌≡◌, ℕ, List, [], ◌∷◌, Bool, true, false, Option, Some, None, if◌then◌else◌, refl}
 use Rattle.std.proofs.Common.{subst, sym, ap, ◌∙◌, arith, ◌<◌, ◌^◌, ℤ, pos, negsuc}
 use Rattle.std.specs.Prelude.{unsigned_abs}
 use Rattle.std.specs.List.{list_all}
@@ -28,7 +28,7 @@ use Rattle.smithy_json.proofs.DecimalLemmas.{decimal_is_number, decimal_writes, 
 use Rattle.smithy_json.proofs.QuotedLemmas.{quoted_is_string, unescaped_of_escaped}
 use Rattle.smithy_json_codec.specs.LexicalGrammar.{rfc_8259, in_grammar}
 use Rattle.smithy_json_codec.specs.Scalar.{JsonScalar, a_boolean, a_number, a_string, tree_of, big_number, says}
-use Rattle.smithy_json_codec.specs.Settings.{Settings}
+use Rattle.smithy_json_codec.specs.Settings.{Settings, strict_settings}
 use Rattle.smithy_json_codec.specs.Standing.{json_rules}
 use Rattle.smithy_json_codec.specs.Private.TokenGrammar.{value_is_token, said_in}
 use Rattle.smithy_wire.specs.Rules.{means, no_meaning}
@@ -93,18 +93,19 @@ written_decimal_means m e fits =
     ∙ ap (λ x. Some (record { mantissa_part = m; written_part = e; net_part = x })) w.net_is in
     ap big_decimal form ∙ rw (fits.0, fits.1) refl
 
-scalar_means : (s : Scalar) (form : TimestampFormat) (x : ScalarValue) → is_of s x ≡ true → form_holds form x ≡ true → says s form (leaf_of form x) ≡ means (scalar_value x)
-scalar_means scalars.Boolean form (boolean b) is held = refl
-scalar_means scalars.Byte form (whole n) is held = rw (decimal_writes n (whole_fits scalars.Byte n is), is) refl
-scalar_means scalars.Short form (whole n) is held = rw (decimal_writes n (whole_fits scalars.Short n is), is) refl
-scalar_means scalars.Integer form (whole n) is held = rw (decimal_writes n (whole_fits scalars.Integer n is), is) refl
-scalar_means scalars.Long form (whole n) is held = rw (decimal_writes n (whole_fits scalars.Long n is), is) refl
-scalar_means scalars.String form (text t) is held = rw (unescaped_of_escaped t) refl
-scalar_means scalars.Blob form (bytes b) is held = rw (blob_unescaped b is, blob_back b is) refl
-scalar_means scalars.Timestamp form (instant n) is held = instant_means form n is held
-scalar_means scalars.BigInteger form (whole n) is held = rw (integer_form_of_written n (small_whole n is), is) refl
-scalar_means scalars.BigDecimal form (decimal m e) is held = written_decimal_means m e (decimal_fits scalars.BigDecimal m e is)
-scalar_means _ form _ is held = cc
+scalar_means : (b : Bool) (s : Scalar) (time : Option TimestampFormat) (x : ScalarValue) → is_of s x ≡ true → form_holds (form_or EpochSeconds time) x ≡ true
+    → says (strict_settings b) s time (leaf_of (form_or EpochSeconds time) x) ≡ means (scalar_value x)
+scalar_means names scalars.Boolean time (boolean b) is held = refl
+scalar_means names scalars.Byte time (whole n) is held = rw (decimal_writes n (whole_fits scalars.Byte n is), is) refl
+scalar_means names scalars.Short time (whole n) is held = rw (decimal_writes n (whole_fits scalars.Short n is), is) refl
+scalar_means names scalars.Integer time (whole n) is held = rw (decimal_writes n (whole_fits scalars.Integer n is), is) refl
+scalar_means names scalars.Long time (whole n) is held = rw (decimal_writes n (whole_fits scalars.Long n is), is) refl
+scalar_means names scalars.String time (text t) is held = rw (unescaped_of_escaped t) refl
+scalar_means names scalars.Blob time (bytes b) is held = rw (blob_unescaped b is, blob_back b is) refl
+scalar_means names scalars.Timestamp time (instant n) is held = instant_means (strict_settings names) time (form_or EpochSeconds time) refl refl n is held
+scalar_means names scalars.BigInteger time (whole n) is held = rw (integer_form_of_written n (small_whole n is), is) refl
+scalar_means names scalars.BigDecimal time (decimal m e) is held = written_decimal_means m e (decimal_fits scalars.BigDecimal m e is)
+scalar_means names _ time _ is held = cc
 
 -- a scalar and a name can be written
 scalar_is : (s : Scalar) (form : TimestampFormat) (x : ScalarValue) → is_of s x ≡ true → form_holds form x ≡ true → IsValue (tree_of (leaf_of form x)) (leaf_bytes (leaf_of form x))
@@ -117,15 +118,17 @@ scalar_is s form (bytes b) is held = blob_is_string b (blob_is_bytes s b is)
 scalar_is s form (instant n) is held = instant_is_value form n (instant_fits s n is) held
 
 -- what can be written is in the grammar, so it means what it was written for
-written_means : (s : Scalar) (form : TimestampFormat) (x : ScalarValue) → is_of s x ≡ true → form_holds form x ≡ true
-    → (if in_grammar rfc_8259 s (leaf_of form x) then says s form (leaf_of form x) else no_meaning) ≡ means (scalar_value x)
-written_means s form x is held =
+written_means : (b : Bool) (s : Scalar) (time : Option TimestampFormat) (x : ScalarValue) → is_of s x ≡ true → form_holds (form_or EpochSeconds time) x ≡ true
+    → (if in_grammar rfc_8259 s (leaf_of (form_or EpochSeconds time) x) then says (strict_settings b) s time (leaf_of (form_or EpochSeconds time) x) else no_meaning) ≡ means (scalar_value x)
+written_means b s time x is held =
+    let form = form_or EpochSeconds time in
     let token = value_is_token (leaf_of form x) (leaf_bytes (leaf_of form x)) (scalar_is s form x is held) in
-    said_in s (leaf_of form x) (says s form (leaf_of form x)) no_meaning token.1 ∙ scalar_means s form x is held
+    said_in s (leaf_of form x) (says (strict_settings b) s time (leaf_of form x)) no_meaning token.1 ∙ scalar_means b s time x is held
 
-pub json_reads_leaves : (c : Settings) → ReadsLeaves (json_leaves c) (json_rules c)
-json_reads_leaves c = record {
-  scalar_means = λ s time x is held. written_means s (form_or c.default_timestamp_format time) x is held;
+-- under strict settings
+pub json_reads_leaves : (b : Bool) → ReadsLeaves (json_leaves (strict_settings b)) (json_rules (strict_settings b))
+json_reads_leaves b = record {
+  scalar_means = written_means b;
   key_means = λ key utf8. said_in scalars.String (a_string (escaped key)) (unescaped (escaped key)) None (quoted_is_string key utf8).1 ∙ unescaped_of_escaped key;
 }
 

@@ -47,4 +47,4 @@ canonical_spells b t p view v accepted fits held deep =
     let c = strict_settings b in
     subst (λ bytes. json_spells c t p bytes v) (sym (same_text c t p view v fits))
     (stands_whole c t p _ v
-    (written_stands json_writes json_frames (json_leaves c) (json_rules c) json_writes_frames (json_writes_leaves c) (json_reads_leaves c) (λ held. (json_writes_documents c, json_reads_documents c)) t p view v (named b t accepted) fits held deep tt))
+    (written_stands json_writes json_frames (json_leaves c) (json_rules c) json_writes_frames (json_writes_leaves c) (json_reads_leaves b) (λ held. (json_writes_documents c, json_reads_documents c)) t p view v (named b t accepted) fits held deep tt))

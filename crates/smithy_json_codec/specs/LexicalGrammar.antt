@@ -8,7 +8,6 @@ use Rattle.smithy_texts.specs.Numeral.{are_digits, without_sign, without_minus}
 use Rattle.smithy_texts.specs.Decimal.{is_decimal}
 use Rattle.smithy_shapes.specs.declared.shape_type.Scalar.{Scalar}
 use Rattle.smithy_shapes.specs.declared.shape_type.Scalar.TheVariants as scalars
-use Rattle.smithy_shapes.specs.TimeForms.{form_or}
 use Rattle.smithy_schema.specs.Reading.{Relations}
 use Rattle.smithy_json.specs.Ascii.{quotation_mark, escape, letter_u, space, is_short_escape}
 use Rattle.smithy_json.specs.Grammar.{IsBoundary}
@@ -160,7 +159,7 @@ token_rules g c = record (rules_of c) {
   text_of = λ x. if in_grammar g scalars.String x then text_of x else None;
   says = λ s time x. if in_grammar g s x then (rules_of c).says s time x else no_meaning;
   documents = Some (λ x. if in_grammar g scalars.BigDecimal x then document_says x else no_meaning);
-  mismatches = λ kind time input a. type_mismatches kind (form_or c.default_timestamp_format time) (without_ws (drop a input));
+  mismatches = λ kind time input a. type_mismatches c kind time (without_ws (drop a input));
   may_skip_scalar = is_skipped_in g;
 }
 

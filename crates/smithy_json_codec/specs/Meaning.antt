@@ -3,7 +3,6 @@ use Rattle.std.specs.Prelude.{ℕ, ◌||◌, Option, Some, None, true, false}
 use Rattle.std.specs.Option.{option_map_or}
 use Rattle.smithy_shapes.specs.declared.place.Place.{Place}
 use Rattle.smithy_shapes.specs.Table.{Table, is_document_place}
-use Rattle.smithy_shapes.specs.TimeForms.{form_or}
 use Rattle.smithy_shapes.specs.Value.{Value}
 use Rattle.smithy_json.specs.Tree.{Json, null, boolean, number, string, array, object, Elements, no_elements, element, Members, no_members, member}
 use Rattle.smithy_json_codec.specs.Settings.{Settings, name_of}
@@ -35,7 +34,7 @@ abbrev mutual
 abbrev pub rules_of : Settings → Rules JsonScalar
 rules_of c = record {
   text_of = text_of;
-  says = λ s time x. says s (form_or c.default_timestamp_format time) x;
+  says = says c;
   documents = Some document_says;
   mismatches = λ kind time input a. false;
   skips_count = true;

@@ -15,6 +15,7 @@ pub mod OpenersOfTexts
 pub mod OpenersAtPlaces
 pub mod Wire
 pub mod NodePlaces
+pub mod DateInstants
 pub mod Fits
 pub mod TokenRules
 pub mod TokenMeaning
@@ -25,6 +26,10 @@ pub mod MadeStates
 -- for the clauses of private functions
 pub mod NextInContainer
 pub mod ScalarAtPlace
+pub mod IntegerRules
+pub mod NumberSorts
+pub mod NumberAtPlace
+pub mod InstantAtPlace
 pub mod Skipping
 pub mod OpenDocuments
 pub mod PassedEntries

@@ -1,24 +1,27 @@
--- The scalars of JSON, and what they say as each kind.
-use Rattle.std.specs.Prelude.{ℕ, List, ℤ, Bool, Option, Some, None, option_map, option_and_then, if◌then◌else◌}
+-- The scalars of JSON, and what they say as each kind under some settings.
+use Rattle.std.specs.Prelude.{ℕ, List, ℤ, Bool, true, false, not, ◌||◌, Option, Some, None, option_map, option_and_then, if◌then◌else◌}
 use Rattle.smithy_shapes.specs.declared.shape_type.Scalar.{Scalar}
 use Rattle.smithy_shapes.specs.declared.shape_type.Scalar.TheVariants as scalars
 use Rattle.smithy_shapes.specs.declared.shape_type.TimestampFormat.{TimestampFormat}
-use Rattle.smithy_shapes.specs.declared.shape_type.TimestampFormat.TheVariants.{EpochSeconds}
-use Rattle.smithy_shapes.specs.TimeForms.{format_of}
+use Rattle.smithy_shapes.specs.declared.shape_type.TimestampFormat.TheVariants.{EpochSeconds, DateTime, HttpDate}
+use Rattle.smithy_shapes.specs.TimeForms.{format_of, form_or}
 use Rattle.smithy_shapes.specs.Value.{boolean as boolean_value, whole, text, bytes, instant, Value, scalar_value}
 use Rattle.smithy_types.specs.Document as documents
 use Rattle.smithy_types.specs.Document.{Document}
 use Rattle.smithy_types.specs.declared.number.Number.{Number}
 use Rattle.smithy_json.specs.Tree.{Json, boolean, number, string}
 use Rattle.smithy_json.specs.HeldNumber.{number_of}
-use Rattle.smithy_json.specs.Number.{whole_number}
+use Rattle.smithy_json.specs.Number.{whole_number, signed_number, integral_number}
 use Rattle.smithy_texts.specs.Base64Text.{blob_of}
 use Rattle.smithy_texts.specs.Decimal.{integer_form, decimal_form}
 use Rattle.smithy_texts.specs.Ranges.{fits_signed}
+use Rattle.smithy_instants.specs.declared.format.Format.{Format}
+use Rattle.smithy_instants.specs.declared.format.Format.TheVariants as formats
 use Rattle.smithy_instants.specs.Instant.{is_instant}
 use Rattle.smithy_instants.specs.Epoch.{epoch_nanos}
 use Rattle.smithy_instants.specs.DateText.{date_of}
 use Rattle.smithy_json.specs.Unescape.{unescaped}
+use Rattle.smithy_json_codec.specs.Settings.{Settings}
 use Rattle.smithy_wire.specs.Rules.{Answer, means, no_meaning, uncarried, answer_of}
 use Rattle.smithy_wire.specs.BigNumbers.{big_integer, big_decimal}
 
@@ -38,11 +41,18 @@ abbrev pub boolean_of : JsonScalar → Option Value
 boolean_of (a_boolean b) = Some (scalar_value (boolean_value b))
 boolean_of _ = None
 
--- a number without fraction and exponent that fits so many bits
-abbrev pub whole_of : ℕ → JsonScalar → Option Value
-whole_of bits (a_number raw) =
-    option_and_then (λ (z : ℤ). if fits_signed bits z then Some (scalar_value (whole z)) else None) (whole_number raw)
-whole_of bits _ = None
+-- the integer that a number's text writes: a whole decimal where that is allowed, else digits behind a minus, and where nothing
+-- is strict behind a plus too
+abbrev pub integer_of : Settings → List ℕ → Option ℤ
+integer_of c raw =
+    if c.allow_integral_float_numbers then integral_number raw
+    else (if c.enforce_strictness then whole_number raw else signed_number raw)
+
+-- an integer that fits so many bits
+abbrev pub whole_of : Settings → ℕ → JsonScalar → Option Value
+whole_of c bits (a_number raw) =
+    option_and_then (λ (z : ℤ). if fits_signed bits z then Some (scalar_value (whole z)) else None) (integer_of c raw)
+whole_of c bits _ = None
 
 -- the text of a string
 abbrev pub text_of : JsonScalar → Option (List ℕ)
@@ -75,29 +85,55 @@ abbrev pub seconds_read_as : Option ℤ → Answer Value
 seconds_read_as None = uncarried
 seconds_read_as (Some n) = if is_instant n then means (scalar_value (instant n)) else no_meaning
 
+-- a number may stand for an instant: everywhere, or where forms are strict as seconds alone
+abbrev pub is_epoch_form : TimestampFormat → Bool
+is_epoch_form EpochSeconds = true
+is_epoch_form _ = false
+
+abbrev pub takes_seconds : Settings → Option TimestampFormat → Bool
+takes_seconds c time = not c.strict_timestamp_formats || is_epoch_form (form_or c.default_timestamp_format time)
+
+-- the form of strings where forms are strict: seconds are no string
+abbrev pub strict_form : TimestampFormat → Option Format
+strict_form EpochSeconds = None
+strict_form form = Some (format_of form)
+
+-- the form of strings where forms aren't strict, at a place with this time form or none: a date and time may have an offset, and
+-- of the forms that count where there is none, only that of HTTP is another
+abbrev pub lenient_form : TimestampFormat → Option TimestampFormat → Format
+lenient_form default (Some DateTime) = formats.DateTimeWithOffset
+lenient_form default (Some form) = format_of form
+lenient_form HttpDate None = formats.HttpDate
+lenient_form default None = formats.DateTimeWithOffset
+
+-- the form of a string that stands for an instant, where one may
+abbrev pub string_form : Settings → Option TimestampFormat → Option Format
+string_form c time =
+    if c.strict_timestamp_formats then strict_form (form_or c.default_timestamp_format time)
+    else Some (lenient_form c.default_timestamp_format time)
+
 -- the instant of a text that is a date of the form
-abbrev pub date_says : TimestampFormat → Option (List ℕ) → Answer Value
+abbrev pub date_says : Option Format → Option (List ℕ) → Answer Value
 date_says form date =
-    answer_of (option_map (λ n. scalar_value (instant n)) (option_and_then (date_of (format_of form)) date))
+    answer_of (option_map (λ n. scalar_value (instant n)) (option_and_then (λ f. option_and_then (date_of f) date) form))
 
 -- what a scalar is as an instant: a number of seconds, or a string that is a date
-abbrev pub timestamp_says : TimestampFormat → JsonScalar → Answer Value
-timestamp_says EpochSeconds (a_number raw) = seconds_read_as (epoch_nanos raw)
-timestamp_says EpochSeconds _ = no_meaning
-timestamp_says form x = date_says form (text_of x)
+abbrev pub timestamp_says : Settings → Option TimestampFormat → JsonScalar → Answer Value
+timestamp_says c time (a_number raw) = if takes_seconds c time then seconds_read_as (epoch_nanos raw) else no_meaning
+timestamp_says c time x = date_says (string_form c time) (text_of x)
 
--- what a scalar is as one kind, where instants have this form
-abbrev pub says : Scalar → TimestampFormat → JsonScalar → Answer Value
-says scalars.Boolean form x = answer_of (boolean_of x)
-says scalars.Byte form x = answer_of (whole_of 8 x)
-says scalars.Short form x = answer_of (whole_of 16 x)
-says scalars.Integer form x = answer_of (whole_of 32 x)
-says scalars.Long form x = answer_of (whole_of 64 x)
-says scalars.String form x = answer_of (option_map (λ s. scalar_value (text s)) (text_of x))
-says scalars.Blob form x = answer_of (option_map (λ b. scalar_value (bytes b)) (bytes_of x))
-says scalars.Timestamp form x = timestamp_says form x
-says scalars.BigInteger form x = number_says scalars.BigInteger (number_text x)
-says scalars.BigDecimal form x = number_says scalars.BigDecimal (number_text x)
+-- what a scalar of the grammar is as one kind, at a place with this time form or none
+abbrev pub says : Settings → Scalar → Option TimestampFormat → JsonScalar → Answer Value
+says c scalars.Boolean time x = answer_of (boolean_of x)
+says c scalars.Byte time x = answer_of (whole_of c 8 x)
+says c scalars.Short time x = answer_of (whole_of c 16 x)
+says c scalars.Integer time x = answer_of (whole_of c 32 x)
+says c scalars.Long time x = answer_of (whole_of c 64 x)
+says c scalars.String time x = answer_of (option_map (λ s. scalar_value (text s)) (text_of x))
+says c scalars.Blob time x = answer_of (option_map (λ b. scalar_value (bytes b)) (bytes_of x))
+says c scalars.Timestamp time x = timestamp_says c time x
+says c scalars.BigInteger time x = number_says scalars.BigInteger (number_text x)
+says c scalars.BigDecimal time x = number_says scalars.BigDecimal (number_text x)
 
 -- what a number is as a document: another one than a document holds isn't carried
 abbrev pub held_says : Option Number → Answer (Document Number)

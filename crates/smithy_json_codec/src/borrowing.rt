@@ -31,8 +31,7 @@ impl<'a> BorrowDeserializer<'a> for JsonDeserializer<'a> {
         let at = self.walk.position;
         let found = text_piece_at(self.alloc, input, at);
         let answer = self.walk.take_found(found);
-        let form = self.settings.default_timestamp_format;
-        told(answer, input, at, Scalar::String, form)
+        told(answer, input, at, Scalar::String, None, &self.settings)
     }
 
     fn read_bytes(&mut self, _schema: &Schema<'_>) -> Result<CowSlice<'a, u8, Global>, SerdeError>
@@ -47,7 +46,6 @@ impl<'a> BorrowDeserializer<'a> for JsonDeserializer<'a> {
         let at = self.walk.position;
         let found = bytes_piece_at(self.alloc, input, at);
         let answer = self.walk.take_found(found);
-        let form = self.settings.default_timestamp_format;
-        told(answer, input, at, Scalar::Blob, form)
+        told(answer, input, at, Scalar::Blob, None, &self.settings)
     }
 }

@@ -4,14 +4,15 @@ ghost use Rattle.std.specs.Prelude.{◌≡◌};
 use crate::documents::standing_document_at;
 use crate::frames::{frame, is_structure, missing};
 use crate::input::Input;
-use crate::instants::{form_at, instant_at};
+use crate::instants::instant_at;
+use crate::integers::integer_at;
 use crate::mismatch::{no_object, told};
 use crate::numbers::{big_decimal_at, big_integer_at};
 use crate::places::{InList, InObject, byte_end, next_in_list, next_in_object, null_end};
 use crate::settings::Settings;
 use crate::skip::skipped_end;
 use crate::texts::{blob_at, owned_text, text_at};
-use crate::values::{begins_null, boolean_at, long_at};
+use crate::values::{begins_null, boolean_at};
 use smithy_json_tokens::container_size;
 use smithy_schema::{Scalar, Schema, SerdeError, ShapeDeserializer, Step};
 use smithy_types::{BigDecimal, BigInteger, Blob, DateTime, Document};
@@ -65,7 +66,7 @@ impl ShapeDeserializer for JsonDeserializer<'_> {
     ghost use Rattle.smithy_schema.specs.declared.error.SerdeError.TheVariants.{NoMemory, NotCarried, TooDeep};
     ghost use Rattle.smithy_json_codec.specs.Cursor.{cursor_of, reading_settings_of};
     ghost use Rattle.smithy_json_codec.specs.Settings.{Settings, keep_limits, without_limits};
-    ghost use Rattle.smithy_json_codec.specs.Standing.{json_relations};
+    ghost use Rattle.smithy_json_codec.specs.Standing.{json_grammar, json_relations};
     ghost use Rattle.smithy_json_codec.specs.ContainerSize.{json_sizes};
     ghost use Rattle.smithy_json_codec.specs.Deepest.{OpensTooDeep};
     ghost use Rattle.smithy_json_codec.specs.LexicalGrammar.{rfc_8259};
@@ -321,32 +322,43 @@ impl ShapeDeserializer for JsonDeserializer<'_> {
         let at = self.walk.position;
         let found = boolean_at(input, at);
         let answer = self.walk.take(found);
-        let form = self.settings.default_timestamp_format;
-        told(answer, input, at, Scalar::Boolean, form)
+        told(answer, input, at, Scalar::Boolean, None, &self.settings)
     }
 
     fn read_byte(&mut self, _schema: &Schema<'_>) -> Result<i8, SerdeError> {
         self.walk.ready()?;
-        let found = byte_found(long_at(self.walk.input, self.walk.position));
-        self.walk.take(found)
+        let input = self.walk.input;
+        let at = self.walk.position;
+        let found = byte_found(integer_at(input, at, &self.settings));
+        let answer = self.walk.take(found);
+        told(answer, input, at, Scalar::Byte, None, &self.settings)
     }
 
     fn read_short(&mut self, _schema: &Schema<'_>) -> Result<i16, SerdeError> {
         self.walk.ready()?;
-        let found = short_found(long_at(self.walk.input, self.walk.position));
-        self.walk.take(found)
+        let input = self.walk.input;
+        let at = self.walk.position;
+        let found = short_found(integer_at(input, at, &self.settings));
+        let answer = self.walk.take(found);
+        told(answer, input, at, Scalar::Short, None, &self.settings)
     }
 
     fn read_integer(&mut self, _schema: &Schema<'_>) -> Result<i32, SerdeError> {
         self.walk.ready()?;
-        let found = integer_found(long_at(self.walk.input, self.walk.position));
-        self.walk.take(found)
+        let input = self.walk.input;
+        let at = self.walk.position;
+        let found = integer_found(integer_at(input, at, &self.settings));
+        let answer = self.walk.take(found);
+        told(answer, input, at, Scalar::Integer, None, &self.settings)
     }
 
     fn read_long(&mut self, _schema: &Schema<'_>) -> Result<i64, SerdeError> {
         self.walk.ready()?;
-        let found = long_at(self.walk.input, self.walk.position);
-        self.walk.take(found)
+        let input = self.walk.input;
+        let at = self.walk.position;
+        let found = integer_at(input, at, &self.settings);
+        let answer = self.walk.take(found);
+        told(answer, input, at, Scalar::Long, None, &self.settings)
     }
 
     fn read_string(&mut self, _schema: &Schema<'_>) -> Result<String, SerdeError> {
@@ -355,8 +367,7 @@ impl ShapeDeserializer for JsonDeserializer<'_> {
         let at = self.walk.position;
         let found = text_at(self.alloc, input, at);
         let answer = self.walk.take_found(found);
-        let form = self.settings.default_timestamp_format;
-        told(answer, input, at, Scalar::String, form)
+        told(answer, input, at, Scalar::String, None, &self.settings)
     }
 
     fn read_blob(&mut self, _schema: &Schema<'_>) -> Result<Blob, SerdeError> {
@@ -365,8 +376,7 @@ impl ShapeDeserializer for JsonDeserializer<'_> {
         let at = self.walk.position;
         let found = blob_at(self.alloc, input, at);
         let answer = self.walk.take_found(found);
-        let form = self.settings.default_timestamp_format;
-        told(answer, input, at, Scalar::Blob, form)
+        told(answer, input, at, Scalar::Blob, None, &self.settings)
     }
 
     fn read_big_integer(&mut self, _schema: &Schema<'_>) -> Result<BigInteger, SerdeError>
@@ -376,15 +386,14 @@ impl ShapeDeserializer for JsonDeserializer<'_> {
         ensures fits { IfOk result (λ n. FitsSigned w128 (number n)) }
 
         // The text is kept as it stands in the input: the number's, or what the string's bytes write.
-        ensures text { IfOk result (λ n. NumberTextLies (cursor_of self.old).input (cursor_of self.old).at n (cursor_of self.new).at) }
+        ensures text { IfOk result (λ n. NumberTextLies (json_grammar (reading_settings_of self.old)) scalars.BigInteger (cursor_of self.old).input (cursor_of self.old).at n (cursor_of self.new).at) }
     {
         self.walk.ready()?;
         let input = self.walk.input;
         let at = self.walk.position;
-        let found = big_integer_at(self.alloc, input, at);
+        let found = big_integer_at(self.alloc, input, at, &self.settings);
         let answer = self.walk.take_within(found, SerdeError::TooWide);
-        let form = self.settings.default_timestamp_format;
-        told(answer, input, at, Scalar::BigInteger, form)
+        told(answer, input, at, Scalar::BigInteger, None, &self.settings)
     }
 
     fn read_big_decimal(&mut self, _schema: &Schema<'_>) -> Result<BigDecimal, SerdeError>
@@ -394,25 +403,24 @@ impl ShapeDeserializer for JsonDeserializer<'_> {
         ensures fits { IfOk result (λ n. FitsSigned w128 (mantissa n)) }
 
         // The text is kept as it stands in the input: the number's, or what the string's bytes write.
-        ensures text { IfOk result (λ n. NumberTextLies (cursor_of self.old).input (cursor_of self.old).at n (cursor_of self.new).at) }
+        ensures text { IfOk result (λ n. NumberTextLies (json_grammar (reading_settings_of self.old)) scalars.BigDecimal (cursor_of self.old).input (cursor_of self.old).at n (cursor_of self.new).at) }
     {
         self.walk.ready()?;
         let input = self.walk.input;
         let at = self.walk.position;
-        let found = big_decimal_at(self.alloc, input, at);
+        let found = big_decimal_at(self.alloc, input, at, &self.settings);
         let answer = self.walk.take_within(found, SerdeError::TooWide);
-        let form = self.settings.default_timestamp_format;
-        told(answer, input, at, Scalar::BigDecimal, form)
+        told(answer, input, at, Scalar::BigDecimal, None, &self.settings)
     }
 
     fn read_timestamp(&mut self, schema: &Schema<'_>) -> Result<DateTime, SerdeError> {
         self.walk.ready()?;
-        let form = form_at(schema, self.settings.default_timestamp_format);
+        let time = schema.timestamp_format();
         let input = self.walk.input;
         let at = self.walk.position;
-        let found = instant_at(self.alloc, input, at, form);
+        let found = instant_at(self.alloc, input, at, time, &self.settings);
         let answer = self.walk.take_within(found, SerdeError::NotCarried);
-        told(answer, input, at, Scalar::Timestamp, form)
+        told(answer, input, at, Scalar::Timestamp, time, &self.settings)
     }
 
     fn read_document(&mut self, _schema: &Schema<'_>) -> Result<Document, SerdeError>

@@ -1,21 +1,24 @@
-//! Instants in the form of their place: a number of seconds, or a date as a string.
+//! Instants, as the settings and the form of their place have them read: a number of seconds, or a date as a string.
 
-ghost use Rattle.std.specs.Prelude.{◌≡◌, ◌≢◌, ◌≤◌, length, IfOk, MatchOption};
+ghost use Rattle.std.specs.Prelude.{◌≡◌, ◌≤◌, length, IfOk, MatchOption};
 ghost use Rattle.smithy_instants.specs.Epoch.{epoch_nanos};
-ghost use Rattle.smithy_shapes.specs.declared.shape_type.TimestampFormat.TheVariants.{EpochSeconds};
 ghost use Rattle.smithy_shapes.specs.Site.{site_of};
 ghost use Rattle.smithy_shapes.specs.TimeForms.{form_or};
 ghost use Rattle.smithy_shapes.specs.Value.{instant, scalar_value};
-ghost use Rattle.smithy_json_codec.specs.Scalar.{seconds_read_as};
+ghost use Rattle.smithy_json_codec.specs.Codec.{held_settings};
+ghost use Rattle.smithy_json_codec.specs.LexicalGrammar.{grammar_of};
+ghost use Rattle.smithy_json_codec.specs.Scalar.{takes_seconds, lenient_form, string_form, seconds_read_as};
+ghost use Rattle.smithy_json_codec.specs.Private.InstantAtPlace.{NoSecondsLie, NoDateLies};
 ghost use Rattle.smithy_json_codec.specs.Private.ScalarAtPlace.{InstantLies, UncarriedLies, NoInstantLies};
 ghost use Rattle.smithy_wire.specs.Rules.{means, no_meaning, uncarried};
 ghost use Rattle.smithy_wire.specs.Finding.{MatchFound};
 
-use crate::numbers::number_at;
+use crate::number_runs::{NumberSort, number_of};
+use crate::settings::Settings;
 use crate::texts::text_of;
 use crate::values::string_at;
 use smithy_schema::{Schema, TimestampFormat};
-use smithy_types::{DateTime, EpochError, read_epoch};
+use smithy_types::{DateTime, EpochError, Format, read_epoch};
 use smithy_wire::Found;
 use std::alloc::{AllocError, Global};
 
@@ -24,6 +27,48 @@ pub(crate) fn form_at(schema: &Schema<'_>, default: TimestampFormat) -> Timestam
     ensures { result ≡ form_or default (site_of schema.now).place.time }
 {
     schema.timestamp_format().unwrap_or(default)
+}
+
+/// Whether a number may stand for an instant at a place with this form or none.
+pub(crate) fn takes_seconds(settings: &Settings, time: Option<TimestampFormat>) -> bool
+    ensures { result ≡ takes_seconds (held_settings settings.now) time }
+{
+    if !settings.strict_timestamp_formats {
+        return true;
+    }
+    match time.unwrap_or(settings.default_timestamp_format) {
+        TimestampFormat::EpochSeconds => true,
+        TimestampFormat::DateTime | TimestampFormat::HttpDate => false,
+    }
+}
+
+// The form of strings where forms aren't strict.
+fn lenient_form(default: TimestampFormat, time: Option<TimestampFormat>) -> Format
+    ensures { result ≡ lenient_form default time }
+{
+    match time {
+        Some(TimestampFormat::DateTime) => Format::DateTimeWithOffset,
+        Some(TimestampFormat::HttpDate) => Format::HttpDate,
+        Some(TimestampFormat::EpochSeconds) => Format::EpochSeconds,
+        None => match default {
+            TimestampFormat::HttpDate => Format::HttpDate,
+            TimestampFormat::DateTime | TimestampFormat::EpochSeconds => Format::DateTimeWithOffset,
+        },
+    }
+}
+
+/// The form of a string that stands for an instant at a place with this form or none, where one may.
+pub(crate) fn string_form(settings: &Settings, time: Option<TimestampFormat>) -> Option<Format>
+    ensures { result ≡ string_form (held_settings settings.now) time }
+{
+    if !settings.strict_timestamp_formats {
+        return Some(lenient_form(settings.default_timestamp_format, time));
+    }
+    match time.unwrap_or(settings.default_timestamp_format) {
+        TimestampFormat::EpochSeconds => None,
+        TimestampFormat::DateTime => Some(Format::DateTime),
+        TimestampFormat::HttpDate => Some(Format::HttpDate),
+    }
 }
 
 // The instant of a number of seconds.
@@ -37,12 +82,20 @@ fn instant_of(seconds: &str) -> Found<DateTime>
     }
 }
 
-// The instant of the number of seconds that comes first behind blanks, with its end, where a value may end behind it.
-fn seconds_at(input: &[u8], at: usize) -> Found<(DateTime, usize)>
+// The instant of the number of seconds that comes first behind blanks, with its end, where a number may stand for one.
+fn seconds_at(
+    input: &[u8],
+    at: usize,
+    time: Option<TimestampFormat>,
+    settings: &Settings,
+) -> Found<(DateTime, usize)>
     requires { at ≤ length input.now }
-    ensures { MatchFound result (λ r. InstantLies EpochSeconds input.now at r.0 r.1) (NoInstantLies EpochSeconds input.now at) (UncarriedLies EpochSeconds input.now at) }
+    ensures { MatchFound result (λ r. InstantLies (grammar_of (held_settings settings.now)) (held_settings settings.now) time input.now at r.0 r.1) (NoSecondsLie (grammar_of (held_settings settings.now)) (held_settings settings.now) time input.now at) (UncarriedLies (grammar_of (held_settings settings.now)) (held_settings settings.now) time input.now at) }
 {
-    let Some((seconds, end)) = number_at(input, at) else {
+    if !takes_seconds(settings, time) {
+        return Found::Nothing;
+    }
+    let Some((seconds, end)) = number_of(NumberSort::Decimal, input, at, settings) else {
         return Found::Nothing;
     };
     match instant_of(seconds) {
@@ -52,47 +105,49 @@ fn seconds_at(input: &[u8], at: usize) -> Found<(DateTime, usize)>
     }
 }
 
-// The instant of the string that comes first behind blanks and is a date of the form, with its end, where a value may end
-// behind it.
+// The instant of the string that comes first behind blanks and is a date of the form that strings have at the place, with its end.
 fn date_at(
     alloc: Global,
     input: &[u8],
     at: usize,
-    form: TimestampFormat,
+    time: Option<TimestampFormat>,
+    settings: &Settings,
 ) -> Result<Option<(DateTime, usize)>, AllocError>
-    requires inside { at ≤ length input.now }
-    requires date { form ≢ EpochSeconds }
-    ensures { IfOk result (λ o. MatchOption o (NoInstantLies form input.now at) (λ r. InstantLies form input.now at r.0 r.1)) }
+    requires { at ≤ length input.now }
+    ensures { IfOk result (λ o. MatchOption o (NoDateLies (grammar_of (held_settings settings.now)) (held_settings settings.now) time input.now at) (λ r. InstantLies (grammar_of (held_settings settings.now)) (held_settings settings.now) time input.now at r.0 r.1)) }
 {
+    let Some(form) = string_form(settings, time) else {
+        return Ok(None);
+    };
     let Some(string) = string_at(input, at) else {
         return Ok(None);
     };
     let Some(text) = text_of(alloc, string.text, string.has_escape)? else {
         return Ok(None);
     };
-    match DateTime::from_str(text.as_str(), form.format()) {
+    match DateTime::from_str(text.as_str(), form) {
         Ok(instant) => Ok(Some((instant, string.closing + 1))),
         Err(_) => Ok(None),
     }
 }
 
-// The instant that comes first behind blanks in this form, with its end, where a value may end behind it.
+/// The instant that comes first behind blanks, at a place with this form or none, with its end.
 pub(crate) fn instant_at(
     alloc: Global,
     input: &[u8],
     at: usize,
-    form: TimestampFormat,
+    time: Option<TimestampFormat>,
+    settings: &Settings,
 ) -> Result<Found<(DateTime, usize)>, AllocError>
     requires { at ≤ length input.now }
-    ensures { IfOk result (λ f. MatchFound f (λ r. InstantLies form input.now at r.0 r.1) (NoInstantLies form input.now at) (UncarriedLies form input.now at)) }
+    ensures { IfOk result (λ f. MatchFound f (λ r. InstantLies (grammar_of (held_settings settings.now)) (held_settings settings.now) time input.now at r.0 r.1) (NoInstantLies (grammar_of (held_settings settings.now)) (held_settings settings.now) time input.now at) (UncarriedLies (grammar_of (held_settings settings.now)) (held_settings settings.now) time input.now at)) }
 {
-    match form {
-        TimestampFormat::EpochSeconds => Ok(seconds_at(input, at)),
-        TimestampFormat::DateTime | TimestampFormat::HttpDate => {
-            match date_at(alloc, input, at, form)? {
-                Some(found) => Ok(Found::Value(found)),
-                None => Ok(Found::Nothing),
-            }
-        }
+    match seconds_at(input, at, time, settings) {
+        Found::Value(found) => Ok(Found::Value(found)),
+        Found::Beyond => Ok(Found::Beyond),
+        Found::Nothing => match date_at(alloc, input, at, time, settings)? {
+            Some(found) => Ok(Found::Value(found)),
+            None => Ok(Found::Nothing),
+        },
     }
 }

@@ -1,6 +1,6 @@
 //! Big numbers: the text of a number or a string, and what it is as one.
 
-ghost use Rattle.std.specs.Prelude.{◌≡◌, ◌≤◌, ℕ, List, length, IfSome, IfNone, IfOk, MatchOption, FitsSigned};
+ghost use Rattle.std.specs.Prelude.{◌≡◌, ◌≤◌, true, ℕ, List, length, IfSome, IfNone, IfOk, MatchOption, FitsSigned};
 ghost use Rattle.std.specs.Cow.{cow_str_bytes};
 ghost use Rattle.std.specs.Int.{w128};
 ghost use Rattle.smithy_shapes.specs.declared.shape_type.Scalar.TheVariants as scalars;
@@ -8,13 +8,18 @@ ghost use Rattle.smithy_shapes.specs.Value.{whole, decimal, scalar_value};
 ghost use Rattle.smithy_texts.specs.Numeral.{number as number_of};
 ghost use Rattle.smithy_texts.specs.Decimal.{mantissa, net_exponent};
 ghost use Rattle.smithy_json.specs.Tree.{number};
+ghost use Rattle.smithy_json_codec.specs.Codec.{held_settings};
+ghost use Rattle.smithy_json_codec.specs.LexicalGrammar.{grammar_of};
 ghost use Rattle.smithy_json_codec.specs.Scalar.{big_number};
 ghost use Rattle.smithy_json_codec.specs.Standing.{TreeLies};
 ghost use Rattle.smithy_json_codec.specs.NumberText.{NumberTextLies};
+ghost use Rattle.smithy_json_codec.specs.Private.NumberSorts.{is_big_sort, kind_of_sort};
 ghost use Rattle.smithy_json_codec.specs.Private.ScalarAtPlace.{MeansAt, ExceedsAt, NothingAt};
 ghost use Rattle.smithy_wire.specs.Rules.{means, no_meaning, wide};
 ghost use Rattle.smithy_wire.specs.Finding.{MatchFound};
 
+use crate::number_runs::{NumberSort, number_of};
+use crate::settings::Settings;
 use crate::texts::text_of;
 use crate::values::string_at;
 use smithy_json::number_text::scan_number;
@@ -37,16 +42,19 @@ pub(crate) fn number_at<'a>(input: &'a [u8], at: usize) -> Option<(&'a str, usiz
     Some((text, number.end))
 }
 
-// The text of the number or the string that comes first behind blanks, with its end, where a value may end behind it.
+// The text of the number of the sort, or of the string, that comes first behind blanks, with its end.
 fn number_text_at<'a>(
     alloc: Global,
+    sort: NumberSort,
     input: &'a [u8],
     at: usize,
+    settings: &Settings,
 ) -> Result<Option<(CowStr<'a, Global>, usize)>, AllocError>
-    requires { at ≤ length input.now }
-    ensures { IfOk result (λ o. MatchOption o ((text : List ℕ) (e : ℕ) → NumberTextLies input.now at text e → ⊥) (λ r. NumberTextLies input.now at (cow_str_bytes r.0) r.1)) }
+    requires within { at ≤ length input.now }
+    requires big { is_big_sort sort ≡ true }
+    ensures { IfOk result (λ o. MatchOption o ((text : List ℕ) (e : ℕ) → NumberTextLies (grammar_of (held_settings settings.now)) (kind_of_sort sort) input.now at text e → ⊥) (λ r. NumberTextLies (grammar_of (held_settings settings.now)) (kind_of_sort sort) input.now at (cow_str_bytes r.0) r.1)) }
 {
-    if let Some((text, end)) = number_at(input, at) {
+    if let Some((text, end)) = number_of(sort, input, at, settings) {
         return Ok(Some((CowStr::Borrowed(text), end)));
     }
     let Some(string) = string_at(input, at) else {
@@ -91,18 +99,20 @@ fn big_decimal_of(alloc: Global, text: &str) -> Result<Found<BigDecimal>, AllocE
     }
 }
 
-// The whole number that comes first behind blanks, with its end, where a value may end behind it.
+// The whole number that comes first behind blanks as a big integer is read, with its end.
 pub(crate) fn big_integer_at(
     alloc: Global,
     input: &[u8],
     at: usize,
+    settings: &Settings,
 ) -> Result<Found<(BigInteger, usize)>, AllocError>
     requires { at ≤ length input.now }
-    ensures found { IfOk result (λ f. MatchFound f (λ r. MeansAt scalars.BigInteger input.now at (whole (number_of r.0)) r.1) (NothingAt scalars.BigInteger input.now at) (ExceedsAt scalars.BigInteger input.now at)) }
-    ensures text { IfOk result (λ f. MatchFound f (λ r. NumberTextLies input.now at r.0 r.1) (Unit {0}) (Unit {0})) }
+    ensures found { IfOk result (λ f. MatchFound f (λ r. MeansAt (grammar_of (held_settings settings.now)) scalars.BigInteger input.now at (whole (number_of r.0)) r.1) (NothingAt (grammar_of (held_settings settings.now)) scalars.BigInteger input.now at) (ExceedsAt (grammar_of (held_settings settings.now)) scalars.BigInteger input.now at)) }
+    ensures text { IfOk result (λ f. MatchFound f (λ r. NumberTextLies (grammar_of (held_settings settings.now)) scalars.BigInteger input.now at r.0 r.1) (Unit {0}) (Unit {0})) }
     ensures fits { IfOk result (λ f. MatchFound f (λ r. FitsSigned w128 (number_of r.0)) (Unit {0}) (Unit {0})) }
 {
-    let Some((text, end)) = number_text_at(alloc, input, at)? else {
+    let Some((text, end)) = number_text_at(alloc, NumberSort::BigInteger, input, at, settings)?
+    else {
         return Ok(Found::Nothing);
     };
     match big_integer_of(alloc, text.as_str())? {
@@ -112,18 +122,19 @@ pub(crate) fn big_integer_at(
     }
 }
 
-// The decimal number that comes first behind blanks, with its end, where a value may end behind it.
+// The decimal number that comes first behind blanks as a big decimal is read, with its end.
 pub(crate) fn big_decimal_at(
     alloc: Global,
     input: &[u8],
     at: usize,
+    settings: &Settings,
 ) -> Result<Found<(BigDecimal, usize)>, AllocError>
     requires { at ≤ length input.now }
-    ensures found { IfOk result (λ f. MatchFound f (λ r. MeansAt scalars.BigDecimal input.now at (decimal (mantissa r.0) (net_exponent r.0)) r.1) (NothingAt scalars.BigDecimal input.now at) (ExceedsAt scalars.BigDecimal input.now at)) }
-    ensures text { IfOk result (λ f. MatchFound f (λ r. NumberTextLies input.now at r.0 r.1) (Unit {0}) (Unit {0})) }
+    ensures found { IfOk result (λ f. MatchFound f (λ r. MeansAt (grammar_of (held_settings settings.now)) scalars.BigDecimal input.now at (decimal (mantissa r.0) (net_exponent r.0)) r.1) (NothingAt (grammar_of (held_settings settings.now)) scalars.BigDecimal input.now at) (ExceedsAt (grammar_of (held_settings settings.now)) scalars.BigDecimal input.now at)) }
+    ensures text { IfOk result (λ f. MatchFound f (λ r. NumberTextLies (grammar_of (held_settings settings.now)) scalars.BigDecimal input.now at r.0 r.1) (Unit {0}) (Unit {0})) }
     ensures fits { IfOk result (λ f. MatchFound f (λ r. FitsSigned w128 (mantissa r.0)) (Unit {0}) (Unit {0})) }
 {
-    let Some((text, end)) = number_text_at(alloc, input, at)? else {
+    let Some((text, end)) = number_text_at(alloc, NumberSort::Decimal, input, at, settings)? else {
         return Ok(Found::Nothing);
     };
     match big_decimal_of(alloc, text.as_str())? {

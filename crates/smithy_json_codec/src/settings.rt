@@ -1,7 +1,9 @@
 //! The settings under which bodies are read and written.
 ghost use Rattle.std.specs.Prelude.{◌≡◌, ◌≤◌, true, false};
 ghost use Rattle.smithy_json.specs.NumberGrammar.{standard_numbers};
+ghost use Rattle.smithy_json_codec.specs.Private.IntegerRules.{integer_rule};
 
+use crate::integers::IntegerRule;
 use smithy_json::number_grammar::NumberGrammar;
 use smithy_schema::TimestampFormat;
 
@@ -35,6 +37,8 @@ pub(crate) struct Settings {
     pub(crate) use_string_for_arbitrary_precision: bool,
     /// Whether the text of a big number that is no JSON number is rewritten as one.
     pub(crate) normalize_arbitrary_precision: bool,
+    /// The rule for integers that the settings make.
+    pub(crate) integers: IntegerRule,
     ghost greatest: { max_depth ≤ 512 },
     ghost is_strict: { enforce_strictness ≡ true },
     ghost no_integral_floats: { allow_integral_float_numbers ≡ false },
@@ -44,6 +48,7 @@ pub(crate) struct Settings {
     ghost forms_are_strict: { strict_timestamp_formats ≡ true },
     ghost no_strings: { use_string_for_arbitrary_precision ≡ false },
     ghost no_rewriting: { normalize_arbitrary_precision ≡ false },
+    ghost rule: { integers ≡ integer_rule enforce_strictness allow_integral_float_numbers numbers },
 }
 
 impl Settings {
@@ -70,6 +75,7 @@ impl Settings {
             dispatch_null_members: false,
             use_string_for_arbitrary_precision: false,
             normalize_arbitrary_precision: false,
+            integers: IntegerRule::Standard,
         }
     }
 }

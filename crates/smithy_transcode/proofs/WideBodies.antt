@@ -6,9 +6,7 @@ use Rattle.smithy_shapes.specs.declared.shape_type.Scalar.TheVariants.{Timestamp
 use Rattle.smithy_shapes.specs.declared.shape_type.TimestampFormat.{TimestampFormat}
 use Rattle.smithy_shapes.specs.Table.{Table, Kind, scalar, document, kind_of, shape_place, IsStructure, IsInside}
 use Rattle.smithy_schema.specs.Reading.{Cursor, depth, Exceeds, ExceedsInside, Uncarried, UncarriedInside}
-use Rattle.smithy_shapes.specs.TimeForms.{form_or}
 use Rattle.smithy_json_codec.specs.Codec.{strict_settings}
-use Rattle.smithy_json_codec.specs.Settings.{Settings}
 use Rattle.smithy_json_codec.specs.Standing.{json_frames, json_rules}
 use Rattle.smithy_json_codec.proofs.WideSlices.{wide_token, uncarried_token, other_token}
 use Rattle.smithy_cbor_codec.specs.Codec.{strict_settings as strict_cbor}
@@ -28,10 +26,6 @@ too_wide_scalar : {L : Type 0} (r : Rules L) (k : Kind) (time : Option Timestamp
 too_wide_scalar r (scalar s) time x h = (s, refl, h)
 too_wide_scalar r _ time x h = absurd h
 
--- the form of instants at a place of JSON
-abbrev form_at : Bool → Place → TimestampFormat
-form_at b q = let c : Settings = strict_settings b in form_or c.default_timestamp_format q.time
-
 -- the bytes have a big number that leaves the limits of the kind
 abbrev Leaves : Wire → List ℕ → Kind → Type 0
 Leaves w bytes k = (s : Scalar) × (k ≡ scalar s) × HasWide w s bytes
@@ -40,7 +34,7 @@ Leaves w bytes k = (s : Scalar) × (k ≡ scalar s) × HasWide w s bytes
 exceeds_slice : (w : Wire) (t : Table) (q : Place) (c : Cursor) → IsReadable w → Exceeds (relations_of w) c t q → Leaves w c.input (kind_of t q)
 exceeds_slice (json b) t q c read (e, (x, lies, leaves)) =
     let s = too_wide_scalar (json_rules (strict_settings b)) (kind_of t q) q.time x leaves in
-    (s.0, s.1, wide_token s.0 (form_at b q) x c.input (depth c) c.at e lies s.2)
+    (s.0, s.1, wide_token (strict_settings b) s.0 q.time x c.input (depth c) c.at e lies s.2)
 exceeds_slice cbor t q c read (e, (x, lies, leaves)) =
     let s = too_wide_scalar (cbor_rules strict_cbor) (kind_of t q) q.time x leaves in
     (s.0, s.1, cbor_wide_slice s.0 q.time x c.input c.at e lies.1 s.2)
@@ -53,7 +47,7 @@ HasOther w bytes document = HasUncarriedPart w bytes
 HasOther w bytes _ = ⊥
 
 json_other : (b : Bool) (q : Place) (k : Kind) (i : List ℕ) (d a e : ℕ) → UncarriedAt json_frames (json_rules (strict_settings b)) k q.time i d a e → HasOther (json b) i k
-json_other b q (scalar s) i d a e (x, lies, other) = uncarried_token s (form_at b q) x i d a e lies other
+json_other b q (scalar s) i d a e (x, lies, other) = uncarried_token (strict_settings b) s q.time x i d a e lies other
 json_other b q document i d a e h = let (deeper, c, x, ahead, lies, other) = h in other_token x i deeper c e lies other
 json_other b q _ i d a e (x, lies, other) = absurd other
 

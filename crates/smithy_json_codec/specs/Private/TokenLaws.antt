@@ -10,7 +10,6 @@ use Rattle.smithy_shapes.specs.Fits.{Fits}
 use Rattle.smithy_shapes.specs.Lemmas.Options.{same_some, chosen}
 use Rattle.smithy_schema.specs.Reading.{Mark, IsLawful, IsBelow, CountsOpeners}
 use Rattle.smithy_shapes.specs.Table.{Table, scalar, kind_of}
-use Rattle.smithy_shapes.specs.TimeForms.{form_or}
 use Rattle.smithy_shapes.specs.Value.{Value, null_element}
 use Rattle.smithy_json.proofs.TextLemmas.{unescaped_is_utf8}
 use Rattle.smithy_shapes.specs.declared.shape_type.Scalar.TheVariants as scalars
@@ -46,9 +45,8 @@ module _ (c : Settings) where
   says : (i : List ℕ) (d : ℕ) (x : JsonScalar) (a e : ℕ) → json_frames.scalar i d x a e → (t : Table) (p : Place) (s : Scalar) (v : Value)
       → kind_of t p ≡ scalar s → c.limits ≡ kept → settled c.limits null_element ((json_rules c).says s p.time x) ≡ Some v → Fits t p v
   says i d x a e lies t p s v kind keeps h =
-      let form = form_or c.default_timestamp_format p.time in
-      let there = settled_in c.limits null_element s x (says_as s form x) v h in
-      says_fits i d x a e (token_is_tree x i d a e lies there.0) t p s v kind form (settled_means c.limits null_element (says_as s form x) v keeps there.1)
+      let there = settled_in c.limits null_element s x (says_as c s p.time x) v h in
+      says_fits i d x a e (token_is_tree x i d a e lies there.0) t p s v kind c p.time (settled_means c.limits null_element (says_as c s p.time x) v keeps there.1)
 
   documents : (i : List ℕ) (d : ℕ) (x : JsonScalar) (a e : ℕ) → json_frames.scalar i d x a e
       → (says : JsonScalar → Answer (Document Number)) (v : Document Number) → (json_rules c).documents ≡ Some says → says x ≡ means v

@@ -3,35 +3,51 @@ use Rattle.std.specs.Cow.{cow_str_bytes}
 use Rattle.smithy_instants.specs.DateText.{date_of}
 use Rattle.smithy_json.specs.Tree.{string}
 use Rattle.smithy_json.specs.Unescape.{unescaped}
-use Rattle.smithy_shapes.specs.TimeForms.{format_of}
+use Rattle.smithy_shapes.specs.declared.shape_type.Scalar.TheVariants as scalars
 use Rattle.smithy_shapes.specs.Lemmas.Options.{same_some}
-use Rattle.smithy_json_codec.proofs.InstantPlaces.{date_lies, no_date_lies}
+use Rattle.smithy_json_codec.specs.Codec.{held_settings}
+use Rattle.smithy_json_codec.specs.LexicalGrammar.{grammar_of}
+use Rattle.smithy_json_codec.proofs.InstantPlaces.{no_strings, date_lies, no_date_lies}
 use Rattle.smithy_json_codec.proofs.ReaderLemmas.{one_tree}
+use Rattle.smithy_json_codec.proofs.StandardSettings.{string_in, in_string}
 use Rattle.smithy_json_codec.proofs.TextLemmas.{no_text_lies}
 use Rattle.smithy_json_codec.proofs.instants.date_at.Goals as goal
 
 pub returns-in_default : goal.returns-in_default
 returns-in_default c =
-    no_date_lies c.args.form c.args.input.now c.args.at c.requires.date (λ raw e lies text is. absurd (c.in_default.ensures.none raw e lies))
+    let s = held_settings c.args.settings.now in
+    no_strings (grammar_of s) s c.args.time c.args.input.now c.args.at (sym c.string_form.ensures ∙ c.in_default.is)
+
+pub returns-in_default-string_at : goal.returns-in_default-string_at
+returns-in_default-string_at c =
+    let s = held_settings c.args.settings.now in
+    no_date_lies (grammar_of s) s c.args.time c.args.input.now c.args.at c.in-Some.form (sym c.string_form.ensures ∙ c.in-Some.is)
+    (λ raw e lies text is. absurd (c.in_default-string_at.ensures.none raw e (in_string c.args.settings.now scalars.Timestamp raw c.args.input.now c.args.at e lies)))
 
 pub returns-in-Ok : goal.returns-in-Ok
 returns-in-Ok c =
+    let s = held_settings c.args.settings.now in
     let told = c.in_ok-text.ensures.text ∙ ap (option_map cow_str_bytes) c.in-Some-2.is in
-    let read = c.in-Ok.ensures ∙ ap (λ f. date_of f c.as_str.result.now) c.format.ensures ∙ ap (date_of (format_of c.args.form)) c.as_str.ensures.value in
-    date_lies c.args.form c.args.input.now c.args.at _ c.in-Some.string.text.now _ c.in-Ok.instant c.requires.date c.in-Some.ensures.found told (sym read)
+    let read = c.in-Ok.ensures ∙ ap (date_of c.in-Some.form) c.as_str.ensures.value in
+    date_lies (grammar_of s) s c.args.time c.args.input.now c.args.at c.in-Some.form (sym c.string_form.ensures ∙ c.in-Some.is) _ c.in-Some-string_at.string.text.now _ c.in-Ok.instant
+    (string_in c.args.settings.now scalars.Timestamp c.in-Some-string_at.string.text.now c.args.input.now c.args.at _ c.in-Some-string_at.ensures.found) told (sym read)
 
 pub returns : goal.returns
 returns c =
+    let s = held_settings c.args.settings.now in
     let told = c.in_ok-text.ensures.text ∙ ap (option_map cow_str_bytes) c.in-Some-2.is in
-    let read = c.in-Err.ensures ∙ ap (λ f. date_of f c.as_str.result.now) c.format.ensures ∙ ap (date_of (format_of c.args.form)) c.as_str.ensures.value in
-    no_date_lies c.args.form c.args.input.now c.args.at c.requires.date (λ other e lies text is.
-    let raw = c.in-Some.string.text.now in
-    let same = (one_tree 1 1 (string other) (string raw) c.args.input.now c.args.at e _ lies c.in-Some.ensures.found).0 in
+    let read = c.in-Err.ensures ∙ ap (date_of c.in-Some.form) c.as_str.ensures.value in
+    no_date_lies (grammar_of s) s c.args.time c.args.input.now c.args.at c.in-Some.form (sym c.string_form.ensures ∙ c.in-Some.is) (λ other e lies text is.
+    let raw = c.in-Some-string_at.string.text.now in
+    let tree = in_string c.args.settings.now scalars.Timestamp other c.args.input.now c.args.at e lies in
+    let same = (one_tree 1 1 (string other) (string raw) c.args.input.now c.args.at e _ tree c.in-Some-string_at.ensures.found).0 in
     let raws : other ≡ raw = cc in
-    ap (date_of (format_of c.args.form)) (same_some text _ (sym is ∙ ap unescaped raws ∙ told)) ∙ sym read)
+    ap (date_of c.in-Some.form) (same_some text _ (sym is ∙ ap unescaped raws ∙ told)) ∙ sym read)
 
 pub returns-in_default-2 : goal.returns-in_default-2
 returns-in_default-2 c =
+    let s = held_settings c.args.settings.now in
     let none = c.in_ok-text.ensures.text ∙ ap (option_map cow_str_bytes) c.in_default-2.is in
-    no_date_lies c.args.form c.args.input.now c.args.at c.requires.date (λ raw e lies text is.
-    absurd (no_text_lies c.args.input.now c.args.at c.in-Some.string.text.now _ c.in-Some.ensures.found none text e (record { raw = raw; lies = lies; is = is })))
+    no_date_lies (grammar_of s) s c.args.time c.args.input.now c.args.at c.in-Some.form (sym c.string_form.ensures ∙ c.in-Some.is) (λ raw e lies text is.
+    absurd (no_text_lies c.args.input.now c.args.at c.in-Some-string_at.string.text.now _ c.in-Some-string_at.ensures.found none text e
+    (record { raw = raw; lies = in_string c.args.settings.now scalars.Timestamp raw c.args.input.now c.args.at e lies; is = is })))

@@ -1,5 +1,6 @@
 use Rattle.std.proofs.Common.{◌≡◌, drop, refl, sym, ap, ◌∙◌}
 use Rattle.std.proofs.lemmas.List.{take_rest}
+use Rattle.smithy_json_codec.specs.Codec.{held_settings}
 use Rattle.smithy_json_codec.specs.Standing.{without_ws}
 use Rattle.smithy_json_codec.specs.TypeMismatch.{scalar_mismatches}
 use Rattle.smithy_json_codec.proofs.ScannedPlaces.{rest_behind}
@@ -13,14 +14,14 @@ pub returns-then-is_mismatch : goal.returns-then-is_mismatch
 returns-then-is_mismatch c =
     let i = c.args.input.now in
     let start = c.skip_blanks.result in
-    let same : c.is_mismatch.result ≡ scalar_mismatches c.args.kind c.args.form (without_ws (drop c.args.at i)) =
-    c.is_mismatch.ensures ∙ ap (scalar_mismatches c.args.kind c.args.form) (take_rest i start ∙ sym (rest_behind i c.args.at start c.skip_blanks.ensures)) in
+    let same : c.is_mismatch.result ≡ scalar_mismatches (held_settings c.args.settings.now) c.args.kind c.args.time (without_ws (drop c.args.at i)) =
+    c.is_mismatch.ensures ∙ ap (scalar_mismatches (held_settings c.args.settings.now) c.args.kind c.args.time) (take_rest i start ∙ sym (rest_behind i c.args.at start c.skip_blanks.ensures)) in
     rw (sym same ∙ c.if-is_mismatch.true, c.in-InvalidInput.is) refl
 
 pub returns-else-is_mismatch : goal.returns-else-is_mismatch
 returns-else-is_mismatch c =
     let i = c.args.input.now in
     let start = c.skip_blanks.result in
-    let same : c.is_mismatch.result ≡ scalar_mismatches c.args.kind c.args.form (without_ws (drop c.args.at i)) =
-    c.is_mismatch.ensures ∙ ap (scalar_mismatches c.args.kind c.args.form) (take_rest i start ∙ sym (rest_behind i c.args.at start c.skip_blanks.ensures)) in
+    let same : c.is_mismatch.result ≡ scalar_mismatches (held_settings c.args.settings.now) c.args.kind c.args.time (without_ws (drop c.args.at i)) =
+    c.is_mismatch.ensures ∙ ap (scalar_mismatches (held_settings c.args.settings.now) c.args.kind c.args.time) (take_rest i start ∙ sym (rest_behind i c.args.at start c.skip_blanks.ensures)) in
     rw (sym same ∙ c.if-is_mismatch.false, c.in-InvalidInput.is) refl

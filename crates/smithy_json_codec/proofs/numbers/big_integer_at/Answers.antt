@@ -1,12 +1,14 @@
 use Rattle.std.proofs.Common.{sym, ◌∙◌, ap}
 use Rattle.smithy_shapes.specs.declared.shape_type.Scalar.TheVariants as scalars
 use Rattle.smithy_json_codec.specs.Scalar.{number_text, big_number, number_says}
-use Rattle.smithy_json_codec.specs.Private.Wire.{one_scalar}
+use Rattle.smithy_json_codec.specs.Codec.{held_settings}
+use Rattle.smithy_json_codec.specs.LexicalGrammar.{grammar_of}
+use Rattle.smithy_json_codec.proofs.GrammarReads.{one_in_grammar}
 use Rattle.smithy_json_codec.proofs.NumberTexts.{says_as_text, says_nothing}
 use Rattle.smithy_json_codec.proofs.numbers.big_integer_at.Goals as goal
 
 pub returns-in_default-clause-found : goal.returns-in_default-clause-found
-returns-in_default-clause-found c = says_nothing scalars.BigInteger c.args.input.now c.args.at (rw c.in_default.is at c.in_ok-text.ensures)
+returns-in_default-clause-found c = says_nothing (grammar_of (held_settings c.args.settings.now)) scalars.BigInteger c.args.input.now c.args.at (rw c.in_default.is at c.in_ok-text.ensures)
 
 pub returns-in-Value-clause-found : goal.returns-in-Value-clause-found
 returns-in-Value-clause-found c =
@@ -21,7 +23,7 @@ pub returns-in-Nothing-clause-found : goal.returns-in-Nothing-clause-found
 returns-in-Nothing-clause-found c =
     let number = rw c.in-Some.is at c.in_ok-text.ensures in
     λ x e lies.
-    let same = one_scalar c.args.input.now x number.found c.args.at e _ lies number.lies in
+    let same = one_in_grammar (grammar_of (held_settings c.args.settings.now)) scalars.BigInteger c.args.input.now x number.found c.args.at e _ lies number.lies in
     ap (λ y. number_says scalars.BigInteger (number_text y)) same ∙ says_as_text scalars.BigInteger number.found _ number.is
     ∙ ap (big_number scalars.BigInteger) (sym c.as_str.ensures.value) ∙ (rw c.in-Nothing.is at c.in_ok-number.ensures.answer)
 

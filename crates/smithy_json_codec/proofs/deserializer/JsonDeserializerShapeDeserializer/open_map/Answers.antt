@@ -32,7 +32,7 @@ returns-in-None-clause-invalid c =
 pub returns-in-None-clause-told : goal.returns-in-None-clause-told
 returns-in-None-clause-told c =
     let same : c.ready.new.self ≡ c.args.self.now.walk = c.in_ok-ready.ensures.ok in
-    λ due. rw c.refuse.ensures.error (map_told _ _ _ c.requires.place (rw same at c.in-None.ensures.other))
+    λ due. rw c.refuse.ensures.error (map_told (reading_settings_of c.args.self.now) _ _ _ c.requires.place (rw same at c.in-None.ensures.other))
 
 pub returns-in-None-clause-undue : goal.returns-in-None-clause-undue
 returns-in-None-clause-undue c = λ undue.

@@ -70,7 +70,7 @@ returns-in-None-clause-told c =
     let same : c.ready.new.self ≡ c.args.self.now.walk = c.in_ok-ready.ensures.ok in
     λ due. rw c.refuse.ensures.error
     (subst (λ b. TellsType b c.no_object-error.result)
-    (members_told _ _ _ c.requires.place c.is_structure-in-None.result c.is_structure-in-None.ensures (rw same at c.in-None.ensures.other))
+    (members_told (reading_settings_of c.args.self.now) _ _ _ c.requires.place c.is_structure-in-None.result c.is_structure-in-None.ensures (rw same at c.in-None.ensures.other))
     (rw same at c.no_object-error.ensures.told))
 
 pub returns-in-None-clause-undue : goal.returns-in-None-clause-undue

@@ -1,6 +1,6 @@
-use Rattle.std.proofs.Common.{◌≡◌, ◌≤◌, length, refl, sym, ◌∙◌, rules, arith}
+use Rattle.std.proofs.Common.{◌≡◌, ◌≤◌, length, refl, subst, sym, ◌∙◌, rules, arith}
 use Rattle.std.proofs.lemmas.Grind.{common_steps}
-use Rattle.std.specs.Prelude.{FitsSigned}
+use Rattle.std.specs.Prelude.{FitsSigned, IfOk}
 use Rattle.std.specs.Int.{w128}
 use Rattle.smithy_schema.specs.declared.error.SerdeError.TheVariants.{TooWide}
 use Rattle.smithy_shapes.specs.declared.shape_type.Scalar.TheVariants as scalars
@@ -10,7 +10,11 @@ use Rattle.smithy_texts.specs.Numeral.{number}
 use Rattle.smithy_json_codec.specs.Cursor.{cursor_of, reading_settings_of}
 use Rattle.smithy_json_codec.specs.NumberText.{NumberTextLies}
 use Rattle.smithy_json_codec.proofs.DeserializerLemmas.{answers_within}
-use Rattle.smithy_json_codec.proofs.ScalarReads.{reads_big, answers_big}
+use Rattle.smithy_json_codec.specs.LexicalGrammar.{grammar_of}
+use Rattle.smithy_json_codec.specs.Standing.{json_grammar}
+use Rattle.smithy_json_codec.proofs.NumberReads.{reads_big, answers_big}
+use Rattle.smithy_json_codec.proofs.StandardSettings.{standard, as_json, wide_as_json}
+use Rattle.smithy_wire.specs.Finding.{MatchFound}
 use Rattle.smithy_wire.proofs.ScalarReads.{was_ready, if_told}
 use Rattle.smithy_json_codec.proofs.deserializer.JsonDeserializerShapeDeserializer.read_big_integer.Goals as goal
 
@@ -22,8 +26,8 @@ returns-clause-read c =
     let found = rw same at c.big_integer_at-found.ensures in
     let taken = rw same at c.take_within-answer.ensures.taken in
     rw (rw same at c.told.ensures)
-    (reads_big (reading_settings_of c.args.self.now) (cursor_of c.args.self.now) (site_of c.args._schema.now) was.0 was.1 within refl scalars.BigInteger (λ x. refl)
-    (λ n. whole (number n)) _ c.big_integer_at-found.result c.take_within-answer.result found.found taken)
+    (as_json c.args.self.now.settings (reads_big (grammar_of (reading_settings_of c.args.self.now)) (reading_settings_of c.args.self.now) (cursor_of c.args.self.now) (site_of c.args._schema.now) was.0 was.1 within refl scalars.BigInteger (λ x. refl)
+    (λ n. whole (number n)) _ c.big_integer_at-found.result c.take_within-answer.result found.found taken))
 
 pub returns-clause-wide : goal.returns-clause-wide
 returns-clause-wide c =
@@ -33,8 +37,8 @@ returns-clause-wide c =
     let found = rw same at c.big_integer_at-found.ensures in
     let taken = rw same at c.take_within-answer.ensures.taken in
     rw (rw same at c.told.ensures)
-    (answers_big (reading_settings_of c.args.self.now) (cursor_of c.args.self.now) (site_of c.args._schema.now) was.0 was.1 within refl scalars.BigInteger (λ x. refl)
-    (λ n. whole (number n)) _ c.big_integer_at-found.result c.take_within-answer.result found.found taken)
+    (wide_as_json c.args.self.now.settings (cursor_of c.args.self.now) (site_of c.args._schema.now) scalars.BigInteger _ (answers_big (grammar_of (reading_settings_of c.args.self.now)) (reading_settings_of c.args.self.now) (cursor_of c.args.self.now) (site_of c.args._schema.now) was.0 was.1 within refl scalars.BigInteger (λ x. refl)
+    (λ n. whole (number n)) _ c.big_integer_at-found.result c.take_within-answer.result found.found taken))
 
 pub returns-clause-text : goal.returns-clause-text
 returns-clause-text c =
@@ -43,7 +47,7 @@ returns-clause-text c =
     let taken = rw same at c.take_within-answer.ensures.taken in
     let old = cursor_of c.args.self.now in
     rw c.told.ensures
-    (if_told _ c.take_within-answer.result _ (answers_within (NumberTextLies old.input old.at) old _ TooWide c.big_integer_at-found.result c.take_within-answer.result found.text taken))
+    (if_told _ c.take_within-answer.result _ (answers_within (NumberTextLies (json_grammar (reading_settings_of c.args.self.now)) scalars.BigInteger old.input old.at) old _ TooWide c.big_integer_at-found.result c.take_within-answer.result (subst (λ g. IfOk c.big_integer_at-found.result (λ f. MatchFound f (λ r. NumberTextLies g scalars.BigInteger old.input old.at r.0 r.1) (Unit {0}) (Unit {0}))) (standard c.args.self.now.settings) found.text) taken))
 
 pub returns-clause-fits : goal.returns-clause-fits
 returns-clause-fits c =

@@ -1,8 +1,10 @@
 use Rattle.std.proofs.Common.{◌≡◌, ◌≤◌, length, refl, sym, ◌∙◌, rules}
+use Rattle.smithy_shapes.specs.declared.shape_type.Scalar.TheVariants as scalars
 use Rattle.smithy_shapes.specs.Site.{site_of}
 use Rattle.smithy_json_codec.specs.Cursor.{cursor_of, reading_settings_of}
-use Rattle.smithy_json_codec.specs.Settings.{keep_limits}
-use Rattle.smithy_json_codec.proofs.ScalarReads.{reads_instant, answers_instant}
+use Rattle.smithy_json_codec.specs.LexicalGrammar.{grammar_of}
+use Rattle.smithy_json_codec.proofs.NumberReads.{reads_instant, answers_instant}
+use Rattle.smithy_json_codec.proofs.StandardSettings.{as_json, uncarried_as_json}
 use Rattle.smithy_wire.proofs.ScalarReads.{was_ready}
 use Rattle.smithy_json_codec.proofs.deserializer.JsonDeserializerShapeDeserializer.read_timestamp.Goals as goal
 
@@ -11,19 +13,19 @@ returns-clause-read c =
     let same : c.ready.new.self ≡ c.args.self.now.walk = c.in_ok-ready.ensures.ok in
     let was = was_ready c.args.self.now.walk.failed c.args.self.now.walk.due (sym c.in_ok-ready.was ∙ c.ready.ensures.answer) in
     let within : c.args.self.now.walk.position ≤ length c.args.self.now.walk.input.now = search rules in
-    let found = rw (same, c.form_at-form.ensures) at c.instant_at-found.ensures in
+    let found = rw (same, c.timestamp_format-time.ensures) at c.instant_at-found.ensures in
     let taken = rw same at c.take_within-answer.ensures.taken in
-    rw (rw (same, c.form_at-form.ensures) at c.told.ensures)
-    (reads_instant (keep_limits (reading_settings_of c.args.self.now)) (cursor_of c.args.self.now) (site_of c.args.schema.now) was.0 was.1 within refl
-    _ c.instant_at-found.result c.take_within-answer.result found taken)
+    rw (rw (same, c.timestamp_format-time.ensures) at c.told.ensures)
+    (as_json c.args.self.now.settings (reads_instant (grammar_of (reading_settings_of c.args.self.now)) (reading_settings_of c.args.self.now) (cursor_of c.args.self.now) (site_of c.args.schema.now) was.0 was.1 within refl
+    _ c.instant_at-found.result c.take_within-answer.result found taken))
 
 pub returns-clause-uncarried : goal.returns-clause-uncarried
 returns-clause-uncarried c =
     let same : c.ready.new.self ≡ c.args.self.now.walk = c.in_ok-ready.ensures.ok in
     let was = was_ready c.args.self.now.walk.failed c.args.self.now.walk.due (sym c.in_ok-ready.was ∙ c.ready.ensures.answer) in
     let within : c.args.self.now.walk.position ≤ length c.args.self.now.walk.input.now = search rules in
-    let found = rw (same, c.form_at-form.ensures) at c.instant_at-found.ensures in
+    let found = rw (same, c.timestamp_format-time.ensures) at c.instant_at-found.ensures in
     let taken = rw same at c.take_within-answer.ensures.taken in
-    rw (rw (same, c.form_at-form.ensures) at c.told.ensures)
-    (answers_instant (keep_limits (reading_settings_of c.args.self.now)) (cursor_of c.args.self.now) (site_of c.args.schema.now) was.0 was.1 within refl
-    _ c.instant_at-found.result c.take_within-answer.result found taken)
+    rw (rw (same, c.timestamp_format-time.ensures) at c.told.ensures)
+    (uncarried_as_json c.args.self.now.settings (cursor_of c.args.self.now) (site_of c.args.schema.now) scalars.Timestamp _ (answers_instant (grammar_of (reading_settings_of c.args.self.now)) (reading_settings_of c.args.self.now) (cursor_of c.args.self.now) (site_of c.args.schema.now) was.0 was.1 within refl
+    _ c.instant_at-found.result c.take_within-answer.result found taken))
