@@ -13,6 +13,7 @@ mod integers;
 mod member_steps;
 mod members;
 mod mismatch;
+mod named_documents;
 mod number_runs;
 mod numbers;
 mod output;

@@ -46,8 +46,6 @@ pub(crate) struct Settings {
     ghost validates_skipped: { validate_skipped_values ≡ true },
     ghost validates_encoding: { validate_skipped_string_encoding ≡ true },
     ghost forms_are_strict: { strict_timestamp_formats ≡ true },
-    ghost no_strings: { use_string_for_arbitrary_precision ≡ false },
-    ghost no_rewriting: { normalize_arbitrary_precision ≡ false },
     ghost rule: { integers ≡ integer_rule enforce_strictness allow_integral_float_numbers numbers },
 }
 

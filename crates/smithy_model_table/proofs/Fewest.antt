@@ -9,7 +9,7 @@ use Rattle.smithy_model.specs.Model.{Member, Kind, Shape, Model}
 use Rattle.smithy_model_table.specs.Leaving.{is_marked, has_mark, is_uncarried, AreSettled, AreAmong, IsNoFurther}
 use Rattle.smithy_model_table.specs.Marking.{AreSupported, AreClosed, count_of_unmarked}
 
-both : (a b c d : Bool) → (a ≡ true → c ≡ true) → (b ≡ true → d ≡ true) → (a && b) ≡ true → (c && d) ≡ true
+pub both : (a b c d : Bool) → (a ≡ true → c ≡ true) → (b ≡ true → d ≡ true) → (a && b) ≡ true → (c && d) ≡ true
 both true b c d first second is = rw (first refl) (second is)
 both false b c d first second is = cc (is)
 
@@ -78,14 +78,14 @@ none_marked m marks v ws shapes none others settled number is =
     ∙ length-map ws v in
     among_none (length ws) others number long (subst (λ (ms : List Bool). is_marked ms number ≡ true) none is)
 
-past_mark : (marks : List Bool) (i k : ℕ) → i ≢ k → is_marked (set marks i true) k ≡ is_marked marks k
+pub past_mark : (marks : List Bool) (i k : ℕ) → i ≢ k → is_marked (set marks i true) k ≡ is_marked marks k
 past_mark [] i k other = refl
 past_mark (b ∷ marks) zero zero other = absurd (other refl)
 past_mark (b ∷ marks) zero (suc k) other = refl
 past_mark (b ∷ marks) (suc i) zero other = refl
 past_mark (b ∷ marks) (suc i) (suc k) other = past_mark marks i k (λ same. other (ap suc same))
 
-at_mark : (marks : List Bool) (i : ℕ) → is_marked (set marks i true) i ≡ true
+pub at_mark : (marks : List Bool) (i : ℕ) → is_marked (set marks i true) i ≡ true
 at_mark [] i = refl
 at_mark (b ∷ marks) zero = refl
 at_mark (b ∷ marks) (suc i) = at_mark marks i

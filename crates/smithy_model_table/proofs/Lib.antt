@@ -4,3 +4,5 @@ mod Gained
 mod OutcomeLemmas
 mod Roots
 mod Shared
+mod Visited
+mod Reachable

@@ -1,15 +1,17 @@
 -- The bodies of operations, and the first declaration.
-use Rattle.std.proofs.Common.{◌≡◌, ◌<◌, ◌+◌, ◌∙◌, inl, inr, ℕ, List, [], ◌∷◌, ◌++◌, Bor, length, map, take, get_or, slice_get, Option, Some, None, option_map, refl, ap, subst}
-use Rattle.std.specs.Prelude.{Bool, true, is_some, flat_map}
+use Rattle.std.proofs.Common.{◌≡◌, ◌<◌, ◌+◌, ◌∙◌, inl, inr, ℕ, List, [], ◌∷◌, ◌++◌, Bor, length, map, take, get_or, slice_get, Option, Some, None, option_map, refl, sym, ap, subst, lt-ltb}
+use Rattle.std.specs.Prelude.{Bool, true, cond, is_some, flat_map}
 use Rattle.std.specs.List.{AllZip}
 use Rattle.std.specs.Option.{option_and_then}
 use Rattle.std.proofs.lemmas.List.{take_more, map-append}
+use Rattle.std.proofs.lemmas.Option.{slice_get_within}
 use Rattle.smithy_model.specs.Model as model
 use Rattle.smithy_model.specs.Model.{Kind, Shape, Operation, Model}
 use Rattle.smithy_shapes.specs.Decl.{Decl}
 use Rattle.smithy_model_table.specs.Declaring.{Names, name_of}
 use Rattle.smithy_model_table.specs.Outcomes.{LeftOut, Part, IsPart, IsPartOf, IsPartAt, AreParts}
 use Rattle.smithy_model_table.specs.Naming.{is_declared}
+use Rattle.smithy_model_table.specs.Reaching.{targets_at, first_of_each, within, AreReached}
 use Rattle.smithy_model_table.specs.Wanted.{Wanted, input, output, shape, service, members_of, structure_ids, IsBody, AreBodies, AreRoots}
 
 bodies_both : (m : Model) (front rest : List (List ℕ)) (r q : List ℕ) → AreBodies m front r → AreBodies m rest q → AreBodies m (front ++ rest) (r ++ q)
@@ -89,9 +91,22 @@ parts_first m marks names (k ∷ order) (p ∷ parts) n is all (s, at, declared)
     let one = subst (λ (j : ℕ). IsPartAt m marks names j p) same all.0 in
     part_first m marks names n s s.kind p (flat_map (λ (q : Part). q.decls) parts) (subst (λ o. IsPartOf m marks names n o p) at one) declared
 
+first_reached : (m : Model) (marks : List Bool) (roots order : List ℕ) (n : ℕ) → n < length m.shapes → AreReached m marks roots order
+    → slice_get roots 0 ≡ Some n → slice_get order 0 ≡ Some n
+first_reached m marks [] order n near reached is = absurd (cc (is))
+first_reached m marks (root ∷ roots) order n near reached is =
+    let same : root ≡ n = cc (is) in
+    let count = length m.shapes in
+    let rest = within count (roots ++ flat_map (targets_at m marks) order) in
+    ap (λ l. slice_get l 0) reached.in_order
+    ∙ ap (λ b. slice_get (first_of_each (cond b (root ∷ rest) rest)) 0) (lt-ltb root count (subst (λ k. k < count) (sym same) near))
+    ∙ ap Some same
+
 -- the first wanted shape is the first declaration
 pub root_first : (m : Model) (marks : List Bool) (names : Names) (w : Wanted) (roots order : List ℕ) (decls : List Decl) (left : List LeftOut)
-    → AreRoots m marks w roots → slice_get order 0 ≡ slice_get roots 0 → AreParts m marks names order decls left
+    → AreRoots m marks w roots → AreReached m marks roots order → AreParts m marks names order decls left
     → (n : ℕ) → slice_get roots 0 ≡ Some n → option_map (λ (d : Decl). d.name) (slice_get decls 0) ≡ Some (name_of names n)
-root_first m marks names w roots order decls left wanted begins (parts, all, made, told) n is =
-    rw (made) (parts_first m marks names order parts n (begins ∙ is) all (root_declared m marks w roots n wanted is))
+root_first m marks names w roots order decls left wanted reached (parts, all, made, told) n is =
+    let declared = root_declared m marks w roots n wanted is in
+    let begins = first_reached m marks roots order n (slice_get_within m.shapes n declared.0 declared.1) reached is in
+    rw (made) (parts_first m marks names order parts n begins all declared)

@@ -6,8 +6,10 @@ pub mod Roles
 pub mod Leaving
 pub mod Outcomes
 pub mod Wanted
+pub mod Reaching
 pub mod ModelTable
 -- what the types stand for
 pub mod Views
 -- words for private functions
 pub mod Marking
+pub mod Visiting

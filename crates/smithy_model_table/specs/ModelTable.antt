@@ -9,10 +9,12 @@ use Rattle.smithy_model_table.specs.Declaring.{Names, name_of}
 use Rattle.smithy_model_table.specs.Leaving.{AreFewest}
 use Rattle.smithy_model_table.specs.Outcomes.{LeftOut, AreParts}
 use Rattle.smithy_model_table.specs.Naming.{names_of}
+use Rattle.smithy_model_table.specs.Reaching.{AreReached}
 use Rattle.smithy_model_table.specs.Wanted.{Wanted, AreRoots}
 
--- The text is an accepted table of what is wanted. It reads as the declarations of some shapes of the model, each of which is that of its shape, and
--- each member that they leave out is named. Since the table is accepted, it has no name twice, and declares each target that its lines name.
+-- The text is an accepted table of what is wanted. It reads as the declarations of the shapes of the model that are reached from what is wanted, in
+-- this order; each declaration is that of its shape, and each member that they leave out is named. Since the table is accepted, it has no name twice,
+-- and declares each target that its lines name.
 pub record IsTableOf (m : Model) (w : Wanted) (text : List ℕ) (left : List LeftOut) : Type 0 where
   pub table : Table
   pub accepted_as : table_of text ≡ accepted table
@@ -25,8 +27,9 @@ pub record IsTableOf (m : Model) (w : Wanted) (text : List ℕ) (left : List Lef
   -- the numbers of the shapes that are wanted
   pub roots : List ℕ
   pub are_wanted : AreRoots m marks w roots
-  -- the numbers of the shapes that are declared, in this order
+  -- the numbers of the shapes that are reached from them, and are declared in this order
   pub order : List ℕ
+  pub are_reached : AreReached m marks roots order
   pub decls : List Decl
   pub declared : AreParts m marks names order decls left
   -- the first wanted shape is the first declaration

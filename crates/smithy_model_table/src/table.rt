@@ -1,5 +1,5 @@
 //! The table of what is wanted of a model.
-ghost use Rattle.std.specs.Prelude.{◌≡◌, ◌≢◌, ◌≤◌, false, slice_get, length, map, IfOk, IfErr};
+ghost use Rattle.std.specs.Prelude.{◌≡◌, ◌≢◌, ◌≤◌, length, map, IfOk, IfErr};
 ghost use Rattle.smithy_model.specs.Views.{model_view};
 ghost use Rattle.smithy_model_table.specs.declared.fault.WantedFault.TheVariants as faults;
 ghost use Rattle.smithy_model_table.specs.ModelTable.{IsTableOf};
@@ -69,17 +69,6 @@ fn text_of(alloc: Global, decls: &[Decl]) -> Result<Vec<u8>, WantedFault>
     Ok(text)
 }
 
-// Whether these numbers don't begin with the same as others.
-fn begins_otherwise(numbers: &[usize], others: &[usize]) -> bool
-    ensures { result ≡ false → slice_get numbers.now 0 ≡ slice_get others.now 0 }
-{
-    match (numbers.get(0), others.get(0)) {
-        (Some(number), Some(other)) => *number != *other,
-        (None, None) => false,
-        _ => true,
-    }
-}
-
 /// The table of what is wanted of a model: the shapes that are reached from it.
 pub fn table_of<'a>(
     alloc: Global,
@@ -97,10 +86,6 @@ pub fn table_of<'a>(
     let roots = roots_of(alloc, model, &marks, wanted)?;
     let roles = Roles::of(alloc, model)?;
     let order = reached(alloc, model, &roles, &marks, &roots)?;
-    // It never does: a root is a shape of the model, and the first is visited before all.
-    if begins_otherwise(&order, &roots) {
-        return Err(WantedFault::NoDeclaration);
-    }
     let names = Names::of(alloc, model)?;
     let declared = declare_all(alloc, model, &roles, &marks, &names, &order)?;
     let text = text_of(alloc, &declared.decls)?;

@@ -1,7 +1,8 @@
-use Rattle.std.proofs.Common.{◌≡◌, List, ℕ, slice_get, map, subst}
+use Rattle.std.proofs.Common.{◌≡◌, List, ℕ, map, subst}
 use Rattle.std.specs.Prelude.{Bool}
 use Rattle.smithy_model.specs.Views.{model_view}
 use Rattle.smithy_model_table.specs.Outcomes.{AreParts}
+use Rattle.smithy_model_table.specs.Reaching.{AreReached}
 use Rattle.smithy_model_table.specs.Wanted.{AreRoots}
 use Rattle.smithy_model_table.specs.Views.{names_view, left_view, wanted_view}
 use Rattle.smithy_shapes.specs.DeclViews.{decl_of}
@@ -20,13 +21,12 @@ returns-clause-table c =
     let roots = c.in_ok-roots.roots.items in
     let order = c.in_ok-order.order.items in
     let wanted : AreRoots m marks w roots = subst (λ (ms : List Bool). AreRoots m ms w roots) c.deref.ensures.value c.in_ok-roots.ensures.roots in
-    let begins : slice_get order 0 ≡ slice_get roots 0 =
-    subst (λ (rs : List ℕ). slice_get order 0 ≡ slice_get rs 0) c.deref-5.ensures.value
-    (subst (λ (ns : List ℕ). slice_get ns 0 ≡ slice_get c.deref-5.result.now 0) c.deref-4.ensures.value
-    (c.begins_otherwise.ensures c.if-begins_otherwise.false)) in
+    let are_reached : AreReached m marks roots order =
+    subst (λ (ms : List Bool). AreReached m ms roots order) c.deref-2.ensures.value
+    (subst (λ (rs : List ℕ). AreReached m c.deref-2.result.now rs order) c.deref-3.ensures.value c.in_ok-order.ensures) in
     let declared : AreParts m marks names order decls left =
-    subst (λ (ms : List Bool). AreParts m ms names order decls left) c.deref-6.ensures.value
-    (subst (λ (ns : List ℕ). AreParts m c.deref-6.result.now names ns decls left) c.deref-7.ensures.value c.in_ok-declared.ensures) in
+    subst (λ (ms : List Bool). AreParts m ms names order decls left) c.deref-4.ensures.value
+    (subst (λ (ns : List ℕ). AreParts m c.deref-4.result.now names ns decls left) c.deref-5.ensures.value c.in_ok-declared.ensures) in
     record {
       table = c.in_ok-text.ensures.accepted.0;
       accepted_as = c.in_ok-text.ensures.accepted.1;
@@ -37,8 +37,9 @@ returns-clause-table c =
       roots = roots;
       are_wanted = wanted;
       order = order;
+      are_reached = are_reached;
       decls = decls;
       declared = declared;
-      root = root_first m marks names w roots order decls left wanted begins declared;
-      reads = subst (λ ds. declarations_of c.in_ok-text.text.items ≡ declarations (map decl_of ds)) c.deref-8.ensures.value c.in_ok-text.ensures.read;
+      root = root_first m marks names w roots order decls left wanted are_reached declared;
+      reads = subst (λ ds. declarations_of c.in_ok-text.text.items ≡ declarations (map decl_of ds)) c.deref-6.ensures.value c.in_ok-text.ensures.read;
     }
