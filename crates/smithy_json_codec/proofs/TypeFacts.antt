@@ -3,7 +3,8 @@ use Rattle.std.proofs.Common.{◌≡◌, [], ◌∷◌, map, true, false, Some, 
 use Rattle.smithy_shapes.specs.declared.shape_type.Scalar.TheVariants as scalars
 use Rattle.smithy_shapes.specs.declared.shape_type.TimestampFormat.TheVariants.{DateTime}
 use Rattle.smithy_shapes.specs.Table.{structure_of, union_of}
-use Rattle.smithy_json_codec.specs.Settings.{default_settings, strict_settings}
+use Rattle.smithy_json_codec.specs.Settings.{default_settings}
+use Rattle.smithy_json_codec.specs.Codec.{strict_settings}
 use Rattle.smithy_json_codec.specs.TypeMismatch.{scalar_mismatches, type_mismatches}
 
 -- a boolean: nothing, a part of a literal, another case, a number, a null

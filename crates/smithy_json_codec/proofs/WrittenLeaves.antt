@@ -28,7 +28,8 @@ use Rattle.smithy_json.proofs.DecimalLemmas.{decimal_is_number, decimal_writes, 
 use Rattle.smithy_json.proofs.QuotedLemmas.{quoted_is_string, unescaped_of_escaped}
 use Rattle.smithy_json_codec.specs.LexicalGrammar.{rfc_8259, in_grammar}
 use Rattle.smithy_json_codec.specs.Scalar.{JsonScalar, a_boolean, a_number, a_string, tree_of, big_number, says}
-use Rattle.smithy_json_codec.specs.Settings.{Settings, strict_settings}
+use Rattle.smithy_json_codec.specs.Settings.{Settings}
+use Rattle.smithy_json_codec.specs.Codec.{strict_settings}
 use Rattle.smithy_json_codec.specs.Standing.{json_rules}
 use Rattle.smithy_json_codec.specs.Private.TokenGrammar.{value_is_token, said_in}
 use Rattle.smithy_wire.specs.Rules.{means, no_meaning}
