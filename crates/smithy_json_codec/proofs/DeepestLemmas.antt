@@ -1,32 +1,16 @@
 -- What lies whole before the place that the walk through a skipped value has come to.
 use Rattle.std.proofs.Common.{◌≡◌, ◌+◌, ◌-◌, ◌<◌, ◌≤◌, ℕ, zero, suc, length, List, [], ◌∷◌, drop, Bool, true, false, get_or, set, refl, sym, ap, subst, arith}
-use Rattle.smithy_schema.specs.Reading.{Mark}
 use Rattle.smithy_json_codec.specs.Scalar.{JsonScalar}
 use Rattle.smithy_json_codec.specs.Spans.{Lies, IsByte, fresh_mark, entry_mark}
-use Rattle.smithy_json_codec.specs.Tokens.{EndsInside}
+use Rattle.smithy_json_codec.specs.Tokens.{BoundaryBy, EndsInside}
 use Rattle.smithy_json_codec.specs.LexicalGrammar.{LexicalGrammar, is_skipped_in, frames_of, NodeLies}
 use Rattle.smithy_json_codec.specs.Deepest.{has_come, EntriesLie, IsDueInside, OpensTooDeep}
 use Rattle.smithy_json_codec.specs.Private.NextInContainer.{ClosesIn}
+use Rattle.smithy_json_codec.specs.Private.NodeDepths.{deeper}
 use Rattle.smithy_json_codec.specs.Private.Skipping.{ScalarLies, form_of, opening, closing, ValueBegins}
-use Rattle.smithy_wire.specs.Node.{Form, Node, null_node, leaf, container, missing, Nodes, no_nodes, node, nodes_pass}
-use Rattle.smithy_wire.specs.Frames.{Lies as LiesAsNode, NodesLie}
+use Rattle.smithy_wire.specs.Node.{Node, container, Nodes, no_nodes, node, nodes_pass}
+use Rattle.smithy_wire.specs.Frames.{NodesLie}
 use Rattle.smithy_json_codec.proofs.OpenContainers.{inside_mark, begins_entry, parts_node, stack_of, stack_of-push, stack_of-pop}
-
--- ---- a node inside of containers lies inside of any number of them
-
-module _ (g : LexicalGrammar) (i : List ℕ) where
-  mutual
-    deeper : (d n : ℕ) (x : Node JsonScalar) (a e : ℕ) → LiesAsNode (frames_of g) i (suc d) x a e → LiesAsNode (frames_of g) i (suc n) x a e
-    deeper d n null_node a e h = h
-    deeper d n (leaf x) a e h = h
-    deeper d n (container f xs) a e (b, m, opens, lie, follows) = (b, m, opens, nodes_deeper (suc d) (suc n) f xs b m e lie, follows)
-    deeper d n missing a e h = h
-
-    nodes_deeper : (d n : ℕ) (f : Form) (xs : Nodes JsonScalar) (b : ℕ) (m : Mark) (e : ℕ) → NodesLie (frames_of g) f i (suc d) xs b m e
-        → NodesLie (frames_of g) f i (suc n) xs b m e
-    nodes_deeper d n f no_nodes b m e h = h
-    nodes_deeper d n f (node key x xs) b m e (c, o, h, entry, lies, lie) =
-        (c, o, h, entry, deeper d n x c h lies, nodes_deeper d n f xs h o e lie)
 
 module _ (g : LexicalGrammar) (test : JsonScalar → Bool) (i : List ℕ) where
   -- ---- entries and what comes behind them, from the first on
@@ -43,12 +27,12 @@ module _ (g : LexicalGrammar) (test : JsonScalar → Bool) (i : List ℕ) where
 
   -- inside another container, one that closes behind its entries is a whole value
   whole : (k : Bool) (count q b p f : ℕ) → Lies (IsByte (opening k)) i q b → EntriesLie g test k count i b p
-      → Lies (IsByte (closing k)) i p f → g.Boundary (drop f i) → (x : Node JsonScalar) × NodeLies g test 1 x i q f
+      → Lies (IsByte (closing k)) i p f → BoundaryBy g.is_strict (drop f i) → (x : Node JsonScalar) × NodeLies g test 1 x i q f
   whole k count q b p f o entries closes follows =
       let (xs, lie, passes) = whole_nodes k count b p f no_nodes entries closes refl in
       (container (form_of k) xs, ((b, fresh_mark, (refl, o), lie, follows), passes))
 
-  boundary : (n f : ℕ) → 2 ≤ n → EndsInside g.Boundary n (drop f i) → g.Boundary (drop f i)
+  boundary : (n f : ℕ) → 2 ≤ n → EndsInside (BoundaryBy g.is_strict) n (drop f i) → BoundaryBy g.is_strict (drop f i)
   boundary zero f deep h = absurd h
   boundary (suc zero) f deep h = absurd (omega arith)
   boundary (suc (suc n)) f deep h = h

@@ -10,8 +10,7 @@ use Rattle.smithy_shapes.specs.Value.{Value, null_element}
 use Rattle.smithy_schema.specs.Reading.{Cursor, depth, StandsNot, Exceeds, Uncarried}
 use Rattle.smithy_json_codec.specs.Settings.{Settings}
 use Rattle.smithy_json_codec.specs.Scalar.{JsonScalar, says}
-use Rattle.smithy_json_codec.specs.Tokens.{token_frames}
-use Rattle.smithy_json_codec.specs.LexicalGrammar.{LexicalGrammar, in_grammar, token_rules, token_relations, LiesInGrammar}
+use Rattle.smithy_json_codec.specs.LexicalGrammar.{LexicalGrammar, frames_of, in_grammar, token_rules, token_relations, LiesInGrammar}
 use Rattle.smithy_json_codec.specs.Private.Wire.{tokens_are_wire}
 use Rattle.smithy_wire.specs.Frames.{Frames}
 use Rattle.smithy_wire.specs.Rules.{Answer, no_meaning, wide, uncarried, settled, Rules}
@@ -33,11 +32,11 @@ settled_where limits nil false a v h = absurd (let no : None ≡ Some v = h in c
 
 -- at one place lies one scalar of the grammar
 pub one_in_grammar : (g : LexicalGrammar) (s : Scalar) (i : List ℕ) (x y : JsonScalar) (a e f : ℕ) → LiesInGrammar g s x i a e → LiesInGrammar g s y i a f → x ≡ y
-one_in_grammar g s i x y a e f h k = ((tokens_are_wire g.Boundary).same_scalar i 0 x y a e f h.0 k.0).0
+one_in_grammar g s i x y a e f h k = ((tokens_are_wire g.is_strict).same_scalar i 0 x y a e f h.0 k.0).0
 
 module _ (g : LexicalGrammar) (o : Settings) (c : Cursor) (site : Site) (s : Scalar) where
   abbrev w : Frames JsonScalar
-  w = token_frames g.Boundary
+  w = frames_of g
 
   abbrev r : Rules JsonScalar
   r = token_rules g o

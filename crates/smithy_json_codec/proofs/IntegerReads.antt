@@ -23,7 +23,7 @@ use Rattle.smithy_json.proofs.SliceLemmas.{length-slice}
 use Rattle.smithy_json.proofs.WholeLemmas.{int_digits}
 use Rattle.smithy_json_codec.specs.Settings.{Settings}
 use Rattle.smithy_json_codec.specs.Scalar.{integer_of}
-use Rattle.smithy_json_codec.specs.LexicalGrammar.{BoundaryBy, number_test, is_lenient_integer, grammar_of}
+use Rattle.smithy_json_codec.specs.LexicalGrammar.{number_test, is_lenient_integer, grammar_of}
 use Rattle.smithy_json_codec.specs.Private.NumberAtPlace.{NumberStands, IntegerStands}
 use Rattle.smithy_json_codec.specs.Private.ScalarAtPlace.{IntegerLies}
 use Rattle.smithy_json_codec.proofs.NumberRuns.{number_lies, number_stands, same_run, grammar_stands, stands_grammar, of_strict, strict_of, of_lenient}
@@ -34,14 +34,14 @@ module _ (c : Settings) (i : List ℕ) (at start : ℕ) (ws : IsRunAt is_ws i at
   pub integer_lies : IntegerStands c i start e n → IntegerLies (grammar_of c) c 64 i at n e
   integer_lies h = record {
     raw = slice_range i start e;
-    lies = number_lies i at start ws (BoundaryBy c.enforce_strictness) (number_test c (is_lenient_integer c)) e h.run;
+    lies = number_lies i at start ws c.enforce_strictness (number_test c (is_lenient_integer c)) e h.run;
     is = h.value;
     fits = h.fits;
   }
 
   pub integer_stands : IntegerLies (grammar_of c) c 64 i at n e → IntegerStands c i start e n
   integer_stands h =
-      let there = number_stands i at start ws (BoundaryBy c.enforce_strictness) (number_test c (is_lenient_integer c)) h.raw e h.lies in
+      let there = number_stands i at start ws c.enforce_strictness (number_test c (is_lenient_integer c)) h.raw e h.lies in
       record { run = there.1; value = ap (integer_of c) there.0 ∙ h.is; fits = h.fits }
 
 -- ---- texts
@@ -179,14 +179,14 @@ module _ (c : Settings) (i : List ℕ) (start e : ℕ) (n : ℤ) where
     same_test : (s : List ℕ) → number_test c (is_number_of c.numbers) s ≡ number_test c (is_lenient_integer c) s
     same_test s = rw integral refl
 
-    pub of_integral : NumberStands (BoundaryBy c.enforce_strictness) (number_test c (is_number_of c.numbers)) i start e → integral_number raw ≡ Some n → IntegerStands c i start e n
+    pub of_integral : NumberStands c.enforce_strictness (number_test c (is_number_of c.numbers)) i start e → integral_number raw ≡ Some n → IntegerStands c i start e n
     of_integral run value = record {
       run = record { run = run.run; some = run.some; passes = sym (same_test raw) ∙ run.passes; boundary = run.boundary };
       value = rw integral value;
       fits = integral_fits raw n value;
     }
 
-    pub integral_of : IntegerStands c i start e n → NumberStands (BoundaryBy c.enforce_strictness) (number_test c (is_number_of c.numbers)) i start e × (integral_number raw ≡ Some n)
+    pub integral_of : IntegerStands c i start e n → NumberStands c.enforce_strictness (number_test c (is_number_of c.numbers)) i start e × (integral_number raw ≡ Some n)
     integral_of h =
         (record { run = h.run.run; some = h.run.some; passes = same_test raw ∙ h.run.passes; boundary = h.run.boundary }, rw integral at h.value)
 

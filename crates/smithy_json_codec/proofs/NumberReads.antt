@@ -16,10 +16,9 @@ use Rattle.smithy_shapes.specs.Lemmas.Options.{same_some}
 use Rattle.smithy_shapes.proofs.ScalarLemmas.{fits_more}
 use Rattle.smithy_json_codec.specs.Settings.{Settings, kept, without_limits}
 use Rattle.smithy_json_codec.specs.Scalar.{JsonScalar, a_boolean, a_number, a_string, number_text, number_says, integer_of, whole_of, says}
-use Rattle.smithy_json_codec.specs.LexicalGrammar.{LexicalGrammar, in_grammar, token_rules, token_relations, LiesInGrammar}
+use Rattle.smithy_json_codec.specs.LexicalGrammar.{LexicalGrammar, frames_of, in_grammar, token_rules, token_relations, LiesInGrammar}
 use Rattle.smithy_json_codec.specs.TypeMismatch.{scalar_mismatches}
 use Rattle.smithy_json_codec.specs.Spans.{without_ws}
-use Rattle.smithy_json_codec.specs.Tokens.{token_frames}
 use Rattle.smithy_json_codec.specs.Private.Fits.{whole_is}
 use Rattle.smithy_json_codec.specs.Private.ScalarAtPlace.{IntegerLies, MeansAt, ExceedsAt, NothingAt, InstantLies, UncarriedLies, NoInstantLies}
 use Rattle.smithy_json_codec.specs.Private.TokenLaws.{lawful}
@@ -69,7 +68,7 @@ module _ (g : LexicalGrammar) (o : Settings) (c : Cursor) (site : Site) (s : Sca
 -- at one place lies one integer
 same_integer : (g : LexicalGrammar) (o : Settings) (input : List ℕ) (at : ℕ) (n m : ℤ) (e f : ℕ) → IntegerLies g o 64 input at n e → IntegerLies g o 64 input at m f → n ≡ m
 same_integer g o input at n m e f h k =
-    let same = ((tokens_are_wire g.Boundary).same_scalar input 0 (a_number h.raw) (a_number k.raw) at e f h.lies.0 k.lies.0).0 in
+    let same = ((tokens_are_wire g.is_strict).same_scalar input 0 (a_number h.raw) (a_number k.raw) at e f h.lies.0 k.lies.0).0 in
     let raws : h.raw ≡ k.raw = cc in
     same_some n m (sym h.is ∙ ap (integer_of o) raws ∙ k.is)
 
@@ -96,7 +95,7 @@ module _ (g : LexicalGrammar) (o : Settings) (c : Cursor) (site : Site) (s : Sca
   -- within the limits nothing stands where a number leaves them
   pub exceeds_stands_not : o.limits ≡ kept → Exceeds (token_relations g o) c site.table (scalar_place s site.place.time) → StandsNot (token_relations g o) c site.table (scalar_place s site.place.time)
   exceeds_stands_not keeps (e, there) v f stands =
-      exceeds_not (token_frames g.Boundary) (token_rules g o) (tokens_are_wire g.Boundary) keeps c.input site.table (scalar_place s site.place.time) s refl (depth c) c.at e there v f stands
+      exceeds_not (frames_of g) (token_rules g o) (tokens_are_wire g.is_strict) keeps c.input site.table (scalar_place s site.place.time) s refl (depth c) c.at e there v f stands
 
 -- ---- instants
 
@@ -121,7 +120,7 @@ module _ (g : LexicalGrammar) (o : Settings) (c : Cursor) (site : Site) where
   pub uncarried_stands_not : o.limits ≡ kept → Uncarried (token_relations g o) c site.table (scalar_place scalars.Timestamp site.place.time)
       → StandsNot (token_relations g o) c site.table (scalar_place scalars.Timestamp site.place.time)
   uncarried_stands_not keeps (e, there) v f stands =
-      uncarried_not (token_frames g.Boundary) (token_rules g o) (tokens_are_wire g.Boundary) keeps c.input site.table (scalar_place scalars.Timestamp site.place.time) scalars.Timestamp refl (depth c) c.at e there v f stands
+      uncarried_not (frames_of g) (token_rules g o) (tokens_are_wire g.is_strict) keeps c.input site.table (scalar_place scalars.Timestamp site.place.time) scalars.Timestamp refl (depth c) c.at e there v f stands
 
 -- ---- the answer of a read
 

@@ -5,7 +5,7 @@ use Rattle.std.proofs.lemmas.List.{length-append, length-drop, get_or-drop, get_
 use Rattle.std.proofs.lemmas.Str.{IsUtf8-from_ascii}
 use Rattle.std.specs.List.{AllByRecursion}
 use Rattle.smithy_json.specs.Ascii.{is_ws, is_numeric}
-use Rattle.smithy_json.specs.Grammar.{IsInt, AreDigits, IsBoundary}
+use Rattle.smithy_json.specs.Grammar.{IsInt, AreDigits}
 use Rattle.smithy_json.specs.NumberGrammar.{IsIntOf, IsNumberOf}
 use Rattle.smithy_json.specs.NumberText.{is_number_of}
 use Rattle.smithy_json.specs.Standing.{IsRunAt, StandsAt}
@@ -16,7 +16,7 @@ use Rattle.smithy_json.proofs.SliceLemmas.{length-slice}
 use Rattle.smithy_json_codec.specs.Settings.{Settings}
 use Rattle.smithy_json_codec.specs.Scalar.{a_number}
 use Rattle.smithy_json_codec.specs.Tokens.{IsNumberRun, EndsRun, IsToken}
-use Rattle.smithy_json_codec.specs.LexicalGrammar.{BoundaryBy, number_test}
+use Rattle.smithy_json_codec.specs.LexicalGrammar.{number_test}
 use Rattle.smithy_json_codec.specs.Private.Lexical.{Stops}
 use Rattle.smithy_json_codec.specs.Private.NumberAtPlace.{NumberStands, NumberLies}
 use Rattle.smithy_json_codec.specs.Private.Wire.{tokens_are_wire}
@@ -93,8 +93,8 @@ same_run i start e f run other = omega (arith, no_longer i start e run f other, 
 
 -- ---- behind ws
 
-module _ (i : List ℕ) (at start : ℕ) (ws : IsRunAt is_ws i at start) (Boundary : List ℕ → Type 0) (test : List ℕ → Bool) where
-  pub number_lies : (e : ℕ) → NumberStands Boundary test i start e → NumberLies Boundary test i at (slice_range i start e) e
+module _ (i : List ℕ) (at start : ℕ) (ws : IsRunAt is_ws i at start) (strict : Bool) (test : List ℕ → Bool) where
+  pub number_lies : (e : ℕ) → NumberStands strict test i start e → NumberLies strict test i at (slice_range i start e) e
   number_lies e n =
       let raw = slice_range i start e in
       let size = length-slice i start e n.run.ordered n.run.within in
@@ -102,7 +102,7 @@ module _ (i : List ℕ) (at start : ℕ) (ws : IsRunAt is_ws i at start) (Bounda
       let token = some_run raw (omega (arith, size, some)) (run_is_numeric i start e n.run) in
       ((stands_lies i at start ws (IsToken (a_number raw)) e n.run.ordered n.run.within (refl, token), behind_run i start e n.run, n.boundary), n.passes)
 
-  pub number_stands : (raw : List ℕ) (e : ℕ) → NumberLies Boundary test i at raw e → (slice_range i start e ≡ raw) × NumberStands Boundary test i start e
+  pub number_stands : (raw : List ℕ) (e : ℕ) → NumberLies strict test i at raw e → (slice_range i start e ≡ raw) × NumberStands strict test i start e
   number_stands raw e h =
       let lies = h.0.0 in
       let token = lies_stands i at start ws (IsToken (a_number raw)) e (plain_number raw) lies in
@@ -133,9 +133,9 @@ module _ (i : List ℕ) (at start : ℕ) (ws : IsRunAt is_ws i at start) (Bounda
       )
 
 -- one number lies at a place
-pub one_number : (Boundary : List ℕ → Type 0) (i : List ℕ) (a e f : ℕ) (raw other : List ℕ) (test : List ℕ → Bool) → NumberLies Boundary test i a raw e → NumberLies Boundary test i a other f → raw ≡ other
-one_number Boundary i a e f raw other test h k =
-    let same = ((tokens_are_wire Boundary).same_scalar i 0 (a_number raw) (a_number other) a e f h.0 k.0).0 in cc
+pub one_number : (strict : Bool) (i : List ℕ) (a e f : ℕ) (raw other : List ℕ) (test : List ℕ → Bool) → NumberLies strict test i a raw e → NumberLies strict test i a other f → raw ≡ other
+one_number strict i a e f raw other test h k =
+    let same = ((tokens_are_wire strict).same_scalar i 0 (a_number raw) (a_number other) a e f h.0 k.0).0 in cc
 
 -- ---- numbers of a grammar
 
@@ -154,7 +154,7 @@ no_number g raw none n = by n.is_int
     by (inr (inl are)) = let some = are.1.0 in omega (arith, size, some)
     by (inr (inr is)) = let some = is.4 in omega (arith, size, some)
 
-pub grammar_stands : (g : NumberGrammar) (i : List ℕ) (start e : ℕ) → StandsAt (IsNumberOf g) i start e → NumberStands IsBoundary (is_number_of g) i start e
+pub grammar_stands : (g : NumberGrammar) (i : List ℕ) (start e : ℕ) → StandsAt (IsNumberOf g) i start e → NumberStands true (is_number_of g) i start e
 grammar_stands g i start e n =
     let size = length-slice i start e n.ordered n.within in
     let ordered = n.ordered in record {
@@ -167,7 +167,7 @@ grammar_stands g i start e n =
     by_length : length (slice_range i start e) ≡ e - start → start ≤ e → start < e
     by_length size ordered = omega (arith, λ (none : length (slice_range i start e) ≡ 0). no_number g (slice_range i start e) none n.text, size, ordered)
 
-pub stands_grammar : (g : NumberGrammar) (i : List ℕ) (start e : ℕ) → NumberStands IsBoundary (is_number_of g) i start e → StandsAt (IsNumberOf g) i start e
+pub stands_grammar : (g : NumberGrammar) (i : List ℕ) (start e : ℕ) → NumberStands true (is_number_of g) i start e → StandsAt (IsNumberOf g) i start e
 stands_grammar g i start e n = record {
   ordered = n.run.ordered;
   within = n.run.within;
@@ -178,14 +178,14 @@ stands_grammar g i start e n = record {
 -- ---- by strictness
 
 module _ (c : Settings) (lenient : List ℕ → Bool) (i : List ℕ) (start e : ℕ) where
-  pub of_strict : c.enforce_strictness ≡ true → NumberStands IsBoundary (is_number_of c.numbers) i start e → NumberStands (BoundaryBy c.enforce_strictness) (number_test c lenient) i start e
+  pub of_strict : c.enforce_strictness ≡ true → NumberStands true (is_number_of c.numbers) i start e → NumberStands c.enforce_strictness (number_test c lenient) i start e
   of_strict strict n = record { run = n.run; some = n.some; passes = rw strict n.passes; boundary = rw strict n.boundary }
 
-  pub strict_of : c.enforce_strictness ≡ true → NumberStands (BoundaryBy c.enforce_strictness) (number_test c lenient) i start e → NumberStands IsBoundary (is_number_of c.numbers) i start e
+  pub strict_of : c.enforce_strictness ≡ true → NumberStands c.enforce_strictness (number_test c lenient) i start e → NumberStands true (is_number_of c.numbers) i start e
   strict_of strict n = record { run = n.run; some = n.some; passes = rw strict at n.passes; boundary = rw strict at n.boundary }
 
-  pub of_lenient : c.enforce_strictness ≡ false → NumberStands (λ rest. Unit {0}) lenient i start e → NumberStands (BoundaryBy c.enforce_strictness) (number_test c lenient) i start e
+  pub of_lenient : c.enforce_strictness ≡ false → NumberStands false lenient i start e → NumberStands c.enforce_strictness (number_test c lenient) i start e
   of_lenient loose n = record { run = n.run; some = n.some; passes = rw loose n.passes; boundary = rw loose n.boundary }
 
-  pub lenient_of : c.enforce_strictness ≡ false → NumberStands (BoundaryBy c.enforce_strictness) (number_test c lenient) i start e → NumberStands (λ rest. Unit {0}) lenient i start e
+  pub lenient_of : c.enforce_strictness ≡ false → NumberStands c.enforce_strictness (number_test c lenient) i start e → NumberStands false lenient i start e
   lenient_of loose n = record { run = n.run; some = n.some; passes = rw loose at n.passes; boundary = tt }

@@ -17,7 +17,7 @@ use Rattle.smithy_wire.specs.Lemmas.Nodes.{sort_of, lies_sort, one_node}
 -- ---- nodes by their tokens
 
 pub grammar_is_wire : (g : LexicalGrammar) → IsWire (frames_of g)
-grammar_is_wire g = tokens_are_wire g.Boundary
+grammar_is_wire g = tokens_are_wire g.is_strict
 
 -- the mark inside of a container, behind an entry or not
 abbrev pub inside_mark : Bool → Mark

@@ -1,48 +1,51 @@
 -- What is left of a document on the way through it: the open containers end one after another.
-use Rattle.std.proofs.Common.{◌≡◌, ◌≤◌, ◌∙◌, ℕ, suc, length, drop, List, [], ◌∷◌, Bool, true, false, fold, nat_le, cond, Option, Some, None, option_map, option_and_then, refl, sym, ap, subst, arith}
+use Rattle.std.proofs.Common.{◌≡◌, ◌≤◌, ◌∙◌, ℕ, suc, drop, List, [], ◌∷◌, Bool, true, false, fold, nat_le, Option, Some, None, option_map, option_and_then, refl, sym, ap, subst, arith, if◌then◌else◌}
 use Rattle.std.proofs.lemmas.Bool.Decides.{nat_tests}
-use Rattle.smithy_types.specs.Document.{Document, array, object, Documents, no_documents, item, Properties, no_properties, put_property, with_pair, properties_by}
+use Rattle.smithy_types.specs.Document.{Document, array, object, Documents, no_documents, item, Properties, put_property, with_pair}
 use Rattle.smithy_types.specs.declared.number.Number.{Number}
-use Rattle.smithy_json.specs.Ascii.{begin_array, begin_object, end_array, end_object}
-use Rattle.smithy_json.specs.Grammar.{IsBoundary}
-use Rattle.smithy_json.specs.Tree.{Elements, no_elements, element, Members, no_members, member}
-use Rattle.smithy_json.specs.Tree as tree
-use Rattle.smithy_json.specs.Unescape.{unescaped}
-use Rattle.smithy_json.specs.DocumentMeaning.{at_depth, document_meaning, elements_meaning, members_meaning}
-use Rattle.smithy_json.proofs.DocumentLemmas.{some_of_map, some_of_then, some_of_pair, allowed}
-use Rattle.smithy_json_codec.specs.Standing.{Lies, IsByte, Names, TreeLies}
-use Rattle.smithy_json_codec.specs.Documents.{DocumentLies, NoDocumentLies}
-use Rattle.smithy_json_codec.specs.Private.ArrayPlaces.{ChildLies, ElementsLie, child_lies, lies_inside, elements_text, text_elements}
-use Rattle.smithy_json_codec.specs.Private.ObjectPlaces.{MembersLie, members_text, text_members}
-use Rattle.smithy_json_codec.specs.Private.BytePlaces.{same_byte, same_separated, element_or_end}
-use Rattle.smithy_json_codec.specs.Private.NamePlaces.{same_names, names_or_end}
-use Rattle.smithy_json_codec.specs.Private.ValuePlaces.{one_tree, no_end}
-use Rattle.smithy_json_codec.specs.Private.NextInContainer.{ElementBegins, ClosesBy}
-use Rattle.smithy_json_codec.specs.Private.Skipping.{closing}
-use Rattle.smithy_json_codec.specs.Private.OpenDocuments.{OpenContainer, open_array, open_object, Waiting, waiting_array, waiting_object, add_element, with_value, document_of, is_object, NoEntry}
-use Rattle.smithy_json_codec.proofs.FirstBytes.{array_only, object_only}
-use Rattle.smithy_json_codec.proofs.ValueFirstByte.{begins_with_byte}
+use Rattle.smithy_shapes.specs.Lemmas.Options.{same_some, chosen}
+use Rattle.smithy_json.proofs.DocumentLemmas.{some_of_map, some_of_then, some_of_pair}
+use Rattle.smithy_schema.specs.Reading.{Mark}
+use Rattle.smithy_json_codec.specs.Settings.{Settings, kept, is_within}
+use Rattle.smithy_json_codec.specs.Scalar.{JsonScalar, a_string}
+use Rattle.smithy_json_codec.specs.Spans.{Lies, IsByte, fresh_mark, entry_mark}
+use Rattle.smithy_json_codec.specs.Tokens.{BoundaryBy}
+use Rattle.smithy_json_codec.specs.LexicalGrammar.{LexicalGrammar, frames_of, token_rules}
+use Rattle.smithy_json_codec.specs.Documents.{says_in, document_in, DocumentLies, NoDocumentLies}
+use Rattle.smithy_json_codec.specs.Private.NextInContainer.{ClosesIn}
+use Rattle.smithy_json_codec.specs.Private.NodeDepths.{deeper}
+use Rattle.smithy_json_codec.specs.Private.Skipping.{form_of, opening, closing}
+use Rattle.smithy_json_codec.specs.Private.OpenDocuments.{OpenContainer, open_array, open_object, Waiting, waiting_array, waiting_object, add_element, with_value, fresh, document_of, is_object, name_text, EntryBegins, NoEntry}
+use Rattle.smithy_wire.specs.Documents.{elements_of, pairs_of}
+use Rattle.smithy_wire.specs.Frames.{Lies as LiesAsNode, NodesLie}
+use Rattle.smithy_wire.specs.Node.{as_object, Node, container, Nodes, no_nodes, node}
+use Rattle.smithy_wire.specs.Rules.{at_depth, key_text}
+use Rattle.smithy_wire.specs.Lemmas.Nodes.{one_node}
+use Rattle.smithy_json_codec.proofs.OpenContainers.{grammar_is_wire, inside_mark, bracket_only}
 
 -- ---- limits
 
 -- a value may stand at this depth
-abbrev pub Allows : Option ℕ → ℕ → Type 0
-Allows None n = Unit {0}
-Allows (Some greatest) n = n ≤ greatest
+abbrev pub Allows : Settings → ℕ → Type 0
+Allows c n = is_within c.limits c.max_depth n ≡ true
 
 at_most : (n greatest : ℕ) → n ≤ greatest → nat_le n greatest ≡ true
 at_most n greatest h = grind (arith, nat_tests)
 
+pub allowed_within : (c : Settings) → c.limits ≡ kept → (n : ℕ) → n ≤ c.max_depth → Allows c n
+allowed_within c keeps n h = ap (λ l. is_within l c.max_depth n) keeps ∙ at_most n c.max_depth h
+
 most : (n greatest : ℕ) → nat_le n greatest ≡ true → n ≤ greatest
 most n greatest h = grind (arith, nat_tests)
 
-pub allows_depth : {A : Type 0} (limits : Option ℕ) (n : ℕ) (m : Option A) → Allows limits n → at_depth limits n m ≡ m
-allows_depth None n m h = refl
-allows_depth (Some greatest) n m h = ap (λ b. cond b m None) (at_most n greatest h)
+pub within_allowed : (c : Settings) → c.limits ≡ kept → (n : ℕ) → Allows c n → n ≤ c.max_depth
+within_allowed c keeps n h = most n c.max_depth (sym (ap (λ l. is_within l c.max_depth n) keeps) ∙ h)
 
-pub depth_allowed : {A : Type 0} (limits : Option ℕ) (n : ℕ) (m : Option A) (x : A) → at_depth limits n m ≡ Some x → Allows limits n × (m ≡ Some x)
-depth_allowed None n m x h = (tt, h)
-depth_allowed (Some greatest) n m x h = let may = allowed greatest n m x h in (most n greatest may.0, may.1)
+pub allows_depth : {A : Type 0} (g : LexicalGrammar) (c : Settings) (n : ℕ) (m : Option A) → Allows c n → at_depth (token_rules g c) n m ≡ m
+allows_depth g c n m h = ap (λ b. if b then m else None) h
+
+pub depth_allowed : {A : Type 0} (g : LexicalGrammar) (c : Settings) (n : ℕ) (m : Option A) (x : A) → at_depth (token_rules g c) n m ≡ Some x → Allows c n × (m ≡ Some x)
+depth_allowed g c n m x h = chosen (is_within c.limits c.max_depth n) m x h
 
 -- ---- elements and properties, more behind what is there
 
@@ -61,31 +64,26 @@ join_add (item e ds) d es = ap (item e) (join_add ds d es)
 abbrev pub put_all : Properties Number → List (List ℕ × Document Number) → Properties Number
 put_all ps pairs = fold (λ qs pair. put_property pair.0 pair.1 qs) ps pairs
 
+abbrev more_elements : Documents Number → Documents Number → Document Number
+more_elements ds others = array (join ds others)
+
+abbrev more_pairs : Properties Number → List (List ℕ × Document Number) → Document Number
+more_pairs ps pairs = object (put_all ps pairs)
+
 -- ---- what is left of one container
 
--- from b on the other elements of an array come, whose inside has this depth, and it ends at f as the document
-pub record ArrayEnds (limits : Option ℕ) (n : ℕ) (ds : Documents Number) (entered : Bool) (i : List ℕ) (b : ℕ) (d : Document Number) (f : ℕ) : Type 0 where
-  pub elements : Elements
-  pub lies : ElementsLie elements entered i b f
-  pub follows : IsBoundary (drop f i)
-  pub allowed : Allows limits n
-  pub others : Documents Number
-  pub means : elements_meaning limits n elements ≡ Some others
-  pub is : array (join ds others) ≡ d
+-- the document that an open container is with what these nodes mean in it
+abbrev pub whole_of : LexicalGrammar → Settings → ℕ → OpenContainer → Nodes JsonScalar → Option (Document Number)
+whole_of g c n (open_array ds) xs = option_map (more_elements ds) (elements_of (token_rules g c) (says_in g) n xs)
+whole_of g c n (open_object ps) xs = option_map (more_pairs ps) (pairs_of (token_rules g c) (says_in g) n xs)
 
--- the same of an object
-pub record ObjectEnds (limits : Option ℕ) (n : ℕ) (ps : Properties Number) (entered : Bool) (i : List ℕ) (b : ℕ) (d : Document Number) (f : ℕ) : Type 0 where
-  pub members : Members
-  pub lies : MembersLie members entered i b f
-  pub follows : IsBoundary (drop f i)
-  pub allowed : Allows limits n
-  pub pairs : List (List ℕ × Document Number)
-  pub means : members_meaning limits n members ≡ Some pairs
-  pub is : object (put_all ps pairs) ≡ d
-
-abbrev pub ContainerEnds : Option ℕ → ℕ → OpenContainer → Bool → List ℕ → ℕ → Document Number → ℕ → Type 0
-ContainerEnds limits n (open_array ds) entered i b d f = ArrayEnds limits n ds entered i b d f
-ContainerEnds limits n (open_object ps) entered i b d f = ObjectEnds limits n ps entered i b d f
+-- from b on the other entries of a container come, whose inside has this depth, and it ends at f as the document
+pub record ContainerEnds (g : LexicalGrammar) (c : Settings) (n : ℕ) (o : OpenContainer) (entered : Bool) (i : List ℕ) (b : ℕ) (d : Document Number) (f : ℕ) : Type 0 where
+  pub nodes : Nodes JsonScalar
+  pub lie : NodesLie (frames_of g) (form_of (is_object o)) i 2 nodes b (inside_mark entered) f
+  pub follows : BoundaryBy g.is_strict (drop f i)
+  pub allowed : Allows c n
+  pub means : whole_of g c n o nodes ≡ Some d
 
 -- ---- what is left of all
 
@@ -95,16 +93,16 @@ level depth [] = depth
 level depth (w ∷ ws) = suc (level depth ws)
 
 -- the value x ends at f, and behind it the containers end one after another, the last at e as the document d
-abbrev pub Goes : Option ℕ → ℕ → List Waiting → List ℕ → Document Number → ℕ → Document Number → ℕ → Type 0
-Goes limits depth [] i x f d e = (x ≡ d) × (f ≡ e)
-Goes limits depth (w ∷ ws) i x f d e =
-    (y : Document Number) × (g : ℕ) × ContainerEnds limits (suc (level depth ws)) (with_value w x) true i f y g
-    × Goes limits depth ws i y g d e
+abbrev pub Goes : LexicalGrammar → Settings → ℕ → List Waiting → List ℕ → Document Number → ℕ → Document Number → ℕ → Type 0
+Goes g c depth [] i x f d e = (x ≡ d) × (f ≡ e)
+Goes g c depth (w ∷ ws) i x f d e =
+    (y : Document Number) × (h : ℕ) × ContainerEnds g c (suc (level depth ws)) (with_value w x) true i f y h
+    × Goes g c depth ws i y h d e
 
-goes_from : (limits : Option ℕ) (depth : ℕ) (ws : List Waiting) (i : List ℕ) (x y : Document Number) (f g : ℕ) (d : Document Number) (e : ℕ)
-    → x ≡ y → f ≡ g → Goes limits depth ws i x f d e → Goes limits depth ws i y g d e
-goes_from limits depth ws i x y f g d e same there goes =
-    subst (λ z. Goes limits depth ws i z g d e) same (subst (λ z. Goes limits depth ws i x z d e) there goes)
+goes_from : (g : LexicalGrammar) (c : Settings) (depth : ℕ) (ws : List Waiting) (i : List ℕ) (x y : Document Number) (f h : ℕ) (d : Document Number) (e : ℕ)
+    → x ≡ y → f ≡ h → Goes g c depth ws i x f d e → Goes g c depth ws i y h d e
+goes_from g c depth ws i x y f h d e same there goes =
+    subst (λ z. Goes g c depth ws i z h d e) same (subst (λ z. Goes g c depth ws i x z d e) there goes)
 
 -- where the walk is: a value is due, or it is inside of a container, behind an entry or not, or behind a value
 pub data Turn : Type 0 where
@@ -112,322 +110,260 @@ pub data Turn : Type 0 where
   inside : OpenContainer → Bool → Turn
   behind : Document Number → Turn
 
-abbrev pub Left : Option ℕ → ℕ → Turn → List Waiting → List ℕ → ℕ → Document Number → ℕ → Type 0
-Left limits depth due ws i at d e =
-    (x : Document Number) × (f : ℕ) × DocumentLies limits (level depth ws) i at x f × Goes limits depth ws i x f d e
-Left limits depth (inside o entered) ws i at d e =
-    (x : Document Number) × (f : ℕ) × ContainerEnds limits (suc (level depth ws)) o entered i at x f × Goes limits depth ws i x f d e
-Left limits depth (behind x) ws i at d e = Goes limits depth ws i x at d e
+abbrev pub Left : LexicalGrammar → Settings → ℕ → Turn → List Waiting → List ℕ → ℕ → Document Number → ℕ → Type 0
+Left g c depth due ws i at d e =
+    (x : Document Number) × (f : ℕ) × DocumentLies g c (level depth ws) i at x f × Goes g c depth ws i x f d e
+Left g c depth (inside o entered) ws i at d e =
+    (x : Document Number) × (f : ℕ) × ContainerEnds g c (suc (level depth ws)) o entered i at x f × Goes g c depth ws i x f d e
+Left g c depth (behind x) ws i at d e = Goes g c depth ws i x at d e
 
 -- a document lies from the start on where, and as, what is left goes on
-pub record IsLeft (limits : Option ℕ) (depth : ℕ) (turn : Turn) (ws : List Waiting) (i : List ℕ) (start at : ℕ) : Type 0 where
-  pub back : (d : Document Number) (e : ℕ) → Left limits depth turn ws i at d e → DocumentLies limits depth i start d e
-  pub forth : (d : Document Number) (e : ℕ) → DocumentLies limits depth i start d e → Left limits depth turn ws i at d e
+pub record IsLeft (g : LexicalGrammar) (c : Settings) (depth : ℕ) (turn : Turn) (ws : List Waiting) (i : List ℕ) (start at : ℕ) : Type 0 where
+  pub back : (d : Document Number) (e : ℕ) → Left g c depth turn ws i at d e → DocumentLies g c depth i start d e
+  pub forth : (d : Document Number) (e : ℕ) → DocumentLies g c depth i start d e → Left g c depth turn ws i at d e
 
-pub left_all : (limits : Option ℕ) (depth : ℕ) (i : List ℕ) (at : ℕ) → IsLeft limits depth due [] i at at
-left_all limits depth i at = record {
+pub left_all : (g : LexicalGrammar) (c : Settings) (depth : ℕ) (i : List ℕ) (at : ℕ) → IsLeft g c depth due [] i at at
+left_all g c depth i at = record {
   back = λ d e h.
-      let here = subst (λ x. DocumentLies limits depth i at x h.1) h.3.0 h.2 in
-      subst (λ f. DocumentLies limits depth i at d f) h.3.1 here;
+      let here = subst (λ x. DocumentLies g c depth i at x h.1) h.3.0 h.2 in
+      subst (λ f. DocumentLies g c depth i at d f) h.3.1 here;
   forth = λ d e h. (d, e, h, (refl, refl));
 }
 
 -- ---- a value is due
 
 -- the document at a place and its end are determined
-pub same_document : (limits : Option ℕ) (n : ℕ) (i : List ℕ) (a : ℕ) (x y : Document Number) (e f : ℕ)
-    → DocumentLies limits n i a x e → DocumentLies limits n i a y f → (x ≡ y) × (e ≡ f)
-same_document limits n i a x y e f h k =
-    let same = one_tree 1 1 h.tree k.tree i a e f h.lies k.lies in
-    let both : Some x ≡ Some y = sym h.means ∙ ap (document_meaning limits n) same.0 ∙ k.means in
-    (cc, same.1)
+pub same_document : (g : LexicalGrammar) (c : Settings) (n : ℕ) (i : List ℕ) (a : ℕ) (x y : Document Number) (e f : ℕ)
+    → DocumentLies g c n i a x e → DocumentLies g c n i a y f → (x ≡ y) × (e ≡ f)
+same_document g c n i a x y e f h k =
+    let same = one_node (frames_of g) (grammar_is_wire g) i 1 h.node k.node a e f h.lies k.lies in
+    (same_some x y (sym h.means ∙ ap (document_in g c n) same.0 ∙ k.means), same.1)
 
 -- a container is its bracket and its inside
-array_is : (limits : Option ℕ) (n : ℕ) (i : List ℕ) (a b : ℕ) (x : Document Number) (f : ℕ) → Lies (IsByte begin_array) i a b
-    → ArrayEnds limits (suc n) no_documents false i b x f → DocumentLies limits n i a x f
-array_is limits n i a b x f o ends = record {
-  tree = tree.array ends.elements;
-  lies = elements_text 1 ends.elements i a b f o ends.lies ends.follows;
-  means = allows_depth limits (suc n) (option_map array (elements_meaning limits (suc n) ends.elements)) ends.allowed
-      ∙ ap (option_map array) ends.means ∙ ap (λ d. Some d) ends.is;
-}
+module _ (g : LexicalGrammar) (c : Settings) (n : ℕ) where
+  fresh_is : (k : Bool) → is_object (fresh k) ≡ k
+  fresh_is true = refl
+  fresh_is false = refl
 
-is_array : (limits : Option ℕ) (n : ℕ) (i : List ℕ) (a b : ℕ) (x : Document Number) (f : ℕ) → a ≤ length i → Lies (IsByte begin_array) i a b
-    → DocumentLies limits n i a x f → ArrayEnds limits (suc n) no_documents false i b x f
-is_array limits n i a b x f within o h =
-    let kind = array_only h.tree (begins_with_byte i a begin_array b refl o 1 h.tree f h.lies) in
-    let lies : TreeLies 1 (tree.array kind.0) i a f = subst (λ y. TreeLies 1 y i a f) kind.1 h.lies in
-    let parts = text_elements 1 kind.0 i a f within lies in
-    let same = (same_byte i a parts.0 b begin_array begin_array refl refl parts.1 o).1 in
-    let means : document_meaning limits n (tree.array kind.0) ≡ Some x = ap (document_meaning limits n) (sym kind.1) ∙ h.means in
-    let may = depth_allowed limits (suc n) (option_map array (elements_meaning limits (suc n) kind.0)) x means in
-    let ds = some_of_map array (elements_meaning limits (suc n) kind.0) x may.1 in
-    record {
-      elements = kind.0;
-      lies = subst (λ y. ElementsLie kind.0 false i y f) same parts.2;
-      follows = lies.1;
-      allowed = may.0;
-      others = ds.0;
-      means = ds.1;
-      is = ds.2;
+  fresh_means : (k : Bool) (xs : Nodes JsonScalar) → document_in g c n (container (form_of k) xs) ≡ at_depth (token_rules g c) (suc n) (whole_of g c (suc n) (fresh k) xs)
+  fresh_means true xs = refl
+  fresh_means false xs = refl
+
+  module _ (i : List ℕ) (k : Bool) (a b : ℕ) (x : Document Number) (f : ℕ) (o : Lies (IsByte (opening k)) i a b) where
+    container_is : ContainerEnds g c (suc n) (fresh k) false i b x f → DocumentLies g c n i a x f
+    container_is ends = record {
+      node = container (form_of k) ends.nodes;
+      lies = (b, fresh_mark, (refl, o), subst (λ j. NodesLie (frames_of g) (form_of j) i 2 ends.nodes b fresh_mark f) (fresh_is k) ends.lie, ends.follows);
+      means = fresh_means k ends.nodes ∙ allows_depth g c (suc n) (whole_of g c (suc n) (fresh k) ends.nodes) ends.allowed ∙ ends.means;
     }
 
-abbrev made_object : List (List ℕ × Document Number) → Document Number
-made_object pairs = object (properties_by pairs)
+    is_container : DocumentLies g c n i a x f → ContainerEnds g c (suc n) (fresh k) false i b x f
+    is_container h =
+        let (xs, is, lie, follows) = bracket_only g i 1 k a b o h.node f h.lies in
+        let may = depth_allowed g c (suc n) (whole_of g c (suc n) (fresh k) xs) x (sym (fresh_means k xs) ∙ ap (document_in g c n) (sym is) ∙ h.means) in
+        record {
+          nodes = xs;
+          lie = subst (λ j. NodesLie (frames_of g) (form_of j) i 2 xs b fresh_mark f) (sym (fresh_is k)) lie;
+          follows = follows;
+          allowed = may.0;
+          means = may.1;
+        }
 
-object_is : (limits : Option ℕ) (n : ℕ) (i : List ℕ) (a b : ℕ) (x : Document Number) (f : ℕ) → Lies (IsByte begin_object) i a b
-    → ObjectEnds limits (suc n) no_properties false i b x f → DocumentLies limits n i a x f
-object_is limits n i a b x f o ends = record {
-  tree = tree.object ends.members;
-  lies = members_text 1 ends.members i a b f o ends.lies ends.follows;
-  means = allows_depth limits (suc n) (option_map made_object (members_meaning limits (suc n) ends.members)) ends.allowed
-      ∙ ap (option_map made_object) ends.means ∙ ap (λ d. Some d) ends.is;
-}
-
-is_object_there : (limits : Option ℕ) (n : ℕ) (i : List ℕ) (a b : ℕ) (x : Document Number) (f : ℕ) → a ≤ length i → Lies (IsByte begin_object) i a b
-    → DocumentLies limits n i a x f → ObjectEnds limits (suc n) no_properties false i b x f
-is_object_there limits n i a b x f within o h =
-    let kind = object_only h.tree (begins_with_byte i a begin_object b refl o 1 h.tree f h.lies) in
-    let lies : TreeLies 1 (tree.object kind.0) i a f = subst (λ y. TreeLies 1 y i a f) kind.1 h.lies in
-    let parts = text_members 1 kind.0 i a f within lies in
-    let same = (same_byte i a parts.0 b begin_object begin_object refl refl parts.1 o).1 in
-    let means : document_meaning limits n (tree.object kind.0) ≡ Some x = ap (document_meaning limits n) (sym kind.1) ∙ h.means in
-    let may = depth_allowed limits (suc n) (option_map made_object (members_meaning limits (suc n) kind.0)) x means in
-    let ps = some_of_map made_object (members_meaning limits (suc n) kind.0) x may.1 in
-    record {
-      members = kind.0;
-      lies = subst (λ y. MembersLie kind.0 false i y f) same parts.2;
-      follows = lies.1;
-      allowed = may.0;
-      pairs = ps.0;
-      means = ps.1;
-      is = ps.2;
-    }
-
-module _ (limits : Option ℕ) (depth : ℕ) (ws : List Waiting) (i : List ℕ) (start at : ℕ) (way : IsLeft limits depth due ws i start at) where
+module _ (g : LexicalGrammar) (c : Settings) (depth : ℕ) (ws : List Waiting) (i : List ℕ) (start at : ℕ) (way : IsLeft g c depth due ws i start at) where
   -- it is read whole
-  pub left_behind : (x : Document Number) (f : ℕ) → DocumentLies limits (level depth ws) i at x f → IsLeft limits depth (behind x) ws i start f
+  pub left_behind : (x : Document Number) (f : ℕ) → DocumentLies g c (level depth ws) i at x f → IsLeft g c depth (behind x) ws i start f
   left_behind x f here = record {
     back = λ d e goes. way.back d e (x, f, here, goes);
     forth = λ d e whole.
         let h = way.forth d e whole in
-        let same = same_document limits (level depth ws) i at h.0 x h.1 f h.2 here in
-        goes_from limits depth ws i h.0 x h.1 f d e same.0 same.1 h.3;
+        let same = same_document g c (level depth ws) i at h.0 x h.1 f h.2 here in
+        goes_from g c depth ws i h.0 x h.1 f d e same.0 same.1 h.3;
   }
 
   -- an array or an object opens
-  pub left_in_array : (b : ℕ) → at ≤ length i → Lies (IsByte begin_array) i at b → IsLeft limits depth (inside (open_array no_documents) false) ws i start b
-  left_in_array b within o = record {
-    back = λ d e h. way.back d e (h.0, h.1, array_is limits (level depth ws) i at b h.0 h.1 o h.2, h.3);
+  pub left_in_container : (k : Bool) (b : ℕ) → Lies (IsByte (opening k)) i at b → IsLeft g c depth (inside (fresh k) false) ws i start b
+  left_in_container k b o = record {
+    back = λ d e h. way.back d e (h.0, h.1, container_is g c (level depth ws) i k at b h.0 h.1 o h.2, h.3);
     forth = λ d e whole.
-        let h = way.forth d e whole in (h.0, h.1, is_array limits (level depth ws) i at b h.0 h.1 within o h.2, h.3);
-  }
-
-  pub left_in_object : (b : ℕ) → at ≤ length i → Lies (IsByte begin_object) i at b → IsLeft limits depth (inside (open_object no_properties) false) ws i start b
-  left_in_object b within o = record {
-    back = λ d e h. way.back d e (h.0, h.1, object_is limits (level depth ws) i at b h.0 h.1 o h.2, h.3);
-    forth = λ d e whole.
-        let h = way.forth d e whole in (h.0, h.1, is_object_there limits (level depth ws) i at b h.0 h.1 within o h.2, h.3);
+        let h = way.forth d e whole in (h.0, h.1, is_container g c (level depth ws) i k at b h.0 h.1 o h.2, h.3);
   }
 
   -- none is there
-  pub no_value_left : NoDocumentLies limits (level depth ws) i at → NoDocumentLies limits depth i start
+  pub no_value_left : NoDocumentLies g c (level depth ws) i at → NoDocumentLies g c depth i start
   no_value_left none d e whole = let h = way.forth d e whole in none h.0 h.1 h.2
 
 -- ---- an entry begins
 
-module _ (limits : Option ℕ) (n : ℕ) (i : List ℕ) (b : ℕ) (entered : Bool) where
-  -- an element before the others
-  array_more : (ds : Documents Number) (c : ℕ) → ElementBegins i b entered c → (x : Document Number) (f : ℕ) → DocumentLies limits n i c x f
-      → (y : Document Number) (g : ℕ) → ArrayEnds limits n (add_element ds x) true i f y g → ArrayEnds limits n ds entered i b y g
-  array_more ds c begins x f here y g ends = record {
-    elements = element here.tree ends.elements;
-    lies = (c, f, begins.0, child_lies 0 here.tree i c f here.lies, ends.lies);
-    follows = ends.follows;
-    allowed = ends.allowed;
-    others = item x ends.others;
-    means = ap (option_and_then (λ d. option_map (item d) (elements_meaning limits n ends.elements))) here.means ∙ ap (option_map (item x)) ends.means;
-    is = ap array (sym (join_add ds x ends.others)) ∙ ends.is;
-  }
+-- the container waits for the value of an entry with this key: what it is with the entry, it is with the value and without the entry
+record WaitsBehind (g : LexicalGrammar) (o : OpenContainer) (key : Option JsonScalar) (w : Waiting) : Type 0 where
+  kind : (d : Document Number) → is_object (with_value w d) ≡ is_object o
+  gives : (c : Settings) (n : ℕ) (x : Node JsonScalar) (xs : Nodes JsonScalar) (d y : Document Number) → document_in g c n x ≡ Some d
+      → whole_of g c n (with_value w d) xs ≡ Some y → whole_of g c n o (node key x xs) ≡ Some y
+  takes : (c : Settings) (n : ℕ) (x : Node JsonScalar) (xs : Nodes JsonScalar) (y : Document Number) → whole_of g c n o (node key x xs) ≡ Some y
+      → (d : Document Number) × (document_in g c n x ≡ Some d) × (whole_of g c n (with_value w d) xs ≡ Some y)
 
-  -- and back
-  abbrev FirstElement : Documents Number → ℕ → Document Number → ℕ → Type 0
-  FirstElement ds c y g = (x : Document Number) × (f : ℕ) × DocumentLies limits n i c x f × ArrayEnds limits n (add_element ds x) true i f y g
-
-  more_array : (ds : Documents Number) (c : ℕ) → ElementBegins i b entered c → (y : Document Number) (g : ℕ) (es : Elements) → ElementsLie es entered i b g
-      → IsBoundary (drop g i) → Allows limits n → (others : Documents Number) → elements_meaning limits n es ≡ Some others → array (join ds others) ≡ y
-      → FirstElement ds c y g
-  more_array ds c begins y g no_elements lies follows may others means is = absurd (element_or_end i entered b c g begins.0 begins.1 lies)
-  more_array ds c begins y g (element j es) lies follows may others means is =
-      let same = same_separated i entered b lies.0 c lies.2 begins.0 in
-      let child = subst (λ z. ChildLies j i z lies.1) same lies.3 in
-      let one = some_of_then (λ d. option_map (item d) (elements_meaning limits n es)) (document_meaning limits n j) others means in
-      let rest = some_of_map (item one.0) (elements_meaning limits n es) others one.2 in (
+array_waits : (g : LexicalGrammar) (ds : Documents Number) (key : Option JsonScalar) → WaitsBehind g (open_array ds) key (waiting_array ds)
+array_waits g ds key = record {
+  kind = λ d. refl;
+  gives = λ c n x xs d y here rest.
+      let es = elements_of (token_rules g c) (says_in g) n xs in
+      let others = some_of_map (more_elements (add_element ds d)) es y rest in
+      ap (λ o. option_map (more_elements ds) (option_and_then (λ d. option_map (item d) es) o)) here
+      ∙ ap (λ o. option_map (more_elements ds) (option_map (item d) o)) others.1
+      ∙ ap (λ all. Some (array all)) (sym (join_add ds d others.0))
+      ∙ ap (λ u. Some u) others.2;
+  takes = λ c n x xs y means.
+      let es = elements_of (token_rules g c) (says_in g) n xs in
+      let all = some_of_map (more_elements ds) (option_and_then (λ d. option_map (item d) es) (document_in g c n x)) y means in
+      let one = some_of_then (λ d. option_map (item d) es) (document_in g c n x) all.0 all.1 in
+      let rest = some_of_map (item one.0) es all.0 one.2 in (
         one.0,
-        lies.1,
-        record { tree = j; lies = lies_inside 0 j i c lies.1 child; means = one.1 },
-        record {
-          elements = es;
-          lies = lies.4;
-          follows = follows;
-          allowed = may;
-          others = rest.0;
-          means = rest.1;
-          is = ap array (join_add ds one.0 rest.0) ∙ ap (λ all. array (join ds all)) rest.2 ∙ is;
-        },
-      )
-
-  -- a member before the others
-  object_more : (ps : Properties Number) (raw name : List ℕ) (c : ℕ) → Names entered i b raw c → unescaped raw ≡ Some name
-      → (x : Document Number) (f : ℕ) → DocumentLies limits n i c x f
-      → (y : Document Number) (g : ℕ) → ObjectEnds limits n (put_property name x ps) true i f y g → ObjectEnds limits n ps entered i b y g
-  object_more ps raw name c names text x f here y g ends = record {
-    members = member raw here.tree ends.members;
-    lies = (c, f, names, child_lies 0 here.tree i c f here.lies, ends.lies);
-    follows = ends.follows;
-    allowed = ends.allowed;
-    pairs = (name, x) ∷ ends.pairs;
-    means = ap (λ k. with_pair k (document_meaning limits n here.tree) (members_meaning limits n ends.members)) text
-        ∙ ap (λ d. with_pair (Some name) d (members_meaning limits n ends.members)) here.means
-        ∙ ap (λ pairs. with_pair (Some name) (Some x) pairs) ends.means;
-    is = ends.is;
-  }
-
-  abbrev FirstMember : Properties Number → List ℕ → ℕ → Document Number → ℕ → Type 0
-  FirstMember ps name c y g = (x : Document Number) × (f : ℕ) × DocumentLies limits n i c x f × ObjectEnds limits n (put_property name x ps) true i f y g
-
-  more_object : (ps : Properties Number) (raw name : List ℕ) (c : ℕ) → Names entered i b raw c → unescaped raw ≡ Some name
-      → (y : Document Number) (g : ℕ) (ms : Members) → MembersLie ms entered i b g
-      → IsBoundary (drop g i) → Allows limits n → (pairs : List (List ℕ × Document Number)) → members_meaning limits n ms ≡ Some pairs → object (put_all ps pairs) ≡ y
-      → FirstMember ps name c y g
-  more_object ps raw name c names text y g no_members lies follows may pairs means is = absurd (names_or_end i entered b raw c g names lies)
-  more_object ps raw name c names text y g (member key j ms) lies follows may pairs means is =
-      let same = same_names i entered b key raw lies.0 c lies.2 names in
-      let child = subst (λ z. ChildLies j i z lies.1) same.1 lies.3 in
-      let one = some_of_pair (unescaped key) (document_meaning limits n j) (members_meaning limits n ms) pairs means in
-      let texts : Some one.0 ≡ Some name = sym one.3 ∙ ap unescaped same.0 ∙ text in
-      let named : one.0 ≡ name = cc in (
         one.1,
-        lies.1,
-        record { tree = j; lies = lies_inside 0 j i c lies.1 child; means = one.4 },
-        record {
-          members = ms;
-          lies = lies.4;
-          follows = follows;
-          allowed = may;
-          pairs = one.2;
-          means = one.5;
-          is = ap (λ k. object (put_all (put_property k one.1 ps) one.2)) (sym named) ∙ ap (λ all. object (put_all ps all)) one.6 ∙ is;
-        },
-      )
+        ap (option_map (more_elements (add_element ds one.0))) rest.1
+            ∙ ap (λ all. Some (array all)) (join_add ds one.0 rest.0)
+            ∙ ap (λ all. Some (array (join ds all))) rest.2
+            ∙ ap (λ u. Some u) all.2,
+      );
+}
 
-module _ (limits : Option ℕ) (depth : ℕ) (ws : List Waiting) (i : List ℕ) (start at : ℕ) (entered : Bool) where
-  pub left_at_element : (ds : Documents Number) → IsLeft limits depth (inside (open_array ds) entered) ws i start at
-      → (c : ℕ) → ElementBegins i at entered c → IsLeft limits depth due (waiting_array ds ∷ ws) i start c
-  left_at_element ds way c begins = record {
-    back = λ d e h.
-        let rest = h.3 in
-        way.back d e (rest.0, rest.1, array_more limits (suc (level depth ws)) i at entered ds c begins h.0 h.1 h.2 rest.0 rest.1 rest.2, rest.3);
-    forth = λ d e whole.
-        let h = way.forth d e whole in
-        let ends = h.2 in
-        let first = more_array limits (suc (level depth ws)) i at entered ds c begins h.0 h.1 ends.elements ends.lies ends.follows ends.allowed ends.others ends.means ends.is in
-        (first.0, first.1, first.2, (h.0, h.1, first.3, h.3));
-  }
+object_waits : (g : LexicalGrammar) (ps : Properties Number) (raw name : List ℕ) → name_text g raw ≡ Some name
+    → WaitsBehind g (open_object ps) (Some (a_string raw)) (waiting_object ps name)
+object_waits g ps raw name text = record {
+  kind = λ d. refl;
+  gives = λ c n x xs d y here rest.
+      let pairs = pairs_of (token_rules g c) (says_in g) n xs in
+      let others = some_of_map (more_pairs (put_property name d ps)) pairs y rest in
+      ap (λ k. option_map (more_pairs ps) (with_pair k (document_in g c n x) pairs)) text
+      ∙ ap (λ o. option_map (more_pairs ps) (with_pair (Some name) o pairs)) here
+      ∙ ap (λ o. option_map (more_pairs ps) (with_pair (Some name) (Some d) o)) others.1
+      ∙ ap (λ u. Some u) others.2;
+  takes = λ c n x xs y means.
+      let pairs = pairs_of (token_rules g c) (says_in g) n xs in
+      let all = some_of_map (more_pairs ps) (with_pair (name_text g raw) (document_in g c n x) pairs) y means in
+      let one = some_of_pair (name_text g raw) (document_in g c n x) pairs all.0 all.1 in
+      let named : name ≡ one.0 = same_some name one.0 (sym text ∙ one.3) in (
+        one.1,
+        one.4,
+        ap (option_map (more_pairs (put_property name one.1 ps))) one.5
+            ∙ ap (λ k. Some (object (put_all (put_property k one.1 ps) one.2))) named
+            ∙ ap (λ all. Some (object (put_all ps all))) one.6
+            ∙ ap (λ u. Some u) all.2,
+      );
+}
 
-  pub left_at_member : (ps : Properties Number) → IsLeft limits depth (inside (open_object ps) entered) ws i start at
-      → (raw name : List ℕ) (c : ℕ) → Names entered i at raw c → unescaped raw ≡ Some name → IsLeft limits depth due (waiting_object ps name ∷ ws) i start c
-  left_at_member ps way raw name c names text = record {
-    back = λ d e h.
-        let rest = h.3 in
-        way.back d e (rest.0, rest.1, object_more limits (suc (level depth ws)) i at entered ps raw name c names text h.0 h.1 h.2 rest.0 rest.1 rest.2, rest.3);
-    forth = λ d e whole.
-        let h = way.forth d e whole in
-        let ends = h.2 in
-        let first = more_object limits (suc (level depth ws)) i at entered ps raw name c names text h.0 h.1 ends.members ends.lies ends.follows ends.allowed ends.pairs ends.means ends.is in
-        (first.0, first.1, first.2, (h.0, h.1, first.3, h.3));
-  }
+module _ (g : LexicalGrammar) (i : List ℕ) (b : ℕ) (entered : Bool) where
+  -- where an entry begins, one comes by the tokens
+  entry_of : (o : OpenContainer) (w : Waiting) (p : ℕ) → EntryBegins g i b entered o w p
+      → (key : Option JsonScalar) × (frames_of g).entry (form_of (is_object o)) i b (inside_mark entered) key p entry_mark × WaitsBehind g o key w
+  entry_of (open_array ds) w p begins =
+      (None, (refl, refl, begins.1.0, begins.1.1), subst (WaitsBehind g (open_array ds) None) (sym begins.0) (array_waits g ds None))
+  entry_of (open_object ps) w p (raw, name, is, tokens, text) =
+      (Some (a_string raw), (raw, refl, refl, tokens), subst (WaitsBehind g (open_object ps) (Some (a_string raw))) (sym is) (object_waits g ps raw name text))
 
--- ---- a container ends, or can't go on
+  -- and where one comes that means something, an entry begins
+  entry_told : (c : Settings) (n : ℕ) (o : OpenContainer) (key : Option JsonScalar) (p : ℕ) (m : Mark) (x : Node JsonScalar) (xs : Nodes JsonScalar) (y : Document Number)
+      → (frames_of g).entry (form_of (is_object o)) i b (inside_mark entered) key p m → whole_of g c n o (node key x xs) ≡ Some y
+      → (w : Waiting) × EntryBegins g i b entered o w p
+  entry_told c n (open_array ds) key p m x xs y (none, mark, separated, real) means = (waiting_array ds, (refl, (separated, real)))
+  entry_told c n (open_object ps) key p m x xs y (raw, is, mark, tokens) means =
+      let pairs = pairs_of (token_rules g c) (says_in g) n xs in
+      let all = some_of_map (more_pairs ps) (with_pair (key_text (token_rules g c) as_object key) (document_in g c n x) pairs) y means in
+      let one = some_of_pair (key_text (token_rules g c) as_object key) (document_in g c n x) pairs all.0 all.1 in
+      let text : name_text g raw ≡ Some one.0 = sym (ap (key_text (token_rules g c) as_object) is) ∙ one.3 in
+      (waiting_object ps one.0, (raw, one.0, refl, tokens, text))
 
-module _ (limits : Option ℕ) (n : ℕ) (i : List ℕ) (b : ℕ) (entered : Bool) (f : ℕ) where
-  -- at this place, and as what has come
-  array_whole : (ds : Documents Number) → Lies (IsByte end_array) i b f → (y : Document Number) (g : ℕ) (es : Elements) → ElementsLie es entered i b g
-      → (others : Documents Number) → elements_meaning limits n es ≡ Some others → array (join ds others) ≡ y → (y ≡ array ds) × (g ≡ f)
-  array_whole ds closes y g no_elements lies others means is =
-      let none : no_documents ≡ others = cc in
-      (sym is ∙ ap (λ all. array (join ds all)) (sym none) ∙ ap array (join_none ds), (same_byte i b g f end_array end_array refl refl lies closes).1)
-  array_whole ds closes y g (element j es) lies others means is =
-      absurd (element_or_end i entered b lies.0 f lies.2 (no_end i j lies.0 lies.1 lies.3.0) closes)
+module _ (g : LexicalGrammar) (c : Settings) (depth : ℕ) (ws : List Waiting) (i : List ℕ) (start at : ℕ) (entered : Bool) (o : OpenContainer)
+    (way : IsLeft g c depth (inside o entered) ws i start at) where
+  abbrev n : ℕ
+  n = suc (level depth ws)
 
-  object_whole : (ps : Properties Number) → Lies (IsByte end_object) i b f → (y : Document Number) (g : ℕ) (ms : Members) → MembersLie ms entered i b g
-      → (pairs : List (List ℕ × Document Number)) → members_meaning limits n ms ≡ Some pairs → object (put_all ps pairs) ≡ y → (y ≡ object ps) × (g ≡ f)
-  object_whole ps closes y g no_members lies pairs means is =
-      let none : [] ≡ pairs = cc in
-      (sym is ∙ ap (λ all. object (put_all ps all)) (sym none), (same_byte i b g f end_object end_object refl refl lies closes).1)
-  object_whole ps closes y g (member key j ms) lies pairs means is = absurd (names_or_end i entered b key lies.0 f lies.2 closes)
+  abbrev Mine : Nodes JsonScalar → ℕ → Mark → ℕ → Type 0
+  Mine xs b m f = NodesLie (frames_of g) (form_of (is_object o)) i 2 xs b m f
 
-module _ (limits : Option ℕ) (depth : ℕ) (ws : List Waiting) (i : List ℕ) (start at : ℕ) (entered : Bool) where
-  pub left_behind_container : (o : OpenContainer) → IsLeft limits depth (inside o entered) ws i start at → Allows limits (suc (level depth ws))
-      → (f : ℕ) → ClosesBy (closing (is_object o)) i at 2 f → IsLeft limits depth (behind (document_of o)) ws i start f
-  left_behind_container (open_array ds) way may f closes = record {
-    back = λ d e goes. way.back d e (
-      array ds,
-      f,
+  module _ (w : Waiting) (p : ℕ) (key : Option JsonScalar) (entry : (frames_of g).entry (form_of (is_object o)) i at (inside_mark entered) key p entry_mark)
+      (waits : WaitsBehind g o key w) (d : Document Number) (e : ℕ) where
+    entry_back : Left g c depth due (w ∷ ws) i p d e → Left g c depth (inside o entered) ws i at d e
+    entry_back (x, f, here, (y, h, ends, goes)) = (
+      y,
+      h,
       record {
-        elements = no_elements;
-        lies = closes.0;
-        follows = closes.1;
-        allowed = may;
-        others = no_documents;
-        means = refl;
-        is = ap array (join_none ds);
+        nodes = node key here.node ends.nodes;
+        lie = (p, entry_mark, f, entry, deeper g i 0 1 here.node p f here.lies, subst (λ k. NodesLie (frames_of g) (form_of k) i 2 ends.nodes f (inside_mark true) h) (waits.kind x) ends.lie);
+        follows = ends.follows;
+        allowed = ends.allowed;
+        means = waits.gives c n here.node ends.nodes x y here.means ends.means;
       },
       goes,
-    );
-    forth = λ d e whole.
-        let h = way.forth d e whole in
-        let ends = h.2 in
-        let same = array_whole limits (suc (level depth ws)) i at entered f ds closes.0 h.0 h.1 ends.elements ends.lies ends.others ends.means ends.is in
-        goes_from limits depth ws i h.0 (array ds) h.1 f d e same.0 same.1 h.3;
-  }
-  left_behind_container (open_object ps) way may f closes = record {
+    )
+
+    entry_forth : Left g c depth (inside o entered) ws i at d e → Left g c depth due (w ∷ ws) i p d e
+    entry_forth (y, h, ends, goes) = go ends.nodes ends.lie ends.means
+      where
+        go : (xs : Nodes JsonScalar) → Mine xs at (inside_mark entered) h → whole_of g c n o xs ≡ Some y → Left g c depth due (w ∷ ws) i p d e
+        go no_nodes lie means =
+            absurd ((grammar_is_wire g).entry_or_end (form_of (is_object o)) i at (inside_mark entered) key p h entry_mark entry lie)
+        go (node other x xs) (q, m, f, there, lies, lie) means =
+            let same = (grammar_is_wire g).same_entry (form_of (is_object o)) i at (inside_mark entered) other key q p m entry_mark there entry in
+            let keyed : whole_of g c n o (node key x xs) ≡ Some y = subst (λ k. whole_of g c n o (node k x xs) ≡ Some y) same.0 means in
+            let first = waits.takes c n x xs y keyed in
+            let rest = subst (λ j. Mine xs f j h) same.2 lie in (
+              first.0,
+              f,
+              record { node = x; lies = deeper g i 1 0 x p f (subst (λ z. LiesAsNode (frames_of g) i 2 x z f) same.1 lies); means = first.1 },
+              (
+                y,
+                h,
+                record {
+                  nodes = xs;
+                  lie = subst (λ k. NodesLie (frames_of g) (form_of k) i 2 xs f (inside_mark true) h) (sym (waits.kind first.0)) rest;
+                  follows = ends.follows;
+                  allowed = ends.allowed;
+                  means = first.2;
+                },
+                goes,
+              ),
+            )
+
+  pub left_at_entry : (w : Waiting) (p : ℕ) → EntryBegins g i at entered o w p → IsLeft g c depth due (w ∷ ws) i start p
+  left_at_entry w p begins =
+      let (key, entry, waits) = entry_of g i at entered o w p begins in record {
+        back = λ d e h. way.back d e (entry_back w p key entry waits d e h);
+        forth = λ d e whole. entry_forth w p key entry waits d e (way.forth d e whole);
+      }
+
+  -- ---- a container ends, or can't go on
+
+  none_more : (o : OpenContainer) → whole_of g c n o no_nodes ≡ Some (document_of o)
+  none_more (open_array ds) = ap (λ all. Some (array all)) (join_none ds)
+  none_more (open_object ps) = refl
+
+  end_forth : (f : ℕ) → ClosesIn g (closing (is_object o)) i at 2 f → (d : Document Number) (e : ℕ) → Left g c depth (inside o entered) ws i at d e
+      → Goes g c depth ws i (document_of o) f d e
+  end_forth f closes d e (y, h, ends, goes) = go ends.nodes ends.lie ends.means
+    where
+      go : (xs : Nodes JsonScalar) → Mine xs at (inside_mark entered) h → whole_of g c n o xs ≡ Some y → Goes g c depth ws i (document_of o) f d e
+      go no_nodes lie means =
+          let same = (grammar_is_wire g).same_ends (form_of (is_object o)) i at (inside_mark entered) h f lie closes.0 in
+          goes_from g c depth ws i y (document_of o) h f d e (same_some y (document_of o) (sym means ∙ none_more o)) same goes
+      go (node key x xs) (q, m, k, entry, lies, lie) means =
+          absurd ((grammar_is_wire g).entry_or_end (form_of (is_object o)) i at (inside_mark entered) key q f m entry closes.0)
+
+  pub left_behind_container : Allows c n → (f : ℕ) → ClosesIn g (closing (is_object o)) i at 2 f → IsLeft g c depth (behind (document_of o)) ws i start f
+  left_behind_container may f closes = record {
     back = λ d e goes. way.back d e (
-      object ps,
+      document_of o,
       f,
-      record {
-        members = no_members;
-        lies = closes.0;
-        follows = closes.1;
-        allowed = may;
-        pairs = [];
-        means = refl;
-        is = refl;
-      },
+      record { nodes = no_nodes; lie = closes.0; follows = closes.1; allowed = may; means = none_more o },
       goes,
     );
-    forth = λ d e whole.
-        let h = way.forth d e whole in
-        let ends = h.2 in
-        let same = object_whole limits (suc (level depth ws)) i at entered f ps closes.0 h.0 h.1 ends.members ends.lies ends.pairs ends.means ends.is in
-        goes_from limits depth ws i h.0 (object ps) h.1 f d e same.0 same.1 h.3;
+    forth = λ d e whole. end_forth f closes d e (way.forth d e whole);
   }
 
-  no_array : (ds : Documents Number) → NoEntry i at entered (open_array ds) → (g : ℕ) (es : Elements) → ElementsLie es entered i at g → IsBoundary (drop g i) → ⊥
-  no_array ds none g no_elements lies follows = none.1 g (lies, follows)
-  no_array ds none g (element j es) lies follows = none.0 (waiting_array ds) lies.0 (refl, (lies.2, no_end i j lies.0 lies.1 lies.3.0))
-
-  no_object : (ps : Properties Number) → NoEntry i at entered (open_object ps) → (n g : ℕ) (ms : Members) → MembersLie ms entered i at g → IsBoundary (drop g i)
-      → (pairs : List (List ℕ × Document Number)) → members_meaning limits n ms ≡ Some pairs → ⊥
-  no_object ps none n g no_members lies follows pairs means = none.1 g (lies, follows)
-  no_object ps none n g (member key j ms) lies follows pairs means =
-      let one = some_of_pair (unescaped key) (document_meaning limits n j) (members_meaning limits n ms) pairs means in
-      none.0 (waiting_object ps one.0) lies.0 (key, one.0, refl, lies.2, one.3)
-
-  pub nothing_left : (o : OpenContainer) → IsLeft limits depth (inside o entered) ws i start at → NoEntry i at entered o → NoDocumentLies limits depth i start
-  nothing_left (open_array ds) way none d e whole =
-      let h = way.forth d e whole in
-      let ends = h.2 in no_array ds none h.1 ends.elements ends.lies ends.follows
-  nothing_left (open_object ps) way none d e whole =
-      let h = way.forth d e whole in
-      let ends = h.2 in no_object ps none (suc (level depth ws)) h.1 ends.members ends.lies ends.follows ends.pairs ends.means
+  pub nothing_left : NoEntry g i at entered o → NoDocumentLies g c depth i start
+  nothing_left none d e whole = let h = way.forth d e whole in go h.0 h.1 h.2 h.2.nodes h.2.lie h.2.means
+    where
+      go : (y : Document Number) (h : ℕ) (ends : ContainerEnds g c n o entered i at y h) (xs : Nodes JsonScalar) → Mine xs at (inside_mark entered) h
+          → whole_of g c n o xs ≡ Some y → ⊥
+      go y h ends no_nodes lie means = none.1 h (lie, ends.follows)
+      go y h ends (node key x xs) (q, m, k, entry, lies, lie) means =
+          let (w, begins) = entry_told g i at entered c n o key q m x xs y entry means in none.0 w q begins

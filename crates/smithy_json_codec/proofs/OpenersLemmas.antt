@@ -1,20 +1,44 @@
 -- How many brackets are open while a value is skipped that begins at `start`. By the bytes from `start` on alone at least as many
 -- are open at once as the skipper has open, together with the brackets that open from the skipper's place on. Each move of the
 -- skipper keeps this. So where a bracket comes too deep for the skipper, the bytes go as deep.
-use Rattle.std.proofs.Common.{◌≤◌, ◌<◌, ◌+◌, ◌-◌, ℕ, List, drop, Bool, arith}
+use Rattle.std.proofs.Common.{◌≡◌, ◌≤◌, ◌<◌, ◌+◌, ◌-◌, ℕ, suc, List, drop, Bool, true, false, arith}
 use Rattle.smithy_json.specs.Ascii.{begin_array, end_array, begin_object, end_object}
 use Rattle.smithy_json.specs.Tree.{Json}
 use Rattle.smithy_json.specs.Grammar.{IsValue}
 use Rattle.smithy_json_codec.specs.Scalar.{JsonScalar}
 use Rattle.smithy_json_codec.specs.Standing.{Lies, IsByte, IsSeparated, Names}
 use Rattle.smithy_json_codec.specs.Tokens.{NameTokens}
-use Rattle.smithy_json_codec.specs.LexicalGrammar.{LexicalGrammar, frames_of}
+use Rattle.smithy_json_codec.specs.LexicalGrammar.{LexicalGrammar, frames_of, NodeLies}
 use Rattle.smithy_json_codec.specs.Openers.{json_openers}
-use Rattle.smithy_json_codec.specs.Private.OpenersAtPlaces.{across_begin_array, across_begin_object, across_value, across_separator, across_name, across_name_token, across_end_array, across_end_object}
-use Rattle.smithy_json_codec.specs.Private.Wire.{tokens_bound_openers}
-use Rattle.smithy_wire.specs.Node.{Node}
-use Rattle.smithy_wire.specs.Frames.{Lies as LiesAsNode}
-use Rattle.smithy_wire.specs.Lemmas.Nodes.{takes_none}
+use Rattle.smithy_json_codec.specs.Private.OpenersAtPlaces.{across_null, across_token, across_begin_array, across_begin_object, across_value, across_separator, across_name, across_name_token, across_end_array, across_end_object}
+use Rattle.smithy_json_codec.specs.Private.Wire.{opening_adds, entry_takes_none, end_takes_one}
+use Rattle.smithy_schema.specs.Reading.{Mark}
+use Rattle.smithy_wire.specs.Node.{Form, Node, null_node, leaf, container, missing, Nodes, no_nodes, node, all_pass, nodes_pass}
+use Rattle.smithy_wire.specs.Frames.{Lies as LiesAsNode, NodesLie}
+use Rattle.smithy_json_codec.proofs.OpenContainers.{node_parts}
+
+-- a node that passes a test takes away no bracket that opens behind it
+module _ (g : LexicalGrammar) (test : JsonScalar → Bool) (i : List ℕ) where
+  abbrev from : ℕ → ℕ
+  from a = json_openers (drop a i)
+
+  mutual
+    pub node_takes_none : (d : ℕ) (x : Node JsonScalar) (a e : ℕ) → LiesAsNode (frames_of g) i d x a e → all_pass test x ≡ true → from e ≤ from a
+    node_takes_none d null_node a e h passes = omega (arith, across_null i a e h.0)
+    node_takes_none d (leaf x) a e h passes = omega (arith, across_token i x a e h.0)
+    node_takes_none d (container f xs) a e (b, m, opens, lie, follows) passes =
+        let inside = nodes_take_one (suc d) f xs b m e lie passes in
+        omega (arith, inside, opening_adds f i a b opens.1)
+    node_takes_none d missing a e h passes = absurd (let no : false ≡ true = passes in cc)
+
+    nodes_take_one : (d : ℕ) (f : Form) (xs : Nodes JsonScalar) (b : ℕ) (m : Mark) (e : ℕ) → NodesLie (frames_of g) f i d xs b m e → nodes_pass test xs ≡ true
+        → from e ≤ suc (from b)
+    nodes_take_one d f no_nodes b m e h passes = end_takes_one f i b e h
+    nodes_take_one d f (node key x xs) b m e (c, n, k, entry, lies, lie) passes =
+        let parts = node_parts test key x xs passes in
+        let value = node_takes_none d x c k lies parts.1 in
+        let rest = nodes_take_one d f xs k n e lie parts.2 in
+        omega (arith, rest, value, entry_takes_none f i b m key c n entry)
 
 module _ (i : List ℕ) (start : ℕ) where
   -- the loop invariant, for a skipper that has come to `here` and has `count` containers open
@@ -43,9 +67,9 @@ module _ (i : List ℕ) (start : ℕ) where
     pub past_value : (x : Json) → Lies (IsValue x) i here next → OpensInAll count next
     past_value x lies = let takes = across_value i x here next lies in omega (arith, h, takes)
 
-    pub past_node : (g : LexicalGrammar) (d : ℕ) (x : Node JsonScalar) → LiesAsNode (frames_of g) i d x here next → OpensInAll count next
-    past_node g d x lies =
-        let takes = takes_none (frames_of g) (tokens_bound_openers g.Boundary) i d x here next lies in omega (arith, h, takes)
+    pub past_node : (g : LexicalGrammar) (test : JsonScalar → Bool) (d : ℕ) (x : Node JsonScalar) → NodeLies g test d x i here next → OpensInAll count next
+    past_node g test d x lies =
+        let takes = node_takes_none g test i d x here next lies.0 lies.1 in omega (arith, h, takes)
 
     -- to an element: past white space and a comma, unless it is the first
     pub past_separator : (entered : Bool) → IsSeparated entered i here next → OpensInAll count next

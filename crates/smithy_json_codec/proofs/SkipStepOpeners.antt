@@ -12,7 +12,7 @@ use Rattle.smithy_json_codec.proofs.OpenersLemmas.{OpensInAll, past_begin_array,
 
 module _ (i : List ℕ) (start count here next : ℕ) (h : OpensInAll i start count here) where
   pub opens_past_scalar : (g : LexicalGrammar) (test : JsonScalar → Bool) → ScalarLies g test i here next → OpensInAll i start count next
-  opens_past_scalar g test scalar = past_node i start count here next h g 1 scalar.node scalar.lies.0
+  opens_past_scalar g test scalar = past_node i start count here next h g test 1 scalar.node scalar.lies
 
   pub opens_into_container : (k : Bool) → Lies (IsByte (opening k)) i here next → OpensInAll i start (count + 1) next
   opens_into_container true lies = past_begin_object i start count here next h lies

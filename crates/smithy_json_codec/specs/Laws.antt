@@ -1,5 +1,5 @@
 -- The laws of reading, for JSON.
-use Rattle.std.specs.Prelude.{◌≡◌, ◌↔◌, ℕ, List, [], option_map}
+use Rattle.std.specs.Prelude.{◌≡◌, ◌↔◌, ℕ, List, option_map}
 use Rattle.smithy_types.specs.Document.{Document, whole_document}
 use Rattle.smithy_types.specs.declared.number.Number.{Number}
 use Rattle.smithy_shapes.specs.declared.place.Place.{Place}
@@ -10,7 +10,7 @@ use Rattle.smithy_schema.specs.Reading.{IsLawful, StandsFit, CountsOpeners, IsBe
 use Rattle.smithy_json_codec.specs.Settings.{Settings, kept, without_limits}
 use Rattle.smithy_json_codec.specs.LexicalGrammar.{rfc_8259}
 use Rattle.smithy_json_codec.specs.Meaning.{json_meaning}
-use Rattle.smithy_json_codec.specs.Standing.{json_frames, json_rules, json_relations}
+use Rattle.smithy_json_codec.specs.Standing.{json_grammar, json_frames, json_rules, json_relations}
 use Rattle.smithy_json_codec.specs.Documents.{depth_limit, DocumentStands}
 use Rattle.smithy_json_codec.specs.Private.DocumentNodes as documents
 use Rattle.smithy_json_codec.specs.Private.TokenLaws as tokens
@@ -32,19 +32,19 @@ fit c keeps = wire.stands_fit json_frames (json_rules c) keeps (rules_fit c)
 
 -- brackets are counted
 pub counts : (c : Settings) → CountsOpeners (json_relations c)
-counts = tokens.counts rfc_8259
+counts = tokens.counts
 
 -- what holds within the limits holds without them
 pub above : (c : Settings) → IsBelow (json_relations c) (json_relations (without_limits c))
 above = tokens.above rfc_8259
 
--- From a to e stands a document where a tree lies there that means it inside so many containers, and behind it comes what may
+-- From a to e stands a document where a node lies there that means it inside so many containers, and behind it comes what may
 -- follow a container.
 pub documents_are : (c : Settings) (i : List ℕ) (d a : ℕ) (x : Document Number) (e : ℕ)
-    → (json_relations c).documents i d a x e ↔ DocumentStands (depth_limit c.limits c.max_depth) d i a x e
-documents_are = documents.documents_are
+    → (json_relations c).documents i d a x e ↔ DocumentStands (json_grammar c) c d i a x e
+documents_are c = documents.documents_are (json_grammar c) c
 
 -- where a document is due, a tree means what it means as a document, and of each number the whole number alone
 pub means_document : (c : Settings) (t : Table) (p : Place) → kind_of t p ≡ document → (d : ℕ) (x : Json)
     → json_meaning c t p d x ≡ option_map (λ u. document_value (whole_document u)) (document_meaning (depth_limit c.limits c.max_depth) d x)
-means_document c t p kind d x = documents.means_document_of c [] d 0 t p kind x
+means_document = documents.means_document_of

@@ -10,7 +10,6 @@ use Rattle.smithy_shapes.specs.declared.shape_type.Scalar.{Scalar}
 use Rattle.smithy_shapes.specs.declared.shape_type.Scalar.TheVariants as scalars
 use Rattle.smithy_schema.specs.Reading.{Relations}
 use Rattle.smithy_json.specs.Ascii.{quotation_mark, escape, letter_u, space, is_short_escape}
-use Rattle.smithy_json.specs.Grammar.{IsBoundary}
 use Rattle.smithy_json.specs.NumberText.{is_number, is_number_of}
 use Rattle.smithy_json_codec.specs.Settings.{Settings}
 use Rattle.smithy_json_codec.specs.Scalar.{JsonScalar, a_boolean, a_number, a_string, text_of, document_says}
@@ -22,7 +21,7 @@ use Rattle.smithy_wire.specs.Rules.{Rules, no_meaning}
 use Rattle.smithy_wire.specs.Node.{Node, all_pass}
 use Rattle.smithy_wire.specs.Frames.{Frames, Lies, relations}
 
-pub record LexicalGrammar : Type 1 where
+pub record LexicalGrammar : Type 0 where
   -- a number that is skipped
   pub is_number : List ℕ → Bool
   -- a number that is read as an integer, as a big integer, and as any other kind or in a document
@@ -32,8 +31,8 @@ pub record LexicalGrammar : Type 1 where
   -- what stands between the quotation marks of a string that is read, or of a name, and of one that is skipped
   pub is_text : List ℕ → Bool
   pub is_skipped_text : List ℕ → Bool
-  -- what may follow a value inside of a container
-  pub Boundary : List ℕ → Type 0
+  -- a boundary follows each value inside of a container, and a structure is missing in an empty input alone
+  pub is_strict : Bool
 
 -- ---- RFC 8259, section 7, computed
 
@@ -103,11 +102,6 @@ is_lenient_decimal raw = begins_as_number raw && is_decimal raw
 abbrev pub number_test : Settings → (List ℕ → Bool) → List ℕ → Bool
 number_test c lenient raw = if c.enforce_strictness then is_number_of c.numbers raw else lenient raw
 
--- what may follow a value, where that is strict
-abbrev pub BoundaryBy : Bool → List ℕ → Type 0
-BoundaryBy true rest = IsBoundary rest
-BoundaryBy false rest = Unit {0}
-
 -- the grammar of some settings
 abbrev pub grammar_of : Settings → LexicalGrammar
 grammar_of c = record {
@@ -117,7 +111,7 @@ grammar_of c = record {
   is_decimal = number_test c is_lenient_decimal;
   is_text = reads_text c.enforce_strictness;
   is_skipped_text = skips_text c.validate_skipped_string_encoding c.validate_skipped_values;
-  Boundary = BoundaryBy c.enforce_strictness;
+  is_strict = c.enforce_strictness;
 }
 
 -- the grammar of the standard
@@ -129,7 +123,7 @@ rfc_8259 = record {
   is_decimal = is_number;
   is_text = is_string_text;
   is_skipped_text = is_string_text;
-  Boundary = IsBoundary;
+  is_strict = true;
 }
 
 -- ---- reading by a grammar
@@ -165,7 +159,7 @@ token_rules g c = record (rules_of c) {
 
 -- the framing by a grammar
 abbrev pub frames_of : LexicalGrammar → Frames JsonScalar
-frames_of g = token_frames g.Boundary
+frames_of g = token_frames g.is_strict
 
 abbrev pub token_relations : LexicalGrammar → Settings → Relations
 token_relations g c = relations (frames_of g) (token_rules g c)

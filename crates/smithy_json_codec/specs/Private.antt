@@ -19,6 +19,7 @@ pub mod DateInstants
 pub mod Fits
 pub mod TokenRules
 pub mod TokenMeaning
+pub mod NodeDepths
 pub mod DocumentNodes
 pub mod TokenLaws
 -- for the laws of writing

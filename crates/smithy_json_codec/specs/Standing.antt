@@ -1,5 +1,5 @@
 -- Where JSON of RFC 8259 lies in an input, for the clauses of scanners, and the relations of reading it, by its tokens.
-use Rattle.std.specs.Prelude.{◌≡◌, ℕ, drop, List, [], ◌∷◌, ◌++◌, Bool}
+use Rattle.std.specs.Prelude.{◌≡◌, ℕ, drop, List, [], ◌∷◌, ◌++◌, Bool, true}
 use Rattle.smithy_schema.specs.Reading.{Relations}
 use Rattle.smithy_json.specs.Ascii.{quotation_mark, name_separator}
 use Rattle.smithy_json.specs.Tree.{Json, null, boolean, number, string, array, object}
@@ -20,7 +20,7 @@ json_grammar c = rfc_8259
 
 -- the framing, the rules and the relations of JSON by that grammar
 abbrev pub json_frames : Frames JsonScalar
-json_frames = token_frames IsBoundary
+json_frames = token_frames true
 
 abbrev pub json_rules : Settings → Rules JsonScalar
 json_rules c = token_rules (json_grammar c) c

@@ -1,12 +1,12 @@
 -- Where JSON lies in an input by its tokens alone. Which text is a number or a string of the grammar is for the rules of a
 -- reader to say, by kind and settings: here a number is the longest run of its bytes, and a string ends at the first quotation
--- mark that no backslash takes. So a node is determined by the bytes, whatever the settings, and of these only what may follow a
--- value is a parameter.
-use Rattle.std.specs.Prelude.{◌≡◌, ◌≢◌, ◌⊎◌, ℕ, ◌-◌, ◌+◌, ◌==◌, ◌||◌, ◌&&◌, zero, suc, length, drop, List, [], ◌∷◌, ◌++◌, Option, Some, None, Bool, true, false, if◌then◌else◌, nat_le, codes, ⊤}
+-- mark that no backslash takes. So a node is determined by the bytes, whatever the settings. Of these only strictness is a parameter:
+-- it decides what may follow a value, and where the input is over.
+use Rattle.std.specs.Prelude.{◌≡◌, ◌≢◌, ◌⊎◌, ◌≤◌, ℕ, ◌-◌, ◌+◌, ◌==◌, ◌||◌, ◌&&◌, zero, suc, length, drop, List, [], ◌∷◌, ◌++◌, Option, Some, None, Bool, true, false, if◌then◌else◌, nat_le, codes, ⊤}
 use Rattle.std.specs.List.{AllByRecursion}
 use Rattle.smithy_schema.specs.Reading.{Mark}
 use Rattle.smithy_json.specs.Ascii.{quotation_mark, escape, name_separator, minus_sign, plus_sign, decimal_point, end_array, is_e}
-use Rattle.smithy_json.specs.Grammar.{IsWs}
+use Rattle.smithy_json.specs.Grammar.{IsWs, IsBoundary}
 use Rattle.smithy_json_codec.specs.Scalar.{JsonScalar, a_boolean, a_number, a_string}
 use Rattle.smithy_json_codec.specs.Spans.{Lies, IsByte, IsSeparated, fresh_mark, end_mark, entry_mark, opening, closing, begins_with_alphanumeric, begins_with_null, without_ws}
 use Rattle.smithy_json_codec.specs.Openers.{json_openers}
@@ -75,17 +75,28 @@ abbrev pub EndsInside : (List ℕ → Type 0) → ℕ → List ℕ → Type 0
 EndsInside Boundary zero rest = ⊥
 EndsInside Boundary (suc depth) rest = EndsContainer Boundary depth rest
 
--- Behind each value inside of a container comes what the settings say may follow it (`Boundary`).
-abbrev pub token_frames : (List ℕ → Type 0) → Frames JsonScalar
-token_frames Boundary = record {
+-- what may follow a value: strictly a boundary, and else anything
+abbrev pub BoundaryBy : Bool → List ℕ → Type 0
+BoundaryBy true = IsBoundary
+BoundaryBy false = λ rest. Unit {0}
+
+-- from a to e the input is over, and a structure may be missing there: strictly the whole input is empty, and else nothing but ws is
+-- left
+abbrev pub IsOverBy : Bool → List ℕ → ℕ → ℕ → Type 0
+IsOverBy true input a e = ((input ≡ []) × (a ≡ 0)) × (e ≡ a)
+IsOverBy false input a e = (a ≤ e) × (e ≡ length input) × IsWs (drop a input)
+
+-- the framing, where that is strict and where not
+abbrev pub token_frames : Bool → Frames JsonScalar
+token_frames strict = record {
   null = λ input depth a e.
-      Lies (λ bytes. bytes ≡ codes "null") input a e × (begins_with_alphanumeric (drop e input) ≡ false) × Boundary (drop e input);
-  scalar = λ input depth x a e. Lies (IsToken x) input a e × EndsToken x (drop e input) × Boundary (drop e input);
+      Lies (λ bytes. bytes ≡ codes "null") input a e × (begins_with_alphanumeric (drop e input) ≡ false) × BoundaryBy strict (drop e input);
+  scalar = λ input depth x a e. Lies (IsToken x) input a e × EndsToken x (drop e input) × BoundaryBy strict (drop e input);
   opens = λ form input a b m. (m ≡ fresh_mark) × Lies (IsByte (opening form)) input a b;
   entry = EntryTokens;
   ends = λ form input b m e. Lies (IsByte (closing form)) input b e;
-  follows = λ input depth e. EndsInside Boundary depth (drop e input);
-  is_over = λ input a e. ((input ≡ []) × (a ≡ 0)) × (e ≡ a);
+  follows = λ input depth e. EndsInside (BoundaryBy strict) depth (drop e input);
+  is_over = IsOverBy strict;
   over_mark = end_mark;
   left = λ input b m. length input - b + (if m.entered then 0 else 1);
   begins_null = λ input a. begins_with_null (without_ws (drop a input));

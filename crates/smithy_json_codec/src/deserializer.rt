@@ -429,12 +429,12 @@ impl ShapeDeserializer for JsonDeserializer<'_> {
 
         // `TooDeep` comes only of a value of the document inside of as many containers as may be open. `NotCarried` comes only of
         // a number of the document that no document holds.
-        ensures too_deep { IsErrOf result TooDeep → OpensDocumentTooDeep (reading_settings_of self.old).max_depth (depth (cursor_of self.old)) (cursor_of self.old).input (cursor_of self.old).at }
-        ensures other_number { IsErrOf result NotCarried → MeetsOtherNumber (cursor_of self.old).input (cursor_of self.old).at }
+        ensures too_deep { IsErrOf result TooDeep → OpensDocumentTooDeep rfc_8259 (reading_settings_of self.old).max_depth (depth (cursor_of self.old)) (cursor_of self.old).input (cursor_of self.old).at }
+        ensures other_number { IsErrOf result NotCarried → MeetsOtherNumber rfc_8259 (cursor_of self.old).input (cursor_of self.old).at }
 
         // What is read is the document that the JSON value there means, each number in its variant, and what is refused means none.
-        ensures meaning { IfOk result (λ x. DocumentStands (Some (reading_settings_of self.old).max_depth) (depth (cursor_of self.old)) (cursor_of self.old).input (cursor_of self.old).at (document_view x) (cursor_of self.new).at) }
-        ensures no_meaning { IsRefused result → (cursor_of self.old).due ≡ true → NoDocumentStands (Some (reading_settings_of self.old).max_depth) (depth (cursor_of self.old)) (cursor_of self.old).input (cursor_of self.old).at }
+        ensures meaning { IfOk result (λ x. DocumentStands rfc_8259 (reading_settings_of self.old) (depth (cursor_of self.old)) (cursor_of self.old).input (cursor_of self.old).at (document_view x) (cursor_of self.new).at) }
+        ensures no_meaning { IsRefused result → (cursor_of self.old).due ≡ true → NoDocumentStands rfc_8259 (reading_settings_of self.old) (depth (cursor_of self.old)) (cursor_of self.old).input (cursor_of self.old).at }
     {
         self.walk.ready()?;
         match standing_document_at(

@@ -1,9 +1,12 @@
 //! Documents: JSON values of no shape, read in one pass.
 
-ghost use Rattle.std.specs.Prelude.{◌≡◌, ◌≤◌, ℕ, [], ◌∷◌, length, vec_items, string_bytes, Some, IfOk, IfErr, MatchOption};
+ghost use Rattle.std.specs.Prelude.{◌≡◌, ◌≤◌, ℕ, [], ◌∷◌, length, vec_items, string_bytes, IfOk, IfErr, MatchOption};
 ghost use Rattle.smithy_types.specs.DocumentView.{document_view, elements_view, properties_view};
 ghost use Rattle.smithy_json_codec.specs.declared.documents.DocumentFault.TheVariants.{NoMemory};
+ghost use Rattle.smithy_json_codec.specs.Codec.{held_settings};
 ghost use Rattle.smithy_json_codec.specs.Documents.{DocumentLies, DocumentStands};
+ghost use Rattle.smithy_json_codec.specs.LexicalGrammar.{rfc_8259};
+ghost use Rattle.smithy_json_codec.specs.Settings.{Settings, kept};
 ghost use Rattle.smithy_json_codec.specs.Private.OpenDocuments.{RefusesDocument, RefusesStanding, begin_fault, document_refusal, open_array, open_object, with_value, fresh, open_view, frame_view, frames_view, TakesValue, TakesStep};
 
 mod scalars;
@@ -143,7 +146,7 @@ fn with_value(frame: Frame, value: Document) -> Result<Open, AllocError>
 #[inline(never)]
 fn fault_at_limit(input: &[u8], at: usize) -> DocumentFault
     requires { at ≤ length input.now }
-    ensures { (n : ℕ) → RefusesDocument n n input.now at result }
+    ensures { (c : Settings) → c.limits ≡ kept → RefusesDocument rfc_8259 c c.max_depth input.now at result }
 {
     if begins_value(input, at) {
         DocumentFault::TooDeep
@@ -164,7 +167,7 @@ fn value_step(
 ) -> Result<Step, DocumentFault>
     requires within { at ≤ length input.bytes.now }
     requires shallow { depth ≤ input.settings.max_depth }
-    ensures { TakesValue input.entry.settings.max_depth depth input.entry.bytes.now at (frame_view frame) result }
+    ensures { TakesValue rfc_8259 (held_settings input.entry.settings) depth input.entry.bytes.now at (frame_view frame) result }
 {
     if depth >= input.settings.max_depth {
         return Err(fault_at_limit(input.bytes, at));
@@ -186,7 +189,7 @@ fn array_step(
 ) -> Result<Step, DocumentFault>
     requires within { at ≤ length input.bytes.now }
     requires shallow { depth ≤ input.settings.max_depth }
-    ensures { TakesStep input.entry.settings.max_depth depth input.entry.bytes.now at entered (open_array (elements_view elements.items)) result }
+    ensures { TakesStep rfc_8259 (held_settings input.entry.settings) depth input.entry.bytes.now at entered (open_array (elements_view elements.items)) result }
 {
     match next_in_list(input.bytes, at, entered, INNER_DEPTH) {
         Some(InList::Element(start)) => {
@@ -208,7 +211,7 @@ fn object_step(
 ) -> Result<Step, DocumentFault>
     requires within { at ≤ length input.bytes.now }
     requires shallow { depth ≤ input.settings.max_depth }
-    ensures { TakesStep input.entry.settings.max_depth depth input.entry.bytes.now at entered (open_object (properties_view properties.entries)) result }
+    ensures { TakesStep rfc_8259 (held_settings input.entry.settings) depth input.entry.bytes.now at entered (open_object (properties_view properties.entries)) result }
 {
     match next_in_object(input.bytes, at, entered, INNER_DEPTH) {
         Some(InObject::Member(name)) => {
@@ -235,7 +238,7 @@ fn next_step(
 ) -> Result<Step, DocumentFault>
     requires within { at ≤ length input.bytes.now }
     requires shallow { depth ≤ input.settings.max_depth }
-    ensures { TakesStep input.entry.settings.max_depth depth input.entry.bytes.now at entered (open_view inner) result }
+    ensures { TakesStep rfc_8259 (held_settings input.entry.settings) depth input.entry.bytes.now at entered (open_view inner) result }
 {
     match inner {
         Open::Array(elements) => { array_step(alloc, input, at, entered, elements, depth) }
@@ -272,8 +275,8 @@ fn document_at(
 ) -> Result<(Document, usize), DocumentFault>
     requires within { at ≤ length input.bytes.now }
     requires shallow { depth ≤ input.settings.max_depth }
-    ensures ok { IfOk result (λ r. DocumentLies (Some input.entry.settings.max_depth) depth input.entry.bytes.now at (document_view r.0) r.1) }
-    ensures refused { IfErr result (RefusesDocument input.entry.settings.max_depth depth input.entry.bytes.now at) }
+    ensures ok { IfOk result (λ r. DocumentLies rfc_8259 (held_settings input.entry.settings) depth input.entry.bytes.now at (document_view r.0) r.1) }
+    ensures refused { IfErr result (RefusesDocument rfc_8259 (held_settings input.entry.settings) depth input.entry.bytes.now at) }
 {
     if depth >= input.settings.max_depth {
         return Err(fault_at_limit(input.bytes, at));
@@ -321,8 +324,8 @@ pub(crate) fn standing_document_at(
 ) -> Result<(Document, usize), DocumentFault>
     requires within { at ≤ length input.bytes.now }
     requires shallow { depth ≤ input.settings.max_depth }
-    ensures ok { IfOk result (λ r. DocumentStands (Some input.entry.settings.max_depth) depth input.entry.bytes.now at (document_view r.0) r.1) }
-    ensures refused { IfErr result (RefusesStanding input.entry.settings.max_depth depth input.entry.bytes.now at) }
+    ensures ok { IfOk result (λ r. DocumentStands rfc_8259 (held_settings input.entry.settings) depth input.entry.bytes.now at (document_view r.0) r.1) }
+    ensures refused { IfErr result (RefusesStanding rfc_8259 (held_settings input.entry.settings) depth input.entry.bytes.now at) }
 {
     let (document, end) = document_at(alloc, input, at, depth)?;
     if !may_end(input.bytes, end, depth + 1) {

@@ -1,8 +1,8 @@
 //! Where a number ends, as one of a sort is read under the settings.
 
-ghost use Rattle.std.specs.Prelude.{◌≡◌, ◌≤◌, ℕ, List, length, IfSome, IfNone};
+ghost use Rattle.std.specs.Prelude.{◌≡◌, ◌≤◌, ℕ, List, false, length, IfSome, IfNone};
 ghost use Rattle.smithy_json_codec.specs.Codec.{held_settings};
-ghost use Rattle.smithy_json_codec.specs.LexicalGrammar.{BoundaryBy, number_test};
+ghost use Rattle.smithy_json_codec.specs.LexicalGrammar.{number_test};
 ghost use Rattle.smithy_json_codec.specs.Private.NumberSorts.{lenient_test};
 ghost use Rattle.smithy_json_codec.specs.Private.NumberAtPlace.{NumberStands, NumberLies};
 
@@ -45,8 +45,8 @@ fn lenient_end(
     start: usize,
 ) -> Option<usize>
     requires { start ≤ length input.now }
-    ensures found { IfSome result (λ e. NumberStands (λ rest. Unit {0}) (lenient_test sort numbers) input.now start e) }
-    ensures none { IfNone result ((e : ℕ) → NumberStands (λ rest. Unit {0}) (lenient_test sort numbers) input.now start e → ⊥) }
+    ensures found { IfSome result (λ e. NumberStands false (lenient_test sort numbers) input.now start e) }
+    ensures none { IfNone result ((e : ℕ) → NumberStands false (lenient_test sort numbers) input.now start e → ⊥) }
 {
     let end = number_run_end(input, start);
     if end == start {
@@ -66,8 +66,8 @@ pub(crate) fn number_end_of(
     settings: &Settings,
 ) -> Option<usize>
     requires { start ≤ length input.now }
-    ensures found { IfSome result (λ e. NumberStands (BoundaryBy (held_settings settings.now).enforce_strictness) (number_test (held_settings settings.now) (lenient_test sort (held_settings settings.now).numbers)) input.now start e) }
-    ensures none { IfNone result ((e : ℕ) → NumberStands (BoundaryBy (held_settings settings.now).enforce_strictness) (number_test (held_settings settings.now) (lenient_test sort (held_settings settings.now).numbers)) input.now start e → ⊥) }
+    ensures found { IfSome result (λ e. NumberStands (held_settings settings.now).enforce_strictness (number_test (held_settings settings.now) (lenient_test sort (held_settings settings.now).numbers)) input.now start e) }
+    ensures none { IfNone result ((e : ℕ) → NumberStands (held_settings settings.now).enforce_strictness (number_test (held_settings settings.now) (lenient_test sort (held_settings settings.now).numbers)) input.now start e → ⊥) }
 {
     if settings.enforce_strictness {
         scan_number_of(settings.numbers, input, start)
@@ -84,8 +84,8 @@ pub(crate) fn number_of<'a>(
     settings: &Settings,
 ) -> Option<(&'a str, usize)>
     requires { at ≤ length input.now }
-    ensures found { IfSome result (λ r. NumberLies (BoundaryBy (held_settings settings.now).enforce_strictness) (number_test (held_settings settings.now) (lenient_test sort (held_settings settings.now).numbers)) input.now at r.0.now r.1) }
-    ensures none { IfNone result ((raw : List ℕ) (e : ℕ) → NumberLies (BoundaryBy (held_settings settings.now).enforce_strictness) (number_test (held_settings settings.now) (lenient_test sort (held_settings settings.now).numbers)) input.now at raw e → ⊥) }
+    ensures found { IfSome result (λ r. NumberLies (held_settings settings.now).enforce_strictness (number_test (held_settings settings.now) (lenient_test sort (held_settings settings.now).numbers)) input.now at r.0.now r.1) }
+    ensures none { IfNone result ((raw : List ℕ) (e : ℕ) → NumberLies (held_settings settings.now).enforce_strictness (number_test (held_settings settings.now) (lenient_test sort (held_settings settings.now).numbers)) input.now at raw e → ⊥) }
 {
     let start = skip_blanks(input, at);
     let end = number_end_of(sort, input, start, settings)?;

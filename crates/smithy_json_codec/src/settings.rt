@@ -41,11 +41,9 @@ pub(crate) struct Settings {
     pub(crate) integers: IntegerRule,
     ghost greatest: { max_depth ≤ 512 },
     ghost is_strict: { enforce_strictness ≡ true },
-    ghost no_integral_floats: { allow_integral_float_numbers ≡ false },
     ghost are_standard: { numbers ≡ standard_numbers },
     ghost validates_skipped: { validate_skipped_values ≡ true },
     ghost validates_encoding: { validate_skipped_string_encoding ≡ true },
-    ghost forms_are_strict: { strict_timestamp_formats ≡ true },
     ghost rule: { integers ≡ integer_rule enforce_strictness allow_integral_float_numbers numbers },
 }
 

@@ -88,7 +88,7 @@ fn beginning_of(input: &[u8], at: usize) -> Option<Beginning>
 /// Whether a value begins behind blanks: an object or an array, or a scalar that lies there whole.
 pub(crate) fn begins_value(input: &[u8], at: usize) -> bool
     requires { at ≤ length input.now }
-    ensures { MatchBool result (ValueOpens input.now at) (NoValueLies rfc_8259 (is_skipped_in rfc_8259) input.now at) }
+    ensures { MatchBool result (ValueOpens rfc_8259 (is_skipped_in rfc_8259) input.now at) (NoValueLies rfc_8259 (is_skipped_in rfc_8259) input.now at) }
 {
     beginning_of(input, at).is_some()
 }

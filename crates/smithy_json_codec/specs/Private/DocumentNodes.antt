@@ -19,24 +19,19 @@ use Rattle.smithy_json.specs.Number.{natural_number, whole_number as written_num
 use Rattle.smithy_json.specs.Tree as tree
 use Rattle.smithy_json.specs.Tree.{Json, Elements, no_elements, element, Members, no_members, member}
 use Rattle.smithy_json.specs.Unescape.{unescaped}
-use Rattle.smithy_shapes.specs.declared.shape_type.Scalar.TheVariants as scalars
 use Rattle.smithy_json_codec.specs.Settings.{Settings}
-use Rattle.smithy_json_codec.specs.LexicalGrammar.{LexicalGrammar, rfc_8259, in_grammar, is_skipped_in, frames_of, NodeLies}
+use Rattle.smithy_json_codec.specs.LexicalGrammar.{LexicalGrammar, frames_of, token_rules, token_relations, NodeLies}
 use Rattle.smithy_json_codec.specs.Scalar.{JsonScalar, a_boolean, a_number, a_string, tree_of, held_says, document_says}
 use Rattle.smithy_json_codec.specs.Meaning.{node_of, element_nodes, member_nodes, rules_of, json_meaning}
-use Rattle.smithy_json_codec.specs.Standing.{FollowsContainer, Follows, TreeLies, json_frames, json_rules, json_relations}
-use Rattle.smithy_json_codec.specs.Documents.{MeetsOtherNumber, depth_limit, DocumentStands, NoDocumentStands}
+use Rattle.smithy_json_codec.specs.Standing.{TreeLies}
+use Rattle.smithy_json_codec.specs.Documents.{is_read_in, says_in, document_in, MeetsOtherNumber, depth_limit, DocumentStands, NoDocumentStands}
 use Rattle.smithy_json_codec.specs.Deepest.{has_come, EntriesLie, IsDueInside}
 use Rattle.smithy_json_codec.specs.Private.Skipping.{ValueBegins}
 use Rattle.smithy_json_codec.specs.Private.BytePlaces.{separated_ahead}
 use Rattle.smithy_json_codec.specs.Private.TokenPlaces.{names_ahead}
 use Rattle.smithy_json_codec.specs.Private.Wire.{tokens_are_wire}
-use Rattle.smithy_json_codec.specs.Private.Lexical.{ws_is_boundary}
+use Rattle.smithy_json_codec.specs.Private.NodeDepths.{lies_with, ends_inside}
 use Rattle.smithy_json_codec.specs.Private.Fits.{text_is_utf8}
-use Rattle.smithy_json_codec.specs.Private.NodePlaces.{tree_lies, lies_tree}
-use Rattle.smithy_json_codec.specs.Private.TokenGrammar.{tree_is_token, said_in}
-use Rattle.smithy_json_codec.specs.Private.TokenMeaning.{document_sound}
-use Rattle.smithy_json_codec.specs.Private.TokenRules.{same_document as same_by_tokens}
 use Rattle.smithy_wire.specs.Node.{Node}
 use Rattle.smithy_wire.specs.Rules.{Answer, means, no_meaning, settled, answer_of}
 use Rattle.smithy_wire.specs.Documents.{document_of, elements_of, pairs_of}
@@ -108,7 +103,7 @@ module _ (g : LexicalGrammar) (test : JsonScalar → Bool) (i : List ℕ) where
   begins_ahead false entered b c h = separated_ahead i entered b c h.0
 
   wire : IsWire (frames_of g)
-  wire = tokens_are_wire g.Boundary
+  wire = tokens_are_wire g.is_strict
 
   value_ahead : (x : Node JsonScalar) (c p : ℕ) → NodeLies g test 1 x i c p → c ≤ p
   value_ahead x c p h = not_back (frames_of g) wire i c p (lies_behind (frames_of g) wire i 1 x c p h.0).0
@@ -123,92 +118,51 @@ module _ (g : LexicalGrammar) (test : JsonScalar → Bool) (i : List ℕ) where
   due_ahead (k ∷ ks) a p (q, b, count, r, outer, opens, entries, begins) =
       omega (arith, due_ahead ks a q outer, opens.0, entries_ahead k count b r entries, begins_ahead k (has_come count) r p begins)
 
--- ---- what follows a document
-
-boundary_follows : (d : ℕ) (x : Json) (s : List ℕ) → Follows d x s → Follows 1 x s
-boundary_follows zero (tree.array es) s h = ws_is_boundary s h
-boundary_follows zero (tree.object ms) s h = ws_is_boundary s h
-boundary_follows zero tree.null s h = h
-boundary_follows zero (tree.boolean b) s h = h
-boundary_follows zero (tree.number raw) s h = h
-boundary_follows zero (tree.string raw) s h = h
-boundary_follows (suc d) tree.null s h = h
-boundary_follows (suc d) (tree.boolean b) s h = h
-boundary_follows (suc d) (tree.number raw) s h = h
-boundary_follows (suc d) (tree.string raw) s h = h
-boundary_follows (suc d) (tree.array es) s h = h
-boundary_follows (suc d) (tree.object ms) s h = h
-
-follows_at : (d : ℕ) (x : Json) (s : List ℕ) → Follows 1 x s → FollowsContainer d s → Follows d x s
-follows_at d tree.null s h k = h
-follows_at d (tree.boolean b) s h k = h
-follows_at d (tree.number raw) s h k = h
-follows_at d (tree.string raw) s h k = h
-follows_at d (tree.array es) s h k = k
-follows_at d (tree.object ms) s h k = k
-
 -- ---- documents at a place
 
--- what a scalar is as a document, where it is in the grammar
-abbrev says : JsonScalar → Answer (Document Number)
-says x = if in_grammar rfc_8259 scalars.BigDecimal x then document_says x else no_meaning
-
-module _ (c : Settings) (i : List ℕ) (d a : ℕ) where
-  stands_lies : (x : Document Number) (e : ℕ) → (json_relations c).documents i d a x e → DocumentStands (limit c) d i a x e
+module _ (g : LexicalGrammar) (c : Settings) (i : List ℕ) (d a : ℕ) where
+  stands_lies : (x : Document Number) (e : ℕ) → (token_relations g c).documents i d a x e → DocumentStands g c d i a x e
   stands_lies x e (y, lies, held, follows) =
-      let passes = document_sound c i d y a e x lies held in
-      let t = lies_tree d y i a e passes lies in (
-        record {
-          tree = t.0;
-          lies = (t.1.0, boundary_follows d t.0 (drop e i) t.1.1);
-          means = sym (same_document c d t.0) ∙ (ap (document_of (rules_of c) document_says d) t.2 ∙ (sym (same_by_tokens c d y passes) ∙ held));
-        },
-        follows,
-      )
+      (record { node = y; lies = lies_with g i d 1 y a e (ends_inside g.is_strict d (drop e i) follows) lies; means = held }, follows)
 
-  lies_stands : (x : Document Number) (e : ℕ) → DocumentStands (limit c) d i a x e → (json_relations c).documents i d a x e
-  lies_stands x e (there, follows) =
-      let node = tree_lies d there.tree i a e (there.lies.0, follows_at d there.tree (drop e i) there.lies.1 follows) in (
-        node_of there.tree,
-        node.0,
-        same_by_tokens c d (node_of there.tree) node.1 ∙ (same_document c d there.tree ∙ there.means),
-        follows,
-      )
+  lies_stands : (x : Document Number) (e : ℕ) → DocumentStands g c d i a x e → (token_relations g c).documents i d a x e
+  lies_stands x e (there, follows) = (there.node, lies_with g i 1 d there.node a e follows there.lies, there.means, follows)
 
-  -- from a to e stands a document where a tree lies that means it, and behind it what may follow a container
-  pub documents_are : (x : Document Number) (e : ℕ) → (json_relations c).documents i d a x e ↔ DocumentStands (limit c) d i a x e
+  -- from a to e stands a document where a node lies that means it, and behind it what may follow a container
+  pub documents_are : (x : Document Number) (e : ℕ) → (token_relations g c).documents i d a x e ↔ DocumentStands g c d i a x e
   documents_are x e = (stands_lies x e, lies_stands x e)
 
   module _ (t : Table) (p : Place) (kind : kind_of t p ≡ document) where
     -- where a document stands at a place of documents, its value stands there
-    pub value_stands : (x : Document Number) (e : ℕ) → DocumentStands (limit c) d i a x e
-        → (json_relations c).stands i t p d a (document_value (whole_document x)) e × (json_relations c).documents i d a x e
+    pub value_stands : (x : Document Number) (e : ℕ) → DocumentStands g c d i a x e
+        → (token_relations g c).stands i t p d a (document_value (whole_document x)) e × (token_relations g c).documents i d a x e
     value_stands x e there =
         let h = lies_stands x e there in
-        document_stands json_frames (json_rules c) i t p kind d says refl a h.0 x e h.1 h.2 h.3
-
-    -- at a place of documents a tree means what it means as a document, and of each number the whole number alone
-    pub means_document_of : (x : Json) → json_meaning c t p d x ≡ option_map (λ u. document_value (whole_document u)) (document_meaning (limit c) d x)
-    means_document_of x =
-        means_document (rules_of c) t p d (node_of x) kind
-        ∙ ap (option_map (λ u. document_value (whole_document u))) (same_document c d x)
+        document_stands (frames_of g) (token_rules g c) i t p kind d (says_in g) refl a h.0 x e h.1 h.2 h.3
 
     -- where no document stands at a place of documents, no value does
-    pub no_value_stands : NoDocumentStands (limit c) d i a → (v : Value) (e : ℕ) → (json_relations c).stands i t p d a v e → ⊥
+    pub no_value_stands : NoDocumentStands g c d i a → (v : Value) (e : ℕ) → (token_relations g c).stands i t p d a v e → ⊥
     no_value_stands none v e stands =
-        let y = stands_node json_frames (json_rules c) i t p kind d a v e stands in
-        let x = made (λ u. document_value (whole_document u)) (document_of (json_rules c) says d y.0) v y.2 in
+        let y = stands_node (frames_of g) (token_rules g c) i t p kind d a v e stands in
+        let x = made (λ u. document_value (whole_document u)) (document_in g c d y.0) v y.2 in
         none x.0 e (stands_lies x.0 e (y.0, y.1, x.1, y.3))
 
     -- a number that no document holds isn't carried
-    pub other_is_uncarried : MeetsOtherNumber i a → (e : ℕ) × (json_relations c).uncarried i t p d a e
+    pub other_is_uncarried : MeetsOtherNumber g i a → (e : ℕ) × (token_relations g c).uncarried i t p d a e
     other_is_uncarried h =
-        let other = h.other in
-        let token = tree_is_token (a_number other.raw) i 1 h.at other.e other.lies in (
+        let other = h.other in (
           other.e,
-          part_uncarried json_frames (json_rules c) i t p kind d says refl a 1 h.at (a_number other.raw) other.e (due_ahead rfc_8259 (is_skipped_in rfc_8259) i h.containers a h.at h.due)
-              token.0 (said_in scalars.BigDecimal (a_number other.raw) (document_says (a_number other.raw)) no_meaning token.1 ∙ ap held_says other.not_held),
+          part_uncarried (frames_of g) (token_rules g c) i t p kind d (says_in g) refl a 0 h.at (a_number other.raw) other.e
+              (due_ahead g (is_read_in g) i h.containers a h.at h.due) other.lies.0
+              (ap (λ b. if b then document_says (a_number other.raw) else no_meaning) other.lies.1 ∙ ap held_says other.not_held),
         )
+
+-- at a place of documents a tree means what it means as a document, and of each number the whole number alone
+pub means_document_of : (c : Settings) (t : Table) (p : Place) → kind_of t p ≡ document → (d : ℕ) (x : Json)
+    → json_meaning c t p d x ≡ option_map (λ u. document_value (whole_document u)) (document_meaning (limit c) d x)
+means_document_of c t p kind d x =
+    means_document (rules_of c) t p d (node_of x) kind
+    ∙ ap (option_map (λ u. document_value (whole_document u))) (same_document c d x)
 
 -- ---- what a scalar is as a document
 

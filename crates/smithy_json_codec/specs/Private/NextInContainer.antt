@@ -9,7 +9,7 @@ use Rattle.smithy_json_codec.specs.declared.places.InObject.{InObject}
 use Rattle.smithy_json_codec.specs.declared.places.InObject.TheVariants.{Member, End as EndOfObject}
 use Rattle.smithy_json_codec.specs.declared.places.Name.{Name}
 use Rattle.smithy_json_codec.specs.Standing.{Lies, IsByte, IsSeparated, Names}
-use Rattle.smithy_json_codec.specs.Tokens.{EndsInside}
+use Rattle.smithy_json_codec.specs.Tokens.{BoundaryBy, EndsInside}
 use Rattle.smithy_json_codec.specs.LexicalGrammar.{LexicalGrammar, rfc_8259}
 
 -- at `start` stands the first byte from `at` on that is no white space
@@ -26,7 +26,7 @@ IsNotFirst byte input at = (e : ℕ) → Lies (IsByte byte) input at e → ⊥
 
 -- the innermost of `depth` open containers closes by this byte and ends at e, where it may end
 abbrev pub ClosesIn : LexicalGrammar → ℕ → List ℕ → ℕ → ℕ → ℕ → Type 0
-ClosesIn g byte input at depth e = Lies (IsByte byte) input at e × EndsInside g.Boundary depth (drop e input)
+ClosesIn g byte input at depth e = Lies (IsByte byte) input at e × EndsInside (BoundaryBy g.is_strict) depth (drop e input)
 
 abbrev pub ClosesBy : ℕ → List ℕ → ℕ → ℕ → ℕ → Type 0
 ClosesBy = ClosesIn rfc_8259

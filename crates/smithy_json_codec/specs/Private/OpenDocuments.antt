@@ -1,13 +1,12 @@
 -- What the open arrays and objects of a document hold so far, and one step of the walk through it.
-use Rattle.std.specs.Prelude.{◌≡◌, ◌⊎◌, ◌<◌, ◌≤◌, ◌+◌, ℕ, suc, List, drop, Bool, true, false, map, reverse, string_bytes, Option, Some, None, Result, Ok, Err}
+use Rattle.std.specs.Prelude.{◌≡◌, ◌⊎◌, ◌<◌, ◌≤◌, ◌+◌, ℕ, suc, List, drop, Bool, true, false, map, reverse, string_bytes, Option, Some, None, Result, Ok, Err, if◌then◌else◌}
 use Rattle.smithy_schema.specs.declared.error.SerdeError.{SerdeError}
 use Rattle.smithy_schema.specs.declared.error.SerdeError.TheVariants as errors
 use Rattle.smithy_types.specs.Document.{Document, array, object, Documents, no_documents, item, Properties, no_properties, put_property}
 use Rattle.smithy_types.specs.DocumentView.{document_view, elements_view, properties_view}
 use Rattle.smithy_types.specs.declared.number.Number.{Number}
-use Rattle.smithy_json.specs.Tree.{Json, number}
+use Rattle.smithy_json.specs.Tree.{number}
 use Rattle.smithy_json.specs.HeldNumber.{number_of}
-use Rattle.smithy_json.specs.DocumentMeaning.{at_depth, document_meaning}
 use Rattle.smithy_json.specs.Unescape.{unescaped}
 use Rattle.smithy_json_codec.specs.declared.documents.Open.{Open}
 use Rattle.smithy_json_codec.specs.declared.documents.Open.TheVariants.{Array, Object}
@@ -22,10 +21,17 @@ use Rattle.smithy_json_codec.specs.declared.documents.scalars.Begun.TheVariants.
 use Rattle.smithy_json_codec.specs.declared.documents.Step.{Step}
 use Rattle.smithy_json_codec.specs.declared.documents.Step.TheVariants.{Inside, Opens, Ends}
 use Rattle.smithy_json_codec.specs.Openers.{json_openers}
-use Rattle.smithy_json_codec.specs.Standing.{Lies, IsByte, Names, TreeLies}
-use Rattle.smithy_json_codec.specs.Documents.{OtherNumberLies, NoDocumentLies, NoDocumentStands, OpensDocumentTooDeep, MeetsOtherNumber}
-use Rattle.smithy_json_codec.specs.Private.NextInContainer.{ElementBegins, ClosesBy}
+use Rattle.smithy_json_codec.specs.Settings.{Settings, without_limits}
+use Rattle.smithy_json_codec.specs.Scalar.{JsonScalar}
+use Rattle.smithy_json_codec.specs.Standing.{TreeLies}
+use Rattle.smithy_json_codec.specs.Spans.{Lies, IsByte}
+use Rattle.smithy_json_codec.specs.Tokens.{NameTokens}
+use Rattle.smithy_json_codec.specs.LexicalGrammar.{LexicalGrammar, token_rules, NodeLies}
+use Rattle.smithy_json_codec.specs.Documents.{is_read_in, document_in, OtherNumberLies, NoDocumentLies, NoDocumentStands, OpensDocumentTooDeep, MeetsOtherNumber}
+use Rattle.smithy_json_codec.specs.Private.NextInContainer.{ElementBegins, ClosesIn}
 use Rattle.smithy_json_codec.specs.Private.Skipping.{opening, closing}
+use Rattle.smithy_wire.specs.Node.{Node}
+use Rattle.smithy_wire.specs.Rules.{at_depth}
 
 -- ---- what is open
 
@@ -78,51 +84,57 @@ frames_view frames = map frame_view (reverse frames)
 
 -- ---- a value is due
 
--- from a to e lies a scalar that means the document wherever the depth allows it
-pub record ScalarMeans (input : List ℕ) (a : ℕ) (d : Document Number) (e : ℕ) : Type 0 where
-  pub tree : Json
-  pub lies : TreeLies 1 tree input a e
-  pub means : (limits : Option ℕ) (depth : ℕ)
-      → document_meaning limits depth tree ≡ at_depth limits (suc depth) (Some d)
+-- from a to e lies a scalar of the grammar that means the document wherever the depth allows it
+pub record ScalarMeans (g : LexicalGrammar) (input : List ℕ) (a : ℕ) (d : Document Number) (e : ℕ) : Type 0 where
+  pub node : Node JsonScalar
+  pub lies : NodeLies g (is_read_in g) 1 node input a e
+  pub means : (c : Settings) (depth : ℕ) → document_in g c depth node ≡ at_depth (token_rules g c) (suc depth) (Some d)
 
--- from a on lies this number, as a document holds it
+-- from a on lies this number of RFC 8259, as a document holds it
 pub record HeldNumberLies (input : List ℕ) (a : ℕ) (n : Number) (e : ℕ) : Type 0 where
   pub raw : List ℕ
   pub lies : TreeLies 1 (number raw) input a e
   pub is : number_of raw ≡ Some n
 
+-- from a on lies a number of RFC 8259 that no document holds
+pub record OtherTreeLies (input : List ℕ) (a : ℕ) : Type 0 where
+  pub raw : List ℕ
+  pub e : ℕ
+  pub lies : TreeLies 1 (number raw) input a e
+  pub not_held : number_of raw ≡ None
+
 -- how a value begins at a: a scalar is read, with its end, or a container opens; or no document lies there, whatever
--- the limits, or a number that none holds
-abbrev pub BeginsDocument : List ℕ → ℕ → Result Begun BeginFault → Type 0
-BeginsDocument input a (Ok (Scalar d e)) = ScalarMeans input a (document_view d) e
-BeginsDocument input a (Ok (Container kind inside)) = Lies (IsByte (opening kind)) input a inside
-BeginsDocument input a (Err begin_faults.NoValue) =
-    (limits : Option ℕ) (depth : ℕ) → NoDocumentLies limits depth input a
-BeginsDocument input a (Err begin_faults.NotCarried) = OtherNumberLies input a
-BeginsDocument input a (Err begin_faults.NoMemory) = Unit {0}
+-- the settings, or a number that none holds
+abbrev pub BeginsDocument : LexicalGrammar → List ℕ → ℕ → Result Begun BeginFault → Type 0
+BeginsDocument g input a (Ok (Scalar d e)) = ScalarMeans g input a (document_view d) e
+BeginsDocument g input a (Ok (Container kind inside)) = Lies (IsByte (opening kind)) input a inside
+BeginsDocument g input a (Err begin_faults.NoValue) =
+    (c : Settings) (depth : ℕ) → NoDocumentLies g c depth input a
+BeginsDocument g input a (Err begin_faults.NotCarried) = OtherNumberLies g input a
+BeginsDocument g input a (Err begin_faults.NoMemory) = Unit {0}
 
 -- ---- refusals
 
 -- What a fault says where a document was refused at the place a, inside of `depth` containers. `Absent` says that no document
--- is there under some limits: that holds with each fault, and with `NoDocument` also without limits. Want of memory says
+-- is there under some settings: that holds with each fault, and with `NoDocument` also without limits. Want of memory says
 -- nothing.
-abbrev pub Refuses : (Option ℕ → Type 0) → ℕ → ℕ → List ℕ → ℕ → DocumentFault → Type 0
-Refuses Absent greatest depth input a NoDocument = Absent None × Absent (Some greatest)
-Refuses Absent greatest depth input a TooDeep =
-    OpensDocumentTooDeep greatest depth input a × (greatest ≤ depth + json_openers (drop a input))
-    × Absent (Some greatest)
-Refuses Absent greatest depth input a NotCarried = MeetsOtherNumber input a × Absent (Some greatest)
-Refuses Absent greatest depth input a NoMemory = Unit {0}
+abbrev pub Refuses : (Settings → Type 0) → LexicalGrammar → Settings → ℕ → List ℕ → ℕ → DocumentFault → Type 0
+Refuses Absent g c depth input a NoDocument = Absent (without_limits c) × Absent c
+Refuses Absent g c depth input a TooDeep =
+    OpensDocumentTooDeep g c.max_depth depth input a × (c.max_depth ≤ depth + json_openers (drop a input))
+    × Absent c
+Refuses Absent g c depth input a NotCarried = MeetsOtherNumber g input a × Absent c
+Refuses Absent g c depth input a NoMemory = Unit {0}
 
 -- what a fault says where a document was refused because none lies at the place a
-abbrev pub RefusesDocument : ℕ → ℕ → List ℕ → ℕ → DocumentFault → Type 0
-RefusesDocument greatest depth input a f =
-    Refuses (λ limits. NoDocumentLies limits depth input a) greatest depth input a f
+abbrev pub RefusesDocument : LexicalGrammar → Settings → ℕ → List ℕ → ℕ → DocumentFault → Type 0
+RefusesDocument g c depth input a f =
+    Refuses (λ o. NoDocumentLies g o depth input a) g c depth input a f
 
 -- what a fault says where a document was refused because none lies at the place a with what may follow a container behind it
-abbrev pub RefusesStanding : ℕ → ℕ → List ℕ → ℕ → DocumentFault → Type 0
-RefusesStanding greatest depth input a f =
-    Refuses (λ limits. NoDocumentStands limits depth input a) greatest depth input a f
+abbrev pub RefusesStanding : LexicalGrammar → Settings → ℕ → List ℕ → ℕ → DocumentFault → Type 0
+RefusesStanding g c depth input a f =
+    Refuses (λ o. NoDocumentStands g o depth input a) g c depth input a f
 
 -- why no document is read where none begins
 abbrev pub begin_fault : BeginFault → DocumentFault
@@ -139,44 +151,48 @@ document_refusal NoMemory = errors.NoMemory
 
 -- ---- a container goes on
 
+-- the text of a name that is in the grammar
+abbrev pub name_text : LexicalGrammar → List ℕ → Option (List ℕ)
+name_text g raw = if g.is_text raw then unescaped raw else None
+
 -- at c the value of another entry is due, which this container then waits for
-abbrev pub EntryBegins : List ℕ → ℕ → Bool → OpenContainer → Waiting → ℕ → Type 0
-EntryBegins input at entered (open_array ds) w c =
+abbrev pub EntryBegins : LexicalGrammar → List ℕ → ℕ → Bool → OpenContainer → Waiting → ℕ → Type 0
+EntryBegins g input at entered (open_array ds) w c =
     (w ≡ waiting_array ds) × ElementBegins input at entered c
-EntryBegins input at entered (open_object ps) w c =
-    (raw name : List ℕ) × (w ≡ waiting_object ps name) × Names entered input at raw c
-    × (unescaped raw ≡ Some name)
+EntryBegins g input at entered (open_object ps) w c =
+    (raw name : List ℕ) × (w ≡ waiting_object ps name) × NameTokens entered input at raw c
+    × (name_text g raw ≡ Some name)
 
 -- at the place neither another entry of the container begins nor does the container end
-abbrev pub NoEntry : List ℕ → ℕ → Bool → OpenContainer → Type 0
-NoEntry input at entered o =
-    ((w : Waiting) (c : ℕ) → EntryBegins input at entered o w c → ⊥)
-    × ((e : ℕ) → ClosesBy (closing (is_object o)) input at 2 e → ⊥)
+abbrev pub NoEntry : LexicalGrammar → List ℕ → ℕ → Bool → OpenContainer → Type 0
+NoEntry g input at entered o =
+    ((w : Waiting) (c : ℕ) → EntryBegins g input at entered o w c → ⊥)
+    × ((e : ℕ) → ClosesIn g (closing (is_object o)) input at 2 e → ⊥)
 
--- what is made of the value that is due at c inside so many containers
-abbrev pub TakesValue : ℕ → ℕ → List ℕ → ℕ → Waiting → Result Step DocumentFault → Type 0
-TakesValue greatest depth input c w (Ok (Inside more e)) =
-    (depth < greatest)
-    × ((d : Document Number) × ScalarMeans input c d e × (open_view more ≡ with_value w d))
-TakesValue greatest depth input c w (Ok (Opens frame kind inside)) =
-    (depth < greatest) × Lies (IsByte (opening kind)) input c inside × (frame_view frame ≡ w)
-TakesValue greatest depth input c w (Ok (Ends d e)) = ⊥
-TakesValue greatest depth input c w (Err e) = RefusesDocument greatest depth input c e
+-- what is made of the value that is due at p inside so many containers
+abbrev pub TakesValue : LexicalGrammar → Settings → ℕ → List ℕ → ℕ → Waiting → Result Step DocumentFault → Type 0
+TakesValue g c depth input p w (Ok (Inside more e)) =
+    (depth < c.max_depth)
+    × ((d : Document Number) × ScalarMeans g input p d e × (open_view more ≡ with_value w d))
+TakesValue g c depth input p w (Ok (Opens frame kind inside)) =
+    (depth < c.max_depth) × Lies (IsByte (opening kind)) input p inside × (frame_view frame ≡ w)
+TakesValue g c depth input p w (Ok (Ends d e)) = ⊥
+TakesValue g c depth input p w (Err e) = RefusesDocument g c depth input p e
 
 -- at the place another entry of the container begins, and the step is what is made of the entry's value
-abbrev pub TakesEntry : ℕ → ℕ → List ℕ → ℕ → Bool → OpenContainer → Result Step DocumentFault → Type 0
-TakesEntry greatest depth input at entered o r =
-    (w : Waiting) × (c : ℕ) × EntryBegins input at entered o w c
-    × TakesValue greatest depth input c w r
+abbrev pub TakesEntry : LexicalGrammar → Settings → ℕ → List ℕ → ℕ → Bool → OpenContainer → Result Step DocumentFault → Type 0
+TakesEntry g c depth input at entered o r =
+    (w : Waiting) × (p : ℕ) × EntryBegins g input at entered o w p
+    × TakesValue g c depth input p w r
 
 -- the next step inside of a container that is the innermost of so many
-abbrev pub TakesStep : ℕ → ℕ → List ℕ → ℕ → Bool → OpenContainer → Result Step DocumentFault → Type 0
-TakesStep greatest depth input at entered o (Ok (Inside more e)) =
-    TakesEntry greatest depth input at entered o (Ok (Inside more e))
-TakesStep greatest depth input at entered o (Ok (Opens frame kind inside)) =
-    TakesEntry greatest depth input at entered o (Ok (Opens frame kind inside))
-TakesStep greatest depth input at entered o (Ok (Ends d e)) =
-    ClosesBy (closing (is_object o)) input at 2 e × (document_view d ≡ document_of o)
-TakesStep greatest depth input at entered o (Err e) =
-    TakesEntry greatest depth input at entered o (Err e)
-    ⊎ (((e ≡ NoDocument) × NoEntry input at entered o) ⊎ (e ≡ NoMemory))
+abbrev pub TakesStep : LexicalGrammar → Settings → ℕ → List ℕ → ℕ → Bool → OpenContainer → Result Step DocumentFault → Type 0
+TakesStep g c depth input at entered o (Ok (Inside more e)) =
+    TakesEntry g c depth input at entered o (Ok (Inside more e))
+TakesStep g c depth input at entered o (Ok (Opens frame kind inside)) =
+    TakesEntry g c depth input at entered o (Ok (Opens frame kind inside))
+TakesStep g c depth input at entered o (Ok (Ends d e)) =
+    ClosesIn g (closing (is_object o)) input at 2 e × (document_view d ≡ document_of o)
+TakesStep g c depth input at entered o (Err e) =
+    TakesEntry g c depth input at entered o (Err e)
+    ⊎ (((e ≡ NoDocument) × NoEntry g input at entered o) ⊎ (e ≡ NoMemory))

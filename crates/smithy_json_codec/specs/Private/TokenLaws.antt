@@ -15,13 +15,12 @@ use Rattle.smithy_json.proofs.TextLemmas.{unescaped_is_utf8}
 use Rattle.smithy_shapes.specs.declared.shape_type.Scalar.TheVariants as scalars
 use Rattle.smithy_json_codec.specs.Settings.{Settings, kept, without_limits}
 use Rattle.smithy_json_codec.specs.Scalar.{JsonScalar, a_string, text_of, says as says_as, document_says}
-use Rattle.smithy_json_codec.specs.Standing.{json_frames, json_rules}
-use Rattle.smithy_json_codec.specs.Tokens.{token_frames}
-use Rattle.smithy_json_codec.specs.LexicalGrammar.{LexicalGrammar, rfc_8259, in_grammar, token_rules, token_relations}
+use Rattle.smithy_json_codec.specs.Standing.{json_frames, json_rules, json_relations}
+use Rattle.smithy_json_codec.specs.LexicalGrammar.{LexicalGrammar, rfc_8259, in_grammar, frames_of, token_rules, token_relations}
 use Rattle.smithy_json_codec.specs.Private.DocumentNodes.{says_document}
 use Rattle.smithy_json_codec.specs.Private.Fits.{says_fits}
 use Rattle.smithy_json_codec.specs.Private.TokenGrammar.{grammar_is, answer_in, settled_in, token_is_tree}
-use Rattle.smithy_json_codec.specs.Private.Wire.{tokens_are_wire, tokens_bound_openers}
+use Rattle.smithy_json_codec.specs.Private.Wire.{tokens_are_wire, json_bounds_openers}
 use Rattle.smithy_wire.proofs.Bounds.{settled_means}
 use Rattle.smithy_wire.specs.Node.{as_object}
 use Rattle.smithy_wire.specs.Rules.{Answer, means, no_meaning, settled}
@@ -31,13 +30,13 @@ use Rattle.smithy_wire.specs.Laws as wire
 -- ---- for every grammar
 
 pub lawful : (g : LexicalGrammar) (c : Settings) → IsLawful (token_relations g c)
-lawful g c = wire.lawful (token_frames g.Boundary) (token_rules g c) (tokens_are_wire g.Boundary)
+lawful g c = wire.lawful (frames_of g) (token_rules g c) (tokens_are_wire g.is_strict)
 
-pub counts : (g : LexicalGrammar) (c : Settings) → CountsOpeners (token_relations g c)
-counts g c = wire.counts_openers (token_frames g.Boundary) (token_rules g c) (tokens_bound_openers g.Boundary)
+pub counts : (c : Settings) → CountsOpeners (json_relations c)
+counts c = wire.counts_openers json_frames (json_rules c) json_bounds_openers
 
 pub above : (g : LexicalGrammar) (c : Settings) → IsBelow (token_relations g c) (token_relations g (without_limits c))
-above g c = wire.lifted_is_above (token_frames g.Boundary) (token_rules g c)
+above g c = wire.lifted_is_above (frames_of g) (token_rules g c)
 
 -- ---- what stands under RFC 8259 is a value of its place
 

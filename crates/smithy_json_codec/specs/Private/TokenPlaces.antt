@@ -143,7 +143,7 @@ name_parts : (raw middle r : List ℕ)
     ≡ quotation_mark ∷ (raw ++ (quotation_mark ∷ (middle ++ (name_separator ∷ r))))
 name_parts raw middle r = simp append_assoc
 
-past_name : (raw s r : List ℕ) → (h : IsFront (IsNameToken raw) s r)
+pub past_name : (raw s r : List ℕ) → (h : IsFront (IsNameToken raw) s r)
     → without_ws s ≡ quotation_mark ∷ (raw ++ (quotation_mark ∷ (h.4.0 ++ (name_separator ∷ r))))
 past_name raw s r h =
     let t = quotation_mark ∷ (raw ++ (quotation_mark ∷ (h.4.0 ++ (name_separator ∷ r)))) in

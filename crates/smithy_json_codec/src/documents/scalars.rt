@@ -8,11 +8,11 @@ ghost use Rattle.smithy_json.specs.HeldNumber.{number_of};
 ghost use Rattle.smithy_json.specs.Tree.{number};
 ghost use Rattle.smithy_wire.specs.Finding.{MatchFound};
 ghost use Rattle.smithy_json_codec.specs.declared.documents.scalars.BeginFault.TheVariants.{NoMemory};
-ghost use Rattle.smithy_json_codec.specs.Documents.{OtherNumberLies};
+ghost use Rattle.smithy_json_codec.specs.LexicalGrammar.{rfc_8259};
 ghost use Rattle.smithy_json_codec.specs.Standing.{TreeLies};
 ghost use Rattle.smithy_json_codec.specs.Private.NextInContainer.{IsFirstByte};
 ghost use Rattle.smithy_json_codec.specs.Private.ScalarAtPlace.{WholeLies};
-ghost use Rattle.smithy_json_codec.specs.Private.OpenDocuments.{HeldNumberLies, BeginsDocument};
+ghost use Rattle.smithy_json_codec.specs.Private.OpenDocuments.{HeldNumberLies, OtherTreeLies, BeginsDocument};
 
 use crate::numbers::number_at;
 use crate::places::{first_byte, null_end};
@@ -54,7 +54,7 @@ impl From<AllocError> for BeginFault {
 #[inline(never)]
 fn large_number_at(input: &[u8], at: usize) -> Found<(Number, usize)>
     requires { at ≤ length input.now }
-    ensures { MatchFound result (λ r. HeldNumberLies input.now at r.0 r.1) ((raw : List ℕ) (e : ℕ) → TreeLies 1 (number raw) input.now at e → ⊥) (OtherNumberLies input.now at) }
+    ensures { MatchFound result (λ r. HeldNumberLies input.now at r.0 r.1) ((raw : List ℕ) (e : ℕ) → TreeLies 1 (number raw) input.now at e → ⊥) (OtherTreeLies input.now at) }
 {
     let Some((text, end)) = number_at(input, at) else {
         return Found::Nothing;
@@ -69,7 +69,7 @@ fn large_number_at(input: &[u8], at: usize) -> Found<(Number, usize)>
 #[inline(always)]
 fn held_number_at(input: &[u8], at: usize, first: u8) -> Found<(Number, usize)>
     requires first { IsFirstByte input.now at first at }
-    ensures { MatchFound result (λ r. HeldNumberLies input.now at r.0 r.1) ((raw : List ℕ) (e : ℕ) → TreeLies 1 (number raw) input.now at e → ⊥) (OtherNumberLies input.now at) }
+    ensures { MatchFound result (λ r. HeldNumberLies input.now at r.0 r.1) ((raw : List ℕ) (e : ℕ) → TreeLies 1 (number raw) input.now at e → ⊥) (OtherTreeLies input.now at) }
 {
     match long_at(input, at) {
         Some((value, end)) => Found::Value((number_of_long(first == b'-', value), end)),
@@ -79,7 +79,7 @@ fn held_number_at(input: &[u8], at: usize, first: u8) -> Found<(Number, usize)>
 
 fn text_begun(alloc: Global, input: &[u8], at: usize) -> Result<Begun, BeginFault>
     requires { IsFirstByte input.now at 0x22 at }
-    ensures { BeginsDocument input.now at result }
+    ensures { BeginsDocument rfc_8259 input.now at result }
 {
     let Some((text, end)) = text_at(alloc, input, at)? else {
         return Err(BeginFault::NoValue);
@@ -89,7 +89,7 @@ fn text_begun(alloc: Global, input: &[u8], at: usize) -> Result<Begun, BeginFaul
 
 fn null_begun(input: &[u8], at: usize) -> Result<Begun, BeginFault>
     requires { IsFirstByte input.now at 0x6e at }
-    ensures { BeginsDocument input.now at result }
+    ensures { BeginsDocument rfc_8259 input.now at result }
 {
     match null_end(input, at) {
         Some(end) => Ok(Begun::Scalar(Document::Null, end)),
@@ -100,7 +100,7 @@ fn null_begun(input: &[u8], at: usize) -> Result<Begun, BeginFault>
 fn boolean_begun(input: &[u8], at: usize, first: u8) -> Result<Begun, BeginFault>
     requires first { IsFirstByte input.now at first at }
     requires letter { (first ≡ 0x74) ⊎ (first ≡ 0x66) }
-    ensures { BeginsDocument input.now at result }
+    ensures { BeginsDocument rfc_8259 input.now at result }
 {
     match boolean_at(input, at) {
         Some((value, end)) => Ok(Begun::Scalar(Document::Bool(value), end)),
@@ -117,7 +117,7 @@ fn number_begun(input: &[u8], at: usize, first: u8) -> Result<Begun, BeginFault>
     requires no_false { first ≡ 0x66 → ⊥ }
     requires no_array { first ≡ begin_array → ⊥ }
     requires no_object { first ≡ begin_object → ⊥ }
-    ensures { BeginsDocument input.now at result }
+    ensures { BeginsDocument rfc_8259 input.now at result }
 {
     match held_number_at(input, at, first) {
         Found::Value((number, end)) => Ok(Begun::Scalar(Document::Number(number), end)),
@@ -132,7 +132,7 @@ fn scalar_begun(alloc: Global, input: &[u8], at: usize, first: u8) -> Result<Beg
     requires first { IsFirstByte input.now at first at }
     requires no_array { first ≡ begin_array → ⊥ }
     requires no_object { first ≡ begin_object → ⊥ }
-    ensures { BeginsDocument input.now at result }
+    ensures { BeginsDocument rfc_8259 input.now at result }
 {
     if first == b'"' {
         return text_begun(alloc, input, at);
@@ -150,7 +150,7 @@ fn scalar_begun(alloc: Global, input: &[u8], at: usize, first: u8) -> Result<Beg
 #[inline(always)]
 pub(crate) fn document_begun(alloc: Global, input: &[u8], at: usize) -> Result<Begun, BeginFault>
     requires { at ≤ length input.now }
-    ensures { BeginsDocument input.now at result }
+    ensures { BeginsDocument rfc_8259 input.now at result }
 {
     let Some((first, start)) = first_byte(input, at) else {
         return Err(BeginFault::NoValue);

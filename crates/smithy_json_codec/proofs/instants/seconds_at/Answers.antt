@@ -1,7 +1,7 @@
 use Rattle.std.proofs.Common.{◌≡◌, sym, ◌∙◌, ap}
 use Rattle.smithy_instants.specs.Epoch.{epoch_nanos}
 use Rattle.smithy_json_codec.specs.Codec.{held_settings}
-use Rattle.smithy_json_codec.specs.LexicalGrammar.{grammar_of, BoundaryBy}
+use Rattle.smithy_json_codec.specs.LexicalGrammar.{grammar_of}
 use Rattle.smithy_json_codec.specs.Scalar.{a_number, takes_seconds, seconds_read_as, timestamp_says}
 use Rattle.smithy_json_codec.proofs.InstantPlaces.{not_taken, taken}
 use Rattle.smithy_json_codec.proofs.NumberRuns.{one_number}
@@ -28,7 +28,7 @@ pub returns-in-Nothing : goal.returns-in-Nothing
 returns-in-Nothing c = λ raw e lies.
     let s = held_settings c.args.settings.now in
     let takes = sym c.takes_seconds.ensures ∙ c.if-not-takes_seconds.false in
-    let same = one_number (BoundaryBy s.enforce_strictness) c.args.input.now c.args.at e _ raw c.in-Some.seconds.now (grammar_of s).is_decimal lies c.in-Some.ensures.found in
+    let same = one_number s.enforce_strictness c.args.input.now c.args.at e _ raw c.in-Some.seconds.now (grammar_of s).is_decimal lies c.in-Some.ensures.found in
     taken s c.args.time raw takes ∙ ap (λ text. seconds_read_as (epoch_nanos text)) same ∙ c.in-Nothing.ensures
 
 pub returns-in-Beyond : goal.returns-in-Beyond

@@ -20,4 +20,4 @@ returns-then-first-eq123 c =
     (first_lies c.args.input.now c.args.at c.in-Some.first c.in-Some.start c.in-Some.ensures.found)
 
 pub returns : goal.returns
-returns c = begins_before c.args.input.now c.args.at c.in-Some.first c.in-Some.start c.in-Some.ensures.found c.scalar_begun.result c.scalar_begun.ensures
+returns c = begins_before rfc_8259 c.args.input.now c.args.at c.in-Some.first c.in-Some.start c.in-Some.ensures.found c.scalar_begun.result c.scalar_begun.ensures

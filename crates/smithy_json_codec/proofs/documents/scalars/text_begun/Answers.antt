@@ -1,4 +1,5 @@
 use Rattle.std.proofs.Common.{subst, sym, string_bytes}
+use Rattle.smithy_json_codec.specs.LexicalGrammar.{rfc_8259}
 use Rattle.smithy_json_codec.specs.Private.OpenDocuments.{ScalarMeans}
 use Rattle.smithy_json_codec.proofs.DocumentScalars.{text_means, no_text_no_document}
 use Rattle.smithy_json_codec.proofs.DocumentVariants.{view-String}
@@ -6,7 +7,7 @@ use Rattle.smithy_json_codec.proofs.documents.scalars.text_begun.Goals as goal
 
 pub returns : goal.returns
 returns c =
-    subst (λ d. ScalarMeans c.args.input.now c.args.at d c.in-Some.end) (sym (view-String c.in-Some.text))
+    subst (λ d. ScalarMeans rfc_8259 c.args.input.now c.args.at d c.in-Some.end) (sym (view-String c.in-Some.text))
     (text_means c.args.input.now c.args.at (string_bytes c.in-Some.text) c.in-Some.end (rw c.in-Some.is at c.in_ok-text.ensures))
 
 pub returns-in_default : goal.returns-in_default
