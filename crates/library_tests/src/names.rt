@@ -2,6 +2,7 @@
 
 use cbor_item::ItemError;
 use smithy_cbor::{CborType, DecodeKind, EncodeError};
+use smithy_compare::CompareError;
 use smithy_json::EscapeError;
 use smithy_outside::{Failed, LoadFault};
 use smithy_schema::{SerdeError, TableFault};
@@ -33,6 +34,7 @@ fn want_of_memory_prints_its_name(rt: HostRuntime) {
     assert!(rt; prints(alloc, SerdeError::NoMemory, name));
     assert!(rt; prints(alloc, TableFault::NoMemory, name));
     assert!(rt; prints(alloc, TranscodeError::NoMemory, name));
+    assert!(rt; prints(alloc, CompareError::NoMemory, name));
     assert!(rt; prints(alloc, LoadFault::NoMemory, name));
 }
 

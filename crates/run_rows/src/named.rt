@@ -36,6 +36,18 @@ fn plain_status(name: &str) -> Option<Status> {
         "NoSuchShape" => Some(Status::NoSuchShape),
         "NotAStructure" => Some(Status::NotAStructure),
         "TooLong" => Some(Status::TooLong),
+        "Differs" => Some(Status::Differs),
+        _ => None,
+    }
+}
+
+// The refusal of the second of two bodies.
+fn of_second(name: &str) -> Option<Status> {
+    match name {
+        "InvalidInput" => Some(Status::SecondInvalidInput),
+        "TooDeep" => Some(Status::SecondTooDeep),
+        "TooWide" => Some(Status::SecondTooWide),
+        "NotCarried" => Some(Status::SecondNotCarried),
         _ => None,
     }
 }
@@ -57,6 +69,9 @@ pub fn status_of(named: &str) -> Option<Status> {
     };
     if name == "Inexpressible" {
         return Some(Status::Inexpressible(unfit_of(parts)?));
+    }
+    if name == "Second" {
+        return of_second(parts);
     }
     let (fault, number) = parts.split_once(' ')?;
     let number = number.parse::<u64>().ok()?;

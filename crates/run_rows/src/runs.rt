@@ -51,12 +51,27 @@ fn failing(alloc: Global, row: &Row, word: &str) -> Result<Vec<u64>, AllocError>
     Ok(calls)
 }
 
-// The files of a run: at the path `t` a table of the rows, or the bytes of the line `file`.
+// Adds the file that has the name of a line and holds its bytes, if the row has the line.
+fn add_file(
+    alloc: Global,
+    entries: &mut BTreeMap<String, Vec<u8>>,
+    row: &Row,
+    word: &str,
+) -> Result<(), AllocError> {
+    if let Some(bytes) = row.bytes(word) {
+        entries.insert(word.to_string(alloc)?, bytes.to_vec(alloc)?)?;
+    }
+    Ok(())
+}
+
+// The files of a run: at the path `t` a table of the rows, or the bytes of the line `file`, and those of `first` and `second`.
 fn files_of(alloc: Global, rows: &Rows, row: &Row) -> Result<MemoryFiles, AllocError> {
     let table = rows.table(row.text("table").unwrap_or("")).unwrap_or("");
     let bytes = row.bytes("file").unwrap_or(table.as_bytes());
     let mut entries = BTreeMap::new(alloc);
     entries.insert("t".to_string(alloc)?, bytes.to_vec(alloc)?)?;
+    add_file(alloc, &mut entries, row, "first")?;
+    add_file(alloc, &mut entries, row, "second")?;
     Ok(MemoryFiles::new(entries, failing(alloc, row, "fail-files")?))
 }
 

@@ -10,7 +10,7 @@ use Rattle.smithy_commands.specs.declared.status.Status.{Status}
 use Rattle.smithy_commands.specs.declared.status.Status.TheVariants.{Done, ReadFailed, WriteFailed, OutOfMemory, InvalidInput, TooDeep, TooWide, NotCarried, Inexpressible, TableRefused, NoSuchShape, NotAStructure, TooLong}
 use Rattle.smithy_commands.specs.Task.{Task}
 use Rattle.smithy_outside.specs.Outside.{Shown, Outside, missing, Shows, GavePast}
-use Rattle.smithy_commands.specs.Checks.{IsLoaded, IsRead, AfterInput, longest_input}
+use Rattle.smithy_commands.specs.Checks.{longest_table, longest_input, IsLoaded, IsRead, AfterInput}
 use Rattle.smithy_commands.specs.TranscodeAnswer.{sources_of, IsInOrder, Says}
 use Rattle.smithy_outside.proofs.Faults.{has_failed, steady_meets_none}
 use Rattle.smithy_outside.proofs.Moved.{gave_longer}
@@ -21,10 +21,10 @@ past_limit limit a b was past told = gave_longer limit past.0 a b past.1 (omega 
 
 module _ (task : Task) (old new : Outside) (text input : List ℕ) (table : Table) (root : ℕ) (v : Value) (o : IsInOrder task old new text input table root v) where
   -- what was loaded is the table
-  accepted_there : (found : List ℕ) → IsLoaded found (old.files task.table_path) → table_of found ≡ accepted table
+  accepted_there : (found : List ℕ) → IsLoaded longest_table found (old.files task.table_path) → table_of found ≡ accepted table
   accepted_there found loaded = subst (λ (t : List ℕ). table_of t ≡ accepted table) (sym (loaded.whole text o.file)) o.accepted_as
 
-  same_table : (found : List ℕ) → IsLoaded found (old.files task.table_path) → (other : Table) → table_of found ≡ accepted other → table ≡ other
+  same_table : (found : List ℕ) → IsLoaded longest_table found (old.files task.table_path) → (other : Table) → table_of found ≡ accepted other → table ≡ other
   same_table found loaded other is = let same = accepted_there found loaded in cc (same, is)
 
   named_there : (other : Table) → table ≡ other → declared_as other task.root_name ≡ Some root

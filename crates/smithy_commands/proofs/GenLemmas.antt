@@ -1,5 +1,5 @@
 -- What the status of `gen` says.
-use Rattle.std.proofs.Common.{◌≡◌, ◌≢◌, ℕ, List, Bool, false, refl, sym, subst}
+use Rattle.std.proofs.Common.{◌≡◌, ◌≢◌, ℕ, List, Bool, true, false, refl, sym, subst}
 use Rattle.smithy_commands.specs.declared.status.Status.{Status}
 use Rattle.smithy_commands.specs.declared.status.Status.TheVariants.{Done, Usage, WriteFailed, OutOfMemory}
 use Rattle.smithy_commands.specs.Gen.{Gen}
@@ -20,7 +20,7 @@ module _ (c : Gen) (files : List ℕ → Shown) (input out out_behind err err_be
     files_are_untouched = refl;
     input_is_untouched = refl;
     steady_never_fails = λ steady e. absurd (let f : Done ≡ WriteFailed = e in cc);
-    output = record { nothing_is_held_back = λ e. finished; out_met_no_fault = λ other. well; out_is_untouched = λ other. absurd (other refl) };
+    output = record { nothing_is_held_back = λ e. finished; out_met_no_fault = λ other. well; out_is_untouched = λ other. absurd (let f : true ≡ false = other in cc) };
   }
 
   pub gen_write_failed : IsGenLine c line → MetOneFault out out_behind → TookPrefix line out out_behind → GenAnswer c before behind WriteFailed
@@ -30,7 +30,7 @@ module _ (c : Gen) (files : List ℕ → Shown) (input out out_behind err err_be
     input_is_untouched = refl;
     steady_never_fails = λ steady e. steady_meets_none out out_behind steady fault;
     output = record {
-      nothing_is_held_back = λ e. absurd (let f : WriteFailed ≡ Done = e in cc);
+      nothing_is_held_back = λ e. absurd (let f : false ≡ true = e in cc);
       out_met_no_fault = λ other. absurd (other refl);
       out_is_untouched = λ a other. absurd (other refl);
     };
@@ -47,7 +47,7 @@ gen_out_of_memory c files input out err err_behind held err_held err_held_behind
   input_is_untouched = refl;
   steady_never_fails = λ steady e. absurd (let f : OutOfMemory ≡ WriteFailed = e in cc);
   output = record {
-    nothing_is_held_back = λ e. absurd (let f : OutOfMemory ≡ Done = e in cc);
+    nothing_is_held_back = λ e. absurd (let f : false ≡ true = e in cc);
     out_met_no_fault = λ other. (refl, refl);
     out_is_untouched = λ a b. (refl, refl);
   };

@@ -2,6 +2,8 @@ mod Refusals
 mod Complete
 mod TranscodeLemmas
 mod GenLemmas
+mod CompareRefusals
+mod CompareLemmas
 mod GeneratedInput
 mod RunLemmas
 mod After

@@ -1,13 +1,23 @@
 -- What the status of `transcode` says.
-use Rattle.std.proofs.Common.{◌≡◌, ◌≢◌, ◌≤◌, ◌+◌, ℕ, List, [], Bool, length, false, refl, subst, arith}
+use Rattle.std.proofs.Common.{◌≡◌, ◌≢◌, ◌≤◌, ◌+◌, ℕ, List, [], Bool, length, true, false, refl, subst, arith}
 use Rattle.smithy_commands.specs.declared.status.Status.{Status}
-use Rattle.smithy_commands.specs.declared.status.Status.TheVariants.{Done, Usage, ReadFailed, WriteFailed, OutOfMemory}
+use Rattle.smithy_commands.specs.declared.status.Status.TheVariants.{Done, Usage, ReadFailed, WriteFailed, OutOfMemory, Differs}
 use Rattle.smithy_commands.specs.Task.{Task}
 use Rattle.smithy_outside.specs.Outside.{Shown, Outside, outside, MetNoFault, Gave}
 use Rattle.smithy_commands.specs.Checks.{longest_input}
+use Rattle.smithy_commands.specs.Status.{is_answer}
 use Rattle.smithy_commands.specs.TranscodeAnswer.{Says, TranscodeAnswer}
 use Rattle.smithy_outside.proofs.Moved.{gave_nothing}
 use Rattle.smithy_commands.proofs.Complete.{complete_of, fault_of_missing, steady_of}
+
+-- the one answer is a body
+answer_is_done : (task : Task) (old new : Outside) (status : Status) → Says task old new status → is_answer status ≡ true → status ≡ Done
+answer_is_done task old new Done says answer = refl
+answer_is_done task old new Differs says answer = absurd says
+answer_is_done task old new _ says answer = cc
+
+done_is_answer : (status : Status) → is_answer status ≡ false → status ≢ Done
+done_is_answer status other = λ done. absurd (let e : true ≡ false = subst (λ (s : Status). is_answer s ≡ false) done other in cc)
 
 pub answer_of_task : (task : Task) (old new : Outside) (status : Status) → Says task old new status
     → (bytes : List ℕ) × Gave bytes old.input new.input × (length bytes ≤ longest_input + 1)
@@ -25,7 +35,11 @@ answer_of_task task old new status says no_further finished untouched table_is_w
   missing_is_a_fault = λ gone. fault_of_missing task old new gone status says;
   complete = λ text input table root v o. complete_of task old new text input table root v o status says;
   steady_never_fails = λ file input out. steady_of task old new file input out status says;
-  output = record { nothing_is_held_back = finished; out_met_no_fault = out_is_well; out_is_untouched = untouched };
+  output = record {
+    nothing_is_held_back = λ answer. finished (answer_is_done task old new status says answer);
+    out_met_no_fault = out_is_well;
+    out_is_untouched = λ other written. untouched (done_is_answer status other) written;
+  };
 }
 
 -- memory for the task is wanting

@@ -1,12 +1,13 @@
 -- What the commands share: the checks before they answer, each where those before it passed, and what becomes of the output.
-use Rattle.std.specs.Prelude.{◌≡◌, ◌≢◌, ◌≤◌, ℕ, List, length, Some, false}
+use Rattle.std.specs.Prelude.{◌≡◌, ◌≢◌, ◌≤◌, ℕ, List, length, Some, None, true, false}
 use Rattle.smithy_shapes.specs.Table.{Table, IsStructure, kind_of, shape_place, declared_as}
 use Rattle.smithy_shapes.specs.Acceptance.{Fault, TableAnswer, accepted, refused, table_of}
 use Rattle.smithy_shapes.specs.declared.fault.TableFault.{TableFault}
 use Rattle.smithy_commands.specs.declared.status.Status.{Status}
-use Rattle.smithy_commands.specs.declared.status.Status.TheVariants.{Done, WriteFailed}
+use Rattle.smithy_commands.specs.declared.status.Status.TheVariants.{WriteFailed, TableRefused, NoSuchShape, NotAStructure}
 use Rattle.smithy_commands.specs.ErrorLine.{refusal_of}
-use Rattle.smithy_outside.specs.Outside.{Shown, Outside, missing, MetNoFault, IsWhole, IsAtEnd}
+use Rattle.smithy_commands.specs.Status.{is_answer}
+use Rattle.smithy_outside.specs.Outside.{Shown, Outside, missing, MetNoFault, IsWhole, IsLonger, IsAtEnd}
 
 -- in bytes
 abbrev pub longest_table : ℕ
@@ -21,11 +22,15 @@ pub record Sources : Type 0 where
   pub table : Shown
   pub input : Shown
 
--- a file that isn't told to be missing was loaded whole, and is within the limit of a table
-pub record IsLoaded (text : List ℕ) (file : Shown) : Type 0 where
-  pub whole : IsWhole text file
+-- a file that isn't told to be missing was loaded whole, and is within the limit
+pub record IsLoaded (limit : ℕ) (bytes : List ℕ) (file : Shown) : Type 0 where
+  pub whole : IsWhole bytes file
   pub there : file.content ≢ missing
-  pub within : length text ≤ longest_table
+  pub within : length bytes ≤ limit
+
+-- a file that isn't told to be missing is longer than the limit
+abbrev pub IsTooLong : ℕ → Shown → Type 0
+IsTooLong limit file = (file.content ≢ missing) × IsLonger limit file
 
 -- a source was read whole, to its end, and is within the limit of an input
 pub record IsRead (bytes : List ℕ) (old new : Shown) : Type 0 where
@@ -40,22 +45,22 @@ pub record IsRoot (root_name : List ℕ) (table : Table) (root : ℕ) : Type 0 w
 
 -- ---- the checks, each where those before it passed
 
--- a text was loaded, and P holds of the table or the fault that it is
-abbrev pub AfterLoad : Sources → (TableAnswer → Type 0) → Type 0
-AfterLoad old P = (text : List ℕ) × IsLoaded text old.table × P (table_of text)
+-- the text of a table was loaded from the file, and P holds of the table or the fault that it is
+abbrev pub AfterLoad : Shown → (TableAnswer → Type 0) → Type 0
+AfterLoad file P = (text : List ℕ) × IsLoaded longest_table text file × P (table_of text)
 
 -- the text is a table, of which P holds
-abbrev pub AfterTable : Sources → (Table → Type 0) → Type 0
-AfterTable old P = AfterLoad old (λ answer. (table : Table) × (answer ≡ accepted table) × P table)
+abbrev pub AfterTable : Shown → (Table → Type 0) → Type 0
+AfterTable file P = AfterLoad file (λ answer. (table : Table) × (answer ≡ accepted table) × P table)
 
 -- the root is there, and P holds of the table and the root
-abbrev pub AfterRoot : List ℕ → Sources → (Table → ℕ → Type 0) → Type 0
-AfterRoot root_name old P = AfterTable old (λ table. (root : ℕ) × IsRoot root_name table root × P table root)
+abbrev pub AfterRoot : List ℕ → Shown → (Table → ℕ → Type 0) → Type 0
+AfterRoot root_name file P = AfterTable file (λ table. (root : ℕ) × IsRoot root_name table root × P table root)
 
 -- the input was read, and P holds of the table, the root and the input
 abbrev pub AfterInput : List ℕ → Sources → Sources → (Table → ℕ → List ℕ → Type 0) → Type 0
 AfterInput root_name old new P =
-    AfterRoot root_name old (λ table root. (input : List ℕ) × IsRead input old.input new.input × P table root input)
+    AfterRoot root_name old.table (λ table root. (input : List ℕ) × IsRead input old.input new.input × P table root input)
 
 -- P holds, and the input tells and counts what it did before
 abbrev pub BeforeInput : Sources → Sources → Type 0 → Type 0
@@ -65,13 +70,22 @@ BeforeInput old new P = (new.input ≡ old.input) × P
 abbrev pub IsRefusal : TableFault → TableAnswer → Type 0
 IsRefusal fault answer = (f : Fault) × (n : ℕ) × (answer ≡ refused f n) × (refusal_of fault ≡ Some (f, n))
 
+-- by the status: the text of the table is refused, the table doesn't declare the root, or not as a structure
+abbrev pub RefusesTable : List ℕ → Shown → Status → Type 0
+RefusesTable root_name file (TableRefused fault) = AfterLoad file (IsRefusal fault)
+RefusesTable root_name file NoSuchShape = AfterTable file (λ table. declared_as table root_name ≡ None)
+RefusesTable root_name file NotAStructure =
+    AfterTable file (λ table. (root : ℕ) × (declared_as table root_name ≡ Some root)
+    × ¬ IsStructure (kind_of table (shape_place root)))
+RefusesTable root_name file _ = ⊥
+
 -- ---- the output
 
--- what becomes of the output of a command that writes all it has to say at once, and with no status but 0 and 7
+-- what becomes of the output of a command that writes all it has to say at once: its answer
 pub record WritesAtOnce (old new : Outside) (status : Status) : Type 0 where
-  pub nothing_is_held_back : status ≡ Done → new.out_holds_back ≡ false
+  pub nothing_is_held_back : is_answer status ≡ true → new.out_holds_back ≡ false
   -- a fault that shows in the count of the output ends the run with 7
   pub out_met_no_fault : status ≢ WriteFailed → MetNoFault old.out new.out
   -- what the output tells and counts stays
-  pub out_is_untouched : status ≢ Done → status ≢ WriteFailed
+  pub out_is_untouched : is_answer status ≡ false → status ≢ WriteFailed
       → (new.out ≡ old.out) × (new.out_holds_back ≡ old.out_holds_back)

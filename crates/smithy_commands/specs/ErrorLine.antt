@@ -6,7 +6,7 @@ use Rattle.smithy_shapes.specs.declared.fault.TableFault.{TableFault}
 use Rattle.smithy_shapes.specs.declared.fault.TableFault.TheVariants as table_faults
 use Rattle.smithy_commands.specs.declared.status.Status.{Status}
 use Rattle.smithy_transcode.specs.declared.wire.Unfit.TheVariants.{Document, Null, Instant}
-use Rattle.smithy_commands.specs.declared.status.Status.TheVariants.{Done, Usage, ReadFailed, WriteFailed, OutOfMemory, InvalidInput, TooDeep, TooWide, NotCarried, Inexpressible, TableRefused, NoSuchShape, NotAStructure, TooLong}
+use Rattle.smithy_commands.specs.declared.status.Status.TheVariants.{Done, Usage, ReadFailed, WriteFailed, OutOfMemory, InvalidInput, TooDeep, TooWide, NotCarried, Inexpressible, TableRefused, NoSuchShape, NotAStructure, TooLong, Differs, SecondInvalidInput, SecondTooDeep, SecondTooWide, SecondNotCarried}
 
 -- the name of a fault
 abbrev pub fault_name : Fault → List ℕ
@@ -39,7 +39,7 @@ refusal_of _ = None
 abbrev pub refusal_text : Fault × ℕ → List ℕ
 refusal_text refusal = fault_name refusal.0 ++ codes " " ++ decimal refusal.1
 
--- what the line of a status says; that of a refused table names the fault
+-- what the line of a status says; that of a refused table names the fault, and an answer has no line
 abbrev pub text_of : Status → List ℕ
 text_of Done = []
 text_of Usage = codes "usage"
@@ -58,7 +58,12 @@ text_of (TableRefused fault) =
 text_of NoSuchShape = codes "no such shape"
 text_of NotAStructure = codes "not a structure"
 text_of TooLong = codes "too long"
+text_of Differs = []
+text_of SecondInvalidInput = codes "invalid input"
+text_of SecondTooDeep = codes "too deep"
+text_of SecondTooWide = codes "number too wide"
+text_of SecondNotCarried = codes "not carried"
 
--- the line of a status other than 0
+-- the line of a status that is no answer
 abbrev pub line_of : Status → List ℕ
 line_of status = codes "smithy_transcode: " ++ text_of status ++ codes "\n"

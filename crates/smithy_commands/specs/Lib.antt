@@ -2,6 +2,7 @@
 pub mod Transcode
 pub mod SmallNumber
 pub mod Gen
+pub mod Compare
 pub mod Command
 pub mod Task
 pub mod Status
@@ -9,6 +10,7 @@ pub mod ErrorLine
 pub mod Checks
 pub mod TranscodeAnswer
 pub mod GenAnswer
+pub mod CompareAnswer
 pub mod RunAnswer
 pub mod System
 -- what the types of the program stand for

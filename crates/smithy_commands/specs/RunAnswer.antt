@@ -1,12 +1,13 @@
 -- What the number that a run ends with says of the outside.
-use Rattle.std.specs.Prelude.{◌≡◌, ◌≢◌, ◌↔◌, ℕ, List, Some, None}
+use Rattle.std.specs.Prelude.{◌≡◌, ◌↔◌, ℕ, List, Some, None, true, false}
 use Rattle.smithy_commands.specs.declared.status.Status.{Status}
-use Rattle.smithy_commands.specs.declared.status.Status.TheVariants.{Done, Usage}
-use Rattle.smithy_commands.specs.Command.{Command, transcode, gen, command_of}
+use Rattle.smithy_commands.specs.declared.status.Status.TheVariants.{Usage}
+use Rattle.smithy_commands.specs.Command.{Command, transcode, gen, compare, command_of}
 use Rattle.smithy_commands.specs.Task.{task_of}
 use Rattle.smithy_commands.specs.TranscodeAnswer.{TranscodeAnswer}
 use Rattle.smithy_commands.specs.GenAnswer.{GenAnswer}
-use Rattle.smithy_commands.specs.Status.{status_code}
+use Rattle.smithy_commands.specs.CompareAnswer.{CompareAnswer}
+use Rattle.smithy_commands.specs.Status.{status_code, is_answer}
 use Rattle.smithy_commands.specs.ErrorLine.{line_of}
 use Rattle.smithy_outside.specs.Outside.{Outside, OnlyErrMoved, TookLine}
 
@@ -14,6 +15,7 @@ use Rattle.smithy_outside.specs.Outside.{Outside, OnlyErrMoved, TookLine}
 abbrev pub CommandAnswer : Command → Outside → Outside → Status → Type 0
 CommandAnswer (transcode c) = TranscodeAnswer (task_of c)
 CommandAnswer (gen c) = GenAnswer c
+CommandAnswer (compare c) = CompareAnswer c
 
 -- What a status says of the files, the input and the output.
 pub record StatusAnswer (words : List (List ℕ)) (old new : Outside) (status : Status) : Type 0 where
@@ -29,6 +31,6 @@ pub record RunAnswer (words : List (List ℕ)) (old new : Outside) (code : ℕ) 
   pub has_code : code ≡ status_code status
   pub says : StatusAnswer words old new status
   -- standard error tells, counts and holds back what it did before, or it took the line of the status
-  pub err_is_untouched : status ≡ Done
+  pub err_is_untouched : is_answer status ≡ true
       → (new.err ≡ old.err) × (new.err_holds_back ≡ old.err_holds_back)
-  pub err_took_the_line : status ≢ Done → TookLine (line_of status) old.err new.err new.err_holds_back
+  pub err_took_the_line : is_answer status ≡ false → TookLine (line_of status) old.err new.err new.err_holds_back

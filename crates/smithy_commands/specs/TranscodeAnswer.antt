@@ -1,6 +1,6 @@
 -- What a status says where the words are `transcode`.
 use Rattle.std.specs.Prelude.{◌≡◌, ◌≢◌, ◌⊎◌, ◌≤◌, ◌+◌, ℕ, List, length, Some, None, true}
-use Rattle.smithy_shapes.specs.Table.{Table, IsStructure, kind_of, shape_place, declared_as}
+use Rattle.smithy_shapes.specs.Table.{Table}
 use Rattle.smithy_shapes.specs.Acceptance.{accepted, table_of}
 use Rattle.smithy_shapes.specs.Value.{Value}
 use Rattle.smithy_transcode.specs.Spelling.{Spells, body}
@@ -10,8 +10,8 @@ use Rattle.smithy_transcode.specs.Wires.{unfit}
 use Rattle.smithy_commands.specs.declared.status.Status.{Status}
 use Rattle.smithy_commands.specs.declared.status.Status.TheVariants.{Done, ReadFailed, WriteFailed, OutOfMemory, InvalidInput, TooDeep, TooWide, NotCarried, Inexpressible, TableRefused, NoSuchShape, NotAStructure, TooLong}
 use Rattle.smithy_commands.specs.Task.{Task}
-use Rattle.smithy_commands.specs.Checks.{longest_table, longest_input, Sources, IsRoot, AfterLoad, AfterTable, AfterRoot, AfterInput, BeforeInput, IsRefusal, WritesAtOnce}
-use Rattle.smithy_outside.specs.Outside.{Outside, missing, HasFailed, MetOneFault, MetNoFault, Shows, IsLonger, Gave, GavePast, Took, TookPrefix}
+use Rattle.smithy_commands.specs.Checks.{longest_table, longest_input, Sources, IsRoot, IsTooLong, AfterRoot, AfterInput, BeforeInput, RefusesTable, WritesAtOnce}
+use Rattle.smithy_outside.specs.Outside.{Outside, missing, HasFailed, MetOneFault, MetNoFault, Shows, Gave, GavePast, Took, TookPrefix}
 
 -- what a task reads of the outside: the file of its table, and the input
 abbrev pub sources_of : Task → Outside → Sources
@@ -28,7 +28,7 @@ AfterTranscoding task old new P =
 abbrev pub Refuses : Task → Sources → Sources → Status → Type 0
 Refuses task old new ReadFailed =
     BeforeInput old new (MetOneFault old.table new.table)
-    ⊎ AfterRoot task.root_name old (λ table root. MetNoFault old.table new.table × MetOneFault old.input new.input)
+    ⊎ AfterRoot task.root_name old.table (λ table root. MetNoFault old.table new.table × MetOneFault old.input new.input)
 Refuses task old new OutOfMemory = Unit {0}
 Refuses task old new InvalidInput =
     AfterInput task.root_name old new
@@ -45,15 +45,13 @@ Refuses task old new NotCarried =
 Refuses task old new (Inexpressible u) =
     AfterInput task.root_name old new
     (λ table root input. (v : Value) × Spells task.from table root input v × (unfit task.to table root v ≡ Some u))
-Refuses task old new (TableRefused fault) = BeforeInput old new (AfterLoad old (IsRefusal fault))
-Refuses task old new NoSuchShape =
-    BeforeInput old new (AfterTable old (λ table. declared_as table task.root_name ≡ None))
-Refuses task old new NotAStructure =
-    BeforeInput old new (AfterTable old (λ table. (root : ℕ) × (declared_as table task.root_name ≡ Some root)
-    × ¬ IsStructure (kind_of table (shape_place root))))
+Refuses task old new (TableRefused fault) =
+    BeforeInput old new (RefusesTable task.root_name old.table (TableRefused fault))
+Refuses task old new NoSuchShape = BeforeInput old new (RefusesTable task.root_name old.table NoSuchShape)
+Refuses task old new NotAStructure = BeforeInput old new (RefusesTable task.root_name old.table NotAStructure)
 Refuses task old new TooLong =
-    BeforeInput old new ((old.table.content ≢ missing) × IsLonger longest_table old.table)
-    ⊎ AfterRoot task.root_name old (λ table root. GavePast longest_input old.input new.input)
+    BeforeInput old new (IsTooLong longest_table old.table)
+    ⊎ AfterRoot task.root_name old.table (λ table root. GavePast longest_input old.input new.input)
 Refuses task old new _ = ⊥
 
 -- what a status says

@@ -1,10 +1,10 @@
 //! The checks that commands share: the table of a file, and the root in it.
-ghost use Rattle.std.specs.Prelude.{◌≡◌, ◌≢◌, ℕ, List, Some, IfOk, IfErr};
+ghost use Rattle.std.specs.Prelude.{◌≡◌, ◌≢◌, ◌≤◌, ℕ, List, Some, IfOk, IfErr};
 ghost use Rattle.smithy_shapes.specs.Table.{IsStructure, kind_of, shape_place, declared_as};
 ghost use Rattle.smithy_shapes.specs.Acceptance.{accepted, table_of};
 ghost use Rattle.smithy_outside.specs.Outside.{MetNoFault};
-ghost use Rattle.smithy_commands.specs.Checks.{IsLoaded};
-ghost use Rattle.smithy_commands.specs.Private.Stages.{FailsToLoad, FailsToFind};
+ghost use Rattle.smithy_commands.specs.Checks.{longest_table, IsLoaded};
+ghost use Rattle.smithy_commands.specs.Private.Stages.{FailsToRead, FailsToLoad, FailsToFind};
 
 use crate::status::Status;
 use smithy_outside::Files;
@@ -14,16 +14,37 @@ use std::alloc::Global;
 // The most bytes of a table's text.
 const MAX_TABLE_LEN: usize = 1_048_576;
 
+/// The most bytes of an input, and of a file that holds a body.
+pub(crate) const MAX_INPUT_LEN: usize = 16_777_216;
+
+/// The content of a file, of at most so many bytes.
+pub(crate) fn load_file<F: Files>(
+    alloc: Global,
+    files: &mut F,
+    path: &str,
+    limit: usize,
+) -> Result<Vec<u8>, Status>
+    ensures loaded { IfOk result (λ bytes. IsLoaded limit bytes.items (F.told files.old path.now)) }
+    ensures refused { IfErr result (FailsToRead limit (F.told files.old path.now) (F.told files.new path.now)) }
+    ensures kept { (at : List ℕ) → (F.told files.new at).content ≡ (F.told files.old at).content }
+    ensures steady { (at : List ℕ) → (F.told files.new at).is_steady ≡ (F.told files.old at).is_steady }
+    ensures later { (at : List ℕ) → (F.told files.old at).faults ≤ (F.told files.new at).faults }
+{
+    Ok(files.load(alloc, path, limit)?)
+}
+
 /// The table that a file holds.
 pub(crate) fn load_table<F: Files>(
     alloc: Global,
     files: &mut F,
     path: &str,
 ) -> Result<Shapes, Status>
-    ensures table { IfOk result (λ table. (text : List ℕ) × IsLoaded text (F.told files.old path.now) × (table_of text ≡ accepted table)) }
+    ensures table { IfOk result (λ table. (text : List ℕ) × IsLoaded longest_table text (F.told files.old path.now) × (table_of text ≡ accepted table)) }
     ensures refused { IfErr result (FailsToLoad (F.told files.old path.now) (F.told files.new path.now)) }
     ensures no_fault { result ≢ Err Status.ReadFailed → MetNoFault (F.told files.old path.now) (F.told files.new path.now) }
     ensures kept { (at : List ℕ) → (F.told files.new at).content ≡ (F.told files.old at).content }
+    ensures steady { (at : List ℕ) → (F.told files.new at).is_steady ≡ (F.told files.old at).is_steady }
+    ensures later { (at : List ℕ) → (F.told files.old at).faults ≤ (F.told files.new at).faults }
 {
     let text = files.load(alloc, path, MAX_TABLE_LEN)?;
     let declarations = TableText::read(alloc, &text)?;

@@ -6,6 +6,8 @@
 
 mod arguments;
 mod checks;
+mod compare_words;
+mod comparing;
 mod gen_words;
 mod generating;
 mod reporting;

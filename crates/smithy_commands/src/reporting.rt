@@ -1,8 +1,9 @@
 //! The line on standard error that says how a run ended. Writing it takes no memory.
-ghost use Rattle.std.specs.Prelude.{◌≡◌, ◌≢◌, ◌++◌, false, [], codes, decimal, OnOk};
+ghost use Rattle.std.specs.Prelude.{◌≡◌, ◌++◌, true, false, [], codes, decimal, OnOk};
 ghost use Rattle.std.specs.Option.{option_map_or};
 ghost use Rattle.smithy_outside.specs.Outside.{IsWritten, TookLine};
 ghost use Rattle.smithy_commands.specs.ErrorLine.{refusal_of, refusal_text, text_of, line_of};
+ghost use Rattle.smithy_commands.specs.Status.{is_answer};
 
 use crate::status::Status;
 use itoa::Buffer;
@@ -51,15 +52,15 @@ fn write_text<E: Sink>(err: &mut E, status: Status) -> Result<(), Failed>
     ensures { IsWritten (text_of status) result (E.told err.old) (E.told err.new) }
 {
     match status {
-        Status::Done => Ok(()),
+        Status::Done | Status::Differs => Ok(()),
         Status::Usage => write_bytes(err, b"usage"),
         Status::ReadFailed => write_bytes(err, b"read failed"),
         Status::WriteFailed => write_bytes(err, b"write failed"),
         Status::OutOfMemory => write_bytes(err, b"out of memory"),
-        Status::InvalidInput => write_bytes(err, b"invalid input"),
-        Status::TooDeep => write_bytes(err, b"too deep"),
-        Status::TooWide => write_bytes(err, b"number too wide"),
-        Status::NotCarried => write_bytes(err, b"not carried"),
+        Status::InvalidInput | Status::SecondInvalidInput => write_bytes(err, b"invalid input"),
+        Status::TooDeep | Status::SecondTooDeep => write_bytes(err, b"too deep"),
+        Status::TooWide | Status::SecondTooWide => write_bytes(err, b"number too wide"),
+        Status::NotCarried | Status::SecondNotCarried => write_bytes(err, b"not carried"),
         Status::Inexpressible(Unfit::Document) => write_bytes(err, b"document not expressible"),
         Status::Inexpressible(Unfit::Null) => write_bytes(err, b"null not expressible"),
         Status::Inexpressible(Unfit::Instant) => write_bytes(err, b"instant not expressible"),
@@ -80,12 +81,12 @@ fn write_line<E: Sink>(err: &mut E, status: Status) -> Result<(), Failed>
     write_all(err, b"\n")
 }
 
-/// Says how a run ended, unless all is written. That standard error fails is said nowhere.
+/// Says how a run ended, unless the output tells it. That standard error fails is said nowhere.
 pub fn report<E: Sink>(err: &mut E, status: Status)
-    ensures untouched { status ≡ Status.Done → (E.told err.new ≡ E.told err.old) × (E.holds_back err.new ≡ E.holds_back err.old) }
-    ensures line { status ≢ Status.Done → TookLine (line_of status) (E.told err.old) (E.told err.new) (E.holds_back err.new) }
+    ensures untouched { is_answer status ≡ true → (E.told err.new ≡ E.told err.old) × (E.holds_back err.new ≡ E.holds_back err.old) }
+    ensures line { is_answer status ≡ false → TookLine (line_of status) (E.told err.old) (E.told err.new) (E.holds_back err.new) }
 {
-    if status == Status::Done {
+    if status.is_answer() {
         return;
     }
     let _ = write_line(err, status);

@@ -4,6 +4,7 @@ ghost use Rattle.std.specs.Process.{exit_status};
 ghost use Rattle.smithy_outside.specs.Outside.{Shown, outside};
 ghost use Rattle.smithy_commands.specs.RunAnswer.{StatusAnswer, RunAnswer};
 
+use crate::comparing::compare_files;
 use crate::generating::write_generated;
 use crate::reporting::report;
 use crate::status::Status;
@@ -31,11 +32,12 @@ fn status_of<F: Files, S: Source, K: Sink>(
     match command {
         Command::Transcode(command) => transcode_input(alloc, command, files, input, out),
         Command::Gen(command) => write_generated(alloc, command, out),
+        Command::Compare(command) => compare_files(alloc, command, files, out),
     }
 }
 
 /// Runs the program with these words, which are its arguments without its own name, and answers the number
-/// that it ends with. `err` takes the line that says it, unless the number is 0.
+/// that it ends with. `err` takes the line that says it, unless the number is 0 or 40, where `out` took an answer.
 pub fn run<F: Files, S: Source, K: Sink, E: Sink>(
     alloc: Global,
     words: &[String],

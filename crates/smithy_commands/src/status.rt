@@ -1,7 +1,8 @@
 //! How the program ends.
 ghost use Rattle.std.specs.Prelude.{◌≡◌};
-ghost use Rattle.smithy_commands.specs.Status.{status_code, status_of_load_fault, status_of_table_fault, status_of_error};
+ghost use Rattle.smithy_commands.specs.Status.{status_code, is_answer, status_of_load_fault, status_of_table_fault, status_of_error, status_of_second_error, status_of_compared, status_of_compare_error};
 
+use smithy_compare::{CompareError, Compared};
 use smithy_outside::LoadFault;
 use smithy_shapes::TableFault;
 use smithy_transcode::{TranscodeError, Unfit};
@@ -10,7 +11,7 @@ use std::alloc::AllocError;
 /// How a run of the program ended.
 #[derive(Clone, Copy, Debug, PartialEq, Eq)]
 pub enum Status {
-    /// All is written.
+    /// All is written: a body, a line, or that two bodies spell one value.
     Done,
     /// The words are no command.
     Usage,
@@ -36,8 +37,18 @@ pub enum Status {
     NoSuchShape,
     /// The root is no structure.
     NotAStructure,
-    /// The table or the input is longer than its limit.
+    /// The table, the input or a file of a body is longer than its limit.
     TooLong,
+    /// Two bodies spell two values, and the output tells where these differ.
+    Differs,
+    /// The second of two bodies spells no value of the root.
+    SecondInvalidInput,
+    /// The second of two bodies nests too deep.
+    SecondTooDeep,
+    /// A big number of the second of two bodies leaves the limits of its kind.
+    SecondTooWide,
+    /// The second of two bodies holds a number of seconds that isn't carried as an instant, or what isn't carried as a document.
+    SecondNotCarried,
 }
 
 impl Status {
@@ -62,7 +73,19 @@ impl Status {
             Status::NoSuchShape => 21,
             Status::NotAStructure => 22,
             Status::TooLong => 23,
+            Status::Differs => 40,
+            Status::SecondInvalidInput => 41,
+            Status::SecondTooDeep => 42,
+            Status::SecondTooWide => 43,
+            Status::SecondNotCarried => 44,
         }
+    }
+
+    /// The output tells what was asked for. With any other status standard error tells why it doesn't.
+    pub fn is_answer(self) -> bool
+        ensures { result ≡ is_answer self }
+    {
+        matches!(self, Status::Done | Status::Differs)
     }
 }
 
@@ -110,6 +133,44 @@ impl From<TranscodeError> for Status {
             TranscodeError::NotCarried => Status::NotCarried,
             TranscodeError::Inexpressible(unfit) => Status::Inexpressible(unfit),
             TranscodeError::NoMemory => Status::OutOfMemory,
+        }
+    }
+}
+
+// The status where the second of two bodies was refused.
+fn status_of_second(error: TranscodeError) -> Status
+    ensures { result ≡ status_of_second_error error }
+{
+    match error {
+        TranscodeError::InvalidInput => Status::SecondInvalidInput,
+        TranscodeError::TooDeep => Status::SecondTooDeep,
+        TranscodeError::TooWide => Status::SecondTooWide,
+        TranscodeError::NotCarried => Status::SecondNotCarried,
+        TranscodeError::Inexpressible(unfit) => Status::Inexpressible(unfit),
+        TranscodeError::NoMemory => Status::OutOfMemory,
+    }
+}
+
+impl From<CompareError> for Status {
+    ghost from_gives = { λ error status. status ≡ status_of_compare_error error };
+
+    fn from(error: CompareError) -> Self {
+        match error {
+            CompareError::First(error) => Status::from(error),
+            CompareError::Second(error) => status_of_second(error),
+            CompareError::NoMemory => Status::OutOfMemory,
+        }
+    }
+}
+
+impl Status {
+    // The status where two bodies were compared.
+    pub(crate) fn of_compared(found: &Compared) -> Status
+        ensures { result ≡ status_of_compared found.now }
+    {
+        match found {
+            Compared::Same => Status::Done,
+            Compared::Differs(_) => Status::Differs,
         }
     }
 }

@@ -31,7 +31,7 @@ fn copied(alloc: Global, word: &str) -> Result<String, AllocError>
 }
 
 // The wire that the words name.
-fn wire_of_words(alloc: Global, words: WireWords<'_>) -> Result<Wire, AllocError>
+pub(crate) fn wire_of_words(alloc: Global, words: WireWords<'_>) -> Result<Wire, AllocError>
     ensures { IfOk result (λ wire. wire_of wire ≡ asked_wire (named_wire words.entry)) }
 {
     match words {

@@ -30,7 +30,7 @@ pub struct Transcode<'a> {
 }
 
 // json, json-name or cbor.
-fn single_wire<'a>(word: &str) -> Option<WireWords<'a>>
+pub(crate) fn single_wire<'a>(word: &str) -> Option<WireWords<'a>>
     ensures { option_map named_wire result ≡ wire_named word.now }
 {
     match word {

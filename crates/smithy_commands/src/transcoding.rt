@@ -6,16 +6,13 @@ ghost use Rattle.smithy_commands.specs.Task.{task_of};
 ghost use Rattle.smithy_commands.specs.Words.{transcode_view, task_view};
 ghost use Rattle.smithy_commands.specs.TranscodeAnswer.{AfterTranscoding, Refuses, Says, TranscodeAnswer};
 
-use crate::checks::{find_root, load_table};
+use crate::checks::{MAX_INPUT_LEN, find_root, load_table};
 use crate::status::Status;
 use crate::task::Task;
 use crate::transcode_words::Transcode;
 use smithy_outside::{Files, Sink, Source, read_to_end, write_all};
 use smithy_transcode::transcode;
 use std::alloc::Global;
-
-// The most bytes of an input.
-const MAX_INPUT_LEN: usize = 16_777_216;
 
 // The body that the task asks for.
 fn body_of<F: Files, S: Source>(

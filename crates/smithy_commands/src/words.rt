@@ -3,6 +3,7 @@ ghost use Rattle.std.specs.Prelude.{◌≡◌, map, option_map, string_bytes};
 ghost use Rattle.smithy_commands.specs.Command.{command_of};
 ghost use Rattle.smithy_commands.specs.Words.{command_view};
 
+use crate::compare_words::Compare;
 use crate::gen_words::Gen;
 use crate::transcode_words::Transcode;
 
@@ -13,6 +14,8 @@ pub enum Command<'a> {
     Transcode(Transcode<'a>),
     /// An input that a number generates, in both wires.
     Gen(Gen),
+    /// Two bodies in files, compared as values.
+    Compare(Compare<'a>),
 }
 
 impl<'a> Command<'a> {
@@ -26,6 +29,7 @@ impl<'a> Command<'a> {
         match keyword.as_str() {
             "transcode" => Some(Command::Transcode(Transcode::from_words(rest)?)),
             "gen" => Some(Command::Gen(Gen::from_words(rest)?)),
+            "compare" => Some(Command::Compare(Compare::from_words(rest)?)),
             _ => None,
         }
     }

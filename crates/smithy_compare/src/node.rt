@@ -113,14 +113,8 @@ fn split_value(value: &CompactValue) -> (Top<'_>, Parts<'_>)
         CompactValue::Timestamp(value) => (Top::Instant(*value), Parts::Nothing),
         CompactValue::List(elements) => (Top::List, Parts::Elements(0, elements.as_slice())),
         CompactValue::Wholes(numbers) => (Top::List, Parts::Wholes(0, numbers.as_slice())),
-        CompactValue::Map(entries) => (
-            Top::Map,
-            Parts::Entries(EntryIter::Slice(entries.as_slice())),
-        ),
-        CompactValue::TreeMap(entries) => (
-            Top::Map,
-            Parts::Entries(EntryIter::Map(entries.iter())),
-        ),
+        CompactValue::Map(map) => (Top::Map, Parts::Entries(EntryIter::Slice(map.as_slice()))),
+        CompactValue::TreeMap(map) => (Top::Map, Parts::Entries(EntryIter::Map(map.iter()))),
         CompactValue::Structure(members) => (
             Top::Structure,
             Parts::Members(EntryIter::Slice(members.as_slice())),

@@ -1,5 +1,5 @@
 //! The parts of a value or a document, one after another.
-ghost use Rattle.std.specs.Prelude.{◌≡◌, MatchOption};
+ghost use Rattle.std.specs.Prelude.{◌≡◌, ◌<◌, ◌^◌, suc, MatchOption};
 ghost use Rattle.smithy_compare.specs.FirstPath.{step_cmp};
 ghost use Rattle.smithy_compare.specs.Tree.{no_parts, part};
 ghost use Rattle.smithy_compare.specs.Private.Nodes.{node_tree, step_at, parts_of};
@@ -65,6 +65,17 @@ pub enum Parts<'v> {
     Properties(Iter<'v, String, Document>),
 }
 
+// The step to the element at an index, which goes on to the one behind it.
+fn step_past<'v>(index: &mut usize) -> Label<'v>
+    requires room { suc index.now < 2 ^ 64 }
+    ensures step { result ≡ Label.Element index.old }
+    ensures next { index.new ≡ suc index.old }
+{
+    let at = *index;
+    *index = at + 1;
+    Label::Element(at)
+}
+
 impl<'v> Parts<'v> {
     // The next part, behind the step to it.
     pub(crate) fn next_part(&mut self) -> Option<(Label<'v>, Node<'v>)>
@@ -73,16 +84,12 @@ impl<'v> Parts<'v> {
         match self {
             Parts::Nothing => None,
             Parts::Elements(index, elements) => {
-                let at = *index;
-                let element = elements.get(at)?;
-                *index = at + 1;
-                Some((Label::Element(at), Node::Value(element)))
+                let element = elements.get(*index)?;
+                Some((step_past(index), Node::Value(element)))
             }
             Parts::Wholes(index, numbers) => {
-                let at = *index;
-                let number = numbers.get(at)?;
-                *index = at + 1;
-                Some((Label::Element(at), Node::Whole(*number)))
+                let number = numbers.get(*index)?;
+                Some((step_past(index), Node::Whole(*number)))
             }
             Parts::Entries(entries) => {
                 let (key, value) = entries.next_entry()?;
@@ -98,10 +105,8 @@ impl<'v> Parts<'v> {
                 Some(only)
             }
             Parts::Items(index, items) => {
-                let at = *index;
-                let item = items.get(at)?;
-                *index = at + 1;
-                Some((Label::Element(at), Node::Document(item)))
+                let item = items.get(*index)?;
+                Some((step_past(index), Node::Document(item)))
             }
             Parts::Properties(properties) => {
                 let (name, document) = properties.next()?;

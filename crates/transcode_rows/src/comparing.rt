@@ -20,9 +20,10 @@ struct Bodies<'a> {
 
 fn refused(alloc: Global, error: CompareError) -> Result<Vec<Field>, AllocError> {
     let name = match error {
-        CompareError::First(fault) => format!(in alloc; "First {fault}")?,
-        CompareError::Second(fault) => format!(in alloc; "Second {fault}")?,
-        CompareError::NoMemory => "NoMemory".to_string(alloc)?,
+        CompareError::First(fault) | CompareError::Second(fault) => {
+            format!(in alloc; "{error} {fault}")?
+        }
+        CompareError::NoMemory => format!(in alloc; "{error}")?,
     };
     one(alloc, "refused", name.as_str())
 }

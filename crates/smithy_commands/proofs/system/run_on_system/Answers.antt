@@ -1,4 +1,4 @@
-use Rattle.std.proofs.Common.{◌≡◌, ◌≢◌, ◌∙◌, inl, inr, ℕ, List, Bool, Result, Ok, Err, IfErr, IfOk, map, string_bytes, String, false, refl, sym, subst}
+use Rattle.std.proofs.Common.{◌≡◌, ◌≢◌, ◌∙◌, inl, inr, ℕ, List, Bool, true, ap, Result, Ok, Err, IfErr, IfOk, map, string_bytes, String, false, refl, sym, subst}
 use Rattle.std.specs.declared.alloc.Global.{Global}
 use Rattle.std.specs.declared.io.Error.{Error}
 use Rattle.std.specs.declared.io.ErrorKind.{ErrorKind}
@@ -7,8 +7,8 @@ use Rattle.std.specs.declared.vec.IntoIter.{IntoIter}
 use Rattle.std.specs.IoError.{error_kind}
 use Rattle.std.specs.Process.{exit_status}
 use Rattle.smithy_commands.specs.declared.status.Status.{Status}
-use Rattle.smithy_commands.specs.declared.status.Status.TheVariants.{Done, OutOfMemory}
-use Rattle.smithy_commands.specs.Status.{status_code}
+use Rattle.smithy_commands.specs.declared.status.Status.TheVariants.{Usage, OutOfMemory}
+use Rattle.smithy_commands.specs.Status.{status_code, is_answer}
 use Rattle.smithy_outside.specs.Outside.{Shown, Outside, outside, TookLine}
 use Rattle.smithy_commands.specs.ErrorLine.{line_of}
 use Rattle.smithy_commands.specs.RunAnswer.{RunAnswer}
@@ -27,17 +27,24 @@ ends_as_run : (words : List (List ℕ)) (files input out err : ℕ) (out_held er
 ends_as_run words files input out err out_held err_held new code f i o e oh eh answer = inl (new, rw (f, i, o, e, oh, eh) at answer)
 
 -- a line, and no run
-ends_with_line : (status : Status) (err : ℕ) (behind : Shown) (held : Bool) (code : ℕ) → status ≢ Done → err ≡ 0
-    → (status ≢ Done → TookLine (line_of status) (only_counts err) behind held) → code ≡ status_code status → EndsWithLine status code
-ends_with_line status err behind held code not_done e took is =
-    let line = subst (λ (n : ℕ). TookLine (line_of status) (only_counts n) behind held) e (took not_done) in
+ends_with_line : (status : Status) (err : ℕ) (behind : Shown) (held : Bool) (code : ℕ) → is_answer status ≡ false → err ≡ 0
+    → (is_answer status ≡ false → TookLine (line_of status) (only_counts err) behind held) → code ≡ status_code status → EndsWithLine status code
+ends_with_line status err behind held code other e took is =
+    let line = subst (λ (n : ℕ). TookLine (line_of status) (only_counts n) behind held) e (took other) in
     (outside (λ path. only_counts 0) (only_counts 0) (only_counts 0) behind false held, refl, line, is)
 
-unread_is_not_done : (kind : ErrorKind) (status : Status) → IsUnread kind status → status ≢ Done
-unread_is_not_done kind status is = λ done.
-    let other : kind ≢ kinds.OutOfMemory = λ no_memory. let wanting = is.0 no_memory in absurd (cc (wanting, done)) in
-    let usage = is.1 other in
-    absurd (cc (usage, done))
+not_true : (b : Bool) → (b ≡ true → ⊥) → b ≡ false
+not_true false never = refl
+not_true true never = absurd (never refl)
+
+-- the status is none of an answer
+not_answered : (status other : Status) → status ≡ other → is_answer other ≡ false → is_answer status ≡ true → ⊥
+not_answered status other is none answer = let all = ap is_answer is in absurd (cc (all, none, answer))
+
+unread_is_no_answer : (kind : ErrorKind) (status : Status) → IsUnread kind status → is_answer status ≡ false
+unread_is_no_answer kind status is = not_true (is_answer status) (λ answer.
+    let other : kind ≢ kinds.OutOfMemory = λ no_memory. not_answered status OutOfMemory (is.0 no_memory) refl answer in
+    not_answered status Usage (is.1 other) refl answer)
 
 -- where the words were read
 read_with_words : (arguments : Arguments) (words : List (List ℕ)) (code : ℕ) → IfOk arguments (λ a. words ≡ words_of a) → EndsAsRun words code
@@ -52,15 +59,15 @@ none_without_arguments (Err e) code none = absurd none
 
 -- where no words are there, by the arguments
 read_as_none : (arguments : Arguments) (status : Status) (code : ℕ) → IfOk arguments (λ _. status ≡ OutOfMemory)
-    → (status ≢ Done → EndsWithLine status code) → IfOk arguments (λ a. EndsAsRun (words_of a) code)
+    → (is_answer status ≡ false → EndsWithLine status code) → IfOk arguments (λ a. EndsAsRun (words_of a) code)
 read_as_none (Ok a) status code is line =
-    inr (subst (λ (s : Status). EndsWithLine s code) is (line (λ done. absurd (cc (is, done)))))
+    inr (subst (λ (s : Status). EndsWithLine s code) is (line (ap is_answer is)))
 read_as_none (Err e) status code is line = tt
 
 unread_as_none : (arguments : Arguments) (status : Status) (code : ℕ) → IfErr arguments (λ e. IsUnread (error_kind e) status)
-    → (status ≢ Done → EndsWithLine status code) → IfErr arguments (λ e. EndsUnread (error_kind e) code)
+    → (is_answer status ≡ false → EndsWithLine status code) → IfErr arguments (λ e. EndsUnread (error_kind e) code)
 unread_as_none (Ok a) status code is line = tt
-unread_as_none (Err e) status code is line = (status, is, line (unread_is_not_done (error_kind e) status is))
+unread_as_none (Err e) status code is line = (status, is, line (unread_is_no_answer (error_kind e) status is))
 
 pub returns : goal.returns
 returns g c =
@@ -80,8 +87,8 @@ pub returns-in-Err : goal.returns-in-Err
 returns-in-Err g c =
     let status = c.in-Err.status in
     let code = exit_status c.from.result in
-    let line : status ≢ Done → EndsWithLine status code = λ not_done. ends_with_line status c.new-err.result.faults (only_counts c.report.new.err.faults) c.report.new.err.is_unfinished code
-    not_done c.new-err.ensures.faults c.report.ensures.line (c.from.ensures ∙ c.code.ensures) in
+    let line : is_answer status ≡ false → EndsWithLine status code = λ other. ends_with_line status c.new-err.result.faults (only_counts c.report.new.err.faults) c.report.new.err.is_unfinished code
+    other c.new-err.ensures.faults c.report.ensures.line (c.from.ensures ∙ c.code.ensures) in
     record {
       read = read_as_none c.args.arguments status code c.in-Err.ensures.read line;
       unread = unread_as_none c.args.arguments status code c.in-Err.ensures.unread line;

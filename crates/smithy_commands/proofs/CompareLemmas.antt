@@ -1,0 +1,233 @@
+-- What the status of `compare` says.
+use Rattle.std.proofs.Common.{◌≡◌, ◌≢◌, ◌⊎◌, ◌≤◌, ◌∙◌, inl, inr, ℕ, List, length, Bool, Some, None, Ok, Err, true, false, refl, sym, ap, subst, arith}
+use Rattle.smithy_shapes.specs.Table.{Table, IsStructure, kind_of, shape_place, declared_as}
+use Rattle.smithy_shapes.specs.Acceptance.{accepted, table_of}
+use Rattle.smithy_transcode.specs.declared.wire.TranscodeError.TheVariants as errors
+use Rattle.smithy_compare.specs.Compares.{Answer}
+use Rattle.smithy_compare.specs.declared.comparing.Compared.{Compared}
+use Rattle.smithy_compare.specs.declared.comparing.Compared.TheVariants as compared
+use Rattle.smithy_compare.specs.declared.comparing.CompareError.TheVariants.{First, Second}
+use Rattle.smithy_compare.specs.declared.comparing.CompareError.{CompareError}
+use Rattle.smithy_commands.specs.declared.status.Status.{Status}
+use Rattle.smithy_commands.specs.declared.status.Status.TheVariants.{Done, Usage, ReadFailed, WriteFailed, OutOfMemory, InvalidInput, TooDeep, TooWide, NotCarried, TableRefused, NoSuchShape, NotAStructure, TooLong, Differs, SecondInvalidInput, SecondTooDeep, SecondTooWide, SecondNotCarried}
+use Rattle.smithy_commands.specs.Compare.{Compare}
+use Rattle.smithy_commands.specs.Status.{is_answer, status_of_compared, status_of_comparison}
+use Rattle.smithy_commands.specs.Checks.{longest_table, longest_input, IsLoaded, IsTooLong, IsRoot, AfterTable, AfterRoot}
+use Rattle.smithy_commands.specs.CompareAnswer.{FilesTold, MetFault, AfterFirst, AfterBoth, Answers, answer_line, AfterComparing, RefusesBody, Refuses, Says, IsInOrder, CompareAnswer}
+use Rattle.smithy_commands.specs.Private.Comparisons.{IsFoundIn}
+use Rattle.smithy_outside.specs.Outside.{Shown, Outside, outside, MetNoFault, MetOneFault, Shows, Took, TookPrefix}
+use Rattle.smithy_outside.proofs.Faults.{has_failed, steady_meets_none}
+
+-- ---- a run that is all in order
+
+differs_alone : (found : Compared) → found ≢ compared.Same → Differs ≡ status_of_compared found
+differs_alone compared.Same other = absurd (other refl)
+differs_alone (compared.Differs path) other = refl
+
+module _ (c : Compare) (old new : Outside) (text first second : List ℕ) (table : Table) (root : ℕ) (o : IsInOrder c old new text first second table root) where
+  -- what was loaded is the table
+  accepted_there : (found : List ℕ) → IsLoaded longest_table found (old.files c.table_path) → table_of found ≡ accepted table
+  accepted_there found loaded = subst (λ (t : List ℕ). table_of t ≡ accepted table) (sym (loaded.whole text o.file)) o.accepted_as
+
+  of_table : (P : Table → Type 0) → AfterTable (old.files c.table_path) P → P table
+  of_table P after =
+      let is = accepted_there after.0 after.1 in
+      let told = after.2.1 in
+      let same : after.2.0 ≡ table = cc (is, told) in
+      subst P same after.2.2
+
+  of_root : (P : Table → ℕ → Type 0) → AfterRoot c.root_name (old.files c.table_path) P → P table root
+  of_root P after =
+      let there = of_table (λ (t : Table). (r : ℕ) × IsRoot c.root_name t r × P t r) after in
+      let named = there.1.named in
+      let is = o.is_root.named in
+      let same : there.0 ≡ root = cc (named, is) in
+      subst (λ (r : ℕ). P table r) same there.2
+
+  of_first : (P : Table → ℕ → List ℕ → Type 0) → AfterFirst c old.files P → P table root first
+  of_first P after =
+      let there = of_root (λ (t : Table) (r : ℕ). (b : List ℕ) × IsLoaded longest_input b (old.files c.first.path) × P t r b) after in
+      subst (λ (b : List ℕ). P table root b) (there.1.whole first o.first_file) there.2
+
+  of_both : (P : Table → ℕ → List ℕ → List ℕ → Type 0) → AfterBoth c old.files P → P table root first second
+  of_both P after =
+      let there = of_first (λ (t : Table) (r : ℕ) (a : List ℕ). (b : List ℕ) × IsLoaded longest_input b (old.files c.second.path) × P t r a b) after in
+      subst (λ (b : List ℕ). P table root first b) (there.1.whole second o.second_file) there.2
+
+  of_comparison : (P : Compared → List ℕ → Type 0) → AfterComparing c old.files P
+      → (found : Compared) × Answers c table root first second (Ok found) × P found (answer_line table root found)
+  of_comparison P after =
+      of_both (λ (t : Table) (r : ℕ) (a b : List ℕ). (found : Compared) × Answers c t r a b (Ok found) × P found (answer_line t r found)) after
+
+  of_refusal : (error : CompareError) → RefusesBody c old.files error → Answers c table root first second (Err error)
+  of_refusal error after = of_both (λ (t : Table) (r : ℕ) (a b : List ℕ). Answers c t r a b (Err error)) after
+
+  too_long : (limit : ℕ) (file : Shown) (bytes : List ℕ) → IsTooLong limit file → Shows file bytes → length bytes ≤ limit → ⊥
+  too_long limit file bytes long told within = let more = long.1 bytes told in absurd (omega (arith, more, within))
+
+  abbrev Ends : Status → Type 0
+  Ends status = (status ≡ OutOfMemory) ⊎ ((answer : Answer) × Answers c table root first second answer × (status ≡ status_of_comparison answer))
+
+  pub complete_of : (status : Status) → Says c old new status → Ends status
+  complete_of Done says =
+      let found = of_comparison (λ found line. (found ≡ compared.Same) × Took line old.out new.out) says in
+      inr (Ok found.0, found.1, sym (ap status_of_compared found.2.0))
+  complete_of Differs says =
+      let found = of_comparison (λ found line. (found ≢ compared.Same) × Took line old.out new.out) says in
+      inr (Ok found.0, found.1, differs_alone found.0 found.2.0)
+  complete_of WriteFailed says =
+      let found = of_comparison (λ found line. MetOneFault old.out new.out × TookPrefix line old.out new.out) says in
+      absurd (o.out_is_well (has_failed old.out new.out found.2.0))
+  complete_of OutOfMemory says = inl refl
+  complete_of ReadFailed (inl met) = absurd (o.file_is_well met.0)
+  complete_of ReadFailed (inr (inl after)) =
+      let met = of_root (λ t r. MetFault (old.files c.first.path) (new.files c.first.path)) after in absurd (o.first_is_well met.0)
+  complete_of ReadFailed (inr (inr after)) =
+      let met = of_first (λ t r b. MetFault (old.files c.second.path) (new.files c.second.path)) after in absurd (o.second_is_well met.0)
+  complete_of TooLong (inl long) = absurd (too_long longest_table (old.files c.table_path) text long o.file o.file_is_within)
+  complete_of TooLong (inr (inl after)) =
+      let long = of_root (λ t r. IsTooLong longest_input (old.files c.first.path)) after in
+      absurd (too_long longest_input (old.files c.first.path) first long o.first_file o.first_is_within)
+  complete_of TooLong (inr (inr after)) =
+      let long = of_first (λ t r b. IsTooLong longest_input (old.files c.second.path)) after in
+      absurd (too_long longest_input (old.files c.second.path) second long o.second_file o.second_is_within)
+  complete_of InvalidInput says = inr (Err (First errors.InvalidInput), of_refusal (First errors.InvalidInput) says, refl)
+  complete_of TooDeep says = inr (Err (First errors.TooDeep), of_refusal (First errors.TooDeep) says, refl)
+  complete_of TooWide says = inr (Err (First errors.TooWide), of_refusal (First errors.TooWide) says, refl)
+  complete_of NotCarried says = inr (Err (First errors.NotCarried), of_refusal (First errors.NotCarried) says, refl)
+  complete_of SecondInvalidInput says = inr (Err (Second errors.InvalidInput), of_refusal (Second errors.InvalidInput) says, refl)
+  complete_of SecondTooDeep says = inr (Err (Second errors.TooDeep), of_refusal (Second errors.TooDeep) says, refl)
+  complete_of SecondTooWide says = inr (Err (Second errors.TooWide), of_refusal (Second errors.TooWide) says, refl)
+  complete_of SecondNotCarried says = inr (Err (Second errors.NotCarried), of_refusal (Second errors.NotCarried) says, refl)
+  complete_of (TableRefused fault) says = let is = accepted_there says.0 says.1 in let told = says.2.2 in absurd (cc (is, told))
+  complete_of NoSuchShape says =
+      let none = of_table (λ (t : Table). declared_as t c.root_name ≡ None) says in let is = o.is_root.named in absurd (cc (none, is))
+  complete_of NotAStructure says =
+      let there = of_table (λ (t : Table). (r : ℕ) × (declared_as t c.root_name ≡ Some r) × ¬ IsStructure (kind_of t (shape_place r))) says in
+      let named = there.1 in
+      let is = o.is_root.named in
+      let same : root ≡ there.0 = cc (named, is) in
+      absurd (there.2 (subst (λ (r : ℕ). IsStructure (kind_of table (shape_place r))) same o.is_root.structure))
+  complete_of _ says = absurd says
+
+-- ---- a run over what is steady
+
+not_met : (a b : Shown) → a.is_steady ≡ true → MetFault a b → ⊥
+not_met a b steady met = let unsteady = met.1 in absurd (cc (steady, unsteady))
+
+steady_of : (c : Compare) (old new : Outside) → (old.files c.table_path).is_steady ≡ true → (old.files c.first.path).is_steady ≡ true
+    → (old.files c.second.path).is_steady ≡ true → old.out.is_steady ≡ true → (status : Status) → Says c old new status → (status ≢ ReadFailed) × (status ≢ WriteFailed)
+steady_of c old new table first second out status says = (
+  λ e. loads (subst (Says c old new) e says),
+  λ e. let wrote = subst (Says c old new) e says in steady_meets_none old.out new.out out wrote.2.2.2.2.2.2.0,
+) where
+  loads : Says c old new ReadFailed → ⊥
+  loads (inl met) = not_met (old.files c.table_path) (new.files c.table_path) table met
+  loads (inr (inl after)) = not_met (old.files c.first.path) (new.files c.first.path) first after.2.2.2
+  loads (inr (inr after)) = not_met (old.files c.second.path) (new.files c.second.path) second after.2.2.2.2
+
+-- ---- the answer
+
+refusal_says : (c : Compare) (old new : Outside) (status : Status) → Refuses c old.files new.files status → Says c old new status
+refusal_says c old new Done why = absurd why
+refusal_says c old new Differs why = absurd why
+refusal_says c old new WriteFailed why = absurd why
+refusal_says c old new _ why = why
+
+refusal_is_no_answer : (c : Compare) (old new : Outside) (status : Status) → Refuses c old.files new.files status → is_answer status ≡ true → ⊥
+refusal_is_no_answer c old new Done why answer = why
+refusal_is_no_answer c old new Differs why answer = why
+refusal_is_no_answer c old new _ why answer = cc
+
+-- what holds of what was found and of its line, if P does
+after_weaker : (c : Compare) (files : FilesTold) (P Q : Compared → List ℕ → Type 0) → ((found : Compared) (line : List ℕ) → P found line → Q found line)
+    → AfterComparing c files P → AfterComparing c files Q
+after_weaker c files P Q f after =
+    let table = after.2 in
+    let root = table.2 in
+    let first = root.2 in
+    let second = first.2 in
+    let found = second.2 in
+    (after.0, after.1, (table.0, table.1, (root.0, root.1, (first.0, first.1, (second.0, second.1, (found.0, found.1, f found.0 _ found.2))))))
+
+found_is_answer : (found : Compared) → is_answer (status_of_compared found) ≡ true
+found_is_answer compared.Same = refl
+found_is_answer (compared.Differs path) = refl
+
+same_alone : (found : Compared) → Done ≡ status_of_compared found → found ≡ compared.Same
+same_alone compared.Same is = refl
+same_alone (compared.Differs path) is = absurd (let e : Done ≡ Differs = is in cc)
+
+other_alone : (found : Compared) → Differs ≡ status_of_compared found → found ≢ compared.Same
+other_alone found is = λ same. absurd (let e : Differs ≡ Done = subst (λ (f : Compared). Differs ≡ status_of_compared f) same is in cc)
+
+module _ (c : Compare) (files files_behind : List ℕ → Shown) (input out out_behind err err_behind : Shown) (held held_behind err_held err_held_behind : Bool) where
+  abbrev before : Outside
+  before = outside files input out err held err_held
+
+  abbrev behind : Outside
+  behind = outside files_behind input out_behind err_behind held_behind err_held_behind
+
+  abbrev unwritten : Outside
+  unwritten = outside files_behind input out err_behind held err_held_behind
+
+  pub nothing_found : (status : Status) → Refuses c files files_behind status → CompareAnswer c before unwritten status
+  nothing_found status why = let says = refusal_says c before unwritten status why in record {
+    says = says;
+    input_is_untouched = refl;
+    complete = λ text first second table root o. complete_of c before unwritten text first second table root o status says;
+    steady_never_fails = λ table first second o. steady_of c before unwritten table first second o status says;
+    output = record {
+      nothing_is_held_back = λ answer. absurd (refusal_is_no_answer c before unwritten status why answer);
+      out_met_no_fault = λ other. (refl, refl);
+      out_is_untouched = λ a b. (refl, refl);
+    };
+  }
+
+  found_says : (status : Status) → AfterComparing c files (λ found text. (status ≡ status_of_compared found) × Took text out out_behind) → Says c before behind status
+  found_says Done told =
+      after_weaker c files (λ found text. (Done ≡ status_of_compared found) × Took text out out_behind) (λ found text. (found ≡ compared.Same) × Took text out out_behind)
+      (λ found text p. (same_alone found p.0, p.1)) told
+  found_says Differs told =
+      after_weaker c files (λ found text. (Differs ≡ status_of_compared found) × Took text out out_behind) (λ found text. (found ≢ compared.Same) × Took text out out_behind)
+      (λ found text p. (other_alone found p.0, p.1)) told
+  found_says _ told = let is = told.2.2.2.2.2.2.0 in let all = found_is_answer told.2.2.2.2.2.0 in absurd (cc (is, all))
+
+  module _ (status : Status) (line : List ℕ) (found : IsFoundIn c files status line) where
+    answered : is_answer status ≡ true
+    answered = let is = found.2.2.2.2.2.2.0 in ap is_answer is ∙ found_is_answer found.2.2.2.2.2.0
+
+    pub all_written : MetNoFault out out_behind → Took line out out_behind → held_behind ≡ false → CompareAnswer c before behind status
+    all_written well took finished =
+        let told = after_weaker c files (λ f text. (status ≡ status_of_compared f) × (line ≡ text)) (λ f text. (status ≡ status_of_compared f) × Took text out out_behind)
+        (λ f text p. (p.0, subst (λ (t : List ℕ). Took t out out_behind) p.1 took)) found in
+        let says = found_says status told in record {
+          says = says;
+          input_is_untouched = refl;
+          complete = λ text first second table root o. complete_of c before behind text first second table root o status says;
+          steady_never_fails = λ table first second o. steady_of c before behind table first second o status says;
+          output = record {
+            nothing_is_held_back = λ answer. finished;
+            out_met_no_fault = λ other. well;
+            out_is_untouched = λ other written. absurd (let all = answered in cc (all, other));
+          };
+        }
+
+    pub not_all_written : MetOneFault out out_behind → TookPrefix line out out_behind → CompareAnswer c before behind WriteFailed
+    not_all_written fault took =
+        let says : Says c before behind WriteFailed = after_weaker c files (λ f text. (status ≡ status_of_compared f) × (line ≡ text))
+        (λ f text. MetOneFault out out_behind × TookPrefix text out out_behind)
+        (λ f text p. (fault, subst (λ (t : List ℕ). TookPrefix t out out_behind) p.1 took)) found in record {
+          says = says;
+          input_is_untouched = refl;
+          complete = λ text first second table root o. complete_of c before behind text first second table root o WriteFailed says;
+          steady_never_fails = λ table first second o. steady_of c before behind table first second o WriteFailed says;
+          output = record {
+            nothing_is_held_back = λ answer. absurd (let f : false ≡ true = answer in cc);
+            out_met_no_fault = λ other. absurd (other refl);
+            out_is_untouched = λ a other. absurd (other refl);
+          };
+        }
+
+pub compare_is_no_usage : (c : Compare) (old new : Outside) (status : Status) → CompareAnswer c old new status → status ≢ Usage
+compare_is_no_usage c old new status answer = λ e. absurd (subst (Says c old new) e answer.says)
