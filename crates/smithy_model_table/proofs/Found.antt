@@ -1,12 +1,15 @@
 -- Names and places of ids.
-use Rattle.std.proofs.Common.{◌≡◌, ◌≢◌, ◌<◌, ◌≤◌, ◌+◌, ◌∙◌, ℕ, zero, suc, List, [], ◌∷◌, ◌++◌, Bor, length, map, take, drop, take_all, get_or, slice_get, bytes_eq, Option, Some, None, refl, sym, ap, subst, arith}
+use Rattle.std.proofs.Common.{◌≡◌, ◌≢◌, inl, inr, ◌<◌, ◌≤◌, ◌+◌, ◌∙◌, ℕ, zero, suc, List, [], ◌∷◌, ◌++◌, Bor, length, map, take, drop, take_all, get_or, slice_get, bytes_eq, Option, Some, None, refl, sym, ap, subst, arith}
 use Rattle.std.specs.Prelude.{Bool, true, false, ◌||◌, not, cond, MatchOption, is_some}
 use Rattle.std.specs.List.{list_any, filter, position_or_len, after_first}
 use Rattle.std.proofs.lemmas.List.Elements.{filter-append}
 use Rattle.std.proofs.lemmas.List.{take_more, map-append, length-append, take-append-drop}
 use Rattle.std.proofs.lemmas.Slice.Eq.{bytes_eq-Decides}
+use Rattle.std.proofs.lemmas.Option.{none-some}
+use Rattle.smithy_model.specs.Model.{Shape, Operation, Model}
+use Rattle.smithy_model.specs.Reading.{ids_of}
 use Rattle.smithy_model_table.specs.Naming.{is_number_sign, name_in}
-use Rattle.smithy_model_table.specs.Wanted.{is_named, IsOnly, HasNotOne}
+use Rattle.smithy_model_table.specs.Wanted.{is_named, IsOnly, IsIdNamed, HasNotOne, operation_ids}
 
 none_by : (b : Bool) (n m : ℕ) (rest : Bool) → (n ≡ m → rest ≡ false) → cond (not b) (1 + n) 0 ≡ suc m → (b || rest) ≡ false
 none_by true n m rest behind is = absurd (omega (arith, is))
@@ -133,3 +136,16 @@ pub found_first : (name : List ℕ) (ids : List (Bor (List ℕ))) (i : ℕ) (d :
     → IsSoFar (map (λ (t : Bor (List ℕ)). t.now) ids) (map (λ (t : Bor (List ℕ)). t.now) (take (i + 1) ids)) name (Some i)
 found_first name ids i d None within one none so_far = first_found name ids i (get_or ids i d) within (same_at ids i d within) one so_far
 found_first name ids i d (Some number) within one none so_far = absurd (cc (none))
+
+there_by : {X : Type 0} (f : X → List ℕ) (xs : List X) (n : ℕ) (id : List ℕ) → slice_get (map f xs) n ≡ Some id → slice_get xs n ≡ None → ⊥
+there_by f [] n id at none = none-some id at
+there_by f (x ∷ xs) zero id at none = none-some x (sym none)
+there_by f (x ∷ xs) (suc n) id at none = there_by f xs n id at none
+
+-- what was found by its id or its name is there
+pub shape_there : (m : Model) (name : List ℕ) (number : ℕ) → IsIdNamed (ids_of m.shapes) name number → slice_get m.shapes number ≡ None → ⊥
+shape_there m name number (inl at) none = there_by (λ (s : Shape). s.id) m.shapes number name at none
+shape_there m name number (inr (id, at, only)) none = there_by (λ (s : Shape). s.id) m.shapes number id at none
+
+pub operation_there : (m : Model) (name : List ℕ) (number : ℕ) → IsOnly (operation_ids m) name number → slice_get m.operations number ≡ None → ⊥
+operation_there m name number (id, at, only) none = there_by (λ (o : Operation). o.id) m.operations number id at none

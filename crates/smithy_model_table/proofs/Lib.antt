@@ -6,3 +6,4 @@ mod Roots
 mod Shared
 mod Visited
 mod Reachable
+mod Refused

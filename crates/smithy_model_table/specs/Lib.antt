@@ -8,8 +8,10 @@ pub mod Outcomes
 pub mod Wanted
 pub mod Reaching
 pub mod ModelTable
+pub mod Refusals
 -- what the types stand for
 pub mod Views
 -- words for private functions
+pub mod Finding
 pub mod Marking
 pub mod Visiting

@@ -11,10 +11,6 @@ use Rattle.smithy_model_table.specs.declared.left.Reason.TheVariants as reasons
 use Rattle.smithy_model_table.specs.declared.left.Left as kept_left
 use Rattle.smithy_model_table.specs.declared.outcomes.Outcome as kept_outcome
 use Rattle.smithy_model_table.specs.declared.outcomes.Outcome.TheVariants as outcomes
-use Rattle.smithy_shapes.specs.declared.fault.TableFault.{TableFault}
-use Rattle.smithy_shapes.specs.declared.fault.TableFault.TheVariants as table_faults
-use Rattle.smithy_model_table.specs.declared.fault.WantedFault.{WantedFault}
-use Rattle.smithy_model_table.specs.declared.fault.WantedFault.TheVariants as faults
 use Rattle.smithy_shapes.specs.DeclViews.{member_decl_of}
 use Rattle.smithy_model_table.specs.Outcomes.{Outcome, declared, left_out, LeftOut}
 use Rattle.smithy_model_table.specs.Leaving.{Reason, float, event_stream, outside, clash}
@@ -38,11 +34,6 @@ left_view l = record { shape = l.shape.now; member = l.member.now; reason = reas
 abbrev pub outcome_view : List ℕ → kept_outcome.Outcome → Outcome
 outcome_view name (outcomes.Declared d) = declared (member_decl_of d)
 outcome_view name (outcomes.Left reason) = left_out name (reason_view reason)
-
--- what a fault of the table is
-abbrev pub fault_of_table : TableFault → WantedFault
-fault_of_table table_faults.NoMemory = faults.NoMemory
-fault_of_table fault = faults.TableRefused fault
 
 abbrev pub wanted_view : kept_wanted.Wanted → Wanted
 wanted_view (wanteds.Input name) = input name.now

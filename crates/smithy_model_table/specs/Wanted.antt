@@ -8,7 +8,7 @@ use Rattle.smithy_model.specs.Reading.{ids_of}
 use Rattle.smithy_model_table.specs.declared.fault.WantedFault.{WantedFault}
 use Rattle.smithy_model_table.specs.declared.fault.WantedFault.TheVariants as faults
 use Rattle.smithy_model_table.specs.Naming.{name_in, is_declared}
-use Rattle.smithy_model_table.specs.Leaving.{is_marked}
+use Rattle.smithy_model_table.specs.Leaving.{is_marked, AreFewest}
 
 -- the input or the output of an operation, a shape, or each operation of the service
 pub data Wanted : Type 0 where
@@ -103,6 +103,26 @@ AreRoots m marks (output name) roots =
     (o : Operation) × (id : List ℕ) × (root : ℕ) × IsOperationNamed m name o × (o.output ≡ Some id) × IsBody m id root × (roots ≡ root ∷ [])
 AreRoots m marks (shape name) roots = (root : ℕ) × IsDeclared m marks name root × (roots ≡ root ∷ [])
 AreRoots m marks service roots = AreBodies m (flat_map structure_ids m.operations) roots
+
+-- an operation gives no structure here, or one that has no body
+abbrev pub GivesNoBody : Model → Option (List ℕ) → Type 0
+GivesNoBody m given = (given ≡ None) ⊎ IsSomeAnd given (HasNoBody m)
+
+-- no table declares the shape of this number: it is a scalar, or nothing of it can stand in one
+abbrev pub IsUndeclared : Model → List Bool → ℕ → Type 0
+IsUndeclared m marks number =
+    (s : Shape) × (slice_get m.shapes number ≡ Some s) × ((is_declared s.kind ≡ false) ⊎ (is_marked marks number ≡ true))
+
+-- no declaration stands for what is wanted, by the marks of the shapes of which nothing can stand in a table
+abbrev pub HasNoDeclaration : Model → List Bool → Wanted → Type 0
+HasNoDeclaration m marks (input name) = (o : Operation) × IsOperationNamed m name o × GivesNoBody m o.input
+HasNoDeclaration m marks (output name) = (o : Operation) × IsOperationNamed m name o × GivesNoBody m o.output
+HasNoDeclaration m marks (shape name) =
+    (number : ℕ) × IsIdNamed (ids_of m.shapes) name number × IsUndeclared m marks number
+HasNoDeclaration m marks service = ⊥
+
+abbrev pub LacksDeclaration : Model → Wanted → Type 0
+LacksDeclaration m w = (marks : List Bool) × AreFewest m marks × HasNoDeclaration m marks w
 
 -- What is wanted has no name in the model, or not that of one alone. A structure of an operation may be missing, too.
 abbrev pub LacksName : Model → Wanted → Type 0

@@ -4,6 +4,7 @@ ghost use Rattle.std.specs.List.{find};
 ghost use Rattle.smithy_model.specs.Model as kept;
 ghost use Rattle.smithy_model.specs.Reading.{ids_of};
 ghost use Rattle.smithy_model.specs.Views.{model_view, operation_view, member_view, kind_view};
+ghost use Rattle.smithy_model_table.specs.Finding.{IsOfSearch};
 ghost use Rattle.smithy_model_table.specs.Wanted.{members_of, structure_at, body_of, IsBody, RefusesBody, structure_ids, AreBodies};
 
 use crate::fault::WantedFault;
@@ -63,6 +64,7 @@ pub(crate) fn body(model: &Model<'_>, ids: &[&str], id: &str) -> Result<usize, W
     requires { map (λ t. t.now) ids.now ≡ ids_of (model_view model.now).shapes }
     ensures found { IfOk result (IsBody (model_view model.now) id.now) }
     ensures refused { IfErr result (RefusesBody (model_view model.now) id.now) }
+    ensures of_search { IfErr result IsOfSearch }
 {
     let Some(number) = place_of(ids, id) else {
         return Err(WantedFault::NoSuchName);

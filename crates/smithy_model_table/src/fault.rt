@@ -1,5 +1,6 @@
 //! Why a part of a model is no table.
 use smithy_shapes::TableFault;
+use smithy_table_text::TextFault;
 use std::alloc::{AllocError, AllocFailed};
 
 /// Why a part of a model is no table.
@@ -41,16 +42,18 @@ impl<T: Drop> From<AllocFailed<T>> for WantedFault {
     }
 }
 
-impl From<TableFault> for WantedFault {
+impl From<TextFault> for WantedFault {
     ghost use Rattle.std.specs.Prelude.{◌≡◌};
-    ghost use Rattle.smithy_model_table.specs.Views.{fault_of_table};
+    ghost use Rattle.smithy_model_table.specs.Refusals.{fault_of_text};
 
-    ghost from_gives = { λ fault wanted. wanted ≡ fault_of_table fault };
+    ghost from_gives = { λ fault wanted. wanted ≡ fault_of_text fault };
 
-    fn from(fault: TableFault) -> WantedFault {
+    fn from(fault: TextFault) -> WantedFault {
         match fault {
-            TableFault::NoMemory => WantedFault::NoMemory,
-            fault => WantedFault::TableRefused(fault),
+            TextFault::TooLong => WantedFault::TooLong,
+            TextFault::Unwritable => WantedFault::Unwritable,
+            TextFault::Refused(fault) => WantedFault::TableRefused(fault),
+            TextFault::NoMemory => WantedFault::NoMemory,
         }
     }
 }

@@ -8,7 +8,6 @@ mod bindings;
 mod bodies;
 mod carried;
 mod declaring;
-mod equal;
 mod fault;
 mod finding;
 mod left;
@@ -20,7 +19,6 @@ mod reached;
 mod roles;
 mod table;
 mod wanted;
-mod writing;
 
 pub use fault::WantedFault;
 pub use left::{Left, Reason};

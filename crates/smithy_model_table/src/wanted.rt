@@ -1,12 +1,13 @@
 //! The shapes that a table is wanted for.
-ghost use Rattle.std.specs.Prelude.{◌≡◌, List, ℕ, [], ◌∷◌, Some, map, option_map, slice_get, IfOk, IfErr};
+ghost use Rattle.std.specs.Prelude.{◌≡◌, ◌≢◌, List, ℕ, [], ◌∷◌, Some, map, option_map, slice_get, IfOk, IfErr};
 ghost use Rattle.std.specs.Option.{IsSomeAnd};
 ghost use Rattle.smithy_model.specs.Reading.{ids_of};
 ghost use Rattle.smithy_model.specs.Views.{model_view, operation_view, kind_view};
 ghost use Rattle.smithy_model_table.specs.declared.fault.WantedFault.TheVariants as faults;
 ghost use Rattle.smithy_model_table.specs.Views.{wanted_view};
 ghost use Rattle.smithy_model_table.specs.Naming.{is_declared};
-ghost use Rattle.smithy_model_table.specs.Wanted.{shape, IsIdNamed, IsDeclared, IsOperationNamed, HasNotOne, IsUnknown, operation_ids, IsBody, AreRoots, LacksName};
+ghost use Rattle.smithy_model_table.specs.Finding.{IsOfSearch};
+ghost use Rattle.smithy_model_table.specs.Wanted.{shape, IsIdNamed, IsDeclared, IsOperationNamed, HasNotOne, IsUnknown, operation_ids, IsBody, AreRoots, LacksName, GivesNoBody, HasNoDeclaration};
 
 use crate::bodies::{body, service_roots};
 use crate::carried::is_marked;
@@ -45,7 +46,8 @@ pub(crate) fn is_declared(kind: &Kind<'_>) -> bool
 // The number of the shape of this id, or of the only one of this name. `ids` are those of the model's shapes.
 fn find_shape(ids: &[&str], name: &str) -> Result<usize, WantedFault>
     ensures found { IfOk result (IsIdNamed (map (λ t. t.now) ids.now) name.now) }
-    ensures refused { IfErr result (λ _. IsUnknown (map (λ t. t.now) ids.now) name.now × HasNotOne (map (λ t. t.now) ids.now) name.now) }
+    ensures refused { IfErr result (λ fault. (fault ≡ faults.NoSuchName) × IsUnknown (map (λ t. t.now) ids.now) name.now × HasNotOne (map (λ t. t.now) ids.now) name.now) }
+    ensures of_search { IfErr result IsOfSearch }
 {
     if let Some(number) = place_of(ids, name) {
         return Ok(number);
@@ -66,6 +68,8 @@ fn find_declared(
     requires { map (λ t. t.now) ids.now ≡ ids_of (model_view model.now).shapes }
     ensures found { IfOk result (IsDeclared (model_view model.now) marks.now name.now) }
     ensures lacks { IfErr result (λ fault. fault ≡ faults.NoSuchName → LacksName (model_view model.now) (shape name.now)) }
+    ensures undeclared { IfErr result (λ fault. fault ≡ faults.NoDeclaration → HasNoDeclaration (model_view model.now) marks.now (shape name.now)) }
+    ensures of_search { IfErr result IsOfSearch }
 {
     let number = find_shape(ids, name)?;
     let Some(shape) = shape_at(model, number) else {
@@ -95,6 +99,8 @@ fn find_operation<'m, 'a>(
 ) -> Result<&'m Operation<'a>, WantedFault>
     ensures found { IfOk result (λ o. IsOperationNamed (model_view model.now) name.now (operation_view o.now)) }
     ensures lacks { IfErr result (λ fault. fault ≡ faults.NoSuchName → HasNotOne (operation_ids (model_view model.now)) name.now) }
+    ensures named { IfErr result (λ fault. fault ≢ faults.NoDeclaration) }
+    ensures of_search { IfErr result IsOfSearch }
 {
     let ids = operation_ids(alloc, model)?;
     let Some(number) = place_of_only(&ids, name) else {
@@ -111,6 +117,8 @@ fn body_if(model: &Model<'_>, ids: &[&str], id: Option<&str>) -> Result<usize, W
     requires { map (λ t. t.now) ids.now ≡ ids_of (model_view model.now).shapes }
     ensures found { IfOk result (λ root. (given : List ℕ) × (option_map (λ t. t.now) id.entry ≡ Some given) × IsBody (model_view model.now) given root) }
     ensures lacks { IfErr result (λ fault. fault ≡ faults.NoSuchName → IsSomeAnd (option_map (λ t. t.now) id.entry) (IsUnknown (ids_of (model_view model.now).shapes))) }
+    ensures undeclared { IfErr result (λ fault. fault ≡ faults.NoDeclaration → GivesNoBody (model_view model.now) (option_map (λ t. t.now) id.entry)) }
+    ensures of_search { IfErr result IsOfSearch }
 {
     match id {
         Some(id) => body(model, ids, id),
@@ -136,6 +144,8 @@ pub(crate) fn roots_of(
 ) -> Result<Vec<usize>, WantedFault>
     ensures roots { IfOk result (λ roots. AreRoots (model_view model.now) marks.now (wanted_view wanted.entry) roots.items) }
     ensures lacks { IfErr result (λ fault. fault ≡ faults.NoSuchName → LacksName (model_view model.now) (wanted_view wanted.entry)) }
+    ensures undeclared { IfErr result (λ fault. fault ≡ faults.NoDeclaration → HasNoDeclaration (model_view model.now) marks.now (wanted_view wanted.entry)) }
+    ensures of_search { IfErr result IsOfSearch }
 {
     let ids = shape_ids(alloc, model)?;
     match wanted {

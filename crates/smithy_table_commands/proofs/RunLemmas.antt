@@ -7,7 +7,8 @@ use Rattle.smithy_model_table.specs.declared.fault.WantedFault.TheVariants as wa
 use Rattle.smithy_model.specs.Model.{Model}
 use Rattle.smithy_model.specs.Reading.{IsModelText}
 use Rattle.smithy_model.specs.Faults.{RefusesText}
-use Rattle.smithy_model_table.specs.Wanted.{Wanted, LacksName}
+use Rattle.smithy_model_table.specs.Wanted.{Wanted}
+use Rattle.smithy_model_table.specs.Refusals.{RefusesWanted}
 use Rattle.smithy_outside.specs.Outside.{Shown, TookLine}
 use Rattle.smithy_table_commands.specs.declared.status.Status as kept
 use Rattle.smithy_table_commands.specs.declared.status.Status.TheVariants as statuses
@@ -27,13 +28,13 @@ model_refused text w (model_faults.Applied id) one = one
 model_refused text w model_faults.NoMemory one = tt
 
 -- the model has no such table
-pub table_refused : (text : List ℕ) (w : Wanted) (fault : WantedFault) → (m : Model) × IsModelText text m × (fault ≡ wanted_faults.NoSuchName → LacksName m w)
+pub table_refused : (text : List ℕ) (w : Wanted) (fault : WantedFault) → (m : Model) × IsModelText text m × RefusesWanted m w fault
     → Refuses text w (status_of_wanted_fault fault)
-table_refused text w wanted_faults.NoSuchName is = (is.0, is.1, is.2 refl)
-table_refused text w wanted_faults.NoDeclaration is = (is.0, is.1)
-table_refused text w wanted_faults.TooLong is = (is.0, is.1)
-table_refused text w (wanted_faults.TableRefused fault) is = (is.0, is.1)
-table_refused text w wanted_faults.Unwritable is = (is.0, is.1)
+table_refused text w wanted_faults.NoSuchName is = is
+table_refused text w wanted_faults.NoDeclaration is = is
+table_refused text w wanted_faults.TooLong is = is
+table_refused text w (wanted_faults.TableRefused fault) is = is
+table_refused text w wanted_faults.Unwritable is = is
 table_refused text w wanted_faults.NoMemory is = tt
 
 -- a refusal isn't the status of a table that is written

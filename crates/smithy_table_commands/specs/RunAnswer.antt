@@ -7,7 +7,10 @@ use Rattle.smithy_model.specs.Reading.{IsModelText}
 use Rattle.smithy_model.specs.Faults.{RefusesText}
 use Rattle.smithy_model_table.specs.Leaving.{Reason, outside}
 use Rattle.smithy_model_table.specs.Outcomes.{LeftOut as Left}
-use Rattle.smithy_model_table.specs.Wanted.{Wanted, LacksName}
+use Rattle.smithy_model_table.specs.declared.fault.WantedFault.{WantedFault}
+use Rattle.smithy_model_table.specs.declared.fault.WantedFault.TheVariants as wanted_faults
+use Rattle.smithy_model_table.specs.Wanted.{Wanted}
+use Rattle.smithy_model_table.specs.Refusals.{RefusesWanted}
 use Rattle.smithy_model_table.specs.ModelTable.{IsTableOf}
 use Rattle.smithy_outside.specs.Outside.{Shown, missing, MetOneFault, MetNoFault, IsWhole, IsLonger, Took, TookPrefix, TookLine}
 use Rattle.smithy_table_commands.specs.declared.status.Status.{Status}
@@ -32,12 +35,11 @@ FailsToLoad old new TooLong = (old.content ≢ missing) × IsLonger longest_mode
 FailsToLoad old new OutOfMemory = Unit {0}
 FailsToLoad old new _ = ⊥
 
--- the text is a model
-abbrev pub IsModel : List ℕ → Type 0
-IsModel text = (m : Model) × IsModelText text m
+-- the text is a model, and what is wanted of it has no table, by this cause
+abbrev pub RefusesTable : List ℕ → Wanted → WantedFault → Type 0
+RefusesTable text wanted fault = (m : Model) × IsModelText text m × RefusesWanted m wanted fault
 
--- Why there is no table: the text is no model, by this cause, or it is one, and what is wanted of it has no table that is accepted. Of the
--- latter's causes only one is told: the model lacks the name.
+-- why there is no table
 abbrev pub Refuses : List ℕ → Wanted → Status → Type 0
 Refuses text wanted Done = ⊥
 Refuses text wanted Usage = ⊥
@@ -52,11 +54,11 @@ Refuses text wanted (BadShape id) = RefusesText text (faults.BadShape id)
 Refuses text wanted (UnknownTarget id) = RefusesText text (faults.UnknownTarget id)
 Refuses text wanted (BadMixin id) = RefusesText text (faults.BadMixin id)
 Refuses text wanted (Applied id) = RefusesText text (faults.Applied id)
-Refuses text wanted NoSuchName = (m : Model) × IsModelText text m × LacksName m wanted
-Refuses text wanted NoDeclaration = IsModel text
-Refuses text wanted TooLong = IsModel text
-Refuses text wanted (TableRefused fault) = IsModel text
-Refuses text wanted Unwritable = IsModel text
+Refuses text wanted NoSuchName = RefusesTable text wanted wanted_faults.NoSuchName
+Refuses text wanted NoDeclaration = RefusesTable text wanted wanted_faults.NoDeclaration
+Refuses text wanted TooLong = RefusesTable text wanted wanted_faults.TooLong
+Refuses text wanted (TableRefused fault) = RefusesTable text wanted (wanted_faults.TableRefused fault)
+Refuses text wanted Unwritable = RefusesTable text wanted wanted_faults.Unwritable
 
 -- a body may have such a member: only one that travels outside of it is in none
 abbrev pub is_lost : Reason → Bool

@@ -16,4 +16,4 @@ pub returns-in_err-table-clause-refused : goal.returns-in_err-table-clause-refus
 returns-in_err-table-clause-refused c =
     let p = err_from_is_err_and c.from_residual-in_err-table.result c.from_residual-in_err-table.ensures.1 in
     rw (p.1, p.2) (table_refused c.args.text.now (wanted_view c.args.wanted) c.in_err-table.field-0.0
-    (model_view c.in_ok-model.model, c.in_ok-model.ensures.read, c.in_err-table.ensures.lacks))
+    (model_view c.in_ok-model.model, c.in_ok-model.ensures.read, c.in_err-table.ensures.refused))

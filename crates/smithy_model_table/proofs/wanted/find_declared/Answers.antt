@@ -1,0 +1,10 @@
+use Rattle.std.proofs.Common.{List, ℕ, sym, subst}
+use Rattle.smithy_model.specs.Views.{model_view}
+use Rattle.smithy_model_table.specs.Wanted.{IsIdNamed}
+use Rattle.smithy_model_table.proofs.Found.{shape_there}
+use Rattle.smithy_model_table.proofs.wanted.find_declared.Goals as goal
+
+pub returns-in_default-clause-undeclared : goal.returns-in_default-clause-undeclared
+returns-in_default-clause-undeclared c =
+    let named = subst (λ (ids : List (List ℕ)). IsIdNamed ids c.args.name.now c.in_ok-number.number) c.requires c.in_ok-number.ensures.found in
+    λ same. absurd (shape_there (model_view c.args.model.now) c.args.name.now c.in_ok-number.number named (sym c.in_default.ensures))

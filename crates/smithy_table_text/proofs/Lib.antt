@@ -1,0 +1,3 @@
+-- what the proofs of functions cite
+mod Sameness
+mod Refused

@@ -1,0 +1,5 @@
+-- to be believed, in this order
+pub mod TableLines
+pub mod Writable
+-- words for private functions
+pub mod Comparing
