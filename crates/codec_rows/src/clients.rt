@@ -118,7 +118,8 @@ pub fn answers(
     let input = row.bytes("input").unwrap_or(b"");
     match row.text("from") {
         Some("json") => {
-            let mut source = JsonCodec::strict(false).create_deserializer(alloc, input);
+            let codec = JsonCodec::strict(false);
+            let mut source = codec.create_deserializer(alloc, input);
             read_and_written(alloc, shapes, name, &mut source)
         }
         Some("cbor") => {

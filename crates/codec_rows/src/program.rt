@@ -2,7 +2,7 @@
 
 use crate::answers::refused;
 use crate::places::shapes_of;
-use crate::{clients, reading, writing};
+use crate::{clients, json_settings, reading, writing};
 use smithy_rows::{Field, Program, Row, Rows};
 use std::alloc::{AllocError, Global};
 
@@ -24,11 +24,15 @@ impl Program for Codecs {
             "value" | "done" | "position" | "is_null" => true,
             "size" | "count" | "entry" => true,
             "json" | "cbor" | "query" => true,
+            "discriminator" | "protocol" | "form" | "kept" => true,
             _ => is_met(word),
         }
     }
 
     fn answer(&self, alloc: Global, rows: &Rows, row: &Row) -> Result<Vec<Field>, AllocError> {
+        if row.bytes("settings").is_some() {
+            return json_settings::answers(alloc, row);
+        }
         let Some(shapes) = shapes_of(alloc, rows, row) else {
             return refused(alloc, "no such table");
         };

@@ -2,6 +2,7 @@
 
 use crate::answers::{push_refusal, refused};
 use crate::consumers::consume_call;
+use crate::named::read_named;
 use crate::reads::{is_call, read_call};
 use crate::settings::cbor_settings;
 use crate::sized::{is_sized_call, sized_call};
@@ -11,30 +12,30 @@ use smithy_rows::{Field, Row};
 use smithy_schema::{ShapeDeserializer, Shapes};
 use std::alloc::{AllocError, Global};
 
-// Makes the calls of a row one after another.
-fn read<R: ShapeDeserializer>(
+// Makes the call of a line, where it is one.
+fn read_line<R: ShapeDeserializer>(
     alloc: Global,
     shapes: &Shapes,
-    row: &Row,
     source: &mut R,
-) -> Result<Vec<Field>, AllocError> {
-    let mut answers = Vec::new(alloc);
-    for field in &row.fields {
-        let word = field.word.as_str();
-        let count = answers.len();
-        if is_sized_call(word) {
-            let answer = sized_call(alloc, shapes, source, word, &field.value, &mut answers);
-            push_refusal(alloc, &mut answers, answer, count)?;
-        } else if word == "consume" {
-            let answer = consume_call(alloc, shapes, source, &field.value, &mut answers);
-            push_refusal(alloc, &mut answers, answer, count)?;
-        } else if is_call(word) {
-            let answer = read_call(alloc, shapes, source, word, &field.value, &mut answers);
-            push_refusal(alloc, &mut answers, answer, count)?;
-        }
+    field: &Field,
+    answers: &mut Vec<Field>,
+) -> Result<(), AllocError> {
+    let word = field.word.as_str();
+    let count = answers.len();
+    if is_sized_call(word) {
+        let answer = sized_call(alloc, shapes, source, word, &field.value, answers);
+        push_refusal(alloc, answers, answer, count)?;
+    } else if word == "consume" {
+        let answer = consume_call(alloc, shapes, source, &field.value, answers);
+        push_refusal(alloc, answers, answer, count)?;
+    } else if is_call(word) {
+        let answer = read_call(alloc, shapes, source, word, &field.value, answers);
+        push_refusal(alloc, answers, answer, count)?;
     }
-    Ok(answers)
+    Ok(())
 }
+
+// Makes the calls of a row one after another, of which JSON has one of its own.
 
 fn json_read(
     alloc: Global,
@@ -43,14 +44,30 @@ fn json_read(
     use_json_name: bool,
 ) -> Result<Vec<Field>, AllocError> {
     let input = row.bytes("input").unwrap_or(b"");
-    let mut source = JsonCodec::strict(use_json_name).create_deserializer(alloc, input);
-    read(alloc, shapes, row, &mut source)
+    let codec = JsonCodec::strict(use_json_name);
+    let namespace = row.text("namespace");
+    let mut source = codec.create_deserializer_with_namespace(alloc, input, namespace);
+    let mut answers = Vec::new(alloc);
+    for field in &row.fields {
+        if field.word.as_str() == "read_discriminated_document" {
+            let count = answers.len();
+            let answer = read_named(alloc, &mut source, &mut answers);
+            push_refusal(alloc, &mut answers, Some(answer), count)?;
+        } else {
+            read_line(alloc, shapes, &mut source, field, &mut answers)?;
+        }
+    }
+    Ok(answers)
 }
 
 fn cbor_read(alloc: Global, shapes: &Shapes, row: &Row) -> Result<Vec<Field>, AllocError> {
     let input = row.bytes("input").unwrap_or(b"");
     let mut source = CborCodec::new(cbor_settings(row)).create_deserializer(alloc, input);
-    read(alloc, shapes, row, &mut source)
+    let mut answers = Vec::new(alloc);
+    for field in &row.fields {
+        read_line(alloc, shapes, &mut source, field, &mut answers)?;
+    }
+    Ok(answers)
 }
 
 /// What the calls on a reader of this wire are answered with.

@@ -151,9 +151,10 @@ fn big_decimal<S: ShapeSerializer>(
     Some(sink.write_big_decimal(place, &number))
 }
 
-// The document of a JSON text.
-fn document_of(alloc: Global, place: &Schema<'_>, text: &[u8]) -> Option<Document> {
-    let mut source = JsonCodec::strict(false).create_deserializer(alloc, text);
+/// The document of a JSON text.
+pub fn document_of(alloc: Global, place: &Schema<'_>, text: &[u8]) -> Option<Document> {
+    let codec = JsonCodec::strict(false);
+    let mut source = codec.create_deserializer(alloc, text);
     source.read_document(place).ok()
 }
 

@@ -1,14 +1,49 @@
 //! Rows of calls on a serializer.
 
 use crate::answers::{push, push_refusal, push_shown, refused};
+use crate::named::write_named;
 use crate::settings::cbor_settings;
 use crate::writes::{is_call, write_call};
 use smithy_cbor_codec::CborCodec;
 use smithy_json_codec::JsonCodec;
 use smithy_query_codec::QueryShapeSerializer;
 use smithy_rows::{Field, Row};
-use smithy_schema::{FinishSerializer, Shapes};
+use smithy_schema::{FinishSerializer, ShapeSerializer, Shapes};
 use std::alloc::{AllocError, Global};
+
+// Makes the call of a line, where it is one.
+fn write_line<S: ShapeSerializer>(
+    alloc: Global,
+    shapes: &Shapes,
+    sink: &mut S,
+    field: &Field,
+    answers: &mut Vec<Field>,
+) -> Result<(), AllocError> {
+    let word = field.word.as_str();
+    if is_call(word) {
+        let answer = write_call(alloc, shapes, sink, word, &field.value);
+        let count = answers.len();
+        push_refusal(alloc, answers, answer, count)?;
+    }
+    Ok(())
+}
+
+// Asks for the body where the row does, behind the answers of its calls.
+fn finished<S: FinishSerializer + Drop>(
+    alloc: Global,
+    row: &Row,
+    sink: S,
+    answers: Vec<Field>,
+) -> Result<Vec<Field>, AllocError> {
+    let mut answers = answers;
+    if row.bytes("finish").is_some() {
+        match sink.finish() {
+            Ok(body) => push(alloc, &mut answers, "body", &body)?,
+            Err(error) => push_shown(alloc, &mut answers, "refused", error)?,
+        }
+    }
+    Ok(answers)
+}
 
 // Makes the calls of a row one after another, and then asks for the body where the row does.
 fn written<S: FinishSerializer + Drop>(
@@ -20,22 +55,12 @@ fn written<S: FinishSerializer + Drop>(
     let mut sink = serializer;
     let mut answers = Vec::new(alloc);
     for field in &row.fields {
-        let word = field.word.as_str();
-        if is_call(word) {
-            let answer = write_call(alloc, shapes, &mut sink, word, &field.value);
-            let count = answers.len();
-            push_refusal(alloc, &mut answers, answer, count)?;
-        }
+        write_line(alloc, shapes, &mut sink, field, &mut answers)?;
     }
-    if row.bytes("finish").is_some() {
-        match sink.finish() {
-            Ok(body) => push(alloc, &mut answers, "body", &body)?,
-            Err(error) => push_shown(alloc, &mut answers, "refused", error)?,
-        }
-    }
-    Ok(answers)
+    finished(alloc, row, sink, answers)
 }
 
+// The same in JSON, which has a call of its own.
 fn json_written(
     alloc: Global,
     shapes: &Shapes,
@@ -43,7 +68,18 @@ fn json_written(
     use_json_name: bool,
 ) -> Result<Vec<Field>, AllocError> {
     let codec = JsonCodec::strict(use_json_name);
-    written(alloc, shapes, row, codec.create_serializer(alloc))
+    let mut sink = codec.create_serializer(alloc);
+    let mut answers = Vec::new(alloc);
+    for field in &row.fields {
+        if field.word.as_str() == "write_discriminated_document" {
+            let answer = write_named(alloc, shapes, &mut sink, &field.value);
+            let count = answers.len();
+            push_refusal(alloc, &mut answers, answer, count)?;
+        } else {
+            write_line(alloc, shapes, &mut sink, field, &mut answers)?;
+        }
+    }
+    finished(alloc, row, sink, answers)
 }
 
 fn cbor_written(alloc: Global, shapes: &Shapes, row: &Row) -> Result<Vec<Field>, AllocError> {

@@ -12,7 +12,8 @@ fn member_a(alloc: Global, body: &[u8]) -> Result<Option<i128>, Fail> {
     let table = TableText::read(alloc, b"structure S\nmember a long\n")?;
     let shapes = Shapes::build(alloc, table)?;
     let root = shapes.find("S").ok_or("no such shape")?;
-    let mut reader = JsonCodec::strict(false).create_deserializer(alloc, body);
+    let codec = JsonCodec::strict(false);
+    let mut reader = codec.create_deserializer(alloc, body);
     match read_value(alloc, &mut reader, &shapes.schema(root))? {
         // The members of a structure go by their positions in the table.
         Value::Structure(members) => match members.get(&0) {
@@ -34,7 +35,8 @@ fn a_body_is_read(rt: HostRuntime) -> Result<(), Fail> {
 // The body in CBOR of a request that a body in JSON spells.
 fn request_in_cbor(alloc: Global, shapes: &Shapes, body: &[u8]) -> Result<Vec<u8>, Fail> {
     let schema = AssumeRoleRequest::accept(shapes, "AssumeRoleRequest").ok_or("another shape")?;
-    let mut reader = JsonCodec::strict(false).create_deserializer(alloc, body);
+    let codec = JsonCodec::strict(false);
+    let mut reader = codec.create_deserializer(alloc, body);
     let request = read_request(&schema, &mut reader)?;
     let mut writer = CborCodec::strict().create_serializer(alloc);
     write_request(&mut writer, &schema, &request)?;

@@ -16,7 +16,8 @@ fn a_reader_that_has_failed_answers_so(rt: HostRuntime) -> Result<(), Fail> {
         return Ok(());
     };
     let schema = shapes.schema(root);
-    let mut json = JsonCodec::strict(false).create_deserializer(rt.alloc(), b"{}");
+    let codec = JsonCodec::strict(false);
+    let mut json = codec.create_deserializer(rt.alloc(), b"{}");
     json.fail();
     let answer = read_value(rt.alloc(), &mut json, &schema);
     assert!(rt; matches!(answer, Err(SerdeError::Failed)), "JSON");

@@ -10,6 +10,7 @@ use Rattle.smithy_shapes.specs.Table as table
 use Rattle.smithy_shapes.specs.Table.{Table, scalar_place, shape_place}
 use Rattle.smithy_shapes.specs.Value.{instant, Value, scalar_value, null_element}
 use Rattle.smithy_schema.specs.Writing.{scalar_of}
+use Rattle.smithy_instants.specs.declared.format.Format.TheVariants as formats
 use Rattle.smithy_instants.proofs.OnLiterals.{smithy_instants_on_literals}
 use Rattle.smithy_json.specs.Tree.{Json, number, string}
 use Rattle.smithy_json.specs.Unescape.{code_unit}
@@ -49,7 +50,7 @@ pub lenient : (map (says default_settings scalars.Timestamp (Some DateTime)) (a_
     × (map (says default_settings scalars.Timestamp (Some EpochSeconds)) (a_string (codes "1.5") ∷ a_string (codes "1e1") ∷ []) ≡ means (instant_at (pos 1_500_000_000)) ∷ no_meaning ∷ [])
     × (map (says default_settings scalars.Timestamp None) (a_string (codes "1970-01-01T00:00:01Z") ∷ a_string (codes "Thu, 01 Jan 1970 00:00:01 GMT") ∷ a_string (codes "1") ∷ [])
     ≡ means (instant_at (pos 1_000_000_000)) ∷ no_meaning ∷ no_meaning ∷ [])
-    × (map (says (record default_settings { default_timestamp_format = HttpDate }) scalars.Timestamp None) (a_string (codes "1970-01-01T00:00:01Z") ∷ a_string (codes "Thu, 01 Jan 1970 00:00:01 GMT") ∷ [])
+    × (map (says (record default_settings { default_timestamp_format = formats.HttpDate }) scalars.Timestamp None) (a_string (codes "1970-01-01T00:00:01Z") ∷ a_string (codes "Thu, 01 Jan 1970 00:00:01 GMT") ∷ [])
     ≡ no_meaning ∷ means (instant_at (pos 1_000_000_000)) ∷ [])
 unfolding smithy_instants_on_literals
 lenient = (refl, refl, refl, refl)
@@ -62,7 +63,7 @@ timed time = named (codes "S") (table.structure (plain_member (codes "a") (scala
 
 -- where instants without a form are date-times
 abbrev dated : Settings
-dated = record (strict false) { default_timestamp_format = DateTime }
+dated = record (strict false) { default_timestamp_format = formats.DateTime }
 
 abbrev means_by : Settings → Option TimestampFormat → Json → Option Value
 means_by c time x = json_meaning c (timed time) (shape_place 0) 0 (alone (codes "a") x)

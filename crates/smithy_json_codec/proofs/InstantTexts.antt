@@ -17,7 +17,7 @@ use Rattle.smithy_instants.proofs.FractionTexts.{fraction_is}
 use Rattle.smithy_instants.proofs.ReadBack.{written_reads}
 use Rattle.smithy_shapes.specs.declared.shape_type.TimestampFormat.{TimestampFormat}
 use Rattle.smithy_shapes.specs.declared.shape_type.TimestampFormat.TheVariants.{EpochSeconds, DateTime, HttpDate}
-use Rattle.smithy_shapes.specs.TimeForms.{format_of, form_or, form_holds}
+use Rattle.smithy_shapes.specs.TimeForms.{format_of, form_holds}
 use Rattle.smithy_shapes.specs.Value.{instant, scalar_value}
 use Rattle.smithy_shapes.proofs.InstantTexts.{instant_text_is_utf8}
 use Rattle.smithy_shapes.proofs.TimeFormLemmas.{held_writes}
@@ -28,7 +28,7 @@ use Rattle.smithy_json.specs.Grammar.{IsFrac, IsInt, IsNumber, IsValue}
 use Rattle.smithy_json.proofs.DecimalLemmas.{decimal_is_int}
 use Rattle.smithy_json.proofs.QuotedLemmas.{quoted_is_string, unescaped_of_escaped}
 use Rattle.smithy_json_codec.specs.Settings.{Settings}
-use Rattle.smithy_json_codec.specs.Scalar.{JsonScalar, a_number, a_string, tree_of, seconds_read_as, date_says, timestamp_says}
+use Rattle.smithy_json_codec.specs.Scalar.{JsonScalar, a_number, a_string, tree_of, format_at, seconds_read_as, date_says, timestamp_says}
 use Rattle.smithy_json_codec.proofs.WrittenPlaces.{leaf_bytes}
 use Rattle.smithy_wire.specs.Rules.{means, answer_of}
 
@@ -111,7 +111,7 @@ date_means form n t date =
 -- ---- in any form
 
 -- what is written in the form of a place is read there, where forms are strict
-pub instant_means : (c : Settings) (time : Option TimestampFormat) (form : TimestampFormat) → c.strict_timestamp_formats ≡ true → form_or c.default_timestamp_format time ≡ form
+pub instant_means : (c : Settings) (time : Option TimestampFormat) (form : TimestampFormat) → c.strict_timestamp_formats ≡ true → format_at c time ≡ format_of form
     → (n : ℤ) → is_instant n ≡ true → form_holds form (instant n) ≡ true → timestamp_says c time (instant_leaf form n) ≡ means (scalar_value (instant n))
 instant_means c time EpochSeconds strict same n is held = rw (strict, same) (ap seconds_read_as (epoch_text_reads n is) ∙ rw is refl)
 instant_means c time DateTime strict same n is held = rw (strict, same) (date_means DateTime n _ (date_of_held DateTime n is held))

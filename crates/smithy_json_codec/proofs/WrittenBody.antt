@@ -6,8 +6,7 @@ use Rattle.smithy_shapes.specs.Site.{Site, View, member_of}
 use Rattle.smithy_shapes.specs.Value.{Value, Values, no_values, value, MapEntries, no_map_entries, map_entry, MemberValues, no_member_values, member_value}
 use Rattle.smithy_shapes.specs.Fits.{Fits}
 use Rattle.smithy_shapes.proofs.SiteLemmas.{site_at}
-use Rattle.smithy_json_codec.specs.Canonical.{name_text, key_text, canonical_json, first_element, more_elements, first_entry, more_entries, first_member, more_members}
-use Rattle.smithy_shapes.specs.TimeForms.{form_or}
+use Rattle.smithy_json_codec.specs.Canonical.{name_text, key_text, written_form, canonical_json, first_element, more_elements, first_entry, more_entries, first_member, more_members}
 use Rattle.smithy_json_codec.specs.Settings.{Settings, name_of}
 use Rattle.smithy_wire.specs.Writes.{body_of}
 use Rattle.smithy_wire.proofs.CanonicalBody.{Canonical, IsWritten, same_body}
@@ -67,7 +66,7 @@ module _ (c : Settings) where
 
   is_written : IsWritten json_writes (json_leaves c) (name_of c) canonical
   is_written = record {
-    scalar_is = λ s site x. scalar_bytes (form_or c.default_timestamp_format site.place.time) x;
+    scalar_is = λ s site x. scalar_bytes (written_form c site.place.time) x;
     document_is = λ site d. document_bytes c d;
     null_is = λ site. refl;
     list_is = λ site vs. refl;

@@ -10,7 +10,7 @@ use Rattle.smithy_shapes.specs.declared.shape_type.Scalar.{Scalar}
 use Rattle.smithy_shapes.specs.declared.shape_type.Scalar.TheVariants as scalars
 use Rattle.smithy_shapes.specs.declared.shape_type.TimestampFormat.{TimestampFormat}
 use Rattle.smithy_shapes.specs.declared.shape_type.TimestampFormat.TheVariants.{EpochSeconds, DateTime, HttpDate}
-use Rattle.smithy_shapes.specs.TimeForms.{form_or, form_holds}
+use Rattle.smithy_shapes.specs.TimeForms.{format_of, form_or, form_holds}
 use Rattle.smithy_shapes.specs.Value.{ScalarValue, boolean, whole, text, bytes, decimal, instant, scalar_value}
 use Rattle.smithy_shapes.specs.Fits.{is_of}
 use Rattle.smithy_shapes.proofs.ScalarLemmas.{whole_fits, decimal_fits, instant_fits, text_is_utf8, blob_is_bytes}
@@ -27,7 +27,7 @@ use Rattle.smithy_json.proofs.EscapeLemmas.{plain_byte}
 use Rattle.smithy_json.proofs.DecimalLemmas.{decimal_is_number, decimal_writes, decimal_text_is_number}
 use Rattle.smithy_json.proofs.QuotedLemmas.{quoted_is_string, unescaped_of_escaped}
 use Rattle.smithy_json_codec.specs.LexicalGrammar.{rfc_8259, in_grammar}
-use Rattle.smithy_json_codec.specs.Scalar.{JsonScalar, a_boolean, a_number, a_string, tree_of, big_number, says}
+use Rattle.smithy_json_codec.specs.Scalar.{JsonScalar, a_boolean, a_number, a_string, tree_of, big_number, format_at, says}
 use Rattle.smithy_json_codec.specs.Settings.{Settings}
 use Rattle.smithy_json_codec.specs.Codec.{strict_settings}
 use Rattle.smithy_json_codec.specs.Standing.{json_rules}
@@ -36,7 +36,7 @@ use Rattle.smithy_wire.specs.Rules.{means, no_meaning}
 use Rattle.smithy_wire.specs.BigNumbers.{big_decimal}
 use Rattle.smithy_json_codec.proofs.NumberTexts.{form_is}
 use Rattle.smithy_json_codec.proofs.InstantTexts.{instant_leaf, instant_means, instant_is_value}
-use Rattle.smithy_json_codec.specs.Canonical.{scalar_text, json_holds}
+use Rattle.smithy_json_codec.specs.Canonical.{written_form, scalar_text, json_holds}
 use Rattle.smithy_json_codec.proofs.WrittenPlaces.{leaf_bytes, json_writes}
 use Rattle.smithy_json.specs.Grammar.{IsValue, IsString}
 use Rattle.smithy_wire.specs.Written.{Leaves, ReadsLeaves}
@@ -53,7 +53,7 @@ leaf_of form (instant n) = instant_leaf form n
 
 abbrev pub json_leaves : Settings → Leaves JsonScalar
 json_leaves c = record {
-  leaf_of = λ s time x. leaf_of (form_or c.default_timestamp_format time) x;
+  leaf_of = λ s time x. leaf_of (written_form c time) x;
   key_of = λ key. a_string (escaped key);
   holds = json_holds c;
 }
@@ -94,6 +94,11 @@ written_decimal_means m e fits =
     ∙ ap (λ x. Some (record { mantissa_part = m; written_part = e; net_part = x })) w.net_is in
     ap big_decimal form ∙ rw (fits.0, fits.1) refl
 
+-- where none is given, instants are seconds
+strict_format : (b : Bool) (time : Option TimestampFormat) → format_at (strict_settings b) time ≡ format_of (form_or EpochSeconds time)
+strict_format b None = refl
+strict_format b (Some form) = refl
+
 scalar_means : (b : Bool) (s : Scalar) (time : Option TimestampFormat) (x : ScalarValue) → is_of s x ≡ true → form_holds (form_or EpochSeconds time) x ≡ true
     → says (strict_settings b) s time (leaf_of (form_or EpochSeconds time) x) ≡ means (scalar_value x)
 scalar_means names scalars.Boolean time (boolean b) is held = refl
@@ -103,7 +108,7 @@ scalar_means names scalars.Integer time (whole n) is held = rw (decimal_writes n
 scalar_means names scalars.Long time (whole n) is held = rw (decimal_writes n (whole_fits scalars.Long n is), is) refl
 scalar_means names scalars.String time (text t) is held = rw (unescaped_of_escaped t) refl
 scalar_means names scalars.Blob time (bytes b) is held = rw (blob_unescaped b is, blob_back b is) refl
-scalar_means names scalars.Timestamp time (instant n) is held = instant_means (strict_settings names) time (form_or EpochSeconds time) refl refl n is held
+scalar_means names scalars.Timestamp time (instant n) is held = instant_means (strict_settings names) time (form_or EpochSeconds time) refl (strict_format names time) n is held
 scalar_means names scalars.BigInteger time (whole n) is held = rw (integer_form_of_written n (small_whole n is), is) refl
 scalar_means names scalars.BigDecimal time (decimal m e) is held = written_decimal_means m e (decimal_fits scalars.BigDecimal m e is)
 scalar_means names _ time _ is held = cc
@@ -135,7 +140,7 @@ json_reads_leaves b = record {
 
 pub json_writes_leaves : (c : Settings) → WritesLeaves json_writes (json_leaves c)
 json_writes_leaves c = record {
-  scalar_is = λ s time x is held. scalar_is s (form_or c.default_timestamp_format time) x is held;
+  scalar_is = λ s time x is held. scalar_is s (written_form c time) x is held;
   key_is = λ key utf8. (escaped key, refl, (quoted_is_string key utf8).1);
 }
 

@@ -1,9 +1,9 @@
 -- The one spelling in which a value is written.
-use Rattle.std.specs.Prelude.{ℕ, ℤ, List, [], ◌∷◌, ◌++◌, Bool, true, false, Some, None, unwrap_or, codes, if◌then◌else◌}
+use Rattle.std.specs.Prelude.{ℕ, ℤ, List, [], ◌∷◌, ◌++◌, Bool, true, false, Option, Some, None, unwrap_or, codes, if◌then◌else◌}
 use Rattle.std.specs.Fmt.{signed_decimal}
 use Rattle.smithy_types.specs.Document.{Document}
 use Rattle.smithy_shapes.specs.declared.shape_type.TimestampFormat.{TimestampFormat}
-use Rattle.smithy_shapes.specs.declared.shape_type.TimestampFormat.TheVariants.{EpochSeconds}
+use Rattle.smithy_shapes.specs.declared.shape_type.TimestampFormat.TheVariants.{EpochSeconds, DateTime, HttpDate}
 use Rattle.smithy_shapes.specs.TimeForms.{format_of, form_or, form_writes, form_holds}
 use Rattle.smithy_shapes.specs.ScalarTest.{ValueTest}
 use Rattle.smithy_shapes.specs.Site.{Site, View, element_of, value_of, member_of}
@@ -11,10 +11,22 @@ use Rattle.smithy_shapes.specs.Value.{ScalarValue, boolean, whole, text, bytes, 
 use Rattle.smithy_texts.specs.Base64Text.{blob_text}
 use Rattle.smithy_texts.specs.Decimal.{decimal_text}
 use Rattle.smithy_instants.specs.WrittenDate.{date_text}
+use Rattle.smithy_instants.specs.declared.format.Format.{Format}
+use Rattle.smithy_instants.specs.declared.format.Format.TheVariants as formats
 use Rattle.smithy_json.specs.Ascii.{quotation_mark, value_separator, name_separator, begin_array, end_array, begin_object, end_object}
 use Rattle.smithy_json.specs.DocumentText.{document_text_by}
 use Rattle.smithy_json.specs.Escape.{quoted}
 use Rattle.smithy_json_codec.specs.Settings.{Settings}
+
+-- the time form whose texts are written in a form: a date and time is written alike where an offset may be read
+abbrev pub time_form : Format → TimestampFormat
+time_form formats.EpochSeconds = EpochSeconds
+time_form formats.HttpDate = HttpDate
+time_form form = DateTime
+
+-- the form in which an instant is written at a place with this time form or none
+abbrev pub written_form : Settings → Option TimestampFormat → TimestampFormat
+written_form c time = form_or (time_form c.default_timestamp_format) time
 
 -- the text of an instant in its form: a number of seconds stands as it is, and a date is a string
 abbrev pub in_form : TimestampFormat → List ℕ → List ℕ
@@ -39,7 +51,7 @@ document_text d = document_text_by signed_decimal d
 -- which values can be written: a scalar by the time form of its place, and every document
 abbrev pub can_write : Settings → ValueTest
 can_write c = record {
-  scalar = λ time x. form_writes (form_or c.default_timestamp_format time) x;
+  scalar = λ time x. form_writes (written_form c time) x;
   documents = true;
 }
 
@@ -47,7 +59,7 @@ can_write c = record {
 -- document
 abbrev pub json_holds : Settings → ValueTest
 json_holds c = record {
-  scalar = λ time x. form_holds (form_or c.default_timestamp_format time) x;
+  scalar = λ time x. form_holds (written_form c time) x;
   documents = true;
 }
 
@@ -67,7 +79,7 @@ key_text use_json_name view = elim view.name [
 abbrev mutual
   pub canonical_json : Settings → Site → Value → List ℕ
   canonical_json c site (scalar_value x) =
-      scalar_text (form_or c.default_timestamp_format site.place.time) x
+      scalar_text (written_form c site.place.time) x
   canonical_json c site (list vs) =
       begin_array ∷ (first_element c (element_of site) vs ++ end_array ∷ [])
   canonical_json c site (map es) =

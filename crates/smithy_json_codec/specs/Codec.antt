@@ -1,8 +1,9 @@
--- What contracts see of the settings that a codec, a reader and a serializer hold.
-use Rattle.std.specs.Prelude.{Bool, true}
-use Rattle.smithy_json_codec.specs.declared.codec.JsonCodec.{JsonCodec}
+-- What contracts see of the settings that a codec, a reader and a serializer hold, and the settings of strict codecs.
+use Rattle.std.specs.Prelude.{ℕ, List, Bool, true, Option}
+use Rattle.std.specs.Option.{option_or}
 use Rattle.smithy_json_codec.specs.declared.settings.Settings.{Settings as HeldSettings}
-use Rattle.smithy_json_codec.specs.Settings.{Settings, kept, default_settings}
+use Rattle.smithy_json_codec.specs.Settings.{Settings, kept}
+use Rattle.smithy_json_settings.specs.Settings.{default_settings, CodecSettings, default_codec_settings}
 
 -- the settings that are held, which keep the limits
 abbrev pub held_settings : HeldSettings → Settings
@@ -22,9 +23,9 @@ held_settings s = record {
   normalize_arbitrary_precision = s.normalize_arbitrary_precision;
 }
 
--- those of a codec
-abbrev pub settings_of : JsonCodec → Settings
-settings_of codec = held_settings codec.settings
+-- the settings of a reader that is given a namespace: that of the codec comes first
+abbrev pub with_namespace : Option (List ℕ) → CodecSettings → CodecSettings
+with_namespace namespace s = record s { default_namespace = option_or s.default_namespace namespace }
 
 -- those under which RFC 8259 is read to the letter
 abbrev pub strict_settings : Bool → Settings
@@ -34,3 +35,7 @@ strict_settings use_json_name = record default_settings {
   validate_skipped_string_encoding = true;
   strict_timestamp_formats = true;
 }
+
+-- those of a codec that is asked for nothing else
+abbrev pub strict_codec_settings : Bool → CodecSettings
+strict_codec_settings use_json_name = record default_codec_settings { json = strict_settings use_json_name }

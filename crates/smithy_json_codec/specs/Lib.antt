@@ -20,6 +20,7 @@ pub mod Standing
 pub mod Writing
 pub mod Serializing
 pub mod NamedDocument
+pub mod NamedReading
 pub mod Deepest
 pub mod Documents
 pub mod NumberText

@@ -1,10 +1,11 @@
 -- The scalars of JSON, and what they say as each kind under some settings.
 use Rattle.std.specs.Prelude.{ℕ, List, ℤ, Bool, true, false, not, ◌||◌, Option, Some, None, option_map, option_and_then, if◌then◌else◌}
+use Rattle.std.specs.Option.{option_map_or}
 use Rattle.smithy_shapes.specs.declared.shape_type.Scalar.{Scalar}
 use Rattle.smithy_shapes.specs.declared.shape_type.Scalar.TheVariants as scalars
 use Rattle.smithy_shapes.specs.declared.shape_type.TimestampFormat.{TimestampFormat}
-use Rattle.smithy_shapes.specs.declared.shape_type.TimestampFormat.TheVariants.{EpochSeconds, DateTime, HttpDate}
-use Rattle.smithy_shapes.specs.TimeForms.{format_of, form_or}
+use Rattle.smithy_shapes.specs.declared.shape_type.TimestampFormat.TheVariants.{DateTime}
+use Rattle.smithy_shapes.specs.TimeForms.{format_of}
 use Rattle.smithy_shapes.specs.Value.{boolean as boolean_value, whole, text, bytes, instant, Value, scalar_value}
 use Rattle.smithy_types.specs.Document as documents
 use Rattle.smithy_types.specs.Document.{Document}
@@ -85,31 +86,35 @@ abbrev pub seconds_read_as : Option ℤ → Answer Value
 seconds_read_as None = uncarried
 seconds_read_as (Some n) = if is_instant n then means (scalar_value (instant n)) else no_meaning
 
+-- the form of instants at a place with this time form or none
+abbrev pub format_at : Settings → Option TimestampFormat → Format
+format_at c time = option_map_or format_of time c.default_timestamp_format
+
 -- a number may stand for an instant: everywhere, or where forms are strict as seconds alone
-abbrev pub is_epoch_form : TimestampFormat → Bool
-is_epoch_form EpochSeconds = true
+abbrev pub is_epoch_form : Format → Bool
+is_epoch_form formats.EpochSeconds = true
 is_epoch_form _ = false
 
 abbrev pub takes_seconds : Settings → Option TimestampFormat → Bool
-takes_seconds c time = not c.strict_timestamp_formats || is_epoch_form (form_or c.default_timestamp_format time)
+takes_seconds c time = not c.strict_timestamp_formats || is_epoch_form (format_at c time)
 
 -- the form of strings where forms are strict: seconds are no string
-abbrev pub strict_form : TimestampFormat → Option Format
-strict_form EpochSeconds = None
-strict_form form = Some (format_of form)
+abbrev pub strict_form : Format → Option Format
+strict_form formats.EpochSeconds = None
+strict_form form = Some form
 
 -- the form of strings where forms aren't strict, at a place with this time form or none: a date and time may have an offset, and
 -- of the forms that count where there is none, only that of HTTP is another
-abbrev pub lenient_form : TimestampFormat → Option TimestampFormat → Format
+abbrev pub lenient_form : Format → Option TimestampFormat → Format
 lenient_form default (Some DateTime) = formats.DateTimeWithOffset
 lenient_form default (Some form) = format_of form
-lenient_form HttpDate None = formats.HttpDate
+lenient_form formats.HttpDate None = formats.HttpDate
 lenient_form default None = formats.DateTimeWithOffset
 
 -- the form of a string that stands for an instant, where one may
 abbrev pub string_form : Settings → Option TimestampFormat → Option Format
 string_form c time =
-    if c.strict_timestamp_formats then strict_form (form_or c.default_timestamp_format time)
+    if c.strict_timestamp_formats then strict_form (format_at c time)
     else Some (lenient_form c.default_timestamp_format time)
 
 -- the instant of a text that is a date of the form

@@ -1,54 +1,8 @@
 -- What reading and writing JSON depend on beside table and place.
-use Rattle.std.specs.Prelude.{ℕ, List, Bool, true, false, if◌then◌else◌}
-use Rattle.smithy_json.specs.NumberGrammar.{standard_numbers}
-use Rattle.smithy_json.specs.declared.number_grammar.NumberGrammar.{NumberGrammar}
-use Rattle.smithy_shapes.specs.declared.shape_type.TimestampFormat.{TimestampFormat}
-use Rattle.smithy_shapes.specs.declared.shape_type.TimestampFormat.TheVariants.{EpochSeconds}
+use Rattle.std.specs.Prelude.{ℕ, List, Bool, if◌then◌else◌}
 use Rattle.smithy_shapes.specs.Table.{Member, json_name_of}
 pub use Rattle.smithy_shapes.specs.Limits.{Limits, kept, lifted, is_within}
-
-pub record Settings : Type 0 where
-  -- members go by their JSON names, where they have one
-  pub use_json_name : Bool
-  pub max_depth : ℕ
-  -- the form of instants at a place that has none of its own
-  pub default_timestamp_format : TimestampFormat
-  pub limits : Limits
-  -- numbers are of the grammar, each value ends at a boundary, and strings that are read have no bytes below 0x20
-  pub enforce_strictness : Bool
-  -- an integer may have a fraction or an exponent, where it is whole
-  pub allow_integral_float_numbers : Bool
-  -- what numbers may have beyond RFC 8259
-  pub numbers : NumberGrammar
-  -- a skipped string has valid escapes alone
-  pub validate_skipped_values : Bool
-  -- a skipped string is in UTF-8, without bytes below 0x20
-  pub validate_skipped_string_encoding : Bool
-  -- a number stands for an instant under epoch seconds alone, and a string under the other forms alone
-  pub strict_timestamp_formats : Bool
-  -- a null of a structure or a union is handed on
-  pub dispatch_null_members : Bool
-  -- a big number is written as a string, or else as a number of RFC 8259 that is equal to it
-  pub use_string_for_arbitrary_precision : Bool
-  pub normalize_arbitrary_precision : Bool
-
--- those of a client where none is set
-abbrev pub default_settings : Settings
-default_settings = record {
-  use_json_name = true;
-  max_depth = 128;
-  default_timestamp_format = EpochSeconds;
-  limits = kept;
-  enforce_strictness = false;
-  allow_integral_float_numbers = false;
-  numbers = standard_numbers;
-  validate_skipped_values = true;
-  validate_skipped_string_encoding = false;
-  strict_timestamp_formats = false;
-  dispatch_null_members = false;
-  use_string_for_arbitrary_precision = false;
-  normalize_arbitrary_precision = false;
-}
+pub use Rattle.smithy_json_settings.specs.Settings.{Settings, default_settings}
 
 abbrev pub keep_limits : Settings → Settings
 keep_limits c = record c { limits = kept }

@@ -1,15 +1,14 @@
 -- What each call of a serializer makes of its state.
-use Rattle.std.specs.Prelude.{ℕ, List, [], ◌∷◌, ◌++◌, Bool, true, false, if◌then◌else◌, Result, Ok, Err, is_some, unwrap_or, codes}
+use Rattle.std.specs.Prelude.{ℕ, List, [], ◌∷◌, ◌++◌, Bool, true, false, if◌then◌else◌, Result, Ok, Err, Option, is_some, unwrap_or, codes}
 use Rattle.std.specs.Option.{option_map_or}
 use Rattle.smithy_schema.specs.declared.error.SerdeError.{SerdeError}
 use Rattle.smithy_schema.specs.declared.error.SerdeError.TheVariants.{Unwritable}
 use Rattle.smithy_shapes.specs.declared.shape_type.TimestampFormat.{TimestampFormat}
 use Rattle.smithy_shapes.specs.Site.{Site, View}
 use Rattle.smithy_shapes.specs.Value.{ScalarValue, text_in}
-use Rattle.smithy_shapes.specs.TimeForms.{form_or}
-use Rattle.smithy_schema.specs.Writing.{Event, Writer, begin_structure, end_structure, begin_list, end_list, begin_map, end_map, null_of, scalar_of, big_integer_of, big_decimal_of, document_of, Open, open_structure, open_map_at_key, open_after}
+use Rattle.smithy_schema.specs.Writing.{Event, Writer, begin_structure, end_structure, begin_list, end_list, begin_map, end_map, null_of, scalar_of, big_integer_of, big_decimal_of, document_of, Open, open_structure, open_map_at_key, open_after, after_value}
 use Rattle.smithy_json.specs.Ascii.{value_separator, begin_array, end_array, begin_object, end_object}
-use Rattle.smithy_json_codec.specs.Canonical.{name_text, key_text, scalar_text, document_text, can_write}
+use Rattle.smithy_json_codec.specs.Canonical.{name_text, key_text, written_form, scalar_text, document_text, can_write}
 use Rattle.smithy_json_codec.specs.Settings.{Settings}
 use Rattle.smithy_json_codec.specs.WrittenNumber.{written_number}
 
@@ -50,6 +49,16 @@ abbrev pub wrote : JsonState → View → List ℕ → List Open → JsonState
 wrote s view bytes frames =
     record s { out = s.out ++ (lead s view ++ bytes); needs_comma = true; frames = frames }
 
+-- the state that is made of the open containers, unless the call is refused
+abbrev pub where_taken : (List Open → JsonState) → Result (List Open) SerdeError → Result JsonState SerdeError
+where_taken make (Ok frames) = Ok (make frames)
+where_taken make (Err e) = Err e
+
+-- a value of these bytes that is no container, unless there are none: then it can't be written
+abbrev pub wrote_any : JsonState → View → Option (List ℕ) → Result JsonState SerdeError
+wrote_any s view bytes =
+    if is_some bytes then where_taken (wrote s view (unwrap_or bytes [])) (after_value s.frames) else Err Unwritable
+
 -- the key of a map's entry, with its colon; no comma comes between it and its value
 abbrev pub key_wrote : JsonState → List ℕ → List Open → JsonState
 key_wrote s key frames = record s {
@@ -60,7 +69,7 @@ key_wrote s key frames = record s {
 
 -- the form of instants at a site
 abbrev pub form_at : JsonState → Site → TimestampFormat
-form_at s site = form_or s.settings.default_timestamp_format site.place.time
+form_at s site = written_form s.settings site.place.time
 
 -- a scalar: a text is a key where one is due
 abbrev pub scalar_wrote : JsonState → Site → ScalarValue → List Open → JsonState
@@ -95,11 +104,6 @@ made (scalar_of site x) s frames = scalar_wrote s site x frames
 made (big_integer_of site written) s frames = wrote s site.view (big_number_text s.settings written) frames
 made (big_decimal_of site written) s frames = wrote s site.view (big_number_text s.settings written) frames
 made (document_of site d) s frames = wrote s site.view (document_text d) frames
-
--- the state that is made of the open containers, unless the call is refused
-abbrev pub where_taken : (List Open → JsonState) → Result (List Open) SerdeError → Result JsonState SerdeError
-where_taken make (Ok frames) = Ok (make frames)
-where_taken make (Err e) = Err e
 
 -- a big number has to be one that can be written under the settings, and an instant one that the form of its site can write
 abbrev pub is_writable : JsonState → Event → Bool

@@ -14,13 +14,13 @@ impl<'a> BorrowDeserializer<'a> for JsonDeserializer<'a> {
     ghost use Rattle.smithy_shapes.specs.Site.{site_of};
     ghost use Rattle.smithy_schema.specs.Reading.{ReadsScalar};
     ghost use Rattle.smithy_json_codec.specs.Borrowed.{BorrowsText};
-    ghost use Rattle.smithy_json_codec.specs.Cursor.{cursor_of, reading_settings_of};
+    ghost use Rattle.smithy_json_codec.specs.Cursor.{cursor_of, reading_settings_of, reader_settings_of};
     ghost use Rattle.smithy_json_codec.specs.Settings.{keep_limits, without_limits};
     ghost use Rattle.smithy_json_codec.specs.Standing.{json_relations};
 
     #[inline(always)]
     fn read_text(&mut self, _schema: &Schema<'_>) -> Result<CowStr<'a, Global>, SerdeError>
-        ensures same { reading_settings_of self.new ≡ reading_settings_of self.old }
+        ensures same { reader_settings_of self.new ≡ reader_settings_of self.old }
         ensures read { ReadsScalar (json_relations (keep_limits (reading_settings_of self.old))) (json_relations (without_limits (reading_settings_of self.old))) (Unit {0}) (cursor_of self.old) (cursor_of self.new) (site_of _schema.now) scalars.String (λ s. text (cow_str_bytes s)) result }
 
         // Borrowed exactly where no backslash stands in the string.
@@ -35,7 +35,7 @@ impl<'a> BorrowDeserializer<'a> for JsonDeserializer<'a> {
     }
 
     fn read_bytes(&mut self, _schema: &Schema<'_>) -> Result<CowSlice<'a, u8, Global>, SerdeError>
-        ensures same { reading_settings_of self.new ≡ reading_settings_of self.old }
+        ensures same { reader_settings_of self.new ≡ reader_settings_of self.old }
         ensures read { ReadsScalar (json_relations (keep_limits (reading_settings_of self.old))) (json_relations (without_limits (reading_settings_of self.old))) (Unit {0}) (cursor_of self.old) (cursor_of self.new) (site_of _schema.now) scalars.Blob (λ b. bytes (cow_slice_items b)) result }
 
         // The bytes are never borrowed, as a string holds them as base64.

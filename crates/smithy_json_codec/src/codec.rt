@@ -1,19 +1,36 @@
 //! The maker of readers and serializers.
+ghost use Rattle.std.specs.Prelude.{◌≡◌};
+ghost use Rattle.smithy_json_codec.specs.Codec.{held_settings};
+
 use crate::deserializer::JsonDeserializer;
 use crate::serializer::JsonSerializer;
 use crate::settings::Settings;
+use smithy_json_settings::JsonCodecSettings;
+use smithy_wire::Walk;
 use std::alloc::Global;
+use std::marker::Model;
 
-/// The settings under which bodies in JSON are read and written. It makes readers and serializers.
+/// The settings under which bodies in JSON are read and written. It makes readers and serializers. Contracts see its settings.
 #[derive(Debug, Drop)]
 pub struct JsonCodec {
-    pub(crate) settings: Settings,
+    settings: JsonCodecSettings,
+    // Those by which bodies are read and written, as readers and serializers hold them.
+    held: Settings,
+    ghost alike: { held_settings held ≡ settings.json },
+}
+
+impl Model for JsonCodec {
+    ghost use Rattle.smithy_json_settings.specs.Settings.{CodecSettings};
+
+    ghost Value = { CodecSettings };
+
+    ghost view = { λ codec. codec.settings };
 }
 
 impl JsonCodec {
-    ghost use Rattle.std.specs.Prelude.{◌≡◌, false};
-    ghost use Rattle.smithy_json_codec.specs.Codec.{settings_of, strict_settings};
-    ghost use Rattle.smithy_json_codec.specs.Cursor.{cursor_of, reading_settings_of};
+    ghost use Rattle.std.specs.Prelude.{◌≡◌, false, option_map};
+    ghost use Rattle.smithy_json_codec.specs.Codec.{strict_codec_settings, with_namespace};
+    ghost use Rattle.smithy_json_codec.specs.Cursor.{cursor_of, reader_settings_of};
     ghost use Rattle.smithy_wire.specs.Walking.{fresh_cursor};
     ghost use Rattle.smithy_json_codec.specs.Serializing.{state_of, has_failed};
     ghost use Rattle.smithy_json_codec.specs.Writing.{fresh_state};
@@ -22,26 +39,59 @@ impl JsonCodec {
     /// names where `use_json_name` is set and a name is given, and instants without a form are epoch
     /// seconds.
     pub fn strict(use_json_name: bool) -> JsonCodec
-        ensures { settings_of result ≡ strict_settings use_json_name }
+        ensures { result ≡ strict_codec_settings use_json_name }
     {
+        let settings = JsonCodecSettings::builder()
+            .use_json_name(use_json_name)
+            .enforce_strictness(true)
+            .validate_skipped_string_encoding(true)
+            .strict_timestamp_formats(true)
+            .build();
         JsonCodec {
-            settings: Settings::strict(use_json_name),
+            settings,
+            held: Settings::strict(use_json_name),
         }
+    }
+
+    /// The settings.
+    pub fn settings(&self) -> &JsonCodecSettings
+        ensures { result.now ≡ self.now }
+    {
+        &self.settings
     }
 
     /// A serializer that has written nothing yet. It takes no memory.
     pub fn create_serializer(&self, alloc: Global) -> JsonSerializer
-        ensures state { state_of result ≡ fresh_state (settings_of self.now) }
+        ensures state { state_of result ≡ fresh_state self.now.json }
         ensures sound { has_failed result ≡ false }
     {
-        JsonSerializer::new(self.settings, alloc)
+        JsonSerializer::new(self.held, alloc)
     }
 
     /// A reader of one input, of which nothing is read yet. It takes no memory.
-    pub fn create_deserializer<'a>(&self, alloc: Global, input: &'a [u8]) -> JsonDeserializer<'a>
-        ensures settings { reading_settings_of result ≡ settings_of self.now }
+    pub fn create_deserializer<'a>(&'a self, alloc: Global, input: &'a [u8]) -> JsonDeserializer<'a>
+        ensures settings { reader_settings_of result ≡ self.now }
         ensures fresh { cursor_of result ≡ fresh_cursor input.now }
     {
-        JsonDeserializer::new(input, alloc, self.settings)
+        self.create_deserializer_with_namespace(alloc, input, None)
+    }
+
+    /// The same, where relative names of shapes in documents stand in this namespace, unless the settings have another.
+    pub fn create_deserializer_with_namespace<'a>(
+        &'a self,
+        alloc: Global,
+        input: &'a [u8],
+        namespace: Option<&'a str>,
+    ) -> JsonDeserializer<'a>
+        ensures settings { reader_settings_of result ≡ with_namespace (option_map (λ n. n.now) namespace.entry) self.now }
+        ensures fresh { cursor_of result ≡ fresh_cursor input.now }
+    {
+        JsonDeserializer {
+            walk: Walk::new(input, alloc, self.held.max_depth),
+            alloc,
+            settings: self.held,
+            protocol_id: self.settings.protocol_id(),
+            namespace: self.settings.default_namespace().or(namespace),
+        }
     }
 }

@@ -3,7 +3,6 @@ ghost use Rattle.std.specs.Prelude.{◌≡◌};
 
 use crate::documents::standing_document_at;
 use crate::frames::{frame, is_structure, missing};
-use crate::input::Input;
 use crate::instants::instant_at;
 use crate::integers::integer_at;
 use crate::mismatch::{no_object, told};
@@ -25,37 +24,11 @@ pub struct JsonDeserializer<'a> {
     pub(crate) walk: Walk<'a>,
     pub(crate) alloc: Global,
     pub(crate) settings: Settings,
+    // The protocol that documents carry, and the namespace in which relative names of their shapes stand.
+    pub(crate) protocol_id: &'a str,
+    pub(crate) namespace: Option<&'a str>,
     // As many containers may be open as the settings say.
     ghost limit: { walk.max_depth ≡ settings.max_depth },
-}
-
-impl<'a> JsonDeserializer<'a> {
-    ghost use Rattle.std.specs.Prelude.{◌≡◌};
-    ghost use Rattle.smithy_json_codec.specs.Cursor.{cursor_of};
-    ghost use Rattle.smithy_wire.specs.Walking.{fresh_cursor};
-
-    // A fresh reader.
-    pub(crate) fn new(input: &'a [u8], alloc: Global, settings: Settings) -> JsonDeserializer<'a>
-        ensures state { cursor_of result ≡ fresh_cursor input.now }
-        ensures settings { result.settings ≡ settings }
-    {
-        JsonDeserializer {
-            walk: Walk::new(input, alloc, settings.max_depth),
-            alloc,
-            settings,
-        }
-    }
-
-    // What is read, under the settings.
-    #[inline(always)]
-    pub(crate) fn input(&self) -> Input<'a>
-        ensures { result ≡ record { bytes = self.now.walk.input; settings = self.now.settings } }
-    {
-        Input {
-            bytes: self.walk.input,
-            settings: self.settings,
-        }
-    }
 }
 
 impl ShapeDeserializer for JsonDeserializer<'_> {
@@ -64,8 +37,9 @@ impl ShapeDeserializer for JsonDeserializer<'_> {
     ghost use Rattle.smithy_shapes.specs.Table.{IsStructure, HasMembers};
     ghost use Rattle.smithy_shapes.specs.Site.{site_of, kind_at};
     ghost use Rattle.smithy_schema.specs.declared.error.SerdeError.TheVariants.{NoMemory, NotCarried, TooDeep};
-    ghost use Rattle.smithy_json_codec.specs.Cursor.{cursor_of, reading_settings_of};
-    ghost use Rattle.smithy_json_codec.specs.Settings.{Settings, keep_limits, without_limits};
+    ghost use Rattle.smithy_json_codec.specs.Cursor.{cursor_of, reading_settings_of, reader_settings_of};
+    ghost use Rattle.smithy_json_codec.specs.Settings.{keep_limits, without_limits};
+    ghost use Rattle.smithy_json_settings.specs.Settings.{CodecSettings};
     ghost use Rattle.smithy_json_codec.specs.Standing.{json_grammar, json_relations};
     ghost use Rattle.smithy_json_codec.specs.ContainerSize.{json_sizes};
     ghost use Rattle.smithy_json_codec.specs.Deepest.{OpensTooDeep};
@@ -81,31 +55,31 @@ impl ShapeDeserializer for JsonDeserializer<'_> {
     ghost use Rattle.smithy_json_codec.specs.Documents.{DocumentStands, NoDocumentStands, MeetsOtherNumber, OpensDocumentTooDeep};
     ghost use Rattle.smithy_json_codec.specs.Laws.{lawful as json_is_lawful, fit as json_fits, counts as json_counts, above as limits_are_above};
 
-    ghost Settings = { Settings };
+    ghost Settings = { CodecSettings };
 
-    ghost settings = { reading_settings_of };
+    ghost settings = { reader_settings_of };
 
     ghost state = { cursor_of };
 
-    ghost max_depth = { λ (c : Settings). c.max_depth };
+    ghost max_depth = { λ (c : CodecSettings). c.json.max_depth };
 
     // A reader keeps the limits, whatever the settings say of them.
-    ghost wire = { λ c. json_relations (keep_limits c) };
+    ghost wire = { λ c. json_relations (keep_limits c.json) };
 
-    ghost lifted = { λ c. json_relations (without_limits c) };
+    ghost lifted = { λ c. json_relations (without_limits c.json) };
 
     // The one maker gives settings of which all that is said of the lifted relations holds.
     ghost tells_without_limits = { λ _. Unit {0} };
 
-    ghost lawful = { λ c. json_is_lawful (keep_limits c) };
+    ghost lawful = { λ c. json_is_lawful (keep_limits c.json) };
 
-    ghost lifted_lawful = { λ c. json_is_lawful (without_limits c) };
+    ghost lifted_lawful = { λ c. json_is_lawful (without_limits c.json) };
 
-    ghost fit = { λ c. json_fits (keep_limits c) refl };
+    ghost fit = { λ c. json_fits (keep_limits c.json) refl };
 
-    ghost counts = { λ c _. json_counts (keep_limits c) };
+    ghost counts = { λ c _. json_counts (keep_limits c.json) };
 
-    ghost above = { λ c. limits_are_above (keep_limits c) };
+    ghost above = { λ c. limits_are_above (keep_limits c.json) };
 
     ghost sizes = { λ _. json_sizes };
 
@@ -140,7 +114,7 @@ impl ShapeDeserializer for JsonDeserializer<'_> {
     fn next_member<'s>(&mut self, schema: &Schema<'s>) -> Result<Step<'s>, SerdeError>
         requires within { (cursor_of self.old).inner.within ≡ in_structure }
         requires place { HasMembers (kind_at (site_of schema.now)) }
-        ensures same { reading_settings_of self.new ≡ reading_settings_of self.old }
+        ensures same { reader_settings_of self.new ≡ reader_settings_of self.old }
         ensures conduct { Conducts (cursor_of self.old) (cursor_of self.new) result }
         ensures narrow { RefusesNoKind result }
         ensures ok { (cursor_of self.old).due ≡ false → IfOk result (λ step. MatchStep step (json_relations (reading_settings_of self.old)) (cursor_of self.old) (cursor_of self.new) (site_of schema.now)) }
@@ -255,7 +229,7 @@ impl ShapeDeserializer for JsonDeserializer<'_> {
 
     // Where no null is due, and the reader hasn't failed, the call does nothing.
     fn read_null(&mut self) -> Result<(), SerdeError>
-        ensures same { reading_settings_of self.new ≡ reading_settings_of self.old }
+        ensures same { reader_settings_of self.new ≡ reader_settings_of self.old }
         ensures conduct { Conducts (cursor_of self.old) (cursor_of self.new) result }
         ensures narrow { RefusesNoKind result }
         ensures memory { IsErrOf result NoMemory → ⊥ }
@@ -284,7 +258,7 @@ impl ShapeDeserializer for JsonDeserializer<'_> {
 
     // Skipping takes no memory, so it is never refused for want of memory.
     fn skip_value(&mut self) -> Result<(), SerdeError>
-        ensures same { reading_settings_of self.new ≡ reading_settings_of self.old }
+        ensures same { reader_settings_of self.new ≡ reader_settings_of self.old }
         ensures conduct { Conducts (cursor_of self.old) (cursor_of self.new) result }
         ensures narrow { RefusesNoKind result }
         ensures memory { IsErrOf result NoMemory → ⊥ }
@@ -380,7 +354,7 @@ impl ShapeDeserializer for JsonDeserializer<'_> {
     }
 
     fn read_big_integer(&mut self, _schema: &Schema<'_>) -> Result<BigInteger, SerdeError>
-        ensures same { reading_settings_of self.new ≡ reading_settings_of self.old }
+        ensures same { reader_settings_of self.new ≡ reader_settings_of self.old }
         ensures read { ReadsScalar (json_relations (reading_settings_of self.old)) (json_relations (without_limits (reading_settings_of self.old))) (Unit {0}) (cursor_of self.old) (cursor_of self.new) (site_of _schema.now) scalars.BigInteger (λ n. whole (number n)) result }
         ensures wide { AnswersWide (json_relations (reading_settings_of self.old)) (cursor_of self.old) (site_of _schema.now) scalars.BigInteger result }
         ensures fits { IfOk result (λ n. FitsSigned w128 (number n)) }
@@ -397,7 +371,7 @@ impl ShapeDeserializer for JsonDeserializer<'_> {
     }
 
     fn read_big_decimal(&mut self, _schema: &Schema<'_>) -> Result<BigDecimal, SerdeError>
-        ensures same { reading_settings_of self.new ≡ reading_settings_of self.old }
+        ensures same { reader_settings_of self.new ≡ reader_settings_of self.old }
         ensures read { ReadsScalar (json_relations (reading_settings_of self.old)) (json_relations (without_limits (reading_settings_of self.old))) (Unit {0}) (cursor_of self.old) (cursor_of self.new) (site_of _schema.now) scalars.BigDecimal (λ n. decimal (mantissa n) (net_exponent n)) result }
         ensures wide { AnswersWide (json_relations (reading_settings_of self.old)) (cursor_of self.old) (site_of _schema.now) scalars.BigDecimal result }
         ensures fits { IfOk result (λ n. FitsSigned w128 (mantissa n)) }
@@ -424,7 +398,7 @@ impl ShapeDeserializer for JsonDeserializer<'_> {
     }
 
     fn read_document(&mut self, _schema: &Schema<'_>) -> Result<Document, SerdeError>
-        ensures same { reading_settings_of self.new ≡ reading_settings_of self.old }
+        ensures same { reader_settings_of self.new ≡ reader_settings_of self.old }
         ensures read { ReadsDocument (json_relations (reading_settings_of self.old)) (json_relations (without_limits (reading_settings_of self.old))) (Unit {0}) (reading_settings_of self.old).max_depth (cursor_of self.old) (cursor_of self.new) (site_of _schema.now) result }
 
         // `TooDeep` comes only of a value of the document inside of as many containers as may be open. `NotCarried` comes only of

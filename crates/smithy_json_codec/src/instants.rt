@@ -4,10 +4,11 @@ ghost use Rattle.std.specs.Prelude.{◌≡◌, ◌≤◌, length, IfOk, MatchOpt
 ghost use Rattle.smithy_instants.specs.Epoch.{epoch_nanos};
 ghost use Rattle.smithy_shapes.specs.Site.{site_of};
 ghost use Rattle.smithy_shapes.specs.TimeForms.{form_or};
+ghost use Rattle.smithy_json_codec.specs.Canonical.{time_form};
 ghost use Rattle.smithy_shapes.specs.Value.{instant, scalar_value};
 ghost use Rattle.smithy_json_codec.specs.Codec.{held_settings};
 ghost use Rattle.smithy_json_codec.specs.LexicalGrammar.{grammar_of};
-ghost use Rattle.smithy_json_codec.specs.Scalar.{takes_seconds, lenient_form, string_form, seconds_read_as};
+ghost use Rattle.smithy_json_codec.specs.Scalar.{format_at, takes_seconds, lenient_form, string_form, seconds_read_as};
 ghost use Rattle.smithy_json_codec.specs.Private.InstantAtPlace.{NoSecondsLie, NoDateLies};
 ghost use Rattle.smithy_json_codec.specs.Private.ScalarAtPlace.{InstantLies, UncarriedLies, NoInstantLies};
 ghost use Rattle.smithy_wire.specs.Rules.{means, no_meaning, uncarried};
@@ -22,11 +23,32 @@ use smithy_types::{DateTime, EpochError, Format, read_epoch};
 use smithy_wire::Found;
 use std::alloc::{AllocError, Global};
 
-// The form of instants at a place: its own, or the one by default.
-pub(crate) fn form_at(schema: &Schema<'_>, default: TimestampFormat) -> TimestampFormat
-    ensures { result ≡ form_or default (site_of schema.now).place.time }
+// The time form in which instants are written in a form.
+fn time_form(form: Format) -> TimestampFormat
+    ensures { result ≡ time_form form }
 {
-    schema.timestamp_format().unwrap_or(default)
+    match form {
+        Format::EpochSeconds => TimestampFormat::EpochSeconds,
+        Format::HttpDate => TimestampFormat::HttpDate,
+        Format::DateTime | Format::DateTimeWithOffset => TimestampFormat::DateTime,
+    }
+}
+
+// The form in which instants are written at a place: its own, or that of the default.
+pub(crate) fn form_at(schema: &Schema<'_>, default: Format) -> TimestampFormat
+    ensures { result ≡ form_or (time_form default) (site_of schema.now).place.time }
+{
+    schema.timestamp_format().unwrap_or(time_form(default))
+}
+
+// The form of instants at a place with this form or none.
+fn format_at(settings: &Settings, time: Option<TimestampFormat>) -> Format
+    ensures { result ≡ format_at (held_settings settings.now) time }
+{
+    match time {
+        Some(form) => form.format(),
+        None => settings.default_timestamp_format,
+    }
 }
 
 /// Whether a number may stand for an instant at a place with this form or none.
@@ -36,14 +58,14 @@ pub(crate) fn takes_seconds(settings: &Settings, time: Option<TimestampFormat>) 
     if !settings.strict_timestamp_formats {
         return true;
     }
-    match time.unwrap_or(settings.default_timestamp_format) {
-        TimestampFormat::EpochSeconds => true,
-        TimestampFormat::DateTime | TimestampFormat::HttpDate => false,
+    match format_at(settings, time) {
+        Format::EpochSeconds => true,
+        Format::DateTime | Format::DateTimeWithOffset | Format::HttpDate => false,
     }
 }
 
 // The form of strings where forms aren't strict.
-fn lenient_form(default: TimestampFormat, time: Option<TimestampFormat>) -> Format
+fn lenient_form(default: Format, time: Option<TimestampFormat>) -> Format
     ensures { result ≡ lenient_form default time }
 {
     match time {
@@ -51,8 +73,10 @@ fn lenient_form(default: TimestampFormat, time: Option<TimestampFormat>) -> Form
         Some(TimestampFormat::HttpDate) => Format::HttpDate,
         Some(TimestampFormat::EpochSeconds) => Format::EpochSeconds,
         None => match default {
-            TimestampFormat::HttpDate => Format::HttpDate,
-            TimestampFormat::DateTime | TimestampFormat::EpochSeconds => Format::DateTimeWithOffset,
+            Format::HttpDate => Format::HttpDate,
+            Format::DateTime | Format::DateTimeWithOffset | Format::EpochSeconds => {
+                Format::DateTimeWithOffset
+            }
         },
     }
 }
@@ -64,10 +88,9 @@ pub(crate) fn string_form(settings: &Settings, time: Option<TimestampFormat>) ->
     if !settings.strict_timestamp_formats {
         return Some(lenient_form(settings.default_timestamp_format, time));
     }
-    match time.unwrap_or(settings.default_timestamp_format) {
-        TimestampFormat::EpochSeconds => None,
-        TimestampFormat::DateTime => Some(Format::DateTime),
-        TimestampFormat::HttpDate => Some(Format::HttpDate),
+    match format_at(settings, time) {
+        Format::EpochSeconds => None,
+        form => Some(form),
     }
 }
 

@@ -11,7 +11,7 @@ impl JsonDeserializer<'_> {
     ghost use Rattle.smithy_shapes.specs.Table.{HasMembers};
     ghost use Rattle.smithy_shapes.specs.Site.{site_of, kind_at};
     ghost use Rattle.smithy_schema.specs.declared.error.SerdeError.TheVariants.{TooDeep};
-    ghost use Rattle.smithy_json_codec.specs.Cursor.{cursor_of, reading_settings_of};
+    ghost use Rattle.smithy_json_codec.specs.Cursor.{cursor_of, reading_settings_of, reader_settings_of};
     ghost use Rattle.smithy_json_codec.specs.Deepest.{OpensTooDeep};
     ghost use Rattle.smithy_json_codec.specs.LexicalGrammar.{rfc_8259};
     ghost use Rattle.smithy_json_codec.specs.Openers.{json_openers};
@@ -43,7 +43,7 @@ impl JsonDeserializer<'_> {
         requires sound { self.old.walk.failed ≡ false }
         requires inside { (cursor_of self.old).inner.within ≡ in_structure }
         requires place { HasMembers (kind_at (site_of schema.now)) }
-        ensures same { reading_settings_of self.new ≡ reading_settings_of self.old }
+        ensures same { reader_settings_of self.new ≡ reader_settings_of self.old }
         ensures conduct { Conducts (cursor_of self.old) (cursor_of self.new) result }
         ensures narrow { RefusesNoKind result }
         ensures ok { IfOk result (λ step. MatchStep step (json_relations (reading_settings_of self.old)) (passed_to (cursor_of self.old) at) (cursor_of self.new) (site_of schema.now)) }

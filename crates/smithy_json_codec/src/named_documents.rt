@@ -1,6 +1,6 @@
 //! Writing documents with the identifier of their shape.
-ghost use Rattle.std.specs.Prelude.{◌≡◌, ◌↔◌, [], ◌∷◌, ◌++◌, Ok, Err, true, is_some, unwrap_or, string_bytes, OnOk, IfErr, IsErr, IsErrOf, if◌then◌else◌};
-ghost use Rattle.smithy_schema.specs.declared.error.SerdeError.TheVariants.{Failed, Unwritable};
+ghost use Rattle.std.specs.Prelude.{◌≡◌, ◌↔◌, ◌++◌, Ok, Err, true, OnOk, IfErr, IsErr, IsErrOf};
+ghost use Rattle.smithy_schema.specs.declared.error.SerdeError.TheVariants.{Failed};
 ghost use Rattle.smithy_schema.specs.Reading.{IsFault};
 ghost use Rattle.smithy_schema.specs.Writing.{after_value};
 ghost use Rattle.smithy_shapes.specs.Site.{site_of};
@@ -13,7 +13,7 @@ ghost use Rattle.smithy_json.specs.Escape.{quoted};
 ghost use Rattle.smithy_json_codec.specs.Canonical.{document_text, name_text};
 ghost use Rattle.smithy_json_codec.specs.NamedDocument.{more_properties, named_text, discriminated_text};
 ghost use Rattle.smithy_json_codec.specs.Serializing.{state_of, has_failed};
-ghost use Rattle.smithy_json_codec.specs.Writing.{wrote, where_taken};
+ghost use Rattle.smithy_json_codec.specs.Writing.{wrote, wrote_any, where_taken};
 
 use crate::output::{push_name, push_quoted, push_whole_document};
 use crate::serializer::JsonSerializer;
@@ -89,12 +89,8 @@ impl JsonSerializer {
     ) -> Result<(), SerdeError>
         ensures failed { IsErrOf result Failed ↔ (has_failed self.old ≡ true) }
         ensures broken { IsErr result ↔ (has_failed self.new ≡ true) }
-        ensures ok { OnOk result ((if is_some (discriminated_text (discriminated_view value.now).discriminator (discriminated_view value.now).document)
-            then where_taken (wrote (state_of self.old) (site_of schema.now).view (unwrap_or (discriminated_text (discriminated_view value.now).discriminator (discriminated_view value.now).document) [])) (after_value (state_of self.old).frames)
-            else Err Unwritable) ≡ Ok (state_of self.new)) }
-        ensures refused { IfErr result (λ e. IsFault e → (if is_some (discriminated_text (discriminated_view value.now).discriminator (discriminated_view value.now).document)
-            then where_taken (wrote (state_of self.old) (site_of schema.now).view (unwrap_or (discriminated_text (discriminated_view value.now).discriminator (discriminated_view value.now).document) [])) (after_value (state_of self.old).frames)
-            else Err Unwritable) ≡ Err e) }
+        ensures ok { OnOk result (wrote_any (state_of self.old) (site_of schema.now).view (discriminated_text (discriminated_view value.now).discriminator (discriminated_view value.now).document) ≡ Ok (state_of self.new)) }
+        ensures refused { IfErr result (λ e. IsFault e → wrote_any (state_of self.old) (site_of schema.now).view (discriminated_text (discriminated_view value.now).discriminator (discriminated_view value.now).document) ≡ Err e) }
     {
         let Some(identifier) = value.discriminator() else {
             return self.write_document(schema, value.document());

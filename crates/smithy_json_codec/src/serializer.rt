@@ -1,6 +1,6 @@
 //! Writing a body as a schema directs.
-ghost use Rattle.std.specs.Prelude.{if◌then◌else◌, ◌≡◌, ◌↔◌, [], ◌∷◌, ◌++◌, Ok, Err, true, false, is_some, OnOk, IfErr, IsErr, IsErrOf};
-ghost use Rattle.smithy_schema.specs.declared.error.SerdeError.TheVariants.{Failed, NoMemory, Unwritable};
+ghost use Rattle.std.specs.Prelude.{◌≡◌, ◌↔◌, [], ◌∷◌, ◌++◌, Ok, Err, true, false, OnOk, IfErr, IsErr, IsErrOf};
+ghost use Rattle.smithy_schema.specs.declared.error.SerdeError.TheVariants.{Failed, NoMemory};
 ghost use Rattle.smithy_schema.specs.Reading.{IsFault};
 ghost use Rattle.smithy_shapes.specs.Site.{site_of};
 ghost use Rattle.smithy_schema.specs.Writing.{after_value, after_text, after_begin};
@@ -15,7 +15,7 @@ ghost use Rattle.smithy_wire.specs.OpenContainers.{open_of};
 ghost use Rattle.smithy_json_codec.specs.Codec.{held_settings};
 ghost use Rattle.smithy_json_codec.specs.WrittenNumber.{normalized, written_number};
 ghost use Rattle.smithy_json_codec.specs.Serializing.{state_of, has_failed};
-ghost use Rattle.smithy_json_codec.specs.Writing.{JsonState, fresh_state, is_key_due, lead, wrote, key_wrote, opened, where_taken, big_number_text, json_after};
+ghost use Rattle.smithy_json_codec.specs.Writing.{JsonState, fresh_state, is_key_due, lead, wrote, wrote_any, key_wrote, opened, where_taken, json_after};
 
 use crate::big_numbers::push_normalized;
 use crate::instants::form_at;
@@ -129,8 +129,8 @@ impl JsonSerializer {
     fn write_number(&mut self, schema: &Schema<'_>, text: &str) -> Result<(), SerdeError>
         ensures failed { IsErrOf result Failed ↔ (has_failed self.old ≡ true) }
         ensures broken { IsErr result ↔ (has_failed self.new ≡ true) }
-        ensures ok { OnOk result ((if is_some (written_number (state_of self.old).settings text.now) then where_taken (wrote (state_of self.old) (site_of schema.now).view (big_number_text (state_of self.old).settings text.now)) (after_value (state_of self.old).frames) else Err Unwritable) ≡ Ok (state_of self.new)) }
-        ensures refused { IfErr result (λ e. IsFault e → (if is_some (written_number (state_of self.old).settings text.now) then where_taken (wrote (state_of self.old) (site_of schema.now).view (big_number_text (state_of self.old).settings text.now)) (after_value (state_of self.old).frames) else Err Unwritable) ≡ Err e) }
+        ensures ok { OnOk result (wrote_any (state_of self.old) (site_of schema.now).view (written_number (state_of self.old).settings text.now) ≡ Ok (state_of self.new)) }
+        ensures refused { IfErr result (λ e. IsFault e → wrote_any (state_of self.old) (site_of schema.now).view (written_number (state_of self.old).settings text.now) ≡ Err e) }
     {
         if self.settings.use_string_for_arbitrary_precision {
             return self.write_quoted(schema, text);

@@ -5,7 +5,7 @@ ghost use Rattle.smithy_json_codec.specs.Private.IntegerRules.{integer_rule};
 
 use crate::integers::IntegerRule;
 use smithy_json::number_grammar::NumberGrammar;
-use smithy_schema::TimestampFormat;
+use smithy_types::Format;
 
 /// The greatest depth of containers of strict codecs.
 const DEFAULT_MAX_DEPTH: usize = 128;
@@ -18,7 +18,7 @@ pub(crate) struct Settings {
     /// How many containers may be open at once.
     pub(crate) max_depth: usize,
     /// The form of instants at a place without one.
-    pub(crate) default_timestamp_format: TimestampFormat,
+    pub(crate) default_timestamp_format: Format,
     /// Whether numbers are of the grammar, values end at a boundary, and strings that are read hold no bytes below 0x20.
     pub(crate) enforce_strictness: bool,
     /// Whether an integer may have a fraction or an exponent.
@@ -57,14 +57,10 @@ impl Settings {
         Settings {
             use_json_name,
             max_depth: DEFAULT_MAX_DEPTH,
-            default_timestamp_format: TimestampFormat::EpochSeconds,
+            default_timestamp_format: Format::EpochSeconds,
             enforce_strictness: true,
             allow_integral_float_numbers: false,
-            numbers: NumberGrammar {
-                allow_leading_zeros: false,
-                allow_trailing_decimal_point: false,
-                allow_empty_integer_part: false,
-            },
+            numbers: NumberGrammar::default(),
             validate_skipped_values: true,
             validate_skipped_string_encoding: true,
             strict_timestamp_formats: true,

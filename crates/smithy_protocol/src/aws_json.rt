@@ -2,14 +2,14 @@
 ghost use Rattle.std.specs.Prelude.{◌≡◌, ◌⊎◌, Ok, Err, false, IfOk, IfErr};
 ghost use Rattle.smithy_schema.specs.declared.error.SerdeError.TheVariants.{NoMemory};
 ghost use Rattle.smithy_shapes.specs.Site.{site_of};
-ghost use Rattle.smithy_json_codec.specs.Codec.{strict_settings};
-ghost use Rattle.smithy_json_codec.specs.Cursor.{cursor_of, reading_settings_of};
+ghost use Rattle.smithy_json_codec.specs.Codec.{strict_settings, strict_codec_settings, with_namespace};
+ghost use Rattle.smithy_json_codec.specs.Cursor.{cursor_of, reader_settings_of};
 ghost use Rattle.smithy_json_codec.specs.Writing.{fresh_state, json_after};
 ghost use Rattle.smithy_wire.specs.Walking.{fresh_cursor};
 ghost use Rattle.smithy_protocol.specs.Bodies.{HandsOut, IsJsonBody};
 ghost use Rattle.smithy_error_bodies.specs.JsonErrors.{JsonSays};
 ghost use Rattle.smithy_protocol.specs.ErrorAnswers.{json_metadata, SaysMetadata, IsRefusedAnswer};
-ghost use Rattle.smithy_protocol.specs.Messages.{json_request, message_of};
+ghost use Rattle.smithy_protocol.specs.Messages.{json_request, message_of, text_of};
 ghost use Rattle.smithy_protocol.specs.Protocols.{content_type, protocol_name};
 
 use crate::body::written_body;
@@ -67,6 +67,9 @@ fn json_body<V: SerializableStruct>(
 pub struct AwsJsonRpcProtocol {
     version: Version,
     target_prefix: Option<String>,
+    // What makes the readers of responses.
+    codec: JsonCodec,
+    ghost strict: { codec ≡ strict_codec_settings false },
 }
 
 impl Model for AwsJsonRpcProtocol {
@@ -89,6 +92,7 @@ impl AwsJsonRpcProtocol {
         AwsJsonRpcProtocol {
             version: Version::V1_0,
             target_prefix: None,
+            codec: JsonCodec::strict(false),
         }
     }
 
@@ -99,6 +103,7 @@ impl AwsJsonRpcProtocol {
         AwsJsonRpcProtocol {
             version: Version::V1_1,
             target_prefix: None,
+            codec: JsonCodec::strict(false),
         }
     }
 
@@ -109,6 +114,7 @@ impl AwsJsonRpcProtocol {
         AwsJsonRpcProtocol {
             version: self.version,
             target_prefix: Some(prefix),
+            codec: self.codec,
         }
     }
 
@@ -144,18 +150,22 @@ impl AwsJsonRpcProtocol {
         Ok(request)
     }
 
-    /// A reader of the body of a response, of which nothing is read yet. It takes no memory.
+    /// A reader of the body of a response, of which nothing is read yet. Relative names of shapes in documents stand in the namespace
+    /// of the configuration. It takes no memory.
     pub fn deserialize_response<'a>(
-        &self,
+        &'a self,
         alloc: Global,
         response: &'a Response,
-        _config: &ProtocolConfig,
+        config: &'a ProtocolConfig,
     ) -> JsonDeserializer<'a>
-        ensures settings { reading_settings_of result ≡ strict_settings false }
+        ensures settings { reader_settings_of result ≡ with_namespace (text_of config.now.namespace) (strict_codec_settings false) }
         ensures fresh { cursor_of result ≡ fresh_cursor response.now.body.items }
     {
-        JsonCodec::strict(false).create_deserializer(alloc, &response.body)
+        let namespace = config.namespace.as_deref();
+        self.codec
+            .create_deserializer_with_namespace(alloc, &response.body, namespace)
     }
+
     /// What an error answer says. The code is that of the header `x-amzn-errortype`, else the one that the body has under `code`, else
     /// under `__type`, without its namespace and address; the message is that of the body. A header `x-amzn-query-error` with a `;`
     /// counts over the code, and its second part is the value `type` beside them. An error is want of memory, or `InvalidInput`, as

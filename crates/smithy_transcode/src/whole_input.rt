@@ -75,7 +75,8 @@ pub(crate) fn read_whole<T: Tree>(
     let schema = shapes.schema(root);
     match from {
         Wire::Json { use_json_name } => {
-            let mut source = JsonCodec::strict(*use_json_name).create_deserializer(alloc, input);
+            let codec = JsonCodec::strict(*use_json_name);
+            let mut source = codec.create_deserializer(alloc, input);
             read_tree(alloc, &mut source, &schema)
         }
         Wire::Cbor => {

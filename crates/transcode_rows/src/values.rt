@@ -39,7 +39,8 @@ pub fn read(
 {
     match from {
         Wire::Json { use_json_name } => {
-            let mut source = JsonCodec::strict(*use_json_name).create_deserializer(alloc, input);
+            let codec = JsonCodec::strict(*use_json_name);
+            let mut source = codec.create_deserializer(alloc, input);
             read_by(alloc, shapes, root, &mut source)
         }
         Wire::Cbor => {

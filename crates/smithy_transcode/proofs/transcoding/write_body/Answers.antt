@@ -7,6 +7,7 @@ use Rattle.smithy_cbor_codec.specs.Writing.{fresh_state as fresh_cbor_state}
 use Rattle.smithy_query_codec.specs.Serializing.{state_of as form_of}
 use Rattle.smithy_transcode.specs.Wires.{wire_of, json, cbor, query, unfit}
 use Rattle.smithy_transcode.specs.Private.Positions.{CanCount}
+use Rattle.smithy_json_settings.specs.Settings.{CodecSettings}
 use Rattle.smithy_transcode.specs.Private.Tree.{compact_view as view}
 use Rattle.smithy_transcode.proofs.Bodies.{reached, root_held, json_body, json_adds, json_is_body, cbor_body, cbor_adds, cbor_is_body, form_takes, form_state, form_adds, same_fresh, form_is_body}
 use Rattle.smithy_transcode.proofs.transcoding.write_body.Goals as goal
@@ -14,7 +15,7 @@ use Rattle.smithy_transcode.proofs.transcoding.write_body.Goals as goal
 pub body_of_value-requires-clause-taken : goal.body_of_value-requires-clause-taken
 body_of_value-requires-clause-taken c =
     let site = site_of c.schema-schema.result in
-    let fresh = c.create_serializer-sink.ensures.state ∙ ap fresh_state c.strict-codec.ensures in
+    let fresh = c.create_serializer-sink.ensures.state ∙ ap (λ (s : CodecSettings). fresh_state s.json) c.strict-codec.ensures in
     let nameless = ap (λ (s : Site). s.view.name) c.schema-schema.ensures.site in
     let held = root_held (wire_of c.args.to.now) (json c.in-Json.use_json_name) c.schema-schema.result c.args.shapes.now c.args.root.0 (view c.args.value.now) (ap wire_of c.in-Json.is) c.schema-schema.ensures.site c.requires.fit in
     (json_body c.in-Json.use_json_name site (view c.args.value.now), json_adds c.in-Json.use_json_name site (view c.args.value.now) (state_of c.create_serializer-sink.result) fresh nameless held, refl)
@@ -22,7 +23,7 @@ body_of_value-requires-clause-taken c =
 pub returns-in-Json-clause-ok : goal.returns-in-Json-clause-ok
 returns-in-Json-clause-ok c =
     let site = site_of c.schema-schema.result in
-    let fresh = c.create_serializer-sink.ensures.state ∙ ap fresh_state c.strict-codec.ensures in
+    let fresh = c.create_serializer-sink.ensures.state ∙ ap (λ (s : CodecSettings). fresh_state s.json) c.strict-codec.ensures in
     let nameless = ap (λ (s : Site). s.view.name) c.schema-schema.ensures.site in
     let held = root_held (wire_of c.args.to.now) (json c.in-Json.use_json_name) c.schema-schema.result c.args.shapes.now c.args.root.0 (view c.args.value.now) (ap wire_of c.in-Json.is) c.schema-schema.ensures.site c.requires.fit in
     let adds = json_adds c.in-Json.use_json_name site (view c.args.value.now) (state_of c.create_serializer-sink.result) fresh nameless held in

@@ -1,0 +1,3 @@
+-- to be believed, in this order
+pub mod Settings
+pub mod Chosen
