@@ -1,8 +1,7 @@
 -- What a reader finds at a place, as the contract of reading says it.
 use Rattle.std.proofs.Common.{◌≡◌, ◌≢◌, ◌≤◌, ◌+◌, inr, ℕ, length, List, [], ◌∷◌, true, false, Option, Some, None, Result, Ok, Err, refl, sym, ap, subst, ◌∙◌, arith}
 use Rattle.std.proofs.lemmas.Bool.Decides.{nat_tests}
-use Rattle.std.specs.Prelude.{nat_le}
-use Rattle.std.specs.Prelude.{IfSome}
+use Rattle.std.specs.Prelude.{◌↔◌, ◌<◌, suc, Bool, nat_le, IfSome, OnOk}
 use Rattle.std.specs.Result.{IsErrOf, IfOk}
 use Rattle.std.specs.declared.alloc.AllocError.{AllocError}
 use Rattle.smithy_schema.specs.declared.error.SerdeError.{SerdeError}
@@ -10,22 +9,23 @@ use Rattle.smithy_schema.specs.declared.error.SerdeError.TheVariants.{Failed}
 use Rattle.smithy_schema.specs.declared.error.SerdeError.TheVariants as errors
 use Rattle.smithy_shapes.specs.declared.place.Place.{Place}
 use Rattle.smithy_shapes.specs.Table.{Table, kind_of, IsList, IsMap, IsStructure}
-use Rattle.smithy_schema.specs.Reading.{Cursor, depth, Steps, Conducts, OpensNot, SkipsNot, CannotGoOn, IsFault, IsInvalid, IsOfReader, RefusesNoKind, failed_at, in_list, in_map}
+use Rattle.smithy_schema.specs.Reading.{Cursor, Frame, depth, in_structure, Enters, Steps, Conducts, OpensNot, SkipsNot, CannotGoOn, IsFault, IsInvalid, IsOfReader, RefusesNoKind, failed_at, in_list, in_map}
 use Rattle.smithy_json.specs.Ascii.{end_array, end_object}
 use Rattle.smithy_json.specs.Unescape.{unescaped}
 use Rattle.smithy_json_codec.specs.declared.members.EntryFault.{EntryFault}
 use Rattle.smithy_json_codec.specs.declared.members.EntryFault.TheVariants as entry_faults
 use Rattle.smithy_json_codec.specs.declared.skip.SkipFault.{SkipFault}
 use Rattle.smithy_json_codec.specs.declared.skip.SkipFault.TheVariants as skip_faults
-use Rattle.smithy_json_codec.specs.Cursor.{inside_of}
+use Rattle.smithy_json_codec.specs.Cursor.{inside_of, missing_frame}
 use Rattle.smithy_wire.specs.declared.found.Found.{Found}
 use Rattle.smithy_wire.specs.declared.found.Found.TheVariants.{Value, Nothing, Beyond}
 use Rattle.smithy_wire.specs.Finding.{MatchFound, Takes, TakesWithin}
-use Rattle.smithy_wire.specs.Walking.{gone_on_to}
+use Rattle.smithy_wire.specs.Walking.{entered_into, gone_on_to}
 use Rattle.smithy_json_codec.specs.Settings.{Settings, without_limits, is_shallow, kept}
-use Rattle.smithy_json_codec.specs.LexicalGrammar.{rfc_8259}
-use Rattle.smithy_json_codec.specs.Standing.{json_relations, json_frames, end_mark, Names}
-use Rattle.smithy_json_codec.specs.Private.NextInContainer.{ElementBegins, ClosesBy, GoesOnInList, GoesOnInObject}
+use Rattle.smithy_json_codec.specs.LexicalGrammar.{frames_of}
+use Rattle.smithy_json_codec.specs.Standing.{json_grammar, json_relations, end_mark}
+use Rattle.smithy_json_codec.specs.Tokens.{IsOverBy}
+use Rattle.smithy_json_codec.specs.Private.NextInContainer.{ElementBegins, ClosesIn, NamesIn, GoesOnInList, GoesOnInObject}
 use Rattle.smithy_json_codec.specs.Private.Skipping.{SkipsTo, skip_refusal}
 use Rattle.smithy_json_codec.specs.Private.PassedEntries.{entry_refusal}
 use Rattle.smithy_json_codec.proofs.ReaderLemmas.{steps_in_list, list_is_stuck, steps_in_map, map_is_stuck, same_names, names_or_end}
@@ -33,7 +33,7 @@ use Rattle.smithy_json_codec.proofs.SkippedValues.{skips_are}
 use Rattle.smithy_wire.specs.Frames.{IsTold}
 use Rattle.smithy_wire.specs.Node.{as_object, nesting}
 use Rattle.smithy_wire.specs.Lemmas.Nodes.{one_node}
-use Rattle.smithy_json_codec.specs.Private.Wire.{json_is_wire}
+use Rattle.smithy_json_codec.specs.Private.Wire.{tokens_are_wire, over_is_end}
 
 -- what a read answers lies from where the reader was to where it is
 pub answers_within : {A : Type 0} (P : A → ℕ → Type 0) (old new : Cursor) (beyond : SerdeError) (found : Result (Found (A × ℕ)) AllocError) (result : Result A SerdeError)
@@ -51,19 +51,14 @@ takes_so P old new (Err e) result here taken = rw taken.0 tt
 
 -- ---- containers
 
-no_bytes : (bytes : List ℕ) → length bytes ≡ 0 → bytes ≡ []
-no_bytes [] h = refl
-no_bytes (b ∷ bytes) h = absurd (omega (arith, h))
+-- where the input is over a structure opens
+pub over_opens : (o : Settings) (c : Cursor) (t : Table) (p : Place) (e : ℕ) → IsStructure (kind_of t p) → IsOverBy o.enforce_strictness c.input c.at e → OpensNot (json_relations o) c t p → ⊥
+over_opens o c t p e kind over none = none e end_mark (inr (kind, over, refl))
 
--- an empty input opens a structure
-pub empty_opens : (o : Settings) (c : Cursor) (t : Table) (p : Place) → IsStructure (kind_of t p) → length c.input ≡ 0 → c.at ≤ length c.input → OpensNot (json_relations o) c t p → ⊥
-empty_opens o c t p kind empty within none =
-    let here : c.at ≡ 0 = omega (arith, empty, within) in
-    let nothing : c.input ≡ [] = no_bytes c.input empty in
-    none 0 end_mark (inr (kind, ((nothing, here), sym here), refl))
-
-pub not_empty : (input : List ℕ) → (length input ≡ 0 → ⊥) → input ≡ [] → ⊥
-not_empty input full is = full (ap length is)
+-- a test that fails says that it is not over
+pub not_over : (strict : Bool) (i : List ℕ) (at e : ℕ) (test : Bool) → (test ≡ true) ↔ IsOverBy strict i at (length i) → test ≡ false → IsOverBy strict i at e → ⊥
+not_over strict i at e test tells fails over =
+    let clash : true ≡ false = sym (tells.1 (subst (IsOverBy strict i at) (over_is_end strict i at e over).1 over)) ∙ fails in cc
 
 -- the list went on to an element
 pub element_steps : (o : Settings) (old new : Cursor) (t : Table) (p : Place) (b : ℕ) → IsList (kind_of t p) → old.inner.within ≡ in_list → old.failed ≡ false
@@ -79,16 +74,16 @@ element_steps o old new t p b kind within sound is begins = rw is (record {
 
 -- the list goes on neither to an element nor to its end
 pub list_stuck : (o : Settings) (c : Cursor) (t : Table) (p : Place) → IsList (kind_of t p) → (held : ℕ) → held ≡ depth c
-    → GoesOnInList c.input c.at c.inner.mark.entered held None → CannotGoOn (json_relations o) c t p
+    → GoesOnInList (json_grammar o) c.input c.at c.inner.mark.entered held None → CannotGoOn (json_relations o) c t p
 list_stuck o c t p kind held same h =
-    let shut = subst (λ d. (e : ℕ) → ClosesBy end_array c.input c.at d e → ⊥) same h.1 in
+    let shut = subst (λ d. (e : ℕ) → ClosesIn (json_grammar o) end_array c.input c.at d e → ⊥) same h.1 in
     list_is_stuck o c.input t p kind (depth c) c.at c.inner.mark (λ b separated goes. h.0 b (separated, goes)) (λ e lies follows. shut e (lies, follows))
 
 -- ---- maps
 
 -- the map went on to an entry
 pub entry_steps : (o : Settings) (old new : Cursor) (t : Table) (p : Place) (raw key : List ℕ) (b : ℕ) → IsMap (kind_of t p) → old.inner.within ≡ in_map → old.failed ≡ false
-    → new ≡ gone_on_to old b (inside_of in_map true) → Names old.inner.mark.entered old.input old.at raw b → unescaped raw ≡ Some key
+    → new ≡ gone_on_to old b (inside_of in_map true) → NamesIn (json_grammar o) old.inner.mark.entered old.input old.at raw b → unescaped raw ≡ Some key
     → Steps (json_relations o) old new t p (Some key)
 entry_steps o old new t p raw key b kind within sound is names some = rw is (record {
   steps = steps_in_map o old.input t p kind (depth old) old.at old.inner.mark raw key b names some;
@@ -101,18 +96,18 @@ entry_steps o old new t p raw key b kind within sound is names some = rw is (rec
 
 -- the map goes on neither to a key nor to its end
 pub map_stuck : (o : Settings) (c : Cursor) (t : Table) (p : Place) → IsMap (kind_of t p) → (held : ℕ) → held ≡ depth c
-    → GoesOnInObject c.input c.at c.inner.mark.entered held None → CannotGoOn (json_relations o) c t p
+    → GoesOnInObject (json_grammar o) c.input c.at c.inner.mark.entered held None → CannotGoOn (json_relations o) c t p
 map_stuck o c t p kind held same h =
-    let shut = subst (λ d. (e : ℕ) → ClosesBy end_object c.input c.at d e → ⊥) same h.1 in
+    let shut = subst (λ d. (e : ℕ) → ClosesIn (json_grammar o) end_object c.input c.at d e → ⊥) same h.1 in
     map_is_stuck o c.input t p kind (depth c) c.at c.inner.mark (λ raw b names told. h.0 raw b names) (λ e lies follows. shut e (lies, follows))
 
 -- nor where its key has no text
-pub key_stuck : (o : Settings) (c : Cursor) (t : Table) (p : Place) (raw : List ℕ) (b : ℕ) → IsMap (kind_of t p) → Names c.inner.mark.entered c.input c.at raw b
+pub key_stuck : (o : Settings) (c : Cursor) (t : Table) (p : Place) (raw : List ℕ) (b : ℕ) → IsMap (kind_of t p) → NamesIn (json_grammar o) c.inner.mark.entered c.input c.at raw b
     → unescaped raw ≡ None → CannotGoOn (json_relations o) c t p
 key_stuck o c t p raw b kind names wordless =
     map_is_stuck o c.input t p kind (depth c) c.at c.inner.mark
-    (λ other d there told. subst (IsTold as_object) (ap unescaped (same_names c.input c.inner.mark.entered c.at other raw d b there names).0 ∙ wordless) told)
-    (λ e lies follows. names_or_end c.input c.inner.mark.entered c.at raw b e names lies)
+    (λ other d there told. subst (IsTold as_object) (ap unescaped (same_names c.input c.inner.mark.entered c.at other raw d b there.0 names.0).0 ∙ wordless) told)
+    (λ e lies follows. names_or_end c.input c.inner.mark.entered c.at raw b e names.0 lies)
 
 -- ---- skipped values
 
@@ -122,33 +117,51 @@ kept_shallow o d limits shallow = let test : nat_le d o.max_depth ≡ true = rw 
 pub shallow_kept : (o : Settings) (d : ℕ) → o.limits ≡ kept → d ≤ o.max_depth → is_shallow o d ≡ true
 shallow_kept o d limits shallow = let test : nat_le d o.max_depth ≡ true = grind (arith, nat_tests, shallow) in rw limits test
 
+-- where the input is over a structure is entered
+pub over_enters : (o : Settings) (old new : Cursor) (t : Table) (p : Place) (end max : ℕ) (frame : Frame) (result : Result (Unit {0}) SerdeError) → IsStructure (kind_of t p) → o.limits ≡ kept
+    → IsOverBy o.enforce_strictness old.input old.at end → old.failed ≡ false → frame ≡ missing_frame → max ≡ o.max_depth
+    → OnOk result (new ≡ entered_into old end frame) → OnOk result (depth old < max) → OnOk result (Enters (json_relations o) o.max_depth old new t p in_structure)
+over_enters o old new t p end max frame (Err e) kind keeps over sound is limit entered shallow = tt
+over_enters o old new t p end max frame (Ok u) kind keeps over sound is limit entered shallow =
+    let room : depth old < o.max_depth = subst (λ n. depth old < n) limit shallow in
+    rw (entered, is) (record {
+      shallow = room;
+      allowed = shallow_kept o (suc (depth old)) keeps (omega (arith, room));
+      opens = inr (kind, over, refl);
+      input = refl;
+      within = refl;
+      outer = refl;
+      due = refl;
+      failed = sound;
+    })
+
 module _ (o : Settings) (c : Cursor) where
   -- nothing can be skipped, under limits that are kept
-  pub skips_not : (held : ℕ) → held ≡ depth c → o.limits ≡ kept → ((e : ℕ) → SkipsTo rfc_8259 o.max_depth held c.input c.at e → ⊥) → SkipsNot (json_relations o) c
+  pub skips_not : (held : ℕ) → held ≡ depth c → o.limits ≡ kept → ((e : ℕ) → SkipsTo (json_grammar o) o.max_depth held c.input c.at e → ⊥) → SkipsNot (json_relations o) c
   skips_not held same limits none e skips =
-      let s = (skips_are rfc_8259 o c.input (depth c) c.at e).1 skips in
+      let s = (skips_are (json_grammar o) o c.input (depth c) c.at e).1 skips in
       none e (rw same (record { node = s.0; lies = s.1; shallow = kept_shallow o (depth c + nesting s.0) limits s.2 }))
 
   -- nor with the limits lifted
-  pub skips_never : (held : ℕ) → held ≡ depth c → ((greatest e : ℕ) → SkipsTo rfc_8259 greatest held c.input c.at e → ⊥) → SkipsNot (json_relations (without_limits o)) c
+  pub skips_never : (held : ℕ) → held ≡ depth c → ((greatest e : ℕ) → SkipsTo (json_grammar o) greatest held c.input c.at e → ⊥) → SkipsNot (json_relations (without_limits o)) c
   skips_never held same none e skips =
-      let s = (skips_are rfc_8259 (without_limits o) c.input (depth c) c.at e).1 skips in
+      let s = (skips_are (json_grammar o) (without_limits o) c.input (depth c) c.at e).1 skips in
       none (depth c + nesting s.0) e (rw same (record { node = s.0; lies = s.1; shallow = omega arith }))
 
   -- what was skipped is skipped there
-  pub skips_here : (held : ℕ) → held ≡ depth c → o.limits ≡ kept → (e : ℕ) → SkipsTo rfc_8259 o.max_depth held c.input c.at e
+  pub skips_here : (held : ℕ) → held ≡ depth c → o.limits ≡ kept → (e : ℕ) → SkipsTo (json_grammar o) o.max_depth held c.input c.at e
       → (json_relations o).skips c.input (depth c) c.at e
   skips_here held same limits e h =
-      let s : SkipsTo rfc_8259 o.max_depth (depth c) c.input c.at e = rw same at h in
-      (skips_are rfc_8259 o c.input (depth c) c.at e).0 (s.node, s.lies, shallow_kept o (depth c + nesting s.node) limits s.shallow)
+      let s : SkipsTo (json_grammar o) o.max_depth (depth c) c.input c.at e = rw same at h in
+      (skips_are (json_grammar o) o c.input (depth c) c.at e).0 (s.node, s.lies, shallow_kept o (depth c + nesting s.node) limits s.shallow)
 
   -- what is skipped ends at one place
-  pub skips_same : (held greatest : ℕ) → held ≡ depth c → (end e : ℕ) → SkipsTo rfc_8259 greatest held c.input c.at end
+  pub skips_same : (held greatest : ℕ) → held ≡ depth c → (end e : ℕ) → SkipsTo (json_grammar o) greatest held c.input c.at end
       → (json_relations o).skips c.input (depth c) c.at e → end ≡ e
   skips_same held greatest same end e h skips =
-      let s = (skips_are rfc_8259 o c.input (depth c) c.at e).1 skips in
-      let here : SkipsTo rfc_8259 greatest (depth c) c.input c.at end = rw same at h in
-      (one_node json_frames json_is_wire c.input (depth c) here.node s.0 c.at end e here.lies.0 s.1.0).1
+      let s = (skips_are (json_grammar o) o c.input (depth c) c.at e).1 skips in
+      let here : SkipsTo (json_grammar o) greatest (depth c) c.input c.at end = rw same at h in
+      (one_node (frames_of (json_grammar o)) (tokens_are_wire o.enforce_strictness) c.input (depth c) here.node s.0 c.at end e here.lies.0 s.1.0).1
 
 -- ---- refusals
 

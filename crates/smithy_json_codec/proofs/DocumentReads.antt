@@ -64,24 +64,24 @@ module _ (g : LexicalGrammar) (o : Settings) (keeps : o.limits ≡ kept) (old : 
   module _ (sound : old.failed ≡ false) (due : old.due ≡ true) (within : old.at ≤ length old.input) where
     -- of a document
     pub reads_document : (new : Cursor) (x : code.Document) (e : ℕ) → DocumentStands g o (depth old) old.input old.at (document_view x) e → new ≡ passed_to old e
-        → ReadsDocument (token_relations g o) (token_relations g (without_limits o)) (Unit {0}) o.max_depth old new site (Ok x)
+        → ReadsDocument (token_relations g o) (token_relations g (without_limits o)) (o.enforce_strictness ≡ true) o.max_depth old new site (Ok x)
     reads_document new x e stands =
-        reads (token_relations g o) (token_relations g (without_limits o)) (Unit {0}) o.max_depth site (lawful g o) old sound due within new x e
+        reads (token_relations g o) (token_relations g (without_limits o)) (o.enforce_strictness ≡ true) o.max_depth site (lawful g o) old sound due within new x e
         (value_stands g o old.input (depth old) old.at site.table at refl (document_view x) e stands)
 
     -- where none was read
     pub refuses_document : (new : Cursor) → new ≡ failed_at old → (f : DocumentFault) → RefusesStanding g o (depth old) old.input old.at f
-        → ReadsDocument (token_relations g o) (token_relations g (without_limits o)) (Unit {0}) o.max_depth old new site (Err (document_refusal f))
+        → ReadsDocument (token_relations g o) (token_relations g (without_limits o)) (o.enforce_strictness ≡ true) o.max_depth old new site (Err (document_refusal f))
     refuses_document new stays NoDocument h =
-        refuses (token_relations g o) (token_relations g (without_limits o)) (Unit {0}) o.max_depth site old new stays within sound
+        refuses (token_relations g o) (token_relations g (without_limits o)) (o.enforce_strictness ≡ true) o.max_depth site old new stays within sound
         (λ due. (none_there o h.1, none_there (without_limits o) h.0))
     refuses_document new stays TooDeep h =
-        is_too_deep (token_relations g o) (token_relations g (without_limits o)) (Unit {0}) o.max_depth site old new stays within sound due h.1 refl (none_there o h.2)
+        is_too_deep (token_relations g o) (token_relations g (without_limits o)) (o.enforce_strictness ≡ true) o.max_depth site old new stays within sound due h.1 refl (none_there o h.2)
     refuses_document new stays NotCarried h =
-        carries_not (token_relations g o) (token_relations g (without_limits o)) (Unit {0}) o.max_depth site old new stays within sound due
+        carries_not (token_relations g o) (token_relations g (without_limits o)) (o.enforce_strictness ≡ true) o.max_depth site old new stays within sound due
         (other_is_uncarried g o old.input (depth old) old.at site.table at refl h.0) (none_there o h.1)
     refuses_document new stays NoMemory h =
-        runs_out (token_relations g o) (token_relations g (without_limits o)) (Unit {0}) o.max_depth site old new stays within sound
+        runs_out (token_relations g o) (token_relations g (without_limits o)) (o.enforce_strictness ≡ true) o.max_depth site old new stays within sound
 
 -- ---- why none was read
 

@@ -8,7 +8,6 @@ use Rattle.smithy_shapes.specs.declared.shape_type.Scalar.TheVariants as scalars
 use Rattle.smithy_shapes.specs.Limits.{Limits}
 use Rattle.smithy_shapes.specs.Lemmas.Options.{chosen, made, step_apart}
 use Rattle.smithy_json.specs.Ascii.{quotation_mark, begin_array, begin_object}
-use Rattle.smithy_json.specs.Tree as tree
 use Rattle.smithy_json.specs.Unescape.{unescaped}
 use Rattle.smithy_json.proofs.DocumentLemmas.{some_of_pair}
 use Rattle.smithy_json_codec.specs.declared.documents.DocumentFault.TheVariants as faults
@@ -18,24 +17,22 @@ use Rattle.smithy_json_codec.specs.declared.documents.scalars.Begun.{Begun}
 use Rattle.smithy_json_codec.specs.declared.documents.scalars.Begun.TheVariants.{Scalar, Container}
 use Rattle.smithy_json_codec.specs.Settings.{Settings, kept, without_limits, is_within}
 use Rattle.smithy_json_codec.specs.Scalar.{JsonScalar, a_boolean, a_number, a_string, document_says, held_says}
-use Rattle.smithy_json_codec.specs.LexicalGrammar.{LexicalGrammar, rfc_8259, is_skipped_in, frames_of, token_rules, LiesInGrammar, NodeLies}
-use Rattle.smithy_json_codec.specs.Standing.{TreeLies}
+use Rattle.smithy_json_codec.specs.LexicalGrammar.{LexicalGrammar, frames_of, token_rules, LiesInGrammar, NodeLies}
 use Rattle.smithy_json_codec.specs.Tokens.{is_numeric, IsToken}
 use Rattle.smithy_json_codec.specs.Documents.{is_read_in, says_in, document_in, DocumentLies, NoDocumentLies, OtherNumberLies, ValueOpens}
 use Rattle.smithy_json_codec.specs.Private.NextInContainer.{IsFirstByte}
 use Rattle.smithy_json_codec.specs.Private.ScalarAtPlace.{TextLies}
-use Rattle.smithy_json_codec.specs.Private.Skipping.{ScalarLies, NoValueLies}
-use Rattle.smithy_json_codec.specs.Private.OpenDocuments.{ScalarMeans, HeldNumberLies, OtherTreeLies, BeginsDocument, RefusesDocument, begin_fault}
-use Rattle.smithy_json_codec.specs.Private.TokenGrammar.{null_token, tree_in_grammar, in_grammar_tree, good_in, in_good}
+use Rattle.smithy_json_codec.specs.Private.Skipping.{NoValueLies}
+use Rattle.smithy_json_codec.specs.Private.OpenDocuments.{ScalarMeans, HeldNumberLies, BeginsDocument, RefusesDocument, begin_fault}
 use Rattle.smithy_json_codec.proofs.FirstBytePlaces.{first_lies}
 use Rattle.smithy_json_codec.proofs.NodeFirstBytes.{BeginsWith, begins_with_byte, node_before, node_behind}
 use Rattle.smithy_json_codec.proofs.ValueFirstByte.{lies_before}
-use Rattle.smithy_json_codec.proofs.OpenContainers.{grammar_is_wire, node_parts, parts_node}
+use Rattle.smithy_json_codec.proofs.OpenContainers.{grammar_is_wire, parts_node}
 use Rattle.smithy_json_codec.proofs.OpenDocumentLemmas.{Allows, within_allowed, depth_allowed}
 use Rattle.smithy_wire.specs.Documents.{elements_of, pairs_of}
 use Rattle.smithy_wire.specs.Frames.{Lies as LiesAsNode, NodesLie}
 use Rattle.smithy_wire.specs.Lemmas.Nodes.{one_node}
-use Rattle.smithy_wire.specs.Node.{as_array, as_object, Node, null_node, leaf, container, missing, Nodes, no_nodes, node, nesting, all_pass, nodes_pass}
+use Rattle.smithy_wire.specs.Node.{as_array, as_object, Node, null_node, leaf, container, missing, Nodes, no_nodes, node, all_pass, nodes_pass}
 use Rattle.smithy_wire.specs.Readers.{settled_answer}
 use Rattle.smithy_wire.specs.Rules.{Answer, no_meaning, settled, at_depth, key_text}
 
@@ -140,7 +137,7 @@ begins_refuses g c depth i a keeps NoMemory h = tt
 module _ (g : LexicalGrammar) (i : List ℕ) (at b start : ℕ) (here : IsFirstByte i at b start) where
   -- how a value begins at the first byte, it begins before the blanks
   pub begins_before : (r : Result Begun BeginFault) → BeginsDocument g i start r → BeginsDocument g i at r
-  begins_before (Ok (Scalar d e)) h = record { node = h.node; lies = node_before i at b start here g (is_read_in g) 1 h.node e h.lies; means = h.means }
+  begins_before (Ok (Scalar d e)) h = record { node = h.node; lies = node_before i at b start here g (is_read_in g) 1 h.node e h.lies; flat = h.flat; means = h.means }
   begins_before (Ok (Container kind inside)) h = lies_before i at b start here _ inside h
   begins_before (Err NoValue) h = λ c depth d e there.
       let moved = node_behind i at b start here g (is_read_in g) 1 there.node e (document_node g c depth i at d e there) in
@@ -160,101 +157,63 @@ module _ (g : LexicalGrammar) (c : Settings) (keeps : c.limits ≡ kept) (i : Li
   none_at_limit d e h =
       let may = within_allowed c keeps (suc c.max_depth) (meaning_allowed g c c.max_depth h.node d h.means) in omega (arith, may)
 
-  pub too_deep_at_limit : ValueOpens g (is_read_in g) i a → RefusesDocument g c c.max_depth i a faults.TooDeep
+  too_deep_at_limit : ValueOpens g (is_read_in g) i a → RefusesDocument g c c.max_depth i a faults.TooDeep
   too_deep_at_limit opens =
       (record { containers = []; at = a; due = refl; opens = opens; deepest = omega arith }, omega arith, none_at_limit)
 
-  pub invalid_at_limit : NoValueLies g (is_read_in g) i a → RefusesDocument g c c.max_depth i a faults.NoDocument
-  invalid_at_limit none = (no_node_no_document g i a none (without_limits c) c.max_depth, none_at_limit)
+  -- where a value begins
+  pub begun_at_limit : (b : Begun) → BeginsDocument g i a (Ok b) → RefusesDocument g c c.max_depth i a faults.TooDeep
+  begun_at_limit (Scalar d e) h = too_deep_at_limit (inr (e, record { node = h.node; lies = h.lies; flat = h.flat }))
+  begun_at_limit (Container kind inside) h = too_deep_at_limit (inl (kind, inside, h))
 
--- ---- RFC 8259
+-- ---- scalars
 
--- what is read of a document there may be skipped, and back
-mutual
-  read_skipped : (x : Node JsonScalar) → all_pass (is_read_in rfc_8259) x ≡ true → all_pass (is_skipped_in rfc_8259) x ≡ true
-  read_skipped null_node h = refl
-  read_skipped (leaf x) h = in_good scalars.BigDecimal x h
-  read_skipped (container f xs) h = nodes_skipped xs h
-  read_skipped missing h = h
-
-  nodes_skipped : (xs : Nodes JsonScalar) → nodes_pass (is_read_in rfc_8259) xs ≡ true → nodes_pass (is_skipped_in rfc_8259) xs ≡ true
-  nodes_skipped no_nodes h = refl
-  nodes_skipped (node None x xs) h =
-      let parts = node_parts (is_read_in rfc_8259) None x xs h in
-      parts_node (is_skipped_in rfc_8259) None x xs refl (read_skipped x parts.1) (nodes_skipped xs parts.2)
-  nodes_skipped (node (Some key) x xs) h =
-      let parts = node_parts (is_read_in rfc_8259) (Some key) x xs h in
-      parts_node (is_skipped_in rfc_8259) (Some key) x xs (in_good scalars.BigDecimal key parts.0) (read_skipped x parts.1) (nodes_skipped xs parts.2)
-
-skipped_read : (x : Node JsonScalar) → nesting x ≡ 0 → all_pass (is_skipped_in rfc_8259) x ≡ true → all_pass (is_read_in rfc_8259) x ≡ true
-skipped_read null_node flat h = refl
-skipped_read (leaf x) flat h = good_in scalars.BigDecimal x h
-skipped_read (container f xs) flat h = absurd (omega (arith, flat))
-skipped_read missing flat h = h
-
-pub not_skipped_not_read : (i : List ℕ) (a : ℕ) → NoValueLies rfc_8259 (is_skipped_in rfc_8259) i a → NoValueLies rfc_8259 (is_read_in rfc_8259) i a
-not_skipped_not_read i a none depth x e h = none depth x e (h.0, read_skipped x h.1)
-
-pub no_value_no_document : (i : List ℕ) (a : ℕ) → NoValueLies rfc_8259 (is_skipped_in rfc_8259) i a → NoDocument rfc_8259 i a
-no_value_no_document i a none = no_node_no_document rfc_8259 i a (not_skipped_not_read i a none)
-
-pub skipped_opens : (i : List ℕ) (a : ℕ) → ValueOpens rfc_8259 (is_skipped_in rfc_8259) i a → ValueOpens rfc_8259 (is_read_in rfc_8259) i a
-skipped_opens i a (inl opens) = inl opens
-skipped_opens i a (inr (e, scalar)) =
-    inr (e, record { node = scalar.node; lies = (scalar.lies.0, skipped_read scalar.node scalar.flat scalar.lies.1); flat = scalar.flat })
-
-module _ (i : List ℕ) (a : ℕ) where
-  leaf_lies : (x : JsonScalar) (e : ℕ) → LiesInGrammar rfc_8259 scalars.BigDecimal x i a e → NodeLies rfc_8259 (is_read_in rfc_8259) 1 (leaf x) i a e
-  leaf_lies x e h = h
-
-  says_so : (x : JsonScalar) (e : ℕ) → LiesInGrammar rfc_8259 scalars.BigDecimal x i a e → says_in rfc_8259 x ≡ document_says x
+module _ (g : LexicalGrammar) (i : List ℕ) (a : ℕ) where
+  says_so : (x : JsonScalar) (e : ℕ) → LiesInGrammar g scalars.BigDecimal x i a e → says_in g x ≡ document_says x
   says_so x e h = ap (λ b. if b then document_says x else no_meaning) h.1
 
   -- a scalar that means a document under any limits
-  scalar_means : (x : JsonScalar) (d : Document Number) (e : ℕ) → LiesInGrammar rfc_8259 scalars.BigDecimal x i a e
-      → ((limits : Limits) → settled limits null (document_says x) ≡ Some d) → ScalarMeans rfc_8259 i a d e
+  scalar_means : (x : JsonScalar) (d : Document Number) (e : ℕ) → LiesInGrammar g scalars.BigDecimal x i a e
+      → ((limits : Limits) → settled limits null (document_says x) ≡ Some d) → ScalarMeans g i a d e
   scalar_means x d e lies means = record {
     node = leaf x;
-    lies = leaf_lies x e lies;
+    lies = lies;
+    flat = refl;
     means = λ c depth.
-        ap (λ s. at_depth (token_rules rfc_8259 c) (suc depth) (settled c.limits null s)) (says_so x e lies)
-        ∙ ap (at_depth (token_rules rfc_8259 c) (suc depth)) (means c.limits);
+        ap (λ s. at_depth (token_rules g c) (suc depth) (settled c.limits null s)) (says_so x e lies)
+        ∙ ap (at_depth (token_rules g c) (suc depth)) (means c.limits);
   }
 
-  pub null_means : (e : ℕ) → TreeLies 1 tree.null i a e → ScalarMeans rfc_8259 i a null e
-  null_means e lies = record { node = null_node; lies = (null_token i 1 a e lies, refl); means = λ c depth. refl }
+  pub null_means : (e : ℕ) → (frames_of g).null i 0 a e → ScalarMeans g i a null e
+  null_means e lies = record { node = null_node; lies = (lies, refl); flat = refl; means = λ c depth. refl }
 
-  pub boolean_means : (b : Bool) (e : ℕ) → TreeLies 1 (tree.boolean b) i a e → ScalarMeans rfc_8259 i a (boolean b) e
-  boolean_means b e lies = scalar_means (a_boolean b) (boolean b) e (tree_in_grammar scalars.BigDecimal (a_boolean b) i a e lies) (λ limits. refl)
+  pub boolean_means : (b : Bool) (e : ℕ) → (frames_of g).scalar i 0 (a_boolean b) a e → ScalarMeans g i a (boolean b) e
+  boolean_means b e lies = scalar_means (a_boolean b) (boolean b) e (lies, refl) (λ limits. refl)
 
-  pub number_means : (n : Number) (e : ℕ) → HeldNumberLies i a n e → ScalarMeans rfc_8259 i a (number n) e
+  pub number_means : (n : Number) (e : ℕ) → HeldNumberLies g i a n e → ScalarMeans g i a (number n) e
   number_means n e h =
-      scalar_means (a_number h.raw) (number n) e (tree_in_grammar scalars.BigDecimal (a_number h.raw) i a e h.lies)
-      (λ limits. ap (λ o. settled limits null (held_says o)) h.is)
+      scalar_means (a_number h.raw) (number n) e h.lies (λ limits. ap (λ o. settled limits null (held_says o)) h.is)
 
-  pub text_means : (s : List ℕ) (e : ℕ) → TextLies i a s e → ScalarMeans rfc_8259 i a (text s) e
+  pub text_means : (s : List ℕ) (e : ℕ) → TextLies g i a s e → ScalarMeans g i a (text s) e
   text_means s e h =
-      scalar_means (a_string h.raw) (text s) e (tree_in_grammar scalars.BigDecimal (a_string h.raw) i a e h.lies)
+      scalar_means (a_string h.raw) (text s) e h.lies
       (λ limits. settled_answer limits null (option_map text (unescaped h.raw)) ∙ ap (option_map text) h.is)
 
-  pub other_lies : OtherTreeLies i a → OtherNumberLies rfc_8259 i a
-  other_lies h = record { raw = h.raw; e = h.e; lies = tree_in_grammar scalars.BigDecimal (a_number h.raw) i a h.e h.lies; not_held = h.not_held }
-
   -- where a string begins that has no text
-  pub no_text_no_document : (start : ℕ) → IsFirstByte i a quotation_mark start → ((s : List ℕ) (e : ℕ) → TextLies i a s e → ⊥) → NoDocument rfc_8259 i a
+  pub no_text_no_document : (start : ℕ) → IsFirstByte i a quotation_mark start → ((s : List ℕ) (e : ℕ) → TextLies g i a s e → ⊥) → NoDocument g i a
   no_text_no_document start here none c depth d e h =
-      go h.node (begins_with_byte rfc_8259 (is_read_in rfc_8259) i a quotation_mark (start + 1) here.plain (first_lies i a quotation_mark start here) 1 h.node e (document_node rfc_8259 c depth i a d e h))
+      go h.node (begins_with_byte g (is_read_in g) i a quotation_mark (start + 1) here.plain (first_lies i a quotation_mark start here) 1 h.node e (document_node g c depth i a d e h))
       h.lies h.means
     where
-      go : (x : Node JsonScalar) → BeginsWith x quotation_mark → LiesAsNode (frames_of rfc_8259) i 1 x a e → document_in rfc_8259 c depth x ≡ Some d → ⊥
+      go : (x : Node JsonScalar) → BeginsWith x quotation_mark → LiesAsNode (frames_of g) i 1 x a e → document_in g c depth x ≡ Some d → ⊥
       go null_node begins lies means = let no : ◌≡◌ {A = ℕ} quotation_mark 0x6e = begins in omega arith
       go (leaf (a_boolean true)) begins lies means = let no : ◌≡◌ {A = ℕ} quotation_mark 0x74 = begins in omega arith
       go (leaf (a_boolean false)) begins lies means = let no : ◌≡◌ {A = ℕ} quotation_mark 0x66 = begins in omega arith
       go (leaf (a_number raw)) begins lies means = let no : false ≡ true = begins in cc
       go (leaf (a_string raw)) begins lies means =
-          let told = leaf_means rfc_8259 c depth (a_string raw) d means in
+          let told = leaf_means g c depth (a_string raw) d means in
           let s = made text (unescaped raw) d (sym (settled_answer c.limits null (option_map text (unescaped raw))) ∙ told.2) in
-          none s.0 e (record { raw = raw; lies = in_grammar_tree scalars.BigDecimal (a_string raw) i a e (lies, told.1); is = s.1 })
+          none s.0 e (record { raw = raw; lies = (lies, told.1); is = s.1 })
       go (container as_array xs) begins lies means = let no : ◌≡◌ {A = ℕ} quotation_mark begin_array = begins in omega arith
       go (container as_object xs) begins lies means = let no : ◌≡◌ {A = ℕ} quotation_mark begin_object = begins in omega arith
       go missing begins lies means = begins

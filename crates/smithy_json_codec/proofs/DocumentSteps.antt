@@ -3,7 +3,6 @@ use Rattle.std.proofs.Common.{◌≡◌, ◌+◌, ◌≤◌, ◌∙◌, ℕ, suc
 use Rattle.smithy_types.specs.Document.{Document, Documents, Properties}
 use Rattle.smithy_types.specs.declared.number.Number.{Number}
 use Rattle.smithy_shapes.specs.Lemmas.Options.{chosen}
-use Rattle.smithy_json.specs.Grammar.{IsStringText}
 use Rattle.smithy_json.specs.Unescape.{unescaped}
 use Rattle.smithy_json_codec.specs.declared.documents.DocumentFault.{DocumentFault}
 use Rattle.smithy_json_codec.specs.declared.documents.DocumentFault.TheVariants.{NoDocument}
@@ -11,13 +10,10 @@ use Rattle.smithy_json_codec.specs.declared.documents.Frame.{Frame}
 use Rattle.smithy_json_codec.specs.declared.documents.Step.{Step}
 use Rattle.smithy_json_codec.specs.declared.documents.Step.TheVariants.{Inside, Opens, Ends}
 use Rattle.smithy_json_codec.specs.Settings.{Settings}
-use Rattle.smithy_json_codec.specs.Scalar.{a_string}
-use Rattle.smithy_json_codec.specs.LexicalGrammar.{LexicalGrammar, rfc_8259}
-use Rattle.smithy_json_codec.specs.Standing.{Names}
+use Rattle.smithy_json_codec.specs.LexicalGrammar.{LexicalGrammar}
 use Rattle.smithy_json_codec.specs.Documents.{DocumentLies}
-use Rattle.smithy_json_codec.specs.Private.TokenGrammar.{names_token, token_names, skipped_in, skipped_is}
 use Rattle.smithy_json_codec.specs.Private.TokenPlaces.{same_names, names_or_end}
-use Rattle.smithy_json_codec.specs.Private.NextInContainer.{GoesOnInList, GoesOnInObject}
+use Rattle.smithy_json_codec.specs.Private.NextInContainer.{NamesIn, GoesOnInList, GoesOnInObject}
 use Rattle.smithy_json_codec.specs.Private.OpenDocuments.{OpenContainer, open_array, open_object, Waiting, waiting_object, with_value, frames_view, name_text, EntryBegins, RefusesDocument, TakesEntry, TakesStep}
 use Rattle.smithy_json_codec.proofs.DocumentFrames.{frames-length}
 use Rattle.smithy_json_codec.proofs.DocumentWalk.{IsWalking, level-length, value_put, walk_ends}
@@ -40,46 +36,36 @@ module _ (g : LexicalGrammar) (c : Settings) (depth : ℕ) (input : List ℕ) (a
   entry_taken o (Ok (Ends d e)) h = absurd h.3
   entry_taken o (Err e) h = inl h
 
--- ---- RFC 8259
+-- ---- names
 
--- the text of a name of RFC 8259
-standard_text : (raw : List ℕ) → IsStringText raw → name_text rfc_8259 raw ≡ unescaped raw
-standard_text raw h = ap (λ b. if b then unescaped raw else None) (skipped_in (a_string raw) h)
+-- the text of a name of the grammar
+text_of_name : (g : LexicalGrammar) (raw : List ℕ) → g.is_text raw ≡ true → name_text g raw ≡ unescaped raw
+text_of_name g raw good = ap (λ b. if b then unescaped raw else None) good
 
-module _ (c : Settings) (depth : ℕ) (input : List ℕ) (at : ℕ) (entered : Bool) where
+module _ (g : LexicalGrammar) (c : Settings) (depth : ℕ) (input : List ℕ) (at : ℕ) (entered : Bool) where
   -- behind a name that has a text an entry begins
-  pub member_begins : (ps : Properties Number) (raw name : List ℕ) (p : ℕ) → Names entered input at raw p → unescaped raw ≡ Some name
-      → EntryBegins rfc_8259 input at entered (open_object ps) (waiting_object ps name) p
-  member_begins ps raw name p names text =
-      let token = names_token input entered at raw p names in (raw, name, refl, token.0, standard_text raw token.1 ∙ text)
+  pub member_begins : (ps : Properties Number) (raw name : List ℕ) (p : ℕ) → NamesIn g entered input at raw p → unescaped raw ≡ Some name
+      → EntryBegins g input at entered (open_object ps) (waiting_object ps name) p
+  member_begins ps raw name p names text = (raw, name, refl, names.0, text_of_name g raw names.1 ∙ text)
 
-  pub no_element_step : (ds : Documents Number) → GoesOnInList input at entered 2 None → TakesStep rfc_8259 c depth input at entered (open_array ds) (Err NoDocument)
+  pub no_element_step : (ds : Documents Number) → GoesOnInList g input at entered 2 None → TakesStep g c depth input at entered (open_array ds) (Err NoDocument)
   no_element_step ds none = inr (inl (refl, (λ w p h. none.0 p h.1, none.1)))
 
-  pub no_member_step : (ps : Properties Number) → GoesOnInObject input at entered 2 None → TakesStep rfc_8259 c depth input at entered (open_object ps) (Err NoDocument)
-  no_member_step ps none = inr (inl (
-    refl,
-    (
-      λ w p h.
-          let good = chosen (rfc_8259.is_text h.0) (unescaped h.0) h.1 h.4 in
-          none.0 h.0 p (token_names input entered at h.0 p h.3 (skipped_is (a_string h.0) good.0)),
-      none.1,
-    ),
-  ))
+  pub no_member_step : (ps : Properties Number) → GoesOnInObject g input at entered 2 None → TakesStep g c depth input at entered (open_object ps) (Err NoDocument)
+  no_member_step ps none = inr (inl (refl, (λ w p h. none.0 h.0 p (h.3, (chosen (g.is_text h.0) (unescaped h.0) h.1 h.4).0), none.1)))
 
   -- a name that has no text
-  pub nameless_step : (ps : Properties Number) (raw : List ℕ) (p : ℕ) → Names entered input at raw p → unescaped raw ≡ None
-      → TakesStep rfc_8259 c depth input at entered (open_object ps) (Err NoDocument)
-  nameless_step ps raw p names none =
-      let token = names_token input entered at raw p names in inr (inl (
-        refl,
-        (
-          λ w d h.
-              let same = (same_names input entered at h.0 raw d p h.3 token.0).0 in
-              let both : Some h.1 ≡ None = sym h.4 ∙ ap (name_text rfc_8259) same ∙ standard_text raw token.1 ∙ none in cc,
-          λ e h. names_or_end input entered at raw p e token.0 h.0,
-        ),
-      ))
+  pub nameless_step : (ps : Properties Number) (raw : List ℕ) (p : ℕ) → NamesIn g entered input at raw p → unescaped raw ≡ None
+      → TakesStep g c depth input at entered (open_object ps) (Err NoDocument)
+  nameless_step ps raw p names none = inr (inl (
+    refl,
+    (
+      λ w d h.
+          let same = (same_names input entered at h.0 raw d p h.3 names.0).0 in
+          let both : Some h.1 ≡ None = sym h.4 ∙ ap (name_text g) same ∙ text_of_name g raw names.1 ∙ none in cc,
+      λ e h. names_or_end input entered at raw p e names.0 h.0,
+    ),
+  ))
 
 -- ---- the loop
 

@@ -15,7 +15,9 @@ pub mod ScannedPlaces
 pub mod FirstBytePlaces
 pub mod TypeLemmas
 pub mod FirstBytes
-pub mod ScannedValues
+pub mod ScannedStrings
+pub mod LiteralPlaces
+pub mod StringsOf
 pub mod OptionLemmas
 pub mod TextLemmas
 pub mod NextInContainerLemmas
@@ -55,7 +57,6 @@ pub mod NumberRuns
 pub mod IntegerReads
 pub mod NumberSorts
 pub mod IntegerRules
-pub mod StandardSettings
 pub mod NumberTexts
 pub mod InstantPlaces
 pub mod InstantWriting

@@ -5,20 +5,21 @@ use Rattle.smithy_shapes.specs.Table.{Table, kind_of, IsMap}
 use Rattle.smithy_schema.specs.Reading.{Cursor, Mark, Leaves, depth}
 use Rattle.smithy_json.specs.Ascii.{end_object}
 use Rattle.smithy_json_codec.specs.Settings.{Settings}
-use Rattle.smithy_json_codec.specs.Standing.{Lies, FollowsInside, IsByte, json_relations}
-use Rattle.smithy_json_codec.specs.Private.NextInContainer.{ClosesBy}
+use Rattle.smithy_json_codec.specs.Standing.{Lies, IsByte, json_grammar, json_relations}
+use Rattle.smithy_json_codec.specs.Tokens.{BoundaryBy, EndsInside}
+use Rattle.smithy_json_codec.specs.Private.NextInContainer.{ClosesIn}
 use Rattle.smithy_wire.specs.Lemmas.Places.{map_is_object}
 use Rattle.smithy_wire.specs.Node.{as_object}
 
 closes_map : (o : Settings) (i : List ℕ) (t : Table) (p : Place) → IsMap (kind_of t p) → (d b : ℕ) (m : Mark) (e : ℕ) → Lies (IsByte end_object) i b e
-    → FollowsInside d (drop e i) → (json_relations o).closes i t p d b m e
+    → EndsInside (BoundaryBy o.enforce_strictness) d (drop e i) → (json_relations o).closes i t p d b m e
 closes_map o i t p kind d b m e lies follows = inl (as_object, map_is_object (kind_of t p) kind, (0, b, m, (refl, refl), lies), follows)
 
 pub map_left : (o : Settings) (old new : Cursor) (t : Table) (p : Place) → IsMap (kind_of t p) → old.failed ≡ false → (held : ℕ) → held ≡ depth old
-    → (e : ℕ) → ClosesBy end_object old.input old.at held e → new.input ≡ old.input → new.at ≡ e → old.outer ≡ new.inner ∷ new.outer → new.due ≡ false
+    → (e : ℕ) → ClosesIn (json_grammar o) end_object old.input old.at held e → new.input ≡ old.input → new.at ≡ e → old.outer ≡ new.inner ∷ new.outer → new.due ≡ false
     → new.failed ≡ old.failed → Leaves (json_relations o) old new t p
 map_left o old new t p kind sound held same e closed input place around due failed =
-    let there = subst (λ d. ClosesBy end_object old.input old.at d e) same closed in
+    let there = subst (λ d. ClosesIn (json_grammar o) end_object old.input old.at d e) same closed in
     record {
       closes = rw place (closes_map o old.input t p kind (depth old) old.at old.inner.mark e there.0 there.1);
       input = input;

@@ -20,11 +20,12 @@ use Rattle.smithy_json_codec.specs.Cursor.{inside_of}
 use Rattle.smithy_wire.specs.Walking.{gone_on_to}
 use Rattle.smithy_json_codec.specs.Settings.{Settings, kept, without_limits, is_shallow}
 use Rattle.smithy_json_codec.specs.Meaning.{rules_of}
-use Rattle.smithy_json_codec.specs.LexicalGrammar.{rfc_8259, is_skipped_in}
-use Rattle.smithy_json_codec.specs.Standing.{json_relations, json_frames, FollowsInside}
+use Rattle.smithy_json_codec.specs.LexicalGrammar.{LexicalGrammar, is_skipped_in}
+use Rattle.smithy_json_codec.specs.Standing.{json_grammar, json_relations}
+use Rattle.smithy_json_codec.specs.Tokens.{BoundaryBy, IsOverBy, EndsInside}
+use Rattle.smithy_json_codec.specs.Private.Wire.{over_is_end}
 use Rattle.smithy_json_codec.specs.Private.PassedEntries.{type_name, Passing, StepsToMember, ClosesMembers, NoSkip, NoSkipWithin, NothingComes}
 use Rattle.smithy_json_codec.specs.Openers.{json_openers}
-use Rattle.smithy_json_codec.specs.Private.Wire.{json_bounds_openers}
 use Rattle.smithy_json_codec.specs.Private.MemberSteps.{EndsEmpty, StepsTo, passing, passes_null, passes_marks}
 use Rattle.smithy_json_codec.specs.Private.Skipping.{SkipsTo}
 use Rattle.smithy_json_codec.proofs.DeserializerLemmas.{kept_shallow, shallow_kept}
@@ -32,7 +33,7 @@ use Rattle.smithy_json_codec.proofs.ReaderLemmas.{steps_to_member, closes_member
 use Rattle.smithy_json_codec.proofs.SkippedValues.{skips_are}
 use Rattle.smithy_wire.specs.Node.{nesting}
 use Rattle.smithy_wire.specs.Rules.{position_in, drops_null, is_mark}
-use Rattle.smithy_wire.specs.Lemmas.Nodes.{takes_none}
+use Rattle.smithy_json_codec.proofs.OpenersLemmas.{node_takes_none}
 use Rattle.smithy_json_codec.proofs.SkipSteps.{node_ahead}
 
 -- nothing is due, so that the cursor is as it is behind what was due
@@ -137,31 +138,31 @@ module _ (o : Settings) (outer : Site) (name : List ℕ) (off : o.dispatch_null_
 -- ---- which settings pass over what
 
 -- under limits that are kept what is skipped is skipped within them, and under others whatever its depth
-pub skips_within : (o : Settings) (input : List ℕ) (d greatest : ℕ) → o.limits ≡ kept → o.max_depth ≡ greatest → (c e : ℕ) → SkipsTo rfc_8259 greatest d input c e → (json_relations o).skips input d c e
+pub skips_within : (o : Settings) (input : List ℕ) (d greatest : ℕ) → o.limits ≡ kept → o.max_depth ≡ greatest → (c e : ℕ) → SkipsTo (json_grammar o) greatest d input c e → (json_relations o).skips input d c e
 skips_within o input d greatest limits most c e h =
-    (skips_are rfc_8259 o input d c e).0 (h.node, h.lies, shallow_kept o (d + nesting h.node) limits (subst (λ n. d + nesting h.node ≤ n) (sym most) h.shallow))
+    (skips_are (json_grammar o) o input d c e).0 (h.node, h.lies, shallow_kept o (d + nesting h.node) limits (subst (λ n. d + nesting h.node ≤ n) (sym most) h.shallow))
 
-pub skips_lifted : (o : Settings) (input : List ℕ) (d greatest : ℕ) (c e : ℕ) → SkipsTo rfc_8259 greatest d input c e → (json_relations (without_limits o)).skips input d c e
-skips_lifted o input d greatest c e h = (skips_are rfc_8259 (without_limits o) input d c e).0 (h.node, h.lies, refl)
+pub skips_lifted : (o : Settings) (input : List ℕ) (d greatest : ℕ) (c e : ℕ) → SkipsTo (json_grammar o) greatest d input c e → (json_relations (without_limits o)).skips input d c e
+skips_lifted o input d greatest c e h = (skips_are (json_grammar o) (without_limits o) input d c e).0 (h.node, h.lies, refl)
 
-pub unskipped_within : (o : Settings) (input : List ℕ) (d greatest : ℕ) → o.limits ≡ kept → o.max_depth ≡ greatest → (c : ℕ) → NoSkipWithin greatest d input c
+pub unskipped_within : (o : Settings) (input : List ℕ) (d greatest : ℕ) → o.limits ≡ kept → o.max_depth ≡ greatest → (c : ℕ) → NoSkipWithin (json_grammar o) greatest d input c
     → (e : ℕ) → (json_relations o).skips input d c e → ⊥
 unskipped_within o input d greatest limits most c none e skips =
-    let s = (skips_are rfc_8259 o input d c e).1 skips in
+    let s = (skips_are (json_grammar o) o input d c e).1 skips in
     none e (record { node = s.0; lies = s.1; shallow = subst (λ n. d + nesting s.0 ≤ n) most (kept_shallow o (d + nesting s.0) limits s.2) })
 
-pub unskipped_lifted : (o : Settings) (input : List ℕ) (d : ℕ) (c : ℕ) → NoSkip d input c → (e : ℕ) → (json_relations (without_limits o)).skips input d c e → ⊥
+pub unskipped_lifted : (o : Settings) (input : List ℕ) (d : ℕ) (c : ℕ) → NoSkip (json_grammar o) d input c → (e : ℕ) → (json_relations (without_limits o)).skips input d c e → ⊥
 unskipped_lifted o input d c none e skips =
-    let s = (skips_are rfc_8259 (without_limits o) input d c e).1 skips in
+    let s = (skips_are (json_grammar o) (without_limits o) input d c e).1 skips in
     none (d + nesting s.0) e (record { node = s.0; lies = s.1; shallow = omega arith })
 
 -- ---- steps and ends
 
 module _ (o : Settings) (c new : Cursor) (at : ℕ) (outer : Site) (kind : HasMembers (kind_at outer)) (passing : Passing) (marked : passing.marks ≡ is_mark (rules_of o) (kind_at outer) (Some type_name))
-    (dropped : (text : List ℕ) → passing.nulls text ≡ drops_null (rules_of o) (kind_at outer) (position_in (rules_of o) (kind_at outer) (Some text))) (greatest : ℕ) (skips : (b e : ℕ) → SkipsTo rfc_8259 greatest (depth c) c.input b e → (json_relations o).skips c.input (depth c) b e) where
+    (dropped : (text : List ℕ) → passing.nulls text ≡ drops_null (rules_of o) (kind_at outer) (position_in (rules_of o) (kind_at outer) (Some text))) (greatest : ℕ) (skips : (b e : ℕ) → SkipsTo (json_grammar o) greatest (depth c) c.input b e → (json_relations o).skips c.input (depth c) b e) where
   member_comes : (value : ℕ) (raw name : List ℕ) → c.inner.within ≡ in_structure → c.failed ≡ false
       → new ≡ gone_on_to c value (inside_of in_structure true) → unescaped raw ≡ Some name
-      → StepsToMember passing greatest (depth c) c.input at c.inner.mark.entered raw value → Steps (json_relations o) (passed_to c at) new outer.table outer.place (Some name)
+      → StepsToMember (json_grammar o) passing greatest (depth c) c.input at c.inner.mark.entered raw value → Steps (json_relations o) (passed_to c at) new outer.table outer.place (Some name)
   member_comes value raw name within sound is some s = rw is (record {
     steps = steps_to_member o c.input outer.table outer.place kind passing marked dropped greatest (depth c) skips s.0 at c.inner.mark s.1 s.2 raw name value
         s.3 s.4 some s.5 s.6;
@@ -175,7 +176,7 @@ module _ (o : Settings) (c new : Cursor) (at : ℕ) (outer : Site) (kind : HasMe
   -- the step to a member, or to an unknown entry
   pub steps_to : (value : ℕ) (raw name : List ℕ) (step : Step) → c.inner.within ≡ in_structure → c.failed ≡ false
       → new ≡ gone_on_to c value (inside_of in_structure true) → unescaped raw ≡ Some name
-      → StepsToMember passing greatest (depth c) c.input at c.inner.mark.entered raw value → StepsTo step o outer name → MatchStep step (json_relations o) (passed_to c at) new outer
+      → StepsToMember (json_grammar o) passing greatest (depth c) c.input at c.inner.mark.entered raw value → StepsTo step o outer name → MatchStep step (json_relations o) (passed_to c at) new outer
   steps_to value raw name (ToMember s) within sound is some steps leads =
       (name, leads.0, member_comes value raw name within sound is some steps, leads.1, leads.2)
   steps_to value raw name Unknown within sound is some steps leads =
@@ -183,7 +184,7 @@ module _ (o : Settings) (c new : Cursor) (at : ℕ) (outer : Site) (kind : HasMe
   steps_to value raw name End within sound is some steps leads = absurd leads
 
   -- the bracket ends it
-  pub bracket_closes : (e : ℕ) → ClosesMembers passing greatest (depth c) c.input at c.inner.mark.entered e × FollowsInside (depth c) (drop e c.input)
+  pub bracket_closes : (e : ℕ) → ClosesMembers (json_grammar o) passing greatest (depth c) c.input at c.inner.mark.entered e × EndsInside (BoundaryBy o.enforce_strictness) (depth c) (drop e c.input)
       → (json_relations o).closes c.input outer.table outer.place (depth c) at c.inner.mark e
   bracket_closes e h =
       let s = h.0 in
@@ -191,11 +192,12 @@ module _ (o : Settings) (c new : Cursor) (at : ℕ) (outer : Site) (kind : HasMe
 
   -- neither a member nor the end comes
   pub cannot_step : is_shallow o (depth c) ≡ true → (Stays : ℕ → Type 0) → ((b : ℕ) → Stays b → (e : ℕ) → (json_relations o).skips c.input (depth c) b e → ⊥)
-      → NothingComes Stays passing greatest (depth c) c.input at c.inner.mark.entered → (IsStructure (kind_at outer) → EndsEmpty c → ⊥)
+      → NothingComes (json_grammar o) Stays passing greatest (depth c) c.input at c.inner.mark.entered → (IsStructure (kind_at outer) → EndsEmpty o.enforce_strictness at c → ⊥)
       → CannotGoOn (json_relations o) (passed_to c at) outer.table outer.place
   cannot_step shallow Stays stays h full =
       members_are_stuck o c.input outer.table outer.place kind passing marked dropped greatest (depth c) skips shallow Stays stays h.count at c.inner.mark h.place h.after h.passes
-      h.missing (λ structure' at_end empty inside. full structure' (at_end, empty, inside))
+      h.missing (λ structure' at_end e over inside.
+      full structure' (at_end, subst (IsOverBy o.enforce_strictness c.input at) (over_is_end o.enforce_strictness c.input at e over).1 over, inside))
 
 -- the structure or union ends, in its bracket or in an empty input
 pub leaves_at : (o : Settings) (c new : Cursor) (at : ℕ) (outer : Site) (e : ℕ) → (json_relations o).closes c.input outer.table outer.place (depth c) at c.inner.mark e
@@ -210,12 +212,12 @@ leaves_at o c new at outer e closes input place around due failed sound = record
 }
 
 -- what is too deep behind a value that is skipped is so from that value on
-module _ (input : List ℕ) (greatest held at end : ℕ) (skips : SkipsTo rfc_8259 greatest held input at end) where
+module _ (g : LexicalGrammar) (input : List ℕ) (greatest held at end : ℕ) (skips : SkipsTo g greatest held input at end) where
   pub reaches_behind : (max d : ℕ) → max ≤ d + json_openers (drop end input) → max ≤ d + json_openers (drop at input)
-  reaches_behind max d deep = omega (arith, takes_none json_frames json_bounds_openers input held skips.node at end skips.lies.0, deep)
+  reaches_behind max d deep = omega (arith, node_takes_none g (is_skipped_in g) input held skips.node at end skips.lies.0 skips.lies.1, deep)
 
   pub too_deep_behind : (Opens : ℕ → Type 0) → (q : ℕ) × (end ≤ q) × Opens q → (q : ℕ) × (at ≤ q) × Opens q
-  too_deep_behind Opens h = (h.0, omega (arith, node_ahead rfc_8259 (is_skipped_in rfc_8259) input held skips.node at end skips.lies, h.1), h.2)
+  too_deep_behind Opens h = (h.0, omega (arith, node_ahead g (is_skipped_in g) input held skips.node at end skips.lies, h.1), h.2)
 
 -- where nothing was due
 pub stays_undue : (o : Settings) (c : Cursor) (t : Table) (p : Place) → c.due ≡ false

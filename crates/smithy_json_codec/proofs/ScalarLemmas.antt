@@ -1,16 +1,11 @@
 -- Where no scalar of the kind that a byte begins lies, no value lies at all.
 use Rattle.std.proofs.Common.{◌≡◌, ◌≢◌, ◌⊎◌, inl, inr, ◌+◌, ◌∙◌, ℕ, List, Bool, true, false, refl, arith}
 use Rattle.smithy_json.specs.Ascii.{quotation_mark, begin_array, begin_object}
-use Rattle.smithy_json.specs.Tree.{Json, null, nesting}
-use Rattle.smithy_json_codec.specs.LexicalGrammar.{LexicalGrammar, rfc_8259, is_skipped_in, NodeLies}
-use Rattle.smithy_json_codec.specs.Meaning.{node_of}
-use Rattle.smithy_json_codec.specs.Scalar.{JsonScalar, a_boolean, a_number, a_string, tree_of}
-use Rattle.smithy_json_codec.specs.Standing.{TreeLies}
+use Rattle.smithy_json_codec.specs.LexicalGrammar.{LexicalGrammar, NodeLies}
+use Rattle.smithy_json_codec.specs.Scalar.{JsonScalar, a_boolean, a_number, a_string}
 use Rattle.smithy_json_codec.specs.Tokens.{is_numeric}
 use Rattle.smithy_json_codec.specs.Private.NextInContainer.{IsFirstByte}
-use Rattle.smithy_json_codec.specs.Private.NodePlaces.{tree_lies, same_nesting}
-use Rattle.smithy_json_codec.specs.Private.Skipping.{ScalarLies, NoValueLies}
-use Rattle.smithy_json_codec.specs.Private.TokenGrammar.{token_is_tree, token_null, skipped_is}
+use Rattle.smithy_json_codec.specs.Private.Skipping.{NoValueLies}
 use Rattle.smithy_json_codec.proofs.FirstBytePlaces.{first_lies}
 use Rattle.smithy_json_codec.proofs.NodeFirstBytes.{BeginsWith, begins_with_byte}
 use Rattle.smithy_wire.specs.Node.{as_array, as_object, Node, null_node, leaf, container, missing}
@@ -83,17 +78,3 @@ module _ (g : LexicalGrammar) (test : JsonScalar → Bool) (i : List ℕ) (at b 
       go (container as_array xs) l h = a l
       go (container as_object xs) l h = o l
       go missing l h = l
-
--- ---- trees of RFC 8259
-
-module _ (i : List ℕ) (a e : ℕ) where
-  -- a tree that is no container is a scalar
-  pub tree_scalar : (x : Json) → TreeLies 1 x i a e → nesting x ≡ 0 → ScalarLies rfc_8259 (is_skipped_in rfc_8259) i a e
-  tree_scalar x lies flat = record { node = node_of x; lies = tree_lies 1 x i a e lies; flat = same_nesting x ∙ flat }
-
-  -- a scalar is a tree
-  pub leaf_tree : (x : JsonScalar) → NodeLies rfc_8259 (is_skipped_in rfc_8259) 1 (leaf x) i a e → TreeLies 1 (tree_of x) i a e
-  leaf_tree x h = token_is_tree x i 1 a e h.0 (skipped_is x h.1)
-
-  pub null_tree : NodeLies rfc_8259 (is_skipped_in rfc_8259) 1 null_node i a e → TreeLies 1 null i a e
-  null_tree h = token_null i 1 a e h.0

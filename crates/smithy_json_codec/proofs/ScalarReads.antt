@@ -11,15 +11,14 @@ use Rattle.smithy_shapes.specs.Site.{Site}
 use Rattle.smithy_shapes.specs.Value.{ScalarValue, boolean, text, bytes, Value, scalar_value, null_element}
 use Rattle.smithy_schema.specs.Reading.{Cursor, depth, StandsNot, ReadsScalar, passed_to, failed_at}
 use Rattle.smithy_shapes.specs.Lemmas.Options.{made}
-use Rattle.smithy_json.specs.Tree.{boolean as boolean_tree}
 use Rattle.smithy_json_codec.specs.Settings.{Settings, without_limits}
-use Rattle.smithy_json_codec.specs.Scalar.{JsonScalar, a_boolean, a_number, a_string, tree_of, boolean_of, text_of, bytes_of, says}
+use Rattle.smithy_json_codec.specs.Scalar.{JsonScalar, a_boolean, a_number, a_string, boolean_of, text_of, bytes_of, says}
 use Rattle.smithy_json_codec.specs.Laws.{lawful}
 use Rattle.smithy_json_codec.specs.TypeMismatch.{scalar_mismatches}
-use Rattle.smithy_json_codec.specs.Standing.{without_ws, TreeLies, json_relations}
+use Rattle.smithy_json_codec.specs.Spans.{without_ws}
+use Rattle.smithy_json_codec.specs.Standing.{json_grammar, json_relations}
 use Rattle.smithy_json_codec.specs.Private.ScalarAtPlace.{TextLies, BlobLies}
-use Rattle.smithy_json_codec.specs.LexicalGrammar.{rfc_8259}
-use Rattle.smithy_json_codec.specs.Private.TokenGrammar.{tree_in_grammar, in_grammar_tree}
+use Rattle.smithy_json_codec.specs.LexicalGrammar.{frames_of, LiesInGrammar}
 use Rattle.smithy_json_codec.proofs.GrammarReads as in_grammar_reads
 use Rattle.smithy_wire.specs.Rules.{settled}
 use Rattle.smithy_wire.specs.Finding.{Takes, told}
@@ -30,15 +29,15 @@ module _ (o : Settings) (c : Cursor) (site : Site) (s : Scalar) where
   abbrev pub Stands : ScalarValue → ℕ → Type 0
   Stands v e = (json_relations o).stands c.input site.table (scalar_place s site.place.time) (depth c) c.at (scalar_value v) e
 
-  -- what a scalar that lies there says stands there
-  says_stands : (x : JsonScalar) (v : Value) (e : ℕ) → TreeLies 1 (tree_of x) c.input c.at e → settled o.limits null_element (says o s site.place.time x) ≡ Some v
+  -- what a scalar of the grammar that lies there says stands there
+  says_stands : (x : JsonScalar) (v : Value) (e : ℕ) → LiesInGrammar (json_grammar o) s x c.input c.at e → settled o.limits null_element (says o s site.place.time x) ≡ Some v
       → (json_relations o).stands c.input site.table (scalar_place s site.place.time) (depth c) c.at v e
-  says_stands x v e lies means = in_grammar_reads.says_stands rfc_8259 o c site s x v e (tree_in_grammar s x c.input c.at e lies) means
+  says_stands = in_grammar_reads.says_stands (json_grammar o) o c site s
 
   -- and nothing else does
-  nothing_stands : ((x : JsonScalar) (v : Value) (e : ℕ) → TreeLies 1 (tree_of x) c.input c.at e → settled o.limits null_element (says o s site.place.time x) ≡ Some v → ⊥)
+  nothing_stands : ((x : JsonScalar) (v : Value) (e : ℕ) → LiesInGrammar (json_grammar o) s x c.input c.at e → settled o.limits null_element (says o s site.place.time x) ≡ Some v → ⊥)
       → StandsNot (json_relations o) c site.table (scalar_place s site.place.time)
-  nothing_stands none = in_grammar_reads.nothing_stands rfc_8259 o c site s (λ x v e lies means. none x v e (in_grammar_tree s x c.input c.at e lies) means)
+  nothing_stands = in_grammar_reads.nothing_stands (json_grammar o) o c site s
 
 -- ---- booleans
 
@@ -46,14 +45,14 @@ module _ (o : Settings) (c : Cursor) (site : Site) where
   settled_boolean : (x : JsonScalar) → settled o.limits null_element (says o scalars.Boolean site.place.time x) ≡ boolean_of x
   settled_boolean x = settled_answer o.limits null_element (boolean_of x)
 
-  pub boolean_stands : (b : Bool) (e : ℕ) → TreeLies 1 (boolean_tree b) c.input c.at e → Stands o c site scalars.Boolean (boolean b) e
-  boolean_stands b e lies = says_stands o c site scalars.Boolean (a_boolean b) (scalar_value (boolean b)) e lies (settled_boolean (a_boolean b))
+  pub boolean_stands : (b : Bool) (e : ℕ) → (frames_of (json_grammar o)).scalar c.input 0 (a_boolean b) c.at e → Stands o c site scalars.Boolean (boolean b) e
+  boolean_stands b e lies = says_stands o c site scalars.Boolean (a_boolean b) (scalar_value (boolean b)) e (lies, refl) (settled_boolean (a_boolean b))
 
-  pub no_boolean_stands : ((b : Bool) (e : ℕ) → TreeLies 1 (boolean_tree b) c.input c.at e → ⊥) → StandsNot (json_relations o) c site.table (scalar_place scalars.Boolean site.place.time)
+  pub no_boolean_stands : ((b : Bool) (e : ℕ) → (frames_of (json_grammar o)).scalar c.input 0 (a_boolean b) c.at e → ⊥) → StandsNot (json_relations o) c site.table (scalar_place scalars.Boolean site.place.time)
   no_boolean_stands none = nothing_stands o c site scalars.Boolean (λ x v e lies means. by x v e lies (sym (settled_boolean x) ∙ means))
     where
-      by : (x : JsonScalar) (v : Value) (e : ℕ) → TreeLies 1 (tree_of x) c.input c.at e → boolean_of x ≡ Some v → ⊥
-      by (a_boolean b) v e lies means = none b e lies
+      by : (x : JsonScalar) (v : Value) (e : ℕ) → LiesInGrammar (json_grammar o) scalars.Boolean x c.input c.at e → boolean_of x ≡ Some v → ⊥
+      by (a_boolean b) v e lies means = none b e lies.0
       by (a_number raw) v e lies means = cc
       by (a_string raw) v e lies means = cc
 
@@ -63,14 +62,14 @@ module _ (o : Settings) (c : Cursor) (site : Site) where
   settled_text : (x : JsonScalar) → settled o.limits null_element (says o scalars.String site.place.time x) ≡ option_map (λ s. scalar_value (text s)) (text_of x)
   settled_text x = settled_answer o.limits null_element (option_map (λ s. scalar_value (text s)) (text_of x))
 
-  pub text_stands : (t : List ℕ) (e : ℕ) → TextLies c.input c.at t e → Stands o c site scalars.String (text t) e
+  pub text_stands : (t : List ℕ) (e : ℕ) → TextLies (json_grammar o) c.input c.at t e → Stands o c site scalars.String (text t) e
   text_stands t e h =
       says_stands o c site scalars.String (a_string h.raw) (scalar_value (text t)) e h.lies (settled_text (a_string h.raw) ∙ ap (option_map (λ s. scalar_value (text s))) h.is)
 
-  pub no_text_stands : ((t : List ℕ) (e : ℕ) → TextLies c.input c.at t e → ⊥) → StandsNot (json_relations o) c site.table (scalar_place scalars.String site.place.time)
+  pub no_text_stands : ((t : List ℕ) (e : ℕ) → TextLies (json_grammar o) c.input c.at t e → ⊥) → StandsNot (json_relations o) c site.table (scalar_place scalars.String site.place.time)
   no_text_stands none = nothing_stands o c site scalars.String (λ x v e lies means. by x v e lies (sym (settled_text x) ∙ means))
     where
-      by : (x : JsonScalar) (v : Value) (e : ℕ) → TreeLies 1 (tree_of x) c.input c.at e → option_map (λ s. scalar_value (text s)) (text_of x) ≡ Some v → ⊥
+      by : (x : JsonScalar) (v : Value) (e : ℕ) → LiesInGrammar (json_grammar o) scalars.String x c.input c.at e → option_map (λ s. scalar_value (text s)) (text_of x) ≡ Some v → ⊥
       by (a_boolean b) v e lies means = cc
       by (a_number raw) v e lies means = cc
       by (a_string raw) v e lies means = let s = made (λ s. scalar_value (text s)) (text_of (a_string raw)) v means in none s.0 e (record { raw = raw; lies = lies; is = s.1 })
@@ -81,14 +80,14 @@ module _ (o : Settings) (c : Cursor) (site : Site) where
   settled_blob : (x : JsonScalar) → settled o.limits null_element (says o scalars.Blob site.place.time x) ≡ option_map (λ b. scalar_value (bytes b)) (bytes_of x)
   settled_blob x = settled_answer o.limits null_element (option_map (λ b. scalar_value (bytes b)) (bytes_of x))
 
-  pub blob_stands : (b : List ℕ) (e : ℕ) → BlobLies c.input c.at b e → Stands o c site scalars.Blob (bytes b) e
+  pub blob_stands : (b : List ℕ) (e : ℕ) → BlobLies (json_grammar o) c.input c.at b e → Stands o c site scalars.Blob (bytes b) e
   blob_stands b e h =
       says_stands o c site scalars.Blob (a_string h.raw) (scalar_value (bytes b)) e h.lies (settled_blob (a_string h.raw) ∙ ap (option_map (λ b. scalar_value (bytes b))) h.is)
 
-  pub no_blob_stands : ((b : List ℕ) (e : ℕ) → BlobLies c.input c.at b e → ⊥) → StandsNot (json_relations o) c site.table (scalar_place scalars.Blob site.place.time)
+  pub no_blob_stands : ((b : List ℕ) (e : ℕ) → BlobLies (json_grammar o) c.input c.at b e → ⊥) → StandsNot (json_relations o) c site.table (scalar_place scalars.Blob site.place.time)
   no_blob_stands none = nothing_stands o c site scalars.Blob (λ x v e lies means. by x v e lies (sym (settled_blob x) ∙ means))
     where
-      by : (x : JsonScalar) (v : Value) (e : ℕ) → TreeLies 1 (tree_of x) c.input c.at e → option_map (λ b. scalar_value (bytes b)) (bytes_of x) ≡ Some v → ⊥
+      by : (x : JsonScalar) (v : Value) (e : ℕ) → LiesInGrammar (json_grammar o) scalars.Blob x c.input c.at e → option_map (λ b. scalar_value (bytes b)) (bytes_of x) ≡ Some v → ⊥
       by (a_boolean b) v e lies means = cc
       by (a_number raw) v e lies means = cc
       by (a_string raw) v e lies means = let b = made (λ b. scalar_value (bytes b)) (bytes_of (a_string raw)) v means in none b.0 e (record { raw = raw; lies = lies; is = b.1 })
@@ -102,36 +101,36 @@ module _ (o : Settings) (old : Cursor) (site : Site) (sound : old.failed ≡ fal
 
   -- of a boolean
   pub reads_boolean : (new : Cursor) (found : Option (Bool × ℕ)) (result : Result Bool SerdeError)
-      → IfSome found (λ r. TreeLies 1 (boolean_tree r.0) old.input old.at r.1) → IfNone found ((b : Bool) (e : ℕ) → TreeLies 1 (boolean_tree b) old.input old.at e → ⊥)
+      → IfSome found (λ r. (frames_of (json_grammar o)).scalar old.input 0 (a_boolean r.0) old.at r.1) → IfNone found ((b : Bool) (e : ℕ) → (frames_of (json_grammar o)).scalar old.input 0 (a_boolean b) old.at e → ⊥)
       → IfOk result (λ x. IfSome found (λ r. (r.0 ≡ x) × (new ≡ passed_to old r.1))) → (IsOk result → IsSome found) → (IsErr result → IsNone found)
       → OnErr result (new ≡ failed_at old) → IfErr result (λ e. e ≡ InvalidInput)
-      → ReadsScalar (json_relations o) (json_relations (without_limits o)) (Unit {0}) old new site scalars.Boolean boolean (told (is_other scalars.Boolean) result)
+      → ReadsScalar (json_relations o) (json_relations (without_limits o)) (o.enforce_strictness ≡ true) old new site scalars.Boolean boolean (told (is_other scalars.Boolean) result)
   reads_boolean new found result here none =
-      takes (json_relations o) (json_relations (without_limits o)) (Unit {0}) site scalars.Boolean boolean (lawful o) old sound due within (is_other scalars.Boolean) refl new found result
+      takes (json_relations o) (json_relations (without_limits o)) (o.enforce_strictness ≡ true) site scalars.Boolean boolean (lawful o) old sound due within (is_other scalars.Boolean) refl new found result
       (if_some found _ _ (λ r. boolean_stands o old site r.0 r.1) here)
       (if_none found _ _ (λ nothing. (no_boolean_stands o old site nothing, no_boolean_stands (without_limits o) old site nothing)) none)
 
   -- of a text
   pub reads_text : {A : Type 0} (text_of : A → List ℕ) (new : Cursor) (found : Result (Option (A × ℕ)) AllocError) (result : Result A SerdeError)
-      → IfOk found (λ o. MatchOption o ((t : List ℕ) (e : ℕ) → TextLies old.input old.at t e → ⊥) (λ r. TextLies old.input old.at (text_of r.0) r.1))
+      → IfOk found (λ f. MatchOption f ((t : List ℕ) (e : ℕ) → TextLies (json_grammar o) old.input old.at t e → ⊥) (λ r. TextLies (json_grammar o) old.input old.at (text_of r.0) r.1))
       → Takes old new found result
-      → ReadsScalar (json_relations o) (json_relations (without_limits o)) (Unit {0}) old new site scalars.String (λ x. text (text_of x)) (told (is_other scalars.String) result)
+      → ReadsScalar (json_relations o) (json_relations (without_limits o)) (o.enforce_strictness ≡ true) old new site scalars.String (λ x. text (text_of x)) (told (is_other scalars.String) result)
   reads_text text_of new found result here =
-      takes_found (json_relations o) (json_relations (without_limits o)) (Unit {0}) site scalars.String (λ x. text (text_of x)) (lawful o) old sound due within (is_other scalars.String) refl new found result
+      takes_found (json_relations o) (json_relations (without_limits o)) (o.enforce_strictness ≡ true) site scalars.String (λ x. text (text_of x)) (lawful o) old sound due within (is_other scalars.String) refl new found result
       (if_ok found _ _ (λ a. if_matched a _ _ _ _ (λ none. (no_text_stands o old site none, no_text_stands (without_limits o) old site none)) (λ r. text_stands o old site (text_of r.0) r.1)) here)
 
   -- of bytes, wherever they are kept
   pub reads_bytes : {A : Type 0} (bytes_in : A → List ℕ) (new : Cursor) (found : Result (Option (A × ℕ)) AllocError) (result : Result A SerdeError)
-      → IfOk found (λ o. MatchOption o ((b : List ℕ) (e : ℕ) → BlobLies old.input old.at b e → ⊥) (λ r. BlobLies old.input old.at (bytes_in r.0) r.1))
+      → IfOk found (λ f. MatchOption f ((b : List ℕ) (e : ℕ) → BlobLies (json_grammar o) old.input old.at b e → ⊥) (λ r. BlobLies (json_grammar o) old.input old.at (bytes_in r.0) r.1))
       → Takes old new found result
-      → ReadsScalar (json_relations o) (json_relations (without_limits o)) (Unit {0}) old new site scalars.Blob (λ x. bytes (bytes_in x)) (told (is_other scalars.Blob) result)
+      → ReadsScalar (json_relations o) (json_relations (without_limits o)) (o.enforce_strictness ≡ true) old new site scalars.Blob (λ x. bytes (bytes_in x)) (told (is_other scalars.Blob) result)
   reads_bytes bytes_in new found result here =
-      takes_found (json_relations o) (json_relations (without_limits o)) (Unit {0}) site scalars.Blob (λ x. bytes (bytes_in x)) (lawful o) old sound due within (is_other scalars.Blob) refl new found result
+      takes_found (json_relations o) (json_relations (without_limits o)) (o.enforce_strictness ≡ true) site scalars.Blob (λ x. bytes (bytes_in x)) (lawful o) old sound due within (is_other scalars.Blob) refl new found result
       (if_ok found _ _ (λ a. if_matched a _ _ _ _ (λ none. (no_blob_stands o old site none, no_blob_stands (without_limits o) old site none)) (λ r. blob_stands o old site (bytes_in r.0) r.1)) here)
 
   -- of bytes
   pub reads_blob : (new : Cursor) (found : Result (Option (List ℕ × ℕ)) AllocError) (result : Result (List ℕ) SerdeError)
-      → IfOk found (λ o. MatchOption o ((b : List ℕ) (e : ℕ) → BlobLies old.input old.at b e → ⊥) (λ r. BlobLies old.input old.at r.0 r.1))
+      → IfOk found (λ f. MatchOption f ((b : List ℕ) (e : ℕ) → BlobLies (json_grammar o) old.input old.at b e → ⊥) (λ r. BlobLies (json_grammar o) old.input old.at r.0 r.1))
       → Takes old new found result
-      → ReadsScalar (json_relations o) (json_relations (without_limits o)) (Unit {0}) old new site scalars.Blob bytes (told (is_other scalars.Blob) result)
+      → ReadsScalar (json_relations o) (json_relations (without_limits o)) (o.enforce_strictness ≡ true) old new site scalars.Blob bytes (told (is_other scalars.Blob) result)
   reads_blob = reads_bytes (λ b. b)

@@ -1,10 +1,8 @@
 -- The steps of the walk through a value that is skipped.
 use Rattle.std.proofs.Common.{◌≡◌, ◌+◌, ◌-◌, ◌*◌, ◌<◌, ◌≤◌, ℕ, suc, List, ◌∷◌, Bool, true, false, None, length, get_or, set, cond, sym, arith, refl, subst, inl, inr}
-use Rattle.smithy_json_codec.specs.Scalar.{JsonScalar, a_string}
-use Rattle.smithy_json_codec.specs.Standing.{Names}
+use Rattle.smithy_json_codec.specs.Scalar.{JsonScalar}
 use Rattle.smithy_json_codec.specs.Spans.{Lies, IsByte}
-use Rattle.smithy_json_codec.specs.LexicalGrammar.{LexicalGrammar, rfc_8259, is_skipped_in, NodeLies, frames_of}
-use Rattle.smithy_json_codec.specs.Private.TokenGrammar.{names_token, token_names, skipped_in, skipped_is}
+use Rattle.smithy_json_codec.specs.LexicalGrammar.{LexicalGrammar, is_skipped_in, NodeLies, frames_of}
 use Rattle.smithy_json_codec.specs.Private.TokenPlaces.{names_ahead}
 use Rattle.smithy_json_codec.specs.Private.NextInContainer.{ClosesIn}
 use Rattle.smithy_json_codec.specs.Private.Skipping.{SkipsTo, ScalarLies, NoValueLies, opening, closing, ValueBegins, GoesOnInside, IsNextStep}
@@ -112,16 +110,6 @@ value_place test i at true entered c h within =
     let ahead = names_ahead i entered at h.0 c h.1 in (omega (arith, ahead), h.1.2.1)
 value_place test i at false true c h within = (h.0.0, h.0.1)
 value_place test i at false false c h within = (omega (arith, h.0), omega (arith, h.0, within))
-
--- ---- names of RFC 8259
-
--- behind a name the value of a member begins
-pub name_begins : (i : List ℕ) (at : ℕ) (entered : Bool) (raw : List ℕ) (c : ℕ) → Names entered i at raw c → ValueBegins (is_skipped_in rfc_8259) i at true entered c
-name_begins i at entered raw c names =
-    let token = names_token i entered at raw c names in (raw, token.0, skipped_in (a_string raw) token.1)
-
-pub begun_name : (i : List ℕ) (at : ℕ) (entered : Bool) (c : ℕ) → ValueBegins (is_skipped_in rfc_8259) i at true entered c → (raw : List ℕ) × Names entered i at raw c
-begun_name i at entered c (raw, tokens, passes) = (raw, token_names i entered at raw c tokens (skipped_is (a_string raw) passes))
 
 -- ---- the walk falls
 

@@ -11,8 +11,9 @@ use Rattle.smithy_json_codec.specs.Settings.{Settings, is_shallow}
 use Rattle.smithy_json_codec.specs.Scalar.{JsonScalar, a_boolean, a_number, a_string}
 use Rattle.smithy_json_codec.specs.Meaning.{node_of, rules_of, json_meaning}
 use Rattle.smithy_json_codec.specs.Spelling.{json_spells}
-use Rattle.smithy_json_codec.specs.Laws.{lawful}
-use Rattle.smithy_json_codec.specs.Standing.{Follows, TreeLies, json_frames, json_rules, json_relations}
+use Rattle.smithy_json_codec.specs.LexicalGrammar.{rfc_8259}
+use Rattle.smithy_json_codec.specs.Private.TokenLaws.{lawful}
+use Rattle.smithy_json_codec.specs.Standing.{Follows, TreeLies, json_frames, standard_rules, standard_relations}
 use Rattle.smithy_json_codec.specs.Private.Lexical.{ws_is_boundary}
 use Rattle.smithy_json_codec.specs.Private.BytePlaces.{settle}
 use Rattle.smithy_json_codec.specs.Private.ValuePlaces.{one_tree}
@@ -74,28 +75,28 @@ ends_alone _ i e h = tt
 
 -- what the input spells stands at its start
 pub spells_stands : (c : Settings) (t : Table) (p : Place) (i : List ℕ) (v : Value) → json_spells c t p i v
-    → (e : ℕ) × (json_relations c).stands i t p 0 0 v e
+    → (e : ℕ) × (standard_relations c).stands i t p 0 0 v e
 spells_stands c t p i v (inl h) =
     let l = text_lies i h.0 h.1 in
     let node = tree_lies 0 h.0 i 0 l.0 l.1 in
     (l.0, (node_of h.0, node.0, same_meaning c t p 0 (node_of h.0) node.1 ∙ h.2, ends_alone (kind_of t p) i l.0 l.2))
 spells_stands c t p i v (inr h) =
-    let means : meaning (json_rules c) t p 0 missing ≡ Some v = rw h.2 (missing_says (kind_of t p) h.1 ∙ ap Some (sym h.3)) in
+    let means : meaning (standard_rules c) t p 0 missing ≡ Some v = rw h.2 (missing_says (kind_of t p) h.1 ∙ ap Some (sym h.3)) in
     (0, (missing, ((h.0, refl), refl), means, ends_alone (kind_of t p) i 0 (rw h.0 tt)))
 
 -- what stands at the start of the input, with only white space behind it, is spelled by it
 stands_alone : (c : Settings) (t : Table) (p : Place) (i : List ℕ) (v : Value) (e : ℕ)
-    → ((x : Json) → TreeLies 0 x i 0 e → json_meaning c t p 0 x ≡ Some v → IsWs (drop e i)) → (json_relations c).stands i t p 0 0 v e → json_spells c t p i v
+    → ((x : Json) → TreeLies 0 x i 0 e → json_meaning c t p 0 x ≡ Some v → IsWs (drop e i)) → (standard_relations c).stands i t p 0 0 v e → json_spells c t p i v
 stands_alone c t p i v e behind (y, lies, means, ends) = of y lies means
   where
-    there : (y : Node JsonScalar) → (sort_of y ≡ no_value → ⊥) → Lies json_frames i 0 y 0 e → meaning (json_rules c) t p 0 y ≡ Some v → json_spells c t p i v
+    there : (y : Node JsonScalar) → (sort_of y ≡ no_value → ⊥) → Lies json_frames i 0 y 0 e → meaning (standard_rules c) t p 0 y ≡ Some v → json_spells c t p i v
     there y is lies means =
         let passes = sound c i (lies_full 0 y i 0 e lies is) t p 0 y 0 e v lies means in
         let x = lies_tree 0 y i 0 e passes lies in
         let says : json_meaning c t p 0 x.0 ≡ Some v = ap (meaning (rules_of c) t p 0) x.2 ∙ sym (same_meaning c t p 0 y passes) ∙ means in
         inl (x.0, lies_text i x.0 e x.1 (behind x.0 x.1 says), says)
 
-    of : (y : Node JsonScalar) → Lies json_frames i 0 y 0 e → meaning (json_rules c) t p 0 y ≡ Some v → json_spells c t p i v
+    of : (y : Node JsonScalar) → Lies json_frames i 0 y 0 e → meaning (standard_rules c) t p 0 y ≡ Some v → json_spells c t p i v
     of null_node lies means = there null_node (λ h. cc) lies means
     of (leaf x) lies means = there (leaf x) (λ h. cc) lies means
     of (container f xs) lies means = there (container f xs) (λ h. cc) lies means
@@ -105,7 +106,7 @@ stands_alone c t p i v e behind (y, lies, means, ends) = of y lies means
         inr (lies.0.0, is.0, deep.0, is.1)
 
 -- so is what stands from its start to its end
-pub stands_whole : (c : Settings) (t : Table) (p : Place) (i : List ℕ) (v : Value) → (json_relations c).stands i t p 0 0 v (length i) → json_spells c t p i v
+pub stands_whole : (c : Settings) (t : Table) (p : Place) (i : List ℕ) (v : Value) → (standard_relations c).stands i t p 0 0 v (length i) → json_spells c t p i v
 stands_whole c t p i v h =
     stands_alone c t p i v (length i) (λ x lies means. let none : drop (length i) i ≡ [] = drop_all (length i) i (omega arith) in rw none tt) h
 
@@ -121,7 +122,7 @@ behind_container c t p i v e (object ms) box lies means = lies.1
 
 -- so what stands at the start of the input is spelled by it, at a place of a container
 pub stands_spells : (c : Settings) (t : Table) (p : Place) (i : List ℕ) (v : Value) (e : ℕ) → IsContainer (kind_of t p)
-    → (json_relations c).stands i t p 0 0 v e → json_spells c t p i v
+    → (standard_relations c).stands i t p 0 0 v e → json_spells c t p i v
 stands_spells c t p i v e box h = stands_alone c t p i v e (λ x lies means. behind_container c t p i v e x box lies means) h
 
 -- a structure is a container
@@ -131,7 +132,7 @@ structure_is_container _ h = absurd h
 
 -- so what an input spells at the place of a structure is what stands at its start
 pub spells_is_stands : (c : Settings) (t : Table) (p : Place) (i : List ℕ) (v : Value) → IsStructure (kind_of t p)
-    → json_spells c t p i v ↔ ((e : ℕ) × (json_relations c).stands i t p 0 0 v e)
+    → json_spells c t p i v ↔ ((e : ℕ) × (standard_relations c).stands i t p 0 0 v e)
 spells_is_stands c t p i v kind =
     (spells_stands c t p i v, λ h. stands_spells c t p i v h.0 (structure_is_container (kind_of t p) kind) h.1)
 
@@ -140,4 +141,4 @@ pub one_spelled : (c : Settings) (t : Table) (p : Place) (i : List ℕ) (v u : V
 one_spelled c t p i v u h k =
     let a = spells_stands c t p i v h in
     let b = spells_stands c t p i u k in
-    (lawful c).same_value i t p 0 0 v u a.0 b.0 a.1 b.1
+    (lawful rfc_8259 c).same_value i t p 0 0 v u a.0 b.0 a.1 b.1

@@ -17,7 +17,7 @@ use Rattle.smithy_shapes.specs.Table.{Table, document, kind_of}
 use Rattle.smithy_types.specs.declared.number.Number.{Number}
 use Rattle.smithy_wire.specs.Frames.{UncarriedAt}
 use Rattle.smithy_json_codec.specs.Scalar.{JsonScalar, a_boolean, a_number, a_string, tree_of, number_text, big_number, number_says, takes_seconds, seconds_read_as, timestamp_says, says, held_says, document_says}
-use Rattle.smithy_json_codec.specs.Standing.{TreeLies, json_frames, json_rules, json_relations}
+use Rattle.smithy_json_codec.specs.Standing.{TreeLies, json_frames, standard_rules, standard_relations}
 use Rattle.smithy_json_codec.specs.LexicalGrammar.{rfc_8259, in_grammar}
 use Rattle.smithy_json_codec.specs.Private.TokenGrammar.{token_is_tree, answer_in}
 use Rattle.smithy_json_codec.specs.Settings.{Settings}
@@ -207,8 +207,8 @@ other_token x i d a e lies h =
     other_slice x i a e (token_is_tree x i d a e lies there.0) there.1
 
 -- so what isn't carried at a place of documents holds such a number
-pub uncarried_document : (c : Settings) (i : List ℕ) (t : Table) (p : Place) → kind_of t p ≡ document → (d a e : ℕ) → (json_relations c).uncarried i t p d a e → HasUnheldNumber i
-uncarried_document c i t p kind d a e h = by (subst (λ k. UncarriedAt json_frames (json_rules c) k p.time i d a e) kind h)
+pub uncarried_document : (c : Settings) (i : List ℕ) (t : Table) (p : Place) → kind_of t p ≡ document → (d a e : ℕ) → (standard_relations c).uncarried i t p d a e → HasUnheldNumber i
+uncarried_document c i t p kind d a e h = by (subst (λ k. UncarriedAt json_frames (standard_rules c) k p.time i d a e) kind h)
   where
-    by : UncarriedAt json_frames (json_rules c) document p.time i d a e → HasUnheldNumber i
+    by : UncarriedAt json_frames (standard_rules c) document p.time i d a e → HasUnheldNumber i
     by (n, b, x, ahead, lies, says) = other_token x i n b e lies says

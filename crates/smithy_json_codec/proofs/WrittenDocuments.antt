@@ -23,7 +23,7 @@ use Rattle.smithy_json_codec.specs.Canonical.{document_text, name_text}
 use Rattle.smithy_json_codec.specs.LexicalGrammar.{rfc_8259, in_grammar}
 use Rattle.smithy_json_codec.specs.Scalar.{JsonScalar, a_number, a_string, held_says, document_says}
 use Rattle.smithy_json_codec.specs.Settings.{Settings}
-use Rattle.smithy_json_codec.specs.Standing.{json_rules}
+use Rattle.smithy_json_codec.specs.Standing.{standard_rules}
 use Rattle.smithy_json_codec.specs.Private.TokenGrammar.{said_in}
 use Rattle.smithy_json_codec.proofs.WrittenLeaves.{json_leaves}
 use Rattle.smithy_json_codec.proofs.WrittenPlaces.{separator, json_writes}
@@ -105,7 +105,7 @@ written_text s utf8 =
     let leaf = a_string (escaped s) in
     said_in scalars.BigDecimal leaf (document_says leaf) no_meaning (quoted_is_string s utf8).1 ∙ ap (λ o. answer_of (option_map text o)) (unescaped_of_escaped s)
 
-document_is_kept : (c : Settings) (p : Place) → is_document_place p ≡ true → (json_rules c).keeps_null (Some p) ≡ true
+document_is_kept : (c : Settings) (p : Place) → is_document_place p ≡ true → (standard_rules c).keeps_null (Some p) ≡ true
 document_is_kept c p is = by c.dispatch_null_members
   where
     by : (on : Bool) → (on || is_document_place p) ≡ true
@@ -113,7 +113,7 @@ document_is_kept c p is = by c.dispatch_null_members
     by false = is
 
 -- a null of a member that is a document is a document, and what was written means what it was written for
-pub json_reads_documents : (c : Settings) → ReadsDocuments (json_leaves c) (json_rules c)
+pub json_reads_documents : (c : Settings) → ReadsDocuments (json_leaves c) (standard_rules c)
 json_reads_documents c = record {
   says = says;
   carried = refl;

@@ -30,7 +30,7 @@ use Rattle.smithy_json_codec.specs.LexicalGrammar.{rfc_8259, in_grammar}
 use Rattle.smithy_json_codec.specs.Scalar.{JsonScalar, a_boolean, a_number, a_string, tree_of, big_number, format_at, says}
 use Rattle.smithy_json_codec.specs.Settings.{Settings}
 use Rattle.smithy_json_codec.specs.Codec.{strict_settings}
-use Rattle.smithy_json_codec.specs.Standing.{json_rules}
+use Rattle.smithy_json_codec.specs.Standing.{standard_rules}
 use Rattle.smithy_json_codec.specs.Private.TokenGrammar.{value_is_token, said_in}
 use Rattle.smithy_wire.specs.Rules.{means, no_meaning}
 use Rattle.smithy_wire.specs.BigNumbers.{big_decimal}
@@ -132,7 +132,7 @@ written_means b s time x is held =
     said_in s (leaf_of form x) (says (strict_settings b) s time (leaf_of form x)) no_meaning token.1 ∙ scalar_means b s time x is held
 
 -- under strict settings
-pub json_reads_leaves : (b : Bool) → ReadsLeaves (json_leaves (strict_settings b)) (json_rules (strict_settings b))
+pub json_reads_leaves : (b : Bool) → ReadsLeaves (json_leaves (strict_settings b)) (standard_rules (strict_settings b))
 json_reads_leaves b = record {
   scalar_means = written_means b;
   key_means = λ key utf8. said_in scalars.String (a_string (escaped key)) (unescaped (escaped key)) None (quoted_is_string key utf8).1 ∙ unescaped_of_escaped key;

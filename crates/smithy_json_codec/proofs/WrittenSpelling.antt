@@ -10,10 +10,11 @@ use Rattle.smithy_shapes.specs.Fits.{Fits}
 use Rattle.smithy_shapes.proofs.SiteLemmas.{site_at}
 use Rattle.smithy_json_codec.specs.Canonical.{json_holds, canonical_json}
 use Rattle.smithy_json_codec.specs.Codec.{strict_settings}
-use Rattle.smithy_json_codec.specs.Laws.{rules_fit, fit}
+use Rattle.smithy_json_codec.specs.Private.TokenLaws.{fit_by_standard}
 use Rattle.smithy_json_codec.specs.Settings.{Settings, kept, name_of}
 use Rattle.smithy_json_codec.specs.Spelling.{json_spells}
-use Rattle.smithy_json_codec.specs.Standing.{json_frames, json_rules}
+use Rattle.smithy_json_codec.specs.Standing.{json_frames, standard_rules}
+use Rattle.smithy_wire.specs.Laws.{stands_fit}
 use Rattle.smithy_wire.specs.Written.{TellsApart}
 use Rattle.smithy_wire.proofs.AcceptedNames.{named_by_name, named_by_json_name}
 use Rattle.smithy_wire.proofs.NestedMeaning.{stands_within_depth}
@@ -26,13 +27,13 @@ use Rattle.smithy_json_codec.proofs.WrittenPlaces.{json_writes, json_writes_fram
 
 -- what is spelled is a value of the place
 pub spelled_fits : (c : Settings) (t : Table) (p : Place) (bytes : List ℕ) (v : Value) → c.limits ≡ kept → json_spells c t p bytes v → Fits t p v
-spelled_fits c t p bytes v keeps h = let s = spells_stands c t p bytes v h in (fit c keeps).fits bytes t p 0 0 v s.0 s.1
+spelled_fits c t p bytes v keeps h = let s = spells_stands c t p bytes v h in (stands_fit json_frames (standard_rules c) keeps (fit_by_standard c)).fits bytes t p 0 0 v s.0 s.1
 
 -- and nests no deeper than the greatest depth
 pub shallow : (c : Settings) (t : Table) (p : Place) (bytes : List ℕ) (v : Value) → c.limits ≡ kept → json_spells c t p bytes v → nesting v ≤ c.max_depth
 shallow c t p bytes v keeps h =
     let s = spells_stands c t p bytes v h in
-    omega (arith, stands_within_depth json_frames (json_rules c) keeps (rules_fit c) bytes t p 0 0 v s.0 s.1)
+    omega (arith, stands_within_depth json_frames (standard_rules c) keeps (fit_by_standard c) bytes t p 0 0 v s.0 s.1)
 
 -- an accepted table names its members, whichever names are used, and tells nulls from documents
 named : (b : Bool) (t : Table) → IsAccepted t → TellsApart (name_of (strict_settings b)) t
@@ -47,4 +48,4 @@ canonical_spells b t p view v accepted fits held deep =
     let c = strict_settings b in
     subst (λ bytes. json_spells c t p bytes v) (sym (same_text c t p view v fits))
     (stands_whole c t p _ v
-    (written_stands json_writes json_frames (json_leaves c) (json_rules c) json_writes_frames (json_writes_leaves c) (json_reads_leaves b) (λ held. (json_writes_documents c, json_reads_documents c)) t p view v (named b t accepted) fits held deep tt))
+    (written_stands json_writes json_frames (json_leaves c) (standard_rules c) json_writes_frames (json_writes_leaves c) (json_reads_leaves b) (λ held. (json_writes_documents c, json_reads_documents c)) t p view v (named b t accepted) fits held deep tt))

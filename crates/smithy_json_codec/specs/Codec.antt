@@ -2,6 +2,7 @@
 use Rattle.std.specs.Prelude.{ℕ, List, Bool, true, Option}
 use Rattle.std.specs.Option.{option_or}
 use Rattle.smithy_json_codec.specs.declared.settings.Settings.{Settings as HeldSettings}
+use Rattle.smithy_json_codec.specs.LexicalGrammar.{LexicalGrammar, grammar_of}
 use Rattle.smithy_json_codec.specs.Settings.{Settings, kept}
 use Rattle.smithy_json_settings.specs.Settings.{default_settings, CodecSettings, default_codec_settings}
 
@@ -22,6 +23,10 @@ held_settings s = record {
   use_string_for_arbitrary_precision = s.use_string_for_arbitrary_precision;
   normalize_arbitrary_precision = s.normalize_arbitrary_precision;
 }
+
+-- the grammar by which JSON is read under them
+abbrev pub held_grammar : HeldSettings → LexicalGrammar
+held_grammar s = grammar_of (held_settings s)
 
 -- the settings of a reader that is given a namespace: that of the codec comes first
 abbrev pub with_namespace : Option (List ℕ) → CodecSettings → CodecSettings

@@ -1,5 +1,5 @@
 -- The laws of reading, for JSON.
-use Rattle.std.specs.Prelude.{◌≡◌, ◌↔◌, ℕ, List, option_map}
+use Rattle.std.specs.Prelude.{◌≡◌, ◌↔◌, ℕ, List, true, option_map}
 use Rattle.smithy_types.specs.Document.{Document, whole_document}
 use Rattle.smithy_types.specs.declared.number.Number.{Number}
 use Rattle.smithy_shapes.specs.declared.place.Place.{Place}
@@ -8,9 +8,9 @@ use Rattle.smithy_json.specs.Tree.{Json}
 use Rattle.smithy_json.specs.DocumentMeaning.{document_meaning}
 use Rattle.smithy_schema.specs.Reading.{IsLawful, StandsFit, CountsOpeners, IsBelow}
 use Rattle.smithy_json_codec.specs.Settings.{Settings, kept, without_limits}
-use Rattle.smithy_json_codec.specs.LexicalGrammar.{rfc_8259}
+use Rattle.smithy_json_codec.specs.LexicalGrammar.{frames_of}
 use Rattle.smithy_json_codec.specs.Meaning.{json_meaning}
-use Rattle.smithy_json_codec.specs.Standing.{json_grammar, json_frames, json_rules, json_relations}
+use Rattle.smithy_json_codec.specs.Standing.{json_grammar, json_rules, json_relations}
 use Rattle.smithy_json_codec.specs.Documents.{depth_limit, DocumentStands}
 use Rattle.smithy_json_codec.specs.Private.DocumentNodes as documents
 use Rattle.smithy_json_codec.specs.Private.TokenLaws as tokens
@@ -20,23 +20,23 @@ use Rattle.smithy_wire.specs.Laws as wire
 
 -- the relations obey their laws, whatever the settings
 pub lawful : (c : Settings) → IsLawful (json_relations c)
-lawful = tokens.lawful rfc_8259
+lawful c = tokens.lawful (json_grammar c) c
 
 -- what scalars mean is of their kind, and keys are texts
-pub rules_fit : (c : Settings) → RulesFit json_frames (json_rules c)
-rules_fit = tokens.rules_fit
+pub rules_fit : (c : Settings) → RulesFit (frames_of (json_grammar c)) (json_rules c)
+rules_fit = tokens.fit_by_settings
 
 -- what stands with the limits kept is a value of its place
 pub fit : (c : Settings) → c.limits ≡ kept → StandsFit (json_relations c)
-fit c keeps = wire.stands_fit json_frames (json_rules c) keeps (rules_fit c)
+fit c keeps = wire.stands_fit (frames_of (json_grammar c)) (json_rules c) keeps (rules_fit c)
 
--- brackets are counted
-pub counts : (c : Settings) → CountsOpeners (json_relations c)
-counts = tokens.counts
+-- brackets are counted, where an empty rest is no structure
+pub counts : (c : Settings) → c.enforce_strictness ≡ true → CountsOpeners (json_relations c)
+counts c = tokens.counts (json_grammar c) c
 
 -- what holds within the limits holds without them
 pub above : (c : Settings) → IsBelow (json_relations c) (json_relations (without_limits c))
-above = tokens.above rfc_8259
+above c = tokens.above (json_grammar c) c
 
 -- From a to e stands a document where a node lies there that means it inside so many containers, and behind it comes what may
 -- follow a container.

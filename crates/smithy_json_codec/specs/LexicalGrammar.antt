@@ -1,15 +1,12 @@
 -- Which tokens of JSON are in its grammar: what the settings of a reader decide of numbers, of strings, and of what follows a
 -- value. A token that isn't in the grammar means nothing as the kind that is wanted, and isn't skipped.
-use Rattle.std.specs.Prelude.{◌≡◌, ℕ, ◌==◌, ◌&&◌, ◌||◌, drop, List, [], ◌∷◌, Bool, true, false, not, Some, None, nat_le, if◌then◌else◌}
-use Rattle.std.specs.Char.{is_ascii_hexdigit}
-use Rattle.std.specs.List.{list_all}
-use Rattle.std.specs.Str.{is_utf8}
+use Rattle.std.specs.Prelude.{◌≡◌, ℕ, ◌&&◌, drop, List, Bool, true, false, Some, None, if◌then◌else◌}
 use Rattle.smithy_texts.specs.Numeral.{are_digits, without_sign, without_minus}
 use Rattle.smithy_texts.specs.Decimal.{is_decimal}
 use Rattle.smithy_shapes.specs.declared.shape_type.Scalar.{Scalar}
 use Rattle.smithy_shapes.specs.declared.shape_type.Scalar.TheVariants as scalars
 use Rattle.smithy_schema.specs.Reading.{Relations}
-use Rattle.smithy_json.specs.Ascii.{quotation_mark, escape, letter_u, space, is_short_escape}
+pub use Rattle.smithy_json.specs.StringText.{is_unescaped, begins_with_four_hex_digits, is_escape, are_chars, is_string_text, escapes_are_valid, is_plain_text, is_lenient_text}
 use Rattle.smithy_json.specs.NumberText.{is_number, is_number_of}
 use Rattle.smithy_json_codec.specs.Settings.{Settings}
 use Rattle.smithy_json_codec.specs.Scalar.{JsonScalar, a_boolean, a_number, a_string, text_of, document_says}
@@ -34,54 +31,17 @@ pub record LexicalGrammar : Type 0 where
   -- a boundary follows each value inside of a container, and a structure is missing in an empty input alone
   pub is_strict : Bool
 
--- ---- RFC 8259, section 7, computed
-
--- unescaped = %x20-21 / %x23-5B / %x5D-10FFFF, by the bytes of its UTF-8
-abbrev pub is_unescaped : ℕ → Bool
-is_unescaped b = nat_le space b && (not (b == quotation_mark) && not (b == escape))
-
--- 4HEXDIG comes first
-abbrev pub begins_with_four_hex_digits : List ℕ → Bool
-begins_with_four_hex_digits (a ∷ b ∷ c ∷ d ∷ _) =
-    is_ascii_hexdigit a && (is_ascii_hexdigit b && (is_ascii_hexdigit c && is_ascii_hexdigit d))
-begins_with_four_hex_digits _ = false
-
--- what may follow a backslash
-abbrev pub is_escape : ℕ → List ℕ → Bool
-is_escape letter rest = is_short_escape letter || ((letter == letter_u) && begins_with_four_hex_digits rest)
-
--- *char
-abbrev pub are_chars : List ℕ → Bool
-are_chars [] = true
-are_chars (b ∷ []) = is_unescaped b
-are_chars (b ∷ letter ∷ rest) =
-    if b == escape then is_escape letter rest && are_chars rest else is_unescaped b && are_chars (letter ∷ rest)
-
-abbrev pub is_string_text : List ℕ → Bool
-is_string_text raw = is_utf8 raw && are_chars raw
-
 -- ---- strings and numbers where less is asked for
-
--- each backslash begins an escape
-abbrev pub escapes_are_valid : List ℕ → Bool
-escapes_are_valid [] = true
-escapes_are_valid (b ∷ []) = not (b == escape)
-escapes_are_valid (b ∷ letter ∷ rest) =
-    if b == escape then is_escape letter rest && escapes_are_valid rest else escapes_are_valid (letter ∷ rest)
-
--- UTF-8 without control characters below 0x20
-abbrev pub is_plain : List ℕ → Bool
-is_plain raw = is_utf8 raw && list_all (nat_le space) raw
 
 -- what a string that is read may hold, where control characters are refused, and where not
 abbrev pub reads_text : Bool → List ℕ → Bool
 reads_text true raw = is_string_text raw
-reads_text false raw = is_utf8 raw && escapes_are_valid raw
+reads_text false raw = is_lenient_text raw
 
 -- what a skipped string may hold, where it is in UTF-8 without control characters, and where its escapes are valid
 abbrev pub skips_text : Bool → Bool → List ℕ → Bool
 skips_text true true raw = is_string_text raw
-skips_text true false raw = is_plain raw
+skips_text true false raw = is_plain_text raw
 skips_text false true raw = escapes_are_valid raw
 skips_text false false raw = true
 

@@ -7,7 +7,7 @@ use Rattle.smithy_json.specs.Grammar.{IsWs, IsStringText, IsValue, IsBoundary}
 use Rattle.smithy_json_codec.specs.Settings.{Settings}
 use Rattle.smithy_json_codec.specs.Scalar.{JsonScalar}
 use Rattle.smithy_json_codec.specs.Tokens.{EndsContainer, EndsInside, token_frames}
-use Rattle.smithy_json_codec.specs.LexicalGrammar.{LexicalGrammar, rfc_8259, token_rules, token_relations}
+use Rattle.smithy_json_codec.specs.LexicalGrammar.{LexicalGrammar, grammar_of, rfc_8259, token_rules, token_relations}
 use Rattle.smithy_wire.specs.Rules.{Rules}
 use Rattle.smithy_wire.specs.Frames.{Frames}
 pub use Rattle.smithy_json_codec.specs.Spans.{IsFront, Lies, IsByte, fresh_mark, end_mark, entry_mark, IsSeparated, without_ws, begins_with_alphanumeric, begins_with_null, opening, closing}
@@ -16,17 +16,24 @@ pub use Rattle.smithy_json_codec.specs.Spans.{IsFront, Lies, IsByte, fresh_mark,
 
 -- the grammar by which JSON is read under some settings
 abbrev pub json_grammar : Settings → LexicalGrammar
-json_grammar c = rfc_8259
+json_grammar c = grammar_of c
 
--- the framing, the rules and the relations of JSON by that grammar
-abbrev pub json_frames : Frames JsonScalar
-json_frames = token_frames true
-
+-- the rules and the relations of JSON by that grammar
 abbrev pub json_rules : Settings → Rules JsonScalar
 json_rules c = token_rules (json_grammar c) c
 
 abbrev pub json_relations : Settings → Relations
 json_relations c = token_relations (json_grammar c) c
+
+-- the framing, the rules and the relations by the grammar of RFC 8259
+abbrev pub json_frames : Frames JsonScalar
+json_frames = token_frames true
+
+abbrev pub standard_rules : Settings → Rules JsonScalar
+standard_rules c = token_rules rfc_8259 c
+
+abbrev pub standard_relations : Settings → Relations
+standard_relations c = token_relations rfc_8259 c
 
 -- ---- trees
 

@@ -5,18 +5,15 @@
 use Rattle.std.specs.Prelude.{◌≡◌, ◌≢◌, ◌⊎◌, ◌≤◌, ℕ, ◌-◌, ◌+◌, ◌==◌, ◌||◌, ◌&&◌, zero, suc, length, drop, List, [], ◌∷◌, ◌++◌, Option, Some, None, Bool, true, false, if◌then◌else◌, nat_le, codes, ⊤}
 use Rattle.std.specs.List.{AllByRecursion}
 use Rattle.smithy_schema.specs.Reading.{Mark}
-use Rattle.smithy_json.specs.Ascii.{quotation_mark, escape, name_separator, minus_sign, plus_sign, decimal_point, end_array, is_e}
+use Rattle.smithy_json.specs.Ascii.{quotation_mark, name_separator, end_array}
+pub use Rattle.smithy_json.specs.Ascii.{is_numeric}
+pub use Rattle.smithy_json.specs.StringText.{IsQuoted}
 use Rattle.smithy_json.specs.Grammar.{IsWs, IsBoundary}
 use Rattle.smithy_json_codec.specs.Scalar.{JsonScalar, a_boolean, a_number, a_string}
 use Rattle.smithy_json_codec.specs.Spans.{Lies, IsByte, IsSeparated, fresh_mark, end_mark, entry_mark, opening, closing, begins_with_alphanumeric, begins_with_null, without_ws}
 use Rattle.smithy_json_codec.specs.Openers.{json_openers}
 use Rattle.smithy_wire.specs.Node.{Form, as_array, as_object}
 use Rattle.smithy_wire.specs.Frames.{Frames}
-
--- a byte that a number may have: a digit, a sign, a point or the letter of an exponent
-abbrev pub is_numeric : ℕ → Bool
-is_numeric b =
-    (nat_le 0x30 b && nat_le b 0x39) || ((b == minus_sign) || (b == plus_sign) || (b == decimal_point) || is_e b)
 
 -- at least one byte that a number may have
 abbrev pub IsNumberRun : List ℕ → Type 0
@@ -27,13 +24,6 @@ IsNumberRun (b ∷ raw) = AllByRecursion (λ b. is_numeric b ≡ true) (b ∷ ra
 abbrev pub EndsRun : List ℕ → Type 0
 EndsRun [] = Unit {0}
 EndsRun (b ∷ rest) = is_numeric b ≡ false
-
--- what stands between the quotation marks of a string: bytes of which each backslash takes the next
-abbrev pub IsQuoted : List ℕ → Type 0
-IsQuoted [] = ⊤
-IsQuoted (b ∷ []) = (b ≢ quotation_mark) × (b ≢ escape)
-IsQuoted (b ∷ c ∷ raw) =
-    (((b ≢ quotation_mark) × (b ≢ escape)) × IsQuoted (c ∷ raw)) ⊎ ((b ≡ escape) × IsQuoted raw)
 
 abbrev pub IsToken : JsonScalar → List ℕ → Type 0
 IsToken (a_boolean true) bytes = bytes ≡ codes "true"

@@ -7,7 +7,7 @@ use std::alloc::Global;
 use std::borrow::{CowSlice, CowStr};
 
 impl<'a> BorrowDeserializer<'a> for JsonDeserializer<'a> {
-    ghost use Rattle.std.specs.Prelude.{◌≡◌, IfOk};
+    ghost use Rattle.std.specs.Prelude.{◌≡◌, true, IfOk};
     ghost use Rattle.std.specs.Cow.{cow_str_bytes, cow_slice_items, IsOwnedSlice};
     ghost use Rattle.smithy_shapes.specs.declared.shape_type.Scalar.TheVariants as scalars;
     ghost use Rattle.smithy_shapes.specs.Value.{text, bytes};
@@ -16,27 +16,27 @@ impl<'a> BorrowDeserializer<'a> for JsonDeserializer<'a> {
     ghost use Rattle.smithy_json_codec.specs.Borrowed.{BorrowsText};
     ghost use Rattle.smithy_json_codec.specs.Cursor.{cursor_of, reading_settings_of, reader_settings_of};
     ghost use Rattle.smithy_json_codec.specs.Settings.{keep_limits, without_limits};
-    ghost use Rattle.smithy_json_codec.specs.Standing.{json_relations};
+    ghost use Rattle.smithy_json_codec.specs.Standing.{json_grammar, json_relations};
 
     #[inline(always)]
     fn read_text(&mut self, _schema: &Schema<'_>) -> Result<CowStr<'a, Global>, SerdeError>
         ensures same { reader_settings_of self.new ≡ reader_settings_of self.old }
-        ensures read { ReadsScalar (json_relations (keep_limits (reading_settings_of self.old))) (json_relations (without_limits (reading_settings_of self.old))) (Unit {0}) (cursor_of self.old) (cursor_of self.new) (site_of _schema.now) scalars.String (λ s. text (cow_str_bytes s)) result }
+        ensures read { ReadsScalar (json_relations (keep_limits (reading_settings_of self.old))) (json_relations (without_limits (reading_settings_of self.old))) ((reading_settings_of self.old).enforce_strictness ≡ true) (cursor_of self.old) (cursor_of self.new) (site_of _schema.now) scalars.String (λ s. text (cow_str_bytes s)) result }
 
         // Borrowed exactly where no backslash stands in the string.
-        ensures borrowed { IfOk result (λ t. BorrowsText (cursor_of self.old).input (cursor_of self.old).at t (cursor_of self.new).at) }
+        ensures borrowed { IfOk result (λ t. BorrowsText (json_grammar (reading_settings_of self.old)) (cursor_of self.old).input (cursor_of self.old).at t (cursor_of self.new).at) }
     {
         self.walk.ready()?;
         let input = self.walk.input;
         let at = self.walk.position;
-        let found = text_piece_at(self.alloc, input, at);
+        let found = text_piece_at(self.alloc, input, at, &self.settings);
         let answer = self.walk.take_found(found);
         told(answer, input, at, Scalar::String, None, &self.settings)
     }
 
     fn read_bytes(&mut self, _schema: &Schema<'_>) -> Result<CowSlice<'a, u8, Global>, SerdeError>
         ensures same { reader_settings_of self.new ≡ reader_settings_of self.old }
-        ensures read { ReadsScalar (json_relations (keep_limits (reading_settings_of self.old))) (json_relations (without_limits (reading_settings_of self.old))) (Unit {0}) (cursor_of self.old) (cursor_of self.new) (site_of _schema.now) scalars.Blob (λ b. bytes (cow_slice_items b)) result }
+        ensures read { ReadsScalar (json_relations (keep_limits (reading_settings_of self.old))) (json_relations (without_limits (reading_settings_of self.old))) ((reading_settings_of self.old).enforce_strictness ≡ true) (cursor_of self.old) (cursor_of self.new) (site_of _schema.now) scalars.Blob (λ b. bytes (cow_slice_items b)) result }
 
         // The bytes are never borrowed, as a string holds them as base64.
         ensures owned { IfOk result IsOwnedSlice }
@@ -44,7 +44,7 @@ impl<'a> BorrowDeserializer<'a> for JsonDeserializer<'a> {
         self.walk.ready()?;
         let input = self.walk.input;
         let at = self.walk.position;
-        let found = bytes_piece_at(self.alloc, input, at);
+        let found = bytes_piece_at(self.alloc, input, at, &self.settings);
         let answer = self.walk.take_found(found);
         told(answer, input, at, Scalar::Blob, None, &self.settings)
     }

@@ -27,6 +27,18 @@ impl Model for JsonCodec {
     ghost view = { λ codec. codec.settings };
 }
 
+impl Default for JsonCodec {
+    ghost use Rattle.std.specs.Prelude.{◌≡◌};
+    ghost use Rattle.smithy_json_settings.specs.Settings.{default_codec_settings};
+
+    ghost is_default = { λ codec. codec ≡ default_codec_settings };
+
+    /// The codec of a client where nothing is set.
+    fn default() -> JsonCodec {
+        JsonCodec::new(JsonCodecSettings::default())
+    }
+}
+
 impl JsonCodec {
     ghost use Rattle.std.specs.Prelude.{◌≡◌, false, option_map};
     ghost use Rattle.smithy_json_codec.specs.Codec.{strict_codec_settings, with_namespace};
@@ -34,6 +46,14 @@ impl JsonCodec {
     ghost use Rattle.smithy_wire.specs.Walking.{fresh_cursor};
     ghost use Rattle.smithy_json_codec.specs.Serializing.{state_of, has_failed};
     ghost use Rattle.smithy_json_codec.specs.Writing.{fresh_state};
+
+    /// A codec under these settings.
+    pub fn new(settings: JsonCodecSettings) -> JsonCodec
+        ensures { result ≡ settings }
+    {
+        let held = Settings::of(settings.chosen());
+        JsonCodec { settings, held }
+    }
 
     /// A codec that reads RFC 8259 to the letter, to a depth of 128 containers. Members go by their JSON
     /// names where `use_json_name` is set and a name is given, and instants without a form are epoch
@@ -47,10 +67,7 @@ impl JsonCodec {
             .validate_skipped_string_encoding(true)
             .strict_timestamp_formats(true)
             .build();
-        JsonCodec {
-            settings,
-            held: Settings::strict(use_json_name),
-        }
+        JsonCodec::new(settings)
     }
 
     /// The settings.

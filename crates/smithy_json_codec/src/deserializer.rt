@@ -7,7 +7,7 @@ use crate::instants::instant_at;
 use crate::integers::integer_at;
 use crate::mismatch::{no_object, told};
 use crate::numbers::{big_decimal_at, big_integer_at};
-use crate::places::{InList, InObject, byte_end, next_in_list, next_in_object, null_end};
+use crate::places::{InList, InObject, byte_end, is_over, next_in_list, next_in_object, null_end};
 use crate::settings::Settings;
 use crate::skip::skipped_end;
 use crate::texts::{blob_at, owned_text, text_at};
@@ -43,7 +43,6 @@ impl ShapeDeserializer for JsonDeserializer<'_> {
     ghost use Rattle.smithy_json_codec.specs.Standing.{json_grammar, json_relations};
     ghost use Rattle.smithy_json_codec.specs.ContainerSize.{json_sizes};
     ghost use Rattle.smithy_json_codec.specs.Deepest.{OpensTooDeep};
-    ghost use Rattle.smithy_json_codec.specs.LexicalGrammar.{rfc_8259};
     ghost use Rattle.smithy_types.specs.DocumentView.{document_view};
     ghost use Rattle.std.specs.Prelude.{FitsSigned};
     ghost use Rattle.std.specs.Int.{w128};
@@ -68,8 +67,8 @@ impl ShapeDeserializer for JsonDeserializer<'_> {
 
     ghost lifted = { λ c. json_relations (without_limits c.json) };
 
-    // The one maker gives settings of which all that is said of the lifted relations holds.
-    ghost tells_without_limits = { λ _. Unit {0} };
+    // All that is said of the lifted relations holds where reading is strict.
+    ghost tells_without_limits = { λ (c : CodecSettings). c.json.enforce_strictness ≡ true };
 
     ghost lawful = { λ c. json_is_lawful (keep_limits c.json) };
 
@@ -77,7 +76,7 @@ impl ShapeDeserializer for JsonDeserializer<'_> {
 
     ghost fit = { λ c. json_fits (keep_limits c.json) refl };
 
-    ghost counts = { λ c _. json_counts (keep_limits c.json) };
+    ghost counts = { λ c strict. json_counts (keep_limits c.json) strict };
 
     ghost above = { λ c. limits_are_above (keep_limits c.json) };
 
@@ -97,8 +96,9 @@ impl ShapeDeserializer for JsonDeserializer<'_> {
 
     fn open_struct(&mut self, schema: &Schema<'_>) -> Result<(), SerdeError> {
         self.walk.ready()?;
-        if self.walk.input.is_empty() && is_structure(schema) {
-            return self.walk.enter(0, missing());
+        let input = self.walk.input;
+        if is_over(input, self.walk.position, &self.settings) && is_structure(schema) {
+            return self.walk.enter(input.len(), missing());
         }
         match byte_end(self.walk.input, self.walk.position, b'{') {
             Some(inside) => self
@@ -120,13 +120,13 @@ impl ShapeDeserializer for JsonDeserializer<'_> {
         ensures ok { (cursor_of self.old).due ≡ false → IfOk result (λ step. MatchStep step (json_relations (reading_settings_of self.old)) (cursor_of self.old) (cursor_of self.new) (site_of schema.now)) }
         ensures refused { IsRefused result → (cursor_of self.old).due ≡ false
             → CannotGoOn (json_relations (reading_settings_of self.old)) (cursor_of self.old) schema.now.shapes.now schema.now.place }
-        ensures none_without_limits { Unit {0} → IsInvalid result → (cursor_of self.old).due ≡ false
+        ensures none_without_limits { (reading_settings_of self.old).enforce_strictness ≡ true → IsInvalid result → (cursor_of self.old).due ≡ false
             → CannotGoOn (json_relations (without_limits (reading_settings_of self.old))) (cursor_of self.old) schema.now.shapes.now schema.now.place }
         ensures unread { (cursor_of self.old).due ≡ true
             → IfOk result (λ step. (e : ℕ) × (json_relations (reading_settings_of self.old)).skips (cursor_of self.old).input (depth (cursor_of self.old)) (cursor_of self.old).at e × MatchStep step (json_relations (reading_settings_of self.old)) (passed_to (cursor_of self.old) e) (cursor_of self.new) (site_of schema.now)) }
         ensures unread_refused { IsRefused result → (cursor_of self.old).due ≡ true → (e : ℕ) → (json_relations (reading_settings_of self.old)).skips (cursor_of self.old).input (depth (cursor_of self.old)) (cursor_of self.old).at e
             → CannotGoOn (json_relations (reading_settings_of self.old)) (passed_to (cursor_of self.old) e) schema.now.shapes.now schema.now.place }
-        ensures unread_would { Unit {0} → IsInvalid result → (cursor_of self.old).due ≡ true → (e : ℕ) → (json_relations (without_limits (reading_settings_of self.old))).skips (cursor_of self.old).input (depth (cursor_of self.old)) (cursor_of self.old).at e
+        ensures unread_would { (reading_settings_of self.old).enforce_strictness ≡ true → IsInvalid result → (cursor_of self.old).due ≡ true → (e : ℕ) → (json_relations (without_limits (reading_settings_of self.old))).skips (cursor_of self.old).input (depth (cursor_of self.old)) (cursor_of self.old).at e
             → CannotGoOn (json_relations (without_limits (reading_settings_of self.old))) (passed_to (cursor_of self.old) e) schema.now.shapes.now schema.now.place }
         ensures deep { IsErrOf result TooDeep → ReachesDepth (json_relations (reading_settings_of self.old)) (reading_settings_of self.old).max_depth (cursor_of self.old) }
         ensures limited { IsErrOf result TooDeep → (json_relations (reading_settings_of self.old)).limits_skips ≡ true }
@@ -134,7 +134,7 @@ impl ShapeDeserializer for JsonDeserializer<'_> {
         // `TooDeep` comes only of a container that begins at the greatest depth, in the value that is skipped here or in the
         // value of a mark behind it.
         ensures too_deep { IsErrOf result TooDeep
-            → (q : ℕ) × ((cursor_of self.old).at ≤ q) × OpensTooDeep rfc_8259 (reading_settings_of self.old).max_depth (depth (cursor_of self.old)) (cursor_of self.old).input q }
+            → (q : ℕ) × ((cursor_of self.old).at ≤ q) × OpensTooDeep (json_grammar (reading_settings_of self.old)) (reading_settings_of self.old).max_depth (depth (cursor_of self.old)) (cursor_of self.old).input q }
     {
         if self.walk.failed {
             return Err(self.walk.refuse(SerdeError::Failed));
@@ -169,6 +169,7 @@ impl ShapeDeserializer for JsonDeserializer<'_> {
             self.walk.position,
             self.walk.inner.mark.entered,
             self.walk.depth(),
+            &self.settings,
         ) {
             Some(InList::Element(at)) => {
                 self.walk.go_on(at, frame(ContainerKind::List, true));
@@ -202,6 +203,7 @@ impl ShapeDeserializer for JsonDeserializer<'_> {
             self.walk.position,
             self.walk.inner.mark.entered,
             self.walk.depth(),
+            &self.settings,
         ) {
             Some(InObject::Member(name)) => match owned_text(
                 self.alloc,
@@ -247,7 +249,7 @@ impl ShapeDeserializer for JsonDeserializer<'_> {
         if !self.is_null() {
             return Ok(());
         }
-        match null_end(self.walk.input, self.walk.position) {
+        match null_end(self.walk.input, self.walk.position, &self.settings) {
             Some(end) => {
                 self.walk.pass(end);
                 Ok(())
@@ -271,7 +273,7 @@ impl ShapeDeserializer for JsonDeserializer<'_> {
         ensures limited { IsErrOf result TooDeep → (json_relations (reading_settings_of self.old)).limits_skips ≡ true }
 
         // `TooDeep` comes only of a container that begins at the greatest depth, behind what is sound.
-        ensures too_deep { IsErrOf result TooDeep → OpensTooDeep rfc_8259 (reading_settings_of self.old).max_depth (depth (cursor_of self.old)) (cursor_of self.old).input (cursor_of self.old).at }
+        ensures too_deep { IsErrOf result TooDeep → OpensTooDeep (json_grammar (reading_settings_of self.old)) (reading_settings_of self.old).max_depth (depth (cursor_of self.old)) (cursor_of self.old).input (cursor_of self.old).at }
     {
         self.walk.ready()?;
         match skipped_end(self.input(), self.walk.position, self.walk.depth()) {
@@ -294,7 +296,7 @@ impl ShapeDeserializer for JsonDeserializer<'_> {
         self.walk.ready()?;
         let input = self.walk.input;
         let at = self.walk.position;
-        let found = boolean_at(input, at);
+        let found = boolean_at(input, at, &self.settings);
         let answer = self.walk.take(found);
         told(answer, input, at, Scalar::Boolean, None, &self.settings)
     }
@@ -339,7 +341,7 @@ impl ShapeDeserializer for JsonDeserializer<'_> {
         self.walk.ready()?;
         let input = self.walk.input;
         let at = self.walk.position;
-        let found = text_at(self.alloc, input, at);
+        let found = text_at(self.alloc, input, at, &self.settings);
         let answer = self.walk.take_found(found);
         told(answer, input, at, Scalar::String, None, &self.settings)
     }
@@ -348,14 +350,14 @@ impl ShapeDeserializer for JsonDeserializer<'_> {
         self.walk.ready()?;
         let input = self.walk.input;
         let at = self.walk.position;
-        let found = blob_at(self.alloc, input, at);
+        let found = blob_at(self.alloc, input, at, &self.settings);
         let answer = self.walk.take_found(found);
         told(answer, input, at, Scalar::Blob, None, &self.settings)
     }
 
     fn read_big_integer(&mut self, _schema: &Schema<'_>) -> Result<BigInteger, SerdeError>
         ensures same { reader_settings_of self.new ≡ reader_settings_of self.old }
-        ensures read { ReadsScalar (json_relations (reading_settings_of self.old)) (json_relations (without_limits (reading_settings_of self.old))) (Unit {0}) (cursor_of self.old) (cursor_of self.new) (site_of _schema.now) scalars.BigInteger (λ n. whole (number n)) result }
+        ensures read { ReadsScalar (json_relations (reading_settings_of self.old)) (json_relations (without_limits (reading_settings_of self.old))) ((reading_settings_of self.old).enforce_strictness ≡ true) (cursor_of self.old) (cursor_of self.new) (site_of _schema.now) scalars.BigInteger (λ n. whole (number n)) result }
         ensures wide { AnswersWide (json_relations (reading_settings_of self.old)) (cursor_of self.old) (site_of _schema.now) scalars.BigInteger result }
         ensures fits { IfOk result (λ n. FitsSigned w128 (number n)) }
 
@@ -372,7 +374,7 @@ impl ShapeDeserializer for JsonDeserializer<'_> {
 
     fn read_big_decimal(&mut self, _schema: &Schema<'_>) -> Result<BigDecimal, SerdeError>
         ensures same { reader_settings_of self.new ≡ reader_settings_of self.old }
-        ensures read { ReadsScalar (json_relations (reading_settings_of self.old)) (json_relations (without_limits (reading_settings_of self.old))) (Unit {0}) (cursor_of self.old) (cursor_of self.new) (site_of _schema.now) scalars.BigDecimal (λ n. decimal (mantissa n) (net_exponent n)) result }
+        ensures read { ReadsScalar (json_relations (reading_settings_of self.old)) (json_relations (without_limits (reading_settings_of self.old))) ((reading_settings_of self.old).enforce_strictness ≡ true) (cursor_of self.old) (cursor_of self.new) (site_of _schema.now) scalars.BigDecimal (λ n. decimal (mantissa n) (net_exponent n)) result }
         ensures wide { AnswersWide (json_relations (reading_settings_of self.old)) (cursor_of self.old) (site_of _schema.now) scalars.BigDecimal result }
         ensures fits { IfOk result (λ n. FitsSigned w128 (mantissa n)) }
 
@@ -399,16 +401,16 @@ impl ShapeDeserializer for JsonDeserializer<'_> {
 
     fn read_document(&mut self, _schema: &Schema<'_>) -> Result<Document, SerdeError>
         ensures same { reader_settings_of self.new ≡ reader_settings_of self.old }
-        ensures read { ReadsDocument (json_relations (reading_settings_of self.old)) (json_relations (without_limits (reading_settings_of self.old))) (Unit {0}) (reading_settings_of self.old).max_depth (cursor_of self.old) (cursor_of self.new) (site_of _schema.now) result }
+        ensures read { ReadsDocument (json_relations (reading_settings_of self.old)) (json_relations (without_limits (reading_settings_of self.old))) ((reading_settings_of self.old).enforce_strictness ≡ true) (reading_settings_of self.old).max_depth (cursor_of self.old) (cursor_of self.new) (site_of _schema.now) result }
 
         // `TooDeep` comes only of a value of the document inside of as many containers as may be open. `NotCarried` comes only of
         // a number of the document that no document holds.
-        ensures too_deep { IsErrOf result TooDeep → OpensDocumentTooDeep rfc_8259 (reading_settings_of self.old).max_depth (depth (cursor_of self.old)) (cursor_of self.old).input (cursor_of self.old).at }
-        ensures other_number { IsErrOf result NotCarried → MeetsOtherNumber rfc_8259 (cursor_of self.old).input (cursor_of self.old).at }
+        ensures too_deep { IsErrOf result TooDeep → OpensDocumentTooDeep (json_grammar (reading_settings_of self.old)) (reading_settings_of self.old).max_depth (depth (cursor_of self.old)) (cursor_of self.old).input (cursor_of self.old).at }
+        ensures other_number { IsErrOf result NotCarried → MeetsOtherNumber (json_grammar (reading_settings_of self.old)) (cursor_of self.old).input (cursor_of self.old).at }
 
         // What is read is the document that the JSON value there means, each number in its variant, and what is refused means none.
-        ensures meaning { IfOk result (λ x. DocumentStands rfc_8259 (reading_settings_of self.old) (depth (cursor_of self.old)) (cursor_of self.old).input (cursor_of self.old).at (document_view x) (cursor_of self.new).at) }
-        ensures no_meaning { IsRefused result → (cursor_of self.old).due ≡ true → NoDocumentStands rfc_8259 (reading_settings_of self.old) (depth (cursor_of self.old)) (cursor_of self.old).input (cursor_of self.old).at }
+        ensures meaning { IfOk result (λ x. DocumentStands (json_grammar (reading_settings_of self.old)) (reading_settings_of self.old) (depth (cursor_of self.old)) (cursor_of self.old).input (cursor_of self.old).at (document_view x) (cursor_of self.new).at) }
+        ensures no_meaning { IsRefused result → (cursor_of self.old).due ≡ true → NoDocumentStands (json_grammar (reading_settings_of self.old)) (reading_settings_of self.old) (depth (cursor_of self.old)) (cursor_of self.old).input (cursor_of self.old).at }
     {
         self.walk.ready()?;
         match standing_document_at(

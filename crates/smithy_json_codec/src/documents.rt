@@ -3,9 +3,8 @@
 ghost use Rattle.std.specs.Prelude.{◌≡◌, ◌≤◌, ℕ, [], ◌∷◌, length, vec_items, string_bytes, IfOk, IfErr, MatchOption};
 ghost use Rattle.smithy_types.specs.DocumentView.{document_view, elements_view, properties_view};
 ghost use Rattle.smithy_json_codec.specs.declared.documents.DocumentFault.TheVariants.{NoMemory};
-ghost use Rattle.smithy_json_codec.specs.Codec.{held_settings};
+ghost use Rattle.smithy_json_codec.specs.Codec.{held_settings, held_grammar};
 ghost use Rattle.smithy_json_codec.specs.Documents.{DocumentLies, DocumentStands};
-ghost use Rattle.smithy_json_codec.specs.LexicalGrammar.{rfc_8259};
 ghost use Rattle.smithy_json_codec.specs.Settings.{Settings, kept};
 ghost use Rattle.smithy_json_codec.specs.Private.OpenDocuments.{RefusesDocument, RefusesStanding, begin_fault, document_refusal, open_array, open_object, with_value, fresh, open_view, frame_view, frames_view, TakesValue, TakesStep};
 
@@ -14,7 +13,6 @@ mod scalars;
 use crate::documents::scalars::{BeginFault, Begun, document_begun};
 use crate::input::Input;
 use crate::places::{InList, InObject, may_end, next_in_list, next_in_object};
-use crate::skip::begins_value;
 use crate::texts::owned_text;
 use smithy_schema::SerdeError;
 use smithy_types::Document;
@@ -140,21 +138,6 @@ fn with_value(frame: Frame, value: Document) -> Result<Open, AllocError>
     }
 }
 
-// Why no value is read at the offset, where one is due inside of as many containers as may be open: `TooDeep` where a value
-// begins there.
-#[cold]
-#[inline(never)]
-fn fault_at_limit(input: &[u8], at: usize) -> DocumentFault
-    requires { at ≤ length input.now }
-    ensures { (c : Settings) → c.limits ≡ kept → RefusesDocument rfc_8259 c c.max_depth input.now at result }
-{
-    if begins_value(input, at) {
-        DocumentFault::TooDeep
-    } else {
-        DocumentFault::NoDocument
-    }
-}
-
 // The step to the value that is due at the offset, inside of so many containers, for which the
 // innermost waits.
 #[inline(always)]
@@ -167,12 +150,13 @@ fn value_step(
 ) -> Result<Step, DocumentFault>
     requires within { at ≤ length input.bytes.now }
     requires shallow { depth ≤ input.settings.max_depth }
-    ensures { TakesValue rfc_8259 (held_settings input.entry.settings) depth input.entry.bytes.now at (frame_view frame) result }
+    ensures { TakesValue (held_grammar input.entry.settings) (held_settings input.entry.settings) depth input.entry.bytes.now at (frame_view frame) result }
 {
+    let begun = document_begun(alloc, input.bytes, at, &input.settings)?;
     if depth >= input.settings.max_depth {
-        return Err(fault_at_limit(input.bytes, at));
+        return Err(DocumentFault::TooDeep);
     }
-    match document_begun(alloc, input.bytes, at)? {
+    match begun {
         Begun::Scalar(value, end) => Ok(Step::Inside(with_value(frame, value)?, end)),
         Begun::Container(is_object, inside) => Ok(Step::Opens(frame, is_object, inside)),
     }
@@ -189,9 +173,9 @@ fn array_step(
 ) -> Result<Step, DocumentFault>
     requires within { at ≤ length input.bytes.now }
     requires shallow { depth ≤ input.settings.max_depth }
-    ensures { TakesStep rfc_8259 (held_settings input.entry.settings) depth input.entry.bytes.now at entered (open_array (elements_view elements.items)) result }
+    ensures { TakesStep (held_grammar input.entry.settings) (held_settings input.entry.settings) depth input.entry.bytes.now at entered (open_array (elements_view elements.items)) result }
 {
-    match next_in_list(input.bytes, at, entered, INNER_DEPTH) {
+    match next_in_list(input.bytes, at, entered, INNER_DEPTH, &input.settings) {
         Some(InList::Element(start)) => {
             value_step(alloc, input, start, Frame::InArray(elements), depth)
         }
@@ -211,9 +195,9 @@ fn object_step(
 ) -> Result<Step, DocumentFault>
     requires within { at ≤ length input.bytes.now }
     requires shallow { depth ≤ input.settings.max_depth }
-    ensures { TakesStep rfc_8259 (held_settings input.entry.settings) depth input.entry.bytes.now at entered (open_object (properties_view properties.entries)) result }
+    ensures { TakesStep (held_grammar input.entry.settings) (held_settings input.entry.settings) depth input.entry.bytes.now at entered (open_object (properties_view properties.entries)) result }
 {
-    match next_in_object(input.bytes, at, entered, INNER_DEPTH) {
+    match next_in_object(input.bytes, at, entered, INNER_DEPTH, &input.settings) {
         Some(InObject::Member(name)) => {
             let Some(key) = owned_text(alloc, name.raw, name.has_escape)? else {
                 return Err(DocumentFault::NoDocument);
@@ -238,7 +222,7 @@ fn next_step(
 ) -> Result<Step, DocumentFault>
     requires within { at ≤ length input.bytes.now }
     requires shallow { depth ≤ input.settings.max_depth }
-    ensures { TakesStep rfc_8259 (held_settings input.entry.settings) depth input.entry.bytes.now at entered (open_view inner) result }
+    ensures { TakesStep (held_grammar input.entry.settings) (held_settings input.entry.settings) depth input.entry.bytes.now at entered (open_view inner) result }
 {
     match inner {
         Open::Array(elements) => { array_step(alloc, input, at, entered, elements, depth) }
@@ -265,8 +249,8 @@ fn pop(frames: &mut Vec<Frame>) -> Option<Frame>
 /// The document at the offset inside of so many containers, with its end. Each of its values counts as
 /// one more container than it stands in, and no more may be open at once than the settings say.
 ///
-/// The first fault is answered: a value too deep, a number that no document holds, or what is no
-/// document whatever the limits.
+/// The first fault is answered: what is no document whatever the limits, a number that no document holds, or a value too
+/// deep.
 fn document_at(
     alloc: Global,
     input: Input<'_>,
@@ -275,13 +259,14 @@ fn document_at(
 ) -> Result<(Document, usize), DocumentFault>
     requires within { at ≤ length input.bytes.now }
     requires shallow { depth ≤ input.settings.max_depth }
-    ensures ok { IfOk result (λ r. DocumentLies rfc_8259 (held_settings input.entry.settings) depth input.entry.bytes.now at (document_view r.0) r.1) }
-    ensures refused { IfErr result (RefusesDocument rfc_8259 (held_settings input.entry.settings) depth input.entry.bytes.now at) }
+    ensures ok { IfOk result (λ r. DocumentLies (held_grammar input.entry.settings) (held_settings input.entry.settings) depth input.entry.bytes.now at (document_view r.0) r.1) }
+    ensures refused { IfErr result (RefusesDocument (held_grammar input.entry.settings) (held_settings input.entry.settings) depth input.entry.bytes.now at) }
 {
+    let begun = document_begun(alloc, input.bytes, at, &input.settings)?;
     if depth >= input.settings.max_depth {
-        return Err(fault_at_limit(input.bytes, at));
+        return Err(DocumentFault::TooDeep);
     }
-    let (is_object, mut at) = match document_begun(alloc, input.bytes, at)? {
+    let (is_object, mut at) = match begun {
         Begun::Scalar(value, end) => return Ok((value, end)),
         Begun::Container(is_object, inside) => (is_object, inside),
     };
@@ -324,11 +309,11 @@ pub(crate) fn standing_document_at(
 ) -> Result<(Document, usize), DocumentFault>
     requires within { at ≤ length input.bytes.now }
     requires shallow { depth ≤ input.settings.max_depth }
-    ensures ok { IfOk result (λ r. DocumentStands rfc_8259 (held_settings input.entry.settings) depth input.entry.bytes.now at (document_view r.0) r.1) }
-    ensures refused { IfErr result (RefusesStanding rfc_8259 (held_settings input.entry.settings) depth input.entry.bytes.now at) }
+    ensures ok { IfOk result (λ r. DocumentStands (held_grammar input.entry.settings) (held_settings input.entry.settings) depth input.entry.bytes.now at (document_view r.0) r.1) }
+    ensures refused { IfErr result (RefusesStanding (held_grammar input.entry.settings) (held_settings input.entry.settings) depth input.entry.bytes.now at) }
 {
     let (document, end) = document_at(alloc, input, at, depth)?;
-    if !may_end(input.bytes, end, depth + 1) {
+    if !may_end(input.bytes, end, depth + 1, &input.settings) {
         return Err(DocumentFault::NoDocument);
     }
     Ok((document, end))

@@ -142,7 +142,7 @@ fn date_at(
     let Some(form) = string_form(settings, time) else {
         return Ok(None);
     };
-    let Some(string) = string_at(input, at) else {
+    let Some(string) = string_at(input, at, settings) else {
         return Ok(None);
     };
     let Some(text) = text_of(alloc, string.text, string.has_escape)? else {

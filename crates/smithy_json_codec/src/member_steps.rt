@@ -2,6 +2,7 @@
 use crate::deserializer::JsonDeserializer;
 use crate::frames::{frame, is_structure};
 use crate::members::{Next, next_present, step_to};
+use crate::places::is_over;
 use smithy_schema::{Schema, SerdeError, Step};
 use smithy_wire::ContainerKind;
 
@@ -13,21 +14,21 @@ impl JsonDeserializer<'_> {
     ghost use Rattle.smithy_schema.specs.declared.error.SerdeError.TheVariants.{TooDeep};
     ghost use Rattle.smithy_json_codec.specs.Cursor.{cursor_of, reading_settings_of, reader_settings_of};
     ghost use Rattle.smithy_json_codec.specs.Deepest.{OpensTooDeep};
-    ghost use Rattle.smithy_json_codec.specs.LexicalGrammar.{rfc_8259};
     ghost use Rattle.smithy_json_codec.specs.Openers.{json_openers};
     ghost use Rattle.smithy_json_codec.specs.Settings.{without_limits};
-    ghost use Rattle.smithy_json_codec.specs.Standing.{json_relations};
+    ghost use Rattle.smithy_json_codec.specs.Standing.{json_grammar, json_relations};
     ghost use Rattle.smithy_json_codec.specs.Private.MemberSteps.{EndsEmpty};
 
-    // Whether the innermost container was opened at the end of an empty input, and ends there.
-    fn ends_empty(&self) -> bool
-        ensures { IsTrue result ↔ EndsEmpty (cursor_of self.now) }
+    // Whether the innermost container was opened where the input is over, as it is at the offset, and ends there.
+    fn ends_empty(&self, at: usize) -> bool
+        requires { at ≤ length self.now.walk.input.now }
+        ensures { IsTrue result ↔ EndsEmpty (reading_settings_of self.now).enforce_strictness at (cursor_of self.now) }
     {
         let mark = self.walk.inner.mark;
         mark.at_end
             && !mark.entered
             && mark.due.is_none()
-            && self.walk.input.is_empty()
+            && is_over(self.walk.input, at, &self.settings)
             && self.walk.depth() > 0
     }
 
@@ -51,10 +52,11 @@ impl JsonDeserializer<'_> {
         ensures none_without_limits { IsInvalid result → CannotGoOn (json_relations (without_limits (reading_settings_of self.old))) (passed_to (cursor_of self.old) at) schema.now.shapes.now schema.now.place }
         ensures deep { IsErrOf result TooDeep → (reading_settings_of self.old).max_depth ≤ depth (cursor_of self.old) + json_openers (drop at (cursor_of self.old).input) }
         ensures too_deep { IsErrOf result TooDeep
-            → (q : ℕ) × (at ≤ q) × OpensTooDeep rfc_8259 (reading_settings_of self.old).max_depth (depth (cursor_of self.old)) (cursor_of self.old).input q }
+            → (q : ℕ) × (at ≤ q) × OpensTooDeep (json_grammar (reading_settings_of self.old)) (reading_settings_of self.old).max_depth (depth (cursor_of self.old)) (cursor_of self.old).input q }
     {
-        if self.ends_empty() && is_structure(schema) {
-            self.walk.leave(0);
+        if self.ends_empty(at) && is_structure(schema) {
+            let end = self.walk.input.len();
+            self.walk.leave(end);
             return Ok(Step::End);
         }
         match next_present(

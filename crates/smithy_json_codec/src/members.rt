@@ -3,12 +3,10 @@
 ghost use Rattle.std.specs.Prelude.{◌≡◌, ◌≤◌, ◌+◌, ◌↔◌, ℕ, true, length, drop, IfOk, IfErr, IfSome, IfNone, IsErrOf, IsTrue};
 ghost use Rattle.smithy_shapes.specs.Site.{site_of, kind_at};
 ghost use Rattle.smithy_shapes.specs.Table.{IsDocument};
-ghost use Rattle.smithy_json.specs.Tree.{null};
-ghost use Rattle.smithy_json_codec.specs.Codec.{held_settings};
+ghost use Rattle.smithy_json_codec.specs.Codec.{held_settings, held_grammar};
 ghost use Rattle.smithy_json_codec.specs.Deepest.{OpensTooDeep};
-ghost use Rattle.smithy_json_codec.specs.LexicalGrammar.{rfc_8259};
+ghost use Rattle.smithy_json_codec.specs.LexicalGrammar.{frames_of};
 ghost use Rattle.smithy_json_codec.specs.Openers.{json_openers};
-ghost use Rattle.smithy_json_codec.specs.Standing.{TreeLies};
 ghost use Rattle.smithy_json_codec.specs.declared.members.EntryFault.TheVariants.{NoEntry, TooDeep, NoMemory};
 ghost use Rattle.smithy_json_codec.specs.Private.MemberSteps.{StepsTo, passing, passes_marks, passes_null};
 ghost use Rattle.smithy_json_codec.specs.Private.PassedEntries.{entry_fault, entry_refusal, type_name, IsEntry, IsNext, EntryMissing, NothingComes, NoSkip, NoSkipWithin};
@@ -122,11 +120,11 @@ fn passes_null(schema: &Schema<'_>, settings: Settings, name: &str) -> bool
 #[inline(always)]
 fn passed_null(input: Input<'_>, at: usize, schema: &Schema<'_>, name: &str) -> Option<usize>
     requires { at ≤ length input.bytes.now }
-    ensures found { IfSome result (λ e. TreeLies 1 null input.entry.bytes.now at e) }
+    ensures found { IfSome result (λ e. (frames_of (held_grammar input.entry.settings)).null input.entry.bytes.now 0 at e) }
     ensures passes { IfSome result (λ _. passes_null (held_settings input.entry.settings) (site_of schema.now) name.now ≡ true) }
-    ensures none { IfNone result ((e : ℕ) → TreeLies 1 null input.entry.bytes.now at e → passes_null (held_settings input.entry.settings) (site_of schema.now) name.now ≡ true → ⊥) }
+    ensures none { IfNone result ((e : ℕ) → (frames_of (held_grammar input.entry.settings)).null input.entry.bytes.now 0 at e → passes_null (held_settings input.entry.settings) (site_of schema.now) name.now ≡ true → ⊥) }
 {
-    let end = null_end(input.bytes, at)?;
+    let end = null_end(input.bytes, at, &input.settings)?;
     passes_null(schema, input.settings, name).then_some(end)
 }
 
@@ -159,13 +157,13 @@ fn entry_at<'a>(
 ) -> Result<Entry<'a>, EntryFault>
     requires within { at ≤ length input.bytes.now }
     requires shallow { depth ≤ input.settings.max_depth }
-    ensures ok { IfOk result (IsEntry (passing (held_settings input.entry.settings) (site_of schema.now)) input.entry.settings.max_depth depth input.entry.bytes.now at entered) }
-    ensures refused { IfErr result (λ e. (e ≡ NoMemory → ⊥) → EntryMissing (NoSkipWithin input.entry.settings.max_depth depth input.entry.bytes.now) (passing (held_settings input.entry.settings) (site_of schema.now)) depth input.entry.bytes.now at entered) }
-    ensures none_without_limits { IsErrOf result NoEntry → EntryMissing (NoSkip depth input.entry.bytes.now) (passing (held_settings input.entry.settings) (site_of schema.now)) depth input.entry.bytes.now at entered }
+    ensures ok { IfOk result (IsEntry (held_grammar input.entry.settings) (passing (held_settings input.entry.settings) (site_of schema.now)) input.entry.settings.max_depth depth input.entry.bytes.now at entered) }
+    ensures refused { IfErr result (λ e. (e ≡ NoMemory → ⊥) → EntryMissing (held_grammar input.entry.settings) (NoSkipWithin (held_grammar input.entry.settings) input.entry.settings.max_depth depth input.entry.bytes.now) (passing (held_settings input.entry.settings) (site_of schema.now)) depth input.entry.bytes.now at entered) }
+    ensures none_without_limits { IsErrOf result NoEntry → EntryMissing (held_grammar input.entry.settings) (NoSkip (held_grammar input.entry.settings) depth input.entry.bytes.now) (passing (held_settings input.entry.settings) (site_of schema.now)) depth input.entry.bytes.now at entered }
     ensures deep { IsErrOf result TooDeep → input.entry.settings.max_depth ≤ depth + json_openers (drop at input.entry.bytes.now) }
-    ensures too_deep { IsErrOf result TooDeep → (q : ℕ) × (at ≤ q) × OpensTooDeep rfc_8259 input.entry.settings.max_depth depth input.entry.bytes.now q }
+    ensures too_deep { IsErrOf result TooDeep → (q : ℕ) × (at ≤ q) × OpensTooDeep (held_grammar input.entry.settings) input.entry.settings.max_depth depth input.entry.bytes.now q }
 {
-    let name = match next_in_object(input.bytes, at, entered, depth) {
+    let name = match next_in_object(input.bytes, at, entered, depth, &input.settings) {
         Some(InObject::Member(name)) => name,
         Some(InObject::End(end)) => return Ok(Entry::Kept(Next::End(end))),
         None => return Err(EntryFault::NoEntry),
@@ -195,11 +193,11 @@ pub(crate) fn next_present<'a>(
 ) -> Result<Next<'a>, EntryFault>
     requires within { at ≤ length input.bytes.now }
     requires shallow { depth ≤ input.settings.max_depth }
-    ensures ok { IfOk result (IsNext (passing (held_settings input.entry.settings) (site_of schema.now)) input.entry.settings.max_depth depth input.entry.bytes.now at entered) }
-    ensures refused { IfErr result (λ e. (e ≡ NoMemory → ⊥) → NothingComes (NoSkipWithin input.entry.settings.max_depth depth input.entry.bytes.now) (passing (held_settings input.entry.settings) (site_of schema.now)) input.entry.settings.max_depth depth input.entry.bytes.now at entered) }
-    ensures none_without_limits { IsErrOf result NoEntry → NothingComes (NoSkip depth input.entry.bytes.now) (passing (held_settings input.entry.settings) (site_of schema.now)) input.entry.settings.max_depth depth input.entry.bytes.now at entered }
+    ensures ok { IfOk result (IsNext (held_grammar input.entry.settings) (passing (held_settings input.entry.settings) (site_of schema.now)) input.entry.settings.max_depth depth input.entry.bytes.now at entered) }
+    ensures refused { IfErr result (λ e. (e ≡ NoMemory → ⊥) → NothingComes (held_grammar input.entry.settings) (NoSkipWithin (held_grammar input.entry.settings) input.entry.settings.max_depth depth input.entry.bytes.now) (passing (held_settings input.entry.settings) (site_of schema.now)) input.entry.settings.max_depth depth input.entry.bytes.now at entered) }
+    ensures none_without_limits { IsErrOf result NoEntry → NothingComes (held_grammar input.entry.settings) (NoSkip (held_grammar input.entry.settings) depth input.entry.bytes.now) (passing (held_settings input.entry.settings) (site_of schema.now)) input.entry.settings.max_depth depth input.entry.bytes.now at entered }
     ensures deep { IsErrOf result TooDeep → input.entry.settings.max_depth ≤ depth + json_openers (drop at input.entry.bytes.now) }
-    ensures too_deep { IsErrOf result TooDeep → (q : ℕ) × (at ≤ q) × OpensTooDeep rfc_8259 input.entry.settings.max_depth depth input.entry.bytes.now q }
+    ensures too_deep { IsErrOf result TooDeep → (q : ℕ) × (at ≤ q) × OpensTooDeep (held_grammar input.entry.settings) input.entry.settings.max_depth depth input.entry.bytes.now q }
 {
     let mut at = at;
     let mut entered = entered;

@@ -14,7 +14,7 @@ use crate::settings::Settings;
 use smithy_json::scan::skip_blanks;
 use smithy_schema::{Scalar, SerdeError, TimestampFormat};
 
-fn begins_with_true(bytes: &[u8]) -> bool
+pub(crate) fn begins_with_true(bytes: &[u8]) -> bool
     ensures { result ≡ begins_with_true bytes.now }
 {
     match bytes {
@@ -23,7 +23,7 @@ fn begins_with_true(bytes: &[u8]) -> bool
     }
 }
 
-fn begins_with_false(bytes: &[u8]) -> bool
+pub(crate) fn begins_with_false(bytes: &[u8]) -> bool
     ensures { result ≡ begins_with_false bytes.now }
 {
     match bytes {

@@ -1,17 +1,15 @@
 //! Big numbers: the text of a number or a string, and what it is as one.
 
-ghost use Rattle.std.specs.Prelude.{◌≡◌, ◌≤◌, true, ℕ, List, length, IfSome, IfNone, IfOk, MatchOption, FitsSigned};
+ghost use Rattle.std.specs.Prelude.{◌≡◌, ◌≤◌, true, ℕ, List, length, IfOk, MatchOption, FitsSigned};
 ghost use Rattle.std.specs.Cow.{cow_str_bytes};
 ghost use Rattle.std.specs.Int.{w128};
 ghost use Rattle.smithy_shapes.specs.declared.shape_type.Scalar.TheVariants as scalars;
 ghost use Rattle.smithy_shapes.specs.Value.{whole, decimal, scalar_value};
 ghost use Rattle.smithy_texts.specs.Numeral.{number as number_of};
 ghost use Rattle.smithy_texts.specs.Decimal.{mantissa, net_exponent};
-ghost use Rattle.smithy_json.specs.Tree.{number};
 ghost use Rattle.smithy_json_codec.specs.Codec.{held_settings};
 ghost use Rattle.smithy_json_codec.specs.LexicalGrammar.{grammar_of};
 ghost use Rattle.smithy_json_codec.specs.Scalar.{big_number};
-ghost use Rattle.smithy_json_codec.specs.Standing.{TreeLies};
 ghost use Rattle.smithy_json_codec.specs.NumberText.{NumberTextLies};
 ghost use Rattle.smithy_json_codec.specs.Private.NumberSorts.{is_big_sort, kind_of_sort};
 ghost use Rattle.smithy_json_codec.specs.Private.ScalarAtPlace.{MeansAt, ExceedsAt, NothingAt};
@@ -22,25 +20,10 @@ use crate::number_runs::{NumberSort, number_of};
 use crate::settings::Settings;
 use crate::texts::text_of;
 use crate::values::string_at;
-use smithy_json::number_text::scan_number;
-use smithy_json::scan::skip_blanks;
 use smithy_types::{BigDecimal, BigInteger, BigNumberError};
 use smithy_wire::Found;
 use std::alloc::{AllocError, Global};
 use std::borrow::CowStr;
-use std::str;
-
-// The text of the number that comes first behind blanks, with its end, where a value may end behind it.
-pub(crate) fn number_at<'a>(input: &'a [u8], at: usize) -> Option<(&'a str, usize)>
-    requires { at ≤ length input.now }
-    ensures found { IfSome result (λ r. TreeLies 1 (number r.0.now) input.now at r.1) }
-    ensures none { IfNone result ((raw : List ℕ) (e : ℕ) → TreeLies 1 (number raw) input.now at e → ⊥) }
-{
-    let start = skip_blanks(input, at);
-    let number = scan_number(input, start)?;
-    let text = unsafe { str::from_utf8_unchecked(&input[start..number.end]) };
-    Some((text, number.end))
-}
 
 // The text of the number of the sort, or of the string, that comes first behind blanks, with its end.
 fn number_text_at<'a>(
@@ -57,7 +40,7 @@ fn number_text_at<'a>(
     if let Some((text, end)) = number_of(sort, input, at, settings) {
         return Ok(Some((CowStr::Borrowed(text), end)));
     }
-    let Some(string) = string_at(input, at) else {
+    let Some(string) = string_at(input, at, settings) else {
         return Ok(None);
     };
     let Some(text) = text_of(alloc, string.text, string.has_escape)? else {

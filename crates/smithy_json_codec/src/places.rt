@@ -1,17 +1,20 @@
 //! Where the names, separators and brackets of containers lie in an input (RFC 8259, sections 2, 4
 //! and 5).
 
-ghost use Rattle.std.specs.Prelude.{◌≡◌, ◌≤◌, ◌↔◌, ◌==◌, ℕ, List, length, drop, false, IsTrue, IfSome, IfNone};
+ghost use Rattle.std.specs.Prelude.{◌≡◌, ◌≤◌, ◌↔◌, ◌==◌, ℕ, List, length, drop, true, false, IsTrue, IfSome, IfNone};
 ghost use Rattle.smithy_json.specs.Ascii.{is_ws, end_array};
 ghost use Rattle.smithy_json.specs.Grammar.{IsWs};
-ghost use Rattle.smithy_json.specs.Tree.{null};
 ghost use Rattle.smithy_json.specs.Unescape.{has_escape};
-ghost use Rattle.smithy_json_codec.specs.Standing.{Lies, IsByte, IsName, TreeLies, FollowsInside, without_ws};
+ghost use Rattle.smithy_json_codec.specs.Codec.{held_settings, held_grammar};
+ghost use Rattle.smithy_json_codec.specs.LexicalGrammar.{frames_of};
+ghost use Rattle.smithy_json_codec.specs.Spans.{Lies, IsByte, without_ws};
+ghost use Rattle.smithy_json_codec.specs.Tokens.{BoundaryBy, IsOverBy, EndsInside, IsNameToken};
 ghost use Rattle.smithy_json_codec.specs.TypeMismatch.{begins_by};
-ghost use Rattle.smithy_json_codec.specs.Private.NextInContainer.{IsFirstByte, IsNotFirst, GoesOnInList, GoesOnInObject};
+ghost use Rattle.smithy_json_codec.specs.Private.NextInContainer.{IsFirstByte, IsNotFirst, GoesOnInList, GoesOnToName, GoesOnInObject};
 
-use smithy_json::scan::{is_boundary, read_null, skip_blanks};
-use smithy_json::string_text::scan_string;
+use crate::settings::Settings;
+use crate::values::{begins_with_null, may_follow, string_of};
+use smithy_json::scan::skip_blanks;
 
 /// A member's name, as it is written.
 #[derive(Clone, Copy)]
@@ -68,34 +71,58 @@ pub(crate) fn byte_end(input: &[u8], at: usize, byte: u8) -> Option<usize>
     }
 }
 
-// The end of a null, where a value may end behind it.
+// The end of a null.
 #[inline(always)]
-pub(crate) fn null_end(input: &[u8], at: usize) -> Option<usize>
+pub(crate) fn null_end(input: &[u8], at: usize, settings: &Settings) -> Option<usize>
     requires { at ≤ length input.now }
-    ensures found { IfSome result (λ e. TreeLies 1 null input.now at e) }
-    ensures none { IfNone result ((e : ℕ) → TreeLies 1 null input.now at e → ⊥) }
+    ensures found { IfSome result (λ e. (frames_of (held_grammar settings.now)).null input.now 0 at e) }
+    ensures none { IfNone result ((e : ℕ) → (frames_of (held_grammar settings.now)).null input.now 0 at e → ⊥) }
 {
-    read_null(input, skip_blanks(input, at))
+    let start = skip_blanks(input, at);
+    if !begins_with_null(&input[start..]) {
+        return None;
+    }
+    may_follow(input, start + 4, settings).then_some(start + 4)
 }
 
 // Whether the innermost of `depth` open containers may end at the offset. Behind the only one nothing but blanks may follow.
 #[inline(always)]
-pub(crate) fn may_end(input: &[u8], at: usize, depth: usize) -> bool
+pub(crate) fn may_end(input: &[u8], at: usize, depth: usize, settings: &Settings) -> bool
     requires { at ≤ length input.now }
-    ensures { IsTrue result ↔ FollowsInside depth (drop at input.now) }
+    ensures { IsTrue result ↔ EndsInside (BoundaryBy (held_settings settings.now).enforce_strictness) depth (drop at input.now) }
 {
     match depth {
         0 => false,
         1 => skip_blanks(input, at) == input.len(),
-        _ => is_boundary(input, at),
+        _ => may_follow(input, at, settings),
+    }
+}
+
+// Whether the input is over at the offset, so that a structure may be missing there: strictly the whole input is empty, and else
+// nothing but blanks is left.
+#[inline(always)]
+pub(crate) fn is_over(input: &[u8], at: usize, settings: &Settings) -> bool
+    requires { at ≤ length input.now }
+    ensures { IsTrue result ↔ IsOverBy (held_settings settings.now).enforce_strictness input.now at (length input.now) }
+{
+    if settings.enforce_strictness {
+        input.is_empty()
+    } else {
+        skip_blanks(input, at) == input.len()
     }
 }
 
 // What comes next in the list inside of which the offset lies: an element, or the end of the list.
 #[inline(always)]
-pub(crate) fn next_in_list(input: &[u8], at: usize, entered: bool, depth: usize) -> Option<InList>
+pub(crate) fn next_in_list(
+    input: &[u8],
+    at: usize,
+    entered: bool,
+    depth: usize,
+    settings: &Settings,
+) -> Option<InList>
     requires { at ≤ length input.now }
-    ensures { GoesOnInList input.now at entered depth result }
+    ensures { GoesOnInList (held_grammar settings.now) input.now at entered depth result }
 {
     let Some((first, start)) = first_byte(input, at) else {
         return if entered {
@@ -105,7 +132,7 @@ pub(crate) fn next_in_list(input: &[u8], at: usize, entered: bool, depth: usize)
         };
     };
     if first == b']' {
-        return may_end(input, start + 1, depth).then_some(InList::End(start + 1));
+        return may_end(input, start + 1, depth, settings).then_some(InList::End(start + 1));
     }
     if !entered {
         return Some(InList::Element(at));
@@ -119,15 +146,41 @@ pub(crate) fn next_in_list(input: &[u8], at: usize, entered: bool, depth: usize)
     }
 }
 
+// Where the name of a member is due in the object inside of which the offset lies, or the end of the object.
+#[inline(always)]
+pub(crate) fn next_name_place(
+    input: &[u8],
+    at: usize,
+    entered: bool,
+    depth: usize,
+    settings: &Settings,
+) -> Option<InList>
+    requires { at ≤ length input.now }
+    ensures { GoesOnToName (held_grammar settings.now) input.now at entered depth result }
+{
+    let (first, start) = first_byte(input, at)?;
+    if first == b'}' {
+        return may_end(input, start + 1, depth, settings).then_some(InList::End(start + 1));
+    }
+    if !entered {
+        return Some(InList::Element(at));
+    }
+    if first != b',' {
+        return None;
+    }
+    Some(InList::Element(start + 1))
+}
+
 // The name that comes first behind blanks, with its colon.
 #[inline(always)]
-fn name_at<'a>(input: &'a [u8], at: usize) -> Option<Name<'a>>
+fn name_at<'a>(input: &'a [u8], at: usize, settings: &Settings) -> Option<Name<'a>>
     requires { at ≤ length input.now }
-    ensures found { IfSome result (λ name. Lies (IsName name.raw.now) input.now at name.end) }
+    ensures found { IfSome result (λ name. Lies (IsNameToken name.raw.now) input.now at name.end) }
+    ensures valid { IfSome result (λ name. (held_grammar settings.now).is_text name.raw.now ≡ true) }
     ensures has_escape { IfSome result (λ name. name.has_escape ≡ has_escape name.raw.now) }
-    ensures none { IfNone result ((raw : List ℕ) (e : ℕ) → Lies (IsName raw) input.now at e → ⊥) }
+    ensures none { IfNone result ((raw : List ℕ) (e : ℕ) → Lies (IsNameToken raw) input.now at e → (held_grammar settings.now).is_text raw ≡ true → ⊥) }
 {
-    let name = scan_string(input, skip_blanks(input, at))?;
+    let name = string_of(input, skip_blanks(input, at), settings)?;
     let end = byte_end(input, name.closing + 1, b':')?;
     Some(Name {
         raw: name.text,
@@ -143,19 +196,16 @@ pub(crate) fn next_in_object<'a>(
     at: usize,
     entered: bool,
     depth: usize,
+    settings: &Settings,
 ) -> Option<InObject<'a>>
     requires { at ≤ length input.now }
-    ensures { GoesOnInObject input.now at entered depth result }
+    ensures { GoesOnInObject (held_grammar settings.now) input.now at entered depth result }
 {
-    let (first, start) = first_byte(input, at)?;
-    if first == b'}' {
-        return may_end(input, start + 1, depth).then_some(InObject::End(start + 1));
+    match next_name_place(input, at, entered, depth, settings)? {
+        InList::Element(place) => {
+            let name = name_at(input, place, settings)?;
+            Some(InObject::Member(name))
+        }
+        InList::End(end) => Some(InObject::End(end)),
     }
-    let leading = if entered { b',' } else { b'"' };
-    if first != leading {
-        return None;
-    }
-    let place = if entered { start + 1 } else { at };
-    let name = name_at(input, place)?;
-    Some(InObject::Member(name))
 }

@@ -1,14 +1,11 @@
 //! The settings under which bodies are read and written.
-ghost use Rattle.std.specs.Prelude.{◌≡◌, ◌≤◌, true, false};
-ghost use Rattle.smithy_json.specs.NumberGrammar.{standard_numbers};
+ghost use Rattle.std.specs.Prelude.{◌≡◌, ◌≤◌};
 ghost use Rattle.smithy_json_codec.specs.Private.IntegerRules.{integer_rule};
 
 use crate::integers::IntegerRule;
 use smithy_json::number_grammar::NumberGrammar;
+use smithy_json_settings::ChosenSettings;
 use smithy_types::Format;
-
-/// The greatest depth of containers of strict codecs.
-const DEFAULT_MAX_DEPTH: usize = 128;
 
 /// All that a codec is asked for, which each reader and serializer of it holds too.
 #[derive(Clone, Copy, Debug)]
@@ -40,34 +37,35 @@ pub(crate) struct Settings {
     /// The rule for integers that the settings make.
     pub(crate) integers: IntegerRule,
     ghost greatest: { max_depth ≤ 512 },
-    ghost is_strict: { enforce_strictness ≡ true },
-    ghost are_standard: { numbers ≡ standard_numbers },
-    ghost validates_skipped: { validate_skipped_values ≡ true },
-    ghost validates_encoding: { validate_skipped_string_encoding ≡ true },
     ghost rule: { integers ≡ integer_rule enforce_strictness allow_integral_float_numbers numbers },
 }
 
 impl Settings {
-    ghost use Rattle.smithy_json_codec.specs.Codec.{held_settings, strict_settings};
+    ghost use Rattle.smithy_json_codec.specs.Codec.{held_settings};
+    ghost use Rattle.smithy_json_settings.specs.Chosen.{chosen_settings};
 
-    /// Those of a codec that reads RFC 8259 to the letter.
-    pub(crate) fn strict(use_json_name: bool) -> Settings
-        ensures { held_settings result ≡ strict_settings use_json_name }
+    /// Those that are chosen, with the rule for integers that they make.
+    pub(crate) fn of(chosen: ChosenSettings) -> Settings
+        ensures { held_settings result ≡ chosen_settings chosen }
     {
         Settings {
-            use_json_name,
-            max_depth: DEFAULT_MAX_DEPTH,
-            default_timestamp_format: Format::EpochSeconds,
-            enforce_strictness: true,
-            allow_integral_float_numbers: false,
-            numbers: NumberGrammar::default(),
-            validate_skipped_values: true,
-            validate_skipped_string_encoding: true,
-            strict_timestamp_formats: true,
-            dispatch_null_members: false,
-            use_string_for_arbitrary_precision: false,
-            normalize_arbitrary_precision: false,
-            integers: IntegerRule::Standard,
+            use_json_name: chosen.use_json_name,
+            max_depth: chosen.max_depth as usize,
+            default_timestamp_format: chosen.default_timestamp_format,
+            enforce_strictness: chosen.enforce_strictness,
+            allow_integral_float_numbers: chosen.allow_integral_float_numbers,
+            numbers: chosen.numbers,
+            validate_skipped_values: chosen.validate_skipped_values,
+            validate_skipped_string_encoding: chosen.validate_skipped_string_encoding,
+            strict_timestamp_formats: chosen.strict_timestamp_formats,
+            dispatch_null_members: chosen.dispatch_null_members,
+            use_string_for_arbitrary_precision: chosen.use_string_for_arbitrary_precision,
+            normalize_arbitrary_precision: chosen.normalize_arbitrary_precision,
+            integers: IntegerRule::of(
+                chosen.enforce_strictness,
+                chosen.allow_integral_float_numbers,
+                chosen.numbers,
+            ),
         }
     }
 }

@@ -1,18 +1,28 @@
 //! Where a value ends that is skipped.
 
-ghost use Rattle.std.specs.Prelude.{◌≡◌, ◌<◌, ◌≤◌, ◌+◌, ◌-◌, ℕ, List, length, get_or, drop, false, IfOk, OnErr, IsErrOf, IfSome, IfNone, MatchBool};
+ghost use Rattle.std.specs.Prelude.{◌≡◌, ◌<◌, ◌≤◌, ◌+◌, ◌-◌, ◌&&◌, ℕ, List, length, get_or, drop, slice_range, true, false, IfOk, OnErr, IsErrOf, IfSome, IfNone};
 ghost use Rattle.smithy_json.specs.Ascii.{begin_array, begin_object};
+ghost use Rattle.smithy_json.specs.Standing.{IsQuotedAt};
+ghost use Rattle.smithy_json_codec.specs.Codec.{held_grammar};
 ghost use Rattle.smithy_json_codec.specs.Deepest.{OpensTooDeep};
-ghost use Rattle.smithy_json_codec.specs.Documents.{ValueOpens};
-ghost use Rattle.smithy_json_codec.specs.LexicalGrammar.{rfc_8259, is_skipped_in};
+ghost use Rattle.smithy_json_codec.specs.LexicalGrammar.{is_skipped_in, NodeLies};
 ghost use Rattle.smithy_json_codec.specs.Openers.{json_openers};
+ghost use Rattle.smithy_json_codec.specs.Scalar.{a_string};
+ghost use Rattle.smithy_json_codec.specs.Spans.{Lies};
+ghost use Rattle.smithy_json_codec.specs.Tokens.{IsNameToken};
 ghost use Rattle.smithy_json_codec.specs.Private.NextInContainer.{IsFirstByte};
 ghost use Rattle.smithy_json_codec.specs.declared.skip.SkipFault.TheVariants.{NoValue, TooDeep};
 ghost use Rattle.smithy_json_codec.specs.Private.Skipping.{skip_refusal, SkipsTo, ScalarLies, NoValueLies, BeginsAs, GoesOnInside, IsNextStep};
+ghost use Rattle.smithy_wire.specs.Node.{leaf};
 
 use crate::input::Input;
-use crate::places::{InList, InObject, first_byte, next_in_list, next_in_object, null_end};
-use crate::values::{boolean_end, number_end, string_at};
+use crate::number_runs::{NumberSort, number_of};
+use crate::places::{InList, byte_end, first_byte, next_in_list, next_name_place, null_end};
+use crate::settings::Settings;
+use crate::values::{boolean_at, may_follow};
+use smithy_json::quoted_text::{escapes_are_valid, is_plain_text, scan_quoted};
+use smithy_json::scan::skip_blanks;
+use smithy_json::string_text::scan_string;
 use smithy_schema::SerdeError;
 
 // The greatest depth that settings may allow.
@@ -47,32 +57,88 @@ enum Beginning {
     Scalar(usize),
 }
 
+// Whether a string may be skipped, where the settings don't ask both for valid escapes and for plain text.
+fn may_skip_text(bytes: &[u8], settings: &Settings) -> bool
+    requires { (settings.now.validate_skipped_string_encoding && settings.now.validate_skipped_values) ≡ false }
+    ensures { result ≡ (held_grammar settings.now).is_skipped_text bytes.now }
+{
+    if settings.validate_skipped_string_encoding {
+        return is_plain_text(bytes);
+    }
+    if settings.validate_skipped_values {
+        return escapes_are_valid(bytes);
+    }
+    true
+}
+
+// The closing quotation mark of the string at the offset, as it is skipped.
+#[inline(always)]
+fn skipped_closing(input: &[u8], start: usize, settings: &Settings) -> Option<usize>
+    requires { start ≤ length input.now }
+    ensures found { IfSome result (λ closing. IsQuotedAt input.now start closing) }
+    ensures valid { IfSome result (λ closing. (held_grammar settings.now).is_skipped_text (slice_range input.now (start + 1) closing) ≡ true) }
+    ensures none { IfNone result ((closing : ℕ) → IsQuotedAt input.now start closing → (held_grammar settings.now).is_skipped_text (slice_range input.now (start + 1) closing) ≡ true → ⊥) }
+{
+    if settings.validate_skipped_string_encoding && settings.validate_skipped_values {
+        let string = scan_string(input, start)?;
+        return Some(string.closing);
+    }
+    let quoted = scan_quoted(input, start)?;
+    if !may_skip_text(quoted.bytes, settings) {
+        return None;
+    }
+    Some(quoted.closing)
+}
+
+// The end of the string that comes first behind blanks, as it is skipped.
+#[inline(always)]
+fn skipped_string_end(input: &[u8], at: usize, settings: &Settings) -> Option<usize>
+    requires { at ≤ length input.now }
+    ensures found { IfSome result (λ e. (raw : List ℕ) × NodeLies (held_grammar settings.now) (is_skipped_in (held_grammar settings.now)) 1 (leaf (a_string raw)) input.now at e) }
+    ensures none { IfNone result ((raw : List ℕ) (e : ℕ) → NodeLies (held_grammar settings.now) (is_skipped_in (held_grammar settings.now)) 1 (leaf (a_string raw)) input.now at e → ⊥) }
+{
+    let closing = skipped_closing(input, skip_blanks(input, at), settings)?;
+    may_follow(input, closing + 1, settings).then_some(closing + 1)
+}
+
+// The offset behind the name that comes first behind blanks, and behind its colon, as it is skipped.
+#[inline(always)]
+fn skipped_name_end(input: &[u8], at: usize, settings: &Settings) -> Option<usize>
+    requires { at ≤ length input.now }
+    ensures found { IfSome result (λ e. (raw : List ℕ) × Lies (IsNameToken raw) input.now at e × ((held_grammar settings.now).is_skipped_text raw ≡ true)) }
+    ensures none { IfNone result ((raw : List ℕ) (e : ℕ) → Lies (IsNameToken raw) input.now at e → (held_grammar settings.now).is_skipped_text raw ≡ true → ⊥) }
+{
+    let closing = skipped_closing(input, skip_blanks(input, at), settings)?;
+    byte_end(input, closing + 1, b':')
+}
+
 // The end of the scalar at the offset, which begins with this byte.
 #[inline(always)]
-fn scalar_end(input: &[u8], at: usize, first: u8) -> Option<usize>
+fn scalar_end(input: &[u8], at: usize, first: u8, settings: &Settings) -> Option<usize>
     requires first { IsFirstByte input.now at first at }
     requires no_array { first ≡ begin_array → ⊥ }
     requires no_object { first ≡ begin_object → ⊥ }
-    ensures found { IfSome result (λ e. ScalarLies rfc_8259 (is_skipped_in rfc_8259) input.now at e) }
-    ensures none { IfNone result (NoValueLies rfc_8259 (is_skipped_in rfc_8259) input.now at) }
+    ensures found { IfSome result (λ e. ScalarLies (held_grammar settings.now) (is_skipped_in (held_grammar settings.now)) input.now at e) }
+    ensures none { IfNone result (NoValueLies (held_grammar settings.now) (is_skipped_in (held_grammar settings.now)) input.now at) }
 {
     if first == b'"' {
-        let string = string_at(input, at)?;
-        return Some(string.closing + 1);
+        return skipped_string_end(input, at, settings);
     }
     if first == b'n' {
-        return null_end(input, at);
+        return null_end(input, at, settings);
     }
     if first == b't' || first == b'f' {
-        return boolean_end(input, at);
+        let (_, end) = boolean_at(input, at, settings)?;
+        return Some(end);
     }
-    number_end(input, at)
+    let (_, end) = number_of(NumberSort::OfGrammar, input, at, settings)?;
+    Some(end)
 }
 
 #[inline(always)]
-fn beginning_of(input: &[u8], at: usize) -> Option<Beginning>
+fn beginning_of(input: &[u8], at: usize, settings: &Settings) -> Option<Beginning>
     requires { at ≤ length input.now }
-    ensures { BeginsAs rfc_8259 input.now at result }
+    ensures { BeginsAs (held_grammar settings.now) input.now at result }
 {
     let (first, start) = first_byte(input, at)?;
     if first == b'[' {
@@ -81,16 +147,8 @@ fn beginning_of(input: &[u8], at: usize) -> Option<Beginning>
     if first == b'{' {
         return Some(Beginning::Container(true, start + 1));
     }
-    let end = scalar_end(input, start, first)?;
+    let end = scalar_end(input, start, first, settings)?;
     Some(Beginning::Scalar(end))
-}
-
-/// Whether a value begins behind blanks: an object or an array, or a scalar that lies there whole.
-pub(crate) fn begins_value(input: &[u8], at: usize) -> bool
-    requires { at ≤ length input.now }
-    ensures { MatchBool result (ValueOpens rfc_8259 (is_skipped_in rfc_8259) input.now at) (NoValueLies rfc_8259 (is_skipped_in rfc_8259) input.now at) }
-{
-    beginning_of(input, at).is_some()
 }
 
 // What comes next in the object or the array inside of which the offset lies: a value, behind its name in an object, or the end.
@@ -101,16 +159,20 @@ fn next_inside(
     is_object: bool,
     entered: bool,
     depth: usize,
+    settings: &Settings,
 ) -> Option<InList>
     requires { at ≤ length input.now }
-    ensures { GoesOnInside rfc_8259 input.now at is_object entered depth result }
+    ensures { GoesOnInside (held_grammar settings.now) input.now at is_object entered depth result }
 {
     if !is_object {
-        return next_in_list(input, at, entered, depth);
+        return next_in_list(input, at, entered, depth, settings);
     }
-    match next_in_object(input, at, entered, depth)? {
-        InObject::Member(name) => Some(InList::Element(name.end)),
-        InObject::End(end) => Some(InList::End(end)),
+    match next_name_place(input, at, entered, depth, settings)? {
+        InList::Element(place) => {
+            let start = skipped_name_end(input, place, settings)?;
+            Some(InList::Element(start))
+        }
+        InList::End(end) => Some(InList::End(end)),
     }
 }
 
@@ -133,19 +195,20 @@ fn next_step(
     is_object: &[bool],
     count: usize,
     depth: usize,
+    settings: &Settings,
 ) -> Option<Step>
     requires within { at ≤ length input.now }
     requires inside { due ≡ false → 0 < count }
     requires room { count ≤ length is_object.now }
-    ensures { IsNextStep rfc_8259 input.now at due (get_or is_object.now (count - 1) false) entered depth result }
+    ensures { IsNextStep (held_grammar settings.now) input.now at due (get_or is_object.now (count - 1) false) entered depth result }
 {
     if due {
-        return match beginning_of(input, at)? {
+        return match beginning_of(input, at, settings)? {
             Beginning::Scalar(end) => Some(Step::PastScalar(end)),
             Beginning::Container(kind, inside) => Some(Step::IntoContainer(kind, inside)),
         };
     }
-    match next_inside(input, at, is_object[count - 1], entered, depth)? {
+    match next_inside(input, at, is_object[count - 1], entered, depth, settings)? {
         InList::Element(start) => Some(Step::ToValue(start)),
         InList::End(end) => Some(Step::OutOfContainer(end)),
     }
@@ -156,14 +219,14 @@ fn next_step(
 pub(crate) fn skipped_end(input: Input<'_>, at: usize, depth: usize) -> Result<usize, SkipFault>
     requires within { at ≤ length input.bytes.now }
     requires shallow { depth ≤ input.settings.max_depth }
-    ensures ok { IfOk result (λ e. SkipsTo rfc_8259 input.entry.settings.max_depth depth input.entry.bytes.now at e) }
+    ensures ok { IfOk result (λ e. SkipsTo (held_grammar input.entry.settings) input.entry.settings.max_depth depth input.entry.bytes.now at e) }
     ensures ahead { IfOk result (λ e. (at < e) × (e ≤ length input.entry.bytes.now)) }
-    ensures refused { OnErr result ((e : ℕ) → SkipsTo rfc_8259 input.entry.settings.max_depth depth input.entry.bytes.now at e → ⊥) }
-    ensures none_without_limits { IsErrOf result NoValue → (greatest e : ℕ) → SkipsTo rfc_8259 greatest depth input.entry.bytes.now at e → ⊥ }
+    ensures refused { OnErr result ((e : ℕ) → SkipsTo (held_grammar input.entry.settings) input.entry.settings.max_depth depth input.entry.bytes.now at e → ⊥) }
+    ensures none_without_limits { IsErrOf result NoValue → (greatest e : ℕ) → SkipsTo (held_grammar input.entry.settings) greatest depth input.entry.bytes.now at e → ⊥ }
     ensures deep { IsErrOf result TooDeep → input.entry.settings.max_depth ≤ depth + json_openers (drop at input.entry.bytes.now) }
-    ensures too_deep { IsErrOf result TooDeep → OpensTooDeep rfc_8259 input.entry.settings.max_depth depth input.entry.bytes.now at }
+    ensures too_deep { IsErrOf result TooDeep → OpensTooDeep (held_grammar input.entry.settings) input.entry.settings.max_depth depth input.entry.bytes.now at }
 {
-    match beginning_of(input.bytes, at) {
+    match beginning_of(input.bytes, at, &input.settings) {
         Some(Beginning::Scalar(end)) => Ok(end),
         Some(Beginning::Container(_, _)) => container_end(input, at, depth),
         None => Err(SkipFault::NoValue),
@@ -173,11 +236,11 @@ pub(crate) fn skipped_end(input: Input<'_>, at: usize, depth: usize) -> Result<u
 fn container_end(input: Input<'_>, at: usize, depth: usize) -> Result<usize, SkipFault>
     requires within { at ≤ length input.bytes.now }
     requires shallow { depth ≤ input.settings.max_depth }
-    ensures ok { IfOk result (λ e. SkipsTo rfc_8259 input.entry.settings.max_depth depth input.entry.bytes.now at e) }
-    ensures refused { OnErr result ((e : ℕ) → SkipsTo rfc_8259 input.entry.settings.max_depth depth input.entry.bytes.now at e → ⊥) }
-    ensures none_without_limits { IsErrOf result NoValue → (greatest e : ℕ) → SkipsTo rfc_8259 greatest depth input.entry.bytes.now at e → ⊥ }
+    ensures ok { IfOk result (λ e. SkipsTo (held_grammar input.entry.settings) input.entry.settings.max_depth depth input.entry.bytes.now at e) }
+    ensures refused { OnErr result ((e : ℕ) → SkipsTo (held_grammar input.entry.settings) input.entry.settings.max_depth depth input.entry.bytes.now at e → ⊥) }
+    ensures none_without_limits { IsErrOf result NoValue → (greatest e : ℕ) → SkipsTo (held_grammar input.entry.settings) greatest depth input.entry.bytes.now at e → ⊥ }
     ensures deep { IsErrOf result TooDeep → input.entry.settings.max_depth ≤ depth + json_openers (drop at input.entry.bytes.now) }
-    ensures too_deep { IsErrOf result TooDeep → OpensTooDeep rfc_8259 input.entry.settings.max_depth depth input.entry.bytes.now at }
+    ensures too_deep { IsErrOf result TooDeep → OpensTooDeep (held_grammar input.entry.settings) input.entry.settings.max_depth depth input.entry.bytes.now at }
 {
     let mut at = at;
     let mut due = true;
@@ -193,6 +256,7 @@ fn container_end(input: Input<'_>, at: usize, depth: usize) -> Result<usize, Ski
             &is_object,
             open,
             depth + open,
+            &input.settings,
         ) else {
             return Err(SkipFault::NoValue);
         };

@@ -4,8 +4,10 @@ ghost use Rattle.std.specs.Cow.{cow_str_bytes, cow_slice_items, IsBorrowedStr, I
 ghost use Rattle.smithy_texts.specs.Base64Text.{blob_of as base64_of};
 ghost use Rattle.smithy_json.specs.Unescape.{unescaped, has_escape};
 ghost use Rattle.smithy_json_codec.specs.Borrowed.{BorrowsText};
+ghost use Rattle.smithy_json_codec.specs.Codec.{held_grammar};
 ghost use Rattle.smithy_json_codec.specs.Private.ScalarAtPlace.{TextLies, BlobLies};
 
+use crate::settings::Settings;
 use crate::values::string_at;
 use smithy_json::{EscapeError, EscapedStr};
 use smithy_types::Blob;
@@ -60,17 +62,18 @@ pub(crate) fn owned_text(
     Ok(Some(text.into_owned(alloc)?))
 }
 
-// The text of the string that comes first behind blanks, with its end, where a value may end behind it.
+// The text of the string that comes first behind blanks, with its end.
 #[inline(always)]
 pub(crate) fn text_at(
     alloc: Global,
     input: &[u8],
     at: usize,
+    settings: &Settings,
 ) -> Result<Option<(String, usize)>, AllocError>
     requires { at ≤ length input.now }
-    ensures { IfOk result (λ o. MatchOption o ((text : List ℕ) (e : ℕ) → TextLies input.now at text e → ⊥) (λ r. TextLies input.now at (string_bytes r.0) r.1)) }
+    ensures { IfOk result (λ o. MatchOption o ((text : List ℕ) (e : ℕ) → TextLies (held_grammar settings.now) input.now at text e → ⊥) (λ r. TextLies (held_grammar settings.now) input.now at (string_bytes r.0) r.1)) }
 {
-    let Some(string) = string_at(input, at) else {
+    let Some(string) = string_at(input, at, settings) else {
         return Ok(None);
     };
     let Some(text) = owned_text(alloc, string.text, string.has_escape)? else {
@@ -79,19 +82,20 @@ pub(crate) fn text_at(
     Ok(Some((text, string.closing + 1)))
 }
 
-// The text of the string that comes first behind blanks, with its end, where a value may end behind it. It is borrowed where the
+// The text of the string that comes first behind blanks, with its end. It is borrowed where the
 // string has no escapes.
 #[inline(always)]
 pub(crate) fn text_piece_at<'a>(
     alloc: Global,
     input: &'a [u8],
     at: usize,
+    settings: &Settings,
 ) -> Result<Option<(CowStr<'a, Global>, usize)>, AllocError>
     requires { at ≤ length input.now }
-    ensures found { IfOk result (λ o. MatchOption o ((text : List ℕ) (e : ℕ) → TextLies input.now at text e → ⊥) (λ r. TextLies input.now at (cow_str_bytes r.0) r.1)) }
-    ensures borrowed { IfOk result (λ o. IfSome o (λ r. BorrowsText input.now at r.0 r.1)) }
+    ensures found { IfOk result (λ o. MatchOption o ((text : List ℕ) (e : ℕ) → TextLies (held_grammar settings.now) input.now at text e → ⊥) (λ r. TextLies (held_grammar settings.now) input.now at (cow_str_bytes r.0) r.1)) }
+    ensures borrowed { IfOk result (λ o. IfSome o (λ r. BorrowsText (held_grammar settings.now) input.now at r.0 r.1)) }
 {
-    let Some(string) = string_at(input, at) else {
+    let Some(string) = string_at(input, at, settings) else {
         return Ok(None);
     };
     let Some(text) = text_of(alloc, string.text, string.has_escape)? else {
@@ -122,16 +126,17 @@ fn blob_of(alloc: Global, raw: &str, is_escaped: bool) -> Result<Option<Blob>, A
     decoded(alloc, text.as_str())
 }
 
-// The bytes that the string encodes which comes first behind blanks, with its end, where a value may end behind it.
+// The bytes that the string encodes which comes first behind blanks, with its end.
 pub(crate) fn blob_at(
     alloc: Global,
     input: &[u8],
     at: usize,
+    settings: &Settings,
 ) -> Result<Option<(Blob, usize)>, AllocError>
     requires { at ≤ length input.now }
-    ensures { IfOk result (λ o. MatchOption o ((blob : List ℕ) (e : ℕ) → BlobLies input.now at blob e → ⊥) (λ r. BlobLies input.now at r.0 r.1)) }
+    ensures { IfOk result (λ o. MatchOption o ((blob : List ℕ) (e : ℕ) → BlobLies (held_grammar settings.now) input.now at blob e → ⊥) (λ r. BlobLies (held_grammar settings.now) input.now at r.0 r.1)) }
 {
-    let Some(string) = string_at(input, at) else {
+    let Some(string) = string_at(input, at, settings) else {
         return Ok(None);
     };
     let Some(blob) = blob_of(alloc, string.text, string.has_escape)? else {
@@ -140,18 +145,19 @@ pub(crate) fn blob_at(
     Ok(Some((blob, string.closing + 1)))
 }
 
-// The bytes that the string encodes which comes first behind blanks, with its end, where a value may end behind it. They stand in
+// The bytes that the string encodes which comes first behind blanks, with its end. They stand in
 // memory of their own, in the type that a reader hands out which borrows.
 pub(crate) fn bytes_piece_at<'a>(
     alloc: Global,
     input: &'a [u8],
     at: usize,
+    settings: &Settings,
 ) -> Result<Option<(CowSlice<'a, u8, Global>, usize)>, AllocError>
     requires { at ≤ length input.now }
-    ensures found { IfOk result (λ o. MatchOption o ((blob : List ℕ) (e : ℕ) → BlobLies input.now at blob e → ⊥) (λ r. BlobLies input.now at (cow_slice_items r.0) r.1)) }
+    ensures found { IfOk result (λ o. MatchOption o ((blob : List ℕ) (e : ℕ) → BlobLies (held_grammar settings.now) input.now at blob e → ⊥) (λ r. BlobLies (held_grammar settings.now) input.now at (cow_slice_items r.0) r.1)) }
     ensures owned { IfOk result (λ o. IfSome o (λ r. IsOwnedSlice r.0)) }
 {
-    let Some((blob, end)) = blob_at(alloc, input, at)? else {
+    let Some((blob, end)) = blob_at(alloc, input, at, settings)? else {
         return Ok(None);
     };
     Ok(Some((CowSlice::Owned(blob.into_inner()), end)))

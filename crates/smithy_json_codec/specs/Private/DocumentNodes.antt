@@ -21,9 +21,8 @@ use Rattle.smithy_json.specs.Tree.{Json, Elements, no_elements, element, Members
 use Rattle.smithy_json.specs.Unescape.{unescaped}
 use Rattle.smithy_json_codec.specs.Settings.{Settings}
 use Rattle.smithy_json_codec.specs.LexicalGrammar.{LexicalGrammar, frames_of, token_rules, token_relations, NodeLies}
-use Rattle.smithy_json_codec.specs.Scalar.{JsonScalar, a_boolean, a_number, a_string, tree_of, held_says, document_says}
+use Rattle.smithy_json_codec.specs.Scalar.{JsonScalar, a_boolean, a_number, a_string, held_says, document_says}
 use Rattle.smithy_json_codec.specs.Meaning.{node_of, element_nodes, member_nodes, rules_of, json_meaning}
-use Rattle.smithy_json_codec.specs.Standing.{TreeLies}
 use Rattle.smithy_json_codec.specs.Documents.{is_read_in, says_in, document_in, MeetsOtherNumber, depth_limit, DocumentStands, NoDocumentStands}
 use Rattle.smithy_json_codec.specs.Deepest.{has_come, EntriesLie, IsDueInside}
 use Rattle.smithy_json_codec.specs.Private.Skipping.{ValueBegins}
@@ -31,7 +30,7 @@ use Rattle.smithy_json_codec.specs.Private.BytePlaces.{separated_ahead}
 use Rattle.smithy_json_codec.specs.Private.TokenPlaces.{names_ahead}
 use Rattle.smithy_json_codec.specs.Private.Wire.{tokens_are_wire}
 use Rattle.smithy_json_codec.specs.Private.NodeDepths.{lies_with, ends_inside}
-use Rattle.smithy_json_codec.specs.Private.Fits.{text_is_utf8}
+use Rattle.smithy_json_codec.specs.Private.Fits.{HoldsUtf8, text_is_utf8}
 use Rattle.smithy_wire.specs.Node.{Node}
 use Rattle.smithy_wire.specs.Rules.{Answer, means, no_meaning, settled, answer_of}
 use Rattle.smithy_wire.specs.Documents.{document_of, elements_of, pairs_of}
@@ -192,14 +191,14 @@ held_means None v h = cc
 held_means (Some n) v h = (n, refl, cc)
 
 -- what a scalar is as a document has no parts, and can be a value
-pub says_document : (i : List ℕ) (d : ℕ) (x : JsonScalar) (a e : ℕ) → TreeLies 1 (tree_of x) i a e → (v : Document Number) → document_says x ≡ means v
+pub says_document : (x : JsonScalar) → HoldsUtf8 x → (v : Document Number) → document_says x ≡ means v
     → DocumentFits (whole_document v) × (document_nesting v ≡ 1)
-says_document i d (a_boolean b) a e lies v h =
+says_document (a_boolean b) holds v h =
     let same : documents.boolean b ≡ v = cc in
     subst (λ u. DocumentFits (whole_document u) × (document_nesting u ≡ 1)) same (tt, refl)
-says_document i d (a_number raw) a e lies v h =
+says_document (a_number raw) holds v h =
     let n = held_means (number_of raw) v h in
     subst (λ u. DocumentFits (whole_document u) × (document_nesting u ≡ 1)) n.2 (number_fits raw n.0 n.1, refl)
-says_document i d (a_string raw) a e lies v h =
+says_document (a_string raw) holds v h =
     let s = made text (unescaped raw) v (answer_means (option_map text (unescaped raw)) v h) in
-    subst (λ u. DocumentFits (whole_document u) × (document_nesting u ≡ 1)) s.2 (text_is_utf8 i d (a_string raw) a e lies s.0 s.1, refl)
+    subst (λ u. DocumentFits (whole_document u) × (document_nesting u ≡ 1)) s.2 (text_is_utf8 (a_string raw) holds s.0 s.1, refl)

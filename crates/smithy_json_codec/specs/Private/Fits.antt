@@ -20,8 +20,7 @@ use Rattle.smithy_instants.specs.Epoch.{epoch_nanos}
 use Rattle.smithy_instants.specs.DateText.{date_of}
 use Rattle.smithy_json.proofs.TextLemmas.{unescaped_is_utf8}
 use Rattle.smithy_json_codec.specs.Settings.{Settings}
-use Rattle.smithy_json_codec.specs.Scalar.{JsonScalar, a_boolean, a_number, a_string, tree_of, boolean_of, integer_of, whole_of, text_of, bytes_of, number_text, number_says, takes_seconds, string_form, seconds_read_as, date_says, timestamp_says, says}
-use Rattle.smithy_json_codec.specs.Standing.{TreeLies}
+use Rattle.smithy_json_codec.specs.Scalar.{JsonScalar, a_boolean, a_number, a_string, boolean_of, integer_of, whole_of, text_of, bytes_of, number_text, number_says, takes_seconds, string_form, seconds_read_as, date_says, timestamp_says, says}
 use Rattle.smithy_json_codec.specs.Private.DateInstants.{date_is_instant}
 use Rattle.smithy_wire.specs.Rules.{Answer, means, no_meaning}
 use Rattle.smithy_wire.proofs.Bounds.{chosen_answer, answer_means, big_integer_fits, big_decimal_fits}
@@ -43,10 +42,15 @@ boolean_fits t p (a_boolean b) v kind h = subst (Fits t p) (same_some (scalar_va
 boolean_fits t p (a_number raw) v kind h = cc
 boolean_fits t p (a_string raw) v kind h = cc
 
-pub text_is_utf8 : (i : List ℕ) (d : ℕ) (x : JsonScalar) (a e : ℕ) → TreeLies 1 (tree_of x) i a e → (s : List ℕ) → text_of x ≡ Some s → IsUtf8 s
-text_is_utf8 i d (a_boolean b) a e lies s h = cc
-text_is_utf8 i d (a_number raw) a e lies s h = cc
-text_is_utf8 i d (a_string raw) a e lies s h = unescaped_is_utf8 raw s lies.0.2.4.1.0 h
+-- what stands between the quotation marks of a string is UTF-8
+abbrev pub HoldsUtf8 : JsonScalar → Type 0
+HoldsUtf8 (a_string raw) = IsUtf8 raw
+HoldsUtf8 _ = Unit {0}
+
+pub text_is_utf8 : (x : JsonScalar) → HoldsUtf8 x → (s : List ℕ) → text_of x ≡ Some s → IsUtf8 s
+text_is_utf8 (a_boolean b) holds s h = cc
+text_is_utf8 (a_number raw) holds s h = cc
+text_is_utf8 (a_string raw) holds s h = unescaped_is_utf8 raw s holds h
 
 -- a big number is within the limits of its kind
 number_fits : (t : Table) (p : Place) (s : Scalar) (o : Option (List ℕ)) (v : Value) → kind_of t p ≡ scalar s → number_says s o ≡ means v → Fits t p v
@@ -84,20 +88,20 @@ timestamp_fits c t p time (a_boolean b) v kind h = date_fits t p (string_form c 
 timestamp_fits c t p time (a_string raw) v kind h = date_fits t p (string_form c time) (text_of (a_string raw)) v kind h
 
 -- what a scalar means is a value of its kind
-pub says_fits : (i : List ℕ) (d : ℕ) (x : JsonScalar) (a e : ℕ) → TreeLies 1 (tree_of x) i a e
+pub says_fits : (x : JsonScalar) → HoldsUtf8 x
     → (t : Table) (p : Place) (s : Scalar) (v : Value) → kind_of t p ≡ scalar s → (c : Settings) (time : Option TimestampFormat) → says c s time x ≡ means v → Fits t p v
-says_fits i d x a e lies t p scalars.Boolean v kind c time h = boolean_fits t p x v kind (answer_means (boolean_of x) v h)
-says_fits i d x a e lies t p scalars.Byte v kind c time h = whole_fits c 8 scalars.Byte (λ z. refl) t p x v kind (answer_means (whole_of c 8 x) v h)
-says_fits i d x a e lies t p scalars.Short v kind c time h = whole_fits c 16 scalars.Short (λ z. refl) t p x v kind (answer_means (whole_of c 16 x) v h)
-says_fits i d x a e lies t p scalars.Integer v kind c time h = whole_fits c 32 scalars.Integer (λ z. refl) t p x v kind (answer_means (whole_of c 32 x) v h)
-says_fits i d x a e lies t p scalars.Long v kind c time h = whole_fits c 64 scalars.Long (λ z. refl) t p x v kind (answer_means (whole_of c 64 x) v h)
-says_fits i d x a e lies t p scalars.String v kind c time h =
+says_fits x holds t p scalars.Boolean v kind c time h = boolean_fits t p x v kind (answer_means (boolean_of x) v h)
+says_fits x holds t p scalars.Byte v kind c time h = whole_fits c 8 scalars.Byte (λ z. refl) t p x v kind (answer_means (whole_of c 8 x) v h)
+says_fits x holds t p scalars.Short v kind c time h = whole_fits c 16 scalars.Short (λ z. refl) t p x v kind (answer_means (whole_of c 16 x) v h)
+says_fits x holds t p scalars.Integer v kind c time h = whole_fits c 32 scalars.Integer (λ z. refl) t p x v kind (answer_means (whole_of c 32 x) v h)
+says_fits x holds t p scalars.Long v kind c time h = whole_fits c 64 scalars.Long (λ z. refl) t p x v kind (answer_means (whole_of c 64 x) v h)
+says_fits x holds t p scalars.String v kind c time h =
     let s = made (λ s. scalar_value (text s)) (text_of x) v (answer_means (option_map (λ s. scalar_value (text s)) (text_of x)) v h) in
-    subst (Fits t p) s.2 (rw kind (is_utf8-from_IsUtf8 s.0 (text_is_utf8 i d x a e lies s.0 s.1)))
-says_fits i d x a e lies t p scalars.Blob v kind c time h =
+    subst (Fits t p) s.2 (rw kind (is_utf8-from_IsUtf8 s.0 (text_is_utf8 x holds s.0 s.1)))
+says_fits x holds t p scalars.Blob v kind c time h =
     let b = made (λ b. scalar_value (bytes b)) (bytes_of x) v (answer_means (option_map (λ b. scalar_value (bytes b)) (bytes_of x)) v h) in
     let s = step_apart (text_of x) blob_of b.0 b.1 in
     subst (Fits t p) b.2 (rw kind (blob_is_bytes s.0 b.0 s.2))
-says_fits i d x a e lies t p scalars.Timestamp v kind c time h = timestamp_fits c t p time x v kind h
-says_fits i d x a e lies t p scalars.BigInteger v kind c time h = number_fits t p scalars.BigInteger (number_text x) v kind h
-says_fits i d x a e lies t p scalars.BigDecimal v kind c time h = number_fits t p scalars.BigDecimal (number_text x) v kind h
+says_fits x holds t p scalars.Timestamp v kind c time h = timestamp_fits c t p time x v kind h
+says_fits x holds t p scalars.BigInteger v kind c time h = number_fits t p scalars.BigInteger (number_text x) v kind h
+says_fits x holds t p scalars.BigDecimal v kind c time h = number_fits t p scalars.BigDecimal (number_text x) v kind h

@@ -1,5 +1,5 @@
 -- Where a structure or a union goes on to, as private functions answer it.
-use Rattle.std.specs.Prelude.{◌≡◌, ◌<◌, ℕ, List, [], Bool, false, not, Some, None, is_none}
+use Rattle.std.specs.Prelude.{◌≡◌, ◌<◌, ℕ, List, length, Bool, false, not, Some, None, is_none}
 use Rattle.smithy_schema.specs.declared.read.Step.{Step}
 use Rattle.smithy_schema.specs.declared.read.Step.TheVariants.{Member, Unknown, End}
 use Rattle.smithy_schema.specs.Reading.{Cursor, depth}
@@ -8,12 +8,13 @@ use Rattle.smithy_shapes.specs.Site.{Site, site_of, member_site, kind_at}
 use Rattle.smithy_json_codec.specs.Settings.{Settings}
 use Rattle.smithy_json_codec.specs.Meaning.{rules_of}
 use Rattle.smithy_json_codec.specs.Standing.{end_mark}
+use Rattle.smithy_json_codec.specs.Tokens.{IsOverBy}
 use Rattle.smithy_json_codec.specs.Private.PassedEntries.{type_name, Passing}
 use Rattle.smithy_wire.specs.Rules.{position_in}
 
--- the structure was opened at the end of an empty input, and ends there
-abbrev pub EndsEmpty : Cursor → Type 0
-EndsEmpty c = (c.inner.mark ≡ end_mark) × (c.input ≡ []) × (0 < depth c)
+-- the structure was opened where the input is over, and ends there
+abbrev pub EndsEmpty : Bool → ℕ → Cursor → Type 0
+EndsEmpty strict at c = (c.inner.mark ≡ end_mark) × IsOverBy strict c.input at (length c.input) × (0 < depth c)
 
 -- the step that this name makes
 abbrev pub StepsTo : Step → Settings → Site → List ℕ → Type 0

@@ -5,7 +5,6 @@ use Rattle.smithy_schema.specs.declared.error.SerdeError.TheVariants as errors
 use Rattle.smithy_types.specs.Document.{Document, array, object, Documents, no_documents, item, Properties, no_properties, put_property}
 use Rattle.smithy_types.specs.DocumentView.{document_view, elements_view, properties_view}
 use Rattle.smithy_types.specs.declared.number.Number.{Number}
-use Rattle.smithy_json.specs.Tree.{number}
 use Rattle.smithy_json.specs.HeldNumber.{number_of}
 use Rattle.smithy_json.specs.Unescape.{unescaped}
 use Rattle.smithy_json_codec.specs.declared.documents.Open.{Open}
@@ -22,15 +21,15 @@ use Rattle.smithy_json_codec.specs.declared.documents.Step.{Step}
 use Rattle.smithy_json_codec.specs.declared.documents.Step.TheVariants.{Inside, Opens, Ends}
 use Rattle.smithy_json_codec.specs.Openers.{json_openers}
 use Rattle.smithy_json_codec.specs.Settings.{Settings, without_limits}
-use Rattle.smithy_json_codec.specs.Scalar.{JsonScalar}
-use Rattle.smithy_json_codec.specs.Standing.{TreeLies}
+use Rattle.smithy_shapes.specs.declared.shape_type.Scalar.TheVariants as scalars
+use Rattle.smithy_json_codec.specs.Scalar.{JsonScalar, a_number}
 use Rattle.smithy_json_codec.specs.Spans.{Lies, IsByte}
 use Rattle.smithy_json_codec.specs.Tokens.{NameTokens}
-use Rattle.smithy_json_codec.specs.LexicalGrammar.{LexicalGrammar, token_rules, NodeLies}
+use Rattle.smithy_json_codec.specs.LexicalGrammar.{LexicalGrammar, token_rules, LiesInGrammar, NodeLies}
 use Rattle.smithy_json_codec.specs.Documents.{is_read_in, document_in, OtherNumberLies, NoDocumentLies, NoDocumentStands, OpensDocumentTooDeep, MeetsOtherNumber}
 use Rattle.smithy_json_codec.specs.Private.NextInContainer.{ElementBegins, ClosesIn}
 use Rattle.smithy_json_codec.specs.Private.Skipping.{opening, closing}
-use Rattle.smithy_wire.specs.Node.{Node}
+use Rattle.smithy_wire.specs.Node.{Node, nesting}
 use Rattle.smithy_wire.specs.Rules.{at_depth}
 
 -- ---- what is open
@@ -88,20 +87,19 @@ frames_view frames = map frame_view (reverse frames)
 pub record ScalarMeans (g : LexicalGrammar) (input : List ℕ) (a : ℕ) (d : Document Number) (e : ℕ) : Type 0 where
   pub node : Node JsonScalar
   pub lies : NodeLies g (is_read_in g) 1 node input a e
+  pub flat : nesting node ≡ 0
   pub means : (c : Settings) (depth : ℕ) → document_in g c depth node ≡ at_depth (token_rules g c) (suc depth) (Some d)
 
--- from a on lies this number of RFC 8259, as a document holds it
-pub record HeldNumberLies (input : List ℕ) (a : ℕ) (n : Number) (e : ℕ) : Type 0 where
+-- from a on lies this number of the grammar, as a document holds it
+pub record HeldNumberLies (g : LexicalGrammar) (input : List ℕ) (a : ℕ) (n : Number) (e : ℕ) : Type 0 where
   pub raw : List ℕ
-  pub lies : TreeLies 1 (number raw) input a e
+  pub lies : LiesInGrammar g scalars.BigDecimal (a_number raw) input a e
   pub is : number_of raw ≡ Some n
 
--- from a on lies a number of RFC 8259 that no document holds
-pub record OtherTreeLies (input : List ℕ) (a : ℕ) : Type 0 where
-  pub raw : List ℕ
-  pub e : ℕ
-  pub lies : TreeLies 1 (number raw) input a e
-  pub not_held : number_of raw ≡ None
+-- from a on lies no number of the grammar
+abbrev pub NoNumberLies : LexicalGrammar → List ℕ → ℕ → Type 0
+NoNumberLies g input a =
+    (raw : List ℕ) (e : ℕ) → LiesInGrammar g scalars.BigDecimal (a_number raw) input a e → ⊥
 
 -- how a value begins at a: a scalar is read, with its end, or a container opens; or no document lies there, whatever
 -- the settings, or a number that none holds

@@ -1,8 +1,6 @@
--- The scalar that lies at a place, as private functions answer it.
+-- The scalar that lies at a place, in a grammar and under some settings, as private functions answer it.
 use Rattle.std.specs.Prelude.{◌≡◌, ℕ, ℤ, List, Option, Some, true}
 use Rattle.smithy_texts.specs.Ranges.{fits_signed}
-use Rattle.smithy_json.specs.Tree.{number, string}
-use Rattle.smithy_json.specs.Number.{whole_number}
 use Rattle.smithy_json.specs.Unescape.{unescaped}
 use Rattle.smithy_shapes.specs.declared.shape_type.Scalar.{Scalar}
 use Rattle.smithy_shapes.specs.declared.shape_type.Scalar.TheVariants as scalars
@@ -11,29 +9,19 @@ use Rattle.smithy_shapes.specs.Value.{ScalarValue, instant, scalar_value}
 use Rattle.smithy_json_codec.specs.Settings.{Settings}
 use Rattle.smithy_json_codec.specs.Scalar.{JsonScalar, a_number, a_string, bytes_of, number_text, integer_of, number_says, timestamp_says}
 use Rattle.smithy_json_codec.specs.LexicalGrammar.{LexicalGrammar, LiesInGrammar}
-use Rattle.smithy_json_codec.specs.Standing.{TreeLies}
 use Rattle.smithy_wire.specs.Rules.{means, no_meaning, wide, uncarried}
 
--- a whole number of so many bits lies there
-pub record WholeLies (bits : ℕ) (input : List ℕ) (at : ℕ) (n : ℤ) (e : ℕ) : Type 0 where
-  pub raw : List ℕ
-  pub lies : TreeLies 1 (number raw) input at e
-  pub is : whole_number raw ≡ Some n
-  pub fits : fits_signed bits n ≡ true
-
 -- a string that has this text lies there
-pub record TextLies (input : List ℕ) (at : ℕ) (text : List ℕ) (e : ℕ) : Type 0 where
+pub record TextLies (g : LexicalGrammar) (input : List ℕ) (at : ℕ) (text : List ℕ) (e : ℕ) : Type 0 where
   pub raw : List ℕ
-  pub lies : TreeLies 1 (string raw) input at e
+  pub lies : LiesInGrammar g scalars.String (a_string raw) input at e
   pub is : unescaped raw ≡ Some text
 
 -- a string whose text is the base64 of these bytes lies there
-pub record BlobLies (input : List ℕ) (at : ℕ) (blob : List ℕ) (e : ℕ) : Type 0 where
+pub record BlobLies (g : LexicalGrammar) (input : List ℕ) (at : ℕ) (blob : List ℕ) (e : ℕ) : Type 0 where
   pub raw : List ℕ
-  pub lies : TreeLies 1 (string raw) input at e
+  pub lies : LiesInGrammar g scalars.String (a_string raw) input at e
   pub is : bytes_of (a_string raw) ≡ Some blob
-
--- ---- in a grammar, under some settings
 
 -- an integer of so many bits lies there
 pub record IntegerLies (g : LexicalGrammar) (c : Settings) (bits : ℕ) (input : List ℕ) (at : ℕ) (n : ℤ) (e : ℕ) : Type 0 where

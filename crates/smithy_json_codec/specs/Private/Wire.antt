@@ -108,7 +108,7 @@ empty_is_over : (strict : Bool) → IsOverBy strict [] 0 0
 empty_is_over true = ((refl, refl), refl)
 empty_is_over false = (omega arith, refl, tt)
 
-over_is_end : (strict : Bool) (i : List ℕ) (a e : ℕ) → IsOverBy strict i a e → (a ≤ e) × (e ≡ length i)
+pub over_is_end : (strict : Bool) (i : List ℕ) (a e : ℕ) → IsOverBy strict i a e → (a ≤ e) × (e ≡ length i)
 over_is_end true i a e h = (omega (arith, h.1), h.1 ∙ (h.0.1 ∙ sym (ap length h.0.0)))
 over_is_end false i a e h = (h.0, h.1)
 

@@ -1,23 +1,21 @@
 //! How a document's value begins, and its scalars.
 
-ghost use Rattle.std.specs.Prelude.{◌≡◌, ◌⊎◌, ◌<◌, ◌≤◌, ◌==◌, ℕ, ℤ, List, length, slice_index, unsigned_abs, if◌then◌else◌};
-ghost use Rattle.std.specs.Char.{IsAsciiDigit};
-ghost use Rattle.smithy_types.specs.declared.number.Number.TheVariants.{PosInt, NegInt};
-ghost use Rattle.smithy_json.specs.Ascii.{minus_sign, begin_array, begin_object};
-ghost use Rattle.smithy_json.specs.HeldNumber.{number_of};
-ghost use Rattle.smithy_json.specs.Tree.{number};
+ghost use Rattle.std.specs.Prelude.{◌≡◌, ◌⊎◌, ◌≤◌, ℕ, List, length};
+ghost use Rattle.smithy_json.specs.Ascii.{begin_array, begin_object};
 ghost use Rattle.smithy_wire.specs.Finding.{MatchFound};
 ghost use Rattle.smithy_json_codec.specs.declared.documents.scalars.BeginFault.TheVariants.{NoMemory};
-ghost use Rattle.smithy_json_codec.specs.LexicalGrammar.{rfc_8259};
-ghost use Rattle.smithy_json_codec.specs.Standing.{TreeLies};
+ghost use Rattle.smithy_json_codec.specs.Codec.{held_grammar};
+ghost use Rattle.smithy_json_codec.specs.Documents.{OtherNumberLies};
 ghost use Rattle.smithy_json_codec.specs.Private.NextInContainer.{IsFirstByte};
-ghost use Rattle.smithy_json_codec.specs.Private.ScalarAtPlace.{WholeLies};
-ghost use Rattle.smithy_json_codec.specs.Private.OpenDocuments.{HeldNumberLies, OtherTreeLies, BeginsDocument};
+ghost use Rattle.smithy_json_codec.specs.Private.OpenDocuments.{HeldNumberLies, NoNumberLies, BeginsDocument};
 
-use crate::numbers::number_at;
+use crate::integers::IntegerRule;
+use crate::number_runs::{NumberSort, number_of};
 use crate::places::{first_byte, null_end};
+use crate::settings::Settings;
 use crate::texts::text_at;
-use crate::values::{boolean_at, long_at};
+use crate::values::boolean_at;
+use smithy_json::number_text::read_long;
 use smithy_json::{number_of_long, number_of_text};
 use smithy_types::{Document, Number};
 use smithy_wire::Found;
@@ -52,11 +50,11 @@ impl From<AllocError> for BeginFault {
 
 // The number at the offset, with its end. It stays a call, so that the common case is short.
 #[inline(never)]
-fn large_number_at(input: &[u8], at: usize) -> Found<(Number, usize)>
+fn any_number_at(input: &[u8], at: usize, settings: &Settings) -> Found<(Number, usize)>
     requires { at ≤ length input.now }
-    ensures { MatchFound result (λ r. HeldNumberLies input.now at r.0 r.1) ((raw : List ℕ) (e : ℕ) → TreeLies 1 (number raw) input.now at e → ⊥) (OtherTreeLies input.now at) }
+    ensures { MatchFound result (λ r. HeldNumberLies (held_grammar settings.now) input.now at r.0 r.1) (NoNumberLies (held_grammar settings.now) input.now at) (OtherNumberLies (held_grammar settings.now) input.now at) }
 {
-    let Some((text, end)) = number_at(input, at) else {
+    let Some((text, end)) = number_of(NumberSort::Decimal, input, at, settings) else {
         return Found::Nothing;
     };
     match number_of_text(text) {
@@ -67,49 +65,66 @@ fn large_number_at(input: &[u8], at: usize) -> Found<(Number, usize)>
 
 // The number at the offset, which begins with this byte, with its end.
 #[inline(always)]
-fn held_number_at(input: &[u8], at: usize, first: u8) -> Found<(Number, usize)>
+fn held_number_at(input: &[u8], at: usize, first: u8, settings: &Settings) -> Found<(Number, usize)>
     requires first { IsFirstByte input.now at first at }
-    ensures { MatchFound result (λ r. HeldNumberLies input.now at r.0 r.1) ((raw : List ℕ) (e : ℕ) → TreeLies 1 (number raw) input.now at e → ⊥) (OtherTreeLies input.now at) }
+    ensures { MatchFound result (λ r. HeldNumberLies (held_grammar settings.now) input.now at r.0 r.1) (NoNumberLies (held_grammar settings.now) input.now at) (OtherNumberLies (held_grammar settings.now) input.now at) }
 {
-    match long_at(input, at) {
-        Some((value, end)) => Found::Value((number_of_long(first == b'-', value), end)),
-        None => large_number_at(input, at),
+    if let IntegerRule::Standard = settings.integers {
+        if let Some((value, end)) = read_long(input, at) {
+            return Found::Value((number_of_long(first == b'-', value), end));
+        }
     }
+    any_number_at(input, at, settings)
 }
 
-fn text_begun(alloc: Global, input: &[u8], at: usize) -> Result<Begun, BeginFault>
+fn text_begun(
+    alloc: Global,
+    input: &[u8],
+    at: usize,
+    settings: &Settings,
+) -> Result<Begun, BeginFault>
     requires { IsFirstByte input.now at 0x22 at }
-    ensures { BeginsDocument rfc_8259 input.now at result }
+    ensures { BeginsDocument (held_grammar settings.now) input.now at result }
 {
-    let Some((text, end)) = text_at(alloc, input, at)? else {
+    let Some((text, end)) = text_at(alloc, input, at, settings)? else {
         return Err(BeginFault::NoValue);
     };
     Ok(Begun::Scalar(Document::String(text), end))
 }
 
-fn null_begun(input: &[u8], at: usize) -> Result<Begun, BeginFault>
+fn null_begun(input: &[u8], at: usize, settings: &Settings) -> Result<Begun, BeginFault>
     requires { IsFirstByte input.now at 0x6e at }
-    ensures { BeginsDocument rfc_8259 input.now at result }
+    ensures { BeginsDocument (held_grammar settings.now) input.now at result }
 {
-    match null_end(input, at) {
+    match null_end(input, at, settings) {
         Some(end) => Ok(Begun::Scalar(Document::Null, end)),
         None => Err(BeginFault::NoValue),
     }
 }
 
-fn boolean_begun(input: &[u8], at: usize, first: u8) -> Result<Begun, BeginFault>
+fn boolean_begun(
+    input: &[u8],
+    at: usize,
+    first: u8,
+    settings: &Settings,
+) -> Result<Begun, BeginFault>
     requires first { IsFirstByte input.now at first at }
     requires letter { (first ≡ 0x74) ⊎ (first ≡ 0x66) }
-    ensures { BeginsDocument rfc_8259 input.now at result }
+    ensures { BeginsDocument (held_grammar settings.now) input.now at result }
 {
-    match boolean_at(input, at) {
+    match boolean_at(input, at, settings) {
         Some((value, end)) => Ok(Begun::Scalar(Document::Bool(value), end)),
         None => Err(BeginFault::NoValue),
     }
 }
 
 #[inline(always)]
-fn number_begun(input: &[u8], at: usize, first: u8) -> Result<Begun, BeginFault>
+fn number_begun(
+    input: &[u8],
+    at: usize,
+    first: u8,
+    settings: &Settings,
+) -> Result<Begun, BeginFault>
     requires first { IsFirstByte input.now at first at }
     requires no_string { first ≡ 0x22 → ⊥ }
     requires no_null { first ≡ 0x6e → ⊥ }
@@ -117,9 +132,9 @@ fn number_begun(input: &[u8], at: usize, first: u8) -> Result<Begun, BeginFault>
     requires no_false { first ≡ 0x66 → ⊥ }
     requires no_array { first ≡ begin_array → ⊥ }
     requires no_object { first ≡ begin_object → ⊥ }
-    ensures { BeginsDocument rfc_8259 input.now at result }
+    ensures { BeginsDocument (held_grammar settings.now) input.now at result }
 {
-    match held_number_at(input, at, first) {
+    match held_number_at(input, at, first, settings) {
         Found::Value((number, end)) => Ok(Begun::Scalar(Document::Number(number), end)),
         Found::Nothing => Err(BeginFault::NoValue),
         Found::Beyond => Err(BeginFault::NotCarried),
@@ -128,29 +143,40 @@ fn number_begun(input: &[u8], at: usize, first: u8) -> Result<Begun, BeginFault>
 
 // The scalar at the offset, which begins with this byte.
 #[inline(always)]
-fn scalar_begun(alloc: Global, input: &[u8], at: usize, first: u8) -> Result<Begun, BeginFault>
+fn scalar_begun(
+    alloc: Global,
+    input: &[u8],
+    at: usize,
+    first: u8,
+    settings: &Settings,
+) -> Result<Begun, BeginFault>
     requires first { IsFirstByte input.now at first at }
     requires no_array { first ≡ begin_array → ⊥ }
     requires no_object { first ≡ begin_object → ⊥ }
-    ensures { BeginsDocument rfc_8259 input.now at result }
+    ensures { BeginsDocument (held_grammar settings.now) input.now at result }
 {
     if first == b'"' {
-        return text_begun(alloc, input, at);
+        return text_begun(alloc, input, at, settings);
     }
     if first == b'n' {
-        return null_begun(input, at);
+        return null_begun(input, at, settings);
     }
     if first == b't' || first == b'f' {
-        return boolean_begun(input, at, first);
+        return boolean_begun(input, at, first, settings);
     }
-    number_begun(input, at, first)
+    number_begun(input, at, first, settings)
 }
 
 /// How the value begins that comes first behind blanks.
 #[inline(always)]
-pub(crate) fn document_begun(alloc: Global, input: &[u8], at: usize) -> Result<Begun, BeginFault>
+pub(crate) fn document_begun(
+    alloc: Global,
+    input: &[u8],
+    at: usize,
+    settings: &Settings,
+) -> Result<Begun, BeginFault>
     requires { at ≤ length input.now }
-    ensures { BeginsDocument rfc_8259 input.now at result }
+    ensures { BeginsDocument (held_grammar settings.now) input.now at result }
 {
     let Some((first, start)) = first_byte(input, at) else {
         return Err(BeginFault::NoValue);
@@ -161,5 +187,5 @@ pub(crate) fn document_begun(alloc: Global, input: &[u8], at: usize) -> Result<B
     if first == b'{' {
         return Ok(Begun::Container(true, start + 1));
     }
-    scalar_begun(alloc, input, start, first)
+    scalar_begun(alloc, input, start, first, settings)
 }

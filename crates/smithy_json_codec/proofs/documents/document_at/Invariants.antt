@@ -1,6 +1,5 @@
 use Rattle.std.proofs.Common.{◌-◌, length, vec_items}
-use Rattle.smithy_json_codec.specs.Codec.{held_settings}
-use Rattle.smithy_json_codec.specs.LexicalGrammar.{rfc_8259}
+use Rattle.smithy_json_codec.specs.Codec.{held_settings, held_grammar}
 use Rattle.smithy_json_codec.specs.Private.OpenDocuments.{open_view, frames_view}
 use Rattle.smithy_json_codec.proofs.OpenDocumentLemmas.{inside}
 use Rattle.smithy_json_codec.proofs.DocumentWalk.{IsWalking}
@@ -9,7 +8,7 @@ use Rattle.smithy_json_codec.proofs.documents.document_at.Given as goal
 -- the walk is inside of the innermost container, and what is left makes the document
 abbrev pub invariant-steps : goal.invariant-steps
 invariant-steps l =
-    IsWalking rfc_8259 (held_settings l.input.settings) l.depth (inside (open_view l.inner) l.entered) (frames_view (vec_items l.frames)) l.input.bytes.now l.fn.at l.at
+    IsWalking (held_grammar l.input.settings) (held_settings l.input.settings) l.depth (inside (open_view l.inner) l.entered) (frames_view (vec_items l.frames)) l.input.bytes.now l.fn.at l.at
 
 -- each step goes ahead
 abbrev pub decreases-steps : goal.decreases-steps

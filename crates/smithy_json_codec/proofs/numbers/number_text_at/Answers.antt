@@ -6,7 +6,6 @@ use Rattle.smithy_json_codec.specs.Scalar.{a_number, a_string}
 use Rattle.smithy_json_codec.specs.Private.NumberSorts.{kind_of_sort}
 use Rattle.smithy_json_codec.proofs.NumberSorts.{big_lies, lies_big}
 use Rattle.smithy_json_codec.proofs.NumberTexts.{no_number_text}
-use Rattle.smithy_json_codec.proofs.StandardSettings.{string_in, in_string}
 use Rattle.smithy_json_codec.proofs.TextLemmas.{no_text_lies}
 use Rattle.smithy_json_codec.proofs.numbers.number_text_at.Goals as goal
 
@@ -23,7 +22,7 @@ returns-in_default-string_at c =
     let kind = kind_of_sort c.args.sort in
     no_number_text (grammar_of s) kind c.args.input.now c.args.at
     (λ raw e lies. c.in_default.ensures.none raw e (lies_big s c.args.sort c.requires.big c.args.input.now c.args.at raw e lies))
-    (λ raw e lies text is. c.in_default-string_at.ensures.none raw e (in_string c.args.settings.now kind raw c.args.input.now c.args.at e lies))
+    (λ raw e lies text is. c.in_default-string_at.ensures.none raw e lies)
 
 pub returns-in_default-2 : goal.returns-in_default-2
 returns-in_default-2 c =
@@ -33,12 +32,12 @@ returns-in_default-2 c =
     no_number_text (grammar_of s) kind c.args.input.now c.args.at
     (λ raw e lies. c.in_default.ensures.none raw e (lies_big s c.args.sort c.requires.big c.args.input.now c.args.at raw e lies))
     (λ raw e lies text is.
-    no_text_lies c.args.input.now c.args.at c.in-Some-string_at.string.text.now _ c.in-Some-string_at.ensures.found none text e
-    (record { raw = raw; lies = in_string c.args.settings.now kind raw c.args.input.now c.args.at e lies; is = is }))
+    no_text_lies (grammar_of s) c.args.input.now c.args.at c.in-Some-string_at.string.text.now _ c.in-Some-string_at.ensures.found none text e
+    (record { raw = raw; lies = lies; is = is }))
 
 pub returns : goal.returns
 returns c = record {
   found = a_string _;
-  lies = string_in c.args.settings.now (kind_of_sort c.args.sort) _ c.args.input.now c.args.at _ c.in-Some-string_at.ensures.found;
+  lies = c.in-Some-string_at.ensures.found;
   is = c.in_ok-text.ensures.text ∙ ap (option_map cow_str_bytes) c.in-Some-2.is;
 }

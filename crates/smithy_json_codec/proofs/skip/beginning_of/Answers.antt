@@ -1,5 +1,6 @@
 use Rattle.std.proofs.Common.{◌+◌, subst}
-use Rattle.smithy_json_codec.specs.LexicalGrammar.{rfc_8259, is_skipped_in}
+use Rattle.smithy_json_codec.specs.LexicalGrammar.{is_skipped_in}
+use Rattle.smithy_json_codec.specs.Codec.{held_grammar}
 use Rattle.smithy_json_codec.specs.Standing.{Lies, IsByte}
 use Rattle.smithy_json_codec.proofs.FirstBytePlaces.{first_lies}
 use Rattle.smithy_json_codec.proofs.NodeFirstBytes.{nothing_lies, node_before, node_behind}
@@ -7,7 +8,7 @@ use Rattle.smithy_json_codec.proofs.skip.beginning_of.Goals as goal
 
 pub returns-in_err-first : goal.returns-in_err-first
 returns-in_err-first c =
-    rw c.from_residual.ensures (nothing_lies rfc_8259 (is_skipped_in rfc_8259) c.args.input.now c.args.at c.in_err-first.ensures.none)
+    rw c.from_residual.ensures (nothing_lies (held_grammar c.args.settings.now) (is_skipped_in (held_grammar c.args.settings.now)) c.args.input.now c.args.at c.in_err-first.ensures.none)
 
 pub returns-then-first-eq91 : goal.returns-then-first-eq91
 returns-then-first-eq91 c =
@@ -23,14 +24,14 @@ pub returns-in_err-end : goal.returns-in_err-end
 returns-in_err-end c =
     let here = c.in_ok-first.ensures.found in
     rw c.from_residual-in_err-end.ensures (λ d x e h.
-    c.in_err-end.ensures.none d x e (node_behind c.args.input.now c.args.at c.in_ok-first.first c.in_ok-first.start here rfc_8259 (is_skipped_in rfc_8259) d x e h))
+    c.in_err-end.ensures.none d x e (node_behind c.args.input.now c.args.at c.in_ok-first.first c.in_ok-first.start here (held_grammar c.args.settings.now) (is_skipped_in (held_grammar c.args.settings.now)) d x e h))
 
 pub returns : goal.returns
 returns c =
     let found = c.in_ok-end.ensures.found in
     record {
       node = found.node;
-      lies = node_before c.args.input.now c.args.at c.in_ok-first.first c.in_ok-first.start c.in_ok-first.ensures.found rfc_8259 (is_skipped_in rfc_8259) 1
+      lies = node_before c.args.input.now c.args.at c.in_ok-first.first c.in_ok-first.start c.in_ok-first.ensures.found (held_grammar c.args.settings.now) (is_skipped_in (held_grammar c.args.settings.now)) 1
           found.node c.in_ok-end.end found.lies;
       flat = found.flat;
     }

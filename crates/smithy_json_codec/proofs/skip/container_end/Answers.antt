@@ -1,6 +1,7 @@
 use Rattle.std.proofs.Common.{◌≡◌, ◌<◌, Bool, true, false, length, arith, ◌∙◌}
 use Rattle.std.proofs.lemmas.List.{length-set}
-use Rattle.smithy_json_codec.specs.LexicalGrammar.{rfc_8259, is_skipped_in}
+use Rattle.smithy_json_codec.specs.LexicalGrammar.{is_skipped_in}
+use Rattle.smithy_json_codec.specs.Codec.{held_grammar}
 use Rattle.smithy_json_codec.specs.Private.BytePlaces.{byte_ahead}
 use Rattle.smithy_json_codec.specs.Private.Skipping.{opening, closing}
 use Rattle.smithy_json_codec.proofs.SkipSteps.{scalar_passed, container_opened, opens_too_deep, value_begun, container_closed, no_next_step, scalar_ahead, value_place, falls_ahead, falls_on}
@@ -17,7 +18,7 @@ pub returns-then-depth-open-clause-refused : goal.returns-then-depth-open-clause
 returns-then-depth-open-clause-refused c =
     let step = rw c.in-IntoContainer.is at c.in-Some.ensures in
     let bracket = step.1 in
-    opens_too_deep rfc_8259 c.args.input.settings.max_depth c.args.depth c.loop-due.is_object c.loop-due.open c.loop-due.due c.loop-due.entered c.args.input.bytes.now c.args.at c.loop-due.at
+    opens_too_deep (held_grammar c.args.input.settings) c.args.input.settings.max_depth c.args.depth c.loop-due.is_object c.loop-due.open c.loop-due.due c.loop-due.entered c.args.input.bytes.now c.args.at c.loop-due.at
     c.loop-due.invariant.way c.loop-due.invariant.within c.loop-due.invariant.shallow step.0 c.in-IntoContainer.kind c.in-IntoContainer.inside bracket c.if-depth-open.true
 
 pub returns-then-depth-open-clause-deep : goal.returns-then-depth-open-clause-deep
@@ -28,7 +29,7 @@ pub returns-then-depth-open-clause-too_deep : goal.returns-then-depth-open-claus
 returns-then-depth-open-clause-too_deep c = λ deep.
     let step = rw c.in-IntoContainer.is at c.in-Some.ensures in
     let bracket = step.1 in
-    comes_too_deep rfc_8259 c.args.depth c.loop-due.is_object c.loop-due.open c.loop-due.due c.loop-due.entered c.args.input.bytes.now c.args.at c.loop-due.at
+    comes_too_deep (held_grammar c.args.input.settings) c.args.depth c.loop-due.is_object c.loop-due.open c.loop-due.due c.loop-due.entered c.args.input.bytes.now c.args.at c.loop-due.at
     c.loop-due.invariant.come step.0 c.in-IntoContainer.kind c.in-IntoContainer.inside c.args.input.settings.max_depth bracket c.loop-due.invariant.shallow c.if-depth-open.true
 
 pub loop-due-smaller-in-PastScalar : goal.loop-due-smaller-in-PastScalar
@@ -36,21 +37,21 @@ loop-due-smaller-in-PastScalar c =
     let step = rw c.in-PastScalar.is at c.in-Some.ensures in
     let scalar = step.1 in
     falls_ahead (length c.args.input.bytes.now) c.loop-due.at c.in-PastScalar.end c.loop-due.due
-    (scalar_ahead rfc_8259 (is_skipped_in rfc_8259) c.args.input.bytes.now c.loop-due.at c.in-PastScalar.end scalar).0
-    (scalar_ahead rfc_8259 (is_skipped_in rfc_8259) c.args.input.bytes.now c.loop-due.at c.in-PastScalar.end scalar).1
+    (scalar_ahead (held_grammar c.args.input.settings) (is_skipped_in (held_grammar c.args.input.settings)) c.args.input.bytes.now c.loop-due.at c.in-PastScalar.end scalar).0
+    (scalar_ahead (held_grammar c.args.input.settings) (is_skipped_in (held_grammar c.args.input.settings)) c.args.input.bytes.now c.loop-due.at c.in-PastScalar.end scalar).1
 
 pub loop-due-preserved-in-PastScalar : goal.loop-due-preserved-in-PastScalar
 loop-due-preserved-in-PastScalar c =
     let step = rw c.in-PastScalar.is at c.in-Some.ensures in
     let scalar = step.1 in
     record {
-      within = (scalar_ahead rfc_8259 (is_skipped_in rfc_8259) c.args.input.bytes.now c.loop-due.at c.in-PastScalar.end scalar).1;
+      within = (scalar_ahead (held_grammar c.args.input.settings) (is_skipped_in (held_grammar c.args.input.settings)) c.args.input.bytes.now c.loop-due.at c.in-PastScalar.end scalar).1;
       room = c.loop-due.invariant.room;
       shallow = c.loop-due.invariant.shallow;
-      way = scalar_passed rfc_8259 c.args.input.settings.max_depth c.args.depth c.loop-due.is_object c.loop-due.open c.loop-due.due c.loop-due.entered c.args.input.bytes.now c.args.at c.loop-due.at
+      way = scalar_passed (held_grammar c.args.input.settings) c.args.input.settings.max_depth c.args.depth c.loop-due.is_object c.loop-due.open c.loop-due.due c.loop-due.entered c.args.input.bytes.now c.args.at c.loop-due.at
           c.loop-due.invariant.way c.loop-due.invariant.within c.loop-due.invariant.shallow step.0 c.in-PastScalar.end scalar;
-      opens = opens_past_scalar c.args.input.bytes.now c.args.at c.loop-due.open c.loop-due.at c.in-PastScalar.end c.loop-due.invariant.opens rfc_8259 (is_skipped_in rfc_8259) scalar;
-      come = comes_past_scalar rfc_8259 c.args.depth c.loop-due.is_object c.loop-due.open c.loop-due.due c.loop-due.entered c.args.input.bytes.now c.args.at c.loop-due.at
+      opens = opens_past_scalar c.args.input.bytes.now c.args.at c.loop-due.open c.loop-due.at c.in-PastScalar.end c.loop-due.invariant.opens (held_grammar c.args.input.settings) (is_skipped_in (held_grammar c.args.input.settings)) scalar;
+      come = comes_past_scalar (held_grammar c.args.input.settings) c.args.depth c.loop-due.is_object c.loop-due.open c.loop-due.due c.loop-due.entered c.args.input.bytes.now c.args.at c.loop-due.at
           c.loop-due.invariant.come step.0 c.in-PastScalar.end scalar;
     }
 
@@ -69,10 +70,10 @@ loop-due-preserved-in-IntoContainer c =
       within = bracket.1;
       room = length-set c.loop-due.is_object c.loop-due.open c.in-IntoContainer.kind ∙ c.loop-due.invariant.room;
       shallow = omega (arith, c.if-depth-open.false);
-      way = container_opened rfc_8259 c.args.input.settings.max_depth c.args.depth c.loop-due.is_object c.loop-due.open c.loop-due.due c.loop-due.entered c.args.input.bytes.now c.args.at c.loop-due.at
+      way = container_opened (held_grammar c.args.input.settings) c.args.input.settings.max_depth c.args.depth c.loop-due.is_object c.loop-due.open c.loop-due.due c.loop-due.entered c.args.input.bytes.now c.args.at c.loop-due.at
           c.loop-due.invariant.way c.loop-due.invariant.within c.loop-due.invariant.shallow step.0 c.in-IntoContainer.kind c.in-IntoContainer.inside bracket (omega arith);
       opens = opens_into_container c.args.input.bytes.now c.args.at c.loop-due.open c.loop-due.at c.in-IntoContainer.inside c.loop-due.invariant.opens c.in-IntoContainer.kind bracket;
-      come = comes_into_container rfc_8259 c.args.depth c.loop-due.is_object c.loop-due.open c.loop-due.due c.loop-due.entered c.args.input.bytes.now c.args.at c.loop-due.at
+      come = comes_into_container (held_grammar c.args.input.settings) c.args.depth c.loop-due.is_object c.loop-due.open c.loop-due.due c.loop-due.entered c.args.input.bytes.now c.args.at c.loop-due.at
           c.loop-due.invariant.come step.0 c.in-IntoContainer.kind c.in-IntoContainer.inside bracket (omega arith);
     }
 
@@ -83,15 +84,15 @@ loop-due-preserved-in-ToValue c =
       | then-due w ↦ absurd (at_odds w.if-due.true step.0)
       | else-due+then-open-gt0 w ↦ w.if-open-gt0.true
     ] in
-    let place = value_place (is_skipped_in rfc_8259) c.args.input.bytes.now c.loop-due.at _ c.loop-due.entered c.in-ToValue.start step.1 c.loop-due.invariant.within in
+    let place = value_place (is_skipped_in (held_grammar c.args.input.settings)) c.args.input.bytes.now c.loop-due.at _ c.loop-due.entered c.in-ToValue.start step.1 c.loop-due.invariant.within in
     record {
       within = place.1;
       room = c.loop-due.invariant.room;
       shallow = c.loop-due.invariant.shallow;
-      way = value_begun rfc_8259 c.args.input.settings.max_depth c.args.depth c.loop-due.is_object c.loop-due.open c.loop-due.due c.loop-due.entered c.args.input.bytes.now c.args.at c.loop-due.at
+      way = value_begun (held_grammar c.args.input.settings) c.args.input.settings.max_depth c.args.depth c.loop-due.is_object c.loop-due.open c.loop-due.due c.loop-due.entered c.args.input.bytes.now c.args.at c.loop-due.at
           c.loop-due.invariant.way c.loop-due.invariant.within c.loop-due.invariant.shallow step.0 some c.in-ToValue.start step.1;
-      opens = opens_to_value c.args.input.bytes.now c.args.at c.loop-due.open c.loop-due.at c.in-ToValue.start c.loop-due.invariant.opens (is_skipped_in rfc_8259) _ c.loop-due.entered step.1;
-      come = comes_to_value rfc_8259 c.args.depth c.loop-due.is_object c.loop-due.open c.loop-due.due c.loop-due.entered c.args.input.bytes.now c.args.at c.loop-due.at
+      opens = opens_to_value c.args.input.bytes.now c.args.at c.loop-due.open c.loop-due.at c.in-ToValue.start c.loop-due.invariant.opens (is_skipped_in (held_grammar c.args.input.settings)) _ c.loop-due.entered step.1;
+      come = comes_to_value (held_grammar c.args.input.settings) c.args.depth c.loop-due.is_object c.loop-due.open c.loop-due.due c.loop-due.entered c.args.input.bytes.now c.args.at c.loop-due.at
           c.loop-due.invariant.come step.0 some c.in-ToValue.start step.1;
     }
 
@@ -112,10 +113,10 @@ loop-due-preserved c =
       within = step.1.0.1;
       room = c.loop-due.invariant.room;
       shallow = omega (arith, c.loop-due.invariant.shallow);
-      way = container_closed rfc_8259 c.args.input.settings.max_depth c.args.depth c.loop-due.is_object c.loop-due.open c.loop-due.due c.loop-due.entered c.args.input.bytes.now c.args.at c.loop-due.at
+      way = container_closed (held_grammar c.args.input.settings) c.args.input.settings.max_depth c.args.depth c.loop-due.is_object c.loop-due.open c.loop-due.due c.loop-due.entered c.args.input.bytes.now c.args.at c.loop-due.at
           c.loop-due.invariant.way c.loop-due.invariant.within c.loop-due.invariant.shallow step.0 some c.in-OutOfContainer.end step.1;
-      opens = opens_out_of_container c.args.input.bytes.now c.args.at c.loop-due.open c.loop-due.at c.in-OutOfContainer.end c.loop-due.invariant.opens rfc_8259 _ _ some step.1;
-      come = comes_out_of_container rfc_8259 c.args.depth c.loop-due.is_object c.loop-due.open c.loop-due.due c.loop-due.entered c.args.input.bytes.now c.args.at c.loop-due.at
+      opens = opens_out_of_container c.args.input.bytes.now c.args.at c.loop-due.open c.loop-due.at c.in-OutOfContainer.end c.loop-due.invariant.opens (held_grammar c.args.input.settings) _ _ some step.1;
+      come = comes_out_of_container (held_grammar c.args.input.settings) c.args.depth c.loop-due.is_object c.loop-due.open c.loop-due.due c.loop-due.entered c.args.input.bytes.now c.args.at c.loop-due.at
           c.loop-due.invariant.come step.0 some c.in-OutOfContainer.end step.1;
     }
 
@@ -125,7 +126,7 @@ returns-in_default-clause-refused c =
       | then-due w ↦ absurd (at_odds w.if-due.true is)
       | else-due+then-open-gt0 w ↦ w.if-open-gt0.true
     ] in
-    no_next_step rfc_8259 c.args.input.settings.max_depth c.args.depth c.loop-due.is_object c.loop-due.open c.loop-due.due c.loop-due.entered c.args.input.bytes.now c.args.at c.loop-due.at
+    no_next_step (held_grammar c.args.input.settings) c.args.input.settings.max_depth c.args.depth c.loop-due.is_object c.loop-due.open c.loop-due.due c.loop-due.entered c.args.input.bytes.now c.args.at c.loop-due.at
     c.loop-due.invariant.way c.loop-due.invariant.within c.loop-due.invariant.shallow some (rw c.in_default.is at c.next_step.ensures) c.args.input.settings.max_depth
 
 pub returns-in_default-clause-none_without_limits : goal.returns-in_default-clause-none_without_limits
@@ -134,5 +135,5 @@ returns-in_default-clause-none_without_limits c = λ invalid.
       | then-due w ↦ absurd (at_odds w.if-due.true is)
       | else-due+then-open-gt0 w ↦ w.if-open-gt0.true
     ] in
-    no_next_step rfc_8259 c.args.input.settings.max_depth c.args.depth c.loop-due.is_object c.loop-due.open c.loop-due.due c.loop-due.entered c.args.input.bytes.now c.args.at c.loop-due.at
+    no_next_step (held_grammar c.args.input.settings) c.args.input.settings.max_depth c.args.depth c.loop-due.is_object c.loop-due.open c.loop-due.due c.loop-due.entered c.args.input.bytes.now c.args.at c.loop-due.at
     c.loop-due.invariant.way c.loop-due.invariant.within c.loop-due.invariant.shallow some (rw c.in_default.is at c.next_step.ensures)

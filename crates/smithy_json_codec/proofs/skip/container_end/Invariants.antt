@@ -1,5 +1,6 @@
 use Rattle.std.proofs.Common.{◌≡◌, ◌+◌, ◌-◌, ◌*◌, ◌≤◌, length, cond}
-use Rattle.smithy_json_codec.specs.LexicalGrammar.{rfc_8259, is_skipped_in}
+use Rattle.smithy_json_codec.specs.LexicalGrammar.{is_skipped_in}
+use Rattle.smithy_json_codec.specs.Codec.{held_grammar}
 use Rattle.smithy_json_codec.proofs.OpenContainers.{IsOnTheWay, stack_of}
 use Rattle.smithy_json_codec.proofs.OpenersLemmas.{OpensInAll}
 use Rattle.smithy_json_codec.proofs.DeepestLemmas.{HasCome}
@@ -13,9 +14,9 @@ invariant-loop-due l = record {
   within : l.at ≤ length l.input.bytes.now;
   room : length l.is_object ≡ 512;
   shallow : l.depth + l.open ≤ l.input.settings.max_depth;
-  way : IsOnTheWay rfc_8259 l.input.settings.max_depth l.depth (stack_of l.is_object l.open) l.due l.entered l.input.bytes.now l.fn.at l.at;
+  way : IsOnTheWay (held_grammar l.input.settings) l.input.settings.max_depth l.depth (stack_of l.is_object l.open) l.due l.entered l.input.bytes.now l.fn.at l.at;
   opens : OpensInAll l.input.bytes.now l.fn.at l.open l.at;
-  come : HasCome rfc_8259 (is_skipped_in rfc_8259) (stack_of l.is_object l.open) l.due l.entered l.input.bytes.now l.fn.at l.at;
+  come : HasCome (held_grammar l.input.settings) (is_skipped_in (held_grammar l.input.settings)) (stack_of l.is_object l.open) l.due l.entered l.input.bytes.now l.fn.at l.at;
 }
 
 -- each step goes ahead, but that to the first element of a list, where a value is due then

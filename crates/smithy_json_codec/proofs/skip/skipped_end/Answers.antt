@@ -1,6 +1,7 @@
 use Rattle.std.proofs.Common.{◌<◌, ◌≤◌, length}
 use Rattle.std.proofs.lemmas.Result.{IfOk-weaker}
-use Rattle.smithy_json_codec.specs.LexicalGrammar.{rfc_8259, is_skipped_in}
+use Rattle.smithy_json_codec.specs.LexicalGrammar.{is_skipped_in}
+use Rattle.smithy_json_codec.specs.Codec.{held_grammar}
 use Rattle.smithy_json_codec.specs.Private.Skipping.{SkipsTo}
 use Rattle.smithy_json_codec.proofs.SkipSteps.{scalar_ahead, scalar_skips, skips_ahead}
 use Rattle.smithy_json_codec.proofs.skip.skipped_end.Goals as goal
@@ -8,15 +9,15 @@ use Rattle.smithy_json_codec.proofs.skip.skipped_end.Goals as goal
 pub returns-in-Some-Scalar-clause-ok : goal.returns-in-Some-Scalar-clause-ok
 returns-in-Some-Scalar-clause-ok c =
     let scalar = rw c.in-Some-Scalar.field-0-is at c.in-Some-Scalar.ensures in
-    scalar_skips rfc_8259 c.args.input.settings.max_depth c.args.depth c.args.input.bytes.now c.args.at c.in-Some-Scalar.end scalar c.requires.shallow
+    scalar_skips (held_grammar c.args.input.settings) c.args.input.settings.max_depth c.args.depth c.args.input.bytes.now c.args.at c.in-Some-Scalar.end scalar c.requires.shallow
 
 pub returns-in-Some-Scalar-clause-ahead : goal.returns-in-Some-Scalar-clause-ahead
 returns-in-Some-Scalar-clause-ahead c =
     let scalar = rw c.in-Some-Scalar.field-0-is at c.in-Some-Scalar.ensures in
-    scalar_ahead rfc_8259 (is_skipped_in rfc_8259) c.args.input.bytes.now c.args.at c.in-Some-Scalar.end scalar
+    scalar_ahead (held_grammar c.args.input.settings) (is_skipped_in (held_grammar c.args.input.settings)) c.args.input.bytes.now c.args.at c.in-Some-Scalar.end scalar
 
 pub returns-in-Some-Container-clause-ahead : goal.returns-in-Some-Container-clause-ahead
 returns-in-Some-Container-clause-ahead c =
-    IfOk-weaker c.container_end.result (λ e. SkipsTo rfc_8259 c.args.input.settings.max_depth c.args.depth c.args.input.bytes.now c.args.at e)
+    IfOk-weaker c.container_end.result (λ e. SkipsTo (held_grammar c.args.input.settings) c.args.input.settings.max_depth c.args.depth c.args.input.bytes.now c.args.at e)
     (λ e. (c.args.at < e) × (e ≤ length c.args.input.bytes.now))
-    (λ e h. skips_ahead rfc_8259 c.args.input.settings.max_depth c.args.depth c.args.input.bytes.now c.args.at e h) c.container_end.ensures.ok
+    (λ e h. skips_ahead (held_grammar c.args.input.settings) c.args.input.settings.max_depth c.args.depth c.args.input.bytes.now c.args.at e h) c.container_end.ensures.ok

@@ -1,4 +1,5 @@
 use Rattle.std.proofs.Common.{◌∙◌}
+use Rattle.smithy_json_codec.specs.Codec.{held_grammar}
 use Rattle.smithy_json_codec.proofs.TextLemmas.{no_blob_lies}
 use Rattle.smithy_json_codec.proofs.texts.blob_at.Goals as goal
 
@@ -7,4 +8,4 @@ returns-in_default c = λ blob e h. c.in_default.ensures.none h.raw e h.lies
 
 pub returns-in_default-2 : goal.returns-in_default-2
 returns-in_default-2 c =
-    no_blob_lies c.args.input.now c.args.at c.in-Some.string.text.now _ c.in-Some.ensures.found (c.in_ok-blob.ensures ∙ c.in_default-2.is)
+    no_blob_lies (held_grammar c.args.settings.now) c.args.input.now c.args.at c.in-Some.string.text.now _ c.in-Some.ensures.found (c.in_ok-blob.ensures ∙ c.in_default-2.is)

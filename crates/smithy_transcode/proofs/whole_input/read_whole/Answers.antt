@@ -21,12 +21,12 @@ returns-in-Json-clause-refused g c =
 pub returns-in-Json-clause-none_without_limits : goal.returns-in-Json-clause-none_without_limits
 returns-in-Json-clause-none_without_limits g c =
     let begins = json_begins (wire_of c.args.from.now) c.in-Json.use_json_name (reading_settings_of c.create_deserializer-source.result) (cursor_of c.create_deserializer-source.result) c.schema-schema.result c.args.shapes.now c.args.root.0 c.args.input.now (ap wire_of c.in-Json.is) (ap (λ (s : CodecSettings). s.json) (c.create_deserializer-source.ensures.settings ∙ c.strict-codec.ensures)) c.create_deserializer-source.ensures.fresh c.schema-schema.ensures.site c.requires.root in
-    λ invalid. unread_spells_nothing_without_limits begins (c.read_tree.ensures.reads.none_without_limits tt invalid)
+    λ invalid. unread_spells_nothing_without_limits begins (c.read_tree.ensures.reads.none_without_limits (ap (λ (s : CodecSettings). s.json.enforce_strictness) (c.create_deserializer-source.ensures.settings ∙ c.strict-codec.ensures)) invalid)
 
 pub returns-in-Json-clause-deep : goal.returns-in-Json-clause-deep
 returns-in-Json-clause-deep g c =
     let begins = json_begins (wire_of c.args.from.now) c.in-Json.use_json_name (reading_settings_of c.create_deserializer-source.result) (cursor_of c.create_deserializer-source.result) c.schema-schema.result c.args.shapes.now c.args.root.0 c.args.input.now (ap wire_of c.in-Json.is) (ap (λ (s : CodecSettings). s.json) (c.create_deserializer-source.ensures.settings ∙ c.strict-codec.ensures)) c.create_deserializer-source.ensures.fresh c.schema-schema.ensures.site c.requires.root in
-    is_too_deep begins c.read_tree.result (cursor_of c.read_tree.new.source) c.read_tree.ensures.reads.refused c.read_tree.ensures.reads.input (c.read_tree.ensures.reads.counted tt) c.read_tree.ensures.reads.deep c.read_tree.ensures.reads.nested
+    is_too_deep begins c.read_tree.result (cursor_of c.read_tree.new.source) c.read_tree.ensures.reads.refused c.read_tree.ensures.reads.input (c.read_tree.ensures.reads.counted (ap (λ (s : CodecSettings). s.json.enforce_strictness) (c.create_deserializer-source.ensures.settings ∙ c.strict-codec.ensures))) c.read_tree.ensures.reads.deep c.read_tree.ensures.reads.nested
 
 pub returns-in-Cbor-clause-ok : goal.returns-in-Cbor-clause-ok
 returns-in-Cbor-clause-ok g c =

@@ -3,6 +3,7 @@ use Rattle.std.specs.Cow.{cow_str_bytes}
 use Rattle.smithy_shapes.specs.Site.{site_of}
 use Rattle.smithy_json_codec.specs.Cursor.{cursor_of, reading_settings_of}
 use Rattle.smithy_json_codec.specs.Borrowed.{BorrowsText}
+use Rattle.smithy_json_codec.specs.Standing.{json_grammar}
 use Rattle.smithy_json_codec.proofs.DeserializerLemmas.{takes_so}
 use Rattle.smithy_json_codec.proofs.ScalarReads.{reads_text}
 use Rattle.smithy_wire.proofs.ScalarReads.{was_ready, if_told}
@@ -26,4 +27,4 @@ returns-clause-borrowed c =
     let taken = rw same at c.take_found-answer.ensures.taken in
     let old = cursor_of c.args.self.now in
     rw c.told.ensures
-    (if_told _ c.take_found-answer.result _ (takes_so (BorrowsText old.input old.at) old _ c.text_piece_at-found.result c.take_found-answer.result found.borrowed taken))
+    (if_told _ c.take_found-answer.result _ (takes_so (BorrowsText (json_grammar (reading_settings_of c.args.self.now)) old.input old.at) old _ c.text_piece_at-found.result c.take_found-answer.result found.borrowed taken))

@@ -7,11 +7,10 @@ use Rattle.smithy_shapes.specs.Site.{site_of}
 use Rattle.smithy_schema.specs.Reading.{depth, CannotGoOn, MatchStep, passed_to}
 use Rattle.smithy_json_codec.specs.Cursor.{cursor_of, reading_settings_of}
 use Rattle.smithy_json_codec.specs.Settings.{without_limits}
-use Rattle.smithy_json_codec.specs.Standing.{json_relations}
+use Rattle.smithy_json_codec.specs.Standing.{json_grammar, json_relations}
 use Rattle.smithy_json_codec.proofs.DeserializerLemmas.{error_of, skip_invalid, skip_deep, skips_not, skips_never, skips_same, skips_here}
 use Rattle.smithy_json_codec.proofs.MemberStepLemmas.{stays_undue, reaches_behind, too_deep_behind}
 use Rattle.smithy_json_codec.specs.Deepest.{OpensTooDeep}
-use Rattle.smithy_json_codec.specs.LexicalGrammar.{rfc_8259}
 use Rattle.smithy_json_codec.proofs.SkipStepOpeners.{reader_reaches}
 use Rattle.smithy_json_codec.proofs.deserializer.JsonDeserializerShapeDeserializer.next_member.Goals as goal
 
@@ -66,7 +65,7 @@ pub returns-in-Err-clause-too_deep : goal.returns-in-Err-clause-too_deep
 returns-in-Err-clause-too_deep c = λ deep. (
   c.args.self.now.walk.position,
   omega arith,
-  subst (λ n. OpensTooDeep rfc_8259 c.args.self.now.settings.max_depth n c.args.self.now.walk.input.now c.args.self.now.walk.position) c.depth.ensures
+  subst (λ n. OpensTooDeep (json_grammar (reading_settings_of c.args.self.now)) c.args.self.now.settings.max_depth n c.args.self.now.walk.input.now c.args.self.now.walk.position) c.depth.ensures
       (rw c.input.ensures at (c.in-Err.ensures.too_deep (ap Err (skip_deep c.in-Err.fault (sym (c.refuse-in-Err.ensures.error ∙ c.refusal.ensures) ∙ error_of c.refuse-in-Err.result TooDeep deep))))),
 )
 
@@ -80,13 +79,13 @@ returns-then-not-self-clause-too_deep c = λ deep. c.step_from.ensures.too_deep 
 
 pub returns-in-Ok-clause-deep : goal.returns-in-Ok-clause-deep
 returns-in-Ok-clause-deep c = λ deep.
-    reaches_behind c.args.self.now.walk.input.now c.args.self.now.settings.max_depth c.depth.result c.args.self.now.walk.position c.in-Ok.end (rw c.input.ensures at c.in-Ok.ensures.ok)
+    reaches_behind (json_grammar (reading_settings_of c.args.self.now)) c.args.self.now.walk.input.now c.args.self.now.settings.max_depth c.depth.result c.args.self.now.walk.position c.in-Ok.end (rw c.input.ensures at c.in-Ok.ensures.ok)
     c.args.self.now.settings.max_depth (depth (cursor_of c.args.self.now)) (c.step_from-in-Ok.ensures.deep deep)
 
 pub returns-in-Ok-clause-too_deep : goal.returns-in-Ok-clause-too_deep
 returns-in-Ok-clause-too_deep c = λ deep.
-    too_deep_behind c.args.self.now.walk.input.now c.args.self.now.settings.max_depth c.depth.result c.args.self.now.walk.position c.in-Ok.end (rw c.input.ensures at c.in-Ok.ensures.ok)
-    (OpensTooDeep rfc_8259 c.args.self.now.settings.max_depth (depth (cursor_of c.args.self.now)) c.args.self.now.walk.input.now) (c.step_from-in-Ok.ensures.too_deep deep)
+    too_deep_behind (json_grammar (reading_settings_of c.args.self.now)) c.args.self.now.walk.input.now c.args.self.now.settings.max_depth c.depth.result c.args.self.now.walk.position c.in-Ok.end (rw c.input.ensures at c.in-Ok.ensures.ok)
+    (OpensTooDeep (json_grammar (reading_settings_of c.args.self.now)) c.args.self.now.settings.max_depth (depth (cursor_of c.args.self.now)) c.args.self.now.walk.input.now) (c.step_from-in-Ok.ensures.too_deep deep)
 
 pub skipped_end-requires-clause-shallow : goal.skipped_end-requires-clause-shallow
 skipped_end-requires-clause-shallow c = grind (arith, common_steps)

@@ -1,4 +1,4 @@
-use Rattle.std.proofs.Common.{◌≡◌, true, false, sym, ◌∙◌, subst, rules, arith}
+use Rattle.std.proofs.Common.{◌≡◌, length, true, false, refl, sym, ◌∙◌, subst, rules, arith}
 use Rattle.std.proofs.lemmas.Grind.{common_steps}
 use Rattle.smithy_json_codec.specs.Cursor.{cursor_of, reading_settings_of}
 use Rattle.smithy_json_codec.specs.Settings.{without_limits}
@@ -6,16 +6,17 @@ use Rattle.smithy_json_codec.proofs.TypeLemmas.{members_told}
 use Rattle.smithy_wire.proofs.ScalarReads.{was_ready}
 use Rattle.smithy_schema.specs.Reading.{TellsType}
 use Rattle.smithy_json_codec.proofs.ReaderLemmas.{opens_members, opens_no_members}
-use Rattle.smithy_json_codec.proofs.DeserializerLemmas.{empty_opens, not_empty}
+use Rattle.smithy_json_codec.proofs.DeserializerLemmas.{over_opens, over_enters, not_over}
 use Rattle.smithy_json_codec.specs.Standing.{fresh_mark}
 use Rattle.smithy_schema.specs.Reading.{depth}
 use Rattle.smithy_json_codec.proofs.deserializer.JsonDeserializerShapeDeserializer.open_struct.Goals as goal
-use Rattle.smithy_json_codec.proofs.deserializer.JsonDeserializerShapeDeserializer.open_struct.Goals.{else-is_empty-via-then-is_empty+else-is_structure, else-is_empty-via-else-is_empty}
+use Rattle.smithy_json_codec.proofs.deserializer.JsonDeserializerShapeDeserializer.open_struct.Goals.{else-is_over-via-then-is_over+else-is_structure, else-is_over-via-else-is_over}
 
 pub returns-then-is_structure-clause-deep : goal.returns-then-is_structure-clause-deep
 returns-then-is_structure-clause-deep c =
-    λ deep none. empty_opens (reading_settings_of c.args.self.now) (cursor_of c.args.self.now) c.args.schema.now.shapes.now c.args.schema.now.place
-    (c.is_structure.ensures.0 c.if-is_structure.true) (search rules) (search rules) none
+    let same : c.ready.new.self ≡ c.args.self.now.walk = c.in_ok-ready.ensures.ok in
+    λ deep none. over_opens (reading_settings_of c.args.self.now) (cursor_of c.args.self.now) c.args.schema.now.shapes.now c.args.schema.now.place (length c.args.self.now.walk.input.now)
+    (c.is_structure.ensures.0 c.if-is_structure.true) ((rw same at c.is_over.ensures).0 c.if-is_over.true) none
 
 pub returns-in-Some-clause-deep : goal.returns-in-Some-clause-deep
 returns-in-Some-clause-deep c =
@@ -27,31 +28,36 @@ pub returns-in-None-clause-refused : goal.returns-in-None-clause-refused
 returns-in-None-clause-refused c =
     let same : c.ready.new.self ≡ c.args.self.now.walk = c.in_ok-ready.ensures.ok in
     λ fault due allows. opens_no_members (reading_settings_of c.args.self.now) c.args.self.now.walk.input.now c.args.schema.now.shapes.now c.args.schema.now.place c.requires.place (depth (cursor_of c.args.self.now)) c.args.self.now.walk.position (rw same at c.in-None.ensures.none)
-    (λ structure empty. elim c.else-is_empty.branch [
-      | else-is_empty-via-then-is_empty+else-is_structure w ↦ let clash : true ≡ false = sym (w.is_structure.ensures.1 structure) ∙ w.if-is_structure.false in cc
-      | else-is_empty-via-else-is_empty w ↦ not_empty c.args.self.now.walk.input.now (search rules) empty
+    (λ structure e over. elim c.else-is_over.branch [
+      | else-is_over-via-then-is_over+else-is_structure w ↦ let clash : true ≡ false = sym (w.is_structure.ensures.1 structure) ∙ w.if-is_structure.false in cc
+      | else-is_over-via-else-is_over w ↦ not_over _ c.args.self.now.walk.input.now c.args.self.now.walk.position e c.is_over.result (rw same at c.is_over.ensures) w.if-is_over.false over
     ])
 
 pub returns-in-None-clause-none_without_limits : goal.returns-in-None-clause-none_without_limits
 returns-in-None-clause-none_without_limits c =
     let same : c.ready.new.self ≡ c.args.self.now.walk = c.in_ok-ready.ensures.ok in
     λ strict fault due. opens_no_members (without_limits (reading_settings_of c.args.self.now)) c.args.self.now.walk.input.now c.args.schema.now.shapes.now c.args.schema.now.place c.requires.place (depth (cursor_of c.args.self.now)) c.args.self.now.walk.position (rw same at c.in-None.ensures.none)
-    (λ structure empty. elim c.else-is_empty.branch [
-      | else-is_empty-via-then-is_empty+else-is_structure w ↦ let clash : true ≡ false = sym (w.is_structure.ensures.1 structure) ∙ w.if-is_structure.false in cc
-      | else-is_empty-via-else-is_empty w ↦ not_empty c.args.self.now.walk.input.now (search rules) empty
+    (λ structure e over. elim c.else-is_over.branch [
+      | else-is_over-via-then-is_over+else-is_structure w ↦ let clash : true ≡ false = sym (w.is_structure.ensures.1 structure) ∙ w.if-is_structure.false in cc
+      | else-is_over-via-else-is_over w ↦ not_over _ c.args.self.now.walk.input.now c.args.self.now.walk.position e c.is_over.result (rw same at c.is_over.ensures) w.if-is_over.false over
     ])
 
 pub returns-in-None-clause-invalid : goal.returns-in-None-clause-invalid
 returns-in-None-clause-invalid c =
     let same : c.ready.new.self ≡ c.args.self.now.walk = c.in_ok-ready.ensures.ok in
     λ fault due. opens_no_members (reading_settings_of c.args.self.now) c.args.self.now.walk.input.now c.args.schema.now.shapes.now c.args.schema.now.place c.requires.place (depth (cursor_of c.args.self.now)) c.args.self.now.walk.position (rw same at c.in-None.ensures.none)
-    (λ structure empty. elim c.else-is_empty.branch [
-      | else-is_empty-via-then-is_empty+else-is_structure w ↦ let clash : true ≡ false = sym (w.is_structure.ensures.1 structure) ∙ w.if-is_structure.false in cc
-      | else-is_empty-via-else-is_empty w ↦ not_empty c.args.self.now.walk.input.now (search rules) empty
+    (λ structure e over. elim c.else-is_over.branch [
+      | else-is_over-via-then-is_over+else-is_structure w ↦ let clash : true ≡ false = sym (w.is_structure.ensures.1 structure) ∙ w.if-is_structure.false in cc
+      | else-is_over-via-else-is_over w ↦ not_over _ c.args.self.now.walk.input.now c.args.self.now.walk.position e c.is_over.result (rw same at c.is_over.ensures) w.if-is_over.false over
     ])
 
 pub returns-then-is_structure-clause-ok : goal.returns-then-is_structure-clause-ok
-returns-then-is_structure-clause-ok c = grind (arith, common_steps)
+returns-then-is_structure-clause-ok c =
+    let same : c.ready.new.self ≡ c.args.self.now.walk = c.in_ok-ready.ensures.ok in
+    let sound : c.args.self.now.walk.failed ≡ false = search rules in
+    let entered = rw same at c.enter.ensures in
+    over_enters (reading_settings_of c.args.self.now) (cursor_of c.args.self.now) _ c.args.schema.now.shapes.now c.args.schema.now.place (length c.args.self.now.walk.input.now) c.args.self.now.walk.max_depth _ c.enter.result
+    (c.is_structure.ensures.0 c.if-is_structure.true) refl ((rw same at c.is_over.ensures).0 c.if-is_over.true) sound c.missing.ensures c.args.self.now.limit entered.ok entered.shallow
 
 pub enter-requires : goal.enter-requires
 enter-requires c = grind (arith, common_steps)

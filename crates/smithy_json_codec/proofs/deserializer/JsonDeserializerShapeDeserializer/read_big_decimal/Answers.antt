@@ -12,7 +12,6 @@ use Rattle.smithy_json_codec.proofs.DeserializerLemmas.{answers_within}
 use Rattle.smithy_json_codec.specs.LexicalGrammar.{grammar_of}
 use Rattle.smithy_json_codec.specs.Standing.{json_grammar}
 use Rattle.smithy_json_codec.proofs.NumberReads.{reads_big, answers_big}
-use Rattle.smithy_json_codec.proofs.StandardSettings.{standard, as_json, wide_as_json}
 use Rattle.smithy_wire.specs.Finding.{MatchFound}
 use Rattle.smithy_wire.proofs.ScalarReads.{was_ready, if_told}
 use Rattle.smithy_json_codec.proofs.deserializer.JsonDeserializerShapeDeserializer.read_big_decimal.Goals as goal
@@ -25,8 +24,8 @@ returns-clause-read c =
     let found = rw same at c.big_decimal_at-found.ensures in
     let taken = rw same at c.take_within-answer.ensures.taken in
     rw (rw same at c.told.ensures)
-    (as_json c.args.self.now.settings (reads_big (grammar_of (reading_settings_of c.args.self.now)) (reading_settings_of c.args.self.now) (cursor_of c.args.self.now) (site_of c.args._schema.now) was.0 was.1 within refl scalars.BigDecimal (λ x. refl)
-    (λ n. decimal (mantissa n) (net_exponent n)) _ c.big_decimal_at-found.result c.take_within-answer.result found.found taken))
+    (reads_big (grammar_of (reading_settings_of c.args.self.now)) (reading_settings_of c.args.self.now) (cursor_of c.args.self.now) (site_of c.args._schema.now) was.0 was.1 within refl scalars.BigDecimal (λ x. refl)
+    (λ n. decimal (mantissa n) (net_exponent n)) _ c.big_decimal_at-found.result c.take_within-answer.result found.found taken)
 
 pub returns-clause-wide : goal.returns-clause-wide
 returns-clause-wide c =
@@ -36,8 +35,8 @@ returns-clause-wide c =
     let found = rw same at c.big_decimal_at-found.ensures in
     let taken = rw same at c.take_within-answer.ensures.taken in
     rw (rw same at c.told.ensures)
-    (wide_as_json c.args.self.now.settings (cursor_of c.args.self.now) (site_of c.args._schema.now) scalars.BigDecimal _ (answers_big (grammar_of (reading_settings_of c.args.self.now)) (reading_settings_of c.args.self.now) (cursor_of c.args.self.now) (site_of c.args._schema.now) was.0 was.1 within refl scalars.BigDecimal (λ x. refl)
-    (λ n. decimal (mantissa n) (net_exponent n)) _ c.big_decimal_at-found.result c.take_within-answer.result found.found taken))
+    (answers_big (grammar_of (reading_settings_of c.args.self.now)) (reading_settings_of c.args.self.now) (cursor_of c.args.self.now) (site_of c.args._schema.now) was.0 was.1 within refl scalars.BigDecimal (λ x. refl)
+    (λ n. decimal (mantissa n) (net_exponent n)) _ c.big_decimal_at-found.result c.take_within-answer.result found.found taken)
 
 pub returns-clause-text : goal.returns-clause-text
 returns-clause-text c =
@@ -46,7 +45,7 @@ returns-clause-text c =
     let taken = rw same at c.take_within-answer.ensures.taken in
     let old = cursor_of c.args.self.now in
     rw c.told.ensures
-    (if_told _ c.take_within-answer.result _ (answers_within (NumberTextLies (json_grammar (reading_settings_of c.args.self.now)) scalars.BigDecimal old.input old.at) old _ TooWide c.big_decimal_at-found.result c.take_within-answer.result (subst (λ g. IfOk c.big_decimal_at-found.result (λ f. MatchFound f (λ r. NumberTextLies g scalars.BigDecimal old.input old.at r.0 r.1) (Unit {0}) (Unit {0}))) (standard c.args.self.now.settings) found.text) taken))
+    (if_told _ c.take_within-answer.result _ (answers_within (NumberTextLies (json_grammar (reading_settings_of c.args.self.now)) scalars.BigDecimal old.input old.at) old _ TooWide c.big_decimal_at-found.result c.take_within-answer.result found.text taken))
 
 pub returns-clause-fits : goal.returns-clause-fits
 returns-clause-fits c =

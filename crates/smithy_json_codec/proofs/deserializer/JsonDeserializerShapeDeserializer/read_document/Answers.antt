@@ -4,7 +4,7 @@ use Rattle.smithy_schema.specs.declared.error.SerdeError.TheVariants.{TooDeep, N
 use Rattle.smithy_shapes.specs.Site.{site_of}
 use Rattle.smithy_types.specs.DocumentView.{document_view}
 use Rattle.smithy_json_codec.specs.Cursor.{cursor_of, reading_settings_of}
-use Rattle.smithy_json_codec.specs.LexicalGrammar.{rfc_8259}
+use Rattle.smithy_json_codec.specs.Standing.{json_grammar}
 use Rattle.smithy_json_codec.proofs.DeserializerLemmas.{error_of}
 use Rattle.smithy_json_codec.proofs.DocumentReads.{document_within, reads_document, refuses_document, too_deep_found, other_found, refused_means_nothing}
 use Rattle.smithy_wire.proofs.ScalarReads.{was_ready}
@@ -17,7 +17,7 @@ returns-in-Ok-clause-read c =
     let within : c.args.self.now.walk.position ≤ length c.args.self.now.walk.input.now = search rules in
     let opens = rw same at c.depth.ensures in
     let found = rw (c.input.ensures, same, opens) at c.in-Ok.ensures.ok in
-    reads_document rfc_8259 (reading_settings_of c.args.self.now) refl (cursor_of c.args.self.now) (site_of c.args._schema.now) was.0 was.1 within _
+    reads_document (json_grammar (reading_settings_of c.args.self.now)) (reading_settings_of c.args.self.now) refl (cursor_of c.args.self.now) (site_of c.args._schema.now) was.0 was.1 within _
     c.in-Ok.document c.in-Ok.end found (rw same at c.pass.ensures.passed)
 
 pub returns-in-Ok-clause-meaning : goal.returns-in-Ok-clause-meaning
@@ -36,7 +36,7 @@ returns-in-Err-clause-read c =
     let opens = rw same at c.depth.ensures in
     let found = rw (c.input.ensures, same, opens) at c.in-Err.ensures.refused in
     rw (c.refuse.ensures.error ∙ c.refusal.ensures)
-    (refuses_document rfc_8259 (reading_settings_of c.args.self.now) refl (cursor_of c.args.self.now) (site_of c.args._schema.now) was.0 was.1 within _
+    (refuses_document (json_grammar (reading_settings_of c.args.self.now)) (reading_settings_of c.args.self.now) refl (cursor_of c.args.self.now) (site_of c.args._schema.now) was.0 was.1 within _
     (rw same at c.refuse.ensures.stays) c.in-Err.fault found)
 
 pub returns-in-Err-clause-too_deep : goal.returns-in-Err-clause-too_deep
@@ -44,7 +44,7 @@ returns-in-Err-clause-too_deep c = λ deep.
     let same : c.ready.new.self ≡ c.args.self.now.walk = c.in_ok-ready.ensures.ok in
     let opens = rw same at c.depth.ensures in
     let found = rw (c.input.ensures, same, opens) at c.in-Err.ensures.refused in
-    too_deep_found rfc_8259 (reading_settings_of c.args.self.now) _ c.args.self.now.walk.input.now c.args.self.now.walk.position c.in-Err.fault found
+    too_deep_found (json_grammar (reading_settings_of c.args.self.now)) (reading_settings_of c.args.self.now) _ c.args.self.now.walk.input.now c.args.self.now.walk.position c.in-Err.fault found
     (sym (c.refuse.ensures.error ∙ c.refusal.ensures) ∙ error_of c.refuse.result TooDeep deep)
 
 pub returns-in-Err-clause-other_number : goal.returns-in-Err-clause-other_number
@@ -52,7 +52,7 @@ returns-in-Err-clause-other_number c = λ other.
     let same : c.ready.new.self ≡ c.args.self.now.walk = c.in_ok-ready.ensures.ok in
     let opens = rw same at c.depth.ensures in
     let found = rw (c.input.ensures, same, opens) at c.in-Err.ensures.refused in
-    other_found rfc_8259 (reading_settings_of c.args.self.now) _ c.args.self.now.walk.input.now c.args.self.now.walk.position c.in-Err.fault found
+    other_found (json_grammar (reading_settings_of c.args.self.now)) (reading_settings_of c.args.self.now) _ c.args.self.now.walk.input.now c.args.self.now.walk.position c.in-Err.fault found
     (sym (c.refuse.ensures.error ∙ c.refusal.ensures) ∙ error_of c.refuse.result NotCarried other)
 
 pub returns-in-Err-clause-no_meaning : goal.returns-in-Err-clause-no_meaning
@@ -60,7 +60,7 @@ returns-in-Err-clause-no_meaning c = λ refused due.
     let same : c.ready.new.self ≡ c.args.self.now.walk = c.in_ok-ready.ensures.ok in
     let opens = rw same at c.depth.ensures in
     let found = rw (c.input.ensures, same, opens) at c.in-Err.ensures.refused in
-    refused_means_nothing rfc_8259 (reading_settings_of c.args.self.now) _ c.args.self.now.walk.input.now c.args.self.now.walk.position c.in-Err.fault found
+    refused_means_nothing (json_grammar (reading_settings_of c.args.self.now)) (reading_settings_of c.args.self.now) _ c.args.self.now.walk.input.now c.args.self.now.walk.position c.in-Err.fault found
     (rw (c.refuse.ensures.error ∙ c.refusal.ensures) at refused)
 
 pub standing_document_at-requires-clause-within : goal.standing_document_at-requires-clause-within
@@ -72,4 +72,4 @@ standing_document_at-requires-clause-shallow c = grind (arith, common_steps)
 pub pass-requires : goal.pass-requires
 pass-requires c =
     let found = rw c.input.ensures at c.in-Ok.ensures.ok in
-    document_within rfc_8259 (reading_settings_of c.args.self.now) _ _ _ (document_view c.in-Ok.document) c.in-Ok.end found.0
+    document_within (json_grammar (reading_settings_of c.args.self.now)) (reading_settings_of c.args.self.now) _ _ _ (document_view c.in-Ok.document) c.in-Ok.end found.0

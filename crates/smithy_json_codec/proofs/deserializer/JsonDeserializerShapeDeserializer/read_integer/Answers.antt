@@ -4,7 +4,6 @@ use Rattle.smithy_shapes.specs.Site.{site_of}
 use Rattle.smithy_json_codec.specs.Cursor.{cursor_of, reading_settings_of}
 use Rattle.smithy_json_codec.specs.LexicalGrammar.{grammar_of}
 use Rattle.smithy_json_codec.proofs.NumberReads.{reads_narrow}
-use Rattle.smithy_json_codec.proofs.StandardSettings.{as_json}
 use Rattle.smithy_wire.proofs.ScalarReads.{was_ready, no_memory_told}
 use Rattle.smithy_json_codec.proofs.deserializer.JsonDeserializerShapeDeserializer.read_integer.Goals as goal
 
@@ -18,9 +17,8 @@ returns-clause-read c =
     let take = rw same at c.take-answer.ensures in
     let o = reading_settings_of c.args.self.now in
     rw (rw same at c.told.ensures)
-    (as_json c.args.self.now.settings
     (reads_narrow (grammar_of o) o (cursor_of c.args.self.now) (site_of c.args._schema.now) was.0 was.1 within scalars.Integer 32 (lit≤ tt) (record { says_whole = λ x. refl; test = λ raw. refl }) _ c.integer_at.result c.integer_found-found.result c.take-answer.result
-    wide.found wide.none narrow.some narrow.none take.ok take.some take.none take.err take.error))
+    wide.found wide.none narrow.some narrow.none take.ok take.some take.none take.err take.error)
 
 pub returns-clause-memory : goal.returns-clause-memory
 returns-clause-memory c = rw c.told.ensures (no_memory_told _ c.take-answer.result c.take-answer.ensures.error)

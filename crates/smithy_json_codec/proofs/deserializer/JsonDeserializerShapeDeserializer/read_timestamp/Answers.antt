@@ -4,7 +4,6 @@ use Rattle.smithy_shapes.specs.Site.{site_of}
 use Rattle.smithy_json_codec.specs.Cursor.{cursor_of, reading_settings_of}
 use Rattle.smithy_json_codec.specs.LexicalGrammar.{grammar_of}
 use Rattle.smithy_json_codec.proofs.NumberReads.{reads_instant, answers_instant}
-use Rattle.smithy_json_codec.proofs.StandardSettings.{as_json, uncarried_as_json}
 use Rattle.smithy_wire.proofs.ScalarReads.{was_ready}
 use Rattle.smithy_json_codec.proofs.deserializer.JsonDeserializerShapeDeserializer.read_timestamp.Goals as goal
 
@@ -16,8 +15,8 @@ returns-clause-read c =
     let found = rw (same, c.timestamp_format-time.ensures) at c.instant_at-found.ensures in
     let taken = rw same at c.take_within-answer.ensures.taken in
     rw (rw (same, c.timestamp_format-time.ensures) at c.told.ensures)
-    (as_json c.args.self.now.settings (reads_instant (grammar_of (reading_settings_of c.args.self.now)) (reading_settings_of c.args.self.now) (cursor_of c.args.self.now) (site_of c.args.schema.now) was.0 was.1 within refl
-    _ c.instant_at-found.result c.take_within-answer.result found taken))
+    (reads_instant (grammar_of (reading_settings_of c.args.self.now)) (reading_settings_of c.args.self.now) (cursor_of c.args.self.now) (site_of c.args.schema.now) was.0 was.1 within refl
+    _ c.instant_at-found.result c.take_within-answer.result found taken)
 
 pub returns-clause-uncarried : goal.returns-clause-uncarried
 returns-clause-uncarried c =
@@ -27,5 +26,5 @@ returns-clause-uncarried c =
     let found = rw (same, c.timestamp_format-time.ensures) at c.instant_at-found.ensures in
     let taken = rw same at c.take_within-answer.ensures.taken in
     rw (rw (same, c.timestamp_format-time.ensures) at c.told.ensures)
-    (uncarried_as_json c.args.self.now.settings (cursor_of c.args.self.now) (site_of c.args.schema.now) scalars.Timestamp _ (answers_instant (grammar_of (reading_settings_of c.args.self.now)) (reading_settings_of c.args.self.now) (cursor_of c.args.self.now) (site_of c.args.schema.now) was.0 was.1 within refl
-    _ c.instant_at-found.result c.take_within-answer.result found taken))
+    (answers_instant (grammar_of (reading_settings_of c.args.self.now)) (reading_settings_of c.args.self.now) (cursor_of c.args.self.now) (site_of c.args.schema.now) was.0 was.1 within refl
+    _ c.instant_at-found.result c.take_within-answer.result found taken)

@@ -4,7 +4,7 @@ use Rattle.smithy_schema.specs.declared.error.SerdeError.TheVariants.{TooDeep}
 use Rattle.smithy_json_codec.specs.Cursor.{cursor_of, reading_settings_of}
 use Rattle.smithy_json_codec.proofs.DeserializerLemmas.{error_of, skips_here, skips_not, skips_never, refusal_conducts, skip_reads, skip_narrow, skip_takes_no_memory, skip_invalid, skip_deep}
 use Rattle.smithy_json_codec.specs.Deepest.{OpensTooDeep}
-use Rattle.smithy_json_codec.specs.LexicalGrammar.{rfc_8259}
+use Rattle.smithy_json_codec.specs.Standing.{json_grammar}
 use Rattle.smithy_json_codec.specs.Private.Skipping.{skip_refusal}
 use Rattle.smithy_json_codec.proofs.SkipStepOpeners.{reader_reaches}
 use Rattle.smithy_wire.specs.Walking.{cursor_of as walk_cursor}
@@ -51,7 +51,7 @@ pub returns-in-Err-clause-too_deep : goal.returns-in-Err-clause-too_deep
 returns-in-Err-clause-too_deep c = λ deep.
     let same : c.ready.new.self ≡ c.args.self.now.walk = c.in_ok-ready.ensures.ok in
     let held = rw same at c.depth.ensures in
-    subst (λ n. OpensTooDeep rfc_8259 c.args.self.now.settings.max_depth n c.args.self.now.walk.input.now c.args.self.now.walk.position) held
+    subst (λ n. OpensTooDeep (json_grammar (reading_settings_of c.args.self.now)) c.args.self.now.settings.max_depth n c.args.self.now.walk.input.now c.args.self.now.walk.position) held
     (rw (c.input.ensures, same) at (c.in-Err.ensures.too_deep (ap Err (skip_deep c.in-Err.fault (sym (c.refuse.ensures.error ∙ c.refusal.ensures) ∙ error_of c.refuse.result TooDeep deep)))))
 
 pub skipped_end-requires-clause-shallow : goal.skipped_end-requires-clause-shallow

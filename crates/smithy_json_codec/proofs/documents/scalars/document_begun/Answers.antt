@@ -1,13 +1,14 @@
 use Rattle.std.proofs.Common.{◌+◌, subst}
-use Rattle.smithy_json_codec.specs.LexicalGrammar.{rfc_8259, is_skipped_in}
+use Rattle.smithy_json_codec.specs.Codec.{held_grammar}
+use Rattle.smithy_json_codec.specs.Documents.{is_read_in}
 use Rattle.smithy_json_codec.specs.Standing.{Lies, IsByte}
-use Rattle.smithy_json_codec.proofs.DocumentScalars.{no_value_no_document, begins_before}
+use Rattle.smithy_json_codec.proofs.DocumentScalars.{no_node_no_document, begins_before}
 use Rattle.smithy_json_codec.proofs.FirstBytePlaces.{first_lies}
 use Rattle.smithy_json_codec.proofs.NodeFirstBytes.{nothing_lies}
 use Rattle.smithy_json_codec.proofs.documents.scalars.document_begun.Goals as goal
 
 pub returns-in_default : goal.returns-in_default
-returns-in_default c = no_value_no_document c.args.input.now c.args.at (nothing_lies rfc_8259 (is_skipped_in rfc_8259) c.args.input.now c.args.at c.in_default.ensures.none)
+returns-in_default c = no_node_no_document (held_grammar c.args.settings.now) c.args.input.now c.args.at (nothing_lies (held_grammar c.args.settings.now) (is_read_in (held_grammar c.args.settings.now)) c.args.input.now c.args.at c.in_default.ensures.none)
 
 pub returns-then-first-eq91 : goal.returns-then-first-eq91
 returns-then-first-eq91 c =
@@ -20,4 +21,4 @@ returns-then-first-eq123 c =
     (first_lies c.args.input.now c.args.at c.in-Some.first c.in-Some.start c.in-Some.ensures.found)
 
 pub returns : goal.returns
-returns c = begins_before rfc_8259 c.args.input.now c.args.at c.in-Some.first c.in-Some.start c.in-Some.ensures.found c.scalar_begun.result c.scalar_begun.ensures
+returns c = begins_before (held_grammar c.args.settings.now) c.args.input.now c.args.at c.in-Some.first c.in-Some.start c.in-Some.ensures.found c.scalar_begun.result c.scalar_begun.ensures
