@@ -10,6 +10,7 @@ mod json_settings;
 mod longs;
 mod named;
 mod places;
+mod prefix;
 mod program;
 mod reading;
 mod reads;

@@ -2,6 +2,7 @@
 
 use crate::answers::{push, push_refusal, push_shown, refused};
 use crate::named::write_named;
+use crate::prefix::Mark;
 use crate::settings::cbor_settings;
 use crate::writes::{is_call, write_call};
 use smithy_cbor_codec::CborCodec;
@@ -84,7 +85,11 @@ fn json_written(
 
 fn cbor_written(alloc: Global, shapes: &Shapes, row: &Row) -> Result<Vec<Field>, AllocError> {
     let codec = CborCodec::new(cbor_settings(row));
-    written(alloc, shapes, row, codec.create_serializer(alloc))
+    let serializer = codec.create_serializer(alloc);
+    if row.bytes("prefix").is_some() {
+        return written(alloc, shapes, row, serializer.with_struct_prefix(Mark));
+    }
+    written(alloc, shapes, row, serializer)
 }
 
 fn form_written(alloc: Global, shapes: &Shapes, row: &Row) -> Result<Vec<Field>, AllocError> {

@@ -14,7 +14,7 @@ use Rattle.smithy_cbor_codec.specs.Canonical.{cbor_holds, canonical_cbor}
 use Rattle.smithy_cbor_codec.specs.Meaning.{cbor_meaning}
 use Rattle.smithy_cbor_codec.specs.Settings.{without_limits}
 use Rattle.smithy_cbor_codec.specs.Codec.{strict_settings}
-use Rattle.smithy_cbor_codec.specs.Writing.{fresh_state, cbor_after}
+use Rattle.smithy_cbor_codec.specs.Writing.{fresh_body, body_after}
 use Rattle.smithy_cbor_codec.proofs.OnLiterals.{smithy_cbor_codec_on_literals}
 use Rattle.smithy_cbor_codec.proofs.Examples.{plain_member, named, list_shape, map_shape, a_text, null, undefined, an_array, a_map, alone, both, strict, empty_structure, first_alone, long_place, whole_value, means_at, would_mean_at}
 
@@ -54,7 +54,7 @@ unfolding smithy_cbor_codec_on_literals
 null_elements = (refl, refl, refl, refl)
 
 -- none is written, wherever a value may be, and a key's place comes first
-pub none_is_written : map (λ opens. cbor_after (document_of (member_of (shape_site documents 0) 0) document.null) (record (fresh_state strict_settings) { frames = opens }))
+pub none_is_written : map (λ opens. body_after (document_of (member_of (shape_site documents 0) 0) document.null) (record (fresh_body strict_settings) { frames = opens }))
     ([] ∷ (open_structure ∷ []) ∷ (open_list ∷ []) ∷ (open_map_at_value ∷ []) ∷ (open_map_at_key ∷ []) ∷ [])
     ≡ Err Unsupported ∷ Err Unsupported ∷ Err Unsupported ∷ Err Unsupported ∷ Err Unwritable ∷ []
 none_is_written = refl
@@ -63,8 +63,8 @@ none_is_written = refl
 abbrev with_a_document : Value
 with_a_document = values.structure (member_value 0 (document_value (document.number (pos 1))) (member_value 1 (whole_value (pos 1)) no_member_values))
 
-pub in_a_value : (write cbor_after (shape_site documents 0) with_a_document (fresh_state strict_settings) ≡ Err Unsupported)
+pub in_a_value : (write body_after (shape_site documents 0) with_a_document (fresh_body strict_settings) ≡ Err Unsupported)
     × (scalars_pass cbor_holds (shape_site documents 0) with_a_document ≡ false)
-    × (canonical_cbor (shape_site documents 0) (document_value document.null) ≡ [])
+    × (canonical_cbor false (shape_site documents 0) (document_value document.null) ≡ [])
 unfolding smithy_cbor_codec_on_literals
 in_a_value = (refl, refl, refl)

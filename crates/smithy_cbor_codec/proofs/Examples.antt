@@ -163,4 +163,4 @@ means_within max_depth t root i = cbor_meaning (record { max_depth = max_depth; 
 
 -- the canonical encoding of a value of the declaration
 abbrev pub written : Table → ℕ → Value → List ℕ
-written t root v = canonical_cbor (shape_site t root) v
+written t root v = canonical_cbor false (shape_site t root) v

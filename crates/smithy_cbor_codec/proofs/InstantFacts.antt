@@ -13,7 +13,7 @@ use Rattle.smithy_wire.specs.Rules.{means, no_meaning, uncarried}
 use Rattle.smithy_cbor_codec.specs.Scalar.{says}
 use Rattle.smithy_cbor_codec.specs.Canonical.{scalar_bytes, cbor_holds}
 use Rattle.smithy_cbor_codec.specs.Codec.{strict_settings}
-use Rattle.smithy_cbor_codec.specs.Writing.{fresh_state, cbor_after}
+use Rattle.smithy_cbor_codec.specs.Writing.{fresh_body, body_after}
 use Rattle.smithy_cbor_codec.proofs.OnLiterals.{smithy_cbor_codec_on_literals}
 use Rattle.smithy_cbor_codec.proofs.Examples.{plain_member, named, a_text, alone, first_alone, means_at, would_mean_at}
 
@@ -50,6 +50,6 @@ bytes = refl
 pub held : map (λ n. cbor_holds.scalar None (instant n)) (pos 0 ∷ pos 1_000_000_000 ∷ pos 1 ∷ neg_ℤ (pos 1) ∷ pos 1_500_000_000 ∷ []) ≡ true ∷ true ∷ false ∷ false ∷ false ∷ []
 held = refl
 
-pub no_fractions : (cbor_after (scalar_of (member_of (shape_site timed 0) 0) (instant (pos 1))) (fresh_state strict_settings) ≡ Err Unwritable)
-    × (cbor_after (scalar_of (member_of (shape_site timed 0) 0) (instant (pos 1_000_000_000))) (fresh_state strict_settings) ≡ Ok (record (fresh_state strict_settings) { out = 0xc1 ∷ 0x01 ∷ [] }))
+pub no_fractions : (body_after (scalar_of (member_of (shape_site timed 0) 0) (instant (pos 1))) (fresh_body strict_settings) ≡ Err Unwritable)
+    × (body_after (scalar_of (member_of (shape_site timed 0) 0) (instant (pos 1_000_000_000))) (fresh_body strict_settings) ≡ Ok (record (fresh_body strict_settings) { out = 0xc1 ∷ 0x01 ∷ [] }))
 no_fractions = (refl, refl)

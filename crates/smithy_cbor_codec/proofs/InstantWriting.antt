@@ -7,17 +7,17 @@ use Rattle.smithy_shapes.specs.Site.{Site}
 use Rattle.smithy_shapes.specs.Value.{instant}
 use Rattle.smithy_schema.specs.Writing.{scalar_of, after_value}
 use Rattle.smithy_instants.specs.Instant.{subsecond_of}
-use Rattle.smithy_cbor_codec.specs.Writing.{CborState, made, where_taken, where_writable, cbor_after}
+use Rattle.smithy_cbor_codec.specs.Writing.{BodyState, made, where_taken, where_writable, body_after}
 
-module _ (s : CborState) (site : Site) (n : ℤ) where
-  abbrev taken_as : Result CborState SerdeError
+module _ (s : BodyState) (site : Site) (n : ℤ) where
+  abbrev taken_as : Result BodyState SerdeError
   taken_as = where_taken (made (scalar_of site (instant n)) s) (after_value s.frames)
 
   -- whole seconds are written
-  pub instant_written : (r : Result CborState SerdeError) → (subsecond_of n == 0) ≡ true → where_taken (made (scalar_of site (instant n)) s) (after_value s.frames) ≡ r
-      → cbor_after (scalar_of site (instant n)) s ≡ r
+  pub instant_written : (r : Result BodyState SerdeError) → (subsecond_of n == 0) ≡ true → where_taken (made (scalar_of site (instant n)) s) (after_value s.frames) ≡ r
+      → body_after (scalar_of site (instant n)) s ≡ r
   instant_written r whole taken = ap (λ b. where_writable b taken_as) whole ∙ taken
 
   -- and a fraction of a second is refused
-  pub instant_refused : (subsecond_of n == 0) ≡ false → cbor_after (scalar_of site (instant n)) s ≡ Err Unwritable
+  pub instant_refused : (subsecond_of n == 0) ≡ false → body_after (scalar_of site (instant n)) s ≡ Err Unwritable
   instant_refused broken = ap (λ b. where_writable b taken_as) broken

@@ -29,5 +29,6 @@ pub mod NumberWriting
 pub mod InstantPlaces
 pub mod InstantWriting
 pub mod LengthWriting
+pub mod PrefixLemmas
 pub mod DocumentReads
 pub mod WideSlices

@@ -11,7 +11,7 @@ use Rattle.smithy_cbor_codec.specs.Openers.{cbor_openers}
 use Rattle.smithy_cbor_codec.specs.Codec.{strict_settings}
 use Rattle.smithy_cbor_codec.specs.Settings.{Settings}
 use Rattle.smithy_cbor_codec.specs.declared.lengths.Length.TheVariants.{Unwritten}
-use Rattle.smithy_cbor_codec.specs.Writing.{CborState, fresh_state, cbor_after}
+use Rattle.smithy_cbor_codec.specs.Writing.{BodyState, fresh_body, body_after}
 use Rattle.smithy_cbor_codec.proofs.Examples.{whole_value, text_value, one_long, long_renamed, one_string, three_members, map_of_longs, two_variants, lists_of_lists, lists_of_strings, nodes, long_place, plain_member, in_lists, empty_structure, first_alone, written}
 
 -- ---- canonical encodings
@@ -70,53 +70,53 @@ deepest_lists = refl
 
 -- ---- the calls of a serializer
 
-abbrev made : List ℕ → List Open → Result CborState SerdeError
+abbrev made : List ℕ → List Open → Result BodyState SerdeError
 made out frames = Ok (record { settings = strict_settings; out = out; frames = frames; lengths = map (λ _. Unwritten) frames })
 
 -- what writes a value adds its canonical encoding
-pub written_in_turn : (write cbor_after (shape_site nodes 1) two_nodes (fresh_state strict_settings) ≡ made two_nodes_bytes [])
-    × (write cbor_after (shape_site (lists_of_strings true) 0) x_and_null (fresh_state strict_settings) ≡ made (0x9f ∷ 0x61 ∷ 0x78 ∷ 0xf6 ∷ 0xff ∷ []) [])
+pub written_in_turn : (write body_after (shape_site nodes 1) two_nodes (fresh_body strict_settings) ≡ made two_nodes_bytes [])
+    × (write body_after (shape_site (lists_of_strings true) 0) x_and_null (fresh_body strict_settings) ≡ made (0x9f ∷ 0x61 ∷ 0x78 ∷ 0xf6 ∷ 0xff ∷ []) [])
 written_in_turn = (refl, refl)
 
 -- the member "a", inside these containers, with nothing before it
 abbrev a_site : Site
 a_site = site_of_member one_long 0 (plain_member (codes "a") long_place)
 
-abbrev inside : List Open → CborState
+abbrev inside : List Open → BodyState
 inside frames = record { settings = strict_settings; out = []; frames = frames; lengths = map (λ _. Unwritten) frames }
 
 -- a key stands in a structure alone, and not under a nameless schema
-pub keys : (cbor_after (scalar_of a_site (whole (pos 1))) (inside (open_structure ∷ [])) ≡ made (0x61 ∷ 0x61 ∷ 0x01 ∷ []) (open_structure ∷ []))
-    × (cbor_after (scalar_of a_site (whole (pos 1))) (inside (open_list ∷ open_structure ∷ [])) ≡ made (0x01 ∷ []) (open_list ∷ open_structure ∷ []))
-    × (cbor_after (scalar_of a_site (whole (pos 1))) (inside []) ≡ made (0x01 ∷ []) [])
-    × (cbor_after (scalar_of (nameless_site a_site) (whole (pos 1))) (inside (open_structure ∷ [])) ≡ made (0x01 ∷ []) (open_structure ∷ []))
+pub keys : (body_after (scalar_of a_site (whole (pos 1))) (inside (open_structure ∷ [])) ≡ made (0x61 ∷ 0x61 ∷ 0x01 ∷ []) (open_structure ∷ []))
+    × (body_after (scalar_of a_site (whole (pos 1))) (inside (open_list ∷ open_structure ∷ [])) ≡ made (0x01 ∷ []) (open_list ∷ open_structure ∷ []))
+    × (body_after (scalar_of a_site (whole (pos 1))) (inside []) ≡ made (0x01 ∷ []) [])
+    × (body_after (scalar_of (nameless_site a_site) (whole (pos 1))) (inside (open_structure ∷ [])) ≡ made (0x01 ∷ []) (open_structure ∷ []))
 keys = (refl, refl, refl, refl)
 
 -- so it is with nulls and with what begins a container, whose length isn't written
-pub keys_of_others : (cbor_after (null_of a_site) (inside (open_structure ∷ [])) ≡ made (0x61 ∷ 0x61 ∷ 0xf6 ∷ []) (open_structure ∷ []))
-    × (cbor_after (begin_structure a_site) (inside (open_structure ∷ [])) ≡ made (0x61 ∷ 0x61 ∷ 0xbf ∷ []) (open_structure ∷ open_structure ∷ []))
-    × (cbor_after (begin_list a_site (Some 2)) (inside (open_structure ∷ [])) ≡ made (0x61 ∷ 0x61 ∷ 0x9f ∷ []) (open_list ∷ open_structure ∷ []))
-    × (cbor_after (begin_list a_site None) (inside []) ≡ made (0x9f ∷ []) (open_list ∷ []))
+pub keys_of_others : (body_after (null_of a_site) (inside (open_structure ∷ [])) ≡ made (0x61 ∷ 0x61 ∷ 0xf6 ∷ []) (open_structure ∷ []))
+    × (body_after (begin_structure a_site) (inside (open_structure ∷ [])) ≡ made (0x61 ∷ 0x61 ∷ 0xbf ∷ []) (open_structure ∷ open_structure ∷ []))
+    × (body_after (begin_list a_site (Some 2)) (inside (open_structure ∷ [])) ≡ made (0x61 ∷ 0x61 ∷ 0x9f ∷ []) (open_list ∷ open_structure ∷ []))
+    × (body_after (begin_list a_site None) (inside []) ≡ made (0x9f ∷ []) (open_list ∷ []))
 keys_of_others = (refl, refl, refl, refl)
 
 -- an end is that of the innermost container
-pub ends : (cbor_after end_structure (inside (open_structure ∷ open_list ∷ [])) ≡ made (0xff ∷ []) (open_list ∷ []))
-    × (cbor_after end_list (inside (open_list ∷ open_structure ∷ [])) ≡ made (0xff ∷ []) (open_structure ∷ []))
-    × (cbor_after end_structure (inside (open_list ∷ open_structure ∷ [])) ≡ Err Unwritable)
-    × (cbor_after end_list (inside (open_structure ∷ open_list ∷ [])) ≡ Err Unwritable)
-    × (cbor_after end_structure (inside []) ≡ Err Unwritable)
-    × (cbor_after end_list (inside []) ≡ Err Unwritable)
+pub ends : (body_after end_structure (inside (open_structure ∷ open_list ∷ [])) ≡ made (0xff ∷ []) (open_list ∷ []))
+    × (body_after end_list (inside (open_list ∷ open_structure ∷ [])) ≡ made (0xff ∷ []) (open_structure ∷ []))
+    × (body_after end_structure (inside (open_list ∷ open_structure ∷ [])) ≡ Err Unwritable)
+    × (body_after end_list (inside (open_structure ∷ open_list ∷ [])) ≡ Err Unwritable)
+    × (body_after end_structure (inside []) ≡ Err Unwritable)
+    × (body_after end_list (inside []) ≡ Err Unwritable)
 ends = (refl, refl, refl, refl, refl, refl)
 
 -- in a map a key and its value come in turn, and no name of a member; an inner container is a value, too
-pub in_a_map : (cbor_after (scalar_of a_site (text (codes "k"))) (inside (open_map_at_key ∷ [])) ≡ made (0x61 ∷ 0x6b ∷ []) (open_map_at_value ∷ []))
-    × (cbor_after (scalar_of a_site (text (codes "v"))) (inside (open_map_at_value ∷ [])) ≡ made (0x61 ∷ 0x76 ∷ []) (open_map_at_key ∷ []))
-    × (cbor_after (begin_map a_site (Some 2)) (inside (open_map_at_value ∷ [])) ≡ made (0xbf ∷ []) (open_map_at_key ∷ open_map_at_key ∷ []))
-    × (cbor_after end_map (inside (open_map_at_key ∷ [])) ≡ made (0xff ∷ []) [])
-    × (cbor_after end_map (inside (open_map_at_value ∷ [])) ≡ Err Unwritable)
-    × (cbor_after (scalar_of a_site (whole (pos 1))) (inside (open_map_at_key ∷ [])) ≡ Err Unwritable)
-    × (cbor_after (begin_structure a_site) (inside (open_map_at_key ∷ [])) ≡ Err Unwritable)
-    × (cbor_after end_structure (inside (open_map_at_key ∷ [])) ≡ Err Unwritable)
+pub in_a_map : (body_after (scalar_of a_site (text (codes "k"))) (inside (open_map_at_key ∷ [])) ≡ made (0x61 ∷ 0x6b ∷ []) (open_map_at_value ∷ []))
+    × (body_after (scalar_of a_site (text (codes "v"))) (inside (open_map_at_value ∷ [])) ≡ made (0x61 ∷ 0x76 ∷ []) (open_map_at_key ∷ []))
+    × (body_after (begin_map a_site (Some 2)) (inside (open_map_at_value ∷ [])) ≡ made (0xbf ∷ []) (open_map_at_key ∷ open_map_at_key ∷ []))
+    × (body_after end_map (inside (open_map_at_key ∷ [])) ≡ made (0xff ∷ []) [])
+    × (body_after end_map (inside (open_map_at_value ∷ [])) ≡ Err Unwritable)
+    × (body_after (scalar_of a_site (whole (pos 1))) (inside (open_map_at_key ∷ [])) ≡ Err Unwritable)
+    × (body_after (begin_structure a_site) (inside (open_map_at_key ∷ [])) ≡ Err Unwritable)
+    × (body_after end_structure (inside (open_map_at_key ∷ [])) ≡ Err Unwritable)
 in_a_map = (refl, refl, refl, refl, refl, refl, refl, refl)
 
 -- ---- definite lengths
@@ -125,22 +125,22 @@ abbrev definite : Settings
 definite = record strict_settings { use_definite_lengths = true }
 
 -- what the calls of a body write, where it is written whole
-abbrev whole_body : List ℕ → Result CborState SerdeError
+abbrev whole_body : List ℕ → Result BodyState SerdeError
 whole_body out = Ok (record { settings = definite; out = out; frames = []; lengths = [] })
 
 -- ["x", null], {"a": 1, "b": null} and {_ "i": ["x", null]}: lists and maps are written with their lengths, and structures are not
-pub with_lengths : (write cbor_after (shape_site (lists_of_strings true) 0) x_and_null (fresh_state definite) ≡ whole_body (0x82 ∷ 0x61 ∷ 0x78 ∷ 0xf6 ∷ []))
-    × (write cbor_after (shape_site (map_of_longs true) 0) (values.map (map_entry (codes "a") (whole_value (pos 1)) (map_entry (codes "b") null_element no_map_entries))) (fresh_state definite)
+pub with_lengths : (write body_after (shape_site (lists_of_strings true) 0) x_and_null (fresh_body definite) ≡ whole_body (0x82 ∷ 0x61 ∷ 0x78 ∷ 0xf6 ∷ []))
+    × (write body_after (shape_site (map_of_longs true) 0) (values.map (map_entry (codes "a") (whole_value (pos 1)) (map_entry (codes "b") null_element no_map_entries))) (fresh_body definite)
     ≡ whole_body (0xa2 ∷ 0x61 ∷ 0x61 ∷ 0x01 ∷ 0x61 ∷ 0x62 ∷ 0xf6 ∷ []))
-    × (write cbor_after (shape_site (lists_of_strings true) 1) (first_alone x_and_null) (fresh_state definite) ≡ whole_body (0xbf ∷ 0x61 ∷ 0x69 ∷ 0x82 ∷ 0x61 ∷ 0x78 ∷ 0xf6 ∷ 0xff ∷ []))
+    × (write body_after (shape_site (lists_of_strings true) 1) (first_alone x_and_null) (fresh_body definite) ≡ whole_body (0xbf ∷ 0x61 ∷ 0x69 ∷ 0x82 ∷ 0x61 ∷ 0x78 ∷ 0xf6 ∷ 0xff ∷ []))
 with_lengths = (refl, refl, refl)
 
 -- a list that is begun with no length has a break, and one with another number of elements can't be ended
-pub other_lengths : (run cbor_after (begin_list a_site None ∷ null_of a_site ∷ end_list ∷ []) (fresh_state definite) ≡ whole_body (0x9f ∷ 0xf6 ∷ 0xff ∷ []))
-    × (run cbor_after (begin_list a_site (Some 2) ∷ null_of a_site ∷ end_list ∷ []) (fresh_state definite) ≡ Err Unwritable)
-    × (run cbor_after (begin_list a_site (Some 0) ∷ null_of a_site ∷ end_list ∷ []) (fresh_state definite) ≡ Err Unwritable)
-    × (run cbor_after (begin_map a_site (Some 1) ∷ end_map ∷ []) (fresh_state definite) ≡ Err Unwritable)
-    × (run cbor_after (begin_list a_site (Some 2) ∷ null_of a_site ∷ end_list ∷ []) (fresh_state strict_settings) ≡ Ok (record { settings = strict_settings; out = 0x9f ∷ 0xf6 ∷ 0xff ∷ []; frames = []; lengths = [] }))
+pub other_lengths : (run body_after (begin_list a_site None ∷ null_of a_site ∷ end_list ∷ []) (fresh_body definite) ≡ whole_body (0x9f ∷ 0xf6 ∷ 0xff ∷ []))
+    × (run body_after (begin_list a_site (Some 2) ∷ null_of a_site ∷ end_list ∷ []) (fresh_body definite) ≡ Err Unwritable)
+    × (run body_after (begin_list a_site (Some 0) ∷ null_of a_site ∷ end_list ∷ []) (fresh_body definite) ≡ Err Unwritable)
+    × (run body_after (begin_map a_site (Some 1) ∷ end_map ∷ []) (fresh_body definite) ≡ Err Unwritable)
+    × (run body_after (begin_list a_site (Some 2) ∷ null_of a_site ∷ end_list ∷ []) (fresh_body strict_settings) ≡ Ok (record { settings = strict_settings; out = 0x9f ∷ 0xf6 ∷ 0xff ∷ []; frames = []; lengths = [] }))
 other_lengths = (refl, refl, refl, refl, refl)
 
 -- ---- openers

@@ -1,19 +1,24 @@
--- The bytes that CBOR writes for nodes, and that they lie as it frames them: shortest heads, and containers of
--- indefinite length.
-use Rattle.std.specs.Prelude.{◌≡◌, ◌≤◌, ◌<◌, ◌-◌, ◌^◌, ℕ, zero, suc, length, drop, List, [], ◌∷◌, ◌++◌, false, true, Option, Some, None, refl}
-use Rattle.std.proofs.Common.{sym, ap, arith, subst, inl, inr, length-drop}
-use Rattle.cbor_item.specs.Head.{shortest_head, MayBeIndefinite, BeginsWithHead}
+-- Where lies what is written for a node, and which nodes can be written: shortest heads, and containers with or without their
+-- lengths.
+use Rattle.std.specs.Prelude.{◌≡◌, ◌≤◌, ◌<◌, ◌-◌, ◌/◌, ◌^◌, ℕ, suc, length, drop, List, [], ◌∷◌, ◌++◌, Bool, false, true, Option, Some, None, refl}
+use Rattle.std.proofs.Common.{sym, ap, arith, subst, inl, inr}
+use Rattle.std.proofs.lemmas.Bool.Decides.{nat_tests}
+use Rattle.cbor_item.specs.Head.{shortest_head, MayBeIndefinite, HeadRead, BeginsWithHead}
 use Rattle.cbor_item.specs.Item.{Item, definite, unsigned, negative, byte_string, text_string, array, tag, simple, no_items, item}
 use Rattle.cbor_item.specs.WellFormed.{IsEncodingOf, IsItemAt, break}
-use Rattle.cbor_item.proofs.HeadLemmas.{opening_begins as head_begins}
-use Rattle.smithy_cbor_codec.specs.Meaning.{node_of}
+use Rattle.cbor_item.proofs.HeadLemmas.{head_is_only, head_is_some, front_begins_low, opening_begins as indefinite_begins}
+use Rattle.smithy_schema.specs.Reading.{Mark}
 use Rattle.smithy_cbor.specs.Reading.{OpensAt}
-use Rattle.smithy_cbor_codec.specs.Standing.{begins_with, null_byte, mark_with, HasEntry, Follows as Follows_at, major_in, Entry, cbor_frames}
 use Rattle.smithy_cbor.specs.Written.{text_bytes, byte_string_bytes, opening_bytes}
+use Rattle.smithy_cbor.proofs.ReadBackLemmas.{shortest_is_head}
+use Rattle.smithy_cbor_codec.specs.Lengths.{told_length, head_of, ending_of}
+use Rattle.smithy_cbor_codec.specs.Meaning.{node_of}
+use Rattle.smithy_cbor_codec.specs.Standing.{begins_with, null_byte, mark_with, HasEntry, IsOver, Follows, major_in, cbor_frames}
 use Rattle.smithy_cbor_codec.specs.Private.ItemPlaces.{item_at, item_ahead}
 use Rattle.smithy_cbor_codec.specs.Private.FirstBytes.{no_break_at}
-use Rattle.smithy_wire.specs.Node.{Form, as_array, as_object, leaf}
-use Rattle.smithy_wire.specs.Writes.{Writes, IsKeyOf, Stand, Follows, WritesFrames}
+use Rattle.smithy_wire.specs.Node.{Form, as_array, as_object, Node, null_node, leaf, container, Nodes, node}
+use Rattle.smithy_wire.specs.Frames.{Lies, NodesLie}
+use Rattle.smithy_wire.specs.Writes.{Writes, IsWritable, Stand}
 
 -- ---- bytes
 
@@ -44,6 +49,9 @@ key_bytes (Some k) = item_bytes k
 abbrev pub IsEncoded : Item → Type 0
 IsEncoded x = length (item_bytes x) < 2 ^ 64 → IsEncodingOf x (item_bytes x)
 
+-- ---- what can be written
+
+-- Which scalars and keys can be written, for the laws of all wires. The bytes are those without the lengths of lists and maps.
 abbrev pub cbor_writes : Writes Item
 cbor_writes = record {
   null_bytes = null_byte ∷ [];
@@ -59,63 +67,104 @@ cbor_writes = record {
   MayFollow = λ r. Unit {0};
 }
 
--- ---- where they lie
+-- ---- where a node lies
+
+-- From a to e lies what was written for a node. It takes a byte at least, and doesn't begin with a break.
+pub record LiesWritten (i : List ℕ) (depth : ℕ) (x : Node Item) (a e : ℕ) : Type 0 where
+  pub lies : Lies (cbor_frames true) i depth x a e
+  pub unbroken : begins_with break (drop a i) ≡ false
+  pub ahead : a < e
 
 -- an item lies where its bytes stand
 stand_item : (x : Item) (i : List ℕ) (a e : ℕ) → IsEncoded x → length i < 2 ^ 64 → Stand (item_bytes x) i a e → IsItemAt x i a e
 stand_item x i a e is small (front, end, within) =
     item_at x (item_bytes x) i a e (omega (arith, end)) within front (is (omega (arith, small, end, within)))
 
-follows_at : (d : ℕ) (i : List ℕ) (e : ℕ) → e ≤ length i → Follows cbor_writes d (drop e i) → Follows_at d i e
-follows_at zero i e within h = omega (arith, within, length-drop e i, ap length h)
-follows_at (suc d) i e within h = tt
+pub null_lies : (depth : ℕ) (i : List ℕ) (a e : ℕ) → Stand (null_byte ∷ []) i a e → Follows depth i e → LiesWritten i depth null_node a e
+null_lies depth i a e (front, end, within) follows =
+    record { lies = (rw front refl, omega (arith, end), follows); unbroken = rw front refl; ahead = omega (arith, end) }
 
-null_lies : (d : ℕ) (i : List ℕ) (a e : ℕ) → Stand (null_byte ∷ []) i a e → Follows cbor_writes d (drop e i) → (cbor_frames true).null i d a e
-null_lies d i a e (front, end, within) follows = (rw front refl, omega (arith, end), follows_at d i e within follows)
+pub leaf_lies : (x : Item) (depth : ℕ) (i : List ℕ) (a e : ℕ) → IsWritable cbor_writes (leaf x) → length i < 2 ^ 64 → Stand (item_bytes x) i a e → Follows depth i e
+    → LiesWritten i depth (leaf x) a e
+leaf_lies x depth i a e can small stand follows =
+    let at = stand_item x i a e can.1 small stand in
+    record { lies = (can.0, at, follows); unbroken = no_break_at x i a e at; ahead = item_ahead x i a e at }
+
+-- ---- heads of containers
 
 may_be : (f : Form) → MayBeIndefinite (major_in f)
 may_be as_array = inl (omega arith, omega arith)
 may_be as_object = inl (omega arith, omega arith)
 
-opens_lie : (f : Form) (i : List ℕ) (a b : ℕ) → Stand (opening_bytes (major_in f)) i a b → OpensAt (major_in f) None i a b
-opens_lie f i a b (front, end, within) =
-    let size : 1 ≡ b - a = omega (arith, end) in
-    let begins = subst (λ (s : List ℕ). BeginsWithHead s (record { major = major_in f; argument = None; length = 1 })) (sym front)
-    (head_begins (major_in f) (drop b i) (may_be f)) in
-    (omega (arith, end), subst (λ (k : ℕ). BeginsWithHead (drop a i) (record { major = major_in f; argument = None; length = k })) size begins)
+low : (f : Form) → major_in f < 6
+low as_array = omega arith
+low as_object = omega arith
 
-has_entry : (i : List ℕ) (b : ℕ) → (begins_with break (drop b i) ≡ false) × (0 < length (drop b i)) → HasEntry i b (mark_with None) (mark_with None)
-has_entry i b (unbroken, some) = inr (refl, omega (arith, some, length-drop b i), unbroken, refl)
+-- a head can say the length
+abbrev pub CanSay : Option ℕ → Type 0
+CanSay None = Unit {0}
+CanSay (Some n) = n < 2 ^ 64
 
--- an item begins as a value may
-item_begins : (x : Item) (i : List ℕ) (a e : ℕ) → IsItemAt x i a e → (begins_with break (drop a i) ≡ false) × (0 < length (drop a i))
-item_begins x i a e at = (no_break_at x i a e at, omega (arith, item_ahead x i a e at, at.0, length-drop a i))
+pub can_say : (told : Bool) (n : ℕ) → n < 2 ^ 64 → CanSay (told_length told n)
+can_say true n h = h
+can_say false n h = tt
 
-entry_lies : (f : Form) (key : Option Item) (i : List ℕ) (b c : ℕ) → IsKeyOf cbor_writes f key → length i < 2 ^ 64 → Stand (key_bytes key) i b c
-    → (begins_with break (drop c i) ≡ false) × (0 < length (drop c i)) → Entry f i b (mark_with None) key c (mark_with None)
-entry_lies as_array None i b c is small stand begin =
-    let same : c ≡ b = omega (arith, stand.1) in
-    (refl, same, subst (λ z. HasEntry i z (mark_with None) (mark_with None)) same (has_entry i c begin))
-entry_lies as_array (Some k) i b c is small stand begin = absurd is
-entry_lies as_object None i b c is small stand begin = absurd is
-entry_lies as_object (Some k) i b c is small stand begin =
-    let at = stand_item k i b c is small stand in (has_entry i b (item_begins k i b c at), (k, at, refl))
+head_begins : (f : Form) (count : Option ℕ) (rest : List ℕ) → CanSay count
+    → BeginsWithHead (head_of (major_in f) count ++ rest) (record { major = major_in f; argument = count; length = length (head_of (major_in f) count) })
+head_begins f None rest can = indefinite_begins (major_in f) rest (may_be f)
+head_begins f (Some n) rest can =
+    front_begins_low (major_in f) n (shortest_head (major_in f) n) rest (omega (arith, low f)) (shortest_is_head (major_in f) n can)
 
-opening_begins : (f : Form) (i : List ℕ) (a b : ℕ) → Stand (opening_bytes (major_in f)) i a b → (begins_with break (drop a i) ≡ false) × (0 < length (drop a i))
-opening_begins as_array i a b (front, end, within) = (rw front refl, omega (arith, end, within, length-drop a i))
-opening_begins as_object i a b (front, end, within) = (rw front refl, omega (arith, end, within, length-drop a i))
+opens_lie : (f : Form) (count : Option ℕ) (i : List ℕ) (a b : ℕ) → CanSay count → Stand (head_of (major_in f) count) i a b → OpensAt (major_in f) count i a b
+opens_lie f count i a b can (front, end, within) =
+    let head = head_of (major_in f) count in
+    let begins = subst (λ s. BeginsWithHead s (record { major = major_in f; argument = count; length = length head })) (sym front) (head_begins f count (drop b i) can) in
+    let some : 0 < length head = head_is_some (drop a i) _ begins in
+    let size : length head ≡ b - a = omega (arith, end) in
+    (omega (arith, end, some), subst (λ k. BeginsWithHead (drop a i) (record { major = major_in f; argument = count; length = k })) size begins)
 
-pub cbor_writes_frames : WritesFrames cbor_writes (cbor_frames true)
-cbor_writes_frames = record {
-  null_lies = λ i d a e stand follows. null_lies d i a e stand follows;
-  scalar_lies = λ i d x a e is small stand follows. (is.0, stand_item x i a e is.1 small stand, follows_at d i e stand.2 follows);
-  opens_lie = λ f i a b stand. (None, refl, opens_lie f i a b stand);
-  entry_lies = λ f is_first key i b c is small stand begin. entry_lies f key i b c is small stand begin;
-  ends_lie = λ f is_first i b e stand. inr (refl, rw stand.0 refl, omega (arith, stand.1));
-  follows_lie = λ i d e within follows. follows_at d i e within follows;
-  null_begins = λ i a e stand. (rw stand.0 refl, omega (arith, stand.1, stand.2, length-drop a i));
-  scalar_begins = λ i x a e is small stand. item_begins x i a e (stand_item x i a e is.1 small stand);
-  opening_begins = opening_begins;
-  entry_follows = λ f key r. tt;
-  ending_follows = λ f r. tt;
-}
+unbroken_head : (s : List ℕ) (h : HeadRead) → BeginsWithHead s h → h.major < 7 → begins_with break s ≡ false
+unbroken_head [] h begins is_low = refl
+unbroken_head (b ∷ rest) h begins is_low =
+    let major : h.major ≡ b / 32 = ap (λ (k : HeadRead). k.major) (head_is_only b rest h begins) in grind (arith, nat_tests)
+
+-- a container lies where its head stands and its nodes lie behind it
+pub container_lies : (f : Form) (count : Option ℕ) (xs : Nodes Item) (depth : ℕ) (i : List ℕ) (a b e : ℕ) → CanSay count → Stand (head_of (major_in f) count) i a b
+    → NodesLie (cbor_frames true) f i (suc depth) xs b (mark_with count) e → b ≤ e → Follows depth i e → LiesWritten i depth (container f xs) a e
+container_lies f count xs depth i a b e can stand inside up follows =
+    let opens = opens_lie f count i a b can stand in record {
+      lies = (b, mark_with count, (count, refl, opens), inside, follows);
+      unbroken = unbroken_head (drop a i) _ opens.1 (omega (arith, low f));
+      ahead = omega (arith, opens.0, up);
+    }
+
+-- ---- entries
+
+-- what is left of a list or a map of which so many elements or entries are still to come
+abbrev pub left_mark : Bool → ℕ → Mark
+left_mark told n = mark_with (told_length told n)
+
+has_entry : (told : Bool) (n : ℕ) (i : List ℕ) (b : ℕ) → b < length i → begins_with break (drop b i) ≡ false → HasEntry i b (left_mark told (suc n)) (left_mark told n)
+has_entry true n i b some unbroken = inl (n, refl, refl)
+has_entry false n i b some unbroken = inr (refl, some, unbroken, refl)
+
+-- an element, and what lies behind it
+pub element_lies : (told : Bool) (n : ℕ) (x : Node Item) (xs : Nodes Item) (depth : ℕ) (i : List ℕ) (b c e : ℕ) → c ≤ length i → LiesWritten i depth x b c
+    → NodesLie (cbor_frames true) as_array i depth xs c (left_mark told n) e
+    → NodesLie (cbor_frames true) as_array i depth (node None x xs) b (left_mark told (suc n)) e
+element_lies told n x xs depth i b c e within one more =
+    (b, left_mark told n, c, (refl, refl, has_entry told n i b (omega (arith, one.ahead, within)) one.unbroken), one.lies, more)
+
+-- an entry with its key, and what lies behind it
+pub entry_lies : (told : Bool) (n : ℕ) (key : Item) (x : Node Item) (xs : Nodes Item) (depth : ℕ) (i : List ℕ) (b a c e : ℕ) → IsEncoded key → length i < 2 ^ 64
+    → Stand (item_bytes key) i b a → LiesWritten i depth x a c → NodesLie (cbor_frames true) as_object i depth xs c (left_mark told n) e
+    → NodesLie (cbor_frames true) as_object i depth (node (Some key) x xs) b (left_mark told (suc n)) e
+entry_lies told n key x xs depth i b a c e is small stand one more =
+    let at = stand_item key i b a is small stand in
+    let entry = has_entry told n i b (omega (arith, item_ahead key i b a at, at.0)) (no_break_at key i b a at) in
+    (a, left_mark told n, c, (entry, (key, at, refl)), one.lies, more)
+
+-- the end of a container of which nothing is to come
+pub ends_lie : (told : Bool) (total : ℕ) (i : List ℕ) (b e : ℕ) → Stand (ending_of (told_length told total)) i b e → IsOver i b (left_mark told 0) e
+ends_lie true total i b e (front, end, within) = inl (refl, omega (arith, end))
+ends_lie false total i b e (front, end, within) = inr (refl, rw front refl, omega (arith, end))

@@ -1,5 +1,5 @@
 -- The lengths with which containers are written (RFC 8949, sections 3.1 and 3.2.2).
-use Rattle.std.specs.Prelude.{ℕ, ◌-◌, ◌==◌, List, [], ◌∷◌, Bool, true, false, Option, Some, None, if◌then◌else◌}
+use Rattle.std.specs.Prelude.{ℕ, ◌-◌, ◌==◌, List, [], ◌∷◌, ◌++◌, Bool, true, false, Option, Some, None, if◌then◌else◌}
 use Rattle.smithy_schema.specs.Writing.{Open, open_map_at_key}
 use Rattle.cbor_item.specs.Head.{shortest_head}
 use Rattle.cbor_item.specs.WellFormed.{break}
@@ -12,10 +12,23 @@ use Rattle.smithy_cbor_codec.specs.declared.lengths.Length.TheVariants.{Unwritte
 abbrev pub written_length : Settings → Option ℕ → Option ℕ
 written_length c length = if c.use_definite_lengths then length else None
 
+-- the length that is told of a list or a map of so many elements or entries
+abbrev pub told_length : Bool → ℕ → Option ℕ
+told_length definite_lengths n = if definite_lengths then Some n else None
+
+-- what ends a container of this length
+abbrev pub ending_of : Option ℕ → List ℕ
+ending_of None = break ∷ []
+ending_of (Some n) = []
+
 -- the head of a container of this major type
 abbrev pub head_of : ℕ → Option ℕ → List ℕ
 head_of major None = opening_bytes major
 head_of major (Some n) = shortest_head major n
+
+-- a container: its head, what is inside, and a break where its length doesn't stand in the head
+abbrev pub container_bytes : ℕ → Option ℕ → List ℕ → List ℕ
+container_bytes major length inside = head_of major length ++ (inside ++ ending_of length)
 
 -- what is known of the length of a container that begins
 abbrev pub begun : Option ℕ → Length

@@ -15,7 +15,7 @@ use Rattle.smithy_cbor_codec.specs.Lengths.{written_length, head_of, begun, coun
 use Rattle.smithy_cbor_codec.specs.Settings.{Settings}
 use Rattle.smithy_cbor_codec.specs.declared.lengths.Length.{Length}
 
-pub record CborState : Type 0 where
+pub record BodyState : Type 0 where
   pub settings : Settings
   -- the bytes so far
   pub out : List ℕ
@@ -24,8 +24,8 @@ pub record CborState : Type 0 where
   pub lengths : List Length
 
 -- nothing is written yet
-abbrev pub fresh_state : Settings → CborState
-fresh_state settings = record { settings = settings; out = []; frames = []; lengths = [] }
+abbrev pub fresh_body : Settings → BodyState
+fresh_body settings = record { settings = settings; out = []; frames = []; lengths = [] }
 
 -- the name of a member stands in a structure or a union alone
 abbrev pub key_in : List Open → List ℕ → List ℕ
@@ -33,25 +33,25 @@ key_in (open_structure ∷ frames) key = key
 key_in _ key = []
 
 -- what stands before a value
-abbrev pub lead : CborState → View → List ℕ
+abbrev pub lead : BodyState → View → List ℕ
 lead s view = key_in s.frames (key_bytes view)
 
 -- the encoding of a value that is no container, or the head of one; of a map's key, too, which has no lead
-abbrev pub wrote : CborState → View → List ℕ → List Open → CborState
+abbrev pub wrote : BodyState → View → List ℕ → List Open → BodyState
 wrote s view bytes frames =
     record s { out = s.out ++ (lead s view ++ bytes); frames = frames; lengths = counted_in s.frames s.lengths }
 
 -- the head of a container, which is open from there on
-abbrev pub opened : CborState → View → ℕ → Option ℕ → List Open → CborState
+abbrev pub opened : BodyState → View → ℕ → Option ℕ → List Open → BodyState
 opened s view major length frames =
     record s { out = s.out ++ (lead s view ++ head_of major length); frames = frames; lengths = begun length ∷ counted_in s.frames s.lengths }
 
 -- the end of a container
-abbrev pub closed : CborState → List Open → CborState
+abbrev pub closed : BodyState → List Open → BodyState
 closed s frames = record s { out = s.out ++ ending s.lengths; frames = frames; lengths = outer s.lengths }
 
 -- What a call makes of the state, with the containers that are open behind it. Structures and unions have no written length.
-abbrev pub made : Event → CborState → List Open → CborState
+abbrev pub made : Event → BodyState → List Open → BodyState
 made (begin_structure site) s frames = opened s site.view 5 None frames
 made end_structure s frames = closed s frames
 made (begin_list site length) s frames = opened s site.view 4 (written_length s.settings length) frames
@@ -66,12 +66,12 @@ made (big_decimal_of site written) s frames =
 made (document_of site d) s frames = record s { frames = frames }
 
 -- the state that is made of the open containers, unless the call is refused
-abbrev pub where_taken : (List Open → CborState) → Result (List Open) SerdeError → Result CborState SerdeError
+abbrev pub where_taken : (List Open → BodyState) → Result (List Open) SerdeError → Result BodyState SerdeError
 where_taken make (Ok frames) = Ok (make frames)
 where_taken make (Err e) = Err e
 
 -- an instant has to be one of whole seconds, and a container whose length is written one of so many elements or entries
-abbrev pub is_writable : Event → CborState → Bool
+abbrev pub is_writable : Event → BodyState → Bool
 is_writable (scalar_of site x) s = cbor_holds.scalar site.place.time x
 is_writable end_structure s = may_end s.lengths
 is_writable end_list s = may_end s.lengths
@@ -86,7 +86,7 @@ is_in_width (big_decimal_of site written) = fits_signed 128 (mantissa written)
 is_in_width _ = true
 
 -- what is made, unless it is too wide
-abbrev pub where_in_width : Bool → Result CborState SerdeError → Result CborState SerdeError
+abbrev pub where_in_width : Bool → Result BodyState SerdeError → Result BodyState SerdeError
 where_in_width true made_of = made_of
 where_in_width false (Ok s) = Err TooWide
 where_in_width false (Err e) = Err e
@@ -97,18 +97,18 @@ is_supported (document_of site d) = cbor_holds.documents
 is_supported _ = true
 
 -- what is made, unless CBOR has no such call
-abbrev pub where_supported : Bool → Result CborState SerdeError → Result CborState SerdeError
+abbrev pub where_supported : Bool → Result BodyState SerdeError → Result BodyState SerdeError
 where_supported true made_of = made_of
 where_supported false (Ok s) = Err Unsupported
 where_supported false (Err e) = Err e
 
 -- what is made, unless CBOR can't write it
-abbrev pub where_writable : Bool → Result CborState SerdeError → Result CborState SerdeError
+abbrev pub where_writable : Bool → Result BodyState SerdeError → Result BodyState SerdeError
 where_writable can made_of = if can then made_of else Err Unwritable
 
 -- A call is refused where no serializer takes it, its instant isn't one of whole seconds or the container that it ends has
 -- another length than was written, and then where its number is too wide or where it is that of a document.
-abbrev pub cbor_after : Writer CborState
-cbor_after e s =
+abbrev pub body_after : Writer BodyState
+body_after e s =
     where_supported (is_supported e)
     (where_in_width (is_in_width e) (where_writable (is_writable e s) (where_taken (made e s) (open_after e s.frames))))

@@ -1,5 +1,6 @@
 //! The maker of readers and serializers.
 use crate::deserializer::CborDeserializer;
+use crate::prefix::NoPrefix;
 use crate::serializer::CborSerializer;
 use crate::settings::CborCodecSettings;
 use std::alloc::Global;
@@ -15,7 +16,7 @@ impl CborCodec {
     ghost use Rattle.smithy_cbor_codec.specs.Codec.{settings_of, held_settings, strict_settings};
     ghost use Rattle.smithy_cbor_codec.specs.Cursor.{cursor_of, reading_settings_of};
     ghost use Rattle.smithy_cbor_codec.specs.Serializing.{state_of, has_failed};
-    ghost use Rattle.smithy_cbor_codec.specs.Writing.{fresh_state};
+    ghost use Rattle.smithy_cbor_codec.specs.Prefixes.{fresh_state};
     ghost use Rattle.smithy_wire.specs.Walking.{fresh_cursor};
 
     /// A codec of these settings.
@@ -33,7 +34,7 @@ impl CborCodec {
     }
 
     /// A serializer that has written nothing yet. It takes no memory.
-    pub fn create_serializer(&self, alloc: Global) -> CborSerializer
+    pub fn create_serializer(&self, alloc: Global) -> CborSerializer<NoPrefix>
         ensures state { state_of result ≡ fresh_state (settings_of self.now) }
         ensures sound { has_failed result ≡ false }
     {

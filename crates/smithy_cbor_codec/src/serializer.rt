@@ -1,148 +1,67 @@
-//! Writing a body as a schema directs.
-ghost use Rattle.std.specs.Prelude.{◌⊎◌, ◌≡◌, ◌↔◌, ◌++◌, Ok, Err, true, false, OnOk, OnErr, IfErr, IsErr, IsErrOf};
-ghost use Rattle.smithy_schema.specs.declared.error.SerdeError.TheVariants.{Failed, NoMemory, TooWide};
-ghost use Rattle.smithy_cbor.specs.declared.error.EncodeError.TheVariants as encoding;
+//! Writing a body as a schema directs, with a prefix of its structures.
+ghost use Rattle.std.specs.Prelude.{◌≡◌, ◌↔◌, Ok, Err, true, false, OnOk, IfErr, IsErr, IsErrOf};
+ghost use Rattle.smithy_schema.specs.declared.error.SerdeError.TheVariants.{Failed};
 ghost use Rattle.smithy_schema.specs.Reading.{IsFault};
+ghost use Rattle.smithy_schema.specs.Writing.{begin_structure};
 ghost use Rattle.smithy_shapes.specs.Site.{site_of};
-ghost use Rattle.smithy_schema.specs.Writing.{after_value, after_text};
-ghost use Rattle.smithy_cbor.specs.Written.{text_bytes, big_integer_bytes};
-ghost use Rattle.smithy_cbor_codec.specs.Canonical.{key_bytes};
+ghost use Rattle.smithy_cbor_codec.specs.Prefixes.{CborState, fresh_state, cbor_after};
 ghost use Rattle.smithy_cbor_codec.specs.Codec.{held_settings};
-ghost use Rattle.smithy_cbor_codec.specs.Serializing.{state_of, has_failed};
-ghost use Rattle.smithy_cbor_codec.specs.Lengths.{counted_in, may_end};
-ghost use Rattle.smithy_cbor_codec.specs.Writing.{CborState, fresh_state, key_in, lead, closed, where_taken, where_writable, cbor_after};
-ghost use Rattle.smithy_wire.specs.OpenContainers.{after_end};
+ghost use Rattle.smithy_cbor_codec.specs.Serializing.{state_of, body_in, prefix_in, has_failed};
 
-use crate::lengths::{Length, begin_array, begin_map, begun, count_value, is_complete, write_end};
+use crate::body::CborBody;
+use crate::prefix::{NoPrefix, StructPrefix};
 use crate::settings::CborCodecSettings;
-use smithy_cbor::{EncodeError, Encoder};
 use smithy_schema::{FinishSerializer, Schema, SerdeError, ShapeSerializer};
 use smithy_types::{BigDecimal, BigInteger, DateTime, Document};
-use smithy_wire::{Container, OpenContainers};
-use std::alloc::{AllocError, Global};
+use std::alloc::Global;
 
-/// Writes one body: a value in its canonical encoding.
-///
-/// Members and the entries of a map are written by name; containers are of indefinite length, but for lists and maps whose length
-/// is told where the settings say so.
-#[derive(Debug, Drop)]
-pub struct CborSerializer {
-    settings: CborCodecSettings,
-    encoder: Encoder,
-    containers: OpenContainers<Length>,
+/// Writes one body: a value in its canonical encoding, and at the beginning of each structure and union what the prefix adds.
+#[derive(Drop)]
+pub struct CborSerializer<P> {
+    body: CborBody,
+    prefix: P,
 }
 
-// Writes the name of a member; nothing for what has none.
-#[inline(never)]
-fn write_name(encoder: &mut Encoder, schema: &Schema<'_>) -> Result<(), AllocError>
-    ensures { OnOk result (encoder.new ≡ encoder.old ++ key_bytes (site_of schema.now).view) }
-{
-    match schema.member_name() {
-        Some(name) => encoder.str(name),
-        None => Ok(()),
-    }
-}
-
-// Writes a whole number.
-#[tactic(auto, using(crate::proofs::WrittenLeaves::long_is_integer))]
-fn write_whole_number(encoder: &mut Encoder, value: i64) -> Result<(), AllocError>
-    ensures { OnOk result (encoder.new ≡ encoder.old ++ big_integer_bytes value) }
-{
-    encoder.long(value)
-}
-
-// The refusal of a number that isn't written.
-fn refusal_of(error: EncodeError) -> SerdeError
-    ensures wide { result ≡ TooWide → error ≡ encoding.TooWide }
-    ensures kind { (result ≡ TooWide) ⊎ (result ≡ NoMemory) }
-{
-    match error {
-        EncodeError::TooWide => SerdeError::TooWide,
-        EncodeError::NoMemory => SerdeError::NoMemory,
-    }
-}
-
-impl CborSerializer {
-    pub(crate) fn new(settings: CborCodecSettings, alloc: Global) -> CborSerializer
+impl CborSerializer<NoPrefix> {
+    pub(crate) fn new(settings: CborCodecSettings, alloc: Global) -> CborSerializer<NoPrefix>
         ensures state { state_of result ≡ fresh_state (held_settings settings) }
         ensures sound { has_failed result ≡ false }
     {
         CborSerializer {
-            settings,
-            encoder: Encoder::new(Vec::new(alloc)),
-            containers: OpenContainers::new(alloc),
+            body: CborBody::new(settings, alloc),
+            prefix: NoPrefix,
         }
-    }
-
-    // Begins the call of a value: with the name of a member. Where a map's key is due no value comes, and behind a map's
-    // value a key is due.
-    #[inline(always)]
-    fn begin_value(&mut self, schema: &Schema<'_>) -> Result<(), SerdeError>
-        ensures failed { IsErrOf result Failed ↔ (has_failed self.old ≡ true) }
-        ensures broken { has_failed self.new ≡ true }
-        ensures same { (state_of self.new).settings ≡ (state_of self.old).settings }
-        ensures lead { OnOk result ((state_of self.new).out ≡ (state_of self.old).out ++ lead (state_of self.old) (site_of schema.now).view) }
-        ensures taken { OnOk result (after_value (state_of self.old).frames ≡ Ok (state_of self.new).frames) }
-        ensures lengths { OnOk result ((state_of self.new).lengths ≡ counted_in (state_of self.old).frames (state_of self.old).lengths) }
-        ensures refused { IfErr result (λ e. IsFault e → after_value (state_of self.old).frames ≡ Err e) }
-    {
-        self.containers.begin()?;
-        if let Some(Container::Structure) = self.containers.innermost() {
-            write_name(&mut self.encoder, schema)?;
-        }
-        self.containers.pass_value()?;
-        count_value(&mut self.containers)?;
-        Ok(())
-    }
-
-    // Begins the call of a text, which is a key where a map's key is due: its value is due then.
-    fn begin_text(&mut self, schema: &Schema<'_>) -> Result<(), SerdeError>
-        ensures failed { IsErrOf result Failed ↔ (has_failed self.old ≡ true) }
-        ensures broken { has_failed self.new ≡ true }
-        ensures same { (state_of self.new).settings ≡ (state_of self.old).settings }
-        ensures lead { OnOk result ((state_of self.new).out ≡ (state_of self.old).out ++ lead (state_of self.old) (site_of schema.now).view) }
-        ensures taken { OnOk result (after_text (state_of self.old).frames ≡ Ok (state_of self.new).frames) }
-        ensures lengths { OnOk result ((state_of self.new).lengths ≡ counted_in (state_of self.old).frames (state_of self.old).lengths) }
-        ensures refused { IfErr result (λ e. IsFault e → after_text (state_of self.old).frames ≡ Err e) }
-    {
-        if let Some(Container::MapAtKey) = self.containers.innermost() {
-            self.containers.begin()?;
-            self.containers.pass_text()
-        } else {
-            self.begin_value(schema)
-        }
-    }
-
-    // Ends the innermost container, which has to be of this kind and, where its length is written, to be of this length.
-    fn end_container(&mut self, container: Container) -> Result<(), SerdeError>
-        ensures failed { IsErrOf result Failed ↔ (has_failed self.old ≡ true) }
-        ensures broken { IsErr result ↔ (has_failed self.new ≡ true) }
-        ensures ok { OnOk result (where_writable (may_end (state_of self.old).lengths) (where_taken (closed (state_of self.old)) (after_end container (state_of self.old).frames)) ≡ Ok (state_of self.new)) }
-        ensures refused { IfErr result (λ e. IsFault e → where_writable (may_end (state_of self.old).lengths) (where_taken (closed (state_of self.old)) (after_end container (state_of self.old).frames)) ≡ Err e) }
-    {
-        self.containers.begin()?;
-        let length = self.containers.pop(container)?;
-        if !is_complete(length) {
-            return Err(SerdeError::Unwritable);
-        }
-        write_end(&mut self.encoder, length)?;
-        self.containers.succeed();
-        Ok(())
     }
 }
 
-impl ShapeSerializer for CborSerializer {
-    ghost use Rattle.smithy_cbor_codec.specs.Nesting.{cbor_nests, cbor_grows};
+impl<Q: StructPrefix + Copy> CborSerializer<Q> {
+    /// The same serializer, which from now on writes this prefix at the beginning of each structure and union.
+    pub fn with_struct_prefix<P: StructPrefix + Copy>(self, prefix: P) -> CborSerializer<P>
+        ensures body { body_in result ≡ body_in self }
+        ensures prefix { prefix_in result ≡ prefix }
+        ensures sound { has_failed result ≡ has_failed self }
+    {
+        CborSerializer {
+            body: self.body,
+            prefix,
+        }
+    }
+}
+
+impl<P: StructPrefix + Copy> ShapeSerializer for CborSerializer<P> {
+    ghost use Rattle.smithy_cbor_codec.specs.Prefixes.{CborState, cbor_after};
+    ghost use Rattle.smithy_cbor_codec.specs.Serializing.{body_in, prefix_in, has_failed};
+    ghost use Rattle.smithy_cbor_codec.specs.PrefixNesting.{cbor_nests, cbor_grows};
 
     ghost State = { CborState };
 
-    ghost state = { state_of };
+    ghost state = { λ s. record { body = body_in s; prefix = P.adds (prefix_in s) } };
 
     ghost failed = { has_failed };
 
-    ghost out = { λ s. s.out };
+    ghost out = { λ s. s.body.out };
 
-    ghost open_in = { λ s. s.frames };
+    ghost open_in = { λ s. s.body.frames };
 
     ghost after = { cbor_after };
 
@@ -151,100 +70,72 @@ impl ShapeSerializer for CborSerializer {
     ghost nested = { cbor_nests };
 
     fn fail(&mut self) {
-        self.containers.fail();
+        self.body.fail();
     }
 
     fn begin_struct(&mut self, schema: &Schema<'_>) -> Result<(), SerdeError> {
-        self.begin_value(schema)?;
-        self.encoder.begin_map()?;
-        self.containers
-            .push(Container::Structure, Length::Unwritten)?;
-        self.containers.succeed();
+        self.body.begin_struct(schema)?;
+        if let Err(error) = self.prefix.write(schema, &mut self.body) {
+            self.body.fail();
+            return Err(error);
+        }
         Ok(())
     }
 
     fn end_struct(&mut self) -> Result<(), SerdeError> {
-        self.end_container(Container::Structure)
+        self.body.end_struct()
     }
 
     fn begin_list(&mut self, schema: &Schema<'_>, length: Option<usize>) -> Result<(), SerdeError> {
-        self.begin_value(schema)?;
-        let length = self.settings.written_length(length);
-        begin_array(&mut self.encoder, length)?;
-        self.containers.push(Container::List, begun(length))?;
-        self.containers.succeed();
-        Ok(())
+        self.body.begin_list(schema, length)
     }
 
     fn end_list(&mut self) -> Result<(), SerdeError> {
-        self.end_container(Container::List)
+        self.body.end_list()
     }
 
     fn begin_map(&mut self, schema: &Schema<'_>, length: Option<usize>) -> Result<(), SerdeError> {
-        self.begin_value(schema)?;
-        let length = self.settings.written_length(length);
-        begin_map(&mut self.encoder, length)?;
-        self.containers.push(Container::MapAtKey, begun(length))?;
-        self.containers.succeed();
-        Ok(())
+        self.body.begin_map(schema, length)
     }
 
     fn end_map(&mut self) -> Result<(), SerdeError> {
-        self.end_container(Container::MapAtKey)
+        self.body.end_map()
     }
 
     fn write_null(&mut self, schema: &Schema<'_>) -> Result<(), SerdeError> {
-        self.begin_value(schema)?;
-        self.encoder.null()?;
-        self.containers.succeed();
-        Ok(())
+        self.body.write_null(schema)
     }
 
     fn write_boolean(&mut self, schema: &Schema<'_>, value: bool) -> Result<(), SerdeError> {
-        self.begin_value(schema)?;
-        self.encoder.boolean(value)?;
-        self.containers.succeed();
-        Ok(())
+        self.body.write_boolean(schema, value)
     }
 
     fn write_byte(&mut self, schema: &Schema<'_>, value: i8) -> Result<(), SerdeError> {
-        self.write_long(schema, i64::from(value))
+        self.body.write_byte(schema, value)
     }
 
     fn write_short(&mut self, schema: &Schema<'_>, value: i16) -> Result<(), SerdeError> {
-        self.write_long(schema, i64::from(value))
+        self.body.write_short(schema, value)
     }
 
     fn write_integer(&mut self, schema: &Schema<'_>, value: i32) -> Result<(), SerdeError> {
-        self.write_long(schema, i64::from(value))
+        self.body.write_integer(schema, value)
     }
 
     fn write_long(&mut self, schema: &Schema<'_>, value: i64) -> Result<(), SerdeError> {
-        self.begin_value(schema)?;
-        write_whole_number(&mut self.encoder, value)?;
-        self.containers.succeed();
-        Ok(())
+        self.body.write_long(schema, value)
     }
 
     fn write_string(&mut self, schema: &Schema<'_>, value: &str) -> Result<(), SerdeError> {
-        self.begin_text(schema)?;
-        self.encoder.str(value)?;
-        self.containers.succeed();
-        Ok(())
+        self.body.write_string(schema, value)
     }
 
     fn write_bytes(&mut self, schema: &Schema<'_>, value: &[u8]) -> Result<(), SerdeError> {
-        self.begin_value(schema)?;
-        self.encoder.blob_bytes(value)?;
-        self.containers.succeed();
-        Ok(())
+        self.body.write_bytes(schema, value)
     }
 
     fn write_i128(&mut self, schema: &Schema<'_>, value: i128) -> Result<(), SerdeError> {
-        self.begin_value(schema)?;
-        self.encoder.whole(value)?;
-        self.containers.succeed();
-        Ok(())
+        self.body.write_i128(schema, value)
     }
 
     fn write_decimal(
@@ -253,10 +144,7 @@ impl ShapeSerializer for CborSerializer {
         mantissa: i128,
         exponent: i64,
     ) -> Result<(), SerdeError> {
-        self.begin_value(schema)?;
-        self.encoder.decimal_fraction(exponent, mantissa)?;
-        self.containers.succeed();
-        Ok(())
+        self.body.write_decimal(schema, mantissa, exponent)
     }
 
     fn write_big_integer(
@@ -264,14 +152,7 @@ impl ShapeSerializer for CborSerializer {
         schema: &Schema<'_>,
         value: &BigInteger,
     ) -> Result<(), SerdeError> {
-        self.begin_value(schema)?;
-        match self.encoder.big_integer(value) {
-            Ok(()) => {
-                self.containers.succeed();
-                Ok(())
-            }
-            Err(error) => Err(refusal_of(error)),
-        }
+        self.body.write_big_integer(schema, value)
     }
 
     fn write_big_decimal(
@@ -279,47 +160,20 @@ impl ShapeSerializer for CborSerializer {
         schema: &Schema<'_>,
         value: &BigDecimal,
     ) -> Result<(), SerdeError> {
-        self.begin_value(schema)?;
-        match self.encoder.big_decimal(value) {
-            Ok(()) => {
-                self.containers.succeed();
-                Ok(())
-            }
-            Err(error) => Err(refusal_of(error)),
-        }
+        self.body.write_big_decimal(schema, value)
     }
 
     fn write_timestamp(&mut self, schema: &Schema<'_>, value: &DateTime) -> Result<(), SerdeError> {
-        if value.has_subsec_nanos() {
-            self.containers.begin()?;
-            return Err(SerdeError::Unwritable);
-        }
-        self.begin_value(schema)?;
-        self.encoder.timestamp(value)?;
-        self.containers.succeed();
-        Ok(())
+        self.body.write_timestamp(schema, value)
     }
 
-    // CBOR has no documents. It takes no memory.
-    fn write_document(
-        &mut self,
-        _schema: &Schema<'_>,
-        _value: &Document,
-    ) -> Result<(), SerdeError> {
-        self.containers.begin()?;
-        if let Some(Container::MapAtKey) = self.containers.innermost() {
-            return Err(SerdeError::Unwritable);
-        }
-        Err(SerdeError::Unsupported)
+    fn write_document(&mut self, schema: &Schema<'_>, value: &Document) -> Result<(), SerdeError> {
+        self.body.write_document(schema, value)
     }
 }
 
-impl FinishSerializer for CborSerializer {
-    fn finish(mut self) -> Result<Vec<u8>, SerdeError> {
-        self.containers.begin()?;
-        if !self.containers.is_empty() {
-            return Err(SerdeError::Unwritable);
-        }
-        Ok(self.encoder.into_writer())
+impl<P: StructPrefix + Copy> FinishSerializer for CborSerializer<P> {
+    fn finish(self) -> Result<Vec<u8>, SerdeError> {
+        self.body.finish()
     }
 }

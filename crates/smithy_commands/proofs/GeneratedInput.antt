@@ -77,7 +77,7 @@ json_passes = record { numbers = λ n. refl; texts = λ t. refl; seconds = λ n.
 none_is_document : PassesItems no_documents
 none_is_document = record { numbers = λ n. refl; texts = λ t. refl; seconds = λ n. refl }
 
-cbor_passes : PassesItems (holds cbor)
+cbor_passes : PassesItems (holds (cbor false))
 cbor_passes = record { numbers = λ n. refl; texts = λ t. refl; seconds = λ n. rw (whole_seconds n) refl }
 
 pub input_is_expressible : (seed count : ℕ) → Spells (json false) generated_shapes generated_root (generated seed count) (generated_value seed count)
@@ -85,7 +85,7 @@ pub input_is_expressible : (seed count : ℕ) → Spells (json false) generated_
 input_is_expressible seed count spells = (
   generated_value seed count,
   spells,
-  rw (input_passes no_documents none_is_document seed count, input_passes (holds cbor) cbor_passes seed count) refl,
+  rw (input_passes no_documents none_is_document seed count, input_passes (holds (cbor false)) cbor_passes seed count) refl,
   rw (input_passes (holds (json false)) json_passes seed count) refl,
 )
 

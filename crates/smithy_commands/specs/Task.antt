@@ -2,7 +2,7 @@
 use Rattle.std.specs.Prelude.{ℕ, List, false, true}
 use Rattle.smithy_transcode.specs.Wires as wires
 use Rattle.smithy_transcode.specs.Wires.{Wire}
-use Rattle.smithy_commands.specs.Transcode.{NamedWire, json, json_name, cbor, query, Transcode}
+use Rattle.smithy_commands.specs.Transcode.{NamedWire, json, json_name, cbor, cbor_definite, query, Transcode}
 
 -- the body of this root, from wire to wire
 pub record Task : Type 0 where
@@ -15,7 +15,8 @@ pub record Task : Type 0 where
 abbrev pub asked_wire : NamedWire → Wire
 asked_wire json = wires.json false
 asked_wire json_name = wires.json true
-asked_wire cbor = wires.cbor
+asked_wire cbor = wires.cbor false
+asked_wire cbor_definite = wires.cbor true
 asked_wire (query action version) = wires.query action version
 
 -- the task of a command

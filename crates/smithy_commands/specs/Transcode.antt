@@ -3,7 +3,7 @@ use Rattle.std.specs.Prelude.{List, [], ◌∷◌, ℕ, Option, Some, None, opti
 
 -- a wire, as words name it
 pub data NamedWire : Type 0 where
-  json json_name cbor : NamedWire
+  json json_name cbor cbor_definite : NamedWire
   -- with the action and the version
   query : List ℕ → List ℕ → NamedWire
 
@@ -14,7 +14,7 @@ pub record Transcode : Type 0 where
   pub from : NamedWire
   pub to : NamedWire
 
--- json, json-name or cbor
+-- json, json-name or cbor, which are read and written
 abbrev pub wire_named : List ℕ → Option NamedWire
 wire_named word =
     if bytes_eq word (codes "json") then Some json
@@ -22,9 +22,14 @@ wire_named word =
     else if bytes_eq word (codes "cbor") then Some cbor
     else None
 
+-- one of these, or cbor-definite, which is written alone
+abbrev pub written_wire_named : List ℕ → Option NamedWire
+written_wire_named word =
+    if bytes_eq word (codes "cbor-definite") then Some cbor_definite else wire_named word
+
 -- what is wanted: one of these, or `query ACTION VERSION`
 abbrev pub wanted_wire : List (List ℕ) → Option NamedWire
-wanted_wire (to ∷ []) = wire_named to
+wanted_wire (to ∷ []) = written_wire_named to
 wanted_wire (to ∷ action ∷ version ∷ []) =
     if bytes_eq to (codes "query") then Some (query action version) else None
 wanted_wire _ = None

@@ -72,8 +72,9 @@ fn lengths_of(
     let json = Wire::Json {
         use_json_name: false,
     };
-    let in_cbor = body_in(alloc, table, root, &json, input, &Wire::Cbor)?;
-    let by_cbor = body_in(alloc, table, root, &Wire::Cbor, &in_cbor, &json)?;
+    let cbor = Wire::Cbor { definite: false };
+    let in_cbor = body_in(alloc, table, root, &json, input, &cbor)?;
+    let by_cbor = body_in(alloc, table, root, &cbor, &in_cbor, &json)?;
     let in_json = body_in(alloc, table, root, &json, input, &json)?;
     Ok(Lengths {
         cbor: in_cbor.len(),

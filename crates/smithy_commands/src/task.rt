@@ -41,7 +41,8 @@ pub(crate) fn wire_of_words(alloc: Global, words: WireWords<'_>) -> Result<Wire,
         WireWords::JsonName => Ok(Wire::Json {
             use_json_name: true,
         }),
-        WireWords::Cbor => Ok(Wire::Cbor),
+        WireWords::Cbor => Ok(Wire::Cbor { definite: false }),
+        WireWords::CborDefinite => Ok(Wire::Cbor { definite: true }),
         WireWords::Query(action, version) => Ok(Wire::Query {
             action: copied(alloc, action)?,
             version: copied(alloc, version)?,

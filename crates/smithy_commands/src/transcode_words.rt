@@ -1,6 +1,6 @@
 //! The words of the command `transcode`.
 ghost use Rattle.std.specs.Prelude.{◌≡◌, map, option_map, string_bytes};
-ghost use Rattle.smithy_commands.specs.Transcode.{transcode_of, wanted_wire, wire_named};
+ghost use Rattle.smithy_commands.specs.Transcode.{transcode_of, wanted_wire, wire_named, written_wire_named};
 ghost use Rattle.smithy_commands.specs.Words.{named_wire, transcode_view};
 
 /// A wire, as words name it.
@@ -12,6 +12,8 @@ pub enum WireWords<'a> {
     JsonName,
     /// CBOR.
     Cbor,
+    /// CBOR whose lists and maps have their lengths.
+    CborDefinite,
     /// AWS Query, with the action and the version.
     Query(&'a str, &'a str),
 }
@@ -41,12 +43,22 @@ pub(crate) fn single_wire<'a>(word: &str) -> Option<WireWords<'a>>
     }
 }
 
-// The wire of the output, by its words: json, json-name, cbor, or `query ACTION VERSION`.
+// json, json-name, cbor or cbor-definite.
+fn written_wire<'a>(word: &str) -> Option<WireWords<'a>>
+    ensures { option_map named_wire result ≡ written_wire_named word.now }
+{
+    match word {
+        "cbor-definite" => Some(WireWords::CborDefinite),
+        _ => single_wire(word),
+    }
+}
+
+// The wire of the output, by its words: json, json-name, cbor, cbor-definite, or `query ACTION VERSION`.
 fn output_wire(words: &[String]) -> Option<WireWords<'_>>
     ensures { option_map named_wire result ≡ wanted_wire (map string_bytes words.now) }
 {
     match words {
-        [wire] => single_wire(wire.as_str()),
+        [wire] => written_wire(wire.as_str()),
         [wire, action, version] if wire.as_str() == "query" => {
             Some(WireWords::Query(action.as_str(), version.as_str()))
         }

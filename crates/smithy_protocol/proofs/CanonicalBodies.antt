@@ -6,7 +6,7 @@ use Rattle.smithy_schema.specs.declared.error.SerdeError.{SerdeError}
 use Rattle.smithy_shapes.specs.Site.{Site, View}
 use Rattle.smithy_shapes.specs.Value.{MemberValues, structure}
 use Rattle.smithy_shapes.specs.ScalarTest.{scalars_pass}
-use Rattle.smithy_schema.specs.Writing.{Event, Writer, begin_structure, end_structure, member_events, run, and_run, write}
+use Rattle.smithy_schema.specs.Writing.{Event, Writer, begin_structure, end_structure, events, member_events, run, and_run, write}
 use Rattle.smithy_schema.specs.Written.{Adds, Runs, ran, Wraps, whole}
 use Rattle.smithy_schema.proofs.WritingLemmas.{child_written}
 use Rattle.smithy_json_codec.specs.Canonical.{canonical_json, key_text, can_write}
@@ -15,7 +15,9 @@ use Rattle.smithy_json_codec.specs.Writing.{JsonState, json_after, fresh_state}
 use Rattle.smithy_json_codec.proofs.WritingLemmas.{value_adds}
 use Rattle.smithy_cbor_codec.specs.Canonical.{canonical_cbor, cbor_holds}
 use Rattle.smithy_cbor_codec.specs.Codec.{strict_settings as strict_cbor}
-use Rattle.smithy_cbor_codec.specs.Writing.{CborState, cbor_after, fresh_state as fresh_cbor}
+use Rattle.smithy_cbor_codec.specs.Prefixes.{CborState, cbor_after, fresh_state as fresh_cbor, no_prefix, with_prefix}
+use Rattle.smithy_cbor_codec.specs.Writing.{fresh_body}
+use Rattle.smithy_cbor_codec.proofs.PrefixLemmas.{unprefixed}
 use Rattle.smithy_cbor_codec.proofs.WritingLemmas.{value_adds as cbor_value_adds}
 use Rattle.smithy_query_codec.specs.Canonical.{canonical_query}
 use Rattle.smithy_query_codec.specs.Writing.{QueryState, query_after, fresh_state as fresh_query}
@@ -53,12 +55,12 @@ json_canonical adds site value ms body hands writes nameless can =
     ∙ ap (λ key. key ++ canonical_json c site v) (no_key false site.view nameless)
 
 pub cbor_canonical : {V : Type 0} (adds : Adds V) (site : Site) (value : V) (ms : MemberValues) (body : List ℕ)
-    → HandsOut cbor_after (λ s. s.out) adds site value (fresh_cbor strict_cbor) (Ok body) → WritesMembers cbor_after adds site value ms
-    → scalars_pass cbor_holds site (structure ms) ≡ true → body ≡ canonical_cbor site (structure ms)
+    → HandsOut cbor_after (λ s. s.body.out) adds site value (fresh_cbor strict_cbor) (Ok body) → WritesMembers cbor_after adds site value ms
+    → scalars_pass cbor_holds site (structure ms) ≡ true → body ≡ canonical_cbor false site (structure ms)
 cbor_canonical adds site value ms body hands writes held =
     let v = structure ms in
     sym hands.2
-    ∙ same_text (λ (s : CborState). s.out) (write cbor_after site v (fresh_cbor strict_cbor)) hands.0 _ (whole_run cbor_after site ms (adds CborState cbor_after value) (fresh_cbor strict_cbor) hands.0 writes hands.1) (cbor_value_adds strict_cbor refl site v [] [] [] [] held refl)
+    ∙ same_text (λ (s : CborState). s.body.out) (write cbor_after site v (fresh_cbor strict_cbor)) hands.0 _ (whole_run cbor_after site ms (adds CborState cbor_after value) (fresh_cbor strict_cbor) hands.0 writes hands.1) (unprefixed (events site v) (fresh_body strict_cbor) ∙ ap (with_prefix no_prefix) (cbor_value_adds strict_cbor false refl site v [] [] [] [] held refl))
 
 pub json_bodies : {V : Type 0} (adds : Adds V) (site : Site) (value : V) (s : JsonState) (r : Result (Vec ℕ Global) SerdeError) → s ≡ fresh_state (strict_settings false)
     → IfOk r (λ body. HandsOut json_after (λ t. t.out) adds site value s (Ok body.items)) → IfOk r (λ body. IsJsonBody adds site value body.items)
@@ -67,9 +69,9 @@ json_bodies adds site value s (Ok body) fresh hands =
 json_bodies adds site value s (Err e) fresh hands = tt
 
 pub cbor_bodies : {V : Type 0} (adds : Adds V) (site : Site) (value : V) (s : CborState) (r : Result (Vec ℕ Global) SerdeError) → s ≡ fresh_cbor strict_cbor
-    → IfOk r (λ body. HandsOut cbor_after (λ t. t.out) adds site value s (Ok body.items)) → IfOk r (λ body. IsCborBody adds site value body.items)
+    → IfOk r (λ body. HandsOut cbor_after (λ t. t.body.out) adds site value s (Ok body.items)) → IfOk r (λ body. IsCborBody adds site value body.items)
 cbor_bodies adds site value s (Ok body) fresh hands =
-    λ ms writes held. cbor_canonical adds site value ms body.items (subst (λ t. HandsOut cbor_after (λ u. u.out) adds site value t (Ok body.items)) fresh hands) writes held
+    λ ms writes held. cbor_canonical adds site value ms body.items (subst (λ t. HandsOut cbor_after (λ u. u.body.out) adds site value t (Ok body.items)) fresh hands) writes held
 cbor_bodies adds site value s (Err e) fresh hands = tt
 
 pub query_canonical : {V : Type 0} (adds : Adds V) (site : Site) (value : V) (action version body : List ℕ)

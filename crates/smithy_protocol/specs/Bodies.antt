@@ -12,7 +12,7 @@ use Rattle.smithy_json_codec.specs.Canonical.{canonical_json, can_write}
 use Rattle.smithy_json_codec.specs.Codec.{strict_settings}
 use Rattle.smithy_json_codec.specs.Writing.{json_after}
 use Rattle.smithy_cbor_codec.specs.Canonical.{canonical_cbor, cbor_holds}
-use Rattle.smithy_cbor_codec.specs.Writing.{cbor_after}
+use Rattle.smithy_cbor_codec.specs.Prefixes.{cbor_after}
 use Rattle.smithy_query_codec.specs.Canonical.{canonical_query}
 use Rattle.smithy_query_codec.specs.Counts.{HasPositions}
 use Rattle.smithy_query_codec.specs.Writable.{can_be_written}
@@ -34,11 +34,11 @@ IsJsonBody adds site value body =
     (ms : MemberValues) → WritesMembers json_after adds site value ms → site.view.name ≡ None
     → scalars_pass (can_write (strict_settings false)) site (structure ms) ≡ true → body ≡ canonical_json (strict_settings false) site (structure ms)
 
--- The body is the one encoding in CBOR of the structure that the value writes, where CBOR can write its scalars.
+-- The body is the one encoding in CBOR, without lengths of lists and maps, of the structure that the value writes, where CBOR can write its scalars.
 abbrev pub IsCborBody : {V : Type 0} → Adds V → Site → V → List ℕ → Type 0
 IsCborBody adds site value body =
     (ms : MemberValues) → WritesMembers cbor_after adds site value ms → scalars_pass cbor_holds site (structure ms) ≡ true
-    → body ≡ canonical_cbor site (structure ms)
+    → body ≡ canonical_cbor false site (structure ms)
 
 -- The body is the one form of the structure that the value writes, for a place without a name in an accepted table where the structure
 -- fits and a form can express it.

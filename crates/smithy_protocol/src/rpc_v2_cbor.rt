@@ -2,9 +2,9 @@
 ghost use Rattle.std.specs.Prelude.{◌≡◌, ◌⊎◌, Ok, Err, codes, IfOk, IfErr};
 ghost use Rattle.smithy_schema.specs.declared.error.SerdeError.TheVariants.{NoMemory};
 ghost use Rattle.smithy_shapes.specs.Site.{site_of};
-ghost use Rattle.smithy_cbor_codec.specs.Codec.{strict_settings};
+ghost use Rattle.smithy_cbor_codec.specs.Codec.{strict_settings, default_settings};
 ghost use Rattle.smithy_cbor_codec.specs.Cursor.{cursor_of, reading_settings_of};
-ghost use Rattle.smithy_cbor_codec.specs.Writing.{fresh_state, cbor_after};
+ghost use Rattle.smithy_cbor_codec.specs.Prefixes.{fresh_state, cbor_after};
 ghost use Rattle.smithy_wire.specs.Walking.{fresh_cursor};
 ghost use Rattle.smithy_protocol.specs.Bodies.{HandsOut, IsCborBody};
 ghost use Rattle.smithy_error_bodies.specs.CborErrors.{CborSays};
@@ -27,8 +27,8 @@ fn cbor_body<V: SerializableStruct>(
     schema: &Schema<'_>,
     input: &V,
 ) -> Result<Vec<u8>, SerdeError>
-    ensures ok { IfOk result (λ body. HandsOut cbor_after (λ s. s.out) V.adds (site_of schema.now) input.now (fresh_state strict_settings) (Ok body.items)) }
-    ensures err { IfErr result (λ e. HandsOut cbor_after (λ s. s.out) V.adds (site_of schema.now) input.now (fresh_state strict_settings) (Err e)) }
+    ensures ok { IfOk result (λ body. HandsOut cbor_after (λ s. s.body.out) V.adds (site_of schema.now) input.now (fresh_state strict_settings) (Ok body.items)) }
+    ensures err { IfErr result (λ e. HandsOut cbor_after (λ s. s.body.out) V.adds (site_of schema.now) input.now (fresh_state strict_settings) (Err e)) }
     ensures canonical { IfOk result (λ body. IsCborBody V.adds (site_of schema.now) input.now body.items) }
 {
     let sink = CborCodec::strict().create_serializer(alloc);
@@ -64,9 +64,9 @@ impl RpcV2CborProtocol {
         config: &ProtocolConfig,
     ) -> Result<Request, SerdeError>
         ensures head { IfOk result (λ r. message_of r ≡ cbor_request endpoint.now config.now r.body.items) }
-        ensures body { IfOk result (λ r. HandsOut cbor_after (λ s. s.out) V.adds (site_of input_schema.now) input.now (fresh_state strict_settings) (Ok r.body.items)) }
+        ensures body { IfOk result (λ r. HandsOut cbor_after (λ s. s.body.out) V.adds (site_of input_schema.now) input.now (fresh_state strict_settings) (Ok r.body.items)) }
         ensures canonical { IfOk result (λ r. IsCborBody V.adds (site_of input_schema.now) input.now r.body.items) }
-        ensures refused { IfErr result (λ e. (e ≡ NoMemory) ⊎ HandsOut cbor_after (λ s. s.out) V.adds (site_of input_schema.now) input.now (fresh_state strict_settings) (Err e)) }
+        ensures refused { IfErr result (λ e. (e ≡ NoMemory) ⊎ HandsOut cbor_after (λ s. s.body.out) V.adds (site_of input_schema.now) input.now (fresh_state strict_settings) (Err e)) }
     {
         let body = cbor_body(alloc, input_schema, input)?;
         let uri = operation_uri(alloc, endpoint, config)?;
@@ -85,10 +85,10 @@ impl RpcV2CborProtocol {
         response: &'a Response,
         _config: &ProtocolConfig,
     ) -> CborDeserializer<'a>
-        ensures settings { reading_settings_of result ≡ strict_settings }
+        ensures settings { reading_settings_of result ≡ default_settings }
         ensures fresh { cursor_of result ≡ fresh_cursor response.now.body.items }
     {
-        CborCodec::strict().create_deserializer(alloc, &response.body)
+        CborCodec::default().create_deserializer(alloc, &response.body)
     }
     /// What an error answer says: the code that the body has under `__type`, without its namespace and address, and its message. A
     /// header `x-amzn-query-error` with a `;` counts over the code, and its second part is the value `type` beside them. An error is

@@ -46,10 +46,10 @@ json_begins w b o old s t root i wire same fresh site kind = record {
   read = subst IsReadable (sym wire) tt;
 }
 
-pub cbor_begins : (w : Wire) (o : CborSettings) (old : Cursor) (s : Schema) (t : Table) (root : ℕ) (i : List ℕ) → w ≡ cbor → o ≡ strict_cbor
+pub cbor_begins : (w : Wire) (told : Bool) (o : CborSettings) (old : Cursor) (s : Schema) (t : Table) (root : ℕ) (i : List ℕ) → w ≡ cbor told → o ≡ strict_cbor
     → old ≡ fresh_cursor i → site_of s ≡ shape_site t root → IsStructure (kind_of t (shape_place root))
     → Begins w (cbor_relations (keep_cbor_limits o)) (cbor_relations (without_cbor_limits o)) o.max_depth old s t root i
-cbor_begins w o old s t root i wire same fresh site kind = record {
+cbor_begins w told o old s t root i wire same fresh site kind = record {
   keeps = ap (λ c. cbor_relations (keep_cbor_limits c)) same ∙ sym (ap relations_of wire);
   lifts = ap (λ c. cbor_relations (without_cbor_limits c)) same ∙ sym (ap lifted_of wire);
   greatest = ap (λ (c : CborSettings). c.max_depth) same;
@@ -62,8 +62,8 @@ cbor_begins w o old s t root i wire same fresh site kind = record {
 -- a reader of CBOR that fails for its depth has entered so many places of the table
 nests : (w : Wire) (t : Table) (root max : ℕ) (old new : Cursor) → IsReadable w → max ≡ 128 → depth old ≡ 0 → EndsTooDeep (relations_of w) max old new t (shape_place root) → MayNest w t root
 nests (json b) t root max old new read greatest start ends = tt
-nests cbor t root max old new read greatest start (inl limited) = absurd (let both : false ≡ true = limited in cc)
-nests cbor t root max old new read greatest start (inr (q, count, gone, inside, full, kind)) = (q, count, omega (arith, gone, full, start, greatest), inside, kind)
+nests (cbor told) t root max old new read greatest start (inl limited) = absurd (let both : false ≡ true = limited in cc)
+nests (cbor told) t root max old new read greatest start (inr (q, count, gone, inside, full, kind)) = (q, count, omega (arith, gone, full, start, greatest), inside, kind)
 nests (query action version) t root max old new read greatest start ends = absurd read
 
 module _ {w : Wire} {r l : Relations} {max : ℕ} {old : Cursor} {s : Schema} {t : Table} {root : ℕ} {i : List ℕ} (begins : Begins w r l max old s t root i) where

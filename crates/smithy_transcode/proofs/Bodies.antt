@@ -16,7 +16,7 @@ use Rattle.smithy_shapes.specs.TimeForms.{form_or}
 use Rattle.smithy_shapes.specs.Table.{Table, IsStructure, kind_of, shape_place}
 use Rattle.smithy_shapes.specs.Site.{Site, View, whole_view, site_of, shape_site}
 use Rattle.smithy_shapes.specs.Value.{Value, scalar_value, list, map, structure, union, null_element, document_value, MemberValues}
-use Rattle.smithy_schema.specs.Writing.{write}
+use Rattle.smithy_schema.specs.Writing.{write, events}
 use Rattle.smithy_wire.specs.Lemmas.Places.{document_kind}
 use Rattle.smithy_json_codec.specs.Canonical.{canonical_json, key_text, json_holds, can_write as json_can_write}
 use Rattle.smithy_json_codec.specs.Codec.{strict_settings}
@@ -24,7 +24,10 @@ use Rattle.smithy_json_codec.specs.Writing.{JsonState, json_after, fresh_state}
 use Rattle.smithy_json_codec.proofs.WritingLemmas.{state, value_adds}
 use Rattle.smithy_cbor_codec.specs.Canonical.{canonical_cbor}
 use Rattle.smithy_cbor_codec.specs.Codec.{strict_settings as strict_cbor}
-use Rattle.smithy_cbor_codec.specs.Writing.{CborState, cbor_after, fresh_state as fresh_cbor_state}
+use Rattle.smithy_cbor_codec.specs.Settings.{Settings as CborSettings}
+use Rattle.smithy_cbor_codec.specs.Prefixes.{CborState, cbor_after, fresh_state as fresh_cbor_state, no_prefix, with_prefix}
+use Rattle.smithy_cbor_codec.specs.Writing.{fresh_body}
+use Rattle.smithy_cbor_codec.proofs.PrefixLemmas.{unprefixed}
 use Rattle.smithy_cbor_codec.proofs.WritingLemmas.{value_adds as cbor_value_adds}
 use Rattle.smithy_query_codec.specs.Nulls.{holds_null}
 use Rattle.smithy_query_codec.specs.Counts.{HasPositions}
@@ -85,12 +88,20 @@ json_adds b site v s fresh nameless held =
 
 -- ---- CBOR
 
-abbrev pub cbor_body : Site → Value → CborState
-cbor_body site v = record { settings = strict_cbor; out = canonical_cbor site v; frames = []; lengths = [] }
+-- the settings of a serializer that writes lengths or doesn't
+abbrev pub cbor_settings : Bool → CborSettings
+cbor_settings told = record strict_cbor { use_definite_lengths = told }
 
-pub cbor_adds : (site : Site) (v : Value) (s : CborState) → s ≡ fresh_cbor_state strict_cbor → scalars_pass (holds cbor) site v ≡ true
-    → write cbor_after site v s ≡ Ok (cbor_body site v)
-cbor_adds site v s fresh held = ap (write cbor_after site v) fresh ∙ cbor_value_adds strict_cbor refl site v [] [] [] [] held refl
+abbrev pub cbor_body : Bool → Site → Value → CborState
+cbor_body told site v =
+    record { body = record { settings = cbor_settings told; out = canonical_cbor told site v; frames = []; lengths = [] }; prefix = no_prefix }
+
+pub cbor_adds : (told : Bool) (site : Site) (v : Value) (s : CborState) → s ≡ fresh_cbor_state (cbor_settings told) → scalars_pass (holds (cbor told)) site v ≡ true
+    → write cbor_after site v s ≡ Ok (cbor_body told site v)
+cbor_adds told site v s fresh held =
+    let c = cbor_settings told in
+    ap (write cbor_after site v) fresh
+    ∙ (unprefixed (events site v) (fresh_body c) ∙ ap (with_prefix no_prefix) (cbor_value_adds c told refl site v [] [] [] [] held refl))
 
 -- ---- the body of the root, at the schema of the root
 
@@ -103,9 +114,9 @@ pub json_is_body : (w : Wire) (b : Bool) (s : Schema) (t : Table) (root : ℕ) (
     → canonical_json (strict_settings b) (site_of s) v ≡ body w t root v
 json_is_body w b s t root v wire site = ap (λ x. canonical_json (strict_settings b) x v) site ∙ sym (ap (λ x. body x t root v) wire)
 
-pub cbor_is_body : (w : Wire) (s : Schema) (t : Table) (root : ℕ) (v : Value) → w ≡ cbor → site_of s ≡ shape_site t root
-    → canonical_cbor (site_of s) v ≡ body w t root v
-cbor_is_body w s t root v wire site = ap (λ x. canonical_cbor x v) site ∙ sym (ap (λ x. body x t root v) wire)
+pub cbor_is_body : (w : Wire) (told : Bool) (s : Schema) (t : Table) (root : ℕ) (v : Value) → w ≡ cbor told → site_of s ≡ shape_site t root
+    → canonical_cbor told (site_of s) v ≡ body w t root v
+cbor_is_body w told s t root v wire site = ap (λ x. canonical_cbor told x v) site ∙ sym (ap (λ x. body x t root v) wire)
 
 -- ---- forms
 

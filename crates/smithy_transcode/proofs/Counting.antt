@@ -26,8 +26,8 @@ nodes_are_bounded (json b) t root i v h =
     stands_is_bounded json_frames (json_rules (strict_settings b)) json_is_wire json_bounds_openers refl (rules_fit (strict_settings b)) i t (shape_place root) 0 0 v s.0
     s.1 in
     omega (arith, most)
-nodes_are_bounded cbor t root i v h =
-    let s = spelled_stands cbor t root i v h in
+nodes_are_bounded (cbor told) t root i v h =
+    let s = spelled_stands (cbor told) t root i v h in
     let most =
     stands_is_bounded (cbor_frames true) (cbor_rules_of strict_cbor) (cbor_is_wire true) (cbor_bounds_openers true refl) refl (cbor_rules_fit true strict_cbor) i t (shape_place root) 0 0 v s.0 s.1 in
     omega (arith, most)

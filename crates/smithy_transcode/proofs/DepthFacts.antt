@@ -26,12 +26,12 @@ none_below q count (child, n, is, (inner, m, there, rest)) =
     let none : None ≡ Some inner = subst (λ (p : Place). place_in (kind_of a_document p) m ≡ Some inner) (the_child n child is) there in
     cc
 
-nests_nothing : MayNest cbor a_document 0 → ⊥
+nests_nothing : MayNest (cbor false) a_document 0 → ⊥
 nests_nothing (q, zero, is, inside, kind) = cc
 nests_nothing (q, suc zero, is, inside, kind) = cc
 nests_nothing (q, suc (suc count), is, inside, kind) = none_below q count inside
 
-pub never_too_deep : (input : List ℕ) (to : Wire) (answer : Answer) → Transcodes a_document 0 cbor input to answer → IsErrOf answer TooDeep → ⊥
+pub never_too_deep : (input : List ℕ) (to : Wire) (answer : Answer) → Transcodes a_document 0 (cbor false) input to answer → IsErrOf answer TooDeep → ⊥
 never_too_deep input to answer told is = nests_nothing (told.answers_too_deep is).1.1
 
 -- structure S / member s S: it nests to any depth
@@ -48,5 +48,5 @@ inside_itself (suc count) = (shape_place 0, Some 0, refl, inside_itself count)
 nests_to : (greatest : ℕ) → NestsTo greatest a_nest 0
 nests_to greatest = (shape_place 0, greatest, refl, inside_itself greatest, tt)
 
-pub may_be_too_deep : MayNest cbor a_nest 0
+pub may_be_too_deep : MayNest (cbor false) a_nest 0
 may_be_too_deep = nests_to 128

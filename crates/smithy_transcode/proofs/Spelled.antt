@@ -32,29 +32,29 @@ StandsFirst w t root i v = (e : ℕ) × w.stands i t (shape_place root) 0 0 v e
 pub stands_is_spelled : (w : Wire) (t : Table) (root : ℕ) (i : List ℕ) (v : Value) → IsReadable w → IsStructure (kind_of t (shape_place root))
     → StandsFirst (relations_of w) t root i v → Spells w t root i v
 stands_is_spelled (json b) t root i v read kind h = stands_spells (strict_settings b) t (shape_place root) i v h.0 (structure_is_container (kind_of t (shape_place root)) kind) h.1
-stands_is_spelled cbor t root i v read kind h = cbor_stands_spells strict_cbor t (shape_place root) i v h.0 h.1
+stands_is_spelled (cbor told) t root i v read kind h = cbor_stands_spells strict_cbor t (shape_place root) i v h.0 h.1
 stands_is_spelled (query action version) t root i v read kind h = absurd read
 
 pub spelled_stands : (w : Wire) (t : Table) (root : ℕ) (i : List ℕ) (v : Value) → Spells w t root i v → StandsFirst (relations_of w) t root i v
 spelled_stands (json b) t root i v h = spells_stands (strict_settings b) t (shape_place root) i v h
-spelled_stands cbor t root i v h = cbor_spells_stands strict_cbor t (shape_place root) i v h
+spelled_stands (cbor told) t root i v h = cbor_spells_stands strict_cbor t (shape_place root) i v h
 spelled_stands (query action version) t root i v h = absurd h
 
 pub spelled_stands_without_limits : (w : Wire) (t : Table) (root : ℕ) (i : List ℕ) (v : Value) → SpellsWithoutLimits w t root i v
     → StandsFirst (lifted_of w) t root i v
 spelled_stands_without_limits (json b) t root i v h = spells_stands (without_limits (strict_settings b)) t (shape_place root) i v h
-spelled_stands_without_limits cbor t root i v h = cbor_spells_stands (without_cbor_limits strict_cbor) t (shape_place root) i v h
+spelled_stands_without_limits (cbor told) t root i v h = cbor_spells_stands (without_cbor_limits strict_cbor) t (shape_place root) i v h
 spelled_stands_without_limits (query action version) t root i v h = absurd h
 
 -- an empty input spells the structure without members
 pub empty_is_spelled : (w : Wire) (t : Table) (root : ℕ) → IsReadable w → IsStructure (kind_of t (shape_place root))
     → Spells w t root [] (structure no_member_values)
 empty_is_spelled (json b) t root read kind = inr (refl, kind, refl, refl)
-empty_is_spelled cbor t root read kind = inr (refl, kind, refl, refl)
+empty_is_spelled (cbor told) t root read kind = inr (refl, kind, refl, refl)
 empty_is_spelled (query action version) t root read kind = absurd read
 
 -- what the relations count is what the bytes open
 pub openers_are : (w : Wire) (i : List ℕ) → IsReadable w → (relations_of w).openers i ≡ openers w i
 openers_are (json b) i read = refl
-openers_are cbor i read = refl
+openers_are (cbor told) i read = refl
 openers_are (query action version) i read = absurd read

@@ -37,14 +37,14 @@ use Rattle.smithy_schema.proofs.WrittenLists.{fits_or_null}
 -- at most one value is spelled
 pub one_value : (w : Wire) (t : Table) (root : ℕ) (i : List ℕ) (v u : Value) → Spells w t root i v → Spells w t root i u → v ≡ u
 one_value (json b) t root i v u h k = one_spelled (strict_settings b) t (shape_place root) i v u h k
-one_value cbor t root i v u h k = one_cbor_spelled strict_cbor t (shape_place root) i v u h k
+one_value (cbor told) t root i v u h k = one_cbor_spelled strict_cbor t (shape_place root) i v u h k
 one_value (query action version) t root i v u h k = absurd h
 
 -- what is spelled is a value of the root, and nests no deeper than may be read
 pub spelled_is_small : (w : Wire) (t : Table) (root : ℕ) (i : List ℕ) (v : Value) → Spells w t root i v → Fits t (shape_place root) v × (nesting v ≤ 128)
 spelled_is_small (json b) t root i v h =
     (spelled_fits (strict_settings b) t (shape_place root) i v refl h, shallow (strict_settings b) t (shape_place root) i v refl h)
-spelled_is_small cbor t root i v h =
+spelled_is_small (cbor told) t root i v h =
     (cbor_fits strict_cbor t (shape_place root) i v refl h, cbor_shallow strict_cbor t (shape_place root) i v refl h)
 spelled_is_small (query action version) t root i v h = absurd h
 
@@ -55,7 +55,7 @@ HasByteTexts _ = Unit {0}
 
 pub has_byte_texts : (w : kept.Wire) → HasByteTexts (wire_of w)
 has_byte_texts (wires.Json b) = tt
-has_byte_texts wires.Cbor = tt
+has_byte_texts (wires.Cbor told) = tt
 has_byte_texts (wires.Query action version) =
     (utf8_bytes (string_bytes action) (IsUtf8-string_bytes action), utf8_bytes (string_bytes version) (IsUtf8-string_bytes version))
 
@@ -65,9 +65,9 @@ body_spells : (from to : Wire) (t : Table) (root : ℕ) (i : List ℕ) (v : Valu
 body_spells from (json b) t root i v read accepted h fit short =
     let small = spelled_is_small from t root i v h in
     canonical_spells b t (shape_place root) whole_view v accepted small.0 (all_held (json b) t root v fit) small.1
-body_spells from cbor t root i v read accepted h fit short =
+body_spells from (cbor told) t root i v read accepted h fit short =
     let small = spelled_is_small from t root i v h in
-    cbor_spells_again t root v accepted small.0 (all_held cbor t root v fit) small.1 short
+    cbor_spells_again told t root v accepted small.0 (all_held (cbor told) t root v fit) small.1 short
 body_spells from (query action version) t root i v read accepted h fit short = absurd read
 
 spelled_alone : (w : Wire) (t : Table) (root : ℕ) (v : Value) → Spells w t root (body w t root v) v → SpellsAlone w t root (body w t root v) v
@@ -78,7 +78,7 @@ body_tells : (from to : Wire) (t : Table) (root : ℕ) (i : List ℕ) (v : Value
     → unfit to t root v ≡ None → CanCount to v → HasByteTexts to → length (body to t root v) < 2 ^ 64 → TellsAgain to t root (body to t root v) v
 body_tells from (json b) t root i v accepted kind h fit counts texts short =
     spelled_alone (json b) t root v (body_spells from (json b) t root i v tt accepted h fit short)
-body_tells from cbor t root i v accepted kind h fit counts texts short = spelled_alone cbor t root v (body_spells from cbor t root i v tt accepted h fit short)
+body_tells from (cbor told) t root i v accepted kind h fit counts texts short = spelled_alone (cbor told) t root v (body_spells from (cbor told) t root i v tt accepted h fit short)
 body_tells from (query action version) t root i v accepted kind h fit counts texts short =
     form_tells action version t root v accepted kind (spelled_is_small from t root i v h).0 counts texts.0 texts.1
 

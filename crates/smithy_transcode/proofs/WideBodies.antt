@@ -35,7 +35,7 @@ exceeds_slice : (w : Wire) (t : Table) (q : Place) (c : Cursor) → IsReadable w
 exceeds_slice (json b) t q c read (e, (x, lies, leaves)) =
     let s = too_wide_scalar (json_rules (strict_settings b)) (kind_of t q) q.time x leaves in
     (s.0, s.1, wide_token (strict_settings b) s.0 q.time x c.input (depth c) c.at e lies s.2)
-exceeds_slice cbor t q c read (e, (x, lies, leaves)) =
+exceeds_slice (cbor told) t q c read (e, (x, lies, leaves)) =
     let s = too_wide_scalar (cbor_rules strict_cbor) (kind_of t q) q.time x leaves in
     (s.0, s.1, cbor_wide_slice s.0 q.time x c.input c.at e lies.1 s.2)
 exceeds_slice (query action version) t q c read exceeds = absurd read
@@ -51,14 +51,14 @@ json_other b q (scalar s) i d a e (x, lies, other) = uncarried_token (strict_set
 json_other b q document i d a e h = let (deeper, c, x, ahead, lies, other) = h in other_token x i deeper c e lies other
 json_other b q _ i d a e (x, lies, other) = absurd other
 
-cbor_other : (q : Place) (k : Kind) (i : List ℕ) (d a e : ℕ) → UncarriedAt (cbor_frames true) (cbor_rules strict_cbor) k q.time i d a e → HasOther cbor i k
-cbor_other q (scalar s) i d a e (x, lies, other) = cbor_uncarried_slice s q.time x i a e lies.1 other
-cbor_other q document i d a e h = tt
-cbor_other q _ i d a e (x, lies, other) = absurd other
+cbor_other : (told : Bool) (q : Place) (k : Kind) (i : List ℕ) (d a e : ℕ) → UncarriedAt (cbor_frames true) (cbor_rules strict_cbor) k q.time i d a e → HasOther (cbor told) i k
+cbor_other told q (scalar s) i d a e (x, lies, other) = cbor_uncarried_slice s q.time x i a e lies.1 other
+cbor_other told q document i d a e h = tt
+cbor_other told q _ i d a e (x, lies, other) = absurd other
 
 uncarried_at : (w : Wire) (t : Table) (q : Place) (c : Cursor) → IsReadable w → Uncarried (relations_of w) c t q → HasOther w c.input (kind_of t q)
 uncarried_at (json b) t q c read (e, there) = json_other b q (kind_of t q) c.input (depth c) c.at e there
-uncarried_at cbor t q c read (e, there) = cbor_other q (kind_of t q) c.input (depth c) c.at e there
+uncarried_at (cbor told) t q c read (e, there) = cbor_other told q (kind_of t q) c.input (depth c) c.at e there
 uncarried_at (query action version) t q c read other = absurd read
 
 -- what lies inside of a place is the place of some member, element or map's value

@@ -18,7 +18,7 @@ use Rattle.smithy_transcode.specs.Wires.{Wire, json, cbor, query}
 abbrev pub Spells : Wire → Table → ℕ → List ℕ → Value → Type 0
 Spells (json use_json_name) table root bytes v =
     json_spells (strict_settings use_json_name) table (shape_place root) bytes v
-Spells cbor table root bytes v = cbor_spells strict_cbor table (shape_place root) bytes v
+Spells (cbor definite_lengths) table root bytes v = cbor_spells strict_cbor table (shape_place root) bytes v
 Spells (query action version) table root bytes v = ⊥
 
 -- some bytes spell the value in some wire
@@ -30,12 +30,12 @@ IsSpelled table root v = (wire : Wire) × (bytes : List ℕ) × Spells wire tabl
 abbrev pub SpellsWithoutLimits : Wire → Table → ℕ → List ℕ → Value → Type 0
 SpellsWithoutLimits (json use_json_name) table root bytes v =
     json_spells (without_limits (strict_settings use_json_name)) table (shape_place root) bytes v
-SpellsWithoutLimits cbor table root bytes v =
+SpellsWithoutLimits (cbor definite_lengths) table root bytes v =
     cbor_spells (without_cbor_limits strict_cbor) table (shape_place root) bytes v
 SpellsWithoutLimits (query action version) table root bytes v = ⊥
 
 -- the one body of a value of the root
 abbrev pub body : Wire → Table → ℕ → Value → List ℕ
 body (json use_json_name) table root v = canonical_json (strict_settings use_json_name) (shape_site table root) v
-body cbor table root v = canonical_cbor (shape_site table root) v
+body (cbor definite_lengths) table root v = canonical_cbor definite_lengths (shape_site table root) v
 body (query action version) table root v = canonical_query action version (shape_site table root) v

@@ -17,14 +17,15 @@ use Rattle.smithy_transcode.specs.declared.wire.Unfit.TheVariants.{Document, Nul
 pub data Wire : Type 0 where
   -- members go by their JSON names, where they have one
   json : Bool → Wire
-  cbor : Wire
+  -- lists and maps are written with their lengths
+  cbor : Bool → Wire
   -- a form of this action and version
   query : List ℕ → List ℕ → Wire
 
 -- the wire that is asked for
 abbrev pub wire_of : kept.Wire → Wire
 wire_of (wires.Json use_json_name) = json use_json_name
-wire_of wires.Cbor = cbor
+wire_of (wires.Cbor definite_lengths) = cbor definite_lengths
 wire_of (wires.Query action version) = query (string_bytes action) (string_bytes version)
 
 -- bodies of the wire are read as well as written: those of JSON and CBOR
@@ -40,7 +41,7 @@ has_nulls _ = true
 -- what is written for a scalar at a place with this time form stands for exactly it, and whether documents have a spelling
 abbrev pub holds : Wire → ValueTest
 holds (json use_json_name) = json_holds (strict_settings use_json_name)
-holds cbor = cbor_holds
+holds (cbor definite_lengths) = cbor_holds
 holds (query action version) = query_holds
 
 -- a document stands in the value of a site

@@ -64,7 +64,7 @@ fn lacks_null<T: Tree>(value: &T, to: &Wire) -> bool
     ensures positions { result ≡ false → CanCount (wire_of to.now) (T.view value.now) }
 {
     match to {
-        Wire::Json { use_json_name: _ } | Wire::Cbor => false,
+        Wire::Json { use_json_name: _ } | Wire::Cbor { definite: _ } => false,
         Wire::Query {
             action: _,
             version: _,

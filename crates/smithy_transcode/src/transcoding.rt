@@ -15,7 +15,7 @@ use crate::refusal::refusal;
 use crate::whole_input::read_whole;
 use crate::whole_output::body_of_value;
 use crate::wire::{TranscodeError, Wire};
-use smithy_cbor_codec::CborCodec;
+use smithy_cbor_codec::{CborCodec, CborCodecSettings};
 use smithy_json_codec::JsonCodec;
 use smithy_query_codec::QueryShapeSerializer;
 use smithy_schema::{SerdeError, ShapeRef, Shapes};
@@ -73,8 +73,9 @@ fn write_body(
             let sink = codec.create_serializer(alloc);
             body_of_value(alloc, sink, &schema, value)
         }
-        Wire::Cbor => {
-            let sink = CborCodec::strict().create_serializer(alloc);
+        Wire::Cbor { definite } => {
+            let settings = CborCodecSettings::strict().use_definite_lengths(*definite);
+            let sink = CborCodec::new(settings).create_serializer(alloc);
             body_of_value(alloc, sink, &schema, value)
         }
         Wire::Query { action, version } => {

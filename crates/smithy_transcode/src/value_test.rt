@@ -42,7 +42,7 @@ pub(crate) fn test_of(wire: &Wire) -> ValueTest
             instants: InstantTest::InForm(TimestampFormat::EpochSeconds),
             documents: true,
         },
-        Wire::Cbor => ValueTest {
+        Wire::Cbor { definite: _ } => ValueTest {
             instants: InstantTest::WholeSeconds,
             documents: false,
         },

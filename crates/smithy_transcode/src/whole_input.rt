@@ -79,7 +79,7 @@ pub(crate) fn read_whole<T: Tree>(
             let mut source = codec.create_deserializer(alloc, input);
             read_tree(alloc, &mut source, &schema)
         }
-        Wire::Cbor => {
+        Wire::Cbor { definite: _ } => {
             let mut source = CborCodec::strict().create_deserializer(alloc, input);
             read_tree(alloc, &mut source, &schema)
         }

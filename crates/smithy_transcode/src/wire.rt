@@ -11,7 +11,10 @@ pub enum Wire {
         use_json_name: bool,
     },
     /// CBOR (RFC 8949).
-    Cbor,
+    Cbor {
+        /// Lists and maps are written with their lengths. Both kinds are read in any case.
+        definite: bool,
+    },
     /// A form of AWS Query, which is written and not read.
     Query {
         /// The value of the form's pair `Action`.

@@ -4,7 +4,7 @@ ghost use Rattle.smithy_shapes.specs.Fits.{Fits};
 ghost use Rattle.smithy_shapes.specs.Table.{IsStructure, kind_of, shape_place};
 ghost use Rattle.smithy_transcode.specs.View.{view};
 
-use smithy_cbor_codec::CborCodec;
+use smithy_cbor_codec::{CborCodec, CborCodecSettings};
 use smithy_json_codec::JsonCodec;
 use smithy_query_codec::QueryShapeSerializer;
 use smithy_schema::{FinishSerializer, SerdeError, ShapeDeserializer, ShapeRef, Shapes};
@@ -43,7 +43,7 @@ pub fn read(
             let mut source = codec.create_deserializer(alloc, input);
             read_by(alloc, shapes, root, &mut source)
         }
-        Wire::Cbor => {
+        Wire::Cbor { definite: _ } => {
             let mut source = CborCodec::strict().create_deserializer(alloc, input);
             read_by(alloc, shapes, root, &mut source)
         }
@@ -87,8 +87,9 @@ pub fn write(
             let sink = codec.create_serializer(alloc);
             write_by(alloc, sink, shapes, root, value)
         }
-        Wire::Cbor => {
-            let sink = CborCodec::strict().create_serializer(alloc);
+        Wire::Cbor { definite } => {
+            let settings = CborCodecSettings::strict().use_definite_lengths(*definite);
+            let sink = CborCodec::new(settings).create_serializer(alloc);
             write_by(alloc, sink, shapes, root, value)
         }
         Wire::Query { action, version } => {

@@ -13,7 +13,8 @@ pub fn wire(alloc: Global, row: &Row, name: &str) -> Result<Option<Wire>, AllocE
         "json-name" => Ok(Some(Wire::Json {
             use_json_name: true,
         })),
-        "cbor" => Ok(Some(Wire::Cbor)),
+        "cbor" => Ok(Some(Wire::Cbor { definite: false })),
+        "cbor-definite" => Ok(Some(Wire::Cbor { definite: true })),
         "query" => Ok(Some(Wire::Query {
             action: row.text("action").unwrap_or("").to_string(alloc)?,
             version: row.text("version").unwrap_or("").to_string(alloc)?,

@@ -1,11 +1,10 @@
 -- How a container goes on is determined, entry by entry, and where it goes on it doesn't end.
-use Rattle.std.specs.Prelude.{◌≡◌, ◌<◌, ◌≤◌, ◌⊎◌, ℕ, suc, length, drop, List, [], Option, Some, None, Bool, true, false, unwrap_or}
+use Rattle.std.specs.Prelude.{◌≡◌, ◌<◌, ◌≤◌, ◌⊎◌, ℕ, suc, length, drop, List, Option, Some, None, Bool, true, false, unwrap_or}
 use Rattle.std.proofs.Common.{sym, ◌∙◌, ap, arith, inl, inr}
 use Rattle.smithy_schema.specs.Reading.{Mark}
 use Rattle.smithy_shapes.specs.Lemmas.Options.{same_some}
 use Rattle.cbor_item.specs.WellFormed.{break}
-use Rattle.smithy_cbor_codec.specs.Standing.{begins_with, mark_with, end_mark, HasEntry, IsOver}
-use Rattle.smithy_cbor_codec.specs.Private.FirstBytes.{no_byte_in_nothing}
+use Rattle.smithy_cbor_codec.specs.Standing.{begins_with, mark_with, HasEntry, IsOver}
 
 -- ---- one entry, or the end
 

@@ -1,6 +1,6 @@
 -- Where an item stands in an input, and that it is the only one there.
-use Rattle.std.specs.Prelude.{◌≡◌, ◌<◌, ◌≤◌, ◌-◌, ℕ, length, take, drop, List, [], ◌++◌, slice_range}
-use Rattle.std.proofs.Common.{sym, ◌∙◌, ap, arith, subst, inl, inr}
+use Rattle.std.specs.Prelude.{◌≡◌, ◌<◌, ◌≤◌, ◌-◌, ℕ, length, take, drop, List, ◌++◌, slice_range}
+use Rattle.std.proofs.Common.{sym, ◌∙◌, arith, subst, inl, inr}
 use Rattle.std.proofs.lemmas.Bool.{cases_lt}
 use Rattle.std.proofs.lemmas.List.Folds.{drop_split}
 use Rattle.cbor_item.specs.Item.{Item}

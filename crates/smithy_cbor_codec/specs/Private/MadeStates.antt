@@ -11,10 +11,10 @@ use Rattle.smithy_texts.specs.Numeral.{number}
 use Rattle.smithy_texts.specs.Decimal.{mantissa, net_exponent}
 use Rattle.smithy_cbor_codec.specs.Canonical.{scalar_bytes}
 use Rattle.smithy_cbor_codec.specs.Lengths.{written_length, head_of, ending}
-use Rattle.smithy_cbor_codec.specs.Writing.{CborState, lead, made, where_taken}
+use Rattle.smithy_cbor_codec.specs.Writing.{BodyState, lead, made, where_taken}
 
 -- a state that a call makes has the open containers that the call is told of
-made_frames : (e : Event) (s : CborState) (frames : List Open) → (made e s frames).frames ≡ frames
+made_frames : (e : Event) (s : BodyState) (frames : List Open) → (made e s frames).frames ≡ frames
 made_frames (begin_structure site) s frames = refl
 made_frames end_structure s frames = refl
 made_frames (begin_list site length) s frames = refl
@@ -28,7 +28,7 @@ made_frames (big_decimal_of site written) s frames = refl
 made_frames (document_of site d) s frames = refl
 
 -- the bytes of a state that a call makes begin with the bytes before the call
-made_grows : (e : Event) (s : CborState) (frames : List Open) → (more : List ℕ) × ((made e s frames).out ≡ s.out ++ more)
+made_grows : (e : Event) (s : BodyState) (frames : List Open) → (more : List ℕ) × ((made e s frames).out ≡ s.out ++ more)
 made_grows (begin_structure site) s frames = (lead s site.view ++ head_of 5 None, refl)
 made_grows end_structure s frames = (ending s.lengths, refl)
 made_grows (begin_list site length) s frames = (lead s site.view ++ head_of 4 (written_length s.settings length), refl)
@@ -42,14 +42,14 @@ made_grows (big_decimal_of site written) s frames = (lead s site.view ++ decimal
 made_grows (document_of site d) s frames = ([], sym (append-nil s.out))
 
 -- where a call is taken, the state that it makes has the open containers that the call is told of
-pub taken_frames : (e : Event) (s t : CborState) (frames : Result (List Open) SerdeError) → where_taken (made e s) frames ≡ Ok t → frames ≡ Ok t.frames
-taken_frames e s t (Ok frames) h = let is : made e s frames ≡ t = cc in ap Ok (sym (made_frames e s frames) ∙ ap (λ (x : CborState). x.frames) is)
-taken_frames e s t (Err error) h = absurd (let no : ◌≡◌ {A = Result CborState SerdeError} (Err error) (Ok t) = h in cc)
+pub taken_frames : (e : Event) (s t : BodyState) (frames : Result (List Open) SerdeError) → where_taken (made e s) frames ≡ Ok t → frames ≡ Ok t.frames
+taken_frames e s t (Ok frames) h = let is : made e s frames ≡ t = cc in ap Ok (sym (made_frames e s frames) ∙ ap (λ (x : BodyState). x.frames) is)
+taken_frames e s t (Err error) h = absurd (let no : ◌≡◌ {A = Result BodyState SerdeError} (Err error) (Ok t) = h in cc)
 
 -- where a call is taken, the bytes of the state that it makes begin with the bytes before the call
-pub taken_grows : (e : Event) (s t : CborState) (frames : Result (List Open) SerdeError) → where_taken (made e s) frames ≡ Ok t → (more : List ℕ) × (t.out ≡ s.out ++ more)
+pub taken_grows : (e : Event) (s t : BodyState) (frames : Result (List Open) SerdeError) → where_taken (made e s) frames ≡ Ok t → (more : List ℕ) × (t.out ≡ s.out ++ more)
 taken_grows e s t (Ok frames) h =
     let is : t ≡ made e s frames = cc in
     let more = made_grows e s frames in
-    (more.0, ap (λ (x : CborState). x.out) is ∙ more.1)
-taken_grows e s t (Err error) h = absurd (let no : ◌≡◌ {A = Result CborState SerdeError} (Err error) (Ok t) = h in cc)
+    (more.0, ap (λ (x : BodyState). x.out) is ∙ more.1)
+taken_grows e s t (Err error) h = absurd (let no : ◌≡◌ {A = Result BodyState SerdeError} (Err error) (Ok t) = h in cc)

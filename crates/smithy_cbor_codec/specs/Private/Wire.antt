@@ -1,5 +1,5 @@
 -- CBOR is a wire: what is determined in its framing, how values begin, and that positions rise.
-use Rattle.std.specs.Prelude.{◌≡◌, ◌⊎◌, ◌<◌, ◌≤◌, ◌+◌, ◌-◌, ℕ, zero, suc, length, drop, List, [], ◌∷◌, Option, Some, None, unwrap_or, Bool, true, false, refl}
+use Rattle.std.specs.Prelude.{◌≡◌, ◌⊎◌, ◌<◌, ◌≤◌, ◌+◌, ◌-◌, ℕ, suc, length, drop, List, [], ◌∷◌, Option, Some, None, unwrap_or, Bool, true, false, refl}
 use Rattle.std.proofs.Common.{sym, ◌∙◌, ap, arith, inl, inr}
 use Rattle.std.proofs.lemmas.List.{length-drop}
 use Rattle.smithy_schema.specs.Reading.{Mark, IsBehind as IsPassed}

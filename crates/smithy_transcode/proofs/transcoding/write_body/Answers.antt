@@ -3,7 +3,8 @@ use Rattle.smithy_shapes.specs.Site.{Site, site_of}
 use Rattle.smithy_json_codec.specs.Serializing.{state_of}
 use Rattle.smithy_json_codec.specs.Writing.{fresh_state}
 use Rattle.smithy_cbor_codec.specs.Serializing.{state_of as cbor_state_of}
-use Rattle.smithy_cbor_codec.specs.Writing.{fresh_state as fresh_cbor_state}
+use Rattle.smithy_cbor_codec.specs.Settings.{Settings as CborSettings}
+use Rattle.smithy_cbor_codec.specs.Prefixes.{fresh_state as fresh_cbor_state}
 use Rattle.smithy_query_codec.specs.Serializing.{state_of as form_of}
 use Rattle.smithy_transcode.specs.Wires.{wire_of, json, cbor, query, unfit}
 use Rattle.smithy_transcode.specs.Private.Positions.{CanCount}
@@ -33,18 +34,22 @@ returns-in-Json-clause-ok c =
 pub body_of_value-requires-in-Cbor-clause-taken : goal.body_of_value-requires-in-Cbor-clause-taken
 body_of_value-requires-in-Cbor-clause-taken c =
     let site = site_of c.schema-schema.result in
-    let fresh = c.create_serializer-sink-in-Cbor.ensures.state ∙ ap fresh_cbor_state c.strict.ensures in
-    let held = root_held (wire_of c.args.to.now) cbor c.schema-schema.result c.args.shapes.now c.args.root.0 (view c.args.value.now) (ap wire_of c.in-Cbor.is) c.schema-schema.ensures.site c.requires.fit in
-    (cbor_body site (view c.args.value.now), cbor_adds site (view c.args.value.now) (cbor_state_of c.create_serializer-sink-in-Cbor.result) fresh held, refl)
+    let told = c.in-Cbor.definite in
+    let fresh = c.create_serializer-sink-in-Cbor.ensures.state
+    ∙ ap fresh_cbor_state (c.new.ensures ∙ c.use_definite_lengths-settings.ensures ∙ ap (λ (o : CborSettings). record o { use_definite_lengths = told }) c.strict.ensures) in
+    let held = root_held (wire_of c.args.to.now) (cbor told) c.schema-schema.result c.args.shapes.now c.args.root.0 (view c.args.value.now) (ap wire_of c.in-Cbor.is) c.schema-schema.ensures.site c.requires.fit in
+    (cbor_body told site (view c.args.value.now), cbor_adds told site (view c.args.value.now) (cbor_state_of c.create_serializer-sink-in-Cbor.result) fresh held, refl)
 
 pub returns-in-Cbor-clause-ok : goal.returns-in-Cbor-clause-ok
 returns-in-Cbor-clause-ok c =
     let site = site_of c.schema-schema.result in
-    let fresh = c.create_serializer-sink-in-Cbor.ensures.state ∙ ap fresh_cbor_state c.strict.ensures in
-    let held = root_held (wire_of c.args.to.now) cbor c.schema-schema.result c.args.shapes.now c.args.root.0 (view c.args.value.now) (ap wire_of c.in-Cbor.is) c.schema-schema.ensures.site c.requires.fit in
-    let adds = cbor_adds site (view c.args.value.now) (cbor_state_of c.create_serializer-sink-in-Cbor.result) fresh held in
-    let is = cbor_is_body (wire_of c.args.to.now) c.schema-schema.result c.args.shapes.now c.args.root.0 (view c.args.value.now) (ap wire_of c.in-Cbor.is) c.schema-schema.ensures.site in
-    reached c.body_of_value-in-Cbor.result _ _ c.body_of_value-in-Cbor.ensures.ok (cbor_body site (view c.args.value.now)) _ adds is
+    let told = c.in-Cbor.definite in
+    let fresh = c.create_serializer-sink-in-Cbor.ensures.state
+    ∙ ap fresh_cbor_state (c.new.ensures ∙ c.use_definite_lengths-settings.ensures ∙ ap (λ (o : CborSettings). record o { use_definite_lengths = told }) c.strict.ensures) in
+    let held = root_held (wire_of c.args.to.now) (cbor told) c.schema-schema.result c.args.shapes.now c.args.root.0 (view c.args.value.now) (ap wire_of c.in-Cbor.is) c.schema-schema.ensures.site c.requires.fit in
+    let adds = cbor_adds told site (view c.args.value.now) (cbor_state_of c.create_serializer-sink-in-Cbor.result) fresh held in
+    let is = cbor_is_body (wire_of c.args.to.now) told c.schema-schema.result c.args.shapes.now c.args.root.0 (view c.args.value.now) (ap wire_of c.in-Cbor.is) c.schema-schema.ensures.site in
+    reached c.body_of_value-in-Cbor.result _ _ c.body_of_value-in-Cbor.ensures.ok (cbor_body told site (view c.args.value.now)) _ adds is
 
 pub body_of_value-requires-in-Query-clause-taken : goal.body_of_value-requires-in-Query-clause-taken
 body_of_value-requires-in-Query-clause-taken c =

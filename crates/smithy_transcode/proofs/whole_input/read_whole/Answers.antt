@@ -30,22 +30,22 @@ returns-in-Json-clause-deep g c =
 
 pub returns-in-Cbor-clause-ok : goal.returns-in-Cbor-clause-ok
 returns-in-Cbor-clause-ok g c =
-    let begins = cbor_begins (wire_of c.args.from.now) (cbor_settings_of c.create_deserializer-source-in-Cbor.result) (cbor_cursor_of c.create_deserializer-source-in-Cbor.result) c.schema-schema.result c.args.shapes.now c.args.root.0 c.args.input.now (ap wire_of c.in-Cbor.is) (c.create_deserializer-source-in-Cbor.ensures.settings ∙ c.strict.ensures) c.create_deserializer-source-in-Cbor.ensures.fresh c.schema-schema.ensures.site c.requires.root in
+    let begins = cbor_begins (wire_of c.args.from.now) c.in-Cbor.definite (cbor_settings_of c.create_deserializer-source-in-Cbor.result) (cbor_cursor_of c.create_deserializer-source-in-Cbor.result) c.schema-schema.result c.args.shapes.now c.args.root.0 c.args.input.now (ap wire_of c.in-Cbor.is) (c.create_deserializer-source-in-Cbor.ensures.settings ∙ c.strict.ensures) c.create_deserializer-source-in-Cbor.ensures.fresh c.schema-schema.ensures.site c.requires.root in
     mapped_ok c.read_tree-in-Cbor.result _ _ (λ v h. read_is_spelled begins (cbor_cursor_of c.read_tree-in-Cbor.new.source) (g.T.Tree.view v) h) c.read_tree-in-Cbor.ensures.reads.ok
 
 pub returns-in-Cbor-clause-refused : goal.returns-in-Cbor-clause-refused
 returns-in-Cbor-clause-refused g c =
-    let begins = cbor_begins (wire_of c.args.from.now) (cbor_settings_of c.create_deserializer-source-in-Cbor.result) (cbor_cursor_of c.create_deserializer-source-in-Cbor.result) c.schema-schema.result c.args.shapes.now c.args.root.0 c.args.input.now (ap wire_of c.in-Cbor.is) (c.create_deserializer-source-in-Cbor.ensures.settings ∙ c.strict.ensures) c.create_deserializer-source-in-Cbor.ensures.fresh c.schema-schema.ensures.site c.requires.root in
+    let begins = cbor_begins (wire_of c.args.from.now) c.in-Cbor.definite (cbor_settings_of c.create_deserializer-source-in-Cbor.result) (cbor_cursor_of c.create_deserializer-source-in-Cbor.result) c.schema-schema.result c.args.shapes.now c.args.root.0 c.args.input.now (ap wire_of c.in-Cbor.is) (c.create_deserializer-source-in-Cbor.ensures.settings ∙ c.strict.ensures) c.create_deserializer-source-in-Cbor.ensures.fresh c.schema-schema.ensures.site c.requires.root in
     λ refused. unread_spells_nothing begins (c.read_tree-in-Cbor.ensures.reads.refused refused)
 
 pub returns-in-Cbor-clause-none_without_limits : goal.returns-in-Cbor-clause-none_without_limits
 returns-in-Cbor-clause-none_without_limits g c =
-    let begins = cbor_begins (wire_of c.args.from.now) (cbor_settings_of c.create_deserializer-source-in-Cbor.result) (cbor_cursor_of c.create_deserializer-source-in-Cbor.result) c.schema-schema.result c.args.shapes.now c.args.root.0 c.args.input.now (ap wire_of c.in-Cbor.is) (c.create_deserializer-source-in-Cbor.ensures.settings ∙ c.strict.ensures) c.create_deserializer-source-in-Cbor.ensures.fresh c.schema-schema.ensures.site c.requires.root in
+    let begins = cbor_begins (wire_of c.args.from.now) c.in-Cbor.definite (cbor_settings_of c.create_deserializer-source-in-Cbor.result) (cbor_cursor_of c.create_deserializer-source-in-Cbor.result) c.schema-schema.result c.args.shapes.now c.args.root.0 c.args.input.now (ap wire_of c.in-Cbor.is) (c.create_deserializer-source-in-Cbor.ensures.settings ∙ c.strict.ensures) c.create_deserializer-source-in-Cbor.ensures.fresh c.schema-schema.ensures.site c.requires.root in
     λ invalid. unread_spells_nothing_without_limits begins (c.read_tree-in-Cbor.ensures.reads.none_without_limits (ap (λ (o : CborSettings). o.enforce_strictness) (c.create_deserializer-source-in-Cbor.ensures.settings ∙ c.strict.ensures)) invalid)
 
 pub returns-in-Cbor-clause-deep : goal.returns-in-Cbor-clause-deep
 returns-in-Cbor-clause-deep g c =
-    let begins = cbor_begins (wire_of c.args.from.now) (cbor_settings_of c.create_deserializer-source-in-Cbor.result) (cbor_cursor_of c.create_deserializer-source-in-Cbor.result) c.schema-schema.result c.args.shapes.now c.args.root.0 c.args.input.now (ap wire_of c.in-Cbor.is) (c.create_deserializer-source-in-Cbor.ensures.settings ∙ c.strict.ensures) c.create_deserializer-source-in-Cbor.ensures.fresh c.schema-schema.ensures.site c.requires.root in
+    let begins = cbor_begins (wire_of c.args.from.now) c.in-Cbor.definite (cbor_settings_of c.create_deserializer-source-in-Cbor.result) (cbor_cursor_of c.create_deserializer-source-in-Cbor.result) c.schema-schema.result c.args.shapes.now c.args.root.0 c.args.input.now (ap wire_of c.in-Cbor.is) (c.create_deserializer-source-in-Cbor.ensures.settings ∙ c.strict.ensures) c.create_deserializer-source-in-Cbor.ensures.fresh c.schema-schema.ensures.site c.requires.root in
     is_too_deep begins c.read_tree-in-Cbor.result (cbor_cursor_of c.read_tree-in-Cbor.new.source) c.read_tree-in-Cbor.ensures.reads.refused c.read_tree-in-Cbor.ensures.reads.input (c.read_tree-in-Cbor.ensures.reads.counted (ap (λ (o : CborSettings). o.enforce_strictness) (c.create_deserializer-source-in-Cbor.ensures.settings ∙ c.strict.ensures))) c.read_tree-in-Cbor.ensures.reads.deep c.read_tree-in-Cbor.ensures.reads.nested
 
 pub returns-in-Json-clause-wide : goal.returns-in-Json-clause-wide
@@ -60,12 +60,12 @@ returns-in-Json-clause-uncarried g c =
 
 pub returns-in-Cbor-clause-wide : goal.returns-in-Cbor-clause-wide
 returns-in-Cbor-clause-wide g c =
-    let begins = cbor_begins (wire_of c.args.from.now) (cbor_settings_of c.create_deserializer-source-in-Cbor.result) (cbor_cursor_of c.create_deserializer-source-in-Cbor.result) c.schema-schema.result c.args.shapes.now c.args.root.0 c.args.input.now (ap wire_of c.in-Cbor.is) (c.create_deserializer-source-in-Cbor.ensures.settings ∙ c.strict.ensures) c.create_deserializer-source-in-Cbor.ensures.fresh c.schema-schema.ensures.site c.requires.root in
+    let begins = cbor_begins (wire_of c.args.from.now) c.in-Cbor.definite (cbor_settings_of c.create_deserializer-source-in-Cbor.result) (cbor_cursor_of c.create_deserializer-source-in-Cbor.result) c.schema-schema.result c.args.shapes.now c.args.root.0 c.args.input.now (ap wire_of c.in-Cbor.is) (c.create_deserializer-source-in-Cbor.ensures.settings ∙ c.strict.ensures) c.create_deserializer-source-in-Cbor.ensures.fresh c.schema-schema.ensures.site c.requires.root in
     exceeds_is_wide begins c.read_tree-in-Cbor.result (cbor_cursor_of c.read_tree-in-Cbor.new.source) c.read_tree-in-Cbor.ensures.reads.input c.read_tree-in-Cbor.ensures.reads.wide
 
 pub returns-in-Cbor-clause-uncarried : goal.returns-in-Cbor-clause-uncarried
 returns-in-Cbor-clause-uncarried g c =
-    let begins = cbor_begins (wire_of c.args.from.now) (cbor_settings_of c.create_deserializer-source-in-Cbor.result) (cbor_cursor_of c.create_deserializer-source-in-Cbor.result) c.schema-schema.result c.args.shapes.now c.args.root.0 c.args.input.now (ap wire_of c.in-Cbor.is) (c.create_deserializer-source-in-Cbor.ensures.settings ∙ c.strict.ensures) c.create_deserializer-source-in-Cbor.ensures.fresh c.schema-schema.ensures.site c.requires.root in
+    let begins = cbor_begins (wire_of c.args.from.now) c.in-Cbor.definite (cbor_settings_of c.create_deserializer-source-in-Cbor.result) (cbor_cursor_of c.create_deserializer-source-in-Cbor.result) c.schema-schema.result c.args.shapes.now c.args.root.0 c.args.input.now (ap wire_of c.in-Cbor.is) (c.create_deserializer-source-in-Cbor.ensures.settings ∙ c.strict.ensures) c.create_deserializer-source-in-Cbor.ensures.fresh c.schema-schema.ensures.site c.requires.root in
     uncarried_is_told begins c.read_tree-in-Cbor.result (cbor_cursor_of c.read_tree-in-Cbor.new.source) c.read_tree-in-Cbor.ensures.reads.input c.read_tree-in-Cbor.ensures.reads.uncarried
 
 pub returns-in-Json-clause-sound : goal.returns-in-Json-clause-sound
@@ -78,7 +78,7 @@ returns-in-Json-clause-reading g c = c.read_tree.ensures.reads.reading
 
 pub returns-in-Cbor-clause-sound : goal.returns-in-Cbor-clause-sound
 returns-in-Cbor-clause-sound g c =
-    let begins = cbor_begins (wire_of c.args.from.now) (cbor_settings_of c.create_deserializer-source-in-Cbor.result) (cbor_cursor_of c.create_deserializer-source-in-Cbor.result) c.schema-schema.result c.args.shapes.now c.args.root.0 c.args.input.now (ap wire_of c.in-Cbor.is) (c.create_deserializer-source-in-Cbor.ensures.settings ∙ c.strict.ensures) c.create_deserializer-source-in-Cbor.ensures.fresh c.schema-schema.ensures.site c.requires.root in
+    let begins = cbor_begins (wire_of c.args.from.now) c.in-Cbor.definite (cbor_settings_of c.create_deserializer-source-in-Cbor.result) (cbor_cursor_of c.create_deserializer-source-in-Cbor.result) c.schema-schema.result c.args.shapes.now c.args.root.0 c.args.input.now (ap wire_of c.in-Cbor.is) (c.create_deserializer-source-in-Cbor.ensures.settings ∙ c.strict.ensures) c.create_deserializer-source-in-Cbor.ensures.fresh c.schema-schema.ensures.site c.requires.root in
     λ is. had_not_failed begins (c.read_tree-in-Cbor.ensures.reads.failed.0 is)
 
 pub returns-in-Cbor-clause-reading : goal.returns-in-Cbor-clause-reading

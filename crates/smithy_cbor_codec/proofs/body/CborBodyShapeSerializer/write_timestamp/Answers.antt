@@ -7,20 +7,20 @@ use Rattle.smithy_shapes.specs.Value.{instant}
 use Rattle.smithy_schema.specs.Writing.{scalar_of, after_value}
 use Rattle.smithy_instants.specs.Instant.{seconds_of, subsecond_of}
 use Rattle.smithy_cbor.specs.Written.{epoch_seconds_bytes}
-use Rattle.smithy_cbor_codec.specs.Serializing.{state_of}
+use Rattle.smithy_cbor_codec.specs.Serializing.{body_of}
 use Rattle.smithy_cbor_codec.specs.Writing.{made, where_taken}
 use Rattle.smithy_cbor_codec.proofs.NumberWriting.{wrote_is, call_written}
 use Rattle.smithy_cbor_codec.proofs.InstantWriting.{instant_written, instant_refused}
-use Rattle.smithy_cbor_codec.proofs.serializer.CborSerializerShapeSerializer.write_timestamp.Goals as goal
+use Rattle.smithy_cbor_codec.proofs.body.CborBodyShapeSerializer.write_timestamp.Goals as goal
 
 pub returns-then-has_subsec_nanos-clause-refused : goal.returns-then-has_subsec_nanos-clause-refused
 returns-then-has_subsec_nanos-clause-refused c = λ fault.
-    instant_refused (state_of c.args.self.now) (site_of c.args.schema.now) c.args.value.now
+    instant_refused (body_of c.args.self.now) (site_of c.args.schema.now) c.args.value.now
     (not-true (subsecond_of c.args.value.now == 0) (sym c.has_subsec_nanos.ensures ∙ c.if-has_subsec_nanos.true))
 
 pub returns-in_err-begin_value-clause-refused : goal.returns-in_err-begin_value-clause-refused
 returns-in_err-begin_value-clause-refused c =
-    let s = state_of c.args.self.now in
+    let s = body_of c.args.self.now in
     let site = site_of c.args.schema.now in
     let n = c.args.value.now in
     let whole = not-false (subsecond_of n == 0) (sym c.has_subsec_nanos.ensures ∙ c.if-has_subsec_nanos.false) in
@@ -29,11 +29,11 @@ returns-in_err-begin_value-clause-refused c =
 
 pub returns-clause-ok : goal.returns-clause-ok
 returns-clause-ok c =
-    let s = state_of c.args.self.now in
+    let s = body_of c.args.self.now in
     let site = site_of c.args.schema.now in
     let n = c.args.value.now in
     let bytes = epoch_seconds_bytes (seconds_of n) in
-    let after = (state_of c.begin_value.new.self).frames in
+    let after = (body_of c.begin_value.new.self).frames in
     let whole = not-false (subsecond_of n == 0) (sym c.has_subsec_nanos.ensures ∙ c.if-has_subsec_nanos.false) in
     rw c.succeed.ensures (
     instant_written s site n _ whole

@@ -1,0 +1,2 @@
+-- That the prefix of rows is an entry.
+pub mod MarkEntry
