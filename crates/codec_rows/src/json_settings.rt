@@ -2,7 +2,7 @@
 
 use crate::answers::{push, push_shown};
 use crate::places::split;
-use smithy_json_codec::{JsonCodecSettings, JsonCodecSettingsBuilder};
+use smithy_json_codec::{JsonCodec, JsonCodecSettings, JsonCodecSettingsBuilder};
 use smithy_rows::{Field, Row};
 use smithy_schema::ShapeId;
 use smithy_types::Format;
@@ -118,6 +118,14 @@ pub fn json_settings(alloc: Global, row: &Row) -> Result<JsonCodecSettings, Allo
         }
     }
     Ok(builder.build())
+}
+
+/// The codec under the settings that a row names, or a strict one where it names none.
+pub fn json_codec(alloc: Global, row: &Row, use_json_name: bool) -> Result<JsonCodec, AllocError> {
+    if row.text("set").is_none() {
+        return Ok(JsonCodec::strict(use_json_name));
+    }
+    Ok(JsonCodec::new(json_settings(alloc, row)?))
 }
 
 // What four of the settings are.

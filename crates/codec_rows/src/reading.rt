@@ -2,12 +2,12 @@
 
 use crate::answers::{push_refusal, refused};
 use crate::consumers::consume_call;
+use crate::json_settings::json_codec;
 use crate::named::read_named;
 use crate::reads::{is_call, read_call};
 use crate::settings::cbor_settings;
 use crate::sized::{is_sized_call, sized_call};
 use smithy_cbor_codec::CborCodec;
-use smithy_json_codec::JsonCodec;
 use smithy_rows::{Field, Row};
 use smithy_schema::{ShapeDeserializer, Shapes};
 use std::alloc::{AllocError, Global};
@@ -36,7 +36,6 @@ fn read_line<R: ShapeDeserializer>(
 }
 
 // Makes the calls of a row one after another, of which JSON has one of its own.
-
 fn json_read(
     alloc: Global,
     shapes: &Shapes,
@@ -44,7 +43,7 @@ fn json_read(
     use_json_name: bool,
 ) -> Result<Vec<Field>, AllocError> {
     let input = row.bytes("input").unwrap_or(b"");
-    let codec = JsonCodec::strict(use_json_name);
+    let codec = json_codec(alloc, row, use_json_name)?;
     let namespace = row.text("namespace");
     let mut source = codec.create_deserializer_with_namespace(alloc, input, namespace);
     let mut answers = Vec::new(alloc);

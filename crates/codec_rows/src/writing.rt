@@ -1,12 +1,12 @@
 //! Rows of calls on a serializer.
 
 use crate::answers::{push, push_refusal, push_shown, refused};
+use crate::json_settings::json_codec;
 use crate::named::write_named;
 use crate::prefix::Mark;
 use crate::settings::cbor_settings;
 use crate::writes::{is_call, write_call};
 use smithy_cbor_codec::CborCodec;
-use smithy_json_codec::JsonCodec;
 use smithy_query_codec::QueryShapeSerializer;
 use smithy_rows::{Field, Row};
 use smithy_schema::{FinishSerializer, ShapeSerializer, Shapes};
@@ -68,7 +68,7 @@ fn json_written(
     row: &Row,
     use_json_name: bool,
 ) -> Result<Vec<Field>, AllocError> {
-    let codec = JsonCodec::strict(use_json_name);
+    let codec = json_codec(alloc, row, use_json_name)?;
     let mut sink = codec.create_serializer(alloc);
     let mut answers = Vec::new(alloc);
     for field in &row.fields {
