@@ -2,7 +2,7 @@
 ghost use Rattle.std.specs.Prelude.{◌≡◌, ◌⊎◌, Ok, Err, false, IfOk, IfErr};
 ghost use Rattle.smithy_schema.specs.declared.error.SerdeError.TheVariants.{NoMemory};
 ghost use Rattle.smithy_shapes.specs.Site.{site_of};
-ghost use Rattle.smithy_json_codec.specs.Codec.{strict_settings, strict_codec_settings, with_namespace};
+ghost use Rattle.smithy_json_codec.specs.Codec.{strict_settings, with_namespace};
 ghost use Rattle.smithy_json_codec.specs.Cursor.{cursor_of, reader_settings_of};
 ghost use Rattle.smithy_json_codec.specs.Writing.{fresh_state, json_after};
 ghost use Rattle.smithy_wire.specs.Walking.{fresh_cursor};
@@ -10,7 +10,7 @@ ghost use Rattle.smithy_protocol.specs.Bodies.{HandsOut, IsJsonBody};
 ghost use Rattle.smithy_error_bodies.specs.JsonErrors.{JsonSays};
 ghost use Rattle.smithy_protocol.specs.ErrorAnswers.{json_metadata, SaysMetadata, IsRefusedAnswer};
 ghost use Rattle.smithy_protocol.specs.Messages.{json_request, message_of, text_of};
-ghost use Rattle.smithy_protocol.specs.Protocols.{content_type, protocol_name};
+ghost use Rattle.smithy_protocol.specs.Protocols.{content_type, protocol_name, client_settings, response_settings};
 
 use crate::body::written_body;
 use crate::error_answer::{error_builder, refused};
@@ -18,9 +18,10 @@ use crate::head::{post, target};
 use crate::message::{ProtocolConfig, Request, Response};
 use smithy_error_bodies::{ErrorBody, read_json_error};
 use smithy_error_metadata::Builder;
-use smithy_json_codec::{JsonCodec, JsonDeserializer};
-use smithy_schema::{Schema, SerdeError, SerializableStruct};
+use smithy_json_codec::{JsonCodec, JsonCodecSettings, JsonCodecSettingsBuilder, JsonDeserializer};
+use smithy_schema::{Schema, SerdeError, SerializableStruct, ShapeId};
 use std::alloc::Global;
+use std::borrow::CowStr;
 use std::marker::Model;
 
 // Which of both protocols it is.
@@ -48,6 +49,15 @@ fn protocol_name(version: Version) -> &'static str
     }
 }
 
+// The settings of a client, in the making.
+fn client_settings(version: Version) -> JsonCodecSettingsBuilder
+    ensures { result ≡ client_settings version }
+{
+    JsonCodecSettings::builder()
+        .use_json_name(false)
+        .protocol_id(ShapeId::new(CowStr::Borrowed(protocol_name(version))))
+}
+
 // The body in JSON of a structure.
 fn json_body<V: SerializableStruct>(
     alloc: Global,
@@ -69,7 +79,7 @@ pub struct AwsJsonRpcProtocol {
     target_prefix: Option<String>,
     // What makes the readers of responses.
     codec: JsonCodec,
-    ghost strict: { codec ≡ strict_codec_settings false },
+    ghost of_client: { codec ≡ record (client_settings version) { default_namespace = codec.default_namespace } },
 }
 
 impl Model for AwsJsonRpcProtocol {
@@ -78,7 +88,11 @@ impl Model for AwsJsonRpcProtocol {
 
     ghost Value = { JsonProtocol };
 
-    ghost view = { λ p. record { version = p.version; target_prefix = text_of p.target_prefix } };
+    ghost view = { λ p. record {
+      version = p.version;
+      target_prefix = text_of p.target_prefix;
+      default_namespace = p.codec.default_namespace;
+    } };
 }
 
 impl AwsJsonRpcProtocol {
@@ -92,7 +106,7 @@ impl AwsJsonRpcProtocol {
         AwsJsonRpcProtocol {
             version: Version::V1_0,
             target_prefix: None,
-            codec: JsonCodec::strict(false),
+            codec: JsonCodec::new(client_settings(Version::V1_0).build()),
         }
     }
 
@@ -103,7 +117,7 @@ impl AwsJsonRpcProtocol {
         AwsJsonRpcProtocol {
             version: Version::V1_1,
             target_prefix: None,
-            codec: JsonCodec::strict(false),
+            codec: JsonCodec::new(client_settings(Version::V1_1).build()),
         }
     }
 
@@ -115,6 +129,18 @@ impl AwsJsonRpcProtocol {
             version: self.version,
             target_prefix: Some(prefix),
             codec: self.codec,
+        }
+    }
+
+    /// The protocol where relative names of shapes in documents stand in this namespace.
+    pub fn with_default_namespace(self, namespace: String) -> AwsJsonRpcProtocol
+        ensures { result ≡ record self { default_namespace = Some (string_bytes namespace) } }
+    {
+        let settings = client_settings(self.version).default_namespace(namespace);
+        AwsJsonRpcProtocol {
+            version: self.version,
+            target_prefix: self.target_prefix,
+            codec: JsonCodec::new(settings.build()),
         }
     }
 
@@ -150,15 +176,15 @@ impl AwsJsonRpcProtocol {
         Ok(request)
     }
 
-    /// A reader of the body of a response, of which nothing is read yet. Relative names of shapes in documents stand in the namespace
-    /// of the configuration. It takes no memory.
+    /// A reader of the body of a response, of which nothing is read yet, under the settings of a client. Relative names of shapes in
+    /// documents stand in the namespace that was set, or else in that of the configuration. It takes no memory.
     pub fn deserialize_response<'a>(
         &'a self,
         alloc: Global,
         response: &'a Response,
         config: &'a ProtocolConfig,
     ) -> JsonDeserializer<'a>
-        ensures settings { reader_settings_of result ≡ with_namespace (text_of config.now.namespace) (strict_codec_settings false) }
+        ensures settings { reader_settings_of result ≡ with_namespace (text_of config.now.namespace) (response_settings self.now) }
         ensures fresh { cursor_of result ≡ fresh_cursor response.now.body.items }
     {
         let namespace = config.namespace.as_deref();
