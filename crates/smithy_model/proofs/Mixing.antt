@@ -6,11 +6,11 @@ use Rattle.std.proofs.lemmas.Option.{none-some, slice_get-map, slice_get-get_or,
 use Rattle.std.proofs.lemmas.Slice.Eq.{bytes_eq-Decides}
 use Rattle.std.proofs.lemmas.Bool.Decides.{nat_tests}
 use Rattle.smithy_model.specs.Model.{Shape}
-use Rattle.smithy_model.specs.Mixins.{takes_mixins, nothing, with_shape, mixed, IsMixed, IsShapeOf, LeadsOn, HasNoCircle, AreMixed, IsCircle, IsInCircle, uses_of, MissesMixin}
+use Rattle.smithy_model.specs.Mixins.{takes_mixins, gathered, IsWith, IsMixed, is_done, IsDone, ArePartlyMixed, Disagrees, IsShapeOf, LeadsOn, HasNoCircle, AreMixed, IsCircle, IsInCircle, uses_of, MissesMixin}
 use Rattle.smithy_model.specs.declared.fault.ModelFault.{ModelFault}
 use Rattle.smithy_model.specs.declared.fault.ModelFault.TheVariants as faults
 use Rattle.smithy_model.specs.Faults.{RefusesMixins}
-use Rattle.smithy_model.specs.Mixing.{is_done, IsDone, IsHalfMixed, AreHalfMixed, IsWaiting, IsHeldUp, IsSettledAt, MissesIn, count_of_waiting}
+use Rattle.smithy_model.specs.Mixing.{IsHalfMixed, AreHalfMixed, IsWaiting, IsHeldUp, IsSettledAt, TakesIn, IsAtOdds, RefusesOne, RefusesHere, count_of_waiting}
 use Rattle.smithy_model.specs.Reading.{ids_of}
 
 some_is : {A : Type 0} (x y : A) → Some x ≡ Some y → x ≡ y
@@ -52,16 +52,16 @@ zip_weaker R S (x ∷ xs) (y ∷ ys) weaker zip = (weaker x y zip.0, zip_weaker 
 mixed_weaker : (R S : List ℕ → Shape → Type 0) (own s : Shape) → ((id : List ℕ) (x : Shape) → R id x → S id x) → IsMixed R own s → IsMixed S own s
 mixed_weaker R S own s weaker = by (takes_mixins own)
   where
-    by : (b : Bool) → MatchBool b ((mixins : List Shape) × AllZip R own.mixins mixins × (s ≡ mixed own mixins)) (s ≡ own)
-        → MatchBool b ((mixins : List Shape) × AllZip S own.mixins mixins × (s ≡ mixed own mixins)) (s ≡ own)
+    by : (b : Bool) → MatchBool b ((mixins : List Shape) × AllZip R own.mixins mixins × IsWith own mixins s) (s ≡ own)
+        → MatchBool b ((mixins : List Shape) × AllZip S own.mixins mixins × IsWith own mixins s) (s ≡ own)
     by true (mixins, zip, is) = (mixins, zip_weaker R S own.mixins mixins weaker zip, is)
     by false is = is
 
 mixed_id : (R : List ℕ → Shape → Type 0) (own s : Shape) → IsMixed R own s → s.id ≡ own.id
 mixed_id R own s = by (takes_mixins own)
   where
-    by : (b : Bool) → MatchBool b ((mixins : List Shape) × AllZip R own.mixins mixins × (s ≡ mixed own mixins)) (s ≡ own) → s.id ≡ own.id
-    by true (mixins, zip, is) = ap (λ (x : Shape). x.id) is
+    by : (b : Bool) → MatchBool b ((mixins : List Shape) × AllZip R own.mixins mixins × IsWith own mixins s) (s ≡ own) → s.id ≡ own.id
+    by true (mixins, zip, is) = ap (λ (x : Shape). x.id) is.1
     by false is = ap (λ (x : Shape). x.id) is
 
 -- where a mixin was taken in, it stays
@@ -106,7 +106,7 @@ none_of R ids (id ∷ names) (s ∷ mixins) free zip = rw (free id s zip.0) (non
 
 -- the mixins of one more shape are taken in
 pub taken_in : (own shapes : List Shape) (done : List Bool) (n : ℕ) (u new : Shape) (mixins : List Shape) → slice_get shapes n ≡ Some u → n < length done
-    → is_done done n ≡ false → AllZip (IsDone shapes done) u.mixins mixins → new ≡ mixed u mixins → AreHalfMixed own shapes done
+    → is_done done n ≡ false → AllZip (IsDone shapes done) u.mixins mixins → IsWith u mixins new → AreHalfMixed own shapes done
     → AreHalfMixed own (set shapes n new) (set done n true)
 taken_in own shapes done n u new mixins at within waits zip made half = record {
   long = length-set shapes n new ∙ half.long;
@@ -123,8 +123,8 @@ taken_in own shapes done n u new mixins at within waits zip made half = record {
 
     mixed_now : (o : Shape) → u ≡ o → takes_mixins o ≡ true → IsMixed (IsDone (set shapes n new) (set done n true)) o new
     mixed_now o same takes =
-        subst (λ b. MatchBool b ((ms : List Shape) × AllZip (IsDone (set shapes n new) (set done n true)) o.mixins ms × (new ≡ mixed o ms)) (new ≡ o)) (sym takes)
-        (subst (λ (x : Shape). (ms : List Shape) × AllZip (IsDone (set shapes n new) (set done n true)) x.mixins ms × (new ≡ mixed x ms)) same
+        subst (λ b. MatchBool b ((ms : List Shape) × AllZip (IsDone (set shapes n new) (set done n true)) o.mixins ms × IsWith o ms new) (new ≡ o)) (sym takes)
+        (subst (λ (x : Shape). (ms : List Shape) × AllZip (IsDone (set shapes n new) (set done n true)) x.mixins ms × IsWith x ms new) same
         (mixins, zip_weaker (IsDone shapes done) (IsDone (set shapes n new) (set done n true)) u.mixins mixins (done_still shapes done n new waits) zip, made))
 
     here : (o : Shape) → slice_get own n ≡ Some o → IsHalfMixed (set shapes n new) (set done n true) n o
@@ -196,7 +196,7 @@ half_at_first own done first = record {
 
     state : (o : Shape) (t : Bool) → takes_mixins o ≡ t → MatchBool (not t) (IsMixed (IsDone own done) o o) ((o ≡ o) × (takes_mixins o ≡ true))
     state o true takes = (refl, takes)
-    state o false takes = subst (λ b. MatchBool b ((ms : List Shape) × AllZip (IsDone own done) o.mixins ms × (o ≡ mixed o ms)) (o ≡ o)) (sym takes) refl
+    state o false takes = subst (λ b. MatchBool b ((ms : List Shape) × AllZip (IsDone own done) o.mixins ms × IsWith o ms o) (o ≡ o)) (sym takes) refl
 
 zip_from : {A B : Type 0} (R : A → B → Type 0) (xs : List A) (ys : List B) → length ys ≡ length xs
     → ((k : ℕ) (x : A) → slice_get xs k ≡ Some x → (y : B) × (slice_get ys k ≡ Some y) × R x y) → AllZip R xs ys
@@ -370,15 +370,54 @@ waits_at done n w within is waits = ap (λ o. unwrap_or o false) (slice_get-get_
 pub ids_kept : (old new : List Shape) → uses_of new ≡ uses_of old → ids_of old ≡ ids_of new
 ids_kept old new same = ids_used old ∙ sym (ap (map (λ (u : List ℕ × List (List ℕ)). u.0)) same) ∙ sym (ids_used new)
 
-pub missed_refused : (own : List Shape) (fault : ModelFault) → MissesIn (uses_of own) fault → RefusesMixins own fault
-missed_refused own (faults.BadMixin id) one = inl one
-missed_refused own faults.NoMemory one = tt
-missed_refused own faults.NotJson one = absurd one
-missed_refused own faults.NameTwice one = absurd one
-missed_refused own faults.NotAModel one = absurd one
-missed_refused own (faults.BadShape id) one = absurd one
-missed_refused own (faults.UnknownTarget id) one = absurd one
-missed_refused own (faults.Applied id) one = absurd one
+-- one that waits for no mixin, and has two members of one name with different targets
+at_odds : (own shapes : List Shape) (done : List Bool) (n : ℕ) (u : Shape) (id : List ℕ) → slice_get shapes n ≡ Some u → is_done done n ≡ false
+    → IsAtOdds shapes done u id → AreHalfMixed own shapes done → Disagrees own id
+at_odds own shapes done n u id at waits (mixins, zip, odds, same) half =
+    let there = at_within own n (subst (λ l. n < l) half.long (slice_get_within shapes n u at)) in
+    let equal : there.0 ≡ u = some_is there.0 u (sym (half_waits shapes done n there.0 waits (half.each n there.0 there.1)).0 ∙ at) in
+    (shapes, done, partly, n, u, mixins, there.1 ∙ ap Some equal, same, zip, odds)
+  where
+    partly : ArePartlyMixed own shapes done
+    partly = λ k o is now.
+        let one = half.each k o is in
+        (one.0, one.1, subst (λ b. MatchBool b (IsMixed (IsDone shapes done) o one.0) ((one.0 ≡ o) × (takes_mixins o ≡ true))) now one.2)
+
+pub refused_here : (shapes : List Shape) (done : List Bool) (n : ℕ) (u : Shape) (fault : ModelFault) → slice_get shapes n ≡ Some u → is_done done n ≡ false
+    → RefusesOne shapes done u fault → RefusesHere shapes done fault
+refused_here shapes done n u (faults.BadMixin id) at waits (inl missing) = inl missing
+refused_here shapes done n u (faults.BadMixin id) at waits (inr odds) = inr (λ own half. at_odds own shapes done n u id.now at waits odds half)
+refused_here shapes done n u faults.NoMemory at waits one = tt
+refused_here shapes done n u faults.NotJson at waits one = absurd one
+refused_here shapes done n u faults.NameTwice at waits one = absurd one
+refused_here shapes done n u faults.NotAModel at waits one = absurd one
+refused_here shapes done n u (faults.BadShape id) at waits one = absurd one
+refused_here shapes done n u (faults.UnknownTarget id) at waits one = absurd one
+refused_here shapes done n u (faults.Applied id) at waits one = absurd one
+
+-- what refuses later shapes refuses those before
+pub refused_before : (old shapes : List Shape) (before done : List Bool) (fault : ModelFault) → uses_of shapes ≡ uses_of old → TakesIn old shapes before done
+    → RefusesHere shapes done fault → RefusesHere old before fault
+refused_before old shapes before done (faults.BadMixin id) uses takes (inl missing) = inl (subst (λ us. MissesMixin us id.now) uses missing)
+refused_before old shapes before done (faults.BadMixin id) uses takes (inr odds) = inr (λ own half. odds own (takes own half))
+refused_before old shapes before done faults.NoMemory uses takes one = tt
+refused_before old shapes before done faults.NotJson uses takes one = absurd one
+refused_before old shapes before done faults.NameTwice uses takes one = absurd one
+refused_before old shapes before done faults.NotAModel uses takes one = absurd one
+refused_before old shapes before done (faults.BadShape id) uses takes one = absurd one
+refused_before old shapes before done (faults.UnknownTarget id) uses takes one = absurd one
+refused_before old shapes before done (faults.Applied id) uses takes one = absurd one
+
+pub all_refused : (own : List Shape) (done : List Bool) (fault : ModelFault) → AreHalfMixed own own done → RefusesHere own done fault → RefusesMixins own fault
+all_refused own done (faults.BadMixin id) half (inl missing) = inl missing
+all_refused own done (faults.BadMixin id) half (inr odds) = inr (inr (odds own half))
+all_refused own done faults.NoMemory half one = tt
+all_refused own done faults.NotJson half one = absurd one
+all_refused own done faults.NameTwice half one = absurd one
+all_refused own done faults.NotAModel half one = absurd one
+all_refused own done (faults.BadShape id) half one = absurd one
+all_refused own done (faults.UnknownTarget id) half one = absurd one
+all_refused own done (faults.Applied id) half one = absurd one
 
 far_settled : (shapes : List Shape) (done : List Bool) (k : ℕ) → length shapes ≤ k → IsSettledAt shapes done k
 far_settled shapes done k far = λ long s is waits. absurd (omega (arith, far, slice_get_within shapes k s is))

@@ -14,7 +14,7 @@ use Rattle.smithy_model.specs.Objects.{Entry, entries_in}
 use Rattle.smithy_model.specs.Model.{Member, Kind, structure, union, list, map, Shape, Model}
 use Rattle.smithy_model.specs.Form.{Form}
 use Rattle.smithy_model.specs.Shapes.{operation_in, shape_in}
-use Rattle.smithy_model.specs.Mixins.{uses_of, MissesMixin, IsInCircle}
+use Rattle.smithy_model.specs.Mixins.{uses_of, MissesMixin, IsInCircle, Disagrees}
 use Rattle.smithy_model.specs.Reading.{form_in, has_type, is_of_values, is_operation, operations_name, shapes_among, ids_of, IsUnlinked}
 
 -- the fault of a text that isn't read as JSON
@@ -58,9 +58,9 @@ MissesTarget ids is_a_target _ = ⊥
 abbrev pub RefusesLinks : List Shape → ModelFault → Type 0
 RefusesLinks shapes = MissesTarget (ids_of shapes) (λ id. list_any (λ (s : Shape). has_target id s.kind) shapes)
 
--- a shape takes in a mixin that isn't there, or itself, or one that does so
+-- a shape takes in a mixin that isn't there, or itself, or one that does so, or a member that it has with another target
 abbrev pub RefusesMixins : List Shape → ModelFault → Type 0
-RefusesMixins own (faults.BadMixin id) = MissesMixin (uses_of own) id.now ⊎ IsInCircle own id.now
+RefusesMixins own (faults.BadMixin id) = MissesMixin (uses_of own) id.now ⊎ (IsInCircle own id.now ⊎ Disagrees own id.now)
 RefusesMixins own faults.NoMemory = Unit {0}
 RefusesMixins own _ = ⊥
 

@@ -1,17 +1,10 @@
 -- Shapes whose mixins are taken in one after the other.
-use Rattle.std.specs.Prelude.{◌≡◌, ℕ, ◌+◌, List, [], ◌∷◌, length, MatchBool, Bool, true, false, Some, unwrap_or, if◌then◌else◌, slice_get}
+use Rattle.std.specs.Prelude.{◌≡◌, ◌⊎◌, ℕ, ◌+◌, List, [], ◌∷◌, length, MatchBool, Bool, true, false, Some, unwrap_or, if◌then◌else◌, slice_get}
+use Rattle.std.specs.List.{AllZip}
 use Rattle.smithy_model.specs.Model.{Shape}
 use Rattle.smithy_model.specs.declared.fault.ModelFault.{ModelFault}
 use Rattle.smithy_model.specs.declared.fault.ModelFault.TheVariants as faults
-use Rattle.smithy_model.specs.Mixins.{takes_mixins, IsMixed, LeadsOn, MissesMixin}
-
--- the mixins of the shape of this number were taken in
-abbrev pub is_done : List Bool → ℕ → Bool
-is_done done number = unwrap_or (slice_get done number) false
-
--- one of the shapes whose mixins were taken in is the shape of this id
-abbrev pub IsDone : List Shape → List Bool → List ℕ → Shape → Type 0
-IsDone shapes done id s = (number : ℕ) × (slice_get shapes number ≡ Some s) × (is_done done number ≡ true) × (s.id ≡ id)
+use Rattle.smithy_model.specs.Mixins.{takes_mixins, gathered, IsMixed, LeadsOn, uses_of, MissesMixin, is_done, IsDone, Disagrees}
 
 -- the shape of this number, which was this one, has its mixins, or stays as it was
 abbrev pub IsHalfMixed : List Shape → List Bool → ℕ → Shape → Type 0
@@ -51,8 +44,20 @@ abbrev pub count_of_waiting : List Bool → ℕ
 count_of_waiting [] = 0
 count_of_waiting (d ∷ done) = (if d then 0 else 1) + count_of_waiting done
 
--- why mixins aren't taken in, before all are looked at
-abbrev pub MissesIn : List (List ℕ × List (List ℕ)) → ModelFault → Type 0
-MissesIn uses (faults.BadMixin id) = MissesMixin uses id.now
-MissesIn uses faults.NoMemory = Unit {0}
-MissesIn uses _ = ⊥
+-- the mixins of this shape are done, and its members and theirs don't agree
+abbrev pub IsAtOdds : List Shape → List Bool → Shape → List ℕ → Type 0
+IsAtOdds shapes done s id =
+    (mixins : List Shape) × AllZip (IsDone shapes done) s.mixins mixins × ((gathered s mixins).agrees ≡ false) × (s.id ≡ id)
+
+-- why the mixins of one shape aren't taken in
+abbrev pub RefusesOne : List Shape → List Bool → Shape → ModelFault → Type 0
+RefusesOne shapes done s (faults.BadMixin id) = MissesMixin (uses_of shapes) id.now ⊎ IsAtOdds shapes done s id.now
+RefusesOne shapes done s faults.NoMemory = Unit {0}
+RefusesOne shapes done s _ = ⊥
+
+-- why mixins aren't taken in, before all are looked at: whatever the shapes were at first
+abbrev pub RefusesHere : List Shape → List Bool → ModelFault → Type 0
+RefusesHere shapes done (faults.BadMixin id) =
+    MissesMixin (uses_of shapes) id.now ⊎ ((own : List Shape) → AreHalfMixed own shapes done → Disagrees own id.now)
+RefusesHere shapes done faults.NoMemory = Unit {0}
+RefusesHere shapes done _ = ⊥

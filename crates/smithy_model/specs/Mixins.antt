@@ -1,5 +1,5 @@
 -- What shapes take over from their mixins (Smithy 2.0, "Mixins").
-use Rattle.std.specs.Prelude.{◌≡◌, ◌==◌, ℕ, List, [], ◌∷◌, ◌++◌, length, MatchBool, ◌||◌, not, Bool, true, false, Option, Some, None, if◌then◌else◌, slice_get, bytes_eq, map as list_map}
+use Rattle.std.specs.Prelude.{◌≡◌, ◌==◌, ℕ, List, [], ◌∷◌, ◌++◌, length, MatchBool, ◌||◌, ◌&&◌, not, Bool, true, false, Option, Some, None, if◌then◌else◌, slice_get, unwrap_or, bytes_eq, map as list_map}
 use Rattle.std.specs.List.{AllZip, fold, list_any}
 use Rattle.std.specs.Option.{option_or}
 use Rattle.smithy_model.specs.Model.{Member, Kind, structure, union, list, map, Shape}
@@ -39,19 +39,32 @@ with_member [] given = given ∷ []
 with_member (m ∷ members) given =
     if bytes_eq m.name given.name then redefined m given ∷ members else m ∷ with_member members given
 
--- what is taken over: members, and the traits `sparse` and `timestampFormat`
+-- an earlier member has the name of this one, and another target
+abbrev pub has_other_target : List Member → Member → Bool
+has_other_target [] given = false
+has_other_target (m ∷ members) given =
+    if bytes_eq m.name given.name then not (bytes_eq m.target given.target) else has_other_target members given
+
+-- none of these has another target than the earlier member of its name
+abbrev pub agree : List Member → List Member → Bool
+agree earlier [] = true
+agree earlier (m ∷ members) = not (has_other_target earlier m) && agree (with_member earlier m) members
+
+-- What is taken over: members, and the traits `sparse` and `timestampFormat`. Members of one name have to have one target.
 pub record Gathered : Type 0 where
   pub members : List Member
+  pub agrees : Bool
   pub is_sparse : Bool
   pub time_format : Option (List ℕ)
 
 abbrev pub nothing : Gathered
-nothing = record { members = []; is_sparse = false; time_format = None }
+nothing = record { members = []; agrees = true; is_sparse = false; time_format = None }
 
 -- with what one shape more has; of a trait that several have, the last counts
 abbrev pub with_shape : Gathered → Shape → Gathered
 with_shape g s = record {
   members = fold with_member g.members (members_of s.kind);
+  agrees = g.agrees && agree g.members (members_of s.kind);
   is_sparse = s.is_sparse || g.is_sparse;
   time_format = option_or s.time_format g.time_format;
 }
@@ -60,14 +73,18 @@ with_shape g s = record {
 abbrev pub with_gathered : Shape → Gathered → Shape
 with_gathered own g = record own { kind = with_members own.kind g.members; is_sparse = g.is_sparse; time_format = g.time_format }
 
--- the shape with what its mixins have, in their order, and then with what it has itself
-abbrev pub mixed : Shape → List Shape → Shape
-mixed own mixins = with_gathered own (fold with_shape nothing (mixins ++ own ∷ []))
+-- what the mixins of a shape have, in their order, and then what it has itself
+abbrev pub gathered : Shape → List Shape → Gathered
+gathered own mixins = fold with_shape nothing (mixins ++ own ∷ [])
+
+-- the shape is this one with what its mixins have
+abbrev pub IsWith : Shape → List Shape → Shape → Type 0
+IsWith own mixins s = ((gathered own mixins).agrees ≡ true) × (s ≡ with_gathered own (gathered own mixins))
 
 -- A shape with what its mixins have, each of which is the shape of its id. Without mixins it stays as it is.
 abbrev pub IsMixed : (List ℕ → Shape → Type 0) → Shape → Shape → Type 0
 IsMixed IsMixin own s =
-    MatchBool (takes_mixins own) ((mixins : List Shape) × AllZip IsMixin own.mixins mixins × (s ≡ mixed own mixins)) (s ≡ own)
+    MatchBool (takes_mixins own) ((mixins : List Shape) × AllZip IsMixin own.mixins mixins × IsWith own mixins s) (s ≡ own)
 
 -- one of these shapes is the shape of this id
 abbrev pub IsShapeOf : List Shape → List ℕ → Shape → Type 0
@@ -105,3 +122,24 @@ MissesMixin uses id =
 -- the shape of this id takes in itself, or one that does so, by others or not
 abbrev pub IsInCircle : List Shape → List ℕ → Type 0
 IsInCircle own id = (ids : List ℕ → Bool) × IsCircle own ids × (ids id ≡ true)
+
+-- the mark of this number is set
+abbrev pub is_done : List Bool → ℕ → Bool
+is_done done number = unwrap_or (slice_get done number) false
+
+-- one of the shapes that are marked is the shape of this id
+abbrev pub IsDone : List Shape → List Bool → List ℕ → Shape → Type 0
+IsDone shapes done id s = (number : ℕ) × (slice_get shapes number ≡ Some s) × (is_done done number ≡ true) × (s.id ≡ id)
+
+-- each shape that is marked has what its mixins have, which are marked too
+abbrev pub ArePartlyMixed : List Shape → List Shape → List Bool → Type 0
+ArePartlyMixed own shapes done =
+    (number : ℕ) (o : Shape) → slice_get own number ≡ Some o → is_done done number ≡ true
+    → (s : Shape) × (slice_get shapes number ≡ Some s) × IsMixed (IsDone shapes done) o s
+
+-- the shape of this id and its mixins have two members of one name with different targets
+abbrev pub Disagrees : List Shape → List ℕ → Type 0
+Disagrees own id =
+    (shapes : List Shape) × (done : List Bool) × ArePartlyMixed own shapes done
+    × (number : ℕ) × (o : Shape) × (mixins : List Shape) × (slice_get own number ≡ Some o) × (o.id ≡ id)
+    × AllZip (IsDone shapes done) o.mixins mixins × ((gathered o mixins).agrees ≡ false)

@@ -87,6 +87,7 @@ numbers_view n = list_map (λ t. t.now) n.ids.items
 abbrev pub gathered_view : kept_gathered.Gathered → Gathered
 gathered_view g = record {
   members = list_map member_view g.members.items;
+  agrees = g.agrees;
   is_sparse = g.is_sparse;
   time_format = option_map (λ t. t.now) g.time_format;
 }

@@ -15,7 +15,8 @@ pub enum ModelFault<'a> {
     BadShape(&'a str),
     /// A target that the model doesn't have.
     UnknownTarget(&'a str),
-    /// A shape that takes in itself as a mixin, or a mixin that the model doesn't have.
+    /// A shape that takes in itself as a mixin, or a mixin that the model doesn't have, or whose members of one name have different
+    /// targets.
     BadMixin(&'a str),
     /// Traits that are applied from outside of the shape (`apply`).
     Applied(&'a str),

@@ -1,10 +1,10 @@
 //! What shapes take over from their mixins (Smithy 2.0, "Mixins").
-ghost use Rattle.std.specs.Prelude.{◌≡◌, ◌<◌, ◌||◌, ℕ, option_map, List, not, None, Some, [], ◌∷◌, ◌++◌, map, length, slice_get, true, false, OnOk, IfOk, IfErr, IfSome};
+ghost use Rattle.std.specs.Prelude.{◌≡◌, ◌<◌, ◌||◌, ◌&&◌, ℕ, option_map, List, not, None, Some, [], ◌∷◌, ◌++◌, map, length, slice_get, true, false, OnOk, IfOk, IfErr, IfSome};
 ghost use Rattle.std.specs.List.{fold, AllZip};
 ghost use Rattle.std.specs.Option.{option_or};
 ghost use Rattle.smithy_model.specs.Model as specs;
-ghost use Rattle.smithy_model.specs.Mixins.{takes_mixins, members_of, with_members, redefined, with_member, nothing, with_shape, with_gathered, uses_of, AreMixed};
-ghost use Rattle.smithy_model.specs.Mixing.{is_done, IsDone, TakesIn, IsWaiting, IsHeldUp, IsSettledAt, MissesIn, count_of_waiting};
+ghost use Rattle.smithy_model.specs.Mixins.{takes_mixins, members_of, with_members, redefined, with_member, has_other_target, agree, nothing, with_shape, with_gathered, gathered, uses_of, AreMixed, is_done, IsDone};
+ghost use Rattle.smithy_model.specs.Mixing.{TakesIn, IsWaiting, IsHeldUp, IsSettledAt, RefusesOne, RefusesHere, count_of_waiting};
 ghost use Rattle.smithy_model.specs.Reading.{ids_of};
 ghost use Rattle.smithy_model.specs.Faults.{RefusesMixins};
 ghost use Rattle.smithy_model.specs.Views.{kind_view, member_view, shape_view, numbers_view, gathered_view};
@@ -18,6 +18,8 @@ use std::alloc::{AllocError, Global};
 #[derive(Drop)]
 pub(crate) struct Gathered<'a> {
     pub(crate) members: Vec<Member<'a>>,
+    // No member was added that has another target than the earlier one of its name.
+    pub(crate) agrees: bool,
     pub(crate) is_sparse: bool,
     pub(crate) time_format: Option<&'a str>,
 }
@@ -49,6 +51,12 @@ fn either(given: bool, earlier: bool) -> bool
     given || earlier
 }
 
+fn both(earlier: bool, given: bool) -> bool
+    ensures { result ≡ (earlier && given) }
+{
+    earlier && given
+}
+
 // A member that is defined again: what it isn't given again, it has from the earlier definition.
 fn redefined<'a>(earlier: &Member<'a>, given: &Member<'a>) -> Member<'a>
     ensures { member_view result ≡ redefined (member_view earlier.now) (member_view given.now) }
@@ -69,28 +77,32 @@ fn redefined<'a>(earlier: &Member<'a>, given: &Member<'a>) -> Member<'a>
     }
 }
 
-// Adds a member, in the place of an earlier one of its name where there is one.
-fn put<'a>(members: &mut Vec<Member<'a>>, member: &Member<'a>) -> Result<(), AllocError>
-    ensures { OnOk result (map member_view members.new.items ≡ with_member (map member_view members.old.items) (member_view member.now)) }
+// Adds a member, in the place of an earlier one of its name where there is one, and tells whether that one has its target.
+fn put<'a>(members: &mut Vec<Member<'a>>, member: &Member<'a>) -> Result<bool, AllocError>
+    ensures put { OnOk result (map member_view members.new.items ≡ with_member (map member_view members.old.items) (member_view member.now)) }
+    ensures agrees { IfOk result (λ agrees. agrees ≡ not (has_other_target (map member_view members.old.items) (member_view member.now))) }
 {
     for position in 0..members.len() {
         if members[position].name == member.name {
+            let agrees = members[position].target == member.target;
             members[position] = redefined(&members[position], member);
-            return Ok(());
+            return Ok(agrees);
         }
     }
     members.push(*member)?;
-    Ok(())
+    Ok(true)
 }
 
-// Adds members, one after the other.
-fn put_all<'a>(members: &mut Vec<Member<'a>>, more: &[Member<'a>]) -> Result<(), AllocError>
-    ensures { OnOk result (map member_view members.new.items ≡ fold with_member (map member_view members.old.items) (map member_view more.now)) }
+// Adds members, one after the other, and tells whether they agree with the earlier ones of their names.
+fn put_all<'a>(members: &mut Vec<Member<'a>>, more: &[Member<'a>]) -> Result<bool, AllocError>
+    ensures put { OnOk result (map member_view members.new.items ≡ fold with_member (map member_view members.old.items) (map member_view more.now)) }
+    ensures agree { IfOk result (λ agrees. agrees ≡ agree (map member_view members.old.items) (map member_view more.now)) }
 {
+    let mut agrees = true;
     for member in more {
-        put(members, member)?;
+        agrees = both(agrees, put(members, member)?);
     }
-    Ok(())
+    Ok(agrees)
 }
 
 // Nothing yet.
@@ -99,6 +111,7 @@ fn nothing<'a>(alloc: Global) -> Gathered<'a>
 {
     Gathered {
         members: Vec::new(alloc),
+        agrees: true,
         is_sparse: false,
         time_format: None,
     }
@@ -108,7 +121,8 @@ fn nothing<'a>(alloc: Global) -> Gathered<'a>
 fn add_shape<'a>(gathered: &mut Gathered<'a>, shape: &Shape<'a>) -> Result<(), AllocError>
     ensures { OnOk result (gathered_view gathered.new ≡ with_shape (gathered_view gathered.old) (shape_view shape.now)) }
 {
-    put_all(&mut gathered.members, members_of(&shape.kind))?;
+    let agrees = put_all(&mut gathered.members, members_of(&shape.kind))?;
+    gathered.agrees = both(gathered.agrees, agrees);
     gathered.is_sparse = either(shape.is_sparse, gathered.is_sparse);
     gathered.time_format = text_of(shape.time_format, gathered.time_format);
     Ok(())
@@ -145,9 +159,10 @@ fn gather<'a>(
 ) -> Result<Option<Gathered<'a>>, ModelFault<'a>>
     requires { numbers_view numbers.now ≡ ids_of (map shape_view shapes.now) }
     ensures gathered { IfOk result (λ found. IfSome found (λ g. (mixins : List specs.Shape) × AllZip (IsDone (map shape_view shapes.now) done.now) (shape_view shape.now).mixins mixins
-        × (gathered_view g ≡ fold with_shape nothing (mixins ++ shape_view shape.now ∷ [])))) }
+        × (gathered_view g ≡ gathered (shape_view shape.now) mixins) × (g.agrees ≡ true))) }
     ensures held_up { IfOk result (λ found. found ≡ None → IsHeldUp (map shape_view shapes.now) done.now (shape_view shape.now)) }
-    ensures refused { IfErr result (λ fault. (number : ℕ) → slice_get (map shape_view shapes.now) number ≡ Some (shape_view shape.now) → MissesIn (uses_of (map shape_view shapes.now)) fault) }
+    ensures refused { IfErr result (λ fault. (number : ℕ) → slice_get (map shape_view shapes.now) number ≡ Some (shape_view shape.now)
+        → RefusesOne (map shape_view shapes.now) done.now (shape_view shape.now) fault) }
 {
     let mut gathered = nothing(alloc);
     for id in &shape.mixins {
@@ -160,6 +175,9 @@ fn gather<'a>(
         add_shape(&mut gathered, mixin)?;
     }
     add_shape(&mut gathered, shape)?;
+    if !gathered.agrees {
+        return Err(ModelFault::BadMixin(shape.id));
+    }
     Ok(Some(gathered))
 }
 
@@ -201,7 +219,7 @@ fn take_in<'a>(
     ensures fewer { IfOk result (λ found. found ≡ true → count_of_waiting done.new.items < count_of_waiting done.old.items) }
     ensures held_up { IfOk result (λ found. found ≡ false → (shapes.new ≡ shapes.old) × (done.new ≡ done.old)
         × IsSettledAt (map shape_view shapes.old.items) done.old.items number) }
-    ensures refused { IfErr result (MissesIn (uses_of (map shape_view shapes.old.items))) }
+    ensures refused { IfErr result (RefusesHere (map shape_view shapes.old.items) done.old.items) }
 {
     if number >= shapes.len() || number >= done.len() {
         return Ok(false);
@@ -229,7 +247,7 @@ fn take_in_some<'a>(
     ensures uses { OnOk result (uses_of (map shape_view shapes.new.items) ≡ uses_of (map shape_view shapes.old.items)) }
     ensures fewer { IfOk result (λ found. found ≡ true → count_of_waiting done.new.items < count_of_waiting done.old.items) }
     ensures held_up { IfOk result (λ found. found ≡ false → (k : ℕ) → IsSettledAt (map shape_view shapes.new.items) done.new.items k) }
-    ensures refused { IfErr result (MissesIn (uses_of (map shape_view shapes.old.items))) }
+    ensures refused { IfErr result (RefusesHere (map shape_view shapes.old.items) done.old.items) }
 {
     let mut found = false;
     for number in 0..shapes.len() {
@@ -251,7 +269,7 @@ fn take_in_all<'a>(
     requires { numbers_view numbers.now ≡ ids_of (map shape_view shapes.now.items) }
     ensures mixed { OnOk result (TakesIn (map shape_view shapes.old.items) (map shape_view shapes.new.items) done.old.items done.new.items) }
     ensures held_up { OnOk result ((k : ℕ) → IsSettledAt (map shape_view shapes.new.items) done.new.items k) }
-    ensures refused { IfErr result (MissesIn (uses_of (map shape_view shapes.old.items))) }
+    ensures refused { IfErr result (RefusesHere (map shape_view shapes.old.items) done.old.items) }
 {
     while take_in_some(alloc, shapes, numbers, done)? {}
     Ok(())

@@ -36,7 +36,7 @@ pub enum Status<'a> {
     BadShape(&'a str),
     /// A member's target isn't there.
     UnknownTarget(&'a str),
-    /// A shape takes in itself as a mixin, or a mixin that isn't there.
+    /// A shape takes in itself as a mixin, or a mixin that isn't there, or has members of one name with different targets.
     BadMixin(&'a str),
     /// Traits are applied from outside of this shape or member.
     Applied(&'a str),

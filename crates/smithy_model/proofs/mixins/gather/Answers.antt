@@ -1,8 +1,7 @@
-use Rattle.std.proofs.Common.{◌≡◌, ◌<◌, ◌∙◌, ℕ, List, [], ◌∷◌, ◌++◌, Bor, length, map, get_or, slice_get, bytes_eq, Some, false, subst, rules, arith}
+use Rattle.std.proofs.Common.{◌≡◌, ◌<◌, ◌≤◌, ◌∙◌, ℕ, List, [], ◌∷◌, ◌++◌, Bor, length, map, get_or, slice_get, take_all, bytes_eq, Some, false, sym, ap, subst, inl, inr, refl, rules, arith}
 use Rattle.std.proofs.lemmas.List.{length-map}
-use Rattle.std.specs.List.{list_any}
-use Rattle.smithy_model.specs.Mixins.{nothing, with_shape}
-use Rattle.smithy_model.specs.Mixing.{IsDone}
+use Rattle.std.specs.List.{list_any, AllZip}
+use Rattle.smithy_model.specs.Mixins.{Gathered, nothing, with_shape, IsDone}
 use Rattle.smithy_model.specs.Views.{shape_view, numbers_view, gathered_view}
 use Rattle.smithy_model.proofs.Put.{fold_last}
 use Rattle.smithy_model.proofs.Zip.{zip_next}
@@ -36,8 +35,8 @@ returns-in_default-clause-refused c =
     let unknown = subst (λ (ws : List (Bor (List ℕ))). list_any (λ other. bytes_eq other (get_or ws i d).now) ids ≡ false) c.deref-id-items.ensures.value
     (c.number.ensures.unknown c.in_default.is) in
     λ number at.
-    misses shapes ids number i (shape_view c.args.shape.now) (get_or c.args.shape.now.mixins.items i d).now c.requires at
-    (at_view (λ (t : Bor (List ℕ)). t.now) c.args.shape.now.mixins.items i d within) unknown
+    inl (misses shapes ids number i (shape_view c.args.shape.now) (get_or c.args.shape.now.mixins.items i d).now c.requires at
+    (at_view (λ (t : Bor (List ℕ)). t.now) c.args.shape.now.mixins.items i d within) unknown)
 
 pub returns-in_default-done_at-clause-held_up : goal.returns-in_default-done_at-clause-held_up
 returns-in_default-done_at-clause-held_up c =
@@ -55,3 +54,15 @@ returns-in_default-done_at-clause-held_up c =
       at_view (λ (t : Bor (List ℕ)). t.now) mixins i d within,
       waiting_there shapes ids c.args.done.now c.in-Some.number (get_or mixins i d).now c.requires found (λ far. c.done_at.ensures.waiting c.in_default-done_at.is (omega (arith, far, length-map c.args.shapes.now shape_view))),
     )
+
+pub returns-then-not-gathered-clause-refused : goal.returns-then-not-gathered-clause-refused
+returns-then-not-gathered-clause-refused c =
+    let shapes = map shape_view c.args.shapes.now in
+    let own = shape_view c.args.shape.now in
+    let ids = c.args.shape.now.mixins.items in
+    let mixins = c.loop-id.invariant.0 in
+    let all : length ids ≤ c.loop-id.id-index = search rules in
+    let zip = subst (λ (ws : List (Bor (List ℕ))). AllZip (IsDone shapes c.args.done.now) (map (λ (t : Bor (List ℕ)). t.now) ws) mixins)
+    (take_all c.loop-id.id-index ids all) c.loop-id.invariant.1 in
+    let made = c.in_ok-add_shape-2.ensures ∙ fold_last with_shape nothing (gathered_view c.loop-id.gathered) mixins own c.loop-id.invariant.2 in
+    λ number at. inr (mixins, zip, sym (ap (λ (g : Gathered). g.agrees) made) ∙ c.if-not-gathered.true, refl)

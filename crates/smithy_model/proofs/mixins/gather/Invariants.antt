@@ -1,8 +1,7 @@
 use Rattle.std.proofs.Common.{◌≡◌, List, map, take}
 use Rattle.std.specs.List.{fold, AllZip}
 use Rattle.smithy_model.specs.Model.{Shape}
-use Rattle.smithy_model.specs.Mixins.{nothing, with_shape}
-use Rattle.smithy_model.specs.Mixing.{IsDone}
+use Rattle.smithy_model.specs.Mixins.{nothing, with_shape, IsDone}
 use Rattle.smithy_model.specs.Views.{shape_view, gathered_view}
 use Rattle.smithy_model.proofs.mixins.gather.Given as goal
 

@@ -1,13 +1,13 @@
-use Rattle.std.proofs.Common.{◌≡◌, ◌<◌, ℕ, List, length, map, true, inr, subst, arith}
+use Rattle.std.proofs.Common.{◌≡◌, ◌<◌, ℕ, List, length, map, true, inl, inr, subst, arith}
 use Rattle.std.specs.Prelude.{Bool, not}
 use Rattle.std.proofs.lemmas.Result.{err_from_is_err_and}
 use Rattle.std.proofs.lemmas.List.{length-map}
 use Rattle.smithy_model.specs.declared.model.Shape as kept
 use Rattle.smithy_model.specs.Model.{Shape}
-use Rattle.smithy_model.specs.Mixins.{takes_mixins}
-use Rattle.smithy_model.specs.Mixing.{is_done, AreHalfMixed, IsWaiting}
+use Rattle.smithy_model.specs.Mixins.{takes_mixins, is_done}
+use Rattle.smithy_model.specs.Mixing.{AreHalfMixed, IsWaiting}
 use Rattle.smithy_model.specs.Views.{shape_view}
-use Rattle.smithy_model.proofs.Mixing.{half_at_first, all_mixed, circle_left, missed_refused}
+use Rattle.smithy_model.proofs.Mixing.{half_at_first, all_mixed, circle_left, all_refused}
 use Rattle.smithy_model.proofs.mixins.take_in_mixins.Goals as goal
 
 pub returns-clause-mixed : goal.returns-clause-mixed
@@ -25,7 +25,11 @@ returns-clause-mixed c =
 pub returns-in_err-take_in_all-clause-refused : goal.returns-in_err-take_in_all-clause-refused
 returns-in_err-take_in_all-clause-refused c =
     let p = err_from_is_err_and c.from_residual-in_err-take_in_all.result c.from_residual-in_err-take_in_all.ensures.1 in
-    rw (p.1, p.2) (missed_refused (map shape_view c.args.shapes.now.items) c.in_err-take_in_all.field-0.0 c.in_err-take_in_all.ensures.refused)
+    let own = map shape_view c.args.shapes.now.items in
+    let first = subst (λ (xs : List kept.Shape). c.in_ok-done.done.items ≡ map (λ (s : Shape). not (takes_mixins s)) (map shape_view xs)) c.deref.ensures.value
+    c.in_ok-done.ensures in
+    rw (p.1, p.2)
+    (all_refused own c.in_ok-done.done.items c.in_err-take_in_all.field-0.0 (half_at_first own c.in_ok-done.done.items first) c.in_err-take_in_all.ensures.refused)
 
 pub returns-in-Some-clause-refused : goal.returns-in-Some-clause-refused
 returns-in-Some-clause-refused c =
@@ -36,4 +40,4 @@ returns-in-Some-clause-refused c =
     let half = c.in_ok-take_in_all.ensures.mixed own (half_at_first own c.in_ok-done.done.items first) in
     let waits = subst (λ (ds : List Bool). IsWaiting (map shape_view shapes) ds c.in-Some.id.now) c.deref-4.ensures.value
     (subst (λ (xs : List kept.Shape). IsWaiting (map shape_view xs) c.deref-4.result.now c.in-Some.id.now) c.deref-3.ensures.value c.in-Some.ensures.one) in
-    inr (circle_left own (map shape_view shapes) c.take_in_all.new.done.items c.in-Some.id.now half c.in_ok-take_in_all.ensures.held_up waits)
+    inr (inl (circle_left own (map shape_view shapes) c.take_in_all.new.done.items c.in-Some.id.now half c.in_ok-take_in_all.ensures.held_up waits))

@@ -3,9 +3,9 @@ use Rattle.std.specs.Prelude.{Bool}
 use Rattle.std.proofs.lemmas.Result.{err_from_is_err_and}
 use Rattle.std.proofs.lemmas.List.{length-map}
 use Rattle.smithy_model.specs.Mixins.{uses_of}
-use Rattle.smithy_model.specs.Mixing.{IsSettledAt, MissesIn, count_of_waiting}
+use Rattle.smithy_model.specs.Mixing.{IsSettledAt, count_of_waiting}
 use Rattle.smithy_model.specs.Views.{shape_view}
-use Rattle.smithy_model.proofs.Mixing.{ids_kept, all_settled}
+use Rattle.smithy_model.proofs.Mixing.{ids_kept, all_settled, refused_before}
 use Rattle.smithy_model.proofs.mixins.take_in_some.Goals as goal
 
 pub loop-number-init : goal.loop-number-init
@@ -25,7 +25,9 @@ take_in-requires c =
 pub returns-in_err-take_in-clause-refused : goal.returns-in_err-take_in-clause-refused
 returns-in_err-take_in-clause-refused c =
     let p = err_from_is_err_and c.from_residual.result c.from_residual.ensures.1 in
-    rw (p.1, p.2) (subst (λ us. MissesIn us c.in_err-take_in.field-0.0) c.loop-number.invariant.uses c.in_err-take_in.ensures.refused)
+    rw (p.1, p.2)
+    (refused_before (map shape_view c.args.shapes.now.items) (map shape_view c.loop-number.shapes.items) c.args.done.now.items c.loop-number.done.items
+    c.in_err-take_in.field-0.0 c.loop-number.invariant.uses c.loop-number.invariant.mixed c.in_err-take_in.ensures.refused)
 
 pub loop-number-preserved : goal.loop-number-preserved
 loop-number-preserved c =

@@ -1,5 +1,5 @@
 use Rattle.std.proofs.Common.{◌≡◌, ◌<◌, ℕ, true}
-use Rattle.smithy_model.specs.Mixing.{is_done}
+use Rattle.smithy_model.specs.Mixins.{is_done}
 use Rattle.smithy_model.proofs.mixins.waiting.Given as goal
 
 -- none so far waits
