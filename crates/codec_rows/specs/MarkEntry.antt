@@ -1,13 +1,19 @@
 -- The prefix of rows is one entry.
-use Rattle.std.specs.Prelude.{[], ◌∷◌, Ok, refl}
+use Rattle.std.specs.Prelude.{◌<◌, ℕ, [], ◌∷◌, Ok, refl}
 use Rattle.std.proofs.Common.{arith}
-use Rattle.cbor_item.specs.Item.{no_pairs, pair}
+use Rattle.cbor_item.specs.Head.{initial_byte, immediate, IsHead}
+use Rattle.cbor_item.specs.Item.{definite, unsigned, text_string, no_pairs, pair}
+use Rattle.cbor_item.specs.WellFormed.{IsEncodingOf}
 use Rattle.smithy_cbor_codec.specs.Prefixes.{AreEntries}
-use Rattle.smithy_cbor_codec.proofs.EncodedItems.{Encoded, short_text, small}
+
+-- a head of one byte
+in_one_byte : (major n : ℕ) → n < 24 → IsHead major n (initial_byte major n ∷ [])
+in_one_byte major n fits = record { width = immediate; fits = fits; spelled = refl }
+
+key : IsEncodingOf (text_string definite ((0x70 ∷ []) ∷ [])) (0x61 ∷ 0x70 ∷ [])
+key = (refl, (0x61 ∷ 0x70 ∷ [], [], (0x61 ∷ [], in_one_byte 3 1 (omega arith), refl), refl, refl))
 
 -- `p` and 1
 pub mark_is_an_entry : AreEntries (Ok (0x61 ∷ 0x70 ∷ 0x01 ∷ []))
 mark_is_an_entry =
-    let key : Encoded = short_text (0x70 ∷ []) (omega arith) in
-    let value : Encoded = small 1 (omega arith) in
-    (pair key.item value.item no_pairs, (key.bytes, value.bytes, [], key.is, value.is, refl, refl))
+    (pair (text_string definite ((0x70 ∷ []) ∷ [])) (unsigned 1) no_pairs, (0x61 ∷ 0x70 ∷ [], 0x01 ∷ [], [], key, in_one_byte 0 1 (omega arith), refl, refl))
