@@ -49,6 +49,7 @@ pub mod DocumentVariants
 pub mod DocumentFrames
 pub mod DocumentScalars
 pub mod DocumentReads
+pub mod TreeDocuments
 pub mod HeldNumbers
 pub mod GrammarReads
 pub mod ScalarReads

@@ -3,10 +3,13 @@ use Rattle.std.specs.Prelude.{◌≡◌, ◌⊎◌, ◌+◌, ℕ, length, drop, 
 use Rattle.smithy_types.specs.Document.{Document}
 use Rattle.smithy_types.specs.declared.number.Number.{Number}
 use Rattle.smithy_shapes.specs.declared.shape_type.Scalar.TheVariants as scalars
+use Rattle.smithy_json.specs.Tree.{Json}
 use Rattle.smithy_json.specs.HeldNumber.{number_of}
+use Rattle.smithy_json.specs.DocumentMeaning.{document_meaning}
 use Rattle.smithy_json_codec.specs.Settings.{Settings, Limits, kept, lifted}
 use Rattle.smithy_json_codec.specs.Scalar.{JsonScalar, a_number, document_says}
 use Rattle.smithy_json_codec.specs.Spans.{Lies, IsByte}
+use Rattle.smithy_json_codec.specs.Standing.{TreeLies, FollowsContainer}
 use Rattle.smithy_json_codec.specs.Tokens.{BoundaryBy, EndsContainer}
 use Rattle.smithy_json_codec.specs.LexicalGrammar.{LexicalGrammar, in_grammar, frames_of, token_rules, LiesInGrammar}
 use Rattle.smithy_json_codec.specs.Deepest.{IsDueInside}
@@ -86,3 +89,17 @@ DocumentStands g c depth input a d e =
 abbrev pub NoDocumentStands : LexicalGrammar → Settings → ℕ → List ℕ → ℕ → Type 0
 NoDocumentStands g c depth input a =
     (d : Document Number) (e : ℕ) → DocumentStands g c depth input a d e → ⊥
+
+-- ---- documents at a place, by the grammar of RFC 8259
+
+-- from a to e lies a tree that means the document inside so many containers, and behind it comes what may follow a container
+pub record TreeDocumentStands (limits : Option ℕ) (depth : ℕ) (input : List ℕ) (a : ℕ) (d : Document Number) (e : ℕ) : Type 0 where
+  pub tree : Json
+  pub lies : TreeLies 1 tree input a e
+  pub means : document_meaning limits depth tree ≡ Some d
+  pub follows : FollowsContainer depth (drop e input)
+
+-- from a on no tree lies that means a document so
+abbrev pub NoTreeDocumentStands : Option ℕ → ℕ → List ℕ → ℕ → Type 0
+NoTreeDocumentStands limits depth input a =
+    (d : Document Number) (e : ℕ) → TreeDocumentStands limits depth input a d e → ⊥

@@ -51,7 +51,8 @@ impl ShapeDeserializer for JsonDeserializer<'_> {
     ghost use Rattle.smithy_shapes.specs.declared.shape_type.Scalar.TheVariants as scalars;
     ghost use Rattle.smithy_shapes.specs.Value.{whole, decimal};
     ghost use Rattle.smithy_json_codec.specs.NumberText.{NumberTextLies};
-    ghost use Rattle.smithy_json_codec.specs.Documents.{DocumentStands, NoDocumentStands, MeetsOtherNumber, OpensDocumentTooDeep};
+    ghost use Rattle.smithy_json_codec.specs.Documents.{DocumentStands, NoDocumentStands, TreeDocumentStands, NoTreeDocumentStands, MeetsOtherNumber, OpensDocumentTooDeep};
+    ghost use Rattle.smithy_json_codec.specs.LexicalGrammar.{rfc_8259};
     ghost use Rattle.smithy_json_codec.specs.Laws.{lawful as json_is_lawful, fit as json_fits, counts as json_counts, above as limits_are_above};
 
     ghost Settings = { CodecSettings };
@@ -411,6 +412,11 @@ impl ShapeDeserializer for JsonDeserializer<'_> {
         // What is read is the document that the JSON value there means, each number in its variant, and what is refused means none.
         ensures meaning { IfOk result (λ x. DocumentStands (json_grammar (reading_settings_of self.old)) (reading_settings_of self.old) (depth (cursor_of self.old)) (cursor_of self.old).input (cursor_of self.old).at (document_view x) (cursor_of self.new).at) }
         ensures no_meaning { IsRefused result → (cursor_of self.old).due ≡ true → NoDocumentStands (json_grammar (reading_settings_of self.old)) (reading_settings_of self.old) (depth (cursor_of self.old)) (cursor_of self.old).input (cursor_of self.old).at }
+
+        // Where JSON is read by RFC 8259, a tree of it means what is read, by the definition that holds for tokens too, and none
+        // means what is refused.
+        ensures tree_meaning { json_grammar (reading_settings_of self.old) ≡ rfc_8259 → IfOk result (λ x. TreeDocumentStands (Some (reading_settings_of self.old).max_depth) (depth (cursor_of self.old)) (cursor_of self.old).input (cursor_of self.old).at (document_view x) (cursor_of self.new).at) }
+        ensures no_tree_meaning { json_grammar (reading_settings_of self.old) ≡ rfc_8259 → IsRefused result → (cursor_of self.old).due ≡ true → NoTreeDocumentStands (Some (reading_settings_of self.old).max_depth) (depth (cursor_of self.old)) (cursor_of self.old).input (cursor_of self.old).at }
     {
         self.walk.ready()?;
         match standing_document_at(

@@ -7,6 +7,7 @@ use Rattle.smithy_json_codec.specs.Cursor.{cursor_of, reading_settings_of}
 use Rattle.smithy_json_codec.specs.Standing.{json_grammar}
 use Rattle.smithy_json_codec.proofs.DeserializerLemmas.{error_of}
 use Rattle.smithy_json_codec.proofs.DocumentReads.{document_within, reads_document, refuses_document, too_deep_found, other_found, refused_means_nothing}
+use Rattle.smithy_json_codec.proofs.TreeDocuments.{tree_stands, no_tree_stands}
 use Rattle.smithy_wire.proofs.ScalarReads.{was_ready}
 use Rattle.smithy_json_codec.proofs.deserializer.JsonDeserializerShapeDeserializer.read_document.Goals as goal
 
@@ -27,6 +28,15 @@ returns-in-Ok-clause-meaning c =
     let found = rw (c.input.ensures, same, opens) at c.in-Ok.ensures.ok in
     let at : c.pass.new.self.position ≡ c.in-Ok.end = ap (λ x. x.at) c.pass.ensures.passed in
     rw at found
+
+pub returns-in-Ok-clause-tree_meaning : goal.returns-in-Ok-clause-tree_meaning
+returns-in-Ok-clause-tree_meaning c = λ standard.
+    let same : c.ready.new.self ≡ c.args.self.now.walk = c.in_ok-ready.ensures.ok in
+    let opens = rw same at c.depth.ensures in
+    let found = rw (c.input.ensures, same, opens) at c.in-Ok.ensures.ok in
+    let at : c.pass.new.self.position ≡ c.in-Ok.end = ap (λ x. x.at) c.pass.ensures.passed in
+    tree_stands (reading_settings_of c.args.self.now) _ c.args.self.now.walk.input.now c.args.self.now.walk.position
+    (json_grammar (reading_settings_of c.args.self.now)) standard (document_view c.in-Ok.document) c.pass.new.self.position (rw at found)
 
 pub returns-in-Err-clause-read : goal.returns-in-Err-clause-read
 returns-in-Err-clause-read c =
@@ -62,6 +72,16 @@ returns-in-Err-clause-no_meaning c = λ refused due.
     let found = rw (c.input.ensures, same, opens) at c.in-Err.ensures.refused in
     refused_means_nothing (json_grammar (reading_settings_of c.args.self.now)) (reading_settings_of c.args.self.now) _ c.args.self.now.walk.input.now c.args.self.now.walk.position c.in-Err.fault found
     (rw (c.refuse.ensures.error ∙ c.refusal.ensures) at refused)
+
+pub returns-in-Err-clause-no_tree_meaning : goal.returns-in-Err-clause-no_tree_meaning
+returns-in-Err-clause-no_tree_meaning c = λ standard refused due.
+    let same : c.ready.new.self ≡ c.args.self.now.walk = c.in_ok-ready.ensures.ok in
+    let opens = rw same at c.depth.ensures in
+    let found = rw (c.input.ensures, same, opens) at c.in-Err.ensures.refused in
+    no_tree_stands (reading_settings_of c.args.self.now) _ c.args.self.now.walk.input.now c.args.self.now.walk.position
+    (json_grammar (reading_settings_of c.args.self.now)) standard
+    (refused_means_nothing (json_grammar (reading_settings_of c.args.self.now)) (reading_settings_of c.args.self.now) _ c.args.self.now.walk.input.now c.args.self.now.walk.position c.in-Err.fault found
+    (rw (c.refuse.ensures.error ∙ c.refusal.ensures) at refused))
 
 pub standing_document_at-requires-clause-within : goal.standing_document_at-requires-clause-within
 standing_document_at-requires-clause-within c = grind (arith, common_steps)
