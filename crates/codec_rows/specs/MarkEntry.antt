@@ -4,7 +4,7 @@ use Rattle.std.proofs.Common.{arith}
 use Rattle.cbor_item.specs.Head.{initial_byte, immediate, IsHead}
 use Rattle.cbor_item.specs.Item.{definite, unsigned, text_string, no_pairs, pair}
 use Rattle.cbor_item.specs.WellFormed.{IsEncodingOf}
-use Rattle.smithy_cbor_codec.specs.Prefixes.{AreEntries}
+use Rattle.smithy_cbor_body.specs.Prefixes.{AreEntries}
 
 -- a head of one byte
 in_one_byte : (major n : ℕ) → n < 24 → IsHead major n (initial_byte major n ∷ [])

@@ -1,7 +1,7 @@
 //! Rows of clients' own types, which are read from one wire and written to all.
 
-use crate::answers::{push, push_shown, refused};
 use dynamodb_client::{PutItemInput, read_put_item, write_put_item};
+use reader_calls::answers::{push, push_shown, refused};
 use smithy_cbor_codec::CborCodec;
 use smithy_json_codec::JsonCodec;
 use smithy_query_codec::QueryShapeSerializer;

@@ -1,7 +1,7 @@
 //! The settings of JSON, as the lines of a row tell them.
 
-use crate::answers::{push, push_shown};
-use crate::places::split;
+use reader_calls::answers::{push, push_shown};
+use reader_calls::places::split;
 use smithy_json_codec::{JsonCodec, JsonCodecSettings, JsonCodecSettingsBuilder};
 use smithy_rows::{Field, Row};
 use smithy_schema::ShapeId;

@@ -1,10 +1,10 @@
 //! Documents with the identifier of their shape, which JSON alone reads and writes.
 
-use crate::answers::push;
 use crate::json_settings::form_name;
-use crate::places::{place_of, split};
-use crate::reads::push_text;
 use crate::writes::document_of;
+use reader_calls::answers::push;
+use reader_calls::places::{place_of, split};
+use reader_calls::reads::push_text;
 use smithy_json_codec::{JsonDeserializer, JsonSerializer};
 use smithy_rows::{Field, bytes_of};
 use smithy_schema::{SerdeError, Shapes};

@@ -1,8 +1,8 @@
 //! The kinds of rows.
 
-use crate::answers::refused;
-use crate::places::shapes_of;
 use crate::{clients, json_settings, reading, writing};
+use reader_calls::answers::refused;
+use reader_calls::places::shapes_of;
 use smithy_rows::{Field, Program, Row, Rows};
 use std::alloc::{AllocError, Global};
 

@@ -1,12 +1,12 @@
 //! Rows of calls on a reader.
 
-use crate::answers::{push_refusal, refused};
-use crate::consumers::consume_call;
 use crate::json_settings::json_codec;
 use crate::named::read_named;
-use crate::reads::{is_call, read_call};
 use crate::settings::cbor_settings;
-use crate::sized::{is_sized_call, sized_call};
+use reader_calls::answers::{push_refusal, refused};
+use reader_calls::consumers::consume_call;
+use reader_calls::reads::{is_call, read_call};
+use reader_calls::sized::{is_sized_call, sized_call};
 use smithy_cbor_codec::CborCodec;
 use smithy_rows::{Field, Row};
 use smithy_schema::{ShapeDeserializer, Shapes};

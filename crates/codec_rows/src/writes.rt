@@ -1,6 +1,6 @@
 //! Calls on a serializer.
 
-use crate::places::{place_of, split};
+use reader_calls::places::{place_of, split};
 use smithy_json_codec::JsonCodec;
 use smithy_rows::bytes_of;
 use smithy_schema::{Schema, SerdeError, ShapeDeserializer, ShapeSerializer, ShapeType, Shapes};

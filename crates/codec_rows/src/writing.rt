@@ -1,11 +1,11 @@
 //! Rows of calls on a serializer.
 
-use crate::answers::{push, push_refusal, push_shown, refused};
 use crate::json_settings::json_codec;
 use crate::named::write_named;
 use crate::prefix::Mark;
 use crate::settings::cbor_settings;
 use crate::writes::{is_call, write_call};
+use reader_calls::answers::{push, push_refusal, push_shown, refused};
 use smithy_cbor_codec::CborCodec;
 use smithy_query_codec::QueryShapeSerializer;
 use smithy_rows::{Field, Row};

@@ -9,12 +9,12 @@ use Rattle.smithy_shapes.specs.declared.place.Place.{Place}
 use Rattle.smithy_shapes.specs.Table.{Table, kind_of, IsList, IsMap, IsStructure}
 use Rattle.smithy_schema.specs.Reading.{Cursor, Frame, depth, Mark, Enters, Steps, Leaves, Conducts, OpensNot, SkipsNot, CannotGoOn, in_list, in_map}
 use Rattle.smithy_cbor_codec.specs.Cursor.{inside_of}
-use Rattle.smithy_cbor_codec.specs.Settings.{Settings, Limits, kept, lifted, is_within}
-use Rattle.smithy_cbor_codec.specs.Standing.{FollowsInside, RestIsEmpty, HasEntry, IsOver, mark_with, end_mark, end_depth, cbor_relations}
+use Rattle.smithy_cbor_values.specs.Settings.{Settings, Limits, kept, lifted, is_within}
+use Rattle.smithy_cbor_values.specs.Standing.{FollowsInside, RestIsEmpty, HasEntry, IsOver, mark_with, end_mark, end_depth, cbor_relations}
 use Rattle.smithy_cbor_codec.specs.Private.PassedEntries.{HasKey, PairMissing}
-use Rattle.smithy_cbor_codec.specs.Private.Skipping.{SkipsTo}
-use Rattle.smithy_cbor_codec.specs.Private.Entries.{same_over, entry_or_over}
-use Rattle.smithy_cbor_codec.specs.Private.ItemPlaces.{item_ahead, one_item}
+use Rattle.smithy_cbor_values.specs.Private.Skipping.{SkipsTo}
+use Rattle.smithy_cbor_values.specs.Private.Entries.{same_over, entry_or_over}
+use Rattle.smithy_cbor_values.specs.Private.ItemPlaces.{item_ahead, one_item}
 use Rattle.smithy_cbor_codec.proofs.EntryLemmas.{entry_by_due, over_by_due, key_by_due}
 use Rattle.smithy_cbor_codec.proofs.ReaderLemmas.{opens_empty, steps_in_list, closes_list, list_is_stuck, steps_in_map, closes_map, map_is_stuck}
 use Rattle.smithy_cbor_codec.proofs.SkippedValues.{skips_are}

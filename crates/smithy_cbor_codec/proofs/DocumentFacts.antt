@@ -10,11 +10,11 @@ use Rattle.smithy_shapes.specs.Value.{Value, document_value, list, no_values, va
 use Rattle.smithy_shapes.specs.ScalarTest.{scalars_pass}
 use Rattle.smithy_schema.specs.Writing.{document_of, write, open_structure, open_list, open_map_at_key, open_map_at_value}
 use Rattle.cbor_item.specs.Item.{unsigned, negative, byte_string, definite, tag, simple, float}
-use Rattle.smithy_cbor_codec.specs.Canonical.{cbor_holds, canonical_cbor}
-use Rattle.smithy_cbor_codec.specs.Meaning.{cbor_meaning}
-use Rattle.smithy_cbor_codec.specs.Settings.{without_limits}
-use Rattle.smithy_cbor_codec.specs.Codec.{strict_settings}
-use Rattle.smithy_cbor_codec.specs.Writing.{fresh_body, body_after}
+use Rattle.smithy_cbor_body.specs.Canonical.{cbor_holds, canonical_cbor}
+use Rattle.smithy_cbor_values.specs.Meaning.{cbor_meaning}
+use Rattle.smithy_cbor_values.specs.Settings.{without_limits}
+use Rattle.smithy_cbor_body.specs.Codec.{strict_settings}
+use Rattle.smithy_cbor_body.specs.Writing.{fresh_body, body_after}
 use Rattle.smithy_cbor_codec.proofs.OnLiterals.{smithy_cbor_codec_on_literals}
 use Rattle.smithy_cbor_codec.proofs.Examples.{plain_member, named, list_shape, map_shape, a_text, null, undefined, an_array, a_map, alone, both, strict, empty_structure, first_alone, long_place, whole_value, means_at, would_mean_at}
 

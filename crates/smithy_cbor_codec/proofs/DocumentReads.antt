@@ -9,11 +9,11 @@ use Rattle.smithy_shapes.specs.Site.{Site}
 use Rattle.smithy_shapes.specs.Value.{Value}
 use Rattle.smithy_schema.specs.Reading.{Cursor, depth, StandsNot, ReadsDocument, failed_at}
 use Rattle.cbor_item.specs.Item.{Item}
-use Rattle.smithy_cbor_codec.specs.Settings.{Settings, kept, without_limits}
-use Rattle.smithy_cbor_codec.specs.Meaning.{rules_of}
-use Rattle.smithy_cbor_codec.specs.Standing.{end_depth, cbor_frames, frames_of, cbor_relations}
-use Rattle.smithy_cbor_codec.specs.Private.NodePlaces.{lies_item, lies_full, all_there}
-use Rattle.smithy_cbor_codec.specs.Private.Skipping.{SkipsTo}
+use Rattle.smithy_cbor_values.specs.Settings.{Settings, kept, without_limits}
+use Rattle.smithy_cbor_values.specs.Meaning.{rules_of}
+use Rattle.smithy_cbor_values.specs.Standing.{end_depth, cbor_frames, frames_of, cbor_relations}
+use Rattle.smithy_cbor_values.specs.Private.NodePlaces.{lies_item, lies_full, all_there}
+use Rattle.smithy_cbor_values.specs.Private.Skipping.{SkipsTo}
 use Rattle.smithy_wire.specs.Documents.{document_meaning}
 use Rattle.smithy_wire.specs.Node.{Node, null_node, leaf, container, missing}
 use Rattle.smithy_wire.specs.Frames.{Lies}

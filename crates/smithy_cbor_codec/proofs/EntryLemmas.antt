@@ -3,9 +3,9 @@ use Rattle.std.proofs.Common.{◌≡◌, ◌<◌, inl, inr, ℕ, List, sym, ap, 
 use Rattle.smithy_schema.specs.Reading.{Mark}
 use Rattle.smithy_shapes.specs.Lemmas.Options.{same_some}
 use Rattle.smithy_cbor.specs.Scalar.{text_of}
-use Rattle.smithy_cbor_codec.specs.Standing.{HasEntry, IsOver}
-use Rattle.smithy_cbor_codec.specs.Private.ScalarAtPlace.{HasTextAt}
-use Rattle.smithy_cbor_codec.specs.Private.ItemPlaces.{item_ahead, one_item}
+use Rattle.smithy_cbor_values.specs.Standing.{HasEntry, IsOver}
+use Rattle.smithy_cbor_values.specs.Private.ScalarAtPlace.{HasTextAt}
+use Rattle.smithy_cbor_values.specs.Private.ItemPlaces.{item_ahead, one_item}
 use Rattle.smithy_cbor_codec.specs.Private.PassedEntries.{HasKey}
 
 pub entry_by_due : (i : List ℕ) (b : ℕ) (m k n : Mark) → m.due ≡ k.due → HasEntry i b m n → HasEntry i b k n

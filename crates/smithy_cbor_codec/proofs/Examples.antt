@@ -8,9 +8,9 @@ use Rattle.smithy_shapes.specs.Site.{shape_site}
 use Rattle.smithy_shapes.specs.Value as values
 use Rattle.smithy_shapes.specs.Value.{whole, text, Value, scalar_value, no_values, no_member_values, member_value}
 use Rattle.cbor_item.specs.Item.{definite, indefinite, Item, text_string, array, map as map_item, simple, Items, no_items, item, Pairs, no_pairs, pair}
-use Rattle.smithy_cbor_codec.specs.Settings.{Settings, kept, without_limits}
-use Rattle.smithy_cbor_codec.specs.Meaning.{cbor_meaning}
-use Rattle.smithy_cbor_codec.specs.Canonical.{canonical_cbor}
+use Rattle.smithy_cbor_values.specs.Settings.{Settings, kept, without_limits}
+use Rattle.smithy_cbor_values.specs.Meaning.{cbor_meaning}
+use Rattle.smithy_cbor_body.specs.Canonical.{canonical_cbor}
 
 -- ---- scalars
 

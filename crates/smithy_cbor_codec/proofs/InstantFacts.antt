@@ -10,10 +10,10 @@ use Rattle.smithy_shapes.specs.Value.{instant, scalar_value, null_element}
 use Rattle.smithy_schema.specs.Writing.{scalar_of}
 use Rattle.cbor_item.specs.Item.{unsigned, negative, tag, simple, float}
 use Rattle.smithy_wire.specs.Rules.{means, no_meaning, uncarried}
-use Rattle.smithy_cbor_codec.specs.Scalar.{says}
-use Rattle.smithy_cbor_codec.specs.Canonical.{scalar_bytes, cbor_holds}
-use Rattle.smithy_cbor_codec.specs.Codec.{strict_settings}
-use Rattle.smithy_cbor_codec.specs.Writing.{fresh_body, body_after}
+use Rattle.smithy_cbor_values.specs.Scalar.{says}
+use Rattle.smithy_cbor_body.specs.Canonical.{scalar_bytes, cbor_holds}
+use Rattle.smithy_cbor_body.specs.Codec.{strict_settings}
+use Rattle.smithy_cbor_body.specs.Writing.{fresh_body, body_after}
 use Rattle.smithy_cbor_codec.proofs.OnLiterals.{smithy_cbor_codec_on_literals}
 use Rattle.smithy_cbor_codec.proofs.Examples.{plain_member, named, a_text, alone, first_alone, means_at, would_mean_at}
 

@@ -3,7 +3,7 @@ use Rattle.std.proofs.Common.{◌≡◌, ℕ, Option, List, [], ◌∷◌, map, 
 use Rattle.smithy_shapes.specs.Value as values
 use Rattle.smithy_shapes.specs.Value.{Value, MapEntries, no_map_entries, map_entry, null_element, no_values, no_member_values, member_value}
 use Rattle.cbor_item.specs.Item.{definite, indefinite, Item, unsigned, negative, byte_string, array, map as map_item, tag, simple, float, no_items, no_pairs, pair}
-use Rattle.smithy_cbor_codec.specs.Meaning.{cbor_meaning}
+use Rattle.smithy_cbor_values.specs.Meaning.{cbor_meaning}
 use Rattle.smithy_cbor_codec.proofs.OnLiterals.{smithy_cbor_codec_on_literals}
 use Rattle.smithy_cbor_codec.proofs.Examples.{whole_value, text_value, one_long, long_renamed, accented, one_string, three_members, map_of_longs, two_variants, type_variant, lists_of_lists, lists_of_strings, nodes, long_place, string_place, a_text, chunked, null, undefined, an_array, a_map, items_of, alone, both, in_arrays, in_lists, empty_structure, first_alone, strict, means_at, would_mean_at, means_within}
 

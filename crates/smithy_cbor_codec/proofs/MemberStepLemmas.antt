@@ -9,8 +9,8 @@ use Rattle.smithy_shapes.specs.Table.{Table, IsStructure, HasMembers}
 use Rattle.smithy_shapes.specs.Site.{Site, kind_at}
 use Rattle.smithy_schema.specs.Reading.{Cursor, depth, Steps, Leaves, MatchStep, CannotGoOn, passed_to, in_structure, IsInvalid, IsRefused}
 use Rattle.smithy_cbor_codec.specs.Cursor.{inside_of}
-use Rattle.smithy_cbor_codec.specs.Settings.{Settings}
-use Rattle.smithy_cbor_codec.specs.Standing.{cbor_relations, FollowsInside, end_depth, mark_with}
+use Rattle.smithy_cbor_values.specs.Settings.{Settings}
+use Rattle.smithy_cbor_values.specs.Standing.{cbor_relations, FollowsInside, end_depth, mark_with}
 use Rattle.smithy_cbor_codec.specs.Private.PassedEntries.{Passes, StepsToMember, ClosesMembers, EntryMissing, NothingComes}
 use Rattle.smithy_cbor_codec.specs.Private.MemberSteps.{EndsEmpty, StepsTo}
 use Rattle.smithy_cbor_codec.proofs.ReaderLemmas.{steps_to_member, closes_members, members_are_stuck, members_are_shut}

@@ -6,10 +6,10 @@ use Rattle.smithy_shapes.specs.Table.{Kind, Member, members_of, position_named}
 use Rattle.smithy_shapes.specs.Container.{is_type_mark}
 use Rattle.smithy_cbor_codec.specs.declared.members.Next.{Next}
 use Rattle.smithy_cbor_codec.specs.declared.members.Next.TheVariants.{Pair, End}
-use Rattle.smithy_cbor_codec.specs.Standing.{mark_with, null_byte, IsOver}
-use Rattle.smithy_cbor_codec.specs.Private.ItemPlaces.{item_ahead}
+use Rattle.smithy_cbor_values.specs.Standing.{mark_with, null_byte, IsOver}
+use Rattle.smithy_cbor_values.specs.Private.ItemPlaces.{item_ahead}
 use Rattle.smithy_cbor_codec.specs.Private.PassedEntries.{passes_null, is_mark, HasKey, IsPassed, Passes, PassesTo, StepsToMember, ClosesMembers, IsKept, IsNext, EntryMissing, NothingComes}
-use Rattle.smithy_cbor_codec.specs.Private.FirstBytes.{byte_within}
+use Rattle.smithy_cbor_values.specs.Private.FirstBytes.{byte_within}
 use Rattle.smithy_cbor_codec.proofs.EntryLemmas.{key_ahead}
 
 -- the end of a container isn't before its start, and in the input

@@ -3,8 +3,8 @@ use Rattle.std.proofs.Common.{◌≡◌, List, [], ◌∷◌, Result, Ok, Err, r
 use Rattle.std.proofs.lemmas.List.{append-nil}
 use Rattle.smithy_schema.specs.declared.error.SerdeError.{SerdeError}
 use Rattle.smithy_schema.specs.Writing.{Event, begin_structure, end_structure, begin_list, end_list, begin_map, end_map, null_of, scalar_of, big_integer_of, big_decimal_of, document_of, and_run, run}
-use Rattle.smithy_cbor_codec.specs.Prefixes.{no_prefix, CborState, behind, with_prefix, cbor_after}
-use Rattle.smithy_cbor_codec.specs.Writing.{BodyState, body_after}
+use Rattle.smithy_cbor_body.specs.Prefixes.{no_prefix, CborState, behind, with_prefix, cbor_after}
+use Rattle.smithy_cbor_body.specs.Writing.{BodyState, body_after}
 
 abbrev plain : BodyState → CborState
 plain s = record { body = s; prefix = no_prefix }

@@ -9,17 +9,17 @@ use Rattle.smithy_schema.specs.Reading.{Mark}
 use Rattle.smithy_shapes.specs.Lemmas.Kinds.{no_list_and_structure}
 use Rattle.cbor_item.specs.Item.{Item, simple}
 use Rattle.cbor_item.specs.WellFormed.{IsItemAt}
-use Rattle.smithy_cbor_codec.specs.Settings.{Settings}
+use Rattle.smithy_cbor_values.specs.Settings.{Settings}
 use Rattle.smithy_cbor.specs.Scalar.{null_value, text_of}
-use Rattle.smithy_cbor_codec.specs.Meaning.{rules_of}
+use Rattle.smithy_cbor_values.specs.Meaning.{rules_of}
 use Rattle.smithy_cbor.specs.Reading.{OpensAt}
-use Rattle.smithy_cbor_codec.specs.Standing.{FollowsInside, RestIsEmpty, HasEntry, IsOver, mark_with, end_mark, end_depth, frames_of, cbor_relations}
-use Rattle.smithy_cbor_codec.specs.Private.Entries.{entry_or_over, same_over}
-use Rattle.smithy_cbor_codec.specs.Private.FirstBytes.{null_there}
+use Rattle.smithy_cbor_values.specs.Standing.{FollowsInside, RestIsEmpty, HasEntry, IsOver, mark_with, end_mark, end_depth, frames_of, cbor_relations}
+use Rattle.smithy_cbor_values.specs.Private.Entries.{entry_or_over, same_over}
+use Rattle.smithy_cbor_values.specs.Private.FirstBytes.{null_there}
 use Rattle.smithy_cbor_codec.specs.Private.PassedEntries.{HasKey, IsPassed, Passes, StepsToMember, ClosesMembers, EntryMissing, passes_null, is_mark as mark_in_cbor}
-use Rattle.smithy_cbor_codec.specs.Private.ScalarAtPlace.{IsNullAt}
-use Rattle.smithy_cbor_codec.specs.Private.Skipping.{SkipsTo}
-use Rattle.smithy_cbor_codec.specs.Private.Wire.{wire_of}
+use Rattle.smithy_cbor_values.specs.Private.ScalarAtPlace.{IsNullAt}
+use Rattle.smithy_cbor_values.specs.Private.Skipping.{SkipsTo}
+use Rattle.smithy_cbor_values.specs.Private.Wire.{wire_of}
 use Rattle.smithy_cbor_codec.proofs.EntryLemmas.{over_by_due, key_by_due, one_key}
 use Rattle.smithy_cbor_codec.proofs.SkippedValues.{skips_are}
 use Rattle.smithy_wire.specs.Node.{as_array, as_object}

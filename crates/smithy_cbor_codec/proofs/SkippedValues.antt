@@ -2,11 +2,11 @@
 use Rattle.std.proofs.Common.{◌≡◌, ◌↔◌, ℕ, List, true, refl}
 use Rattle.std.proofs.lemmas.Bool.{and_parts}
 use Rattle.cbor_item.specs.Item.{Item}
-use Rattle.smithy_cbor_codec.specs.Settings.{Settings}
-use Rattle.smithy_cbor_codec.specs.Meaning.{node_of}
-use Rattle.smithy_cbor_codec.specs.Standing.{end_depth, cbor_relations}
-use Rattle.smithy_cbor_codec.specs.Private.Skipping.{SkipsTo}
-use Rattle.smithy_cbor_codec.specs.Private.NodePlaces.{item_lies, lies_item, none_missing}
+use Rattle.smithy_cbor_values.specs.Settings.{Settings}
+use Rattle.smithy_cbor_values.specs.Meaning.{node_of}
+use Rattle.smithy_cbor_values.specs.Standing.{end_depth, cbor_relations}
+use Rattle.smithy_cbor_values.specs.Private.Skipping.{SkipsTo}
+use Rattle.smithy_cbor_values.specs.Private.NodePlaces.{item_lies, lies_item, none_missing}
 use Rattle.smithy_wire.specs.Node.{all_pass}
 
 pub skips_are : (c : Settings) (i : List ℕ) (d a e : ℕ) → SkipsTo i a (end_depth c.enforce_strictness d) e ↔ (cbor_relations c).skips i d a e

@@ -13,7 +13,7 @@ use Rattle.cbor_item.proofs.FirstByte.{not_empty}
 use Rattle.cbor_item.proofs.OneItem.{one_place, same_item}
 use Rattle.cbor_item.proofs.Cutting.{stops_cut}
 use Rattle.cbor_item.proofs.SkipLemmas.{found_cut}
-use Rattle.smithy_cbor_codec.specs.Spelling.{cbor_spells}
+use Rattle.smithy_cbor_values.specs.Spelling.{cbor_spells}
 use Rattle.smithy_cbor_codec.proofs.OnLiterals.{smithy_cbor_codec_on_literals}
 use Rattle.smithy_cbor_codec.proofs.Examples.{whole_value, text_value, one_long, one_string, lists_of_lists, a_text, chunked, null, alone, in_lists, empty_structure, first_alone, strict, means_at}
 use Rattle.smithy_cbor_codec.proofs.EncodedItems.{Encoded, in_one_byte, one_chunk, short_text, small, long_unsigned, long_negative, sole, sole_until, two, arrays, a_key, z_key, l_key, no_text, a_null, an_undefined}

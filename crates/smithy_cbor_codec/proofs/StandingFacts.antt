@@ -12,12 +12,12 @@ use Rattle.cbor_item.specs.WellFormed.{IsItemAt, IsEncodingOf}
 use Rattle.cbor_item.proofs.FirstByte.{not_empty}
 use Rattle.cbor_item.proofs.HeadLemmas.{front_begins_low, opening_begins}
 use Rattle.smithy_cbor.specs.Scalar.{text_of}
-use Rattle.smithy_cbor_codec.specs.Meaning.{rules_of}
-use Rattle.smithy_cbor_codec.specs.Standing.{cbor_frames, cbor_relations, mark_with, end_mark, HasEntry, IsOver}
-use Rattle.smithy_cbor_codec.specs.Laws.{lawful}
-use Rattle.smithy_cbor_codec.specs.Private.ScalarAtPlace.{IsNullAt}
-use Rattle.smithy_cbor_codec.specs.Private.ContainerBytes.{opens_within}
-use Rattle.smithy_cbor_codec.specs.Private.ItemPlaces.{one_item}
+use Rattle.smithy_cbor_values.specs.Meaning.{rules_of}
+use Rattle.smithy_cbor_values.specs.Standing.{cbor_frames, cbor_relations, mark_with, end_mark, HasEntry, IsOver}
+use Rattle.smithy_cbor_values.specs.Laws.{lawful}
+use Rattle.smithy_cbor_values.specs.Private.ScalarAtPlace.{IsNullAt}
+use Rattle.smithy_cbor_values.specs.Private.ContainerBytes.{opens_within}
+use Rattle.smithy_cbor_values.specs.Private.ItemPlaces.{one_item}
 use Rattle.smithy_cbor_codec.specs.Private.PassedEntries.{HasKey}
 use Rattle.smithy_cbor_codec.proofs.OnLiterals.{smithy_cbor_codec_on_literals}
 use Rattle.smithy_cbor_codec.proofs.Examples.{whole_value, one_long, map_of_longs, two_variants, lists_of_strings, long_place, strict, empty_structure}

@@ -7,11 +7,11 @@ use Rattle.smithy_shapes.specs.Site.{Site, shape_site, site_of_member, nameless_
 use Rattle.smithy_shapes.specs.Value as values
 use Rattle.smithy_shapes.specs.Value.{whole, text, Value, no_map_entries, map_entry, null_element, no_values, no_member_values, member_value}
 use Rattle.smithy_schema.specs.Writing.{begin_structure, end_structure, begin_list, end_list, begin_map, end_map, null_of, scalar_of, Open, open_structure, open_list, open_map_at_key, open_map_at_value, write, run}
-use Rattle.smithy_cbor_codec.specs.Openers.{cbor_openers}
-use Rattle.smithy_cbor_codec.specs.Codec.{strict_settings}
-use Rattle.smithy_cbor_codec.specs.Settings.{Settings}
-use Rattle.smithy_cbor_codec.specs.declared.lengths.Length.TheVariants.{Unwritten}
-use Rattle.smithy_cbor_codec.specs.Writing.{BodyState, fresh_body, body_after}
+use Rattle.smithy_cbor_values.specs.Openers.{cbor_openers}
+use Rattle.smithy_cbor_body.specs.Codec.{strict_settings}
+use Rattle.smithy_cbor_values.specs.Settings.{Settings}
+use Rattle.smithy_cbor_body.specs.declared.lengths.Length.TheVariants.{Unwritten}
+use Rattle.smithy_cbor_body.specs.Writing.{BodyState, fresh_body, body_after}
 use Rattle.smithy_cbor_codec.proofs.Examples.{whole_value, text_value, one_long, long_renamed, one_string, three_members, map_of_longs, two_variants, lists_of_lists, lists_of_strings, nodes, long_place, plain_member, in_lists, empty_structure, first_alone, written}
 
 -- ---- canonical encodings

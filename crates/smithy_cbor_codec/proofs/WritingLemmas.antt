@@ -14,12 +14,12 @@ use Rattle.cbor_item.specs.Head.{shortest_head}
 use Rattle.cbor_item.specs.WellFormed.{break}
 use Rattle.smithy_cbor.specs.Scalar.{null_value}
 use Rattle.smithy_cbor.specs.Written.{text_bytes, opening_bytes}
-use Rattle.smithy_cbor_codec.specs.Canonical.{scalar_bytes, cbor_holds, key_bytes, canonical_cbor, element_bytes, entry_bytes, member_bytes}
-use Rattle.smithy_cbor_codec.specs.Lengths.{told_length, head_of, begun, counted, counted_in, ending_of}
-use Rattle.smithy_cbor_codec.specs.Settings.{Settings}
-use Rattle.smithy_cbor_codec.specs.declared.lengths.Length.{Length}
-use Rattle.smithy_cbor_codec.specs.declared.lengths.Length.TheVariants.{Unwritten, Due, Surplus}
-use Rattle.smithy_cbor_codec.specs.Writing.{BodyState, lead, body_after}
+use Rattle.smithy_cbor_body.specs.Canonical.{scalar_bytes, cbor_holds, key_bytes, canonical_cbor, element_bytes, entry_bytes, member_bytes}
+use Rattle.smithy_cbor_body.specs.Lengths.{told_length, head_of, begun, counted, counted_in, ending_of}
+use Rattle.smithy_cbor_values.specs.Settings.{Settings}
+use Rattle.smithy_cbor_body.specs.declared.lengths.Length.{Length}
+use Rattle.smithy_cbor_body.specs.declared.lengths.Length.TheVariants.{Unwritten, Due, Surplus}
+use Rattle.smithy_cbor_body.specs.Writing.{BodyState, lead, body_after}
 
 abbrev pub state : Settings → List ℕ → List Open → List Length → BodyState
 state c out frames lengths = record { settings = c; out = out; frames = frames; lengths = lengths }

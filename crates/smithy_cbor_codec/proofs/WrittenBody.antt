@@ -18,11 +18,11 @@ use Rattle.smithy_wire.specs.Writes.{IsWritable, AreWritable, Stand}
 use Rattle.smithy_wire.proofs.WrittenMeaning.{IsMember, structure_member, member_place, member_name, member_site, variant_member}
 use Rattle.smithy_wire.proofs.WrittenPlaces.{parts}
 use Rattle.smithy_cbor.specs.Written.{text_bytes}
-use Rattle.smithy_cbor_codec.specs.Canonical.{key_bytes, canonical_cbor, element_bytes, entry_bytes, member_bytes}
-use Rattle.smithy_cbor_codec.specs.Lengths.{told_length, head_of, ending_of, container_bytes}
-use Rattle.smithy_cbor_codec.specs.Standing.{mark_with, Follows, cbor_frames}
-use Rattle.smithy_cbor_codec.proofs.WrittenLeaves.{leaf_of, text_item, cbor_leaves, scalar_is_written}
-use Rattle.smithy_cbor_codec.proofs.WrittenPlaces.{IsEncoded, cbor_writes, LiesWritten, left_mark, can_say, null_lies, leaf_lies, container_lies, element_lies, entry_lies, ends_lie}
+use Rattle.smithy_cbor_body.specs.Canonical.{key_bytes, canonical_cbor, element_bytes, entry_bytes, member_bytes}
+use Rattle.smithy_cbor_body.specs.Lengths.{told_length, head_of, ending_of, container_bytes}
+use Rattle.smithy_cbor_values.specs.Standing.{mark_with, Follows, cbor_frames}
+use Rattle.smithy_cbor_body.proofs.WrittenLeaves.{leaf_of, text_item, cbor_leaves, scalar_is_written}
+use Rattle.smithy_cbor_body.proofs.WrittenPlaces.{IsEncoded, cbor_writes, LiesWritten, left_mark, can_say, null_lies, leaf_lies, container_lies, element_lies, entry_lies, ends_lie}
 
 -- the same bytes, in another grouping
 group_entry : (key x more end : List ℕ) → (key ++ (x ++ more)) ++ end ≡ key ++ (x ++ (more ++ end))

@@ -8,13 +8,13 @@ use Rattle.smithy_shapes.specs.Fits.{Fits}
 use Rattle.smithy_shapes.specs.ScalarTest.{scalars_pass}
 use Rattle.smithy_shapes.specs.Site.{whole_view, shape_site}
 use Rattle.smithy_shapes.specs.Value.{Value, nesting}
-use Rattle.smithy_cbor_codec.specs.Canonical.{cbor_holds, canonical_cbor}
-use Rattle.smithy_cbor_codec.specs.Codec.{strict_settings}
-use Rattle.smithy_cbor_codec.specs.Laws.{rules_fit}
-use Rattle.smithy_cbor_codec.specs.Meaning.{rules_of}
-use Rattle.smithy_cbor_codec.specs.Settings.{Settings, kept}
-use Rattle.smithy_cbor_codec.specs.Spelling.{cbor_spells}
-use Rattle.smithy_cbor_codec.specs.Standing.{cbor_frames}
+use Rattle.smithy_cbor_body.specs.Canonical.{cbor_holds, canonical_cbor}
+use Rattle.smithy_cbor_body.specs.Codec.{strict_settings}
+use Rattle.smithy_cbor_values.specs.Laws.{rules_fit}
+use Rattle.smithy_cbor_values.specs.Meaning.{rules_of}
+use Rattle.smithy_cbor_values.specs.Settings.{Settings, kept}
+use Rattle.smithy_cbor_values.specs.Spelling.{cbor_spells}
+use Rattle.smithy_cbor_values.specs.Standing.{cbor_frames}
 use Rattle.smithy_wire.specs.Laws.{stands_fit}
 use Rattle.smithy_wire.specs.Written.{written_node}
 use Rattle.smithy_wire.specs.Writes.{Stand}
@@ -22,10 +22,10 @@ use Rattle.smithy_wire.proofs.AcceptedNames.{named_by_name}
 use Rattle.smithy_wire.proofs.NestedMeaning.{stands_within_depth}
 use Rattle.smithy_wire.proofs.ReadBack.{value_writable}
 use Rattle.smithy_wire.proofs.WrittenMeaning.{node_means}
-use Rattle.smithy_cbor_codec.proofs.SpellingLemmas.{ends_as, spells_stands, stands_spells}
+use Rattle.smithy_cbor_values.proofs.SpellingLemmas.{ends_as, spells_stands, stands_spells}
 use Rattle.smithy_cbor_codec.proofs.WrittenBody.{value_lies}
-use Rattle.smithy_cbor_codec.proofs.WrittenLeaves.{cbor_leaves, cbor_reads_leaves, cbor_writes_leaves}
-use Rattle.smithy_cbor_codec.proofs.WrittenPlaces.{cbor_writes}
+use Rattle.smithy_cbor_body.proofs.WrittenLeaves.{cbor_leaves, cbor_reads_leaves, cbor_writes_leaves}
+use Rattle.smithy_cbor_body.proofs.WrittenPlaces.{cbor_writes}
 
 -- what is spelled is a value of the place
 pub spelled_fits : (c : Settings) (t : Table) (p : Place) (bytes : List ℕ) (v : Value) → c.limits ≡ kept → cbor_spells c t p bytes v → Fits t p v

@@ -2,9 +2,9 @@
 use Rattle.std.specs.Prelude.{ℕ, Option}
 use Rattle.smithy_schema.specs.Reading.{Cursor, Frame, ContainerKind, in_structure}
 use Rattle.smithy_cbor_codec.specs.declared.deserializer.CborDeserializer.{CborDeserializer}
-use Rattle.smithy_cbor_codec.specs.Codec.{held_settings}
-use Rattle.smithy_cbor_codec.specs.Settings.{Settings}
-use Rattle.smithy_cbor_codec.specs.Standing.{mark_with, end_mark}
+use Rattle.smithy_cbor_body.specs.Codec.{held_settings}
+use Rattle.smithy_cbor_values.specs.Settings.{Settings}
+use Rattle.smithy_cbor_values.specs.Standing.{mark_with, end_mark}
 use Rattle.smithy_wire.specs.Walking.{cursor_of as walk_cursor}
 
 -- where a reader of CBOR stands

@@ -1,19 +1,3 @@
 -- Words that private clauses cite, and the proofs of the laws.
-pub mod NextInContainer
-pub mod ScalarAtPlace
-pub mod Skipping
 pub mod PassedEntries
 pub mod MemberSteps
-pub mod Slices
-pub mod ItemPlaces
-pub mod FirstBytes
-pub mod Entries
-pub mod OpenersAtPlaces
-pub mod Fits
-pub mod ContainerBytes
-pub mod ArrayPlaces
-pub mod MapPlaces
-pub mod ValueSorts
-pub mod Wire
-pub mod NodePlaces
-pub mod MadeStates

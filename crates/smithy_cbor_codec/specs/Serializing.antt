@@ -1,20 +1,17 @@
--- What contracts see of a serializer.
+-- What contracts see of a codec and of its serializer.
 use Rattle.std.specs.Prelude.{Bool}
-use Rattle.smithy_wire.specs.OpenContainers.{opens_of, marks_of}
-use Rattle.smithy_cbor_codec.specs.declared.body.CborBody.{CborBody}
-use Rattle.smithy_cbor_codec.specs.declared.prefix.NoPrefix.{NoPrefix}
+use Rattle.smithy_cbor_codec.specs.declared.codec.CborCodec.{CborCodec}
+use Rattle.smithy_cbor_body.specs.declared.prefix.NoPrefix.{NoPrefix}
 use Rattle.smithy_cbor_codec.specs.declared.serializer.CborSerializer.{CborSerializer}
-use Rattle.smithy_cbor_codec.specs.Codec.{held_settings}
-use Rattle.smithy_cbor_codec.specs.Prefixes.{CborState, no_prefix}
-use Rattle.smithy_cbor_codec.specs.Writing.{BodyState}
+use Rattle.smithy_cbor_body.specs.Body.{body_of, body_has_failed}
+use Rattle.smithy_cbor_body.specs.Codec.{held_settings}
+use Rattle.smithy_cbor_body.specs.Prefixes.{CborState, no_prefix}
+use Rattle.smithy_cbor_values.specs.Settings.{Settings}
+use Rattle.smithy_cbor_body.specs.Writing.{BodyState}
 
--- what the calls of a serializer without a prefix depend on
-abbrev pub body_of : CborBody → BodyState
-body_of s = record { settings = held_settings s.settings; out = s.encoder; frames = opens_of s.containers; lengths = marks_of s.containers }
-
--- an earlier call was refused, or was `fail`
-abbrev pub body_has_failed : CborBody → Bool
-body_has_failed s = s.containers.failed
+-- the settings of a codec
+abbrev pub settings_of : CborCodec → Settings
+settings_of codec = held_settings codec.settings
 
 -- the parts of a serializer with a prefix
 abbrev pub body_in : {P : Type 0} → CborSerializer P → BodyState

@@ -1,6 +1,6 @@
 //! Reading texts and bytes that borrow from the input.
 use crate::deserializer::CborDeserializer;
-use crate::values::{bytes_piece_at, text_piece_at};
+use smithy_cbor_values::values::{bytes_piece_at, text_piece_at};
 use smithy_schema::{BorrowDeserializer, Schema, SerdeError};
 use std::alloc::Global;
 use std::borrow::{CowSlice, CowStr};
@@ -12,10 +12,10 @@ impl<'a> BorrowDeserializer<'a> for CborDeserializer<'a> {
     ghost use Rattle.smithy_shapes.specs.Value.{text, bytes};
     ghost use Rattle.smithy_shapes.specs.Site.{site_of};
     ghost use Rattle.smithy_schema.specs.Reading.{ReadsScalar};
-    ghost use Rattle.smithy_cbor_codec.specs.Borrowed.{BorrowsText, BorrowsBytes};
+    ghost use Rattle.smithy_cbor_values.specs.Borrowed.{BorrowsText, BorrowsBytes};
     ghost use Rattle.smithy_cbor_codec.specs.Cursor.{cursor_of, reading_settings_of};
-    ghost use Rattle.smithy_cbor_codec.specs.Settings.{keep_limits, without_limits};
-    ghost use Rattle.smithy_cbor_codec.specs.Standing.{cbor_relations};
+    ghost use Rattle.smithy_cbor_values.specs.Settings.{keep_limits, without_limits};
+    ghost use Rattle.smithy_cbor_values.specs.Standing.{cbor_relations};
 
     fn read_text(&mut self, _schema: &Schema<'_>) -> Result<CowStr<'a, Global>, SerdeError>
         ensures same { reading_settings_of self.new ≡ reading_settings_of self.old }

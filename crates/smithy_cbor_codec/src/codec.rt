@@ -1,8 +1,7 @@
 //! The maker of readers and serializers.
 use crate::deserializer::CborDeserializer;
-use crate::prefix::NoPrefix;
 use crate::serializer::CborSerializer;
-use crate::settings::CborCodecSettings;
+use smithy_cbor_body::{CborCodecSettings, NoPrefix};
 use std::alloc::Global;
 
 /// The settings under which bodies in CBOR are read and written. It makes readers and serializers.
@@ -13,10 +12,11 @@ pub struct CborCodec {
 
 impl CborCodec {
     ghost use Rattle.std.specs.Prelude.{◌≡◌, false};
-    ghost use Rattle.smithy_cbor_codec.specs.Codec.{settings_of, held_settings, strict_settings};
+    ghost use Rattle.smithy_cbor_body.specs.Codec.{held_settings, strict_settings};
+    ghost use Rattle.smithy_cbor_codec.specs.Serializing.{settings_of};
     ghost use Rattle.smithy_cbor_codec.specs.Cursor.{cursor_of, reading_settings_of};
     ghost use Rattle.smithy_cbor_codec.specs.Serializing.{state_of, has_failed};
-    ghost use Rattle.smithy_cbor_codec.specs.Prefixes.{fresh_state};
+    ghost use Rattle.smithy_cbor_body.specs.Prefixes.{fresh_state};
     ghost use Rattle.smithy_wire.specs.Walking.{fresh_cursor};
 
     /// A codec of these settings.
@@ -52,7 +52,8 @@ impl CborCodec {
 
 impl Default for CborCodec {
     ghost use Rattle.std.specs.Prelude.{◌≡◌};
-    ghost use Rattle.smithy_cbor_codec.specs.Codec.{settings_of, default_settings};
+    ghost use Rattle.smithy_cbor_body.specs.Codec.{default_settings};
+    ghost use Rattle.smithy_cbor_codec.specs.Serializing.{settings_of};
 
     /// A codec of the settings that are asked for nothing.
     fn default() -> CborCodec

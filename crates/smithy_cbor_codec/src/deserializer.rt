@@ -1,14 +1,18 @@
 //! The reader of CBOR values that a schema directs.
 ghost use Rattle.std.specs.Prelude.{◌≡◌};
 
-use crate::container_size::container_size_at;
 use crate::frames::{frame, is_missing, missing};
-use crate::instants::instant_at;
 use crate::members::{Next, next_in_map};
-use crate::numbers::{big_decimal_at, big_integer_at};
-use crate::places::{EntryOrEnd, array_at, entry_or_end, is_null_at, map_at, may_leave, null_end};
-use crate::settings::CborCodecSettings;
-use crate::values::{blob_at, boolean_at, item_stands, long_at, skipped_end, string_at};
+use smithy_cbor_body::CborCodecSettings;
+use smithy_cbor_values::container_size::container_size_at;
+use smithy_cbor_values::instants::instant_at;
+use smithy_cbor_values::numbers::{big_decimal_at, big_integer_at};
+use smithy_cbor_values::places::{
+    EntryOrEnd, array_at, entry_or_end, is_null_at, map_at, may_leave, null_end,
+};
+use smithy_cbor_values::values::{
+    blob_at, boolean_at, item_stands, long_at, skipped_end, string_at,
+};
 use smithy_schema::{Schema, SerdeError, ShapeDeserializer, Step};
 use smithy_types::{BigDecimal, BigInteger, Blob, DateTime, Document};
 use smithy_wire::{ContainerKind, Walk, byte_found, integer_found, short_found};
@@ -29,7 +33,7 @@ impl<'a> CborDeserializer<'a> {
     ghost use Rattle.std.specs.Prelude.{◌↔◌, IsTrue};
     ghost use Rattle.smithy_schema.specs.Reading.{depth};
     ghost use Rattle.smithy_cbor_codec.specs.Cursor.{cursor_of, reading_settings_of};
-    ghost use Rattle.smithy_cbor_codec.specs.Standing.{FollowsInside, end_depth};
+    ghost use Rattle.smithy_cbor_values.specs.Standing.{FollowsInside, end_depth};
     ghost use Rattle.smithy_wire.specs.Walking.{fresh_cursor};
 
     // A fresh reader.
@@ -81,11 +85,11 @@ impl ShapeDeserializer for CborDeserializer<'_> {
     ghost use Rattle.smithy_shapes.specs.declared.shape_type.Scalar.TheVariants as scalars;
     ghost use Rattle.smithy_shapes.specs.Value.{instant};
     ghost use Rattle.smithy_cbor_codec.specs.Cursor.{cursor_of, reading_settings_of};
-    ghost use Rattle.smithy_cbor_codec.specs.Settings.{Settings, keep_limits, without_limits};
-    ghost use Rattle.smithy_cbor_codec.specs.Standing.{cbor_relations};
-    ghost use Rattle.smithy_cbor_codec.specs.ContainerSize.{cbor_sizes};
+    ghost use Rattle.smithy_cbor_values.specs.Settings.{Settings, keep_limits, without_limits};
+    ghost use Rattle.smithy_cbor_values.specs.Standing.{cbor_relations};
+    ghost use Rattle.smithy_cbor_values.specs.ContainerSize.{cbor_sizes};
     ghost use Rattle.smithy_schema.specs.Sizes.{TellsSize};
-    ghost use Rattle.smithy_cbor_codec.specs.Laws.{lawful as cbor_is_lawful, fit as cbor_fits, counts as cbor_counts, above as limits_are_above};
+    ghost use Rattle.smithy_cbor_values.specs.Laws.{lawful as cbor_is_lawful, fit as cbor_fits, counts as cbor_counts, above as limits_are_above};
 
     ghost Settings = { Settings };
 

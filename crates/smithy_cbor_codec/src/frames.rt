@@ -3,7 +3,7 @@ ghost use Rattle.std.specs.Prelude.{◌≡◌, ◌↔◌, IsTrue};
 ghost use Rattle.smithy_shapes.specs.Table.{IsStructure};
 ghost use Rattle.smithy_shapes.specs.Site.{site_of, kind_at};
 ghost use Rattle.smithy_cbor_codec.specs.Cursor.{inside_of, missing_frame};
-ghost use Rattle.smithy_cbor_codec.specs.Standing.{RestIsEmpty};
+ghost use Rattle.smithy_cbor_values.specs.Standing.{RestIsEmpty};
 ghost use Rattle.smithy_wire.specs.Walking.{within_of, frame_of};
 
 use smithy_schema::{Schema, ShapeType};

@@ -12,8 +12,8 @@ impl CborDeserializer<'_> {
     ghost use Rattle.smithy_shapes.specs.Site.{site_of, kind_at};
     ghost use Rattle.smithy_schema.specs.declared.error.SerdeError.TheVariants.{TooDeep};
     ghost use Rattle.smithy_cbor_codec.specs.Cursor.{cursor_of, reading_settings_of};
-    ghost use Rattle.smithy_cbor_codec.specs.Settings.{Limits};
-    ghost use Rattle.smithy_cbor_codec.specs.Standing.{cbor_relations};
+    ghost use Rattle.smithy_cbor_values.specs.Settings.{Limits};
+    ghost use Rattle.smithy_cbor_values.specs.Standing.{cbor_relations};
     ghost use Rattle.smithy_cbor_codec.specs.Private.MemberSteps.{EndsEmpty};
 
     // Whether the innermost container was opened where nothing is left, and ends at the offset as a structure.

@@ -5,8 +5,8 @@ ghost use Rattle.smithy_shapes.specs.Site.{site_of, kind_at};
 ghost use Rattle.smithy_cbor_codec.specs.Private.MemberSteps.{StepsTo};
 ghost use Rattle.smithy_cbor_codec.specs.Private.PassedEntries.{is_mark, passes_null, IsPairOrEnd, PairMissing, IsEntry, IsNext, EntryMissing, NothingComes};
 
-use crate::places::{EntryOrEnd, entry_or_end, null_end};
-use crate::values::{skipped_end, text_at};
+use smithy_cbor_values::places::{EntryOrEnd, entry_or_end, null_end};
+use smithy_cbor_values::values::{skipped_end, text_at};
 use smithy_schema::{Schema, Step};
 use std::alloc::{AllocError, Global};
 use std::borrow::CowStr;

@@ -4,13 +4,11 @@ ghost use Rattle.smithy_schema.specs.declared.error.SerdeError.TheVariants.{Fail
 ghost use Rattle.smithy_schema.specs.Reading.{IsFault};
 ghost use Rattle.smithy_schema.specs.Writing.{begin_structure};
 ghost use Rattle.smithy_shapes.specs.Site.{site_of};
-ghost use Rattle.smithy_cbor_codec.specs.Prefixes.{CborState, fresh_state, cbor_after};
-ghost use Rattle.smithy_cbor_codec.specs.Codec.{held_settings};
+ghost use Rattle.smithy_cbor_body.specs.Prefixes.{CborState, fresh_state, cbor_after};
+ghost use Rattle.smithy_cbor_body.specs.Codec.{held_settings};
 ghost use Rattle.smithy_cbor_codec.specs.Serializing.{state_of, body_in, prefix_in, has_failed};
 
-use crate::body::CborBody;
-use crate::prefix::{NoPrefix, StructPrefix};
-use crate::settings::CborCodecSettings;
+use smithy_cbor_body::{CborBody, CborCodecSettings, NoPrefix, StructPrefix};
 use smithy_schema::{FinishSerializer, Schema, SerdeError, ShapeSerializer};
 use smithy_types::{BigDecimal, BigInteger, DateTime, Document};
 use std::alloc::Global;
@@ -49,9 +47,9 @@ impl<Q: StructPrefix + Copy> CborSerializer<Q> {
 }
 
 impl<P: StructPrefix + Copy> ShapeSerializer for CborSerializer<P> {
-    ghost use Rattle.smithy_cbor_codec.specs.Prefixes.{CborState, cbor_after};
+    ghost use Rattle.smithy_cbor_body.specs.Prefixes.{CborState, cbor_after};
     ghost use Rattle.smithy_cbor_codec.specs.Serializing.{body_in, prefix_in, has_failed};
-    ghost use Rattle.smithy_cbor_codec.specs.PrefixNesting.{cbor_nests, cbor_grows};
+    ghost use Rattle.smithy_cbor_body.specs.PrefixNesting.{cbor_nests, cbor_grows};
 
     ghost State = { CborState };
 

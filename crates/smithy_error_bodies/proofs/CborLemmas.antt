@@ -18,12 +18,12 @@ use Rattle.smithy_cbor.specs.declared.error.DecodeKind.{DecodeKind}
 use Rattle.smithy_cbor.specs.declared.error.DecodeKind.TheVariants as kinds
 use Rattle.smithy_cbor.specs.Kind.{kind_of_item_error}
 use Rattle.smithy_cbor.specs.Reading.{IsTextOf, IsKindOf, IsHeadFault, IsOfType, IsBreakHead, OpensAt}
-use Rattle.smithy_cbor_codec.specs.Standing.{mark_with, begins_with, HasEntry, IsOver}
-use Rattle.smithy_cbor_codec.specs.Private.ItemPlaces.{item_front, item_ahead, one_item}
-use Rattle.smithy_cbor_codec.specs.Private.FirstBytes.{no_break_at, byte_front}
-use Rattle.smithy_cbor_codec.specs.Private.ContainerBytes.{same_opens_at}
-use Rattle.smithy_cbor_codec.specs.Private.MapPlaces.{PairsLie, pairs_map, map_pairs}
-use Rattle.smithy_cbor_codec.proofs.HeadFaults.{no_wanted_head, no_opening}
+use Rattle.smithy_cbor_values.specs.Standing.{mark_with, begins_with, HasEntry, IsOver}
+use Rattle.smithy_cbor_values.specs.Private.ItemPlaces.{item_front, item_ahead, one_item}
+use Rattle.smithy_cbor_values.specs.Private.FirstBytes.{no_break_at, byte_front}
+use Rattle.smithy_cbor_values.specs.Private.ContainerBytes.{same_opens_at}
+use Rattle.smithy_cbor_values.specs.Private.MapPlaces.{PairsLie, pairs_map, map_pairs}
+use Rattle.smithy_cbor_values.proofs.HeadFaults.{no_wanted_head, no_opening}
 use Rattle.smithy_error_bodies.specs.Said.{Said, nothing_said, is_type, is_message, first_of}
 use Rattle.smithy_error_bodies.specs.CborErrors.{is_key, is_under, text_of, is_readable, is_looked_at, is_pair, are_pairs, last_under, map_says, CborSays}
 use Rattle.smithy_error_bodies.specs.Private.CborSteps.{key_of, key_of_item, kept, fits, with_text, with_pair, KeyAt, NoKey, ValueAt, NoValue, PairAt, NoPair, pairs_say, Told}

@@ -16,11 +16,11 @@ use Rattle.smithy_json.specs.Number.{whole_number}
 use Rattle.smithy_json.specs.Unescape.{unescaped}
 use Rattle.smithy_json.proofs.DecimalLemmas.{decimal_writes}
 use Rattle.smithy_json.proofs.QuotedLemmas.{unescaped_of_escaped}
-use Rattle.smithy_json_codec.specs.Codec.{strict_settings}
-use Rattle.smithy_json_codec.specs.Settings.{Settings}
-use Rattle.smithy_json_codec.specs.Meaning.{element_nodes, rules_of, json_meaning}
-use Rattle.smithy_json_codec.specs.Scalar.{JsonScalar, a_number, a_string}
-use Rattle.smithy_json_codec.specs.Spelling.{json_spells}
+use Rattle.smithy_json_values.specs.Codec.{strict_settings}
+use Rattle.smithy_json_values.specs.Settings.{Settings}
+use Rattle.smithy_json_values.specs.Meaning.{element_nodes, rules_of, json_meaning}
+use Rattle.smithy_json_values.specs.Scalar.{JsonScalar, a_number, a_string}
+use Rattle.smithy_json_values.specs.Spelling.{json_spells}
 use Rattle.smithy_json_codec.proofs.InstantTexts.{instant_means}
 use Rattle.smithy_wire.specs.Meaning.{leaf_meaning, entries}
 use Rattle.smithy_wire.specs.Node.{as_array}

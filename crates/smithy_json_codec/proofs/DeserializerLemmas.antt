@@ -14,26 +14,26 @@ use Rattle.smithy_json.specs.Ascii.{end_array, end_object}
 use Rattle.smithy_json.specs.Unescape.{unescaped}
 use Rattle.smithy_json_codec.specs.declared.members.EntryFault.{EntryFault}
 use Rattle.smithy_json_codec.specs.declared.members.EntryFault.TheVariants as entry_faults
-use Rattle.smithy_json_codec.specs.declared.skip.SkipFault.{SkipFault}
-use Rattle.smithy_json_codec.specs.declared.skip.SkipFault.TheVariants as skip_faults
+use Rattle.smithy_json_values.specs.declared.skip.SkipFault.{SkipFault}
+use Rattle.smithy_json_values.specs.declared.skip.SkipFault.TheVariants as skip_faults
 use Rattle.smithy_json_codec.specs.Cursor.{inside_of, missing_frame}
 use Rattle.smithy_wire.specs.declared.found.Found.{Found}
 use Rattle.smithy_wire.specs.declared.found.Found.TheVariants.{Value, Nothing, Beyond}
 use Rattle.smithy_wire.specs.Finding.{MatchFound, Takes, TakesWithin}
 use Rattle.smithy_wire.specs.Walking.{entered_into, gone_on_to}
-use Rattle.smithy_json_codec.specs.Settings.{Settings, without_limits, is_shallow, kept}
-use Rattle.smithy_json_codec.specs.LexicalGrammar.{frames_of}
-use Rattle.smithy_json_codec.specs.Standing.{json_grammar, json_relations, end_mark}
-use Rattle.smithy_json_codec.specs.Tokens.{IsOverBy}
-use Rattle.smithy_json_codec.specs.Private.NextInContainer.{ElementBegins, ClosesIn, NamesIn, GoesOnInList, GoesOnInObject}
-use Rattle.smithy_json_codec.specs.Private.Skipping.{SkipsTo, skip_refusal}
+use Rattle.smithy_json_values.specs.Settings.{Settings, without_limits, is_shallow, kept}
+use Rattle.smithy_json_values.specs.LexicalGrammar.{frames_of}
+use Rattle.smithy_json_values.specs.Standing.{json_grammar, json_relations, end_mark}
+use Rattle.smithy_json_values.specs.Tokens.{IsOverBy}
+use Rattle.smithy_json_values.specs.Private.NextInContainer.{ElementBegins, ClosesIn, NamesIn, GoesOnInList, GoesOnInObject}
+use Rattle.smithy_json_values.specs.Private.Skipping.{SkipsTo, skip_refusal}
 use Rattle.smithy_json_codec.specs.Private.PassedEntries.{entry_refusal}
 use Rattle.smithy_json_codec.proofs.ReaderLemmas.{steps_in_list, list_is_stuck, steps_in_map, map_is_stuck, same_names, names_or_end}
 use Rattle.smithy_json_codec.proofs.SkippedValues.{skips_are}
 use Rattle.smithy_wire.specs.Frames.{IsTold}
 use Rattle.smithy_wire.specs.Node.{as_object, nesting}
 use Rattle.smithy_wire.specs.Lemmas.Nodes.{one_node}
-use Rattle.smithy_json_codec.specs.Private.Wire.{tokens_are_wire, over_is_end}
+use Rattle.smithy_json_values.specs.Private.Wire.{tokens_are_wire, over_is_end}
 
 -- what a read answers lies from where the reader was to where it is
 pub answers_within : {A : Type 0} (P : A → ℕ → Type 0) (old new : Cursor) (beyond : SerdeError) (found : Result (Found (A × ℕ)) AllocError) (result : Result A SerdeError)

@@ -11,7 +11,7 @@ use Rattle.smithy_shapes.specs.Value.{Value, document_value, no_values, no_map_e
 use Rattle.smithy_json.specs.Tree.{null, boolean, number, string, array, object, no_elements, no_members, member}
 use Rattle.smithy_json.specs.Unescape.{code_unit}
 use Rattle.smithy_wire.specs.Rules.{means, no_meaning, uncarried}
-use Rattle.smithy_json_codec.specs.Scalar.{a_boolean, a_number, a_string, document_says}
+use Rattle.smithy_json_values.specs.Scalar.{a_boolean, a_number, a_string, document_says}
 use Rattle.smithy_json_codec.proofs.Examples.{plain_member, named, long_place, list_shape, alone, both, in_arrays, empty_structure, first_alone, means_at, would_mean_at}
 
 -- structure S / member d document / member a long

@@ -8,9 +8,9 @@ use Rattle.smithy_shapes.specs.Site.{shape_site}
 use Rattle.smithy_shapes.specs.Value as values
 use Rattle.smithy_shapes.specs.Value.{whole, text, Value, scalar_value, no_values, no_member_values, member_value}
 use Rattle.smithy_json.specs.Tree.{Json, array, object, no_elements, element, no_members, member}
-use Rattle.smithy_json_codec.specs.Codec.{strict_settings}
-use Rattle.smithy_json_codec.specs.Settings.{Settings, without_limits}
-use Rattle.smithy_json_codec.specs.Meaning.{json_meaning}
+use Rattle.smithy_json_values.specs.Codec.{strict_settings}
+use Rattle.smithy_json_values.specs.Settings.{Settings, without_limits}
+use Rattle.smithy_json_values.specs.Meaning.{json_meaning}
 use Rattle.smithy_json_codec.specs.Canonical.{canonical_json}
 
 -- ---- scalars

@@ -15,9 +15,9 @@ use Rattle.smithy_instants.proofs.OnLiterals.{smithy_instants_on_literals}
 use Rattle.smithy_json.specs.Tree.{Json, number, string}
 use Rattle.smithy_json.specs.Unescape.{code_unit}
 use Rattle.smithy_wire.specs.Rules.{means, no_meaning, uncarried}
-use Rattle.smithy_json_codec.specs.Scalar.{a_boolean, a_number, a_string, says}
-use Rattle.smithy_json_codec.specs.Meaning.{json_meaning}
-use Rattle.smithy_json_codec.specs.Settings.{Settings, default_settings, without_limits}
+use Rattle.smithy_json_values.specs.Scalar.{a_boolean, a_number, a_string, says}
+use Rattle.smithy_json_values.specs.Meaning.{json_meaning}
+use Rattle.smithy_json_values.specs.Settings.{Settings, default_settings, without_limits}
 use Rattle.smithy_json_codec.specs.Canonical.{canonical_json, scalar_text, can_write, json_holds}
 use Rattle.smithy_json_codec.specs.Writing.{fresh_state, json_after}
 use Rattle.smithy_json_codec.proofs.Examples.{plain_member, named, alone, first_alone, strict}

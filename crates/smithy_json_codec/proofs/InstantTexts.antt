@@ -27,8 +27,8 @@ use Rattle.smithy_json.specs.Unescape.{unescaped}
 use Rattle.smithy_json.specs.Grammar.{IsFrac, IsInt, IsNumber, IsValue}
 use Rattle.smithy_json.proofs.DecimalLemmas.{decimal_is_int}
 use Rattle.smithy_json.proofs.QuotedLemmas.{quoted_is_string, unescaped_of_escaped}
-use Rattle.smithy_json_codec.specs.Settings.{Settings}
-use Rattle.smithy_json_codec.specs.Scalar.{JsonScalar, a_number, a_string, tree_of, format_at, seconds_read_as, date_says, timestamp_says}
+use Rattle.smithy_json_values.specs.Settings.{Settings}
+use Rattle.smithy_json_values.specs.Scalar.{JsonScalar, a_number, a_string, tree_of, format_at, seconds_read_as, date_says, timestamp_says}
 use Rattle.smithy_json_codec.proofs.WrittenPlaces.{leaf_bytes}
 use Rattle.smithy_wire.specs.Rules.{means, answer_of}
 

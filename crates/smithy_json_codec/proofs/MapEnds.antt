@@ -4,10 +4,10 @@ use Rattle.smithy_shapes.specs.declared.place.Place.{Place}
 use Rattle.smithy_shapes.specs.Table.{Table, kind_of, IsMap}
 use Rattle.smithy_schema.specs.Reading.{Cursor, Mark, Leaves, depth}
 use Rattle.smithy_json.specs.Ascii.{end_object}
-use Rattle.smithy_json_codec.specs.Settings.{Settings}
-use Rattle.smithy_json_codec.specs.Standing.{Lies, IsByte, json_grammar, json_relations}
-use Rattle.smithy_json_codec.specs.Tokens.{BoundaryBy, EndsInside}
-use Rattle.smithy_json_codec.specs.Private.NextInContainer.{ClosesIn}
+use Rattle.smithy_json_values.specs.Settings.{Settings}
+use Rattle.smithy_json_values.specs.Standing.{Lies, IsByte, json_grammar, json_relations}
+use Rattle.smithy_json_values.specs.Tokens.{BoundaryBy, EndsInside}
+use Rattle.smithy_json_values.specs.Private.NextInContainer.{ClosesIn}
 use Rattle.smithy_wire.specs.Lemmas.Places.{map_is_object}
 use Rattle.smithy_wire.specs.Node.{as_object}
 

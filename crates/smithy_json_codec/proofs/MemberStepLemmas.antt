@@ -18,23 +18,23 @@ use Rattle.smithy_schema.specs.Reading.{Cursor, depth, Steps, Leaves, MatchStep,
 use Rattle.smithy_json.specs.Unescape.{unescaped}
 use Rattle.smithy_json_codec.specs.Cursor.{inside_of}
 use Rattle.smithy_wire.specs.Walking.{gone_on_to}
-use Rattle.smithy_json_codec.specs.Settings.{Settings, kept, without_limits, is_shallow}
-use Rattle.smithy_json_codec.specs.Meaning.{rules_of}
-use Rattle.smithy_json_codec.specs.LexicalGrammar.{LexicalGrammar, is_skipped_in}
-use Rattle.smithy_json_codec.specs.Standing.{json_grammar, json_relations}
-use Rattle.smithy_json_codec.specs.Tokens.{BoundaryBy, IsOverBy, EndsInside}
-use Rattle.smithy_json_codec.specs.Private.Wire.{over_is_end}
+use Rattle.smithy_json_values.specs.Settings.{Settings, kept, without_limits, is_shallow}
+use Rattle.smithy_json_values.specs.Meaning.{rules_of}
+use Rattle.smithy_json_values.specs.LexicalGrammar.{LexicalGrammar, is_skipped_in}
+use Rattle.smithy_json_values.specs.Standing.{json_grammar, json_relations}
+use Rattle.smithy_json_values.specs.Tokens.{BoundaryBy, IsOverBy, EndsInside}
+use Rattle.smithy_json_values.specs.Private.Wire.{over_is_end}
 use Rattle.smithy_json_codec.specs.Private.PassedEntries.{type_name, Passing, StepsToMember, ClosesMembers, NoSkip, NoSkipWithin, NothingComes}
-use Rattle.smithy_json_codec.specs.Openers.{json_openers}
+use Rattle.smithy_json_values.specs.Openers.{json_openers}
 use Rattle.smithy_json_codec.specs.Private.MemberSteps.{EndsEmpty, StepsTo, passing, passes_null, passes_marks}
-use Rattle.smithy_json_codec.specs.Private.Skipping.{SkipsTo}
+use Rattle.smithy_json_values.specs.Private.Skipping.{SkipsTo}
 use Rattle.smithy_json_codec.proofs.DeserializerLemmas.{kept_shallow, shallow_kept}
 use Rattle.smithy_json_codec.proofs.ReaderLemmas.{steps_to_member, closes_members, members_are_stuck}
 use Rattle.smithy_json_codec.proofs.SkippedValues.{skips_are}
 use Rattle.smithy_wire.specs.Node.{nesting}
 use Rattle.smithy_wire.specs.Rules.{position_in, drops_null, is_mark}
-use Rattle.smithy_json_codec.proofs.OpenersLemmas.{node_takes_none}
-use Rattle.smithy_json_codec.proofs.SkipSteps.{node_ahead}
+use Rattle.smithy_json_values.proofs.OpenersLemmas.{node_takes_none}
+use Rattle.smithy_json_values.proofs.SkipSteps.{node_ahead}
 
 -- nothing is due, so that the cursor is as it is behind what was due
 pub undue : (c : Cursor) → c.due ≡ false → passed_to c c.at ≡ c

@@ -14,16 +14,16 @@ use Rattle.smithy_shapes.specs.Value.{ScalarValue, whole, instant, Value, scalar
 use Rattle.smithy_schema.specs.Reading.{Cursor, depth, Relations, StandsNot, Exceeds, Uncarried, ReadsScalar, AnswersWide, AnswersUncarried, passed_to, failed_at}
 use Rattle.smithy_shapes.specs.Lemmas.Options.{same_some}
 use Rattle.smithy_shapes.proofs.ScalarLemmas.{fits_more}
-use Rattle.smithy_json_codec.specs.Settings.{Settings, kept, without_limits}
-use Rattle.smithy_json_codec.specs.Scalar.{JsonScalar, a_boolean, a_number, a_string, number_text, number_says, integer_of, whole_of, says}
-use Rattle.smithy_json_codec.specs.LexicalGrammar.{LexicalGrammar, frames_of, in_grammar, token_rules, token_relations, LiesInGrammar}
-use Rattle.smithy_json_codec.specs.TypeMismatch.{scalar_mismatches}
-use Rattle.smithy_json_codec.specs.Spans.{without_ws}
-use Rattle.smithy_json_codec.specs.Private.Fits.{whole_is}
-use Rattle.smithy_json_codec.specs.Private.ScalarAtPlace.{IntegerLies, MeansAt, ExceedsAt, NothingAt, InstantLies, UncarriedLies, NoInstantLies}
-use Rattle.smithy_json_codec.specs.Private.TokenLaws.{lawful}
-use Rattle.smithy_json_codec.specs.Private.Wire.{tokens_are_wire}
-use Rattle.smithy_json_codec.proofs.GrammarReads.{says_stands, nothing_stands, says_exceeds, nothing_exceeds, says_uncarried, nothing_uncarried}
+use Rattle.smithy_json_values.specs.Settings.{Settings, kept, without_limits}
+use Rattle.smithy_json_values.specs.Scalar.{JsonScalar, a_boolean, a_number, a_string, number_text, number_says, integer_of, whole_of, says}
+use Rattle.smithy_json_values.specs.LexicalGrammar.{LexicalGrammar, frames_of, in_grammar, token_rules, token_relations, LiesInGrammar}
+use Rattle.smithy_json_values.specs.TypeMismatch.{scalar_mismatches}
+use Rattle.smithy_json_values.specs.Spans.{without_ws}
+use Rattle.smithy_json_values.specs.Private.Fits.{whole_is}
+use Rattle.smithy_json_values.specs.Private.ScalarAtPlace.{IntegerLies, MeansAt, ExceedsAt, NothingAt, InstantLies, UncarriedLies, NoInstantLies}
+use Rattle.smithy_json_values.specs.Private.TokenLaws.{lawful}
+use Rattle.smithy_json_values.specs.Private.Wire.{tokens_are_wire}
+use Rattle.smithy_json_values.proofs.GrammarReads.{says_stands, nothing_stands, says_exceeds, nothing_exceeds, says_uncarried, nothing_uncarried}
 use Rattle.smithy_wire.specs.Rules.{Answer, no_meaning, wide, uncarried, answer_of, settled}
 use Rattle.smithy_wire.specs.declared.found.Found.{Found}
 use Rattle.smithy_wire.specs.Finding.{MatchFound, TakesWithin, told}

@@ -4,18 +4,18 @@ use Rattle.smithy_shapes.specs.Lemmas.Options.{same_some}
 use Rattle.smithy_json_codec.specs.declared.members.EntryFault.TheVariants.{NoEntry, TooDeep}
 use Rattle.smithy_json_codec.specs.declared.members.Next.{Next}
 use Rattle.smithy_json_codec.specs.declared.members.Next.TheVariants.{Member, End}
-use Rattle.smithy_json_codec.specs.declared.skip.SkipFault.{SkipFault}
-use Rattle.smithy_json_codec.specs.declared.skip.SkipFault.TheVariants as skip_faults
+use Rattle.smithy_json_values.specs.declared.skip.SkipFault.{SkipFault}
+use Rattle.smithy_json_values.specs.declared.skip.SkipFault.TheVariants as skip_faults
 use Rattle.smithy_json.specs.Unescape.{unescaped}
-use Rattle.smithy_json_codec.specs.Deepest.{OpensTooDeep}
-use Rattle.smithy_json_codec.specs.Openers.{json_openers}
-use Rattle.smithy_json_codec.specs.LexicalGrammar.{LexicalGrammar, is_skipped_in, frames_of}
-use Rattle.smithy_json_codec.proofs.SkipSteps.{node_ahead}
-use Rattle.smithy_json_codec.specs.Private.NextInContainer.{NamesIn}
-use Rattle.smithy_json_codec.specs.Private.TokenPlaces.{null_ahead, names_ahead}
-use Rattle.smithy_json_codec.specs.Private.OpenersAtPlaces.{across_null, across_name_token}
-use Rattle.smithy_json_codec.proofs.OpenersLemmas.{node_takes_none}
-use Rattle.smithy_json_codec.specs.Private.Skipping.{SkipsTo}
+use Rattle.smithy_json_values.specs.Deepest.{OpensTooDeep}
+use Rattle.smithy_json_values.specs.Openers.{json_openers}
+use Rattle.smithy_json_values.specs.LexicalGrammar.{LexicalGrammar, is_skipped_in, frames_of}
+use Rattle.smithy_json_values.proofs.SkipSteps.{node_ahead}
+use Rattle.smithy_json_values.specs.Private.NextInContainer.{NamesIn}
+use Rattle.smithy_json_values.specs.Private.TokenPlaces.{null_ahead, names_ahead}
+use Rattle.smithy_json_values.specs.Private.OpenersAtPlaces.{across_null, across_name_token}
+use Rattle.smithy_json_values.proofs.OpenersLemmas.{node_takes_none}
+use Rattle.smithy_json_values.specs.Private.Skipping.{SkipsTo}
 use Rattle.smithy_json_codec.specs.Private.PassedEntries.{entry_fault, type_name, Passing, NoNull, IsPassed, Passes, PassesTo, StepsToMember, ClosesMembers, IsKept, IsNext, EntryMissing, NothingComes}
 
 module _ (g : LexicalGrammar) (passing : Passing) (greatest depth : ℕ) (input : List ℕ) where

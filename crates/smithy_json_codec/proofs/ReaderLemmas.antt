@@ -8,16 +8,16 @@ use Rattle.smithy_schema.specs.Reading.{Mark}
 use Rattle.smithy_shapes.specs.Lemmas.Kinds.{no_list_and_structure}
 use Rattle.smithy_json.specs.Ascii.{begin_array, end_array, begin_object, end_object}
 use Rattle.smithy_json.specs.Unescape.{unescaped}
-use Rattle.smithy_json_codec.specs.Scalar.{JsonScalar, a_string}
-use Rattle.smithy_json_codec.specs.Settings.{Settings, is_shallow}
-use Rattle.smithy_json_codec.specs.LexicalGrammar.{frames_of}
-use Rattle.smithy_json_codec.specs.Standing.{Lies, IsByte, IsSeparated, fresh_mark, end_mark, entry_mark, json_grammar, json_rules, json_relations}
-use Rattle.smithy_json_codec.specs.Tokens.{BoundaryBy, IsOverBy, EndsInside}
-use Rattle.smithy_json_codec.specs.Private.NextInContainer.{NamesIn}
+use Rattle.smithy_json_values.specs.Scalar.{JsonScalar, a_string}
+use Rattle.smithy_json_values.specs.Settings.{Settings, is_shallow}
+use Rattle.smithy_json_values.specs.LexicalGrammar.{frames_of}
+use Rattle.smithy_json_values.specs.Standing.{Lies, IsByte, IsSeparated, fresh_mark, end_mark, entry_mark, json_grammar, json_rules, json_relations}
+use Rattle.smithy_json_values.specs.Tokens.{BoundaryBy, IsOverBy, EndsInside}
+use Rattle.smithy_json_values.specs.Private.NextInContainer.{NamesIn}
 use Rattle.smithy_json_codec.specs.Private.PassedEntries.{type_name, Passing, NoNull, IsNoMark, IsPassed, Passes, MarkStays, EntryMissing}
-use Rattle.smithy_json_codec.specs.Private.Skipping.{SkipsTo}
-use Rattle.smithy_json_codec.specs.Private.TokenEntries.{entry_of_names, entry_told}
-use Rattle.smithy_json_codec.specs.Private.Wire.{tokens_are_wire}
+use Rattle.smithy_json_values.specs.Private.Skipping.{SkipsTo}
+use Rattle.smithy_json_values.specs.Private.TokenEntries.{entry_of_names, entry_told}
+use Rattle.smithy_json_values.specs.Private.Wire.{tokens_are_wire}
 use Rattle.smithy_wire.specs.Node.{as_array, as_object, null_node}
 use Rattle.smithy_wire.specs.Frames.{IsTold, Drops, DropsAll}
 use Rattle.smithy_wire.specs.Rules.{Rules, position_in, drops_null, is_mark, key_text}
@@ -25,11 +25,11 @@ use Rattle.smithy_wire.specs.Readers.{opens_not, cannot_go_on}
 use Rattle.smithy_wire.specs.Entries.{other_is_no_mark, drop_is, mark_is_dropped, null_is_dropped, step_to_entry, close_at_end, list_drops_nothing, step_to_element, map_drops_nothing, step_to_key}
 use Rattle.smithy_wire.specs.Lemmas.Places.{members_are_object, list_is_array, map_is_object}
 -- what stands behind white space, in Private: a byte, a name and a value are determined, with their ends
-pub use Rattle.smithy_json_codec.specs.Private.Lexical.{past_ws, ws_boundary, value_begins}
-pub use Rattle.smithy_json_codec.specs.Private.BytePlaces.{settle, settle_at, past_byte, same_byte}
-pub use Rattle.smithy_json_codec.specs.Private.NamePlaces.{past_name_front, raw_is, colon_is}
-pub use Rattle.smithy_json_codec.specs.Private.TokenPlaces.{same_names, names_or_end}
-pub use Rattle.smithy_json_codec.specs.Private.ValuePlaces.{past_value, value_first, one_tree}
+pub use Rattle.smithy_json_values.specs.Private.Lexical.{past_ws, ws_boundary, value_begins}
+pub use Rattle.smithy_json_values.specs.Private.BytePlaces.{settle, settle_at, past_byte, same_byte}
+pub use Rattle.smithy_json_values.specs.Private.NamePlaces.{past_name_front, raw_is, colon_is}
+pub use Rattle.smithy_json_values.specs.Private.TokenPlaces.{same_names, names_or_end}
+pub use Rattle.smithy_json_values.specs.Private.ValuePlaces.{past_value, value_first, one_tree}
 
 -- ---- a list at a place
 

@@ -11,15 +11,15 @@ use Rattle.smithy_shapes.specs.Site.{Site}
 use Rattle.smithy_shapes.specs.Value.{ScalarValue, boolean, text, bytes, Value, scalar_value, null_element}
 use Rattle.smithy_schema.specs.Reading.{Cursor, depth, StandsNot, ReadsScalar, passed_to, failed_at}
 use Rattle.smithy_shapes.specs.Lemmas.Options.{made}
-use Rattle.smithy_json_codec.specs.Settings.{Settings, without_limits}
-use Rattle.smithy_json_codec.specs.Scalar.{JsonScalar, a_boolean, a_number, a_string, boolean_of, text_of, bytes_of, says}
-use Rattle.smithy_json_codec.specs.Laws.{lawful}
-use Rattle.smithy_json_codec.specs.TypeMismatch.{scalar_mismatches}
-use Rattle.smithy_json_codec.specs.Spans.{without_ws}
-use Rattle.smithy_json_codec.specs.Standing.{json_grammar, json_relations}
-use Rattle.smithy_json_codec.specs.Private.ScalarAtPlace.{TextLies, BlobLies}
-use Rattle.smithy_json_codec.specs.LexicalGrammar.{frames_of, LiesInGrammar}
-use Rattle.smithy_json_codec.proofs.GrammarReads as in_grammar_reads
+use Rattle.smithy_json_values.specs.Settings.{Settings, without_limits}
+use Rattle.smithy_json_values.specs.Scalar.{JsonScalar, a_boolean, a_number, a_string, boolean_of, text_of, bytes_of, says}
+use Rattle.smithy_json_values.specs.Laws.{lawful}
+use Rattle.smithy_json_values.specs.TypeMismatch.{scalar_mismatches}
+use Rattle.smithy_json_values.specs.Spans.{without_ws}
+use Rattle.smithy_json_values.specs.Standing.{json_grammar, json_relations}
+use Rattle.smithy_json_values.specs.Private.ScalarAtPlace.{TextLies, BlobLies}
+use Rattle.smithy_json_values.specs.LexicalGrammar.{frames_of, LiesInGrammar}
+use Rattle.smithy_json_values.proofs.GrammarReads as in_grammar_reads
 use Rattle.smithy_wire.specs.Rules.{settled}
 use Rattle.smithy_wire.specs.Finding.{Takes, told}
 use Rattle.smithy_wire.specs.Readers.{settled_answer}

@@ -1,9 +1,9 @@
 -- What is skipped is a node of the grammar that isn't too deep.
 use Rattle.std.proofs.Common.{◌≡◌, ◌↔◌, ◌+◌, ◌&&◌, ℕ, List, true, refl}
 use Rattle.std.proofs.lemmas.Bool.{and_parts}
-use Rattle.smithy_json_codec.specs.Scalar.{JsonScalar}
-use Rattle.smithy_json_codec.specs.LexicalGrammar.{LexicalGrammar, is_skipped_in, NodeLies, token_relations}
-use Rattle.smithy_json_codec.specs.Settings.{Settings, is_shallow}
+use Rattle.smithy_json_values.specs.Scalar.{JsonScalar}
+use Rattle.smithy_json_values.specs.LexicalGrammar.{LexicalGrammar, is_skipped_in, NodeLies, token_relations}
+use Rattle.smithy_json_values.specs.Settings.{Settings, is_shallow}
 use Rattle.smithy_wire.specs.Node.{Node, nesting, all_pass}
 
 -- from a to e lies a node that may be skipped inside so many containers

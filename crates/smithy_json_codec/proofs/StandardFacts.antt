@@ -3,7 +3,7 @@ use Rattle.std.proofs.Common.{◌≡◌, [], ◌∷◌, map, true, false, Some, 
 use Rattle.std.specs.Char.{encode_utf8}
 use Rattle.smithy_json.specs.Unescape.{code_unit}
 use Rattle.smithy_json.specs.Tree.{null, boolean, number, string, object, no_members}
-use Rattle.smithy_json_codec.specs.Meaning.{json_meaning}
+use Rattle.smithy_json_values.specs.Meaning.{json_meaning}
 use Rattle.smithy_json_codec.proofs.Examples.{whole_value, text_value, one_long, one_string, long_place, string_place, alone, in_arrays, first_alone, strict, means_at, would_mean_at}
 
 -- ---- whole numbers

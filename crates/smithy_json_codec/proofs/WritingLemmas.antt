@@ -12,7 +12,7 @@ use Rattle.smithy_schema.specs.Writing.{Event, run, write, and_run, events, elem
 use Rattle.smithy_schema.proofs.WritingLemmas.{child_written}
 use Rattle.smithy_json.specs.Ascii.{value_separator, begin_array, end_array, begin_object, end_object}
 use Rattle.smithy_json_codec.specs.Canonical.{scalar_text, document_text, can_write, name_text, key_text, canonical_json, more_elements, more_entries, more_members}
-use Rattle.smithy_json_codec.specs.Settings.{Settings}
+use Rattle.smithy_json_values.specs.Settings.{Settings}
 use Rattle.smithy_json_codec.specs.Writing.{JsonState, lead, form_at, is_key_due, key_wrote, wrote, opened, where_taken, json_after}
 
 abbrev pub state : Settings → List ℕ → Bool → List Open → JsonState

@@ -7,7 +7,7 @@ use Rattle.smithy_shapes.specs.Value.{Value, Values, no_values, value, MapEntrie
 use Rattle.smithy_shapes.specs.Fits.{Fits}
 use Rattle.smithy_shapes.proofs.SiteLemmas.{site_at}
 use Rattle.smithy_json_codec.specs.Canonical.{name_text, key_text, written_form, canonical_json, first_element, more_elements, first_entry, more_entries, first_member, more_members}
-use Rattle.smithy_json_codec.specs.Settings.{Settings, name_of}
+use Rattle.smithy_json_values.specs.Settings.{Settings, name_of}
 use Rattle.smithy_wire.specs.Writes.{body_of}
 use Rattle.smithy_wire.proofs.CanonicalBody.{Canonical, IsWritten, same_body}
 use Rattle.smithy_json_codec.proofs.WrittenDocuments.{document_bytes}

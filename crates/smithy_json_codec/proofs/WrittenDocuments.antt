@@ -20,11 +20,11 @@ use Rattle.smithy_json.specs.HeldNumber.{held_as, number_of}
 use Rattle.smithy_json.proofs.DecimalLemmas.{decimal_is_number, decimal_writes}
 use Rattle.smithy_json.proofs.QuotedLemmas.{quoted_is_string, unescaped_of_escaped}
 use Rattle.smithy_json_codec.specs.Canonical.{document_text, name_text}
-use Rattle.smithy_json_codec.specs.LexicalGrammar.{rfc_8259, in_grammar}
-use Rattle.smithy_json_codec.specs.Scalar.{JsonScalar, a_number, a_string, held_says, document_says}
-use Rattle.smithy_json_codec.specs.Settings.{Settings}
-use Rattle.smithy_json_codec.specs.Standing.{standard_rules}
-use Rattle.smithy_json_codec.specs.Private.TokenGrammar.{said_in}
+use Rattle.smithy_json_values.specs.LexicalGrammar.{rfc_8259, in_grammar}
+use Rattle.smithy_json_values.specs.Scalar.{JsonScalar, a_number, a_string, held_says, document_says}
+use Rattle.smithy_json_values.specs.Settings.{Settings}
+use Rattle.smithy_json_values.specs.Standing.{standard_rules}
+use Rattle.smithy_json_values.specs.Private.TokenGrammar.{said_in}
 use Rattle.smithy_json_codec.proofs.WrittenLeaves.{json_leaves}
 use Rattle.smithy_json_codec.proofs.WrittenPlaces.{separator, json_writes}
 use Rattle.smithy_wire.specs.Node.{as_array, as_object}

@@ -26,15 +26,15 @@ use Rattle.smithy_json.specs.Private.Chars.{is_plain}
 use Rattle.smithy_json.proofs.EscapeLemmas.{plain_byte}
 use Rattle.smithy_json.proofs.DecimalLemmas.{decimal_is_number, decimal_writes, decimal_text_is_number}
 use Rattle.smithy_json.proofs.QuotedLemmas.{quoted_is_string, unescaped_of_escaped}
-use Rattle.smithy_json_codec.specs.LexicalGrammar.{rfc_8259, in_grammar}
-use Rattle.smithy_json_codec.specs.Scalar.{JsonScalar, a_boolean, a_number, a_string, tree_of, big_number, format_at, says}
-use Rattle.smithy_json_codec.specs.Settings.{Settings}
-use Rattle.smithy_json_codec.specs.Codec.{strict_settings}
-use Rattle.smithy_json_codec.specs.Standing.{standard_rules}
-use Rattle.smithy_json_codec.specs.Private.TokenGrammar.{value_is_token, said_in}
+use Rattle.smithy_json_values.specs.LexicalGrammar.{rfc_8259, in_grammar}
+use Rattle.smithy_json_values.specs.Scalar.{JsonScalar, a_boolean, a_number, a_string, tree_of, big_number, format_at, says}
+use Rattle.smithy_json_values.specs.Settings.{Settings}
+use Rattle.smithy_json_values.specs.Codec.{strict_settings}
+use Rattle.smithy_json_values.specs.Standing.{standard_rules}
+use Rattle.smithy_json_values.specs.Private.TokenGrammar.{value_is_token, said_in}
 use Rattle.smithy_wire.specs.Rules.{means, no_meaning}
 use Rattle.smithy_wire.specs.BigNumbers.{big_decimal}
-use Rattle.smithy_json_codec.proofs.NumberTexts.{form_is}
+use Rattle.smithy_json_values.proofs.NumberTexts.{form_is}
 use Rattle.smithy_json_codec.proofs.InstantTexts.{instant_leaf, instant_means, instant_is_value}
 use Rattle.smithy_json_codec.specs.Canonical.{written_form, scalar_text, json_holds}
 use Rattle.smithy_json_codec.proofs.WrittenPlaces.{leaf_bytes, json_writes}

@@ -9,17 +9,17 @@ use Rattle.smithy_shapes.specs.Value.{Value, nesting}
 use Rattle.smithy_shapes.specs.Fits.{Fits}
 use Rattle.smithy_shapes.proofs.SiteLemmas.{site_at}
 use Rattle.smithy_json_codec.specs.Canonical.{json_holds, canonical_json}
-use Rattle.smithy_json_codec.specs.Codec.{strict_settings}
-use Rattle.smithy_json_codec.specs.Private.TokenLaws.{fit_by_standard}
-use Rattle.smithy_json_codec.specs.Settings.{Settings, kept, name_of}
-use Rattle.smithy_json_codec.specs.Spelling.{json_spells}
-use Rattle.smithy_json_codec.specs.Standing.{json_frames, standard_rules}
+use Rattle.smithy_json_values.specs.Codec.{strict_settings}
+use Rattle.smithy_json_values.specs.Private.TokenLaws.{fit_by_standard}
+use Rattle.smithy_json_values.specs.Settings.{Settings, kept, name_of}
+use Rattle.smithy_json_values.specs.Spelling.{json_spells}
+use Rattle.smithy_json_values.specs.Standing.{json_frames, standard_rules}
 use Rattle.smithy_wire.specs.Laws.{stands_fit}
 use Rattle.smithy_wire.specs.Written.{TellsApart}
 use Rattle.smithy_wire.proofs.AcceptedNames.{named_by_name, named_by_json_name}
 use Rattle.smithy_wire.proofs.NestedMeaning.{stands_within_depth}
 use Rattle.smithy_wire.proofs.ReadBack.{written_stands}
-use Rattle.smithy_json_codec.proofs.SpellingLemmas.{spells_stands, stands_whole}
+use Rattle.smithy_json_values.proofs.SpellingLemmas.{spells_stands, stands_whole}
 use Rattle.smithy_json_codec.proofs.WrittenBody.{same_text}
 use Rattle.smithy_json_codec.proofs.WrittenDocuments.{json_reads_documents, json_writes_documents}
 use Rattle.smithy_json_codec.proofs.WrittenLeaves.{json_leaves, json_reads_leaves, json_writes_leaves}

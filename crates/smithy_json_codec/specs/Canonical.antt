@@ -16,7 +16,7 @@ use Rattle.smithy_instants.specs.declared.format.Format.TheVariants as formats
 use Rattle.smithy_json.specs.Ascii.{quotation_mark, value_separator, name_separator, begin_array, end_array, begin_object, end_object}
 use Rattle.smithy_json.specs.DocumentText.{document_text_by}
 use Rattle.smithy_json.specs.Escape.{quoted}
-use Rattle.smithy_json_codec.specs.Settings.{Settings}
+use Rattle.smithy_json_values.specs.Settings.{Settings}
 
 -- the time form whose texts are written in a form: a date and time is written alike where an offset may be read
 abbrev pub time_form : Format → TimestampFormat

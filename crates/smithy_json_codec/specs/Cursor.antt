@@ -2,10 +2,10 @@
 use Rattle.std.specs.Prelude.{Bool, None, false, option_map}
 use Rattle.smithy_schema.specs.Reading.{Cursor, Frame, ContainerKind, in_structure}
 use Rattle.smithy_json_codec.specs.declared.deserializer.JsonDeserializer.{JsonDeserializer}
-use Rattle.smithy_json_codec.specs.Codec.{held_settings}
+use Rattle.smithy_json_values.specs.Codec.{held_settings}
 use Rattle.smithy_json_settings.specs.Settings.{CodecSettings}
-use Rattle.smithy_json_codec.specs.Settings.{Settings}
-use Rattle.smithy_json_codec.specs.Standing.{end_mark}
+use Rattle.smithy_json_values.specs.Settings.{Settings}
+use Rattle.smithy_json_values.specs.Standing.{end_mark}
 use Rattle.smithy_wire.specs.Walking.{cursor_of as walk_cursor}
 
 -- where a reader of JSON stands

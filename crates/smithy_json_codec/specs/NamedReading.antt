@@ -6,8 +6,8 @@ use Rattle.smithy_types.specs.Document.{Document}
 use Rattle.smithy_types.specs.Identifier.{named_document}
 use Rattle.smithy_types.specs.declared.number.Number.{Number}
 use Rattle.smithy_json_settings.specs.Settings.{CodecSettings}
-use Rattle.smithy_json_codec.specs.Documents.{DocumentStands}
-use Rattle.smithy_json_codec.specs.Standing.{json_grammar}
+use Rattle.smithy_json_values.specs.Documents.{DocumentStands}
+use Rattle.smithy_json_values.specs.Standing.{json_grammar}
 
 -- what texts and numbers of documents stand for that are read under these settings
 abbrev pub coercion_by : CodecSettings → Coercion

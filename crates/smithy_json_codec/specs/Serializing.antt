@@ -2,7 +2,7 @@
 use Rattle.std.specs.Prelude.{Bool}
 use Rattle.smithy_wire.specs.OpenContainers.{opens_of}
 use Rattle.smithy_json_codec.specs.declared.serializer.JsonSerializer.{JsonSerializer}
-use Rattle.smithy_json_codec.specs.Codec.{held_settings}
+use Rattle.smithy_json_values.specs.Codec.{held_settings}
 use Rattle.smithy_json_codec.specs.Writing.{JsonState}
 
 -- what the calls of a serializer of JSON depend on

@@ -7,7 +7,7 @@ use Rattle.smithy_texts.specs.Decimal.{is_point, coefficient}
 use Rattle.smithy_json.specs.Ascii.{minus_sign, decimal_point, digit_zero}
 use Rattle.smithy_json.specs.Escape.{quoted}
 use Rattle.smithy_json.specs.NumberText.{is_number}
-use Rattle.smithy_json_codec.specs.Settings.{Settings}
+use Rattle.smithy_json_values.specs.Settings.{Settings}
 
 -- digits without zeros in front of them, and a zero where none is left
 abbrev pub without_zeros : List ℕ → List ℕ

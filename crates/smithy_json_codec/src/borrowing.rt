@@ -1,7 +1,7 @@
 //! Reading texts and bytes that borrow from the input.
 use crate::deserializer::JsonDeserializer;
-use crate::mismatch::told;
-use crate::texts::{bytes_piece_at, text_piece_at};
+use smithy_json_values::mismatch::told;
+use smithy_json_values::texts::{bytes_piece_at, text_piece_at};
 use smithy_schema::{BorrowDeserializer, Scalar, Schema, SerdeError};
 use std::alloc::Global;
 use std::borrow::{CowSlice, CowStr};
@@ -13,10 +13,10 @@ impl<'a> BorrowDeserializer<'a> for JsonDeserializer<'a> {
     ghost use Rattle.smithy_shapes.specs.Value.{text, bytes};
     ghost use Rattle.smithy_shapes.specs.Site.{site_of};
     ghost use Rattle.smithy_schema.specs.Reading.{ReadsScalar};
-    ghost use Rattle.smithy_json_codec.specs.Borrowed.{BorrowsText};
+    ghost use Rattle.smithy_json_values.specs.Borrowed.{BorrowsText};
     ghost use Rattle.smithy_json_codec.specs.Cursor.{cursor_of, reading_settings_of, reader_settings_of};
-    ghost use Rattle.smithy_json_codec.specs.Settings.{keep_limits, without_limits};
-    ghost use Rattle.smithy_json_codec.specs.Standing.{json_grammar, json_relations};
+    ghost use Rattle.smithy_json_values.specs.Settings.{keep_limits, without_limits};
+    ghost use Rattle.smithy_json_values.specs.Standing.{json_grammar, json_relations};
 
     #[inline(always)]
     fn read_text(&mut self, _schema: &Schema<'_>) -> Result<CowStr<'a, Global>, SerdeError>

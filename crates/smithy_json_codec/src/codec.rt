@@ -1,11 +1,11 @@
 //! The maker of readers and serializers.
 ghost use Rattle.std.specs.Prelude.{◌≡◌};
-ghost use Rattle.smithy_json_codec.specs.Codec.{held_settings};
+ghost use Rattle.smithy_json_values.specs.Codec.{held_settings};
 
 use crate::deserializer::JsonDeserializer;
 use crate::serializer::JsonSerializer;
-use crate::settings::Settings;
 use smithy_json_settings::JsonCodecSettings;
+use smithy_json_values::settings::Settings;
 use smithy_wire::Walk;
 use std::alloc::Global;
 use std::marker::Model;
@@ -41,7 +41,7 @@ impl Default for JsonCodec {
 
 impl JsonCodec {
     ghost use Rattle.std.specs.Prelude.{◌≡◌, false, option_map};
-    ghost use Rattle.smithy_json_codec.specs.Codec.{strict_codec_settings, with_namespace};
+    ghost use Rattle.smithy_json_values.specs.Codec.{strict_codec_settings, with_namespace};
     ghost use Rattle.smithy_json_codec.specs.Cursor.{cursor_of, reader_settings_of};
     ghost use Rattle.smithy_wire.specs.Walking.{fresh_cursor};
     ghost use Rattle.smithy_json_codec.specs.Serializing.{state_of, has_failed};

@@ -1,18 +1,21 @@
 //! The reader of JSON values that a schema directs.
 ghost use Rattle.std.specs.Prelude.{◌≡◌};
 
-use crate::documents::standing_document_at;
 use crate::frames::{frame, is_structure, missing};
-use crate::instants::instant_at;
-use crate::integers::integer_at;
-use crate::mismatch::{no_object, told};
-use crate::numbers::{big_decimal_at, big_integer_at};
-use crate::places::{InList, InObject, byte_end, is_over, next_in_list, next_in_object, null_end};
-use crate::settings::Settings;
-use crate::skip::skipped_end;
-use crate::texts::{blob_at, owned_text, text_at};
-use crate::values::{begins_null, boolean_at};
 use smithy_json_tokens::container_size;
+use smithy_json_values::documents::standing_document_at;
+use smithy_json_values::input::Input;
+use smithy_json_values::instants::instant_at;
+use smithy_json_values::integers::integer_at;
+use smithy_json_values::mismatch::{no_object, told};
+use smithy_json_values::numbers::{big_decimal_at, big_integer_at};
+use smithy_json_values::places::{
+    InList, InObject, byte_end, is_over, next_in_list, next_in_object, null_end,
+};
+use smithy_json_values::settings::Settings;
+use smithy_json_values::skip::skipped_end;
+use smithy_json_values::texts::{blob_at, owned_text, text_at};
+use smithy_json_values::values::{begins_null, boolean_at};
 use smithy_schema::{Scalar, Schema, SerdeError, ShapeDeserializer, Step};
 use smithy_types::{BigDecimal, BigInteger, Blob, DateTime, Document};
 use smithy_wire::{ContainerKind, Walk, byte_found, integer_found, short_found};
@@ -31,6 +34,19 @@ pub struct JsonDeserializer<'a> {
     ghost limit: { walk.max_depth ≡ settings.max_depth },
 }
 
+impl<'a> JsonDeserializer<'a> {
+    // What is read, under the settings.
+    #[inline(always)]
+    pub(crate) fn input(&self) -> Input<'a>
+        ensures { result ≡ record { bytes = self.now.walk.input; settings = self.now.settings } }
+    {
+        Input {
+            bytes: self.walk.input,
+            settings: self.settings,
+        }
+    }
+}
+
 impl ShapeDeserializer for JsonDeserializer<'_> {
     ghost use Rattle.std.specs.Prelude.{◌≡◌, ◌≤◌, ℕ, Some, true, false, refl, IfOk, IsOk, OnOk, IsErr, IsErrOf};
     ghost use Rattle.smithy_schema.specs.Reading.{depth, in_structure, passed_to, ReadsDocument, Conducts, Passes, MatchStep, CannotGoOn, SkipsNot, NullsNot, ReadsScalar, AnswersWide, ReachesDepth, null_is_due, RefusesNoKind, IsRefused, IsInvalid, IsNoAnswer};
@@ -38,11 +54,11 @@ impl ShapeDeserializer for JsonDeserializer<'_> {
     ghost use Rattle.smithy_shapes.specs.Site.{site_of, kind_at};
     ghost use Rattle.smithy_schema.specs.declared.error.SerdeError.TheVariants.{NoMemory, NotCarried, TooDeep};
     ghost use Rattle.smithy_json_codec.specs.Cursor.{cursor_of, reading_settings_of, reader_settings_of};
-    ghost use Rattle.smithy_json_codec.specs.Settings.{keep_limits, without_limits};
+    ghost use Rattle.smithy_json_values.specs.Settings.{keep_limits, without_limits};
     ghost use Rattle.smithy_json_settings.specs.Settings.{CodecSettings};
-    ghost use Rattle.smithy_json_codec.specs.Standing.{json_grammar, json_relations};
+    ghost use Rattle.smithy_json_values.specs.Standing.{json_grammar, json_relations};
     ghost use Rattle.smithy_json_codec.specs.ContainerSize.{json_sizes};
-    ghost use Rattle.smithy_json_codec.specs.Deepest.{OpensTooDeep};
+    ghost use Rattle.smithy_json_values.specs.Deepest.{OpensTooDeep};
     ghost use Rattle.smithy_types.specs.DocumentView.{document_view};
     ghost use Rattle.std.specs.Prelude.{FitsSigned};
     ghost use Rattle.std.specs.Int.{w128};
@@ -50,10 +66,10 @@ impl ShapeDeserializer for JsonDeserializer<'_> {
     ghost use Rattle.smithy_texts.specs.Decimal.{mantissa, net_exponent};
     ghost use Rattle.smithy_shapes.specs.declared.shape_type.Scalar.TheVariants as scalars;
     ghost use Rattle.smithy_shapes.specs.Value.{whole, decimal};
-    ghost use Rattle.smithy_json_codec.specs.NumberText.{NumberTextLies};
-    ghost use Rattle.smithy_json_codec.specs.Documents.{DocumentStands, NoDocumentStands, TreeDocumentStands, NoTreeDocumentStands, MeetsOtherNumber, OpensDocumentTooDeep};
-    ghost use Rattle.smithy_json_codec.specs.LexicalGrammar.{rfc_8259};
-    ghost use Rattle.smithy_json_codec.specs.Laws.{lawful as json_is_lawful, fit as json_fits, counts as json_counts, above as limits_are_above};
+    ghost use Rattle.smithy_json_values.specs.NumberText.{NumberTextLies};
+    ghost use Rattle.smithy_json_values.specs.Documents.{DocumentStands, NoDocumentStands, TreeDocumentStands, NoTreeDocumentStands, MeetsOtherNumber, OpensDocumentTooDeep};
+    ghost use Rattle.smithy_json_values.specs.LexicalGrammar.{rfc_8259};
+    ghost use Rattle.smithy_json_values.specs.Laws.{lawful as json_is_lawful, fit as json_fits, counts as json_counts, above as limits_are_above};
 
     ghost Settings = { CodecSettings };
 

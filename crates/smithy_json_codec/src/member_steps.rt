@@ -2,7 +2,7 @@
 use crate::deserializer::JsonDeserializer;
 use crate::frames::{frame, is_structure};
 use crate::members::{Next, next_present, step_to};
-use crate::places::is_over;
+use smithy_json_values::places::is_over;
 use smithy_schema::{Schema, SerdeError, Step};
 use smithy_wire::ContainerKind;
 
@@ -13,10 +13,10 @@ impl JsonDeserializer<'_> {
     ghost use Rattle.smithy_shapes.specs.Site.{site_of, kind_at};
     ghost use Rattle.smithy_schema.specs.declared.error.SerdeError.TheVariants.{TooDeep};
     ghost use Rattle.smithy_json_codec.specs.Cursor.{cursor_of, reading_settings_of, reader_settings_of};
-    ghost use Rattle.smithy_json_codec.specs.Deepest.{OpensTooDeep};
-    ghost use Rattle.smithy_json_codec.specs.Openers.{json_openers};
-    ghost use Rattle.smithy_json_codec.specs.Settings.{without_limits};
-    ghost use Rattle.smithy_json_codec.specs.Standing.{json_grammar, json_relations};
+    ghost use Rattle.smithy_json_values.specs.Deepest.{OpensTooDeep};
+    ghost use Rattle.smithy_json_values.specs.Openers.{json_openers};
+    ghost use Rattle.smithy_json_values.specs.Settings.{without_limits};
+    ghost use Rattle.smithy_json_values.specs.Standing.{json_grammar, json_relations};
     ghost use Rattle.smithy_json_codec.specs.Private.MemberSteps.{EndsEmpty};
 
     // Whether the innermost container was opened where the input is over, as it is at the offset, and ends there.

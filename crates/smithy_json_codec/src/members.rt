@@ -3,19 +3,19 @@
 ghost use Rattle.std.specs.Prelude.{◌≡◌, ◌≤◌, ◌+◌, ◌↔◌, ℕ, true, length, drop, IfOk, IfErr, IfSome, IfNone, IsErrOf, IsTrue};
 ghost use Rattle.smithy_shapes.specs.Site.{site_of, kind_at};
 ghost use Rattle.smithy_shapes.specs.Table.{IsDocument};
-ghost use Rattle.smithy_json_codec.specs.Codec.{held_settings, held_grammar};
-ghost use Rattle.smithy_json_codec.specs.Deepest.{OpensTooDeep};
-ghost use Rattle.smithy_json_codec.specs.LexicalGrammar.{frames_of};
-ghost use Rattle.smithy_json_codec.specs.Openers.{json_openers};
+ghost use Rattle.smithy_json_values.specs.Codec.{held_settings, held_grammar};
+ghost use Rattle.smithy_json_values.specs.Deepest.{OpensTooDeep};
+ghost use Rattle.smithy_json_values.specs.LexicalGrammar.{frames_of};
+ghost use Rattle.smithy_json_values.specs.Openers.{json_openers};
 ghost use Rattle.smithy_json_codec.specs.declared.members.EntryFault.TheVariants.{NoEntry, TooDeep, NoMemory};
 ghost use Rattle.smithy_json_codec.specs.Private.MemberSteps.{StepsTo, passing, passes_marks, passes_null};
 ghost use Rattle.smithy_json_codec.specs.Private.PassedEntries.{entry_fault, entry_refusal, type_name, IsEntry, IsNext, EntryMissing, NothingComes, NoSkip, NoSkipWithin};
 
-use crate::input::Input;
-use crate::places::{InObject, next_in_object, null_end};
-use crate::settings::Settings;
-use crate::skip::{SkipFault, skipped_end};
-use crate::texts::text_of;
+use smithy_json_values::input::Input;
+use smithy_json_values::places::{InObject, next_in_object, null_end};
+use smithy_json_values::settings::Settings;
+use smithy_json_values::skip::{SkipFault, skipped_end};
+use smithy_json_values::texts::text_of;
 use smithy_schema::{Schema, SerdeError, ShapeType, Step};
 use std::alloc::{AllocError, Global};
 use std::borrow::CowStr;

@@ -4,13 +4,13 @@ ghost use Rattle.smithy_schema.specs.Reading.{depth, Conducts, Passes, IsNoAnswe
 ghost use Rattle.smithy_schema.specs.declared.error.SerdeError.TheVariants.{NotCarried, TooDeep, TooWide, TypeMismatch};
 ghost use Rattle.smithy_types.specs.Discriminated.{discriminated_view};
 ghost use Rattle.smithy_json_codec.specs.Cursor.{cursor_of, reading_settings_of, reader_settings_of};
-ghost use Rattle.smithy_json_codec.specs.Documents.{NoDocumentStands, MeetsOtherNumber, OpensDocumentTooDeep};
+ghost use Rattle.smithy_json_values.specs.Documents.{NoDocumentStands, MeetsOtherNumber, OpensDocumentTooDeep};
 ghost use Rattle.smithy_json_codec.specs.NamedReading.{NamedStands};
-ghost use Rattle.smithy_json_codec.specs.Standing.{json_grammar};
-ghost use Rattle.smithy_json_codec.specs.Private.OpenDocuments.{RefusesStanding};
+ghost use Rattle.smithy_json_values.specs.Standing.{json_grammar};
+ghost use Rattle.smithy_json_values.specs.Private.OpenDocuments.{RefusesStanding};
 
 use crate::deserializer::JsonDeserializer;
-use crate::documents::{DocumentFault, standing_document_at};
+use smithy_json_values::documents::{DocumentFault, standing_document_at};
 use smithy_schema::SerdeError;
 use smithy_types::named_document::named;
 use smithy_types::{DiscriminatedDocument, DocumentCoercion};

@@ -1,17 +1,18 @@
 //! What a serializer adds to the end of a body.
 ghost use Rattle.std.specs.Prelude.{◌≡◌, [], ◌∷◌, ◌++◌, OnOk};
 ghost use Rattle.smithy_shapes.specs.Site.{site_of};
+ghost use Rattle.smithy_shapes.specs.TimeForms.{form_or};
 ghost use Rattle.smithy_texts.specs.Base64Text.{blob_text};
 ghost use Rattle.smithy_types.specs.Document.{whole_document};
 ghost use Rattle.smithy_types.specs.DocumentView.{document_view};
 ghost use Rattle.smithy_json.specs.Ascii.{quotation_mark};
 ghost use Rattle.smithy_json.specs.Escape.{quoted};
-ghost use Rattle.smithy_json_codec.specs.Canonical.{document_text, name_text, key_text};
+ghost use Rattle.smithy_json_codec.specs.Canonical.{document_text, name_text, key_text, time_form};
 ghost use Rattle.smithy_json_codec.specs.Writing.{comma_text};
 
 use smithy_json::{push_document, push_escaped};
-use smithy_schema::Schema;
-use smithy_types::{Document, base64};
+use smithy_schema::{Schema, TimestampFormat};
+use smithy_types::{Document, Format, base64};
 use std::alloc::AllocError;
 
 pub(crate) fn push_quoted(out: &mut Vec<u8>, text: &str) -> Result<(), AllocError>
@@ -78,4 +79,22 @@ pub(crate) fn push_comma(out: &mut Vec<u8>, needs_comma: bool) -> Result<(), All
         out.push(b',')?;
     }
     Ok(())
+}
+
+// The time form in which instants are written in a form.
+fn time_form(form: Format) -> TimestampFormat
+    ensures { result ≡ time_form form }
+{
+    match form {
+        Format::EpochSeconds => TimestampFormat::EpochSeconds,
+        Format::HttpDate => TimestampFormat::HttpDate,
+        Format::DateTime | Format::DateTimeWithOffset => TimestampFormat::DateTime,
+    }
+}
+
+// The form in which instants are written at a place: its own, or that of the default.
+pub(crate) fn form_at(schema: &Schema<'_>, default: Format) -> TimestampFormat
+    ensures { result ≡ form_or (time_form default) (site_of schema.now).place.time }
+{
+    schema.timestamp_format().unwrap_or(time_form(default))
 }

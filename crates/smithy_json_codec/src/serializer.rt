@@ -12,19 +12,18 @@ ghost use Rattle.smithy_texts.specs.Decimal.{exponent_text, decimal_text};
 ghost use Rattle.smithy_json.specs.Escape.{quoted};
 ghost use Rattle.smithy_json_codec.specs.Canonical.{in_form};
 ghost use Rattle.smithy_wire.specs.OpenContainers.{open_of};
-ghost use Rattle.smithy_json_codec.specs.Codec.{held_settings};
+ghost use Rattle.smithy_json_values.specs.Codec.{held_settings};
 ghost use Rattle.smithy_json_codec.specs.WrittenNumber.{normalized, written_number};
 ghost use Rattle.smithy_json_codec.specs.Serializing.{state_of, has_failed};
 ghost use Rattle.smithy_json_codec.specs.Writing.{JsonState, fresh_state, is_key_due, lead, wrote, wrote_any, key_wrote, opened, where_taken, json_after};
 
 use crate::big_numbers::push_normalized;
-use crate::instants::form_at;
 use crate::output::{
-    push_base64, push_comma, push_key, push_name, push_quoted, push_whole_document,
+    form_at, push_base64, push_comma, push_key, push_name, push_quoted, push_whole_document,
 };
-use crate::settings::Settings;
 use itoa::Buffer;
 use smithy_json::number_text::is_number;
+use smithy_json_values::settings::Settings;
 use smithy_schema::{
     FinishSerializer, Schema, SerdeError, ShapeSerializer, TimestampFormat, instant_text,
 };

@@ -10,13 +10,13 @@ use Rattle.smithy_schema.specs.Writing.{Event, Writer, begin_structure, end_stru
 use Rattle.smithy_schema.specs.Written.{Adds, Runs, ran, Wraps, whole}
 use Rattle.smithy_schema.proofs.WritingLemmas.{child_written}
 use Rattle.smithy_json_codec.specs.Canonical.{canonical_json, key_text, can_write}
-use Rattle.smithy_json_codec.specs.Codec.{strict_settings}
+use Rattle.smithy_json_values.specs.Codec.{strict_settings}
 use Rattle.smithy_json_codec.specs.Writing.{JsonState, json_after, fresh_state}
 use Rattle.smithy_json_codec.proofs.WritingLemmas.{value_adds}
-use Rattle.smithy_cbor_codec.specs.Canonical.{canonical_cbor, cbor_holds}
-use Rattle.smithy_cbor_codec.specs.Codec.{strict_settings as strict_cbor}
-use Rattle.smithy_cbor_codec.specs.Prefixes.{CborState, cbor_after, fresh_state as fresh_cbor, no_prefix, with_prefix}
-use Rattle.smithy_cbor_codec.specs.Writing.{fresh_body}
+use Rattle.smithy_cbor_body.specs.Canonical.{canonical_cbor, cbor_holds}
+use Rattle.smithy_cbor_body.specs.Codec.{strict_settings as strict_cbor}
+use Rattle.smithy_cbor_body.specs.Prefixes.{CborState, cbor_after, fresh_state as fresh_cbor, no_prefix, with_prefix}
+use Rattle.smithy_cbor_body.specs.Writing.{fresh_body}
 use Rattle.smithy_cbor_codec.proofs.PrefixLemmas.{unprefixed}
 use Rattle.smithy_cbor_codec.proofs.WritingLemmas.{value_adds as cbor_value_adds}
 use Rattle.smithy_query_codec.specs.Canonical.{canonical_query}

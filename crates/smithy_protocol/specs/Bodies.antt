@@ -9,10 +9,10 @@ use Rattle.smithy_shapes.specs.ScalarTest.{scalars_pass}
 use Rattle.smithy_schema.specs.Writing.{Writer, begin_structure, end_structure, member_events}
 use Rattle.smithy_schema.specs.Written.{Adds, Runs, Wraps}
 use Rattle.smithy_json_codec.specs.Canonical.{canonical_json, can_write}
-use Rattle.smithy_json_codec.specs.Codec.{strict_settings}
+use Rattle.smithy_json_values.specs.Codec.{strict_settings}
 use Rattle.smithy_json_codec.specs.Writing.{json_after}
-use Rattle.smithy_cbor_codec.specs.Canonical.{canonical_cbor, cbor_holds}
-use Rattle.smithy_cbor_codec.specs.Prefixes.{cbor_after}
+use Rattle.smithy_cbor_body.specs.Canonical.{canonical_cbor, cbor_holds}
+use Rattle.smithy_cbor_body.specs.Prefixes.{cbor_after}
 use Rattle.smithy_query_codec.specs.Canonical.{canonical_query}
 use Rattle.smithy_query_codec.specs.Counts.{HasPositions}
 use Rattle.smithy_query_codec.specs.Writable.{can_be_written}

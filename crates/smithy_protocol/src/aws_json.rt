@@ -2,7 +2,7 @@
 ghost use Rattle.std.specs.Prelude.{◌≡◌, ◌⊎◌, Ok, Err, false, IfOk, IfErr};
 ghost use Rattle.smithy_schema.specs.declared.error.SerdeError.TheVariants.{NoMemory};
 ghost use Rattle.smithy_shapes.specs.Site.{site_of};
-ghost use Rattle.smithy_json_codec.specs.Codec.{strict_settings, with_namespace};
+ghost use Rattle.smithy_json_values.specs.Codec.{strict_settings, with_namespace};
 ghost use Rattle.smithy_json_codec.specs.Cursor.{cursor_of, reader_settings_of};
 ghost use Rattle.smithy_json_codec.specs.Writing.{fresh_state, json_after};
 ghost use Rattle.smithy_wire.specs.Walking.{fresh_cursor};

@@ -2,9 +2,9 @@
 ghost use Rattle.std.specs.Prelude.{◌≡◌, ◌⊎◌, Ok, Err, codes, IfOk, IfErr};
 ghost use Rattle.smithy_schema.specs.declared.error.SerdeError.TheVariants.{NoMemory};
 ghost use Rattle.smithy_shapes.specs.Site.{site_of};
-ghost use Rattle.smithy_cbor_codec.specs.Codec.{strict_settings, default_settings};
+ghost use Rattle.smithy_cbor_body.specs.Codec.{strict_settings, default_settings};
 ghost use Rattle.smithy_cbor_codec.specs.Cursor.{cursor_of, reading_settings_of};
-ghost use Rattle.smithy_cbor_codec.specs.Prefixes.{fresh_state, cbor_after};
+ghost use Rattle.smithy_cbor_body.specs.Prefixes.{fresh_state, cbor_after};
 ghost use Rattle.smithy_wire.specs.Walking.{fresh_cursor};
 ghost use Rattle.smithy_protocol.specs.Bodies.{HandsOut, IsCborBody};
 ghost use Rattle.smithy_error_bodies.specs.CborErrors.{CborSays};

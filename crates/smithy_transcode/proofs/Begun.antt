@@ -10,12 +10,12 @@ use Rattle.smithy_shapes.specs.Value.{Value, structure, no_member_values}
 use Rattle.smithy_schema.specs.Reading.{Cursor, depth, Relations, Reads, StandsNot, ReachesDepth, EndsTooDeep, ExceedsInside, UncarriedInside, IsCounted, IsRefused}
 use Rattle.smithy_schema.proofs.CountLemmas.{starts_counted, reaches_openers}
 use Rattle.smithy_wire.specs.Walking.{fresh_cursor}
-use Rattle.smithy_json_codec.specs.Codec.{strict_settings}
-use Rattle.smithy_json_codec.specs.Settings.{Settings, keep_limits, without_limits}
-use Rattle.smithy_json_codec.specs.Standing.{json_relations}
-use Rattle.smithy_cbor_codec.specs.Codec.{strict_settings as strict_cbor}
-use Rattle.smithy_cbor_codec.specs.Settings.{Settings as CborSettings, keep_limits as keep_cbor_limits, without_limits as without_cbor_limits}
-use Rattle.smithy_cbor_codec.specs.Standing.{cbor_relations}
+use Rattle.smithy_json_values.specs.Codec.{strict_settings}
+use Rattle.smithy_json_values.specs.Settings.{Settings, keep_limits, without_limits}
+use Rattle.smithy_json_values.specs.Standing.{json_relations}
+use Rattle.smithy_cbor_body.specs.Codec.{strict_settings as strict_cbor}
+use Rattle.smithy_cbor_values.specs.Settings.{Settings as CborSettings, keep_limits as keep_cbor_limits, without_limits as without_cbor_limits}
+use Rattle.smithy_cbor_values.specs.Standing.{cbor_relations}
 use Rattle.smithy_transcode.specs.Wires.{Wire, json, cbor, query, IsReadable}
 use Rattle.smithy_transcode.specs.Causes.{openers, MayNest, IsTooDeep, IsWide, IsUncarried}
 use Rattle.smithy_transcode.specs.Spelling.{Spells}

@@ -19,14 +19,14 @@ use Rattle.smithy_shapes.specs.Value.{Value, scalar_value, list, map, structure,
 use Rattle.smithy_schema.specs.Writing.{write, events}
 use Rattle.smithy_wire.specs.Lemmas.Places.{document_kind}
 use Rattle.smithy_json_codec.specs.Canonical.{canonical_json, key_text, json_holds, can_write as json_can_write}
-use Rattle.smithy_json_codec.specs.Codec.{strict_settings}
+use Rattle.smithy_json_values.specs.Codec.{strict_settings}
 use Rattle.smithy_json_codec.specs.Writing.{JsonState, json_after, fresh_state}
 use Rattle.smithy_json_codec.proofs.WritingLemmas.{state, value_adds}
-use Rattle.smithy_cbor_codec.specs.Canonical.{canonical_cbor}
-use Rattle.smithy_cbor_codec.specs.Codec.{strict_settings as strict_cbor}
-use Rattle.smithy_cbor_codec.specs.Settings.{Settings as CborSettings}
-use Rattle.smithy_cbor_codec.specs.Prefixes.{CborState, cbor_after, fresh_state as fresh_cbor_state, no_prefix, with_prefix}
-use Rattle.smithy_cbor_codec.specs.Writing.{fresh_body}
+use Rattle.smithy_cbor_body.specs.Canonical.{canonical_cbor}
+use Rattle.smithy_cbor_body.specs.Codec.{strict_settings as strict_cbor}
+use Rattle.smithy_cbor_values.specs.Settings.{Settings as CborSettings}
+use Rattle.smithy_cbor_body.specs.Prefixes.{CborState, cbor_after, fresh_state as fresh_cbor_state, no_prefix, with_prefix}
+use Rattle.smithy_cbor_body.specs.Writing.{fresh_body}
 use Rattle.smithy_cbor_codec.proofs.PrefixLemmas.{unprefixed}
 use Rattle.smithy_cbor_codec.proofs.WritingLemmas.{value_adds as cbor_value_adds}
 use Rattle.smithy_query_codec.specs.Nulls.{holds_null}

@@ -3,15 +3,15 @@ use Rattle.std.specs.Prelude.{◌≤◌, ◌+◌, ℕ, length, List, true, refl}
 use Rattle.std.proofs.Common.{arith}
 use Rattle.smithy_shapes.specs.Table.{Table, shape_place}
 use Rattle.smithy_shapes.specs.Value.{Value}
-use Rattle.smithy_json_codec.specs.Codec.{strict_settings}
-use Rattle.smithy_json_codec.specs.Laws.{rules_fit}
-use Rattle.smithy_json_codec.specs.Private.Wire.{json_is_wire, json_bounds_openers}
-use Rattle.smithy_json_codec.specs.Standing.{json_frames, json_rules}
-use Rattle.smithy_cbor_codec.specs.Codec.{strict_settings as strict_cbor}
-use Rattle.smithy_cbor_codec.specs.Laws.{rules_fit as cbor_rules_fit}
-use Rattle.smithy_cbor_codec.specs.Meaning.{rules_of as cbor_rules_of}
-use Rattle.smithy_cbor_codec.specs.Private.Wire.{cbor_is_wire, cbor_bounds_openers}
-use Rattle.smithy_cbor_codec.specs.Standing.{cbor_frames}
+use Rattle.smithy_json_values.specs.Codec.{strict_settings}
+use Rattle.smithy_json_values.specs.Laws.{rules_fit}
+use Rattle.smithy_json_values.specs.Private.Wire.{json_is_wire, json_bounds_openers}
+use Rattle.smithy_json_values.specs.Standing.{json_frames, json_rules}
+use Rattle.smithy_cbor_body.specs.Codec.{strict_settings as strict_cbor}
+use Rattle.smithy_cbor_values.specs.Laws.{rules_fit as cbor_rules_fit}
+use Rattle.smithy_cbor_values.specs.Meaning.{rules_of as cbor_rules_of}
+use Rattle.smithy_cbor_values.specs.Private.Wire.{cbor_is_wire, cbor_bounds_openers}
+use Rattle.smithy_cbor_values.specs.Standing.{cbor_frames}
 use Rattle.smithy_transcode.specs.Nodes.{nodes}
 use Rattle.smithy_transcode.specs.Spelling.{Spells}
 use Rattle.smithy_transcode.specs.Wires.{Wire, json, cbor, query}

@@ -3,14 +3,14 @@ use Rattle.std.proofs.Common.{◌≡◌, ℕ, List, [], refl, inr}
 use Rattle.smithy_shapes.specs.Table.{Table, kind_of, shape_place, IsStructure}
 use Rattle.smithy_shapes.specs.Value.{Value, structure, no_member_values}
 use Rattle.smithy_schema.specs.Reading.{Relations}
-use Rattle.smithy_json_codec.specs.Codec.{strict_settings}
-use Rattle.smithy_json_codec.specs.Settings.{without_limits}
-use Rattle.smithy_json_codec.specs.Standing.{json_relations}
-use Rattle.smithy_json_codec.proofs.SpellingLemmas.{stands_spells, spells_stands, structure_is_container}
-use Rattle.smithy_cbor_codec.specs.Codec.{strict_settings as strict_cbor}
-use Rattle.smithy_cbor_codec.specs.Settings.{without_limits as without_cbor_limits}
-use Rattle.smithy_cbor_codec.specs.Standing.{cbor_relations}
-use Rattle.smithy_cbor_codec.proofs.SpellingLemmas.{stands_spells as cbor_stands_spells, spells_stands as cbor_spells_stands}
+use Rattle.smithy_json_values.specs.Codec.{strict_settings}
+use Rattle.smithy_json_values.specs.Settings.{without_limits}
+use Rattle.smithy_json_values.specs.Standing.{json_relations}
+use Rattle.smithy_json_values.proofs.SpellingLemmas.{stands_spells, spells_stands, structure_is_container}
+use Rattle.smithy_cbor_body.specs.Codec.{strict_settings as strict_cbor}
+use Rattle.smithy_cbor_values.specs.Settings.{without_limits as without_cbor_limits}
+use Rattle.smithy_cbor_values.specs.Standing.{cbor_relations}
+use Rattle.smithy_cbor_values.proofs.SpellingLemmas.{stands_spells as cbor_stands_spells, spells_stands as cbor_spells_stands}
 use Rattle.smithy_transcode.specs.Wires.{Wire, json, cbor, query, IsReadable}
 use Rattle.smithy_transcode.specs.Spelling.{Spells, SpellsWithoutLimits}
 use Rattle.smithy_transcode.specs.Causes.{openers}

@@ -11,11 +11,11 @@ use Rattle.smithy_schema.specs.Reading.{IsFault, FindsNone, IsRefused, IsInvalid
 use Rattle.smithy_shapes.specs.Table.{Table, IsStructure, kind_of, shape_place}
 use Rattle.smithy_shapes.specs.Value.{Value, nesting}
 use Rattle.smithy_shapes.specs.Site.{Site, whole_view, site_of, shape_site}
-use Rattle.smithy_json_codec.specs.Codec.{strict_settings}
-use Rattle.smithy_json_codec.proofs.SpellingLemmas.{one_spelled}
+use Rattle.smithy_json_values.specs.Codec.{strict_settings}
+use Rattle.smithy_json_values.proofs.SpellingLemmas.{one_spelled}
 use Rattle.smithy_json_codec.proofs.WrittenSpelling.{spelled_fits, shallow, canonical_spells}
-use Rattle.smithy_cbor_codec.specs.Codec.{strict_settings as strict_cbor}
-use Rattle.smithy_cbor_codec.proofs.SpellingLemmas.{one_spelled as one_cbor_spelled}
+use Rattle.smithy_cbor_body.specs.Codec.{strict_settings as strict_cbor}
+use Rattle.smithy_cbor_values.proofs.SpellingLemmas.{one_spelled as one_cbor_spelled}
 use Rattle.smithy_cbor_codec.proofs.WrittenSpelling.{spelled_fits as cbor_fits, shallow as cbor_shallow, canonical_spells as cbor_spells_again}
 use Rattle.smithy_transcode.specs.declared.wire.Unfit.{Unfit}
 use Rattle.smithy_transcode.specs.declared.wire.TranscodeError.{TranscodeError}

@@ -6,13 +6,13 @@ use Rattle.smithy_shapes.specs.declared.shape_type.Scalar.TheVariants.{Timestamp
 use Rattle.smithy_shapes.specs.declared.shape_type.TimestampFormat.{TimestampFormat}
 use Rattle.smithy_shapes.specs.Table.{Table, Kind, scalar, document, kind_of, shape_place, IsStructure, IsInside}
 use Rattle.smithy_schema.specs.Reading.{Cursor, depth, Exceeds, ExceedsInside, Uncarried, UncarriedInside}
-use Rattle.smithy_json_codec.specs.Codec.{strict_settings}
-use Rattle.smithy_json_codec.specs.Standing.{json_frames, json_rules}
-use Rattle.smithy_json_codec.proofs.WideSlices.{wide_token, uncarried_token, other_token}
-use Rattle.smithy_cbor_codec.specs.Codec.{strict_settings as strict_cbor}
-use Rattle.smithy_cbor_codec.specs.Meaning.{rules_of as cbor_rules}
-use Rattle.smithy_cbor_codec.specs.Standing.{cbor_frames}
-use Rattle.smithy_cbor_codec.proofs.WideSlices.{wide_slice as cbor_wide_slice, uncarried_slice as cbor_uncarried_slice}
+use Rattle.smithy_json_values.specs.Codec.{strict_settings}
+use Rattle.smithy_json_values.specs.Standing.{json_frames, json_rules}
+use Rattle.smithy_json_values.proofs.WideSlices.{wide_token, uncarried_token, other_token}
+use Rattle.smithy_cbor_body.specs.Codec.{strict_settings as strict_cbor}
+use Rattle.smithy_cbor_values.specs.Meaning.{rules_of as cbor_rules}
+use Rattle.smithy_cbor_values.specs.Standing.{cbor_frames}
+use Rattle.smithy_cbor_values.proofs.WideSlices.{wide_slice as cbor_wide_slice, uncarried_slice as cbor_uncarried_slice}
 use Rattle.smithy_wire.specs.Frames.{UncarriedAt}
 use Rattle.smithy_wire.specs.Rules.{Rules, wide}
 use Rattle.smithy_wire.specs.Meaning.{IsTooWide}

@@ -4,12 +4,12 @@ use Rattle.smithy_shapes.specs.declared.place.Place.{Place}
 use Rattle.smithy_shapes.specs.declared.shape_type.Scalar.{Scalar}
 use Rattle.smithy_shapes.specs.declared.shape_type.Scalar.TheVariants.{Timestamp}
 use Rattle.smithy_shapes.specs.Table.{Table, Kind, scalar, document, kind_of, shape_place, place_in, IsContainer, IsInside}
-use Rattle.smithy_json_codec.specs.Openers.{json_openers}
-use Rattle.smithy_json_codec.specs.Uncarried.{IsUncarriedJson, HasUnheldNumber}
-use Rattle.smithy_json_codec.specs.Wide.{IsWideJson}
-use Rattle.smithy_cbor_codec.specs.Openers.{cbor_openers}
-use Rattle.smithy_cbor_codec.specs.Uncarried.{IsUncarriedCbor}
-use Rattle.smithy_cbor_codec.specs.Wide.{IsWideCbor}
+use Rattle.smithy_json_values.specs.Openers.{json_openers}
+use Rattle.smithy_json_values.specs.Uncarried.{IsUncarriedJson, HasUnheldNumber}
+use Rattle.smithy_json_values.specs.Wide.{IsWideJson}
+use Rattle.smithy_cbor_values.specs.Openers.{cbor_openers}
+use Rattle.smithy_cbor_values.specs.Uncarried.{IsUncarriedCbor}
+use Rattle.smithy_cbor_values.specs.Wide.{IsWideCbor}
 use Rattle.smithy_transcode.specs.Wires.{Wire, json, cbor, query}
 
 -- how many containers may be open at once, by the bytes alone

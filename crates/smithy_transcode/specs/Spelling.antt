@@ -4,13 +4,13 @@ use Rattle.smithy_shapes.specs.Table.{Table, shape_place}
 use Rattle.smithy_shapes.specs.Site.{shape_site}
 use Rattle.smithy_shapes.specs.Value.{Value}
 use Rattle.smithy_json_codec.specs.Canonical.{canonical_json}
-use Rattle.smithy_json_codec.specs.Codec.{strict_settings}
-use Rattle.smithy_json_codec.specs.Settings.{without_limits}
-use Rattle.smithy_json_codec.specs.Spelling.{json_spells}
-use Rattle.smithy_cbor_codec.specs.Canonical.{canonical_cbor}
-use Rattle.smithy_cbor_codec.specs.Codec.{strict_settings as strict_cbor}
-use Rattle.smithy_cbor_codec.specs.Settings.{without_limits as without_cbor_limits}
-use Rattle.smithy_cbor_codec.specs.Spelling.{cbor_spells}
+use Rattle.smithy_json_values.specs.Codec.{strict_settings}
+use Rattle.smithy_json_values.specs.Settings.{without_limits}
+use Rattle.smithy_json_values.specs.Spelling.{json_spells}
+use Rattle.smithy_cbor_body.specs.Canonical.{canonical_cbor}
+use Rattle.smithy_cbor_body.specs.Codec.{strict_settings as strict_cbor}
+use Rattle.smithy_cbor_values.specs.Settings.{without_limits as without_cbor_limits}
+use Rattle.smithy_cbor_values.specs.Spelling.{cbor_spells}
 use Rattle.smithy_query_codec.specs.Canonical.{canonical_query}
 use Rattle.smithy_transcode.specs.Wires.{Wire, json, cbor, query}
 

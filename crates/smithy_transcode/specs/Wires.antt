@@ -5,8 +5,8 @@ use Rattle.smithy_shapes.specs.Site.{Site, shape_site}
 use Rattle.smithy_shapes.specs.Table.{Table}
 use Rattle.smithy_shapes.specs.Value.{Value}
 use Rattle.smithy_json_codec.specs.Canonical.{json_holds}
-use Rattle.smithy_json_codec.specs.Codec.{strict_settings}
-use Rattle.smithy_cbor_codec.specs.Canonical.{cbor_holds}
+use Rattle.smithy_json_values.specs.Codec.{strict_settings}
+use Rattle.smithy_cbor_body.specs.Canonical.{cbor_holds}
 use Rattle.smithy_query_codec.specs.Nulls.{holds_null}
 use Rattle.smithy_query_codec.specs.Writable.{query_holds}
 use Rattle.smithy_transcode.specs.declared.wire.Wire as kept

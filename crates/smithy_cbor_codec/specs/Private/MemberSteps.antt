@@ -5,7 +5,7 @@ use Rattle.smithy_schema.specs.declared.read.Step.TheVariants.{Member as ToMembe
 use Rattle.smithy_schema.specs.Reading.{Cursor, depth}
 use Rattle.smithy_shapes.specs.Site.{Site, site_of, member_site, kind_at}
 use Rattle.smithy_shapes.specs.Table.{Member, members_of, position_named}
-use Rattle.smithy_cbor_codec.specs.Standing.{end_mark, RestIsEmpty}
+use Rattle.smithy_cbor_values.specs.Standing.{end_mark, RestIsEmpty}
 
 -- the structure was opened where nothing is left, and ends there
 abbrev pub EndsEmpty : Bool → Cursor → ℕ → Type 0

@@ -11,9 +11,9 @@ use Rattle.smithy_cbor_codec.specs.declared.members.Next.TheVariants.{Pair, End}
 use Rattle.smithy_cbor_codec.specs.declared.members.Entry.{Entry}
 use Rattle.smithy_cbor_codec.specs.declared.members.Entry.TheVariants.{Passed, Kept}
 use Rattle.smithy_cbor.specs.Scalar.{text_of}
-use Rattle.smithy_cbor_codec.specs.Standing.{HasEntry, IsOver, mark_with}
-use Rattle.smithy_cbor_codec.specs.Private.ScalarAtPlace.{IsNullAt}
-use Rattle.smithy_cbor_codec.specs.Private.Skipping.{SkipsTo}
+use Rattle.smithy_cbor_values.specs.Standing.{HasEntry, IsOver, mark_with}
+use Rattle.smithy_cbor_values.specs.Private.ScalarAtPlace.{IsNullAt}
+use Rattle.smithy_cbor_values.specs.Private.Skipping.{SkipsTo}
 
 -- ---- any map
 

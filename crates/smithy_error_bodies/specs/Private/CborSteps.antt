@@ -2,8 +2,8 @@
 use Rattle.std.specs.Prelude.{◌≡◌, ℕ, List, Bool, true, false, Option, Some, None, if◌then◌else◌}
 use Rattle.cbor_item.specs.Item.{Item, Pairs}
 use Rattle.cbor_item.specs.WellFormed.{IsItemAt}
-use Rattle.smithy_cbor_codec.specs.Standing.{mark_with}
-use Rattle.smithy_cbor_codec.specs.Private.MapPlaces.{PairsLie}
+use Rattle.smithy_cbor_values.specs.Standing.{mark_with}
+use Rattle.smithy_cbor_values.specs.Private.MapPlaces.{PairsLie}
 use Rattle.smithy_error_bodies.specs.Said.{Said, is_type, is_message, first_of}
 use Rattle.smithy_error_bodies.specs.CborErrors.{is_key, is_under, text_of, is_readable, is_pair, are_pairs, last_under}
 use Rattle.smithy_error_bodies.specs.declared.cbor.Key.{Key}

@@ -5,10 +5,10 @@ use Rattle.smithy_schema.specs.declared.read.Step.TheVariants.{Member, Unknown, 
 use Rattle.smithy_schema.specs.Reading.{Cursor, depth}
 use Rattle.smithy_shapes.specs.Table.{members_of, member_place}
 use Rattle.smithy_shapes.specs.Site.{Site, site_of, member_site, kind_at}
-use Rattle.smithy_json_codec.specs.Settings.{Settings}
-use Rattle.smithy_json_codec.specs.Meaning.{rules_of}
-use Rattle.smithy_json_codec.specs.Standing.{end_mark}
-use Rattle.smithy_json_codec.specs.Tokens.{IsOverBy}
+use Rattle.smithy_json_values.specs.Settings.{Settings}
+use Rattle.smithy_json_values.specs.Meaning.{rules_of}
+use Rattle.smithy_json_values.specs.Standing.{end_mark}
+use Rattle.smithy_json_values.specs.Tokens.{IsOverBy}
 use Rattle.smithy_json_codec.specs.Private.PassedEntries.{type_name, Passing}
 use Rattle.smithy_wire.specs.Rules.{position_in}
 

@@ -11,13 +11,13 @@ use Rattle.smithy_json_codec.specs.declared.members.Entry.{Entry}
 use Rattle.smithy_json_codec.specs.declared.members.Entry.TheVariants.{Passed, Kept}
 use Rattle.smithy_json_codec.specs.declared.members.EntryFault.{EntryFault}
 use Rattle.smithy_json_codec.specs.declared.members.EntryFault.TheVariants.{NoEntry, TooDeep, NoMemory}
-use Rattle.smithy_json_codec.specs.declared.skip.SkipFault.{SkipFault}
-use Rattle.smithy_json_codec.specs.declared.skip.SkipFault.TheVariants as skip_faults
-use Rattle.smithy_json_codec.specs.LexicalGrammar.{LexicalGrammar, frames_of}
-use Rattle.smithy_json_codec.specs.Spans.{Lies, IsByte}
-use Rattle.smithy_json_codec.specs.Tokens.{BoundaryBy, EndsInside}
-use Rattle.smithy_json_codec.specs.Private.NextInContainer.{ClosesIn, NamesIn}
-use Rattle.smithy_json_codec.specs.Private.Skipping.{SkipsTo}
+use Rattle.smithy_json_values.specs.declared.skip.SkipFault.{SkipFault}
+use Rattle.smithy_json_values.specs.declared.skip.SkipFault.TheVariants as skip_faults
+use Rattle.smithy_json_values.specs.LexicalGrammar.{LexicalGrammar, frames_of}
+use Rattle.smithy_json_values.specs.Spans.{Lies, IsByte}
+use Rattle.smithy_json_values.specs.Tokens.{BoundaryBy, EndsInside}
+use Rattle.smithy_json_values.specs.Private.NextInContainer.{ClosesIn, NamesIn}
+use Rattle.smithy_json_values.specs.Private.Skipping.{SkipsTo}
 
 -- the name of a mark, which says of what shape a value is
 abbrev pub type_name : List ℕ

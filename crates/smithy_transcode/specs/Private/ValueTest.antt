@@ -4,7 +4,7 @@ use Rattle.smithy_shapes.specs.declared.shape_type.TimestampFormat.{TimestampFor
 use Rattle.smithy_shapes.specs.ScalarTest.{ValueTest}
 use Rattle.smithy_shapes.specs.TimeForms.{form_or, form_holds}
 use Rattle.smithy_shapes.specs.Value.{ScalarValue}
-use Rattle.smithy_cbor_codec.specs.Canonical.{cbor_holds}
+use Rattle.smithy_cbor_body.specs.Canonical.{cbor_holds}
 use Rattle.smithy_transcode.specs.declared.value_test.InstantTest.{InstantTest}
 use Rattle.smithy_transcode.specs.declared.value_test.InstantTest.TheVariants.{Any, WholeSeconds, InForm}
 use Rattle.smithy_transcode.specs.declared.value_test.ValueTest as kept

@@ -1,7 +1,7 @@
 use Rattle.std.proofs.Common.{Some, subst}
-use Rattle.smithy_cbor_codec.specs.Standing.{mark_with}
-use Rattle.smithy_cbor_codec.specs.Private.NextInContainer.{IsEntryOrEnd}
-use Rattle.smithy_cbor_codec.specs.Private.Entries.{entry_or_over}
+use Rattle.smithy_cbor_values.specs.Standing.{mark_with}
+use Rattle.smithy_cbor_values.specs.Private.NextInContainer.{IsEntryOrEnd}
+use Rattle.smithy_cbor_values.specs.Private.Entries.{entry_or_over}
 use Rattle.smithy_cbor_codec.proofs.EntryLemmas.{key_text}
 use Rattle.smithy_cbor_codec.proofs.members.next_in_map.Goals as goal
 

@@ -1,6 +1,6 @@
 use Rattle.std.proofs.Common.{◌-◌, ◌≤◌, ℕ, length}
 use Rattle.smithy_shapes.specs.Site.{site_of, kind_at}
-use Rattle.smithy_cbor_codec.specs.Standing.{mark_with}
+use Rattle.smithy_cbor_values.specs.Standing.{mark_with}
 use Rattle.smithy_cbor_codec.specs.Private.PassedEntries.{Passes}
 use Rattle.smithy_cbor_codec.proofs.members.next_present.Given as goal
 

@@ -1,9 +1,9 @@
 use Rattle.std.proofs.Common.{Err, ap, arith}
 use Rattle.std.proofs.lemmas.Result.{err_from_is_err_and}
 use Rattle.smithy_json_codec.specs.declared.members.EntryFault.TheVariants.{NoEntry, TooDeep}
-use Rattle.smithy_json_codec.specs.Deepest.{OpensTooDeep}
+use Rattle.smithy_json_values.specs.Deepest.{OpensTooDeep}
 use Rattle.smithy_shapes.specs.Site.{site_of}
-use Rattle.smithy_json_codec.specs.Codec.{held_settings, held_grammar}
+use Rattle.smithy_json_values.specs.Codec.{held_settings, held_grammar}
 use Rattle.smithy_json_codec.specs.Private.MemberSteps.{passing}
 use Rattle.smithy_json_codec.specs.Private.PassedEntries.{NoSkip, NoSkipWithin}
 use Rattle.smithy_json_codec.proofs.DeserializerLemmas.{error_of}

@@ -1,6 +1,6 @@
 use Rattle.std.proofs.Common.{◌-◌, ◌≤◌, ℕ, length}
 use Rattle.smithy_shapes.specs.Site.{site_of}
-use Rattle.smithy_json_codec.specs.Codec.{held_settings, held_grammar}
+use Rattle.smithy_json_values.specs.Codec.{held_settings, held_grammar}
 use Rattle.smithy_json_codec.specs.Private.MemberSteps.{passing}
 use Rattle.smithy_json_codec.specs.Private.PassedEntries.{Passes}
 use Rattle.smithy_json_codec.proofs.members.next_present.Given as goal

@@ -1,6 +1,6 @@
 use Rattle.std.proofs.Common.{ap, ◌∙◌}
 use Rattle.smithy_shapes.specs.Site.{site_of}
-use Rattle.smithy_cbor_codec.specs.Prefixes.{fresh_state}
+use Rattle.smithy_cbor_body.specs.Prefixes.{fresh_state}
 use Rattle.smithy_protocol.proofs.CanonicalBodies.{cbor_bodies}
 use Rattle.smithy_protocol.proofs.rpc_v2_cbor.cbor_body.Goals as goal
 

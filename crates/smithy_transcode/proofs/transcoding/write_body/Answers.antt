@@ -3,8 +3,8 @@ use Rattle.smithy_shapes.specs.Site.{Site, site_of}
 use Rattle.smithy_json_codec.specs.Serializing.{state_of}
 use Rattle.smithy_json_codec.specs.Writing.{fresh_state}
 use Rattle.smithy_cbor_codec.specs.Serializing.{state_of as cbor_state_of}
-use Rattle.smithy_cbor_codec.specs.Settings.{Settings as CborSettings}
-use Rattle.smithy_cbor_codec.specs.Prefixes.{fresh_state as fresh_cbor_state}
+use Rattle.smithy_cbor_values.specs.Settings.{Settings as CborSettings}
+use Rattle.smithy_cbor_body.specs.Prefixes.{fresh_state as fresh_cbor_state}
 use Rattle.smithy_query_codec.specs.Serializing.{state_of as form_of}
 use Rattle.smithy_transcode.specs.Wires.{wire_of, json, cbor, query, unfit}
 use Rattle.smithy_transcode.specs.Private.Positions.{CanCount}

@@ -1,7 +1,7 @@
 use Rattle.std.proofs.Common.{◌∙◌, ap}
 use Rattle.smithy_json_codec.specs.Cursor.{cursor_of, reading_settings_of}
 use Rattle.smithy_cbor_codec.specs.Cursor.{cursor_of as cbor_cursor_of, reading_settings_of as cbor_settings_of}
-use Rattle.smithy_cbor_codec.specs.Settings.{Settings as CborSettings}
+use Rattle.smithy_cbor_values.specs.Settings.{Settings as CborSettings}
 use Rattle.smithy_json_settings.specs.Settings.{CodecSettings}
 use Rattle.smithy_transcode.specs.Wires.{wire_of}
 use Rattle.smithy_transcode.proofs.Begun.{json_begins, cbor_begins, read_is_spelled, unread_spells_nothing, unread_spells_nothing_without_limits, is_too_deep, exceeds_is_wide, uncarried_is_told, had_not_failed}

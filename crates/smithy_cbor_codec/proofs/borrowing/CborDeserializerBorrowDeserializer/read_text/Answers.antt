@@ -1,9 +1,9 @@
 use Rattle.std.proofs.Common.{◌≡◌, ◌≤◌, length, sym, ◌∙◌, rules}
 use Rattle.std.specs.Cow.{cow_str_bytes}
 use Rattle.smithy_shapes.specs.Site.{site_of}
-use Rattle.smithy_cbor_codec.specs.Borrowed.{BorrowsText}
+use Rattle.smithy_cbor_values.specs.Borrowed.{BorrowsText}
 use Rattle.smithy_cbor_codec.specs.Cursor.{cursor_of, reading_settings_of}
-use Rattle.smithy_cbor_codec.proofs.ScalarReads.{reads_text, found_is}
+use Rattle.smithy_cbor_values.proofs.ScalarReads.{reads_text, found_is}
 use Rattle.smithy_wire.proofs.ScalarReads.{was_ready}
 use Rattle.smithy_cbor_codec.proofs.borrowing.CborDeserializerBorrowDeserializer.read_text.Goals as goal
 

@@ -2,8 +2,8 @@ use Rattle.std.proofs.Common.{arith, ap, ◌∙◌}
 use Rattle.std.proofs.lemmas.Grind.{common_steps}
 use Rattle.smithy_shapes.specs.Site.{site_of, kind_at}
 use Rattle.smithy_cbor_codec.specs.Cursor.{cursor_of, reading_settings_of}
-use Rattle.smithy_cbor_codec.specs.Settings.{Settings}
-use Rattle.smithy_cbor_codec.specs.Standing.{mark_with}
+use Rattle.smithy_cbor_values.specs.Settings.{Settings}
+use Rattle.smithy_cbor_values.specs.Standing.{mark_with}
 use Rattle.smithy_cbor_codec.specs.Private.MemberSteps.{StepsTo}
 use Rattle.smithy_cbor_codec.proofs.DeserializerLemmas.{goes_ahead, not_missing, stays_inside}
 use Rattle.smithy_cbor_codec.proofs.MemberStepLemmas.{steps_to, leaves_at, map_closes, cannot_step, members_shut}

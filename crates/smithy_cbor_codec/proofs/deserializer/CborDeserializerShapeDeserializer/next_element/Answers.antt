@@ -2,8 +2,8 @@ use Rattle.std.proofs.Common.{ap, ◌∙◌, arith}
 use Rattle.std.proofs.lemmas.Grind.{common_steps}
 use Rattle.smithy_schema.specs.Reading.{depth}
 use Rattle.smithy_cbor_codec.specs.Cursor.{cursor_of, reading_settings_of}
-use Rattle.smithy_cbor_codec.specs.Settings.{without_limits}
-use Rattle.smithy_cbor_codec.specs.Standing.{FollowsInside}
+use Rattle.smithy_cbor_values.specs.Settings.{without_limits}
+use Rattle.smithy_cbor_values.specs.Standing.{FollowsInside}
 use Rattle.smithy_cbor_codec.proofs.DeserializerLemmas.{element_steps, list_left, list_stuck, list_shut, stays_inside}
 use Rattle.smithy_wire.specs.Walking.{cursor_of as walk_cursor, gone_on_to}
 use Rattle.smithy_cbor_codec.proofs.deserializer.CborDeserializerShapeDeserializer.next_element.Goals as goal

@@ -3,8 +3,8 @@ use Rattle.std.proofs.lemmas.Grind.{common_steps}
 use Rattle.std.specs.Cow.{cow_str_bytes}
 use Rattle.std.specs.Prelude.{string_bytes}
 use Rattle.smithy_cbor_codec.specs.Cursor.{cursor_of, reading_settings_of}
-use Rattle.smithy_cbor_codec.specs.Settings.{without_limits}
-use Rattle.smithy_cbor_codec.specs.Standing.{mark_with}
+use Rattle.smithy_cbor_values.specs.Settings.{without_limits}
+use Rattle.smithy_cbor_values.specs.Standing.{mark_with}
 use Rattle.smithy_cbor_codec.proofs.DeserializerLemmas.{goes_ahead, entry_steps, map_left, map_stuck, map_shut, stays_inside}
 use Rattle.smithy_cbor_codec.proofs.EntryLemmas.{key_ahead}
 use Rattle.smithy_wire.specs.Walking.{cursor_of as walk_cursor, gone_on_to}

@@ -4,8 +4,8 @@ use Rattle.std.proofs.lemmas.Result.{IfOk-weaker}
 use Rattle.smithy_shapes.specs.Site.{site_of}
 use Rattle.smithy_schema.specs.Reading.{depth, CannotGoOn, MatchStep, passed_to}
 use Rattle.smithy_cbor_codec.specs.Cursor.{cursor_of, reading_settings_of}
-use Rattle.smithy_cbor_codec.specs.Settings.{kept, lifted, without_limits}
-use Rattle.smithy_cbor_codec.specs.Standing.{cbor_relations}
+use Rattle.smithy_cbor_values.specs.Settings.{kept, lifted, without_limits}
+use Rattle.smithy_cbor_values.specs.Standing.{cbor_relations}
 use Rattle.smithy_cbor_codec.proofs.DeserializerLemmas.{skip_place, skips_not, skips_same, skips_here}
 use Rattle.smithy_cbor_codec.proofs.MemberStepLemmas.{stays_undue, invalid_refused}
 use Rattle.smithy_cbor_codec.proofs.deserializer.CborDeserializerShapeDeserializer.next_member.Goals as goal

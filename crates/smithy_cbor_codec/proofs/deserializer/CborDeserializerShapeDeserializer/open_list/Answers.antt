@@ -2,8 +2,8 @@ use Rattle.std.proofs.Common.{◌≡◌, false, refl, rules, arith}
 use Rattle.std.proofs.lemmas.Grind.{common_steps}
 use Rattle.smithy_schema.specs.Reading.{depth, in_list}
 use Rattle.smithy_cbor_codec.specs.Cursor.{cursor_of, reading_settings_of, inside_of}
-use Rattle.smithy_cbor_codec.specs.Settings.{without_limits}
-use Rattle.smithy_cbor_codec.specs.Standing.{mark_with}
+use Rattle.smithy_cbor_values.specs.Settings.{without_limits}
+use Rattle.smithy_cbor_values.specs.Standing.{mark_with}
 use Rattle.smithy_cbor_codec.proofs.DeserializerLemmas.{enters}
 use Rattle.smithy_wire.specs.Walking.{cursor_of as walk_cursor}
 use Rattle.smithy_cbor_codec.proofs.ReaderLemmas.{opens_list, opens_no_list}

@@ -2,8 +2,8 @@ use Rattle.std.proofs.Common.{◌≡◌, false, refl, rules, arith}
 use Rattle.std.proofs.lemmas.Grind.{common_steps}
 use Rattle.smithy_schema.specs.Reading.{depth, in_structure}
 use Rattle.smithy_cbor_codec.specs.Cursor.{cursor_of, reading_settings_of, inside_of, missing_frame}
-use Rattle.smithy_cbor_codec.specs.Settings.{without_limits}
-use Rattle.smithy_cbor_codec.specs.Standing.{mark_with}
+use Rattle.smithy_cbor_values.specs.Settings.{without_limits}
+use Rattle.smithy_cbor_values.specs.Standing.{mark_with}
 use Rattle.smithy_cbor_codec.proofs.ReaderLemmas.{opens_members, opens_no_members}
 use Rattle.smithy_cbor_codec.proofs.DeserializerLemmas.{enters, empty_at, empty_opens, not_missing}
 use Rattle.smithy_wire.specs.Walking.{cursor_of as walk_cursor}

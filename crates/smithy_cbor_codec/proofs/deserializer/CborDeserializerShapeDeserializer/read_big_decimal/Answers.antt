@@ -7,7 +7,7 @@ use Rattle.smithy_shapes.specs.Site.{site_of}
 use Rattle.smithy_shapes.specs.Value.{decimal}
 use Rattle.smithy_texts.specs.Decimal.{mantissa, net_exponent}
 use Rattle.smithy_cbor_codec.specs.Cursor.{cursor_of, reading_settings_of}
-use Rattle.smithy_cbor_codec.proofs.ScalarReads.{reads_big, answers_big, value_is}
+use Rattle.smithy_cbor_values.proofs.ScalarReads.{reads_big, answers_big, value_is}
 use Rattle.smithy_wire.proofs.ScalarReads.{was_ready}
 use Rattle.smithy_cbor_codec.proofs.deserializer.CborDeserializerShapeDeserializer.read_big_decimal.Goals as goal
 

@@ -1,7 +1,7 @@
 use Rattle.std.proofs.Common.{◌≡◌, ◌≤◌, length, refl, sym, ◌∙◌, rules}
 use Rattle.smithy_shapes.specs.Site.{site_of}
 use Rattle.smithy_cbor_codec.specs.Cursor.{cursor_of, reading_settings_of}
-use Rattle.smithy_cbor_codec.proofs.ScalarReads.{reads_instant, answers_instant, no_memory_taken}
+use Rattle.smithy_cbor_values.proofs.ScalarReads.{reads_instant, answers_instant, no_memory_taken}
 use Rattle.smithy_wire.proofs.ScalarReads.{was_ready}
 use Rattle.smithy_cbor_codec.proofs.deserializer.CborDeserializerShapeDeserializer.read_timestamp.Goals as goal
 

@@ -1,7 +1,7 @@
 use Rattle.std.proofs.Common.{◌≡◌, false, rules, ap, arith}
 use Rattle.std.proofs.lemmas.Grind.{common_steps}
 use Rattle.smithy_cbor_codec.specs.Cursor.{cursor_of, reading_settings_of}
-use Rattle.smithy_cbor_codec.specs.Settings.{without_limits}
+use Rattle.smithy_cbor_values.specs.Settings.{without_limits}
 use Rattle.smithy_cbor_codec.proofs.DeserializerLemmas.{skip_place, skips_not, skips_here, goes_ahead}
 use Rattle.smithy_wire.specs.Walking.{cursor_of as walk_cursor}
 use Rattle.smithy_cbor_codec.proofs.deserializer.CborDeserializerShapeDeserializer.skip_value.Goals as goal

@@ -2,8 +2,8 @@ use Rattle.std.proofs.Common.{◌≡◌, ◌≤◌, length, sym, ◌∙◌, rule
 use Rattle.std.specs.Cow.{cow_str_bytes}
 use Rattle.smithy_shapes.specs.Site.{site_of}
 use Rattle.smithy_json_codec.specs.Cursor.{cursor_of, reading_settings_of}
-use Rattle.smithy_json_codec.specs.Borrowed.{BorrowsText}
-use Rattle.smithy_json_codec.specs.Standing.{json_grammar}
+use Rattle.smithy_json_values.specs.Borrowed.{BorrowsText}
+use Rattle.smithy_json_values.specs.Standing.{json_grammar}
 use Rattle.smithy_json_codec.proofs.DeserializerLemmas.{takes_so}
 use Rattle.smithy_json_codec.proofs.ScalarReads.{reads_text}
 use Rattle.smithy_wire.proofs.ScalarReads.{was_ready, if_told}

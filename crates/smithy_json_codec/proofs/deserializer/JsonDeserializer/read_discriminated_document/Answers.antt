@@ -4,12 +4,12 @@ use Rattle.smithy_schema.specs.Reading.{depth}
 use Rattle.smithy_wire.specs.Walking.{cursor_of as walk_cursor}
 use Rattle.smithy_wire.proofs.ScalarReads.{was_ready}
 use Rattle.smithy_json_codec.specs.Cursor.{cursor_of, reading_settings_of}
-use Rattle.smithy_json_codec.specs.Documents.{is_read_in}
-use Rattle.smithy_json_codec.specs.Standing.{json_grammar}
+use Rattle.smithy_json_values.specs.Documents.{is_read_in}
+use Rattle.smithy_json_values.specs.Standing.{json_grammar}
 use Rattle.smithy_json_codec.proofs.DeserializerLemmas.{error_of, goes_ahead}
-use Rattle.smithy_json_codec.proofs.DocumentReads.{document_within, other_found, refused_means_nothing}
-use Rattle.smithy_json_codec.proofs.DocumentScalars.{document_node}
-use Rattle.smithy_json_codec.proofs.SkipSteps.{node_ahead}
+use Rattle.smithy_json_values.proofs.DocumentReads.{document_within, other_found, refused_means_nothing}
+use Rattle.smithy_json_values.proofs.DocumentScalars.{document_node}
+use Rattle.smithy_json_values.proofs.SkipSteps.{node_ahead}
 use Rattle.smithy_json_codec.proofs.deserializer.JsonDeserializer.read_discriminated_document.Goals as goal
 
 pub returns-in-Ok-clause-conduct : goal.returns-in-Ok-clause-conduct

@@ -5,8 +5,8 @@ use Rattle.smithy_schema.specs.declared.read.Step.{Step}
 use Rattle.smithy_schema.specs.Reading.{depth}
 use Rattle.smithy_shapes.specs.Site.{site_of, kind_at}
 use Rattle.smithy_json_codec.specs.Cursor.{cursor_of, reading_settings_of}
-use Rattle.smithy_json_codec.specs.Settings.{without_limits}
-use Rattle.smithy_json_codec.specs.Standing.{json_grammar}
+use Rattle.smithy_json_values.specs.Settings.{without_limits}
+use Rattle.smithy_json_values.specs.Standing.{json_grammar}
 use Rattle.smithy_json_codec.specs.Private.MemberSteps.{StepsTo, passing}
 use Rattle.smithy_json_codec.specs.Private.PassedEntries.{NoSkip, NoSkipWithin, entry_refusal}
 use Rattle.smithy_json_codec.proofs.DeserializerLemmas.{shallow_kept, error_of, goes_ahead, refusal_conducts, entry_reads, entry_narrow, entry_refused, entry_invalid, entry_deep}

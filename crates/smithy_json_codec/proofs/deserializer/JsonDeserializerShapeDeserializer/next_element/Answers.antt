@@ -1,7 +1,7 @@
 use Rattle.std.proofs.Common.{◌∙◌, ap, arith}
 use Rattle.std.proofs.lemmas.Grind.{common_steps}
 use Rattle.smithy_json_codec.specs.Cursor.{cursor_of, reading_settings_of}
-use Rattle.smithy_json_codec.specs.Settings.{without_limits}
+use Rattle.smithy_json_values.specs.Settings.{without_limits}
 use Rattle.smithy_json_codec.proofs.DeserializerLemmas.{element_steps, list_stuck}
 use Rattle.smithy_wire.specs.Walking.{cursor_of as walk_cursor, gone_on_to}
 use Rattle.smithy_json_codec.proofs.deserializer.JsonDeserializerShapeDeserializer.next_element.Goals as goal

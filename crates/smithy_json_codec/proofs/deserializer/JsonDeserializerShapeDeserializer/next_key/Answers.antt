@@ -1,7 +1,7 @@
 use Rattle.std.proofs.Common.{◌∙◌, ap, option_map, string_bytes, arith}
 use Rattle.std.proofs.lemmas.Grind.{common_steps}
 use Rattle.smithy_json_codec.specs.Cursor.{cursor_of, reading_settings_of}
-use Rattle.smithy_json_codec.specs.Settings.{without_limits}
+use Rattle.smithy_json_values.specs.Settings.{without_limits}
 use Rattle.smithy_json_codec.proofs.DeserializerLemmas.{entry_steps, map_stuck, key_stuck}
 use Rattle.smithy_json_codec.proofs.MapEnds.{map_left}
 use Rattle.smithy_wire.specs.Walking.{cursor_of as walk_cursor, gone_on_to}

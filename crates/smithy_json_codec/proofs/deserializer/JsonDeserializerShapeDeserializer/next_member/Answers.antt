@@ -6,12 +6,12 @@ use Rattle.smithy_schema.specs.declared.read.Step.{Step}
 use Rattle.smithy_shapes.specs.Site.{site_of}
 use Rattle.smithy_schema.specs.Reading.{depth, CannotGoOn, MatchStep, passed_to}
 use Rattle.smithy_json_codec.specs.Cursor.{cursor_of, reading_settings_of}
-use Rattle.smithy_json_codec.specs.Settings.{without_limits}
-use Rattle.smithy_json_codec.specs.Standing.{json_grammar, json_relations}
+use Rattle.smithy_json_values.specs.Settings.{without_limits}
+use Rattle.smithy_json_values.specs.Standing.{json_grammar, json_relations}
 use Rattle.smithy_json_codec.proofs.DeserializerLemmas.{error_of, skip_invalid, skip_deep, skips_not, skips_never, skips_same, skips_here}
 use Rattle.smithy_json_codec.proofs.MemberStepLemmas.{stays_undue, reaches_behind, too_deep_behind}
-use Rattle.smithy_json_codec.specs.Deepest.{OpensTooDeep}
-use Rattle.smithy_json_codec.proofs.SkipStepOpeners.{reader_reaches}
+use Rattle.smithy_json_values.specs.Deepest.{OpensTooDeep}
+use Rattle.smithy_json_values.proofs.SkipStepOpeners.{reader_reaches}
 use Rattle.smithy_json_codec.proofs.deserializer.JsonDeserializerShapeDeserializer.next_member.Goals as goal
 
 pub returns-then-not-self-clause-refused : goal.returns-then-not-self-clause-refused

@@ -1,11 +1,11 @@
 use Rattle.std.proofs.Common.{arith, false, sym, true, ◌∙◌, ◌≡◌}
 use Rattle.std.proofs.lemmas.Grind.{common_steps}
 use Rattle.smithy_json_codec.specs.Cursor.{cursor_of, reading_settings_of}
-use Rattle.smithy_json_codec.specs.Settings.{without_limits}
-use Rattle.smithy_json_codec.proofs.TypeLemmas.{list_told}
+use Rattle.smithy_json_values.specs.Settings.{without_limits}
+use Rattle.smithy_json_values.proofs.TypeLemmas.{list_told}
 use Rattle.smithy_wire.proofs.ScalarReads.{was_ready}
 use Rattle.smithy_json_codec.proofs.ReaderLemmas.{opens_list, opens_no_list}
-use Rattle.smithy_json_codec.specs.Standing.{fresh_mark}
+use Rattle.smithy_json_values.specs.Standing.{fresh_mark}
 use Rattle.smithy_schema.specs.Reading.{depth}
 use Rattle.smithy_json_codec.proofs.deserializer.JsonDeserializerShapeDeserializer.open_list.Goals as goal
 

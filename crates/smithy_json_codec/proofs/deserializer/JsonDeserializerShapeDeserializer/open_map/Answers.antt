@@ -1,10 +1,10 @@
 use Rattle.std.proofs.Common.{false, sym, true, ◌∙◌, ◌≡◌}
 use Rattle.smithy_json_codec.specs.Cursor.{cursor_of, reading_settings_of}
-use Rattle.smithy_json_codec.specs.Settings.{without_limits}
-use Rattle.smithy_json_codec.proofs.TypeLemmas.{map_told}
+use Rattle.smithy_json_values.specs.Settings.{without_limits}
+use Rattle.smithy_json_values.proofs.TypeLemmas.{map_told}
 use Rattle.smithy_wire.proofs.ScalarReads.{was_ready}
 use Rattle.smithy_json_codec.proofs.ReaderLemmas.{opens_map, opens_no_map}
-use Rattle.smithy_json_codec.specs.Standing.{fresh_mark}
+use Rattle.smithy_json_values.specs.Standing.{fresh_mark}
 use Rattle.smithy_schema.specs.Reading.{depth}
 use Rattle.smithy_json_codec.proofs.deserializer.JsonDeserializerShapeDeserializer.open_map.Goals as goal
 

@@ -1,13 +1,13 @@
 use Rattle.std.proofs.Common.{◌≡◌, length, true, false, refl, sym, ◌∙◌, subst, rules, arith}
 use Rattle.std.proofs.lemmas.Grind.{common_steps}
 use Rattle.smithy_json_codec.specs.Cursor.{cursor_of, reading_settings_of}
-use Rattle.smithy_json_codec.specs.Settings.{without_limits}
-use Rattle.smithy_json_codec.proofs.TypeLemmas.{members_told}
+use Rattle.smithy_json_values.specs.Settings.{without_limits}
+use Rattle.smithy_json_values.proofs.TypeLemmas.{members_told}
 use Rattle.smithy_wire.proofs.ScalarReads.{was_ready}
 use Rattle.smithy_schema.specs.Reading.{TellsType}
 use Rattle.smithy_json_codec.proofs.ReaderLemmas.{opens_members, opens_no_members}
 use Rattle.smithy_json_codec.proofs.DeserializerLemmas.{over_opens, over_enters, not_over}
-use Rattle.smithy_json_codec.specs.Standing.{fresh_mark}
+use Rattle.smithy_json_values.specs.Standing.{fresh_mark}
 use Rattle.smithy_schema.specs.Reading.{depth}
 use Rattle.smithy_json_codec.proofs.deserializer.JsonDeserializerShapeDeserializer.open_struct.Goals as goal
 use Rattle.smithy_json_codec.proofs.deserializer.JsonDeserializerShapeDeserializer.open_struct.Goals.{else-is_over-via-then-is_over+else-is_structure, else-is_over-via-else-is_over}

@@ -7,10 +7,10 @@ use Rattle.smithy_shapes.specs.Site.{site_of}
 use Rattle.smithy_shapes.specs.Value.{decimal}
 use Rattle.smithy_texts.specs.Decimal.{mantissa, net_exponent}
 use Rattle.smithy_json_codec.specs.Cursor.{cursor_of, reading_settings_of}
-use Rattle.smithy_json_codec.specs.NumberText.{NumberTextLies}
+use Rattle.smithy_json_values.specs.NumberText.{NumberTextLies}
 use Rattle.smithy_json_codec.proofs.DeserializerLemmas.{answers_within}
-use Rattle.smithy_json_codec.specs.LexicalGrammar.{grammar_of}
-use Rattle.smithy_json_codec.specs.Standing.{json_grammar}
+use Rattle.smithy_json_values.specs.LexicalGrammar.{grammar_of}
+use Rattle.smithy_json_values.specs.Standing.{json_grammar}
 use Rattle.smithy_json_codec.proofs.NumberReads.{reads_big, answers_big}
 use Rattle.smithy_wire.specs.Finding.{MatchFound}
 use Rattle.smithy_wire.proofs.ScalarReads.{was_ready, if_told}

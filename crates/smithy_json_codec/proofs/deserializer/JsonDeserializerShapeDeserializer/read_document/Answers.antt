@@ -4,10 +4,10 @@ use Rattle.smithy_schema.specs.declared.error.SerdeError.TheVariants.{TooDeep, N
 use Rattle.smithy_shapes.specs.Site.{site_of}
 use Rattle.smithy_types.specs.DocumentView.{document_view}
 use Rattle.smithy_json_codec.specs.Cursor.{cursor_of, reading_settings_of}
-use Rattle.smithy_json_codec.specs.Standing.{json_grammar}
+use Rattle.smithy_json_values.specs.Standing.{json_grammar}
 use Rattle.smithy_json_codec.proofs.DeserializerLemmas.{error_of}
-use Rattle.smithy_json_codec.proofs.DocumentReads.{document_within, reads_document, refuses_document, too_deep_found, other_found, refused_means_nothing}
-use Rattle.smithy_json_codec.proofs.TreeDocuments.{tree_stands, no_tree_stands}
+use Rattle.smithy_json_values.proofs.DocumentReads.{document_within, reads_document, refuses_document, too_deep_found, other_found, refused_means_nothing}
+use Rattle.smithy_json_values.proofs.TreeDocuments.{tree_stands, no_tree_stands}
 use Rattle.smithy_wire.proofs.ScalarReads.{was_ready}
 use Rattle.smithy_json_codec.proofs.deserializer.JsonDeserializerShapeDeserializer.read_document.Goals as goal
 

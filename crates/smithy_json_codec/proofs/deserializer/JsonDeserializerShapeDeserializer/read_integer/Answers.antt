@@ -2,7 +2,7 @@ use Rattle.std.proofs.Common.{◌≡◌, ◌≤◌, length, refl, sym, ◌∙◌
 use Rattle.smithy_shapes.specs.declared.shape_type.Scalar.TheVariants as scalars
 use Rattle.smithy_shapes.specs.Site.{site_of}
 use Rattle.smithy_json_codec.specs.Cursor.{cursor_of, reading_settings_of}
-use Rattle.smithy_json_codec.specs.LexicalGrammar.{grammar_of}
+use Rattle.smithy_json_values.specs.LexicalGrammar.{grammar_of}
 use Rattle.smithy_json_codec.proofs.NumberReads.{reads_narrow}
 use Rattle.smithy_wire.proofs.ScalarReads.{was_ready, no_memory_told}
 use Rattle.smithy_json_codec.proofs.deserializer.JsonDeserializerShapeDeserializer.read_integer.Goals as goal

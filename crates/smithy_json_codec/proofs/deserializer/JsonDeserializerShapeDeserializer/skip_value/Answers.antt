@@ -3,10 +3,10 @@ use Rattle.std.proofs.lemmas.Grind.{common_steps}
 use Rattle.smithy_schema.specs.declared.error.SerdeError.TheVariants.{TooDeep}
 use Rattle.smithy_json_codec.specs.Cursor.{cursor_of, reading_settings_of}
 use Rattle.smithy_json_codec.proofs.DeserializerLemmas.{error_of, skips_here, skips_not, skips_never, refusal_conducts, skip_reads, skip_narrow, skip_takes_no_memory, skip_invalid, skip_deep}
-use Rattle.smithy_json_codec.specs.Deepest.{OpensTooDeep}
-use Rattle.smithy_json_codec.specs.Standing.{json_grammar}
-use Rattle.smithy_json_codec.specs.Private.Skipping.{skip_refusal}
-use Rattle.smithy_json_codec.proofs.SkipStepOpeners.{reader_reaches}
+use Rattle.smithy_json_values.specs.Deepest.{OpensTooDeep}
+use Rattle.smithy_json_values.specs.Standing.{json_grammar}
+use Rattle.smithy_json_values.specs.Private.Skipping.{skip_refusal}
+use Rattle.smithy_json_values.proofs.SkipStepOpeners.{reader_reaches}
 use Rattle.smithy_wire.specs.Walking.{cursor_of as walk_cursor}
 use Rattle.smithy_json_codec.proofs.deserializer.JsonDeserializerShapeDeserializer.skip_value.Goals as goal
 

@@ -1,0 +1,5 @@
+pub mod WrittenLeaves
+pub mod WrittenPlaces
+pub mod NumberWriting
+pub mod InstantWriting
+pub mod LengthWriting

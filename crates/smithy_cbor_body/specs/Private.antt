@@ -1,0 +1,2 @@
+-- Words that private clauses cite, and the proofs of the laws.
+pub mod MadeStates

@@ -1,0 +1,101 @@
+//! The lengths with which containers are written.
+ghost use Rattle.std.specs.Prelude.{◌≡◌, ◌++◌, OnOk};
+ghost use Rattle.smithy_cbor_body.specs.Lengths.{head_of, begun, counted, counted_first, is_complete, end_of};
+ghost use Rattle.smithy_wire.specs.OpenContainers.{opens_of, marks_of};
+
+use smithy_cbor::Encoder;
+use smithy_wire::OpenContainers;
+use std::alloc::AllocError;
+
+/// What is known of the length of a container while it is open.
+#[derive(Clone, Copy, Debug)]
+pub enum Length {
+    /// It isn't written: a break ends the container.
+    Unwritten,
+    /// So many elements or entries are still due.
+    Due(u64),
+    /// More elements or entries came than were announced.
+    Surplus,
+}
+
+// What is known of a container that begins with this length, where it is written.
+pub fn begun(length: Option<usize>) -> Length
+    ensures { result ≡ begun length }
+{
+    match length {
+        Some(length) => Length::Due(length as u64),
+        None => Length::Unwritten,
+    }
+}
+
+// What is known once one more element or entry has come.
+fn counted(length: Length) -> Length
+    ensures { result ≡ counted length }
+{
+    match length {
+        Length::Unwritten => Length::Unwritten,
+        Length::Due(due) => {
+            if due == 0 {
+                return Length::Surplus;
+            }
+            Length::Due(due - 1)
+        }
+        Length::Surplus => Length::Surplus,
+    }
+}
+
+// Whether a container may end: as many elements or entries came as were announced.
+pub fn is_complete(length: Length) -> bool
+    ensures { result ≡ is_complete length }
+{
+    match length {
+        Length::Unwritten => true,
+        Length::Due(due) => due == 0,
+        Length::Surplus => false,
+    }
+}
+
+// One more element or entry of the innermost container has come.
+pub fn count_value(containers: &mut OpenContainers<Length>) -> Result<(), AllocError>
+    ensures lengths { OnOk result (marks_of containers.new ≡ counted_first (marks_of containers.old)) }
+    ensures containers { OnOk result (opens_of containers.new ≡ opens_of containers.old) }
+    ensures broken { containers.new.failed ≡ containers.old.failed }
+{
+    match containers.mark() {
+        Some(Length::Due(due)) => containers.set_mark(counted(Length::Due(due))),
+        Some(Length::Unwritten) => Ok(()),
+        Some(Length::Surplus) => Ok(()),
+        None => Ok(()),
+    }
+}
+
+// Writes the head of a list.
+pub fn begin_array(encoder: &mut Encoder, length: Option<usize>) -> Result<(), AllocError>
+    ensures { OnOk result (encoder.new ≡ encoder.old ++ head_of 4 length) }
+{
+    match length {
+        Some(length) => encoder.array(length),
+        None => encoder.begin_array(),
+    }
+}
+
+// Writes the head of a map.
+pub fn begin_map(encoder: &mut Encoder, length: Option<usize>) -> Result<(), AllocError>
+    ensures { OnOk result (encoder.new ≡ encoder.old ++ head_of 5 length) }
+{
+    match length {
+        Some(length) => encoder.map(length),
+        None => encoder.begin_map(),
+    }
+}
+
+// Writes what ends a container: nothing where its length is written.
+pub fn write_end(encoder: &mut Encoder, length: Length) -> Result<(), AllocError>
+    ensures { OnOk result (encoder.new ≡ encoder.old ++ end_of length) }
+{
+    match length {
+        Length::Unwritten => encoder.end(),
+        Length::Due(_) => Ok(()),
+        Length::Surplus => Ok(()),
+    }
+}

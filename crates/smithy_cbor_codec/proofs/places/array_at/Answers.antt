@@ -1,7 +1,0 @@
-use Rattle.smithy_cbor_codec.proofs.HeadFaults.{not_opening}
-use Rattle.smithy_cbor_codec.proofs.places.array_at.Goals as goal
-
-pub returns-in_err-due-clause-none : goal.returns-in_err-due-clause-none
-returns-in_err-due-clause-none c =
-    let start = c.decoder_at-decoder.ensures in
-    rw c.from_residual.ensures (not_opening 4 c.args.input.now c.args.at c.decoder_at-decoder.result start.input start.position c.list.result c.in_err-due.ensures.value c.list.ensures.refused)

@@ -1,0 +1,9 @@
+pub mod SpellingLemmas
+pub mod HeadFaults
+pub mod SizeLemmas
+pub mod TextLemmas
+pub mod ScalarReads
+pub mod BigNumberPlaces
+pub mod BigNumbers
+pub mod InstantPlaces
+pub mod WideSlices

@@ -1,6 +1,0 @@
-use Rattle.std.proofs.Common.{arith}
-use Rattle.std.proofs.lemmas.Grind.{common_steps}
-use Rattle.smithy_json_codec.proofs.texts.owned_text.Goals as goal
-
-pub text_of-requires : goal.text_of-requires
-text_of-requires c = grind (arith, common_steps)

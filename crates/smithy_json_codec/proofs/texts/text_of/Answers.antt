@@ -1,7 +1,0 @@
-use Rattle.std.proofs.Common.{ap, ◌∙◌, sym}
-use Rattle.std.specs.Result.{result_ok}
-use Rattle.smithy_json_codec.proofs.TextLemmas.{without_escape}
-use Rattle.smithy_json_codec.proofs.texts.text_of.Goals as goal
-
-pub returns-else-is_escaped-clause-text : goal.returns-else-is_escaped-clause-text
-returns-else-is_escaped-clause-text c = ap result_ok (without_escape c.args.raw.now (sym c.requires ∙ c.if-is_escaped.false))

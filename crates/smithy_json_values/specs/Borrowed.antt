@@ -1,0 +1,14 @@
+-- Which texts borrow from the input.
+use Rattle.std.specs.Prelude.{◌≡◌, ◌↔◌, ℕ, List, false}
+use Rattle.std.specs.Cow.{IsBorrowedStr}
+use Rattle.std.specs.declared.borrow.CowStr.{CowStr}
+use Rattle.smithy_shapes.specs.declared.shape_type.Scalar.TheVariants as scalars
+use Rattle.smithy_json.specs.Unescape.{has_escape}
+use Rattle.smithy_json_values.specs.LexicalGrammar.{LexicalGrammar, LiesInGrammar}
+use Rattle.smithy_json_values.specs.Scalar.{a_string}
+
+-- a string lies there, and its text is borrowed exactly where no backslash stands in it
+pub record BorrowsText {A : Type 0} (g : LexicalGrammar) (input : List ℕ) (at : ℕ) (text : CowStr A) (e : ℕ) : Type 0 where
+  pub raw : List ℕ
+  pub lies : LiesInGrammar g scalars.String (a_string raw) input at e
+  pub borrowed : IsBorrowedStr text ↔ (has_escape raw ≡ false)

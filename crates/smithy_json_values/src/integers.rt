@@ -1,0 +1,105 @@
+//! Integers, as the settings have them read.
+
+ghost use Rattle.std.specs.Prelude.{◌≡◌, ◌≤◌, ℕ, ℤ, length, IfSome, IfNone, true, false};
+ghost use Rattle.smithy_json_values.specs.Codec.{held_settings};
+ghost use Rattle.smithy_json_values.specs.LexicalGrammar.{grammar_of};
+ghost use Rattle.smithy_json_values.specs.Private.IntegerRules.{is_standard, integer_rule};
+ghost use Rattle.smithy_json_values.specs.Private.NumberAtPlace.{IntegerStands};
+ghost use Rattle.smithy_json_values.specs.Private.ScalarAtPlace.{IntegerLies};
+
+use crate::number_runs::{NumberSort, number_end_of};
+use crate::settings::Settings;
+use smithy_json::number_grammar::{NumberGrammar, scan_number_of};
+use smithy_json::number_run::{integral_number, read_signed};
+use smithy_json::number_text::read_long;
+use smithy_json::scan::skip_blanks;
+
+/// How integers are read.
+#[derive(Clone, Copy, Debug)]
+pub enum IntegerRule {
+    /// As whole numbers of RFC 8259.
+    Standard,
+    /// As whole numbers of a grammar that allows more.
+    OfGrammar,
+    /// As a sign and digits, whatever comes behind them but a byte of numbers.
+    Signed,
+    /// As numbers of the grammar that are equal to a whole number.
+    Integral,
+}
+
+fn is_standard(numbers: NumberGrammar) -> bool
+    ensures { result ≡ is_standard numbers }
+{
+    !numbers.allow_leading_zeros
+        && !numbers.allow_trailing_decimal_point
+        && !numbers.allow_empty_integer_part
+}
+
+impl IntegerRule {
+    /// The rule that settings make: by their strictness, whether decimals may be integers, and the grammar of numbers.
+    pub fn of(is_strict: bool, is_integral: bool, numbers: NumberGrammar) -> IntegerRule
+        ensures { result ≡ integer_rule is_strict is_integral numbers }
+    {
+        if is_integral {
+            return IntegerRule::Integral;
+        }
+        if !is_strict {
+            return IntegerRule::Signed;
+        }
+        if is_standard(numbers) {
+            IntegerRule::Standard
+        } else {
+            IntegerRule::OfGrammar
+        }
+    }
+}
+
+// The whole number of 64 bits that the number of the grammar at the offset writes, with its end.
+#[inline(never)]
+fn whole_of_grammar(input: &[u8], start: usize, settings: &Settings) -> Option<(i64, usize)>
+    requires within { start ≤ length input.now }
+    requires strict { (held_settings settings.now).enforce_strictness ≡ true }
+    requires whole { (held_settings settings.now).allow_integral_float_numbers ≡ false }
+    ensures found { IfSome result (λ r. IntegerStands (held_settings settings.now) input.now start r.1 r.0) }
+    ensures none { IfNone result ((n : ℤ) (e : ℕ) → IntegerStands (held_settings settings.now) input.now start e n → ⊥) }
+{
+    scan_number_of(settings.numbers, input, start)?;
+    read_signed(input, start)
+}
+
+// The whole number of 64 bits that the number of the grammar at the offset is equal to, with its end.
+#[inline(never)]
+fn integral_of_grammar(input: &[u8], start: usize, settings: &Settings) -> Option<(i64, usize)>
+    requires within { start ≤ length input.now }
+    requires integral { (held_settings settings.now).allow_integral_float_numbers ≡ true }
+    ensures found { IfSome result (λ r. IntegerStands (held_settings settings.now) input.now start r.1 r.0) }
+    ensures none { IfNone result ((n : ℤ) (e : ℕ) → IntegerStands (held_settings settings.now) input.now start e n → ⊥) }
+{
+    let end = number_end_of(NumberSort::OfGrammar, input, start, settings)?;
+    let number = integral_number(&input[start..end])?;
+    Some((number, end))
+}
+
+// The integer of 64 bits at the offset, with its end.
+#[inline(always)]
+fn standing_integer(input: &[u8], start: usize, settings: &Settings) -> Option<(i64, usize)>
+    requires { start ≤ length input.now }
+    ensures found { IfSome result (λ r. IntegerStands (held_settings settings.now) input.now start r.1 r.0) }
+    ensures none { IfNone result ((n : ℤ) (e : ℕ) → IntegerStands (held_settings settings.now) input.now start e n → ⊥) }
+{
+    match settings.integers {
+        IntegerRule::Standard => read_long(input, start),
+        IntegerRule::Signed => read_signed(input, start),
+        IntegerRule::OfGrammar => whole_of_grammar(input, start, settings),
+        IntegerRule::Integral => integral_of_grammar(input, start, settings),
+    }
+}
+
+/// The integer of 64 bits that comes first behind blanks, with its end.
+pub fn integer_at(input: &[u8], at: usize, settings: &Settings) -> Option<(i64, usize)>
+    requires { at ≤ length input.now }
+    ensures found { IfSome result (λ r. IntegerLies (grammar_of (held_settings settings.now)) (held_settings settings.now) 64 input.now at r.0 r.1) }
+    ensures none { IfNone result ((n : ℤ) (e : ℕ) → IntegerLies (grammar_of (held_settings settings.now)) (held_settings settings.now) 64 input.now at n e → ⊥) }
+{
+    standing_integer(input, skip_blanks(input, at), settings)
+}

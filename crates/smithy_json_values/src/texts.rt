@@ -1,0 +1,160 @@
+//! The texts that strings stand for, and the bytes that texts encode.
+ghost use Rattle.std.specs.Prelude.{◌≡◌, ◌↔◌, false, ◌≤◌, ℕ, List, length, IfOk, IfSome, MatchOption, option_map, option_and_then, string_bytes};
+ghost use Rattle.std.specs.Cow.{cow_str_bytes, cow_slice_items, IsBorrowedStr, IsOwnedSlice};
+ghost use Rattle.smithy_texts.specs.Base64Text.{blob_of as base64_of};
+ghost use Rattle.smithy_json.specs.Unescape.{unescaped, has_escape};
+ghost use Rattle.smithy_json_values.specs.Borrowed.{BorrowsText};
+ghost use Rattle.smithy_json_values.specs.Codec.{held_grammar};
+ghost use Rattle.smithy_json_values.specs.Private.ScalarAtPlace.{TextLies, BlobLies};
+
+use crate::settings::Settings;
+use crate::values::string_at;
+use smithy_json::{EscapeError, EscapedStr};
+use smithy_types::Blob;
+use smithy_types::base64::{DecodeError, decode};
+use std::alloc::{AllocError, Global};
+use std::borrow::{CowSlice, CowStr};
+
+// The text of a string, if its escapes are sound, which is borrowed where it has none.
+#[inline(always)]
+pub fn text_of<'a>(
+    alloc: Global,
+    raw: &'a str,
+    is_escaped: bool,
+) -> Result<Option<CowStr<'a, Global>>, AllocError>
+    requires { is_escaped ≡ has_escape raw.now }
+    ensures text { IfOk result (λ text. unescaped raw.now ≡ option_map cow_str_bytes text) }
+    ensures borrowed { IfOk result (λ text. IfSome text (λ text. IsBorrowedStr text ↔ (has_escape raw.now ≡ false))) }
+{
+    if is_escaped {
+        unescaped_text(alloc, raw)
+    } else {
+        Ok(Some(CowStr::Borrowed(raw)))
+    }
+}
+
+// The text of a raw string, with or without escapes. It stays a call, so that `text_of` is short for a string without any.
+#[inline(never)]
+fn unescaped_text<'a>(alloc: Global, raw: &'a str) -> Result<Option<CowStr<'a, Global>>, AllocError>
+    ensures text { IfOk result (λ text. unescaped raw.now ≡ option_map cow_str_bytes text) }
+    ensures borrowed { IfOk result (λ text. IfSome text (λ text. IsBorrowedStr text ↔ (has_escape raw.now ≡ false))) }
+{
+    match EscapedStr::new(raw).to_unescaped(alloc) {
+        Ok(text) => Ok(Some(text)),
+        Err(EscapeError::NoMemory) => Err(AllocError),
+        Err(_) => Ok(None),
+    }
+}
+
+// The text of a raw string, if its escapes are sound, in memory of its own.
+#[inline(always)]
+pub fn owned_text(alloc: Global, raw: &str, is_escaped: bool) -> Result<Option<String>, AllocError>
+    requires { is_escaped ≡ has_escape raw.now }
+    ensures { IfOk result (λ text. unescaped raw.now ≡ option_map string_bytes text) }
+{
+    let Some(text) = text_of(alloc, raw, is_escaped)? else {
+        return Ok(None);
+    };
+    Ok(Some(text.into_owned(alloc)?))
+}
+
+// The text of the string that comes first behind blanks, with its end.
+#[inline(always)]
+pub fn text_at(
+    alloc: Global,
+    input: &[u8],
+    at: usize,
+    settings: &Settings,
+) -> Result<Option<(String, usize)>, AllocError>
+    requires { at ≤ length input.now }
+    ensures { IfOk result (λ o. MatchOption o ((text : List ℕ) (e : ℕ) → TextLies (held_grammar settings.now) input.now at text e → ⊥) (λ r. TextLies (held_grammar settings.now) input.now at (string_bytes r.0) r.1)) }
+{
+    let Some(string) = string_at(input, at, settings) else {
+        return Ok(None);
+    };
+    let Some(text) = owned_text(alloc, string.text, string.has_escape)? else {
+        return Ok(None);
+    };
+    Ok(Some((text, string.closing + 1)))
+}
+
+// The text of the string that comes first behind blanks, with its end. It is borrowed where the
+// string has no escapes.
+#[inline(always)]
+pub fn text_piece_at<'a>(
+    alloc: Global,
+    input: &'a [u8],
+    at: usize,
+    settings: &Settings,
+) -> Result<Option<(CowStr<'a, Global>, usize)>, AllocError>
+    requires { at ≤ length input.now }
+    ensures found { IfOk result (λ o. MatchOption o ((text : List ℕ) (e : ℕ) → TextLies (held_grammar settings.now) input.now at text e → ⊥) (λ r. TextLies (held_grammar settings.now) input.now at (cow_str_bytes r.0) r.1)) }
+    ensures borrowed { IfOk result (λ o. IfSome o (λ r. BorrowsText (held_grammar settings.now) input.now at r.0 r.1)) }
+{
+    let Some(string) = string_at(input, at, settings) else {
+        return Ok(None);
+    };
+    let Some(text) = text_of(alloc, string.text, string.has_escape)? else {
+        return Ok(None);
+    };
+    Ok(Some((text, string.closing + 1)))
+}
+
+// The bytes whose base64 is the text, if it is that of some.
+fn decoded(alloc: Global, text: &str) -> Result<Option<Blob>, AllocError>
+    ensures { IfOk result (λ blob. base64_of text.now ≡ blob) }
+{
+    match decode(alloc, text) {
+        Ok(bytes) => Ok(Some(Blob::new(bytes))),
+        Err(DecodeError::Invalid) => Ok(None),
+        Err(DecodeError::NoMemory) => Err(AllocError),
+    }
+}
+
+// The bytes whose base64 is the text of a string, if it is that of some.
+fn blob_of(alloc: Global, raw: &str, is_escaped: bool) -> Result<Option<Blob>, AllocError>
+    requires { is_escaped ≡ has_escape raw.now }
+    ensures { IfOk result (λ blob. option_and_then base64_of (unescaped raw.now) ≡ blob) }
+{
+    let Some(text) = text_of(alloc, raw, is_escaped)? else {
+        return Ok(None);
+    };
+    decoded(alloc, text.as_str())
+}
+
+// The bytes that the string encodes which comes first behind blanks, with its end.
+pub fn blob_at(
+    alloc: Global,
+    input: &[u8],
+    at: usize,
+    settings: &Settings,
+) -> Result<Option<(Blob, usize)>, AllocError>
+    requires { at ≤ length input.now }
+    ensures { IfOk result (λ o. MatchOption o ((blob : List ℕ) (e : ℕ) → BlobLies (held_grammar settings.now) input.now at blob e → ⊥) (λ r. BlobLies (held_grammar settings.now) input.now at r.0 r.1)) }
+{
+    let Some(string) = string_at(input, at, settings) else {
+        return Ok(None);
+    };
+    let Some(blob) = blob_of(alloc, string.text, string.has_escape)? else {
+        return Ok(None);
+    };
+    Ok(Some((blob, string.closing + 1)))
+}
+
+// The bytes that the string encodes which comes first behind blanks, with its end. They stand in
+// memory of their own, in the type that a reader hands out which borrows.
+pub fn bytes_piece_at<'a>(
+    alloc: Global,
+    input: &'a [u8],
+    at: usize,
+    settings: &Settings,
+) -> Result<Option<(CowSlice<'a, u8, Global>, usize)>, AllocError>
+    requires { at ≤ length input.now }
+    ensures found { IfOk result (λ o. MatchOption o ((blob : List ℕ) (e : ℕ) → BlobLies (held_grammar settings.now) input.now at blob e → ⊥) (λ r. BlobLies (held_grammar settings.now) input.now at (cow_slice_items r.0) r.1)) }
+    ensures owned { IfOk result (λ o. IfSome o (λ r. IsOwnedSlice r.0)) }
+{
+    let Some((blob, end)) = blob_at(alloc, input, at, settings)? else {
+        return Ok(None);
+    };
+    Ok(Some((CowSlice::Owned(blob.into_inner()), end)))
+}
