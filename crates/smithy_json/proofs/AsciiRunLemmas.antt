@@ -1,7 +1,7 @@
 -- The ASCII bytes that stand for themselves where a string's text begins.
 use Rattle.std.proofs.Common.{◌≡◌, ◌+◌, ◌-◌, ◌<◌, ℕ, zero, suc, List, [], ◌∷◌, length, take, drop, slice_range, slice_index, Bool, true, false, Some, IsUtf8, IsAscii, nat_lt, cond, refl, sym, ap, ◌∙◌, arith, subst}
 use Rattle.std.proofs.lemmas.Bool.Decides.{nat_tests}
-use Rattle.std.proofs.lemmas.List.{drop_more, drop-drop}
+use Rattle.std.proofs.lemmas.List.{drop_more}
 use Rattle.std.proofs.lemmas.List.Sums.{prefix_len-drop_no}
 use Rattle.std.proofs.lemmas.Str.{IsUtf8-from_ascii}
 use Rattle.std.specs.List.{prefix_len}
@@ -10,6 +10,7 @@ use Rattle.smithy_json.specs.Standing.{IsStringAt}
 use Rattle.smithy_json.specs.Unescape.{has_escape}
 use Rattle.smithy_json.specs.Private.Chars.{is_plain, is_plain_ascii, chars_length, closing_from}
 use Rattle.smithy_json.proofs.CharsLemmas.{shift}
+use Rattle.smithy_json.proofs.LaneLemmas.{longer_at, one_more}
 use Rattle.smithy_json.proofs.StringLemmas.{closing_from-run, string_is_at, escape_is}
 
 -- ---- one byte
@@ -19,9 +20,6 @@ small b h = grind (arith, nat_tests)
 
 plain : (b : ℕ) → is_plain_ascii b ≡ true → is_plain b ≡ true
 plain b h = grind (arith, nat_tests)
-
-one_more : (n : ℕ) → suc n ≡ 1 + n
-one_more n = omega arith
 
 -- ---- the run
 
@@ -37,26 +35,10 @@ ascii_run (b ∷ s) = go (is_plain_ascii b) refl (prefix_len is_plain_ascii s) (
     go true passes n others = subst (λ k. IsAscii (take k (b ∷ s))) (one_more n) (ascii_before b (take n s) (small b passes) others)
     go false passes n others = λ i. omega arith
 
-run_further : (s : List ℕ) → prefix_len is_plain s ≡ prefix_len is_plain_ascii s + prefix_len is_plain (drop (prefix_len is_plain_ascii s) s)
-run_further [] = refl
-run_further (b ∷ s) = go (is_plain_ascii b) refl (prefix_len is_plain_ascii s) (run_further s)
-  where
-    go : (passes : Bool) → is_plain_ascii b ≡ passes → (n : ℕ) → prefix_len is_plain s ≡ n + prefix_len is_plain (drop n s)
-        → prefix_len is_plain (b ∷ s) ≡ cond passes (1 + n) 0 + prefix_len is_plain (drop (cond passes (1 + n) 0) (b ∷ s))
-    go true passes n others =
-        let first : prefix_len is_plain (b ∷ s) ≡ 1 + prefix_len is_plain s = ap (λ p. cond p (1 + prefix_len is_plain s) 0) (plain b passes) in
-        let rest : prefix_len is_plain (drop n s) ≡ prefix_len is_plain (drop (1 + n) (b ∷ s)) = ap (λ k. prefix_len is_plain (drop k (b ∷ s))) (one_more n) in
-        omega (arith, first, rest, others)
-    go false passes n others = omega arith
-
 module _ (input : List ℕ) (at end : ℕ) (is : end ≡ at + prefix_len is_plain_ascii (drop at input)) where
   -- the run of the bytes that stand for themselves goes on there
   pub same_run : at + prefix_len is_plain (drop at input) ≡ end + prefix_len is_plain (drop end input)
-  same_run =
-      let n = prefix_len is_plain_ascii (drop at input) in
-      let behind : prefix_len is_plain (drop n (drop at input)) ≡ prefix_len is_plain (drop end input) =
-      ap (prefix_len is_plain) (drop-drop n at input ∙ ap (λ k. drop k input) (sym is)) in
-      omega (arith, run_further (drop at input), behind, is)
+  same_run = longer_at is_plain_ascii is_plain plain input at end is
 
   pub run_utf8 : IsUtf8 (slice_range input at end)
   run_utf8 =

@@ -1,40 +1,54 @@
 -- Where what a quotation mark opens ends: the computed place is that of the first such mark that no backslash takes.
-use Rattle.std.proofs.Common.{◌≡◌, ◌≢◌, ◌+◌, ◌-◌, ◌≤◌, ◌<◌, ℕ, suc, List, [], ◌∷◌, ◌++◌, length, take, drop, get_or, slice_index, slice_range, Bool, true, false, Option, Some, None, option_map, refl, sym, ap, ◌∙◌, arith, inl, inr, cond, ◌==◌, subst}
+use Rattle.std.proofs.Common.{◌≡◌, ◌≢◌, ◌+◌, ◌-◌, ◌≤◌, ◌<◌, ℕ, suc, List, [], ◌∷◌, ◌++◌, length, take, drop, get_or, slice_index, slice_range, Bool, true, false, Option, Some, None, option_map, refl, sym, ap, ◌∙◌, arith, inl, inr, cond, not, ◌==◌, subst}
 use Rattle.std.proofs.lemmas.Bool.Decides.{nat_tests}
 use Rattle.std.proofs.lemmas.List.{drop-drop, drop_more, get_or-drop, drop_all}
 use Rattle.std.specs.List.{prefix_len}
 use Rattle.smithy_json.specs.Ascii.{quotation_mark, escape}
 use Rattle.smithy_json.specs.StringText.{IsQuoted}
 use Rattle.smithy_json.specs.Standing.{IsQuotedAt}
-use Rattle.smithy_json.specs.Private.Chars.{is_plain, quoted_length, quoted_from}
+use Rattle.smithy_json.specs.Stops.{is_stop, first_stop}
+use Rattle.smithy_json.specs.Private.Chars.{quoted_length, quoted_from}
 use Rattle.smithy_json.proofs.SliceLemmas.{drop-slice, length-slice}
+use Rattle.smithy_json.proofs.StringLemmas.{run_stops_of}
 use Rattle.smithy_json.proofs.CharsLemmas.{shift, shift-zero, shift-shift, one_more, two_more}
 
 eq_false : (b c : ℕ) → b ≢ c → (b == c) ≡ false
 eq_false b c h = grind (arith, nat_tests)
 
-plain_is : (b : ℕ) → is_plain b ≡ true → (b ≢ quotation_mark) × (b ≢ escape)
-plain_is b h = (grind (arith, nat_tests), grind (arith, nat_tests))
+no_stop_is : (b : ℕ) → not (is_stop false b) ≡ true → (b ≢ quotation_mark) × (b ≢ escape)
+no_stop_is b h = (grind (arith, nat_tests), grind (arith, nat_tests))
+
+-- of the two that stop a run one is the mark
+pub other_mark : (b : ℕ) → is_stop false b ≡ true → b ≢ escape → b ≡ quotation_mark
+other_mark b stops other = grind (arith, nat_tests)
 
 -- past a byte that is neither a mark nor a backslash
 past_byte : (b : ℕ) (s : List ℕ) → b ≢ quotation_mark → b ≢ escape → quoted_length (b ∷ s) ≡ option_map suc (quoted_length s)
 past_byte b [] no_mark no_slash = rw (eq_false b quotation_mark no_mark) refl
 past_byte b (c ∷ s) no_mark no_slash = rw (eq_false b quotation_mark no_mark, eq_false b escape no_slash) refl
 
+not_true : (b : Bool) → not b ≡ false → b ≡ true
+not_true true h = refl
+not_true false h = cc
+
+-- a byte that is neither
+abbrev no_stop : ℕ → Bool
+no_stop b = not (is_stop false b)
+
 -- past a run of such bytes
-quoted-run : (s : List ℕ) → quoted_length s ≡ shift (prefix_len is_plain s) (quoted_length (drop (prefix_len is_plain s) s))
+quoted-run : (s : List ℕ) → quoted_length s ≡ shift (prefix_len no_stop s) (quoted_length (drop (prefix_len no_stop s) s))
 quoted-run [] = refl
-quoted-run (b ∷ s) = go (is_plain b) refl (prefix_len is_plain s) (quoted-run s)
+quoted-run (b ∷ s) = go (no_stop b) refl (prefix_len no_stop s) (quoted-run s)
   where
-    go : (plain : Bool) → is_plain b ≡ plain → (n : ℕ) → quoted_length s ≡ shift n (quoted_length (drop n s))
-        → quoted_length (b ∷ s) ≡ shift (cond plain (1 + n) 0) (quoted_length (drop (cond plain (1 + n) 0) (b ∷ s)))
-    go true plain n rest =
+    go : (passes : Bool) → no_stop b ≡ passes → (n : ℕ) → quoted_length s ≡ shift n (quoted_length (drop n s))
+        → quoted_length (b ∷ s) ≡ shift (cond passes (1 + n) 0) (quoted_length (drop (cond passes (1 + n) 0) (b ∷ s)))
+    go true passes n rest =
         let one : 1 + n ≡ suc n = omega arith in
-        let other = plain_is b plain in
+        let other = no_stop_is b passes in
         past_byte b s other.0 other.1 ∙ one_more (quoted_length s) ∙ ap (shift 1) rest
         ∙ shift-shift 1 n (quoted_length (drop n s))
         ∙ ap (λ k. shift (1 + n) (quoted_length (drop k (b ∷ s)))) (sym one)
-    go false plain n rest = sym (shift-zero (quoted_length (b ∷ s)))
+    go false passes n rest = sym (shift-zero (quoted_length (b ∷ s)))
 
 -- a place that is computed further on
 further : (input : List ℕ) (at k : ℕ) → shift at (shift k (quoted_length (drop k (drop at input)))) ≡ quoted_from input (at + k)
@@ -42,10 +56,14 @@ further input at k =
     shift-shift at k (quoted_length (drop k (drop at input)))
     ∙ ap (λ rest. shift (at + k) (quoted_length rest)) (drop-drop k at input)
 
-pub quoted_from-run : (input : List ℕ) (at end : ℕ) → end ≡ at + prefix_len is_plain (drop at input) → quoted_from input at ≡ quoted_from input end
+pub quoted_from-run : (input : List ℕ) (at end : ℕ) → end ≡ first_stop input at false → quoted_from input at ≡ quoted_from input end
 quoted_from-run input at end is =
     ap (shift at) (quoted-run (drop at input))
-    ∙ further input at (prefix_len is_plain (drop at input)) ∙ ap (quoted_from input) (sym is)
+    ∙ further input at (prefix_len no_stop (drop at input)) ∙ ap (quoted_from input) (sym is)
+
+-- and where it ends one of the two stands
+pub quoted_stops : (input : List ℕ) (at end : ℕ) → end ≡ first_stop input at false → end < length input → is_stop false (slice_index input end) ≡ true
+quoted_stops input at end is within = not_true _ (run_stops_of no_stop input at end is within)
 
 pub quoted_from-over : (input : List ℕ) (at : ℕ) → length input ≤ at → quoted_from input at ≡ None
 quoted_from-over input at past = ap (λ rest. shift at (quoted_length rest)) (drop_all at input past)
@@ -61,13 +79,6 @@ module _ (input : List ℕ) (at : ℕ) (within : at < length input) where
       ends : (rest : List ℕ) → drop at input ≡ quotation_mark ∷ rest → quoted_from input at ≡ Some at
       ends [] here = let zero_more : at + 0 ≡ at = omega arith in ap (λ s. shift at (quoted_length s)) here ∙ ap Some zero_more
       ends (c ∷ rest) here = let zero_more : at + 0 ≡ at = omega arith in ap (λ s. shift at (quoted_length s)) here ∙ ap Some zero_more
-
-  -- past a byte
-  pub quoted_from-byte : slice_index input at ≢ quotation_mark → slice_index input at ≢ escape → quoted_from input at ≡ quoted_from input (at + 1)
-  quoted_from-byte no_mark no_slash =
-      ap (λ s. shift at (quoted_length s)) front
-      ∙ ap (shift at) (past_byte (slice_index input at) (drop (at + 1) input) no_mark no_slash ∙ one_more (quoted_length (drop (at + 1) input)))
-      ∙ shift-shift at 1 (quoted_length (drop (at + 1) input))
 
   -- past a backslash and the byte that it takes
   pub quoted_from-escape : slice_index input at ≡ escape → at + 2 ≤ length input → quoted_from input at ≡ quoted_from input (at + 2)

@@ -25,12 +25,15 @@ closing_from-run input at end is =
     ap (shift at) (chars_length-run (drop at input))
     ∙ closing_further input at (prefix_len is_plain (drop at input)) ∙ ap (closing_from input) (sym is)
 
--- and there no byte stands that does
-pub run_stops : (input : List ℕ) (at end : ℕ) → end ≡ at + prefix_len is_plain (drop at input) → end < length input → is_plain (slice_index input end) ≡ false
-run_stops input at end is within =
-    let n = prefix_len is_plain (drop at input) in
+-- where a run ends no byte stands that goes on
+pub run_stops_of : (passes : ℕ → Bool) (input : List ℕ) (at end : ℕ) → end ≡ at + prefix_len passes (drop at input) → end < length input → passes (slice_index input end) ≡ false
+run_stops_of passes input at end is within =
+    let n = prefix_len passes (drop at input) in
     let short : n < length (drop at input) = omega (arith, length-drop at input) in
-    ap is_plain (ap (λ k. get_or input k 0) is ∙ sym (get_or-drop at input n 0)) ∙ prefix_len_stops is_plain (drop at input) 0 short
+    ap passes (ap (λ k. get_or input k 0) is ∙ sym (get_or-drop at input n 0)) ∙ prefix_len_stops passes (drop at input) 0 short
+
+pub run_stops : (input : List ℕ) (at end : ℕ) → end ≡ at + prefix_len is_plain (drop at input) → end < length input → is_plain (slice_index input end) ≡ false
+run_stops = run_stops_of is_plain
 
 -- so it is over
 pub run_is_over : (input : List ℕ) (at end : ℕ) → end ≡ at + prefix_len is_plain (drop at input)

@@ -1,8 +1,8 @@
 -- One escape after another.
-use Rattle.std.proofs.Common.{◌≡◌, ◌≢◌, ◌+◌, ◌-◌, ◌≤◌, ◌<◌, ℕ, suc, List, [], ◌∷◌, ◌++◌, length, take, drop, get_or, Bool, true, false, ◌&&◌, ◌==◌, Result, Ok, Err, refl, sym, ap, ◌∙◌, arith, subst, cond, not, nat_lt, slice_range}
+use Rattle.std.proofs.Common.{◌≡◌, ◌≢◌, ◌+◌, ◌-◌, ◌≤◌, ◌<◌, ℕ, suc, List, [], ◌∷◌, ◌++◌, length, take, drop, get_or, Bool, true, false, ◌&&◌, ◌==◌, Result, Ok, Err, refl, sym, ap, ◌∙◌, arith, subst, cond, not, nat_lt, slice_index, slice_range}
 use Rattle.std.proofs.lemmas.Bool.Decides.{nat_tests}
 use Rattle.std.proofs.lemmas.List.{drop-drop, get_or-drop, length-drop, drop_more, drop_all, take_all, append-nil}
-use Rattle.std.proofs.lemmas.List.Sums.{prefix_len_stops, prefix_len-le-length}
+use Rattle.std.proofs.lemmas.List.Sums.{prefix_len_stops, prefix_len-le-length, prefix_len-drop_yes}
 use Rattle.std.proofs.lemmas.Str.{IsCharBoundary-after_ascii, IsCharBoundary-before_ascii, IsCharBoundary-end}
 use Rattle.std.specs.Char.{InScalarRange, OutOfScalarRange}
 use Rattle.std.specs.Char.Utf16.{is_high_surrogate, is_low_surrogate, surrogate_pair_char}
@@ -10,10 +10,12 @@ use Rattle.std.specs.List.{prefix_len}
 use Rattle.std.specs.Prelude.{encode_utf8, IsUtf8}
 use Rattle.std.specs.Str.{IsCharBoundary}
 use Rattle.smithy_json.specs.Ascii.{escape, letter_u}
+use Rattle.smithy_json.specs.Stops.{is_stop, first_stop}
 use Rattle.smithy_json.specs.Unescape.{with_front, code_unit, unescape, unescape_letter, unescape_digits, unescape_low, has_escape}
 use Rattle.smithy_json.specs.Private.Unescaping.{is_no_escape, Unescapes}
 use Rattle.smithy_json.specs.declared.escape_error.EscapeError.{EscapeError}
 use Rattle.smithy_json.specs.declared.escape_error.EscapeError.TheVariants.{InvalidUnicodeEscape, ExpectedSurrogatePair, InvalidSurrogatePair}
+use Rattle.smithy_json.proofs.LaneLemmas.{longer_at}
 use Rattle.smithy_json.proofs.UnescapeLemmas.{with_front-nil, with_front-with_front, last_digit, digits_alone, low_of, unescape_low-six}
 
 -- an escape that goes on behind k of its bytes
@@ -104,6 +106,21 @@ pub not_empty : (s : List ℕ) → (length s == 0) ≡ false → 0 < length s
 not_empty s test = grind (arith, nat_tests)
 
 -- ---- the bytes before an escape
+
+-- a run up to a quotation mark or a backslash holds no backslash
+no_stop : (b : ℕ) → not (is_stop false b) ≡ true → is_no_escape b ≡ true
+no_stop b h = grind (arith, nat_tests)
+
+pub further_without_escape : (input : List ℕ) (at end : ℕ) → end ≡ first_stop input at false
+    → at + prefix_len is_no_escape (drop at input) ≡ end + prefix_len is_no_escape (drop end input)
+further_without_escape = longer_at (λ b. not (is_stop false b)) is_no_escape no_stop
+
+other_byte : (b : ℕ) → b ≢ escape → (b == escape) ≡ false
+other_byte b h = grind (arith, nat_tests)
+
+pub past_other_byte : (input : List ℕ) (at : ℕ) → at < length input → slice_index input at ≢ escape
+    → prefix_len is_no_escape (drop at input) ≡ 1 + prefix_len is_no_escape (drop (at + 1) input)
+past_other_byte input at within other = prefix_len-drop_yes is_no_escape input at 0 within (ap not (other_byte (slice_index input at) other))
 
 run_unescapes : (s : List ℕ) → unescape s ≡ with_front (take (prefix_len is_no_escape s) s) (unescape (drop (prefix_len is_no_escape s) s))
 run_unescapes [] = refl

@@ -11,6 +11,7 @@ pub mod ValueTexts
 pub mod DocumentMeaning
 pub mod DocumentText
 pub mod StringText
+pub mod Stops
 pub mod Standing
 -- what contracts see of a type
 pub mod EscapedText

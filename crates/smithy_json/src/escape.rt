@@ -8,7 +8,7 @@ ghost use Rattle.smithy_json.specs.Appending.{AddsFront};
 ghost use Rattle.smithy_json.specs.Private.Chars.{is_plain};
 ghost use Rattle.smithy_json.specs.Unescape.{unescape};
 
-use crate::string_text::plain_end;
+use crate::scan;
 use smithy_texts::AppendText;
 use std::alloc::{AllocError, Global};
 use std::borrow::CowStr;
@@ -24,7 +24,7 @@ pub fn escape_string(alloc: Global, value: &str) -> Result<CowStr<'_, Global>, A
     // What is written stands for the text.
     ensures unescapes { unescape (escaped value.now) ≡ Ok value.now }
 {
-    let first_stop = plain_end(value.as_bytes(), 0);
+    let first_stop = scan::stop(value.as_bytes(), 0, true);
     if first_stop == value.len() {
         return Ok(CowStr::Borrowed(value));
     }
@@ -42,7 +42,7 @@ pub fn push_escaped<T: AppendText>(out: &mut T, text: &str) -> Result<(), AllocE
     ensures ok { OnOk result (T.bytes out.new ≡ T.bytes out.old ++ escaped text.now) }
     ensures err { OnErr result (AddsFront (T.bytes out.old) (escaped text.now) (T.bytes out.new)) }
 {
-    let first_stop = plain_end(text.as_bytes(), 0);
+    let first_stop = scan::stop(text.as_bytes(), 0, true);
     out.append_text(&text[..first_stop])?;
     if first_stop == text.len() {
         return Ok(());
@@ -63,7 +63,7 @@ fn push_from_stop<T: AppendText>(out: &mut T, text: &str) -> Result<(), AllocErr
     while stop < bytes.len() {
         push_escape(out, bytes[stop])?;
         let behind = stop + 1;
-        stop = plain_end(bytes, behind);
+        stop = scan::stop(bytes, behind, true);
         out.append_text(&text[behind..stop])?;
     }
     Ok(())

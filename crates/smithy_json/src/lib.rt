@@ -5,6 +5,7 @@ mod document_writer;
 mod escape;
 mod escape_error;
 mod held_number;
+pub mod lanes;
 pub mod number_grammar;
 pub mod number_run;
 pub mod number_text;

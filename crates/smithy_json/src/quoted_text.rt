@@ -8,8 +8,9 @@ ghost use Rattle.smithy_json.specs.StringText.{is_escape, escapes_are_valid, is_
 ghost use Rattle.smithy_json.specs.Unescape.{has_escape};
 ghost use Rattle.smithy_json.specs.Private.Chars.{quoted_from};
 
+use crate::scan::stop;
 use crate::string_text::{
-    ScannedString, begins_with_four_hex_digits, is_short_escape, plain_end, scan_string,
+    ScannedString, begins_with_four_hex_digits, is_short_escape, scan_string,
 };
 use std::str;
 
@@ -28,17 +29,12 @@ fn closing_quote(input: &[u8], at: usize) -> Option<usize>
     ensures value { result ≡ quoted_from input.now at }
     ensures within { IfSome result (λ closing. (at ≤ closing) × (closing < length input.now)) }
 {
-    let mut end = plain_end(input, at);
-    while end < input.len() && input[end] != b'"' {
-        let next = if input[end] == b'\\' {
-            end + 2
-        } else {
-            end + 1
-        };
-        if next > input.len() {
+    let mut end = stop(input, at, false);
+    while end < input.len() && input[end] == b'\\' {
+        if input.len() - end < 2 {
             return None;
         }
-        end = plain_end(input, next);
+        end = stop(input, end + 2, false);
     }
     (end < input.len()).then_some(end)
 }

@@ -1,11 +1,14 @@
-//! Where blanks and literals end, and where a value may end.
+//! Where blanks and literals end, where a value may end, and where a string's text stops.
 
 ghost use Rattle.std.specs.Prelude.{◌≡◌, ◌≤◌, ◌↔◌, ℕ, Bool, IsTrue, length, drop, true, false, codes, IfSome, IfNone};
 ghost use Rattle.smithy_json.specs.Ascii.{is_ws};
 ghost use Rattle.smithy_json.specs.Grammar.{IsBoundary, IsValue};
 ghost use Rattle.smithy_json.specs.Private.Literal.{EndsLiteral};
 ghost use Rattle.smithy_json.specs.Standing.{IsRunAt, StandsAt};
+ghost use Rattle.smithy_json.specs.Stops.{first_stop};
 ghost use Rattle.smithy_json.specs.Tree.{null, boolean};
+
+use crate::lanes::run_end;
 
 // RFC 8259 calls these bytes `ws`. None is above the space, and most bytes of a text are.
 #[inline(always)]
@@ -71,4 +74,19 @@ pub fn read_boolean(input: &[u8], at: usize) -> Option<(bool, usize)>
     }
     let end = literal_end(input, at, b"false")?;
     Some((false, end))
+}
+
+/// The first place from `at` on that holds a quotation mark, a backslash or, where `controls` is set, a byte below 0x20; the length
+/// where there is none (RFC 8259, section 7).
+#[inline(always)]
+pub fn stop(input: &[u8], at: usize, controls: bool) -> usize
+    requires { at ≤ length input.now }
+    ensures value { result ≡ first_stop input.now at controls }
+    ensures bound { result ≤ length input.now }
+{
+    if controls {
+        run_end::<true, false>(input, at)
+    } else {
+        run_end::<false, false>(input, at)
+    }
 }

@@ -10,6 +10,7 @@ ghost use Rattle.smithy_json.specs.EscapedText.{escaped_text};
 ghost use Rattle.smithy_json.specs.Private.Unescaping.{is_no_escape, Unescapes};
 
 use crate::escape_error::EscapeError;
+use crate::scan::stop;
 use crate::string_text::is_short_escape;
 use std::alloc::Global;
 use std::borrow::CowStr;
@@ -57,9 +58,9 @@ fn escape_start(input: &[u8], at: usize) -> usize
     ensures value { result ≡ at + prefix_len is_no_escape (drop at input.now) }
     ensures within { result ≤ length input.now }
 {
-    let mut end = at;
+    let mut end = stop(input, at, false);
     while end < input.len() && input[end] != b'\\' {
-        end += 1;
+        end = stop(input, end + 1, false);
     }
     end
 }

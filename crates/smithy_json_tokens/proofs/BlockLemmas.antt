@@ -5,8 +5,8 @@ use Rattle.std.proofs.lemmas.List.{drop-drop, drop-take, drop-map, drop_all}
 use Rattle.std.specs.List.{prefix_len}
 use Rattle.std.specs.Simd.Lanes.{mask_l, chunk}
 use Rattle.smithy_json.specs.Ascii.{escape}
-use Rattle.smithy_json.specs.Private.Chars.{is_plain, is_stop}
-use Rattle.smithy_json.proofs.LaneLemmas.{run_through}
+use Rattle.smithy_json.specs.Private.Chars.{is_plain, ends_run}
+use Rattle.smithy_json.proofs.LaneLemmas.{through}
 use Rattle.smithy_json.proofs.StringLemmas.{run_stops}
 use Rattle.smithy_json_tokens.specs.TokenRules.{text_length}
 use Rattle.smithy_json_tokens.proofs.ScanLemmas.{text_length-run, text_length-stops, text_length-alone}
@@ -25,11 +25,11 @@ mask_drop (suc k) (b ∷ bs) =
     ∙ ap (λ n. n / 2 ^ k) (half b (mask_l bs)) ∙ mask_drop k bs
 
 -- is the mask of the bytes behind
-pub rest_mask : (input : List ℕ) (at n k : ℕ) → k ≤ n → mask_l (map is_stop (chunk at n input)) / 2 ^ k ≡ mask_l (map is_stop (chunk (at + k) (n - k) input))
+pub rest_mask : (input : List ℕ) (at n k : ℕ) → k ≤ n → mask_l (map (ends_run true false) (chunk at n input)) / 2 ^ k ≡ mask_l (map (ends_run true false) (chunk (at + k) (n - k) input))
 rest_mask input at n k le =
     let size : n ≡ k + (n - k) = omega arith in
-    mask_drop k (map is_stop (chunk at n input))
-    ∙ ap mask_l (drop-map is_stop k (chunk at n input) ∙ ap (map is_stop) (ap (λ m. drop k (take m (drop at input))) size ∙ drop-take k (n - k) (drop at input) ∙ ap (take (n - k)) (drop-drop k at input)))
+    mask_drop k (map (ends_run true false) (chunk at n input))
+    ∙ ap mask_l (drop-map (ends_run true false) k (chunk at n input) ∙ ap (map (ends_run true false)) (ap (λ m. drop k (take m (drop at input))) size ∙ drop-take k (n - k) (drop at input) ∙ ap (take (n - k)) (drop-drop k at input)))
 
 -- ---- what the text does at a stop
 
@@ -38,9 +38,9 @@ pub ends_at : (input : List ℕ) (at stop : ℕ) → stop ≡ at + prefix_len is
 ends_at input at stop is other = omega (arith, text_length-stops input stop (run_stops input at stop is) other)
 
 -- it goes on behind bytes of which none stops it
-pub passes : (input : List ℕ) (at n : ℕ) → at + n ≤ length input → mask_l (map is_stop (chunk at n input)) ≡ 0 → at + text_length (drop at input) ≡ at + n + text_length (drop (at + n) input)
+pub passes : (input : List ℕ) (at n : ℕ) → at + n ≤ length input → mask_l (map (ends_run true false) (chunk at n input)) ≡ 0 → at + text_length (drop at input) ≡ at + n + text_length (drop (at + n) input)
 passes input at n room none =
-    let run = run_through input at n room none in
+    let run = through (ends_run true false) input at n room none in
     let stop = at + prefix_len is_plain (drop at input) in
     let same : stop ≡ at + n + prefix_len is_plain (drop (at + n) input) = omega (arith, run) in
     text_length-run input at stop refl ∙ sym (text_length-run input (at + n) stop same)

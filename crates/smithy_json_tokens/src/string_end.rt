@@ -3,10 +3,11 @@
 ghost use Rattle.std.specs.Prelude.{◌≡◌, ◌≤◌, ◌<◌, ◌+◌, ◌-◌, ◌/◌, ◌^◌, length, drop, map, true, false};
 ghost use Rattle.std.specs.List.{prefix_len};
 ghost use Rattle.std.specs.Simd.Lanes.{mask_l, chunk};
-ghost use Rattle.smithy_json.specs.Private.Chars.{is_plain, is_stop};
+ghost use Rattle.smithy_json.specs.Private.Chars.{is_plain, ends_run};
 ghost use Rattle.smithy_json_tokens.specs.TokenRules.{text_length};
 
-use smithy_json::string_text::{plain_end, stops};
+use smithy_json::lanes::ends;
+use smithy_json::scan::stop;
 use std::simd::prelude::*;
 
 // The first byte that doesn't stand for itself from the offset on, by the mask of the bytes up to `behind`.
@@ -16,7 +17,7 @@ fn plain_stop(input: &[u8], at: usize, behind: usize, rest: u64) -> usize
     requires within { behind ≤ length input.now }
     requires short { behind ≤ at + 16 }
     requires some { 0 < rest }
-    requires rest { rest ≡ mask_l (map is_stop (chunk at (behind - at) input.now)) }
+    requires rest { rest ≡ mask_l (map (ends_run true false) (chunk at (behind - at) input.now)) }
     ensures value { result ≡ at + prefix_len is_plain (drop at input.now) }
     ensures bound { result ≤ length input.now }
 {
@@ -37,7 +38,7 @@ fn without_lowest(mask: u64, count: usize) -> u64
 #[inline(always)]
 fn pass_block(input: &[u8], at: usize, stops: u64) -> (usize, bool)
     requires block { at + 16 ≤ length input.now }
-    requires stops { stops ≡ mask_l (map is_stop (chunk at 16 input.now)) }
+    requires stops { stops ≡ mask_l (map (ends_run true false) (chunk at 16 input.now)) }
     ensures same_text { at + text_length (drop at input.now) ≡ result.0 + text_length (drop result.0 input.now) }
     ensures ends { result.1 ≡ true → text_length (drop result.0 input.now) ≡ 0 }
     ensures goes_on { result.1 ≡ false → at < result.0 }
@@ -73,14 +74,33 @@ fn text_end_by_escapes(input: &[u8], at: usize) -> usize
     ensures value { result ≡ at + text_length (drop at input.now) }
     ensures within { result ≤ length input.now }
 {
-    let mut end = plain_end(input, at);
+    let mut end = stop(input, at, true);
     while input.len() - end > 1 && input[end] == b'\\' {
-        end = plain_end(input, end + 2);
+        end = stop(input, end + 2, true);
     }
     if end < input.len() && input[end] == b'\\' {
         return input.len();
     }
     end
+}
+
+// Where the text of a string ends that goes on at the offset, with an escape.
+#[inline(never)]
+fn text_end_by_blocks(input: &[u8], at: usize) -> usize
+    requires { at ≤ length input.now }
+    ensures value { result ≡ at + text_length (drop at input.now) }
+    ensures within { result ≤ length input.now }
+{
+    let mut end = at;
+    while input.len() - end >= 16 {
+        let stops = ends(u8x16::from_slice(&input[end..]), true, false);
+        let (next, ends) = pass_block(input, end, stops);
+        if ends {
+            return next;
+        }
+        end = next;
+    }
+    text_end_by_escapes(input, end)
 }
 
 // Where the text of a string ends that goes on at the offset.
@@ -89,14 +109,12 @@ pub(crate) fn text_end(input: &[u8], at: usize) -> usize
     ensures value { result ≡ at + text_length (drop at input.now) }
     ensures within { result ≤ length input.now }
 {
-    let mut end = at;
-    while input.len() - end >= 16 {
-        let stops = stops(u8x16::from_slice(&input[end..]));
-        let (next, ends) = pass_block(input, end, stops);
-        if ends {
-            return next;
-        }
-        end = next;
+    let first = stop(input, at, true);
+    if first >= input.len() {
+        return first;
     }
-    text_end_by_escapes(input, end)
+    if input[first] != b'\\' {
+        return first;
+    }
+    text_end_by_blocks(input, first)
 }

@@ -10,6 +10,7 @@ mod kinds;
 mod literals;
 mod numbers;
 mod skips;
+mod stops;
 mod strings;
 mod takes;
 mod tokens;

@@ -1,6 +1,6 @@
 //! Literals, blanks and numbers in an input of JSON.
 
-use crate::allowed_numbers::call_allowed_number;
+use crate::stops::call_stop;
 use crate::words::input_of;
 use smithy_json::number_text::{read_long, scan_number};
 use smithy_json::scan::{is_boundary, read_boolean, read_null, skip_blanks};
@@ -64,6 +64,6 @@ pub fn call_literal(
         "read_boolean" => boolean(input, answers),
         "skip_blanks" => answers.text("end", skip_blanks(input, 0)),
         "is_boundary" => answers.text("is_boundary", is_boundary(input, 0)),
-        _ => call_allowed_number(alloc, row, name, rest, answers),
+        _ => call_stop(alloc, row, name, rest, answers),
     }
 }

@@ -1,23 +1,25 @@
 -- Where the text of a string ends, computed from the bytes that follow its opening quotation mark.
-use Rattle.std.specs.Prelude.{◌≡◌, ◌<◌, ◌≤◌, ℕ, suc, ◌+◌, List, [], ◌∷◌, length, drop, Bool, false, not, ◌&&◌, ◌||◌, ◌==◌, nat_le, nat_lt, Option, Some, None, option_map, MatchOption, if◌then◌else◌}
+use Rattle.std.specs.Prelude.{◌≡◌, ◌<◌, ◌≤◌, ℕ, suc, ◌+◌, List, [], ◌∷◌, length, drop, Bool, true, false, not, ◌&&◌, ◌||◌, ◌==◌, nat_le, nat_lt, Option, Some, None, option_map, MatchOption, if◌then◌else◌}
 use Rattle.std.specs.Char.{is_ascii_hexdigit}
+use Rattle.std.specs.List.{prefix_len}
 use Rattle.smithy_json.specs.Ascii.{quotation_mark, escape, letter_u, space, is_short_escape}
+use Rattle.smithy_json.specs.Stops.{is_stop}
 
 -- a byte that stands for itself in a string
 abbrev pub is_plain : ℕ → Bool
-is_plain b = nat_le space b && not (b == quotation_mark) && not (b == escape)
+is_plain b = not (is_stop true b)
 
--- a byte that doesn't stand for itself in a string
-abbrev pub is_stop : ℕ → Bool
-is_stop b = (b == quotation_mark) || (b == escape) || nat_lt b space
+-- a byte that ends a run: one at which a scan stops, and where the run is one of ASCII a byte past it
+abbrev pub ends_run : Bool → Bool → ℕ → Bool
+ends_run controls ascii b = (ascii && nat_lt 0x7f b) || is_stop controls b
+
+-- where the run ends that goes on at the offset
+abbrev pub run_end : Bool → Bool → List ℕ → ℕ → ℕ
+run_end controls ascii input at = at + prefix_len (λ b. not (ends_run controls ascii b)) (drop at input)
 
 -- an ASCII byte that stands for itself in a string
 abbrev pub is_plain_ascii : ℕ → Bool
-is_plain_ascii b = is_plain b && nat_lt b 0x80
-
--- a byte of a string that isn't ASCII or doesn't stand for itself
-abbrev pub is_ascii_stop : ℕ → Bool
-is_ascii_stop b = is_stop b || nat_lt 0x7f b
+is_plain_ascii b = not (ends_run true true b)
 
 -- four hexadecimal digits come first
 abbrev pub begins_with_four_hex_digits : List ℕ → Bool

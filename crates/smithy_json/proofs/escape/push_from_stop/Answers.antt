@@ -44,8 +44,8 @@ range-requires-clause-end_boundary g c =
     let v = c.args.text.now in
     let l = c.loop-stop in
     let same = c.as_bytes-bytes.ensures.value in
-    let stop = c.plain_end-stop.result in
-    let run : stop ≡ (l.stop + 1) + prefix_len is_plain (drop (l.stop + 1) v) = rw (← same) c.plain_end-stop.ensures.value in
+    let stop = c.stop-stop.result in
+    let run : stop ≡ (l.stop + 1) + prefix_len is_plain (drop (l.stop + 1) v) = rw (← same) c.stop-stop.ensures.value in
     boundary_at_stop v (l.stop + 1) stop c.utf8.text run (omega (arith, ap length same))
 
 -- the run behind it was refused
@@ -69,13 +69,13 @@ loop-stop-preserved g c =
     let l = c.loop-stop in
     let same = c.as_bytes-bytes.ensures.value in
     let before : l.stop < length v = omega (arith, ap length same) in
-    let stop = c.plain_end-stop.result in
-    let run : stop ≡ (l.stop + 1) + prefix_len is_plain (drop (l.stop + 1) v) = rw (← same) c.plain_end-stop.ensures.value in
+    let stop = c.stop-stop.result in
+    let run : stop ≡ (l.stop + 1) + prefix_len is_plain (drop (l.stop + 1) v) = rw (← same) c.stop-stop.ensures.value in
     let more = g.T.AppendText.bytes c.push_escape.new.out in
     let byte : more ≡ g.T.AppendText.bytes l.out ++ escaped_byte (slice_index v l.stop) = rw (← same) c.in_ok-push_escape.ensures.ok in
     let added = c.in_ok-append_text.ensures.ok ∙ ap (λ s. more ++ s) c.range.ensures.value in
     record {
-      within = omega (arith, c.plain_end-stop.ensures.bound, ap length same);
+      within = omega (arith, c.stop-stop.ensures.bound, ap length same);
       stops = omega (arith, run, run_is_over v (l.stop + 1) stop run);
       all = run_written v (l.stop + 1) stop run more _ _ added (byte_written v l.stop _ more _ before byte l.invariant.all);
       longer = omega (arith, l.invariant.longer, ap length byte, ap length added, length-append (g.T.AppendText.bytes l.out) (escaped_byte (slice_index v l.stop)), length-append more (slice_range v (l.stop + 1) stop));

@@ -7,7 +7,7 @@ loop-end-init c = record { further = omega arith; within = c.requires.within; sa
 
 pub loop-end-preserved : goal.loop-end-preserved
 loop-end-preserved c =
-    let run = c.plain_end-end.ensures in
+    let run = c.stop-end.ensures in
     let further = c.in_ok-escape_end.ensures in record {
       further = omega arith;
       within = run.bound;

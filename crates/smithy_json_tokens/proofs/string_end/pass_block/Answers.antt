@@ -1,6 +1,6 @@
-use Rattle.std.proofs.Common.{◌≡◌, ◌∙◌, ◌+◌, ◌-◌, ◌/◌, ◌^◌, sym, ap, arith, map, drop}
+use Rattle.std.proofs.Common.{◌≡◌, ◌∙◌, ◌+◌, ◌-◌, ◌/◌, ◌^◌, sym, ap, arith, map, drop, true, false}
 use Rattle.std.specs.Simd.Lanes.{mask_l, chunk}
-use Rattle.smithy_json.specs.Private.Chars.{is_stop}
+use Rattle.smithy_json.specs.Private.Chars.{ends_run}
 use Rattle.smithy_json_tokens.specs.TokenRules.{text_length}
 use Rattle.smithy_json_tokens.proofs.ScanLemmas.{text_length-run, text_length-taken}
 use Rattle.smithy_json_tokens.proofs.ScalarScans.{eq_false}
@@ -50,7 +50,7 @@ loop-rest-preserved c =
       behind_is = omega arith;
       same_text = c.loop-rest.invariant.same_text ∙ text_length-run input end _ stop.ensures.value
           ∙ text_length-taken input stop.result (omega (arith, stop.ensures.bound, c.if-stop-input.false)) (omega (arith, c.if-input-stop-lt2.false)) c.if-input-stop-ne92.false;
-      mask = c.without_lowest-rest.ensures ∙ ap (λ m. m / 2 ^ (next - end)) c.loop-rest.invariant.mask ∙ short ∙ ap (λ k. mask_l (map is_stop (chunk k (behind - end - (next - end)) input))) more ∙ ap (λ k. mask_l (map is_stop (chunk next k input))) left;
+      mask = c.without_lowest-rest.ensures ∙ ap (λ m. m / 2 ^ (next - end)) c.loop-rest.invariant.mask ∙ short ∙ ap (λ k. mask_l (map (ends_run true false) (chunk k (behind - end - (next - end)) input))) more ∙ ap (λ k. mask_l (map (ends_run true false) (chunk next k input))) left;
     }
 
 pub returns-clause-same_text : goal.returns-clause-same_text

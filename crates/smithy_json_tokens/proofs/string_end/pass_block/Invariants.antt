@@ -1,6 +1,6 @@
-use Rattle.std.proofs.Common.{◌≡◌, ◌+◌, ◌-◌, ◌≤◌, ◌<◌, drop, map}
+use Rattle.std.proofs.Common.{◌≡◌, ◌+◌, ◌-◌, ◌≤◌, ◌<◌, drop, map, true, false}
 use Rattle.std.specs.Simd.Lanes.{mask_l, chunk}
-use Rattle.smithy_json.specs.Private.Chars.{is_stop}
+use Rattle.smithy_json.specs.Private.Chars.{ends_run}
 use Rattle.smithy_json_tokens.specs.TokenRules.{text_length}
 use Rattle.smithy_json_tokens.proofs.string_end.pass_block.Given as goal
 
@@ -11,7 +11,7 @@ invariant-loop-rest l = record {
   inside : l.end < l.behind;
   behind_is : l.behind ≡ l.at + 16;
   same_text : l.at + text_length (drop l.at l.input) ≡ l.end + text_length (drop l.end l.input);
-  mask : l.rest ≡ mask_l (map is_stop (chunk l.end (l.behind - l.end) l.input));
+  mask : l.rest ≡ mask_l (map (ends_run true false) (chunk l.end (l.behind - l.end) l.input));
 }
 
 abbrev pub decreases-loop-rest : goal.decreases-loop-rest

@@ -1,6 +1,6 @@
 use Rattle.std.proofs.Common.{◌≡◌, ◌+◌, ◌-◌, ◌≤◌, length, drop}
 use Rattle.smithy_json_tokens.specs.TokenRules.{text_length}
-use Rattle.smithy_json_tokens.proofs.string_end.text_end.Given as goal
+use Rattle.smithy_json_tokens.proofs.string_end.text_end_by_blocks.Given as goal
 
 -- the text goes on where the loop has come
 abbrev pub invariant-loop-end : goal.invariant-loop-end
