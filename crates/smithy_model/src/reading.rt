@@ -1,6 +1,6 @@
 //! Reads a model.
 ghost use Rattle.std.specs.Prelude.{◌≡◌, ◌++◌, List, Some, IfOk, IfErr, OnOk, map};
-ghost use Rattle.json.specs.Json.{document};
+ghost use Rattle.json.specs.Json.{Json, document};
 ghost use Rattle.json.specs.Strict.{HasUniqueKeys};
 ghost use Rattle.json.specs.Value.{value_view};
 ghost use Rattle.smithy_model.specs.Model as kept;
@@ -91,6 +91,19 @@ fn read_unlinked<'a>(alloc: Global, root: &Value<'a>) -> Result<Model<'a>, Model
     })
 }
 
+// The model of a text, in which no target has a number. The JSON value is let go before the targets get theirs.
+fn read_parts<'a>(
+    alloc: Global,
+    text: &'a [u8],
+    scratch: &'a mut Scratch,
+) -> Result<Model<'a>, ModelFault<'a>>
+    ensures read { IfOk result (λ model. (root : Json) × (document text.now ≡ Some root) × HasUniqueKeys root × IsUnlinked root (model_view model)) }
+    ensures refused { IfErr result (RefusesText text.now) }
+{
+    let root = read_value(alloc, text, scratch)?;
+    read_unlinked(alloc, &root)
+}
+
 /// Reads a model from its text: a Smithy 2.0 model as JSON, whose root has a member `smithy`, or a `service-2.json`,
 /// whose root has a member `metadata`. `scratch` holds the texts with escapes.
 pub fn read_model<'a>(
@@ -101,7 +114,6 @@ pub fn read_model<'a>(
     ensures read { IfOk result (λ model. IsModelText text.now (model_view model)) }
     ensures refused { IfErr result (RefusesText text.now) }
 {
-    let root = read_value(alloc, text, scratch)?;
-    let model = read_unlinked(alloc, &root)?;
+    let model = read_parts(alloc, text, scratch)?;
     link_model(alloc, model)
 }

@@ -1,5 +1,5 @@
 -- Marks that are among all that follow from themselves.
-use Rattle.std.proofs.Common.{◌≡◌, ◌≢◌, ◌⊎◌, ◌≤◌, ◌<◌, ◌∙◌, inl, inr, ℕ, zero, suc, List, [], ◌∷◌, length, map, set, get_or, replicate, slice_get, Some, true≢false, refl, sym, ap, ap₂, subst, arith}
+use Rattle.std.proofs.Common.{◌≡◌, ◌≢◌, ◌⊎◌, ◌≤◌, ◌<◌, ◌∙◌, inl, inr, ℕ, zero, suc, List, [], ◌∷◌, length, map, set, get_or, replicate, slice_get, Some, true≢false, refl, sym, ap, ap₂, subst, arith, length-append, length-set, ◌++◌}
 use Rattle.std.specs.Prelude.{Bool, true, false, ◌&&◌}
 use Rattle.std.specs.List.{list_all}
 use Rattle.std.proofs.lemmas.List.{length-map}
@@ -7,7 +7,7 @@ use Rattle.std.proofs.lemmas.Option.{none-some}
 use Rattle.smithy_model.specs.Model as model
 use Rattle.smithy_model.specs.Model.{Member, Kind, Shape, Model}
 use Rattle.smithy_model_table.specs.Leaving.{is_marked, has_mark, is_uncarried, AreSettled, AreAmong, IsNoFurther}
-use Rattle.smithy_model_table.specs.Marking.{AreSupported, AreClosed, count_of_unmarked}
+use Rattle.smithy_model_table.specs.Marking.{AreSupported, AreClosed, count_of_unmarked, Marks}
 
 pub both : (a b c d : Bool) → (a ≡ true → c ≡ true) → (b ≡ true → d ≡ true) → (a && b) ≡ true → (c && d) ≡ true
 both true b c d first second is = rw (first refl) (second is)
@@ -155,3 +155,41 @@ settled_both m marks long supported closed =
     equal f [] (b ∷ ms) same each = absurd (omega (arith, same))
     equal f (s ∷ ss) [] same each = absurd (omega (arith, same))
     equal f (s ∷ ss) (b ∷ ms) same each = ap₂ (λ x xs. x ∷ xs) (each 0 s refl) (equal f ss ms (omega (arith, same)) (λ k x at. each (suc k) x at))
+
+marked_here : (f : Shape → Bool) (ss : List Shape) (i : ℕ) (s : Shape) → slice_get ss i ≡ Some s → f s ≡ true → is_marked (map f ss) i ≡ true
+marked_here f [] i s at is = refl
+marked_here f (x ∷ ss) zero s at is = let same : x ≡ s = cc (at) in subst (λ y. f y ≡ true) (sym same) is
+marked_here f (x ∷ ss) (suc i) s at is = marked_here f ss i s at is
+
+-- no mark was made
+pub no_mark : (m : Model) (marks : List Bool) (order : List ℕ) → Marks m marks order marks order
+no_mark m marks order = record {
+  further = λ others settled among. among;
+  supported = λ held. held;
+  long = refl;
+  fit = omega arith;
+}
+
+-- one that follows was made
+pub one_marked : (m : Model) (marks : List Bool) (order : List ℕ) (i : ℕ) (d : Bool) (s : Shape) → slice_get m.shapes i ≡ Some s → i < length marks
+    → get_or marks i d ≡ false → is_uncarried marks s.kind ≡ true → Marks m marks order (set marks i true) (order ++ i ∷ [])
+one_marked m marks order i d s at within none follows = record {
+  further = λ others settled among number set_is.
+      let f = λ (x : Shape). is_uncarried others x.kind in
+      let here = marked_here f m.shapes i s at (uncarried_among marks others s.kind among follows) in
+      one_of others i number (is_marked marks number ≡ true) (among number)
+      (subst (λ (os : List Bool). is_marked os i ≡ true) (sym settled) here) (marked_by marks i number set_is);
+  supported = supported_more m marks i s at follows;
+  long = length-set marks i true;
+  fit = omega (arith, one_unmarked marks i d within none, length-append order (i ∷ []));
+}
+
+-- marks that were made, and then others
+pub marks_more : {m : Model} {before : List Bool} {order : List ℕ} {mid : List Bool} {mid_order : List ℕ} {behind : List Bool} {new_order : List ℕ}
+    → Marks m before order mid mid_order → Marks m mid mid_order behind new_order → Marks m before order behind new_order
+marks_more first next = record {
+  further = λ others settled among. next.further others settled (first.further others settled among);
+  supported = λ held. next.supported (first.supported held);
+  long = next.long ∙ first.long;
+  fit = omega (arith, first.fit, next.fit);
+}

@@ -7,6 +7,7 @@ ghost use Rattle.smithy_model_table.specs.Marking.{AreSupported, AreClosed, coun
 ghost use Rattle.smithy_model_table.specs.Views.{bindings_view};
 
 use crate::bindings::Bindings;
+use crate::marking::mark_in_order;
 use smithy_model::{Kind, Member, Model, Shape};
 use std::alloc::{AllocError, Global};
 
@@ -48,9 +49,9 @@ fn are_marked(marks: &[bool], members: &[Member<'_>]) -> bool
     true
 }
 
-// Whether nothing of a shape can stand in a table: it is a float or a stream of events, or a list, a map or a union of
-// nothing but such.
-fn is_uncarried(marks: &[bool], shape: &Shape<'_>) -> bool
+/// Whether nothing of a shape can stand in a table: it is a float or a stream of events, or a list, a map or a union of
+/// nothing but such.
+pub(crate) fn is_uncarried(marks: &[bool], shape: &Shape<'_>) -> bool
     ensures { result ≡ is_uncarried marks.now (kind_view shape.now.kind) }
 {
     match &shape.kind {
@@ -86,11 +87,13 @@ fn mark_more(model: &Model<'_>, marks: &mut Vec<bool>) -> bool
     found
 }
 
-/// For each shape whether nothing of it can stand in a table.
+/// For each shape whether nothing of it can stand in a table. The loop ends at once, as no mark is left for it to make; that it ends with
+/// such marks is what it shows.
 pub(crate) fn uncarried(alloc: Global, model: &Model<'_>) -> Result<Vec<bool>, AllocError>
     ensures { IfOk result (λ marks. AreFewest (model_view model.now) marks.items) }
 {
     let mut marks = Vec::from_elem(alloc, false, model.shapes.len())?;
+    mark_in_order(alloc, model, &mut marks)?;
     while mark_more(model, &mut marks) {}
     Ok(marks)
 }

@@ -11,6 +11,7 @@ mod declaring;
 mod fault;
 mod finding;
 mod left;
+mod marking;
 mod members;
 mod names;
 mod outcomes;

@@ -11,10 +11,11 @@ loop-init c =
     let m = model_view c.args.model.now in
     let shapes = c.args.model.now.shapes.items in
     let none : c.in_ok-marks.marks.items ≡ replicate (length shapes) false = search rules in
+    let made = c.in_ok-mark_in_order.ensures.1 in
     record {
-      among = none_marked m c.in_ok-marks.marks.items shape_view shapes refl none;
-      supported = subst (AreSupported m) (sym none) (none_supported m (length shapes) (omega (arith, length-map shapes shape_view)));
-      long = ap length none ∙ length-replicate (length shapes) false;
+      among = λ others settled. made.further others settled (none_marked m c.in_ok-marks.marks.items shape_view shapes refl none others settled);
+      supported = made.supported (subst (AreSupported m) (sym none) (none_supported m (length shapes) (omega (arith, length-map shapes shape_view))));
+      long = made.long ∙ ap length none ∙ length-replicate (length shapes) false;
     }
 
 pub loop-preserved : goal.loop-preserved

@@ -1,0 +1,7 @@
+use Rattle.smithy_model.specs.Views.{model_view}
+use Rattle.smithy_model_table.specs.Marking.{Marks}
+use Rattle.smithy_model_table.proofs.marking.mark_first.Given as goal
+
+-- the marks so far
+abbrev pub invariant-loop-number : goal.invariant-loop-number
+invariant-loop-number l = Marks (model_view l.model) l.initial.marks.items l.initial.order.items l.marks.items l.order.items
