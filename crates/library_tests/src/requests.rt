@@ -2,8 +2,11 @@
 ghost use Rattle.smithy_shapes.specs.Site.{site_of};
 
 use smithy_error_metadata::ErrorMetadata;
-use smithy_protocol::{AwsJsonRpcProtocol, Headers, ProtocolConfig, Request, Response};
+use smithy_protocol::{
+    AwsJsonRpcProtocol, Headers, ProtocolConfig, Request, Response, RpcV2CborProtocol,
+};
 use smithy_schema::{Schema, SerdeError, SerializableStruct, ShapeSerializer, Shapes, TableText};
+use smithy_transcode::read_value;
 use std::alloc::Global;
 use std::test::Fail;
 
@@ -84,5 +87,59 @@ fn an_error_is_read(rt: HostRuntime) -> Result<(), Fail> {
     assert!(rt; metadata.code() == Some("ResourceNotFoundException"));
     assert!(rt; metadata.message() == Some(".."));
     assert!(rt; metadata == metadata.clone_in(alloc)?);
+    Ok(())
+}
+
+// An answer of a service with this body.
+fn answer(alloc: Global, body: &[u8]) -> Result<Response, Fail> {
+    Ok(Response {
+        status: 200,
+        headers: Headers::new(alloc),
+        body: Vec::from_slice(alloc, body)?,
+    })
+}
+
+fn configuration(alloc: Global, namespace: &str) -> Result<ProtocolConfig, Fail> {
+    Ok(ProtocolConfig {
+        operation: None,
+        service_name: None,
+        namespace: Some(String::from_str(alloc, namespace)?),
+        version: None,
+    })
+}
+
+// The shape that the document in an answer names.
+fn shape_of(
+    alloc: Global,
+    protocol: &AwsJsonRpcProtocol,
+    namespace: &str,
+    body: &[u8],
+) -> Result<String, Fail> {
+    let config = configuration(alloc, namespace)?;
+    let response = answer(alloc, body)?;
+    let mut reader = protocol.deserialize_response(alloc, &response, &config);
+    let document = reader.read_discriminated_document()?;
+    let name = document.discriminator().ok_or("no name")?;
+    Ok(String::from_str(alloc, name)?)
+}
+
+#[test]
+fn an_answer_is_read_as_clients_read(rt: HostRuntime) -> Result<(), Fail> {
+    let alloc = rt.alloc();
+    let table = TableText::read(alloc, b"structure S\nmember a long\n")?;
+    let shapes = Shapes::build(alloc, table)?;
+    let schema = shapes.schema(shapes.find("S").ok_or("no such shape")?);
+    let config = configuration(alloc, "com.example")?;
+    let protocol = AwsJsonRpcProtocol::aws_json_1_1();
+    let lenient = answer(alloc, b"{\"a\":+5}")?;
+    let mut reader = protocol.deserialize_response(alloc, &lenient, &config);
+    assert!(rt; read_value(alloc, &mut reader, &schema).is_ok());
+    let empty = answer(alloc, b"")?;
+    let mut reader = RpcV2CborProtocol::new().deserialize_response(alloc, &empty, &config);
+    assert!(rt; read_value(alloc, &mut reader, &schema).is_ok());
+    let named = b"{\"__type\":\"T\"}";
+    assert!(rt; shape_of(alloc, &protocol, "com.example", named)?.as_str() == "com.example#T");
+    let protocol = protocol.with_default_namespace(String::from_str(alloc, "com.own")?);
+    assert!(rt; shape_of(alloc, &protocol, "com.example", named)?.as_str() == "com.own#T");
     Ok(())
 }

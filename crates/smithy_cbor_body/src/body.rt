@@ -63,6 +63,7 @@ fn refusal_of(error: EncodeError) -> SerdeError
 }
 
 impl CborBody {
+    /// A body of which nothing is written yet.
     pub fn new(settings: CborCodecSettings, alloc: Global) -> CborBody
         ensures state { body_of result ≡ fresh_body (held_settings settings) }
         ensures sound { body_has_failed result ≡ false }

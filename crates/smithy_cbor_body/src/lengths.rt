@@ -9,7 +9,7 @@ use std::alloc::AllocError;
 
 /// What is known of the length of a container while it is open.
 #[derive(Clone, Copy, Debug)]
-pub enum Length {
+pub(crate) enum Length {
     /// It isn't written: a break ends the container.
     Unwritten,
     /// So many elements or entries are still due.
@@ -19,7 +19,7 @@ pub enum Length {
 }
 
 // What is known of a container that begins with this length, where it is written.
-pub fn begun(length: Option<usize>) -> Length
+pub(crate) fn begun(length: Option<usize>) -> Length
     ensures { result ≡ begun length }
 {
     match length {
@@ -45,7 +45,7 @@ fn counted(length: Length) -> Length
 }
 
 // Whether a container may end: as many elements or entries came as were announced.
-pub fn is_complete(length: Length) -> bool
+pub(crate) fn is_complete(length: Length) -> bool
     ensures { result ≡ is_complete length }
 {
     match length {
@@ -56,7 +56,7 @@ pub fn is_complete(length: Length) -> bool
 }
 
 // One more element or entry of the innermost container has come.
-pub fn count_value(containers: &mut OpenContainers<Length>) -> Result<(), AllocError>
+pub(crate) fn count_value(containers: &mut OpenContainers<Length>) -> Result<(), AllocError>
     ensures lengths { OnOk result (marks_of containers.new ≡ counted_first (marks_of containers.old)) }
     ensures containers { OnOk result (opens_of containers.new ≡ opens_of containers.old) }
     ensures broken { containers.new.failed ≡ containers.old.failed }
@@ -70,7 +70,7 @@ pub fn count_value(containers: &mut OpenContainers<Length>) -> Result<(), AllocE
 }
 
 // Writes the head of a list.
-pub fn begin_array(encoder: &mut Encoder, length: Option<usize>) -> Result<(), AllocError>
+pub(crate) fn begin_array(encoder: &mut Encoder, length: Option<usize>) -> Result<(), AllocError>
     ensures { OnOk result (encoder.new ≡ encoder.old ++ head_of 4 length) }
 {
     match length {
@@ -80,7 +80,7 @@ pub fn begin_array(encoder: &mut Encoder, length: Option<usize>) -> Result<(), A
 }
 
 // Writes the head of a map.
-pub fn begin_map(encoder: &mut Encoder, length: Option<usize>) -> Result<(), AllocError>
+pub(crate) fn begin_map(encoder: &mut Encoder, length: Option<usize>) -> Result<(), AllocError>
     ensures { OnOk result (encoder.new ≡ encoder.old ++ head_of 5 length) }
 {
     match length {
@@ -90,7 +90,7 @@ pub fn begin_map(encoder: &mut Encoder, length: Option<usize>) -> Result<(), All
 }
 
 // Writes what ends a container: nothing where its length is written.
-pub fn write_end(encoder: &mut Encoder, length: Length) -> Result<(), AllocError>
+pub(crate) fn write_end(encoder: &mut Encoder, length: Length) -> Result<(), AllocError>
     ensures { OnOk result (encoder.new ≡ encoder.old ++ end_of length) }
 {
     match length {

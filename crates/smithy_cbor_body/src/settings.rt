@@ -5,11 +5,11 @@ const DEFAULT_MAX_DEPTH: u32 = 128;
 /// All that a codec is asked for, which each reader and serializer of it holds too.
 #[derive(Clone, Copy, Debug)]
 pub struct CborCodecSettings {
-    // How many containers may be open at once.
+    /// How many containers may be open at once.
     pub max_depth: u32,
-    // Known nulls are dropped, nothing follows an item, and only an empty input is a structure.
+    /// Known nulls are dropped, nothing follows an item, and only an empty input is a structure.
     pub enforce_strictness: bool,
-    // Lists and maps whose length is told are written with it.
+    /// Lists and maps whose length is told are written with it.
     pub use_definite_lengths: bool,
 }
 
@@ -64,7 +64,7 @@ impl CborCodecSettings {
     }
 
     // The length that a list or a map is written with, of the one that is told.
-    pub fn written_length(&self, length: Option<usize>) -> Option<usize>
+    pub(crate) fn written_length(&self, length: Option<usize>) -> Option<usize>
         ensures { result ≡ written_length (held_settings self.now) length }
     {
         if self.use_definite_lengths {

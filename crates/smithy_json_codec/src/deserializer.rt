@@ -4,7 +4,6 @@ ghost use Rattle.std.specs.Prelude.{◌≡◌};
 use crate::frames::{frame, is_structure, missing};
 use smithy_json_tokens::container_size;
 use smithy_json_values::documents::standing_document_at;
-use smithy_json_values::input::Input;
 use smithy_json_values::instants::instant_at;
 use smithy_json_values::integers::integer_at;
 use smithy_json_values::mismatch::{no_object, told};
@@ -21,7 +20,7 @@ use smithy_types::{BigDecimal, BigInteger, Blob, DateTime, Document};
 use smithy_wire::{ContainerKind, Walk, byte_found, integer_found, short_found};
 use std::alloc::{AllocError, Global};
 
-/// A strict reader of one JSON text.
+/// A reader of one JSON text.
 #[derive(Drop)]
 pub struct JsonDeserializer<'a> {
     pub(crate) walk: Walk<'a>,
@@ -32,19 +31,6 @@ pub struct JsonDeserializer<'a> {
     pub(crate) namespace: Option<&'a str>,
     // As many containers may be open as the settings say.
     ghost limit: { walk.max_depth ≡ settings.max_depth },
-}
-
-impl<'a> JsonDeserializer<'a> {
-    // What is read, under the settings.
-    #[inline(always)]
-    pub(crate) fn input(&self) -> Input<'a>
-        ensures { result ≡ record { bytes = self.now.walk.input; settings = self.now.settings } }
-    {
-        Input {
-            bytes: self.walk.input,
-            settings: self.settings,
-        }
-    }
 }
 
 impl ShapeDeserializer for JsonDeserializer<'_> {
@@ -428,6 +414,7 @@ impl ShapeDeserializer for JsonDeserializer<'_> {
         // What is read is the document that the JSON value there means, each number in its variant, and what is refused means none.
         ensures meaning { IfOk result (λ x. DocumentStands (json_grammar (reading_settings_of self.old)) (reading_settings_of self.old) (depth (cursor_of self.old)) (cursor_of self.old).input (cursor_of self.old).at (document_view x) (cursor_of self.new).at) }
         ensures no_meaning { IsRefused result → (cursor_of self.old).due ≡ true → NoDocumentStands (json_grammar (reading_settings_of self.old)) (reading_settings_of self.old) (depth (cursor_of self.old)) (cursor_of self.old).input (cursor_of self.old).at }
+        ensures none_without_limits { IsInvalid result → (cursor_of self.old).due ≡ true → NoDocumentStands (json_grammar (reading_settings_of self.old)) (without_limits (reading_settings_of self.old)) (depth (cursor_of self.old)) (cursor_of self.old).input (cursor_of self.old).at }
 
         // Where JSON is read by RFC 8259, a tree of it means what is read, by the definition that holds for tokens too, and none
         // means what is refused.

@@ -6,6 +6,7 @@ mod borrowing;
 mod codec;
 mod deserializer;
 mod frames;
+mod input;
 mod member_steps;
 mod members;
 mod named_documents;

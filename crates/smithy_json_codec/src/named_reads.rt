@@ -1,9 +1,10 @@
 //! Reading documents with the identifier of their shape.
 ghost use Rattle.std.specs.Prelude.{◌≡◌, false, true, IfOk, IfErr, IsErrOf, OnOk};
-ghost use Rattle.smithy_schema.specs.Reading.{depth, Conducts, Passes, IsNoAnswer, IsRefused};
+ghost use Rattle.smithy_schema.specs.Reading.{depth, Conducts, Passes, IsInvalid, IsNoAnswer, IsRefused};
 ghost use Rattle.smithy_schema.specs.declared.error.SerdeError.TheVariants.{NotCarried, TooDeep, TooWide, TypeMismatch};
 ghost use Rattle.smithy_types.specs.Discriminated.{discriminated_view};
 ghost use Rattle.smithy_json_codec.specs.Cursor.{cursor_of, reading_settings_of, reader_settings_of};
+ghost use Rattle.smithy_json_values.specs.Settings.{without_limits};
 ghost use Rattle.smithy_json_values.specs.Documents.{NoDocumentStands, MeetsOtherNumber, OpensDocumentTooDeep};
 ghost use Rattle.smithy_json_codec.specs.NamedReading.{NamedStands};
 ghost use Rattle.smithy_json_values.specs.Standing.{json_grammar};
@@ -48,6 +49,7 @@ impl JsonDeserializer<'_> {
         ensures ok { IfOk result (λ d. NamedStands (reader_settings_of self.old) (depth (cursor_of self.old)) (cursor_of self.old).input (cursor_of self.old).at (discriminated_view d) (cursor_of self.new).at) }
         ensures passes { OnOk result (Passes (cursor_of self.old) (cursor_of self.new)) }
         ensures refused { IsRefused result → (cursor_of self.old).due ≡ true → NoDocumentStands (json_grammar (reading_settings_of self.old)) (reading_settings_of self.old) (depth (cursor_of self.old)) (cursor_of self.old).input (cursor_of self.old).at }
+        ensures none_without_limits { IsInvalid result → (cursor_of self.old).due ≡ true → NoDocumentStands (json_grammar (reading_settings_of self.old)) (without_limits (reading_settings_of self.old)) (depth (cursor_of self.old)) (cursor_of self.old).input (cursor_of self.old).at }
         ensures too_deep { IsErrOf result TooDeep → OpensDocumentTooDeep (json_grammar (reading_settings_of self.old)) (reading_settings_of self.old).max_depth (depth (cursor_of self.old)) (cursor_of self.old).input (cursor_of self.old).at }
         ensures other_number { IsErrOf result NotCarried → MeetsOtherNumber (json_grammar (reading_settings_of self.old)) (cursor_of self.old).input (cursor_of self.old).at }
     {

@@ -78,8 +78,9 @@ impl JsonCodecSettingsBuilder {
         self
     }
 
-    /// Numbers are of the grammar of RFC 8259, a value ends at a blank, `,`, `]`, `}` or the end, strings that are read hold
-    /// no bytes below 0x20, and only an empty input is read as a structure. Off by default: then an empty rest is one too.
+    /// Numbers are of the grammar, which is that of RFC 8259 but for what is allowed, a value ends at a blank, `,`, `]`, `}` or the
+    /// end, strings that are read hold no bytes below 0x20, and only an empty input is read as a structure. Off by default: then an
+    /// empty rest is one too.
     pub fn enforce_strictness(mut self, value: bool) -> JsonCodecSettingsBuilder
         ensures { result ≡ record self { json = record self.json { enforce_strictness = value } } }
     {

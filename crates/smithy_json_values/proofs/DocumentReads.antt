@@ -9,7 +9,7 @@ use Rattle.smithy_schema.specs.declared.error.SerdeError.TheVariants as errors
 use Rattle.smithy_shapes.specs.declared.place.Place.{Place}
 use Rattle.smithy_shapes.specs.Table.{document_place}
 use Rattle.smithy_shapes.specs.Site.{Site}
-use Rattle.smithy_schema.specs.Reading.{Cursor, depth, StandsNot, IsFault, ReadsDocument, passed_to, failed_at}
+use Rattle.smithy_schema.specs.Reading.{Cursor, depth, StandsNot, IsFault, FindsNone, ReadsDocument, passed_to, failed_at}
 use Rattle.smithy_json_values.specs.declared.documents.DocumentFault.{DocumentFault}
 use Rattle.smithy_json_values.specs.declared.documents.DocumentFault.TheVariants.{NoDocument, TooDeep, NotCarried, NoMemory}
 use Rattle.smithy_json_values.specs.Settings.{Settings, kept, without_limits}
@@ -104,3 +104,10 @@ module _ (g : LexicalGrammar) (c : Settings) (depth : ℕ) (i : List ℕ) (a : �
   refused_means_nothing TooDeep h fault = h.2
   refused_means_nothing NotCarried h fault = h.1
   refused_means_nothing NoMemory h fault = absurd fault
+
+  -- where no document is found, nothing there means one without limits either
+  pub invalid_means_nothing : (f : DocumentFault) → RefusesStanding g c depth i a f → FindsNone (document_refusal f) → NoDocumentStands g (without_limits c) depth i a
+  invalid_means_nothing NoDocument h invalid = h.0
+  invalid_means_nothing TooDeep h invalid = absurd invalid
+  invalid_means_nothing NotCarried h invalid = absurd invalid
+  invalid_means_nothing NoMemory h invalid = absurd invalid

@@ -15,8 +15,28 @@ pub trait Program {
     fn answer(&self, alloc: Global, rows: &Rows, row: &Row) -> Result<Vec<Field>, AllocError>;
 }
 
-// The fields that say what is expected, as one text: each word with its value, and ` | ` between two fields.
-fn in_one_line<P: Program>(
+// Adds a field to a line: its word with its value, and ` | ` between two fields.
+fn push_field(alloc: Global, line: &mut String, field: &Field) -> Result<(), AllocError> {
+    if !line.is_empty() {
+        line.push_str(" | ")?;
+    }
+    line.push_str(field.word.as_str())?;
+    line.push(' ')?;
+    line.push_str(shown(alloc, &field.value)?.as_str())?;
+    Ok(())
+}
+
+// All that is answered, as one text.
+fn answered_line(alloc: Global, answers: &[Field]) -> Result<String, AllocError> {
+    let mut line = String::new(alloc);
+    for field in answers {
+        push_field(alloc, &mut line, field)?;
+    }
+    Ok(line)
+}
+
+// The fields that say what is expected, as one text.
+fn expected_line<P: Program>(
     alloc: Global,
     program: &P,
     fields: &[Field],
@@ -24,12 +44,7 @@ fn in_one_line<P: Program>(
     let mut line = String::new(alloc);
     for field in fields {
         if program.is_answer(field.word.as_str()) {
-            if !line.is_empty() {
-                line.push_str(" | ")?;
-            }
-            line.push_str(field.word.as_str())?;
-            line.push(' ')?;
-            line.push_str(shown(alloc, &field.value)?.as_str())?;
+            push_field(alloc, &mut line, field)?;
         }
     }
     Ok(line)
@@ -43,8 +58,8 @@ fn check_row<R: Runtime + AllocGlobal, P: Program>(
     row: &Row,
 ) -> io::Result<bool> {
     let answered = program.answer(rt.alloc(), rows, row)?;
-    let answered = in_one_line(rt.alloc(), program, &answered)?;
-    let expected = in_one_line(rt.alloc(), program, &row.fields)?;
+    let answered = answered_line(rt.alloc(), &answered)?;
+    let expected = expected_line(rt.alloc(), program, &row.fields)?;
     let name = row.name.as_str();
     if answered.as_str() == expected.as_str() {
         println!(rt; "ok {name}")?;

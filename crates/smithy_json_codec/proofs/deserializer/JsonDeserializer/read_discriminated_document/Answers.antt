@@ -7,7 +7,7 @@ use Rattle.smithy_json_codec.specs.Cursor.{cursor_of, reading_settings_of}
 use Rattle.smithy_json_values.specs.Documents.{is_read_in}
 use Rattle.smithy_json_values.specs.Standing.{json_grammar}
 use Rattle.smithy_json_codec.proofs.DeserializerLemmas.{error_of, goes_ahead}
-use Rattle.smithy_json_values.proofs.DocumentReads.{document_within, other_found, refused_means_nothing}
+use Rattle.smithy_json_values.proofs.DocumentReads.{document_within, other_found, refused_means_nothing, invalid_means_nothing}
 use Rattle.smithy_json_values.proofs.DocumentScalars.{document_node}
 use Rattle.smithy_json_values.proofs.SkipSteps.{node_ahead}
 use Rattle.smithy_json_codec.proofs.deserializer.JsonDeserializer.read_discriminated_document.Goals as goal
@@ -43,6 +43,14 @@ returns-in-Err-clause-refused c = λ fault due.
     let found = rw same at c.in-Err.ensures.refused in
     refused_means_nothing (json_grammar settings) settings _ c.args.self.now.walk.input.now c.args.self.now.walk.position c.in-Err.fault found
     (rw (c.refuse.ensures.error ∙ c.refusal.ensures) at fault)
+
+pub returns-in-Err-clause-none_without_limits : goal.returns-in-Err-clause-none_without_limits
+returns-in-Err-clause-none_without_limits c = λ invalid due.
+    let same : c.ready.new.self ≡ c.args.self.now.walk = c.in_ok-ready.ensures.ok in
+    let settings = reading_settings_of c.args.self.now in
+    let found = rw same at c.in-Err.ensures.refused in
+    invalid_means_nothing (json_grammar settings) settings _ c.args.self.now.walk.input.now c.args.self.now.walk.position c.in-Err.fault found
+    (rw (c.refuse.ensures.error ∙ c.refusal.ensures) at invalid)
 
 pub pass-requires : goal.pass-requires
 pass-requires c =

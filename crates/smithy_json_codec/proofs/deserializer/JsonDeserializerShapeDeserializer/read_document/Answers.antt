@@ -6,7 +6,7 @@ use Rattle.smithy_types.specs.DocumentView.{document_view}
 use Rattle.smithy_json_codec.specs.Cursor.{cursor_of, reading_settings_of}
 use Rattle.smithy_json_values.specs.Standing.{json_grammar}
 use Rattle.smithy_json_codec.proofs.DeserializerLemmas.{error_of}
-use Rattle.smithy_json_values.proofs.DocumentReads.{document_within, reads_document, refuses_document, too_deep_found, other_found, refused_means_nothing}
+use Rattle.smithy_json_values.proofs.DocumentReads.{document_within, reads_document, refuses_document, too_deep_found, other_found, refused_means_nothing, invalid_means_nothing}
 use Rattle.smithy_json_values.proofs.TreeDocuments.{tree_stands, no_tree_stands}
 use Rattle.smithy_wire.proofs.ScalarReads.{was_ready}
 use Rattle.smithy_json_codec.proofs.deserializer.JsonDeserializerShapeDeserializer.read_document.Goals as goal
@@ -72,6 +72,14 @@ returns-in-Err-clause-no_meaning c = λ refused due.
     let found = rw (c.input.ensures, same, opens) at c.in-Err.ensures.refused in
     refused_means_nothing (json_grammar (reading_settings_of c.args.self.now)) (reading_settings_of c.args.self.now) _ c.args.self.now.walk.input.now c.args.self.now.walk.position c.in-Err.fault found
     (rw (c.refuse.ensures.error ∙ c.refusal.ensures) at refused)
+
+pub returns-in-Err-clause-none_without_limits : goal.returns-in-Err-clause-none_without_limits
+returns-in-Err-clause-none_without_limits c = λ invalid due.
+    let same : c.ready.new.self ≡ c.args.self.now.walk = c.in_ok-ready.ensures.ok in
+    let opens = rw same at c.depth.ensures in
+    let found = rw (c.input.ensures, same, opens) at c.in-Err.ensures.refused in
+    invalid_means_nothing (json_grammar (reading_settings_of c.args.self.now)) (reading_settings_of c.args.self.now) _ c.args.self.now.walk.input.now c.args.self.now.walk.position c.in-Err.fault found
+    (rw (c.refuse.ensures.error ∙ c.refusal.ensures) at invalid)
 
 pub returns-in-Err-clause-no_tree_meaning : goal.returns-in-Err-clause-no_tree_meaning
 returns-in-Err-clause-no_tree_meaning c = λ standard refused due.
