@@ -12,7 +12,8 @@ use Rattle.smithy_json_values.specs.Tokens.{IsNameToken}
 use Rattle.smithy_json_values.specs.Private.Lexical.{first, begins_value, Begins, value_begins, begins_plain, begins_first}
 use Rattle.smithy_json_values.specs.Private.TextParts.{follows_inside}
 use Rattle.smithy_json_values.specs.Private.BytePlaces.{past_byte}
-use Rattle.smithy_json_values.specs.Private.TokenGrammar.{chars_are_quoted, tree_is_token, null_token}
+use Rattle.smithy_json.proofs.LenientTextLemmas.{chars_are_quoted}
+use Rattle.smithy_json_values.specs.Private.TokenGrammar.{tree_is_token, null_token}
 use Rattle.smithy_wire.specs.Node.{Form, as_array, as_object}
 use Rattle.smithy_wire.specs.Writes.{Writes, IsKeyOf, Stand, Follows, WritesFrames}
 use Rattle.smithy_wire.proofs.WrittenPlaces.{parts}

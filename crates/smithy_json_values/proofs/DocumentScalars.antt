@@ -1,5 +1,5 @@
 -- How a document's value begins: scalars mean documents, and where none is found, none lies.
-use Rattle.std.proofs.Common.{◌≡◌, ◌≤◌, ◌+◌, ◌∙◌, ℕ, suc, List, [], Bool, true, false, Option, Some, None, option_map, Result, Ok, Err, refl, sym, ap, arith, inl, inr, if◌then◌else◌}
+use Rattle.std.proofs.Common.{◌≡◌, ◌+◌, ◌∙◌, ℕ, suc, List, [], Bool, true, false, Option, Some, None, option_map, Result, Ok, Err, refl, sym, ap, arith, inl, inr, if◌then◌else◌}
 use Rattle.std.specs.Option.{option_map_or}
 use Rattle.smithy_types.specs.Document.{Document, null, boolean, number, text, array, object, Documents, item, properties_by}
 use Rattle.smithy_types.specs.declared.number.Number.{Number}
@@ -15,10 +15,10 @@ use Rattle.smithy_json_values.specs.declared.documents.scalars.BeginFault.{Begin
 use Rattle.smithy_json_values.specs.declared.documents.scalars.BeginFault.TheVariants.{NoValue, NotCarried, NoMemory}
 use Rattle.smithy_json_values.specs.declared.documents.scalars.Begun.{Begun}
 use Rattle.smithy_json_values.specs.declared.documents.scalars.Begun.TheVariants.{Scalar, Container}
-use Rattle.smithy_json_values.specs.Settings.{Settings, kept, without_limits, is_within}
+use Rattle.smithy_json_values.specs.Settings.{Settings, kept, without_limits}
 use Rattle.smithy_json_values.specs.Scalar.{JsonScalar, a_boolean, a_number, a_string, document_says, held_says}
 use Rattle.smithy_json_values.specs.LexicalGrammar.{LexicalGrammar, frames_of, token_rules, LiesInGrammar, NodeLies}
-use Rattle.smithy_json_values.specs.Tokens.{is_numeric, IsToken}
+use Rattle.smithy_json_values.specs.Tokens.{IsToken}
 use Rattle.smithy_json_values.specs.Documents.{is_read_in, says_in, document_in, DocumentLies, NoDocumentLies, OtherNumberLies, ValueOpens}
 use Rattle.smithy_json_values.specs.Private.NextInContainer.{IsFirstByte}
 use Rattle.smithy_json_values.specs.Private.ScalarAtPlace.{TextLies}

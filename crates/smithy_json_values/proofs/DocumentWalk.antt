@@ -1,5 +1,5 @@
 -- The walk through a document: what holds from step to step, and what a refusal on the way says of the whole.
-use Rattle.std.proofs.Common.{◌≡◌, ◌+◌, ◌<◌, ◌≤◌, ◌∙◌, ℕ, suc, length, map, List, [], ◌∷◌, ◌++◌, Bool, true, false, Option, Some, None, Ok, Err, refl, sym, ap, subst, arith, inl, inr, length-append}
+use Rattle.std.proofs.Common.{◌≡◌, ◌+◌, ◌<◌, ◌≤◌, ◌∙◌, ℕ, suc, length, map, List, [], ◌∷◌, ◌++◌, Bool, true, false, Some, Ok, Err, refl, sym, ap, subst, arith, inl, inr, length-append}
 use Rattle.smithy_types.specs.Document.{Document}
 use Rattle.smithy_shapes.specs.Lemmas.Options.{chosen}
 use Rattle.smithy_types.specs.DocumentView.{document_view}
@@ -12,7 +12,6 @@ use Rattle.smithy_json_values.specs.declared.documents.Open.{Open}
 use Rattle.smithy_json_values.specs.declared.documents.Frame.{Frame}
 use Rattle.smithy_json_values.specs.declared.documents.Step.TheVariants.{Inside, Opens, Ends}
 use Rattle.smithy_json_values.specs.Settings.{Settings, kept, without_limits}
-use Rattle.smithy_json_values.specs.Scalar.{JsonScalar, a_string}
 use Rattle.smithy_json_values.specs.Spans.{Lies, IsByte}
 use Rattle.smithy_json_values.specs.LexicalGrammar.{LexicalGrammar}
 use Rattle.smithy_json_values.specs.Deepest.{IsDueInside}
@@ -20,7 +19,7 @@ use Rattle.smithy_json_values.specs.Documents.{is_read_in, DocumentLies}
 use Rattle.smithy_json_values.specs.Private.BytePlaces.{byte_ahead}
 use Rattle.smithy_json_values.specs.Private.NextInContainer.{ClosesIn}
 use Rattle.smithy_json_values.specs.Private.Skipping.{opening, closing, ValueBegins}
-use Rattle.smithy_json_values.specs.Private.OpenDocuments.{OpenContainer, open_array, open_object, Waiting, waiting_array, waiting_object, with_value, fresh, document_of, is_object, open_view, frame_view, name_text, ScalarMeans, RefusesDocument, EntryBegins, TakesStep}
+use Rattle.smithy_json_values.specs.Private.OpenDocuments.{OpenContainer, open_array, open_object, Waiting, waiting_array, waiting_object, with_value, fresh, document_of, is_object, open_view, frame_view, ScalarMeans, RefusesDocument, EntryBegins, TakesStep}
 use Rattle.smithy_json_values.proofs.OpenersLemmas.{OpensInAll, nothing_opened, past_node}
 use Rattle.smithy_json_values.proofs.SkipStepOpeners.{opens_into_container, opens_to_value, opens_out_of_container}
 use Rattle.smithy_json_values.proofs.DeepestLemmas.{HasCome, passed, entered as come_in, gone_on, left as come_out}

@@ -1,5 +1,5 @@
 -- The number of 64 bits that stands at a place, as a document holds it, where numbers are those of RFC 8259.
-use Rattle.std.proofs.Common.{◌≡◌, ◌+◌, ◌-◌, ◌<◌, ◌≤◌, ℕ, suc, ℤ, unsigned_abs, List, ◌∷◌, drop, take, length, slice_range, true, false, ◌==◌, Some, None, option_and_then, ap, ◌∙◌, cond, arith}
+use Rattle.std.proofs.Common.{◌≡◌, ◌+◌, ◌-◌, ◌<◌, ℕ, suc, ℤ, unsigned_abs, List, ◌∷◌, drop, take, slice_range, true, false, ◌==◌, Some, None, option_and_then, ap, ◌∙◌, cond, arith}
 use Rattle.std.proofs.lemmas.List.{drop_more}
 use Rattle.smithy_texts.specs.Ranges.{fits_signed}
 use Rattle.smithy_types.specs.declared.number.Number.TheVariants.{PosInt, NegInt}

@@ -1,16 +1,16 @@
 -- What lies at a place as an instant, whatever the grammar and the settings.
-use Rattle.std.proofs.Common.{◌≡◌, ℕ, ℤ, List, Bool, true, false, Option, Some, None, refl, ◌∙◌, ap}
-use Rattle.std.specs.Prelude.{option_map, option_and_then, if◌then◌else◌}
+use Rattle.std.proofs.Common.{◌≡◌, ℕ, ℤ, List, true, false, Option, Some, None, refl, ◌∙◌, ap}
+use Rattle.std.specs.Prelude.{option_map, if◌then◌else◌}
 use Rattle.smithy_instants.specs.declared.format.Format.{Format}
 use Rattle.smithy_instants.specs.DateText.{date_of}
 use Rattle.smithy_instants.specs.Epoch.{epoch_nanos}
 use Rattle.smithy_json.specs.Unescape.{unescaped}
 use Rattle.smithy_shapes.specs.declared.shape_type.Scalar.TheVariants as scalars
 use Rattle.smithy_shapes.specs.declared.shape_type.TimestampFormat.{TimestampFormat}
-use Rattle.smithy_shapes.specs.Value.{Value, instant, scalar_value}
-use Rattle.smithy_wire.specs.Rules.{Answer, no_meaning, answer_of}
+use Rattle.smithy_shapes.specs.Value.{instant, scalar_value}
+use Rattle.smithy_wire.specs.Rules.{no_meaning, answer_of}
 use Rattle.smithy_json_values.specs.Settings.{Settings}
-use Rattle.smithy_json_values.specs.Scalar.{JsonScalar, a_boolean, a_number, a_string, text_of, takes_seconds, string_form, seconds_read_as, date_says, timestamp_says}
+use Rattle.smithy_json_values.specs.Scalar.{a_boolean, a_number, a_string, takes_seconds, string_form, seconds_read_as, date_says, timestamp_says}
 use Rattle.smithy_json_values.specs.LexicalGrammar.{LexicalGrammar, LiesInGrammar}
 use Rattle.smithy_json_values.specs.Private.InstantAtPlace.{NoSecondsLie, NoDateLies}
 use Rattle.smithy_json_values.specs.Private.ScalarAtPlace.{InstantLies, NoInstantLies}

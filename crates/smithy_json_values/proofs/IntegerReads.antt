@@ -1,5 +1,5 @@
 -- From the integers that scanners find to those that lie behind ws, by each rule for integers.
-use Rattle.std.proofs.Common.{◌≡◌, ◌⊎◌, ◌<◌, ◌≤◌, ◌-◌, ℕ, ℤ, pos, neg_ℤ, List, [], ◌∷◌, ◌++◌, length, slice_range, Bool, true, false, not, ◌==◌, ◌&&◌, ◌||◌, Option, Some, None, option_map, option_and_then, refl, sym, ap, subst, ◌∙◌, arith, inl, inr}
+use Rattle.std.proofs.Common.{◌≡◌, ◌⊎◌, ◌-◌, ℕ, ℤ, pos, neg_ℤ, List, [], ◌∷◌, ◌++◌, length, slice_range, Bool, true, false, ◌==◌, ◌&&◌, Option, Some, None, option_map, refl, sym, ap, subst, ◌∙◌, arith, inl, inr}
 use Rattle.std.proofs.lemmas.Bool.Decides.{nat_tests}
 use Rattle.std.specs.Prelude.{if◌then◌else◌, nat_lt}
 use Rattle.std.specs.Char.{IsAsciiDigit}
@@ -11,7 +11,7 @@ use Rattle.smithy_texts.specs.Decimal.{coefficient, is_decimal, written_exponent
 use Rattle.smithy_instants.specs.Epoch.{scaled}
 use Rattle.smithy_shapes.specs.Lemmas.Options.{same_some, step_apart, chosen, made}
 use Rattle.smithy_json.specs.Ascii.{is_ws, is_numeric, minus_sign, plus_sign}
-use Rattle.smithy_json.specs.Grammar.{IsInt, AreDigits, IsNumber}
+use Rattle.smithy_json.specs.Grammar.{IsInt, AreDigits}
 use Rattle.smithy_json.specs.Number.{natural_number, whole_number, signed_number, long_number, integral_number}
 use Rattle.smithy_json.specs.NumberGrammar.{standard_numbers, IsIntOf, IsNumberOf}
 use Rattle.smithy_json.specs.NumberText.{is_number_of}

@@ -1,5 +1,5 @@
 -- What settings are, by the rule for integers that they make.
-use Rattle.std.proofs.Common.{◌≡◌, Bool, true, false, not, ◌&&◌, refl, sym, ◌∙◌, ap}
+use Rattle.std.proofs.Common.{◌≡◌, Bool, true, false, not, ◌&&◌, refl}
 use Rattle.smithy_json.specs.NumberGrammar.{standard_numbers}
 use Rattle.smithy_json.specs.declared.number_grammar.NumberGrammar.{NumberGrammar}
 use Rattle.smithy_json_values.specs.declared.integers.IntegerRule.{IntegerRule}

@@ -1,5 +1,5 @@
 -- The first byte behind its white space tells which node lies at a place.
-use Rattle.std.proofs.Common.{append_assoc, ◌≤◌, ◌<◌, ◌≡◌, ◌+◌, ◌∙◌, ℕ, List, [], ◌∷◌, ◌++◌, drop, Bool, true, false, length, slice_range, codes, refl, sym, ap, arith, subst}
+use Rattle.std.proofs.Common.{◌≤◌, ◌≡◌, ◌+◌, ◌∙◌, ℕ, List, [], ◌∷◌, ◌++◌, drop, Bool, true, false, length, refl, sym, ap, arith, subst}
 use Rattle.std.proofs.lemmas.List.{length-drop, length-append}
 use Rattle.smithy_json.specs.Ascii.{quotation_mark, is_ws}
 use Rattle.smithy_json.specs.Grammar.{IsWs}
@@ -13,7 +13,7 @@ use Rattle.smithy_json_values.specs.Private.TokenPlaces.{past_token, token_begin
 use Rattle.smithy_json_values.specs.Private.ValueSorts.{json_sort, opens_sort}
 use Rattle.smithy_json_values.specs.Private.NextInContainer.{IsFirstByte}
 use Rattle.smithy_json_values.specs.Private.Skipping.{NoValueLies}
-use Rattle.smithy_json_values.proofs.FirstBytePlaces.{first_lies, without_all}
+use Rattle.smithy_json_values.proofs.FirstBytePlaces.{without_all}
 use Rattle.smithy_json_values.proofs.ValueFirstByte.{lies_before, rest_there}
 use Rattle.smithy_wire.specs.Node.{Form, as_array, as_object, Node, null_node, leaf, container, missing}
 use Rattle.smithy_wire.specs.Wire.{a_scalar, a_container, no_value}

@@ -1,11 +1,11 @@
 -- A run of bytes of numbers that stands behind ws is the token of a number that lies there, and a number of a grammar is such a run.
-use Rattle.std.proofs.Common.{◌≡◌, ◌⊎◌, ◌+◌, ◌-◌, ◌<◌, ◌≤◌, ℕ, zero, suc, List, [], ◌∷◌, ◌++◌, length, drop, get_or, slice_range, Bool, true, false, ◌==◌, refl, sym, ap, subst, ◌∙◌, arith, inl, inr, IsUtf8}
+use Rattle.std.proofs.Common.{◌≡◌, ◌+◌, ◌-◌, ◌<◌, ◌≤◌, ℕ, zero, suc, List, [], ◌∷◌, length, drop, get_or, slice_range, Bool, true, false, refl, sym, ap, ◌∙◌, arith, inl, inr, IsUtf8}
 use Rattle.std.proofs.lemmas.Bool.Decides.{nat_tests}
 use Rattle.std.proofs.lemmas.List.{length-append, length-drop, get_or-drop, get_or-take}
 use Rattle.std.proofs.lemmas.Str.{IsUtf8-from_ascii}
 use Rattle.std.specs.List.{AllByRecursion}
 use Rattle.smithy_json.specs.Ascii.{is_ws, is_numeric}
-use Rattle.smithy_json.specs.Grammar.{IsInt, AreDigits}
+use Rattle.smithy_json.specs.Grammar.{IsInt}
 use Rattle.smithy_json.specs.NumberGrammar.{IsIntOf, IsNumberOf}
 use Rattle.smithy_json.specs.NumberText.{is_number_of}
 use Rattle.smithy_json.specs.Standing.{IsRunAt, StandsAt}
@@ -17,7 +17,6 @@ use Rattle.smithy_json_values.specs.Settings.{Settings}
 use Rattle.smithy_json_values.specs.Scalar.{a_number}
 use Rattle.smithy_json_values.specs.Tokens.{IsNumberRun, EndsRun, IsToken}
 use Rattle.smithy_json_values.specs.LexicalGrammar.{number_test}
-use Rattle.smithy_json_values.specs.Private.Lexical.{Stops}
 use Rattle.smithy_json_values.specs.Private.NumberAtPlace.{NumberStands, NumberLies}
 use Rattle.smithy_json_values.specs.Private.Wire.{tokens_are_wire}
 use Rattle.smithy_json_values.proofs.NumberTexts.{pass_is_ascii}

@@ -1,5 +1,5 @@
 -- What is left of a value on the way through it: the open containers end one after another.
-use Rattle.std.proofs.Common.{◌≢◌, ◌-◌, ◌<◌, get_or, set, get_or-set_same, get_or-set_other, ◌≡◌, ◌+◌, ◌≤◌, ◌&&◌, ℕ, zero, suc, max, List, [], ◌∷◌, drop, Bool, true, false, Option, Some, None, length, sym, ap, ◌∙◌, arith, refl, subst}
+use Rattle.std.proofs.Common.{◌≢◌, ◌-◌, ◌<◌, get_or, set, get_or-set_same, get_or-set_other, ◌≡◌, ◌+◌, ◌≤◌, ◌&&◌, ℕ, zero, suc, max, List, [], ◌∷◌, Bool, true, false, Option, Some, None, length, sym, ap, ◌∙◌, arith, refl, subst}
 use Rattle.std.specs.Option.{option_map_or}
 use Rattle.std.proofs.lemmas.Bool.{and_parts}
 use Rattle.smithy_schema.specs.Reading.{Mark}
@@ -9,7 +9,7 @@ use Rattle.smithy_json_values.specs.Spans.{Lies, IsByte, fresh_mark, entry_mark}
 use Rattle.smithy_json_values.specs.Private.NextInContainer.{ClosesIn}
 use Rattle.smithy_json_values.specs.Private.Skipping.{SkipsTo, ScalarLies, NoValueLies, form_of, opening, closing, ValueBegins}
 use Rattle.smithy_json_values.specs.Private.Wire.{tokens_are_wire}
-use Rattle.smithy_wire.specs.Node.{Form, as_array, as_object, Node, null_node, leaf, container, missing, Nodes, no_nodes, node, nesting, nodes_nesting, all_pass, nodes_pass}
+use Rattle.smithy_wire.specs.Node.{Form, Node, null_node, leaf, container, missing, Nodes, no_nodes, node, nesting, nodes_nesting, all_pass, nodes_pass}
 use Rattle.smithy_wire.specs.Frames.{Lies as LiesAsNode, NodesLie}
 use Rattle.smithy_wire.specs.Wire.{IsWire, a_container}
 use Rattle.smithy_wire.specs.Lemmas.Nodes.{sort_of, lies_sort, one_node}

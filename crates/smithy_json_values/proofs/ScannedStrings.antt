@@ -1,5 +1,5 @@
 -- What stands between two quotation marks behind white space is the token of a string that lies there, and back.
-use Rattle.std.proofs.Common.{◌≡◌, ◌+◌, ◌-◌, ◌<◌, ◌≤◌, ℕ, suc, List, [], ◌∷◌, ◌++◌, length, drop, get_or, slice_index, slice_range, Bool, true, false, sym, ap, ◌∙◌, arith, refl, subst, append_assoc}
+use Rattle.std.proofs.Common.{◌≡◌, ◌+◌, ◌-◌, ◌≤◌, ℕ, suc, List, [], ◌∷◌, ◌++◌, length, drop, get_or, slice_index, slice_range, Bool, sym, ap, ◌∙◌, arith, refl, subst, append_assoc}
 use Rattle.std.proofs.lemmas.List.{length-drop, length-append, drop_more, drop-drop, get_or-drop}
 use Rattle.smithy_json.specs.Ascii.{quotation_mark, name_separator, is_ws}
 use Rattle.smithy_json.specs.StringText.{IsQuoted}

@@ -1,5 +1,5 @@
 -- The strings that scanners find, and those of the grammars of settings.
-use Rattle.std.proofs.Common.{◌≡◌, ◌+◌, ℕ, List, slice_range, Bool, true, false, Option, Some, None, refl, sym, ap, ◌∙◌}
+use Rattle.std.proofs.Common.{◌≡◌, ◌+◌, ℕ, List, slice_range, Bool, true, false, Option, Some, None, refl, sym, ◌∙◌}
 use Rattle.std.specs.Prelude.{◌&&◌, IfSome, IfNone}
 use Rattle.smithy_json.specs.StringText.{is_string_text, escapes_are_valid, is_plain_text, is_lenient_text}
 use Rattle.smithy_json.specs.Standing.{IsStringAt, IsQuotedAt}

@@ -143,14 +143,14 @@ fn with_value(frame: Frame, value: Document) -> Result<Open, AllocError>
 #[inline(always)]
 fn value_step(
     alloc: Global,
-    input: Input<'_>,
+    input: &Input<'_>,
     at: usize,
     frame: Frame,
     depth: usize,
 ) -> Result<Step, DocumentFault>
-    requires within { at ≤ length input.bytes.now }
-    requires shallow { depth ≤ input.settings.max_depth }
-    ensures { TakesValue (held_grammar input.entry.settings) (held_settings input.entry.settings) depth input.entry.bytes.now at (frame_view frame) result }
+    requires within { at ≤ length input.now.bytes.now }
+    requires shallow { depth ≤ input.now.settings.max_depth }
+    ensures { TakesValue (held_grammar input.now.settings) (held_settings input.now.settings) depth input.now.bytes.now at (frame_view frame) result }
 {
     let begun = document_begun(alloc, input.bytes, at, &input.settings)?;
     if depth >= input.settings.max_depth {
@@ -165,15 +165,15 @@ fn value_step(
 #[inline(always)]
 fn array_step(
     alloc: Global,
-    input: Input<'_>,
+    input: &Input<'_>,
     at: usize,
     entered: bool,
     elements: Vec<Document>,
     depth: usize,
 ) -> Result<Step, DocumentFault>
-    requires within { at ≤ length input.bytes.now }
-    requires shallow { depth ≤ input.settings.max_depth }
-    ensures { TakesStep (held_grammar input.entry.settings) (held_settings input.entry.settings) depth input.entry.bytes.now at entered (open_array (elements_view elements.items)) result }
+    requires within { at ≤ length input.now.bytes.now }
+    requires shallow { depth ≤ input.now.settings.max_depth }
+    ensures { TakesStep (held_grammar input.now.settings) (held_settings input.now.settings) depth input.now.bytes.now at entered (open_array (elements_view elements.items)) result }
 {
     match next_in_list(input.bytes, at, entered, INNER_DEPTH, &input.settings) {
         Some(InList::Element(start)) => {
@@ -187,15 +187,15 @@ fn array_step(
 #[inline(always)]
 fn object_step(
     alloc: Global,
-    input: Input<'_>,
+    input: &Input<'_>,
     at: usize,
     entered: bool,
     properties: BTreeMap<String, Document>,
     depth: usize,
 ) -> Result<Step, DocumentFault>
-    requires within { at ≤ length input.bytes.now }
-    requires shallow { depth ≤ input.settings.max_depth }
-    ensures { TakesStep (held_grammar input.entry.settings) (held_settings input.entry.settings) depth input.entry.bytes.now at entered (open_object (properties_view properties.entries)) result }
+    requires within { at ≤ length input.now.bytes.now }
+    requires shallow { depth ≤ input.now.settings.max_depth }
+    ensures { TakesStep (held_grammar input.now.settings) (held_settings input.now.settings) depth input.now.bytes.now at entered (open_object (properties_view properties.entries)) result }
 {
     match next_in_object(input.bytes, at, entered, INNER_DEPTH, &input.settings) {
         Some(InObject::Member(name)) => {
@@ -214,15 +214,15 @@ fn object_step(
 #[inline(always)]
 fn next_step(
     alloc: Global,
-    input: Input<'_>,
+    input: &Input<'_>,
     at: usize,
     entered: bool,
     inner: Open,
     depth: usize,
 ) -> Result<Step, DocumentFault>
-    requires within { at ≤ length input.bytes.now }
-    requires shallow { depth ≤ input.settings.max_depth }
-    ensures { TakesStep (held_grammar input.entry.settings) (held_settings input.entry.settings) depth input.entry.bytes.now at entered (open_view inner) result }
+    requires within { at ≤ length input.now.bytes.now }
+    requires shallow { depth ≤ input.now.settings.max_depth }
+    ensures { TakesStep (held_grammar input.now.settings) (held_settings input.now.settings) depth input.now.bytes.now at entered (open_view inner) result }
 {
     match inner {
         Open::Array(elements) => { array_step(alloc, input, at, entered, elements, depth) }
@@ -275,7 +275,7 @@ fn document_at(
     let mut entered = false;
     'steps: loop {
         let inside_depth = depth + frames.len() + 1;
-        match next_step(alloc, input, at, entered, inner, inside_depth)? {
+        match next_step(alloc, &input, at, entered, inner, inside_depth)? {
             Step::Inside(more, end) => {
                 inner = more;
                 entered = true;

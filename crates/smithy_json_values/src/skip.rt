@@ -188,27 +188,28 @@ enum Step {
 // The next step, where a value is due or else the innermost container goes on.
 #[inline(always)]
 fn next_step(
-    input: &[u8],
+    input: &Input<'_>,
     at: usize,
     due: bool,
     entered: bool,
     is_object: &[bool],
     count: usize,
     depth: usize,
-    settings: &Settings,
 ) -> Option<Step>
-    requires within { at ≤ length input.now }
+    requires within { at ≤ length input.now.bytes.now }
     requires inside { due ≡ false → 0 < count }
     requires room { count ≤ length is_object.now }
-    ensures { IsNextStep (held_grammar settings.now) input.now at due (get_or is_object.now (count - 1) false) entered depth result }
+    ensures { IsNextStep (held_grammar input.now.settings) input.now.bytes.now at due (get_or is_object.now (count - 1) false) entered depth result }
 {
+    let bytes = input.bytes;
+    let settings = &input.settings;
     if due {
-        return match beginning_of(input, at, settings)? {
+        return match beginning_of(bytes, at, settings)? {
             Beginning::Scalar(end) => Some(Step::PastScalar(end)),
             Beginning::Container(kind, inside) => Some(Step::IntoContainer(kind, inside)),
         };
     }
-    match next_inside(input, at, is_object[count - 1], entered, depth, settings)? {
+    match next_inside(bytes, at, is_object[count - 1], entered, depth, settings)? {
         InList::Element(start) => Some(Step::ToValue(start)),
         InList::End(end) => Some(Step::OutOfContainer(end)),
     }
@@ -248,16 +249,7 @@ fn container_end(input: Input<'_>, at: usize, depth: usize) -> Result<usize, Ski
     let mut open: usize = 0;
     let mut is_object = [false; MAX_ALLOWED_DEPTH];
     while due || 0 < open {
-        let Some(step) = next_step(
-            input.bytes,
-            at,
-            due,
-            entered,
-            &is_object,
-            open,
-            depth + open,
-            &input.settings,
-        ) else {
+        let Some(step) = next_step(&input, at, due, entered, &is_object, open, depth + open) else {
             return Err(SkipFault::NoValue);
         };
         match step {

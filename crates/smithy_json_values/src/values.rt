@@ -64,7 +64,10 @@ pub fn string_of<'a>(
 {
     match scan_string(input, start) {
         Some(string) => Some(string),
-        None => other_string(input, start, settings),
+        None => {
+            let other = other_string(input, start, settings)?;
+            Some(other)
+        }
     }
 }
 

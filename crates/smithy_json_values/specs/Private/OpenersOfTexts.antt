@@ -9,7 +9,8 @@ use Rattle.smithy_json_values.specs.Openers.{inside, greatest_rise, json_openers
 use Rattle.smithy_json_values.specs.Scalar.{JsonScalar, a_boolean, a_number, a_string}
 use Rattle.smithy_json_values.specs.Tokens.{IsNumberRun, IsQuoted, IsToken, IsNameToken}
 use Rattle.smithy_json_values.specs.Private.Lexical.{is_numeric, Pass, eq_false}
-use Rattle.smithy_json_values.specs.Private.TokenGrammar.{number_is_run, chars_are_quoted}
+use Rattle.smithy_json.proofs.LenientTextLemmas.{chars_are_quoted}
+use Rattle.smithy_json_values.specs.Private.TokenGrammar.{number_is_run}
 
 -- ---- two kinds of texts
 

@@ -10,12 +10,13 @@ use Rattle.smithy_json.specs.Ascii.{quotation_mark, escape, letter_u, space, is_
 use Rattle.smithy_json.specs.Grammar.{IsNumber, IsUnescaped, BeginsWithFourHexDigits, IsEscape, AreChars, IsStringText, IsBoundary, IsValue}
 use Rattle.smithy_json.specs.Tree.{null}
 use Rattle.smithy_json.proofs.NumberTextLemmas.{tells_numbers}
+use Rattle.smithy_json.proofs.LenientTextLemmas.{chars_are_quoted}
 use Rattle.smithy_shapes.specs.declared.shape_type.Scalar.{Scalar}
 use Rattle.smithy_shapes.specs.declared.shape_type.Scalar.TheVariants as scalars
 use Rattle.smithy_json_values.specs.LexicalGrammar.{rfc_8259, is_unescaped, begins_with_four_hex_digits, is_escape, are_chars, is_number_as, in_grammar, is_skipped_in, LiesInGrammar}
 use Rattle.smithy_json_values.specs.Scalar.{JsonScalar, a_boolean, a_number, a_string, tree_of}
 use Rattle.smithy_json_values.specs.Standing.{Lies, TreeLies, IsName, Names, begins_with_alphanumeric, json_frames}
-use Rattle.smithy_json_values.specs.Tokens.{IsNumberRun, EndsRun, IsQuoted, IsToken, EndsToken, IsNameToken, NameTokens}
+use Rattle.smithy_json_values.specs.Tokens.{IsNumberRun, EndsRun, IsToken, EndsToken, IsNameToken, NameTokens}
 use Rattle.smithy_json_values.specs.Private.Lexical.{number_pass, number_fills, boundary_stops, eq_false}
 use Rattle.smithy_wire.specs.Rules.{Answer, no_meaning, settled}
 use Rattle.smithy_shapes.specs.Limits.{Limits}
@@ -35,14 +36,6 @@ number_is_run (b ∷ raw) h = number_pass (b ∷ raw) h
 pub boundary_ends : (s : List ℕ) → IsBoundary s → EndsRun s
 boundary_ends [] h = tt
 boundary_ends (b ∷ s) h = boundary_stops (b ∷ s) h
-
--- ---- strings
-
-pub chars_are_quoted : (raw : List ℕ) → AreChars raw → IsQuoted raw
-chars_are_quoted [] h = h
-chars_are_quoted (b ∷ []) h = (h.1, h.2)
-chars_are_quoted (b ∷ c ∷ raw) (inl h) = inl ((h.0.1, h.0.2), chars_are_quoted (c ∷ raw) h.1)
-chars_are_quoted (b ∷ c ∷ raw) (inr h) = inr (h.0, chars_are_quoted raw h.2)
 
 -- ---- tokens
 

@@ -8,12 +8,12 @@ use Rattle.smithy_json_values.proofs.documents.value_step.Goals as goal
 
 pub returns-then-depth-input : goal.returns-then-depth-input
 returns-then-depth-input c =
-    let g = held_grammar c.args.input.settings in
-    let s = held_settings c.args.input.settings in
-    refused_at_limit g s c.args.depth c.args.input.bytes.now c.args.at TooDeep c.requires.shallow c.if-depth-input.true
-    (begun_at_limit g s refl c.args.input.bytes.now c.args.at c.in_ok-begun.begun c.in_ok-begun.ensures)
+    let g = held_grammar c.args.input.now.settings in
+    let s = held_settings c.args.input.now.settings in
+    refused_at_limit g s c.args.depth c.args.input.now.bytes.now c.args.at TooDeep c.requires.shallow c.if-depth-input.true
+    (begun_at_limit g s refl c.args.input.now.bytes.now c.args.at c.in_ok-begun.begun c.in_ok-begun.ensures)
 
 pub returns-in_err-begun : goal.returns-in_err-begun
 returns-in_err-begun c =
     let p = err_from_is_err_and c.from_residual.result c.from_residual.ensures.1 in
-    rw (p.1, p.2) (begins_refuses (held_grammar c.args.input.settings) (held_settings c.args.input.settings) c.args.depth c.args.input.bytes.now c.args.at refl c.in_err-begun.field-0.0 c.in_err-begun.ensures)
+    rw (p.1, p.2) (begins_refuses (held_grammar c.args.input.now.settings) (held_settings c.args.input.now.settings) c.args.depth c.args.input.now.bytes.now c.args.at refl c.in_err-begun.field-0.0 c.in_err-begun.ensures)

@@ -1,4 +1,4 @@
-use Rattle.std.proofs.Common.{◌≡◌, sym, ◌∙◌}
+use Rattle.std.proofs.Common.{sym, ◌∙◌}
 use Rattle.smithy_json_values.specs.Codec.{held_settings}
 use Rattle.smithy_json_values.proofs.IntegerReads.{of_long, long_of, of_signed, signed_of}
 use Rattle.smithy_json_values.proofs.IntegerRules.{is_integral, is_signed, is_of_grammar, is_of_standard}

@@ -1,4 +1,4 @@
-use Rattle.std.proofs.Common.{◌≡◌, ◌<◌, arith, true, false, sym, ap, ◌∙◌, slice_range}
+use Rattle.std.proofs.Common.{◌≡◌, arith, true, false, sym, ap, ◌∙◌, slice_range}
 use Rattle.smithy_json_values.specs.Private.NumberSorts.{lenient_test}
 use Rattle.smithy_json_values.proofs.NumberRuns.{same_run}
 use Rattle.smithy_json_values.proofs.number_runs.lenient_end.Goals as goal

@@ -1,4 +1,3 @@
-use Rattle.std.proofs.Common.{refl}
 use Rattle.smithy_json_values.specs.Codec.{held_settings}
 use Rattle.smithy_json_values.specs.LexicalGrammar.{number_test}
 use Rattle.smithy_json_values.specs.Private.NumberSorts.{lenient_test}

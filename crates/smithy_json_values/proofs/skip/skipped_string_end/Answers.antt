@@ -1,4 +1,4 @@
-use Rattle.std.proofs.Common.{◌+◌, ◌∙◌, ap, length, refl}
+use Rattle.std.proofs.Common.{◌+◌, ◌∙◌, ap, length}
 use Rattle.smithy_json_values.specs.Codec.{held_settings, held_grammar}
 use Rattle.smithy_json_values.proofs.OptionLemmas.{some_where, none_where}
 use Rattle.smithy_json_values.proofs.ScannedStrings.{string_lies, token_stands, boundary_there}

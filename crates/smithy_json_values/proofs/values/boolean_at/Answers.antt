@@ -1,4 +1,4 @@
-use Rattle.std.proofs.Common.{◌≡◌, ◌∙◌, ◌≤◌, ◌+◌, ℕ, List, Bool, true, false, drop, length, ap, sym}
+use Rattle.std.proofs.Common.{◌≡◌, ◌∙◌, true, false, drop, ap, sym}
 use Rattle.std.proofs.lemmas.List.{take_rest}
 use Rattle.smithy_json_values.specs.Codec.{held_settings}
 use Rattle.smithy_json_values.specs.TypeMismatch.{begins_with_true, begins_with_false}
