@@ -1,0 +1,113 @@
+/* Bodies of Smithy services from wire to wire, in process. A table is accepted once; each call then writes the canonical body, in the
+   wanted wire, of the value that an input spells, into the caller's memory. docs/TABLES.md says what a table is.
+
+   Every call is proved safe for each table, root and input, and its number is that of the program: docs/PROVED.md says what each
+   means. What no prover sees, and a caller of the functions at the end owes:
+   - A pointer is not null, even where its length is 0, and its length is that of memory which the call may read, or write if it
+     isn't const. What is written overlaps nothing else that the call is given. The functions with `static inline` see to null.
+   - A `smithy_table` is changed by these functions alone. One call at a time uses it, and none after it was freed. Threads may
+     each have a table of their own.
+   - `malloc`, `realloc` and `free` are those of the C library, and no call is made from a signal handler. */
+#ifndef SMITHY_TRANSCODE_H
+#define SMITHY_TRANSCODE_H
+
+#include <stddef.h>
+#include <stdint.h>
+
+#ifdef __cplusplus
+extern "C" {
+#endif
+
+/* The wires. A form, and CBOR whose lists and maps have their lengths, are written and not read: each CBOR is read as SMITHY_CBOR. */
+enum { SMITHY_JSON = 0, SMITHY_JSON_NAME = 1, SMITHY_CBOR = 2, SMITHY_QUERY = 3, SMITHY_CBOR_DEFINITE = 4 };
+
+/* What a call answers. */
+enum {
+    SMITHY_DONE = 0,
+    SMITHY_USAGE = 2,                /* a wire that is none, or a form whose action or version isn't UTF-8 */
+    SMITHY_OUT_OF_MEMORY = 8,
+    SMITHY_INVALID_INPUT = 10,       /* the input spells no value of the root: it is invalid, */
+    SMITHY_TOO_DEEP = 11,            /* too deep, */
+    SMITHY_TOO_WIDE = 12,            /* or has a number that is too wide, */
+    SMITHY_NOT_CARRIED = 13,         /* or one that no instant or document carries */
+    SMITHY_DOCUMENT = 14,            /* the wanted wire can't express the value: it has a document, */
+    SMITHY_NULL = 15,                /* a null, */
+    SMITHY_INSTANT = 16,             /* or an instant that the wire doesn't hold */
+    SMITHY_TABLE_REFUSED = 20,
+    SMITHY_NO_SUCH_SHAPE = 21,       /* the table has no shape of this name */
+    SMITHY_NOT_A_STRUCTURE = 22,
+    SMITHY_NO_ROOM = 24,             /* the body is longer than the room for it */
+    SMITHY_NO_TABLE = 25             /* there is no table: it wasn't accepted, or was freed */
+};
+
+/* A table that was accepted. `{ NULL }` is none. */
+typedef struct {
+    uint8_t *pointer;
+} smithy_table;
+
+/* What is asked for: the name of the root structure, and the wires. Action and Version are those of a form. */
+typedef struct {
+    const char *root;
+    size_t root_len;
+    uint32_t from;
+    uint32_t to;
+    const char *action;
+    size_t action_len;
+    const char *version;
+    size_t version_len;
+} smithy_task;
+
+/* ---- the library's functions, as their proofs have them: a call takes a table, and hands it back in `place` */
+
+uint8_t smithy_transcode_accept(const uint8_t *text, size_t text_len, smithy_table *place);
+void smithy_transcode_free(smithy_table table);
+uint8_t smithy_transcode_body(smithy_table table, smithy_table *place,
+    const uint8_t *root, size_t root_len, uint32_t from, uint32_t to,
+    const uint8_t *action, size_t action_len, const uint8_t *version, size_t version_len,
+    const uint8_t *input, size_t input_len, uint8_t *out, size_t out_room, size_t *body_len);
+
+/* ---- the same, where null stands for nothing */
+
+static inline const uint8_t *smithy_bytes(const void *pointer)
+{
+    static const uint8_t nothing[1] = {0};
+    return pointer == NULL ? nothing : (const uint8_t *)pointer;
+}
+
+/* Accepts the table that a text is: 0, 8 or 20. */
+static inline uint8_t smithy_table_accept(smithy_table *table, const void *text, size_t text_len)
+{
+    table->pointer = NULL;
+    return smithy_transcode_accept(smithy_bytes(text), text == NULL ? 0 : text_len, table);
+}
+
+/* Frees a table, if there is one. */
+static inline void smithy_table_free(smithy_table *table)
+{
+    if (table != NULL && table->pointer != NULL) {
+        smithy_transcode_free(*table);
+        table->pointer = NULL;
+    }
+}
+
+/* Transcodes one body: 0, where the first `*body_len` bytes of `out` are the body; 24, where it has `*body_len` bytes, and `out` fewer;
+   or any other, where `*body_len` is 0. Where the number isn't 0, `out` stays as it was. */
+static inline uint8_t smithy_table_transcode(smithy_table *table, const smithy_task *task, const void *input, size_t input_len,
+    void *out, size_t out_room, size_t *body_len)
+{
+    static uint8_t nothing[1];
+    if (table == NULL || table->pointer == NULL) {
+        *body_len = 0;
+        return SMITHY_NO_TABLE;
+    }
+    return smithy_transcode_body(*table, table, smithy_bytes(task->root), task->root == NULL ? 0 : task->root_len,
+        task->from, task->to, smithy_bytes(task->action), task->action == NULL ? 0 : task->action_len,
+        smithy_bytes(task->version), task->version == NULL ? 0 : task->version_len,
+        smithy_bytes(input), input == NULL ? 0 : input_len, out == NULL ? nothing : (uint8_t *)out, out == NULL ? 0 : out_room, body_len);
+}
+
+#ifdef __cplusplus
+}
+#endif
+
+#endif

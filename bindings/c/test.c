@@ -1,0 +1,228 @@
+/* Calls each function of smithy_transcode.h, and ends with 1 where one answers otherwise than is expected. */
+#include "smithy_transcode.h"
+
+#include <pthread.h>
+#include <stdio.h>
+#include <stdlib.h>
+#include <string.h>
+#include <sys/resource.h>
+
+static const char TEXT[] = "structure S\nmember a integer\nmember l L\nmember t timestamp\nmember x document\nlist L string sparse\n";
+static int failed;
+
+static void expect(const char *what, int holds)
+{
+    if (!holds) {
+        fprintf(stderr, "failed: %s\n", what);
+        failed = 1;
+    }
+}
+
+static smithy_task task_of(const char *root, uint32_t from, uint32_t to)
+{
+    smithy_task task = {root, strlen(root), from, to, "Do", 2, "1", 1};
+    return task;
+}
+
+/* One body into ample room: the number, and the body where there is one. */
+static void row(smithy_table *table, smithy_task task, const char *input, size_t input_len, int number, const char *body, size_t body_len)
+{
+    uint8_t room[256];
+    size_t len = 99;
+    memset(room, 0x55, sizeof room);
+    int answered = smithy_table_transcode(table, &task, input, input_len, room, sizeof room, &len);
+    if (answered != number || len != body_len || memcmp(room, body, body_len) != 0) {
+        fprintf(stderr, "failed: `%.*s` answers %d and `%.*s`, and not %d\n", (int)input_len, input, answered, (int)len, room, number);
+        failed = 1;
+    }
+    for (size_t at = body_len; at < sizeof room; at++) {
+        if (room[at] != 0x55) {
+            fprintf(stderr, "failed: `%.*s` changes memory behind the body\n", (int)input_len, input);
+            failed = 1;
+            break;
+        }
+    }
+}
+
+#define TEXT_ROW(root, from, to, input, number, body) \
+    row(&table, task_of(root, from, to), input, sizeof(input) - 1, number, body, sizeof(body) - 1)
+
+static void rows(void)
+{
+    smithy_table table = {NULL};
+    expect("a table is accepted", smithy_table_accept(&table, TEXT, sizeof TEXT - 1) == SMITHY_DONE && table.pointer != NULL);
+    TEXT_ROW("S", SMITHY_JSON, SMITHY_JSON, "{\"z\":[1], \"l\":[\"x\"], \"a\" : 7}", SMITHY_DONE, "{\"a\":7,\"l\":[\"x\"]}");
+    TEXT_ROW("S", SMITHY_JSON, SMITHY_CBOR, "{\"a\":7}", SMITHY_DONE, "\xbf\x61\x61\x07\xff");
+    TEXT_ROW("S", SMITHY_JSON, SMITHY_CBOR_DEFINITE, "{\"a\":7}", SMITHY_DONE, "\xa1\x61\x61\x07");
+    TEXT_ROW("S", SMITHY_CBOR, SMITHY_JSON_NAME, "\xa1\x61\x61\x07", SMITHY_DONE, "{\"a\":7}");
+    TEXT_ROW("S", SMITHY_JSON, SMITHY_QUERY, "{\"a\":7}", SMITHY_DONE, "Action=Do&Version=1&a=7");
+    TEXT_ROW("S", SMITHY_JSON, SMITHY_JSON, "{\"a\":7.5}", SMITHY_INVALID_INPUT, "");
+    TEXT_ROW("S", SMITHY_JSON, SMITHY_JSON, "", SMITHY_DONE, "{}");
+    TEXT_ROW("S", SMITHY_JSON, SMITHY_JSON, "{\"x\":1.5}", SMITHY_NOT_CARRIED, "");
+    TEXT_ROW("S", SMITHY_JSON, SMITHY_CBOR, "{\"x\":1}", SMITHY_DOCUMENT, "");
+    TEXT_ROW("S", SMITHY_JSON, SMITHY_QUERY, "{\"l\":[null]}", SMITHY_NULL, "");
+    TEXT_ROW("S", SMITHY_JSON, SMITHY_CBOR, "{\"t\":1.5}", SMITHY_INSTANT, "");
+    TEXT_ROW("S", SMITHY_QUERY, SMITHY_JSON, "{}", SMITHY_USAGE, "");
+    TEXT_ROW("S", SMITHY_CBOR_DEFINITE, SMITHY_JSON, "\xa0", SMITHY_USAGE, "");
+    TEXT_ROW("S", SMITHY_JSON, 99, "{}", SMITHY_USAGE, "");
+    TEXT_ROW("Q", SMITHY_JSON, SMITHY_JSON, "{}", SMITHY_NO_SUCH_SHAPE, "");
+    TEXT_ROW("\xff", SMITHY_JSON, SMITHY_JSON, "{}", SMITHY_NO_SUCH_SHAPE, "");
+    TEXT_ROW("L", SMITHY_JSON, SMITHY_JSON, "[]", SMITHY_NOT_A_STRUCTURE, "");
+    smithy_task form = task_of("S", SMITHY_JSON, SMITHY_QUERY);
+    form.action = "\xff";
+    form.action_len = 1;
+    row(&table, form, "{}", 2, SMITHY_USAGE, "", 0);
+    smithy_table_free(&table);
+    expect("a table that is freed is none", table.pointer == NULL);
+    TEXT_ROW("S", SMITHY_JSON, SMITHY_JSON, "{}", SMITHY_NO_TABLE, "");
+    smithy_table_free(&table);
+}
+
+static void deep(void)
+{
+    smithy_table table = {NULL};
+    char input[300] = "{\"z\":";
+    size_t len = strlen(input);
+    memset(input + len, '[', 128);
+    memset(input + len + 128, ']', 128);
+    input[len + 256] = '}';
+    expect("a table is accepted", smithy_table_accept(&table, TEXT, sizeof TEXT - 1) == SMITHY_DONE);
+    row(&table, task_of("S", SMITHY_JSON, SMITHY_JSON), input, len + 257, SMITHY_TOO_DEEP, "", 0);
+    smithy_table_free(&table);
+}
+
+static void wide(void)
+{
+    static const char text[] = "structure S\nmember n bigInteger\n";
+    static const char input[] = "{\"n\":1000000000000000000000000000000000000000}";
+    smithy_table table = {NULL};
+    expect("a table is accepted", smithy_table_accept(&table, text, sizeof text - 1) == SMITHY_DONE);
+    row(&table, task_of("S", SMITHY_JSON, SMITHY_JSON), input, sizeof input - 1, SMITHY_TOO_WIDE, "", 0);
+    smithy_table_free(&table);
+}
+
+/* Room for the body and no more, one byte less, and none. */
+static void room(void)
+{
+    smithy_table table = {NULL};
+    smithy_task task = task_of("S", SMITHY_JSON, SMITHY_JSON);
+    uint8_t out[8];
+    size_t len = 0;
+    expect("a table is accepted", smithy_table_accept(&table, TEXT, sizeof TEXT - 1) == SMITHY_DONE);
+    expect("the body fills the room", smithy_table_transcode(&table, &task, "{\"a\":7}", 7, out, 7, &len) == SMITHY_DONE && len == 7);
+    memset(out, 0x55, sizeof out);
+    expect("a byte is missing", smithy_table_transcode(&table, &task, "{\"a\":7}", 7, out, 6, &len) == SMITHY_NO_ROOM && len == 7);
+    expect("nothing is written then", out[0] == 0x55);
+    expect("there is no room", smithy_table_transcode(&table, &task, "{\"a\":7}", 7, NULL, 0, &len) == SMITHY_NO_ROOM && len == 7);
+    expect("null is an empty input", smithy_table_transcode(&table, &task, NULL, 0, out, 8, &len) == SMITHY_DONE && len == 2);
+    smithy_table_free(&table);
+}
+
+static void refused_tables(void)
+{
+    smithy_table table = {NULL};
+    expect("no line of a table", smithy_table_accept(&table, "x\n", 2) == SMITHY_TABLE_REFUSED && table.pointer == NULL);
+    expect("a float", smithy_table_accept(&table, "structure S\nmember a float\n", 27) == SMITHY_TABLE_REFUSED);
+    expect("an empty table", smithy_table_accept(&table, NULL, 0) == SMITHY_DONE);
+    TEXT_ROW("S", SMITHY_JSON, SMITHY_JSON, "{}", SMITHY_NO_SUCH_SHAPE, "");
+    smithy_table_free(&table);
+}
+
+/* A body of more than 16 MiB, which is the limit of the program and not of the library. */
+static void long_body(void)
+{
+    static const size_t count = 17u << 20;
+    smithy_table table = {NULL};
+    smithy_task task = task_of("S", SMITHY_JSON, SMITHY_CBOR);
+    char *input = malloc(count + 16);
+    uint8_t *out = malloc(count + 16);
+    size_t len = 0;
+    if (input == NULL || out == NULL) {
+        expect("memory", 0);
+        return;
+    }
+    memcpy(input, "{\"l\":[\"", 7);
+    memset(input + 7, 'x', count);
+    memcpy(input + 7 + count, "\"]}", 3);
+    expect("a table is accepted", smithy_table_accept(&table, TEXT, sizeof TEXT - 1) == SMITHY_DONE);
+    expect("a long body", smithy_table_transcode(&table, &task, input, count + 10, out, count + 16, &len) == SMITHY_DONE);
+    expect("its length", len == 1 + 2 + 1 + 5 + count + 2);
+    smithy_table_free(&table);
+    free(input);
+    free(out);
+}
+
+/* So many calls with one table leave the memory of the process as it is. */
+static void memory(long count)
+{
+    smithy_table table = {NULL};
+    smithy_task task = task_of("S", SMITHY_JSON, SMITHY_CBOR);
+    struct rusage begun, ended;
+    uint8_t out[64];
+    size_t len = 0;
+    expect("a table is accepted", smithy_table_accept(&table, TEXT, sizeof TEXT - 1) == SMITHY_DONE);
+    getrusage(RUSAGE_SELF, &begun);
+    for (long n = 0; n < count; n++) {
+        const char *body = n % 2 == 0 ? "{\"a\":7,\"l\":[\"x\",null]}" : "{\"a\":7,\"l\":[\"x\",nul]}";
+        int answered = smithy_table_transcode(&table, &task, body, strlen(body), out, sizeof out, &len);
+        if (answered != (n % 2 == 0 ? SMITHY_DONE : SMITHY_INVALID_INPUT)) {
+            expect("a call of many", 0);
+            break;
+        }
+    }
+    getrusage(RUSAGE_SELF, &ended);
+    expect("no growth of memory", ended.ru_maxrss - begun.ru_maxrss < 256);
+    smithy_table_free(&table);
+}
+
+/* Four threads with a table each. */
+static void *work(void *unused)
+{
+    smithy_table table = {NULL};
+    smithy_task task = task_of("S", SMITHY_JSON, SMITHY_JSON);
+    char body[32];
+    uint8_t out[32];
+    size_t len = 0;
+    (void)unused;
+    if (smithy_table_accept(&table, TEXT, sizeof TEXT - 1) != SMITHY_DONE) {
+        return &failed;
+    }
+    for (int n = 0; n < 20000; n++) {
+        int count = snprintf(body, sizeof body, "{\"a\":%d}", n);
+        if (smithy_table_transcode(&table, &task, body, (size_t)count, out, sizeof out, &len) != SMITHY_DONE || len != (size_t)count || memcmp(out, body, len) != 0) {
+            return &failed;
+        }
+    }
+    smithy_table_free(&table);
+    return NULL;
+}
+
+static void threads(void)
+{
+    pthread_t ids[4];
+    for (int n = 0; n < 4; n++) {
+        expect("a thread", pthread_create(&ids[n], NULL, work, NULL) == 0);
+    }
+    for (int n = 0; n < 4; n++) {
+        void *fault = NULL;
+        pthread_join(ids[n], &fault);
+        expect("a thread's bodies", fault == NULL);
+    }
+}
+
+/* test [COUNT]: COUNT is how many calls the test of memory makes: 0 where what watches the calls takes memory itself. */
+int main(int words, char **word)
+{
+    memory(words > 1 ? atol(word[1]) : 20000);
+    threads();
+    rows();
+    deep();
+    wide();
+    room();
+    refused_tables();
+    long_body();
+    if (!failed) {
+        puts("C: all rows are answered as they should be");
+    }
+    return failed;
+}

@@ -1,0 +1,50 @@
+#!/usr/bin/env python3
+"""pool.py PROCESSES TABLE ROOT SOURCE TARGET < LINES > LINES: transcodes a body a line by a pool of processes.
+
+SOURCE and TARGET are json or cbor; a body of CBOR is a line of base64. Where a body is refused, its line is `!` and the number of the
+refusal. Lines are answered in order. It prints to standard error how many bodies a second it did.
+"""
+import base64
+import itertools
+import multiprocessing
+import sys
+import time
+
+import smithy_transcode as st
+
+WIRES = {"json": st.JSON, "cbor": st.CBOR}
+MANY = 4096
+transcoder = None
+
+
+def begin(text, root, source, target):
+    """Accepts the table, once in each process."""
+    global transcoder
+    transcoder = st.Table(text).transcoder(root, WIRES[source], WIRES[target]), source == "cbor", target == "cbor"
+
+
+def answers(lines):
+    """The lines that some lines become, as one text."""
+    transcode, is_coded, codes = transcoder
+    bodies = [line.rstrip(b"\n") for line in lines]
+    each = transcode.each(map(base64.b64decode, bodies) if is_coded else bodies)
+    return b"".join((b"!%d\n" % it.status) if isinstance(it, st.Refused) else (base64.b64encode(it) if codes else it) + b"\n" for it in each)
+
+
+def main():
+    processes, table, *asked = sys.argv[1:]
+    with open(table, "rb") as file:
+        text = file.read()
+    lines = iter(sys.stdin.buffer)
+    parts = iter(lambda: list(itertools.islice(lines, MANY)), [])
+    begun, count = time.monotonic(), 0
+    with multiprocessing.Pool(int(processes), begin, [text, *asked]) as pool:
+        for part in pool.imap(answers, parts):
+            count += part.count(b"\n")
+            sys.stdout.buffer.write(part)
+    passed = time.monotonic() - begun
+    print(f"{processes} processes: {count} bodies, {count / passed:.0f} a second", file=sys.stderr)
+
+
+if __name__ == "__main__":
+    main()

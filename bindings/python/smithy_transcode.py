@@ -1,0 +1,223 @@
+"""Bodies of Smithy services from wire to wire, in process, by the proved library libsmithy_transcode.so.
+
+    table = Table(open("put_item.table", "rb").read())
+    to_cbor = table.transcoder("PutItemInput", JSON, CBOR)
+    body = to_cbor(b'{"TableName":"Books"}')
+
+A table is accepted once. A transcoder answers the canonical body of the value that its input spells, or raises a `Refused`.
+"""
+
+from __future__ import annotations
+
+import ctypes
+import os
+import pathlib
+import threading
+from dataclasses import dataclass
+from typing import Iterable, Union
+
+__all__ = ["CBOR", "CBOR_DEFINITE", "JSON", "JSON_NAME", "InvalidInput", "NotCarried", "NotExpressible", "NoSuchShape", "NotAStructure", "Query",
+           "Refused", "Table", "TableRefused", "TooDeep", "TooWide", "Transcoder"]
+
+
+@dataclass(frozen=True)
+class Wire:
+    """A form in which a value is carried."""
+
+    number: int
+    name: str
+
+
+@dataclass(frozen=True)
+class Query:
+    """A form of AWS Query, which is written and not read."""
+
+    action: str
+    """The value of the form's pair `Action`."""
+    version: str
+    """The value of the form's pair `Version`."""
+
+
+JSON = Wire(0, "json")
+"""JSON under the names of members."""
+JSON_NAME = Wire(1, "json-name")
+"""JSON under the JSON names of members, where they have one."""
+CBOR = Wire(2, "cbor")
+"""CBOR (RFC 8949)."""
+CBOR_DEFINITE = Wire(4, "cbor-definite")
+"""CBOR whose lists and maps have their lengths. It is written alone: each CBOR is read as `CBOR`."""
+_QUERY = 3
+
+_NO_ROOM = 24
+
+
+class Refused(Exception):
+    """Why there is no body, or no table."""
+
+    def __init__(self, status: int, message: str):
+        """status: the number that the program would end with. message: the line that it would write."""
+        super().__init__(message)
+        self.status = status
+
+
+class InvalidInput(Refused):
+    """The input spells no value of the root."""
+
+
+class TooDeep(Refused):
+    """The input spells no value of the root, and may open 128 containers or more at once."""
+
+
+class TooWide(Refused):
+    """The input spells no value of the root, and has a big number that leaves the limits of its kind."""
+
+
+class NotCarried(Refused):
+    """The input spells no value of the root, and has a number that no instant or document carries."""
+
+
+class NotExpressible(Refused):
+    """The wanted wire can't express the value: it has a document, a null, or an instant that the wire doesn't hold."""
+
+
+class TableRefused(Refused):
+    """The text is no table."""
+
+
+class NoSuchShape(Refused):
+    """The table has no shape of the root's name."""
+
+
+class NotAStructure(Refused):
+    """The root is no structure."""
+
+
+_REFUSALS = {
+    2: (Refused, "no such wire"),
+    10: (InvalidInput, "invalid input"),
+    11: (TooDeep, "too deep"),
+    12: (TooWide, "number too wide"),
+    13: (NotCarried, "not carried"),
+    14: (NotExpressible, "document not expressible"),
+    15: (NotExpressible, "null not expressible"),
+    16: (NotExpressible, "instant not expressible"),
+    20: (TableRefused, "table refused"),
+    21: (NoSuchShape, "no such shape"),
+    22: (NotAStructure, "not a structure"),
+}
+
+
+def _refusal(status: int) -> Exception:
+    if status == 8:
+        return MemoryError()
+    kind, message = _REFUSALS[status]
+    return kind(status, message)
+
+
+class _Handle(ctypes.Structure):
+    """The C struct `smithy_table`, which calls take by value."""
+
+    _fields_ = [("pointer", ctypes.c_void_p)]
+
+
+def _library() -> ctypes.CDLL:
+    path = os.environ.get("SMITHY_TRANSCODE_LIBRARY") or pathlib.Path(__file__).with_name("libsmithy_transcode.so")
+    library = ctypes.CDLL(str(path))
+    size, text, handle = ctypes.c_size_t, ctypes.c_char_p, ctypes.POINTER(_Handle)
+    library.smithy_transcode_accept.argtypes = [text, size, handle]
+    library.smithy_transcode_accept.restype = ctypes.c_uint8
+    library.smithy_transcode_free.argtypes = [_Handle]
+    library.smithy_transcode_free.restype = None
+    library.smithy_transcode_body.argtypes = [_Handle, handle, text, size, ctypes.c_uint32, ctypes.c_uint32, text, size, text, size,
+                                              text, size, ctypes.c_char_p, size, ctypes.POINTER(size)]
+    library.smithy_transcode_body.restype = ctypes.c_uint8
+    return library
+
+
+_LIBRARY = _library()
+
+
+class Table:
+    """An accepted table of shapes. Any thread may use it: its calls come one after another."""
+
+    def __init__(self, text: bytes):
+        """text: the lines of the table."""
+        self._handle = _Handle()
+        self._lock = threading.Lock()
+        text = bytes(text)
+        status = _LIBRARY.smithy_transcode_accept(text, len(text), ctypes.byref(self._handle))
+        if status:
+            raise _refusal(status)
+
+    def transcoder(self, root: str, source: Wire, target: Union[Wire, Query]) -> Transcoder:
+        """What transcodes bodies of one root.
+
+        root: the name of a structure of the table. source: the wire of the bodies, which is JSON, JSON_NAME or CBOR. target: the wire
+        that is wanted.
+        """
+        return Transcoder(self, root, source, target)
+
+    def close(self) -> None:
+        """Frees the table. A second call does nothing."""
+        with self._lock:
+            if self._handle.pointer:
+                _LIBRARY.smithy_transcode_free(self._handle)
+                self._handle.pointer = None
+
+    def __enter__(self) -> Table:
+        return self
+
+    def __exit__(self, *_: object) -> None:
+        self.close()
+
+    def __del__(self) -> None:
+        if getattr(self, "_handle", None) is not None and self._handle.pointer:
+            self.close()
+
+
+class Transcoder:
+    """Transcodes bodies of one root from one wire to another."""
+
+    def __init__(self, table: Table, root: str, source: Wire, target: Union[Wire, Query]):
+        """As `Table.transcoder`."""
+        self._table = table
+        name = root.encode()
+        form = isinstance(target, Query)
+        action, version = (target.action.encode(), target.version.encode()) if form else (b"", b"")
+        self._asked = (name, len(name), source.number, _QUERY if form else target.number, action, len(action), version, len(version))
+        self._room = ctypes.create_string_buffer(4096)
+        self._len = ctypes.c_size_t()
+        self._len_at = ctypes.byref(self._len)
+        self._back = ctypes.byref(table._handle)
+
+    def __call__(self, body: bytes) -> bytes:
+        """The canonical body, in the wanted wire, of the value that a body spells. It raises a `Refused` where there is none.
+
+        body: the whole body.
+        """
+        table, count = self._table, self._len
+        with table._lock:
+            handle = table._handle
+            if not handle.pointer:
+                raise ValueError("the table is closed")
+            while True:
+                room = self._room
+                status = _LIBRARY.smithy_transcode_body(handle, self._back, *self._asked, body, len(body), room, len(room), self._len_at)
+                if status == 0:
+                    return ctypes.string_at(room, count.value)
+                if status != _NO_ROOM:
+                    raise _refusal(status)
+                self._room = ctypes.create_string_buffer(2 * count.value)
+
+    def each(self, bodies: Iterable[bytes]) -> list[Union[bytes, Refused]]:
+        """What each of several bodies becomes, in order: its body in the wanted wire, or why there is none.
+
+        bodies: whole bodies.
+        """
+        answers: list[Union[bytes, Refused]] = []
+        for body in bodies:
+            try:
+                answers.append(self(body))
+            except Refused as refusal:
+                answers.append(refusal)
+        return answers

@@ -1,0 +1,92 @@
+"""Calls each part of smithy_transcode.py: `python3 -m unittest` in this folder."""
+
+import threading
+import unittest
+
+import smithy_transcode as st
+
+TEXT = b"structure S\nmember a integer\nmember l L\nmember t timestamp\nmember x document\nlist L string sparse\n"
+
+
+class Bodies(unittest.TestCase):
+    def setUp(self):
+        self.table = st.Table(TEXT)
+
+    def tearDown(self):
+        self.table.close()
+
+    def test_each_wire(self):
+        to_cbor = self.table.transcoder("S", st.JSON, st.CBOR)
+        self.assertEqual(to_cbor(b'{"z":[1], "a" : 7}'), bytes.fromhex("bf616107ff"))
+        self.assertEqual(self.table.transcoder("S", st.JSON, st.CBOR_DEFINITE)(b'{"a":7}'), bytes.fromhex("a1616107"))
+        self.assertEqual(self.table.transcoder("S", st.CBOR, st.JSON_NAME)(bytes.fromhex("a1616107")), b'{"a":7}')
+        form = self.table.transcoder("S", st.JSON, st.Query("Do", "1"))
+        self.assertEqual(form(b'{"a":7}'), b"Action=Do&Version=1&a=7")
+
+    def test_refusals(self):
+        rows = [
+            (st.JSON, b'{"a":7.5}', st.InvalidInput, 10),
+            (st.JSON, b'{"z":' + b"[" * 128 + b"]" * 128 + b"}", st.TooDeep, 11),
+            (st.JSON, b'{"x":1.5}', st.NotCarried, 13),
+            (st.CBOR, b'{"x":1}', st.NotExpressible, 14),
+            (st.Query("Do", "1"), b'{"l":[null]}', st.NotExpressible, 15),
+            (st.CBOR, b'{"t":1.5}', st.NotExpressible, 16),
+        ]
+        for target, body, kind, status in rows:
+            with self.subTest(body=body), self.assertRaises(kind) as caught:
+                self.table.transcoder("S", st.JSON, target)(body)
+            self.assertEqual(caught.exception.status, status)
+        for root, kind in [("Q", st.NoSuchShape), ("L", st.NotAStructure)]:
+            with self.assertRaises(kind):
+                self.table.transcoder(root, st.JSON, st.JSON)(b"{}")
+        with self.assertRaises(st.Refused) as caught:
+            self.table.transcoder("S", st.CBOR_DEFINITE, st.JSON)(b"\xa0")
+        self.assertEqual(caught.exception.status, 2)
+        with self.assertRaises(st.TableRefused):
+            st.Table(b"x\n")
+        with self.assertRaises(st.TooWide), st.Table(b"structure S\nmember n bigInteger\n") as table:
+            table.transcoder("S", st.JSON, st.JSON)(b'{"n":1' + b"0" * 39 + b"}")
+
+    def test_long_bodies(self):
+        body = b'{"l":["' + b"x" * 100_000 + b'"]}'
+        self.assertEqual(self.table.transcoder("S", st.JSON, st.JSON)(body), body)
+
+    def test_each(self):
+        to_json = self.table.transcoder("S", st.JSON, st.JSON)
+        answers = to_json.each([b'{"a":1}', b"{", b'{ "a":2}'])
+        self.assertEqual([answers[0], answers[2]], [b'{"a":1}', b'{"a":2}'])
+        self.assertIsInstance(answers[1], st.InvalidInput)
+        self.assertEqual(to_json.each([]), [])
+        many = [b'{"a":%d}' % n for n in range(2000)]
+        self.assertEqual(to_json.each(many), many)
+        long = [b'{"l":["' + b"x" * 3000 * n + b'"]}' for n in range(9)]
+        self.assertEqual(to_json.each(iter(long)), long)
+
+    def test_a_closed_table(self):
+        to_json = self.table.transcoder("S", st.JSON, st.JSON)
+        self.table.close()
+        self.table.close()
+        with self.assertRaises(ValueError):
+            to_json(b"{}")
+
+    def test_threads(self):
+        """Four threads with a table each, and four with one."""
+        wrong = []
+
+        def work(table, number):
+            to_json = table.transcoder("S", st.JSON, st.JSON)
+            for n in range(2000):
+                body = b'{"a":%d}' % (number * 10_000 + n)
+                if to_json(body) != body:
+                    wrong.append(body)
+
+        threads = [threading.Thread(target=work, args=(table, n)) for n, table in enumerate([st.Table(TEXT) for _ in range(4)] + [self.table] * 4)]
+        for thread in threads:
+            thread.start()
+        for thread in threads:
+            thread.join()
+        self.assertEqual(wrong, [])
+
+
+if __name__ == "__main__":
+    unittest.main()

@@ -1,0 +1,13 @@
+-- What contracts see of a call's arguments.
+use Rattle.std.specs.Prelude.{string_bytes}
+use Rattle.smithy_transcode_c.specs.declared.asked.Asked.{Asked as Given}
+use Rattle.smithy_transcode_c.specs.Calls.{Asked}
+
+abbrev pub asked_of : Given → Asked
+asked_of given = record {
+  root_name = given.root.now;
+  from = given.from;
+  to = given.to;
+  action = given.action.now;
+  version = given.version.now;
+}
