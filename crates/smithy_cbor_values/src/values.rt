@@ -66,26 +66,6 @@ pub fn text_at<'a>(
     }
 }
 
-// The text of the string at the offset, in memory of its own, with the string's end, where a value may end there.
-pub fn string_at(
-    alloc: Global,
-    input: &[u8],
-    at: usize,
-    depth: usize,
-) -> Result<Option<(String, usize)>, AllocError>
-    requires { at ≤ length input.now }
-    ensures { IfOk result (λ o. MatchOption o ((text : List ℕ) (e : ℕ) → HasTextAt text input.now at e → Follows depth input.now e → ⊥)
-        (λ r. HasTextAt (string_bytes r.0) input.now at r.1 × Follows depth input.now r.1)) }
-{
-    let Some((text, end)) = text_at(alloc, input, at)? else {
-        return Ok(None);
-    };
-    if !may_end(input, end, depth) {
-        return Ok(None);
-    }
-    Ok(Some((text.into_owned(alloc)?, end)))
-}
-
 // The text at the offset, with its end, where a value may end there. It is borrowed where it stands in one piece.
 pub fn text_piece_at<'a>(
     alloc: Global,
@@ -107,53 +87,36 @@ pub fn text_piece_at<'a>(
     Ok(Some((text, end)))
 }
 
+// The text of the string at the offset, in memory of its own, with the string's end, where a value may end there.
+pub fn string_at(
+    alloc: Global,
+    input: &[u8],
+    at: usize,
+    depth: usize,
+) -> Result<Option<(String, usize)>, AllocError>
+    requires { at ≤ length input.now }
+    ensures { IfOk result (λ o. MatchOption o ((text : List ℕ) (e : ℕ) → HasTextAt text input.now at e → Follows depth input.now e → ⊥)
+        (λ r. HasTextAt (string_bytes r.0) input.now at r.1 × Follows depth input.now r.1)) }
+{
+    let Some((text, end)) = text_piece_at(alloc, input, at, depth)? else {
+        return Ok(None);
+    };
+    Ok(Some((text.into_owned(alloc)?, end)))
+}
+
 // Tells the proof that what a slice of bytes holds is below 256.
 #[inline(always)]
 fn holds_bytes(bytes: &[u8])
     ensures { are_bytes bytes.now ≡ true }
 {}
 
-fn blob_of(bytes: Vec<u8>) -> Blob
-    ensures same { result ≡ bytes.items }
-    ensures bytes { are_bytes result ≡ true }
-{
-    holds_bytes(bytes.as_slice());
-    Blob::new(bytes)
-}
-
 // The bytes in memory of their own.
 fn owned_blob(alloc: Global, bytes: CowSlice<'_, u8>) -> Result<Blob, AllocError>
-    ensures same { IfOk result (λ blob. blob ≡ cow_slice_items bytes.entry) }
-    ensures bytes { IfOk result (λ blob. are_bytes blob ≡ true) }
+    ensures { IfOk result (λ blob. blob ≡ cow_slice_items bytes.entry) }
 {
     match bytes {
-        CowSlice::Borrowed(borrowed) => Ok(blob_of(Vec::from_slice(alloc, borrowed)?)),
-        CowSlice::Owned(owned) => Ok(blob_of(owned)),
-    }
-}
-
-// The bytes at the offset, with their end, where a value may end there.
-pub fn blob_at(
-    alloc: Global,
-    input: &[u8],
-    at: usize,
-    depth: usize,
-) -> Result<Option<(Blob, usize)>, AllocError>
-    requires { at ≤ length input.now }
-    ensures { IfOk result (λ o. MatchOption o ((blob : List ℕ) (e : ℕ) → IsBlobAt blob input.now at depth e → ⊥) (λ r. IsBlobAt r.0 input.now at depth r.1)) }
-{
-    match byte_chunks(alloc, input, at) {
-        Ok((bytes, end)) => {
-            if !may_end(input, end, depth) {
-                return Ok(None);
-            }
-            let blob = owned_blob(alloc, bytes)?;
-            Ok(Some((blob, end)))
-        }
-        Err(error) => match error {
-            ItemError::NoMemory => Err(AllocError),
-            _ => Ok(None),
-        },
+        CowSlice::Borrowed(borrowed) => Ok(Blob::new(Vec::from_slice(alloc, borrowed)?)),
+        CowSlice::Owned(owned) => Ok(Blob::new(owned)),
     }
 }
 
@@ -188,6 +151,23 @@ pub fn bytes_piece_at<'a>(
             _ => Ok(None),
         },
     }
+}
+
+// The bytes at the offset, in memory of their own, with their end, where a value may end there.
+pub fn blob_at(
+    alloc: Global,
+    input: &[u8],
+    at: usize,
+    depth: usize,
+) -> Result<Option<(Blob, usize)>, AllocError>
+    requires { at ≤ length input.now }
+    ensures { IfOk result (λ o. MatchOption o ((blob : List ℕ) (e : ℕ) → IsBlobAt blob input.now at depth e → ⊥) (λ r. IsBlobAt r.0 input.now at depth r.1)) }
+{
+    let Some((bytes, end)) = bytes_piece_at(alloc, input, at, depth)? else {
+        return Ok(None);
+    };
+    let blob = owned_blob(alloc, bytes)?;
+    Ok(Some((blob, end)))
 }
 
 // The end of the item at the offset, where a value may end there.
