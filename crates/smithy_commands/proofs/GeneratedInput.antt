@@ -71,7 +71,7 @@ only_root root is = let same : Some root ≡ Some generated_root = sym is ∙ ro
 
 -- ---- the input
 
-json_passes : PassesItems (holds (json false))
+json_passes : PassesItems (holds (json false false))
 json_passes = record { numbers = λ n. refl; texts = λ t. refl; seconds = λ n. refl }
 
 none_is_document : PassesItems no_documents
@@ -80,13 +80,13 @@ none_is_document = record { numbers = λ n. refl; texts = λ t. refl; seconds = 
 cbor_passes : PassesItems (holds (cbor false))
 cbor_passes = record { numbers = λ n. refl; texts = λ t. refl; seconds = λ n. rw (whole_seconds n) refl }
 
-pub input_is_expressible : (seed count : ℕ) → Spells (json false) generated_shapes generated_root (generated seed count) (generated_value seed count)
+pub input_is_expressible : (seed count : ℕ) → Spells (json false false) generated_shapes generated_root (generated seed count) (generated_value seed count)
     → IsExpressible generated_shapes generated_root (generated seed count)
 input_is_expressible seed count spells = (
   generated_value seed count,
   spells,
   rw (input_passes no_documents none_is_document seed count, input_passes (holds (cbor false)) cbor_passes seed count) refl,
-  rw (input_passes (holds (json false)) json_passes seed count) refl,
+  rw (input_passes (holds (json false false)) json_passes seed count) refl,
 )
 
 -- ---- one transcoding
@@ -123,6 +123,6 @@ pub line_is : (c : Gen) (table : Table) (root : ℕ) (input : List ℕ) (in_cbor
 line_is c table root input in_cbor in_json size line t declared i n both is = (
   in_cbor,
   in_json,
-  (table, root, both.0, table_is ∙ ap accepted (sym t), declared, subst (λ bytes. Spells (json false) table root bytes both.0) i both.1, both.2, both.3),
+  (table, root, both.0, table_is ∙ ap accepted (sym t), declared, subst (λ bytes. Spells (json false false) table root bytes both.0) i both.1, both.2, both.3),
   is ∙ ap (λ m. line_of_lengths m in_cbor in_json) (n ∙ ap length i),
 )

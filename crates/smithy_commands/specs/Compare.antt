@@ -1,6 +1,6 @@
 -- The words of the command `compare TABLE ROOT WIRE1 FILE1 WIRE2 FILE2`.
 use Rattle.std.specs.Prelude.{List, [], ◌∷◌, ℕ, Option, None, option_and_then, option_map}
-use Rattle.smithy_commands.specs.Transcode.{NamedWire, wire_named}
+use Rattle.smithy_commands.specs.Transcode.{NamedWire, read_wire_named}
 
 -- a body in a file, and its wire
 pub record Recorded : Type 0 where
@@ -14,9 +14,9 @@ pub record Compare : Type 0 where
   pub first : Recorded
   pub second : Recorded
 
--- json, json-name or cbor, and the path of a file
+-- a wire that is read, and the path of a file
 abbrev pub recorded : (wire path : List ℕ) → Option Recorded
-recorded wire path = option_map (λ wire. record { wire = wire; path = path }) (wire_named wire)
+recorded wire path = option_map (λ wire. record { wire = wire; path = path }) (read_wire_named wire)
 
 -- TABLE ROOT WIRE1 FILE1 WIRE2 FILE2
 abbrev pub compare_of : List (List ℕ) → Option Compare

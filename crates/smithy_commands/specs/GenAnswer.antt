@@ -22,8 +22,8 @@ line_of_lengths input in_cbor in_json =
 abbrev pub HasLengths : List ℕ → (cbor json : ℕ) → Type 0
 HasLengths input in_cbor in_json =
     (table : Table) × (root : ℕ) × (v : Value) × (table_of generated_table ≡ accepted table)
-    × (declared_as table (codes "S") ≡ Some root) × Spells (json false) table root input v
-    × (in_cbor ≡ length (body (cbor false) table root v)) × (in_json ≡ length (body (json false) table root v))
+    × (declared_as table (codes "S") ≡ Some root) × Spells (json false false) table root input v
+    × (in_cbor ≡ length (body (cbor false) table root v)) × (in_json ≡ length (body (json false false) table root v))
 
 -- the line of the input that the seed generates
 abbrev pub IsGenLine : Gen → List ℕ → Type 0

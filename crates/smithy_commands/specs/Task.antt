@@ -2,7 +2,7 @@
 use Rattle.std.specs.Prelude.{ℕ, List, false, true}
 use Rattle.smithy_transcode.specs.Wires as wires
 use Rattle.smithy_transcode.specs.Wires.{Wire}
-use Rattle.smithy_commands.specs.Transcode.{NamedWire, json, json_name, cbor, cbor_definite, query, Transcode}
+use Rattle.smithy_commands.specs.Transcode.{NamedWire, json, json_name, json_integral, json_name_integral, cbor, cbor_definite, query, Transcode}
 
 -- the body of this root, from wire to wire
 pub record Task : Type 0 where
@@ -13,8 +13,10 @@ pub record Task : Type 0 where
 
 -- the wire of this name
 abbrev pub asked_wire : NamedWire → Wire
-asked_wire json = wires.json false
-asked_wire json_name = wires.json true
+asked_wire json = wires.json false false
+asked_wire json_name = wires.json true false
+asked_wire json_integral = wires.json false true
+asked_wire json_name_integral = wires.json true true
 asked_wire cbor = wires.cbor false
 asked_wire cbor_definite = wires.cbor true
 asked_wire (query action version) = wires.query action version

@@ -1,7 +1,7 @@
 -- What the types of a command stand for.
 use Rattle.smithy_transcode.specs.Wires.{wire_of}
 use Rattle.smithy_commands.specs.declared.transcode_words.WireWords.{WireWords}
-use Rattle.smithy_commands.specs.declared.transcode_words.WireWords.TheVariants.{Json, JsonName, Cbor, CborDefinite, Query}
+use Rattle.smithy_commands.specs.declared.transcode_words.WireWords.TheVariants.{Json, JsonName, JsonIntegral, JsonNameIntegral, Cbor, CborDefinite, Query}
 use Rattle.smithy_commands.specs.declared.transcode_words.Transcode as kept_transcode
 use Rattle.smithy_commands.specs.declared.gen_words.Gen as kept_gen
 use Rattle.smithy_commands.specs.declared.compare_words.Compare as kept_compare
@@ -9,7 +9,7 @@ use Rattle.smithy_commands.specs.declared.compare_words.Recorded as kept_recorde
 use Rattle.smithy_commands.specs.declared.words.Command as kept_command
 use Rattle.smithy_commands.specs.declared.words.Command.TheVariants as commands
 use Rattle.smithy_commands.specs.declared.task.Task as kept_task
-use Rattle.smithy_commands.specs.Transcode.{NamedWire, json, json_name, cbor, cbor_definite, query, Transcode}
+use Rattle.smithy_commands.specs.Transcode.{NamedWire, json, json_name, json_integral, json_name_integral, cbor, cbor_definite, query, Transcode}
 use Rattle.smithy_commands.specs.Gen.{Gen}
 use Rattle.smithy_commands.specs.Compare.{Recorded, Compare}
 use Rattle.smithy_commands.specs.Command.{Command, transcode, gen, compare}
@@ -19,6 +19,8 @@ use Rattle.smithy_commands.specs.Task.{Task}
 abbrev pub named_wire : WireWords → NamedWire
 named_wire Json = json
 named_wire JsonName = json_name
+named_wire JsonIntegral = json_integral
+named_wire JsonNameIntegral = json_name_integral
 named_wire Cbor = cbor
 named_wire CborDefinite = cbor_definite
 named_wire (Query action version) = query action.now version.now

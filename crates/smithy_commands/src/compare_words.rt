@@ -3,7 +3,7 @@ ghost use Rattle.std.specs.Prelude.{◌≡◌, map, option_map, string_bytes};
 ghost use Rattle.smithy_commands.specs.Compare.{compare_of};
 ghost use Rattle.smithy_commands.specs.Words.{compare_view};
 
-use crate::transcode_words::{WireWords, single_wire};
+use crate::transcode_words::{WireWords, read_wire};
 
 /// A body in a file, and its wire.
 #[derive(Clone, Copy)]
@@ -37,11 +37,11 @@ impl<'a> Compare<'a> {
                 table: table.as_str(),
                 root: root.as_str(),
                 first: Recorded {
-                    wire: single_wire(wire1.as_str())?,
+                    wire: read_wire(wire1.as_str())?,
                     path: file1.as_str(),
                 },
                 second: Recorded {
-                    wire: single_wire(wire2.as_str())?,
+                    wire: read_wire(wire2.as_str())?,
                     path: file2.as_str(),
                 },
             }),

@@ -71,6 +71,7 @@ fn lengths_of(
 {
     let json = Wire::Json {
         use_json_name: false,
+        integral: false,
     };
     let cbor = Wire::Cbor { definite: false };
     let in_cbor = body_in(alloc, table, root, &json, input, &cbor)?;

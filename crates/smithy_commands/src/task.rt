@@ -1,6 +1,6 @@
 //! What `transcode` asks for.
 ghost use Rattle.std.specs.Prelude.{◌≡◌, IfOk, string_bytes};
-ghost use Rattle.smithy_transcode.specs.Wires.{wire_of};
+ghost use Rattle.smithy_transcode.specs.Wires.{json, wire_of};
 ghost use Rattle.smithy_commands.specs.Task.{asked_wire, task_of};
 ghost use Rattle.smithy_commands.specs.Words.{named_wire, transcode_view, task_view};
 
@@ -30,17 +30,25 @@ fn copied(alloc: Global, word: &str) -> Result<String, AllocError>
     Ok(text)
 }
 
+// JSON with these choices.
+fn json(use_json_name: bool, integral: bool) -> Wire
+    ensures { wire_of result ≡ json use_json_name integral }
+{
+    Wire::Json {
+        use_json_name,
+        integral,
+    }
+}
+
 // The wire that the words name.
 pub(crate) fn wire_of_words(alloc: Global, words: WireWords<'_>) -> Result<Wire, AllocError>
     ensures { IfOk result (λ wire. wire_of wire ≡ asked_wire (named_wire words.entry)) }
 {
     match words {
-        WireWords::Json => Ok(Wire::Json {
-            use_json_name: false,
-        }),
-        WireWords::JsonName => Ok(Wire::Json {
-            use_json_name: true,
-        }),
+        WireWords::Json => Ok(json(false, false)),
+        WireWords::JsonName => Ok(json(true, false)),
+        WireWords::JsonIntegral => Ok(json(false, true)),
+        WireWords::JsonNameIntegral => Ok(json(true, true)),
         WireWords::Cbor => Ok(Wire::Cbor { definite: false }),
         WireWords::CborDefinite => Ok(Wire::Cbor { definite: true }),
         WireWords::Query(action, version) => Ok(Wire::Query {

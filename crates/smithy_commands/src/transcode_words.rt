@@ -1,6 +1,6 @@
 //! The words of the command `transcode`.
 ghost use Rattle.std.specs.Prelude.{◌≡◌, map, option_map, string_bytes};
-ghost use Rattle.smithy_commands.specs.Transcode.{transcode_of, wanted_wire, wire_named, written_wire_named};
+ghost use Rattle.smithy_commands.specs.Transcode.{transcode_of, wanted_wire, wire_named, read_wire_named, written_wire_named};
 ghost use Rattle.smithy_commands.specs.Words.{named_wire, transcode_view};
 
 /// A wire, as words name it.
@@ -10,6 +10,10 @@ pub enum WireWords<'a> {
     Json,
     /// JSON, with the JSON names of members.
     JsonName,
+    /// JSON, of which an integer that is read may have a fraction or an exponent.
+    JsonIntegral,
+    /// The same with the JSON names of members.
+    JsonNameIntegral,
     /// CBOR.
     Cbor,
     /// CBOR whose lists and maps have their lengths.
@@ -32,7 +36,7 @@ pub struct Transcode<'a> {
 }
 
 // json, json-name or cbor.
-pub(crate) fn single_wire<'a>(word: &str) -> Option<WireWords<'a>>
+fn single_wire<'a>(word: &str) -> Option<WireWords<'a>>
     ensures { option_map named_wire result ≡ wire_named word.now }
 {
     match word {
@@ -40,6 +44,17 @@ pub(crate) fn single_wire<'a>(word: &str) -> Option<WireWords<'a>>
         "json-name" => Some(WireWords::JsonName),
         "cbor" => Some(WireWords::Cbor),
         _ => None,
+    }
+}
+
+// One of these, json-integral or json-name-integral.
+pub(crate) fn read_wire<'a>(word: &str) -> Option<WireWords<'a>>
+    ensures { option_map named_wire result ≡ read_wire_named word.now }
+{
+    match word {
+        "json-integral" => Some(WireWords::JsonIntegral),
+        "json-name-integral" => Some(WireWords::JsonNameIntegral),
+        _ => single_wire(word),
     }
 }
 
@@ -75,7 +90,7 @@ impl<'a> Transcode<'a> {
             [table, root, from, to @ ..] => Some(Transcode {
                 table: table.as_str(),
                 root: root.as_str(),
-                from: single_wire(from.as_str())?,
+                from: read_wire(from.as_str())?,
                 to: output_wire(to)?,
             }),
             _ => None,

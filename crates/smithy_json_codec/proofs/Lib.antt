@@ -1,5 +1,6 @@
 mod Examples
 mod StandardFacts
+mod WireFacts
 mod MeaningFacts
 mod InstantFacts
 mod DocumentFacts
@@ -13,6 +14,7 @@ pub mod MemberStepLemmas
 pub mod PassedEntryLemmas
 pub mod WritingLemmas
 pub mod InstantTexts
+pub mod WrittenIntegers
 pub mod WrittenLeaves
 pub mod WrittenPlaces
 pub mod DocumentTexts

@@ -1,6 +1,6 @@
 -- What JSON writes for scalars that it holds and for names: it means them, can be written, and is their canonical text.
 use Rattle.std.specs.Prelude.{◌≡◌, ℕ, List, [], ◌∷◌, Bool, true, false, Option, Some, None, if◌then◌else◌, refl}
-use Rattle.std.proofs.Common.{subst, sym, ap, ◌∙◌, arith, ◌<◌, ◌^◌, ℤ, pos, negsuc}
+use Rattle.std.proofs.Common.{subst, sym, ap, ◌∙◌, arith, lit≤, ◌<◌, ◌^◌, ℤ, pos, negsuc}
 use Rattle.std.specs.Prelude.{unsigned_abs}
 use Rattle.std.specs.List.{list_all}
 use Rattle.std.proofs.lemmas.Bool.{and_parts}
@@ -13,7 +13,7 @@ use Rattle.smithy_shapes.specs.declared.shape_type.TimestampFormat.TheVariants.{
 use Rattle.smithy_shapes.specs.TimeForms.{format_of, form_or, form_holds}
 use Rattle.smithy_shapes.specs.Value.{ScalarValue, boolean, whole, text, bytes, decimal, instant, scalar_value}
 use Rattle.smithy_shapes.specs.Fits.{is_of}
-use Rattle.smithy_shapes.proofs.ScalarLemmas.{whole_fits, decimal_fits, instant_fits, text_is_utf8, blob_is_bytes}
+use Rattle.smithy_shapes.proofs.ScalarLemmas.{fits_more, whole_fits, decimal_fits, instant_fits, text_is_utf8, blob_is_bytes}
 use Rattle.smithy_texts.specs.Base64Text.{are_bytes, blob_text}
 use Rattle.smithy_texts.specs.Decimal.{DecimalForm, decimal_form, decimal_text, written_exponent, net_exponent}
 use Rattle.smithy_texts.specs.Ranges.{fits_signed, is_exponent}
@@ -24,7 +24,7 @@ use Rattle.smithy_json.specs.Escape.{escaped}
 use Rattle.smithy_json.specs.Unescape.{unescaped}
 use Rattle.smithy_json.specs.Private.Chars.{is_plain}
 use Rattle.smithy_json.proofs.EscapeLemmas.{plain_byte}
-use Rattle.smithy_json.proofs.DecimalLemmas.{decimal_is_number, decimal_writes, decimal_text_is_number}
+use Rattle.smithy_json.proofs.DecimalLemmas.{decimal_is_number, decimal_text_is_number}
 use Rattle.smithy_json.proofs.QuotedLemmas.{quoted_is_string, unescaped_of_escaped}
 use Rattle.smithy_json_values.specs.LexicalGrammar.{rfc_8259, in_grammar}
 use Rattle.smithy_json_values.specs.Scalar.{JsonScalar, a_boolean, a_number, a_string, tree_of, big_number, format_at, says}
@@ -36,7 +36,9 @@ use Rattle.smithy_wire.specs.Rules.{means, no_meaning}
 use Rattle.smithy_wire.specs.BigNumbers.{big_decimal}
 use Rattle.smithy_json_values.proofs.NumberTexts.{form_is}
 use Rattle.smithy_json_codec.proofs.InstantTexts.{instant_leaf, instant_means, instant_is_value}
+use Rattle.smithy_json_codec.specs.WireSettings.{wire_settings}
 use Rattle.smithy_json_codec.specs.Canonical.{written_form, scalar_text, json_holds}
+use Rattle.smithy_json_codec.proofs.WrittenIntegers.{whole_means}
 use Rattle.smithy_json_codec.proofs.WrittenPlaces.{leaf_bytes, json_writes}
 use Rattle.smithy_json.specs.Grammar.{IsValue, IsString}
 use Rattle.smithy_wire.specs.Written.{Leaves, ReadsLeaves}
@@ -99,19 +101,19 @@ strict_format : (b : Bool) (time : Option TimestampFormat) → format_at (strict
 strict_format b None = refl
 strict_format b (Some form) = refl
 
-scalar_means : (b : Bool) (s : Scalar) (time : Option TimestampFormat) (x : ScalarValue) → is_of s x ≡ true → form_holds (form_or EpochSeconds time) x ≡ true
-    → says (strict_settings b) s time (leaf_of (form_or EpochSeconds time) x) ≡ means (scalar_value x)
-scalar_means names scalars.Boolean time (boolean b) is held = refl
-scalar_means names scalars.Byte time (whole n) is held = rw (decimal_writes n (whole_fits scalars.Byte n is), is) refl
-scalar_means names scalars.Short time (whole n) is held = rw (decimal_writes n (whole_fits scalars.Short n is), is) refl
-scalar_means names scalars.Integer time (whole n) is held = rw (decimal_writes n (whole_fits scalars.Integer n is), is) refl
-scalar_means names scalars.Long time (whole n) is held = rw (decimal_writes n (whole_fits scalars.Long n is), is) refl
-scalar_means names scalars.String time (text t) is held = rw (unescaped_of_escaped t) refl
-scalar_means names scalars.Blob time (bytes b) is held = rw (blob_unescaped b is, blob_back b is) refl
-scalar_means names scalars.Timestamp time (instant n) is held = instant_means (strict_settings names) time (form_or EpochSeconds time) refl (strict_format names time) n is held
-scalar_means names scalars.BigInteger time (whole n) is held = rw (integer_form_of_written n (small_whole n is), is) refl
-scalar_means names scalars.BigDecimal time (decimal m e) is held = written_decimal_means m e (decimal_fits scalars.BigDecimal m e is)
-scalar_means names _ time _ is held = cc
+scalar_means : (b integral : Bool) (s : Scalar) (time : Option TimestampFormat) (x : ScalarValue) → is_of s x ≡ true → form_holds (form_or EpochSeconds time) x ≡ true
+    → says (wire_settings b integral) s time (leaf_of (form_or EpochSeconds time) x) ≡ means (scalar_value x)
+scalar_means names integral scalars.Boolean time (boolean b) is held = refl
+scalar_means names integral scalars.Byte time (whole n) is held = whole_means names integral 8 n (fits_more 8 64 n (lit≤ tt) is) is
+scalar_means names integral scalars.Short time (whole n) is held = whole_means names integral 16 n (fits_more 16 64 n (lit≤ tt) is) is
+scalar_means names integral scalars.Integer time (whole n) is held = whole_means names integral 32 n (fits_more 32 64 n (lit≤ tt) is) is
+scalar_means names integral scalars.Long time (whole n) is held = whole_means names integral 64 n is is
+scalar_means names integral scalars.String time (text t) is held = rw (unescaped_of_escaped t) refl
+scalar_means names integral scalars.Blob time (bytes b) is held = rw (blob_unescaped b is, blob_back b is) refl
+scalar_means names integral scalars.Timestamp time (instant n) is held = instant_means (wire_settings names integral) time (form_or EpochSeconds time) refl (strict_format names time) n is held
+scalar_means names integral scalars.BigInteger time (whole n) is held = rw (integer_form_of_written n (small_whole n is), is) refl
+scalar_means names integral scalars.BigDecimal time (decimal m e) is held = written_decimal_means m e (decimal_fits scalars.BigDecimal m e is)
+scalar_means names integral _ time _ is held = cc
 
 -- a scalar and a name can be written
 scalar_is : (s : Scalar) (form : TimestampFormat) (x : ScalarValue) → is_of s x ≡ true → form_holds form x ≡ true → IsValue (tree_of (leaf_of form x)) (leaf_bytes (leaf_of form x))
@@ -124,17 +126,17 @@ scalar_is s form (bytes b) is held = blob_is_string b (blob_is_bytes s b is)
 scalar_is s form (instant n) is held = instant_is_value form n (instant_fits s n is) held
 
 -- what can be written is in the grammar, so it means what it was written for
-written_means : (b : Bool) (s : Scalar) (time : Option TimestampFormat) (x : ScalarValue) → is_of s x ≡ true → form_holds (form_or EpochSeconds time) x ≡ true
-    → (if in_grammar rfc_8259 s (leaf_of (form_or EpochSeconds time) x) then says (strict_settings b) s time (leaf_of (form_or EpochSeconds time) x) else no_meaning) ≡ means (scalar_value x)
-written_means b s time x is held =
+written_means : (b integral : Bool) (s : Scalar) (time : Option TimestampFormat) (x : ScalarValue) → is_of s x ≡ true → form_holds (form_or EpochSeconds time) x ≡ true
+    → (if in_grammar rfc_8259 s (leaf_of (form_or EpochSeconds time) x) then says (wire_settings b integral) s time (leaf_of (form_or EpochSeconds time) x) else no_meaning) ≡ means (scalar_value x)
+written_means b integral s time x is held =
     let form = form_or EpochSeconds time in
     let token = value_is_token (leaf_of form x) (leaf_bytes (leaf_of form x)) (scalar_is s form x is held) in
-    said_in s (leaf_of form x) (says (strict_settings b) s time (leaf_of form x)) no_meaning token.1 ∙ scalar_means b s time x is held
+    said_in s (leaf_of form x) (says (wire_settings b integral) s time (leaf_of form x)) no_meaning token.1 ∙ scalar_means b integral s time x is held
 
--- under strict settings
-pub json_reads_leaves : (b : Bool) → ReadsLeaves (json_leaves (strict_settings b)) (standard_rules (strict_settings b))
-json_reads_leaves b = record {
-  scalar_means = written_means b;
+-- what is written under strict settings is read so
+pub json_reads_leaves : (b integral : Bool) → ReadsLeaves (json_leaves (strict_settings b)) (standard_rules (wire_settings b integral))
+json_reads_leaves b integral = record {
+  scalar_means = written_means b integral;
   key_means = λ key utf8. said_in scalars.String (a_string (escaped key)) (unescaped (escaped key)) None (quoted_is_string key utf8).1 ∙ unescaped_of_escaped key;
 }
 

@@ -9,6 +9,7 @@ use Rattle.smithy_shapes.specs.Value.{Value, nesting}
 use Rattle.smithy_shapes.specs.Fits.{Fits}
 use Rattle.smithy_shapes.proofs.SiteLemmas.{site_at}
 use Rattle.smithy_json_codec.specs.Canonical.{json_holds, canonical_json}
+use Rattle.smithy_json_codec.specs.WireSettings.{wire_settings}
 use Rattle.smithy_json_values.specs.Codec.{strict_settings}
 use Rattle.smithy_json_values.specs.Private.TokenLaws.{fit_by_standard}
 use Rattle.smithy_json_values.specs.Settings.{Settings, kept, name_of}
@@ -40,12 +41,14 @@ named : (b : Bool) (t : Table) → IsAccepted t → TellsApart (name_of (strict_
 named true t accepted = named_by_json_name t accepted
 named false t accepted = named_by_name t accepted
 
--- of an accepted table, where the value nests no deeper than may be read
-pub canonical_spells : (b : Bool) (t : Table) (p : Place) (view : View) (v : Value) → IsAccepted t → Fits t p v
+-- of an accepted table, where the value nests no deeper than may be read, whether an integer that is read may have a fraction or an
+-- exponent or not
+pub canonical_spells : (b integral : Bool) (t : Table) (p : Place) (view : View) (v : Value) → IsAccepted t → Fits t p v
     → scalars_pass (json_holds (strict_settings b)) (site_at t p view) v ≡ true → nesting v ≤ 128
-    → json_spells (strict_settings b) t p (canonical_json (strict_settings b) (site_at t p view) v) v
-canonical_spells b t p view v accepted fits held deep =
+    → json_spells (wire_settings b integral) t p (canonical_json (strict_settings b) (site_at t p view) v) v
+canonical_spells b integral t p view v accepted fits held deep =
     let c = strict_settings b in
-    subst (λ bytes. json_spells c t p bytes v) (sym (same_text c t p view v fits))
-    (stands_whole c t p _ v
-    (written_stands json_writes json_frames (json_leaves c) (standard_rules c) json_writes_frames (json_writes_leaves c) (json_reads_leaves b) (λ held. (json_writes_documents c, json_reads_documents c)) t p view v (named b t accepted) fits held deep tt))
+    let read = wire_settings b integral in
+    subst (λ bytes. json_spells read t p bytes v) (sym (same_text c t p view v fits))
+    (stands_whole read t p _ v
+    (written_stands json_writes json_frames (json_leaves c) (standard_rules read) json_writes_frames (json_writes_leaves c) (json_reads_leaves b integral) (λ held. (json_writes_documents c, json_reads_documents read)) t p view v (named b t accepted) fits held deep tt))

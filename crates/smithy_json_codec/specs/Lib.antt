@@ -1,6 +1,7 @@
 -- to be believed, in this order
 pub mod WrittenNumber
 pub mod Canonical
+pub mod WireSettings
 pub mod ContainerSize
 -- for contracts
 pub mod Cursor

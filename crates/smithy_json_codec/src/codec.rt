@@ -42,6 +42,7 @@ impl Default for JsonCodec {
 impl JsonCodec {
     ghost use Rattle.std.specs.Prelude.{◌≡◌, false, option_map};
     ghost use Rattle.smithy_json_values.specs.Codec.{strict_codec_settings, with_namespace};
+    ghost use Rattle.smithy_json_codec.specs.WireSettings.{wire_settings};
     ghost use Rattle.smithy_json_codec.specs.Cursor.{cursor_of, reader_settings_of};
     ghost use Rattle.smithy_wire.specs.Walking.{fresh_cursor};
     ghost use Rattle.smithy_json_codec.specs.Serializing.{state_of, has_failed};
@@ -61,11 +62,20 @@ impl JsonCodec {
     pub fn strict(use_json_name: bool) -> JsonCodec
         ensures { result ≡ strict_codec_settings use_json_name }
     {
+        JsonCodec::strict_with_integral_numbers(use_json_name, false)
+    }
+
+    /// The same, where an integer may also have a fraction or an exponent if `integral` is set, as `1.0`: it is read where the
+    /// number is whole, and it and the exponent fit 64 bits. What is written is the same in both cases.
+    pub fn strict_with_integral_numbers(use_json_name: bool, integral: bool) -> JsonCodec
+        ensures { result ≡ record (strict_codec_settings use_json_name) { json = wire_settings use_json_name integral } }
+    {
         let settings = JsonCodecSettings::builder()
             .use_json_name(use_json_name)
             .enforce_strictness(true)
             .validate_skipped_string_encoding(true)
             .strict_timestamp_formats(true)
+            .allow_integral_float_numbers(integral)
             .build();
         JsonCodec::new(settings)
     }

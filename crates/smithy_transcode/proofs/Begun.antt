@@ -10,8 +10,8 @@ use Rattle.smithy_shapes.specs.Value.{Value, structure, no_member_values}
 use Rattle.smithy_schema.specs.Reading.{Cursor, depth, Relations, Reads, StandsNot, ReachesDepth, EndsTooDeep, ExceedsInside, UncarriedInside, IsCounted, IsRefused}
 use Rattle.smithy_schema.proofs.CountLemmas.{starts_counted, reaches_openers}
 use Rattle.smithy_wire.specs.Walking.{fresh_cursor}
-use Rattle.smithy_json_values.specs.Codec.{strict_settings}
 use Rattle.smithy_json_values.specs.Settings.{Settings, keep_limits, without_limits}
+use Rattle.smithy_json_codec.specs.WireSettings.{wire_settings}
 use Rattle.smithy_json_values.specs.Standing.{json_relations}
 use Rattle.smithy_cbor_body.specs.Codec.{strict_settings as strict_cbor}
 use Rattle.smithy_cbor_values.specs.Settings.{Settings as CborSettings, keep_limits as keep_cbor_limits, without_limits as without_cbor_limits}
@@ -33,10 +33,10 @@ pub record Begins (w : Wire) (r l : Relations) (max : ℕ) (old : Cursor) (s : S
   pub kind : IsStructure (kind_of t (shape_place root))
   pub read : IsReadable w
 
-pub json_begins : (w : Wire) (b : Bool) (o : Settings) (old : Cursor) (s : Schema) (t : Table) (root : ℕ) (i : List ℕ) → w ≡ json b → o ≡ strict_settings b
+pub json_begins : (w : Wire) (b n : Bool) (o : Settings) (old : Cursor) (s : Schema) (t : Table) (root : ℕ) (i : List ℕ) → w ≡ json b n → o ≡ wire_settings b n
     → old ≡ fresh_cursor i → site_of s ≡ shape_site t root → IsStructure (kind_of t (shape_place root))
     → Begins w (json_relations (keep_limits o)) (json_relations (without_limits o)) o.max_depth old s t root i
-json_begins w b o old s t root i wire same fresh site kind = record {
+json_begins w b n o old s t root i wire same fresh site kind = record {
   keeps = ap (λ c. json_relations (keep_limits c)) same ∙ sym (ap relations_of wire);
   lifts = ap (λ c. json_relations (without_limits c)) same ∙ sym (ap lifted_of wire);
   greatest = ap (λ (c : Settings). c.max_depth) same;
@@ -61,7 +61,7 @@ cbor_begins w told o old s t root i wire same fresh site kind = record {
 
 -- a reader of CBOR that fails for its depth has entered so many places of the table
 nests : (w : Wire) (t : Table) (root max : ℕ) (old new : Cursor) → IsReadable w → max ≡ 128 → depth old ≡ 0 → EndsTooDeep (relations_of w) max old new t (shape_place root) → MayNest w t root
-nests (json b) t root max old new read greatest start ends = tt
+nests (json b n) t root max old new read greatest start ends = tt
 nests (cbor told) t root max old new read greatest start (inl limited) = absurd (let both : false ≡ true = limited in cc)
 nests (cbor told) t root max old new read greatest start (inr (q, count, gone, inside, full, kind)) = (q, count, omega (arith, gone, full, start, greatest), inside, kind)
 nests (query action version) t root max old new read greatest start ends = absurd read

@@ -71,7 +71,7 @@ no_key : (b : Bool) (view : View) → view.name ≡ None → key_text b view ≡
 no_key b view nameless = rw nameless refl
 
 -- what JSON holds can be written
-pub json_takes : (b : Bool) (site : Site) (v : Value) → scalars_pass (holds (json b)) site v ≡ true → scalars_pass (json_can_write (strict_settings b)) site v ≡ true
+pub json_takes : (b : Bool) (site : Site) (v : Value) → scalars_pass (json_holds (strict_settings b)) site v ≡ true → scalars_pass (json_can_write (strict_settings b)) site v ≡ true
 json_takes b site v held =
     more_pass (json_holds (strict_settings b)) (json_can_write (strict_settings b)) (λ time x held. held_writes (form_or EpochSeconds time) x held) (λ documents. documents) v site held
 
@@ -79,7 +79,7 @@ abbrev pub json_body : Bool → Site → Value → JsonState
 json_body b site v = state (strict_settings b) (canonical_json (strict_settings b) site v) true []
 
 pub json_adds : (b : Bool) (site : Site) (v : Value) (s : JsonState) → s ≡ fresh_state (strict_settings b) → site.view.name ≡ None
-    → scalars_pass (holds (json b)) site v ≡ true → write json_after site v s ≡ Ok (json_body b site v)
+    → scalars_pass (json_holds (strict_settings b)) site v ≡ true → write json_after site v s ≡ Ok (json_body b site v)
 json_adds b site v s fresh nameless held =
     let c = strict_settings b in
     ap (write json_after site v) fresh
@@ -110,9 +110,9 @@ pub root_held : (w x : Wire) (s : Schema) (t : Table) (root : ℕ) (v : Value) �
 root_held w x s t root v wire site fit =
     ap (λ y. scalars_pass (holds x) y v) site ∙ ap (λ y. scalars_pass (holds y) (shape_site t root) v) (sym wire) ∙ all_held w t root v fit
 
-pub json_is_body : (w : Wire) (b : Bool) (s : Schema) (t : Table) (root : ℕ) (v : Value) → w ≡ json b → site_of s ≡ shape_site t root
+pub json_is_body : (w : Wire) (b n : Bool) (s : Schema) (t : Table) (root : ℕ) (v : Value) → w ≡ json b n → site_of s ≡ shape_site t root
     → canonical_json (strict_settings b) (site_of s) v ≡ body w t root v
-json_is_body w b s t root v wire site = ap (λ x. canonical_json (strict_settings b) x v) site ∙ sym (ap (λ x. body x t root v) wire)
+json_is_body w b n s t root v wire site = ap (λ x. canonical_json (strict_settings b) x v) site ∙ sym (ap (λ x. body x t root v) wire)
 
 pub cbor_is_body : (w : Wire) (told : Bool) (s : Schema) (t : Table) (root : ℕ) (v : Value) → w ≡ cbor told → site_of s ≡ shape_site t root
     → canonical_cbor told (site_of s) v ≡ body w t root v

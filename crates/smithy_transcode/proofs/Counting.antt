@@ -3,9 +3,9 @@ use Rattle.std.specs.Prelude.{◌≤◌, ◌+◌, ℕ, length, List, true, refl}
 use Rattle.std.proofs.Common.{arith}
 use Rattle.smithy_shapes.specs.Table.{Table, shape_place}
 use Rattle.smithy_shapes.specs.Value.{Value}
-use Rattle.smithy_json_values.specs.Codec.{strict_settings}
 use Rattle.smithy_json_values.specs.Laws.{rules_fit}
 use Rattle.smithy_json_values.specs.Private.Wire.{json_is_wire, json_bounds_openers}
+use Rattle.smithy_json_codec.specs.WireSettings.{wire_settings}
 use Rattle.smithy_json_values.specs.Standing.{json_frames, json_rules}
 use Rattle.smithy_cbor_body.specs.Codec.{strict_settings as strict_cbor}
 use Rattle.smithy_cbor_values.specs.Laws.{rules_fit as cbor_rules_fit}
@@ -20,10 +20,10 @@ use Rattle.smithy_transcode.proofs.Spelled.{spelled_stands}
 
 -- a spelled value has, with itself and all that stands in it, at most one value more than the input has bytes
 pub nodes_are_bounded : (w : Wire) (t : Table) (root : ℕ) (i : List ℕ) (v : Value) → Spells w t root i v → nodes v ≤ length i + 1
-nodes_are_bounded (json b) t root i v h =
-    let s = spelled_stands (json b) t root i v h in
+nodes_are_bounded (json b n) t root i v h =
+    let s = spelled_stands (json b n) t root i v h in
     let most =
-    stands_is_bounded json_frames (json_rules (strict_settings b)) json_is_wire json_bounds_openers refl (rules_fit (strict_settings b)) i t (shape_place root) 0 0 v s.0
+    stands_is_bounded json_frames (json_rules (wire_settings b n)) json_is_wire json_bounds_openers refl (rules_fit (wire_settings b n)) i t (shape_place root) 0 0 v s.0
     s.1 in
     omega (arith, most)
 nodes_are_bounded (cbor told) t root i v h =

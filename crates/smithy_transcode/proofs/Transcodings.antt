@@ -11,9 +11,9 @@ use Rattle.smithy_schema.specs.Reading.{IsFault, FindsNone, IsRefused, IsInvalid
 use Rattle.smithy_shapes.specs.Table.{Table, IsStructure, kind_of, shape_place}
 use Rattle.smithy_shapes.specs.Value.{Value, nesting}
 use Rattle.smithy_shapes.specs.Site.{Site, whole_view, site_of, shape_site}
-use Rattle.smithy_json_values.specs.Codec.{strict_settings}
 use Rattle.smithy_json_values.proofs.SpellingLemmas.{one_spelled}
 use Rattle.smithy_json_codec.proofs.WrittenSpelling.{spelled_fits, shallow, canonical_spells}
+use Rattle.smithy_json_codec.specs.WireSettings.{wire_settings}
 use Rattle.smithy_cbor_body.specs.Codec.{strict_settings as strict_cbor}
 use Rattle.smithy_cbor_values.proofs.SpellingLemmas.{one_spelled as one_cbor_spelled}
 use Rattle.smithy_cbor_codec.proofs.WrittenSpelling.{spelled_fits as cbor_fits, shallow as cbor_shallow, canonical_spells as cbor_spells_again}
@@ -36,14 +36,14 @@ use Rattle.smithy_schema.proofs.WrittenLists.{fits_or_null}
 
 -- at most one value is spelled
 pub one_value : (w : Wire) (t : Table) (root : ℕ) (i : List ℕ) (v u : Value) → Spells w t root i v → Spells w t root i u → v ≡ u
-one_value (json b) t root i v u h k = one_spelled (strict_settings b) t (shape_place root) i v u h k
+one_value (json b n) t root i v u h k = one_spelled (wire_settings b n) t (shape_place root) i v u h k
 one_value (cbor told) t root i v u h k = one_cbor_spelled strict_cbor t (shape_place root) i v u h k
 one_value (query action version) t root i v u h k = absurd h
 
 -- what is spelled is a value of the root, and nests no deeper than may be read
 pub spelled_is_small : (w : Wire) (t : Table) (root : ℕ) (i : List ℕ) (v : Value) → Spells w t root i v → Fits t (shape_place root) v × (nesting v ≤ 128)
-spelled_is_small (json b) t root i v h =
-    (spelled_fits (strict_settings b) t (shape_place root) i v refl h, shallow (strict_settings b) t (shape_place root) i v refl h)
+spelled_is_small (json b n) t root i v h =
+    (spelled_fits (wire_settings b n) t (shape_place root) i v refl h, shallow (wire_settings b n) t (shape_place root) i v refl h)
 spelled_is_small (cbor told) t root i v h =
     (cbor_fits strict_cbor t (shape_place root) i v refl h, cbor_shallow strict_cbor t (shape_place root) i v refl h)
 spelled_is_small (query action version) t root i v h = absurd h
@@ -54,7 +54,7 @@ HasByteTexts (query action version) = All (λ b. b < 256) action × All (λ b. b
 HasByteTexts _ = Unit {0}
 
 pub has_byte_texts : (w : kept.Wire) → HasByteTexts (wire_of w)
-has_byte_texts (wires.Json b) = tt
+has_byte_texts (wires.Json b n) = tt
 has_byte_texts (wires.Cbor told) = tt
 has_byte_texts (wires.Query action version) =
     (utf8_bytes (string_bytes action) (IsUtf8-string_bytes action), utf8_bytes (string_bytes version) (IsUtf8-string_bytes version))
@@ -62,9 +62,9 @@ has_byte_texts (wires.Query action version) =
 -- where the wire is read, the body of what one wire spells spells it again, where its lengths fit into heads
 body_spells : (from to : Wire) (t : Table) (root : ℕ) (i : List ℕ) (v : Value) → IsReadable to → IsAccepted t → Spells from t root i v
     → unfit to t root v ≡ None → length (body to t root v) < 2 ^ 64 → Spells to t root (body to t root v) v
-body_spells from (json b) t root i v read accepted h fit short =
+body_spells from (json b n) t root i v read accepted h fit short =
     let small = spelled_is_small from t root i v h in
-    canonical_spells b t (shape_place root) whole_view v accepted small.0 (all_held (json b) t root v fit) small.1
+    canonical_spells b n t (shape_place root) whole_view v accepted small.0 (all_held (json b n) t root v fit) small.1
 body_spells from (cbor told) t root i v read accepted h fit short =
     let small = spelled_is_small from t root i v h in
     cbor_spells_again told t root v accepted small.0 (all_held (cbor told) t root v fit) small.1 short
@@ -76,8 +76,8 @@ spelled_alone w t root v spells = (spells, λ u other. one_value w t root (body 
 -- the body tells the value again in the other wire, which can express it
 body_tells : (from to : Wire) (t : Table) (root : ℕ) (i : List ℕ) (v : Value) → IsAccepted t → IsStructure (kind_of t (shape_place root)) → Spells from t root i v
     → unfit to t root v ≡ None → CanCount to v → HasByteTexts to → length (body to t root v) < 2 ^ 64 → TellsAgain to t root (body to t root v) v
-body_tells from (json b) t root i v accepted kind h fit counts texts short =
-    spelled_alone (json b) t root v (body_spells from (json b) t root i v tt accepted h fit short)
+body_tells from (json b n) t root i v accepted kind h fit counts texts short =
+    spelled_alone (json b n) t root v (body_spells from (json b n) t root i v tt accepted h fit short)
 body_tells from (cbor told) t root i v accepted kind h fit counts texts short = spelled_alone (cbor told) t root v (body_spells from (cbor told) t root i v tt accepted h fit short)
 body_tells from (query action version) t root i v accepted kind h fit counts texts short =
     form_tells action version t root v accepted kind (spelled_is_small from t root i v h).0 counts texts.0 texts.1

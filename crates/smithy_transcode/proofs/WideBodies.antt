@@ -6,9 +6,9 @@ use Rattle.smithy_shapes.specs.declared.shape_type.Scalar.TheVariants.{Timestamp
 use Rattle.smithy_shapes.specs.declared.shape_type.TimestampFormat.{TimestampFormat}
 use Rattle.smithy_shapes.specs.Table.{Table, Kind, scalar, document, kind_of, shape_place, IsStructure, IsInside}
 use Rattle.smithy_schema.specs.Reading.{Cursor, depth, Exceeds, ExceedsInside, Uncarried, UncarriedInside}
-use Rattle.smithy_json_values.specs.Codec.{strict_settings}
 use Rattle.smithy_json_values.specs.Standing.{json_frames, json_rules}
 use Rattle.smithy_json_values.proofs.WideSlices.{wide_token, uncarried_token, other_token}
+use Rattle.smithy_json_codec.specs.WireSettings.{wire_settings}
 use Rattle.smithy_cbor_body.specs.Codec.{strict_settings as strict_cbor}
 use Rattle.smithy_cbor_values.specs.Meaning.{rules_of as cbor_rules}
 use Rattle.smithy_cbor_values.specs.Standing.{cbor_frames}
@@ -32,9 +32,9 @@ Leaves w bytes k = (s : Scalar) × (k ≡ scalar s) × HasWide w s bytes
 
 -- at a place: the scalar that stands there, and the slice
 exceeds_slice : (w : Wire) (t : Table) (q : Place) (c : Cursor) → IsReadable w → Exceeds (relations_of w) c t q → Leaves w c.input (kind_of t q)
-exceeds_slice (json b) t q c read (e, (x, lies, leaves)) =
-    let s = too_wide_scalar (json_rules (strict_settings b)) (kind_of t q) q.time x leaves in
-    (s.0, s.1, wide_token (strict_settings b) s.0 q.time x c.input (depth c) c.at e lies s.2)
+exceeds_slice (json b n) t q c read (e, (x, lies, leaves)) =
+    let s = too_wide_scalar (json_rules (wire_settings b n)) (kind_of t q) q.time x leaves in
+    (s.0, s.1, wide_token (wire_settings b n) s.0 q.time x c.input (depth c) c.at e lies s.2)
 exceeds_slice (cbor told) t q c read (e, (x, lies, leaves)) =
     let s = too_wide_scalar (cbor_rules strict_cbor) (kind_of t q) q.time x leaves in
     (s.0, s.1, cbor_wide_slice s.0 q.time x c.input c.at e lies.1 s.2)
@@ -46,10 +46,10 @@ HasOther w bytes (scalar s) = (s ≡ Timestamp) × HasOtherSeconds w bytes
 HasOther w bytes document = HasUncarriedPart w bytes
 HasOther w bytes _ = ⊥
 
-json_other : (b : Bool) (q : Place) (k : Kind) (i : List ℕ) (d a e : ℕ) → UncarriedAt json_frames (json_rules (strict_settings b)) k q.time i d a e → HasOther (json b) i k
-json_other b q (scalar s) i d a e (x, lies, other) = uncarried_token (strict_settings b) s q.time x i d a e lies other
-json_other b q document i d a e h = let (deeper, c, x, ahead, lies, other) = h in other_token x i deeper c e lies other
-json_other b q _ i d a e (x, lies, other) = absurd other
+json_other : (b n : Bool) (q : Place) (k : Kind) (i : List ℕ) (d a e : ℕ) → UncarriedAt json_frames (json_rules (wire_settings b n)) k q.time i d a e → HasOther (json b n) i k
+json_other b n q (scalar s) i d a e (x, lies, other) = uncarried_token (wire_settings b n) s q.time x i d a e lies other
+json_other b n q document i d a e h = let (deeper, c, x, ahead, lies, other) = h in other_token x i deeper c e lies other
+json_other b n q _ i d a e (x, lies, other) = absurd other
 
 cbor_other : (told : Bool) (q : Place) (k : Kind) (i : List ℕ) (d a e : ℕ) → UncarriedAt (cbor_frames true) (cbor_rules strict_cbor) k q.time i d a e → HasOther (cbor told) i k
 cbor_other told q (scalar s) i d a e (x, lies, other) = cbor_uncarried_slice s q.time x i a e lies.1 other
@@ -57,7 +57,7 @@ cbor_other told q document i d a e h = tt
 cbor_other told q _ i d a e (x, lies, other) = absurd other
 
 uncarried_at : (w : Wire) (t : Table) (q : Place) (c : Cursor) → IsReadable w → Uncarried (relations_of w) c t q → HasOther w c.input (kind_of t q)
-uncarried_at (json b) t q c read (e, there) = json_other b q (kind_of t q) c.input (depth c) c.at e there
+uncarried_at (json b n) t q c read (e, there) = json_other b n q (kind_of t q) c.input (depth c) c.at e there
 uncarried_at (cbor told) t q c read (e, there) = cbor_other told q (kind_of t q) c.input (depth c) c.at e there
 uncarried_at (query action version) t q c read other = absurd read
 

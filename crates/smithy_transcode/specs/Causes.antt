@@ -14,7 +14,7 @@ use Rattle.smithy_transcode.specs.Wires.{Wire, json, cbor, query}
 
 -- how many containers may be open at once, by the bytes alone
 abbrev pub openers : Wire → List ℕ → ℕ
-openers (json use_json_name) bytes = json_openers bytes
+openers (json use_json_name integral) bytes = json_openers bytes
 openers (cbor definite_lengths) bytes = cbor_openers bytes
 openers (query action version) bytes = 0
 
@@ -26,7 +26,7 @@ NestsTo greatest table root =
 -- In JSON the greatest depth holds for all that stands in a body, whatever the table has. In CBOR it holds for what is entered by the
 -- table alone, and not for what is skipped, or stands where a document is due.
 abbrev pub MayNest : Wire → Table → ℕ → Type 0
-MayNest (json use_json_name) table root = Unit {0}
+MayNest (json use_json_name integral) table root = Unit {0}
 MayNest (cbor definite_lengths) table root = NestsTo 128 table root
 MayNest (query action version) table root = ⊥
 
@@ -36,20 +36,20 @@ IsTooDeep wire table root bytes = (128 ≤ openers wire bytes) × MayNest wire t
 
 -- some slice of the bytes is, as a big number of this kind, one that leaves the limits of the kind; of forms nothing is read
 abbrev pub HasWide : Wire → Scalar → List ℕ → Type 0
-HasWide (json use_json_name) s bytes = IsWideJson s bytes
+HasWide (json use_json_name integral) s bytes = IsWideJson s bytes
 HasWide (cbor definite_lengths) s bytes = IsWideCbor s bytes
 HasWide (query action version) s bytes = ⊥
 
 -- some slice of the bytes is a number of seconds that no instant carries
 abbrev pub HasOtherSeconds : Wire → List ℕ → Type 0
-HasOtherSeconds (json use_json_name) bytes = IsUncarriedJson bytes
+HasOtherSeconds (json use_json_name integral) bytes = IsUncarriedJson bytes
 HasOtherSeconds (cbor definite_lengths) bytes = IsUncarriedCbor bytes
 HasOtherSeconds (query action version) bytes = ⊥
 
 -- Some slice of the bytes is what no document carries: in JSON a number with a fraction or an exponent, or outside of -2^63 to
 -- 2^64-1. CBOR carries no documents, whatever the bytes are.
 abbrev pub HasUncarriedPart : Wire → List ℕ → Type 0
-HasUncarriedPart (json use_json_name) bytes = HasUnheldNumber bytes
+HasUncarriedPart (json use_json_name integral) bytes = HasUnheldNumber bytes
 HasUncarriedPart (cbor definite_lengths) bytes = Unit {0}
 HasUncarriedPart (query action version) bytes = ⊥
 

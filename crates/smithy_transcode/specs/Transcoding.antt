@@ -37,7 +37,7 @@ root_leaves table root v = leaves (shape_site table root) neither v
 -- The bytes tell the value again: they spell it alone. A form is cut into Action, Version and the leaves of the value,
 -- of which no two have one path, not even as paths are written.
 abbrev pub TellsAgain : Wire → Table → ℕ → List ℕ → Value → Type 0
-TellsAgain (json use_json_name) table root bytes v = SpellsAlone (json use_json_name) table root bytes v
+TellsAgain (json use_json_name integral) table root bytes v = SpellsAlone (json use_json_name integral) table root bytes v
 TellsAgain (cbor definite_lengths) table root bytes v = SpellsAlone (cbor definite_lengths) table root bytes v
 TellsAgain (query action version) table root bytes v =
     (pairs_of bytes ≡ leaves_pairs action version (root_leaves table root v))

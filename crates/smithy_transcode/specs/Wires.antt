@@ -15,8 +15,8 @@ use Rattle.smithy_transcode.specs.declared.wire.Unfit.{Unfit}
 use Rattle.smithy_transcode.specs.declared.wire.Unfit.TheVariants.{Document, Null, Instant}
 
 pub data Wire : Type 0 where
-  -- members go by their JSON names, where they have one
-  json : Bool → Wire
+  -- members go by their JSON names, where they have one; and an integer that is read may have a fraction or an exponent if it is whole
+  json : Bool → Bool → Wire
   -- lists and maps are written with their lengths
   cbor : Bool → Wire
   -- a form of this action and version
@@ -24,7 +24,7 @@ pub data Wire : Type 0 where
 
 -- the wire that is asked for
 abbrev pub wire_of : kept.Wire → Wire
-wire_of (wires.Json use_json_name) = json use_json_name
+wire_of (wires.Json use_json_name integral) = json use_json_name integral
 wire_of (wires.Cbor definite_lengths) = cbor definite_lengths
 wire_of (wires.Query action version) = query (string_bytes action) (string_bytes version)
 
@@ -40,7 +40,7 @@ has_nulls _ = true
 
 -- what is written for a scalar at a place with this time form stands for exactly it, and whether documents have a spelling
 abbrev pub holds : Wire → ValueTest
-holds (json use_json_name) = json_holds (strict_settings use_json_name)
+holds (json use_json_name integral) = json_holds (strict_settings use_json_name)
 holds (cbor definite_lengths) = cbor_holds
 holds (query action version) = query_holds
 

@@ -64,11 +64,8 @@ fn lacks_null<T: Tree>(value: &T, to: &Wire) -> bool
     ensures positions { result ≡ false → CanCount (wire_of to.now) (T.view value.now) }
 {
     match to {
-        Wire::Json { use_json_name: _ } | Wire::Cbor { definite: _ } => false,
-        Wire::Query {
-            action: _,
-            version: _,
-        } => holds_null::<T>(value),
+        Wire::Json { .. } | Wire::Cbor { .. } => false,
+        Wire::Query { .. } => holds_null::<T>(value),
     }
 }
 

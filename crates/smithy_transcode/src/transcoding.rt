@@ -68,7 +68,7 @@ fn write_body(
 {
     let schema = shapes.schema(root);
     match to {
-        Wire::Json { use_json_name } => {
+        Wire::Json { use_json_name, .. } => {
             let codec = JsonCodec::strict(*use_json_name);
             let sink = codec.create_serializer(alloc);
             body_of_value(alloc, sink, &schema, value)

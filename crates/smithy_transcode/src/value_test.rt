@@ -38,18 +38,15 @@ pub(crate) fn test_of(wire: &Wire) -> ValueTest
     ensures { test_view result ≡ holds (wire_of wire.now) }
 {
     match wire {
-        Wire::Json { use_json_name: _ } => ValueTest {
+        Wire::Json { .. } => ValueTest {
             instants: InstantTest::InForm(TimestampFormat::EpochSeconds),
             documents: true,
         },
-        Wire::Cbor { definite: _ } => ValueTest {
+        Wire::Cbor { .. } => ValueTest {
             instants: InstantTest::WholeSeconds,
             documents: false,
         },
-        Wire::Query {
-            action: _,
-            version: _,
-        } => ValueTest {
+        Wire::Query { .. } => ValueTest {
             instants: InstantTest::InForm(TimestampFormat::DateTime),
             documents: false,
         },

@@ -74,18 +74,18 @@ pub(crate) fn read_whole<T: Tree>(
 {
     let schema = shapes.schema(root);
     match from {
-        Wire::Json { use_json_name } => {
-            let codec = JsonCodec::strict(*use_json_name);
+        Wire::Json {
+            use_json_name,
+            integral,
+        } => {
+            let codec = JsonCodec::strict_with_integral_numbers(*use_json_name, *integral);
             let mut source = codec.create_deserializer(alloc, input);
             read_tree(alloc, &mut source, &schema)
         }
-        Wire::Cbor { definite: _ } => {
+        Wire::Cbor { .. } => {
             let mut source = CborCodec::strict().create_deserializer(alloc, input);
             read_tree(alloc, &mut source, &schema)
         }
-        Wire::Query {
-            action: _,
-            version: _,
-        } => Err(SerdeError::InvalidInput),
+        Wire::Query { .. } => Err(SerdeError::InvalidInput),
     }
 }

@@ -9,6 +9,9 @@ pub enum Wire {
     Json {
         /// Members go by their JSON names, where they have one.
         use_json_name: bool,
+        /// An integer that is read may have a fraction or an exponent, as `1.0`, where it is whole. What is written is the same
+        /// in any case.
+        integral: bool,
     },
     /// CBOR (RFC 8949).
     Cbor {

@@ -38,19 +38,19 @@ pub fn read(
     ensures { IfOk result (λ v. Fits shapes.now (shape_place root.0) (view v)) }
 {
     match from {
-        Wire::Json { use_json_name } => {
-            let codec = JsonCodec::strict(*use_json_name);
+        Wire::Json {
+            use_json_name,
+            integral,
+        } => {
+            let codec = JsonCodec::strict_with_integral_numbers(*use_json_name, *integral);
             let mut source = codec.create_deserializer(alloc, input);
             read_by(alloc, shapes, root, &mut source)
         }
-        Wire::Cbor { definite: _ } => {
+        Wire::Cbor { .. } => {
             let mut source = CborCodec::strict().create_deserializer(alloc, input);
             read_by(alloc, shapes, root, &mut source)
         }
-        Wire::Query {
-            action: _,
-            version: _,
-        } => Err(SerdeError::InvalidInput),
+        Wire::Query { .. } => Err(SerdeError::InvalidInput),
     }
 }
 
@@ -82,7 +82,7 @@ pub fn write(
     requires fits { Fits shapes.now (shape_place root.0) (view value.now) }
 {
     match to {
-        Wire::Json { use_json_name } => {
+        Wire::Json { use_json_name, .. } => {
             let codec = JsonCodec::strict(*use_json_name);
             let sink = codec.create_serializer(alloc);
             write_by(alloc, sink, shapes, root, value)

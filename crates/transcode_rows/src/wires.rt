@@ -4,15 +4,20 @@ use smithy_rows::Row;
 use smithy_transcode::Wire;
 use std::alloc::{AllocError, Global};
 
+fn json(use_json_name: bool, integral: bool) -> Wire {
+    Wire::Json {
+        use_json_name,
+        integral,
+    }
+}
+
 /// The wire of a name. The action and the version of a form stand in the row.
 pub fn wire(alloc: Global, row: &Row, name: &str) -> Result<Option<Wire>, AllocError> {
     match name {
-        "json" => Ok(Some(Wire::Json {
-            use_json_name: false,
-        })),
-        "json-name" => Ok(Some(Wire::Json {
-            use_json_name: true,
-        })),
+        "json" => Ok(Some(json(false, false))),
+        "json-name" => Ok(Some(json(true, false))),
+        "json-integral" => Ok(Some(json(false, true))),
+        "json-name-integral" => Ok(Some(json(true, true))),
         "cbor" => Ok(Some(Wire::Cbor { definite: false })),
         "cbor-definite" => Ok(Some(Wire::Cbor { definite: true })),
         "query" => Ok(Some(Wire::Query {

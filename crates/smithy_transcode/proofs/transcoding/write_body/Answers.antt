@@ -9,6 +9,7 @@ use Rattle.smithy_query_codec.specs.Serializing.{state_of as form_of}
 use Rattle.smithy_transcode.specs.Wires.{wire_of, json, cbor, query, unfit}
 use Rattle.smithy_transcode.specs.Private.Positions.{CanCount}
 use Rattle.smithy_json_settings.specs.Settings.{CodecSettings}
+use Rattle.smithy_json_codec.specs.WireSettings.{wire_settings}
 use Rattle.smithy_transcode.specs.Private.Tree.{compact_view as view}
 use Rattle.smithy_transcode.proofs.Bodies.{reached, root_held, json_body, json_adds, json_is_body, cbor_body, cbor_adds, cbor_is_body, form_takes, form_state, form_adds, same_fresh, form_is_body}
 use Rattle.smithy_transcode.proofs.transcoding.write_body.Goals as goal
@@ -18,7 +19,7 @@ body_of_value-requires-clause-taken c =
     let site = site_of c.schema-schema.result in
     let fresh = c.create_serializer-sink.ensures.state ∙ ap (λ (s : CodecSettings). fresh_state s.json) c.strict-codec.ensures in
     let nameless = ap (λ (s : Site). s.view.name) c.schema-schema.ensures.site in
-    let held = root_held (wire_of c.args.to.now) (json c.in-Json.use_json_name) c.schema-schema.result c.args.shapes.now c.args.root.0 (view c.args.value.now) (ap wire_of c.in-Json.is) c.schema-schema.ensures.site c.requires.fit in
+    let held = root_held (wire_of c.args.to.now) (json c.in-Json.use_json_name c.in-Json.integral) c.schema-schema.result c.args.shapes.now c.args.root.0 (view c.args.value.now) (ap wire_of c.in-Json.is) c.schema-schema.ensures.site c.requires.fit in
     (json_body c.in-Json.use_json_name site (view c.args.value.now), json_adds c.in-Json.use_json_name site (view c.args.value.now) (state_of c.create_serializer-sink.result) fresh nameless held, refl)
 
 pub returns-in-Json-clause-ok : goal.returns-in-Json-clause-ok
@@ -26,9 +27,9 @@ returns-in-Json-clause-ok c =
     let site = site_of c.schema-schema.result in
     let fresh = c.create_serializer-sink.ensures.state ∙ ap (λ (s : CodecSettings). fresh_state s.json) c.strict-codec.ensures in
     let nameless = ap (λ (s : Site). s.view.name) c.schema-schema.ensures.site in
-    let held = root_held (wire_of c.args.to.now) (json c.in-Json.use_json_name) c.schema-schema.result c.args.shapes.now c.args.root.0 (view c.args.value.now) (ap wire_of c.in-Json.is) c.schema-schema.ensures.site c.requires.fit in
+    let held = root_held (wire_of c.args.to.now) (json c.in-Json.use_json_name c.in-Json.integral) c.schema-schema.result c.args.shapes.now c.args.root.0 (view c.args.value.now) (ap wire_of c.in-Json.is) c.schema-schema.ensures.site c.requires.fit in
     let adds = json_adds c.in-Json.use_json_name site (view c.args.value.now) (state_of c.create_serializer-sink.result) fresh nameless held in
-    let is = json_is_body (wire_of c.args.to.now) c.in-Json.use_json_name c.schema-schema.result c.args.shapes.now c.args.root.0 (view c.args.value.now) (ap wire_of c.in-Json.is) c.schema-schema.ensures.site in
+    let is = json_is_body (wire_of c.args.to.now) c.in-Json.use_json_name c.in-Json.integral c.schema-schema.result c.args.shapes.now c.args.root.0 (view c.args.value.now) (ap wire_of c.in-Json.is) c.schema-schema.ensures.site in
     reached c.body_of_value.result _ _ c.body_of_value.ensures.ok (json_body c.in-Json.use_json_name site (view c.args.value.now)) _ adds is
 
 pub body_of_value-requires-in-Cbor-clause-taken : goal.body_of_value-requires-in-Cbor-clause-taken
