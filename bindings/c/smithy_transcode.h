@@ -18,8 +18,17 @@
 extern "C" {
 #endif
 
-/* The wires. A form, and CBOR whose lists and maps have their lengths, are written and not read: each CBOR is read as SMITHY_CBOR. */
-enum { SMITHY_JSON = 0, SMITHY_JSON_NAME = 1, SMITHY_CBOR = 2, SMITHY_QUERY = 3, SMITHY_CBOR_DEFINITE = 4 };
+/* The wires. A form, and CBOR whose lists and maps have their lengths, are written and not read: each CBOR is read as SMITHY_CBOR.
+   JSON whose integers may have a fraction or an exponent is read and not written. */
+enum {
+    SMITHY_JSON = 0,
+    SMITHY_JSON_NAME = 1,
+    SMITHY_CBOR = 2,
+    SMITHY_QUERY = 3,
+    SMITHY_CBOR_DEFINITE = 4,
+    SMITHY_JSON_INTEGRAL = 5,
+    SMITHY_JSON_NAME_INTEGRAL = 6
+};
 
 /* What a call answers. */
 enum {

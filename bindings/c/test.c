@@ -53,7 +53,7 @@ static void rows(void)
     expect("a table is accepted", smithy_table_accept(&table, TEXT, sizeof TEXT - 1) == SMITHY_DONE && table.pointer != NULL);
     TEXT_ROW("S", SMITHY_JSON, SMITHY_JSON, "{\"z\":[1], \"l\":[\"x\"], \"a\" : 7}", SMITHY_DONE, "{\"a\":7,\"l\":[\"x\"]}");
     TEXT_ROW("S", SMITHY_JSON, SMITHY_CBOR, "{\"a\":7}", SMITHY_DONE, "\xbf\x61\x61\x07\xff");
-    TEXT_ROW("S", SMITHY_JSON, SMITHY_CBOR_DEFINITE, "{\"a\":7}", SMITHY_DONE, "\xa1\x61\x61\x07");
+    TEXT_ROW("S", SMITHY_JSON, SMITHY_CBOR_DEFINITE, "{\"l\":[\"x\"]}", SMITHY_DONE, "\xbf\x61\x6c\x81\x61\x78\xff");
     TEXT_ROW("S", SMITHY_CBOR, SMITHY_JSON_NAME, "\xa1\x61\x61\x07", SMITHY_DONE, "{\"a\":7}");
     TEXT_ROW("S", SMITHY_JSON, SMITHY_QUERY, "{\"a\":7}", SMITHY_DONE, "Action=Do&Version=1&a=7");
     TEXT_ROW("S", SMITHY_JSON, SMITHY_JSON, "{\"a\":7.5}", SMITHY_INVALID_INPUT, "");
@@ -64,6 +64,9 @@ static void rows(void)
     TEXT_ROW("S", SMITHY_JSON, SMITHY_CBOR, "{\"t\":1.5}", SMITHY_INSTANT, "");
     TEXT_ROW("S", SMITHY_QUERY, SMITHY_JSON, "{}", SMITHY_USAGE, "");
     TEXT_ROW("S", SMITHY_CBOR_DEFINITE, SMITHY_JSON, "\xa0", SMITHY_USAGE, "");
+    TEXT_ROW("S", SMITHY_JSON_INTEGRAL, SMITHY_JSON, "{\"a\":7.0}", SMITHY_DONE, "{\"a\":7}");
+    TEXT_ROW("S", SMITHY_JSON_NAME_INTEGRAL, SMITHY_JSON, "{\"a\":7.0}", SMITHY_DONE, "{\"a\":7}");
+    TEXT_ROW("S", SMITHY_JSON, SMITHY_JSON_INTEGRAL, "{}", SMITHY_USAGE, "");
     TEXT_ROW("S", SMITHY_JSON, 99, "{}", SMITHY_USAGE, "");
     TEXT_ROW("Q", SMITHY_JSON, SMITHY_JSON, "{}", SMITHY_NO_SUCH_SHAPE, "");
     TEXT_ROW("\xff", SMITHY_JSON, SMITHY_JSON, "{}", SMITHY_NO_SUCH_SHAPE, "");

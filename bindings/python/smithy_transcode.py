@@ -16,7 +16,7 @@ import threading
 from dataclasses import dataclass
 from typing import Iterable, Union
 
-__all__ = ["CBOR", "CBOR_DEFINITE", "JSON", "JSON_NAME", "InvalidInput", "NotCarried", "NotExpressible", "NoSuchShape", "NotAStructure", "Query",
+__all__ = ["CBOR", "CBOR_DEFINITE", "JSON", "JSON_INTEGRAL", "JSON_NAME", "JSON_NAME_INTEGRAL", "InvalidInput", "NotCarried", "NotExpressible", "NoSuchShape", "NotAStructure", "Query",
            "Refused", "Table", "TableRefused", "TooDeep", "TooWide", "Transcoder"]
 
 
@@ -46,6 +46,10 @@ CBOR = Wire(2, "cbor")
 """CBOR (RFC 8949)."""
 CBOR_DEFINITE = Wire(4, "cbor-definite")
 """CBOR whose lists and maps have their lengths. It is written alone: each CBOR is read as `CBOR`."""
+JSON_INTEGRAL = Wire(5, "json-integral")
+"""JSON whose integers may have a fraction or an exponent, as `1.0`. It is read alone."""
+JSON_NAME_INTEGRAL = Wire(6, "json-name-integral")
+"""The same under the JSON names of members, where they have one."""
 _QUERY = 3
 
 _NO_ROOM = 24
@@ -152,8 +156,7 @@ class Table:
     def transcoder(self, root: str, source: Wire, target: Union[Wire, Query]) -> Transcoder:
         """What transcodes bodies of one root.
 
-        root: the name of a structure of the table. source: the wire of the bodies, which is JSON, JSON_NAME or CBOR. target: the wire
-        that is wanted.
+        root: the name of a structure of the table. source: the wire of the bodies, which isn't CBOR_DEFINITE. target: the wire that is wanted.
         """
         return Transcoder(self, root, source, target)
 

@@ -18,8 +18,9 @@ class Bodies(unittest.TestCase):
     def test_each_wire(self):
         to_cbor = self.table.transcoder("S", st.JSON, st.CBOR)
         self.assertEqual(to_cbor(b'{"z":[1], "a" : 7}'), bytes.fromhex("bf616107ff"))
-        self.assertEqual(self.table.transcoder("S", st.JSON, st.CBOR_DEFINITE)(b'{"a":7}'), bytes.fromhex("a1616107"))
+        self.assertEqual(self.table.transcoder("S", st.JSON, st.CBOR_DEFINITE)(b'{"l":["x"]}'), bytes.fromhex("bf616c816178ff"))
         self.assertEqual(self.table.transcoder("S", st.CBOR, st.JSON_NAME)(bytes.fromhex("a1616107")), b'{"a":7}')
+        self.assertEqual(self.table.transcoder("S", st.JSON_INTEGRAL, st.JSON)(b'{"a":7.0}'), b'{"a":7}')
         form = self.table.transcoder("S", st.JSON, st.Query("Do", "1"))
         self.assertEqual(form(b'{"a":7}'), b"Action=Do&Version=1&a=7")
 

@@ -36,11 +36,15 @@ extern "C" {
 #[derive(Clone, Copy, Debug, PartialEq, Eq, Hash)]
 pub enum Source {
     /// JSON under the names of members.
-    Json,
+    Json = 0,
     /// JSON under the JSON names of members, where they have one.
-    JsonName,
+    JsonName = 1,
     /// CBOR (RFC 8949).
-    Cbor,
+    Cbor = 2,
+    /// JSON whose integers may have a fraction or an exponent, as `1.0`.
+    JsonIntegral = 5,
+    /// The same under the JSON names of members, where they have one.
+    JsonNameIntegral = 6,
 }
 
 /// A wire that bodies are written to.

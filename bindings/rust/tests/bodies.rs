@@ -14,8 +14,9 @@ fn body(table: &mut Table, from: Source, input: &[u8], to: Target<'_>) -> Result
 fn each_wire() {
     let mut table = Table::accept(TEXT).unwrap();
     assert_eq!(body(&mut table, Source::Json, br#"{"z":[1], "a" : 7}"#, Target::Cbor).unwrap(), b"\xbf\x61\x61\x07\xff");
-    assert_eq!(body(&mut table, Source::Json, br#"{"a":7}"#, Target::CborDefinite).unwrap(), b"\xa1\x61\x61\x07");
+    assert_eq!(body(&mut table, Source::Json, br#"{"l":["x"]}"#, Target::CborDefinite).unwrap(), b"\xbf\x61\x6c\x81\x61\x78\xff");
     assert_eq!(body(&mut table, Source::Cbor, b"\xa1\x61\x61\x07", Target::JsonName).unwrap(), br#"{"a":7}"#);
+    assert_eq!(body(&mut table, Source::JsonIntegral, br#"{"a":7.0}"#, Target::Json).unwrap(), br#"{"a":7}"#);
     let form = Target::Query { action: "Do", version: "1" };
     assert_eq!(body(&mut table, Source::Json, br#"{"a":7}"#, form).unwrap(), b"Action=Do&Version=1&a=7");
 }

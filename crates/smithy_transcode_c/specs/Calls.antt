@@ -18,13 +18,21 @@ pub record Asked : Type 0 where
   pub action : List ℕ
   pub version : List ℕ
 
--- the wire of a number from which bodies are read
-abbrev pub source_wire : ℕ → Option Wire
-source_wire n =
-    if n == 0 then Some (json false)
-    else if n == 1 then Some (json true)
+-- the wire of a number that is read as well as written
+abbrev pub common_wire : ℕ → Option Wire
+common_wire n =
+    if n == 0 then Some (json false false)
+    else if n == 1 then Some (json true false)
     else if n == 2 then Some (cbor false)
     else None
+
+-- the wire of a number from which bodies are read: one of those, or JSON whose integers may have a fraction or an exponent, which is
+-- read alone
+abbrev pub source_wire : ℕ → Option Wire
+source_wire n =
+    if n == 5 then Some (json false true)
+    else if n == 6 then Some (json true true)
+    else common_wire n
 
 -- the text that some bytes are
 abbrev pub text_of : List ℕ → Option (List ℕ)
@@ -39,7 +47,7 @@ abbrev pub target_wire : Asked → Option Wire
 target_wire asked =
     if asked.to == 3 then form_of asked.action asked.version
     else if asked.to == 4 then Some (cbor true)
-    else source_wire asked.to
+    else common_wire asked.to
 
 -- the structure of the table, and the wires, that are asked for
 pub record IsMeant (table : Table) (asked : Asked) (root : ℕ) (from to : Wire) : Type 0 where

@@ -2,7 +2,7 @@
 ghost use Rattle.std.specs.Prelude.{◌≡◌, Some, option_map, IfOk, IfErr};
 ghost use Rattle.smithy_shapes.specs.Table.{IsStructure, kind_of, shape_place, declared_as};
 ghost use Rattle.smithy_transcode.specs.Wires.{wire_of};
-ghost use Rattle.smithy_transcode_c.specs.Calls.{IsMeant, Refuses, RefusesRoot, source_wire, form_of, target_wire, text_of};
+ghost use Rattle.smithy_transcode_c.specs.Calls.{IsMeant, Refuses, RefusesRoot, common_wire, source_wire, form_of, target_wire, text_of};
 ghost use Rattle.smithy_transcode_c.specs.Views.{asked_of};
 
 use crate::refusal::Refusal;
@@ -34,19 +34,38 @@ pub(crate) struct Meant {
     pub(crate) to: Wire,
 }
 
+// The wire of a number that is read as well as written.
+fn common_wire(number: u32) -> Option<Wire>
+    ensures { option_map wire_of result ≡ common_wire number }
+{
+    match number {
+        0 => Some(Wire::Json {
+            use_json_name: false,
+            integral: false,
+        }),
+        1 => Some(Wire::Json {
+            use_json_name: true,
+            integral: false,
+        }),
+        2 => Some(Wire::Cbor { definite: false }),
+        _ => None,
+    }
+}
+
 // The wire of a number from which bodies are read.
 fn source_wire(number: u32) -> Option<Wire>
     ensures { option_map wire_of result ≡ source_wire number }
 {
     match number {
-        0 => Some(Wire::Json {
+        5 => Some(Wire::Json {
             use_json_name: false,
+            integral: true,
         }),
-        1 => Some(Wire::Json {
+        6 => Some(Wire::Json {
             use_json_name: true,
+            integral: true,
         }),
-        2 => Some(Wire::Cbor { definite: false }),
-        _ => None,
+        _ => common_wire(number),
     }
 }
 
@@ -101,7 +120,7 @@ impl Asked<'_> {
         match self.to {
             3 => form_of(alloc, self.action, self.version),
             4 => Ok(Some(Wire::Cbor { definite: true })),
-            to => Ok(source_wire(to)),
+            to => Ok(common_wire(to)),
         }
     }
 
