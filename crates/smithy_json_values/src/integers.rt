@@ -80,9 +80,9 @@ fn integral_of_grammar(input: &[u8], start: usize, settings: &Settings) -> Optio
     Some((number, end))
 }
 
-// The integer of 64 bits at the offset, with its end.
-#[inline(always)]
-fn standing_integer(input: &[u8], start: usize, settings: &Settings) -> Option<(i64, usize)>
+// The integer of 64 bits at the offset under any rule, with its end.
+#[inline(never)]
+fn integer_by_rule(input: &[u8], start: usize, settings: &Settings) -> Option<(i64, usize)>
     requires { start ≤ length input.now }
     ensures found { IfSome result (λ r. IntegerStands (held_settings settings.now) input.now start r.1 r.0) }
     ensures none { IfNone result ((n : ℤ) (e : ℕ) → IntegerStands (held_settings settings.now) input.now start e n → ⊥) }
@@ -93,6 +93,20 @@ fn standing_integer(input: &[u8], start: usize, settings: &Settings) -> Option<(
         IntegerRule::OfGrammar => whole_of_grammar(input, start, settings),
         IntegerRule::Integral => integral_of_grammar(input, start, settings),
     }
+}
+
+// The integer of 64 bits at the offset, with its end. Only one of RFC 8259 is read in line.
+#[inline(always)]
+fn standing_integer(input: &[u8], start: usize, settings: &Settings) -> Option<(i64, usize)>
+    requires { start ≤ length input.now }
+    ensures found { IfSome result (λ r. IntegerStands (held_settings settings.now) input.now start r.1 r.0) }
+    ensures none { IfNone result ((n : ℤ) (e : ℕ) → IntegerStands (held_settings settings.now) input.now start e n → ⊥) }
+{
+    if let IntegerRule::Standard = settings.integers {
+        return read_long(input, start);
+    }
+    let found = integer_by_rule(input, start, settings)?;
+    Some(found)
 }
 
 /// The integer of 64 bits that comes first behind blanks, with its end.

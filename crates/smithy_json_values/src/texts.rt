@@ -26,11 +26,11 @@ pub fn text_of<'a>(
     ensures text { IfOk result (λ text. unescaped raw.now ≡ option_map cow_str_bytes text) }
     ensures borrowed { IfOk result (λ text. IfSome text (λ text. IsBorrowedStr text ↔ (has_escape raw.now ≡ false))) }
 {
-    if is_escaped {
-        unescaped_text(alloc, raw)
-    } else {
-        Ok(Some(CowStr::Borrowed(raw)))
+    if !is_escaped {
+        return Ok(Some(CowStr::Borrowed(raw)));
     }
+    let text = unescaped_text(alloc, raw)?;
+    Ok(text)
 }
 
 // The text of a raw string, with or without escapes. It stays a call, so that `text_of` is short for a string without any.

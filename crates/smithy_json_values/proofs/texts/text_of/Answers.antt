@@ -3,5 +3,5 @@ use Rattle.std.specs.Result.{result_ok}
 use Rattle.smithy_json_values.proofs.TextLemmas.{without_escape}
 use Rattle.smithy_json_values.proofs.texts.text_of.Goals as goal
 
-pub returns-else-is_escaped-clause-text : goal.returns-else-is_escaped-clause-text
-returns-else-is_escaped-clause-text c = ap result_ok (without_escape c.args.raw.now (sym c.requires ∙ c.if-is_escaped.false))
+pub returns-then-not-is_escaped-clause-text : goal.returns-then-not-is_escaped-clause-text
+returns-then-not-is_escaped-clause-text c = ap result_ok (without_escape c.args.raw.now (sym c.requires ∙ c.if-not-is_escaped.true))
