@@ -33,7 +33,7 @@ enum {
 /* What a call answers. */
 enum {
     SMITHY_DONE = 0,
-    SMITHY_USAGE = 2,                /* a wire that is none, or a form whose action or version isn't UTF-8 */
+    SMITHY_USAGE = 2,                /* a wire that is none, a form whose action or version isn't UTF-8, or a body of many that has no place */
     SMITHY_OUT_OF_MEMORY = 8,
     SMITHY_INVALID_INPUT = 10,       /* the input spells no value of the root: it is invalid, */
     SMITHY_TOO_DEEP = 11,            /* too deep, */
@@ -74,6 +74,12 @@ uint8_t smithy_transcode_body(smithy_table table, smithy_table *place,
     const uint8_t *root, size_t root_len, uint32_t from, uint32_t to,
     const uint8_t *action, size_t action_len, const uint8_t *version, size_t version_len,
     const uint8_t *input, size_t input_len, uint8_t *out, size_t out_room, size_t *body_len);
+uint8_t smithy_transcode_bodies(smithy_table table, smithy_table *place,
+    const uint8_t *root, size_t root_len, uint32_t from, uint32_t to,
+    const uint8_t *action, size_t action_len, const uint8_t *version, size_t version_len,
+    const size_t *ends, size_t ends_len, const uint8_t *input, size_t input_len,
+    uint8_t *out, size_t out_room, size_t *out_ends, size_t out_ends_len,
+    uint8_t *statuses, size_t statuses_len, size_t *done);
 
 /* ---- the same, where null stands for nothing */
 
@@ -113,6 +119,27 @@ static inline uint8_t smithy_table_transcode(smithy_table *table, const smithy_t
         task->from, task->to, smithy_bytes(task->action), task->action == NULL ? 0 : task->action_len,
         smithy_bytes(task->version), task->version == NULL ? 0 : task->version_len,
         smithy_bytes(input), input == NULL ? 0 : input_len, out == NULL ? nothing : (uint8_t *)out, out == NULL ? 0 : out_room, body_len);
+}
+
+/* Transcodes `count` bodies, one behind another in `input`, each before its place in `ends`. Their bodies are written one behind another
+   to `out`. `out_ends` and `statuses` have room for `count` numbers: where each body ends in `out`, and 0 or why it is refused, and
+   then it has no bytes. It answers 0 where all are done; 24 where `out` has no room for the next; 2 where the next ends before it
+   begins or behind the input; or 2, 8, 21, 22 or 25 where there is nothing to do. `*done` is how many bodies are done. */
+static inline uint8_t smithy_table_transcode_all(smithy_table *table, const smithy_task *task, const size_t *ends, size_t count,
+    const void *input, size_t input_len, void *out, size_t out_room, size_t *out_ends, uint8_t *statuses, size_t *done)
+{
+    static uint8_t nothing[1];
+    static size_t none[1];
+    *done = 0;
+    if (table == NULL || table->pointer == NULL) {
+        return SMITHY_NO_TABLE;
+    }
+    return smithy_transcode_bodies(*table, table, smithy_bytes(task->root), task->root == NULL ? 0 : task->root_len,
+        task->from, task->to, smithy_bytes(task->action), task->action == NULL ? 0 : task->action_len,
+        smithy_bytes(task->version), task->version == NULL ? 0 : task->version_len,
+        ends == NULL ? none : ends, ends == NULL ? 0 : count, smithy_bytes(input), input == NULL ? 0 : input_len,
+        out == NULL ? nothing : (uint8_t *)out, out == NULL ? 0 : out_room, out_ends == NULL ? none : out_ends, out_ends == NULL ? 0 : count,
+        statuses == NULL ? nothing : statuses, statuses == NULL ? 0 : count, done);
 }
 
 #ifdef __cplusplus

@@ -155,6 +155,36 @@ static void long_body(void)
     free(out);
 }
 
+/* Many bodies of one call: each by its own, and what ends the call. */
+static void many(void)
+{
+    static const char input[] = "{\"a\":1}{\"a\":}{ \"a\":2}";
+    size_t ends[3] = {7, 13, 21};
+    smithy_table table = {NULL};
+    smithy_task task = task_of("S", SMITHY_JSON, SMITHY_JSON);
+    uint8_t out[32], statuses[3];
+    size_t out_ends[3], done = 9;
+    expect("a table is accepted", smithy_table_accept(&table, TEXT, sizeof TEXT - 1) == SMITHY_DONE);
+    expect("many", smithy_table_transcode_all(&table, &task, ends, 3, input, 21, out, sizeof out, out_ends, statuses, &done) == SMITHY_DONE && done == 3);
+    expect("their statuses", statuses[0] == 0 && statuses[1] == SMITHY_INVALID_INPUT && statuses[2] == 0);
+    expect("their ends", out_ends[0] == 7 && out_ends[1] == 7 && out_ends[2] == 14);
+    expect("their bodies", memcmp(out, "{\"a\":1}{\"a\":2}", 14) == 0);
+    memset(out, 0x55, sizeof out);
+    out_ends[2] = statuses[2] = 77;
+    expect("no room for the third", smithy_table_transcode_all(&table, &task, ends, 3, input, 21, out, 13, out_ends, statuses, &done) == SMITHY_NO_ROOM && done == 2);
+    expect("the third stays", out[7] == 0x55 && out_ends[2] == 77 && statuses[2] == 77);
+    ends[2] = 12;
+    expect("an end before the one before it", smithy_table_transcode_all(&table, &task, ends, 3, input, 21, out, 32, out_ends, statuses, &done) == SMITHY_USAGE && done == 2);
+    ends[2] = 22;
+    expect("an end behind the input", smithy_table_transcode_all(&table, &task, ends, 3, input, 21, out, 32, out_ends, statuses, &done) == SMITHY_USAGE && done == 2);
+    expect("no place for statuses", smithy_table_transcode_all(&table, &task, ends, 3, input, 21, out, 32, out_ends, NULL, &done) == SMITHY_USAGE && done == 0);
+    expect("none", smithy_table_transcode_all(&table, &task, NULL, 0, NULL, 0, NULL, 0, NULL, NULL, &done) == SMITHY_DONE && done == 0);
+    task.to = 9;
+    expect("no such wire", smithy_table_transcode_all(&table, &task, ends, 3, input, 21, out, 32, out_ends, statuses, &done) == SMITHY_USAGE && done == 0);
+    smithy_table_free(&table);
+    expect("no table", smithy_table_transcode_all(&table, &task, ends, 3, input, 21, out, 32, out_ends, statuses, &done) == SMITHY_NO_TABLE && done == 0);
+}
+
 /* So many calls with one table leave the memory of the process as it is. */
 static void memory(long count)
 {
@@ -216,6 +246,7 @@ static void threads(void)
 /* test [COUNT]: COUNT is how many calls the test of memory makes: 0 where what watches the calls takes memory itself. */
 int main(int words, char **word)
 {
+    many();
     memory(words > 1 ? atol(word[1]) : 20000);
     threads();
     rows();

@@ -10,6 +10,7 @@ A table is accepted once. A transcoder answers the canonical body of the value t
 from __future__ import annotations
 
 import ctypes
+import itertools
 import os
 import pathlib
 import threading
@@ -135,6 +136,10 @@ def _library() -> ctypes.CDLL:
     library.smithy_transcode_body.argtypes = [_Handle, handle, text, size, ctypes.c_uint32, ctypes.c_uint32, text, size, text, size,
                                               text, size, ctypes.c_char_p, size, ctypes.POINTER(size)]
     library.smithy_transcode_body.restype = ctypes.c_uint8
+    sizes, numbers = ctypes.POINTER(size), ctypes.POINTER(ctypes.c_uint8)
+    library.smithy_transcode_bodies.argtypes = [_Handle, handle, text, size, ctypes.c_uint32, ctypes.c_uint32, text, size, text, size,
+                                                sizes, size, text, size, ctypes.c_char_p, size, sizes, size, numbers, size, sizes]
+    library.smithy_transcode_bodies.restype = ctypes.c_uint8
     return library
 
 
@@ -215,12 +220,42 @@ class Transcoder:
     def each(self, bodies: Iterable[bytes]) -> list[Union[bytes, Refused]]:
         """What each of several bodies becomes, in order: its body in the wanted wire, or why there is none.
 
-        bodies: whole bodies.
+        bodies: whole bodies. They are transcoded some hundred in a call, which costs less than a call for each.
         """
         answers: list[Union[bytes, Refused]] = []
-        for body in bodies:
-            try:
-                answers.append(self(body))
-            except Refused as refusal:
-                answers.append(refusal)
-        return answers
+        waiting = iter(bodies)
+        while True:
+            some = list(itertools.islice(waiting, 512))
+            if not some:
+                return answers
+            while some:
+                taken = self._some(some)
+                answers += taken
+                some = some[len(taken):]
+
+    def _some(self, bodies: list[bytes]) -> list[Union[bytes, Refused]]:
+        """The answers to the first of these bodies, as many as there is room for."""
+        table, count = self._table, len(bodies)
+        whole = b"".join(bodies)
+        ends = (ctypes.c_size_t * count)(*itertools.accumulate(map(len, bodies)))
+        out_ends, statuses, done = (ctypes.c_size_t * count)(), (ctypes.c_uint8 * count)(), ctypes.c_size_t()
+        with table._lock:
+            handle = table._handle
+            if not handle.pointer:
+                raise ValueError("the table is closed")
+            while True:
+                room = self._room
+                status = _LIBRARY.smithy_transcode_bodies(handle, self._back, *self._asked, ends, count, whole, len(whole), room, len(room),
+                                                          out_ends, count, statuses, count, ctypes.byref(done))
+                if status not in (0, _NO_ROOM):
+                    raise _refusal(status)
+                if done.value:
+                    break
+                self._room = ctypes.create_string_buffer(2 * len(room) + len(whole))
+            last = out_ends[done.value - 1]
+            written = ctypes.string_at(room, last)
+        places = [0, *out_ends[:done.value]]
+        told = statuses[:done.value]
+        if 8 in told:
+            raise MemoryError
+        return [_refusal(status) if status else written[places[n]:places[n + 1]] for n, status in enumerate(told)]

@@ -62,6 +62,8 @@ class Bodies(unittest.TestCase):
         self.assertEqual(to_json.each(many), many)
         long = [b'{"l":["' + b"x" * 3000 * n + b'"]}' for n in range(9)]
         self.assertEqual(to_json.each(iter(long)), long)
+        with self.assertRaises(st.NoSuchShape):
+            self.table.transcoder("Q", st.JSON, st.JSON).each([b"{}"])
 
     def test_a_closed_table(self):
         to_json = self.table.transcoder("S", st.JSON, st.JSON)

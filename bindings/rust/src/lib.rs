@@ -10,6 +10,16 @@ use std::ptr;
 #[derive(Clone, Copy, Debug)]
 struct Handle(*mut u8);
 
+// What many bodies are given, and what they come to.
+#[derive(Default)]
+struct Batch {
+    ends: Vec<usize>,
+    input: Vec<u8>,
+    out: Vec<u8>,
+    out_ends: Vec<usize>,
+    statuses: Vec<u8>,
+}
+
 extern "C" {
     fn smithy_transcode_accept(text: *const u8, text_len: usize, place: *mut Handle) -> u8;
     fn smithy_transcode_free(table: Handle);
@@ -29,6 +39,29 @@ extern "C" {
         out: *mut u8,
         out_room: usize,
         body_len: *mut usize,
+    ) -> u8;
+    fn smithy_transcode_bodies(
+        table: Handle,
+        place: *mut Handle,
+        root: *const u8,
+        root_len: usize,
+        from: u32,
+        to: u32,
+        action: *const u8,
+        action_len: usize,
+        version: *const u8,
+        version_len: usize,
+        ends: *const usize,
+        ends_len: usize,
+        input: *const u8,
+        input_len: usize,
+        out: *mut u8,
+        out_room: usize,
+        out_ends: *mut usize,
+        out_ends_len: usize,
+        statuses: *mut u8,
+        statuses_len: usize,
+        done: *mut usize,
     ) -> u8;
 }
 
@@ -209,6 +242,86 @@ impl Table {
                     return Err(Refusal::of_status(status));
                 }
             }
+        }
+    }
+}
+
+impl Table {
+    /// Transcodes bodies of one root, and hands on what each becomes, in their order: its body, or why there is none. An error says why
+    /// there is nothing to transcode, or no memory for it.
+    pub fn transcode_all<F: FnMut(Result<&[u8], Refusal>)>(&mut self, root: &str, from: Source, bodies: &[&[u8]], to: Target<'_>, mut each: F) -> Result<(), Refusal> {
+        let mut batch = Batch::default();
+        let mut left = bodies;
+        while !left.is_empty() {
+            batch.fill(left);
+            let done = self.transcode_batch(root, from, to, &mut batch)?;
+            let mut at = 0;
+            for (&end, &status) in batch.out_ends.iter().zip(&batch.statuses).take(done) {
+                each(if status == 0 { Ok(&batch.out[at..end]) } else { Err(Refusal::of_status(status)) });
+                at = end;
+            }
+            left = &left[done..];
+        }
+        Ok(())
+    }
+
+    // How many of a batch, one at least, were done.
+    fn transcode_batch(&mut self, root: &str, from: Source, to: Target<'_>, batch: &mut Batch) -> Result<usize, Refusal> {
+        let (to, action, version) = to.numbered();
+        loop {
+            let mut done = 0;
+            // SAFETY: each slice is memory that may be read, those of `batch` that are written are borrowed alone, and `&mut self` makes
+            // this the table's one call.
+            let status = unsafe {
+                smithy_transcode_bodies(
+                    self.0,
+                    &mut self.0,
+                    root.as_ptr(),
+                    root.len(),
+                    from as u32,
+                    to,
+                    action.as_ptr(),
+                    action.len(),
+                    version.as_ptr(),
+                    version.len(),
+                    batch.ends.as_ptr(),
+                    batch.ends.len(),
+                    batch.input.as_ptr(),
+                    batch.input.len(),
+                    batch.out.as_mut_ptr(),
+                    batch.out.len(),
+                    batch.out_ends.as_mut_ptr(),
+                    batch.out_ends.len(),
+                    batch.statuses.as_mut_ptr(),
+                    batch.statuses.len(),
+                    &mut done,
+                )
+            };
+            match status {
+                0 => return Ok(done),
+                NO_ROOM if done > 0 => return Ok(done),
+                NO_ROOM => batch.out.resize(2 * batch.out.len() + 64, 0),
+                status => return Err(Refusal::of_status(status)),
+            }
+        }
+    }
+}
+
+impl Batch {
+    // At most so many bodies go to one call.
+    const MOST: usize = 512;
+
+    fn fill(&mut self, bodies: &[&[u8]]) {
+        self.ends.clear();
+        self.input.clear();
+        for body in bodies.iter().take(Batch::MOST) {
+            self.input.extend_from_slice(body);
+            self.ends.push(self.input.len());
+        }
+        self.out_ends.resize(self.ends.len(), 0);
+        self.statuses.resize(self.ends.len(), 0);
+        if self.out.len() < self.input.len() {
+            self.out.resize(self.input.len(), 0);
         }
     }
 }

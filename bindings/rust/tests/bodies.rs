@@ -49,6 +49,21 @@ fn refusals() {
 }
 
 #[test]
+fn many() {
+    let mut table = Table::accept(TEXT).unwrap();
+    let bodies: Vec<Vec<u8>> = (0..2000).map(|n| format!("{{\"a\":{n}}}").into_bytes()).collect();
+    let mut given: Vec<&[u8]> = bodies.iter().map(Vec::as_slice).collect();
+    given[1000] = b"{";
+    let mut answers = Vec::new();
+    table.transcode_all("S", Source::Json, &given, Target::Json, |answer| answers.push(answer.map(<[u8]>::to_vec))).unwrap();
+    assert_eq!(answers.len(), 2000);
+    for (n, (answer, body)) in answers.into_iter().zip(&bodies).enumerate() {
+        assert_eq!(answer, if n == 1000 { Err(Refusal::InvalidInput) } else { Ok(body.clone()) });
+    }
+    assert_eq!(table.transcode_all("Q", Source::Json, &given, Target::Json, |_| panic!()), Err(Refusal::NoSuchShape));
+}
+
+#[test]
 fn threads() {
     let workers: Vec<_> = (0..4)
         .map(|number| {

@@ -1,3 +1,4 @@
+pub mod AnswerLemmas
 pub mod AsBox
 pub mod Tables
 pub mod Texts

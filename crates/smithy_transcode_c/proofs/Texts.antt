@@ -1,6 +1,5 @@
 -- Which bytes are a text.
 use Rattle.std.proofs.Common.{◌≡◌, refl, ap, ℕ, List, IsUtf8, Bool, true, false, Some, None, if◌then◌else◌}
-use Rattle.std.specs.Prelude.{Option}
 use Rattle.std.specs.Str.{is_utf8}
 use Rattle.std.proofs.lemmas.Str.{IsUtf8-from_is_utf8, is_utf8-from_IsUtf8}
 use Rattle.smithy_transcode_c.specs.Calls.{text_of}

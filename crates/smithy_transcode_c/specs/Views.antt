@@ -1,5 +1,4 @@
 -- What contracts see of a call's arguments.
-use Rattle.std.specs.Prelude.{string_bytes}
 use Rattle.smithy_transcode_c.specs.declared.asked.Asked.{Asked as Given}
 use Rattle.smithy_transcode_c.specs.Calls.{Asked}
 

@@ -22,6 +22,8 @@ impl Model for Handle {
     ghost also_owns = { λ h. handle_owns h.alloc h.ptr h.table };
 }
 
+unsafe impl Send for Handle {}
+
 /// Where C keeps a table between its calls, if it has one.
 #[repr(C)]
 #[derive(Drop)]

@@ -1,20 +1,23 @@
-//! Bodies from wire to wire in process, for C and for what calls C: a table is accepted once, and each call transcodes one body
-//! into the caller's memory. `smithy_transcode.h` declares the functions, and says what they trust their caller with.
+//! Bodies from wire to wire in process, for C and for what calls C: a table is accepted once, and each call transcodes one body,
+//! or many, into the caller's memory. `smithy_transcode.h` declares the functions, and says what they trust their caller with.
 #![tactic(auto)]
 
 ghost use Rattle.std.specs.Prelude.{◌≡◌, ◌≢◌, Some, IfOk, IfErr};
 ghost use Rattle.smithy_transcode_c.specs.Refusals.{refusal_number};
 ghost use Rattle.smithy_shapes.specs.Acceptance.{accepted, table_of};
 ghost use Rattle.smithy_shapes.specs.Table.{Table};
+ghost use Rattle.smithy_transcode_c.specs.Bodies.{BodiesAnswer};
 ghost use Rattle.smithy_transcode_c.specs.Calls.{CallAnswer, RefusesTable};
 
 mod answer;
 mod asked;
+mod bodies;
 mod handle;
 mod refusal;
 
 use crate::answer::answer;
 use crate::asked::Asked;
+use crate::bodies::{Inputs, answer_each};
 use crate::handle::{Handle, Place};
 use crate::refusal::Refusal;
 use smithy_shapes::{Shapes, TableText};
@@ -84,6 +87,50 @@ pub extern "C" fn smithy_transcode_body(
     };
     let table = table.into_box();
     let number = answer(alloc, &table, &asked, input, out, body_len);
+    *place = Place::of(table);
+    number
+}
+
+/// Many bodies of one root, which stand one behind another in `input`, each before its place in `ends`: writes their canonical bodies
+/// one behind another to the front of `out`, where each ends to `out_ends`, and 0 or the status of each to `statuses`. `done` is how
+/// many it did: all, where it answers 0; those before the one for which there was no more room (24) or no place (2).
+#[unsafe(no_mangle)]
+pub extern "C" fn smithy_transcode_bodies(
+    alloc: Global,
+    table: Handle,
+    place: &mut Place,
+    root: &[u8],
+    from: u32,
+    to: u32,
+    action: &[u8],
+    version: &[u8],
+    ends: &[usize],
+    input: &[u8],
+    out: &mut [u8],
+    out_ends: &mut [usize],
+    statuses: &mut [u8],
+    done: &mut usize,
+) -> u8
+    ensures answer { BodiesAnswer table.table
+        (record { root_name = root.now; from = from; to = to; action = action.now; version = version.now })
+        (record { ends = ends.now; bytes = input.now })
+        (record { out_ends = out_ends.old; statuses = statuses.old; out = out.old })
+        (record { out_ends = out_ends.new; statuses = statuses.new; out = out.new })
+        result done.new }
+    ensures back { place.new.table ≡ Some table.table }
+{
+    let asked = Asked {
+        root,
+        from,
+        to,
+        action,
+        version,
+    };
+    let inputs = Inputs { ends, bytes: input };
+    let table = table.into_box();
+    let number = answer_each(
+        alloc, &table, &asked, &inputs, out, out_ends, statuses, done,
+    );
     *place = Place::of(table);
     number
 }

@@ -9,7 +9,7 @@ use std::alloc::AllocError;
 /// Why a call has nothing to hand out.
 #[derive(Clone, Copy)]
 pub enum Refusal {
-    /// A wire that is none, or a form whose action or version is no text.
+    /// A wire that is none, a form whose action or version is no text, or a body of many that has no place.
     Usage,
     /// Want of memory.
     OutOfMemory,

@@ -1,4 +1,4 @@
-use Rattle.std.proofs.Common.{◌≡◌, refl, sym, ap, ◌∙◌, Some}
+use Rattle.std.proofs.Common.{sym, ap, ◌∙◌, Some}
 use Rattle.smithy_transcode_c.proofs.Texts.{text_is_there, no_text}
 use Rattle.smithy_transcode_c.proofs.asked.text_of.Goals as goal
 
