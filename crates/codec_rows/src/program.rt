@@ -22,6 +22,7 @@ impl Program for Codecs {
         match word {
             "body" | "refused" => true,
             "value" | "done" | "position" | "is_null" => true,
+            "borrowed" | "owned" => true,
             "size" | "count" | "entry" | "calls" => true,
             "json" | "cbor" | "query" => true,
             "discriminator" | "protocol" | "form" | "kept" => true,

@@ -4,16 +4,17 @@ use crate::json_settings::json_codec;
 use crate::named::read_named;
 use crate::settings::cbor_settings;
 use reader_calls::answers::{push_refusal, refused};
+use reader_calls::borrowing::{borrowing_call, is_borrowing_call};
 use reader_calls::consumers::consume_call;
 use reader_calls::reads::{is_call, read_call};
 use reader_calls::sized::{is_sized_call, sized_call};
 use smithy_cbor_codec::CborCodec;
 use smithy_rows::{Field, Row};
-use smithy_schema::{ShapeDeserializer, Shapes};
+use smithy_schema::{BorrowDeserializer, Shapes};
 use std::alloc::{AllocError, Global};
 
 // Makes the call of a line, where it is one.
-fn read_line<R: ShapeDeserializer>(
+fn read_line<'a, R: BorrowDeserializer<'a>>(
     alloc: Global,
     shapes: &Shapes,
     source: &mut R,
@@ -24,6 +25,9 @@ fn read_line<R: ShapeDeserializer>(
     let count = answers.len();
     if is_sized_call(word) {
         let answer = sized_call(alloc, shapes, source, word, &field.value, answers);
+        push_refusal(alloc, answers, answer, count)?;
+    } else if is_borrowing_call(word) {
+        let answer = borrowing_call(alloc, shapes, source, word, &field.value, answers);
         push_refusal(alloc, answers, answer, count)?;
     } else if word == "consume" {
         let answer = consume_call(alloc, shapes, source, &field.value, answers);

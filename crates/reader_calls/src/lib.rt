@@ -2,6 +2,7 @@
 #![tactic(auto)]
 
 pub mod answers;
+pub mod borrowing;
 pub mod consumers;
 pub mod containers;
 pub mod first_two;
