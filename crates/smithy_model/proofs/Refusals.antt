@@ -1,5 +1,5 @@
 -- What refuses one entry refuses all.
-use Rattle.std.proofs.Common.{◌≡◌, ◌<◌, ℕ, List, [], ◌∷◌, Bor, Global, length, map, get_or, zero, suc, Bool, true, refl, arith}
+use Rattle.std.proofs.Common.{◌≡◌, ◌<◌, ℕ, List, [], ◌∷◌, Bor, Global, length, map, get_or, zero, suc, Bool, true, false, ◌||◌, refl, arith}
 use Rattle.std.specs.List.{list_any}
 use Rattle.json.specs.declared.value.Value.{Value}
 use Rattle.smithy_model.specs.declared.fault.ModelFault.{ModelFault}
@@ -47,3 +47,23 @@ misses_more ids test v ws i d within faults.NotAModel one = absurd one
 misses_more ids test v ws i d within (faults.BadShape id) one = absurd one
 misses_more ids test v ws i d within (faults.BadMixin id) one = absurd one
 misses_more ids test v ws i d within (faults.Applied id) one = absurd one
+
+-- the same where more have the target
+pub misses_weaker : (ids : List (List ℕ)) (test more : List ℕ → Bool) → ((id : List ℕ) → test id ≡ true → more id ≡ true) → (fault : ModelFault)
+    → MissesTarget ids test fault → MissesTarget ids more fault
+misses_weaker ids test more also (faults.UnknownTarget id) one = (also id.now one.0, one.1)
+misses_weaker ids test more also faults.NoMemory one = tt
+misses_weaker ids test more also faults.NotJson one = absurd one
+misses_weaker ids test more also faults.NameTwice one = absurd one
+misses_weaker ids test more also faults.NotAModel one = absurd one
+misses_weaker ids test more also (faults.BadShape id) one = absurd one
+misses_weaker ids test more also (faults.BadMixin id) one = absurd one
+misses_weaker ids test more also (faults.Applied id) one = absurd one
+
+pub or_first : (a b : Bool) → a ≡ true → (a || b) ≡ true
+or_first true b is = refl
+or_first false b is = cc (is)
+
+pub or_second : (a b : Bool) → b ≡ true → (a || b) ≡ true
+or_second true b is = refl
+or_second false b is = is

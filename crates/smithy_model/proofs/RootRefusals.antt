@@ -52,7 +52,7 @@ refused_root text root is faults.NoMemory one = tt
 refused_root text root is faults.NotJson one = absurd one
 refused_root text root is faults.NameTwice one = absurd one
 
-pub refused_links : (text : List ℕ) (root : Json) (m : Model) → document text ≡ Some root → IsUnlinked root m → (fault : ModelFault) → RefusesLinks m.shapes fault
+pub refused_links : (text : List ℕ) (root : Json) (m : Model) → document text ≡ Some root → IsUnlinked root m → (fault : ModelFault) → RefusesLinks m fault
     → RefusesText text fault
 refused_links text root m is unlinked (faults.UnknownTarget id) one = (root, is, (m, unlinked, one))
 refused_links text root m is unlinked faults.NoMemory one = tt

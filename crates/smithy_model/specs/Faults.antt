@@ -2,7 +2,7 @@
 use Rattle.std.specs.Prelude.{◌≡◌, ◌⊎◌, ℕ, List, ◌&&◌, ◌||◌, Bool, true, false, Some, None, bytes_eq, codes, if◌then◌else◌}
 use Rattle.std.specs.List.{list_any}
 use Rattle.std.specs.Borrow.{Bor}
-use Rattle.std.specs.Option.{IsSomeAnd, is_none}
+use Rattle.std.specs.Option.{IsSomeAnd, is_none, option_map_or}
 use Rattle.std.specs.Str.{IsUtf8}
 use Rattle.json.specs.Json.{Json, document}
 use Rattle.json.specs.declared.error.Error.{Error}
@@ -11,7 +11,7 @@ use Rattle.json.specs.Strict.{HasUniqueKeys}
 use Rattle.smithy_model.specs.declared.fault.ModelFault.{ModelFault}
 use Rattle.smithy_model.specs.declared.fault.ModelFault.TheVariants as faults
 use Rattle.smithy_model.specs.Objects.{Entry, entries_in}
-use Rattle.smithy_model.specs.Model.{Member, Kind, structure, union, list, map, Shape, Model}
+use Rattle.smithy_model.specs.Model.{Member, Kind, structure, union, list, map, Shape, Reference, Operation, Model}
 use Rattle.smithy_model.specs.Form.{Form}
 use Rattle.smithy_model.specs.Shapes.{operation_in, shape_in}
 use Rattle.smithy_model.specs.Mixins.{uses_of, MissesMixin, IsInCircle, Disagrees}
@@ -27,7 +27,7 @@ fault_of_json _ = faults.NotJson
 abbrev pub is_bad_shape : Form → List ℕ → Entry → Bool
 is_bad_shape form id e = bytes_eq e.0 id && is_of_values form e.1 && is_none (shape_in form e)
 
--- an error of the operation of this id is no reference
+-- a structure of the operation of this id is no reference
 abbrev pub is_bad_operation : Form → List ℕ → Entry → Bool
 is_bad_operation form id e = bytes_eq e.0 id && is_operation form e.1 && is_none (operation_in form e)
 
@@ -54,9 +54,19 @@ MissesTarget ids is_a_target (faults.UnknownTarget id) =
 MissesTarget ids is_a_target faults.NoMemory = Unit {0}
 MissesTarget ids is_a_target _ = ⊥
 
--- a member has a target that no shape is
-abbrev pub RefusesLinks : List Shape → ModelFault → Type 0
-RefusesLinks shapes = MissesTarget (ids_of shapes) (λ id. list_any (λ (s : Shape). has_target id s.kind) shapes)
+-- the reference is to this id
+abbrev pub refers_to : List ℕ → Reference → Bool
+refers_to id r = bytes_eq r.target id
+
+-- a structure of the operation has this id
+abbrev pub has_structure : List ℕ → Operation → Bool
+has_structure id o =
+    option_map_or (refers_to id) o.input false || (option_map_or (refers_to id) o.output false || list_any (refers_to id) o.errors)
+
+-- a member, or an operation, has a target that no shape is
+abbrev pub RefusesLinks : Model → ModelFault → Type 0
+RefusesLinks m =
+    MissesTarget (ids_of m.shapes) (λ id. list_any (λ (s : Shape). has_target id s.kind) m.shapes || list_any (has_structure id) m.operations)
 
 -- a shape takes in a mixin that isn't there, or itself, or one that does so, or a member that it has with another target
 abbrev pub RefusesMixins : List Shape → ModelFault → Type 0
@@ -95,7 +105,7 @@ RefusesRoot root (faults.Applied id) =
 RefusesRoot root (faults.BadMixin id) =
     (form : Form) × (es : List Entry) × (own : List Shape) × (form_in root ≡ Some form) × (entries_in (codes "shapes") root ≡ Some es)
     × (shapes_among form es ≡ Some own) × RefusesMixins own (faults.BadMixin id)
-RefusesRoot root (faults.UnknownTarget id) = (m : Model) × IsUnlinked root m × RefusesLinks m.shapes (faults.UnknownTarget id)
+RefusesRoot root (faults.UnknownTarget id) = (m : Model) × IsUnlinked root m × RefusesLinks m (faults.UnknownTarget id)
 RefusesRoot root faults.NoMemory = Unit {0}
 RefusesRoot root _ = ⊥
 

@@ -38,12 +38,17 @@ pub record Shape : Type 0 where
   pub is_flattened : Bool
   pub time_format : Option (List ℕ)
 
--- an operation under its id, with the ids of its structures
+-- what an operation refers to: the id of a shape, and its number in the model
+pub record Reference : Type 0 where
+  pub target : List ℕ
+  pub number : ℕ
+
+-- an operation under its id, with its structures
 pub record Operation : Type 0 where
   pub id : List ℕ
-  pub input : Option (List ℕ)
-  pub output : Option (List ℕ)
-  pub errors : List (List ℕ)
+  pub input : Option Reference
+  pub output : Option Reference
+  pub errors : List Reference
 
 -- a model: shapes and operations in its order, and whether its protocol has HTTP bindings, or is ec2Query
 pub record Model : Type 0 where

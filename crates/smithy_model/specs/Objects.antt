@@ -52,6 +52,6 @@ trait_text name spec = option_and_then (text_in name) (get (codes "traits") spec
 abbrev pub has_trait : List ℕ → Json → Bool
 has_trait name spec = is_some (option_and_then (get name) (get (codes "traits") spec))
 
--- the id that the member of this name refers to by its member `key`
-abbrev pub reference : List ℕ → List ℕ → Json → Option (List ℕ)
-reference name key spec = option_and_then (text_in key) (get name spec)
+-- the text under `key` in the member of this name
+abbrev pub inner_text : List ℕ → List ℕ → Json → Option (List ℕ)
+inner_text name key spec = option_and_then (text_in key) (get name spec)

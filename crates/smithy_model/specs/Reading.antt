@@ -4,8 +4,8 @@ use Rattle.std.specs.List.{filter, list_any, AllZip}
 use Rattle.std.specs.Option.{option_map_or}
 use Rattle.json.specs.Json.{Json, document}
 use Rattle.json.specs.Strict.{HasUniqueKeys}
-use Rattle.smithy_model.specs.Objects.{Entry, text_in, is_there, entries_in, has_trait, reference}
-use Rattle.smithy_model.specs.Model.{Member, Kind, structure, union, list, map, Shape, Operation, Model}
+use Rattle.smithy_model.specs.Objects.{Entry, text_in, is_there, entries_in, has_trait, inner_text}
+use Rattle.smithy_model.specs.Model.{Member, Kind, structure, union, list, map, Shape, Reference, Operation, Model}
 use Rattle.smithy_model.specs.Form.{Form, smithy, json_service, xml_service, ec2_service}
 use Rattle.smithy_model.specs.Members.{all_some}
 use Rattle.smithy_model.specs.Shapes.{operation_in, shape_in}
@@ -14,7 +14,7 @@ use Rattle.smithy_model.specs.Prelude.{prelude}
 
 -- the protocol that a service-2.json names
 abbrev pub protocol_in : Json → List ℕ
-protocol_in root = unwrap_or (reference (codes "metadata") (codes "protocol") root) []
+protocol_in root = unwrap_or (inner_text (codes "metadata") (codes "protocol") root) []
 
 abbrev pub form_of_protocol : List ℕ → Form
 form_of_protocol protocol =
@@ -106,6 +106,22 @@ ids_of shapes = list_map (λ (s : Shape). s.id) shapes
 abbrev pub AreNumbered : List Shape → List Shape → Type 0
 AreNumbered given shapes = AllZip (IsShapeNumbered (ids_of given)) given shapes
 
+-- the reference with the number of the shape of its id
+abbrev pub IsReferenceNumbered : List (List ℕ) → Reference → Reference → Type 0
+IsReferenceNumbered ids given r = (r.target ≡ given.target) × (slice_get ids r.number ≡ Some given.target)
+
+-- the same of one that may be missing
+abbrev pub IsNumberedIf : List (List ℕ) → Option Reference → Option Reference → Type 0
+IsNumberedIf ids None found = found ≡ None
+IsNumberedIf ids (Some given) found = (r : Reference) × (found ≡ Some r) × IsReferenceNumbered ids given r
+
+-- the operation with the number of each of its structures
+pub record IsOperationNumbered (ids : List (List ℕ)) (given o : Operation) : Type 0 where
+  pub as_given : o.id ≡ given.id
+  pub input : IsNumberedIf ids given.input o.input
+  pub output : IsNumberedIf ids given.output o.output
+  pub errors : AllZip (IsReferenceNumbered ids) given.errors o.errors
+
 -- What a model is before its targets have numbers.
 pub record IsUnlinked (root : Json) (m : Model) : Type 0 where
   pub form : Form
@@ -122,9 +138,11 @@ pub record IsUnlinked (root : Json) (m : Model) : Type 0 where
   pub http : m.has_http_bindings ≡ has_http_bindings_in form root entries
   pub ec2 : m.is_ec2 ≡ is_ec2_in form root entries
 
--- the model with the number of each target
+-- the model with the number of each target, and of each structure of an operation
 abbrev pub IsLinked : Model → Model → Type 0
-IsLinked given m = (m ≡ record given { shapes = m.shapes }) × AreNumbered given.shapes m.shapes
+IsLinked given m =
+    (m ≡ record given { shapes = m.shapes; operations = m.operations }) × AreNumbered given.shapes m.shapes
+    × AllZip (IsOperationNumbered (ids_of given.shapes)) given.operations m.operations
 
 -- The model that a JSON value is.
 abbrev pub IsModelOf : Json → Model → Type 0

@@ -1,8 +1,10 @@
 -- Shapes and operations, as a model's text has them (Smithy 2.0, "JSON AST").
-use Rattle.std.specs.Prelude.{ℕ, List, [], Bool, false, Option, option_map, option_and_then, unwrap_or, codes, map as list_map}
+use Rattle.std.specs.Prelude.{ℕ, List, [], Bool, false, Option, Some, None, option_map, option_and_then, unwrap_or, codes, map as list_map}
+use Rattle.std.specs.Option.{option_map_or}
 use Rattle.json.specs.Json.{Json}
-use Rattle.smithy_model.specs.Objects.{Entry, text_in, is_set, items_in, trait_text, has_trait, reference}
-use Rattle.smithy_model.specs.Model.{Shape, Operation}
+use Rattle.json.specs.Find.{get}
+use Rattle.smithy_model.specs.Objects.{Entry, text_in, is_set, items_in, trait_text, has_trait}
+use Rattle.smithy_model.specs.Model.{Shape, Reference, Operation}
 use Rattle.smithy_model.specs.Form.{Form, smithy}
 use Rattle.smithy_model.specs.Members.{service_time, all_some}
 use Rattle.smithy_model.specs.Kinds.{kind_in}
@@ -11,19 +13,36 @@ use Rattle.smithy_model.specs.Kinds.{kind_in}
 abbrev pub references_in : List ℕ → List ℕ → Json → Option (List (List ℕ))
 references_in name key spec = all_some (list_map (text_in key) (unwrap_or (items_in name spec) []))
 
+-- what a value refers to by its member `key`; its number is given later
+abbrev pub reference_in : List ℕ → Json → Option Reference
+reference_in key spec = option_map (λ target. record { target = target; number = 0 }) (text_in key spec)
+
+-- what the member of this name refers to, if there is one: none where it refers to nothing
+abbrev pub reference_if : List ℕ → List ℕ → Json → Option (Option Reference)
+reference_if name key spec = option_map_or (λ value. option_map Some (reference_in key value)) (get name spec) (Some None)
+
+-- what the errors of an operation refer to
+abbrev pub errors_in : List ℕ → Json → Option (List Reference)
+errors_in key spec = all_some (list_map (reference_in key) (unwrap_or (items_in (codes "errors") spec) []))
+
 -- the member by which others refer to a shape
 abbrev pub reference_key : Form → List ℕ
 reference_key smithy = codes "target"
 reference_key _ = codes "shape"
 
--- an operation (Smithy 2.0, "Service types")
+-- an operation with these errors
+abbrev pub operation_with : List ℕ → Entry → List Reference → Option Operation
+operation_with key e errors =
+    option_and_then (λ input. option_map (λ output. record {
+      id = e.0;
+      input = input;
+      output = output;
+      errors = errors;
+    }) (reference_if (codes "output") key e.1)) (reference_if (codes "input") key e.1)
+
+-- an operation (Smithy 2.0, "Service types"): none where one of its structures is no reference
 abbrev pub operation_in : Form → Entry → Option Operation
-operation_in form e = option_map (λ errors. record {
-  id = e.0;
-  input = reference (codes "input") (reference_key form) e.1;
-  output = reference (codes "output") (reference_key form) e.1;
-  errors = errors;
-}) (references_in (codes "errors") (reference_key form) e.1)
+operation_in form e = option_and_then (operation_with (reference_key form) e) (errors_in (reference_key form) e.1)
 
 -- the traits of a shape: `sparse`, flattened wherever it stands, `timestampFormat`
 abbrev pub is_sparse_in : Form → Json → Bool

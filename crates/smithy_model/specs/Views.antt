@@ -8,6 +8,7 @@ use Rattle.smithy_model.specs.declared.model.Member as kept_member
 use Rattle.smithy_model.specs.declared.model.Kind as kept_kind
 use Rattle.smithy_model.specs.declared.model.Kind.TheVariants as kinds
 use Rattle.smithy_model.specs.declared.model.Shape as kept_shape
+use Rattle.smithy_model.specs.declared.model.Reference as kept_reference
 use Rattle.smithy_model.specs.declared.model.Operation as kept_operation
 use Rattle.smithy_model.specs.declared.model.Model as kept_model
 use Rattle.smithy_model.specs.declared.numbers.Numbers as kept_numbers
@@ -17,7 +18,7 @@ use Rattle.smithy_model.specs.declared.format.Format.TheVariants as formats
 use Rattle.smithy_model.specs.Objects.{Entry}
 use Rattle.smithy_model.specs.Form.{Form, smithy, json_service, xml_service, ec2_service}
 use Rattle.smithy_model.specs.Mixins.{Gathered}
-use Rattle.smithy_model.specs.Model.{Member, Kind, simple, float, event_stream, structure, union, list, map, Shape, Operation, Model}
+use Rattle.smithy_model.specs.Model.{Member, Kind, simple, float, event_stream, structure, union, list, map, Shape, Reference, Operation, Model}
 
 -- a member of an object
 abbrev pub entry_view : Bor (List ℕ) × Value Global → Entry
@@ -58,12 +59,15 @@ shape_view s = record {
   time_format = option_map (λ t. t.now) s.time_format;
 }
 
+abbrev pub reference_view : kept_reference.Reference → Reference
+reference_view r = record { target = r.target.now; number = r.number }
+
 abbrev pub operation_view : kept_operation.Operation → Operation
 operation_view o = record {
   id = o.id.now;
-  input = option_map (λ t. t.now) o.input;
-  output = option_map (λ t. t.now) o.output;
-  errors = list_map (λ t. t.now) o.errors.items;
+  input = option_map reference_view o.input;
+  output = option_map reference_view o.output;
+  errors = list_map reference_view o.errors.items;
 }
 
 abbrev pub model_view : kept_model.Model → Model

@@ -16,8 +16,9 @@ mod parts;
 mod prelude;
 mod protocol;
 mod reading;
+mod references;
 mod shapes;
 
 pub use fault::ModelFault;
-pub use model::{Entry, Kind, Member, Model, Operation, Shape};
+pub use model::{Entry, Kind, Member, Model, Operation, Reference, Shape};
 pub use reading::read_model;

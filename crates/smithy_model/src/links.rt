@@ -1,13 +1,15 @@
 //! The number of each member's target.
 ghost use Rattle.std.specs.Prelude.{◌≡◌, [], map, IfOk, IfErr};
 ghost use Rattle.std.specs.List.{list_any, AllZip};
-ghost use Rattle.smithy_model.specs.Reading.{IsNumbered, IsKindNumbered, AreNumbered, IsLinked};
+ghost use Rattle.smithy_model.specs.Model as kept;
+ghost use Rattle.smithy_model.specs.Reading.{IsNumbered, IsKindNumbered, IsShapeNumbered, IsLinked};
 ghost use Rattle.smithy_model.specs.Faults.{MissesTarget, is_target, has_target, RefusesLinks};
 ghost use Rattle.smithy_model.specs.Views.{member_view, kind_view, shape_view, model_view, numbers_view};
 
 use crate::fault::ModelFault;
 use crate::model::{Entry, Kind, Member, Model, Shape};
 use crate::numbers::Numbers;
+use crate::references::link_operations;
 use std::alloc::Global;
 
 // The member with the number of its target.
@@ -78,27 +80,33 @@ fn with_kind<'a>(alloc: Global, shape: &Shape<'a>, kind: Kind<'a>) -> Shape<'a>
 }
 
 // The shapes with the numbers of their targets.
-fn link_shapes<'a>(alloc: Global, shapes: &[Shape<'a>]) -> Result<Vec<Shape<'a>>, ModelFault<'a>>
-    ensures linked { IfOk result (λ linked. AreNumbered (map shape_view shapes.now) (map shape_view linked.items)) }
-    ensures refused { IfErr result (RefusesLinks (map shape_view shapes.now)) }
+fn link_shapes<'a>(
+    alloc: Global,
+    numbers: &Numbers<'a>,
+    shapes: &[Shape<'a>],
+) -> Result<Vec<Shape<'a>>, ModelFault<'a>>
+    ensures linked { IfOk result (λ linked. AllZip (IsShapeNumbered (numbers_view numbers.now)) (map shape_view shapes.now) (map shape_view linked.items)) }
+    ensures refused { IfErr result (MissesTarget (numbers_view numbers.now) (λ id. list_any (λ (s : kept.Shape). has_target id s.kind) (map shape_view shapes.now))) }
 {
-    let numbers = Numbers::of(alloc, shapes)?;
     let mut linked = Vec::with_capacity(alloc, shapes.len())?;
     for shape in shapes {
-        let kind = link_kind(alloc, &numbers, &shape.kind)?;
+        let kind = link_kind(alloc, numbers, &shape.kind)?;
         linked.push(with_kind(alloc, shape, kind))?;
     }
     Ok(linked)
 }
 
-/// The model with the number of each target.
+/// The model with the number of each target, and of each structure of an operation.
 pub(crate) fn link_model<'a>(alloc: Global, model: Model<'a>) -> Result<Model<'a>, ModelFault<'a>>
     ensures linked { IfOk result (λ linked. IsLinked (model_view model.entry) (model_view linked)) }
-    ensures refused { IfErr result (RefusesLinks (model_view model.entry).shapes) }
+    ensures refused { IfErr result (RefusesLinks (model_view model.entry)) }
 {
+    let numbers = Numbers::of(alloc, &model.shapes)?;
+    let shapes = link_shapes(alloc, &numbers, &model.shapes)?;
+    let operations = link_operations(alloc, &numbers, &model.operations)?;
     Ok(Model {
-        shapes: link_shapes(alloc, &model.shapes)?,
-        operations: model.operations,
+        shapes,
+        operations,
         has_http_bindings: model.has_http_bindings,
         is_ec2: model.is_ec2,
     })

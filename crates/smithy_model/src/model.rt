@@ -66,13 +66,22 @@ pub struct Shape<'a> {
     pub time_format: Option<&'a str>,
 }
 
-/// An operation under its id, with the ids of its structures.
+/// What an operation refers to.
+#[derive(Clone, Copy, Drop)]
+pub struct Reference<'a> {
+    /// The id of a shape.
+    pub target: &'a str,
+    /// The number of this shape among those of the model.
+    pub number: usize,
+}
+
+/// An operation under its id, with its structures.
 #[derive(Drop)]
 pub struct Operation<'a> {
     pub id: &'a str,
-    pub input: Option<&'a str>,
-    pub output: Option<&'a str>,
-    pub errors: Vec<&'a str>,
+    pub input: Option<Reference<'a>>,
+    pub output: Option<Reference<'a>>,
+    pub errors: Vec<Reference<'a>>,
 }
 
 /// A model: its shapes and operations, in the order of its text.

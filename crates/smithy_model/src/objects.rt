@@ -1,6 +1,6 @@
 //! Looking into JSON values by the names of their members.
 ghost use Rattle.std.specs.Prelude.{◌≡◌, [], map, option_map, unwrap_or};
-ghost use Rattle.smithy_model.specs.Objects.{text_in, is_there, is_set, entries, entries_in, items, items_in, trait_text, has_trait, reference};
+ghost use Rattle.smithy_model.specs.Objects.{text_in, is_there, is_set, entries, entries_in, items, items_in, trait_text, has_trait, inner_text};
 ghost use Rattle.smithy_model.specs.Views.{entry_view};
 ghost use Rattle.json.specs.Value.{value_view};
 
@@ -81,10 +81,9 @@ pub(crate) fn has_trait(spec: &Value<'_>, name: &str) -> bool
     }
 }
 
-/// The id that a member of this name refers to, by the member `key` of it: `target` in a Smithy model, and `shape`
-/// in a `service-2.json`.
-pub(crate) fn reference<'a>(spec: &Value<'a>, name: &str, key: &str) -> Option<&'a str>
-    ensures { option_map (λ t. t.now) result ≡ reference name.now key.now (value_view spec.now) }
+/// The text under `key` in the member of this name.
+pub(crate) fn inner_text<'a>(spec: &Value<'a>, name: &str, key: &str) -> Option<&'a str>
+    ensures { option_map (λ t. t.now) result ≡ inner_text name.now key.now (value_view spec.now) }
 {
     text(spec.get(name)?, key)
 }

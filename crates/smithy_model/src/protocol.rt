@@ -5,7 +5,7 @@ ghost use Rattle.smithy_model.specs.Reading.{protocol_in, form_of_protocol, form
 ghost use Rattle.smithy_model.specs.Views.{entry_view, form_view};
 
 use crate::format::Format;
-use crate::objects::{has_trait, is_there, reference};
+use crate::objects::{has_trait, inner_text, is_there};
 use crate::parts::has_type;
 use json::Value;
 
@@ -13,7 +13,7 @@ use json::Value;
 fn protocol<'a>(root: &Value<'a>) -> &'a str
     ensures { result.now ≡ protocol_in (value_view root.now) }
 {
-    match reference(root, "metadata", "protocol") {
+    match inner_text(root, "metadata", "protocol") {
         Some(protocol) => protocol,
         None => "",
     }

@@ -1,14 +1,14 @@
 //! Shapes and operations, as the text of a model has them.
 ghost use Rattle.std.specs.Prelude.{◌≡◌, map, option_map, IfOk};
 ghost use Rattle.json.specs.Value.{value_view};
-ghost use Rattle.smithy_model.specs.Shapes.{references_in, reference_key, operation_in, is_sparse_in, is_flattened_in, time_in, shape_in};
-ghost use Rattle.smithy_model.specs.Views.{operation_view, shape_view, form_view};
+ghost use Rattle.smithy_model.specs.Shapes.{references_in, reference_key, reference_in, reference_if, errors_in, operation_with, operation_in, is_sparse_in, is_flattened_in, time_in, shape_in};
+ghost use Rattle.smithy_model.specs.Views.{reference_view, operation_view, shape_view, form_view};
 
 use crate::format::Format;
 use crate::kinds::read_kind;
 use crate::members::service_time;
-use crate::model::{Operation, Shape};
-use crate::objects::{has_trait, is_set, items, reference, text, trait_text};
+use crate::model::{Operation, Reference, Shape};
+use crate::objects::{has_trait, is_set, items, text, trait_text};
 use json::Value;
 use std::alloc::{AllocError, Global};
 
@@ -44,7 +44,67 @@ fn reference_key(format: Format) -> &'static str
     }
 }
 
-/// An operation of this id: none where an error is no reference.
+// What a value refers to.
+fn read_reference<'a>(spec: &Value<'a>, key: &str) -> Option<Reference<'a>>
+    ensures { option_map reference_view result ≡ reference_in key.now (value_view spec.now) }
+{
+    Some(Reference {
+        target: text(spec, key)?,
+        number: 0,
+    })
+}
+
+// What the member of this name refers to, if there is one: none where it refers to nothing.
+fn reference_if<'a>(spec: &Value<'a>, name: &str, key: &str) -> Option<Option<Reference<'a>>>
+    ensures { option_map (λ r. option_map reference_view r) result ≡ reference_if name.now key.now (value_view spec.now) }
+{
+    match spec.get(name) {
+        Some(value) => Some(Some(read_reference(value, key)?)),
+        None => Some(None),
+    }
+}
+
+// What the errors of an operation refer to: none where one of them is no reference.
+fn read_errors<'a>(
+    alloc: Global,
+    spec: &Value<'a>,
+    key: &str,
+) -> Result<Option<Vec<Reference<'a>>>, AllocError>
+    ensures { IfOk result (λ read. option_map (λ errors. map reference_view errors.items) read ≡ errors_in key.now (value_view spec.now)) }
+{
+    let mut errors = Vec::new(alloc);
+    let Some(items) = items(spec, "errors") else {
+        return Ok(Some(errors));
+    };
+    for item in items {
+        match read_reference(item, key) {
+            Some(error) => errors.push(error)?,
+            None => return Ok(None),
+        }
+    }
+    Ok(Some(errors))
+}
+
+// The operation of this id with these errors.
+fn operation_with<'a>(
+    id: &'a str,
+    spec: &Value<'a>,
+    key: &str,
+    errors: Vec<Reference<'a>>,
+) -> Option<Operation<'a>>
+    ensures { option_map operation_view result ≡ operation_with key.now (id.now, value_view spec.now) (map reference_view errors.entry.items) }
+{
+    let input = reference_if(spec, "input", key)?;
+    let output = reference_if(spec, "output", key)?;
+    Some(Operation {
+        id,
+        input,
+        output,
+        errors,
+    })
+}
+
+/// An operation of this id: none where one of its structures is no reference.
 pub(crate) fn read_operation<'a>(
     alloc: Global,
     format: Format,
@@ -54,15 +114,10 @@ pub(crate) fn read_operation<'a>(
     ensures { IfOk result (λ read. option_map operation_view read ≡ operation_in (form_view format) (id.now, value_view spec.now)) }
 {
     let key = reference_key(format);
-    let Some(errors) = references(alloc, spec, "errors", key)? else {
+    let Some(errors) = read_errors(alloc, spec, key)? else {
         return Ok(None);
     };
-    Ok(Some(Operation {
-        id,
-        input: reference(spec, "input", key),
-        output: reference(spec, "output", key),
-        errors,
-    }))
+    Ok(operation_with(id, spec, key, errors))
 }
 
 // Whether the elements of a list, or the values of a map, may be null.

@@ -1,33 +1,17 @@
 -- The bodies of operations, and the first declaration.
-use Rattle.std.proofs.Common.{◌≡◌, ◌<◌, ◌+◌, ◌∙◌, inl, inr, ℕ, List, [], ◌∷◌, ◌++◌, Bor, length, map, take, get_or, slice_get, Option, Some, None, option_map, refl, sym, ap, subst, lt-ltb}
-use Rattle.std.specs.Prelude.{Bool, true, cond, is_some, flat_map}
+use Rattle.std.proofs.Common.{◌≡◌, ◌<◌, ◌∙◌, ℕ, List, [], ◌∷◌, ◌++◌, length, slice_get, append_assoc, Option, Some, None, option_map, refl, sym, ap, subst, lt-ltb}
+use Rattle.std.specs.Prelude.{Bool, true, cond, is_some, flat_map, option_to_list}
 use Rattle.std.specs.List.{AllZip}
 use Rattle.std.specs.Option.{option_and_then}
-use Rattle.std.proofs.lemmas.List.{take_more, map-append}
 use Rattle.std.proofs.lemmas.Option.{slice_get_within}
 use Rattle.smithy_model.specs.Model as model
-use Rattle.smithy_model.specs.Model.{Kind, Shape, Operation, Model}
+use Rattle.smithy_model.specs.Model.{Member, Kind, Shape, Reference, Operation, Model}
 use Rattle.smithy_shapes.specs.Decl.{Decl}
 use Rattle.smithy_model_table.specs.Declaring.{Names, name_of}
 use Rattle.smithy_model_table.specs.Outcomes.{LeftOut, Part, IsPart, IsPartOf, IsPartAt, AreParts}
 use Rattle.smithy_model_table.specs.Naming.{is_declared}
 use Rattle.smithy_model_table.specs.Reaching.{targets_at, first_of_each, within, AreReached}
-use Rattle.smithy_model_table.specs.Wanted.{Wanted, input, output, shape, service, members_of, structure_ids, IsBody, AreBodies, AreRoots}
-
-bodies_both : (m : Model) (front rest : List (List ℕ)) (r q : List ℕ) → AreBodies m front r → AreBodies m rest q → AreBodies m (front ++ rest) (r ++ q)
-bodies_both m [] rest r q first second = rw (first) second
-bodies_both m (id ∷ front) rest r q (inl (root, more, is, behind, made)) second =
-    inl (root, more ++ q, is, bodies_both m front rest more q behind second, ap (λ xs. xs ++ q) made)
-bodies_both m (id ∷ front) rest r q (inr (none, behind)) second = inr (none, bodies_both m front rest r q behind second)
-
--- those of one structure more
-pub bodies_more : (m : Model) (ids : List (Bor (List ℕ))) (i : ℕ) (d : Bor (List ℕ)) (roots new : List ℕ) → i < length ids
-    → AreBodies m (map (λ (t : Bor (List ℕ)). t.now) (take i ids)) roots
-    → (more : List ℕ) × AreBodies m ((get_or ids i d).now ∷ []) more × (new ≡ roots ++ more)
-    → AreBodies m (map (λ (t : Bor (List ℕ)). t.now) (take (i + 1) ids)) new
-bodies_more m ids i d roots new within so_far (more, one, made) =
-    rw (made, take_more ids i d within, map-append (λ (t : Bor (List ℕ)). t.now) (take i ids) (get_or ids i d ∷ []))
-    (bodies_both m (map (λ (t : Bor (List ℕ)). t.now) (take i ids)) ((get_or ids i d).now ∷ []) roots more so_far one)
+use Rattle.smithy_model_table.specs.Wanted.{Wanted, input, output, shape, service, members_of, structure_at, body_of, body_at, body_if, bodies_of, AreRoots}
 
 -- the shape of this number has a declaration
 abbrev pub IsDeclaredAt : Model → ℕ → Type 0
@@ -47,26 +31,61 @@ structure_there : (o : Option Shape) → is_some (option_and_then (λ (s : Shape
 structure_there None is = absurd (cc (is))
 structure_there (Some s) is = (s, refl, kind_there s.kind is)
 
-body_declared : (m : Model) (id : List ℕ) (root : ℕ) → IsBody m id root → IsDeclaredAt m root
-body_declared m id root (number, members, at, has, made, there) = structure_there (slice_get m.shapes root) there
+at_declared : (m : Model) (number root : ℕ) (members : Option (List Member))
+    → option_and_then (λ ms. option_map (λ _. body_of m number ms) (structure_at m (body_of m number ms))) members ≡ Some root → IsDeclaredAt m root
+at_declared m number root None is = absurd (cc (is))
+at_declared m number root (Some ms) is = by (structure_at m (body_of m number ms)) refl is
+  where
+    by : (o : Option (List Member)) → structure_at m (body_of m number ms) ≡ o → option_map (λ _. body_of m number ms) o ≡ Some root → IsDeclaredAt m root
+    by None there made = absurd (cc (made))
+    by (Some inner) there made =
+        let same : body_of m number ms ≡ root = cc (made) in
+        subst (IsDeclaredAt m) same (structure_there (slice_get m.shapes (body_of m number ms)) (ap is_some there))
+
+body_declared : (m : Model) (number root : ℕ) → body_at m number ≡ Some root → IsDeclaredAt m root
+body_declared m number root is = at_declared m number root (structure_at m number) is
+
+given_declared : (m : Model) (given : Option Reference) (root : ℕ) → body_if m given ≡ Some root → IsDeclaredAt m root
+given_declared m None root is = absurd (cc (is))
+given_declared m (Some r) root is = body_declared m r.number root is
 
 first_is : (root n : ℕ) (rest roots : List ℕ) → roots ≡ root ∷ rest → slice_get roots 0 ≡ Some n → root ≡ n
 first_is root n rest roots made is = cc (ap (λ (xs : List ℕ). slice_get xs 0) made, is)
 
-bodies_declared : (m : Model) (ids : List (List ℕ)) (roots : List ℕ) (n : ℕ) → AreBodies m ids roots → slice_get roots 0 ≡ Some n → IsDeclaredAt m n
-bodies_declared m [] roots n none is = absurd (cc (ap (λ (xs : List ℕ). slice_get xs 0) none, is))
-bodies_declared m (id ∷ ids) roots n (inl (root, rest, body, more, made)) is =
-    subst (IsDeclaredAt m) (first_is root n rest roots made is) (body_declared m id root body)
-bodies_declared m (id ∷ ids) roots n (inr (none, more)) is = bodies_declared m ids roots n more is
+-- the first of what may be missing and of what stands behind it
+first_of : (m : Model) (o : Option ℕ) (rest : List ℕ) (n : ℕ) → ((root : ℕ) → o ≡ Some root → IsDeclaredAt m root)
+    → (slice_get rest 0 ≡ Some n → IsDeclaredAt m n) → slice_get (option_to_list o ++ rest) 0 ≡ Some n → IsDeclaredAt m n
+first_of m None rest n one behind is = behind is
+first_of m (Some root) rest n one behind is = let same : root ≡ n = cc (is) in subst (IsDeclaredAt m) same (one root refl)
+
+errors_first : (m : Model) (errors : List Reference) (rest : List ℕ) (n : ℕ) → (slice_get rest 0 ≡ Some n → IsDeclaredAt m n)
+    → slice_get (flat_map (λ (r : Reference). option_to_list (body_at m r.number)) errors ++ rest) 0 ≡ Some n → IsDeclaredAt m n
+errors_first m [] rest n behind is = behind is
+errors_first m (r ∷ errors) rest n behind is =
+    let bodies = λ (x : Reference). option_to_list (body_at m x.number) in
+    first_of m (body_at m r.number) (flat_map bodies errors ++ rest) n (λ root. body_declared m r.number root) (errors_first m errors rest n behind)
+    (subst (λ l. slice_get l 0 ≡ Some n) (append_assoc (bodies r) (flat_map bodies errors) rest) is)
+
+bodies_first : (m : Model) (operations : List Operation) (n : ℕ) → slice_get (flat_map (bodies_of m) operations) 0 ≡ Some n → IsDeclaredAt m n
+bodies_first m [] n is = absurd (cc (is))
+bodies_first m (o ∷ operations) n is =
+    let rest = flat_map (bodies_of m) operations in
+    let a = option_to_list (body_if m o.input) in
+    let b = option_to_list (body_if m o.output) in
+    let e = flat_map (λ (r : Reference). option_to_list (body_at m r.number)) o.errors in
+    first_of m (body_if m o.input) (b ++ (e ++ rest)) n (given_declared m o.input)
+    (first_of m (body_if m o.output) (e ++ rest) n (given_declared m o.output) (errors_first m o.errors rest n (bodies_first m operations n)))
+    (subst (λ l. slice_get l 0 ≡ Some n) (append_assoc a (b ++ e) rest ∙ ap (λ l. a ++ l) (append_assoc b e rest)) is)
 
 root_declared : (m : Model) (marks : List Bool) (w : Wanted) (roots : List ℕ) (n : ℕ) → AreRoots m marks w roots → slice_get roots 0 ≡ Some n → IsDeclaredAt m n
-root_declared m marks (input name) roots n (o, id, root, named, given, body, made) is =
-    subst (IsDeclaredAt m) (first_is root n [] roots made is) (body_declared m id root body)
-root_declared m marks (output name) roots n (o, id, root, named, given, body, made) is =
-    subst (IsDeclaredAt m) (first_is root n [] roots made is) (body_declared m id root body)
+root_declared m marks (input name) roots n (o, root, named, body, made) is =
+    subst (IsDeclaredAt m) (first_is root n [] roots made is) (given_declared m o.input root body)
+root_declared m marks (output name) roots n (o, root, named, body, made) is =
+    subst (IsDeclaredAt m) (first_is root n [] roots made is) (given_declared m o.output root body)
 root_declared m marks (shape name) roots n (root, (s, named, at, declared, unmarked), made) is =
     subst (IsDeclaredAt m) (first_is root n [] roots made is) (s, at, declared)
-root_declared m marks service roots n bodies is = bodies_declared m (flat_map structure_ids m.operations) roots n bodies is
+root_declared m marks service roots n made is =
+    bodies_first m m.operations n (subst (λ l. slice_get l 0 ≡ Some n) made is)
 
 -- what is declared first
 abbrev pub IsFirst : List Decl → List ℕ → Type 0

@@ -1,9 +1,9 @@
 -- Where HTTP bindings count (Smithy 2.0, "HTTP bindings").
-use Rattle.std.specs.Prelude.{◌==◌, ℕ, List, ◌||◌, ◌&&◌, not, Bool, false, bytes_eq}
+use Rattle.std.specs.Prelude.{◌==◌, ℕ, List, ◌||◌, ◌&&◌, not, Bool, false}
 use Rattle.std.specs.List.{list_any}
 use Rattle.std.specs.Option.{option_map_or}
 use Rattle.smithy_model.specs.Model as model
-use Rattle.smithy_model.specs.Model.{Member, Kind, Shape, Operation, Model}
+use Rattle.smithy_model.specs.Model.{Member, Kind, Shape, Reference, Operation, Model}
 
 -- bindings to headers, to the path and the query, and to the status code
 pub record Bindings : Type 0 where
@@ -11,15 +11,15 @@ pub record Bindings : Type 0 where
   pub request_line : Bool
   pub status_line : Bool
 
--- the structure of this id is the input of an operation, an output, an error
-abbrev pub is_input : Model → List ℕ → Bool
-is_input m id = list_any (λ (o : Operation). option_map_or (λ given. bytes_eq given id) o.input false) m.operations
+-- the structure of this number is the input of an operation, an output, an error
+abbrev pub is_input : Model → ℕ → Bool
+is_input m number = list_any (λ (o : Operation). option_map_or (λ (r : Reference). r.number == number) o.input false) m.operations
 
-abbrev pub is_output : Model → List ℕ → Bool
-is_output m id = list_any (λ (o : Operation). option_map_or (λ given. bytes_eq given id) o.output false) m.operations
+abbrev pub is_output : Model → ℕ → Bool
+is_output m number = list_any (λ (o : Operation). option_map_or (λ (r : Reference). r.number == number) o.output false) m.operations
 
-abbrev pub is_error : Model → List ℕ → Bool
-is_error m id = list_any (λ (o : Operation). list_any (λ given. bytes_eq given id) o.errors) m.operations
+abbrev pub is_error : Model → ℕ → Bool
+is_error m number = list_any (λ (o : Operation). list_any (λ (r : Reference). r.number == number) o.errors) m.operations
 
 -- a part of the shape has the shape of this number as its target
 abbrev pub leads_to : ℕ → Kind → Bool
@@ -33,13 +33,13 @@ leads_to number _ = false
 abbrev pub is_nested : Model → ℕ → Bool
 is_nested m number = list_any (λ (s : Shape). leads_to number s.kind) m.shapes
 
--- The bindings that count in the structure of this number and id, wherever it stands: headers in the input, the output and the errors of
+-- The bindings that count in the structure of this number, wherever it stands: headers in the input, the output and the errors of
 -- operations, the path and the query in an input, the status code in an output, and none inside of another structure.
-abbrev pub bindings_of : Model → ℕ → List ℕ → Bindings
-bindings_of m number id = record {
-  headers = m.has_http_bindings && (is_input m id || is_output m id || is_error m id) && not (is_nested m number);
-  request_line = m.has_http_bindings && is_input m id && not (is_output m id || is_error m id || is_nested m number);
-  status_line = m.has_http_bindings && is_output m id && not (is_input m id || is_error m id || is_nested m number);
+abbrev pub bindings_of : Model → ℕ → Bindings
+bindings_of m number = record {
+  headers = m.has_http_bindings && (is_input m number || is_output m number || is_error m number) && not (is_nested m number);
+  request_line = m.has_http_bindings && is_input m number && not (is_output m number || is_error m number || is_nested m number);
+  status_line = m.has_http_bindings && is_output m number && not (is_input m number || is_error m number || is_nested m number);
 }
 
 -- those of a union

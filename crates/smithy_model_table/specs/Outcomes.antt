@@ -69,7 +69,7 @@ pub record Part : Type 0 where
 -- What becomes of the shape of this number and kind. A scalar, a document or a stream of events has no declaration.
 abbrev pub IsPart : Model → List Bool → Names → ℕ → Shape → Kind → Part → Type 0
 IsPart m marks names number s (model.structure members) part =
-    (ds : List MemberDecl) × AreOutcomes m marks names (bindings_of m number s.id) s.id members ds part.left
+    (ds : List MemberDecl) × AreOutcomes m marks names (bindings_of m number) s.id members ds part.left
     × (part.decls ≡ record { name = name_of names number; form = structure ds } ∷ [])
 IsPart m marks names number s (model.union members) part =
     (ds : List MemberDecl) × AreOutcomes m marks names no_bindings s.id members ds part.left

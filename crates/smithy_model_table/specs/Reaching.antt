@@ -12,17 +12,17 @@ abbrev pub held_targets : List Bool → Bindings → List Member → List ℕ
 held_targets marks counting members =
     map (λ (x : Member). x.number) (filter (λ (x : Member). not (is_left_out marks counting x)) members)
 
--- the numbers of the shapes that the declaration of this shape leads to; it has this number and kind
-abbrev pub targets_of : Model → List Bool → ℕ → Shape → Kind → List ℕ
-targets_of m marks number s (model.structure members) = held_targets marks (bindings_of m number s.id) members
-targets_of m marks number s (model.union members) = held_targets marks no_bindings members
-targets_of m marks number s (model.list element) = element.number ∷ []
-targets_of m marks number s (model.map key value) = value.number ∷ []
-targets_of m marks number s _ = []
+-- the numbers of the shapes that the declaration of the shape of this number and kind leads to
+abbrev pub targets_of : Model → List Bool → ℕ → Kind → List ℕ
+targets_of m marks number (model.structure members) = held_targets marks (bindings_of m number) members
+targets_of m marks number (model.union members) = held_targets marks no_bindings members
+targets_of m marks number (model.list element) = element.number ∷ []
+targets_of m marks number (model.map key value) = value.number ∷ []
+targets_of m marks number _ = []
 
 abbrev pub targets_at : Model → List Bool → ℕ → List ℕ
 targets_at m marks number =
-    option_map_or (λ (s : Shape). targets_of m marks number s s.kind) (slice_get m.shapes number) []
+    option_map_or (λ (s : Shape). targets_of m marks number s.kind) (slice_get m.shapes number) []
 
 -- each number once, where it stands first
 abbrev pub first_of_each : List ℕ → List ℕ

@@ -20,11 +20,11 @@ has_number numbers number = contains_by (nat_cmp number) numbers
 abbrev pub Gains : {A : Type 0} → (A → Bool) → (A → Bool) → (A → Bool) → Type 0
 Gains test before behind = (x : _) → behind x ≡ (test x || before x)
 
--- for each id and each number, what the model says of it
+-- for each number, what the model says of it
 pub record AreRolesOf (m : Model) (roles : kept.Roles) : Type 0 where
-  pub inputs : (id : List ℕ) → has_id roles.inputs id ≡ is_input m id
-  pub outputs : (id : List ℕ) → has_id roles.outputs id ≡ is_output m id
-  pub errors : (id : List ℕ) → has_id roles.errors id ≡ is_error m id
+  pub inputs : (number : ℕ) → has_number roles.inputs number ≡ is_input m number
+  pub outputs : (number : ℕ) → has_number roles.outputs number ≡ is_output m number
+  pub errors : (number : ℕ) → has_number roles.errors number ≡ is_error m number
   pub nested : (number : ℕ) → has_number roles.nested number ≡ is_nested m number
 
 -- the names of these shapes that have a declaration, and those that two of them have

@@ -1,12 +1,10 @@
 -- What a table is wanted for, and the shapes of a model that this is.
-use Rattle.std.specs.Prelude.{◌≡◌, ◌≢◌, ◌⊎◌, ◌||◌, ℕ, List, [], ◌∷◌, ◌++◌, length, Bool, true, false, Option, Some, None, IsSome, if◌then◌else◌, slice_get, map, flat_map, option_and_then, option_to_list, bytes_eq}
+use Rattle.std.specs.Prelude.{◌≡◌, ◌≢◌, ◌⊎◌, ◌||◌, ℕ, List, [], ◌∷◌, ◌++◌, length, Bool, true, false, Option, Some, None, if◌then◌else◌, slice_get, map, flat_map, option_map, option_and_then, option_to_list, bytes_eq}
 use Rattle.std.specs.List.{list_any, filter, find}
-use Rattle.std.specs.Option.{option_map_or, IsSomeAnd}
+use Rattle.std.specs.Option.{option_map_or}
 use Rattle.smithy_model.specs.Model as model
-use Rattle.smithy_model.specs.Model.{Member, Kind, Shape, Operation, Model}
+use Rattle.smithy_model.specs.Model.{Member, Kind, Shape, Reference, Operation, Model}
 use Rattle.smithy_model.specs.Reading.{ids_of}
-use Rattle.smithy_model_table.specs.declared.fault.WantedFault.{WantedFault}
-use Rattle.smithy_model_table.specs.declared.fault.WantedFault.TheVariants as faults
 use Rattle.smithy_model_table.specs.Naming.{name_in, is_declared}
 use Rattle.smithy_model_table.specs.Leaving.{is_marked, AreFewest}
 
@@ -59,35 +57,20 @@ body_of m number members =
     then option_map_or (λ (p : Member). p.number) (find (λ (p : Member). p.is_payload) members) number
     else number
 
--- the structure that is the body of the one of this id
-abbrev pub IsBody : Model → List ℕ → ℕ → Type 0
-IsBody m id root =
-    (number : ℕ) × (members : List Member) × (slice_get (ids_of m.shapes) number ≡ Some id)
-    × (structure_at m number ≡ Some members) × (root ≡ body_of m number members) × IsSome (structure_at m root)
+-- the structure that is the body of the one of this number: none where one of the two is no structure
+abbrev pub body_at : Model → ℕ → Option ℕ
+body_at m number =
+    option_and_then (λ members. option_map (λ _. body_of m number members) (structure_at m (body_of m number members))) (structure_at m number)
 
--- the shape of this id has no such body: it is no structure, or its payload is none
-abbrev pub HasNoBody : Model → List ℕ → Type 0
-HasNoBody m id =
-    (number : ℕ) × (slice_get (ids_of m.shapes) number ≡ Some id)
-    × ((structure_at m number ≡ None)
-    ⊎ ((members : List Member) × (structure_at m number ≡ Some members) × (structure_at m (body_of m number members) ≡ None)))
+-- the body of what an operation refers to, if it does
+abbrev pub body_if : Model → Option Reference → Option ℕ
+body_if m given = option_and_then (λ (r : Reference). body_at m r.number) given
 
--- why the structure of this id has no body
-abbrev pub RefusesBody : Model → List ℕ → WantedFault → Type 0
-RefusesBody m id faults.NoSuchName = IsUnknown (ids_of m.shapes) id
-RefusesBody m id faults.NoDeclaration = HasNoBody m id
-RefusesBody m id _ = ⊥
-
--- the ids of the structures of an operation, in this order
-abbrev pub structure_ids : Operation → List (List ℕ)
-structure_ids o = option_to_list o.input ++ (option_to_list o.output ++ o.errors)
-
--- the bodies of the structures of these ids, in order, but for what has none
-abbrev pub AreBodies : Model → List (List ℕ) → List ℕ → Type 0
-AreBodies m [] roots = roots ≡ []
-AreBodies m (id ∷ ids) roots =
-    ((root : ℕ) × (rest : List ℕ) × IsBody m id root × AreBodies m ids rest × (roots ≡ root ∷ rest))
-    ⊎ ((IsUnknown (ids_of m.shapes) id ⊎ HasNoBody m id) × AreBodies m ids roots)
+-- the bodies of the structures of an operation, in this order, but for what has none
+abbrev pub bodies_of : Model → Operation → List ℕ
+bodies_of m o =
+    option_to_list (body_if m o.input)
+    ++ (option_to_list (body_if m o.output) ++ flat_map (λ (r : Reference). option_to_list (body_at m r.number)) o.errors)
 
 -- the shape of this id or name has a declaration
 abbrev pub IsDeclared : Model → List Bool → List ℕ → ℕ → Type 0
@@ -98,15 +81,11 @@ IsDeclared m marks name number =
 -- the numbers of the shapes that are wanted
 abbrev pub AreRoots : Model → List Bool → Wanted → List ℕ → Type 0
 AreRoots m marks (input name) roots =
-    (o : Operation) × (id : List ℕ) × (root : ℕ) × IsOperationNamed m name o × (o.input ≡ Some id) × IsBody m id root × (roots ≡ root ∷ [])
+    (o : Operation) × (root : ℕ) × IsOperationNamed m name o × (body_if m o.input ≡ Some root) × (roots ≡ root ∷ [])
 AreRoots m marks (output name) roots =
-    (o : Operation) × (id : List ℕ) × (root : ℕ) × IsOperationNamed m name o × (o.output ≡ Some id) × IsBody m id root × (roots ≡ root ∷ [])
+    (o : Operation) × (root : ℕ) × IsOperationNamed m name o × (body_if m o.output ≡ Some root) × (roots ≡ root ∷ [])
 AreRoots m marks (shape name) roots = (root : ℕ) × IsDeclared m marks name root × (roots ≡ root ∷ [])
-AreRoots m marks service roots = AreBodies m (flat_map structure_ids m.operations) roots
-
--- an operation gives no structure here, or one that has no body
-abbrev pub GivesNoBody : Model → Option (List ℕ) → Type 0
-GivesNoBody m given = (given ≡ None) ⊎ IsSomeAnd given (HasNoBody m)
+AreRoots m marks service roots = roots ≡ flat_map (bodies_of m) m.operations
 
 -- no table declares the shape of this number: it is a scalar, or nothing of it can stand in one
 abbrev pub IsUndeclared : Model → List Bool → ℕ → Type 0
@@ -115,8 +94,8 @@ IsUndeclared m marks number =
 
 -- no declaration stands for what is wanted, by the marks of the shapes of which nothing can stand in a table
 abbrev pub HasNoDeclaration : Model → List Bool → Wanted → Type 0
-HasNoDeclaration m marks (input name) = (o : Operation) × IsOperationNamed m name o × GivesNoBody m o.input
-HasNoDeclaration m marks (output name) = (o : Operation) × IsOperationNamed m name o × GivesNoBody m o.output
+HasNoDeclaration m marks (input name) = (o : Operation) × IsOperationNamed m name o × (body_if m o.input ≡ None)
+HasNoDeclaration m marks (output name) = (o : Operation) × IsOperationNamed m name o × (body_if m o.output ≡ None)
 HasNoDeclaration m marks (shape name) =
     (number : ℕ) × IsIdNamed (ids_of m.shapes) name number × IsUndeclared m marks number
 HasNoDeclaration m marks service = ⊥
@@ -124,13 +103,9 @@ HasNoDeclaration m marks service = ⊥
 abbrev pub LacksDeclaration : Model → Wanted → Type 0
 LacksDeclaration m w = (marks : List Bool) × AreFewest m marks × HasNoDeclaration m marks w
 
--- What is wanted has no name in the model, or not that of one alone. A structure of an operation may be missing, too.
+-- what is wanted has no name in the model, or not that of one alone
 abbrev pub LacksName : Model → Wanted → Type 0
-LacksName m (input name) =
-    HasNotOne (operation_ids m) name
-    ⊎ ((o : Operation) × IsOperationNamed m name o × IsSomeAnd o.input (IsUnknown (ids_of m.shapes)))
-LacksName m (output name) =
-    HasNotOne (operation_ids m) name
-    ⊎ ((o : Operation) × IsOperationNamed m name o × IsSomeAnd o.output (IsUnknown (ids_of m.shapes)))
+LacksName m (input name) = HasNotOne (operation_ids m) name
+LacksName m (output name) = HasNotOne (operation_ids m) name
 LacksName m (shape name) = IsUnknown (ids_of m.shapes) name × HasNotOne (ids_of m.shapes) name
 LacksName m service = ⊥

@@ -31,16 +31,16 @@ pub(crate) fn no_bindings() -> Bindings
 }
 
 /// The bindings that count in the structure of this number, wherever it stands.
-pub(crate) fn bindings_of(model: &Model<'_>, roles: &Roles<'_>, number: usize, id: &str) -> Bindings
+pub(crate) fn bindings_of(model: &Model<'_>, roles: &Roles, number: usize) -> Bindings
     requires { (model_view model.now).has_http_bindings ≡ true → AreRolesOf (model_view model.now) roles.now }
-    ensures { bindings_view result ≡ bindings_of (model_view model.now) number id.now }
+    ensures { bindings_view result ≡ bindings_of (model_view model.now) number }
 {
     if !model.has_http_bindings {
         return no_bindings();
     }
-    let input = roles.inputs.contains(id);
-    let output = roles.outputs.contains(id);
-    let error = roles.errors.contains(id);
+    let input = roles.inputs.contains(&number);
+    let output = roles.outputs.contains(&number);
+    let error = roles.errors.contains(&number);
     let nested = roles.nested.contains(&number);
     let headers = (input || output || error) && !nested;
     Bindings {

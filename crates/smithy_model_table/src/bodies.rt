@@ -1,16 +1,12 @@
 //! The structures that are the bodies of operations.
-ghost use Rattle.std.specs.Prelude.{◌≡◌, ◌++◌, List, ℕ, [], ◌∷◌, map, flat_map, option_map, option_to_list, IfOk, IfErr, OnOk};
+ghost use Rattle.std.specs.Prelude.{◌≡◌, ◌++◌, map, flat_map, option_map, option_to_list, IfOk, OnOk};
 ghost use Rattle.std.specs.List.{find};
 ghost use Rattle.smithy_model.specs.Model as kept;
-ghost use Rattle.smithy_model.specs.Reading.{ids_of};
-ghost use Rattle.smithy_model.specs.Views.{model_view, operation_view, member_view, kind_view};
-ghost use Rattle.smithy_model_table.specs.Finding.{IsOfSearch};
-ghost use Rattle.smithy_model_table.specs.Wanted.{members_of, structure_at, body_of, IsBody, RefusesBody, structure_ids, AreBodies};
+ghost use Rattle.smithy_model.specs.Views.{model_view, operation_view, reference_view, member_view, kind_view};
+ghost use Rattle.smithy_model_table.specs.Wanted.{members_of, structure_at, body_of, body_at, body_if, bodies_of};
 
-use crate::fault::WantedFault;
-use crate::finding::place_of;
 use crate::places::shape_at;
-use smithy_model::{Kind, Member, Model, Operation};
+use smithy_model::{Kind, Member, Model, Operation, Reference};
 use std::alloc::{AllocError, Global};
 
 // The members of a structure.
@@ -58,86 +54,72 @@ fn body_of(model: &Model<'_>, number: usize, members: &[Member<'_>]) -> usize
     }
 }
 
-/// The structure that is the body of the one of this id: with HTTP bindings its payload, where it has one. `ids` are those of
-/// the model's shapes.
-pub(crate) fn body(model: &Model<'_>, ids: &[&str], id: &str) -> Result<usize, WantedFault>
-    requires { map (λ t. t.now) ids.now ≡ ids_of (model_view model.now).shapes }
-    ensures found { IfOk result (IsBody (model_view model.now) id.now) }
-    ensures refused { IfErr result (RefusesBody (model_view model.now) id.now) }
-    ensures of_search { IfErr result IsOfSearch }
+// The structure that is the body of the one of this number: with HTTP bindings its payload, where it has one.
+fn body_at(model: &Model<'_>, number: usize) -> Option<usize>
+    ensures { result ≡ body_at (model_view model.now) number }
 {
-    let Some(number) = place_of(ids, id) else {
-        return Err(WantedFault::NoSuchName);
-    };
-    let Some(members) = structure_at(model, number) else {
-        return Err(WantedFault::NoDeclaration);
-    };
+    let members = structure_at(model, number)?;
     let root = body_of(model, number, members);
     match structure_at(model, root) {
-        Some(_) => Ok(root),
-        None => Err(WantedFault::NoDeclaration),
+        Some(_) => Some(root),
+        None => None,
     }
 }
 
-// Adds an id, where one is given.
-fn add_if<'a>(ids: &mut Vec<&'a str>, given: Option<&'a str>) -> Result<(), AllocError>
-    ensures { OnOk result (map (λ t. t.now) ids.new.items ≡ map (λ t. t.now) ids.old.items ++ option_to_list (option_map (λ t. t.now) given.entry)) }
+/// The body of what an operation refers to, if it does.
+pub(crate) fn body_if(model: &Model<'_>, given: &Option<Reference<'_>>) -> Option<usize>
+    ensures { result ≡ body_if (model_view model.now) (option_map reference_view given.now) }
 {
     match given {
-        Some(id) => Ok(ids.push(id)?),
+        Some(reference) => body_at(model, reference.number),
+        None => None,
+    }
+}
+
+// Adds a number, where one is given.
+fn add_if(numbers: &mut Vec<usize>, given: Option<usize>) -> Result<(), AllocError>
+    ensures { OnOk result (numbers.new.items ≡ numbers.old.items ++ option_to_list given) }
+{
+    match given {
+        Some(number) => Ok(numbers.push(number)?),
         None => Ok(()),
     }
 }
 
-// Adds the ids of the structures of an operation.
-fn add_ids<'a>(ids: &mut Vec<&'a str>, operation: &Operation<'a>) -> Result<(), AllocError>
-    ensures { OnOk result (map (λ t. t.now) ids.new.items ≡ map (λ t. t.now) ids.old.items ++ structure_ids (operation_view operation.now)) }
-{
-    add_if(ids, operation.input)?;
-    add_if(ids, operation.output)?;
-    ids.extend_from_slice(&operation.errors)
-}
-
-// The ids of the structures of all operations.
-fn structure_ids<'a>(alloc: Global, model: &Model<'a>) -> Result<Vec<&'a str>, AllocError>
-    ensures { IfOk result (λ ids. map (λ t. t.now) ids.items ≡ flat_map structure_ids (model_view model.now).operations) }
-{
-    let mut ids = Vec::new(alloc);
-    for operation in &model.operations {
-        add_ids(&mut ids, operation)?;
-    }
-    Ok(ids)
-}
-
-// Adds the body of the structure of this id, where it has one.
-fn add_body(
+// Adds the bodies of errors.
+fn add_errors(
     model: &Model<'_>,
-    ids: &[&str],
-    id: &str,
+    errors: &[Reference<'_>],
     roots: &mut Vec<usize>,
 ) -> Result<(), AllocError>
-    requires { map (λ t. t.now) ids.now ≡ ids_of (model_view model.now).shapes }
-    ensures { OnOk result ((more : List ℕ) × AreBodies (model_view model.now) (id.now ∷ []) more × (roots.new.items ≡ roots.old.items ++ more)) }
+    ensures { OnOk result (roots.new.items ≡ roots.old.items ++ flat_map (λ (r : kept.Reference). option_to_list (body_at (model_view model.now) r.number)) (map reference_view errors.now)) }
 {
-    match body(model, ids, id) {
-        Ok(root) => Ok(roots.push(root)?),
-        Err(_) => Ok(()),
+    for error in errors {
+        add_if(roots, body_at(model, error.number))?;
     }
+    Ok(())
 }
 
-/// The bodies of the operations. `ids` are those of the model's shapes.
-pub(crate) fn service_roots(
-    alloc: Global,
+// Adds the bodies of an operation.
+fn add_bodies(
     model: &Model<'_>,
-    ids: &[&str],
-) -> Result<Vec<usize>, AllocError>
-    requires { map (λ t. t.now) ids.now ≡ ids_of (model_view model.now).shapes }
-    ensures { IfOk result (λ roots. AreBodies (model_view model.now) (flat_map structure_ids (model_view model.now).operations) roots.items) }
+    operation: &Operation<'_>,
+    roots: &mut Vec<usize>,
+) -> Result<(), AllocError>
+    ensures { OnOk result (roots.new.items ≡ roots.old.items ++ bodies_of (model_view model.now) (operation_view operation.now)) }
 {
-    let wanted = structure_ids(alloc, model)?;
+    add_if(roots, body_if(model, &operation.input))?;
+    add_if(roots, body_if(model, &operation.output))?;
+    add_errors(model, &operation.errors, roots)
+}
+
+/// The bodies of the operations.
+pub(crate) fn service_roots(alloc: Global, model: &Model<'_>) -> Result<Vec<usize>, AllocError>
+    ensures { IfOk result (λ roots. roots.items ≡ flat_map (bodies_of (model_view model.now)) (model_view model.now).operations) }
+{
     let mut roots = Vec::new(alloc);
-    for id in &wanted {
-        add_body(model, ids, *id, &mut roots)?;
+    for operation in &model.operations {
+        add_bodies(model, operation, &mut roots)?;
     }
     Ok(roots)
 }

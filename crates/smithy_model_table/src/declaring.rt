@@ -77,7 +77,7 @@ fn declare_map<'a>(
 fn declare_shape<'a>(
     alloc: Global,
     model: &Model<'a>,
-    roles: &Roles<'a>,
+    roles: &Roles,
     marks: &[bool],
     names: &Names<'a>,
     number: usize,
@@ -95,7 +95,7 @@ fn declare_shape<'a>(
         Kind::Structure(members) => {
             let owner = Owner {
                 id: shape.id,
-                counting: bindings_of(model, roles, number, shape.id),
+                counting: bindings_of(model, roles, number),
             };
             Ok(Some(Decl::Structure {
                 name: owned(alloc, name)?,
@@ -132,7 +132,7 @@ fn add_decl(decls: &mut Vec<Decl>, decl: Option<Decl>) -> Result<(), AllocError>
 pub(crate) fn declare_all<'a>(
     alloc: Global,
     model: &Model<'a>,
-    roles: &Roles<'a>,
+    roles: &Roles,
     marks: &[bool],
     names: &Names<'a>,
     order: &[usize],

@@ -63,7 +63,7 @@ fn visit_members(
 // Adds the shapes that the declaration of the shape of this number leads to.
 fn visit_targets(
     model: &Model<'_>,
-    roles: &Roles<'_>,
+    roles: &Roles,
     marks: &[bool],
     seen: &mut Vec<bool>,
     order: &mut Vec<usize>,
@@ -77,7 +77,7 @@ fn visit_targets(
     };
     match &shape.kind {
         Kind::Structure(members) => {
-            let counting = bindings_of(model, roles, number, shape.id);
+            let counting = bindings_of(model, roles, number);
             visit_members(marks, counting, seen, order, members)
         }
         Kind::Union(members) => visit_members(marks, no_bindings(), seen, order, members),
@@ -91,7 +91,7 @@ fn visit_targets(
 pub(crate) fn reached(
     alloc: Global,
     model: &Model<'_>,
-    roles: &Roles<'_>,
+    roles: &Roles,
     marks: &[bool],
     roots: &[usize],
 ) -> Result<Vec<usize>, AllocError>

@@ -1,21 +1,22 @@
-//! What the operations and the shapes of a model name: structures by their ids, and targets by their numbers.
-ghost use Rattle.std.specs.Prelude.{◌≡◌, ◌==◌, ℕ, List, true, false, map, option_map, bytes_eq, IfOk, OnOk};
+//! Which shapes the operations and the shapes of a model name.
+ghost use Rattle.std.specs.Prelude.{◌≡◌, ◌==◌, ℕ, true, false, map, option_map, bytes_eq, IfOk, OnOk};
 ghost use Rattle.std.specs.List.{list_any};
 ghost use Rattle.std.specs.Option.{option_map_or};
-ghost use Rattle.smithy_model.specs.Views.{model_view, member_view, kind_view};
+ghost use Rattle.smithy_model.specs.Model as kept;
+ghost use Rattle.smithy_model.specs.Views.{model_view, member_view, kind_view, reference_view};
 ghost use Rattle.smithy_model_table.specs.Bindings.{is_input, is_output, is_error, leads_to, is_nested};
 ghost use Rattle.smithy_model_table.specs.Roles.{has_id, has_number, Gains, AreRolesOf};
 
-use smithy_model::{Kind, Member, Model};
+use smithy_model::{Kind, Member, Model, Reference};
 use std::alloc::{AllocError, Global};
 use std::collections::BTreeSet;
 
-/// The ids that operations name as inputs, outputs and errors, and the numbers of the shapes that are targets.
+/// The numbers of the shapes that operations name as inputs, outputs and errors, and of those that are targets.
 #[derive(Drop)]
-pub(crate) struct Roles<'a> {
-    pub(crate) inputs: BTreeSet<&'a str>,
-    pub(crate) outputs: BTreeSet<&'a str>,
-    pub(crate) errors: BTreeSet<&'a str>,
+pub(crate) struct Roles {
+    pub(crate) inputs: BTreeSet<usize>,
+    pub(crate) outputs: BTreeSet<usize>,
+    pub(crate) errors: BTreeSet<usize>,
     pub(crate) nested: BTreeSet<usize>,
 }
 
@@ -27,65 +28,65 @@ pub(crate) fn add_id<'a>(ids: &mut BTreeSet<&'a str>, id: &'a str) -> Result<(),
     Ok(())
 }
 
-// Adds an id, if it is given.
-fn add_given<'a>(ids: &mut BTreeSet<&'a str>, given: Option<&'a str>) -> Result<(), AllocError>
-    ensures { OnOk result (Gains (λ other. option_map_or (λ given. bytes_eq given other) (option_map (λ t. t.now) given.entry) false) (has_id ids.old) (has_id ids.new)) }
-{
-    match given {
-        Some(id) => add_id(ids, id),
-        None => Ok(()),
-    }
-}
-
-// Adds all of these ids.
-fn add_all<'a>(ids: &mut BTreeSet<&'a str>, given: &[&'a str]) -> Result<(), AllocError>
-    ensures { OnOk result (Gains (λ other. list_any (λ id. bytes_eq id other) (map (λ t. t.now) given.now)) (has_id ids.old) (has_id ids.new)) }
-{
-    for id in given {
-        add_id(ids, *id)?;
-    }
-    Ok(())
-}
-
-// The ids of the inputs of operations.
-fn inputs<'a>(alloc: Global, model: &Model<'a>) -> Result<BTreeSet<&'a str>, AllocError>
-    ensures { IfOk result (λ ids. (id : List ℕ) → has_id ids id ≡ is_input (model_view model.now) id) }
-{
-    let mut ids = BTreeSet::new(alloc);
-    for operation in &model.operations {
-        add_given(&mut ids, operation.input)?;
-    }
-    Ok(ids)
-}
-
-// The ids of the outputs.
-fn outputs<'a>(alloc: Global, model: &Model<'a>) -> Result<BTreeSet<&'a str>, AllocError>
-    ensures { IfOk result (λ ids. (id : List ℕ) → has_id ids id ≡ is_output (model_view model.now) id) }
-{
-    let mut ids = BTreeSet::new(alloc);
-    for operation in &model.operations {
-        add_given(&mut ids, operation.output)?;
-    }
-    Ok(ids)
-}
-
-// The ids of the errors.
-fn errors<'a>(alloc: Global, model: &Model<'a>) -> Result<BTreeSet<&'a str>, AllocError>
-    ensures { IfOk result (λ ids. (id : List ℕ) → has_id ids id ≡ is_error (model_view model.now) id) }
-{
-    let mut ids = BTreeSet::new(alloc);
-    for operation in &model.operations {
-        add_all(&mut ids, &operation.errors)?;
-    }
-    Ok(ids)
-}
-
 // Adds a number.
 fn add_number(numbers: &mut BTreeSet<usize>, number: usize) -> Result<(), AllocError>
     ensures { OnOk result (Gains (λ other. number == other) (has_number numbers.old) (has_number numbers.new)) }
 {
     numbers.insert(number)?;
     Ok(())
+}
+
+// Adds the shape that is referred to, if there is one.
+fn add_given(numbers: &mut BTreeSet<usize>, given: &Option<Reference<'_>>) -> Result<(), AllocError>
+    ensures { OnOk result (Gains (λ other. option_map_or (λ (r : kept.Reference). r.number == other) (option_map reference_view given.now) false) (has_number numbers.old) (has_number numbers.new)) }
+{
+    match given {
+        Some(reference) => add_number(numbers, reference.number),
+        None => Ok(()),
+    }
+}
+
+// Adds the shapes that are referred to.
+fn add_all(numbers: &mut BTreeSet<usize>, given: &[Reference<'_>]) -> Result<(), AllocError>
+    ensures { OnOk result (Gains (λ other. list_any (λ (r : kept.Reference). r.number == other) (map reference_view given.now)) (has_number numbers.old) (has_number numbers.new)) }
+{
+    for reference in given {
+        add_number(numbers, reference.number)?;
+    }
+    Ok(())
+}
+
+// The numbers of the inputs of operations.
+fn inputs(alloc: Global, model: &Model<'_>) -> Result<BTreeSet<usize>, AllocError>
+    ensures { IfOk result (λ numbers. (number : ℕ) → has_number numbers number ≡ is_input (model_view model.now) number) }
+{
+    let mut numbers = BTreeSet::new(alloc);
+    for operation in &model.operations {
+        add_given(&mut numbers, &operation.input)?;
+    }
+    Ok(numbers)
+}
+
+// The numbers of the outputs.
+fn outputs(alloc: Global, model: &Model<'_>) -> Result<BTreeSet<usize>, AllocError>
+    ensures { IfOk result (λ numbers. (number : ℕ) → has_number numbers number ≡ is_output (model_view model.now) number) }
+{
+    let mut numbers = BTreeSet::new(alloc);
+    for operation in &model.operations {
+        add_given(&mut numbers, &operation.output)?;
+    }
+    Ok(numbers)
+}
+
+// The numbers of the errors.
+fn errors(alloc: Global, model: &Model<'_>) -> Result<BTreeSet<usize>, AllocError>
+    ensures { IfOk result (λ numbers. (number : ℕ) → has_number numbers number ≡ is_error (model_view model.now) number) }
+{
+    let mut numbers = BTreeSet::new(alloc);
+    for operation in &model.operations {
+        add_all(&mut numbers, &operation.errors)?;
+    }
+    Ok(numbers)
 }
 
 // Adds the targets of these members.
@@ -125,9 +126,9 @@ fn nested(alloc: Global, model: &Model<'_>) -> Result<BTreeSet<usize>, AllocErro
     Ok(numbers)
 }
 
-impl<'a> Roles<'a> {
+impl Roles {
     // None at all.
-    fn none(alloc: Global) -> Roles<'a> {
+    fn none(alloc: Global) -> Roles {
         Roles {
             inputs: BTreeSet::new(alloc),
             outputs: BTreeSet::new(alloc),
@@ -137,7 +138,7 @@ impl<'a> Roles<'a> {
     }
 
     /// Those of this model. Without HTTP bindings no one asks for them, and nothing is gathered.
-    pub(crate) fn of(alloc: Global, model: &Model<'a>) -> Result<Roles<'a>, AllocError>
+    pub(crate) fn of(alloc: Global, model: &Model<'_>) -> Result<Roles, AllocError>
         ensures { IfOk result (λ roles. (model_view model.now).has_http_bindings ≡ true → AreRolesOf (model_view model.now) roles) }
     {
         if !model.has_http_bindings {

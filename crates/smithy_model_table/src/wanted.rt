@@ -1,20 +1,19 @@
 //! The shapes that a table is wanted for.
-ghost use Rattle.std.specs.Prelude.{◌≡◌, ◌≢◌, List, ℕ, [], ◌∷◌, Some, map, option_map, slice_get, IfOk, IfErr};
-ghost use Rattle.std.specs.Option.{IsSomeAnd};
+ghost use Rattle.std.specs.Prelude.{◌≡◌, ◌≢◌, [], ◌∷◌, Some, None, map, option_map, slice_get, IfOk, IfErr};
 ghost use Rattle.smithy_model.specs.Reading.{ids_of};
-ghost use Rattle.smithy_model.specs.Views.{model_view, operation_view, kind_view};
+ghost use Rattle.smithy_model.specs.Views.{model_view, operation_view, reference_view, kind_view};
 ghost use Rattle.smithy_model_table.specs.declared.fault.WantedFault.TheVariants as faults;
 ghost use Rattle.smithy_model_table.specs.Views.{wanted_view};
 ghost use Rattle.smithy_model_table.specs.Naming.{is_declared};
 ghost use Rattle.smithy_model_table.specs.Finding.{IsOfSearch};
-ghost use Rattle.smithy_model_table.specs.Wanted.{shape, IsIdNamed, IsDeclared, IsOperationNamed, HasNotOne, IsUnknown, operation_ids, IsBody, AreRoots, LacksName, GivesNoBody, HasNoDeclaration};
+ghost use Rattle.smithy_model_table.specs.Wanted.{shape, IsIdNamed, IsDeclared, IsOperationNamed, HasNotOne, IsUnknown, operation_ids, body_if, AreRoots, LacksName, HasNoDeclaration};
 
-use crate::bodies::{body, service_roots};
+use crate::bodies::{body_if, service_roots};
 use crate::carried::is_marked;
 use crate::fault::WantedFault;
 use crate::finding::{operation_ids, place_of, place_of_only, shape_ids};
 use crate::places::shape_at;
-use smithy_model::{Kind, Model, Operation};
+use smithy_model::{Kind, Model, Operation, Reference};
 use std::alloc::{AllocError, Global};
 
 /// What a table is wanted for.
@@ -112,16 +111,15 @@ fn find_operation<'m, 'a>(
     }
 }
 
-// The body of a structure that an operation may have.
-fn body_if(model: &Model<'_>, ids: &[&str], id: Option<&str>) -> Result<usize, WantedFault>
-    requires { map (λ t. t.now) ids.now ≡ ids_of (model_view model.now).shapes }
-    ensures found { IfOk result (λ root. (given : List ℕ) × (option_map (λ t. t.now) id.entry ≡ Some given) × IsBody (model_view model.now) given root) }
-    ensures lacks { IfErr result (λ fault. fault ≡ faults.NoSuchName → IsSomeAnd (option_map (λ t. t.now) id.entry) (IsUnknown (ids_of (model_view model.now).shapes))) }
-    ensures undeclared { IfErr result (λ fault. fault ≡ faults.NoDeclaration → GivesNoBody (model_view model.now) (option_map (λ t. t.now) id.entry)) }
+// The body of what an operation refers to.
+fn body(model: &Model<'_>, given: &Option<Reference<'_>>) -> Result<usize, WantedFault>
+    ensures found { IfOk result (λ root. body_if (model_view model.now) (option_map reference_view given.now) ≡ Some root) }
+    ensures named { IfErr result (λ fault. fault ≢ faults.NoSuchName) }
+    ensures undeclared { IfErr result (λ fault. body_if (model_view model.now) (option_map reference_view given.now) ≡ None) }
     ensures of_search { IfErr result IsOfSearch }
 {
-    match id {
-        Some(id) => body(model, ids, id),
+    match body_if(model, given) {
+        Some(root) => Ok(root),
         None => Err(WantedFault::NoDeclaration),
     }
 }
@@ -147,22 +145,22 @@ pub(crate) fn roots_of(
     ensures undeclared { IfErr result (λ fault. fault ≡ faults.NoDeclaration → HasNoDeclaration (model_view model.now) marks.now (wanted_view wanted.entry)) }
     ensures of_search { IfErr result IsOfSearch }
 {
-    let ids = shape_ids(alloc, model)?;
     match wanted {
         Wanted::Input(name) => {
             let operation = find_operation(alloc, model, name)?;
-            let number = body_if(model, &ids, operation.input)?;
+            let number = body(model, &operation.input)?;
             Ok(one(alloc, number)?)
         }
         Wanted::Output(name) => {
             let operation = find_operation(alloc, model, name)?;
-            let number = body_if(model, &ids, operation.output)?;
+            let number = body(model, &operation.output)?;
             Ok(one(alloc, number)?)
         }
         Wanted::Shape(name) => {
+            let ids = shape_ids(alloc, model)?;
             let number = find_declared(model, marks, &ids, name)?;
             Ok(one(alloc, number)?)
         }
-        Wanted::Service => Ok(service_roots(alloc, model, &ids)?),
+        Wanted::Service => Ok(service_roots(alloc, model)?),
     }
 }

@@ -1,5 +1,4 @@
 use Rattle.std.proofs.Common.{List, ℕ, [], ◌∷◌, map, subst}
-use Rattle.std.specs.List.{list_any}
 use Rattle.std.proofs.lemmas.List.{map-append}
 use Rattle.std.proofs.lemmas.Result.{err_from_is_err_and}
 use Rattle.smithy_model.specs.declared.model.Shape as kept
@@ -16,16 +15,14 @@ pub returns-in_err-kind-clause-refused : goal.returns-in_err-kind-clause-refused
 returns-in_err-kind-clause-refused c =
     let p = err_from_is_err_and c.from_residual-in_err-kind.result c.from_residual-in_err-kind.ensures.1 in
     let fault = c.in_err-kind.field-0.0 in
-    let shapes = c.args.shapes.now in
-    let ids = numbers_view c.in_ok-numbers.numbers in
+    let ids = numbers_view c.args.numbers.now in
     rw (p.1, p.2)
-    (subst (λ (known : List (List ℕ)). MissesTarget known (λ id. list_any (λ (s : Shape). has_target id s.kind) (map shape_view shapes)) fault) c.in_ok-numbers.ensures
-    (misses_more ids (λ id (s : Shape). has_target id s.kind) shape_view shapes c.loop-shape.shape-index c.shape-item.result c.loop-shape-test.true fault
-    (subst (λ (x : kept.Shape). MissesTarget ids (λ id. has_target id (kind_view x.kind)) fault) c.shape-item.is c.in_err-kind.ensures.refused)))
+    (misses_more ids (λ id (s : Shape). has_target id s.kind) shape_view c.args.shapes.now c.loop-shape.shape-index c.shape-item.result c.loop-shape-test.true fault
+    (subst (λ (x : kept.Shape). MissesTarget ids (λ id. has_target id (kind_view x.kind)) fault) c.shape-item.is c.in_err-kind.ensures.refused))
 
 pub loop-shape-preserved : goal.loop-shape-preserved
 loop-shape-preserved c =
-    let ids = numbers_view c.in_ok-numbers.numbers in
+    let ids = numbers_view c.args.numbers.now in
     let linked = shape_view c.with_kind.result in
     rw (c.in_ok-push.ensures.items, map-append shape_view c.loop-shape.linked.items (c.with_kind.result ∷ []))
     (zip_next (IsShapeNumbered ids) shape_view c.args.shapes.now c.loop-shape.shape-index c.shape-item.result (map shape_view c.loop-shape.linked.items) linked
