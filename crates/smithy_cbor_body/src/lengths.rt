@@ -56,7 +56,6 @@ pub(crate) fn is_complete(length: Length) -> bool
 }
 
 // One more element or entry of the innermost container has come.
-#[inline(always)]
 pub(crate) fn count_value(containers: &mut OpenContainers<Length>) -> Result<(), AllocError>
     ensures lengths { OnOk result (marks_of containers.new ≡ counted_first (marks_of containers.old)) }
     ensures containers { OnOk result (opens_of containers.new ≡ opens_of containers.old) }

@@ -160,6 +160,7 @@ impl ShapeDeserializer for JsonDeserializer<'_> {
         }
     }
 
+    #[inline(always)]
     fn next_element(&mut self) -> Result<bool, SerdeError> {
         if self.walk.failed {
             return Err(self.walk.refuse(SerdeError::Failed));

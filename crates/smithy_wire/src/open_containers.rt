@@ -122,7 +122,6 @@ impl<M: Copy> OpenContainers<M> {
     }
 
     /// A value comes: none in a key's place, and behind a map's value a key is due.
-    #[inline(always)]
     pub fn pass_value(&mut self) -> Result<(), SerdeError>
         ensures taken { OnOk result (after_value (opens_of self.old) ≡ Ok (opens_of self.new)) }
         ensures marks { OnOk result (marks_of self.new ≡ marks_of self.old) }
