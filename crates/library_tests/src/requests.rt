@@ -2,11 +2,8 @@
 ghost use Rattle.smithy_shapes.specs.Site.{site_of};
 
 use smithy_error_metadata::ErrorMetadata;
-use smithy_protocol::{
-    AwsJsonRpcProtocol, Headers, ProtocolConfig, Request, Response, RpcV2CborProtocol,
-};
+use smithy_protocol::{AwsJsonRpcProtocol, Headers, ProtocolConfig, Request, Response};
 use smithy_schema::{Schema, SerdeError, SerializableStruct, ShapeSerializer, Shapes, TableText};
-use smithy_transcode::read_value;
 use std::alloc::Global;
 use std::test::Fail;
 
@@ -124,19 +121,9 @@ fn shape_of(
 }
 
 #[test]
-fn an_answer_is_read_as_clients_read(rt: HostRuntime) -> Result<(), Fail> {
+fn relative_names_stand_in_the_namespace_of_the_protocol(rt: HostRuntime) -> Result<(), Fail> {
     let alloc = rt.alloc();
-    let table = TableText::read(alloc, b"structure S\nmember a long\n")?;
-    let shapes = Shapes::build(alloc, table)?;
-    let schema = shapes.schema(shapes.find("S").ok_or("no such shape")?);
-    let config = configuration(alloc, "com.example")?;
     let protocol = AwsJsonRpcProtocol::aws_json_1_1();
-    let lenient = answer(alloc, b"{\"a\":+5}")?;
-    let mut reader = protocol.deserialize_response(alloc, &lenient, &config);
-    assert!(rt; read_value(alloc, &mut reader, &schema).is_ok());
-    let empty = answer(alloc, b"")?;
-    let mut reader = RpcV2CborProtocol::new().deserialize_response(alloc, &empty, &config);
-    assert!(rt; read_value(alloc, &mut reader, &schema).is_ok());
     let named = b"{\"__type\":\"T\"}";
     assert!(rt; shape_of(alloc, &protocol, "com.example", named)?.as_str() == "com.example#T");
     let protocol = protocol.with_default_namespace(String::from_str(alloc, "com.own")?);

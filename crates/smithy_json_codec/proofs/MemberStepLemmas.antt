@@ -12,7 +12,7 @@ use Rattle.smithy_schema.specs.declared.read.Step.TheVariants.{Member as ToMembe
 use Rattle.smithy_shapes.specs.declared.schema.Schema.{Schema}
 use Rattle.smithy_shapes.specs.Table.{Table, Member, Kind, structure_of, union_of, members_of, member_place, kind_of, kind_of_target, is_document_target, is_document_place, IsDocument, IsStructure, HasMembers}
 use Rattle.smithy_shapes.specs.Lemmas.Kinds.{document_place_is}
-use Rattle.smithy_shapes.specs.Lemmas.Options.{same_some, made}
+use Rattle.smithy_shapes.specs.Lemmas.Options.{made}
 use Rattle.smithy_shapes.specs.Site.{Site, site_of, member_site, kind_at, site_of_member}
 use Rattle.smithy_schema.specs.Reading.{Cursor, depth, Steps, Leaves, MatchStep, CannotGoOn, passed_to, in_structure}
 use Rattle.smithy_json.specs.Unescape.{unescaped}
@@ -26,7 +26,7 @@ use Rattle.smithy_json_values.specs.Tokens.{BoundaryBy, IsOverBy, EndsInside}
 use Rattle.smithy_json_values.specs.Private.Wire.{over_is_end}
 use Rattle.smithy_json_codec.specs.Private.PassedEntries.{type_name, Passing, StepsToMember, ClosesMembers, NoSkip, NoSkipWithin, NothingComes}
 use Rattle.smithy_json_values.specs.Openers.{json_openers}
-use Rattle.smithy_json_codec.specs.Private.MemberSteps.{EndsEmpty, StepsTo, passing, passes_null, passes_marks}
+use Rattle.smithy_json_codec.specs.Private.MemberSteps.{EndsEmpty, StepsTo, passing, passes_null}
 use Rattle.smithy_json_values.specs.Private.Skipping.{SkipsTo}
 use Rattle.smithy_json_codec.proofs.DeserializerLemmas.{kept_shallow, shallow_kept}
 use Rattle.smithy_json_codec.proofs.ReaderLemmas.{steps_to_member, closes_members, members_are_stuck}

@@ -1,5 +1,5 @@
 -- What comes behind entries that are passed over.
-use Rattle.std.proofs.Common.{◌≡◌, ◌<◌, ◌≤◌, ◌+◌, ℕ, zero, suc, length, List, drop, Bool, true, false, Some, refl, sym, ◌∙◌, ap, arith, inl, inr}
+use Rattle.std.proofs.Common.{◌≡◌, ◌<◌, ◌≤◌, ◌+◌, ℕ, zero, suc, length, List, drop, Bool, true, Some, refl, sym, ◌∙◌, ap, arith, inl, inr}
 use Rattle.smithy_shapes.specs.Lemmas.Options.{same_some}
 use Rattle.smithy_json_codec.specs.declared.members.EntryFault.TheVariants.{NoEntry, TooDeep}
 use Rattle.smithy_json_codec.specs.declared.members.Next.{Next}
@@ -12,7 +12,7 @@ use Rattle.smithy_json_values.specs.Openers.{json_openers}
 use Rattle.smithy_json_values.specs.LexicalGrammar.{LexicalGrammar, is_skipped_in, frames_of}
 use Rattle.smithy_json_values.proofs.SkipSteps.{node_ahead}
 use Rattle.smithy_json_values.specs.Private.NextInContainer.{NamesIn}
-use Rattle.smithy_json_values.specs.Private.TokenPlaces.{null_ahead, names_ahead}
+use Rattle.smithy_json_values.specs.Private.TokenPlaces.{names_ahead}
 use Rattle.smithy_json_values.specs.Private.OpenersAtPlaces.{across_null, across_name_token}
 use Rattle.smithy_json_values.proofs.OpenersLemmas.{node_takes_none}
 use Rattle.smithy_json_values.specs.Private.Skipping.{SkipsTo}

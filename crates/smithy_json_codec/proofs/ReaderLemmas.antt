@@ -1,14 +1,14 @@
 -- What a reader finds in an input, as a relation of reading, and what it doesn't find.
-use Rattle.std.proofs.Common.{◌≡◌, ◌⊎◌, ◌<◌, ◌+◌, ℕ, zero, suc, List, [], drop, Option, Some, None, Bool, true, false, refl, sym, ◌∙◌, ap, subst, arith, inl, inr}
+use Rattle.std.proofs.Common.{◌≡◌, ◌⊎◌, ◌<◌, ◌+◌, ℕ, zero, suc, List, drop, Option, Some, None, Bool, true, false, refl, sym, ◌∙◌, ap, subst, arith, inl, inr}
 use Rattle.std.specs.Str.{bytes_eq}
 use Rattle.std.proofs.lemmas.Slice.Eq.{bytes_eq-Decides}
 use Rattle.smithy_shapes.specs.declared.place.Place.{Place}
-use Rattle.smithy_shapes.specs.Table.{Table, Kind, structure_of, union_of, kind_of, IsList, IsMap, IsStructure, HasMembers}
+use Rattle.smithy_shapes.specs.Table.{Table, Kind, structure_of, kind_of, IsList, IsMap, IsStructure, HasMembers}
 use Rattle.smithy_schema.specs.Reading.{Mark}
 use Rattle.smithy_shapes.specs.Lemmas.Kinds.{no_list_and_structure}
 use Rattle.smithy_json.specs.Ascii.{begin_array, end_array, begin_object, end_object}
 use Rattle.smithy_json.specs.Unescape.{unescaped}
-use Rattle.smithy_json_values.specs.Scalar.{JsonScalar, a_string}
+use Rattle.smithy_json_values.specs.Scalar.{a_string}
 use Rattle.smithy_json_values.specs.Settings.{Settings, is_shallow}
 use Rattle.smithy_json_values.specs.LexicalGrammar.{frames_of}
 use Rattle.smithy_json_values.specs.Standing.{Lies, IsByte, IsSeparated, fresh_mark, end_mark, entry_mark, json_grammar, json_rules, json_relations}
@@ -20,7 +20,7 @@ use Rattle.smithy_json_values.specs.Private.TokenEntries.{entry_of_names, entry_
 use Rattle.smithy_json_values.specs.Private.Wire.{tokens_are_wire}
 use Rattle.smithy_wire.specs.Node.{as_array, as_object, null_node}
 use Rattle.smithy_wire.specs.Frames.{IsTold, Drops, DropsAll}
-use Rattle.smithy_wire.specs.Rules.{Rules, position_in, drops_null, is_mark, key_text}
+use Rattle.smithy_wire.specs.Rules.{position_in, drops_null, is_mark, key_text}
 use Rattle.smithy_wire.specs.Readers.{opens_not, cannot_go_on}
 use Rattle.smithy_wire.specs.Entries.{other_is_no_mark, drop_is, mark_is_dropped, null_is_dropped, step_to_entry, close_at_end, list_drops_nothing, step_to_element, map_drops_nothing, step_to_key}
 use Rattle.smithy_wire.specs.Lemmas.Places.{members_are_object, list_is_array, map_is_object}

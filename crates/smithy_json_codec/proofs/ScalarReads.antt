@@ -1,5 +1,5 @@
 -- What a reader finds at the place of a scalar stands there, and where it finds nothing, nothing does.
-use Rattle.std.proofs.Common.{◌≡◌, ◌≤◌, ℕ, List, length, drop, Bool, true, false, Option, Some, None, refl, sym, ◌∙◌, ap}
+use Rattle.std.proofs.Common.{◌≡◌, ◌≤◌, ℕ, List, length, drop, Bool, true, false, Option, Some, refl, sym, ◌∙◌, ap}
 use Rattle.std.specs.Prelude.{option_map, Result, OnErr, IfOk, IfErr, IsOk, IsErr, IfSome, IfNone, IsSome, IsNone, MatchOption}
 use Rattle.std.specs.declared.alloc.AllocError.{AllocError}
 use Rattle.smithy_shapes.specs.declared.shape_type.Scalar.{Scalar}

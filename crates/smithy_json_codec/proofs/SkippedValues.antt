@@ -1,5 +1,5 @@
 -- What is skipped is a node of the grammar that isn't too deep.
-use Rattle.std.proofs.Common.{◌≡◌, ◌↔◌, ◌+◌, ◌&&◌, ℕ, List, true, refl}
+use Rattle.std.proofs.Common.{◌≡◌, ◌↔◌, ◌+◌, ℕ, List, true, refl}
 use Rattle.std.proofs.lemmas.Bool.{and_parts}
 use Rattle.smithy_json_values.specs.Scalar.{JsonScalar}
 use Rattle.smithy_json_values.specs.LexicalGrammar.{LexicalGrammar, is_skipped_in, NodeLies, token_relations}

@@ -142,14 +142,11 @@ impl ShapeDeserializer for JsonDeserializer<'_> {
         if self.walk.failed {
             return Err(self.walk.refuse(SerdeError::Failed));
         }
+        if self.walk.due {
+            return self.step_past_unread(schema);
+        }
         let at = self.walk.position;
-        if !self.walk.due {
-            return self.step_from(at, schema);
-        }
-        match skipped_end(self.input(), at, self.walk.depth()) {
-            Ok(end) => self.step_from(end, schema),
-            Err(fault) => Err(self.walk.refuse(fault.refusal())),
-        }
+        self.step_from(at, schema)
     }
 
     fn open_list(&mut self, _schema: &Schema<'_>) -> Result<(), SerdeError> {

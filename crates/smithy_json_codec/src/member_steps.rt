@@ -3,12 +3,13 @@ use crate::deserializer::JsonDeserializer;
 use crate::frames::{frame, is_structure};
 use crate::members::{Next, next_present, step_to};
 use smithy_json_values::places::is_over;
+use smithy_json_values::skip::skipped_end;
 use smithy_schema::{Schema, SerdeError, Step};
 use smithy_wire::ContainerKind;
 
 impl JsonDeserializer<'_> {
-    ghost use Rattle.std.specs.Prelude.{◌≡◌, ◌≤◌, ◌↔◌, ◌+◌, ℕ, length, drop, IsTrue, IfOk, IsErrOf, false};
-    ghost use Rattle.smithy_schema.specs.Reading.{passed_to, depth, in_structure, Conducts, MatchStep, CannotGoOn, RefusesNoKind, IsRefused, IsInvalid};
+    ghost use Rattle.std.specs.Prelude.{◌≡◌, ◌≤◌, ◌↔◌, ◌+◌, ℕ, length, drop, IsTrue, IfOk, IsErrOf, true, false};
+    ghost use Rattle.smithy_schema.specs.Reading.{passed_to, depth, in_structure, Conducts, MatchStep, CannotGoOn, ReachesDepth, RefusesNoKind, IsRefused, IsInvalid};
     ghost use Rattle.smithy_shapes.specs.Table.{HasMembers};
     ghost use Rattle.smithy_shapes.specs.Site.{site_of, kind_at};
     ghost use Rattle.smithy_schema.specs.declared.error.SerdeError.TheVariants.{TooDeep};
@@ -61,7 +62,7 @@ impl JsonDeserializer<'_> {
         }
         match next_present(
             self.alloc,
-            self.input(),
+            &self.input(),
             at,
             self.walk.inner.mark.entered,
             self.walk.depth(),
@@ -77,6 +78,35 @@ impl JsonDeserializer<'_> {
                 self.walk.leave(end);
                 Ok(Step::End)
             }
+            Err(fault) => Err(self.walk.refuse(fault.refusal())),
+        }
+    }
+
+    // Goes on in the structure or the union behind the value that was left unread. It stays a call, so that a step stands in line once.
+    #[inline(never)]
+    pub(crate) fn step_past_unread<'s>(
+        &mut self,
+        schema: &Schema<'s>,
+    ) -> Result<Step<'s>, SerdeError>
+        requires sound { self.old.walk.failed ≡ false }
+        requires due { (cursor_of self.old).due ≡ true }
+        requires inside { (cursor_of self.old).inner.within ≡ in_structure }
+        requires place { HasMembers (kind_at (site_of schema.now)) }
+        ensures same { reader_settings_of self.new ≡ reader_settings_of self.old }
+        ensures conduct { Conducts (cursor_of self.old) (cursor_of self.new) result }
+        ensures narrow { RefusesNoKind result }
+        ensures ok { IfOk result (λ step. (e : ℕ) × (json_relations (reading_settings_of self.old)).skips (cursor_of self.old).input (depth (cursor_of self.old)) (cursor_of self.old).at e × MatchStep step (json_relations (reading_settings_of self.old)) (passed_to (cursor_of self.old) e) (cursor_of self.new) (site_of schema.now)) }
+        ensures refused { IsRefused result → (e : ℕ) → (json_relations (reading_settings_of self.old)).skips (cursor_of self.old).input (depth (cursor_of self.old)) (cursor_of self.old).at e
+            → CannotGoOn (json_relations (reading_settings_of self.old)) (passed_to (cursor_of self.old) e) schema.now.shapes.now schema.now.place }
+        ensures none_without_limits { IsInvalid result → (e : ℕ) → (json_relations (without_limits (reading_settings_of self.old))).skips (cursor_of self.old).input (depth (cursor_of self.old)) (cursor_of self.old).at e
+            → CannotGoOn (json_relations (without_limits (reading_settings_of self.old))) (passed_to (cursor_of self.old) e) schema.now.shapes.now schema.now.place }
+        ensures deep { IsErrOf result TooDeep → ReachesDepth (json_relations (reading_settings_of self.old)) (reading_settings_of self.old).max_depth (cursor_of self.old) }
+        ensures too_deep { IsErrOf result TooDeep
+            → (q : ℕ) × ((cursor_of self.old).at ≤ q) × OpensTooDeep (json_grammar (reading_settings_of self.old)) (reading_settings_of self.old).max_depth (depth (cursor_of self.old)) (cursor_of self.old).input q }
+    {
+        let at = self.walk.position;
+        match skipped_end(self.input(), at, self.walk.depth()) {
+            Ok(end) => self.step_from(end, schema),
             Err(fault) => Err(self.walk.refuse(fault.refusal())),
         }
     }

@@ -118,11 +118,11 @@ fn passes_null(schema: &Schema<'_>, settings: Settings, name: &str) -> bool
 
 // The end of the null at the offset, where it is passed over under this name.
 #[inline(always)]
-fn passed_null(input: Input<'_>, at: usize, schema: &Schema<'_>, name: &str) -> Option<usize>
-    requires { at ≤ length input.bytes.now }
-    ensures found { IfSome result (λ e. (frames_of (held_grammar input.entry.settings)).null input.entry.bytes.now 0 at e) }
-    ensures passes { IfSome result (λ _. passes_null (held_settings input.entry.settings) (site_of schema.now) name.now ≡ true) }
-    ensures none { IfNone result ((e : ℕ) → (frames_of (held_grammar input.entry.settings)).null input.entry.bytes.now 0 at e → passes_null (held_settings input.entry.settings) (site_of schema.now) name.now ≡ true → ⊥) }
+fn passed_null(input: &Input<'_>, at: usize, schema: &Schema<'_>, name: &str) -> Option<usize>
+    requires { at ≤ length input.now.bytes.now }
+    ensures found { IfSome result (λ e. (frames_of (held_grammar input.now.settings)).null input.now.bytes.now 0 at e) }
+    ensures passes { IfSome result (λ _. passes_null (held_settings input.now.settings) (site_of schema.now) name.now ≡ true) }
+    ensures none { IfNone result ((e : ℕ) → (frames_of (held_grammar input.now.settings)).null input.now.bytes.now 0 at e → passes_null (held_settings input.now.settings) (site_of schema.now) name.now ≡ true → ⊥) }
 {
     let end = null_end(input.bytes, at, &input.settings)?;
     passes_null(schema, input.settings, name).then_some(end)
@@ -149,19 +149,19 @@ fn is_type_name(name: &str) -> bool
 #[inline(always)]
 fn entry_at<'a>(
     alloc: Global,
-    input: Input<'a>,
+    input: &Input<'a>,
     at: usize,
     entered: bool,
     depth: usize,
     schema: &Schema<'_>,
 ) -> Result<Entry<'a>, EntryFault>
-    requires within { at ≤ length input.bytes.now }
-    requires shallow { depth ≤ input.settings.max_depth }
-    ensures ok { IfOk result (IsEntry (held_grammar input.entry.settings) (passing (held_settings input.entry.settings) (site_of schema.now)) input.entry.settings.max_depth depth input.entry.bytes.now at entered) }
-    ensures refused { IfErr result (λ e. (e ≡ NoMemory → ⊥) → EntryMissing (held_grammar input.entry.settings) (NoSkipWithin (held_grammar input.entry.settings) input.entry.settings.max_depth depth input.entry.bytes.now) (passing (held_settings input.entry.settings) (site_of schema.now)) depth input.entry.bytes.now at entered) }
-    ensures none_without_limits { IsErrOf result NoEntry → EntryMissing (held_grammar input.entry.settings) (NoSkip (held_grammar input.entry.settings) depth input.entry.bytes.now) (passing (held_settings input.entry.settings) (site_of schema.now)) depth input.entry.bytes.now at entered }
-    ensures deep { IsErrOf result TooDeep → input.entry.settings.max_depth ≤ depth + json_openers (drop at input.entry.bytes.now) }
-    ensures too_deep { IsErrOf result TooDeep → (q : ℕ) × (at ≤ q) × OpensTooDeep (held_grammar input.entry.settings) input.entry.settings.max_depth depth input.entry.bytes.now q }
+    requires within { at ≤ length input.now.bytes.now }
+    requires shallow { depth ≤ input.now.settings.max_depth }
+    ensures ok { IfOk result (IsEntry (held_grammar input.now.settings) (passing (held_settings input.now.settings) (site_of schema.now)) input.now.settings.max_depth depth input.now.bytes.now at entered) }
+    ensures refused { IfErr result (λ e. (e ≡ NoMemory → ⊥) → EntryMissing (held_grammar input.now.settings) (NoSkipWithin (held_grammar input.now.settings) input.now.settings.max_depth depth input.now.bytes.now) (passing (held_settings input.now.settings) (site_of schema.now)) depth input.now.bytes.now at entered) }
+    ensures none_without_limits { IsErrOf result NoEntry → EntryMissing (held_grammar input.now.settings) (NoSkip (held_grammar input.now.settings) depth input.now.bytes.now) (passing (held_settings input.now.settings) (site_of schema.now)) depth input.now.bytes.now at entered }
+    ensures deep { IsErrOf result TooDeep → input.now.settings.max_depth ≤ depth + json_openers (drop at input.now.bytes.now) }
+    ensures too_deep { IsErrOf result TooDeep → (q : ℕ) × (at ≤ q) × OpensTooDeep (held_grammar input.now.settings) input.now.settings.max_depth depth input.now.bytes.now q }
 {
     let name = match next_in_object(input.bytes, at, entered, depth, &input.settings) {
         Some(InObject::Member(name)) => name,
@@ -177,7 +177,7 @@ fn entry_at<'a>(
     if !is_type_name(text.as_str()) || !passes_marks(schema, input.settings) {
         return Ok(Entry::Kept(Next::Member(text, name.end)));
     }
-    let end = skipped_end(input, name.end, depth)?;
+    let end = skipped_end(*input, name.end, depth)?;
     Ok(Entry::Passed(end))
 }
 
@@ -185,19 +185,19 @@ fn entry_at<'a>(
 #[inline(always)]
 pub(crate) fn next_present<'a>(
     alloc: Global,
-    input: Input<'a>,
+    input: &Input<'a>,
     at: usize,
     entered: bool,
     depth: usize,
     schema: &Schema<'_>,
 ) -> Result<Next<'a>, EntryFault>
-    requires within { at ≤ length input.bytes.now }
-    requires shallow { depth ≤ input.settings.max_depth }
-    ensures ok { IfOk result (IsNext (held_grammar input.entry.settings) (passing (held_settings input.entry.settings) (site_of schema.now)) input.entry.settings.max_depth depth input.entry.bytes.now at entered) }
-    ensures refused { IfErr result (λ e. (e ≡ NoMemory → ⊥) → NothingComes (held_grammar input.entry.settings) (NoSkipWithin (held_grammar input.entry.settings) input.entry.settings.max_depth depth input.entry.bytes.now) (passing (held_settings input.entry.settings) (site_of schema.now)) input.entry.settings.max_depth depth input.entry.bytes.now at entered) }
-    ensures none_without_limits { IsErrOf result NoEntry → NothingComes (held_grammar input.entry.settings) (NoSkip (held_grammar input.entry.settings) depth input.entry.bytes.now) (passing (held_settings input.entry.settings) (site_of schema.now)) input.entry.settings.max_depth depth input.entry.bytes.now at entered }
-    ensures deep { IsErrOf result TooDeep → input.entry.settings.max_depth ≤ depth + json_openers (drop at input.entry.bytes.now) }
-    ensures too_deep { IsErrOf result TooDeep → (q : ℕ) × (at ≤ q) × OpensTooDeep (held_grammar input.entry.settings) input.entry.settings.max_depth depth input.entry.bytes.now q }
+    requires within { at ≤ length input.now.bytes.now }
+    requires shallow { depth ≤ input.now.settings.max_depth }
+    ensures ok { IfOk result (IsNext (held_grammar input.now.settings) (passing (held_settings input.now.settings) (site_of schema.now)) input.now.settings.max_depth depth input.now.bytes.now at entered) }
+    ensures refused { IfErr result (λ e. (e ≡ NoMemory → ⊥) → NothingComes (held_grammar input.now.settings) (NoSkipWithin (held_grammar input.now.settings) input.now.settings.max_depth depth input.now.bytes.now) (passing (held_settings input.now.settings) (site_of schema.now)) input.now.settings.max_depth depth input.now.bytes.now at entered) }
+    ensures none_without_limits { IsErrOf result NoEntry → NothingComes (held_grammar input.now.settings) (NoSkip (held_grammar input.now.settings) depth input.now.bytes.now) (passing (held_settings input.now.settings) (site_of schema.now)) input.now.settings.max_depth depth input.now.bytes.now at entered }
+    ensures deep { IsErrOf result TooDeep → input.now.settings.max_depth ≤ depth + json_openers (drop at input.now.bytes.now) }
+    ensures too_deep { IsErrOf result TooDeep → (q : ℕ) × (at ≤ q) × OpensTooDeep (held_grammar input.now.settings) input.now.settings.max_depth depth input.now.bytes.now q }
 {
     let mut at = at;
     let mut entered = entered;

@@ -22,15 +22,15 @@ returns-in-Some-passed_null-clause-ok c =
     let stands = rw c.in-Some-Member.field-0-is at c.in-Some-Member.ensures in
     let told = c.in_ok-text.ensures.text ∙ ap (option_map cow_str_bytes) c.in-Some.is in
     let site = site_of c.args.schema.now in
-    let passes = ap (passes_null (held_settings c.args.input.settings) site) (sym c.as_str.ensures.value) ∙ c.in-Some-passed_null.ensures.passes in
-    null_passes (held_grammar c.args.input.settings) (passing (held_settings c.args.input.settings) site) c.args.input.settings.max_depth c.args.depth c.args.input.bytes.now c.args.at c.args.entered c.in-Some-Member.name.raw.now c.in-Some-Member.name.end stands.names
+    let passes = ap (passes_null (held_settings c.args.input.now.settings) site) (sym c.as_str.ensures.value) ∙ c.in-Some-passed_null.ensures.passes in
+    null_passes (held_grammar c.args.input.now.settings) (passing (held_settings c.args.input.now.settings) site) c.args.input.now.settings.max_depth c.args.depth c.args.input.now.bytes.now c.args.at c.args.entered c.in-Some-Member.name.raw.now c.in-Some-Member.name.end stands.names
     _ told passes c.in-Some-passed_null.end c.in-Some-passed_null.ensures.found
 
 pub returns-then-not-is_type_name-clause-ok : goal.returns-then-not-is_type_name-clause-ok
 returns-then-not-is_type_name-clause-ok c =
     let stands = rw c.in-Some-Member.field-0-is at c.in-Some-Member.ensures in
     let told = c.in_ok-text.ensures.text ∙ ap (option_map cow_str_bytes) c.in-Some.is in
-    let marks = (passing (held_settings c.args.input.settings) (site_of c.args.schema.now)) in
+    let marks = (passing (held_settings c.args.input.now.settings) (site_of c.args.schema.now)) in
     let other : IsNoMark marks c.in-Some-Member.name.raw.now = elim c.then-not-is_type_name.branch [
       | then-not-is_type_name-via-then-not-is_type_name w ↦ λ passes is.
           let same = same_some (cow_str_bytes c.in-Some.text) type_name (sym told ∙ is) in
@@ -40,15 +40,15 @@ returns-then-not-is_type_name-clause-ok c =
           let clash : true ≡ false = sym passes ∙ sym w.passes_marks.ensures ∙ w.if-not-passes_marks.true in cc
     ] in
     let site = site_of c.args.schema.now in
-    let stays = null_kept (held_grammar c.args.input.settings) marks c.args.input.settings.max_depth c.args.depth c.args.input.bytes.now c.args.at c.args.entered c.in-Some-Member.name.raw.now c.in-Some-Member.name.end stands.names _ told
-    (λ e lies passes. c.in_default-passed_null.ensures.none e lies (ap (passes_null (held_settings c.args.input.settings) site) c.as_str.ensures.value ∙ passes)) in
+    let stays = null_kept (held_grammar c.args.input.now.settings) marks c.args.input.now.settings.max_depth c.args.depth c.args.input.now.bytes.now c.args.at c.args.entered c.in-Some-Member.name.raw.now c.in-Some-Member.name.end stands.names _ told
+    (λ e lies passes. c.in_default-passed_null.ensures.none e lies (ap (passes_null (held_settings c.args.input.now.settings) site) c.as_str.ensures.value ∙ passes)) in
     (c.in-Some-Member.name.raw.now, told, stands.names, other, stays)
 
 pub returns-clause-ok : goal.returns-clause-ok
 returns-clause-ok c =
     let stands = rw c.in-Some-Member.field-0-is at c.in-Some-Member.ensures in
     let is = c.in_ok-text.ensures.text ∙ ap (option_map cow_str_bytes) c.in-Some.is ∙ ap Some (sym c.as_str-2.ensures.value ∙ c.is_type_name.ensures.0 c.if-not-is_type_name.false) in
-    mark_passes (held_grammar c.args.input.settings) (passing (held_settings c.args.input.settings) (site_of c.args.schema.now)) c.args.input.settings.max_depth c.args.depth c.args.input.bytes.now c.args.at c.args.entered c.in-Some-Member.name.raw.now c.in-Some-Member.name.end stands.names
+    mark_passes (held_grammar c.args.input.now.settings) (passing (held_settings c.args.input.now.settings) (site_of c.args.schema.now)) c.args.input.now.settings.max_depth c.args.depth c.args.input.now.bytes.now c.args.at c.args.entered c.in-Some-Member.name.raw.now c.in-Some-Member.name.end stands.names
     (sym c.passes_marks.ensures ∙ c.if-not-passes_marks.false) is c.in_ok-end.end c.in_ok-end.ensures.ok
 
 pub returns-in_err-end-clause-refused : goal.returns-in_err-end-clause-refused
@@ -57,8 +57,8 @@ returns-in_err-end-clause-refused c =
     rw (p.1, p.2) (λ fault.
     let stands = rw c.in-Some-Member.field-0-is at c.in-Some-Member.ensures in
     let is = c.in_ok-text.ensures.text ∙ ap (option_map cow_str_bytes) c.in-Some.is ∙ ap Some (sym c.as_str-2.ensures.value ∙ c.is_type_name.ensures.0 c.if-not-is_type_name.false) in
-    mark_stays (held_grammar c.args.input.settings) (passing (held_settings c.args.input.settings) (site_of c.args.schema.now)) c.args.input.settings.max_depth c.args.depth c.args.input.bytes.now c.args.at c.args.entered c.in-Some-Member.name.raw.now c.in-Some-Member.name.end stands.names
-    (sym c.passes_marks.ensures ∙ c.if-not-passes_marks.false) is (NoSkipWithin (held_grammar c.args.input.settings) c.args.input.settings.max_depth c.args.depth c.args.input.bytes.now) c.in_err-end.ensures.refused)
+    mark_stays (held_grammar c.args.input.now.settings) (passing (held_settings c.args.input.now.settings) (site_of c.args.schema.now)) c.args.input.now.settings.max_depth c.args.depth c.args.input.now.bytes.now c.args.at c.args.entered c.in-Some-Member.name.raw.now c.in-Some-Member.name.end stands.names
+    (sym c.passes_marks.ensures ∙ c.if-not-passes_marks.false) is (NoSkipWithin (held_grammar c.args.input.now.settings) c.args.input.now.settings.max_depth c.args.depth c.args.input.now.bytes.now) c.in_err-end.ensures.refused)
 
 pub returns-in_err-end-clause-none_without_limits : goal.returns-in_err-end-clause-none_without_limits
 returns-in_err-end-clause-none_without_limits c =
@@ -66,24 +66,24 @@ returns-in_err-end-clause-none_without_limits c =
     rw (p.1, p.2) (λ invalid.
     let stands = rw c.in-Some-Member.field-0-is at c.in-Some-Member.ensures in
     let is = c.in_ok-text.ensures.text ∙ ap (option_map cow_str_bytes) c.in-Some.is ∙ ap Some (sym c.as_str-2.ensures.value ∙ c.is_type_name.ensures.0 c.if-not-is_type_name.false) in
-    mark_stays (held_grammar c.args.input.settings) (passing (held_settings c.args.input.settings) (site_of c.args.schema.now)) c.args.input.settings.max_depth c.args.depth c.args.input.bytes.now c.args.at c.args.entered c.in-Some-Member.name.raw.now c.in-Some-Member.name.end stands.names
-    (sym c.passes_marks.ensures ∙ c.if-not-passes_marks.false) is (NoSkip (held_grammar c.args.input.settings) c.args.depth c.args.input.bytes.now) (c.in_err-end.ensures.none_without_limits (ap Err (unskipped_mark c.in_err-end.field-0.0 (error_of _ NoEntry invalid)))))
+    mark_stays (held_grammar c.args.input.now.settings) (passing (held_settings c.args.input.now.settings) (site_of c.args.schema.now)) c.args.input.now.settings.max_depth c.args.depth c.args.input.now.bytes.now c.args.at c.args.entered c.in-Some-Member.name.raw.now c.in-Some-Member.name.end stands.names
+    (sym c.passes_marks.ensures ∙ c.if-not-passes_marks.false) is (NoSkip (held_grammar c.args.input.now.settings) c.args.depth c.args.input.now.bytes.now) (c.in_err-end.ensures.none_without_limits (ap Err (unskipped_mark c.in_err-end.field-0.0 (error_of _ NoEntry invalid)))))
 
 pub returns-in_err-end-clause-deep : goal.returns-in_err-end-clause-deep
 returns-in_err-end-clause-deep c =
     let p = err_from_is_err_and c.from_residual-in_err-end.result c.from_residual-in_err-end.ensures.1 in
     rw (p.1, p.2) (λ deep.
     let stands = rw c.in-Some-Member.field-0-is at c.in-Some-Member.ensures in
-    reaches_from_name (held_grammar c.args.input.settings) (passing (held_settings c.args.input.settings) (site_of c.args.schema.now)) c.args.input.settings.max_depth c.args.depth c.args.input.bytes.now c.args.at c.args.entered c.in-Some-Member.name.raw.now c.in-Some-Member.name.end stands.names
-    c.args.input.settings.max_depth (c.in_err-end.ensures.deep (ap Err (too_deep_mark c.in_err-end.field-0.0 (error_of _ TooDeep deep)))))
+    reaches_from_name (held_grammar c.args.input.now.settings) (passing (held_settings c.args.input.now.settings) (site_of c.args.schema.now)) c.args.input.now.settings.max_depth c.args.depth c.args.input.now.bytes.now c.args.at c.args.entered c.in-Some-Member.name.raw.now c.in-Some-Member.name.end stands.names
+    c.args.input.now.settings.max_depth (c.in_err-end.ensures.deep (ap Err (too_deep_mark c.in_err-end.field-0.0 (error_of _ TooDeep deep)))))
 
 pub returns-in_err-end-clause-too_deep : goal.returns-in_err-end-clause-too_deep
 returns-in_err-end-clause-too_deep c =
     let p = err_from_is_err_and c.from_residual-in_err-end.result c.from_residual-in_err-end.ensures.1 in
     rw (p.1, p.2) (λ deep.
     let stands = rw c.in-Some-Member.field-0-is at c.in-Some-Member.ensures in
-    too_deep_from_name (held_grammar c.args.input.settings) (passing (held_settings c.args.input.settings) (site_of c.args.schema.now)) c.args.input.settings.max_depth c.args.depth c.args.input.bytes.now c.args.at c.args.entered c.in-Some-Member.name.raw.now c.in-Some-Member.name.end stands.names
-    c.args.input.settings.max_depth (c.in_err-end.ensures.too_deep (ap Err (too_deep_mark c.in_err-end.field-0.0 (error_of _ TooDeep deep)))))
+    too_deep_from_name (held_grammar c.args.input.now.settings) (passing (held_settings c.args.input.now.settings) (site_of c.args.schema.now)) c.args.input.now.settings.max_depth c.args.depth c.args.input.now.bytes.now c.args.at c.args.entered c.in-Some-Member.name.raw.now c.in-Some-Member.name.end stands.names
+    c.args.input.now.settings.max_depth (c.in_err-end.ensures.too_deep (ap Err (too_deep_mark c.in_err-end.field-0.0 (error_of _ TooDeep deep)))))
 
 pub returns-in_default-clause-refused : goal.returns-in_default-clause-refused
 returns-in_default-clause-refused c = λ other.

@@ -1,4 +1,4 @@
-use Rattle.std.proofs.Common.{◌≡◌, ◌<◌, ◌≤◌, sym, ap, ◌∙◌, arith}
+use Rattle.std.proofs.Common.{◌≡◌, ◌<◌, sym, ap, ◌∙◌, arith}
 use Rattle.smithy_schema.specs.declared.error.SerdeError.TheVariants.{NotCarried}
 use Rattle.smithy_schema.specs.Reading.{depth}
 use Rattle.smithy_wire.specs.Walking.{cursor_of as walk_cursor}

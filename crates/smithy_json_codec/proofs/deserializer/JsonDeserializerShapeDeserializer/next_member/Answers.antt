@@ -1,94 +1,25 @@
-use Rattle.std.proofs.Common.{ℕ, arith, refl, sym, ap, subst, ◌∙◌, Err}
+use Rattle.std.proofs.Common.{arith}
 use Rattle.std.proofs.lemmas.Grind.{common_steps}
-use Rattle.std.proofs.lemmas.Result.{IfOk-weaker}
-use Rattle.smithy_schema.specs.declared.error.SerdeError.TheVariants.{TooDeep}
-use Rattle.smithy_schema.specs.declared.read.Step.{Step}
-use Rattle.smithy_shapes.specs.Site.{site_of}
-use Rattle.smithy_schema.specs.Reading.{depth, CannotGoOn, MatchStep, passed_to}
 use Rattle.smithy_json_codec.specs.Cursor.{cursor_of, reading_settings_of}
 use Rattle.smithy_json_values.specs.Settings.{without_limits}
-use Rattle.smithy_json_values.specs.Standing.{json_grammar, json_relations}
-use Rattle.smithy_json_codec.proofs.DeserializerLemmas.{error_of, skip_invalid, skip_deep, skips_not, skips_never, skips_same, skips_here}
-use Rattle.smithy_json_codec.proofs.MemberStepLemmas.{stays_undue, reaches_behind, too_deep_behind}
-use Rattle.smithy_json_values.specs.Deepest.{OpensTooDeep}
-use Rattle.smithy_json_values.proofs.SkipStepOpeners.{reader_reaches}
+use Rattle.smithy_json_codec.proofs.MemberStepLemmas.{stays_undue}
 use Rattle.smithy_json_codec.proofs.deserializer.JsonDeserializerShapeDeserializer.next_member.Goals as goal
 
-pub returns-then-not-self-clause-refused : goal.returns-then-not-self-clause-refused
-returns-then-not-self-clause-refused c =
+pub returns-clause-refused : goal.returns-clause-refused
+returns-clause-refused c =
     λ refused due. stays_undue (reading_settings_of c.args.self.now) (cursor_of c.args.self.now) c.args.schema.now.shapes.now c.args.schema.now.place due
     (c.step_from.ensures.refused refused)
 
-pub returns-then-not-self-clause-none_without_limits : goal.returns-then-not-self-clause-none_without_limits
-returns-then-not-self-clause-none_without_limits c =
+pub returns-clause-none_without_limits : goal.returns-clause-none_without_limits
+returns-clause-none_without_limits c =
     λ strict invalid due. stays_undue (without_limits (reading_settings_of c.args.self.now)) (cursor_of c.args.self.now) c.args.schema.now.shapes.now c.args.schema.now.place due
     (c.step_from.ensures.none_without_limits invalid)
 
-pub returns-in-Ok-clause-unread : goal.returns-in-Ok-clause-unread
-returns-in-Ok-clause-unread c = λ due.
-    let w = json_relations (reading_settings_of c.args.self.now) in
-    let old = cursor_of c.args.self.now in
-    let new = cursor_of c.step_from-in-Ok.new.self in
-    let site = site_of c.args.schema.now in
-    IfOk-weaker c.step_from-in-Ok.result (λ step. MatchStep step w (passed_to old c.in-Ok.end) new site)
-    (λ step. (e : ℕ) × w.skips old.input (depth old) old.at e × MatchStep step w (passed_to old e) new site)
-    (λ step steps. (c.in-Ok.end, skips_here (reading_settings_of c.args.self.now) old c.depth.result c.depth.ensures refl c.in-Ok.end (rw c.input.ensures at c.in-Ok.ensures.ok), steps))
-    c.step_from-in-Ok.ensures.ok
+pub returns-clause-deep : goal.returns-clause-deep
+returns-clause-deep c = λ deep. c.step_from.ensures.deep deep
 
-pub returns-in-Ok-clause-unread_refused : goal.returns-in-Ok-clause-unread_refused
-returns-in-Ok-clause-unread_refused c = λ refused due e skips.
-    let same = skips_same (reading_settings_of c.args.self.now) (cursor_of c.args.self.now) c.depth.result _ c.depth.ensures c.in-Ok.end e (rw c.input.ensures at c.in-Ok.ensures.ok) skips in
-    subst (λ e. CannotGoOn (json_relations (reading_settings_of c.args.self.now)) (passed_to (cursor_of c.args.self.now) e) c.args.schema.now.shapes.now c.args.schema.now.place) same
-    (c.step_from-in-Ok.ensures.refused refused)
-
-pub returns-in-Ok-clause-unread_would : goal.returns-in-Ok-clause-unread_would
-returns-in-Ok-clause-unread_would c = λ strict invalid due e skips.
-    let same = skips_same (without_limits (reading_settings_of c.args.self.now)) (cursor_of c.args.self.now) c.depth.result _ c.depth.ensures c.in-Ok.end e (rw c.input.ensures at c.in-Ok.ensures.ok) skips in
-    subst (λ e. CannotGoOn (json_relations (without_limits (reading_settings_of c.args.self.now))) (passed_to (cursor_of c.args.self.now) e) c.args.schema.now.shapes.now c.args.schema.now.place) same
-    (c.step_from-in-Ok.ensures.none_without_limits invalid)
-
-pub returns-in-Err-clause-unread_refused : goal.returns-in-Err-clause-unread_refused
-returns-in-Err-clause-unread_refused c = λ refused due e skips.
-    absurd (skips_not (reading_settings_of c.args.self.now) (cursor_of c.args.self.now) c.depth.result c.depth.ensures refl (rw c.input.ensures at c.in-Err.ensures.refused) e skips)
-
-pub returns-in-Err-clause-unread_would : goal.returns-in-Err-clause-unread_would
-returns-in-Err-clause-unread_would c = λ strict invalid due e skips.
-    absurd (skips_never (reading_settings_of c.args.self.now) (cursor_of c.args.self.now) c.depth.result c.depth.ensures
-    (rw c.input.ensures at (c.in-Err.ensures.none_without_limits (ap Err (skip_invalid Step c.in-Err.fault (rw (c.refuse-in-Err.ensures.error ∙ c.refusal.ensures) at invalid))))) e skips)
-
-pub returns-in-Err-clause-deep : goal.returns-in-Err-clause-deep
-returns-in-Err-clause-deep c = λ deep.
-    reader_reaches (reading_settings_of c.args.self.now) (cursor_of c.args.self.now) c.depth.result c.args.self.now.settings.max_depth c.depth.ensures
-    (rw c.input.ensures at (c.in-Err.ensures.deep (ap Err (skip_deep c.in-Err.fault (sym (c.refuse-in-Err.ensures.error ∙ c.refusal.ensures) ∙ error_of c.refuse-in-Err.result TooDeep deep)))))
-
-pub returns-in-Err-clause-too_deep : goal.returns-in-Err-clause-too_deep
-returns-in-Err-clause-too_deep c = λ deep. (
-  c.args.self.now.walk.position,
-  omega arith,
-  subst (λ n. OpensTooDeep (json_grammar (reading_settings_of c.args.self.now)) c.args.self.now.settings.max_depth n c.args.self.now.walk.input.now c.args.self.now.walk.position) c.depth.ensures
-      (rw c.input.ensures at (c.in-Err.ensures.too_deep (ap Err (skip_deep c.in-Err.fault (sym (c.refuse-in-Err.ensures.error ∙ c.refusal.ensures) ∙ error_of c.refuse-in-Err.result TooDeep deep))))),
-)
-
--- behind a value that isn't due, or is skipped
-
-pub returns-then-not-self-clause-deep : goal.returns-then-not-self-clause-deep
-returns-then-not-self-clause-deep c = λ deep. c.step_from.ensures.deep deep
-
-pub returns-then-not-self-clause-too_deep : goal.returns-then-not-self-clause-too_deep
-returns-then-not-self-clause-too_deep c = λ deep. c.step_from.ensures.too_deep deep
-
-pub returns-in-Ok-clause-deep : goal.returns-in-Ok-clause-deep
-returns-in-Ok-clause-deep c = λ deep.
-    reaches_behind (json_grammar (reading_settings_of c.args.self.now)) c.args.self.now.walk.input.now c.args.self.now.settings.max_depth c.depth.result c.args.self.now.walk.position c.in-Ok.end (rw c.input.ensures at c.in-Ok.ensures.ok)
-    c.args.self.now.settings.max_depth (depth (cursor_of c.args.self.now)) (c.step_from-in-Ok.ensures.deep deep)
-
-pub returns-in-Ok-clause-too_deep : goal.returns-in-Ok-clause-too_deep
-returns-in-Ok-clause-too_deep c = λ deep.
-    too_deep_behind (json_grammar (reading_settings_of c.args.self.now)) c.args.self.now.walk.input.now c.args.self.now.settings.max_depth c.depth.result c.args.self.now.walk.position c.in-Ok.end (rw c.input.ensures at c.in-Ok.ensures.ok)
-    (OpensTooDeep (json_grammar (reading_settings_of c.args.self.now)) c.args.self.now.settings.max_depth (depth (cursor_of c.args.self.now)) c.args.self.now.walk.input.now) (c.step_from-in-Ok.ensures.too_deep deep)
-
-pub skipped_end-requires-clause-shallow : goal.skipped_end-requires-clause-shallow
-skipped_end-requires-clause-shallow c = grind (arith, common_steps)
+pub returns-clause-too_deep : goal.returns-clause-too_deep
+returns-clause-too_deep c = λ deep. c.step_from.ensures.too_deep deep
 
 pub step_from-requires-clause-ahead : goal.step_from-requires-clause-ahead
 step_from-requires-clause-ahead c = grind (arith, common_steps)
@@ -105,20 +36,8 @@ step_from-requires-clause-inside c = grind (arith, common_steps)
 pub step_from-requires-clause-place : goal.step_from-requires-clause-place
 step_from-requires-clause-place c = grind (arith, common_steps)
 
-pub skipped_end-requires-clause-within : goal.skipped_end-requires-clause-within
-skipped_end-requires-clause-within c = grind (arith, common_steps)
+pub returns-then-self-2-clause-unread_refused : goal.returns-then-self-2-clause-unread_refused
+returns-then-self-2-clause-unread_refused c = λ refused due. c.step_past_unread.ensures.refused refused
 
-pub step_from-requires-in-Ok-clause-ahead : goal.step_from-requires-in-Ok-clause-ahead
-step_from-requires-in-Ok-clause-ahead c = grind (arith, common_steps)
-
-pub step_from-requires-in-Ok-clause-within : goal.step_from-requires-in-Ok-clause-within
-step_from-requires-in-Ok-clause-within c = grind (arith, common_steps)
-
-pub step_from-requires-in-Ok-clause-sound : goal.step_from-requires-in-Ok-clause-sound
-step_from-requires-in-Ok-clause-sound c = grind (arith, common_steps)
-
-pub step_from-requires-in-Ok-clause-inside : goal.step_from-requires-in-Ok-clause-inside
-step_from-requires-in-Ok-clause-inside c = grind (arith, common_steps)
-
-pub step_from-requires-in-Ok-clause-place : goal.step_from-requires-in-Ok-clause-place
-step_from-requires-in-Ok-clause-place c = grind (arith, common_steps)
+pub returns-then-self-2-clause-unread_would : goal.returns-then-self-2-clause-unread_would
+returns-then-self-2-clause-unread_would c = λ strict invalid due. c.step_past_unread.ensures.none_without_limits invalid

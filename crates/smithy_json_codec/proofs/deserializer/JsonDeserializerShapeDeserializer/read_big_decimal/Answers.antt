@@ -1,5 +1,5 @@
-use Rattle.std.proofs.Common.{◌≡◌, ◌≤◌, length, refl, subst, sym, ◌∙◌, rules}
-use Rattle.std.specs.Prelude.{FitsSigned, IfOk}
+use Rattle.std.proofs.Common.{◌≡◌, ◌≤◌, length, refl, sym, ◌∙◌, rules}
+use Rattle.std.specs.Prelude.{FitsSigned}
 use Rattle.std.specs.Int.{w128}
 use Rattle.smithy_schema.specs.declared.error.SerdeError.TheVariants.{TooWide}
 use Rattle.smithy_shapes.specs.declared.shape_type.Scalar.TheVariants as scalars
@@ -12,7 +12,6 @@ use Rattle.smithy_json_codec.proofs.DeserializerLemmas.{answers_within}
 use Rattle.smithy_json_values.specs.LexicalGrammar.{grammar_of}
 use Rattle.smithy_json_values.specs.Standing.{json_grammar}
 use Rattle.smithy_json_codec.proofs.NumberReads.{reads_big, answers_big}
-use Rattle.smithy_wire.specs.Finding.{MatchFound}
 use Rattle.smithy_wire.proofs.ScalarReads.{was_ready, if_told}
 use Rattle.smithy_json_codec.proofs.deserializer.JsonDeserializerShapeDeserializer.read_big_decimal.Goals as goal
 
