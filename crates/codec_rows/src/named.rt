@@ -34,7 +34,7 @@ pub fn write_named(
 /// Reads a document, and adds its identifier where there is one, its text, and what its settings are.
 pub fn read_named(
     alloc: Global,
-    source: &mut JsonDeserializer<'_>,
+    source: &mut JsonDeserializer<'_, '_>,
     answers: &mut Vec<Field>,
 ) -> Result<(), SerdeError> {
     let document = source.read_discriminated_document()?;

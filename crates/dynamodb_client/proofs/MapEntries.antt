@@ -3,7 +3,7 @@ use Rattle.std.proofs.Common.{◌≡◌, suc, length, List, [], ◌∷◌, Strin
 use Rattle.std.specs.BTreeMap.{insert_entry}
 use Rattle.std.specs.Ordering.{nat_cmp, match_ordering}
 use Rattle.std.specs.Cmp.Lexicographic.{slice_cmp}
-use Rattle.smithy_shapes.specs.Value.{map_entry, put_entry}
+use Rattle.smithy_declarations.specs.Value.{map_entry, put_entry}
 use Rattle.smithy_schema.specs.Writing.{entry_count}
 use Rattle.dynamodb_client.specs.Attributes.{attribute_value, attribute_entries}
 use Rattle.dynamodb_client.specs.declared.attribute_value.AttributeValue.{AttributeValue}

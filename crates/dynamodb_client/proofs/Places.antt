@@ -1,11 +1,11 @@
 -- What stands inside of an attribute's value, of a map of such values and of a list of them: in a map and a list no null.
 use Rattle.std.proofs.Common.{◌≡◌, ℕ, List, length, Some, None, option_map, refl, sym, ◌∙◌, ap, subst}
 use Rattle.std.specs.List.{slice_get}
-use Rattle.smithy_shapes.specs.declared.place.Place.{Place}
-use Rattle.smithy_shapes.specs.declared.place.Target.{Target}
-use Rattle.smithy_shapes.specs.declared.shape_type.ShapeType.{ShapeType}
-use Rattle.smithy_shapes.specs.declared.shape_type.ShapeType.TheVariants as types
-use Rattle.smithy_shapes.specs.Table.{Table, Kind, list_of, map_of, kind_of_target, place_in, members_of, IsUnion, IsMap, IsList}
+use Rattle.smithy_declarations.specs.declared.place.Place.{Place}
+use Rattle.smithy_declarations.specs.declared.place.Target.{Target}
+use Rattle.smithy_declarations.specs.declared.shape_type.ShapeType.{ShapeType}
+use Rattle.smithy_declarations.specs.declared.shape_type.ShapeType.TheVariants as types
+use Rattle.smithy_declarations.specs.Table.{Table, Kind, list_of, map_of, kind_of_target, place_in, members_of, IsUnion, IsMap, IsList}
 use Rattle.smithy_shapes.specs.Site.{Site, kind_at, inner_site, member_site}
 use Rattle.smithy_shapes.specs.Declares.{Declares, Holds}
 use Rattle.smithy_shapes.specs.Lemmas.Options.{same_some}

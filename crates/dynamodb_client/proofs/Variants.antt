@@ -1,7 +1,7 @@
 -- What the variants of an attribute's value stand for.
 use Rattle.std.proofs.Common.{◌≡◌, Bool, List, ℕ, String, Vec, Global, sym, ◌∙◌, ap, string_bytes}
 use Rattle.std.specs.BTreeMap.{BTreeMap}
-use Rattle.smithy_shapes.specs.Value.{Value, boolean, text, bytes, scalar_value, list, map, union, values_of}
+use Rattle.smithy_declarations.specs.Value.{Value, boolean, text, bytes, scalar_value, list, map, union, values_of}
 use Rattle.dynamodb_client.specs.Attributes.{map_entries_of, attribute_step, attribute_value, attribute_values, attribute_entries}
 use Rattle.dynamodb_client.specs.declared.attribute_value.AttributeValue as kept
 use Rattle.dynamodb_client.specs.declared.attribute_value.AttributeValue.TheOpen.{AttributeValue-F}

@@ -1,13 +1,13 @@
 -- The value of an attribute of DynamoDB, which holds others of its kind.
 use Rattle.std.specs.Prelude.{◌≡◌, ℕ, List, [], ◌∷◌, map as mapped, Some, String, codes, string_bytes}
 use Rattle.std.specs.declared.alloc.Global.{Global}
-use Rattle.smithy_shapes.specs.declared.place.Target.{Target}
-use Rattle.smithy_shapes.specs.declared.place.Target.TheVariants.{Simple}
-use Rattle.smithy_shapes.specs.declared.shape_type.Scalar.TheVariants as scalars
-use Rattle.smithy_shapes.specs.declared.shape_type.ShapeType.TheVariants as types
-use Rattle.smithy_shapes.specs.Table.{Table, type_of, members_of, kind_of_target}
+use Rattle.smithy_declarations.specs.declared.place.Target.{Target}
+use Rattle.smithy_declarations.specs.declared.place.Target.TheVariants.{Simple}
+use Rattle.smithy_declarations.specs.declared.shape_type.Scalar.TheVariants as scalars
+use Rattle.smithy_declarations.specs.declared.shape_type.ShapeType.TheVariants as types
+use Rattle.smithy_declarations.specs.Table.{Table, type_of, members_of, kind_of_target}
 use Rattle.smithy_shapes.specs.Declares.{row_of, Holds}
-use Rattle.smithy_shapes.specs.Value.{Value, boolean, text, bytes, scalar_value, list, map, union, values_of, MapEntries, no_map_entries, map_entry}
+use Rattle.smithy_declarations.specs.Value.{Value, boolean, text, bytes, scalar_value, list, map, union, values_of, MapEntries, no_map_entries, map_entry}
 use Rattle.smithy_shapes.specs.Site.{Site, member_site}
 use Rattle.dynamodb_client.specs.declared.attribute_value.AttributeValue as kept
 use Rattle.dynamodb_client.specs.declared.attribute_value.AttributeValue.TheOpen.{AttributeValue-F}

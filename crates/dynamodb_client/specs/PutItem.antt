@@ -1,11 +1,11 @@
 -- What PutItem is given, as the client's type has it.
 use Rattle.std.specs.Prelude.{◌≡◌, ℕ, List, [], ◌∷◌, Option, Some, option_map, codes}
-use Rattle.smithy_shapes.specs.declared.place.Target.{Target}
-use Rattle.smithy_shapes.specs.declared.place.Target.TheVariants.{Simple}
-use Rattle.smithy_shapes.specs.declared.shape_type.Scalar.TheVariants as scalars
-use Rattle.smithy_shapes.specs.declared.shape_type.ShapeType.TheVariants as types
+use Rattle.smithy_declarations.specs.declared.place.Target.{Target}
+use Rattle.smithy_declarations.specs.declared.place.Target.TheVariants.{Simple}
+use Rattle.smithy_declarations.specs.declared.shape_type.Scalar.TheVariants as scalars
+use Rattle.smithy_declarations.specs.declared.shape_type.ShapeType.TheVariants as types
 use Rattle.smithy_shapes.specs.Declares.{Declares}
-use Rattle.smithy_shapes.specs.Value.{Value, map}
+use Rattle.smithy_declarations.specs.Value.{Value, map}
 use Rattle.smithy_shapes.specs.Site.{Site, member_site}
 use Rattle.smithy_schema.specs.TextMaps.{text_value}
 use Rattle.dynamodb_client.specs.Attributes.{attribute_entries, AreEntries}

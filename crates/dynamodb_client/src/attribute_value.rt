@@ -4,7 +4,7 @@
 //! each kind of container, which call one another; what falls is the number of containers that may still be opened.
 ghost use Rattle.std.specs.Prelude.{◌≡◌, ◌↔◌, IsTrue, true, string_bytes, OnOk, IfErr};
 ghost use Rattle.smithy_shapes.specs.Site.{site_of};
-ghost use Rattle.smithy_shapes.specs.Value.{list, map, values_of, put_entry};
+ghost use Rattle.smithy_declarations.specs.Value.{list, map, values_of, put_entry};
 ghost use Rattle.smithy_schema.specs.declared.error.SerdeError.TheVariants.{NoMemory};
 ghost use Rattle.dynamodb_client.specs.Attributes.{IsAttribute, AreEntries, AreElements, IsVariant, attribute_value, attribute_values, attribute_entries};
 ghost use Rattle.smithy_schema.specs.Typed.{ReadsAs, ReadsVariant};

@@ -1,7 +1,7 @@
 //! How the value of an attribute is written.
 ghost use Rattle.std.specs.Prelude.{◌≡◌, false};
 ghost use Rattle.smithy_shapes.specs.Site.{site_of, member_of, element_of, key_of, value_of};
-ghost use Rattle.smithy_shapes.specs.Value.{list, map, values_of};
+ghost use Rattle.smithy_declarations.specs.Value.{list, map, values_of};
 ghost use Rattle.smithy_schema.specs.Writing.{events};
 ghost use Rattle.dynamodb_client.specs.Attributes.{attribute_value, attribute_values, attribute_entries};
 ghost use Rattle.smithy_schema.specs.Typed.{variant_events, WritesAs};

@@ -2,7 +2,7 @@
 use Rattle.std.proofs.Common.{◌≡◌, ℕ, List, ◌∷◌, Result, Ok, Err, OnOk, sym, ap, ◌∙◌}
 use Rattle.smithy_schema.specs.declared.error.SerdeError.{SerdeError}
 use Rattle.smithy_shapes.specs.Site.{Site}
-use Rattle.smithy_shapes.specs.Value.{text}
+use Rattle.smithy_declarations.specs.Value.{text}
 use Rattle.smithy_schema.specs.Writing.{Writer, Open, IsNested, open_structure, open_after, scalar_of}
 use Rattle.smithy_schema.specs.Written.{IsInside}
 

@@ -2,9 +2,9 @@
 
 use cbor_item::{Head, ItemError, ItemType};
 use smithy_cbor::Decoder;
-use smithy_json::number_text::scan_number;
-use smithy_json::string_text::scan_string;
 use smithy_json::{EscapeError, EscapedStr};
+use smithy_json_grammar::number_text::scan_number;
+use smithy_json_grammar::string_text::scan_string;
 use smithy_json_tokens::{Offset, Token};
 use smithy_schema::TableFault;
 use smithy_types::{BigDecimal, BigInteger, Blob, DateTime, Number};

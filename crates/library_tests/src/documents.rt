@@ -3,8 +3,8 @@
 ghost use Rattle.std.specs.Prelude.{◌≡◌, ◌≤◌, ℕ, Some};
 ghost use Rattle.smithy_types.specs.Document as plain;
 ghost use Rattle.smithy_types.specs.declared.number.Number as number;
-ghost use Rattle.smithy_json.specs.Grammar.{IsJsonText};
-ghost use Rattle.smithy_json.specs.Tree.{Json};
+ghost use Rattle.smithy_json_grammar.specs.Grammar.{IsJsonText};
+ghost use Rattle.smithy_json_grammar.specs.Tree.{Json};
 ghost use Rattle.smithy_json.specs.DocumentMeaning.{document_meaning};
 ghost use Rattle.smithy_json_tokens.specs.DocumentSteps.{IsDocument};
 

@@ -2,7 +2,7 @@
 
 ghost use Rattle.std.specs.Prelude.{◌≡◌, OnOk, true, false};
 ghost use Rattle.smithy_schema.specs.Consuming.{Rests};
-ghost use Rattle.smithy_shapes.specs.Table.{HasMembers, IsList, IsMap};
+ghost use Rattle.smithy_declarations.specs.Table.{HasMembers, IsList, IsMap};
 ghost use Rattle.smithy_shapes.specs.Site.{site_of, kind_at};
 
 use crate::answers::push_shown;

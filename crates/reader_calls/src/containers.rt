@@ -1,6 +1,6 @@
 //! Calls on a reader that open a container or go through one.
 
-ghost use Rattle.smithy_shapes.specs.Table.{HasMembers, IsList, IsMap};
+ghost use Rattle.smithy_declarations.specs.Table.{HasMembers, IsList, IsMap};
 ghost use Rattle.smithy_shapes.specs.Site.{site_of, kind_at};
 
 use crate::first_two::{first_elements, first_keys, first_members};

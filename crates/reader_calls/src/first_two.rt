@@ -1,7 +1,7 @@
 //! The first two entries of a container.
 
 ghost use Rattle.std.specs.Prelude.{◌≡◌, OnOk};
-ghost use Rattle.smithy_shapes.specs.Table.{HasMembers, IsList, IsMap};
+ghost use Rattle.smithy_declarations.specs.Table.{HasMembers, IsList, IsMap};
 ghost use Rattle.smithy_shapes.specs.Site.{site_of, kind_at};
 
 use crate::answers::push;

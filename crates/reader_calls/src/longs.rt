@@ -1,6 +1,6 @@
 //! The longs of a container, of which so many entries are asked for as no input of a row has.
 
-ghost use Rattle.smithy_shapes.specs.Table.{HasMembers, IsList, IsMap};
+ghost use Rattle.smithy_declarations.specs.Table.{HasMembers, IsList, IsMap};
 ghost use Rattle.smithy_shapes.specs.Site.{site_of, kind_at};
 
 use crate::answers::{push, push_shown};

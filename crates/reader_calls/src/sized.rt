@@ -1,6 +1,6 @@
 //! The sizes of containers, and reads of whole lists and maps.
 
-ghost use Rattle.smithy_shapes.specs.Table.{IsList, IsMap};
+ghost use Rattle.smithy_declarations.specs.Table.{IsList, IsMap};
 ghost use Rattle.smithy_shapes.specs.Site.{site_of, kind_at};
 
 use crate::answers::{push, push_shown};

@@ -7,7 +7,7 @@ use Rattle.smithy_texts.specs.Ranges.{fits_signed}
 use Rattle.smithy_texts.proofs.WrittenNumerals.{fits_signed-wide}
 use Rattle.smithy_schema.specs.declared.error.SerdeError.{SerdeError}
 use Rattle.smithy_schema.specs.declared.error.SerdeError.TheVariants.{TooWide, NoMemory}
-use Rattle.smithy_schema.specs.Reading.{IsFault}
+use Rattle.smithy_schema.specs.Errors.{IsFault}
 use Rattle.smithy_shapes.specs.Site.{View}
 use Rattle.smithy_schema.specs.Writing.{Open}
 use Rattle.smithy_cbor.specs.declared.error.EncodeError.{EncodeError}

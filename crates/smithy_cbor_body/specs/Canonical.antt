@@ -1,10 +1,10 @@
 -- The encoding in which a value is written, one with the lengths of lists and maps, and one without.
 use Rattle.std.specs.Prelude.{ℕ, ◌==◌, List, [], ◌++◌, Bool, true, false, Option, Some, None}
 use Rattle.smithy_instants.specs.Instant.{seconds_of, subsecond_of}
-use Rattle.smithy_shapes.specs.declared.shape_type.TimestampFormat.{TimestampFormat}
+use Rattle.smithy_declarations.specs.declared.shape_type.TimestampFormat.{TimestampFormat}
 use Rattle.smithy_shapes.specs.ScalarTest.{ValueTest}
 use Rattle.smithy_shapes.specs.Site.{Site, View, element_of, value_of, member_of}
-use Rattle.smithy_shapes.specs.Value.{ScalarValue, boolean, whole, text, bytes, decimal, instant, Value, scalar_value, list, map, structure, union, null_element, document_value, Values, no_values, value, MapEntries, no_map_entries, map_entry, MemberValues, no_member_values, member_value}
+use Rattle.smithy_declarations.specs.Value.{ScalarValue, boolean, whole, text, bytes, decimal, instant, Value, scalar_value, list, map, structure, union, null_element, document_value, Values, no_values, value, MapEntries, no_map_entries, map_entry, MemberValues, no_member_values, member_value}
 use Rattle.smithy_schema.specs.Writing.{count_of, entry_count}
 use Rattle.cbor_item.specs.Head.{shortest_head}
 use Rattle.smithy_cbor.specs.Scalar.{null_value}

@@ -2,7 +2,7 @@
 ghost use Rattle.std.specs.Prelude.{◌⊎◌, ◌≡◌, ◌↔◌, ◌++◌, Ok, Err, true, false, OnOk, OnErr, IfErr, IsErr, IsErrOf};
 ghost use Rattle.smithy_schema.specs.declared.error.SerdeError.TheVariants.{Failed, NoMemory, TooWide};
 ghost use Rattle.smithy_cbor.specs.declared.error.EncodeError.TheVariants as encoding;
-ghost use Rattle.smithy_schema.specs.Reading.{IsFault};
+ghost use Rattle.smithy_schema.specs.Errors.{IsFault};
 ghost use Rattle.smithy_shapes.specs.Site.{site_of};
 ghost use Rattle.smithy_schema.specs.Writing.{after_value, after_text};
 ghost use Rattle.smithy_cbor.specs.Written.{text_bytes, big_integer_bytes};

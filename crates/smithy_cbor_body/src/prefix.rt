@@ -2,7 +2,7 @@
 ghost use Rattle.std.specs.Prelude.{◌≡◌, ℕ, List, Result, Ok, Err, OnOk, IfErr, IsErrOf, false};
 ghost use Rattle.smithy_schema.specs.declared.error.SerdeError.{SerdeError};
 ghost use Rattle.smithy_schema.specs.declared.error.SerdeError.TheVariants.{Failed};
-ghost use Rattle.smithy_schema.specs.Reading.{IsFault};
+ghost use Rattle.smithy_schema.specs.Errors.{IsFault};
 ghost use Rattle.smithy_shapes.specs.Site.{Site, site_of};
 ghost use Rattle.smithy_cbor_body.specs.Body.{body_of, body_has_failed};
 ghost use Rattle.smithy_cbor_body.specs.Prefixes.{IsInStructure, AreEntries, behind, no_prefix};

@@ -5,8 +5,8 @@ use Rattle.std.specs.Result.{OnOk}
 use Rattle.std.proofs.lemmas.Bool.Decides.{nat_tests}
 use Rattle.smithy_schema.specs.declared.error.SerdeError.{SerdeError}
 use Rattle.smithy_schema.specs.declared.error.SerdeError.TheVariants.{Failed}
-use Rattle.smithy_shapes.specs.declared.place.Place.{Place}
-use Rattle.smithy_shapes.specs.Table.{Table, kind_of, IsList, IsMap, IsStructure}
+use Rattle.smithy_declarations.specs.declared.place.Place.{Place}
+use Rattle.smithy_declarations.specs.Table.{Table, kind_of, IsList, IsMap, IsStructure}
 use Rattle.smithy_schema.specs.Reading.{Cursor, Frame, depth, Mark, Enters, Steps, Leaves, Conducts, OpensNot, SkipsNot, CannotGoOn, in_list, in_map}
 use Rattle.smithy_cbor_codec.specs.Cursor.{inside_of}
 use Rattle.smithy_cbor_values.specs.Settings.{Settings, Limits, kept, lifted, is_within}

@@ -3,10 +3,10 @@ use Rattle.std.proofs.Common.{◌≡◌, [], ◌∷◌, map, false, Some, None, 
 use Rattle.smithy_types.specs.Document as document
 use Rattle.smithy_schema.specs.declared.error.SerdeError.TheVariants.{Unsupported, Unwritable}
 use Rattle.smithy_shapes.specs.Site.{shape_site, member_of}
-use Rattle.smithy_shapes.specs.Table as table
-use Rattle.smithy_shapes.specs.Table.{Table, document_place}
-use Rattle.smithy_shapes.specs.Value as values
-use Rattle.smithy_shapes.specs.Value.{Value, document_value, list, no_values, value, no_member_values, member_value, null_element}
+use Rattle.smithy_declarations.specs.Table as table
+use Rattle.smithy_declarations.specs.Table.{Table, document_place}
+use Rattle.smithy_declarations.specs.Value as values
+use Rattle.smithy_declarations.specs.Value.{Value, document_value, list, no_values, value, no_member_values, member_value, null_element}
 use Rattle.smithy_shapes.specs.ScalarTest.{scalars_pass}
 use Rattle.smithy_schema.specs.Writing.{document_of, write, open_structure, open_list, open_map_at_key, open_map_at_value}
 use Rattle.cbor_item.specs.Item.{unsigned, negative, byte_string, definite, tag, simple, float}

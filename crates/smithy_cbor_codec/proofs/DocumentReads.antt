@@ -3,10 +3,10 @@ use Rattle.std.proofs.Common.{◌≡◌, ◌≤◌, ℕ, List, length, true, fal
 use Rattle.std.specs.Prelude.{Err}
 use Rattle.smithy_schema.specs.declared.error.SerdeError.{SerdeError}
 use Rattle.smithy_schema.specs.declared.error.SerdeError.TheVariants.{InvalidInput, NotCarried, NoMemory}
-use Rattle.smithy_shapes.specs.declared.place.Place.{Place}
-use Rattle.smithy_shapes.specs.Table.{Table, document, document_place, kind_of}
+use Rattle.smithy_declarations.specs.declared.place.Place.{Place}
+use Rattle.smithy_declarations.specs.Table.{Table, document, document_place, kind_of}
 use Rattle.smithy_shapes.specs.Site.{Site}
-use Rattle.smithy_shapes.specs.Value.{Value}
+use Rattle.smithy_declarations.specs.Value.{Value}
 use Rattle.smithy_schema.specs.Reading.{Cursor, depth, StandsNot, ReadsDocument, failed_at}
 use Rattle.cbor_item.specs.Item.{Item}
 use Rattle.smithy_cbor_values.specs.Settings.{Settings, kept, without_limits}

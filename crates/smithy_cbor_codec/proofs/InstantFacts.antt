@@ -1,12 +1,12 @@
 -- What an item is as an instant, which instants are written and how, by computing.
 use Rattle.std.proofs.Common.{◌≡◌, ◌^◌, ◌-◌, [], ◌∷◌, map, true, false, Some, None, Ok, Err, refl, pos, neg_ℤ, codes}
 use Rattle.smithy_schema.specs.declared.error.SerdeError.TheVariants.{Unwritable}
-use Rattle.smithy_shapes.specs.declared.shape_type.Scalar.TheVariants as scalars
-use Rattle.smithy_shapes.specs.declared.shape_type.TimestampFormat.TheVariants.{HttpDate}
+use Rattle.smithy_declarations.specs.declared.shape_type.Scalar.TheVariants as scalars
+use Rattle.smithy_declarations.specs.declared.shape_type.TimestampFormat.TheVariants.{HttpDate}
 use Rattle.smithy_shapes.specs.Site.{shape_site, member_of}
-use Rattle.smithy_shapes.specs.Table as table
-use Rattle.smithy_shapes.specs.Table.{Table, scalar_place}
-use Rattle.smithy_shapes.specs.Value.{instant, scalar_value, null_element}
+use Rattle.smithy_declarations.specs.Table as table
+use Rattle.smithy_declarations.specs.Table.{Table, scalar_place}
+use Rattle.smithy_declarations.specs.Value.{instant, scalar_value, null_element}
 use Rattle.smithy_schema.specs.Writing.{scalar_of}
 use Rattle.cbor_item.specs.Item.{unsigned, negative, tag, simple, float}
 use Rattle.smithy_wire.specs.Rules.{means, no_meaning, uncarried}

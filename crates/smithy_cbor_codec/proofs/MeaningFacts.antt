@@ -1,7 +1,7 @@
 -- What items mean over small tables, by computing, and what stands close by and means nothing.
 use Rattle.std.proofs.Common.{◌≡◌, ℕ, Option, List, [], ◌∷◌, map, replicate, true, false, Some, None, refl, pos, neg_ℤ, ◌^◌, ◌-◌, codes}
-use Rattle.smithy_shapes.specs.Value as values
-use Rattle.smithy_shapes.specs.Value.{Value, MapEntries, no_map_entries, map_entry, null_element, no_values, no_member_values, member_value}
+use Rattle.smithy_declarations.specs.Value as values
+use Rattle.smithy_declarations.specs.Value.{Value, MapEntries, no_map_entries, map_entry, null_element, no_values, no_member_values, member_value}
 use Rattle.cbor_item.specs.Item.{definite, indefinite, Item, unsigned, negative, byte_string, array, map as map_item, tag, simple, float, no_items, no_pairs, pair}
 use Rattle.smithy_cbor_values.specs.Meaning.{cbor_meaning}
 use Rattle.smithy_cbor_codec.proofs.OnLiterals.{smithy_cbor_codec_on_literals}

@@ -2,12 +2,13 @@
 use Rattle.std.proofs.Common.{◌≡◌, ℕ, List, ◌∷◌, Bool, Some, Option, Result, Ok, Err, refl, sym, ap, subst, ◌∙◌, false}
 use Rattle.smithy_schema.specs.declared.error.SerdeError.{SerdeError}
 use Rattle.smithy_schema.specs.declared.error.SerdeError.TheVariants.{InvalidInput, TypeMismatch, TooDeep, TooWide, NotCarried, Unsupported, Unwritable, Missing, Failed, NoMemory}
-use Rattle.smithy_shapes.specs.declared.place.Place.{Place}
-use Rattle.smithy_schema.specs.declared.read.Step.{Step}
-use Rattle.smithy_schema.specs.declared.read.Step.TheVariants.{Member as ToMember, Unknown, End}
-use Rattle.smithy_shapes.specs.Table.{Table, IsStructure, HasMembers}
+use Rattle.smithy_declarations.specs.declared.place.Place.{Place}
+use Rattle.smithy_schema.specs.declared.step.Step.{Step}
+use Rattle.smithy_schema.specs.declared.step.Step.TheVariants.{Member as ToMember, Unknown, End}
+use Rattle.smithy_declarations.specs.Table.{Table, IsStructure, HasMembers}
 use Rattle.smithy_shapes.specs.Site.{Site, kind_at}
-use Rattle.smithy_schema.specs.Reading.{Cursor, depth, Steps, Leaves, MatchStep, CannotGoOn, passed_to, in_structure, IsInvalid, IsRefused}
+use Rattle.smithy_schema.specs.Errors.{IsInvalid, IsRefused}
+use Rattle.smithy_schema.specs.Reading.{Cursor, depth, Steps, Leaves, MatchStep, CannotGoOn, passed_to, in_structure}
 use Rattle.smithy_cbor_codec.specs.Cursor.{inside_of}
 use Rattle.smithy_cbor_values.specs.Settings.{Settings}
 use Rattle.smithy_cbor_values.specs.Standing.{cbor_relations, FollowsInside, end_depth, mark_with}

@@ -2,7 +2,7 @@
 use Rattle.std.proofs.Common.{◌≡◌, Bool, true, false, ℕ, zero, suc, List, Option, Some, None, ◌<◌, ◌≤◌, length, refl, arith, inl, inr}
 use Rattle.std.specs.Prelude.{◌||◌, is_none}
 use Rattle.smithy_schema.specs.Reading.{Mark}
-use Rattle.smithy_shapes.specs.Table.{Kind, Member, members_of, position_named}
+use Rattle.smithy_declarations.specs.Table.{Kind, Member, members_of, position_named}
 use Rattle.smithy_shapes.specs.Container.{is_type_mark}
 use Rattle.smithy_cbor_codec.specs.declared.members.Next.{Next}
 use Rattle.smithy_cbor_codec.specs.declared.members.Next.TheVariants.{Pair, End}

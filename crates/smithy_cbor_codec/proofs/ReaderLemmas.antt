@@ -3,8 +3,8 @@ use Rattle.std.proofs.Common.{◌≡◌, ◌⊎◌, ◌<◌, ℕ, zero, suc, Lis
 use Rattle.std.proofs.lemmas.List.Quantifiers.{position-Some}
 use Rattle.std.proofs.lemmas.Option.{slice_get-get_or}
 use Rattle.std.specs.Prelude.{option_and_then, ◌&&◌, ◌||◌, not, is_some, is_none, bytes_eq}
-use Rattle.smithy_shapes.specs.declared.place.Place.{Place}
-use Rattle.smithy_shapes.specs.Table.{Table, Kind, Member, structure_of, union_of, kind_of, member_place, position_named, IsList, IsMap, IsStructure, HasMembers}
+use Rattle.smithy_declarations.specs.declared.place.Place.{Place}
+use Rattle.smithy_declarations.specs.Table.{Table, Kind, Member, structure_of, union_of, kind_of, member_place, position_named, IsList, IsMap, IsStructure, HasMembers}
 use Rattle.smithy_schema.specs.Reading.{Mark}
 use Rattle.smithy_shapes.specs.Lemmas.Kinds.{no_list_and_structure}
 use Rattle.cbor_item.specs.Item.{Item, simple}

@@ -1,9 +1,9 @@
 -- Whole inputs that spell a value, and inputs close by that spell none.
 use Rattle.std.specs.Prelude.{slice_range}
 use Rattle.std.proofs.Common.{◌≡◌, ◌≢◌, inl, inr, ℕ, ◌-◌, ◌^◌, List, [], ◌∷◌, ◌++◌, length, false, Option, Some, None, refl, sym, ap, ◌∙◌, subst, arith, append-nil, take_all, le_refl, pos, neg_ℤ, replicate, codes}
-use Rattle.smithy_shapes.specs.Table.{Table, shape_place}
-use Rattle.smithy_shapes.specs.Value as values
-use Rattle.smithy_shapes.specs.Value.{Value, no_values}
+use Rattle.smithy_declarations.specs.Table.{Table, shape_place}
+use Rattle.smithy_declarations.specs.Value as values
+use Rattle.smithy_declarations.specs.Value.{Value, no_values}
 use Rattle.cbor_item.specs.Head as widths
 use Rattle.cbor_item.specs.Item.{indefinite, unsigned, array, map as map_item, Items, no_items, item, no_pairs}
 use Rattle.cbor_item.specs.WellFormed.{IsEncodingOf, AreEncodingsOf}

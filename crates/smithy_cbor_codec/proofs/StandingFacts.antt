@@ -2,10 +2,10 @@
 -- what doesn't.
 use Rattle.std.proofs.Common.{◌≡◌, inl, inr, ℕ, ◌-◌, List, [], ◌∷◌, ◌++◌, map, take, true, false, Option, Some, None, refl, sym, ap, ◌∙◌, subst, arith, pos, codes, ◌≤◌}
 use Rattle.std.specs.Prelude.{slice_range}
-use Rattle.smithy_shapes.specs.declared.shape_type.Scalar.TheVariants as scalars
-use Rattle.smithy_shapes.specs.Table.{Table, shape_place}
+use Rattle.smithy_declarations.specs.declared.shape_type.Scalar.TheVariants as scalars
+use Rattle.smithy_declarations.specs.Table.{Table, shape_place}
 use Rattle.smithy_schema.specs.Reading.{Relations, Mark}
-use Rattle.smithy_shapes.specs.Value.{Value}
+use Rattle.smithy_declarations.specs.Value.{Value}
 use Rattle.cbor_item.specs.Head as widths
 use Rattle.cbor_item.specs.Item.{Item, unsigned}
 use Rattle.cbor_item.specs.WellFormed.{IsItemAt, IsEncodingOf}

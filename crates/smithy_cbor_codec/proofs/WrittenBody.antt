@@ -1,9 +1,9 @@
 -- The canonical encoding of a value lies as the value's node, with or without the lengths of lists and maps.
 use Rattle.std.proofs.Common.{◌≡◌, ◌≤◌, ◌<◌, ◌+◌, ◌^◌, ℕ, suc, length, List, [], ◌∷◌, ◌++◌, Bool, true, false, Some, None, sym, ap, subst, arith, append_assoc}
-use Rattle.smithy_shapes.specs.declared.place.Place.{Place}
-use Rattle.smithy_shapes.specs.Table.{Table, Member, ListShape, MapShape, structure_of, list_of, map_of, kind_of}
+use Rattle.smithy_declarations.specs.declared.place.Place.{Place}
+use Rattle.smithy_declarations.specs.Table.{Table, Member, ListShape, MapShape, structure_of, list_of, map_of, kind_of}
 use Rattle.smithy_shapes.specs.Site.{Site, View, member_view, element_view, value_view, nameless}
-use Rattle.smithy_shapes.specs.Value.{Value, scalar_value, list, map, structure, union, null_element, document_value, Values, no_values, value, MapEntries, no_map_entries, map_entry, MemberValues, no_member_values, member_value}
+use Rattle.smithy_declarations.specs.Value.{Value, scalar_value, list, map, structure, union, null_element, document_value, Values, no_values, value, MapEntries, no_map_entries, map_entry, MemberValues, no_member_values, member_value}
 use Rattle.smithy_shapes.specs.Fits.{FitsOr, ElementsFit, EntriesFit, MembersFit}
 use Rattle.smithy_shapes.specs.Lemmas.Kinds.{list_kind, map_kind, structure_kind, union_kind}
 use Rattle.smithy_shapes.proofs.ScalarLemmas.{scalar_kind}

@@ -1,13 +1,13 @@
 -- The canonical encoding of a value that CBOR holds spells the value, and what is spelled fits its place and is shallow.
 use Rattle.std.proofs.Common.{◌≡◌, ◌≤◌, ◌<◌, ◌^◌, ◌∙◌, ℕ, List, [], ◌++◌, length, drop, Bool, true, false, refl, ap, arith, sym}
 use Rattle.std.proofs.lemmas.List.{append-nil, drop_all}
-use Rattle.smithy_shapes.specs.declared.place.Place.{Place}
-use Rattle.smithy_shapes.specs.Table.{Table, Member, kind_of, shape_place}
+use Rattle.smithy_declarations.specs.declared.place.Place.{Place}
+use Rattle.smithy_declarations.specs.Table.{Table, Member, kind_of, shape_place}
 use Rattle.smithy_shapes.specs.Accepted.{IsAccepted}
 use Rattle.smithy_shapes.specs.Fits.{Fits}
 use Rattle.smithy_shapes.specs.ScalarTest.{scalars_pass}
 use Rattle.smithy_shapes.specs.Site.{whole_view, shape_site}
-use Rattle.smithy_shapes.specs.Value.{Value, nesting}
+use Rattle.smithy_declarations.specs.Value.{Value, nesting}
 use Rattle.smithy_cbor_body.specs.Canonical.{cbor_holds, canonical_cbor}
 use Rattle.smithy_cbor_body.specs.Codec.{strict_settings}
 use Rattle.smithy_cbor_values.specs.Laws.{rules_fit}

@@ -8,8 +8,8 @@ use std::borrow::{CowSlice, CowStr};
 impl<'a> BorrowDeserializer<'a> for CborDeserializer<'a> {
     ghost use Rattle.std.specs.Prelude.{◌≡◌, IfOk, true};
     ghost use Rattle.std.specs.Cow.{cow_str_bytes, cow_slice_items};
-    ghost use Rattle.smithy_shapes.specs.declared.shape_type.Scalar.TheVariants as scalars;
-    ghost use Rattle.smithy_shapes.specs.Value.{text, bytes};
+    ghost use Rattle.smithy_declarations.specs.declared.shape_type.Scalar.TheVariants as scalars;
+    ghost use Rattle.smithy_declarations.specs.Value.{text, bytes};
     ghost use Rattle.smithy_shapes.specs.Site.{site_of};
     ghost use Rattle.smithy_schema.specs.Reading.{ReadsScalar};
     ghost use Rattle.smithy_cbor_values.specs.Borrowed.{BorrowsText, BorrowsBytes};

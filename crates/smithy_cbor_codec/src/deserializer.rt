@@ -8,7 +8,7 @@ use smithy_cbor_values::container_size::container_size_at;
 use smithy_cbor_values::instants::instant_at;
 use smithy_cbor_values::numbers::{big_decimal_at, big_integer_at};
 use smithy_cbor_values::places::{
-    EntryOrEnd, array_at, entry_or_end, is_null_at, map_at, may_leave, null_end,
+    EntryOrEnd, array_at, entry_or_end, is_null_at, map_at, null_end,
 };
 use smithy_cbor_values::values::{
     blob_at, boolean_at, item_stands, long_at, skipped_end, string_at,
@@ -30,10 +30,7 @@ pub struct CborDeserializer<'a> {
 
 impl<'a> CborDeserializer<'a> {
     ghost use Rattle.std.specs.Prelude.{◌≡◌};
-    ghost use Rattle.std.specs.Prelude.{◌↔◌, IsTrue};
-    ghost use Rattle.smithy_schema.specs.Reading.{depth};
-    ghost use Rattle.smithy_cbor_codec.specs.Cursor.{cursor_of, reading_settings_of};
-    ghost use Rattle.smithy_cbor_values.specs.Standing.{FollowsInside, end_depth};
+    ghost use Rattle.smithy_cbor_codec.specs.Cursor.{cursor_of};
     ghost use Rattle.smithy_wire.specs.Walking.{fresh_cursor};
 
     // A fresh reader.
@@ -51,39 +48,17 @@ impl<'a> CborDeserializer<'a> {
             settings,
         }
     }
-    // By how many open containers it is judged where a value may end: where bytes may follow an item, by one more.
-    pub(crate) fn end_depth(&self) -> usize
-        ensures { result ≡ end_depth (reading_settings_of self.now).enforce_strictness (depth (cursor_of self.now)) }
-    {
-        let depth = self.walk.depth();
-        if self.settings.enforce_strictness {
-            depth
-        } else {
-            depth + 1
-        }
-    }
-
-    // Whether the innermost container may end at the offset.
-    pub(crate) fn may_leave_at(&self, at: usize) -> bool
-        ensures { IsTrue result ↔ FollowsInside (reading_settings_of self.now).enforce_strictness (depth (cursor_of self.now)) (cursor_of self.now).input at }
-    {
-        may_leave(
-            self.walk.input,
-            at,
-            self.walk.depth(),
-            self.settings.enforce_strictness,
-        )
-    }
 }
 
 impl ShapeDeserializer for CborDeserializer<'_> {
     ghost use Rattle.std.specs.Prelude.{◌≡◌, ℕ, OnOk, IfOk, IsOk, IsErr, IsErrOf, true, false, refl};
-    ghost use Rattle.smithy_schema.specs.Reading.{depth, in_structure, passed_to, null_is_due, Conducts, Passes, MatchStep, CannotGoOn, RefusesNoKind, ReadsScalar, ReadsDocument, AnswersUncarried, IsRefused, IsInvalid, IsNoAnswer, NullsNot, SkipsNot, ReachesDepth};
-    ghost use Rattle.smithy_shapes.specs.Table.{HasMembers};
+    ghost use Rattle.smithy_schema.specs.Errors.{RefusesNoKind, IsRefused, IsInvalid, IsNoAnswer};
+    ghost use Rattle.smithy_schema.specs.Reading.{depth, in_structure, passed_to, null_is_due, Conducts, Passes, MatchStep, CannotGoOn, ReadsScalar, ReadsDocument, AnswersUncarried, NullsNot, SkipsNot, ReachesDepth};
+    ghost use Rattle.smithy_declarations.specs.Table.{HasMembers};
     ghost use Rattle.smithy_shapes.specs.Site.{site_of, kind_at};
     ghost use Rattle.smithy_schema.specs.declared.error.SerdeError.TheVariants.{NoMemory, NotCarried, TooDeep};
-    ghost use Rattle.smithy_shapes.specs.declared.shape_type.Scalar.TheVariants as scalars;
-    ghost use Rattle.smithy_shapes.specs.Value.{instant};
+    ghost use Rattle.smithy_declarations.specs.declared.shape_type.Scalar.TheVariants as scalars;
+    ghost use Rattle.smithy_declarations.specs.Value.{instant};
     ghost use Rattle.smithy_cbor_codec.specs.Cursor.{cursor_of, reading_settings_of};
     ghost use Rattle.smithy_cbor_values.specs.Settings.{Settings, keep_limits, without_limits};
     ghost use Rattle.smithy_cbor_values.specs.Standing.{cbor_relations};

@@ -1,6 +1,6 @@
 //! What a reader keeps of an open container, and where a structure may be missing.
 ghost use Rattle.std.specs.Prelude.{◌≡◌, ◌↔◌, IsTrue};
-ghost use Rattle.smithy_shapes.specs.Table.{IsStructure};
+ghost use Rattle.smithy_declarations.specs.Table.{IsStructure};
 ghost use Rattle.smithy_shapes.specs.Site.{site_of, kind_at};
 ghost use Rattle.smithy_cbor_codec.specs.Cursor.{inside_of, missing_frame};
 ghost use Rattle.smithy_cbor_values.specs.Standing.{RestIsEmpty};

@@ -4,6 +4,7 @@
 mod borrowing;
 mod codec;
 mod deserializer;
+mod ending;
 mod frames;
 mod member_steps;
 mod members;

@@ -7,8 +7,9 @@ use smithy_wire::ContainerKind;
 
 impl CborDeserializer<'_> {
     ghost use Rattle.std.specs.Prelude.{◌≡◌, ◌≤◌, ◌↔◌, length, IsTrue, IfOk, IsErrOf, false};
-    ghost use Rattle.smithy_schema.specs.Reading.{passed_to, in_structure, Conducts, MatchStep, CannotGoOn, RefusesNoKind, IsRefused};
-    ghost use Rattle.smithy_shapes.specs.Table.{IsStructure, HasMembers};
+    ghost use Rattle.smithy_schema.specs.Errors.{RefusesNoKind, IsRefused};
+    ghost use Rattle.smithy_schema.specs.Reading.{passed_to, in_structure, Conducts, MatchStep, CannotGoOn};
+    ghost use Rattle.smithy_declarations.specs.Table.{IsStructure, HasMembers};
     ghost use Rattle.smithy_shapes.specs.Site.{site_of, kind_at};
     ghost use Rattle.smithy_schema.specs.declared.error.SerdeError.TheVariants.{TooDeep};
     ghost use Rattle.smithy_cbor_codec.specs.Cursor.{cursor_of, reading_settings_of};

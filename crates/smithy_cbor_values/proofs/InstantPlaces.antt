@@ -7,7 +7,7 @@ use Rattle.std.proofs.lemmas.Bool.{cases_Bool}
 use Rattle.std.proofs.lemmas.Bool.Decides.{nat_tests}
 use Rattle.smithy_texts.specs.Ranges.{fits_signed}
 use Rattle.smithy_instants.specs.Instant.{nanos_per_second}
-use Rattle.smithy_shapes.specs.Value.{instant, Value, scalar_value}
+use Rattle.smithy_declarations.specs.Value.{instant, Value, scalar_value}
 use Rattle.cbor_item.specs.declared.error.ItemError.{ItemError}
 use Rattle.cbor_item.specs.declared.error.ItemError.TheVariants.{Truncated, NotWellFormed, WrongType, InvalidUtf8, NoMemory}
 use Rattle.cbor_item.specs.Head.{HeadRead, BeginsWithHead, IsCutHead, IsBrokenHead, argument_length}

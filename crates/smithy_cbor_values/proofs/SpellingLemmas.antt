@@ -2,9 +2,9 @@
 use Rattle.std.proofs.Common.{◌≡◌, ◌↔◌, ℕ, List, length, true, Some, refl, sym, ap, ◌∙◌, arith, subst, inl, inr}
 use Rattle.std.specs.List.{slice_range}
 use Rattle.std.proofs.lemmas.List.{take_rest}
-use Rattle.smithy_shapes.specs.declared.place.Place.{Place}
-use Rattle.smithy_shapes.specs.Table.{Table, Kind, scalar, document, structure_of, union_of, list_of, map_of, nothing, kind_of, IsStructure}
-use Rattle.smithy_shapes.specs.Value.{Value, structure, no_member_values}
+use Rattle.smithy_declarations.specs.declared.place.Place.{Place}
+use Rattle.smithy_declarations.specs.Table.{Table, Kind, scalar, document, structure_of, union_of, list_of, map_of, nothing, kind_of, IsStructure}
+use Rattle.smithy_declarations.specs.Value.{Value, structure, no_member_values}
 use Rattle.smithy_shapes.specs.Lemmas.Options.{same_some, chosen}
 use Rattle.smithy_schema.specs.Reading.{Relations}
 use Rattle.cbor_item.specs.Item.{Item}

@@ -3,12 +3,12 @@ use Rattle.std.proofs.Common.{◌≡◌, ℕ, ℤ, pos, negsuc, List, ◌++◌, 
 use Rattle.std.specs.Prelude.{◌==◌, ◌*ℤ◌}
 use Rattle.std.proofs.lemmas.Bool.Decides.{nat_tests}
 use Rattle.std.proofs.lemmas.List.{take-append-drop}
-use Rattle.smithy_shapes.specs.declared.shape_type.Scalar.{Scalar}
-use Rattle.smithy_shapes.specs.declared.shape_type.Scalar.TheVariants as scalars
-use Rattle.smithy_shapes.specs.declared.shape_type.TimestampFormat.{TimestampFormat}
+use Rattle.smithy_declarations.specs.declared.shape_type.Scalar.{Scalar}
+use Rattle.smithy_declarations.specs.declared.shape_type.Scalar.TheVariants as scalars
+use Rattle.smithy_declarations.specs.declared.shape_type.TimestampFormat.{TimestampFormat}
 use Rattle.cbor_item.specs.Item.{Item, unsigned, negative, byte_string, text_string, array, map, tag, simple, float}
 use Rattle.cbor_item.specs.WellFormed.{IsItemAt}
-use Rattle.smithy_shapes.specs.Value.{Value, instant, scalar_value}
+use Rattle.smithy_declarations.specs.Value.{Value, instant, scalar_value}
 use Rattle.smithy_texts.specs.Ranges.{fits_signed}
 use Rattle.smithy_instants.specs.Instant.{nanos_per_second}
 use Rattle.smithy_cbor.specs.Scalar.{big_integer_of}

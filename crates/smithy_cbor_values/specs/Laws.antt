@@ -6,7 +6,7 @@ use Rattle.smithy_cbor_values.specs.Meaning.{rules_of}
 use Rattle.smithy_cbor_values.specs.Standing.{cbor_frames, frames_of, cbor_relations}
 use Rattle.smithy_cbor_values.specs.Private.Wire.{wire_of, cbor_bounds_openers}
 use Rattle.smithy_cbor_values.specs.Private.Fits.{text_is_utf8, says_fits}
-use Rattle.smithy_shapes.specs.Value.{null_element}
+use Rattle.smithy_declarations.specs.Value.{null_element}
 use Rattle.smithy_cbor_values.specs.Scalar.{says}
 use Rattle.smithy_wire.specs.Wire.{RulesFit}
 use Rattle.smithy_wire.proofs.Bounds.{settled_means}

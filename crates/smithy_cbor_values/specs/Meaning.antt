@@ -1,9 +1,9 @@
 -- What an item means at a place of a table (the protocol smithy.protocols#rpcv2Cbor): what its node means under
 -- the rules of CBOR.
 use Rattle.std.specs.Prelude.{ℕ, ◌==◌, Option, Some, None, Bool, true, false, ◌&&◌, not, is_some, if◌then◌else◌}
-use Rattle.smithy_shapes.specs.declared.place.Place.{Place}
-use Rattle.smithy_shapes.specs.Table.{Table}
-use Rattle.smithy_shapes.specs.Value.{Value}
+use Rattle.smithy_declarations.specs.declared.place.Place.{Place}
+use Rattle.smithy_declarations.specs.Table.{Table}
+use Rattle.smithy_declarations.specs.Value.{Value}
 use Rattle.cbor_item.specs.Item.{Item, unsigned, negative, byte_string, text_string, array, map, tag, simple, float, Items, no_items, item, Pairs, no_pairs, pair}
 use Rattle.smithy_cbor_values.specs.Settings.{Settings}
 use Rattle.smithy_cbor.specs.Scalar.{null_value, text_of}

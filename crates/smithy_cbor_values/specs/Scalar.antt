@@ -4,10 +4,10 @@ use Rattle.std.specs.Option.{option_map_or}
 use Rattle.smithy_texts.specs.Base64Text.{are_bytes}
 use Rattle.smithy_texts.specs.Decimal.{DecimalForm}
 use Rattle.smithy_texts.specs.Ranges.{fits_signed}
-use Rattle.smithy_shapes.specs.declared.shape_type.Scalar.{Scalar}
-use Rattle.smithy_shapes.specs.declared.shape_type.Scalar.TheVariants as scalars
-use Rattle.smithy_shapes.specs.declared.shape_type.TimestampFormat.{TimestampFormat}
-use Rattle.smithy_shapes.specs.Value.{boolean, whole, text, bytes, instant, Value, scalar_value}
+use Rattle.smithy_declarations.specs.declared.shape_type.Scalar.{Scalar}
+use Rattle.smithy_declarations.specs.declared.shape_type.Scalar.TheVariants as scalars
+use Rattle.smithy_declarations.specs.declared.shape_type.TimestampFormat.{TimestampFormat}
+use Rattle.smithy_declarations.specs.Value.{boolean, whole, text, bytes, instant, Value, scalar_value}
 use Rattle.cbor_item.specs.Item.{Item, tag, simple, float}
 use Rattle.smithy_cbor.specs.Scalar.{false_value, true_value, integer_of, text_of, bytes_of, big_integer_of, decimal_fraction_of}
 use Rattle.smithy_instants.specs.Instant.{nanos_per_second}

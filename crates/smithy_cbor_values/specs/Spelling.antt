@@ -1,8 +1,8 @@
 -- Which whole inputs spell which values.
 use Rattle.std.specs.Prelude.{◌≡◌, ◌⊎◌, ℕ, List, [], Some, true}
-use Rattle.smithy_shapes.specs.declared.place.Place.{Place}
-use Rattle.smithy_shapes.specs.Table.{Table, kind_of, IsStructure}
-use Rattle.smithy_shapes.specs.Value.{Value, structure, no_member_values}
+use Rattle.smithy_declarations.specs.declared.place.Place.{Place}
+use Rattle.smithy_declarations.specs.Table.{Table, kind_of, IsStructure}
+use Rattle.smithy_declarations.specs.Value.{Value, structure, no_member_values}
 use Rattle.cbor_item.specs.Item.{Item}
 use Rattle.cbor_item.specs.WellFormed.{IsEncodingOf}
 use Rattle.smithy_cbor_values.specs.Settings.{Settings, is_shallow}

@@ -1,6 +1,6 @@
 -- Which bytes hold an item that is a big number beyond the limits of its kind.
 use Rattle.std.specs.Prelude.{◌≡◌, ◌++◌, ℕ, List, None}
-use Rattle.smithy_shapes.specs.declared.shape_type.Scalar.{Scalar}
+use Rattle.smithy_declarations.specs.declared.shape_type.Scalar.{Scalar}
 use Rattle.cbor_item.specs.Item.{Item}
 use Rattle.cbor_item.specs.WellFormed.{IsEncodingOf}
 use Rattle.smithy_cbor_values.specs.Scalar.{says}

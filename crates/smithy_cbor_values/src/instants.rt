@@ -1,8 +1,8 @@
 //! Instants that stand at a place of an input: dates of whole seconds.
 
 ghost use Rattle.std.specs.Prelude.{◌≡◌, ◌≤◌, length};
-ghost use Rattle.smithy_shapes.specs.declared.shape_type.Scalar.TheVariants as scalars;
-ghost use Rattle.smithy_shapes.specs.Value.{instant, scalar_value};
+ghost use Rattle.smithy_declarations.specs.declared.shape_type.Scalar.TheVariants as scalars;
+ghost use Rattle.smithy_declarations.specs.Value.{instant, scalar_value};
 ghost use Rattle.smithy_cbor_values.specs.Scalar.{date_says};
 ghost use Rattle.smithy_cbor_values.specs.Private.ScalarAtPlace.{MeansAt, UncarriedAt, NothingAt};
 ghost use Rattle.smithy_wire.specs.Finding.{MatchFound};

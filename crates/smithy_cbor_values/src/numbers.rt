@@ -2,8 +2,8 @@
 
 ghost use Rattle.std.specs.Prelude.{◌≤◌, length, IfOk, FitsSigned};
 ghost use Rattle.std.specs.Int.{w128};
-ghost use Rattle.smithy_shapes.specs.declared.shape_type.Scalar.TheVariants as scalars;
-ghost use Rattle.smithy_shapes.specs.Value.{whole, decimal};
+ghost use Rattle.smithy_declarations.specs.declared.shape_type.Scalar.TheVariants as scalars;
+ghost use Rattle.smithy_declarations.specs.Value.{whole, decimal};
 ghost use Rattle.smithy_texts.specs.Numeral.{number as number_of};
 ghost use Rattle.smithy_texts.specs.Decimal.{mantissa, net_exponent};
 ghost use Rattle.smithy_cbor_values.specs.Private.ScalarAtPlace.{MeansAt, ExceedsAt, NothingAt, IsUnread};

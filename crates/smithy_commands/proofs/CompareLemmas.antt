@@ -1,7 +1,7 @@
 -- What the status of `compare` says.
 use Rattle.std.proofs.Common.{◌≡◌, ◌≢◌, ◌⊎◌, ◌≤◌, ◌∙◌, inl, inr, ℕ, List, length, Bool, Some, None, Ok, Err, true, false, refl, sym, ap, subst, arith}
-use Rattle.smithy_shapes.specs.Table.{Table, IsStructure, kind_of, shape_place, declared_as}
-use Rattle.smithy_shapes.specs.Acceptance.{accepted, table_of}
+use Rattle.smithy_declarations.specs.Table.{Table, IsStructure, kind_of, shape_place, declared_as}
+use Rattle.smithy_declarations.specs.Acceptance.{accepted, table_of}
 use Rattle.smithy_transcode.specs.declared.wire.TranscodeError.TheVariants as errors
 use Rattle.smithy_compare.specs.Compares.{Answer}
 use Rattle.smithy_compare.specs.declared.comparing.Compared.{Compared}

@@ -1,7 +1,7 @@
 -- Why two files were not compared: what each step of `compare` says of its refusal.
 use Rattle.std.proofs.Common.{◌≡◌, ◌≤◌, ◌∙◌, inl, inr, ℕ, List, Result, Ok, Err, IfOk, IfErr, sym, subst, arith}
-use Rattle.smithy_shapes.specs.Table.{Table}
-use Rattle.smithy_shapes.specs.Acceptance.{accepted, table_of}
+use Rattle.smithy_declarations.specs.Table.{Table}
+use Rattle.smithy_declarations.specs.Acceptance.{accepted, table_of}
 use Rattle.smithy_transcode.specs.declared.wire.TranscodeError.TheVariants as errors
 use Rattle.smithy_compare.specs.declared.comparing.CompareError.{CompareError}
 use Rattle.smithy_compare.specs.declared.comparing.CompareError.TheVariants.{First, Second, NoMemory}

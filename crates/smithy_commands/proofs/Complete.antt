@@ -1,8 +1,8 @@
 -- What follows from what a status says: a run that is all in order is done, and one over a missing file isn't.
 use Rattle.std.proofs.Common.{◌≡◌, ◌≢◌, ◌<◌, ◌⊎◌, true, inl, inr, ℕ, length, List, Some, None, refl, sym, subst, ap, ◌∙◌, arith}
-use Rattle.smithy_shapes.specs.Table.{Table, IsStructure, kind_of, shape_place, declared_as}
-use Rattle.smithy_shapes.specs.Acceptance.{accepted, table_of}
-use Rattle.smithy_shapes.specs.Value.{Value}
+use Rattle.smithy_declarations.specs.Table.{Table, IsStructure, kind_of, shape_place, declared_as}
+use Rattle.smithy_declarations.specs.Acceptance.{accepted, table_of}
+use Rattle.smithy_declarations.specs.Value.{Value}
 use Rattle.smithy_transcode.specs.Spelling.{Spells}
 use Rattle.smithy_transcode.specs.Wires.{unfit}
 use Rattle.smithy_transcode.proofs.Transcodings.{one_value, not_both}

@@ -5,14 +5,14 @@ use Rattle.std.specs.Prelude.{nat_eq}
 use Rattle.std.proofs.lemmas.Cmp.{nat_list_eq_equiv}
 use Rattle.std.specs.declared.vec.Vec.{Vec}
 use Rattle.std.specs.declared.alloc.Global.{Global}
-use Rattle.smithy_shapes.specs.declared.fault.TableFault.{TableFault}
-use Rattle.smithy_shapes.specs.declared.fault.TableFault.TheVariants.{BadLine, FloatShape, UnknownTarget, UnknownTimeFormat, DuplicateShape, NameClash, QueryName, KeyValueName, SparseDocument, TooMany, NoMemory}
-use Rattle.smithy_shapes.specs.Acceptance.{TableAnswer, accepted, table_of}
-use Rattle.smithy_shapes.specs.DeclViews.{IsRefusedBy, IsLineFault}
+use Rattle.smithy_declarations.specs.declared.fault.TableFault.{TableFault}
+use Rattle.smithy_declarations.specs.declared.fault.TableFault.TheVariants.{BadLine, FloatShape, UnknownTarget, UnknownTimeFormat, DuplicateShape, NameClash, QueryName, KeyValueName, SparseDocument, TooMany, NoMemory}
+use Rattle.smithy_declarations.specs.Acceptance.{TableAnswer, accepted, table_of}
+use Rattle.smithy_declarations.specs.DeclViews.{IsRefusedBy, IsLineFault}
 use Rattle.smithy_shapes.specs.ScalarTest.{no_documents}
-use Rattle.smithy_shapes.specs.Table.{Table, declared_as}
-use Rattle.smithy_shapes.specs.TableText.{declarations_of}
-use Rattle.smithy_shapes.specs.Value.{Value}
+use Rattle.smithy_declarations.specs.Table.{Table, declared_as}
+use Rattle.smithy_declarations.specs.TableText.{declarations_of}
+use Rattle.smithy_declarations.specs.Value.{Value}
 use Rattle.smithy_transcode.specs.declared.wire.TranscodeError.{TranscodeError}
 use Rattle.smithy_transcode.specs.declared.wire.TranscodeError.TheVariants as errors
 use Rattle.smithy_transcode.specs.Spelling.{Spells, body}

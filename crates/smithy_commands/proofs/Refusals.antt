@@ -1,12 +1,12 @@
 -- What a refused table says, and a refused body.
 use Rattle.std.proofs.Common.{◌≡◌, ◌∙◌, ℕ, List, Err, refl}
-use Rattle.smithy_shapes.specs.declared.fault.TableFault.{TableFault}
-use Rattle.smithy_shapes.specs.declared.fault.TableFault.TheVariants.{BadLine, FloatShape, UnknownTarget, UnknownTimeFormat, DuplicateShape, NameClash, QueryName, KeyValueName, SparseDocument, TooMany, NoMemory}
-use Rattle.smithy_shapes.specs.Decl.{Decl}
-use Rattle.smithy_shapes.specs.TableText.{Lines, declarations, declarations_of}
-use Rattle.smithy_shapes.specs.Table.{Table}
-use Rattle.smithy_shapes.specs.Acceptance.{accepted, refused, bad_line, build_of, table_of}
-use Rattle.smithy_shapes.specs.DeclViews.{IsRefusedBy, IsLineFault}
+use Rattle.smithy_declarations.specs.declared.fault.TableFault.{TableFault}
+use Rattle.smithy_declarations.specs.declared.fault.TableFault.TheVariants.{BadLine, FloatShape, UnknownTarget, UnknownTimeFormat, DuplicateShape, NameClash, QueryName, KeyValueName, SparseDocument, TooMany, NoMemory}
+use Rattle.smithy_declarations.specs.Decl.{Decl}
+use Rattle.smithy_declarations.specs.TableText.{Lines, declarations, declarations_of}
+use Rattle.smithy_declarations.specs.Table.{Table}
+use Rattle.smithy_declarations.specs.Acceptance.{accepted, refused, bad_line, build_of, table_of}
+use Rattle.smithy_declarations.specs.DeclViews.{IsRefusedBy, IsLineFault}
 use Rattle.smithy_transcode.specs.declared.wire.TranscodeError.{TranscodeError}
 use Rattle.smithy_transcode.specs.declared.wire.TranscodeError.TheVariants as errors
 use Rattle.smithy_transcode.specs.Transcoding.{Transcodes}

@@ -1,8 +1,8 @@
 -- What the commands share: the checks before they answer, each where those before it passed, and what becomes of the output.
 use Rattle.std.specs.Prelude.{◌≡◌, ◌≢◌, ◌≤◌, ℕ, List, length, Some, None, true, false}
-use Rattle.smithy_shapes.specs.Table.{Table, IsStructure, kind_of, shape_place, declared_as}
-use Rattle.smithy_shapes.specs.Acceptance.{Fault, TableAnswer, accepted, refused, table_of}
-use Rattle.smithy_shapes.specs.declared.fault.TableFault.{TableFault}
+use Rattle.smithy_declarations.specs.Table.{Table, IsStructure, kind_of, shape_place, declared_as}
+use Rattle.smithy_declarations.specs.Acceptance.{Fault, TableAnswer, accepted, refused, table_of}
+use Rattle.smithy_declarations.specs.declared.fault.TableFault.{TableFault}
 use Rattle.smithy_commands.specs.declared.status.Status.{Status}
 use Rattle.smithy_commands.specs.declared.status.Status.TheVariants.{WriteFailed, TableRefused, NoSuchShape, NotAStructure}
 use Rattle.smithy_commands.specs.ErrorLine.{refusal_of}

@@ -1,7 +1,7 @@
 -- What a status says where the words are `compare`.
 use Rattle.std.specs.Prelude.{◌≡◌, ◌≢◌, ◌⊎◌, ◌≤◌, ◌++◌, ℕ, List, length, Ok, Err, true, false, codes}
-use Rattle.smithy_shapes.specs.Table.{Table}
-use Rattle.smithy_shapes.specs.Acceptance.{accepted, table_of}
+use Rattle.smithy_declarations.specs.Table.{Table}
+use Rattle.smithy_declarations.specs.Acceptance.{accepted, table_of}
 use Rattle.smithy_transcode.specs.declared.wire.TranscodeError.TheVariants as errors
 use Rattle.smithy_compare.specs.Compares.{Answer, Compares}
 use Rattle.smithy_compare.specs.PathText.{text_of_path}

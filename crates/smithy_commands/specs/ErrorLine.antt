@@ -1,9 +1,9 @@
 -- The line that a run writes to standard error.
 use Rattle.std.specs.Prelude.{◌++◌, ℕ, List, [], Option, Some, None, codes, decimal}
 use Rattle.std.specs.Option.{option_map_or}
-use Rattle.smithy_shapes.specs.Acceptance.{Fault, bad_line, float_shape, unknown_target, unknown_time_format, duplicate_shape, name_clash, query_name, key_value_name, sparse_document, too_many}
-use Rattle.smithy_shapes.specs.declared.fault.TableFault.{TableFault}
-use Rattle.smithy_shapes.specs.declared.fault.TableFault.TheVariants as table_faults
+use Rattle.smithy_declarations.specs.Acceptance.{Fault, bad_line, float_shape, unknown_target, unknown_time_format, duplicate_shape, name_clash, query_name, key_value_name, sparse_document, too_many}
+use Rattle.smithy_declarations.specs.declared.fault.TableFault.{TableFault}
+use Rattle.smithy_declarations.specs.declared.fault.TableFault.TheVariants as table_faults
 use Rattle.smithy_commands.specs.declared.status.Status.{Status}
 use Rattle.smithy_transcode.specs.declared.wire.Unfit.TheVariants.{Document, Null, Instant}
 use Rattle.smithy_commands.specs.declared.status.Status.TheVariants.{Done, Usage, ReadFailed, WriteFailed, OutOfMemory, InvalidInput, TooDeep, TooWide, NotCarried, Inexpressible, TableRefused, NoSuchShape, NotAStructure, TooLong, Differs, SecondInvalidInput, SecondTooDeep, SecondTooWide, SecondNotCarried}

@@ -1,8 +1,8 @@
 -- What a status says where the words are `gen`.
 use Rattle.std.specs.Prelude.{◌≡◌, ◌≢◌, ℕ, List, ◌++◌, length, Some, true, false, codes, decimal}
-use Rattle.smithy_shapes.specs.Table.{Table, declared_as}
-use Rattle.smithy_shapes.specs.Acceptance.{accepted, table_of}
-use Rattle.smithy_shapes.specs.Value.{Value}
+use Rattle.smithy_declarations.specs.Table.{Table, declared_as}
+use Rattle.smithy_declarations.specs.Acceptance.{accepted, table_of}
+use Rattle.smithy_declarations.specs.Value.{Value}
 use Rattle.smithy_transcode.specs.Spelling.{Spells, body}
 use Rattle.smithy_transcode.specs.Wires.{json, cbor}
 use Rattle.smithy_generator.specs.Generated.{generated, generated_table}

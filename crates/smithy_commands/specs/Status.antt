@@ -1,7 +1,7 @@
 -- The numbers that the program ends with, and the status of each refusal.
 use Rattle.std.specs.Prelude.{ℕ, Bool, true, false, Ok, Err}
-use Rattle.smithy_shapes.specs.declared.fault.TableFault.{TableFault}
-use Rattle.smithy_shapes.specs.declared.fault.TableFault.TheVariants as table_faults
+use Rattle.smithy_declarations.specs.declared.fault.TableFault.{TableFault}
+use Rattle.smithy_declarations.specs.declared.fault.TableFault.TheVariants as table_faults
 use Rattle.smithy_transcode.specs.declared.wire.TranscodeError.{TranscodeError}
 use Rattle.smithy_transcode.specs.declared.wire.TranscodeError.TheVariants as errors
 use Rattle.smithy_compare.specs.Compares.{Answer}

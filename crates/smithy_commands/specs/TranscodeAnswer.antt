@@ -1,8 +1,8 @@
 -- What a status says where the words are `transcode`.
 use Rattle.std.specs.Prelude.{◌≡◌, ◌≢◌, ◌⊎◌, ◌≤◌, ◌+◌, ℕ, List, length, Some, None, true}
-use Rattle.smithy_shapes.specs.Table.{Table}
-use Rattle.smithy_shapes.specs.Acceptance.{accepted, table_of}
-use Rattle.smithy_shapes.specs.Value.{Value}
+use Rattle.smithy_declarations.specs.Table.{Table}
+use Rattle.smithy_declarations.specs.Acceptance.{accepted, table_of}
+use Rattle.smithy_declarations.specs.Value.{Value}
 use Rattle.smithy_transcode.specs.Spelling.{Spells, body}
 use Rattle.smithy_transcode.specs.Causes.{IsTooDeep, IsWide, IsUncarried}
 use Rattle.smithy_transcode.specs.Transcoding.{SpellNothing, SpellNothingWithoutLimits, TellsAgain}

@@ -1,7 +1,7 @@
 //! The checks that commands share: the table of a file, and the root in it.
 ghost use Rattle.std.specs.Prelude.{◌≡◌, ◌≢◌, ◌≤◌, ℕ, List, Some, IfOk, IfErr};
-ghost use Rattle.smithy_shapes.specs.Table.{IsStructure, kind_of, shape_place, declared_as};
-ghost use Rattle.smithy_shapes.specs.Acceptance.{accepted, table_of};
+ghost use Rattle.smithy_declarations.specs.Table.{IsStructure, kind_of, shape_place, declared_as};
+ghost use Rattle.smithy_declarations.specs.Acceptance.{accepted, table_of};
 ghost use Rattle.smithy_outside.specs.Outside.{MetNoFault};
 ghost use Rattle.smithy_commands.specs.Checks.{longest_table, IsLoaded};
 ghost use Rattle.smithy_commands.specs.Private.Stages.{FailsToRead, FailsToLoad, FailsToFind};

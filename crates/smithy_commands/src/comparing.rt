@@ -1,6 +1,6 @@
 //! The command `compare`.
 ghost use Rattle.std.specs.Prelude.{◌≡◌, ◌≤◌, ℕ, List, Bool, IfOk, IfErr, string_bytes};
-ghost use Rattle.smithy_shapes.specs.Table.{IsStructure, kind_of, shape_place};
+ghost use Rattle.smithy_declarations.specs.Table.{IsStructure, kind_of, shape_place};
 ghost use Rattle.smithy_outside.specs.Outside.{Shown, outside};
 ghost use Rattle.smithy_commands.specs.CompareAnswer.{answer_line, Refuses, CompareAnswer};
 ghost use Rattle.smithy_commands.specs.Private.Comparisons.{IsFound, IsFoundIn, FailsToCompare};

@@ -1,7 +1,7 @@
 //! The command `gen`.
 ghost use Rattle.std.specs.Prelude.{◌≡◌, ◌++◌, ℕ, List, Bool, length, None, true, false, decimal, OnOk, IfOk, IfErr, codes};
-ghost use Rattle.smithy_shapes.specs.Table.{IsStructure, kind_of, shape_place};
-ghost use Rattle.smithy_shapes.specs.Value.{Value};
+ghost use Rattle.smithy_declarations.specs.Table.{IsStructure, kind_of, shape_place};
+ghost use Rattle.smithy_declarations.specs.Value.{Value};
 ghost use Rattle.smithy_transcode.specs.Spelling.{Spells, body};
 ghost use Rattle.smithy_transcode.specs.Transcoding.{TellsAgain};
 ghost use Rattle.smithy_transcode.specs.Wires.{json, cbor, unfit, wire_of};

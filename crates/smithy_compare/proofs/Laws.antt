@@ -5,7 +5,7 @@ use Rattle.std.specs.Ordering.{match_ordering, ordering_reverse}
 use Rattle.std.specs.Cmp.{both_ways}
 use Rattle.std.specs.declared.cmp.Ordering.{Ordering}
 use Rattle.std.specs.declared.cmp.Ordering.TheVariants.{Less, Equal, Greater}
-use Rattle.smithy_shapes.specs.Value.{Value}
+use Rattle.smithy_declarations.specs.Value.{Value}
 use Rattle.smithy_compare.specs.Tree.{Step, Tree, tree, Parts, no_parts, part, tree_of}
 use Rattle.smithy_compare.specs.FirstPath.{step_cmp, same_top, behind, first_in, first_among, first_path}
 use Rattle.smithy_compare.proofs.Alike.{step_one, step_turned, top_one, top_itself, top_turned}

@@ -5,12 +5,12 @@ use Rattle.std.specs.Cmp.Lexicographic.{slice_cmp, nat_list_cmp_total}
 use Rattle.std.specs.declared.cmp.Ordering.TheVariants.{Less}
 use Rattle.smithy_types.specs.Document as documents
 use Rattle.smithy_types.specs.Document.{Document, Documents, no_documents, item, Properties, no_properties, property}
-use Rattle.smithy_shapes.specs.declared.place.Place.{Place}
-use Rattle.smithy_shapes.specs.Documents.{DocumentFits, DocumentsFit, PropertiesFit, NamesAscendAbove, NamesAscend}
+use Rattle.smithy_declarations.specs.declared.place.Place.{Place}
+use Rattle.smithy_declarations.specs.Documents.{DocumentFits, DocumentsFit, PropertiesFit, NamesAscendAbove, NamesAscend}
 use Rattle.smithy_shapes.specs.Fits.{FitsOr, ElementsFit, EntriesFit, MembersFit, AscendFrom, KeysAscendAbove, KeysAscend}
-use Rattle.smithy_shapes.specs.Table.{Table, Kind}
-use Rattle.smithy_shapes.specs.Value as values
-use Rattle.smithy_shapes.specs.Value.{Value, scalar_value, null_element, document_value, Values, no_values, value, MapEntries, no_map_entries, map_entry, MemberValues, no_member_values, member_value}
+use Rattle.smithy_declarations.specs.Table.{Table, Kind}
+use Rattle.smithy_declarations.specs.Value as values
+use Rattle.smithy_declarations.specs.Value.{Value, scalar_value, null_element, document_value, Values, no_values, value, MapEntries, no_map_entries, map_entry, MemberValues, no_member_values, member_value}
 use Rattle.smithy_compare.specs.Tree.{Step, member, element, key, Tree, tree, Parts, no_parts, part, document_tree, item_parts, property_parts, tree_of, element_parts, entry_parts, member_parts}
 use Rattle.smithy_compare.specs.FirstPath.{step_cmp}
 

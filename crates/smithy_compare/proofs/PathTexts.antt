@@ -1,7 +1,7 @@
 -- The text of a path that is written in part.
 use Rattle.std.proofs.Common.{◌≡◌, ◌<◌, ◌+◌, ℕ, List, [], ◌∷◌, ◌++◌, map as mapped, drop, get_or, length, Option, Some, option_and_then, refl, sym, append_assoc, append-nil, add-one, drop-cons}
 use Rattle.smithy_shapes.specs.Site.{Site, shape_site}
-use Rattle.smithy_shapes.specs.Table.{Table}
+use Rattle.smithy_declarations.specs.Table.{Table}
 use Rattle.smithy_compare.specs.Tree.{Step}
 use Rattle.smithy_compare.specs.PathText.{site_behind, step_text, steps_text, text_of_path}
 

@@ -2,7 +2,7 @@
 use Rattle.std.specs.Prelude.{ℕ, List, [], ◌∷◌, ◌++◌, Option, Some, option_and_then, unwrap_or, codes}
 use Rattle.std.specs.Fmt.{decimal}
 use Rattle.smithy_shapes.specs.Site.{Site, shape_site, member_site, inner_site}
-use Rattle.smithy_shapes.specs.Table.{Table}
+use Rattle.smithy_declarations.specs.Table.{Table}
 use Rattle.smithy_json.specs.Escape.{quoted}
 use Rattle.smithy_compare.specs.Tree.{Step, member, element, key}
 

@@ -2,8 +2,8 @@
 use Rattle.std.specs.Prelude.{ℕ, suc, ℤ, List}
 use Rattle.smithy_types.specs.Document as documents
 use Rattle.smithy_types.specs.Document.{Document, Documents, no_documents, item, Properties, no_properties, property}
-use Rattle.smithy_shapes.specs.Value as values
-use Rattle.smithy_shapes.specs.Value.{ScalarValue, Value, scalar_value, null_element, document_value, Values, no_values, value, MapEntries, no_map_entries, map_entry, MemberValues, no_member_values, member_value}
+use Rattle.smithy_declarations.specs.Value as values
+use Rattle.smithy_declarations.specs.Value.{ScalarValue, Value, scalar_value, null_element, document_value, Values, no_values, value, MapEntries, no_map_entries, map_entry, MemberValues, no_member_values, member_value}
 
 -- one step of a path: to a member by its position, to an element by its index, both from 0, or to the value of a key
 pub data Step : Type 0 where

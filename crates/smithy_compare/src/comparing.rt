@@ -1,6 +1,6 @@
 //! Whether two bodies spell one value, and else where their values first differ.
 ghost use Rattle.std.specs.Prelude.{◌≡◌};
-ghost use Rattle.smithy_shapes.specs.Table.{IsStructure, kind_of, shape_place};
+ghost use Rattle.smithy_declarations.specs.Table.{IsStructure, kind_of, shape_place};
 ghost use Rattle.smithy_transcode.specs.Private.Tree.{compact_view as view};
 ghost use Rattle.smithy_transcode.specs.Wires.{wire_of};
 ghost use Rattle.smithy_compare.specs.Compares.{Compares, GivesPath};

@@ -5,9 +5,9 @@ use Rattle.std.proofs.lemmas.Slice.Eq.{bytes_eq-Decides}
 use Rattle.std.specs.List.{list_all}
 use Rattle.std.specs.Option.{option_map_or}
 use Rattle.std.specs.Result.{IfOk, IfErr}
-use Rattle.smithy_json.specs.Tree.{Json, null, boolean, number, string, array, object, Elements, no_elements, element, Members, no_members, member, nesting, elements_nesting, members_nesting}
-use Rattle.smithy_json.specs.HeldNumber.{number_of}
-use Rattle.smithy_json.specs.Unescape.{unescaped}
+use Rattle.smithy_json_grammar.specs.Tree.{Json, null, boolean, number, string, array, object, Elements, no_elements, element, Members, no_members, member, nesting, elements_nesting, members_nesting}
+use Rattle.smithy_json_grammar.specs.HeldNumber.{number_of}
+use Rattle.smithy_json_grammar.specs.Unescape.{unescaped}
 use Rattle.smithy_json_tokens.specs.Tokens as tokens
 use Rattle.smithy_json_tokens.specs.Tokens.{JsonToken, start_array, start_object, value_null, value_bool, value_number, value_uncarried, value_string, object_key, tokens, element_tokens, member_tokens, number_token}
 use Rattle.smithy_json_tokens.specs.TokenRules.{Cursor, finished, found, refused, next_answer}

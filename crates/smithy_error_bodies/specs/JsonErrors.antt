@@ -1,8 +1,8 @@
 -- What a body says that is JSON (the protocols AWS JSON 1.0 and 1.1 of Smithy 2.0, "Operation error serialization").
 use Rattle.std.specs.Prelude.{◌≡◌, ◌||◌, ◌&&◌, ℕ, nat_le, List, [], ◌∷◌, Bool, Option, Some, None, is_some, if◌then◌else◌}
 use Rattle.std.specs.List.{list_all}
-use Rattle.smithy_json.specs.Tree.{string, object, Members, no_members, member, members_nesting}
-use Rattle.smithy_json.specs.Unescape.{unescaped}
+use Rattle.smithy_json_grammar.specs.Tree.{string, object, Members, no_members, member, members_nesting}
+use Rattle.smithy_json_grammar.specs.Unescape.{unescaped}
 use Rattle.smithy_json_tokens.specs.Tokens.{start_object, tokens}
 use Rattle.smithy_json_tokens.specs.TokenRules.{Cursor, Answer, finished, found, refused, next_answer}
 use Rattle.smithy_json_tokens.specs.TokenRuns.{start, Leads}

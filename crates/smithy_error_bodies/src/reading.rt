@@ -1,14 +1,14 @@
 //! An object of an error body, token by token.
 ghost use Rattle.std.specs.Prelude.{◌≡◌, IfOk, IfErr, option_map, string_bytes};
-ghost use Rattle.smithy_json.specs.EscapedText.{escaped_text};
-ghost use Rattle.smithy_json.specs.Unescape.{unescaped};
+ghost use Rattle.smithy_json_grammar.specs.EscapedText.{escaped_text};
+ghost use Rattle.smithy_json_grammar.specs.Unescape.{unescaped};
 ghost use Rattle.smithy_json_tokens.specs.TokenView.{token_view};
 ghost use Rattle.smithy_error_bodies.specs.Private.JsonKeys.{key_of};
 ghost use Rattle.smithy_error_bodies.specs.declared.error_body.ErrorBodyFault.TheVariants.{NoMemory};
 
 use crate::error_body::{ErrorBody, ErrorBodyFault};
 use crate::keys::{is_code, is_message, is_type};
-use smithy_json::{EscapeError, EscapedStr};
+use smithy_json_grammar::{EscapeError, EscapedStr};
 use smithy_json_tokens::Token;
 use std::alloc::Global;
 
@@ -75,7 +75,7 @@ fn text_of<'a>(alloc: Global, value: EscapedStr<'a>) -> Result<Option<String>, E
 
 impl Reading {
     ghost use Rattle.std.specs.Prelude.{◌≡◌, IfOk, IfErr, string_bytes};
-    ghost use Rattle.smithy_json.specs.EscapedText.{escaped_text};
+    ghost use Rattle.smithy_json_grammar.specs.EscapedText.{escaped_text};
     ghost use Rattle.smithy_error_bodies.specs.Said.{said_by};
     ghost use Rattle.smithy_error_bodies.specs.Private.JsonSteps.{state_of, fresh, with_text, start_step, end_step, key_step, string_step, step, said_in};
 

@@ -2,9 +2,9 @@
 use Rattle.std.proofs.Common.{◌≡◌, ◌/◌, ◌%◌, ℕ, List, [], ◌∷◌, ◌++◌, refl, codes, decimal, append_assoc, append-nil, arith}
 use Rattle.std.specs.Str.{is_utf8, chars}
 use Rattle.std.proofs.lemmas.Str.{IsUtf8-from_is_utf8}
-use Rattle.smithy_json.specs.Ascii.{quotation_mark, space, value_separator, begin_object, end_object}
-use Rattle.smithy_json.specs.Grammar.{IsNumber, IsString, IsStringText, IsValue}
-use Rattle.smithy_json.specs.Tree.{Json, number, string, object, Members, no_members, member}
+use Rattle.smithy_json_grammar.specs.Ascii.{quotation_mark, space, value_separator, begin_object, end_object}
+use Rattle.smithy_json_grammar.specs.Grammar.{IsNumber, IsString, IsStringText, IsValue}
+use Rattle.smithy_json_grammar.specs.Tree.{Json, number, string, object, Members, no_members, member}
 use Rattle.smithy_json.proofs.QuotedLemmas.{quoted_is_string}
 use Rattle.smithy_generator.specs.Generated.{item_of}
 use Rattle.smithy_generator.specs.Private.GeneratedTree.{item_tree}

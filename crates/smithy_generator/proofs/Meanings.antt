@@ -1,19 +1,19 @@
 -- A generated input spells its value.
 use Rattle.std.proofs.Common.{◌≡◌, ◌<◌, ◌*◌, ◌/◌, ◌%◌, ◌∙◌, ℕ, zero, suc, List, [], ◌∷◌, ◌++◌, Option, Some, None, true, false, refl, sym, ap, inl, pos, codes, decimal, option_map, append_assoc, append-nil, arith}
 use Rattle.std.proofs.lemmas.Bool.Decides.{nat_tests}
-use Rattle.smithy_shapes.specs.declared.shape_type.Scalar.{Scalar}
-use Rattle.smithy_shapes.specs.declared.shape_type.Scalar.TheVariants.{Long, String, Timestamp}
-use Rattle.smithy_shapes.specs.Table.{kind_of, scalar, shape_place}
+use Rattle.smithy_declarations.specs.declared.shape_type.Scalar.{Scalar}
+use Rattle.smithy_declarations.specs.declared.shape_type.Scalar.TheVariants.{Long, String, Timestamp}
+use Rattle.smithy_declarations.specs.Table.{kind_of, scalar, shape_place}
 use Rattle.smithy_shapes.specs.Container.{Entry, container_of, elements_from}
-use Rattle.smithy_shapes.specs.declared.shape_type.TimestampFormat.TheVariants.{EpochSeconds}
+use Rattle.smithy_declarations.specs.declared.shape_type.TimestampFormat.TheVariants.{EpochSeconds}
 use Rattle.smithy_shapes.specs.Limits.{kept}
-use Rattle.smithy_shapes.specs.Value.{whole, text, instant, Value, scalar_value, null_element, list, values_of}
+use Rattle.smithy_declarations.specs.Value.{whole, text, instant, Value, scalar_value, null_element, list, values_of}
 use Rattle.smithy_instants.specs.Instant.{nanos_per_second, is_instant}
 use Rattle.smithy_instants.specs.WrittenDate.{epoch_text, fraction_text}
 use Rattle.smithy_instants.proofs.EpochRoundTrip.{not_negative}
 use Rattle.smithy_texts.specs.Ranges.{fits_signed}
-use Rattle.smithy_json.specs.Number.{whole_number}
-use Rattle.smithy_json.specs.Unescape.{unescaped}
+use Rattle.smithy_json_grammar.specs.Number.{whole_number}
+use Rattle.smithy_json_grammar.specs.Unescape.{unescaped}
 use Rattle.smithy_json.proofs.DecimalLemmas.{decimal_writes}
 use Rattle.smithy_json.proofs.QuotedLemmas.{unescaped_of_escaped}
 use Rattle.smithy_json_values.specs.Codec.{strict_settings}

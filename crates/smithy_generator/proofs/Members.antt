@@ -1,8 +1,8 @@
 -- Members and containers of JSON texts, by their parts.
 use Rattle.std.proofs.Common.{◌≡◌, ℕ, List, [], ◌∷◌, ◌++◌, refl, sym, ap, append-nil, rules}
-use Rattle.smithy_json.specs.Ascii.{quotation_mark, name_separator, value_separator, begin_object, end_object, space}
-use Rattle.smithy_json.specs.Grammar.{IsPadded, IsMember, IsStringText, IsValue, AreMoreMembers}
-use Rattle.smithy_json.specs.Tree.{Json, object, Members, member}
+use Rattle.smithy_json_grammar.specs.Ascii.{quotation_mark, name_separator, value_separator, begin_object, end_object, space}
+use Rattle.smithy_json_grammar.specs.Grammar.{IsPadded, IsMember, IsStringText, IsValue, AreMoreMembers}
+use Rattle.smithy_json_grammar.specs.Tree.{Json, object, Members, member}
 
 pub padded : (P : List ℕ → Type 0) (t : List ℕ) → P t → IsPadded P t
 padded P t p = ([], t, [], sym (append-nil t), tt, p, tt)

@@ -2,7 +2,7 @@
 use Rattle.std.proofs.Common.{◌≡◌, ◌++◌, ◌*◌, ◌/◌, ◌%◌, ℕ, zero, suc, List, true, None, refl, pos, codes, decimal, arith}
 use Rattle.smithy_shapes.specs.ScalarTest.{ValueTest, scalars_pass, elements_pass}
 use Rattle.smithy_shapes.specs.Site.{Site, shape_site, element_of, member_of}
-use Rattle.smithy_shapes.specs.Value.{whole, text, instant, values_of}
+use Rattle.smithy_declarations.specs.Value.{whole, text, instant, values_of}
 use Rattle.smithy_instants.specs.Instant.{nanos_per_second, subsecond_of}
 use Rattle.smithy_generator.specs.Generated.{number_at}
 use Rattle.smithy_generator.specs.GeneratedShapes.{generated_shapes, generated_root, item_value, item_values, generated_value}

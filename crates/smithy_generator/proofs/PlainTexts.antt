@@ -9,9 +9,9 @@ use Rattle.std.proofs.lemmas.Str.{IsUtf8-from_ascii}
 use Rattle.std.proofs.lemmas.Str.Ascii.{IsAscii-cons}
 use Rattle.smithy_texts.proofs.WrittenNumerals.{written_digits}
 use Rattle.smithy_json.specs.Escape.{escaped}
-use Rattle.smithy_json.specs.Grammar.{IsNumber, IsString, IsStringText}
-use Rattle.smithy_json.specs.Ascii.{quotation_mark}
-use Rattle.smithy_json.specs.Private.Chars.{is_plain}
+use Rattle.smithy_json_grammar.specs.Grammar.{IsNumber, IsString, IsStringText}
+use Rattle.smithy_json_grammar.specs.Ascii.{quotation_mark}
+use Rattle.smithy_json_grammar.specs.Private.Chars.{is_plain}
 use Rattle.smithy_json.proofs.DecimalLemmas.{decimal_is_number}
 use Rattle.smithy_json.proofs.EscapeLemmas.{plain_byte}
 use Rattle.smithy_json.proofs.QuotedLemmas.{quoted_is_string}

@@ -1,7 +1,7 @@
 -- The table's text is the table, which has the root.
 use Rattle.std.proofs.Common.{◌≡◌, Some, refl, codes}
-use Rattle.smithy_shapes.specs.Table.{declared_as}
-use Rattle.smithy_shapes.specs.Acceptance.{accepted, table_of}
+use Rattle.smithy_declarations.specs.Table.{declared_as}
+use Rattle.smithy_declarations.specs.Acceptance.{accepted, table_of}
 use Rattle.std.specs.Str.{is_utf8, chars}
 use Rattle.smithy_generator.specs.Generated.{generated_table}
 use Rattle.smithy_generator.specs.GeneratedShapes.{generated_shapes, generated_root}

@@ -2,9 +2,9 @@
 use Rattle.std.proofs.Common.{◌≡◌, ◌+◌, ◌∙◌, ℕ, zero, suc, List, [], ◌∷◌, ◌++◌, refl, sym, ap, subst, codes, append_assoc, append-nil, arith}
 use Rattle.std.specs.Str.{is_utf8, chars}
 use Rattle.std.proofs.lemmas.Str.{IsUtf8-from_is_utf8}
-use Rattle.smithy_json.specs.Ascii.{value_separator, begin_array, end_array, begin_object, end_object}
-use Rattle.smithy_json.specs.Grammar.{IsStringText, IsValue, AreMoreElements, IsJsonText}
-use Rattle.smithy_json.specs.Tree.{Json, array, element, no_members}
+use Rattle.smithy_json_grammar.specs.Ascii.{value_separator, begin_array, end_array, begin_object, end_object}
+use Rattle.smithy_json_grammar.specs.Grammar.{IsStringText, IsValue, AreMoreElements, IsJsonText}
+use Rattle.smithy_json_grammar.specs.Tree.{Json, array, element, no_members}
 use Rattle.smithy_json.proofs.QuotedLemmas.{quoted_is_string}
 use Rattle.smithy_generator.specs.Generated.{item_of, number_at, items_to, generated}
 use Rattle.smithy_generator.specs.Private.GeneratedTree.{item_tree, items_behind, generated_tree}

@@ -1,10 +1,10 @@
 -- The table that directs generated inputs, and the value of such an input.
 use Rattle.std.specs.Prelude.{ℕ, zero, suc, ◌*◌, ◌/◌, ◌%◌, List, [], ◌∷◌, ◌++◌, false, None, codes, decimal, pos}
-use Rattle.smithy_shapes.specs.declared.place.Place.{Place}
-use Rattle.smithy_shapes.specs.declared.shape_type.Scalar.TheVariants.{Long, String, Timestamp}
-use Rattle.smithy_shapes.specs.Table as shapes
-use Rattle.smithy_shapes.specs.Table.{Table, Member, ListShape, MapShape, scalar_place, shape_place}
-use Rattle.smithy_shapes.specs.Value.{whole, text, instant, Value, scalar_value, list, map, structure, values_of, map_entry, no_map_entries, member_value, no_member_values}
+use Rattle.smithy_declarations.specs.declared.place.Place.{Place}
+use Rattle.smithy_declarations.specs.declared.shape_type.Scalar.TheVariants.{Long, String, Timestamp}
+use Rattle.smithy_declarations.specs.Table as shapes
+use Rattle.smithy_declarations.specs.Table.{Table, Member, ListShape, MapShape, scalar_place, shape_place}
+use Rattle.smithy_declarations.specs.Value.{whole, text, instant, Value, scalar_value, list, map, structure, values_of, map_entry, no_map_entries, member_value, no_member_values}
 use Rattle.smithy_instants.specs.Instant.{nanos_per_second}
 use Rattle.smithy_generator.specs.Generated.{number_at}
 

@@ -1,6 +1,6 @@
 //! The input that a number generates.
 ghost use Rattle.std.specs.Prelude.{◌≡◌, ◌++◌, OnOk, IfOk, false, decimal};
-ghost use Rattle.smithy_shapes.specs.Table.{shape_place};
+ghost use Rattle.smithy_declarations.specs.Table.{shape_place};
 ghost use Rattle.smithy_json_values.specs.Codec.{strict_settings};
 ghost use Rattle.smithy_json_values.specs.Spelling.{json_spells};
 ghost use Rattle.smithy_generator.specs.GeneratedShapes.{generated_shapes, generated_root, generated_value};

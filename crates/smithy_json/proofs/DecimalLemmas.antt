@@ -9,14 +9,14 @@ use Rattle.std.specs.Fmt.{signed_decimal}
 use Rattle.std.specs.List.{AllByRecursion}
 use Rattle.std.specs.Str.{byte}
 use Rattle.std.specs.Str.Parse.{AllDigits}
-use Rattle.smithy_json.specs.Ascii.{minus_sign}
-use Rattle.smithy_json.specs.Grammar.{AreDigits, IsInt, IsExp, IsNumber}
-use Rattle.smithy_json.specs.Number.{whole_number}
+use Rattle.smithy_json_grammar.specs.Ascii.{minus_sign}
+use Rattle.smithy_json_grammar.specs.Grammar.{AreDigits, IsInt, IsExp, IsNumber}
+use Rattle.smithy_json_grammar.specs.Number.{whole_number}
 use Rattle.smithy_texts.specs.Ranges.{fits_signed, is_exponent}
 use Rattle.smithy_texts.specs.Decimal.{exponent_text, decimal_text}
 use Rattle.smithy_texts.proofs.OnLiterals.{smithy_texts_on_literals}
-use Rattle.smithy_json.proofs.NumberLemmas.{IsMinus}
-use Rattle.smithy_json.proofs.WholeLemmas.{signed_value, whole_number-parts}
+use Rattle.smithy_json_grammar.proofs.NumberLemmas.{IsMinus}
+use Rattle.smithy_json_grammar.proofs.WholeLemmas.{signed_value, whole_number-parts}
 
 is_digit : (d : ℕ) → digit_value d < 10 → IsAsciiDigit d
 is_digit d h = (grind (arith, nat_tests), grind (arith, nat_tests))

@@ -3,10 +3,10 @@ use Rattle.std.proofs.Common.{◌≡◌, ◌≤◌, ℕ, suc, List, ◌∷◌, B
 use Rattle.std.proofs.lemmas.Bool.Decides.{nat_tests}
 use Rattle.smithy_types.specs.Document.{Document, null, boolean, number, text, array, object, Documents, item, properties_by, with_pair}
 use Rattle.smithy_types.specs.declared.number.Number.{Number}
-use Rattle.smithy_json.specs.Tree.{Json, Elements, no_elements, element, Members, no_members, member}
-use Rattle.smithy_json.specs.Tree as tree
-use Rattle.smithy_json.specs.HeldNumber.{number_of}
-use Rattle.smithy_json.specs.Unescape.{unescaped}
+use Rattle.smithy_json_grammar.specs.Tree.{Json, Elements, no_elements, element, Members, no_members, member}
+use Rattle.smithy_json_grammar.specs.Tree as tree
+use Rattle.smithy_json_grammar.specs.HeldNumber.{number_of}
+use Rattle.smithy_json_grammar.specs.Unescape.{unescaped}
 use Rattle.smithy_json.specs.DocumentMeaning.{at_depth, number_meaning, document_meaning, elements_meaning, members_meaning}
 
 -- ---- what has a value

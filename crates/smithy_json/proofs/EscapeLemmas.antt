@@ -10,13 +10,13 @@ use Rattle.std.specs.Char.Escape.{hex_digit_at}
 use Rattle.std.specs.Char.Utf16.{is_high_surrogate, is_low_surrogate}
 use Rattle.std.specs.List.{prefix_len, range_with_len}
 use Rattle.std.specs.Prelude.{encode_utf8, IsUtf8}
-use Rattle.smithy_json.specs.Ascii.{quotation_mark, escape, backspace, form_feed, line_feed, carriage_return, tab, space}
+use Rattle.smithy_json_grammar.specs.Ascii.{quotation_mark, escape, backspace, form_feed, line_feed, carriage_return, tab, space}
 use Rattle.smithy_json.specs.Escape.{hex_escape, escaped_byte, escaped}
-use Rattle.smithy_json.specs.Unescape.{with_front, code_unit, unescape}
-use Rattle.smithy_json.specs.Private.Chars.{is_plain}
-use Rattle.smithy_json.specs.declared.escape_error.EscapeError.TheVariants.{InvalidUnicodeEscape}
-use Rattle.smithy_json.proofs.UnescapeLemmas.{digits_alone}
-use Rattle.smithy_json.proofs.StringLemmas.{run_stops}
+use Rattle.smithy_json_grammar.specs.Unescape.{with_front, code_unit, unescape}
+use Rattle.smithy_json_grammar.specs.Private.Chars.{is_plain}
+use Rattle.smithy_json_grammar.specs.declared.escape_error.EscapeError.TheVariants.{InvalidUnicodeEscape}
+use Rattle.smithy_json_grammar.proofs.UnescapeLemmas.{digits_alone}
+use Rattle.smithy_json_grammar.proofs.StringLemmas.{run_stops}
 
 -- ---- one byte
 

@@ -5,7 +5,7 @@ use Rattle.std.proofs.Math.Seq.{take-append_seam, take-append-add}
 use Rattle.std.specs.List.{prefix_len, slice_index}
 use Rattle.smithy_json.specs.Appending.{AddsFront}
 use Rattle.smithy_json.specs.Escape.{escaped, escaped_byte}
-use Rattle.smithy_json.specs.Private.Chars.{is_plain}
+use Rattle.smithy_json_grammar.specs.Private.Chars.{is_plain}
 use Rattle.smithy_json.proofs.EscapeLemmas.{escaped_to_stop}
 
 module _ (text : List ℕ) (at stop : ℕ) (run : stop ≡ at + prefix_len is_plain (drop at text)) where

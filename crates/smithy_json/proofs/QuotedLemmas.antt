@@ -8,11 +8,11 @@ use Rattle.std.specs.Char.Escape.{hex_digit_at}
 use Rattle.std.specs.List.{list_all, range_with_len}
 use Rattle.std.specs.Prelude.{IsUtf8}
 use Rattle.std.specs.Result.{result_ok}
-use Rattle.smithy_json.specs.Ascii.{quotation_mark, escape, letter_u, backspace, form_feed, line_feed, carriage_return, tab, space}
+use Rattle.smithy_json_grammar.specs.Ascii.{quotation_mark, escape, letter_u, backspace, form_feed, line_feed, carriage_return, tab, space}
 use Rattle.smithy_json.specs.Escape.{hex_escape, escaped_byte, escaped, quoted}
-use Rattle.smithy_json.specs.Grammar.{IsUnescaped, IsEscape, AreChars, IsString}
-use Rattle.smithy_json.specs.Unescape.{unescaped}
-use Rattle.smithy_json.specs.Private.Chars.{is_plain}
+use Rattle.smithy_json_grammar.specs.Grammar.{IsUnescaped, IsEscape, AreChars, IsString}
+use Rattle.smithy_json_grammar.specs.Unescape.{unescaped}
+use Rattle.smithy_json_grammar.specs.Private.Chars.{is_plain}
 use Rattle.smithy_json.proofs.EscapeLemmas.{plain_byte, other_bytes, other_is_ascii, each_control, unescape_of_escaped}
 use Rattle.smithy_json.proofs.TextLemmas.{utf8_before, utf8_behind}
 

@@ -4,14 +4,14 @@ use Rattle.std.proofs.lemmas.Str.{IsUtf8-from_is_utf8}
 use Rattle.std.specs.Char.{encode_utf8}
 use Rattle.std.specs.Str.{is_utf8, chars}
 use Rattle.smithy_json.specs.Escape.{escaped, quoted}
-use Rattle.smithy_json.specs.Grammar.{IsInt, IsFrac, IsNumber, IsUnescaped, AreChars, IsStringText, IsValue, IsJsonText, IsBoundary}
-use Rattle.smithy_json.specs.Number.{whole_number, signed_number, integral_number}
-use Rattle.smithy_json.specs.NumberGrammar.{standard_numbers}
-use Rattle.smithy_json.specs.NumberText.{is_number, is_number_of}
-use Rattle.smithy_json.specs.declared.number_grammar.NumberGrammar.{NumberGrammar}
-use Rattle.smithy_json.specs.Tree.{null, boolean, number, string, array, object, no_elements, element, no_members, member, nesting}
-use Rattle.smithy_json.specs.Unescape.{code_unit, unescape}
-use Rattle.smithy_json.specs.declared.escape_error.EscapeError.TheVariants.{UnexpectedEndOfString, InvalidEscapeCharacter, InvalidUnicodeEscape, ExpectedSurrogatePair, InvalidSurrogatePair}
+use Rattle.smithy_json_grammar.specs.Grammar.{IsInt, IsFrac, IsNumber, IsUnescaped, AreChars, IsStringText, IsValue, IsJsonText, IsBoundary}
+use Rattle.smithy_json_grammar.specs.Number.{whole_number, signed_number, integral_number}
+use Rattle.smithy_json_grammar.specs.NumberGrammar.{standard_numbers}
+use Rattle.smithy_json_grammar.specs.NumberText.{is_number, is_number_of}
+use Rattle.smithy_json_grammar.specs.declared.number_grammar.NumberGrammar.{NumberGrammar}
+use Rattle.smithy_json_grammar.specs.Tree.{null, boolean, number, string, array, object, no_elements, element, no_members, member, nesting}
+use Rattle.smithy_json_grammar.specs.Unescape.{code_unit, unescape}
+use Rattle.smithy_json_grammar.specs.declared.escape_error.EscapeError.TheVariants.{UnexpectedEndOfString, InvalidEscapeCharacter, InvalidUnicodeEscape, ExpectedSurrogatePair, InvalidSurrogatePair}
 
 -- ---- strings
 

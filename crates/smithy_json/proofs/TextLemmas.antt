@@ -8,10 +8,10 @@ use Rattle.std.specs.Char.Utf16.{is_high_surrogate, is_low_surrogate, surrogate_
 use Rattle.std.specs.List.{list_all}
 use Rattle.std.specs.Prelude.{encode_utf8, IsUtf8}
 use Rattle.std.specs.Result.{result_ok}
-use Rattle.smithy_json.specs.Ascii.{escape, letter_u, is_short_escape}
-use Rattle.smithy_json.specs.Unescape.{with_front, short_escape, code_unit, digits_fault, unescape, unescape_letter, unescape_digits, unescape_low, unescaped}
-use Rattle.smithy_json.specs.declared.escape_error.EscapeError.{EscapeError}
-use Rattle.smithy_json.specs.declared.escape_error.EscapeError.TheVariants.{UnexpectedEndOfString, InvalidEscapeCharacter, InvalidUnicodeEscape, ExpectedSurrogatePair, InvalidSurrogatePair}
+use Rattle.smithy_json_grammar.specs.Ascii.{escape, letter_u, is_short_escape}
+use Rattle.smithy_json_grammar.specs.Unescape.{with_front, short_escape, code_unit, digits_fault, unescape, unescape_letter, unescape_digits, unescape_low, unescaped}
+use Rattle.smithy_json_grammar.specs.declared.escape_error.EscapeError.{EscapeError}
+use Rattle.smithy_json_grammar.specs.declared.escape_error.EscapeError.TheVariants.{UnexpectedEndOfString, InvalidEscapeCharacter, InvalidUnicodeEscape, ExpectedSurrogatePair, InvalidSurrogatePair}
 
 -- ---- texts around an ASCII byte
 

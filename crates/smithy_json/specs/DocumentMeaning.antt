@@ -2,9 +2,9 @@
 use Rattle.std.specs.Prelude.{ℕ, suc, nat_le, List, [], Option, Some, None, option_map, option_and_then, if◌then◌else◌}
 use Rattle.smithy_types.specs.Document.{Document, null, boolean, number, text, array, object, Documents, no_documents, item, properties_by, with_pair}
 use Rattle.smithy_types.specs.declared.number.Number.{Number}
-use Rattle.smithy_json.specs.Tree.{Json, Elements, no_elements, element, Members, no_members, member}
-use Rattle.smithy_json.specs.HeldNumber.{number_of}
-use Rattle.smithy_json.specs.Unescape.{unescaped}
+use Rattle.smithy_json_grammar.specs.Tree.{Json, Elements, no_elements, element, Members, no_members, member}
+use Rattle.smithy_json_grammar.specs.HeldNumber.{number_of}
+use Rattle.smithy_json_grammar.specs.Unescape.{unescaped}
 
 -- what means something at a depth, where that is at most the greatest
 abbrev pub at_depth : {A : Type 0} → Option ℕ → ℕ → Option A → Option A

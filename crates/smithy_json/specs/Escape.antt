@@ -2,7 +2,7 @@
 use Rattle.std.specs.Prelude.{ℕ, List, [], ◌∷◌, ◌++◌, nat_lt, ◌==◌, ◌||◌, if◌then◌else◌, codes}
 use Rattle.std.specs.List.{flat_map}
 use Rattle.std.specs.Char.Escape.{hex_digit_at}
-use Rattle.smithy_json.specs.Ascii.{quotation_mark, escape, letter_b, letter_f, letter_n, letter_r, letter_t, backspace, tab, line_feed, form_feed, carriage_return, space}
+use Rattle.smithy_json_grammar.specs.Ascii.{quotation_mark, escape, letter_b, letter_f, letter_n, letter_r, letter_t, backspace, tab, line_feed, form_feed, carriage_return, space}
 
 -- `\u` and four lower-case hexadecimal digits, the first two of them 0
 abbrev pub hex_escape : ℕ → List ℕ

@@ -1,22 +1,10 @@
 -- to be believed, in this order
-pub mod Ascii
-pub mod Tree
-pub mod Grammar
-pub mod Number
-pub mod NumberGrammar
-pub mod HeldNumber
-pub mod Unescape
 pub mod Escape
 pub mod ValueTexts
 pub mod DocumentMeaning
 pub mod DocumentText
-pub mod StringText
-pub mod Stops
-pub mod Standing
 -- what contracts see of a type
-pub mod EscapedText
 pub mod Appending
-pub mod NumberText
 pub mod Writer
 -- for private clauses
 pub mod Private

@@ -1,6 +1,1 @@
-pub mod Literal
-pub mod Chars
-pub mod Numeral
-pub mod AllowedNumeral
-pub mod Unescaping
 pub mod Place

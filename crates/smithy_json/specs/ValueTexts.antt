@@ -1,7 +1,7 @@
 -- Names, numbers and instants as they stand in JSON.
 use Rattle.std.specs.Prelude.{ℕ, List, [], ◌∷◌, ◌++◌}
 use Rattle.std.specs.Fmt.{decimal, signed_decimal}
-use Rattle.smithy_json.specs.Ascii.{name_separator}
+use Rattle.smithy_json_grammar.specs.Ascii.{name_separator}
 use Rattle.smithy_json.specs.Escape.{quoted}
 use Rattle.smithy_types.specs.declared.number.Number.{Number}
 use Rattle.smithy_types.specs.declared.number.Number.TheVariants.{PosInt, NegInt}

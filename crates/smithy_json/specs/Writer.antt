@@ -6,7 +6,7 @@ use Rattle.std.specs.declared.alloc.Global.{Global}
 use Rattle.std.specs.contracts.string.String as text
 use Rattle.std.specs.contracts.alloc.Global as global
 use Rattle.std.specs.contracts.impls.GlobalAllocator.TheImpl.{ghosts}
-use Rattle.smithy_json.specs.Ascii.{value_separator}
+use Rattle.smithy_json_grammar.specs.Ascii.{value_separator}
 use Rattle.smithy_json.specs.declared.writer.JsonValueWriter.{JsonValueWriter}
 use Rattle.smithy_json.specs.declared.writer.JsonArrayWriter.{JsonArrayWriter}
 use Rattle.smithy_json.specs.declared.writer.JsonObjectWriter.{JsonObjectWriter}

@@ -5,10 +5,10 @@ ghost use Rattle.std.specs.Cow.{cow_str_bytes, IsBorrowedStr};
 ghost use Rattle.std.specs.List.{prefix_len};
 ghost use Rattle.smithy_json.specs.Escape.{escaped_byte, escaped, hex_escape};
 ghost use Rattle.smithy_json.specs.Appending.{AddsFront};
-ghost use Rattle.smithy_json.specs.Private.Chars.{is_plain};
-ghost use Rattle.smithy_json.specs.Unescape.{unescape};
+ghost use Rattle.smithy_json_grammar.specs.Private.Chars.{is_plain};
+ghost use Rattle.smithy_json_grammar.specs.Unescape.{unescape};
 
-use crate::scan;
+use smithy_json_grammar::scan;
 use smithy_texts::AppendText;
 use std::alloc::{AllocError, Global};
 use std::borrow::CowStr;

@@ -2,9 +2,9 @@
 
 ghost use Rattle.std.specs.Prelude.{◌≡◌, ◌++◌, ◌∷◌, [], length, take, codes, string_bytes, string_len, OnOk, OnErr, IfOk, Ok};
 ghost use Rattle.std.specs.Borrow.{sem};
-ghost use Rattle.smithy_json.specs.Ascii.{quotation_mark};
+ghost use Rattle.smithy_json_grammar.specs.Ascii.{quotation_mark};
 ghost use Rattle.smithy_json.specs.Escape.{escaped, quoted};
-ghost use Rattle.smithy_json.specs.Unescape.{unescape};
+ghost use Rattle.smithy_json_grammar.specs.Unescape.{unescape};
 ghost use Rattle.smithy_types.specs.PrimitiveText.{boolean_text};
 ghost use Rattle.smithy_json.specs.ValueTexts.{name_text};
 ghost use Rattle.smithy_json.specs.Writer.{separator, value_text, value_borrow, array_text, array_start, array_borrow, object_text, object_start, object_borrow, RestsWithoutArray, RestsWithoutObject, ValueRestsWithoutArray, ValueRestsWithoutObject, LendsArrayText, LendsObjectText, LendsElement, LendsMember};

@@ -7,11 +7,12 @@ use Rattle.std.specs.declared.alloc.AllocError.{AllocError}
 use Rattle.smithy_schema.specs.declared.error.SerdeError.{SerdeError}
 use Rattle.smithy_schema.specs.declared.error.SerdeError.TheVariants.{Failed}
 use Rattle.smithy_schema.specs.declared.error.SerdeError.TheVariants as errors
-use Rattle.smithy_shapes.specs.declared.place.Place.{Place}
-use Rattle.smithy_shapes.specs.Table.{Table, kind_of, IsList, IsMap, IsStructure}
-use Rattle.smithy_schema.specs.Reading.{Cursor, Frame, depth, in_structure, Enters, Steps, Conducts, OpensNot, SkipsNot, CannotGoOn, IsFault, IsInvalid, IsOfReader, RefusesNoKind, failed_at, in_list, in_map}
-use Rattle.smithy_json.specs.Ascii.{end_array, end_object}
-use Rattle.smithy_json.specs.Unescape.{unescaped}
+use Rattle.smithy_declarations.specs.declared.place.Place.{Place}
+use Rattle.smithy_declarations.specs.Table.{Table, kind_of, IsList, IsMap, IsStructure}
+use Rattle.smithy_schema.specs.Errors.{IsFault, IsInvalid, IsOfReader, RefusesNoKind}
+use Rattle.smithy_schema.specs.Reading.{Cursor, Frame, depth, in_structure, Enters, Steps, Conducts, OpensNot, SkipsNot, CannotGoOn, failed_at, in_list, in_map}
+use Rattle.smithy_json_grammar.specs.Ascii.{end_array, end_object}
+use Rattle.smithy_json_grammar.specs.Unescape.{unescaped}
 use Rattle.smithy_json_codec.specs.declared.members.EntryFault.{EntryFault}
 use Rattle.smithy_json_codec.specs.declared.members.EntryFault.TheVariants as entry_faults
 use Rattle.smithy_json_values.specs.declared.skip.SkipFault.{SkipFault}

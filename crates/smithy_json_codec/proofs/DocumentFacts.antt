@@ -4,12 +4,12 @@ use Rattle.std.specs.Option.{option_map_or}
 use Rattle.smithy_types.specs.Document as documents
 use Rattle.smithy_types.specs.Document.{no_documents, item, no_properties, property}
 use Rattle.smithy_types.specs.declared.number.Number.TheVariants.{PosInt, NegInt}
-use Rattle.smithy_shapes.specs.Table as table
-use Rattle.smithy_shapes.specs.Table.{Table, document_place}
-use Rattle.smithy_shapes.specs.Value as values
-use Rattle.smithy_shapes.specs.Value.{Value, document_value, no_values, no_map_entries}
-use Rattle.smithy_json.specs.Tree.{null, boolean, number, string, array, object, no_elements, no_members, member}
-use Rattle.smithy_json.specs.Unescape.{code_unit}
+use Rattle.smithy_declarations.specs.Table as table
+use Rattle.smithy_declarations.specs.Table.{Table, document_place}
+use Rattle.smithy_declarations.specs.Value as values
+use Rattle.smithy_declarations.specs.Value.{Value, document_value, no_values, no_map_entries}
+use Rattle.smithy_json_grammar.specs.Tree.{null, boolean, number, string, array, object, no_elements, no_members, member}
+use Rattle.smithy_json_grammar.specs.Unescape.{code_unit}
 use Rattle.smithy_wire.specs.Rules.{means, no_meaning, uncarried}
 use Rattle.smithy_json_values.specs.Scalar.{a_boolean, a_number, a_string, document_says}
 use Rattle.smithy_json_codec.proofs.Examples.{plain_member, named, long_place, list_shape, alone, both, in_arrays, empty_structure, first_alone, means_at, would_mean_at}

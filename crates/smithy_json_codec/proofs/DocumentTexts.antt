@@ -5,7 +5,7 @@ use Rattle.smithy_types.specs.Document.{Document, null, boolean, number, text, a
 use Rattle.smithy_types.specs.Number.{whole_number}
 use Rattle.smithy_types.specs.declared.number.Number.{Number}
 use Rattle.smithy_types.specs.declared.number.Number.TheVariants.{PosInt, NegInt}
-use Rattle.smithy_json.specs.Ascii.{begin_array, end_array, begin_object, end_object}
+use Rattle.smithy_json_grammar.specs.Ascii.{begin_array, end_array, begin_object, end_object}
 use Rattle.smithy_json.specs.DocumentText.{comma, elements_text_by, properties_text_by}
 use Rattle.smithy_json.specs.DocumentText as json
 use Rattle.smithy_json.specs.ValueTexts.{number_text}

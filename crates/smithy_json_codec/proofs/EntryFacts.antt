@@ -1,12 +1,12 @@
 -- What JSON objects mean as unions and as maps, and the canonical texts of these, by computing.
 use Rattle.std.proofs.Common.{◌≡◌, [], ◌∷◌, map, Bool, true, false, Some, None, refl, pos, codes}
 use Rattle.std.specs.Fmt.{digits}
-use Rattle.smithy_shapes.specs.Table as table
-use Rattle.smithy_shapes.specs.Table.{Table}
-use Rattle.smithy_shapes.specs.Value as values
-use Rattle.smithy_shapes.specs.Value.{null_element, no_map_entries, map_entry}
-use Rattle.smithy_json.specs.Unescape.{code_unit}
-use Rattle.smithy_json.specs.Tree.{null, number, string, array, object, no_elements, no_members, member}
+use Rattle.smithy_declarations.specs.Table as table
+use Rattle.smithy_declarations.specs.Table.{Table}
+use Rattle.smithy_declarations.specs.Value as values
+use Rattle.smithy_declarations.specs.Value.{null_element, no_map_entries, map_entry}
+use Rattle.smithy_json_grammar.specs.Unescape.{code_unit}
+use Rattle.smithy_json_grammar.specs.Tree.{null, number, string, array, object, no_elements, no_members, member}
 use Rattle.smithy_json_codec.proofs.Examples.{whole_value, text_value, long_place, string_place, plain_member, named, one_long, alone, both, in_arrays, empty_structure, means_at, would_mean_at, written, rewritten}
 
 -- union U / member a long / member b string

@@ -1,13 +1,13 @@
 -- The tables of the examples, trees that are built, and what an example says.
 use Rattle.std.proofs.Common.{ℕ, suc, ℤ, List, [], ◌∷◌, Bool, true, false, Option, Some, None, option_map, codes}
-use Rattle.smithy_shapes.specs.declared.place.Place.{Place}
-use Rattle.smithy_shapes.specs.declared.shape_type.Scalar.TheVariants as scalars
-use Rattle.smithy_shapes.specs.Table as table
-use Rattle.smithy_shapes.specs.Table.{Table, Member, Shape, Declaration, scalar_place, shape_place}
+use Rattle.smithy_declarations.specs.declared.place.Place.{Place}
+use Rattle.smithy_declarations.specs.declared.shape_type.Scalar.TheVariants as scalars
+use Rattle.smithy_declarations.specs.Table as table
+use Rattle.smithy_declarations.specs.Table.{Table, Member, Shape, Declaration, scalar_place, shape_place}
 use Rattle.smithy_shapes.specs.Site.{shape_site}
-use Rattle.smithy_shapes.specs.Value as values
-use Rattle.smithy_shapes.specs.Value.{whole, text, Value, scalar_value, no_values, no_member_values, member_value}
-use Rattle.smithy_json.specs.Tree.{Json, array, object, no_elements, element, no_members, member}
+use Rattle.smithy_declarations.specs.Value as values
+use Rattle.smithy_declarations.specs.Value.{whole, text, Value, scalar_value, no_values, no_member_values, member_value}
+use Rattle.smithy_json_grammar.specs.Tree.{Json, array, object, no_elements, element, no_members, member}
 use Rattle.smithy_json_values.specs.Codec.{strict_settings}
 use Rattle.smithy_json_values.specs.Settings.{Settings, without_limits}
 use Rattle.smithy_json_values.specs.Meaning.{json_meaning}

@@ -2,18 +2,18 @@
 use Rattle.std.proofs.Common.{◌≡◌, ℤ, [], ◌∷◌, map, true, false, Option, Some, None, Err, refl, pos, neg_ℤ, codes}
 use Rattle.std.specs.Char.{encode_utf8}
 use Rattle.smithy_schema.specs.declared.error.SerdeError.TheVariants.{Unwritable}
-use Rattle.smithy_shapes.specs.declared.shape_type.Scalar.TheVariants as scalars
-use Rattle.smithy_shapes.specs.declared.shape_type.TimestampFormat.{TimestampFormat}
-use Rattle.smithy_shapes.specs.declared.shape_type.TimestampFormat.TheVariants.{EpochSeconds, DateTime, HttpDate}
+use Rattle.smithy_declarations.specs.declared.shape_type.Scalar.TheVariants as scalars
+use Rattle.smithy_declarations.specs.declared.shape_type.TimestampFormat.{TimestampFormat}
+use Rattle.smithy_declarations.specs.declared.shape_type.TimestampFormat.TheVariants.{EpochSeconds, DateTime, HttpDate}
 use Rattle.smithy_shapes.specs.Site.{shape_site, member_of}
-use Rattle.smithy_shapes.specs.Table as table
-use Rattle.smithy_shapes.specs.Table.{Table, scalar_place, shape_place}
-use Rattle.smithy_shapes.specs.Value.{instant, Value, scalar_value, null_element}
+use Rattle.smithy_declarations.specs.Table as table
+use Rattle.smithy_declarations.specs.Table.{Table, scalar_place, shape_place}
+use Rattle.smithy_declarations.specs.Value.{instant, Value, scalar_value, null_element}
 use Rattle.smithy_schema.specs.Writing.{scalar_of}
 use Rattle.smithy_instants.specs.declared.format.Format.TheVariants as formats
 use Rattle.smithy_instants.proofs.OnLiterals.{smithy_instants_on_literals}
-use Rattle.smithy_json.specs.Tree.{Json, number, string}
-use Rattle.smithy_json.specs.Unescape.{code_unit}
+use Rattle.smithy_json_grammar.specs.Tree.{Json, number, string}
+use Rattle.smithy_json_grammar.specs.Unescape.{code_unit}
 use Rattle.smithy_wire.specs.Rules.{means, no_meaning, uncarried}
 use Rattle.smithy_json_values.specs.Scalar.{a_boolean, a_number, a_string, says}
 use Rattle.smithy_json_values.specs.Meaning.{json_meaning}

@@ -15,16 +15,16 @@ use Rattle.smithy_instants.specs.WrittenDate.{fraction_digits, fraction_text, ep
 use Rattle.smithy_instants.proofs.EpochRoundTrip.{wide_seconds, epoch_text_reads}
 use Rattle.smithy_instants.proofs.FractionTexts.{fraction_is}
 use Rattle.smithy_instants.proofs.ReadBack.{written_reads}
-use Rattle.smithy_shapes.specs.declared.shape_type.TimestampFormat.{TimestampFormat}
-use Rattle.smithy_shapes.specs.declared.shape_type.TimestampFormat.TheVariants.{EpochSeconds, DateTime, HttpDate}
-use Rattle.smithy_shapes.specs.TimeForms.{format_of, form_holds}
-use Rattle.smithy_shapes.specs.Value.{instant, scalar_value}
+use Rattle.smithy_declarations.specs.declared.shape_type.TimestampFormat.{TimestampFormat}
+use Rattle.smithy_declarations.specs.declared.shape_type.TimestampFormat.TheVariants.{EpochSeconds, DateTime, HttpDate}
+use Rattle.smithy_declarations.specs.TimeForms.{format_of, form_holds}
+use Rattle.smithy_declarations.specs.Value.{instant, scalar_value}
 use Rattle.smithy_shapes.proofs.InstantTexts.{instant_text_is_utf8}
 use Rattle.smithy_shapes.proofs.TimeFormLemmas.{held_writes}
-use Rattle.smithy_json.specs.Ascii.{minus_sign}
+use Rattle.smithy_json_grammar.specs.Ascii.{minus_sign}
 use Rattle.smithy_json.specs.Escape.{escaped}
-use Rattle.smithy_json.specs.Unescape.{unescaped}
-use Rattle.smithy_json.specs.Grammar.{IsFrac, IsInt, IsNumber, IsValue}
+use Rattle.smithy_json_grammar.specs.Unescape.{unescaped}
+use Rattle.smithy_json_grammar.specs.Grammar.{IsFrac, IsInt, IsNumber, IsValue}
 use Rattle.smithy_json.proofs.DecimalLemmas.{decimal_is_int}
 use Rattle.smithy_json.proofs.QuotedLemmas.{quoted_is_string, unescaped_of_escaped}
 use Rattle.smithy_json_values.specs.Settings.{Settings}

@@ -3,10 +3,10 @@ use Rattle.std.proofs.Common.{◌≡◌, ℕ, ℤ, List, [], Option, Some, Resul
 use Rattle.std.specs.Prelude.{is_some, unwrap_or, OnOk}
 use Rattle.smithy_schema.specs.declared.error.SerdeError.{SerdeError}
 use Rattle.smithy_schema.specs.declared.error.SerdeError.TheVariants.{Unwritable}
-use Rattle.smithy_shapes.specs.declared.shape_type.TimestampFormat.{TimestampFormat}
+use Rattle.smithy_declarations.specs.declared.shape_type.TimestampFormat.{TimestampFormat}
 use Rattle.smithy_shapes.specs.Site.{Site}
-use Rattle.smithy_shapes.specs.TimeForms.{format_of}
-use Rattle.smithy_shapes.specs.Value.{instant}
+use Rattle.smithy_declarations.specs.TimeForms.{format_of}
+use Rattle.smithy_declarations.specs.Value.{instant}
 use Rattle.smithy_schema.specs.Writing.{scalar_of, after_value}
 use Rattle.smithy_instants.specs.WrittenDate.{date_text}
 use Rattle.smithy_json_codec.specs.Canonical.{in_form}

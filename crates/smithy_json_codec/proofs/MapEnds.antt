@@ -1,9 +1,9 @@
 -- A map that ends in its bracket is left.
 use Rattle.std.proofs.Common.{◌≡◌, ℕ, List, ◌∷◌, drop, false, refl, subst, ◌∙◌, inl}
-use Rattle.smithy_shapes.specs.declared.place.Place.{Place}
-use Rattle.smithy_shapes.specs.Table.{Table, kind_of, IsMap}
+use Rattle.smithy_declarations.specs.declared.place.Place.{Place}
+use Rattle.smithy_declarations.specs.Table.{Table, kind_of, IsMap}
 use Rattle.smithy_schema.specs.Reading.{Cursor, Mark, Leaves, depth}
-use Rattle.smithy_json.specs.Ascii.{end_object}
+use Rattle.smithy_json_grammar.specs.Ascii.{end_object}
 use Rattle.smithy_json_values.specs.Settings.{Settings}
 use Rattle.smithy_json_values.specs.Standing.{Lies, IsByte, json_grammar, json_relations}
 use Rattle.smithy_json_values.specs.Tokens.{BoundaryBy, EndsInside}

@@ -2,10 +2,10 @@
 -- examples of the protocol pages.
 use Rattle.std.proofs.Common.{◌≡◌, [], ◌∷◌, map, true, false, Some, None, refl, pos, codes}
 use Rattle.std.specs.Char.{encode_utf8}
-use Rattle.smithy_shapes.specs.Value as values
-use Rattle.smithy_shapes.specs.Value.{null_element, no_values, no_member_values, member_value}
-use Rattle.smithy_json.specs.Unescape.{code_unit}
-use Rattle.smithy_json.specs.Tree.{null, boolean, number, string, array, object, no_elements, element, no_members, member, nesting}
+use Rattle.smithy_declarations.specs.Value as values
+use Rattle.smithy_declarations.specs.Value.{null_element, no_values, no_member_values, member_value}
+use Rattle.smithy_json_grammar.specs.Unescape.{code_unit}
+use Rattle.smithy_json_grammar.specs.Tree.{null, boolean, number, string, array, object, no_elements, element, no_members, member, nesting}
 use Rattle.smithy_json_codec.proofs.Examples.{whole_value, text_value, one_long, long_renamed, names_swapped, lists_of_lists, lists_of_strings, nodes, alone, both, in_arrays, in_objects, in_lists, empty_structure, first_alone, means_at, means_by_json_name, would_mean_at, means_within}
 
 -- ---- members of a structure

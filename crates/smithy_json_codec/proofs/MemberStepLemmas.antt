@@ -4,18 +4,18 @@ use Rattle.std.proofs.lemmas.Bool.Decides.{nat_tests}
 use Rattle.std.specs.Prelude.{◌↔◌, ◌&&◌, ◌||◌, not, is_none, IsTrue, Option, option_and_then, option_map, slice_get, cond, nat_lt}
 use Rattle.std.specs.List.{position_or_len}
 use Rattle.std.specs.Option.{option_map_or}
-use Rattle.smithy_shapes.specs.declared.place.Place.{Place}
-use Rattle.smithy_shapes.specs.declared.place.Target.{Target}
-use Rattle.smithy_shapes.specs.declared.place.Target.TheVariants.{Simple, Document, Declared}
-use Rattle.smithy_schema.specs.declared.read.Step.{Step}
-use Rattle.smithy_schema.specs.declared.read.Step.TheVariants.{Member as ToMember, Unknown, End}
+use Rattle.smithy_declarations.specs.declared.place.Place.{Place}
+use Rattle.smithy_declarations.specs.declared.place.Target.{Target}
+use Rattle.smithy_declarations.specs.declared.place.Target.TheVariants.{Simple, Document, Declared}
+use Rattle.smithy_schema.specs.declared.step.Step.{Step}
+use Rattle.smithy_schema.specs.declared.step.Step.TheVariants.{Member as ToMember, Unknown, End}
 use Rattle.smithy_shapes.specs.declared.schema.Schema.{Schema}
-use Rattle.smithy_shapes.specs.Table.{Table, Member, Kind, structure_of, union_of, members_of, member_place, kind_of, kind_of_target, is_document_target, is_document_place, IsDocument, IsStructure, HasMembers}
+use Rattle.smithy_declarations.specs.Table.{Table, Member, Kind, structure_of, union_of, members_of, member_place, kind_of, kind_of_target, is_document_target, is_document_place, IsDocument, IsStructure, HasMembers}
 use Rattle.smithy_shapes.specs.Lemmas.Kinds.{document_place_is}
 use Rattle.smithy_shapes.specs.Lemmas.Options.{made}
 use Rattle.smithy_shapes.specs.Site.{Site, site_of, member_site, kind_at, site_of_member}
 use Rattle.smithy_schema.specs.Reading.{Cursor, depth, Steps, Leaves, MatchStep, CannotGoOn, passed_to, in_structure}
-use Rattle.smithy_json.specs.Unescape.{unescaped}
+use Rattle.smithy_json_grammar.specs.Unescape.{unescaped}
 use Rattle.smithy_json_codec.specs.Cursor.{inside_of}
 use Rattle.smithy_wire.specs.Walking.{gone_on_to}
 use Rattle.smithy_json_values.specs.Settings.{Settings, kept, without_limits, is_shallow}

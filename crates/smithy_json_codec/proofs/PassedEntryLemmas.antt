@@ -6,7 +6,7 @@ use Rattle.smithy_json_codec.specs.declared.members.Next.{Next}
 use Rattle.smithy_json_codec.specs.declared.members.Next.TheVariants.{Member, End}
 use Rattle.smithy_json_values.specs.declared.skip.SkipFault.{SkipFault}
 use Rattle.smithy_json_values.specs.declared.skip.SkipFault.TheVariants as skip_faults
-use Rattle.smithy_json.specs.Unescape.{unescaped}
+use Rattle.smithy_json_grammar.specs.Unescape.{unescaped}
 use Rattle.smithy_json_values.specs.Deepest.{OpensTooDeep}
 use Rattle.smithy_json_values.specs.Openers.{json_openers}
 use Rattle.smithy_json_values.specs.LexicalGrammar.{LexicalGrammar, is_skipped_in, frames_of}

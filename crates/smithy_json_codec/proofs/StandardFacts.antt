@@ -1,8 +1,8 @@
 -- What numbers and strings of RFC 8259 say as whole numbers and texts, by computing.
 use Rattle.std.proofs.Common.{◌≡◌, [], ◌∷◌, map, true, false, Some, None, refl, pos, neg_ℤ, ◌^◌, ◌-◌, codes}
 use Rattle.std.specs.Char.{encode_utf8}
-use Rattle.smithy_json.specs.Unescape.{code_unit}
-use Rattle.smithy_json.specs.Tree.{null, boolean, number, string, object, no_members}
+use Rattle.smithy_json_grammar.specs.Unescape.{code_unit}
+use Rattle.smithy_json_grammar.specs.Tree.{null, boolean, number, string, object, no_members}
 use Rattle.smithy_json_values.specs.Meaning.{json_meaning}
 use Rattle.smithy_json_codec.proofs.Examples.{whole_value, text_value, one_long, one_string, long_place, string_place, alone, in_arrays, first_alone, strict, means_at, would_mean_at}
 

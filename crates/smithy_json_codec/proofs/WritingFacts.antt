@@ -3,10 +3,10 @@ use Rattle.std.proofs.Common.{◌≡◌, [], ◌∷◌, ◌++◌, map, true, fal
 use Rattle.std.specs.Fmt.{digits}
 use Rattle.smithy_types.specs.Document as documents
 use Rattle.smithy_types.specs.Document.{no_documents, item, no_properties, property}
-use Rattle.smithy_shapes.specs.Value as values
-use Rattle.smithy_shapes.specs.Value.{null_element, no_values}
-use Rattle.smithy_json.specs.Ascii.{begin_array, end_array}
-use Rattle.smithy_json.specs.Tree.{number, string, array, object, no_elements, element, no_members, member}
+use Rattle.smithy_declarations.specs.Value as values
+use Rattle.smithy_declarations.specs.Value.{null_element, no_values}
+use Rattle.smithy_json_grammar.specs.Ascii.{begin_array, end_array}
+use Rattle.smithy_json_grammar.specs.Tree.{number, string, array, object, no_elements, element, no_members, member}
 use Rattle.smithy_json_codec.proofs.Examples.{whole_value, text_value, one_long, long_renamed, one_string, three_members, lists_of_lists, nodes, alone, both, in_lists, empty_structure, first_alone, written, rewritten, rewritten_by}
 
 -- {"i":["x","y"],"s":"é","a":-0}: members in the table's order, whatever order they came in

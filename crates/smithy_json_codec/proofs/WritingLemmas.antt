@@ -7,10 +7,10 @@ use Rattle.smithy_schema.specs.declared.error.SerdeError.{SerdeError}
 use Rattle.smithy_schema.specs.declared.error.SerdeError.TheVariants.{Unwritable}
 use Rattle.smithy_shapes.specs.ScalarTest.{scalars_pass, elements_pass, entries_pass, members_pass}
 use Rattle.smithy_shapes.specs.Site.{Site, element_of, key_of, value_of, member_of}
-use Rattle.smithy_shapes.specs.Value.{ScalarValue, text, text_in, Value, scalar_value, list, map, structure, union, null_element, document_value, Values, no_values, value, MapEntries, no_map_entries, map_entry, MemberValues, no_member_values, member_value}
+use Rattle.smithy_declarations.specs.Value.{ScalarValue, text, text_in, Value, scalar_value, list, map, structure, union, null_element, document_value, Values, no_values, value, MapEntries, no_map_entries, map_entry, MemberValues, no_member_values, member_value}
 use Rattle.smithy_schema.specs.Writing.{Event, run, write, and_run, events, element_events, entry_events, member_events, scalar_of, end_list, end_map, end_structure, after_value, after_text, after_begin, Open, open_structure, open_list, open_map_at_key, open_map_at_value}
 use Rattle.smithy_schema.proofs.WritingLemmas.{child_written}
-use Rattle.smithy_json.specs.Ascii.{value_separator, begin_array, end_array, begin_object, end_object}
+use Rattle.smithy_json_grammar.specs.Ascii.{value_separator, begin_array, end_array, begin_object, end_object}
 use Rattle.smithy_json_codec.specs.Canonical.{scalar_text, document_text, can_write, name_text, key_text, canonical_json, more_elements, more_entries, more_members}
 use Rattle.smithy_json_values.specs.Settings.{Settings}
 use Rattle.smithy_json_codec.specs.Writing.{JsonState, lead, form_at, is_key_due, key_wrote, wrote, opened, where_taken, json_after}

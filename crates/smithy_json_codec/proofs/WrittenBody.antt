@@ -1,9 +1,9 @@
 -- The canonical text of a value is the body that is written for it.
 use Rattle.std.proofs.Common.{◌≡◌, ℕ, List, [], ◌++◌, Bool, true, false, refl}
-use Rattle.smithy_shapes.specs.declared.place.Place.{Place}
-use Rattle.smithy_shapes.specs.Table.{Table}
+use Rattle.smithy_declarations.specs.declared.place.Place.{Place}
+use Rattle.smithy_declarations.specs.Table.{Table}
 use Rattle.smithy_shapes.specs.Site.{Site, View, member_of}
-use Rattle.smithy_shapes.specs.Value.{Value, Values, no_values, value, MapEntries, no_map_entries, map_entry, MemberValues, no_member_values, member_value}
+use Rattle.smithy_declarations.specs.Value.{Value, Values, no_values, value, MapEntries, no_map_entries, map_entry, MemberValues, no_member_values, member_value}
 use Rattle.smithy_shapes.specs.Fits.{Fits}
 use Rattle.smithy_shapes.proofs.SiteLemmas.{site_at}
 use Rattle.smithy_json_codec.specs.Canonical.{name_text, key_text, written_form, canonical_json, first_element, more_elements, first_entry, more_entries, first_member, more_members}

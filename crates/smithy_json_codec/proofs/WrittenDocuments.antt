@@ -1,8 +1,8 @@
 -- What JSON writes for documents: it means them, can be written, and is their canonical text.
 use Rattle.std.proofs.Common.{◌≡◌, ℕ, ℤ, pos, negsuc, List, [], ◌∷◌, ◌++◌, Bool, true, false, Some, None, refl, ap, ◌∙◌, append_assoc, arith, decimal}
 use Rattle.std.specs.Prelude.{◌||◌, if◌then◌else◌, option_map, option_and_then, IsUtf8}
-use Rattle.smithy_shapes.specs.declared.place.Place.{Place}
-use Rattle.smithy_shapes.specs.Table.{is_document_place}
+use Rattle.smithy_declarations.specs.declared.place.Place.{Place}
+use Rattle.smithy_declarations.specs.Table.{is_document_place}
 use Rattle.std.specs.Fmt.{signed_decimal}
 use Rattle.std.proofs.lemmas.Bool.Decides.{nat_tests}
 use Rattle.smithy_types.specs.Document.{Document, null, boolean, number, text, array, object, Documents, no_documents, item, Properties, no_properties, property, whole_document, is_document_number}
@@ -11,12 +11,12 @@ use Rattle.smithy_types.specs.declared.number.Number.{Number}
 use Rattle.smithy_types.specs.declared.number.Number.TheVariants.{PosInt, NegInt}
 use Rattle.smithy_texts.specs.Numeral.{begins_with}
 use Rattle.smithy_texts.specs.Ranges.{fits_signed}
-use Rattle.smithy_shapes.specs.declared.shape_type.Scalar.TheVariants as scalars
-use Rattle.smithy_shapes.specs.Value as values
-use Rattle.smithy_json.specs.Ascii.{minus_sign, begin_array, end_array, begin_object, end_object}
+use Rattle.smithy_declarations.specs.declared.shape_type.Scalar.TheVariants as scalars
+use Rattle.smithy_declarations.specs.Value as values
+use Rattle.smithy_json_grammar.specs.Ascii.{minus_sign, begin_array, end_array, begin_object, end_object}
 use Rattle.smithy_json.specs.DocumentText.{elements_text_by, properties_text_by}
 use Rattle.smithy_json.specs.Escape.{escaped}
-use Rattle.smithy_json.specs.HeldNumber.{held_as, number_of}
+use Rattle.smithy_json_grammar.specs.HeldNumber.{held_as, number_of}
 use Rattle.smithy_json.proofs.DecimalLemmas.{decimal_is_number, decimal_writes}
 use Rattle.smithy_json.proofs.QuotedLemmas.{quoted_is_string, unescaped_of_escaped}
 use Rattle.smithy_json_codec.specs.Canonical.{document_text, name_text}

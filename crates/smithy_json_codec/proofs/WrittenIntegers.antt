@@ -5,14 +5,14 @@ use Rattle.std.proofs.lemmas.Bool.Decides.{nat_tests}
 use Rattle.std.proofs.lemmas.List.{append-nil}
 use Rattle.std.specs.Fmt.{signed_decimal}
 use Rattle.std.specs.Str.{byte}
-use Rattle.smithy_shapes.specs.Value.{whole, scalar_value}
+use Rattle.smithy_declarations.specs.Value.{whole, scalar_value}
 use Rattle.smithy_shapes.proofs.ScalarLemmas.{fits_more}
 use Rattle.smithy_texts.specs.Decimal.{coefficient, is_decimal, written_exponent, net_exponent}
 use Rattle.smithy_texts.specs.Numeral.{begins_with, magnitude, signed}
 use Rattle.smithy_texts.specs.Ranges.{fits_signed}
 use Rattle.smithy_texts.proofs.WrittenNumerals.{IsWrittenDecimal, written_parts}
 use Rattle.smithy_instants.specs.Epoch.{scaled}
-use Rattle.smithy_json.specs.Number.{long_number, integral_number}
+use Rattle.smithy_json_grammar.specs.Number.{long_number, integral_number}
 use Rattle.smithy_json.proofs.DecimalLemmas.{decimal_writes}
 use Rattle.smithy_json_values.specs.Scalar.{a_number, integer_of, whole_of}
 use Rattle.smithy_json_codec.specs.WireSettings.{wire_settings}

@@ -6,12 +6,12 @@ use Rattle.std.specs.List.{list_all}
 use Rattle.std.proofs.lemmas.Bool.{and_parts}
 use Rattle.std.proofs.lemmas.Bool.Decides.{nat_tests}
 use Rattle.std.specs.Fmt.{signed_decimal}
-use Rattle.smithy_shapes.specs.declared.shape_type.Scalar.{Scalar}
-use Rattle.smithy_shapes.specs.declared.shape_type.Scalar.TheVariants as scalars
-use Rattle.smithy_shapes.specs.declared.shape_type.TimestampFormat.{TimestampFormat}
-use Rattle.smithy_shapes.specs.declared.shape_type.TimestampFormat.TheVariants.{EpochSeconds, DateTime, HttpDate}
-use Rattle.smithy_shapes.specs.TimeForms.{format_of, form_or, form_holds}
-use Rattle.smithy_shapes.specs.Value.{ScalarValue, boolean, whole, text, bytes, decimal, instant, scalar_value}
+use Rattle.smithy_declarations.specs.declared.shape_type.Scalar.{Scalar}
+use Rattle.smithy_declarations.specs.declared.shape_type.Scalar.TheVariants as scalars
+use Rattle.smithy_declarations.specs.declared.shape_type.TimestampFormat.{TimestampFormat}
+use Rattle.smithy_declarations.specs.declared.shape_type.TimestampFormat.TheVariants.{EpochSeconds, DateTime, HttpDate}
+use Rattle.smithy_declarations.specs.TimeForms.{format_of, form_or, form_holds}
+use Rattle.smithy_declarations.specs.Value.{ScalarValue, boolean, whole, text, bytes, decimal, instant, scalar_value}
 use Rattle.smithy_shapes.specs.Fits.{is_of}
 use Rattle.smithy_shapes.proofs.ScalarLemmas.{fits_more, whole_fits, decimal_fits, instant_fits, text_is_utf8, blob_is_bytes}
 use Rattle.smithy_texts.specs.Base64Text.{are_bytes, blob_text}
@@ -21,8 +21,8 @@ use Rattle.smithy_texts.proofs.WrittenNumerals.{integer_form_of_written, written
 use Rattle.smithy_texts.proofs.Base64Laws.{blob_back, blob_text_is_utf8, symbols_hold}
 use Rattle.smithy_texts.proofs.OnLiterals.{smithy_texts_on_literals}
 use Rattle.smithy_json.specs.Escape.{escaped}
-use Rattle.smithy_json.specs.Unescape.{unescaped}
-use Rattle.smithy_json.specs.Private.Chars.{is_plain}
+use Rattle.smithy_json_grammar.specs.Unescape.{unescaped}
+use Rattle.smithy_json_grammar.specs.Private.Chars.{is_plain}
 use Rattle.smithy_json.proofs.EscapeLemmas.{plain_byte}
 use Rattle.smithy_json.proofs.DecimalLemmas.{decimal_is_number, decimal_text_is_number}
 use Rattle.smithy_json.proofs.QuotedLemmas.{quoted_is_string, unescaped_of_escaped}
@@ -40,7 +40,7 @@ use Rattle.smithy_json_codec.specs.WireSettings.{wire_settings}
 use Rattle.smithy_json_codec.specs.Canonical.{written_form, scalar_text, json_holds}
 use Rattle.smithy_json_codec.proofs.WrittenIntegers.{whole_means}
 use Rattle.smithy_json_codec.proofs.WrittenPlaces.{leaf_bytes, json_writes}
-use Rattle.smithy_json.specs.Grammar.{IsValue, IsString}
+use Rattle.smithy_json_grammar.specs.Grammar.{IsValue, IsString}
 use Rattle.smithy_wire.specs.Written.{Leaves, ReadsLeaves}
 use Rattle.smithy_wire.specs.Writes.{WritesLeaves}
 

@@ -3,16 +3,16 @@ use Rattle.std.specs.Prelude.{◌≡◌, ℕ, zero, suc, drop, List, [], ◌∷�
 use Rattle.std.proofs.Common.{sym, ap, ◌∙◌, arith, subst, inl, inr, append_assoc}
 use Rattle.std.proofs.lemmas.List.{append-nil}
 use Rattle.smithy_schema.specs.Reading.{Mark}
-use Rattle.smithy_json.specs.Ascii.{quotation_mark, value_separator, name_separator, begin_array, end_array, begin_object}
-use Rattle.smithy_json.specs.Tree.{null}
-use Rattle.smithy_json.specs.Grammar.{IsBoundary, IsStringText, IsValue}
+use Rattle.smithy_json_grammar.specs.Ascii.{quotation_mark, value_separator, name_separator, begin_array, end_array, begin_object}
+use Rattle.smithy_json_grammar.specs.Tree.{null}
+use Rattle.smithy_json_grammar.specs.Grammar.{IsBoundary, IsStringText, IsValue}
 use Rattle.smithy_json_values.specs.Scalar.{JsonScalar, a_boolean, a_number, a_string, tree_of}
 use Rattle.smithy_json_values.specs.Standing.{Lies, IsByte, IsSeparated, FollowsInside, fresh_mark, entry_mark, without_ws, opening, closing, json_frames}
 use Rattle.smithy_json_values.specs.Tokens.{IsNameToken}
 use Rattle.smithy_json_values.specs.Private.Lexical.{first, begins_value, Begins, value_begins, begins_plain, begins_first}
 use Rattle.smithy_json_values.specs.Private.TextParts.{follows_inside}
 use Rattle.smithy_json_values.specs.Private.BytePlaces.{past_byte}
-use Rattle.smithy_json.proofs.LenientTextLemmas.{chars_are_quoted}
+use Rattle.smithy_json_grammar.proofs.LenientTextLemmas.{chars_are_quoted}
 use Rattle.smithy_json_values.specs.Private.TokenGrammar.{tree_is_token, null_token}
 use Rattle.smithy_wire.specs.Node.{Form, as_array, as_object}
 use Rattle.smithy_wire.specs.Writes.{Writes, IsKeyOf, Stand, Follows, WritesFrames}

@@ -1,11 +1,11 @@
 -- The canonical text of a value that JSON holds spells the value, and what is spelled fits its place and is shallow.
 use Rattle.std.proofs.Common.{◌≡◌, ◌≤◌, ℕ, List, Bool, true, false, arith, subst, sym}
-use Rattle.smithy_shapes.specs.declared.place.Place.{Place}
-use Rattle.smithy_shapes.specs.Table.{Table}
+use Rattle.smithy_declarations.specs.declared.place.Place.{Place}
+use Rattle.smithy_declarations.specs.Table.{Table}
 use Rattle.smithy_shapes.specs.Accepted.{IsAccepted}
 use Rattle.smithy_shapes.specs.ScalarTest.{scalars_pass}
 use Rattle.smithy_shapes.specs.Site.{View}
-use Rattle.smithy_shapes.specs.Value.{Value, nesting}
+use Rattle.smithy_declarations.specs.Value.{Value, nesting}
 use Rattle.smithy_shapes.specs.Fits.{Fits}
 use Rattle.smithy_shapes.proofs.SiteLemmas.{site_at}
 use Rattle.smithy_json_codec.specs.Canonical.{json_holds, canonical_json}

@@ -7,7 +7,7 @@ use Rattle.smithy_types.specs.Document.{Document, Properties, properties_of, map
 use Rattle.smithy_types.specs.Identifier.{is_hash, type_name, under}
 use Rattle.smithy_types.specs.Number.{whole_number}
 use Rattle.smithy_types.specs.declared.number.Number.{Number}
-use Rattle.smithy_json.specs.Ascii.{begin_object, end_object}
+use Rattle.smithy_json_grammar.specs.Ascii.{begin_object, end_object}
 use Rattle.smithy_json.specs.DocumentText.{comma, properties_text_by}
 use Rattle.smithy_json.specs.Escape.{quoted}
 use Rattle.smithy_json_codec.specs.Canonical.{document_text, name_text}

@@ -4,9 +4,9 @@ use Rattle.std.specs.List.{before_first, after_first, prefix_len}
 use Rattle.std.specs.Str.{byte}
 use Rattle.smithy_texts.specs.Numeral.{begins_with, without_sign}
 use Rattle.smithy_texts.specs.Decimal.{is_point, coefficient}
-use Rattle.smithy_json.specs.Ascii.{minus_sign, decimal_point, digit_zero}
+use Rattle.smithy_json_grammar.specs.Ascii.{minus_sign, decimal_point, digit_zero}
 use Rattle.smithy_json.specs.Escape.{quoted}
-use Rattle.smithy_json.specs.NumberText.{is_number}
+use Rattle.smithy_json_grammar.specs.NumberText.{is_number}
 use Rattle.smithy_json_values.specs.Settings.{Settings}
 
 -- digits without zeros in front of them, and a zero where none is left

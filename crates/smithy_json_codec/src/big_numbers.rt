@@ -2,7 +2,7 @@
 ghost use Rattle.std.specs.Prelude.{◌≡◌, ◌++◌, OnOk, drop};
 ghost use Rattle.std.specs.List.{prefix_len};
 ghost use Rattle.std.specs.Prelude.{◌==◌, length, ◌≤◌};
-ghost use Rattle.smithy_json.specs.Ascii.{digit_zero};
+ghost use Rattle.smithy_json_grammar.specs.Ascii.{digit_zero};
 ghost use Rattle.smithy_json_codec.specs.WrittenNumber.{without_zeros, fraction_of, exponent_of, minus_of, normalized};
 
 use smithy_texts::decimal_text::{after_point, coefficient, point_at};

@@ -6,11 +6,11 @@ use smithy_schema::{BorrowDeserializer, Scalar, Schema, SerdeError};
 use std::alloc::Global;
 use std::borrow::{CowSlice, CowStr};
 
-impl<'a> BorrowDeserializer<'a> for JsonDeserializer<'a> {
+impl<'a> BorrowDeserializer<'a> for JsonDeserializer<'_, 'a> {
     ghost use Rattle.std.specs.Prelude.{◌≡◌, true, IfOk};
     ghost use Rattle.std.specs.Cow.{cow_str_bytes, cow_slice_items, IsOwnedSlice};
-    ghost use Rattle.smithy_shapes.specs.declared.shape_type.Scalar.TheVariants as scalars;
-    ghost use Rattle.smithy_shapes.specs.Value.{text, bytes};
+    ghost use Rattle.smithy_declarations.specs.declared.shape_type.Scalar.TheVariants as scalars;
+    ghost use Rattle.smithy_declarations.specs.Value.{text, bytes};
     ghost use Rattle.smithy_shapes.specs.Site.{site_of};
     ghost use Rattle.smithy_schema.specs.Reading.{ReadsScalar};
     ghost use Rattle.smithy_json_values.specs.Borrowed.{BorrowsText};

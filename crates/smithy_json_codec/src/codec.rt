@@ -95,8 +95,13 @@ impl JsonCodec {
         JsonSerializer::new(self.held, alloc)
     }
 
-    /// A reader of one input, of which nothing is read yet. It takes no memory.
-    pub fn create_deserializer<'a>(&'a self, alloc: Global, input: &'a [u8]) -> JsonDeserializer<'a>
+    /// A reader of one input, of which nothing is read yet. It takes no memory. What it reads borrows from the input alone, and so may
+    /// outlive the codec.
+    pub fn create_deserializer<'c, 'a>(
+        &'c self,
+        alloc: Global,
+        input: &'a [u8],
+    ) -> JsonDeserializer<'c, 'a>
         ensures settings { reader_settings_of result ≡ self.now }
         ensures fresh { cursor_of result ≡ fresh_cursor input.now }
     {
@@ -104,12 +109,12 @@ impl JsonCodec {
     }
 
     /// The same, where relative names of shapes in documents stand in this namespace, unless the settings have another.
-    pub fn create_deserializer_with_namespace<'a>(
-        &'a self,
+    pub fn create_deserializer_with_namespace<'c, 'a>(
+        &'c self,
         alloc: Global,
         input: &'a [u8],
-        namespace: Option<&'a str>,
-    ) -> JsonDeserializer<'a>
+        namespace: Option<&'c str>,
+    ) -> JsonDeserializer<'c, 'a>
         ensures settings { reader_settings_of result ≡ with_namespace (option_map (λ n. n.now) namespace.entry) self.now }
         ensures fresh { cursor_of result ≡ fresh_cursor input.now }
     {

@@ -22,21 +22,22 @@ use std::alloc::{AllocError, Global};
 
 /// A reader of one JSON text.
 #[derive(Drop)]
-pub struct JsonDeserializer<'a> {
+pub struct JsonDeserializer<'c, 'a> {
     pub(crate) walk: Walk<'a>,
     pub(crate) alloc: Global,
     pub(crate) settings: Settings,
     // The protocol that documents carry, and the namespace in which relative names of their shapes stand.
-    pub(crate) protocol_id: &'a str,
-    pub(crate) namespace: Option<&'a str>,
+    pub(crate) protocol_id: &'c str,
+    pub(crate) namespace: Option<&'c str>,
     // As many containers may be open as the settings say.
     ghost limit: { walk.max_depth ≡ settings.max_depth },
 }
 
-impl ShapeDeserializer for JsonDeserializer<'_> {
+impl ShapeDeserializer for JsonDeserializer<'_, '_> {
     ghost use Rattle.std.specs.Prelude.{◌≡◌, ◌≤◌, ℕ, Some, true, false, refl, IfOk, IsOk, OnOk, IsErr, IsErrOf};
-    ghost use Rattle.smithy_schema.specs.Reading.{depth, in_structure, passed_to, ReadsDocument, Conducts, Passes, MatchStep, CannotGoOn, SkipsNot, NullsNot, ReadsScalar, AnswersWide, ReachesDepth, null_is_due, RefusesNoKind, IsRefused, IsInvalid, IsNoAnswer};
-    ghost use Rattle.smithy_shapes.specs.Table.{IsStructure, HasMembers};
+    ghost use Rattle.smithy_schema.specs.Errors.{RefusesNoKind, IsRefused, IsInvalid, IsNoAnswer};
+    ghost use Rattle.smithy_schema.specs.Reading.{depth, in_structure, passed_to, ReadsDocument, Conducts, Passes, MatchStep, CannotGoOn, SkipsNot, NullsNot, ReadsScalar, AnswersWide, ReachesDepth, null_is_due};
+    ghost use Rattle.smithy_declarations.specs.Table.{IsStructure, HasMembers};
     ghost use Rattle.smithy_shapes.specs.Site.{site_of, kind_at};
     ghost use Rattle.smithy_schema.specs.declared.error.SerdeError.TheVariants.{NoMemory, NotCarried, TooDeep};
     ghost use Rattle.smithy_json_codec.specs.Cursor.{cursor_of, reading_settings_of, reader_settings_of};
@@ -50,8 +51,8 @@ impl ShapeDeserializer for JsonDeserializer<'_> {
     ghost use Rattle.std.specs.Int.{w128};
     ghost use Rattle.smithy_texts.specs.Numeral.{number};
     ghost use Rattle.smithy_texts.specs.Decimal.{mantissa, net_exponent};
-    ghost use Rattle.smithy_shapes.specs.declared.shape_type.Scalar.TheVariants as scalars;
-    ghost use Rattle.smithy_shapes.specs.Value.{whole, decimal};
+    ghost use Rattle.smithy_declarations.specs.declared.shape_type.Scalar.TheVariants as scalars;
+    ghost use Rattle.smithy_declarations.specs.Value.{whole, decimal};
     ghost use Rattle.smithy_json_values.specs.NumberText.{NumberTextLies};
     ghost use Rattle.smithy_json_values.specs.Documents.{DocumentStands, NoDocumentStands, TreeDocumentStands, NoTreeDocumentStands, MeetsOtherNumber, OpensDocumentTooDeep};
     ghost use Rattle.smithy_json_values.specs.LexicalGrammar.{rfc_8259};

@@ -4,7 +4,7 @@ ghost use Rattle.std.specs.Prelude.{◌≡◌};
 use crate::deserializer::JsonDeserializer;
 use smithy_json_values::input::Input;
 
-impl<'a> JsonDeserializer<'a> {
+impl<'a> JsonDeserializer<'_, 'a> {
     // What is read, under the settings.
     #[inline(always)]
     pub(crate) fn input(&self) -> Input<'a>

@@ -7,10 +7,11 @@ use smithy_json_values::skip::skipped_end;
 use smithy_schema::{Schema, SerdeError, Step};
 use smithy_wire::ContainerKind;
 
-impl JsonDeserializer<'_> {
+impl JsonDeserializer<'_, '_> {
     ghost use Rattle.std.specs.Prelude.{◌≡◌, ◌≤◌, ◌↔◌, ◌+◌, ℕ, length, drop, IsTrue, IfOk, IsErrOf, true, false};
-    ghost use Rattle.smithy_schema.specs.Reading.{passed_to, depth, in_structure, Conducts, MatchStep, CannotGoOn, ReachesDepth, RefusesNoKind, IsRefused, IsInvalid};
-    ghost use Rattle.smithy_shapes.specs.Table.{HasMembers};
+    ghost use Rattle.smithy_schema.specs.Errors.{RefusesNoKind, IsRefused, IsInvalid};
+    ghost use Rattle.smithy_schema.specs.Reading.{passed_to, depth, in_structure, Conducts, MatchStep, CannotGoOn, ReachesDepth};
+    ghost use Rattle.smithy_declarations.specs.Table.{HasMembers};
     ghost use Rattle.smithy_shapes.specs.Site.{site_of, kind_at};
     ghost use Rattle.smithy_schema.specs.declared.error.SerdeError.TheVariants.{TooDeep};
     ghost use Rattle.smithy_json_codec.specs.Cursor.{cursor_of, reading_settings_of, reader_settings_of};

@@ -2,7 +2,7 @@
 
 ghost use Rattle.std.specs.Prelude.{◌≡◌, ◌≤◌, ◌+◌, ◌↔◌, ℕ, true, length, drop, IfOk, IfErr, IfSome, IfNone, IsErrOf, IsTrue};
 ghost use Rattle.smithy_shapes.specs.Site.{site_of, kind_at};
-ghost use Rattle.smithy_shapes.specs.Table.{IsDocument};
+ghost use Rattle.smithy_declarations.specs.Table.{IsDocument};
 ghost use Rattle.smithy_json_values.specs.Codec.{held_settings, held_grammar};
 ghost use Rattle.smithy_json_values.specs.Deepest.{OpensTooDeep};
 ghost use Rattle.smithy_json_values.specs.LexicalGrammar.{frames_of};

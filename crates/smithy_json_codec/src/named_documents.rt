@@ -1,7 +1,7 @@
 //! Writing documents with the identifier of their shape.
 ghost use Rattle.std.specs.Prelude.{◌≡◌, ◌↔◌, ◌++◌, Ok, Err, true, OnOk, IfErr, IsErr, IsErrOf};
 ghost use Rattle.smithy_schema.specs.declared.error.SerdeError.TheVariants.{Failed};
-ghost use Rattle.smithy_schema.specs.Reading.{IsFault};
+ghost use Rattle.smithy_schema.specs.Errors.{IsFault};
 ghost use Rattle.smithy_schema.specs.Writing.{after_value};
 ghost use Rattle.smithy_shapes.specs.Site.{site_of};
 ghost use Rattle.smithy_types.specs.Discriminated.{discriminated_view};

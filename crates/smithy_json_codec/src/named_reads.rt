@@ -1,6 +1,7 @@
 //! Reading documents with the identifier of their shape.
 ghost use Rattle.std.specs.Prelude.{◌≡◌, false, true, IfOk, IfErr, IsErrOf, OnOk};
-ghost use Rattle.smithy_schema.specs.Reading.{depth, Conducts, Passes, IsInvalid, IsNoAnswer, IsRefused};
+ghost use Rattle.smithy_schema.specs.Errors.{IsInvalid, IsNoAnswer, IsRefused};
+ghost use Rattle.smithy_schema.specs.Reading.{depth, Conducts, Passes};
 ghost use Rattle.smithy_schema.specs.declared.error.SerdeError.TheVariants.{NotCarried, TooDeep, TooWide, TypeMismatch};
 ghost use Rattle.smithy_types.specs.Discriminated.{discriminated_view};
 ghost use Rattle.smithy_json_codec.specs.Cursor.{cursor_of, reading_settings_of, reader_settings_of};
@@ -17,7 +18,7 @@ use smithy_types::named_document::named;
 use smithy_types::{DiscriminatedDocument, DocumentCoercion};
 use std::borrow::CowStr;
 
-impl JsonDeserializer<'_> {
+impl JsonDeserializer<'_, '_> {
     // The document that stands at the position, with its end.
     fn named_document(&self) -> Result<(DiscriminatedDocument, usize), DocumentFault>
         ensures ok { IfOk result (λ r. NamedStands (reader_settings_of self.now) (depth (cursor_of self.now)) (cursor_of self.now).input (cursor_of self.now).at (discriminated_view r.0) r.1) }

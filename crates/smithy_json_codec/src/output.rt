@@ -1,11 +1,11 @@
 //! What a serializer adds to the end of a body.
 ghost use Rattle.std.specs.Prelude.{◌≡◌, [], ◌∷◌, ◌++◌, OnOk};
 ghost use Rattle.smithy_shapes.specs.Site.{site_of};
-ghost use Rattle.smithy_shapes.specs.TimeForms.{form_or};
+ghost use Rattle.smithy_declarations.specs.TimeForms.{form_or};
 ghost use Rattle.smithy_texts.specs.Base64Text.{blob_text};
 ghost use Rattle.smithy_types.specs.Document.{whole_document};
 ghost use Rattle.smithy_types.specs.DocumentView.{document_view};
-ghost use Rattle.smithy_json.specs.Ascii.{quotation_mark};
+ghost use Rattle.smithy_json_grammar.specs.Ascii.{quotation_mark};
 ghost use Rattle.smithy_json.specs.Escape.{quoted};
 ghost use Rattle.smithy_json_codec.specs.Canonical.{document_text, name_text, key_text, time_form};
 ghost use Rattle.smithy_json_codec.specs.Writing.{comma_text};

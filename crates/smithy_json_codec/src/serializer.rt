@@ -1,13 +1,13 @@
 //! Writing a body as a schema directs.
 ghost use Rattle.std.specs.Prelude.{◌≡◌, ◌↔◌, [], ◌∷◌, ◌++◌, Ok, Err, true, false, OnOk, IfErr, IsErr, IsErrOf};
 ghost use Rattle.smithy_schema.specs.declared.error.SerdeError.TheVariants.{Failed, NoMemory};
-ghost use Rattle.smithy_schema.specs.Reading.{IsFault};
+ghost use Rattle.smithy_schema.specs.Errors.{IsFault};
 ghost use Rattle.smithy_shapes.specs.Site.{site_of};
 ghost use Rattle.smithy_schema.specs.Writing.{after_value, after_text, after_begin};
 ghost use Rattle.smithy_texts.specs.Base64Text.{blob_text};
 ghost use Rattle.smithy_types.specs.Document.{whole_document};
 ghost use Rattle.smithy_types.specs.DocumentView.{document_view};
-ghost use Rattle.smithy_json.specs.Ascii.{quotation_mark};
+ghost use Rattle.smithy_json_grammar.specs.Ascii.{quotation_mark};
 ghost use Rattle.smithy_texts.specs.Decimal.{exponent_text, decimal_text};
 ghost use Rattle.smithy_json.specs.Escape.{quoted};
 ghost use Rattle.smithy_json_codec.specs.Canonical.{in_form};
@@ -22,7 +22,7 @@ use crate::output::{
     form_at, push_base64, push_comma, push_key, push_name, push_quoted, push_whole_document,
 };
 use itoa::Buffer;
-use smithy_json::number_text::is_number;
+use smithy_json_grammar::number_text::is_number;
 use smithy_json_values::settings::Settings;
 use smithy_schema::{
     FinishSerializer, Schema, SerdeError, ShapeSerializer, TimestampFormat, instant_text,

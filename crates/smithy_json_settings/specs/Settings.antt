@@ -2,8 +2,8 @@
 use Rattle.std.specs.Prelude.{ℕ, List, Bool, true, false, Option, None, codes}
 use Rattle.smithy_instants.specs.declared.format.Format.{Format}
 use Rattle.smithy_instants.specs.declared.format.Format.TheVariants.{EpochSeconds}
-use Rattle.smithy_json.specs.NumberGrammar.{standard_numbers}
-use Rattle.smithy_json.specs.declared.number_grammar.NumberGrammar.{NumberGrammar}
+use Rattle.smithy_json_grammar.specs.NumberGrammar.{standard_numbers}
+use Rattle.smithy_json_grammar.specs.declared.number_grammar.NumberGrammar.{NumberGrammar}
 use Rattle.smithy_shapes.specs.Limits.{Limits, kept}
 
 pub record Settings : Type 0 where

@@ -1,7 +1,7 @@
 //! The settings by which bodies are read and written.
 ghost use Rattle.std.specs.Prelude.{◌≤◌};
 
-use smithy_json::number_grammar::NumberGrammar;
+use smithy_json_grammar::number_grammar::NumberGrammar;
 use smithy_types::Format;
 
 /// All that decides how bodies are read and written. A codec hands it out to its readers and serializers.

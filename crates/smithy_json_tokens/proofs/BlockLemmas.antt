@@ -4,10 +4,10 @@ use Rattle.std.proofs.Math.Nat.{pow-suc, mul_comm, zero-div, div-one, div-div-eq
 use Rattle.std.proofs.lemmas.List.{drop-drop, drop-take, drop-map, drop_all}
 use Rattle.std.specs.List.{prefix_len}
 use Rattle.std.specs.Simd.Lanes.{mask_l, chunk}
-use Rattle.smithy_json.specs.Ascii.{escape}
-use Rattle.smithy_json.specs.Private.Chars.{is_plain, ends_run}
-use Rattle.smithy_json.proofs.LaneLemmas.{through}
-use Rattle.smithy_json.proofs.StringLemmas.{run_stops}
+use Rattle.smithy_json_grammar.specs.Ascii.{escape}
+use Rattle.smithy_json_grammar.specs.Private.Chars.{is_plain, ends_run}
+use Rattle.smithy_json_grammar.proofs.LaneLemmas.{through}
+use Rattle.smithy_json_grammar.proofs.StringLemmas.{run_stops}
 use Rattle.smithy_json_tokens.specs.TokenRules.{text_length}
 use Rattle.smithy_json_tokens.proofs.ScanLemmas.{text_length-run, text_length-stops, text_length-alone}
 

@@ -5,8 +5,8 @@ use Rattle.std.proofs.lemmas.List.{drop-drop}
 use Rattle.std.specs.Char.{is_ascii_digit, IsAsciiDigit}
 use Rattle.std.specs.List.{AllByRecursion, prefix_len, position_or_len}
 use Rattle.std.specs.Str.{byte, all_ascii_digits}
-use Rattle.smithy_json.specs.Ascii.{minus_sign}
-use Rattle.smithy_json.specs.Grammar.{AreDigits, IsInt, IsFrac, IsSign, IsExp, IsNumber}
+use Rattle.smithy_json_grammar.specs.Ascii.{minus_sign}
+use Rattle.smithy_json_grammar.specs.Grammar.{AreDigits, IsInt, IsFrac, IsSign, IsExp, IsNumber}
 use Rattle.smithy_types.specs.Numeral.{are_digits, without_sign}
 use Rattle.smithy_types.specs.Decimal.{is_point, is_exponent_mark, are_digits_with_point, is_exponent_part, is_decimal}
 

@@ -6,11 +6,11 @@ use Rattle.smithy_types.specs.Document.{Document, null, boolean, number, text, a
 use Rattle.smithy_types.specs.DocumentView.{document_view}
 use Rattle.smithy_types.specs.declared.document.Document as kept
 use Rattle.smithy_types.specs.declared.number.Number.{Number}
-use Rattle.smithy_json.specs.Tree.{Json, Elements, no_elements, element, Members, no_members, member}
-use Rattle.smithy_json.specs.Tree as tree
-use Rattle.smithy_json.specs.HeldNumber.{number_of}
-use Rattle.smithy_json.specs.Unescape.{unescape, unescaped}
-use Rattle.smithy_json.specs.declared.escape_error.EscapeError.{EscapeError}
+use Rattle.smithy_json_grammar.specs.Tree.{Json, Elements, no_elements, element, Members, no_members, member}
+use Rattle.smithy_json_grammar.specs.Tree as tree
+use Rattle.smithy_json_grammar.specs.HeldNumber.{number_of}
+use Rattle.smithy_json_grammar.specs.Unescape.{unescape, unescaped}
+use Rattle.smithy_json_grammar.specs.declared.escape_error.EscapeError.{EscapeError}
 use Rattle.smithy_json.specs.DocumentMeaning.{number_meaning, document_meaning, elements_meaning, members_meaning}
 use Rattle.smithy_json.proofs.DocumentLemmas.{some_of_map, some_of_then, some_of_pair, allowed, held, document_deeper}
 use Rattle.smithy_json_tokens.specs.Tokens.{JsonToken, tokens, element_tokens, member_tokens, start_array, end_array, start_object, end_object, value_null, value_bool, value_number, value_uncarried, value_string}

@@ -2,10 +2,10 @@
 use Rattle.std.proofs.Common.{◌≡◌, ◌-◌, ℕ, List, length, take, drop, slice_range, Some, sym, ap, ◌∙◌, arith, subst}
 use Rattle.std.proofs.Math.Seq.{take-length, drop-length}
 use Rattle.std.proofs.lemmas.List.{length-drop}
-use Rattle.smithy_json.specs.Grammar.{IsNumber, IsBoundary}
-use Rattle.smithy_json.specs.Standing.{StandsAt}
-use Rattle.smithy_json.specs.Private.Numeral.{after_frac_and_exp}
-use Rattle.smithy_json.proofs.NumberPlaceLemmas.{number_rests}
+use Rattle.smithy_json_grammar.specs.Grammar.{IsNumber, IsBoundary}
+use Rattle.smithy_json_grammar.specs.Standing.{StandsAt}
+use Rattle.smithy_json_grammar.specs.Private.Numeral.{after_frac_and_exp}
+use Rattle.smithy_json_grammar.proofs.NumberPlaceLemmas.{number_rests}
 
 -- it stands there
 pub whole_stands : (text : List ℕ) → IsNumber text → StandsAt IsNumber text 0 (length text)

@@ -4,8 +4,8 @@ use Rattle.std.proofs.lemmas.List.{reverse-append}
 use Rattle.smithy_types.specs.Document.{item}
 use Rattle.smithy_types.specs.DocumentView.{document_view, elements_view}
 use Rattle.smithy_types.specs.declared.document.Document.{Document}
-use Rattle.smithy_json.specs.Unescape.{unescape}
-use Rattle.smithy_json.specs.declared.escape_error.EscapeError.{EscapeError}
+use Rattle.smithy_json_grammar.specs.Unescape.{unescape}
+use Rattle.smithy_json_grammar.specs.declared.escape_error.EscapeError.{EscapeError}
 use Rattle.smithy_json_tokens.specs.Faults.{error_at}
 use Rattle.smithy_json_tokens.specs.DocumentSteps as steps
 use Rattle.smithy_json_tokens.specs.DocumentSteps.{Step, in_array, in_object, behind_name, goes_on, whole, wrong, add_element, where_value, text_step, IsStepError, TakesMemory, EndsWith}

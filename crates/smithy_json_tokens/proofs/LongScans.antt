@@ -2,15 +2,15 @@
 use Rattle.std.proofs.Common.{◌≡◌, ◌+◌, ◌-◌, ◌<◌, ℕ, suc, List, ◌∷◌, ◌++◌, length, drop, slice_range, slice_index, Bool, cond, ◌==◌, Some, None, option_and_then, ℤ, unsigned_abs, sym, ap, ◌∙◌, arith}
 use Rattle.std.proofs.lemmas.List.{drop_more, length-drop, length-take-le}
 use Rattle.std.specs.Option.{option_map_or}
-use Rattle.smithy_json.specs.Ascii.{minus_sign}
+use Rattle.smithy_json_grammar.specs.Ascii.{minus_sign}
 use Rattle.smithy_texts.specs.Numeral.{begins_with}
-use Rattle.smithy_json.specs.Standing.{IsLongAt}
-use Rattle.smithy_json.proofs.SliceLemmas.{drop-slice}
-use Rattle.smithy_json.proofs.HeldNumberLemmas.{long_held}
+use Rattle.smithy_json_grammar.specs.Standing.{IsLongAt}
+use Rattle.smithy_json_grammar.proofs.SliceLemmas.{drop-slice}
+use Rattle.smithy_json_grammar.proofs.HeldNumberLemmas.{long_held}
 use Rattle.smithy_types.specs.declared.number.Number.{Number}
 use Rattle.smithy_types.specs.declared.number.Number.TheVariants.{PosInt, NegInt}
 use Rattle.smithy_types.specs.Document.{is_document_number}
-use Rattle.smithy_json.specs.HeldNumber.{held_as, number_of}
+use Rattle.smithy_json_grammar.specs.HeldNumber.{held_as, number_of}
 use Rattle.smithy_json_tokens.specs.Tokens.{value_number, value_uncarried, number_token}
 use Rattle.smithy_json_tokens.specs.TokenRules.{scanned, scan_value, scan_number}
 use Rattle.smithy_json_tokens.specs.Private.Scans.{BeginsNumber}

@@ -3,7 +3,7 @@ use Rattle.std.proofs.Common.{◌≡◌, ◌+◌, ◌-◌, ◌<◌, ℕ, zero, s
 use Rattle.std.proofs.lemmas.Bool.Decides.{nat_tests}
 use Rattle.std.proofs.lemmas.List.{drop-drop, drop_more}
 use Rattle.std.proofs.lemmas.Str.{IsUtf8-from_ascii}
-use Rattle.smithy_json.specs.Ascii.{is_e}
+use Rattle.smithy_json_grammar.specs.Ascii.{is_e}
 use Rattle.std.specs.List.{prefix_len}
 use Rattle.smithy_json_tokens.specs.Expecting.{is_number_byte}
 use Rattle.smithy_json_tokens.specs.TokenRules.{is_piece, number_length, run_token, at_run, scan_number}

@@ -4,10 +4,10 @@ use Rattle.std.proofs.lemmas.Bool.Decides.{nat_tests}
 use Rattle.std.proofs.lemmas.Str.{is_utf8-from_IsUtf8}
 use Rattle.std.specs.Char.{is_ascii_digit, IsAsciiDigit}
 use Rattle.std.specs.List.{AllByRecursion}
-use Rattle.smithy_json.specs.Ascii.{quotation_mark, escape, value_separator, begin_array, end_array, begin_object, end_object, minus_sign, letter_f, letter_n, letter_t, space, is_ws, is_e}
-use Rattle.smithy_json.specs.Grammar.{AreDigits, IsInt, IsFrac, IsSign, IsExp, IsNumber, IsUnescaped, AreChars, IsStringText, IsBoundary}
+use Rattle.smithy_json_grammar.specs.Ascii.{quotation_mark, escape, value_separator, begin_array, end_array, begin_object, end_object, minus_sign, letter_f, letter_n, letter_t, space, is_ws, is_e}
+use Rattle.smithy_json_grammar.specs.Grammar.{AreDigits, IsInt, IsFrac, IsSign, IsExp, IsNumber, IsUnescaped, AreChars, IsStringText, IsBoundary}
 use Rattle.smithy_types.specs.Decimal.{is_decimal}
-use Rattle.smithy_json.specs.HeldNumber.{number_of}
+use Rattle.smithy_json_grammar.specs.HeldNumber.{number_of}
 use Rattle.smithy_json_tokens.specs.Tokens.{JsonToken, value_null, value_bool, number_token}
 use Rattle.smithy_json_tokens.specs.declared.error.DeserializeErrorKind.TheVariants.{InvalidUtf8}
 use Rattle.smithy_json_tokens.specs.TokenRules.{scanned, failed, cut, at_boundary, is_boundary_byte, is_piece, number_length, run_token, at_run, scan_number, text_length, at_mark, scan_string, scan_value}

@@ -5,8 +5,8 @@ use Rattle.std.proofs.lemmas.List.{drop-drop, drop_more, drop_all, length-drop, 
 use Rattle.std.specs.List.{prefix_len}
 use Rattle.std.specs.Str.{is_utf8}
 use Rattle.std.proofs.lemmas.Str.{is_utf8-from_IsUtf8, IsUtf8-from_is_utf8}
-use Rattle.smithy_json.specs.Ascii.{quotation_mark, escape, space}
-use Rattle.smithy_json.specs.Private.Chars.{is_plain}
+use Rattle.smithy_json_grammar.specs.Ascii.{quotation_mark, escape, space}
+use Rattle.smithy_json_grammar.specs.Private.Chars.{is_plain}
 use Rattle.smithy_json_tokens.specs.declared.error.DeserializeErrorKind.TheVariants.{InvalidUtf8}
 use Rattle.smithy_json_tokens.specs.Tokens.{JsonToken}
 use Rattle.smithy_json_tokens.specs.TokenRules.{scanned, failed, text_length, at_mark, scan_string}

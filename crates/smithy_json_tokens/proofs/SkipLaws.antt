@@ -2,8 +2,8 @@
 use Rattle.std.proofs.Common.{◌≡◌, ◌+◌, ◌≤◌, ◌<◌, ℕ, suc, List, [], ◌∷◌, ◌++◌, false, ◌==◌, cond, Option, Some, None, Result, Ok, Err, MatchResult, ◌⊎◌, inl, inr, refl, sym, ap, ◌∙◌, arith, subst}
 use Rattle.std.proofs.lemmas.Bool.Decides.{nat_tests}
 use Rattle.std.specs.Option.{option_map_or}
-use Rattle.smithy_json.specs.Tree.{Json, null, boolean, number, string, array, object, Elements, no_elements, element, Members, no_members, member, nesting, elements_nesting, members_nesting}
-use Rattle.smithy_json.specs.HeldNumber.{number_of}
+use Rattle.smithy_json_grammar.specs.Tree.{Json, null, boolean, number, string, array, object, Elements, no_elements, element, Members, no_members, member, nesting, elements_nesting, members_nesting}
+use Rattle.smithy_json_grammar.specs.HeldNumber.{number_of}
 use Rattle.smithy_json_tokens.specs.Tokens.{JsonToken, tokens, element_tokens, member_tokens, number_token, start_array, end_array, start_object, end_object, value_number, value_uncarried}
 use Rattle.smithy_json_tokens.specs.TokenView.{token_view, token_offset}
 use Rattle.smithy_json_tokens.specs.TokenRules.{Cursor, next_answer}

@@ -4,11 +4,11 @@ use Rattle.std.proofs.lemmas.Bool.Decides.{nat_tests}
 use Rattle.std.specs.Char.{IsAsciiDigit}
 use Rattle.std.specs.List.{prefix_len}
 use Rattle.std.specs.Option.{option_map_or}
-use Rattle.smithy_json.specs.Ascii.{quotation_mark, value_separator, name_separator, begin_array, end_array, begin_object, end_object, minus_sign, is_ws}
-use Rattle.smithy_json.specs.Tree.{Json, null, boolean, number, string, array, object, Elements, no_elements, element, Members, no_members, member}
-use Rattle.smithy_json.specs.Grammar.{IsWs, IsNumber, IsStringText, IsValue, AreMoreElements, AreMoreMembers, IsJsonText, IsBoundary}
+use Rattle.smithy_json_grammar.specs.Ascii.{quotation_mark, value_separator, name_separator, begin_array, end_array, begin_object, end_object, minus_sign, is_ws}
+use Rattle.smithy_json_grammar.specs.Tree.{Json, null, boolean, number, string, array, object, Elements, no_elements, element, Members, no_members, member}
+use Rattle.smithy_json_grammar.specs.Grammar.{IsWs, IsNumber, IsStringText, IsValue, AreMoreElements, AreMoreMembers, IsJsonText, IsBoundary}
 use Rattle.smithy_types.specs.Decimal.{is_decimal}
-use Rattle.smithy_json.specs.HeldNumber.{number_of}
+use Rattle.smithy_json_grammar.specs.HeldNumber.{number_of}
 use Rattle.smithy_json_tokens.specs.Tokens as tokens
 use Rattle.smithy_json_tokens.specs.Tokens.{JsonToken, start_array, start_object, object_key, tokens, element_tokens, member_tokens, number_token, value_string, value_number, value_uncarried}
 use Rattle.smithy_json_tokens.specs.TokenRules.{scanned, scan_value, Cursor, scans, value_turn, key_turn, end_turn, state_turn, Answer, finished, behind, turn_answer, skip_ws, next_answer}

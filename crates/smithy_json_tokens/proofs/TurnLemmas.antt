@@ -4,8 +4,8 @@ use Rattle.std.proofs.lemmas.List.{drop-drop, length-drop, drop_more, get_or-dro
 use Rattle.std.proofs.lemmas.Bool.Decides.{nat_tests}
 use Rattle.std.proofs.lemmas.List.Sums.{prefix_len_is}
 use Rattle.std.specs.List.{prefix_len}
-use Rattle.smithy_json.specs.Ascii.{is_ws}
-use Rattle.smithy_json.specs.Standing.{IsRunAt}
+use Rattle.smithy_json_grammar.specs.Ascii.{is_ws}
+use Rattle.smithy_json_grammar.specs.Standing.{IsRunAt}
 use Rattle.smithy_json_tokens.specs.declared.token_turn.State.{State}
 use Rattle.smithy_json_tokens.specs.declared.token_turn.State.TheVariants.{Initial}
 use Rattle.smithy_json_tokens.specs.TokenRules as rules

@@ -4,10 +4,10 @@ use Rattle.smithy_types.specs.Document.{Document, null, boolean, number, text, a
 use Rattle.smithy_types.specs.DocumentView.{document_view}
 use Rattle.smithy_types.specs.declared.number.Number.{Number}
 use Rattle.smithy_types.specs.declared.document.Document as kept
-use Rattle.smithy_json.specs.Tree.{Json}
-use Rattle.smithy_json.specs.Unescape.{unescape}
+use Rattle.smithy_json_grammar.specs.Tree.{Json}
+use Rattle.smithy_json_grammar.specs.Unescape.{unescape}
 use Rattle.smithy_json.specs.DocumentMeaning.{document_meaning}
-use Rattle.smithy_json.specs.declared.escape_error.EscapeError.{EscapeError}
+use Rattle.smithy_json_grammar.specs.declared.escape_error.EscapeError.{EscapeError}
 use Rattle.smithy_json_tokens.specs.Tokens.{JsonToken, start_array, end_array, start_object, end_object, value_null, value_bool, value_number, value_string, object_key, tokens}
 use Rattle.smithy_json_tokens.specs.Faults.{error_at, IsCustomKind, IsCustomAt}
 use Rattle.smithy_json_tokens.specs.TokenSteps.{Takes, SurelyGives}

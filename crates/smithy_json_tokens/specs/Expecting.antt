@@ -2,8 +2,8 @@
 use Rattle.std.specs.Prelude.{◌≡◌, ◌||◌, ◌==◌, ℕ, List, Bool, take, drop, Option, Some, None, Result, Ok, Err, MatchOption, MatchResult}
 use Rattle.std.specs.List.{prefix_len}
 use Rattle.std.specs.Char.{is_ascii_digit}
-use Rattle.smithy_json.specs.Ascii.{minus_sign, plus_sign, decimal_point, is_e}
-use Rattle.smithy_json.specs.EscapedText.{escaped_text}
+use Rattle.smithy_json_grammar.specs.Ascii.{minus_sign, plus_sign, decimal_point, is_e}
+use Rattle.smithy_json_grammar.specs.EscapedText.{escaped_text}
 use Rattle.smithy_types.specs.declared.number.Number.{Number}
 use Rattle.smithy_json_tokens.specs.TokenView.{token_offset}
 use Rattle.smithy_json_tokens.specs.Faults.{IsCustomAt}

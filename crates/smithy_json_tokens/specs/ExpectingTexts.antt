@@ -1,9 +1,9 @@
 -- What the calls answer that take a string or a number for what its text means.
 use Rattle.std.specs.Prelude.{◌≡◌, ◌⊎◌, ◌*ℤ◌, ℕ, ℤ, pos, true, List, Option, Some, None, option_map, option_and_then, Result, Ok, Err, MatchResult, if◌then◌else◌}
-use Rattle.smithy_json.specs.Grammar.{IsNumber}
-use Rattle.smithy_json.specs.EscapedText.{escaped_text}
-use Rattle.smithy_json.specs.Unescape.{unescape, has_escape}
-use Rattle.smithy_json.specs.declared.escape_error.EscapeError.{EscapeError}
+use Rattle.smithy_json_grammar.specs.Grammar.{IsNumber}
+use Rattle.smithy_json_grammar.specs.EscapedText.{escaped_text}
+use Rattle.smithy_json_grammar.specs.Unescape.{unescape, has_escape}
+use Rattle.smithy_json_grammar.specs.declared.escape_error.EscapeError.{EscapeError}
 use Rattle.smithy_types.specs.Base64Text.{blob_of}
 use Rattle.smithy_types.specs.Ranges.{fits_signed}
 use Rattle.smithy_types.specs.Number.{whole_number}

@@ -1,7 +1,7 @@
 -- The errors that calls over tokens make.
 use Rattle.std.specs.Prelude.{◌≡◌, ℕ, List, codes, Option, Some, Result, Ok, Err}
-use Rattle.smithy_json.specs.declared.escape_error.EscapeError.{EscapeError}
-use Rattle.smithy_json.specs.declared.escape_error.EscapeError.TheVariants as escape
+use Rattle.smithy_json_grammar.specs.declared.escape_error.EscapeError.{EscapeError}
+use Rattle.smithy_json_grammar.specs.declared.escape_error.EscapeError.TheVariants as escape
 use Rattle.smithy_json_tokens.specs.declared.error.DeserializeError.{DeserializeError}
 use Rattle.smithy_json_tokens.specs.declared.error.DeserializeErrorKind.{DeserializeErrorKind}
 use Rattle.smithy_json_tokens.specs.declared.error.DeserializeErrorKind.TheVariants.{Custom, ExpectedLiteral, InvalidEscape, InvalidNumber, InvalidUtf8, UnescapeFailed, UnexpectedControlCharacter, UnexpectedEos, UnexpectedToken, NoMemory}

@@ -4,9 +4,9 @@ use Rattle.std.specs.Prelude.{⊤, ℕ, suc, List, [], ◌∷◌, length, take, 
 use Rattle.std.specs.List.{prefix_len, starts_with}
 use Rattle.std.specs.Str.{is_utf8}
 use Rattle.std.specs.Char.{is_ascii_digit}
-use Rattle.smithy_json.specs.Ascii.{quotation_mark, escape, value_separator, name_separator, begin_array, end_array, begin_object, end_object, minus_sign, plus_sign, decimal_point, letter_f, letter_n, letter_t, space, is_ws, is_e}
+use Rattle.smithy_json_grammar.specs.Ascii.{quotation_mark, escape, value_separator, name_separator, begin_array, end_array, begin_object, end_object, minus_sign, plus_sign, decimal_point, letter_f, letter_n, letter_t, space, is_ws, is_e}
 use Rattle.smithy_types.specs.Decimal.{is_decimal}
-use Rattle.smithy_json.specs.HeldNumber.{number_of}
+use Rattle.smithy_json_grammar.specs.HeldNumber.{number_of}
 use Rattle.smithy_json_tokens.specs.Tokens as tokens
 use Rattle.smithy_json_tokens.specs.Tokens.{JsonToken, start_array, start_object, value_null, value_bool, value_string, object_key, number_token}
 use Rattle.smithy_json_tokens.specs.declared.error.DeserializeErrorKind.{DeserializeErrorKind}

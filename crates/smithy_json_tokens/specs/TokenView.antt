@@ -1,6 +1,6 @@
 -- What contracts see of a `Token`.
 use Rattle.std.specs.Prelude.{ℕ, ◌≤◌, List, length, drop, Option, Some, None, MatchOption}
-use Rattle.smithy_json.specs.EscapedText.{escaped_text}
+use Rattle.smithy_json_grammar.specs.EscapedText.{escaped_text}
 use Rattle.smithy_json_tokens.specs.Tokens.{JsonToken, start_array, end_array, start_object, end_object, value_null, value_bool, value_number, value_uncarried, value_string, object_key}
 use Rattle.smithy_json_tokens.specs.declared.token.Token.{Token}
 use Rattle.smithy_json_tokens.specs.declared.token.Token.TheVariants.{StartArray, EndArray, StartObject, EndObject, ValueNull, ObjectKey, ValueBool, ValueNumber, ValueString, ValueUncarried}

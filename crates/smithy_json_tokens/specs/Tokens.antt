@@ -1,8 +1,8 @@
 -- The tokens of a JSON value, without their offsets.
 use Rattle.std.specs.Prelude.{ℕ, List, [], ◌∷◌, ◌++◌, Bool}
 use Rattle.std.specs.Option.{option_map_or}
-use Rattle.smithy_json.specs.Tree.{Json, null, boolean, number, string, array, object, Elements, no_elements, element, Members, no_members, member}
-use Rattle.smithy_json.specs.HeldNumber.{number_of}
+use Rattle.smithy_json_grammar.specs.Tree.{Json, null, boolean, number, string, array, object, Elements, no_elements, element, Members, no_members, member}
+use Rattle.smithy_json_grammar.specs.HeldNumber.{number_of}
 use Rattle.smithy_types.specs.declared.number.Number.{Number}
 
 pub data JsonToken : Type 0 where

@@ -3,7 +3,7 @@
 ghost use Rattle.std.specs.Prelude.{◌≡◌, None, Some};
 ghost use Rattle.smithy_json_tokens.specs.declared.error.DeserializeErrorKind.TheVariants.{Custom, InvalidNumber};
 
-use smithy_json::EscapeError;
+use smithy_json_grammar::EscapeError;
 use smithy_types::TryFromNumberError;
 use std::borrow::CowStr;
 use std::fmt;

@@ -1,13 +1,13 @@
 //! Taking one token of a kind.
 
 ghost use Rattle.std.specs.Prelude.{◌≡◌, option_map};
-ghost use Rattle.smithy_json.specs.EscapedText.{escaped_text};
+ghost use Rattle.smithy_json_grammar.specs.EscapedText.{escaped_text};
 ghost use Rattle.smithy_json_tokens.specs.Faults.{IsCustomKind};
 ghost use Rattle.smithy_json_tokens.specs.Expecting.{Expects, wanted_object, wanted_array, wanted_bool, wanted_number, wanted_string};
 
 use crate::error::{DeserializeError, DeserializeErrorKind};
 use crate::token::Token;
-use smithy_json::EscapedStr;
+use smithy_json_grammar::EscapedStr;
 use smithy_types::Number;
 use std::borrow::CowStr;
 

@@ -1,7 +1,7 @@
 //! Taking a string for the bytes that it writes.
 
 ghost use Rattle.std.specs.Prelude.{◌≡◌};
-ghost use Rattle.smithy_json.specs.EscapedText.{escaped_text};
+ghost use Rattle.smithy_json_grammar.specs.EscapedText.{escaped_text};
 ghost use Rattle.smithy_types.specs.Base64Text.{blob_of};
 ghost use Rattle.smithy_json_tokens.specs.Expecting.{Answers};
 ghost use Rattle.smithy_json_tokens.specs.ExpectingTexts.{IsStringMeaning, BlobAnswers};
@@ -11,7 +11,7 @@ use crate::expect::expected;
 use crate::expect_text::unescaped_at;
 use crate::token::Token;
 use crate::token_scan::error_at;
-use smithy_json::EscapedStr;
+use smithy_json_grammar::EscapedStr;
 use smithy_types::base64::DecodeError;
 use smithy_types::{Blob, base64};
 use std::alloc::Global;

@@ -1,7 +1,7 @@
 //! Taking a string or a number for what its text means.
 
 ghost use Rattle.std.specs.Prelude.{◌≡◌, Some};
-ghost use Rattle.smithy_json.specs.EscapedText.{escaped_text};
+ghost use Rattle.smithy_json_grammar.specs.EscapedText.{escaped_text};
 ghost use Rattle.smithy_types.specs.Number.{whole_number};
 ghost use Rattle.smithy_json_tokens.specs.Faults.{IsCustomKind};
 ghost use Rattle.smithy_json_tokens.specs.Expecting.{Answers};
@@ -11,8 +11,8 @@ ghost use Rattle.smithy_json_tokens.specs.Private.Texts.{IsUnescapedAt, IsEpochI
 use crate::error::DeserializeError;
 use crate::expect::expected;
 use crate::token::Token;
-use smithy_json::EscapedStr;
-use smithy_json::number_text::scan_number;
+use smithy_json_grammar::EscapedStr;
+use smithy_json_grammar::number_text::scan_number;
 use smithy_types::{DateTime, Format, Number, read_epoch};
 use std::alloc::Global;
 use std::borrow::CowStr;

@@ -1,7 +1,7 @@
 //! The containers of a document that are open.
 
 ghost use Rattle.std.specs.Prelude.{◌≡◌, [], ◌∷◌, vec_items, string_bytes, Some, IfOk, MatchOption, if◌then◌else◌};
-ghost use Rattle.smithy_json.specs.EscapedText.{escaped_text};
+ghost use Rattle.smithy_json_grammar.specs.EscapedText.{escaped_text};
 ghost use Rattle.smithy_types.specs.Document.{put_property};
 ghost use Rattle.smithy_types.specs.DocumentView.{document_view, elements_view, properties_view};
 ghost use Rattle.smithy_json_tokens.specs.DocumentSteps.{in_array, in_object, add_element, put_value, where_value, goes_on, document_step, Step, TakesMemory};
@@ -15,7 +15,7 @@ use crate::error::{DeserializeError, DeserializeErrorKind};
 use crate::expect::expected;
 use crate::expect_text::unescaped_at;
 use crate::token::Token;
-use smithy_json::EscapedStr;
+use smithy_json_grammar::EscapedStr;
 use smithy_types::Document;
 use std::alloc::{AllocError, Global};
 use std::collections::BTreeMap;

@@ -7,7 +7,7 @@ ghost use Rattle.smithy_json_tokens.specs.TokenRules.{run_token};
 ghost use Rattle.smithy_json_tokens.specs.TokenView.{token_view, token_offset};
 
 use crate::token::{Offset, Token};
-use smithy_json::{number_of_long, number_of_text};
+use smithy_json_grammar::{number_of_long, number_of_text};
 use smithy_texts::decimal_text::is_decimal;
 use std::str;
 

@@ -3,11 +3,11 @@
 ghost use Rattle.std.specs.Prelude.{◌≡◌, ◌≤◌, ◌<◌, ◌+◌, ◌-◌, ◌/◌, ◌^◌, length, drop, map, true, false};
 ghost use Rattle.std.specs.List.{prefix_len};
 ghost use Rattle.std.specs.Simd.Lanes.{mask_l, chunk};
-ghost use Rattle.smithy_json.specs.Private.Chars.{is_plain, ends_run};
+ghost use Rattle.smithy_json_grammar.specs.Private.Chars.{is_plain, ends_run};
 ghost use Rattle.smithy_json_tokens.specs.TokenRules.{text_length};
 
-use smithy_json::lanes::ends;
-use smithy_json::scan::stop;
+use smithy_json_grammar::lanes::ends;
+use smithy_json_grammar::scan::stop;
 use std::simd::prelude::*;
 
 // The first byte that doesn't stand for itself from the offset on, by the mask of the bytes up to `behind`.

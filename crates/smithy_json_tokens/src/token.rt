@@ -6,7 +6,7 @@ ghost use Rattle.smithy_json_tokens.specs.TokenView.{token_offset};
 ghost use Rattle.smithy_json_tokens.specs.declared.error.DeserializeErrorKind.TheVariants.{Custom};
 
 use crate::error::DeserializeError;
-use smithy_json::EscapedStr;
+use smithy_json_grammar::EscapedStr;
 use smithy_types::Number;
 use std::borrow::CowStr;
 

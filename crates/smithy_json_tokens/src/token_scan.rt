@@ -1,7 +1,7 @@
 //! Scanning one token.
 
 ghost use Rattle.std.specs.Prelude.{◌≡◌, ◌≤◌, ◌<◌, ◌+◌, ℕ, Bool, List, length, drop, slice_index, slice_range, ◌∷◌, Some, option_map, IfSome, ◌||◌, false};
-ghost use Rattle.smithy_json.specs.Ascii.{is_e, quotation_mark};
+ghost use Rattle.smithy_json_grammar.specs.Ascii.{is_e, quotation_mark};
 ghost use Rattle.smithy_json_tokens.specs.Tokens.{JsonToken, value_string, object_key};
 ghost use Rattle.smithy_json_tokens.specs.TokenRules.{is_boundary_byte, is_piece, at_boundary, scan_literal, number_length, run_token, scan_number, text_length, scan_string, scan_value, scan_key};
 ghost use Rattle.smithy_json_tokens.specs.TokenView.{token_view, token_offset};
@@ -11,8 +11,8 @@ use crate::error::{DeserializeError, DeserializeErrorKind};
 use crate::run_token::{run_token, whole_token};
 use crate::string_end::text_end;
 use crate::token::{Offset, Token};
-use smithy_json::EscapedStr;
-use smithy_json::number_text::read_long;
+use smithy_json_grammar::EscapedStr;
+use smithy_json_grammar::number_text::read_long;
 use std::str;
 
 /// A token and the offset behind its last byte.

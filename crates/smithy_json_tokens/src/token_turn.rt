@@ -11,7 +11,7 @@ ghost use Rattle.smithy_json_tokens.specs.declared.token_turn.State.TheVariants.
 use crate::error::{DeserializeError, DeserializeErrorKind};
 use crate::token::{Offset, Token};
 use crate::token_scan::{Scanned, error_at, scan_key, scan_value};
-use smithy_json::scan::skip_blanks;
+use smithy_json_grammar::scan::skip_blanks;
 
 /// What may come next.
 #[derive(Clone, Copy, PartialEq, Eq)]

@@ -1,8 +1,8 @@
 //! The tokens of an input.
 
 ghost use Rattle.std.specs.Prelude.{◌≡◌, IfOk};
-ghost use Rattle.smithy_json.specs.Grammar.{IsJsonText};
-ghost use Rattle.smithy_json.specs.Tree.{Json};
+ghost use Rattle.smithy_json_grammar.specs.Grammar.{IsJsonText};
+ghost use Rattle.smithy_json_grammar.specs.Tree.{Json};
 ghost use Rattle.smithy_json_tokens.specs.Tokens.{tokens};
 ghost use Rattle.smithy_json_tokens.specs.TokenRuns.{start, GivesOnly};
 ghost use Rattle.smithy_json_tokens.specs.TokenSteps.{SurelyGives};

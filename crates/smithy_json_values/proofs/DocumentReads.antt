@@ -6,10 +6,11 @@ use Rattle.smithy_types.specs.declared.number.Number.{Number}
 use Rattle.smithy_types.specs.DocumentView.{document_view}
 use Rattle.smithy_types.specs.declared.document.Document as code
 use Rattle.smithy_schema.specs.declared.error.SerdeError.TheVariants as errors
-use Rattle.smithy_shapes.specs.declared.place.Place.{Place}
-use Rattle.smithy_shapes.specs.Table.{document_place}
+use Rattle.smithy_declarations.specs.declared.place.Place.{Place}
+use Rattle.smithy_declarations.specs.Table.{document_place}
 use Rattle.smithy_shapes.specs.Site.{Site}
-use Rattle.smithy_schema.specs.Reading.{Cursor, depth, StandsNot, IsFault, FindsNone, ReadsDocument, passed_to, failed_at}
+use Rattle.smithy_schema.specs.Errors.{IsFault, FindsNone}
+use Rattle.smithy_schema.specs.Reading.{Cursor, depth, StandsNot, ReadsDocument, passed_to, failed_at}
 use Rattle.smithy_json_values.specs.declared.documents.DocumentFault.{DocumentFault}
 use Rattle.smithy_json_values.specs.declared.documents.DocumentFault.TheVariants.{NoDocument, TooDeep, NotCarried, NoMemory}
 use Rattle.smithy_json_values.specs.Settings.{Settings, kept, without_limits}

@@ -4,11 +4,11 @@ use Rattle.std.specs.Option.{option_map_or}
 use Rattle.smithy_types.specs.Document.{Document, null, boolean, number, text, array, object, Documents, item, properties_by}
 use Rattle.smithy_types.specs.declared.number.Number.{Number}
 use Rattle.smithy_schema.specs.Reading.{Mark}
-use Rattle.smithy_shapes.specs.declared.shape_type.Scalar.TheVariants as scalars
+use Rattle.smithy_declarations.specs.declared.shape_type.Scalar.TheVariants as scalars
 use Rattle.smithy_shapes.specs.Limits.{Limits}
 use Rattle.smithy_shapes.specs.Lemmas.Options.{chosen, made, step_apart}
-use Rattle.smithy_json.specs.Ascii.{quotation_mark, begin_array, begin_object}
-use Rattle.smithy_json.specs.Unescape.{unescaped}
+use Rattle.smithy_json_grammar.specs.Ascii.{quotation_mark, begin_array, begin_object}
+use Rattle.smithy_json_grammar.specs.Unescape.{unescaped}
 use Rattle.smithy_json.proofs.DocumentLemmas.{some_of_pair}
 use Rattle.smithy_json_values.specs.declared.documents.DocumentFault.TheVariants as faults
 use Rattle.smithy_json_values.specs.declared.documents.scalars.BeginFault.{BeginFault}

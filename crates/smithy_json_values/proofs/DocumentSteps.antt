@@ -3,7 +3,7 @@ use Rattle.std.proofs.Common.{◌≡◌, ◌+◌, ◌≤◌, ◌∙◌, ℕ, suc
 use Rattle.smithy_types.specs.Document.{Document, Documents, Properties}
 use Rattle.smithy_types.specs.declared.number.Number.{Number}
 use Rattle.smithy_shapes.specs.Lemmas.Options.{chosen}
-use Rattle.smithy_json.specs.Unescape.{unescaped}
+use Rattle.smithy_json_grammar.specs.Unescape.{unescaped}
 use Rattle.smithy_json_values.specs.declared.documents.DocumentFault.{DocumentFault}
 use Rattle.smithy_json_values.specs.declared.documents.DocumentFault.TheVariants.{NoDocument}
 use Rattle.smithy_json_values.specs.declared.documents.Frame.{Frame}

@@ -5,7 +5,7 @@ use Rattle.smithy_shapes.specs.Lemmas.Options.{chosen}
 use Rattle.smithy_types.specs.DocumentView.{document_view}
 use Rattle.smithy_types.specs.declared.document.Document as code
 use Rattle.smithy_types.specs.declared.number.Number.{Number}
-use Rattle.smithy_json.specs.Unescape.{unescaped}
+use Rattle.smithy_json_grammar.specs.Unescape.{unescaped}
 use Rattle.smithy_json_values.specs.declared.documents.DocumentFault.{DocumentFault}
 use Rattle.smithy_json_values.specs.declared.documents.DocumentFault.TheVariants.{NoDocument, TooDeep, NotCarried, NoMemory}
 use Rattle.smithy_json_values.specs.declared.documents.Open.{Open}

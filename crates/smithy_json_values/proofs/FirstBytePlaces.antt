@@ -2,10 +2,10 @@
 use Rattle.std.proofs.Common.{◌≡◌, ◌+◌, ◌==◌, ℕ, List, [], ◌∷◌, ◌++◌, length, drop, slice_range, false, refl, sym, ap, ◌∙◌, arith, subst, append-nil}
 use Rattle.std.proofs.lemmas.List.{length-drop, drop_more, take_rest}
 use Rattle.std.proofs.lemmas.Bool.Decides.{nat_tests}
-use Rattle.smithy_json.specs.Ascii.{is_ws}
-use Rattle.smithy_json.specs.Grammar.{IsWs}
-use Rattle.smithy_json.specs.Standing.{IsRunAt}
-use Rattle.smithy_json.proofs.SliceLemmas.{drop-slice}
+use Rattle.smithy_json_grammar.specs.Ascii.{is_ws}
+use Rattle.smithy_json_grammar.specs.Grammar.{IsWs}
+use Rattle.smithy_json_grammar.specs.Standing.{IsRunAt}
+use Rattle.smithy_json_grammar.proofs.SliceLemmas.{drop-slice}
 use Rattle.smithy_json_values.specs.Standing.{Lies, IsByte, without_ws}
 use Rattle.smithy_json_values.specs.TypeMismatch.{begins_by}
 use Rattle.smithy_json_values.specs.Private.Lexical.{past_ws}

@@ -1,8 +1,8 @@
 -- The first byte behind its white space tells what lies at a place.
 use Rattle.std.proofs.Common.{◌≡◌, ℕ, List, [], ◌∷◌, ◌++◌, drop, true, false, refl, arith}
-use Rattle.smithy_json.specs.Ascii.{quotation_mark, begin_array, begin_object}
-use Rattle.smithy_json.specs.Tree.{Json, null, boolean, number, string, array, object, Elements, no_elements, element, Members, no_members, member}
-use Rattle.smithy_json.specs.Grammar.{IsNumber, IsValue}
+use Rattle.smithy_json_grammar.specs.Ascii.{quotation_mark, begin_array, begin_object}
+use Rattle.smithy_json_grammar.specs.Tree.{Json, null, boolean, number, string, array, object, Elements, no_elements, element, Members, no_members, member}
+use Rattle.smithy_json_grammar.specs.Grammar.{IsNumber, IsValue}
 use Rattle.smithy_json_values.specs.Standing.{TreeLies, without_ws}
 use Rattle.smithy_json_values.specs.Private.Lexical.{first, is_numeric, number_pass, number_fills}
 use Rattle.smithy_json_values.specs.Private.ValuePlaces.{past_value}

@@ -1,12 +1,12 @@
 -- What a token of a grammar says as a kind stands at the place of a scalar, and nothing else does; whatever the grammar.
 use Rattle.std.specs.Prelude.{◌≡◌, ℕ, List, Bool, true, false, Some, None, if◌then◌else◌, refl}
 use Rattle.std.proofs.Common.{◌∙◌, ap}
-use Rattle.smithy_shapes.specs.declared.shape_type.Scalar.{Scalar}
-use Rattle.smithy_shapes.specs.declared.place.Place.{Place}
+use Rattle.smithy_declarations.specs.declared.shape_type.Scalar.{Scalar}
+use Rattle.smithy_declarations.specs.declared.place.Place.{Place}
 use Rattle.smithy_shapes.specs.Limits.{Limits}
-use Rattle.smithy_shapes.specs.Table.{scalar_place}
+use Rattle.smithy_declarations.specs.Table.{scalar_place}
 use Rattle.smithy_shapes.specs.Site.{Site}
-use Rattle.smithy_shapes.specs.Value.{Value, null_element}
+use Rattle.smithy_declarations.specs.Value.{Value, null_element}
 use Rattle.smithy_schema.specs.Reading.{Cursor, depth, StandsNot, Exceeds, Uncarried}
 use Rattle.smithy_json_values.specs.Settings.{Settings}
 use Rattle.smithy_json_values.specs.Scalar.{JsonScalar, says}

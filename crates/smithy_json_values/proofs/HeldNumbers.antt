@@ -4,12 +4,12 @@ use Rattle.std.proofs.lemmas.List.{drop_more}
 use Rattle.smithy_texts.specs.Ranges.{fits_signed}
 use Rattle.smithy_types.specs.declared.number.Number.TheVariants.{PosInt, NegInt}
 use Rattle.smithy_types.specs.Document.{is_document_number}
-use Rattle.smithy_json.specs.Ascii.{minus_sign, is_ws}
-use Rattle.smithy_json.specs.HeldNumber.{held_as, number_of}
-use Rattle.smithy_json.specs.Number.{whole_number}
-use Rattle.smithy_json.specs.NumberGrammar.{standard_numbers}
-use Rattle.smithy_json.specs.Standing.{IsRunAt, IsLongAt}
-use Rattle.smithy_json.proofs.HeldNumberLemmas.{long_held}
+use Rattle.smithy_json_grammar.specs.Ascii.{minus_sign, is_ws}
+use Rattle.smithy_json_grammar.specs.HeldNumber.{held_as, number_of}
+use Rattle.smithy_json_grammar.specs.Number.{whole_number}
+use Rattle.smithy_json_grammar.specs.NumberGrammar.{standard_numbers}
+use Rattle.smithy_json_grammar.specs.Standing.{IsRunAt, IsLongAt}
+use Rattle.smithy_json_grammar.proofs.HeldNumberLemmas.{long_held}
 use Rattle.smithy_json_values.specs.Settings.{Settings}
 use Rattle.smithy_json_values.specs.LexicalGrammar.{grammar_of, number_test, is_lenient_integer, is_lenient_decimal}
 use Rattle.smithy_json_values.specs.Private.NextInContainer.{IsFirstByte}

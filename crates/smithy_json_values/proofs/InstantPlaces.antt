@@ -4,10 +4,10 @@ use Rattle.std.specs.Prelude.{option_map, if◌then◌else◌}
 use Rattle.smithy_instants.specs.declared.format.Format.{Format}
 use Rattle.smithy_instants.specs.DateText.{date_of}
 use Rattle.smithy_instants.specs.Epoch.{epoch_nanos}
-use Rattle.smithy_json.specs.Unescape.{unescaped}
-use Rattle.smithy_shapes.specs.declared.shape_type.Scalar.TheVariants as scalars
-use Rattle.smithy_shapes.specs.declared.shape_type.TimestampFormat.{TimestampFormat}
-use Rattle.smithy_shapes.specs.Value.{instant, scalar_value}
+use Rattle.smithy_json_grammar.specs.Unescape.{unescaped}
+use Rattle.smithy_declarations.specs.declared.shape_type.Scalar.TheVariants as scalars
+use Rattle.smithy_declarations.specs.declared.shape_type.TimestampFormat.{TimestampFormat}
+use Rattle.smithy_declarations.specs.Value.{instant, scalar_value}
 use Rattle.smithy_wire.specs.Rules.{no_meaning, answer_of}
 use Rattle.smithy_json_values.specs.Settings.{Settings}
 use Rattle.smithy_json_values.specs.Scalar.{a_boolean, a_number, a_string, takes_seconds, string_form, seconds_read_as, date_says, timestamp_says}

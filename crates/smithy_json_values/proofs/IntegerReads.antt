@@ -10,17 +10,17 @@ use Rattle.smithy_texts.specs.Numeral.{are_digits, begins_with, without_sign, ma
 use Rattle.smithy_texts.specs.Decimal.{coefficient, is_decimal, written_exponent, net_exponent}
 use Rattle.smithy_instants.specs.Epoch.{scaled}
 use Rattle.smithy_shapes.specs.Lemmas.Options.{same_some, step_apart, chosen, made}
-use Rattle.smithy_json.specs.Ascii.{is_ws, is_numeric, minus_sign, plus_sign}
-use Rattle.smithy_json.specs.Grammar.{IsInt, AreDigits}
-use Rattle.smithy_json.specs.Number.{natural_number, whole_number, signed_number, long_number, integral_number}
-use Rattle.smithy_json.specs.NumberGrammar.{standard_numbers, IsIntOf, IsNumberOf}
-use Rattle.smithy_json.specs.NumberText.{is_number_of}
-use Rattle.smithy_json.specs.Standing.{IsRunAt, StandsAt, IsLongAt, IsSignedAt}
-use Rattle.smithy_json.specs.declared.number_grammar.NumberGrammar.{NumberGrammar}
-use Rattle.smithy_json.proofs.AllowedNumberLemmas.{tells_numbers_of}
-use Rattle.smithy_json.proofs.NumberTextLemmas.{tells_numbers}
-use Rattle.smithy_json.proofs.SliceLemmas.{length-slice}
-use Rattle.smithy_json.proofs.WholeLemmas.{int_digits}
+use Rattle.smithy_json_grammar.specs.Ascii.{is_ws, is_numeric, minus_sign, plus_sign}
+use Rattle.smithy_json_grammar.specs.Grammar.{IsInt, AreDigits}
+use Rattle.smithy_json_grammar.specs.Number.{natural_number, whole_number, signed_number, long_number, integral_number}
+use Rattle.smithy_json_grammar.specs.NumberGrammar.{standard_numbers, IsIntOf, IsNumberOf}
+use Rattle.smithy_json_grammar.specs.NumberText.{is_number_of}
+use Rattle.smithy_json_grammar.specs.Standing.{IsRunAt, StandsAt, IsLongAt, IsSignedAt}
+use Rattle.smithy_json_grammar.specs.declared.number_grammar.NumberGrammar.{NumberGrammar}
+use Rattle.smithy_json_grammar.proofs.AllowedNumberLemmas.{tells_numbers_of}
+use Rattle.smithy_json_grammar.proofs.NumberTextLemmas.{tells_numbers}
+use Rattle.smithy_json_grammar.proofs.SliceLemmas.{length-slice}
+use Rattle.smithy_json_grammar.proofs.WholeLemmas.{int_digits}
 use Rattle.smithy_json_values.specs.Settings.{Settings}
 use Rattle.smithy_json_values.specs.Scalar.{integer_of}
 use Rattle.smithy_json_values.specs.LexicalGrammar.{number_test, is_lenient_integer, grammar_of}

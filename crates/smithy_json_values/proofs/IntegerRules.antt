@@ -1,7 +1,7 @@
 -- What settings are, by the rule for integers that they make.
 use Rattle.std.proofs.Common.{◌≡◌, Bool, true, false, not, ◌&&◌, refl}
-use Rattle.smithy_json.specs.NumberGrammar.{standard_numbers}
-use Rattle.smithy_json.specs.declared.number_grammar.NumberGrammar.{NumberGrammar}
+use Rattle.smithy_json_grammar.specs.NumberGrammar.{standard_numbers}
+use Rattle.smithy_json_grammar.specs.declared.number_grammar.NumberGrammar.{NumberGrammar}
 use Rattle.smithy_json_values.specs.declared.integers.IntegerRule.{IntegerRule}
 use Rattle.smithy_json_values.specs.declared.integers.IntegerRule.TheVariants.{Standard, OfGrammar, Signed, Integral}
 use Rattle.smithy_json_values.specs.Private.IntegerRules.{is_standard, integer_rule}

@@ -4,9 +4,9 @@ use Rattle.std.specs.Prelude.{◌==◌, ◌&&◌, not}
 use Rattle.std.proofs.lemmas.Bool.{and_parts}
 use Rattle.std.proofs.lemmas.Bool.Decides.{nat_tests}
 use Rattle.std.proofs.lemmas.List.{length-drop, length-append, drop-drop}
-use Rattle.smithy_json.specs.Ascii.{is_ws}
-use Rattle.smithy_json.specs.Standing.{IsRunAt}
-use Rattle.smithy_json.proofs.SliceLemmas.{slice_between}
+use Rattle.smithy_json_grammar.specs.Ascii.{is_ws}
+use Rattle.smithy_json_grammar.specs.Standing.{IsRunAt}
+use Rattle.smithy_json_grammar.proofs.SliceLemmas.{slice_between}
 use Rattle.smithy_json_values.specs.Scalar.{a_boolean}
 use Rattle.smithy_json_values.specs.Spans.{Lies, begins_with_alphanumeric, begins_with_null}
 use Rattle.smithy_json_values.specs.Tokens.{BoundaryBy, IsToken, token_frames}

@@ -1,12 +1,12 @@
 -- How lists and objects go on.
 use Rattle.std.proofs.Common.{◌≡◌, ◌≢◌, ◌+◌, ℕ, List, [], drop, Bool, true, false, None, IsTrue, ◌↔◌, refl, sym, ◌∙◌, arith, subst}
 use Rattle.std.specs.Bool.{then_some}
-use Rattle.smithy_json.specs.Ascii.{value_separator, end_array, end_object}
+use Rattle.smithy_json_grammar.specs.Ascii.{value_separator, end_array, end_object}
 use Rattle.smithy_json_values.specs.declared.places.InList.TheVariants.{End as EndOfList}
 use Rattle.smithy_json_values.specs.LexicalGrammar.{LexicalGrammar}
 use Rattle.smithy_json_values.specs.Spans.{Lies, IsByte, IsSeparated, without_ws}
 use Rattle.smithy_json_values.specs.Tokens.{BoundaryBy, EndsInside, IsNameToken, NameTokens}
-use Rattle.smithy_json.specs.Grammar.{IsWs}
+use Rattle.smithy_json_grammar.specs.Grammar.{IsWs}
 use Rattle.smithy_json_values.specs.Private.BytePlaces.{same_separated}
 use Rattle.smithy_json_values.specs.Private.TokenPlaces.{past_name, names_or_end}
 use Rattle.smithy_json_values.specs.Private.NextInContainer.{IsFirstByte, IsNotFirst, ClosesIn, ElementBegins, GoesOnInList, NameIsDue, GoesOnToName}

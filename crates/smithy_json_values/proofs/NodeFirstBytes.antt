@@ -1,8 +1,8 @@
 -- The first byte behind its white space tells which node lies at a place.
 use Rattle.std.proofs.Common.{◌≤◌, ◌≡◌, ◌+◌, ◌∙◌, ℕ, List, [], ◌∷◌, ◌++◌, drop, Bool, true, false, length, refl, sym, ap, arith, subst}
 use Rattle.std.proofs.lemmas.List.{length-drop, length-append}
-use Rattle.smithy_json.specs.Ascii.{quotation_mark, is_ws}
-use Rattle.smithy_json.specs.Grammar.{IsWs}
+use Rattle.smithy_json_grammar.specs.Ascii.{quotation_mark, is_ws}
+use Rattle.smithy_json_grammar.specs.Grammar.{IsWs}
 use Rattle.smithy_json_values.specs.Scalar.{JsonScalar, a_boolean, a_number, a_string}
 use Rattle.smithy_json_values.specs.Spans.{Lies, IsByte, without_ws, begins_with_null, opening}
 use Rattle.smithy_json_values.specs.Tokens.{is_numeric, IsToken}

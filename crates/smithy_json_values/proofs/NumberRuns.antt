@@ -4,15 +4,15 @@ use Rattle.std.proofs.lemmas.Bool.Decides.{nat_tests}
 use Rattle.std.proofs.lemmas.List.{length-append, length-drop, get_or-drop, get_or-take}
 use Rattle.std.proofs.lemmas.Str.{IsUtf8-from_ascii}
 use Rattle.std.specs.List.{AllByRecursion}
-use Rattle.smithy_json.specs.Ascii.{is_ws, is_numeric}
-use Rattle.smithy_json.specs.Grammar.{IsInt}
-use Rattle.smithy_json.specs.NumberGrammar.{IsIntOf, IsNumberOf}
-use Rattle.smithy_json.specs.NumberText.{is_number_of}
-use Rattle.smithy_json.specs.Standing.{IsRunAt, StandsAt}
-use Rattle.smithy_json.specs.declared.number_grammar.NumberGrammar.{NumberGrammar}
-use Rattle.smithy_json.proofs.AllowedNumberLemmas.{tells_numbers_of}
-use Rattle.smithy_json.proofs.NumberRunLemmas.{number_is_run}
-use Rattle.smithy_json.proofs.SliceLemmas.{length-slice}
+use Rattle.smithy_json_grammar.specs.Ascii.{is_ws, is_numeric}
+use Rattle.smithy_json_grammar.specs.Grammar.{IsInt}
+use Rattle.smithy_json_grammar.specs.NumberGrammar.{IsIntOf, IsNumberOf}
+use Rattle.smithy_json_grammar.specs.NumberText.{is_number_of}
+use Rattle.smithy_json_grammar.specs.Standing.{IsRunAt, StandsAt}
+use Rattle.smithy_json_grammar.specs.declared.number_grammar.NumberGrammar.{NumberGrammar}
+use Rattle.smithy_json_grammar.proofs.AllowedNumberLemmas.{tells_numbers_of}
+use Rattle.smithy_json_grammar.proofs.NumberRunLemmas.{number_is_run}
+use Rattle.smithy_json_grammar.proofs.SliceLemmas.{length-slice}
 use Rattle.smithy_json_values.specs.Settings.{Settings}
 use Rattle.smithy_json_values.specs.Scalar.{a_number}
 use Rattle.smithy_json_values.specs.Tokens.{IsNumberRun, EndsRun, IsToken}

@@ -1,7 +1,7 @@
 -- A number of a sort of big numbers that lies at a place is in the grammar, as the kind that is read so.
 use Rattle.std.proofs.Common.{◌≡◌, ◌∙◌, ℕ, List, Bool, true, false, refl, sym}
 use Rattle.std.specs.Prelude.{if◌then◌else◌}
-use Rattle.smithy_json.specs.NumberText.{is_number_of}
+use Rattle.smithy_json_grammar.specs.NumberText.{is_number_of}
 use Rattle.smithy_json_values.specs.declared.number_runs.NumberSort.{NumberSort}
 use Rattle.smithy_json_values.specs.declared.number_runs.NumberSort.TheVariants as sorts
 use Rattle.smithy_json_values.specs.Settings.{Settings}

@@ -3,7 +3,7 @@
 use Rattle.std.proofs.Common.{◌≡◌, ◌-◌, ◌||◌, ◌==◌, ℕ, zero, suc, List, [], ◌∷◌, take, Bool, true, false, ℤ, pos, negsuc, ◌+ℤ◌, ◌≤ℤ◌, if◌then◌else◌, refl, sym, ap, arith, ◌⊎◌, inl, inr}
 use Rattle.std.specs.Prelude.{codes}
 use Rattle.std.proofs.lemmas.Int.{ints}
-use Rattle.smithy_json.specs.Ascii.{begin_array, end_array, begin_object, end_object}
+use Rattle.smithy_json_grammar.specs.Ascii.{begin_array, end_array, begin_object, end_object}
 use Rattle.smithy_json_values.specs.Openers.{Where, outside, inside, after_escape, where_next, rise_with, greatest_rise, json_openers}
 
 -- an array in an array

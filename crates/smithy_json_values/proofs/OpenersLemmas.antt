@@ -2,9 +2,9 @@
 -- are open at once as the skipper has open, together with the brackets that open from the skipper's place on. Each move of the
 -- skipper keeps this. So where a bracket comes too deep for the skipper, the bytes go as deep.
 use Rattle.std.proofs.Common.{◌≡◌, ◌≤◌, ◌<◌, ◌+◌, ◌-◌, ℕ, suc, List, drop, Bool, true, false, arith}
-use Rattle.smithy_json.specs.Ascii.{begin_array, end_array, begin_object, end_object}
-use Rattle.smithy_json.specs.Tree.{Json}
-use Rattle.smithy_json.specs.Grammar.{IsValue}
+use Rattle.smithy_json_grammar.specs.Ascii.{begin_array, end_array, begin_object, end_object}
+use Rattle.smithy_json_grammar.specs.Tree.{Json}
+use Rattle.smithy_json_grammar.specs.Grammar.{IsValue}
 use Rattle.smithy_json_values.specs.Scalar.{JsonScalar}
 use Rattle.smithy_json_values.specs.Standing.{Lies, IsByte, IsSeparated, Names}
 use Rattle.smithy_json_values.specs.Tokens.{NameTokens}

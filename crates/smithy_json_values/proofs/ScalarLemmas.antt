@@ -1,6 +1,6 @@
 -- Where no scalar of the kind that a byte begins lies, no value lies at all.
 use Rattle.std.proofs.Common.{◌≡◌, ◌≢◌, ◌⊎◌, inl, inr, ◌+◌, ℕ, List, Bool, true, false, refl, arith}
-use Rattle.smithy_json.specs.Ascii.{quotation_mark, begin_array, begin_object}
+use Rattle.smithy_json_grammar.specs.Ascii.{quotation_mark, begin_array, begin_object}
 use Rattle.smithy_json_values.specs.LexicalGrammar.{LexicalGrammar, NodeLies}
 use Rattle.smithy_json_values.specs.Scalar.{JsonScalar, a_boolean, a_number, a_string}
 use Rattle.smithy_json_values.specs.Tokens.{is_numeric}

@@ -1,10 +1,10 @@
 -- From the places that scanners find to what lies behind white space.
 use Rattle.std.proofs.Common.{◌≡◌, ◌+◌, ◌-◌, ◌<◌, ◌≤◌, ℕ, suc, List, [], ◌∷◌, ◌++◌, length, drop, get_or, slice_range, true, false, sym, ap, ◌∙◌, arith, subst}
 use Rattle.std.proofs.lemmas.List.{length-drop, length-append, get_or-drop, get_or-take}
-use Rattle.smithy_json.specs.Ascii.{is_ws}
-use Rattle.smithy_json.specs.Grammar.{IsWs}
-use Rattle.smithy_json.specs.Standing.{IsRunAt}
-use Rattle.smithy_json.proofs.SliceLemmas.{drop-slice, length-slice, slice_between}
+use Rattle.smithy_json_grammar.specs.Ascii.{is_ws}
+use Rattle.smithy_json_grammar.specs.Grammar.{IsWs}
+use Rattle.smithy_json_grammar.specs.Standing.{IsRunAt}
+use Rattle.smithy_json_grammar.proofs.SliceLemmas.{drop-slice, length-slice, slice_between}
 use Rattle.smithy_json_values.specs.Standing.{Lies, without_ws}
 use Rattle.smithy_json_values.specs.Private.Lexical.{Stops, past_ws}
 

@@ -1,11 +1,11 @@
 -- What stands between two quotation marks behind white space is the token of a string that lies there, and back.
 use Rattle.std.proofs.Common.{◌≡◌, ◌+◌, ◌-◌, ◌≤◌, ℕ, suc, List, [], ◌∷◌, ◌++◌, length, drop, get_or, slice_index, slice_range, Bool, sym, ap, ◌∙◌, arith, refl, subst, append_assoc}
 use Rattle.std.proofs.lemmas.List.{length-drop, length-append, drop_more, drop-drop, get_or-drop}
-use Rattle.smithy_json.specs.Ascii.{quotation_mark, name_separator, is_ws}
-use Rattle.smithy_json.specs.StringText.{IsQuoted}
-use Rattle.smithy_json.specs.Standing.{IsRunAt, IsQuotedAt}
-use Rattle.smithy_json.proofs.LenientTextLemmas.{one_closing}
-use Rattle.smithy_json.proofs.SliceLemmas.{drop-slice, slice_between, drop_past_text}
+use Rattle.smithy_json_grammar.specs.Ascii.{quotation_mark, name_separator, is_ws}
+use Rattle.smithy_json_grammar.specs.StringText.{IsQuoted}
+use Rattle.smithy_json_grammar.specs.Standing.{IsRunAt, IsQuotedAt}
+use Rattle.smithy_json_grammar.proofs.LenientTextLemmas.{one_closing}
+use Rattle.smithy_json_grammar.proofs.SliceLemmas.{drop-slice, slice_between, drop_past_text}
 use Rattle.smithy_json_values.specs.Scalar.{a_string}
 use Rattle.smithy_json_values.specs.Spans.{Lies, IsByte}
 use Rattle.smithy_json_values.specs.Tokens.{BoundaryBy, IsToken, IsNameToken, token_frames}

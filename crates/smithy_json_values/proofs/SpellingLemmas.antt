@@ -1,12 +1,12 @@
 -- Whole inputs: what spells a value is what stands at their start, with nothing but white space behind it.
 use Rattle.std.proofs.Common.{◌≡◌, ◌↔◌, ℕ, zero, suc, length, List, [], drop, Some, refl, sym, ◌∙◌, ap, arith, inl, inr}
 use Rattle.std.proofs.lemmas.List.{drop_all}
-use Rattle.smithy_shapes.specs.declared.place.Place.{Place}
-use Rattle.smithy_shapes.specs.Table.{Table, Kind, document, structure_of, kind_of, IsStructure, IsContainer}
-use Rattle.smithy_shapes.specs.Value.{Value, structure, no_member_values}
+use Rattle.smithy_declarations.specs.declared.place.Place.{Place}
+use Rattle.smithy_declarations.specs.Table.{Table, Kind, document, structure_of, kind_of, IsStructure, IsContainer}
+use Rattle.smithy_declarations.specs.Value.{Value, structure, no_member_values}
 use Rattle.smithy_shapes.specs.Lemmas.Options.{same_some, chosen}
-use Rattle.smithy_json.specs.Tree.{Json, null, boolean, number, string, array, object}
-use Rattle.smithy_json.specs.Grammar.{IsWs, IsValue, IsJsonText}
+use Rattle.smithy_json_grammar.specs.Tree.{Json, null, boolean, number, string, array, object}
+use Rattle.smithy_json_grammar.specs.Grammar.{IsWs, IsValue, IsJsonText}
 use Rattle.smithy_json_values.specs.Settings.{Settings, is_shallow}
 use Rattle.smithy_json_values.specs.Scalar.{JsonScalar, a_boolean, a_number, a_string}
 use Rattle.smithy_json_values.specs.Meaning.{node_of, rules_of, json_meaning}

@@ -1,10 +1,10 @@
 -- The strings that scanners find, and those of the grammars of settings.
 use Rattle.std.proofs.Common.{◌≡◌, ◌+◌, ℕ, List, slice_range, Bool, true, false, Option, Some, None, refl, sym, ◌∙◌}
 use Rattle.std.specs.Prelude.{◌&&◌, IfSome, IfNone}
-use Rattle.smithy_json.specs.StringText.{is_string_text, escapes_are_valid, is_plain_text, is_lenient_text}
-use Rattle.smithy_json.specs.Standing.{IsStringAt, IsQuotedAt}
-use Rattle.smithy_json.specs.declared.string_text.ScannedString.{ScannedString}
-use Rattle.smithy_json.proofs.LenientTextLemmas.{string_is_lenient}
+use Rattle.smithy_json_grammar.specs.StringText.{is_string_text, escapes_are_valid, is_plain_text, is_lenient_text}
+use Rattle.smithy_json_grammar.specs.Standing.{IsStringAt, IsQuotedAt}
+use Rattle.smithy_json_grammar.specs.declared.string_text.ScannedString.{ScannedString}
+use Rattle.smithy_json_grammar.proofs.LenientTextLemmas.{string_is_lenient}
 use Rattle.smithy_json_values.specs.Scalar.{a_string}
 use Rattle.smithy_json_values.specs.LexicalGrammar.{reads_text, skips_text}
 use Rattle.smithy_json_values.specs.Private.TokenGrammar.{skipped_in, skipped_is}

@@ -2,10 +2,10 @@
 use Rattle.std.proofs.Common.{◌≡◌, ℕ, List, length, true, false, Some, None, Ok, sym, ap, ◌∙◌, inl, inr}
 use Rattle.std.proofs.lemmas.Bool.Decides.{eqb_tells}
 use Rattle.std.specs.List.{prefix_len}
-use Rattle.smithy_json.specs.Unescape.{unescape, unescaped, has_escape}
-use Rattle.smithy_json.specs.Private.Unescaping.{is_no_escape}
-use Rattle.smithy_json.proofs.UnescapingLemmas.{no_escape_is_text, some_escape_run}
-use Rattle.smithy_shapes.specs.declared.shape_type.Scalar.TheVariants as scalars
+use Rattle.smithy_json_grammar.specs.Unescape.{unescape, unescaped, has_escape}
+use Rattle.smithy_json_grammar.specs.Private.Unescaping.{is_no_escape}
+use Rattle.smithy_json_grammar.proofs.UnescapingLemmas.{no_escape_is_text, some_escape_run}
+use Rattle.smithy_declarations.specs.declared.shape_type.Scalar.TheVariants as scalars
 use Rattle.smithy_json_values.specs.LexicalGrammar.{LexicalGrammar, LiesInGrammar}
 use Rattle.smithy_json_values.specs.Scalar.{a_string, bytes_of}
 use Rattle.smithy_json_values.specs.Private.ScalarAtPlace.{TextLies, BlobLies}

@@ -1,8 +1,8 @@
 -- What is refused by its type, at small inputs.
 use Rattle.std.proofs.Common.{◌≡◌, [], ◌∷◌, map, true, false, Some, None, refl, codes, replicate}
-use Rattle.smithy_shapes.specs.declared.shape_type.Scalar.TheVariants as scalars
-use Rattle.smithy_shapes.specs.declared.shape_type.TimestampFormat.TheVariants.{DateTime}
-use Rattle.smithy_shapes.specs.Table.{structure_of, union_of}
+use Rattle.smithy_declarations.specs.declared.shape_type.Scalar.TheVariants as scalars
+use Rattle.smithy_declarations.specs.declared.shape_type.TimestampFormat.TheVariants.{DateTime}
+use Rattle.smithy_declarations.specs.Table.{structure_of, union_of}
 use Rattle.smithy_json_values.specs.Settings.{default_settings}
 use Rattle.smithy_json_values.specs.Codec.{strict_settings}
 use Rattle.smithy_json_values.specs.TypeMismatch.{scalar_mismatches, type_mismatches}

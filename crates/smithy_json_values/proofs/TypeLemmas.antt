@@ -1,9 +1,9 @@
 -- A container that doesn't begin is refused by its type, but for a structure where nothing comes.
 use Rattle.std.proofs.Common.{◌≡◌, ◌↔◌, ℕ, List, [], ◌∷◌, length, Bool, true, false, Option, refl, sym, ap, arith}
 use Rattle.std.specs.Prelude.{◌==◌, not, if◌then◌else◌}
-use Rattle.smithy_shapes.specs.declared.shape_type.TimestampFormat.{TimestampFormat}
-use Rattle.smithy_shapes.specs.Table.{Kind, structure_of, union_of, list_of, map_of, IsStructure, HasMembers, IsList, IsMap}
-use Rattle.smithy_json.specs.Ascii.{begin_array, begin_object}
+use Rattle.smithy_declarations.specs.declared.shape_type.TimestampFormat.{TimestampFormat}
+use Rattle.smithy_declarations.specs.Table.{Kind, structure_of, union_of, list_of, map_of, IsStructure, HasMembers, IsList, IsMap}
+use Rattle.smithy_json_grammar.specs.Ascii.{begin_array, begin_object}
 use Rattle.smithy_json_values.specs.Settings.{Settings}
 use Rattle.smithy_json_values.specs.TypeMismatch.{begins_by, type_mismatches}
 

@@ -1,10 +1,10 @@
 -- What lies from the first byte behind white space on, and that a value begins with this byte.
 use Rattle.std.proofs.Common.{append_assoc, ◌≤◌, ◌≡◌, ◌+◌, ◌∙◌, ℕ, List, [], ◌∷◌, ◌++◌, drop, false, length, slice_range, sym, ap, arith, subst, take, ◌-◌}
 use Rattle.std.proofs.lemmas.List.{drop_more, length-drop, length-append}
-use Rattle.smithy_json.proofs.SliceLemmas.{drop-slice}
-use Rattle.smithy_json.specs.Ascii.{is_ws}
-use Rattle.smithy_json.specs.Grammar.{IsWs}
-use Rattle.smithy_json.specs.Tree.{Json, null, boolean, number, string, array, object, nesting}
+use Rattle.smithy_json_grammar.proofs.SliceLemmas.{drop-slice}
+use Rattle.smithy_json_grammar.specs.Ascii.{is_ws}
+use Rattle.smithy_json_grammar.specs.Grammar.{IsWs}
+use Rattle.smithy_json_grammar.specs.Tree.{Json, null, boolean, number, string, array, object, nesting}
 use Rattle.smithy_json_values.specs.Standing.{Lies, IsByte, Follows, TreeLies, without_ws}
 use Rattle.smithy_json_values.specs.Private.Lexical.{first, value_begins}
 use Rattle.smithy_json_values.specs.Private.BytePlaces.{past_byte}

@@ -2,8 +2,8 @@
 use Rattle.std.specs.Prelude.{◌≡◌, ◌↔◌, ℕ, List, false}
 use Rattle.std.specs.Cow.{IsBorrowedStr}
 use Rattle.std.specs.declared.borrow.CowStr.{CowStr}
-use Rattle.smithy_shapes.specs.declared.shape_type.Scalar.TheVariants as scalars
-use Rattle.smithy_json.specs.Unescape.{has_escape}
+use Rattle.smithy_declarations.specs.declared.shape_type.Scalar.TheVariants as scalars
+use Rattle.smithy_json_grammar.specs.Unescape.{has_escape}
 use Rattle.smithy_json_values.specs.LexicalGrammar.{LexicalGrammar, LiesInGrammar}
 use Rattle.smithy_json_values.specs.Scalar.{a_string}
 

@@ -2,9 +2,9 @@
 use Rattle.std.specs.Prelude.{◌≡◌, ◌⊎◌, ◌+◌, ℕ, length, drop, List, Bool, Option, Some, None, if◌then◌else◌}
 use Rattle.smithy_types.specs.Document.{Document}
 use Rattle.smithy_types.specs.declared.number.Number.{Number}
-use Rattle.smithy_shapes.specs.declared.shape_type.Scalar.TheVariants as scalars
-use Rattle.smithy_json.specs.Tree.{Json}
-use Rattle.smithy_json.specs.HeldNumber.{number_of}
+use Rattle.smithy_declarations.specs.declared.shape_type.Scalar.TheVariants as scalars
+use Rattle.smithy_json_grammar.specs.Tree.{Json}
+use Rattle.smithy_json_grammar.specs.HeldNumber.{number_of}
 use Rattle.smithy_json.specs.DocumentMeaning.{document_meaning}
 use Rattle.smithy_json_values.specs.Settings.{Settings, Limits, kept, lifted}
 use Rattle.smithy_json_values.specs.Scalar.{JsonScalar, a_number, document_says}

@@ -2,9 +2,9 @@
 use Rattle.std.specs.Prelude.{◌≡◌, ◌↔◌, ℕ, List, true, option_map}
 use Rattle.smithy_types.specs.Document.{Document, whole_document}
 use Rattle.smithy_types.specs.declared.number.Number.{Number}
-use Rattle.smithy_shapes.specs.declared.place.Place.{Place}
-use Rattle.smithy_shapes.specs.Table.{Table, document, kind_of}
-use Rattle.smithy_json.specs.Tree.{Json}
+use Rattle.smithy_declarations.specs.declared.place.Place.{Place}
+use Rattle.smithy_declarations.specs.Table.{Table, document, kind_of}
+use Rattle.smithy_json_grammar.specs.Tree.{Json}
 use Rattle.smithy_json.specs.DocumentMeaning.{document_meaning}
 use Rattle.smithy_schema.specs.Reading.{IsLawful, StandsFit, CountsOpeners, IsBelow}
 use Rattle.smithy_json_values.specs.Settings.{Settings, kept, without_limits}
@@ -14,7 +14,7 @@ use Rattle.smithy_json_values.specs.Standing.{json_grammar, json_rules, json_rel
 use Rattle.smithy_json_values.specs.Documents.{depth_limit, DocumentStands}
 use Rattle.smithy_json_values.specs.Private.DocumentNodes as documents
 use Rattle.smithy_json_values.specs.Private.TokenLaws as tokens
-use Rattle.smithy_shapes.specs.Value.{document_value}
+use Rattle.smithy_declarations.specs.Value.{document_value}
 use Rattle.smithy_wire.specs.Wire.{RulesFit}
 use Rattle.smithy_wire.specs.Laws as wire
 

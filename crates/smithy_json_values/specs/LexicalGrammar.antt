@@ -3,11 +3,11 @@
 use Rattle.std.specs.Prelude.{◌≡◌, ℕ, ◌&&◌, drop, List, Bool, true, false, Some, None, if◌then◌else◌}
 use Rattle.smithy_texts.specs.Numeral.{are_digits, without_sign, without_minus}
 use Rattle.smithy_texts.specs.Decimal.{is_decimal}
-use Rattle.smithy_shapes.specs.declared.shape_type.Scalar.{Scalar}
-use Rattle.smithy_shapes.specs.declared.shape_type.Scalar.TheVariants as scalars
+use Rattle.smithy_declarations.specs.declared.shape_type.Scalar.{Scalar}
+use Rattle.smithy_declarations.specs.declared.shape_type.Scalar.TheVariants as scalars
 use Rattle.smithy_schema.specs.Reading.{Relations}
-pub use Rattle.smithy_json.specs.StringText.{is_unescaped, begins_with_four_hex_digits, is_escape, are_chars, is_string_text, escapes_are_valid, is_plain_text, is_lenient_text}
-use Rattle.smithy_json.specs.NumberText.{is_number, is_number_of}
+pub use Rattle.smithy_json_grammar.specs.StringText.{is_unescaped, begins_with_four_hex_digits, is_escape, are_chars, is_string_text, escapes_are_valid, is_plain_text, is_lenient_text}
+use Rattle.smithy_json_grammar.specs.NumberText.{is_number, is_number_of}
 use Rattle.smithy_json_values.specs.Settings.{Settings}
 use Rattle.smithy_json_values.specs.Scalar.{JsonScalar, a_boolean, a_number, a_string, text_of, document_says}
 use Rattle.smithy_json_values.specs.Meaning.{rules_of}

@@ -1,10 +1,10 @@
 -- What a JSON value means at a place of a table: what its node means under the rules of JSON.
 use Rattle.std.specs.Prelude.{ℕ, ◌||◌, Option, Some, None, true, false}
 use Rattle.std.specs.Option.{option_map_or}
-use Rattle.smithy_shapes.specs.declared.place.Place.{Place}
-use Rattle.smithy_shapes.specs.Table.{Table, is_document_place}
-use Rattle.smithy_shapes.specs.Value.{Value}
-use Rattle.smithy_json.specs.Tree.{Json, null, boolean, number, string, array, object, Elements, no_elements, element, Members, no_members, member}
+use Rattle.smithy_declarations.specs.declared.place.Place.{Place}
+use Rattle.smithy_declarations.specs.Table.{Table, is_document_place}
+use Rattle.smithy_declarations.specs.Value.{Value}
+use Rattle.smithy_json_grammar.specs.Tree.{Json, null, boolean, number, string, array, object, Elements, no_elements, element, Members, no_members, member}
 use Rattle.smithy_json_values.specs.Settings.{Settings, name_of}
 use Rattle.smithy_json_values.specs.Scalar.{JsonScalar, a_boolean, a_number, a_string, text_of, says, document_says}
 use Rattle.smithy_wire.specs.Node.{Node, null_node, leaf, container, as_array, as_object, Nodes, no_nodes, node}

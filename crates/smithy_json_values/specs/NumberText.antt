@@ -1,6 +1,6 @@
 -- Where the text of a big number lies, which a read of one keeps.
 use Rattle.std.specs.Prelude.{◌≡◌, ℕ, List, Some}
-use Rattle.smithy_shapes.specs.declared.shape_type.Scalar.{Scalar}
+use Rattle.smithy_declarations.specs.declared.shape_type.Scalar.{Scalar}
 use Rattle.smithy_json_values.specs.Scalar.{JsonScalar, number_text}
 use Rattle.smithy_json_values.specs.LexicalGrammar.{LexicalGrammar, LiesInGrammar}
 

@@ -1,6 +1,6 @@
 -- How many arrays and objects are open at once, by the bytes alone, which needn't be a JSON text.
 use Rattle.std.specs.Prelude.{ℕ, suc, ◌-◌, List, [], ◌∷◌, ◌==◌, ◌||◌, if◌then◌else◌}
-use Rattle.smithy_json.specs.Ascii.{quotation_mark, escape, begin_array, end_array, begin_object, end_object}
+use Rattle.smithy_json_grammar.specs.Ascii.{quotation_mark, escape, begin_array, end_array, begin_object, end_object}
 
 -- where a byte stands: outside a string, inside one, or inside one behind a backslash
 pub data Where : Type 0 where

@@ -1,6 +1,6 @@
 -- What reading and writing JSON depend on beside table and place.
 use Rattle.std.specs.Prelude.{ℕ, List, Bool, if◌then◌else◌}
-use Rattle.smithy_shapes.specs.Table.{Member, json_name_of}
+use Rattle.smithy_declarations.specs.Table.{Member, json_name_of}
 pub use Rattle.smithy_shapes.specs.Limits.{Limits, kept, lifted, is_within}
 pub use Rattle.smithy_json_settings.specs.Settings.{Settings, default_settings}
 

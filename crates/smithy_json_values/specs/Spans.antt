@@ -2,8 +2,8 @@
 use Rattle.std.specs.Prelude.{◌≡◌, ◌≤◌, ◌==◌, ◌&&◌, ℕ, length, drop, List, [], ◌∷◌, ◌++◌, None, Bool, true, false, not, if◌then◌else◌}
 use Rattle.std.specs.Char.{is_ascii_alphanumeric}
 use Rattle.smithy_schema.specs.Reading.{Mark}
-use Rattle.smithy_json.specs.Ascii.{value_separator, begin_array, end_array, begin_object, end_object, is_ws}
-use Rattle.smithy_json.specs.Grammar.{IsWs}
+use Rattle.smithy_json_grammar.specs.Ascii.{value_separator, begin_array, end_array, begin_object, end_object, is_ws}
+use Rattle.smithy_json_grammar.specs.Grammar.{IsWs}
 use Rattle.smithy_wire.specs.Node.{Form, as_array, as_object}
 
 -- ws, a text, and then the rest

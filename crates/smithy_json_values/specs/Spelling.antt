@@ -1,10 +1,10 @@
 -- Which whole inputs spell which values.
 use Rattle.std.specs.Prelude.{◌≡◌, ◌⊎◌, ℕ, List, [], Some, true}
-use Rattle.smithy_shapes.specs.declared.place.Place.{Place}
-use Rattle.smithy_shapes.specs.Table.{Table, kind_of, IsStructure}
-use Rattle.smithy_shapes.specs.Value.{Value, structure, no_member_values}
-use Rattle.smithy_json.specs.Tree.{Json}
-use Rattle.smithy_json.specs.Grammar.{IsJsonText}
+use Rattle.smithy_declarations.specs.declared.place.Place.{Place}
+use Rattle.smithy_declarations.specs.Table.{Table, kind_of, IsStructure}
+use Rattle.smithy_declarations.specs.Value.{Value, structure, no_member_values}
+use Rattle.smithy_json_grammar.specs.Tree.{Json}
+use Rattle.smithy_json_grammar.specs.Grammar.{IsJsonText}
 use Rattle.smithy_json_values.specs.Settings.{Settings, is_shallow}
 use Rattle.smithy_json_values.specs.Meaning.{json_meaning}
 

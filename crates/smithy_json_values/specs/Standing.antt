@@ -1,9 +1,9 @@
 -- Where JSON of RFC 8259 lies in an input, for the clauses of scanners, and the relations of reading it, by its tokens.
 use Rattle.std.specs.Prelude.{◌≡◌, ℕ, drop, List, [], ◌∷◌, ◌++◌, Bool, true}
 use Rattle.smithy_schema.specs.Reading.{Relations}
-use Rattle.smithy_json.specs.Ascii.{quotation_mark, name_separator}
-use Rattle.smithy_json.specs.Tree.{Json, null, boolean, number, string, array, object}
-use Rattle.smithy_json.specs.Grammar.{IsWs, IsStringText, IsValue, IsBoundary}
+use Rattle.smithy_json_grammar.specs.Ascii.{quotation_mark, name_separator}
+use Rattle.smithy_json_grammar.specs.Tree.{Json, null, boolean, number, string, array, object}
+use Rattle.smithy_json_grammar.specs.Grammar.{IsWs, IsStringText, IsValue, IsBoundary}
 use Rattle.smithy_json_values.specs.Settings.{Settings}
 use Rattle.smithy_json_values.specs.Scalar.{JsonScalar}
 use Rattle.smithy_json_values.specs.Tokens.{EndsContainer, EndsInside, token_frames}

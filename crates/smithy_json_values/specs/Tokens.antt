@@ -5,10 +5,10 @@
 use Rattle.std.specs.Prelude.{◌≡◌, ◌≢◌, ◌⊎◌, ◌≤◌, ℕ, ◌-◌, ◌+◌, ◌==◌, ◌||◌, ◌&&◌, zero, suc, length, drop, List, [], ◌∷◌, ◌++◌, Option, Some, None, Bool, true, false, if◌then◌else◌, nat_le, codes, ⊤}
 use Rattle.std.specs.List.{AllByRecursion}
 use Rattle.smithy_schema.specs.Reading.{Mark}
-use Rattle.smithy_json.specs.Ascii.{quotation_mark, name_separator, end_array}
-pub use Rattle.smithy_json.specs.Ascii.{is_numeric}
-pub use Rattle.smithy_json.specs.StringText.{IsQuoted}
-use Rattle.smithy_json.specs.Grammar.{IsWs, IsBoundary}
+use Rattle.smithy_json_grammar.specs.Ascii.{quotation_mark, name_separator, end_array}
+pub use Rattle.smithy_json_grammar.specs.Ascii.{is_numeric}
+pub use Rattle.smithy_json_grammar.specs.StringText.{IsQuoted}
+use Rattle.smithy_json_grammar.specs.Grammar.{IsWs, IsBoundary}
 use Rattle.smithy_json_values.specs.Scalar.{JsonScalar, a_boolean, a_number, a_string}
 use Rattle.smithy_json_values.specs.Spans.{Lies, IsByte, IsSeparated, fresh_mark, end_mark, entry_mark, opening, closing, begins_with_alphanumeric, begins_with_null, without_ws}
 use Rattle.smithy_json_values.specs.Openers.{json_openers}

@@ -3,11 +3,11 @@
 use Rattle.std.specs.Prelude.{ℕ, ◌==◌, ◌&&◌, ◌||◌, not, drop, List, [], ◌∷◌, Bool, false, Option, is_some}
 use Rattle.std.specs.Char.{is_ascii_digit}
 use Rattle.std.specs.List.{prefix_len}
-use Rattle.smithy_shapes.specs.declared.shape_type.Scalar.{Scalar}
-use Rattle.smithy_shapes.specs.declared.shape_type.Scalar.TheVariants as scalars
-use Rattle.smithy_shapes.specs.declared.shape_type.TimestampFormat.{TimestampFormat}
-use Rattle.smithy_shapes.specs.Table.{Kind, scalar, structure_of, union_of, list_of, map_of}
-use Rattle.smithy_json.specs.Ascii.{quotation_mark, minus_sign, plus_sign, decimal_point, begin_array, begin_object, is_e}
+use Rattle.smithy_declarations.specs.declared.shape_type.Scalar.{Scalar}
+use Rattle.smithy_declarations.specs.declared.shape_type.Scalar.TheVariants as scalars
+use Rattle.smithy_declarations.specs.declared.shape_type.TimestampFormat.{TimestampFormat}
+use Rattle.smithy_declarations.specs.Table.{Kind, scalar, structure_of, union_of, list_of, map_of}
+use Rattle.smithy_json_grammar.specs.Ascii.{quotation_mark, minus_sign, plus_sign, decimal_point, begin_array, begin_object, is_e}
 use Rattle.smithy_json_values.specs.Settings.{Settings}
 use Rattle.smithy_json_values.specs.Scalar.{takes_seconds, string_form}
 

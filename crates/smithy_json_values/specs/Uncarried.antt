@@ -1,8 +1,8 @@
 -- Which bytes hold a number that isn't carried: one of seconds as an instant, or one in a document.
 use Rattle.std.specs.Prelude.{◌≡◌, ◌++◌, ℕ, List, None}
 use Rattle.smithy_instants.specs.Epoch.{epoch_nanos}
-use Rattle.smithy_json.specs.Grammar.{IsNumber}
-use Rattle.smithy_json.specs.HeldNumber.{number_of}
+use Rattle.smithy_json_grammar.specs.Grammar.{IsNumber}
+use Rattle.smithy_json_grammar.specs.HeldNumber.{number_of}
 
 -- some slice of the bytes is one: a number that isn't one of whole nanoseconds, or whose exponent leaves 64 bits
 pub record IsUncarriedJson (bytes : List ℕ) : Type 0 where

@@ -1,7 +1,7 @@
 -- Which bytes hold the text of a big number that leaves the limits of its kind.
 use Rattle.std.specs.Prelude.{◌≡◌, ◌⊎◌, ◌++◌, ℕ, List, Some}
-use Rattle.smithy_shapes.specs.declared.shape_type.Scalar.{Scalar}
-use Rattle.smithy_json.specs.Unescape.{unescaped}
+use Rattle.smithy_declarations.specs.declared.shape_type.Scalar.{Scalar}
+use Rattle.smithy_json_grammar.specs.Unescape.{unescaped}
 use Rattle.smithy_json_values.specs.Scalar.{big_number}
 use Rattle.smithy_wire.specs.Rules.{wide}
 

@@ -2,7 +2,7 @@
 
 ghost use Rattle.std.specs.Prelude.{◌≡◌, ◌≤◌, length, IfOk, MatchOption};
 ghost use Rattle.smithy_instants.specs.Epoch.{epoch_nanos};
-ghost use Rattle.smithy_shapes.specs.Value.{instant, scalar_value};
+ghost use Rattle.smithy_declarations.specs.Value.{instant, scalar_value};
 ghost use Rattle.smithy_json_values.specs.Codec.{held_settings};
 ghost use Rattle.smithy_json_values.specs.LexicalGrammar.{grammar_of};
 ghost use Rattle.smithy_json_values.specs.Scalar.{format_at, takes_seconds, lenient_form, string_form, seconds_read_as};

@@ -9,10 +9,10 @@ ghost use Rattle.smithy_json_values.specs.Private.ScalarAtPlace.{IntegerLies};
 
 use crate::number_runs::{NumberSort, number_end_of};
 use crate::settings::Settings;
-use smithy_json::number_grammar::{NumberGrammar, scan_number_of};
-use smithy_json::number_run::{integral_number, read_signed};
-use smithy_json::number_text::read_long;
-use smithy_json::scan::skip_blanks;
+use smithy_json_grammar::number_grammar::{NumberGrammar, scan_number_of};
+use smithy_json_grammar::number_run::{integral_number, read_signed};
+use smithy_json_grammar::number_text::read_long;
+use smithy_json_grammar::scan::skip_blanks;
 
 /// How integers are read.
 #[derive(Clone, Copy, Debug)]

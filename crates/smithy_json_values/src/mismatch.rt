@@ -2,16 +2,16 @@
 
 ghost use Rattle.std.specs.Prelude.{◌≡◌, ◌≤◌, ◌==◌, ◌||◌, length, drop, true, if◌then◌else◌};
 ghost use Rattle.std.specs.List.{prefix_len};
-ghost use Rattle.smithy_json.specs.Ascii.{decimal_point, is_e};
+ghost use Rattle.smithy_json_grammar.specs.Ascii.{decimal_point, is_e};
 ghost use Rattle.smithy_json_values.specs.Codec.{held_settings};
 ghost use Rattle.smithy_json_values.specs.Standing.{without_ws};
 ghost use Rattle.smithy_json_values.specs.TypeMismatch.{begins_by, begins_with_true, begins_with_false, begins_as_string, begins_as_number, begins_as_instant, is_signed_digit, begins_as_no_integer, integer_mismatches, scalar_mismatches};
-ghost use Rattle.smithy_schema.specs.Reading.{FindsNone, TellsType};
+ghost use Rattle.smithy_schema.specs.Errors.{FindsNone, TellsType};
 ghost use Rattle.smithy_wire.specs.Finding.{told, told_as};
 
 use crate::instants::{string_form, takes_seconds};
 use crate::settings::Settings;
-use smithy_json::scan::skip_blanks;
+use smithy_json_grammar::scan::skip_blanks;
 use smithy_schema::{Scalar, SerdeError, TimestampFormat};
 
 pub fn begins_with_true(bytes: &[u8]) -> bool

@@ -2,9 +2,9 @@
 //! and 5).
 
 ghost use Rattle.std.specs.Prelude.{◌≡◌, ◌≤◌, ◌↔◌, ◌==◌, ℕ, List, length, drop, true, false, IsTrue, IfSome, IfNone};
-ghost use Rattle.smithy_json.specs.Ascii.{is_ws, end_array};
-ghost use Rattle.smithy_json.specs.Grammar.{IsWs};
-ghost use Rattle.smithy_json.specs.Unescape.{has_escape};
+ghost use Rattle.smithy_json_grammar.specs.Ascii.{is_ws, end_array};
+ghost use Rattle.smithy_json_grammar.specs.Grammar.{IsWs};
+ghost use Rattle.smithy_json_grammar.specs.Unescape.{has_escape};
 ghost use Rattle.smithy_json_values.specs.Codec.{held_settings, held_grammar};
 ghost use Rattle.smithy_json_values.specs.LexicalGrammar.{frames_of};
 ghost use Rattle.smithy_json_values.specs.Spans.{Lies, IsByte, without_ws};
@@ -14,7 +14,7 @@ ghost use Rattle.smithy_json_values.specs.Private.NextInContainer.{IsFirstByte, 
 
 use crate::settings::Settings;
 use crate::values::{begins_with_null, may_follow, string_of};
-use smithy_json::scan::skip_blanks;
+use smithy_json_grammar::scan::skip_blanks;
 
 /// A member's name, as it is written.
 #[derive(Clone, Copy)]

@@ -3,7 +3,7 @@ ghost use Rattle.std.specs.Prelude.{◌≡◌, ◌≤◌};
 ghost use Rattle.smithy_json_values.specs.Private.IntegerRules.{integer_rule};
 
 use crate::integers::IntegerRule;
-use smithy_json::number_grammar::NumberGrammar;
+use smithy_json_grammar::number_grammar::NumberGrammar;
 use smithy_json_settings::ChosenSettings;
 use smithy_types::Format;
 

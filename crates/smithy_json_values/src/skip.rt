@@ -1,8 +1,8 @@
 //! Where a value ends that is skipped.
 
 ghost use Rattle.std.specs.Prelude.{◌≡◌, ◌<◌, ◌≤◌, ◌+◌, ◌-◌, ◌&&◌, ℕ, List, length, get_or, drop, slice_range, true, false, IfOk, OnErr, IsErrOf, IfSome, IfNone};
-ghost use Rattle.smithy_json.specs.Ascii.{begin_array, begin_object};
-ghost use Rattle.smithy_json.specs.Standing.{IsQuotedAt};
+ghost use Rattle.smithy_json_grammar.specs.Ascii.{begin_array, begin_object};
+ghost use Rattle.smithy_json_grammar.specs.Standing.{IsQuotedAt};
 ghost use Rattle.smithy_json_values.specs.Codec.{held_grammar};
 ghost use Rattle.smithy_json_values.specs.Deepest.{OpensTooDeep};
 ghost use Rattle.smithy_json_values.specs.LexicalGrammar.{is_skipped_in, NodeLies};
@@ -20,9 +20,9 @@ use crate::number_runs::{NumberSort, number_of};
 use crate::places::{InList, byte_end, first_byte, next_in_list, next_name_place, null_end};
 use crate::settings::Settings;
 use crate::values::{boolean_at, may_follow};
-use smithy_json::quoted_text::{escapes_are_valid, is_plain_text, scan_quoted};
-use smithy_json::scan::skip_blanks;
-use smithy_json::string_text::scan_string;
+use smithy_json_grammar::quoted_text::{escapes_are_valid, is_plain_text, scan_quoted};
+use smithy_json_grammar::scan::skip_blanks;
+use smithy_json_grammar::string_text::scan_string;
 use smithy_schema::SerdeError;
 
 // The greatest depth that settings may allow.

@@ -2,14 +2,14 @@
 ghost use Rattle.std.specs.Prelude.{◌≡◌, ◌↔◌, false, ◌≤◌, ℕ, List, length, IfOk, IfSome, MatchOption, option_map, option_and_then, string_bytes};
 ghost use Rattle.std.specs.Cow.{cow_str_bytes, cow_slice_items, IsBorrowedStr, IsOwnedSlice};
 ghost use Rattle.smithy_texts.specs.Base64Text.{blob_of as base64_of};
-ghost use Rattle.smithy_json.specs.Unescape.{unescaped, has_escape};
+ghost use Rattle.smithy_json_grammar.specs.Unescape.{unescaped, has_escape};
 ghost use Rattle.smithy_json_values.specs.Borrowed.{BorrowsText};
 ghost use Rattle.smithy_json_values.specs.Codec.{held_grammar};
 ghost use Rattle.smithy_json_values.specs.Private.ScalarAtPlace.{TextLies, BlobLies};
 
 use crate::settings::Settings;
 use crate::values::string_at;
-use smithy_json::{EscapeError, EscapedStr};
+use smithy_json_grammar::{EscapeError, EscapedStr};
 use smithy_types::Blob;
 use smithy_types::base64::{DecodeError, decode};
 use std::alloc::{AllocError, Global};

@@ -1,9 +1,9 @@
 //! Where strings, nulls and booleans lie in an input, and where a value may end.
 
 ghost use Rattle.std.specs.Prelude.{◌≡◌, ◌≤◌, ◌+◌, ◌↔◌, ℕ, List, Bool, true, length, drop, slice_range, IsTrue, IfSome, IfNone};
-ghost use Rattle.smithy_shapes.specs.declared.shape_type.Scalar.TheVariants as scalars;
-ghost use Rattle.smithy_json.specs.Standing.{IsStringAt, IsQuotedAt};
-ghost use Rattle.smithy_json.specs.Unescape.{has_escape};
+ghost use Rattle.smithy_declarations.specs.declared.shape_type.Scalar.TheVariants as scalars;
+ghost use Rattle.smithy_json_grammar.specs.Standing.{IsStringAt, IsQuotedAt};
+ghost use Rattle.smithy_json_grammar.specs.Unescape.{has_escape};
 ghost use Rattle.smithy_json_values.specs.Codec.{held_settings, held_grammar};
 ghost use Rattle.smithy_json_values.specs.LexicalGrammar.{LiesInGrammar, frames_of};
 ghost use Rattle.smithy_json_values.specs.Scalar.{a_boolean, a_string};
@@ -12,9 +12,9 @@ ghost use Rattle.smithy_json_values.specs.Tokens.{BoundaryBy};
 
 use crate::mismatch::{begins_with_false, begins_with_true};
 use crate::settings::Settings;
-use smithy_json::quoted_text::scan_lenient_string;
-use smithy_json::scan::{is_boundary, skip_blanks};
-use smithy_json::string_text::{ScannedString, scan_string};
+use smithy_json_grammar::quoted_text::scan_lenient_string;
+use smithy_json_grammar::scan::{is_boundary, skip_blanks};
+use smithy_json_grammar::string_text::{ScannedString, scan_string};
 
 /// Whether a value may end at the offset.
 #[inline(always)]

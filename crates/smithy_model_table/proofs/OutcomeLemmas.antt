@@ -5,7 +5,7 @@ use Rattle.std.specs.List.{AllZip}
 use Rattle.std.proofs.lemmas.List.{take_more, map-append}
 use Rattle.std.proofs.lemmas.Grind.{flat_map-append}
 use Rattle.smithy_model.specs.Model.{Member, Model}
-use Rattle.smithy_shapes.specs.Decl.{MemberDecl, Decl}
+use Rattle.smithy_declarations.specs.Decl.{MemberDecl, Decl}
 use Rattle.smithy_model_table.specs.Declaring.{Names}
 use Rattle.smithy_model_table.specs.Bindings.{Bindings}
 use Rattle.smithy_model_table.specs.Outcomes.{Outcome, declared, left_out, LeftOut, declared_of, left_of, IsOutcome, AreEach, AreOutcomes, Part, IsPartAt, AreParts}

@@ -1,7 +1,7 @@
 -- Why a part of a model is no table.
 use Rattle.std.proofs.Common.{◌≡◌, ◌≤◌, ℕ, inr, List, Bool, length, refl}
 use Rattle.smithy_model.specs.Model.{Model}
-use Rattle.smithy_shapes.specs.Decl.{Decl}
+use Rattle.smithy_declarations.specs.Decl.{Decl}
 use Rattle.smithy_table_text.specs.declared.fault.TextFault.{TextFault}
 use Rattle.smithy_table_text.specs.declared.fault.TextFault.TheVariants as text_faults
 use Rattle.smithy_table_text.specs.Writable.{RefusesDecls}

@@ -6,7 +6,7 @@ use Rattle.std.specs.Option.{option_and_then}
 use Rattle.std.proofs.lemmas.Option.{slice_get_within}
 use Rattle.smithy_model.specs.Model as model
 use Rattle.smithy_model.specs.Model.{Member, Kind, Shape, Reference, Operation, Model}
-use Rattle.smithy_shapes.specs.Decl.{Decl}
+use Rattle.smithy_declarations.specs.Decl.{Decl}
 use Rattle.smithy_model_table.specs.Declaring.{Names, name_of}
 use Rattle.smithy_model_table.specs.Outcomes.{LeftOut, Part, IsPart, IsPartOf, IsPartAt, AreParts}
 use Rattle.smithy_model_table.specs.Naming.{is_declared}

@@ -4,7 +4,7 @@ use Rattle.std.specs.Char.{to_ascii_uppercase}
 use Rattle.std.specs.Option.{option_map_or, option_or}
 use Rattle.smithy_model.specs.Model as model
 use Rattle.smithy_model.specs.Model.{Member, Kind, Shape, Model}
-use Rattle.smithy_shapes.specs.Decl.{MemberDecl, ListDecl, MapDecl}
+use Rattle.smithy_declarations.specs.Decl.{MemberDecl, ListDecl, MapDecl}
 
 -- the names of the shapes of a model, one by one
 abbrev pub Names : Type 0

@@ -1,7 +1,7 @@
 -- The table that stands for a part of a model.
 use Rattle.std.specs.Prelude.{◌≡◌, ◌≤◌, ℕ, List, Bool, Some, length, option_map, slice_get}
 use Rattle.smithy_model.specs.Model.{Model}
-use Rattle.smithy_shapes.specs.Decl.{Decl}
+use Rattle.smithy_declarations.specs.Decl.{Decl}
 use Rattle.smithy_table_text.specs.Writable.{IsTextOf}
 use Rattle.smithy_model_table.specs.Declaring.{Names, name_of}
 use Rattle.smithy_model_table.specs.Leaving.{AreFewest}

@@ -3,7 +3,7 @@ use Rattle.std.specs.Prelude.{◌==◌, ◌&&◌, ◌||◌, ℕ, List, [], ◌�
 use Rattle.std.specs.List.{list_any, after_first}
 use Rattle.smithy_model.specs.Model as model
 use Rattle.smithy_model.specs.Model.{Member, Kind, Shape, Model}
-use Rattle.smithy_shapes.specs.Names.{simple_targets, float_names}
+use Rattle.smithy_declarations.specs.Names.{simple_targets, float_names}
 
 -- `#`
 abbrev pub is_number_sign : ℕ → Bool

@@ -3,8 +3,8 @@ use Rattle.std.specs.Prelude.{◌≡◌, ◌⊎◌, ◌||◌, ℕ, List, [], ◌
 use Rattle.std.specs.List.{AllZip, list_any}
 use Rattle.smithy_model.specs.Model as model
 use Rattle.smithy_model.specs.Model.{Member, Kind, Shape, Model}
-use Rattle.smithy_shapes.specs.Decl.{MemberDecl, Decl, structure, union, list, map}
-use Rattle.smithy_shapes.specs.Acceptance.{json_name_of, query_name_of}
+use Rattle.smithy_declarations.specs.Decl.{MemberDecl, Decl, structure, union, list, map}
+use Rattle.smithy_declarations.specs.Acceptance.{json_name_of, query_name_of}
 use Rattle.smithy_model_table.specs.Declaring.{Names, name_of, member_decl, list_decl, map_decl}
 use Rattle.smithy_model_table.specs.Bindings.{Bindings, bindings_of, no_bindings}
 use Rattle.smithy_model_table.specs.Leaving.{Reason, clash, reason_of}

@@ -11,7 +11,7 @@ use Rattle.smithy_model_table.specs.declared.left.Reason.TheVariants as reasons
 use Rattle.smithy_model_table.specs.declared.left.Left as kept_left
 use Rattle.smithy_model_table.specs.declared.outcomes.Outcome as kept_outcome
 use Rattle.smithy_model_table.specs.declared.outcomes.Outcome.TheVariants as outcomes
-use Rattle.smithy_shapes.specs.DeclViews.{member_decl_of}
+use Rattle.smithy_declarations.specs.DeclViews.{member_decl_of}
 use Rattle.smithy_model_table.specs.Outcomes.{Outcome, declared, left_out, LeftOut}
 use Rattle.smithy_model_table.specs.Leaving.{Reason, float, event_stream, outside, clash}
 

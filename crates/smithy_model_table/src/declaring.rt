@@ -5,8 +5,8 @@ ghost use Rattle.smithy_model_table.specs.Declaring.{is_sparse, list_decl, map_d
 ghost use Rattle.smithy_model_table.specs.Outcomes.{LeftOut, IsPartAt, AreParts};
 ghost use Rattle.smithy_model_table.specs.Roles.{AreRolesOf};
 ghost use Rattle.smithy_model_table.specs.Views.{names_view, left_view};
-ghost use Rattle.smithy_shapes.specs.Decl.{list, map};
-ghost use Rattle.smithy_shapes.specs.DeclViews.{decl_of};
+ghost use Rattle.smithy_declarations.specs.Decl.{list, map};
+ghost use Rattle.smithy_declarations.specs.DeclViews.{decl_of};
 
 use crate::bindings::{bindings_of, no_bindings};
 use crate::left::Left;

@@ -3,7 +3,7 @@ ghost use Rattle.std.specs.Prelude.{◌≡◌, ◌<◌, length, get_or, true, fa
 ghost use Rattle.smithy_model.specs.Views.{model_view, member_view};
 ghost use Rattle.smithy_model_table.specs.Declaring.{is_flat, xml_name_of, unless_usual, capitalized, ec2_name_of, form_name_of, member_decl};
 ghost use Rattle.smithy_model_table.specs.Views.{names_view};
-ghost use Rattle.smithy_shapes.specs.DeclViews.{member_decl_of};
+ghost use Rattle.smithy_declarations.specs.DeclViews.{member_decl_of};
 
 use crate::names::Names;
 use crate::places::{owned, owned_if, target_of, target_word, time_of, unless_usual};

@@ -4,8 +4,8 @@ ghost use Rattle.smithy_model.specs.Views.{model_view, member_view};
 ghost use Rattle.smithy_model_table.specs.Leaving.{reason_of};
 ghost use Rattle.smithy_model_table.specs.Outcomes.{LeftOut, clashes, IsOutcome, AreOutcomes, declared_of, left_of};
 ghost use Rattle.smithy_model_table.specs.Views.{bindings_view, names_view, reason_view, left_view, outcome_view};
-ghost use Rattle.smithy_shapes.specs.Acceptance.{json_name_of, query_name_of};
-ghost use Rattle.smithy_shapes.specs.DeclViews.{member_decl_of};
+ghost use Rattle.smithy_declarations.specs.Acceptance.{json_name_of, query_name_of};
+ghost use Rattle.smithy_declarations.specs.DeclViews.{member_decl_of};
 
 use crate::bindings::Bindings;
 use crate::carried::{is_marked, is_outside};

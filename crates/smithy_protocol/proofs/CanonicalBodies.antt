@@ -4,7 +4,7 @@ use Rattle.std.specs.declared.vec.Vec.{Vec}
 use Rattle.std.specs.declared.alloc.Global.{Global}
 use Rattle.smithy_schema.specs.declared.error.SerdeError.{SerdeError}
 use Rattle.smithy_shapes.specs.Site.{Site, View}
-use Rattle.smithy_shapes.specs.Value.{MemberValues, structure}
+use Rattle.smithy_declarations.specs.Value.{MemberValues, structure}
 use Rattle.smithy_shapes.specs.ScalarTest.{scalars_pass}
 use Rattle.smithy_schema.specs.Writing.{Event, Writer, begin_structure, end_structure, events, member_events, run, and_run, write}
 use Rattle.smithy_schema.specs.Written.{Adds, Runs, ran, Wraps, whole}

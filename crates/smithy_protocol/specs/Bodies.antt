@@ -4,7 +4,7 @@ use Rattle.smithy_schema.specs.declared.error.SerdeError.{SerdeError}
 use Rattle.smithy_shapes.specs.Accepted.{IsAccepted}
 use Rattle.smithy_shapes.specs.Fits.{Fits}
 use Rattle.smithy_shapes.specs.Site.{Site}
-use Rattle.smithy_shapes.specs.Value.{MemberValues, structure}
+use Rattle.smithy_declarations.specs.Value.{MemberValues, structure}
 use Rattle.smithy_shapes.specs.ScalarTest.{scalars_pass}
 use Rattle.smithy_schema.specs.Writing.{Writer, begin_structure, end_structure, member_events}
 use Rattle.smithy_schema.specs.Written.{Adds, Runs, Wraps}

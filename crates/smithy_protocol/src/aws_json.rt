@@ -178,12 +178,12 @@ impl AwsJsonRpcProtocol {
 
     /// A reader of the body of a response, of which nothing is read yet, under the settings of a client. Relative names of shapes in
     /// documents stand in the namespace that was set, or else in that of the configuration. It takes no memory.
-    pub fn deserialize_response<'a>(
-        &'a self,
+    pub fn deserialize_response<'c, 'a>(
+        &'c self,
         alloc: Global,
         response: &'a Response,
-        config: &'a ProtocolConfig,
-    ) -> JsonDeserializer<'a>
+        config: &'c ProtocolConfig,
+    ) -> JsonDeserializer<'c, 'a>
         ensures settings { reader_settings_of result ≡ with_namespace (text_of config.now.namespace) (response_settings self.now) }
         ensures fresh { cursor_of result ≡ fresh_cursor response.now.body.items }
     {

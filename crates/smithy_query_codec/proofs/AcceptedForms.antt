@@ -4,12 +4,12 @@ use Rattle.std.specs.List.{AllByRecursion, list_all}
 use Rattle.std.specs.Str.{bytes_eq}
 use Rattle.std.proofs.lemmas.Bool.{and_parts}
 use Rattle.std.proofs.lemmas.Bool.Decides.{nat_tests}
-use Rattle.smithy_shapes.specs.declared.place.Place.{Place}
-use Rattle.smithy_shapes.specs.Table.{Table, Member, ListShape, MapShape, kind_of, members_of, list_shape_of, map_shape_of, structure_of, list_of, map_of, query_name_of, key_name_of, value_name_of, position_named, place_in}
+use Rattle.smithy_declarations.specs.declared.place.Place.{Place}
+use Rattle.smithy_declarations.specs.Table.{Table, Member, ListShape, MapShape, kind_of, members_of, list_shape_of, map_shape_of, structure_of, list_of, map_of, query_name_of, key_name_of, value_name_of, position_named, place_in}
 use Rattle.smithy_shapes.specs.Accepted.{AreAcceptedMembers, IsAccepted}
-use Rattle.smithy_shapes.specs.Names.{is_query_name}
+use Rattle.smithy_declarations.specs.Names.{is_query_name}
 use Rattle.smithy_shapes.specs.Site.{Site, View, member_view, element_view, value_view, nameless, member_of}
-use Rattle.smithy_shapes.specs.Value.{Value, scalar_value, list, map, structure, union, null_element, document_value, Values, no_values, value, MapEntries, no_map_entries, map_entry, MemberValues, no_member_values, member_value}
+use Rattle.smithy_declarations.specs.Value.{Value, scalar_value, list, map, structure, union, null_element, document_value, Values, no_values, value, MapEntries, no_map_entries, map_entry, MemberValues, no_member_values, member_value}
 use Rattle.smithy_shapes.specs.Fits.{FitsOr, ElementsFit, EntriesFit, MembersFit, AscendFrom}
 use Rattle.smithy_shapes.specs.Lemmas.Kinds.{list_kind, map_kind, structure_kind, union_kind}
 use Rattle.smithy_shapes.proofs.SiteLemmas.{site_at, element_site_at, value_site_at, member_site_at, variant_site_at, element_fit, entry_fit, member_fit, variant_fit}

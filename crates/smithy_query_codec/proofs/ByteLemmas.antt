@@ -16,12 +16,12 @@ use Rattle.smithy_texts.proofs.OnLiterals.{smithy_texts_on_literals}
 use Rattle.smithy_texts.proofs.WrittenNumerals.{small_exponent}
 use Rattle.smithy_instants.specs.Instant.{is_instant}
 use Rattle.smithy_instants.specs.WrittenDate.{date_text}
-use Rattle.smithy_shapes.specs.declared.place.Place.{Place}
-use Rattle.smithy_shapes.specs.declared.shape_type.TimestampFormat.{TimestampFormat}
-use Rattle.smithy_shapes.specs.TimeForms.{format_of}
-use Rattle.smithy_shapes.specs.Names.{is_name_byte}
-use Rattle.smithy_shapes.specs.Table.{Table, Kind, kind_of}
-use Rattle.smithy_shapes.specs.Value.{ScalarValue, boolean, whole, text, bytes, decimal as decimal_value, instant, Value, scalar_value, list, map, structure, union, null_element, document_value, Values, no_values, value, MapEntries, no_map_entries, map_entry, MemberValues, no_member_values, member_value}
+use Rattle.smithy_declarations.specs.declared.place.Place.{Place}
+use Rattle.smithy_declarations.specs.declared.shape_type.TimestampFormat.{TimestampFormat}
+use Rattle.smithy_declarations.specs.TimeForms.{format_of}
+use Rattle.smithy_declarations.specs.Names.{is_name_byte}
+use Rattle.smithy_declarations.specs.Table.{Table, Kind, kind_of}
+use Rattle.smithy_declarations.specs.Value.{ScalarValue, boolean, whole, text, bytes, decimal as decimal_value, instant, Value, scalar_value, list, map, structure, union, null_element, document_value, Values, no_values, value, MapEntries, no_map_entries, map_entry, MemberValues, no_member_values, member_value}
 use Rattle.smithy_shapes.specs.Fits.{FitsOr, ElementsFit, EntriesFit, MembersFit, is_scalar_of}
 use Rattle.smithy_shapes.proofs.ScalarLemmas.{scalar_kind, whole_fits, decimal_fits, text_is_utf8, blob_is_bytes, instant_fits}
 use Rattle.smithy_shapes.proofs.InstantTexts.{instant_text_is_utf8}

@@ -2,12 +2,12 @@
 use Rattle.std.proofs.Common.{◌≡◌, ℕ, List, [], ◌∷◌, map as mapped, true, false, Some, None, Err, codes, refl, pos}
 use Rattle.smithy_types.specs.Document as document
 use Rattle.smithy_schema.specs.declared.error.SerdeError.TheVariants.{Unsupported, Unwritable}
-use Rattle.smithy_shapes.specs.declared.shape_type.Scalar.TheVariants as scalars
+use Rattle.smithy_declarations.specs.declared.shape_type.Scalar.TheVariants as scalars
 use Rattle.smithy_shapes.specs.Site.{shape_site, member_of}
-use Rattle.smithy_shapes.specs.declared.place.Place.{Place}
-use Rattle.smithy_shapes.specs.Table as table
-use Rattle.smithy_shapes.specs.Table.{Table, Member, document_place, scalar_place, shape_place}
-use Rattle.smithy_shapes.specs.Value.{whole, Value, scalar_value, list, structure, null_element, document_value, no_values, value, no_member_values, member_value}
+use Rattle.smithy_declarations.specs.declared.place.Place.{Place}
+use Rattle.smithy_declarations.specs.Table as table
+use Rattle.smithy_declarations.specs.Table.{Table, Member, document_place, scalar_place, shape_place}
+use Rattle.smithy_declarations.specs.Value.{whole, Value, scalar_value, list, structure, null_element, document_value, no_values, value, no_member_values, member_value}
 use Rattle.smithy_schema.specs.Writing.{document_of, open_structure, open_list, open_map_at_key, open_map_at_value, write}
 use Rattle.smithy_query_codec.specs.Leaves.{neither, leaves}
 use Rattle.smithy_query_codec.specs.Refusals.{refusal_of}

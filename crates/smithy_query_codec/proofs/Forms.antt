@@ -2,9 +2,9 @@
 -- the names in one structure and in one map differ, and each element and entry has a position.
 use Rattle.std.specs.Prelude.{◌≡◌, ◌≢◌, ◌<◌, ℕ, List, [], ◌++◌, Some, true, option_to_list}
 use Rattle.std.specs.List.{AllByRecursion}
-use Rattle.smithy_shapes.specs.Names.{is_query_name}
+use Rattle.smithy_declarations.specs.Names.{is_query_name}
 use Rattle.smithy_shapes.specs.Site.{Site, element_of, value_of, member_of}
-use Rattle.smithy_shapes.specs.Value.{Value, scalar_value, list, map, structure, union, null_element, document_value, Values, no_values, value, MapEntries, no_map_entries, map_entry, MemberValues, no_member_values, member_value}
+use Rattle.smithy_declarations.specs.Value.{Value, scalar_value, list, map, structure, union, null_element, document_value, Values, no_values, value, MapEntries, no_map_entries, map_entry, MemberValues, no_member_values, member_value}
 use Rattle.smithy_schema.specs.Writing.{count_of, entry_count}
 use Rattle.smithy_query_codec.specs.Leaves.{query_name, element_name, key_name, value_name}
 

@@ -4,8 +4,8 @@ use Rattle.std.specs.Prelude.{is_some, unwrap_or}
 use Rattle.smithy_schema.specs.declared.error.SerdeError.{SerdeError}
 use Rattle.smithy_schema.specs.declared.error.SerdeError.TheVariants.{Unwritable}
 use Rattle.smithy_shapes.specs.Site.{Site}
-use Rattle.smithy_shapes.specs.TimeForms.{format_of, form_writes}
-use Rattle.smithy_shapes.specs.Value.{instant}
+use Rattle.smithy_declarations.specs.TimeForms.{format_of, form_writes}
+use Rattle.smithy_declarations.specs.Value.{instant}
 use Rattle.smithy_schema.specs.Writing.{scalar_of, after_value}
 use Rattle.smithy_instants.specs.WrittenDate.{date_text}
 use Rattle.smithy_query_codec.specs.Leaves.{form_at}

@@ -3,9 +3,9 @@ use Rattle.std.proofs.Common.{◌≡◌, ◌≤◌, ◌+◌, ℕ, suc, List, [],
 use Rattle.std.specs.List.{AllByRecursion}
 use Rattle.std.proofs.lemmas.List.Elements.{All-nil}
 use Rattle.percent_encoding.proofs.PercentLemmas.{IsByte}
-use Rattle.smithy_shapes.specs.Names.{is_query_name}
+use Rattle.smithy_declarations.specs.Names.{is_query_name}
 use Rattle.smithy_shapes.specs.Site.{Site, element_of, value_of, member_of}
-use Rattle.smithy_shapes.specs.Value.{Value, scalar_value, list, map, structure, union, null_element, document_value, Values, no_values, value, MapEntries, no_map_entries, map_entry, MemberValues, no_member_values, member_value}
+use Rattle.smithy_declarations.specs.Value.{Value, scalar_value, list, map, structure, union, null_element, document_value, Values, no_values, value, MapEntries, no_map_entries, map_entry, MemberValues, no_member_values, member_value}
 use Rattle.smithy_query_codec.specs.Leaves.{Path, Leaf, MemberRole, flat_member, member, neither, under, numbered, query_name, role_of, element_name, key_name, value_name, inner_path, or_empty, form_at, leaves, element_leaves, entry_leaves, member_leaves}
 use Rattle.smithy_query_codec.proofs.Forms.{HasForm, ElementsHaveForm, EntriesHaveForm, MembersHaveForm}
 use Rattle.smithy_query_codec.proofs.ByteLemmas.{HasBytes, ElementsHaveBytes, EntriesHaveBytes, MembersHaveBytes}

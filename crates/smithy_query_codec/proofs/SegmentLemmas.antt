@@ -7,7 +7,7 @@ use Rattle.std.proofs.lemmas.Bool.Decides.{nat_tests}
 use Rattle.std.proofs.lemmas.Bool.{and_parts}
 use Rattle.std.proofs.lemmas.Fmt.{decimal_nonempty, decimal_is_IsNumeral_wide}
 use Rattle.smithy_query_codec.proofs.PairLemmas.{each_weaker}
-use Rattle.smithy_shapes.specs.Names.{is_name_byte, is_query_name}
+use Rattle.smithy_declarations.specs.Names.{is_name_byte, is_query_name}
 
 -- each byte can stand in a name
 abbrev pub IsNameText : List ℕ → Type 0

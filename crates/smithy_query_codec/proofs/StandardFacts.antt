@@ -1,13 +1,13 @@
 -- Values of small tables and the forms that they are, by the definition and call by call.
 use Rattle.std.proofs.Common.{◌≡◌, ◌^◌, ℕ, ℤ, List, [], ◌∷◌, Bool, true, false, Option, Some, None, Ok, Err, codes, refl, pos, neg_ℤ, arith}
-use Rattle.smithy_shapes.specs.declared.place.Place.{Place}
-use Rattle.smithy_shapes.specs.declared.shape_type.Scalar.TheVariants as scalars
-use Rattle.smithy_shapes.specs.declared.shape_type.TimestampFormat.TheVariants.{EpochSeconds, HttpDate}
+use Rattle.smithy_declarations.specs.declared.place.Place.{Place}
+use Rattle.smithy_declarations.specs.declared.shape_type.Scalar.TheVariants as scalars
+use Rattle.smithy_declarations.specs.declared.shape_type.TimestampFormat.TheVariants.{EpochSeconds, HttpDate}
 use Rattle.smithy_schema.specs.declared.error.SerdeError.TheVariants.{Unwritable}
-use Rattle.smithy_shapes.specs.Table as table
-use Rattle.smithy_shapes.specs.Table.{Table, Member, Shape, Declaration, scalar_place, shape_place}
+use Rattle.smithy_declarations.specs.Table as table
+use Rattle.smithy_declarations.specs.Table.{Table, Member, Shape, Declaration, scalar_place, shape_place}
 use Rattle.smithy_shapes.specs.Site.{shape_site, member_of}
-use Rattle.smithy_shapes.specs.Value.{boolean, whole, text, bytes, decimal, instant, Value, scalar_value, list, map, structure, union, null_element, no_values, value, no_map_entries, map_entry, no_member_values, member_value}
+use Rattle.smithy_declarations.specs.Value.{boolean, whole, text, bytes, decimal, instant, Value, scalar_value, list, map, structure, union, null_element, no_values, value, no_map_entries, map_entry, no_member_values, member_value}
 use Rattle.smithy_schema.specs.Writing.{begin_map, end_map, scalar_of, big_integer_of, big_decimal_of, open_list, open_map_at_value, run, write}
 use Rattle.smithy_query_codec.specs.Canonical.{canonical_query}
 use Rattle.smithy_query_codec.specs.Writing.{QueryState, fresh_state, query_after}

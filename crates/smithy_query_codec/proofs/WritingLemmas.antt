@@ -7,7 +7,7 @@ use Rattle.std.proofs.lemmas.List.{append-nil, length-append}
 use Rattle.std.proofs.Math.Seq.{take-append_seam, drop-append_seam, take-length}
 use Rattle.smithy_schema.specs.declared.error.SerdeError.{SerdeError}
 use Rattle.smithy_shapes.specs.Site.{Site, View, element_of, key_of, value_of, member_of}
-use Rattle.smithy_shapes.specs.Value.{ScalarValue, text, Value, scalar_value, list, map, structure, union, null_element, document_value, Values, no_values, value, MapEntries, no_map_entries, map_entry, MemberValues, no_member_values, member_value}
+use Rattle.smithy_declarations.specs.Value.{ScalarValue, text, Value, scalar_value, list, map, structure, union, null_element, document_value, Values, no_values, value, MapEntries, no_map_entries, map_entry, MemberValues, no_member_values, member_value}
 use Rattle.smithy_shapes.specs.ScalarTest.{scalars_pass, elements_pass, entries_pass, members_pass}
 use Rattle.smithy_schema.specs.Writing.{Event, Open, open_structure, open_list, open_map_at_key, open_map_at_value, begin_structure, begin_list, begin_map, scalar_of, end_structure, end_list, end_map, after_value, after_scalar, after_begin, and_run, run, write, events, element_events, entry_events, member_events, count_of, entry_count}
 use Rattle.smithy_schema.proofs.OpenLemmas.{scalar_taken}

@@ -3,7 +3,7 @@ use Rattle.std.specs.Prelude.{ℕ, List, ◌∷◌, codes, map as mapped}
 use Rattle.std.specs.List.{join_with_byte}
 use Rattle.std.specs.Str.{byte}
 use Rattle.smithy_shapes.specs.Site.{Site}
-use Rattle.smithy_shapes.specs.Value.{Value}
+use Rattle.smithy_declarations.specs.Value.{Value}
 use Rattle.smithy_query.specs.Form.{Pair, form}
 use Rattle.smithy_query_codec.specs.Leaves.{Path, Leaf, neither, leaves}
 

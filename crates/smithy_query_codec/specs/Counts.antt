@@ -1,6 +1,6 @@
 -- That each part of a value has a position.
 use Rattle.std.specs.Prelude.{◌<◌}
-use Rattle.smithy_shapes.specs.Value.{Value, scalar_value, list, map, structure, union, null_element, document_value, Values, no_values, value, MapEntries, no_map_entries, map_entry, MemberValues, no_member_values, member_value}
+use Rattle.smithy_declarations.specs.Value.{Value, scalar_value, list, map, structure, union, null_element, document_value, Values, no_values, value, MapEntries, no_map_entries, map_entry, MemberValues, no_member_values, member_value}
 use Rattle.smithy_schema.specs.Writing.{count_of, entry_count}
 
 -- each list and map in the value has fewer than 2^64 parts

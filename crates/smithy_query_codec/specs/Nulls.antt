@@ -1,6 +1,6 @@
 -- The values that hold a null element, which no form can express.
 use Rattle.std.specs.Prelude.{Bool, true, false, ◌||◌}
-use Rattle.smithy_shapes.specs.Value.{Value, scalar_value, list, map, structure, union, null_element, document_value, Values, no_values, value, MapEntries, no_map_entries, map_entry, MemberValues, no_member_values, member_value}
+use Rattle.smithy_declarations.specs.Value.{Value, scalar_value, list, map, structure, union, null_element, document_value, Values, no_values, value, MapEntries, no_map_entries, map_entry, MemberValues, no_member_values, member_value}
 
 -- a null element stands in the value
 abbrev mutual

@@ -4,7 +4,7 @@ use Rattle.std.specs.Option.{option_or}
 use Rattle.smithy_schema.specs.declared.error.SerdeError.{SerdeError}
 use Rattle.smithy_schema.specs.declared.error.SerdeError.TheVariants.{Unsupported, Unwritable}
 use Rattle.smithy_shapes.specs.Site.{Site, element_of, value_of, member_of}
-use Rattle.smithy_shapes.specs.Value.{Value, scalar_value, list, map, structure, union, null_element, document_value, Values, no_values, value, MapEntries, no_map_entries, map_entry, MemberValues, no_member_values, member_value}
+use Rattle.smithy_declarations.specs.Value.{Value, scalar_value, list, map, structure, union, null_element, document_value, Values, no_values, value, MapEntries, no_map_entries, map_entry, MemberValues, no_member_values, member_value}
 use Rattle.smithy_query_codec.specs.Writable.{can_write}
 
 abbrev mutual

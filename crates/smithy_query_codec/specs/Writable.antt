@@ -1,10 +1,10 @@
 -- The values that can be written to a form: those without a null and without a document, and of instants those that their time
 -- forms can write.
 use Rattle.std.specs.Prelude.{Bool, false, ◌&&◌, not}
-use Rattle.smithy_shapes.specs.declared.shape_type.TimestampFormat.TheVariants.{DateTime}
+use Rattle.smithy_declarations.specs.declared.shape_type.TimestampFormat.TheVariants.{DateTime}
 use Rattle.smithy_shapes.specs.Site.{Site}
-use Rattle.smithy_shapes.specs.Value.{Value}
-use Rattle.smithy_shapes.specs.TimeForms.{form_or, form_writes, form_holds}
+use Rattle.smithy_declarations.specs.Value.{Value}
+use Rattle.smithy_declarations.specs.TimeForms.{form_or, form_writes, form_holds}
 use Rattle.smithy_shapes.specs.ScalarTest.{ValueTest, scalars_pass}
 use Rattle.smithy_query_codec.specs.Nulls.{holds_null}
 

@@ -1,7 +1,7 @@
 //! The open containers, and what the next call is in them.
 ghost use Rattle.std.specs.Prelude.{◌≡◌, [], length, true, false, OnOk, IfErr, IsErrOf, Ok, Err};
 ghost use Rattle.smithy_schema.specs.declared.error.SerdeError.TheVariants.{Failed, Unwritable};
-ghost use Rattle.smithy_schema.specs.Reading.{IsFault};
+ghost use Rattle.smithy_schema.specs.Errors.{IsFault};
 ghost use Rattle.smithy_shapes.specs.Site.{site_of};
 ghost use Rattle.smithy_schema.specs.Writing.{after_value, after_text};
 ghost use Rattle.smithy_query_codec.specs.Writing.{extended, innermost_key as innermost_key_name, innermost_value as innermost_value_name, child_path, child_role, child_count, has_room as is_room, is_placed as is_place, takes_null as is_null_taken, is_key_due as is_key_place, member_length as kept_length};

@@ -1,9 +1,10 @@
 -- Of which relations a refusal speaks: of those of the wire, or where a body is read whole of those with the limits lifted.
 use Rattle.std.proofs.Common.{◌≡◌, true, false, Result, Ok, Err, OnOk}
 use Rattle.smithy_schema.specs.declared.error.SerdeError.{SerdeError}
-use Rattle.smithy_shapes.specs.Table.{kind_of, IsContainer}
+use Rattle.smithy_declarations.specs.Table.{kind_of, IsContainer}
 use Rattle.smithy_shapes.specs.Site.{Site}
-use Rattle.smithy_schema.specs.Reading.{Cursor, Relations, depth, IsLawful, IsBelow, Contains, IsFault, FindsNone, StandsNot, OpensNot, CannotGoOn}
+use Rattle.smithy_schema.specs.Errors.{IsFault, FindsNone}
+use Rattle.smithy_schema.specs.Reading.{Cursor, Relations, depth, IsLawful, IsBelow, Contains, StandsNot, OpensNot, CannotGoOn}
 use Rattle.smithy_schema.specs.Consuming.{Reader, Cleared, RefusesOpening, RefusesEntry, RefusesMember}
 use Rattle.smithy_schema.proofs.ReadContainers.{itself}
 

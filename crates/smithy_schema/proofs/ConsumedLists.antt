@@ -1,11 +1,12 @@
 -- What the calls of a consumer along a list have read together, and where they find fault.
 use Rattle.std.proofs.Common.{◌≡◌, ◌⊎◌, List, [], ◌∷◌, ◌++◌, Some, None, true, Result, Ok, Err, OnOk, refl, sym, subst, inl, inr}
 use Rattle.smithy_schema.specs.declared.error.SerdeError.{SerdeError}
-use Rattle.smithy_shapes.specs.declared.place.Place.{Place}
-use Rattle.smithy_shapes.specs.Table.{Kind, list_of, place_in, IsList, IsSparse, is_sparse}
+use Rattle.smithy_declarations.specs.declared.place.Place.{Place}
+use Rattle.smithy_declarations.specs.Table.{Kind, list_of, place_in, IsList, IsSparse, is_sparse}
 use Rattle.smithy_shapes.specs.Site.{Site, kind_at}
-use Rattle.smithy_shapes.specs.Value.{Value, list, values_of, null_element}
-use Rattle.smithy_schema.specs.Reading.{Cursor, Relations, depth, in_list, child_value, IsLawful, Reads, Passes, StandsNot, NullsNot, null_is_due, IsFault}
+use Rattle.smithy_declarations.specs.Value.{Value, list, values_of, null_element}
+use Rattle.smithy_schema.specs.Errors.{IsFault}
+use Rattle.smithy_schema.specs.Reading.{Cursor, Relations, depth, in_list, child_value, IsLawful, Reads, Passes, StandsNot, NullsNot, null_is_due}
 use Rattle.smithy_schema.specs.Consuming.{Reader, Call, Along, ended, refused, stopped, went, Consumes, unopened, entered, by_element, ToEntry}
 use Rattle.smithy_schema.proofs.ConsumingLemmas.{same_error}
 use Rattle.smithy_schema.proofs.ReadContainers.{InContainer, itself, child_read, end, stuck}

@@ -1,11 +1,12 @@
 -- What the calls of a consumer along a map have read together, and where they find fault.
 use Rattle.std.proofs.Common.{◌≡◌, ◌⊎◌, ℕ, List, Some, None, true, Result, Ok, Err, OnOk, refl, sym, subst, inl, inr}
 use Rattle.smithy_schema.specs.declared.error.SerdeError.{SerdeError}
-use Rattle.smithy_shapes.specs.declared.place.Place.{Place}
-use Rattle.smithy_shapes.specs.Table.{Kind, map_of, place_in, IsMap, IsSparse, is_sparse}
+use Rattle.smithy_declarations.specs.declared.place.Place.{Place}
+use Rattle.smithy_declarations.specs.Table.{Kind, map_of, place_in, IsMap, IsSparse, is_sparse}
 use Rattle.smithy_shapes.specs.Site.{Site, kind_at}
-use Rattle.smithy_shapes.specs.Value.{Value, map, null_element, MapEntries, no_map_entries, put_entry}
-use Rattle.smithy_schema.specs.Reading.{Cursor, Relations, depth, in_map, child_value, named, IsLawful, Reads, Passes, StandsNot, IsFault}
+use Rattle.smithy_declarations.specs.Value.{Value, map, null_element, MapEntries, no_map_entries, put_entry}
+use Rattle.smithy_schema.specs.Errors.{IsFault}
+use Rattle.smithy_schema.specs.Reading.{Cursor, Relations, depth, in_map, child_value, named, IsLawful, Reads, Passes, StandsNot}
 use Rattle.smithy_schema.specs.Consuming.{Reader, Call, Along, ended, refused, stopped, went, Consumes, unopened, entered, by_key, ToEntry}
 use Rattle.smithy_schema.proofs.ConsumingLemmas.{same_error}
 use Rattle.smithy_schema.proofs.ReadContainers.{InContainer, itself, child_read, end, stuck}

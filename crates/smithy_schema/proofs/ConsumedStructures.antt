@@ -1,9 +1,9 @@
 -- What calls of a consumer along the entries of a structure have read together.
 use Rattle.std.proofs.Common.{◌≡◌, ℕ, suc, List, [], ◌∷◌, map, length, Option, Some, None, true, false, option_map, Result, Ok, Err, OnOk, refl, sym, ◌∙◌, ap, subst, inl, inr}
 use Rattle.smithy_schema.specs.declared.error.SerdeError.{SerdeError}
-use Rattle.smithy_shapes.specs.Table.{Kind, structure_of, IsStructure, IsSparse, IsContainer}
+use Rattle.smithy_declarations.specs.Table.{Kind, structure_of, IsStructure, IsSparse, IsContainer}
 use Rattle.smithy_shapes.specs.Site.{Site, member_site, kind_at}
-use Rattle.smithy_shapes.specs.Value.{Value, MemberValues, no_member_values, put_member, structure}
+use Rattle.smithy_declarations.specs.Value.{Value, MemberValues, no_member_values, put_member, structure}
 use Rattle.smithy_shapes.specs.Container.{members_from, container_of}
 use Rattle.smithy_schema.specs.Reading.{Cursor, in_structure, depth, Relations, Child, child_value, child_unknown, entry_of, Chain, IsLawful, Reads, Enters}
 use Rattle.smithy_schema.specs.Consuming.{Reader, Call, Rests, Cleared, nothing_due, skipped, Along, ended, refused, stopped, went, Consumes, unopened, entered, by_member, ToMember}

@@ -1,13 +1,14 @@
 -- A loop that calls a consumer along the entries of a container.
 use Rattle.std.proofs.Common.{◌≡◌, ◌⊎◌, ◌↔◌, ◌<◌, ◌≤◌, ℕ, suc, ◌+◌, length, List, ◌∷◌, Option, Some, None, Bool, true, false, cond, Result, Ok, Err, refl, sym, ◌∙◌, ap, subst, arith, IsErrOf, inl, inr}
-use Rattle.smithy_shapes.specs.declared.place.Place.{Place}
+use Rattle.smithy_declarations.specs.declared.place.Place.{Place}
 use Rattle.smithy_schema.specs.declared.error.SerdeError.{SerdeError}
 use Rattle.smithy_schema.specs.declared.error.SerdeError.TheVariants.{InvalidInput, TypeMismatch, TooDeep, TooWide, NotCarried, Unsupported, Unwritable, Missing, Failed, NoMemory}
-use Rattle.smithy_shapes.specs.Table.{Table, IsStructure, kind_of}
-use Rattle.smithy_schema.specs.declared.read.Step.{Step}
-use Rattle.smithy_schema.specs.declared.read.Step.TheVariants.{Member as to_member_step, Unknown, End}
+use Rattle.smithy_declarations.specs.Table.{Table, IsStructure, kind_of}
+use Rattle.smithy_schema.specs.declared.step.Step.{Step}
+use Rattle.smithy_schema.specs.declared.step.Step.TheVariants.{Member as to_member_step, Unknown, End}
 use Rattle.smithy_shapes.specs.Site.{Site}
-use Rattle.smithy_schema.specs.Reading.{Cursor, Relations, ContainerKind, Frame, depth, Enters, Steps, Leaves, CannotGoOn, OpensNot, ReachesDepth, Conducts, RefusesNoScalar, RefusesNoKind, IsNoAnswer, TellsType, IsRefused, IsInvalid, IsOfCursor, IsBehind, IsLawful, MatchStep, passed_to}
+use Rattle.smithy_schema.specs.Errors.{RefusesNoScalar, RefusesNoKind, IsNoAnswer, TellsType, IsRefused, IsInvalid, IsOfCursor}
+use Rattle.smithy_schema.specs.Reading.{Cursor, Relations, ContainerKind, Frame, depth, Enters, Steps, Leaves, CannotGoOn, OpensNot, ReachesDepth, Conducts, IsBehind, IsLawful, MatchStep, passed_to}
 use Rattle.smithy_schema.specs.Consuming.{Reader, Call, Rests, IsTaken, Cleared, nothing_due, skipped, Route, Along, went, RefusesOpening, RefusesMember, RefusesEntry, ToMember, ToEnd, IsMemberOf, site_in}
 
 -- ---- refusals

@@ -1,10 +1,10 @@
 -- That no more containers are open than the bytes of the input open stays so, call by call.
 use Rattle.std.proofs.Common.{◌≡◌, ◌≤◌, ◌<◌, ◌+◌, ℕ, suc, length, drop, List, Option, Some, ap, arith, subst, sym}
-use Rattle.smithy_shapes.specs.declared.place.Place.{Place}
-use Rattle.smithy_schema.specs.declared.read.Step.{Step}
-use Rattle.smithy_schema.specs.declared.read.Step.TheVariants.{Member as ToMember, Unknown, End}
-use Rattle.smithy_shapes.specs.Table.{Table}
-use Rattle.smithy_shapes.specs.Value.{Value}
+use Rattle.smithy_declarations.specs.declared.place.Place.{Place}
+use Rattle.smithy_schema.specs.declared.step.Step.{Step}
+use Rattle.smithy_schema.specs.declared.step.Step.TheVariants.{Member as ToMember, Unknown, End}
+use Rattle.smithy_declarations.specs.Table.{Table}
+use Rattle.smithy_declarations.specs.Value.{Value}
 use Rattle.smithy_shapes.specs.Site.{Site}
 use Rattle.smithy_schema.specs.Reading.{Cursor, depth, Relations, ContainerKind, CountsOpeners, Passes, Reads, Enters, Steps, Leaves, MatchStep, IsCounted, ReachesDepth, failed_at, passed_to}
 

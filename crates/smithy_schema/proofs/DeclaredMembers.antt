@@ -3,12 +3,12 @@ use Rattle.std.proofs.Common.{◌≡◌, ◌≢◌, ◌≤◌, ℕ, zero, suc, L
 use Rattle.std.specs.List.{slice_get}
 use Rattle.std.proofs.lemmas.List.{length-map}
 use Rattle.std.proofs.lemmas.Option.{slice_get-map, slice_get_within}
-use Rattle.smithy_shapes.specs.declared.place.Target.{Target}
-use Rattle.smithy_shapes.specs.declared.shape_type.Scalar.{Scalar}
-use Rattle.smithy_shapes.specs.declared.shape_type.Scalar.TheVariants as scalars
-use Rattle.smithy_shapes.specs.declared.shape_type.ShapeType.{ShapeType}
-use Rattle.smithy_shapes.specs.declared.shape_type.ShapeType.TheVariants as types
-use Rattle.smithy_shapes.specs.Table.{Table, Kind, Member, scalar, structure_of, union_of, list_of, map_of, scalar_type, type_of, members_of, IsStructure, IsUnion, IsList, IsMap}
+use Rattle.smithy_declarations.specs.declared.place.Target.{Target}
+use Rattle.smithy_declarations.specs.declared.shape_type.Scalar.{Scalar}
+use Rattle.smithy_declarations.specs.declared.shape_type.Scalar.TheVariants as scalars
+use Rattle.smithy_declarations.specs.declared.shape_type.ShapeType.{ShapeType}
+use Rattle.smithy_declarations.specs.declared.shape_type.ShapeType.TheVariants as types
+use Rattle.smithy_declarations.specs.Table.{Table, Kind, Member, scalar, structure_of, union_of, list_of, map_of, scalar_type, type_of, members_of, IsStructure, IsUnion, IsList, IsMap}
 use Rattle.smithy_shapes.specs.Site.{Site, kind_at, member_site, site_of_member}
 use Rattle.smithy_shapes.specs.Declares.{row_of, Declares}
 use Rattle.smithy_shapes.specs.Lemmas.Options.{same_some}

@@ -2,10 +2,10 @@
 use Rattle.std.proofs.Common.{◌≡◌, ℤ, [], ◌∷◌, map, true, false, Some, None, refl, pos, neg_ℤ, codes, ◌-◌, ◌+◌, ◌^◌, Ok, Err}
 use Rattle.smithy_types.specs.Document.{Document, null, boolean, number, text, array, object, no_documents, item, no_properties, property, is_document_number}
 use Rattle.smithy_schema.specs.declared.error.SerdeError.TheVariants.{Unwritable}
-use Rattle.smithy_shapes.specs.Table as table
-use Rattle.smithy_shapes.specs.Table.{Table, document, kind_of, document_place, shape_place, is_document_place}
-use Rattle.smithy_shapes.specs.Documents.{document_nesting}
-use Rattle.smithy_shapes.specs.Value.{document_value, list, no_values, value, nesting}
+use Rattle.smithy_declarations.specs.Table as table
+use Rattle.smithy_declarations.specs.Table.{Table, document, kind_of, document_place, shape_place, is_document_place}
+use Rattle.smithy_declarations.specs.Documents.{document_nesting}
+use Rattle.smithy_declarations.specs.Value.{document_value, list, no_values, value, nesting}
 use Rattle.smithy_shapes.specs.Site.{Site, shape_site, element_of}
 use Rattle.smithy_shapes.specs.ScalarTest.{no_documents as none, scalars_pass}
 use Rattle.smithy_schema.specs.Writing.{open_map_at_key, open_map_at_value, begin_list, end_list, document_of, events, open_after}

@@ -2,14 +2,15 @@
 use Rattle.std.proofs.Common.{◌≡◌, ◌<◌, ◌⊎◌, inl, inr, length, ℕ, List, [], ◌∷◌, ◌++◌, Option, Some, None, Bool, true, false, Ok, Err, sym, subst}
 use Rattle.smithy_schema.specs.declared.error.SerdeError.{SerdeError}
 use Rattle.smithy_schema.specs.declared.error.SerdeError.TheVariants.{Failed, NoMemory}
-use Rattle.smithy_shapes.specs.declared.place.Target.TheVariants.{Simple}
-use Rattle.smithy_schema.specs.declared.read.Step.TheVariants.{Member as ToMember}
+use Rattle.smithy_declarations.specs.declared.place.Target.TheVariants.{Simple}
+use Rattle.smithy_schema.specs.declared.step.Step.TheVariants.{Member as ToMember}
 use Rattle.smithy_shapes.specs.declared.schema.Schema.{Schema}
-use Rattle.smithy_shapes.specs.declared.shape_type.Scalar.{Scalar}
-use Rattle.smithy_shapes.specs.Table.{place_in, IsContainer, IsList, IsMap, IsUnion, IsSparse}
+use Rattle.smithy_declarations.specs.declared.shape_type.Scalar.{Scalar}
+use Rattle.smithy_declarations.specs.Table.{place_in, IsContainer, IsList, IsMap, IsUnion, IsSparse}
 use Rattle.smithy_shapes.specs.Site.{Site, site_of, kind_at}
-use Rattle.smithy_shapes.specs.Value.{Value, ScalarValue, scalar_value, union, MapEntries, put_entry}
-use Rattle.smithy_schema.specs.Reading.{Cursor, ContainerKind, in_structure, in_list, in_map, Relations, Child, child_value, named, depth, IsLawful, Steps, Leaves, MatchStep, Reads, ReadsScalar, StandsNot, OpensNot, CannotGoOn, Conducts, IsFault, IsBehind}
+use Rattle.smithy_declarations.specs.Value.{Value, ScalarValue, scalar_value, union, MapEntries, put_entry}
+use Rattle.smithy_schema.specs.Errors.{IsFault}
+use Rattle.smithy_schema.specs.Reading.{Cursor, ContainerKind, in_structure, in_list, in_map, Relations, Child, child_value, named, depth, IsLawful, Steps, Leaves, MatchStep, Reads, ReadsScalar, StandsNot, OpensNot, CannotGoOn, Conducts, IsBehind}
 use Rattle.smithy_schema.specs.Consuming.{Reader, IsTaken}
 use Rattle.smithy_schema.proofs.ReadContainers.{InContainer, itself, child_read, end, stuck}
 use Rattle.smithy_schema.proofs.ReadLists.{list_value, IsNoNull, element_child, element_refused, element_falls}

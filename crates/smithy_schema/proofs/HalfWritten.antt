@@ -4,8 +4,8 @@ use Rattle.std.proofs.Math.Nat.{le-max_left, le-max_right}
 use Rattle.smithy_schema.specs.declared.error.SerdeError.{SerdeError}
 use Rattle.smithy_schema.specs.declared.error.SerdeError.TheVariants.{Failed}
 use Rattle.smithy_shapes.specs.Site.{Site, member_of, element_of, key_of, value_of}
-use Rattle.smithy_shapes.specs.Value.{Value, text, list, map, union, values_of, MapEntries, map_entry, nesting, entries_nesting}
-use Rattle.smithy_schema.specs.Reading.{IsFault}
+use Rattle.smithy_declarations.specs.Value.{Value, text, list, map, union, values_of, MapEntries, map_entry, nesting, entries_nesting}
+use Rattle.smithy_schema.specs.Errors.{IsFault}
 use Rattle.smithy_schema.specs.Writing.{Event, Writer, events, element_events, entry_events, entry_count, begin_structure, end_structure, begin_list, end_list, begin_map, end_map, scalar_of}
 use Rattle.smithy_schema.specs.Written.{Runs, ran, broke}
 use Rattle.smithy_schema.proofs.WritingLemmas.{call_made, call_refused, child_written, child_refused}

@@ -2,17 +2,17 @@
 use Rattle.std.proofs.Common.{◌≡◌, ℕ, ℤ, List, [], ◌∷◌, map, Bool, true, false, Option, Some, None, option_map, refl, pos, neg_ℤ, codes, ◌+◌, ◌-◌, ◌*◌, ◌^◌, Result, Ok, Err}
 use Rattle.smithy_schema.specs.declared.error.SerdeError.{SerdeError}
 use Rattle.smithy_schema.specs.declared.error.SerdeError.TheVariants.{Unwritable}
-use Rattle.smithy_shapes.specs.declared.place.Place.{Place}
-use Rattle.smithy_shapes.specs.declared.shape_type.Scalar.TheVariants as scalars
-use Rattle.smithy_shapes.specs.declared.shape_type.TimestampFormat.{TimestampFormat}
-use Rattle.smithy_shapes.specs.declared.shape_type.TimestampFormat.TheVariants.{EpochSeconds, DateTime, HttpDate}
+use Rattle.smithy_declarations.specs.declared.place.Place.{Place}
+use Rattle.smithy_declarations.specs.declared.shape_type.Scalar.TheVariants as scalars
+use Rattle.smithy_declarations.specs.declared.shape_type.TimestampFormat.{TimestampFormat}
+use Rattle.smithy_declarations.specs.declared.shape_type.TimestampFormat.TheVariants.{EpochSeconds, DateTime, HttpDate}
 use Rattle.smithy_instants.specs.declared.format.Format.TheVariants as formats
 use Rattle.smithy_instants.proofs.OnLiterals.{smithy_instants_on_literals}
-use Rattle.smithy_shapes.specs.TimeForms.{format_of, form_or, form_writes, form_holds}
+use Rattle.smithy_declarations.specs.TimeForms.{format_of, form_or, form_writes, form_holds}
 use Rattle.smithy_shapes.specs.ScalarTest.{scalars_pass}
-use Rattle.smithy_shapes.specs.Table as table
-use Rattle.smithy_shapes.specs.Table.{Table, Member, ListShape, MapShape, Kind, scalar, structure_of, union_of, list_of, map_of, nothing, kind_of, place_in, is_sparse, position_named, json_name_of, query_name_of, element_name_of, key_name_of, value_name_of, declared_as, scalar_place, shape_place}
-use Rattle.smithy_shapes.specs.Value.{ScalarValue, boolean, Value, scalar_value, whole, text, bytes, decimal, instant, list, map as map_value, structure, union, null_element, no_values, value, no_map_entries, map_entry, no_member_values, member_value}
+use Rattle.smithy_declarations.specs.Table as table
+use Rattle.smithy_declarations.specs.Table.{Table, Member, ListShape, MapShape, Kind, scalar, structure_of, union_of, list_of, map_of, nothing, kind_of, place_in, is_sparse, position_named, json_name_of, query_name_of, element_name_of, key_name_of, value_name_of, declared_as, scalar_place, shape_place}
+use Rattle.smithy_declarations.specs.Value.{ScalarValue, boolean, Value, scalar_value, whole, text, bytes, decimal, instant, list, map as map_value, structure, union, null_element, no_values, value, no_map_entries, map_entry, no_member_values, member_value}
 use Rattle.smithy_shapes.specs.Fits.{is_of}
 use Rattle.smithy_shapes.specs.Container.{Entry, container_of}
 use Rattle.smithy_shapes.specs.Site.{Site, shape_site, member_site, element_site, inner_site, key_site, nameless_site, member_named, element_of, key_of, value_of, member_of}

@@ -3,7 +3,7 @@ use Rattle.std.proofs.Common.{◌≡◌, ℕ, List, [], ◌∷◌, ◌++◌, Opt
 use Rattle.std.specs.Option.{option_map_or}
 use Rattle.smithy_schema.specs.declared.error.SerdeError.{SerdeError}
 use Rattle.smithy_shapes.specs.Site.{Site, element_of, key_of, value_of, member_of}
-use Rattle.smithy_shapes.specs.Value.{ScalarValue, text_in, Value, scalar_value, list, map, structure, union, null_element, document_value, Values, no_values, value, MapEntries, no_map_entries, map_entry, MemberValues, no_member_values, member_value}
+use Rattle.smithy_declarations.specs.Value.{ScalarValue, text_in, Value, scalar_value, list, map, structure, union, null_element, document_value, Values, no_values, value, MapEntries, no_map_entries, map_entry, MemberValues, no_member_values, member_value}
 use Rattle.smithy_schema.specs.Writing.{Event, Open, open_structure, open_list, open_map_at_key, open_map_at_value, end_structure, end_list, end_map, after_value, after_text, after_scalar, after_begin, open_after, and_run, run, events, element_events, entry_events, member_events}
 use Rattle.smithy_schema.proofs.WritingLemmas.{child_written}
 

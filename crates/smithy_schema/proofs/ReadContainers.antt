@@ -1,8 +1,8 @@
 -- A container that is half read, of any kind and on any wire.
 use Rattle.std.proofs.Common.{◌≡◌, ℕ, suc, ◌<◌, List, [], ◌∷◌, map, Option, Some, None, true, false, refl, sym, ◌∙◌, ap, subst}
-use Rattle.smithy_shapes.specs.declared.place.Place.{Place}
-use Rattle.smithy_shapes.specs.Table.{Table, Kind, structure_of, union_of, kind_of, place_in, IsStructure, HasMembers, IsSparse, IsContainer}
-use Rattle.smithy_shapes.specs.Value.{Value}
+use Rattle.smithy_declarations.specs.declared.place.Place.{Place}
+use Rattle.smithy_declarations.specs.Table.{Table, Kind, structure_of, union_of, kind_of, place_in, IsStructure, HasMembers, IsSparse, IsContainer}
+use Rattle.smithy_declarations.specs.Value.{Value}
 use Rattle.smithy_shapes.specs.Container.{container_of}
 use Rattle.smithy_shapes.specs.Lemmas.Options.{same_some}
 use Rattle.smithy_schema.specs.Reading.{Cursor, ContainerKind, depth, Relations, Mark, Child, child_value, child_unknown, child_null, entry_of, named, IsChild, Chain, Contains, IsLawful, IsBelow, Passes, Reads, Enters, Steps, Leaves, CannotGoOn}

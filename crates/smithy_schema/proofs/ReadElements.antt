@@ -3,14 +3,15 @@ use Rattle.std.proofs.Common.{◌≡◌, ◌⊎◌, ◌<◌, ◌≤◌, ◌+◌,
 use Rattle.std.proofs.lemmas.List.{map-append, length-append}
 use Rattle.smithy_schema.specs.declared.error.SerdeError.{SerdeError}
 use Rattle.smithy_schema.specs.declared.error.SerdeError.TheVariants.{NoMemory}
-use Rattle.smithy_shapes.specs.declared.place.Place.{Place}
-use Rattle.smithy_shapes.specs.declared.place.Target.TheVariants.{Simple}
-use Rattle.smithy_shapes.specs.declared.shape_type.Scalar.{Scalar}
-use Rattle.smithy_shapes.specs.Table.{Kind, ListShape, list_of, place_in, scalar_place, IsList, IsSparse}
+use Rattle.smithy_declarations.specs.declared.place.Place.{Place}
+use Rattle.smithy_declarations.specs.declared.place.Target.TheVariants.{Simple}
+use Rattle.smithy_declarations.specs.declared.shape_type.Scalar.{Scalar}
+use Rattle.smithy_declarations.specs.Table.{Kind, ListShape, list_of, place_in, scalar_place, IsList, IsSparse}
 use Rattle.smithy_shapes.specs.Site.{Site, kind_at, inner_site}
-use Rattle.smithy_shapes.specs.Value.{ScalarValue, Value, scalar_value}
+use Rattle.smithy_declarations.specs.Value.{ScalarValue, Value, scalar_value}
 use Rattle.smithy_shapes.specs.Lemmas.Options.{same_some}
-use Rattle.smithy_schema.specs.Reading.{Cursor, ContainerKind, Relations, depth, in_list, IsLawful, IsBelow, Reads, ReadsScalar, StandsNot, IsFault, failed_at}
+use Rattle.smithy_schema.specs.Errors.{IsFault}
+use Rattle.smithy_schema.specs.Reading.{Cursor, ContainerKind, Relations, depth, in_list, IsLawful, IsBelow, Reads, ReadsScalar, StandsNot, failed_at}
 use Rattle.smithy_schema.specs.Consuming.{Reader, Call, Route, Along, ended, refused as stops, stopped, went, Consumes, unopened, entered, by_element}
 use Rattle.smithy_schema.specs.Elements.{IsListOf, ReadsElement, put, refused, no_room, no_memory, read, broke, ReadsList}
 use Rattle.smithy_schema.proofs.ConsumingLemmas.{same_error}

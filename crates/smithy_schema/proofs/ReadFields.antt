@@ -6,17 +6,18 @@ use Rattle.std.specs.Ordering.{MatchOrdering, nat_cmp, match_ordering}
 use Rattle.std.proofs.lemmas.Cmp.{ranked}
 use Rattle.smithy_schema.specs.declared.error.SerdeError.{SerdeError}
 use Rattle.smithy_schema.specs.declared.error.SerdeError.TheVariants.{Failed}
-use Rattle.smithy_shapes.specs.declared.place.Place.{Place}
-use Rattle.smithy_shapes.specs.declared.place.Target.{Target}
-use Rattle.smithy_shapes.specs.declared.place.Target.TheVariants.{Simple}
-use Rattle.smithy_shapes.specs.declared.shape_type.Scalar.{Scalar}
-use Rattle.smithy_shapes.specs.declared.shape_type.ShapeType.TheVariants as types
+use Rattle.smithy_declarations.specs.declared.place.Place.{Place}
+use Rattle.smithy_declarations.specs.declared.place.Target.{Target}
+use Rattle.smithy_declarations.specs.declared.place.Target.TheVariants.{Simple}
+use Rattle.smithy_declarations.specs.declared.shape_type.Scalar.{Scalar}
+use Rattle.smithy_declarations.specs.declared.shape_type.ShapeType.TheVariants as types
 use Rattle.smithy_shapes.specs.Declares.{Declares}
-use Rattle.smithy_shapes.specs.Table.{scalar_place, IsStructure}
+use Rattle.smithy_declarations.specs.Table.{scalar_place, IsStructure}
 use Rattle.smithy_shapes.specs.Site.{Site, kind_at, member_site}
-use Rattle.smithy_shapes.specs.Value.{Value, ScalarValue, scalar_value, MemberValues, no_member_values, member_value, put_member}
+use Rattle.smithy_declarations.specs.Value.{Value, ScalarValue, scalar_value, MemberValues, no_member_values, member_value, put_member}
 use Rattle.smithy_shapes.specs.Lemmas.Options.{same_some}
-use Rattle.smithy_schema.specs.Reading.{Cursor, depth, in_structure, IsLawful, Reads, ReadsScalar, StandsNot, IsFault}
+use Rattle.smithy_schema.specs.Errors.{IsFault}
+use Rattle.smithy_schema.specs.Reading.{Cursor, depth, in_structure, IsLawful, Reads, ReadsScalar, StandsNot}
 use Rattle.smithy_schema.specs.Consuming.{Reader, Consumes, by_member, IsTaken}
 use Rattle.smithy_schema.specs.Fields.{members_at, structure_with, TakesField, took, passed, broke, FillsField, filled, refused}
 use Rattle.smithy_schema.proofs.ConsumingLemmas.{same_error, is_error}

@@ -1,10 +1,10 @@
 -- A list that is half read.
 use Rattle.std.proofs.Common.{◌≡◌, ◌<◌, ◌&&◌, ℕ, List, [], ◌∷◌, ◌++◌, map, Option, Some, None, Bool, true, false, option_map, refl, sym, ◌∙◌, ap}
-use Rattle.smithy_shapes.specs.declared.place.Place.{Place}
+use Rattle.smithy_declarations.specs.declared.place.Place.{Place}
 use Rattle.smithy_shapes.specs.declared.schema.Schema.{Schema}
 use Rattle.smithy_shapes.specs.Site.{Site, site_of, inner_site, kind_at}
-use Rattle.smithy_shapes.specs.Table.{Table, Kind, list_of, map_of, kind_of, place_in, IsList, IsSparse, is_sparse, IsContainer}
-use Rattle.smithy_shapes.specs.Value.{Value, list, values_of, null_element}
+use Rattle.smithy_declarations.specs.Table.{Table, Kind, list_of, map_of, kind_of, place_in, IsList, IsSparse, is_sparse, IsContainer}
+use Rattle.smithy_declarations.specs.Value.{Value, list, values_of, null_element}
 use Rattle.smithy_shapes.specs.Container.{elements_from, container_of}
 use Rattle.smithy_shapes.specs.Lemmas.Kinds.{no_list_and_structure}
 use Rattle.smithy_shapes.specs.Lemmas.Options.{same_some}

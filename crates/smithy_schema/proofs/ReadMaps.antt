@@ -1,10 +1,10 @@
 -- A map that is half read.
 use Rattle.std.proofs.Common.{◌≡◌, ◌<◌, ℕ, List, ◌∷◌, map as mapped, Option, Some, None, Bool, true, false, option_map, refl, sym, ◌∙◌, ap}
-use Rattle.smithy_shapes.specs.declared.place.Place.{Place}
+use Rattle.smithy_declarations.specs.declared.place.Place.{Place}
 use Rattle.smithy_shapes.specs.declared.schema.Schema.{Schema}
 use Rattle.smithy_shapes.specs.Site.{Site, site_of, inner_site, kind_at}
-use Rattle.smithy_shapes.specs.Table.{Table, Kind, map_of, kind_of, place_in, IsMap, IsSparse, IsStructure, is_sparse, IsContainer}
-use Rattle.smithy_shapes.specs.Value.{Value, map, null_element, MapEntries, no_map_entries, put_entry}
+use Rattle.smithy_declarations.specs.Table.{Table, Kind, map_of, kind_of, place_in, IsMap, IsSparse, IsStructure, is_sparse, IsContainer}
+use Rattle.smithy_declarations.specs.Value.{Value, map, null_element, MapEntries, no_map_entries, put_entry}
 use Rattle.smithy_shapes.specs.Container.{entries_from, container_of}
 use Rattle.smithy_shapes.specs.Lemmas.Options.{same_some}
 use Rattle.smithy_schema.specs.Reading.{Cursor, in_map, depth, Relations, Child, child_value, child_unknown, child_null, entry_of, named, IsChild, IsLawful, IsBelow, Passes, Reads, Enters, Steps, StandsNot, NullsNot, null_is_due}

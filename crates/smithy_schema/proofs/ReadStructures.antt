@@ -2,12 +2,12 @@
 use Rattle.std.proofs.Common.{◌≡◌, ℕ, List, [], map, Option, Some, None, option_map, refl, sym, ◌∙◌, ap, arith}
 use Rattle.std.specs.List.{slice_get}
 use Rattle.std.proofs.lemmas.Option.{slice_get_past}
-use Rattle.smithy_shapes.specs.declared.place.Place.{Place}
+use Rattle.smithy_declarations.specs.declared.place.Place.{Place}
 use Rattle.smithy_shapes.specs.declared.schema.Schema.{Schema}
-use Rattle.smithy_schema.specs.declared.read.Step.TheVariants.{Member as ToMember, Unknown}
-use Rattle.smithy_shapes.specs.Table.{Table, Kind, structure_of, union_of, kind_of, place_in, members_of, Member, IsStructure, HasMembers, IsSparse, IsContainer}
+use Rattle.smithy_schema.specs.declared.step.Step.TheVariants.{Member as ToMember, Unknown}
+use Rattle.smithy_declarations.specs.Table.{Table, Kind, structure_of, union_of, kind_of, place_in, members_of, Member, IsStructure, HasMembers, IsSparse, IsContainer}
 use Rattle.smithy_shapes.specs.Site.{Site, site_of, site_of_member, member_site, kind_at}
-use Rattle.smithy_shapes.specs.Value.{Value, MemberValues, no_member_values, structure}
+use Rattle.smithy_declarations.specs.Value.{Value, MemberValues, no_member_values, structure}
 use Rattle.smithy_shapes.specs.Container.{members_from, container_of}
 use Rattle.smithy_schema.specs.Reading.{Cursor, in_structure, depth, Relations, Child, child_value, child_unknown, child_null, entry_of, IsChild, IsLawful, IsBelow, Enters, MatchStep}
 use Rattle.smithy_schema.proofs.ReadContainers.{InContainer, worth_as, begin, named_above, no_child, no_place, not_both, structure_has_members}

@@ -5,14 +5,15 @@ use Rattle.std.specs.Ordering.{nat_cmp, match_ordering}
 use Rattle.std.specs.Cmp.Lexicographic.{slice_cmp}
 use Rattle.smithy_schema.specs.declared.error.SerdeError.{SerdeError}
 use Rattle.smithy_schema.specs.declared.error.SerdeError.TheVariants.{NoMemory}
-use Rattle.smithy_shapes.specs.declared.place.Place.{Place}
-use Rattle.smithy_shapes.specs.declared.place.Target.TheVariants.{Simple}
-use Rattle.smithy_shapes.specs.declared.shape_type.Scalar.TheVariants as scalars
-use Rattle.smithy_shapes.specs.Table.{Kind, MapShape, map_of, place_in, scalar_place, IsMap, IsSparse}
+use Rattle.smithy_declarations.specs.declared.place.Place.{Place}
+use Rattle.smithy_declarations.specs.declared.place.Target.TheVariants.{Simple}
+use Rattle.smithy_declarations.specs.declared.shape_type.Scalar.TheVariants as scalars
+use Rattle.smithy_declarations.specs.Table.{Kind, MapShape, map_of, place_in, scalar_place, IsMap, IsSparse}
 use Rattle.smithy_shapes.specs.Site.{Site, kind_at, inner_site}
-use Rattle.smithy_shapes.specs.Value.{text, MapEntries, no_map_entries, map_entry, put_entry}
+use Rattle.smithy_declarations.specs.Value.{text, MapEntries, no_map_entries, map_entry, put_entry}
 use Rattle.smithy_shapes.specs.Lemmas.Options.{same_some}
-use Rattle.smithy_schema.specs.Reading.{Cursor, Relations, in_map, IsLawful, IsBelow, Reads, ReadsScalar, StandsNot, IsFault}
+use Rattle.smithy_schema.specs.Errors.{IsFault}
+use Rattle.smithy_schema.specs.Reading.{Cursor, Relations, in_map, IsLawful, IsBelow, Reads, ReadsScalar, StandsNot}
 use Rattle.smithy_schema.specs.Consuming.{Reader, Consumes, by_key}
 use Rattle.smithy_schema.specs.TextMaps.{IsMapOfTexts, text_value, text_entries, ReadsEntry, put, refused, no_room, read, broke, ReadsTexts}
 use Rattle.smithy_schema.proofs.ConsumingLemmas.{same_error}

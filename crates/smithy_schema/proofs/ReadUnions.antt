@@ -1,12 +1,12 @@
 -- A union that is half read.
 use Rattle.std.proofs.Common.{◌≡◌, ℕ, List, ◌∷◌, map, Option, Some, None, option_and_then, refl, sym, ◌∙◌, ap}
-use Rattle.smithy_shapes.specs.declared.place.Place.{Place}
+use Rattle.smithy_declarations.specs.declared.place.Place.{Place}
 use Rattle.smithy_shapes.specs.declared.schema.Schema.{Schema}
-use Rattle.smithy_schema.specs.declared.read.Step.{Step}
-use Rattle.smithy_schema.specs.declared.read.Step.TheVariants.{Member as ToMember, Unknown, End}
-use Rattle.smithy_shapes.specs.Table.{Table, Kind, union_of, kind_of, place_in, IsStructure, IsUnion, HasMembers, IsContainer}
+use Rattle.smithy_schema.specs.declared.step.Step.{Step}
+use Rattle.smithy_schema.specs.declared.step.Step.TheVariants.{Member as ToMember, Unknown, End}
+use Rattle.smithy_declarations.specs.Table.{Table, Kind, union_of, kind_of, place_in, IsStructure, IsUnion, HasMembers, IsContainer}
 use Rattle.smithy_shapes.specs.Site.{Site, kind_at}
-use Rattle.smithy_shapes.specs.Value.{Value}
+use Rattle.smithy_declarations.specs.Value.{Value}
 use Rattle.smithy_shapes.specs.Container.{folded, container_of}
 use Rattle.smithy_shapes.specs.Lemmas.Variants.{variant_step, variants_folded}
 use Rattle.smithy_schema.specs.Reading.{Cursor, in_structure, depth, Relations, Child, child_value, child_unknown, child_null, entry_of, IsChild, IsLawful, IsBelow, Enters, MatchStep, StandsNot}

@@ -1,11 +1,12 @@
 -- Where calls of a consumer along the entries of a structure end with a fault, no value of the structure stands there.
 use Rattle.std.proofs.Common.{◌≡◌, ℕ, suc, List, [], ◌∷◌, length, Option, Some, None, true, false, Result, Ok, Err, refl, sym, ◌∙◌, ap, subst}
 use Rattle.smithy_schema.specs.declared.error.SerdeError.{SerdeError}
-use Rattle.smithy_shapes.specs.declared.place.Place.{Place}
-use Rattle.smithy_shapes.specs.Table.{Kind, structure_of, place_in, IsStructure}
+use Rattle.smithy_declarations.specs.declared.place.Place.{Place}
+use Rattle.smithy_declarations.specs.Table.{Kind, structure_of, place_in, IsStructure}
 use Rattle.smithy_shapes.specs.Site.{Site, member_site, kind_at}
-use Rattle.smithy_shapes.specs.Value.{Value, MemberValues}
-use Rattle.smithy_schema.specs.Reading.{Cursor, in_structure, depth, Relations, Child, child_value, child_null, child_unknown, IsChild, Chain, Contains, IsLawful, StandsNot, IsFault, CannotGoOn, passed_to}
+use Rattle.smithy_declarations.specs.Value.{Value, MemberValues}
+use Rattle.smithy_schema.specs.Errors.{IsFault}
+use Rattle.smithy_schema.specs.Reading.{Cursor, in_structure, depth, Relations, Child, child_value, child_null, child_unknown, IsChild, Chain, Contains, IsLawful, StandsNot, CannotGoOn, passed_to}
 use Rattle.smithy_shapes.specs.Lemmas.Options.{same_some}
 use Rattle.smithy_schema.specs.Consuming.{Reader, Call, Cleared, nothing_due, skipped, Along, ended, refused, stopped, went, Consumes, unopened, entered, by_member, ToMember}
 use Rattle.smithy_schema.proofs.ConsumingLemmas.{cleared_input, cleared_outer, same_error}

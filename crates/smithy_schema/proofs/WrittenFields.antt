@@ -4,8 +4,8 @@ use Rattle.std.proofs.lemmas.List.{append-nil}
 use Rattle.smithy_schema.specs.declared.error.SerdeError.{SerdeError}
 use Rattle.smithy_schema.specs.declared.error.SerdeError.TheVariants.{Failed}
 use Rattle.smithy_shapes.specs.Site.{Site, element_of}
-use Rattle.smithy_shapes.specs.Value.{Value, list, structure, MemberValues, values_of}
-use Rattle.smithy_schema.specs.Reading.{IsFault}
+use Rattle.smithy_declarations.specs.Value.{Value, list, structure, MemberValues, values_of}
+use Rattle.smithy_schema.specs.Errors.{IsFault}
 use Rattle.smithy_schema.specs.Writing.{Event, Writer, Open, open_structure, open_list, begin_structure, end_structure, begin_list, end_list, IsNested, after_value, run, events, element_events, member_events}
 use Rattle.smithy_schema.specs.Written.{outcome, Runs, ran, broke, IsInside, AddsInside, Wraps, whole, not_begun, not_written, not_ended}
 use Rattle.smithy_schema.specs.Fields.{field_events, members_at}

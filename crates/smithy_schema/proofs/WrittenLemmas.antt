@@ -2,9 +2,9 @@
 use Rattle.std.proofs.Common.{◌≡◌, ◌↔◌, ℕ, Option, List, [], ◌∷◌, ap, Bool, true, false, Result, Ok, Err, refl, sym, ◌∙◌, subst, OnOk, IfErr, IsErr, IsErrOf}
 use Rattle.smithy_schema.specs.declared.error.SerdeError.{SerdeError}
 use Rattle.smithy_schema.specs.declared.error.SerdeError.TheVariants.{Failed}
-use Rattle.smithy_schema.specs.Reading.{IsFault}
+use Rattle.smithy_schema.specs.Errors.{IsFault}
 use Rattle.smithy_shapes.specs.Site.{Site}
-use Rattle.smithy_shapes.specs.Value.{list, Values}
+use Rattle.smithy_declarations.specs.Value.{list, Values}
 use Rattle.smithy_schema.specs.Writing.{Event, Writer, Open, open_list, begin_list, IsNested, after_value, after_begin, open_after, and_run, run, write, events}
 use Rattle.smithy_schema.specs.Written.{outcome, IsInside, Refuses, Wraps, whole, not_ended}
 use Rattle.smithy_schema.proofs.WritingLemmas.{call_made, call_refused}

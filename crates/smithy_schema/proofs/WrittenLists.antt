@@ -3,11 +3,11 @@ use Rattle.std.proofs.Common.{arith, ◌≡◌, map, max, ◌<◌, ◌≤◌, �
 use Rattle.std.specs.Option.{option_map_or}
 use Rattle.std.proofs.Math.Nat.{le-max_left, le-max_right}
 use Rattle.smithy_schema.specs.declared.error.SerdeError.{SerdeError}
-use Rattle.smithy_shapes.specs.declared.place.Place.{Place}
-use Rattle.smithy_shapes.specs.Table.{Table, Kind, list_of, list_shape_of, place_in}
+use Rattle.smithy_declarations.specs.declared.place.Place.{Place}
+use Rattle.smithy_declarations.specs.Table.{Table, Kind, list_of, list_shape_of, place_in}
 use Rattle.smithy_shapes.specs.Site.{Site, kind_at, element_site, nameless_site, site_of_element, element_of}
 use Rattle.smithy_shapes.specs.Fits.{FitsOr, ElementsFit}
-use Rattle.smithy_shapes.specs.Value.{Value, scalar_value, list, map as mapped, structure, union, null_element, document_value, values_of, nesting, elements_nesting}
+use Rattle.smithy_declarations.specs.Value.{Value, scalar_value, list, map as mapped, structure, union, null_element, document_value, values_of, nesting, elements_nesting}
 use Rattle.smithy_schema.specs.Writing.{Event, Writer, write, run, count_of, element_events, begin_list, end_list}
 use Rattle.smithy_schema.proofs.WritingLemmas.{call_made, call_refused, child_written, child_refused}
 

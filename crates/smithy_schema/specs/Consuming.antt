@@ -2,10 +2,11 @@
 use Rattle.std.specs.Prelude.{◌≡◌, ◌≢◌, ◌⊎◌, ◌↔◌, ◌≤◌, ℕ, List, Option, Some, None, true, false, Result, Ok, Err}
 use Rattle.smithy_schema.specs.declared.error.SerdeError.{SerdeError}
 use Rattle.smithy_schema.specs.declared.error.SerdeError.TheVariants.{TypeMismatch, TooDeep, Failed, NoMemory}
-use Rattle.smithy_schema.specs.declared.read.Step.{Step}
-use Rattle.smithy_schema.specs.declared.read.Step.TheVariants.{Member, Unknown, End}
+use Rattle.smithy_schema.specs.declared.step.Step.{Step}
+use Rattle.smithy_schema.specs.declared.step.Step.TheVariants.{Member, Unknown, End}
 use Rattle.smithy_shapes.specs.Site.{Site, site_of, member_site}
-use Rattle.smithy_schema.specs.Reading.{Cursor, Relations, ContainerKind, depth, Passes, Enters, Steps, Leaves, CannotGoOn, OpensNot, ReachesDepth, IsFault, FindsNone, TellsType, IsNoAnswer, IsBehind, IsOfCursor, failed_at, passed_to}
+use Rattle.smithy_schema.specs.Errors.{IsFault, FindsNone, TellsType, IsNoAnswer, IsOfCursor}
+use Rattle.smithy_schema.specs.Reading.{Cursor, Relations, ContainerKind, depth, Passes, Enters, Steps, Leaves, CannotGoOn, OpensNot, ReachesDepth, IsBehind, failed_at, passed_to}
 
 -- What the calls of a reader are told by: its relations with the limits kept and with the limits lifted, whether a refusal speaks
 -- of the lifted ones, and how many containers may be open.

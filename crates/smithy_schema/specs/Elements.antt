@@ -4,12 +4,13 @@ use Rattle.std.specs.declared.vec.Vec.{Vec}
 use Rattle.std.specs.declared.alloc.Global.{Global}
 use Rattle.smithy_schema.specs.declared.error.SerdeError.{SerdeError}
 use Rattle.smithy_schema.specs.declared.error.SerdeError.TheVariants.{NoMemory}
-use Rattle.smithy_shapes.specs.declared.place.Target.TheVariants.{Simple}
-use Rattle.smithy_shapes.specs.declared.shape_type.Scalar.{Scalar}
-use Rattle.smithy_shapes.specs.Table.{ListShape, list_of}
-use Rattle.smithy_shapes.specs.Value.{ScalarValue, Value, scalar_value, list, values_of}
+use Rattle.smithy_declarations.specs.declared.place.Target.TheVariants.{Simple}
+use Rattle.smithy_declarations.specs.declared.shape_type.Scalar.{Scalar}
+use Rattle.smithy_declarations.specs.Table.{ListShape, list_of}
+use Rattle.smithy_declarations.specs.Value.{ScalarValue, Value, scalar_value, list, values_of}
 use Rattle.smithy_shapes.specs.Site.{Site, kind_at, inner_site}
-use Rattle.smithy_schema.specs.Reading.{Cursor, ReadsScalar, Reads, StandsNot, IsRefused, IsInvalid, in_list, failed_at}
+use Rattle.smithy_schema.specs.Errors.{IsRefused, IsInvalid}
+use Rattle.smithy_schema.specs.Reading.{Cursor, ReadsScalar, Reads, StandsNot, in_list, failed_at}
 use Rattle.smithy_schema.specs.Consuming.{Reader, Consumes, by_element}
 
 -- a list of such scalars stands there, none of which may be null

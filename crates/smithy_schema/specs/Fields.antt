@@ -1,10 +1,11 @@
 -- A structure that a type of the caller's keeps as fields, by the positions of its members.
 use Rattle.std.specs.Prelude.{◌≡◌, ℕ, suc, List, [], ◌∷◌, map, true, Option, Some, None, Result, Ok, Err}
 use Rattle.smithy_schema.specs.declared.error.SerdeError.{SerdeError}
-use Rattle.smithy_shapes.specs.declared.shape_type.Scalar.{Scalar}
-use Rattle.smithy_shapes.specs.Value.{ScalarValue, Value, MemberValues, no_member_values, member_value, put_member, structure}
+use Rattle.smithy_declarations.specs.declared.shape_type.Scalar.{Scalar}
+use Rattle.smithy_declarations.specs.Value.{ScalarValue, Value, MemberValues, no_member_values, member_value, put_member, structure}
 use Rattle.smithy_shapes.specs.Site.{Site, member_of}
-use Rattle.smithy_schema.specs.Reading.{Cursor, Reads, ReadsScalar, StandsNot, IsFault}
+use Rattle.smithy_schema.specs.Errors.{IsFault}
+use Rattle.smithy_schema.specs.Reading.{Cursor, Reads, ReadsScalar, StandsNot}
 use Rattle.smithy_schema.specs.Writing.{Event, events}
 use Rattle.smithy_schema.specs.Consuming.{Reader}
 use Rattle.smithy_schema.specs.Typed.{MayAnswer}

@@ -1,3 +1,4 @@
+pub mod Errors
 pub mod Reading
 pub mod Sizes
 pub mod Consuming

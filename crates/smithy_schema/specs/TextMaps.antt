@@ -4,12 +4,13 @@ use Rattle.std.specs.declared.alloc.Global.{Global}
 use Rattle.std.specs.BTreeMap.{BTreeMap}
 use Rattle.smithy_schema.specs.declared.error.SerdeError.{SerdeError}
 use Rattle.smithy_schema.specs.declared.error.SerdeError.TheVariants.{NoMemory}
-use Rattle.smithy_shapes.specs.declared.place.Target.TheVariants.{Simple}
-use Rattle.smithy_shapes.specs.declared.shape_type.Scalar.TheVariants as scalars
-use Rattle.smithy_shapes.specs.Table.{MapShape, map_of}
-use Rattle.smithy_shapes.specs.Value.{Value, scalar_value, text, map, MapEntries, no_map_entries, map_entry, put_entry}
+use Rattle.smithy_declarations.specs.declared.place.Target.TheVariants.{Simple}
+use Rattle.smithy_declarations.specs.declared.shape_type.Scalar.TheVariants as scalars
+use Rattle.smithy_declarations.specs.Table.{MapShape, map_of}
+use Rattle.smithy_declarations.specs.Value.{Value, scalar_value, text, map, MapEntries, no_map_entries, map_entry, put_entry}
 use Rattle.smithy_shapes.specs.Site.{Site, kind_at, inner_site}
-use Rattle.smithy_schema.specs.Reading.{Cursor, ReadsScalar, Reads, StandsNot, IsRefused, IsInvalid, in_map}
+use Rattle.smithy_schema.specs.Errors.{IsRefused, IsInvalid}
+use Rattle.smithy_schema.specs.Reading.{Cursor, ReadsScalar, Reads, StandsNot, in_map}
 use Rattle.smithy_schema.specs.Consuming.{Reader, Consumes, by_key}
 
 -- a map of texts stands there, none of which may be null

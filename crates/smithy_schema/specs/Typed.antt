@@ -3,8 +3,9 @@ use Rattle.std.specs.Prelude.{◌≡◌, ◌↔◌, Bool, true, false, ℕ, List
 use Rattle.smithy_schema.specs.declared.error.SerdeError.{SerdeError}
 use Rattle.smithy_schema.specs.declared.error.SerdeError.TheVariants.{Failed}
 use Rattle.smithy_shapes.specs.Site.{Site, member_of}
-use Rattle.smithy_shapes.specs.Value.{Value, union}
-use Rattle.smithy_schema.specs.Reading.{Cursor, Relations, Reads, StandsNot, IsRefused, IsOfReader}
+use Rattle.smithy_declarations.specs.Value.{Value, union}
+use Rattle.smithy_schema.specs.Errors.{IsRefused, IsOfReader}
+use Rattle.smithy_schema.specs.Reading.{Cursor, Relations, Reads, StandsNot}
 use Rattle.smithy_schema.specs.Writing.{Event, Writer, events}
 use Rattle.smithy_schema.specs.Written.{Runs, outcome}
 

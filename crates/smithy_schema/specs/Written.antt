@@ -2,8 +2,8 @@
 use Rattle.std.specs.Prelude.{◌≡◌, ◌↔◌, Bool, true, false, Result, Ok, Err, OnOk, ℤ, List, ◌∷◌, map}
 use Rattle.smithy_schema.specs.declared.error.SerdeError.{SerdeError}
 use Rattle.smithy_schema.specs.declared.error.SerdeError.TheVariants.{Failed}
-use Rattle.smithy_shapes.specs.Value.{Value, scalar_value, whole as whole_number, list, values_of}
-use Rattle.smithy_schema.specs.Reading.{IsFault}
+use Rattle.smithy_declarations.specs.Value.{Value, scalar_value, whole as whole_number, list, values_of}
+use Rattle.smithy_schema.specs.Errors.{IsFault}
 use Rattle.smithy_schema.specs.Writing.{Event, Writer, Open, open_structure, run}
 
 -- What a call of a value does with any serializer, by what each call makes of its state: the state before, and the state

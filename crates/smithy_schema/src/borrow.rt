@@ -1,8 +1,8 @@
 //! Reading texts and bytes that borrow from the input.
 ghost use Rattle.std.specs.Prelude.{◌≡◌};
 ghost use Rattle.std.specs.Cow.{cow_str_bytes, cow_slice_items};
-ghost use Rattle.smithy_shapes.specs.declared.shape_type.Scalar.TheVariants as scalars;
-ghost use Rattle.smithy_shapes.specs.Value.{text, bytes};
+ghost use Rattle.smithy_declarations.specs.declared.shape_type.Scalar.TheVariants as scalars;
+ghost use Rattle.smithy_declarations.specs.Value.{text, bytes};
 ghost use Rattle.smithy_shapes.specs.Site.{site_of};
 ghost use Rattle.smithy_schema.specs.Reading.{ReadsScalar};
 

@@ -1,8 +1,8 @@
 //! Lists of scalars that are read in one call.
 ghost use Rattle.std.specs.Prelude.{◌≡◌, [], true, false, IfOk, IsErr, string_bytes};
-ghost use Rattle.smithy_shapes.specs.declared.shape_type.Scalar.{Scalar};
-ghost use Rattle.smithy_shapes.specs.Table.{IsList};
-ghost use Rattle.smithy_shapes.specs.Value.{ScalarValue};
+ghost use Rattle.smithy_declarations.specs.declared.shape_type.Scalar.{Scalar};
+ghost use Rattle.smithy_declarations.specs.Table.{IsList};
+ghost use Rattle.smithy_declarations.specs.Value.{ScalarValue};
 ghost use Rattle.smithy_shapes.specs.Site.{site_of, kind_at};
 ghost use Rattle.smithy_schema.specs.Reading.{ReadsScalar};
 ghost use Rattle.smithy_schema.specs.Consuming.{reader};
@@ -34,8 +34,8 @@ pub trait ReadScalar {
 }
 
 impl ReadScalar for String {
-    ghost use Rattle.smithy_shapes.specs.declared.shape_type.Scalar.TheVariants as scalars;
-    ghost use Rattle.smithy_shapes.specs.Value.{text};
+    ghost use Rattle.smithy_declarations.specs.declared.shape_type.Scalar.TheVariants as scalars;
+    ghost use Rattle.smithy_declarations.specs.Value.{text};
 
     ghost kind = { scalars.String };
 
@@ -50,8 +50,8 @@ impl ReadScalar for String {
 }
 
 impl ReadScalar for Blob {
-    ghost use Rattle.smithy_shapes.specs.declared.shape_type.Scalar.TheVariants as scalars;
-    ghost use Rattle.smithy_shapes.specs.Value.{bytes};
+    ghost use Rattle.smithy_declarations.specs.declared.shape_type.Scalar.TheVariants as scalars;
+    ghost use Rattle.smithy_declarations.specs.Value.{bytes};
 
     ghost kind = { scalars.Blob };
 
@@ -66,8 +66,8 @@ impl ReadScalar for Blob {
 }
 
 impl ReadScalar for i32 {
-    ghost use Rattle.smithy_shapes.specs.declared.shape_type.Scalar.TheVariants as scalars;
-    ghost use Rattle.smithy_shapes.specs.Value.{whole};
+    ghost use Rattle.smithy_declarations.specs.declared.shape_type.Scalar.TheVariants as scalars;
+    ghost use Rattle.smithy_declarations.specs.Value.{whole};
 
     ghost kind = { scalars.Integer };
 
@@ -82,8 +82,8 @@ impl ReadScalar for i32 {
 }
 
 impl ReadScalar for i64 {
-    ghost use Rattle.smithy_shapes.specs.declared.shape_type.Scalar.TheVariants as scalars;
-    ghost use Rattle.smithy_shapes.specs.Value.{whole};
+    ghost use Rattle.smithy_declarations.specs.declared.shape_type.Scalar.TheVariants as scalars;
+    ghost use Rattle.smithy_declarations.specs.Value.{whole};
 
     ghost kind = { scalars.Long };
 
@@ -98,8 +98,8 @@ impl ReadScalar for i64 {
 }
 
 impl ReadScalar for DateTime {
-    ghost use Rattle.smithy_shapes.specs.declared.shape_type.Scalar.TheVariants as scalars;
-    ghost use Rattle.smithy_shapes.specs.Value.{instant};
+    ghost use Rattle.smithy_declarations.specs.declared.shape_type.Scalar.TheVariants as scalars;
+    ghost use Rattle.smithy_declarations.specs.Value.{instant};
 
     ghost kind = { scalars.Timestamp };
 

@@ -1,6 +1,6 @@
 //! Structures that a type keeps as fields, an optional value for each member.
 ghost use Rattle.std.specs.Prelude.{◌≡◌, List, Option, option_map, false, OnOk, string_bytes};
-ghost use Rattle.smithy_shapes.specs.Value.{Value, scalar_value, list, values_of};
+ghost use Rattle.smithy_declarations.specs.Value.{Value, scalar_value, list, values_of};
 ghost use Rattle.smithy_shapes.specs.Site.{site_of, member_of, element_of};
 ghost use Rattle.smithy_schema.specs.Consuming.{reader, IsTaken};
 ghost use Rattle.smithy_schema.specs.Writing.{open_structure, open_list, events, element_events, member_events};
@@ -46,7 +46,7 @@ pub trait WriteMember {
 }
 
 impl WriteMember for String {
-    ghost use Rattle.smithy_shapes.specs.Value.{text};
+    ghost use Rattle.smithy_declarations.specs.Value.{text};
 
     ghost value = { λ s. scalar_value (text (string_bytes s)) };
 
@@ -60,7 +60,7 @@ impl WriteMember for String {
 }
 
 impl WriteMember for i32 {
-    ghost use Rattle.smithy_shapes.specs.Value.{whole};
+    ghost use Rattle.smithy_declarations.specs.Value.{whole};
 
     ghost value = { λ n. scalar_value (whole n) };
 
@@ -74,7 +74,7 @@ impl WriteMember for i32 {
 }
 
 impl WriteMember for DateTime {
-    ghost use Rattle.smithy_shapes.specs.Value.{instant};
+    ghost use Rattle.smithy_declarations.specs.Value.{instant};
 
     ghost value = { λ t. scalar_value (instant t) };
 

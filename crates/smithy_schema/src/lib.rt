@@ -9,6 +9,7 @@ mod error;
 mod fields;
 mod read;
 mod sizes;
+mod step;
 mod text_maps;
 mod write;
 mod written;
@@ -22,12 +23,13 @@ pub use error::SerdeError;
 pub use fields::{
     WriteFields, WriteMember, Written, WrittenList, read_field, write_field, write_structure,
 };
-pub use read::{ShapeDeserializer, Step};
+pub use read::ShapeDeserializer;
 pub use sizes::capped_container_size;
 pub use smithy_shapes::{
     Decl, MemberDecl, Members, Place, Scalar, Schema, ShapeId, ShapeRef, ShapeType, Shapes,
     TableFault, TableText, Target, TimestampFormat,
 };
+pub use step::Step;
 pub use text_maps::TextEntries;
 pub use write::{FinishSerializer, ShapeSerializer};
 pub use written::{SerializableStruct, WriteElements};

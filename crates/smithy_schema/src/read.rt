@@ -1,16 +1,17 @@
 //! Reading a value as a schema directs.
-ghost use Rattle.std.specs.Prelude.{◌≡◌, ◌≤◌, ℕ, length, Option, Some, None, Bool, true, false, ◌&&◌, IfOk, IfErr, IsOk, OnOk, IsErrOf, IsErr, MatchBool, MatchOption, string_bytes, FitsSigned, OnErr, option_map};
+ghost use Rattle.std.specs.Prelude.{◌≡◌, ◌≤◌, ℕ, length, Option, Some, None, Bool, true, false, ◌&&◌, IfOk, IfErr, IsOk, OnOk, IsErrOf, IsErr, MatchBool, MatchOption, string_bytes, FitsSigned, OnErr};
 ghost use Rattle.std.specs.Int.{w128};
 ghost use Rattle.smithy_texts.specs.Numeral.{number};
 ghost use Rattle.smithy_texts.specs.Decimal.{mantissa, net_exponent};
-ghost use Rattle.smithy_shapes.specs.declared.place.Place.{Place};
-ghost use Rattle.smithy_shapes.specs.declared.shape_type.Scalar.TheVariants as scalars;
-ghost use Rattle.smithy_shapes.specs.Table.{Table, kind_of, IsStructure, HasMembers, IsList, IsMap};
-ghost use Rattle.smithy_shapes.specs.Value.{Value, boolean, whole, text, bytes, decimal, instant};
+ghost use Rattle.smithy_declarations.specs.declared.place.Place.{Place};
+ghost use Rattle.smithy_declarations.specs.declared.shape_type.Scalar.TheVariants as scalars;
+ghost use Rattle.smithy_declarations.specs.Table.{Table, kind_of, IsStructure, HasMembers, IsList, IsMap};
+ghost use Rattle.smithy_declarations.specs.Value.{Value, boolean, whole, text, bytes, decimal, instant};
 ghost use Rattle.smithy_shapes.specs.Site.{site_of, kind_at};
-ghost use Rattle.smithy_schema.specs.Reading.{ReadsScalar, ReadsDocument, AnswersWide, AnswersUncarried, RefusesNoScalar, RefusesNoKind, Cursor, depth, Relations, Mark, IsLawful, StandsFit, CountsOpeners, IsBelow, Conducts, Passes, Enters, Steps, Leaves, MatchStep, CannotGoOn, OpensNot, SkipsNot, NullsNot, ReachesDepth, null_is_due, IsRefused, IsInvalid, IsNoAnswer, TellsType, failed_at, passed_to, in_structure, in_list, in_map};
+ghost use Rattle.smithy_schema.specs.Errors.{RefusesNoScalar, RefusesNoKind, IsRefused, IsInvalid, IsNoAnswer, TellsType};
+ghost use Rattle.smithy_schema.specs.Reading.{ReadsScalar, ReadsDocument, AnswersWide, AnswersUncarried, Cursor, depth, Relations, Mark, IsLawful, StandsFit, CountsOpeners, IsBelow, Conducts, Passes, Enters, Steps, Leaves, MatchStep, CannotGoOn, OpensNot, SkipsNot, NullsNot, ReachesDepth, null_is_due, failed_at, passed_to, in_structure, in_list, in_map};
 ghost use Rattle.smithy_schema.specs.declared.error.SerdeError.TheVariants.{TooDeep, NoMemory};
-ghost use Rattle.smithy_schema.specs.Consuming.{reader, site_in, Consumes, IsTaken, by_member, by_element, by_key};
+ghost use Rattle.smithy_schema.specs.Consuming.{reader, Consumes, IsTaken, by_member, by_element, by_key};
 ghost use Rattle.smithy_schema.specs.Sizes.{Sizes, TellsSize};
 ghost use Rattle.smithy_schema.specs.Elements.{ReadsList, items_of};
 ghost use Rattle.smithy_schema.specs.TextMaps.{ReadsTexts, entries_of};
@@ -18,34 +19,12 @@ ghost use Rattle.smithy_schema.specs.TextMaps.{ReadsTexts, entries_of};
 use crate::consume::{ListConsumer, MapConsumer, StructConsumer};
 use crate::elements::read_elements;
 use crate::error::SerdeError;
+use crate::step::Step;
 use crate::text_maps::read_texts;
 use smithy_shapes::Schema;
 use smithy_types::{BigDecimal, BigInteger, Blob, DateTime, Document};
 use std::alloc::{AllocError, Global};
 use std::collections::BTreeMap;
-
-/// Where a structure or a union goes on: to a member that the table knows, to another entry, or to its end.
-#[derive(Clone, Copy)]
-pub enum Step<'s> {
-    /// The value of this member is due.
-    Member(Schema<'s>),
-    /// The value of an entry is due whose key names no member.
-    Unknown,
-    /// The structure or the union has ended.
-    End,
-}
-
-impl<'s> Step<'s> {
-    /// The member whose value is due, if it is one.
-    pub fn member(&self) -> Option<&Schema<'s>>
-        ensures { option_map (λ s. site_of s.now) result ≡ site_in self.now }
-    {
-        match self {
-            Step::Member(member) => Some(member),
-            Step::Unknown | Step::End => None,
-        }
-    }
-}
 
 /// A reader of one input, which a schema directs call by call.
 ///

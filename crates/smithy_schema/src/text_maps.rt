@@ -1,6 +1,6 @@
 //! Maps of texts that are read in one call.
 ghost use Rattle.std.specs.Prelude.{◌≡◌, string_bytes};
-ghost use Rattle.smithy_shapes.specs.Table.{IsMap};
+ghost use Rattle.smithy_declarations.specs.Table.{IsMap};
 ghost use Rattle.smithy_shapes.specs.Site.{site_of, kind_at};
 ghost use Rattle.smithy_schema.specs.Consuming.{reader};
 ghost use Rattle.smithy_schema.specs.TextMaps.{ReadsEntry, ReadsTexts, text_entries, entries_of};

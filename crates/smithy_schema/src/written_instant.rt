@@ -1,9 +1,9 @@
 //! The text of an instant that is written.
 ghost use Rattle.std.specs.Prelude.{◌≡◌, Some, false, IfOk, IfErr, IsErrOf, string_bytes};
 ghost use Rattle.smithy_instants.specs.WrittenDate.{date_text};
-ghost use Rattle.smithy_schema.specs.Reading.{IsFault};
-ghost use Rattle.smithy_shapes.specs.TimeForms.{format_of, form_writes};
-ghost use Rattle.smithy_shapes.specs.Value.{instant};
+ghost use Rattle.smithy_schema.specs.Errors.{IsFault};
+ghost use Rattle.smithy_declarations.specs.TimeForms.{format_of, form_writes};
+ghost use Rattle.smithy_declarations.specs.Value.{instant};
 ghost use Rattle.smithy_schema.specs.declared.error.SerdeError.TheVariants.{Unwritable, Failed};
 
 use crate::error::SerdeError;

@@ -9,19 +9,19 @@ use Rattle.std.proofs.lemmas.Bool.Decides.{nat_tests}
 use Rattle.std.proofs.lemmas.List.{length-map, get_or-map, get_or-take, length-take}
 use Rattle.std.proofs.lemmas.List.Folds.{list_any_at, list_any_none, Any-from_list_any}
 use Rattle.std.proofs.lemmas.Simd.{map-map}
-use Rattle.smithy_shapes.specs.declared.place.Place.{Place}
-use Rattle.smithy_shapes.specs.declared.place.Target.{Target}
-use Rattle.smithy_shapes.specs.declared.place.Target.TheVariants.{Simple, Document, Declared}
-use Rattle.smithy_shapes.specs.declared.shape_type.Scalar.{Scalar}
-use Rattle.smithy_shapes.specs.declared.shape_type.ShapeRef.{ShapeRef}
-use Rattle.smithy_shapes.specs.Table as table
-use Rattle.smithy_shapes.specs.Table.{Kind, scalar, document, structure_of, nothing, kind_of_shape, kind_of, kind_of_target, place_in, list_shape_of, map_shape_of, element_name_of, is_document_target, IsDocument, IsSparse, IsClosed}
-use Rattle.smithy_shapes.specs.Names.{simple_targets, named, is_document_name, is_reserved, has_equal_texts, is_query_name}
-use Rattle.smithy_shapes.specs.Decl.{PlaceWords, MemberDecl, MapDecl, Form, structure, union, list, map as map_form, Decl}
-use Rattle.smithy_shapes.specs.Acceptance.{Fault, Test, tests, members_of, place_of_member, place_of_elements, place_of_values, places_of, query_names_of, element_name_of as written_name_of, key_name_of, value_name_of, is_declared, place_of, member_of, list_shape_of as shape_of_list, map_shape_of as shape_of_map, shape_of, table_from, json_name_of, query_name_of, has_unknown_target, has_unknown_shape, is_duplicate, has_clash, has_unfit_name, has_one_entry_name, has_key_value_name, has_sparse_documents, is_sparse_document, is_too_many, first_failing, first_fault}
+use Rattle.smithy_declarations.specs.declared.place.Place.{Place}
+use Rattle.smithy_declarations.specs.declared.place.Target.{Target}
+use Rattle.smithy_declarations.specs.declared.place.Target.TheVariants.{Simple, Document, Declared}
+use Rattle.smithy_declarations.specs.declared.shape_type.Scalar.{Scalar}
+use Rattle.smithy_declarations.specs.declared.shape_type.ShapeRef.{ShapeRef}
+use Rattle.smithy_declarations.specs.Table as table
+use Rattle.smithy_declarations.specs.Table.{Kind, scalar, document, structure_of, nothing, kind_of_shape, kind_of, kind_of_target, place_in, list_shape_of, map_shape_of, element_name_of, is_document_target, IsDocument, IsSparse, IsClosed}
+use Rattle.smithy_declarations.specs.Names.{simple_targets, named, is_document_name, is_reserved, has_equal_texts, is_query_name}
+use Rattle.smithy_declarations.specs.Decl.{PlaceWords, MemberDecl, MapDecl, Form, structure, union, list, map as map_form, Decl}
+use Rattle.smithy_declarations.specs.Acceptance.{Fault, Test, tests, members_of, place_of_member, place_of_elements, place_of_values, places_of, query_names_of, element_name_of as written_name_of, key_name_of, value_name_of, is_declared, place_of, member_of, list_shape_of as shape_of_list, map_shape_of as shape_of_map, shape_of, table_from, json_name_of, query_name_of, has_unknown_target, has_unknown_shape, is_duplicate, has_clash, has_unfit_name, has_one_entry_name, has_key_value_name, has_sparse_documents, is_sparse_document, is_too_many, first_failing, first_fault}
 use Rattle.smithy_shapes.specs.Accepted.{AreAcceptedMembers, AreAcceptedNames, HaveTextNames, IsAccepted}
 use Rattle.smithy_shapes.specs.Lemmas.Kinds.{document_target_is}
-use Rattle.smithy_shapes.proofs.OrderLemmas.{first_of, false_if, not_both, no_equal_texts, le_or_lt}
+use Rattle.smithy_declarations.proofs.OrderLemmas.{first_of, false_if, not_both, no_equal_texts, le_or_lt}
 
 -- ---- each declaration passes each test
 

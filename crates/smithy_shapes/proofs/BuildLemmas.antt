@@ -2,10 +2,10 @@
 use Rattle.std.proofs.Common.{◌≡◌, ℕ, ◌<◌, List, [], ◌∷◌, ◌++◌, map, length, get_or, refl, sym, ap, ◌∙◌, arith}
 use Rattle.std.proofs.lemmas.List.{map-append, length-map, get_or-map, get_or_default}
 use Rattle.std.proofs.lemmas.Simd.{map-map}
-use Rattle.smithy_shapes.specs.declared.place.Place.{Place}
-use Rattle.smithy_shapes.specs.Table as table
-use Rattle.smithy_shapes.specs.Decl.{MemberDecl, Form, structure, union, list, map as map_form, Decl}
-use Rattle.smithy_shapes.specs.Acceptance.{place_of_member, places_of, place_of, member_of, shape_of}
+use Rattle.smithy_declarations.specs.declared.place.Place.{Place}
+use Rattle.smithy_declarations.specs.Table as table
+use Rattle.smithy_declarations.specs.Decl.{MemberDecl, Form, structure, union, list, map as map_form, Decl}
+use Rattle.smithy_declarations.specs.Acceptance.{place_of_member, places_of, place_of, member_of, shape_of}
 use Rattle.smithy_shapes.specs.Private.Placed.{member_with, members_with, shape_with, declaration_with, table_with}
 
 members_with_push : (ms : List MemberDecl) (m : MemberDecl) (ps : List Place) (p : Place) → length ms < length ps → p ≡ get_or ps (length ms) p

@@ -5,8 +5,8 @@ use Rattle.std.specs.declared.cmp.Ordering.TheVariants.{Less, Equal, Greater}
 use Rattle.std.specs.Ordering.{MatchOrdering, nat_cmp, match_ordering}
 use Rattle.std.proofs.lemmas.Cmp.{ranked, nat_list_cmp_total}
 use Rattle.std.proofs.lemmas.List.{append-nil}
-use Rattle.smithy_shapes.specs.Table.{Member, ListShape, MapShape, structure_of, union_of, list_of, map_of}
-use Rattle.smithy_shapes.specs.Value.{Value, list, map, structure, union, Values, no_values, value, values_of, MapEntries, no_map_entries, map_entry, put_entry, MemberValues, no_member_values, member_value, put_member}
+use Rattle.smithy_declarations.specs.Table.{Member, ListShape, MapShape, structure_of, union_of, list_of, map_of}
+use Rattle.smithy_declarations.specs.Value.{Value, list, map, structure, union, Values, no_values, value, values_of, MapEntries, no_map_entries, map_entry, put_entry, MemberValues, no_member_values, member_value, put_member}
 use Rattle.smithy_shapes.specs.Container.{Entry, element_of, elements_from, entry_step, entries_from, member_step, members_from, container_of}
 use Rattle.smithy_shapes.specs.Fits.{AscendFrom, KeysAscendAbove, KeysAscend}
 use Rattle.smithy_shapes.specs.Lemmas.ElementFolds.{element_adds}

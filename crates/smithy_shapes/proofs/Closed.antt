@@ -4,7 +4,7 @@ use Rattle.std.proofs.lemmas.List.{length-map}
 use Rattle.std.specs.List.{slice_get}
 use Rattle.std.specs.Option.{option_map_or, IfSome}
 use Rattle.std.proofs.lemmas.Option.{slice_get_past, slice_get-map}
-use Rattle.smithy_shapes.specs.Table.{Table, Shape, list, map as map_shape, ListShape, MapShape, Member, Kind, structure_of, union_of, nothing, kind_of_shape, kind_of, shape_place, shape_declared, place_in, members_of, IsClosed}
+use Rattle.smithy_declarations.specs.Table.{Table, Shape, list, map as map_shape, ListShape, MapShape, Member, Kind, structure_of, union_of, nothing, kind_of_shape, kind_of, shape_place, shape_declared, place_in, members_of, IsClosed}
 
 -- the elements of a list that is declared
 pub elements_known : (t : Table) (n : ℕ) (l : ListShape) → IsClosed t → Some (list l) ≡ shape_declared t n → kind_of t l.place ≢ nothing

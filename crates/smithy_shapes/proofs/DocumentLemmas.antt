@@ -7,7 +7,7 @@ use Rattle.std.specs.declared.cmp.Ordering.TheVariants.{Less, Equal, Greater}
 use Rattle.std.specs.Ordering.{match_ordering}
 use Rattle.std.proofs.lemmas.Cmp.{nat_list_cmp_total}
 use Rattle.smithy_types.specs.Document.{Document, null, boolean, number, text, array, object, Documents, no_documents, item, Properties, no_properties, property, put_property, map_numbers, map_elements, map_properties, put_pair, properties_by}
-use Rattle.smithy_shapes.specs.Documents.{document_nesting, documents_nesting, properties_nesting, NamesAscendAbove, NamesAscend, DocumentFits, PropertiesFit}
+use Rattle.smithy_declarations.specs.Documents.{document_nesting, documents_nesting, properties_nesting, NamesAscendAbove, NamesAscend, DocumentFits, PropertiesFit}
 use Rattle.smithy_shapes.specs.Lemmas.AscendingKeys.{byte_order, turned, turned_back}
 
 module _ {N : Type 0} where

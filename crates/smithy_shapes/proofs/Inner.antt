@@ -1,7 +1,7 @@
 -- The one schema of what is inside a list or a map.
 use Rattle.std.proofs.Common.{◌≡◌, Option, Some, None, option_map, refl, ◌∙◌}
 use Rattle.std.specs.Option.{option_or}
-use Rattle.smithy_shapes.specs.Table.{Table, Kind, list_of, map_of, structure_of, union_of, place_in, list_shape_of, map_shape_of, IsList, IsMap}
+use Rattle.smithy_declarations.specs.Table.{Table, Kind, list_of, map_of, structure_of, union_of, place_in, list_shape_of, map_shape_of, IsList, IsMap}
 use Rattle.smithy_shapes.specs.Site.{Site, kind_at, site_of_element, site_of_value, element_site, value_site, inner_site}
 
 -- the site of the elements of a list, or of the values of a map

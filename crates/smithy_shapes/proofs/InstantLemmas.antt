@@ -15,9 +15,9 @@ use Rattle.smithy_instants.specs.Calendar.{day_number}
 use Rattle.smithy_instants.specs.Epoch.{epoch_nanos}
 use Rattle.smithy_instants.specs.DateText.{two_digits, four_digits, clock_seconds, fraction_length, fraction_nanos, utc_offset, begins_date_time, month_named, begins_http_date, gmt_offset, instant_of, is_epoch_text, where_instant, date_of}
 use Rattle.smithy_instants.proofs.FractionLemmas.{fraction_fits}
-use Rattle.smithy_shapes.specs.declared.shape_type.TimestampFormat.{TimestampFormat}
-use Rattle.smithy_shapes.specs.declared.shape_type.TimestampFormat.TheVariants.{EpochSeconds, DateTime, HttpDate}
-use Rattle.smithy_shapes.specs.TimeForms.{format_of}
+use Rattle.smithy_declarations.specs.declared.shape_type.TimestampFormat.{TimestampFormat}
+use Rattle.smithy_declarations.specs.declared.shape_type.TimestampFormat.TheVariants.{EpochSeconds, DateTime, HttpDate}
+use Rattle.smithy_declarations.specs.TimeForms.{format_of}
 use Rattle.smithy_shapes.specs.Lemmas.Options.{same_some, step_apart, chosen}
 
 -- ---- whole seconds

@@ -19,9 +19,9 @@ use Rattle.smithy_instants.specs.Calendar.{CivilDate, civil_date}
 use Rattle.smithy_instants.specs.WrittenDate.{padded_digits, fraction_digits, fraction_text, epoch_text, day_of, second_of_day, clock_text, day_text, date_time_text, weekday_names, month_names, http_date_text, date_text}
 use Rattle.smithy_instants.proofs.EpochRoundTrip.{wide_seconds}
 use Rattle.smithy_instants.proofs.FractionTexts.{fraction_is}
-use Rattle.smithy_shapes.specs.declared.shape_type.TimestampFormat.{TimestampFormat}
-use Rattle.smithy_shapes.specs.declared.shape_type.TimestampFormat.TheVariants.{EpochSeconds, DateTime, HttpDate}
-use Rattle.smithy_shapes.specs.TimeForms.{format_of}
+use Rattle.smithy_declarations.specs.declared.shape_type.TimestampFormat.{TimestampFormat}
+use Rattle.smithy_declarations.specs.declared.shape_type.TimestampFormat.TheVariants.{EpochSeconds, DateTime, HttpDate}
+use Rattle.smithy_declarations.specs.TimeForms.{format_of}
 use Rattle.smithy_shapes.specs.Lemmas.Options.{same_some, made}
 
 abbrev IsAsciiText : List ℕ → Type 0

@@ -1,10 +1,6 @@
 mod StandardFacts
 mod OnLiterals
 mod Closed
-mod Positions
-mod TableTextLemmas
-mod OrderLemmas
-mod AcceptanceLemmas
 mod BuildLemmas
 mod AcceptedLemmas
 mod NameLemmas

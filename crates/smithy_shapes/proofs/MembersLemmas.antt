@@ -5,7 +5,7 @@ use Rattle.std.specs.Option.{option_map, MatchOption}
 use Rattle.std.specs.Iterator.{MakesProgress, item_count}
 use Rattle.std.proofs.lemmas.List.{drop_all, length-map}
 use Rattle.std.proofs.lemmas.List.FromFn.{length-enumerate_from}
-use Rattle.smithy_shapes.specs.Table.{Member, members_of}
+use Rattle.smithy_declarations.specs.Table.{Member, members_of}
 use Rattle.smithy_shapes.specs.Site.{Site, site_of_member, member_site, member_sites, kind_at}
 
 abbrev numbered : (ℕ → Member → Site) → ℕ → List Member → List Site

@@ -3,15 +3,15 @@ use Rattle.std.proofs.Common.{ℕ, zero, suc, List, [], ◌∷◌, map, Option, 
 use Rattle.std.specs.Prelude.{unwrap_or}
 use Rattle.std.specs.Option.{option_map_or}
 use Rattle.std.proofs.lemmas.Str.{IsUtf8-string_bytes}
-use Rattle.smithy_shapes.specs.declared.place.Place.{Place}
-use Rattle.smithy_shapes.specs.declared.place.Target.{Target}
-use Rattle.smithy_shapes.specs.declared.place.Target.TheVariants.{Simple, Document, Declared}
+use Rattle.smithy_declarations.specs.declared.place.Place.{Place}
+use Rattle.smithy_declarations.specs.declared.place.Target.{Target}
+use Rattle.smithy_declarations.specs.declared.place.Target.TheVariants.{Simple, Document, Declared}
 use Rattle.smithy_shapes.specs.declared.members.MemberShape.{MemberShape}
 use Rattle.smithy_shapes.specs.declared.shapes.Shape.{Shape}
 use Rattle.smithy_shapes.specs.declared.shapes.Shape.TheVariants.{Structure, Union, List as Listed, Map}
 use Rattle.smithy_shapes.specs.declared.shapes.Declaration.{Declaration}
-use Rattle.smithy_shapes.specs.Table as table
-use Rattle.smithy_shapes.specs.Table.{nothing, kind_of, kind_of_target, kind_of_shape, members_of}
+use Rattle.smithy_declarations.specs.Table as table
+use Rattle.smithy_declarations.specs.Table.{nothing, kind_of, kind_of_target, kind_of_shape, members_of}
 use Rattle.smithy_shapes.specs.Accepted.{HaveTextNames}
 use Rattle.smithy_shapes.specs.Views.{member_of, shape_of, declaration_of}
 

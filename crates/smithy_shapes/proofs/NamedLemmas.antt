@@ -4,10 +4,10 @@ use Rattle.std.specs.Str.{bytes_eq}
 use Rattle.std.proofs.lemmas.Bool.Decides.{nat_tests}
 use Rattle.std.specs.List.{slice_get}
 use Rattle.std.proofs.lemmas.List.{length-map, get_or-map}
-use Rattle.smithy_shapes.specs.Table.{Member, position_named}
-use Rattle.smithy_shapes.specs.Names.{has_equal_texts}
-use Rattle.smithy_shapes.proofs.OrderLemmas.{false_if, not_both, equal_texts_at}
-use Rattle.smithy_shapes.proofs.Positions.{position_found}
+use Rattle.smithy_declarations.specs.Table.{Member, position_named}
+use Rattle.smithy_declarations.specs.Names.{has_equal_texts}
+use Rattle.smithy_declarations.proofs.OrderLemmas.{false_if, not_both, equal_texts_at}
+use Rattle.smithy_declarations.proofs.Positions.{position_found}
 
 text_equals : (t : List ℕ) → bytes_eq t t ≡ true
 text_equals [] = refl

@@ -6,8 +6,8 @@ use Rattle.std.specs.declared.cmp.Ordering.TheVariants.{Less, Equal, Greater}
 use Rattle.std.specs.Ordering.{nat_cmp, match_ordering}
 use Rattle.std.specs.Cmp.Lexicographic.{slice_cmp}
 use Rattle.std.specs.Prelude.{filter, if◌then◌else◌, option_map, option_and_then}
-use Rattle.smithy_shapes.specs.Table.{Kind, structure_of, union_of, list_of, map_of}
-use Rattle.smithy_shapes.specs.Value.{Value, list, map, structure, union, null_element, values_of, MapEntries, no_map_entries, map_entry, put_entry, MemberValues, no_member_values, member_value, put_member, nesting, elements_nesting, entries_nesting, members_nesting}
+use Rattle.smithy_declarations.specs.Table.{Kind, structure_of, union_of, list_of, map_of}
+use Rattle.smithy_declarations.specs.Value.{Value, list, map, structure, union, null_element, values_of, MapEntries, no_map_entries, map_entry, put_entry, MemberValues, no_member_values, member_value, put_member, nesting, elements_nesting, entries_nesting, members_nesting}
 use Rattle.smithy_shapes.specs.Container.{Entry, element_of, elements_from, entry_step, entries_from, member_step, members_from, is_variant, all_regular, variant_of, container_of}
 use Rattle.smithy_shapes.specs.Lemmas.ElementFolds.{element_apart, elements_apart}
 use Rattle.smithy_shapes.specs.Lemmas.Entries.{entry_with}

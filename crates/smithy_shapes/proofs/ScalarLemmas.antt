@@ -7,10 +7,10 @@ use Rattle.std.proofs.lemmas.Str.{IsUtf8-from_is_utf8}
 use Rattle.smithy_texts.specs.Base64Text.{are_bytes}
 use Rattle.smithy_texts.specs.Ranges.{fits_signed, is_exponent}
 use Rattle.smithy_instants.specs.Instant.{is_instant}
-use Rattle.smithy_shapes.specs.declared.shape_type.Scalar.{Scalar}
-use Rattle.smithy_shapes.specs.declared.shape_type.Scalar.TheVariants as scalars
-use Rattle.smithy_shapes.specs.Table.{Kind, scalar}
-use Rattle.smithy_shapes.specs.Value.{ScalarValue, whole, text, bytes, decimal, instant}
+use Rattle.smithy_declarations.specs.declared.shape_type.Scalar.{Scalar}
+use Rattle.smithy_declarations.specs.declared.shape_type.Scalar.TheVariants as scalars
+use Rattle.smithy_declarations.specs.Table.{Kind, scalar}
+use Rattle.smithy_declarations.specs.Value.{ScalarValue, whole, text, bytes, decimal, instant}
 use Rattle.smithy_shapes.specs.Fits.{is_of, is_scalar_of}
 
 -- where a scalar value stands, the kind is one of scalars

@@ -1,9 +1,9 @@
 -- The children of a value that fits, each with its site.
 use Rattle.std.proofs.Common.{◌≡◌, ℕ, List, false, Option, Some, None, option_map, slice_get, refl, sym, subst}
-use Rattle.smithy_shapes.specs.declared.place.Place.{Place}
-use Rattle.smithy_shapes.specs.Table.{Table, Member, ListShape, MapShape, structure_of, union_of, list_of, map_of, kind_of, place_in}
+use Rattle.smithy_declarations.specs.declared.place.Place.{Place}
+use Rattle.smithy_declarations.specs.Table.{Table, Member, ListShape, MapShape, structure_of, union_of, list_of, map_of, kind_of, place_in}
 use Rattle.smithy_shapes.specs.Site.{Site, View, member_view, element_view, value_view, nameless, site_of_key, element_of, key_of, value_of, member_of}
-use Rattle.smithy_shapes.specs.Value.{Value, Values, value, MapEntries, map_entry, MemberValues, member_value}
+use Rattle.smithy_declarations.specs.Value.{Value, Values, value, MapEntries, map_entry, MemberValues, member_value}
 use Rattle.smithy_shapes.specs.Fits.{FitsOr, ElementsFit, EntriesFit, MembersFit}
 use Rattle.smithy_shapes.specs.Lemmas.Options.{same_some}
 

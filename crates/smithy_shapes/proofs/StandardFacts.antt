@@ -2,15 +2,15 @@
 use Rattle.std.proofs.Common.{◌≡◌, ℕ, List, [], ◌∷◌, ◌++◌, Option, Some, None, Bool, true, false, refl, codes, map as list_map}
 use Prim.Native.String.{String}
 use Rattle.std.specs.List.{join_with_byte}
-use Rattle.smithy_shapes.specs.declared.place.Place.{Place}
-use Rattle.smithy_shapes.specs.declared.place.Target.{Target}
-use Rattle.smithy_shapes.specs.declared.place.Target.TheVariants.{Simple, Declared}
-use Rattle.smithy_shapes.specs.declared.shape_type.Scalar.TheVariants as scalars
-use Rattle.smithy_shapes.specs.declared.shape_type.TimestampFormat.TheVariants.{EpochSeconds, HttpDate}
-use Rattle.smithy_shapes.specs.Table.{Table, Member, ListShape, MapShape, structure, union, list, map, declared_as}
-use Rattle.smithy_shapes.specs.Decl.{Form}
-use Rattle.smithy_shapes.specs.TableText.{line_feed, declarations_of, declarations}
-use Rattle.smithy_shapes.specs.Acceptance.{Fault, accepted, refused, table_of, build_of, has_one_entry_name, is_too_many}
+use Rattle.smithy_declarations.specs.declared.place.Place.{Place}
+use Rattle.smithy_declarations.specs.declared.place.Target.{Target}
+use Rattle.smithy_declarations.specs.declared.place.Target.TheVariants.{Simple, Declared}
+use Rattle.smithy_declarations.specs.declared.shape_type.Scalar.TheVariants as scalars
+use Rattle.smithy_declarations.specs.declared.shape_type.TimestampFormat.TheVariants.{EpochSeconds, HttpDate}
+use Rattle.smithy_declarations.specs.Table.{Table, Member, ListShape, MapShape, structure, union, list, map, declared_as}
+use Rattle.smithy_declarations.specs.Decl.{Form}
+use Rattle.smithy_declarations.specs.TableText.{line_feed, declarations_of, declarations}
+use Rattle.smithy_declarations.specs.Acceptance.{Fault, accepted, refused, table_of, build_of, has_one_entry_name, is_too_many}
 use Rattle.smithy_shapes.proofs.OnLiterals.{smithy_shapes_on_literals}
 
 abbrev lines : List String → List ℕ

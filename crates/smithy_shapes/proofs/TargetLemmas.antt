@@ -3,20 +3,20 @@ use Rattle.std.proofs.Common.{◌≡◌, ℕ, ℤ, List, [], ◌∷◌, Bool, tr
 use Rattle.std.proofs.lemmas.Bool.{or_parts, and_from, true≢false}
 use Rattle.std.specs.List.{list_any}
 use Rattle.std.specs.Option.{option_map_or}
-use Rattle.smithy_shapes.specs.declared.place.Place.{Place}
-use Rattle.smithy_shapes.specs.declared.place.Target.{Target}
-use Rattle.smithy_shapes.specs.declared.place.Target.TheVariants.{Simple, Document, Declared}
-use Rattle.smithy_shapes.specs.declared.shape_type.Scalar.{Scalar}
-use Rattle.smithy_shapes.specs.declared.shape_type.Scalar.TheVariants as scalars
-use Rattle.smithy_shapes.specs.declared.shape_type.TimestampFormat.{TimestampFormat}
-use Rattle.smithy_shapes.specs.Table as table
-use Rattle.smithy_shapes.specs.Table.{Table, Member, ListShape, MapShape, Declaration, Shape, structure_of, union_of, list_of, map_of, nothing, kind_of, kind_of_shape, kind_of_target, place_in, shape_declared, is_document_target}
+use Rattle.smithy_declarations.specs.declared.place.Place.{Place}
+use Rattle.smithy_declarations.specs.declared.place.Target.{Target}
+use Rattle.smithy_declarations.specs.declared.place.Target.TheVariants.{Simple, Document, Declared}
+use Rattle.smithy_declarations.specs.declared.shape_type.Scalar.{Scalar}
+use Rattle.smithy_declarations.specs.declared.shape_type.Scalar.TheVariants as scalars
+use Rattle.smithy_declarations.specs.declared.shape_type.TimestampFormat.{TimestampFormat}
+use Rattle.smithy_declarations.specs.Table as table
+use Rattle.smithy_declarations.specs.Table.{Table, Member, ListShape, MapShape, Declaration, Shape, structure_of, union_of, list_of, map_of, nothing, kind_of, kind_of_shape, kind_of_target, place_in, shape_declared, is_document_target}
 use Rattle.smithy_shapes.specs.Targets.{is_timestamp, is_timestamp_target, shape_has, table_has}
 use Rattle.smithy_shapes.specs.Holding.{may_hold}
 use Rattle.smithy_shapes.specs.Fits.{is_of, is_scalar_of, FitsOr, ElementsFit, EntriesFit, MembersFit}
 use Rattle.smithy_shapes.specs.ScalarTest.{ValueTest, scalars_pass, elements_pass, entries_pass, members_pass}
 use Rattle.smithy_shapes.specs.Site.{Site, View, element_view, value_view, member_view, nameless}
-use Rattle.smithy_shapes.specs.Value.{ScalarValue, instant, Value, scalar_value, list, map, structure, union, null_element, document_value, Values, no_values, value, MapEntries, no_map_entries, map_entry, MemberValues, no_member_values, member_value}
+use Rattle.smithy_declarations.specs.Value.{ScalarValue, instant, Value, scalar_value, list, map, structure, union, null_element, document_value, Values, no_values, value, MapEntries, no_map_entries, map_entry, MemberValues, no_member_values, member_value}
 use Rattle.smithy_shapes.specs.Lemmas.Kinds.{list_kind, map_kind, structure_kind, union_kind, document_place_is}
 use Rattle.smithy_shapes.specs.Lemmas.Options.{same_some}
 use Rattle.smithy_shapes.proofs.SiteLemmas.{site_at, element_site_at, value_site_at, member_site_at, variant_site_at, element_fit, entry_fit, member_fit, variant_fit}

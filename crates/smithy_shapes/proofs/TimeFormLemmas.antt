@@ -4,11 +4,11 @@ use Rattle.std.specs.Prelude.{◌&&◌, is_some, option_map}
 use Rattle.std.proofs.lemmas.Bool.{and_parts}
 use Rattle.smithy_instants.specs.Calendar.{civil_date}
 use Rattle.smithy_instants.specs.WrittenDate.{day_of}
-use Rattle.smithy_shapes.specs.declared.shape_type.TimestampFormat.{TimestampFormat}
-use Rattle.smithy_shapes.specs.declared.shape_type.TimestampFormat.TheVariants.{EpochSeconds, DateTime, HttpDate}
+use Rattle.smithy_declarations.specs.declared.shape_type.TimestampFormat.{TimestampFormat}
+use Rattle.smithy_declarations.specs.declared.shape_type.TimestampFormat.TheVariants.{EpochSeconds, DateTime, HttpDate}
 use Rattle.smithy_shapes.specs.Site.{Site, element_of, value_of, member_of}
-use Rattle.smithy_shapes.specs.Value.{ScalarValue, instant, Value, scalar_value, list, map, structure, union, null_element, document_value, Values, no_values, value, MapEntries, no_map_entries, map_entry, MemberValues, no_member_values, member_value}
-use Rattle.smithy_shapes.specs.TimeForms.{form_writes, form_holds}
+use Rattle.smithy_declarations.specs.Value.{ScalarValue, instant, Value, scalar_value, list, map, structure, union, null_element, document_value, Values, no_values, value, MapEntries, no_map_entries, map_entry, MemberValues, no_member_values, member_value}
+use Rattle.smithy_declarations.specs.TimeForms.{form_writes, form_holds}
 use Rattle.smithy_shapes.specs.ScalarTest.{ValueTest, scalars_pass, elements_pass, entries_pass, members_pass}
 
 -- ---- forms

@@ -1,9 +1,9 @@
 -- What holds of each table that was accepted.
 use Rattle.std.specs.Prelude.{◌≡◌, ◌≤◌, ℕ, List, map, length, true, false, Option, Some, bytes_eq, IsUtf8}
 use Rattle.std.specs.List.{AllByRecursion, list_all, list_any}
-use Rattle.smithy_shapes.specs.declared.place.Place.{Place}
-use Rattle.smithy_shapes.specs.Table.{Table, Declaration, Member, ListShape, MapShape, kind_of, place_in, IsDocument, IsSparse, members_of, list_shape_of, map_shape_of, json_name_of, query_name_of, element_name_of, key_name_of, value_name_of, IsClosed}
-use Rattle.smithy_shapes.specs.Names.{has_equal_texts, is_query_name, is_reserved}
+use Rattle.smithy_declarations.specs.declared.place.Place.{Place}
+use Rattle.smithy_declarations.specs.Table.{Table, Declaration, Member, ListShape, MapShape, kind_of, place_in, IsDocument, IsSparse, members_of, list_shape_of, map_shape_of, json_name_of, query_name_of, element_name_of, key_name_of, value_name_of, IsClosed}
+use Rattle.smithy_declarations.specs.Names.{has_equal_texts, is_query_name, is_reserved}
 
 -- the members of a structure or a union: no two have one name, one JSON name or one name in a form
 pub record AreAcceptedMembers (members : List Member) : Type 0 where

@@ -1,8 +1,8 @@
 -- What the entries of one container mean together, whichever wire they came from.
 use Rattle.std.specs.Prelude.{◌&&◌, ◌||◌, not, ℕ, List, [], ◌∷◌, ◌++◌, filter, Bool, true, false, Option, Some, None, is_some, is_none, option_map, option_and_then, if◌then◌else◌, codes, bytes_eq}
 use Rattle.std.specs.Option.{option_map_or}
-use Rattle.smithy_shapes.specs.Table.{Kind, structure_of, union_of, list_of, map_of}
-use Rattle.smithy_shapes.specs.Value.{Value, list, map, structure, union, null_element, values_of, MemberValues, no_member_values, put_member, MapEntries, no_map_entries, put_entry}
+use Rattle.smithy_declarations.specs.Table.{Kind, structure_of, union_of, list_of, map_of}
+use Rattle.smithy_declarations.specs.Value.{Value, list, map, structure, union, null_element, values_of, MemberValues, no_member_values, put_member, MapEntries, no_map_entries, put_entry}
 
 -- one child of a container, as its wire has it
 pub record Entry : Type 0 where

@@ -1,10 +1,10 @@
 -- Which members a shape of a table has.
 use Rattle.std.specs.Prelude.{◌≡◌, ℕ, List, map, Some, None, option_map}
 use Rattle.std.specs.Borrow.{Bor}
-use Rattle.smithy_shapes.specs.declared.place.Place.{Place}
-use Rattle.smithy_shapes.specs.declared.place.Target.{Target}
-use Rattle.smithy_shapes.specs.declared.shape_type.ShapeType.{ShapeType}
-use Rattle.smithy_shapes.specs.Table.{Table, Member, declared_as, kind_of_target, type_of, members_of, place_in, IsSparse}
+use Rattle.smithy_declarations.specs.declared.place.Place.{Place}
+use Rattle.smithy_declarations.specs.declared.place.Target.{Target}
+use Rattle.smithy_declarations.specs.declared.shape_type.ShapeType.{ShapeType}
+use Rattle.smithy_declarations.specs.Table.{Table, Member, declared_as, kind_of_target, type_of, members_of, place_in, IsSparse}
 use Rattle.smithy_shapes.specs.Site.{Site, kind_at, shape_site}
 
 -- the name of a member, and what it is

@@ -1,6 +1,6 @@
 -- What may stand in a value of a site.
 use Rattle.std.specs.Prelude.{◌||◌, Bool}
-use Rattle.smithy_shapes.specs.declared.place.Target.{Target}
+use Rattle.smithy_declarations.specs.declared.place.Target.{Target}
 use Rattle.smithy_shapes.specs.Site.{Site}
 use Rattle.smithy_shapes.specs.Targets.{table_has}
 

@@ -2,13 +2,13 @@
 use Rattle.std.specs.Prelude.{ℕ, List, Bool, false, Option, Some, None, map, option_map, option_and_then, slice_get, unwrap_or, codes, if◌then◌else◌}
 use Rattle.std.specs.List.{enumerate_from}
 use Rattle.std.specs.Option.{option_map_or, option_or}
-use Rattle.smithy_shapes.specs.declared.place.Place.{Place}
+use Rattle.smithy_declarations.specs.declared.place.Place.{Place}
 use Rattle.smithy_shapes.specs.declared.schema.Schema.{Schema}
 use Rattle.smithy_shapes.specs.declared.schema.Origin.{Origin}
 use Rattle.smithy_shapes.specs.declared.schema.Origin.TheVariants as origins
-use Rattle.smithy_shapes.specs.declared.shape_type.Scalar.TheVariants as scalars
+use Rattle.smithy_declarations.specs.declared.shape_type.Scalar.TheVariants as scalars
 use Rattle.smithy_shapes.specs.Views as program
-use Rattle.smithy_shapes.specs.Table.{Table, Member, ListShape, MapShape, Kind, kind_of, scalar_place, shape_place, members_of, list_shape_of, map_shape_of, position_named}
+use Rattle.smithy_declarations.specs.Table.{Table, Member, ListShape, MapShape, Kind, kind_of, scalar_place, shape_place, members_of, list_shape_of, map_shape_of, position_named}
 
 -- the names and marks of a member, of an element, of a map's key or value, or of a shape as a whole, which has none
 pub record View : Type 0 where

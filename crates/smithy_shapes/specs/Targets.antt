@@ -1,11 +1,11 @@
 -- Which targets stand in a table.
 use Rattle.std.specs.Prelude.{Bool, true, false}
 use Rattle.std.specs.List.{list_any}
-use Rattle.smithy_shapes.specs.declared.place.Target.{Target}
-use Rattle.smithy_shapes.specs.declared.place.Target.TheVariants.{Simple}
-use Rattle.smithy_shapes.specs.declared.shape_type.Scalar.{Scalar}
-use Rattle.smithy_shapes.specs.declared.shape_type.Scalar.TheVariants.{Timestamp}
-use Rattle.smithy_shapes.specs.Table.{Member, Shape, structure, union, list, map, Declaration, Table}
+use Rattle.smithy_declarations.specs.declared.place.Target.{Target}
+use Rattle.smithy_declarations.specs.declared.place.Target.TheVariants.{Simple}
+use Rattle.smithy_declarations.specs.declared.shape_type.Scalar.{Scalar}
+use Rattle.smithy_declarations.specs.declared.shape_type.Scalar.TheVariants.{Timestamp}
+use Rattle.smithy_declarations.specs.Table.{Member, Shape, structure, union, list, map, Declaration, Table}
 
 -- the scalar is one of instants
 abbrev pub is_timestamp : Scalar → Bool

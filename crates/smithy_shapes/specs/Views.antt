@@ -6,7 +6,7 @@ use Rattle.smithy_shapes.specs.declared.shapes.MapShape as kept_map
 use Rattle.smithy_shapes.specs.declared.shapes.Declaration as kept_declaration
 use Rattle.smithy_shapes.specs.declared.shapes.Shape as kept_shape
 use Rattle.smithy_shapes.specs.declared.shapes.Shape.TheVariants as kept_shapes
-use Rattle.smithy_shapes.specs.Table.{Member, ListShape, MapShape, Shape, structure, union, list, map, Declaration}
+use Rattle.smithy_declarations.specs.Table.{Member, ListShape, MapShape, Shape, structure, union, list, map, Declaration}
 
 -- the member of a table that the program's member is
 abbrev pub member_of : kept_member.MemberShape → Member

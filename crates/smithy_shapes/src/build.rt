@@ -1,31 +1,28 @@
 //! Builds a table of declarations that pass every test.
 ghost use Rattle.std.specs.Prelude.{◌≡◌, ◌≤◌, length, map, unwrap_or, bytes_eq, position as first_position, IfOk};
-ghost use Rattle.smithy_shapes.specs.Decl.{Decl as SpecDecl};
-ghost use Rattle.smithy_shapes.specs.Acceptance.{places_of, place_of, target_of};
-ghost use Rattle.smithy_shapes.specs.DeclViews.{decl_of, member_decl_of, place_words_of};
+ghost use Rattle.smithy_declarations.specs.Decl.{Decl as SpecDecl};
+ghost use Rattle.smithy_declarations.specs.Acceptance.{places_of, place_of, target_of};
+ghost use Rattle.smithy_declarations.specs.DeclViews.{decl_of, member_decl_of, place_words_of};
 ghost use Rattle.smithy_shapes.specs.Views.{member_of, declaration_of};
-ghost use Rattle.smithy_shapes.specs.Private.DeclNames.{declared_name};
-ghost use Rattle.smithy_shapes.specs.Private.Order.{IsOrderOf};
+ghost use Rattle.smithy_declarations.specs.Private.DeclNames.{declared_name};
+ghost use Rattle.smithy_declarations.specs.Private.Order.{IsOrderOf};
 ghost use Rattle.smithy_shapes.specs.Private.Placed.{members_with, declaration_with, table_with};
 
-use crate::acceptance::check;
-use crate::acceptance::names::DeclaredNames;
-use crate::acceptance::places::{PlaceWords, Places};
-use crate::acceptance::words::{simple_target, time_format_of};
-use crate::decl::{Decl, MemberDecl};
-use crate::fault::TableFault;
 use crate::members::{MemberList, MemberShape};
-use crate::names::{order_of, position_of};
-use crate::place::{Place, Target};
-use crate::shape_type::ShapeRef;
 use crate::shapes::{Declaration, ListShape, MapShape, Shape, Shapes};
 use crate::targets::Sought;
+use smithy_declarations::acceptance::check;
+use smithy_declarations::acceptance::names::DeclaredNames;
+use smithy_declarations::acceptance::places::{PlaceWords, Places};
+use smithy_declarations::acceptance::words::{simple_target, time_format_of};
+use smithy_declarations::names::{order_of, position_of};
+use smithy_declarations::{Decl, MemberDecl, Place, ShapeRef, TableFault, Target};
 use std::alloc::{AllocError, Global};
 
 impl Shapes {
     ghost use Rattle.std.specs.Prelude.{IfErr};
-    ghost use Rattle.smithy_shapes.specs.Acceptance.{build_of, accepted};
-    ghost use Rattle.smithy_shapes.specs.DeclViews.{IsRefusedBy};
+    ghost use Rattle.smithy_declarations.specs.Acceptance.{build_of, accepted};
+    ghost use Rattle.smithy_declarations.specs.DeclViews.{IsRefusedBy};
 
     /// The table of these declarations, or the first of the tests that some declaration fails, with the
     /// number of the first declaration that fails it, from 1.

@@ -5,9 +5,8 @@ ghost use Rattle.smithy_shapes.specs.Site.{site_of};
 ghost use Rattle.smithy_shapes.specs.Views.{member_of};
 
 use crate::members::MemberShape;
-use crate::place::Target;
 use crate::schema::Schema;
-use crate::shape_type::ShapeType;
+use smithy_declarations::{ShapeType, Target};
 
 // Whether the member has this name and this target.
 fn is_member(member: &MemberShape, name: &str, target: Target) -> bool

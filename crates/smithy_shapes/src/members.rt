@@ -1,10 +1,10 @@
 //! The members of a structure or a union, and where they stand by their names.
 ghost use Rattle.std.specs.Prelude.{map};
 ghost use Rattle.smithy_shapes.specs.Private.MemberNames.{member_name, json_name};
-ghost use Rattle.smithy_shapes.specs.Private.Order.{IsOrderOf};
+ghost use Rattle.smithy_declarations.specs.Private.Order.{IsOrderOf};
 
-use crate::names::{Named, order_of, position_of};
-use crate::place::Place;
+use smithy_declarations::Place;
+use smithy_declarations::names::{Named, order_of, position_of};
 use std::alloc::{AllocError, Global};
 
 #[derive(Drop)]

@@ -1,6 +1,6 @@
 //! The members at a place, one after the other.
 ghost use Rattle.std.specs.Prelude.{◌≡◌, ◌≤◌, length};
-ghost use Rattle.smithy_shapes.specs.Table.{members_of};
+ghost use Rattle.smithy_declarations.specs.Table.{members_of};
 ghost use Rattle.smithy_shapes.specs.Site.{site_of, kind_at};
 
 use crate::schema::Schema;

@@ -1,12 +1,11 @@
 //! The view of one place of a table.
 ghost use Rattle.std.specs.Prelude.{◌≡◌, ◌≢◌, option_map, string_bytes};
-ghost use Rattle.smithy_shapes.specs.Table.{kind_of, nothing};
+ghost use Rattle.smithy_declarations.specs.Table.{kind_of, nothing};
 
 use crate::members::{MemberList, MemberShape};
-use crate::place::{Place, Target};
-use crate::shape_type::{Scalar, ShapeRef, ShapeType, TimestampFormat};
 use crate::shapes::{ListShape, MapShape, Shape, Shapes};
 use crate::targets::Sought;
+use smithy_declarations::{Place, Scalar, ShapeRef, ShapeType, Target, TimestampFormat};
 
 /// Where a view comes from.
 #[derive(Clone, Copy)]
@@ -38,7 +37,7 @@ pub struct Schema<'a> {
 impl<'a> Schema<'a> {
     ghost use Rattle.std.specs.Prelude.{◌↔◌, ◌≤◌, [], Some, IsTrue, IfSome, length, map};
     ghost use Rattle.std.specs.Option.{option_map_or};
-    ghost use Rattle.smithy_shapes.specs.Table.{Member, type_of, members_of, IsSparse, json_name_of, is_document_target};
+    ghost use Rattle.smithy_declarations.specs.Table.{Member, type_of, members_of, IsSparse, json_name_of, is_document_target};
     ghost use Rattle.smithy_shapes.specs.Targets.{is_timestamp_target};
     ghost use Rattle.smithy_shapes.specs.Holding.{may_hold};
     ghost use Rattle.smithy_shapes.specs.Views.{member_of};

@@ -1,9 +1,8 @@
 //! The table of shapes.
 use crate::members::{MemberList, MemberShape};
-use crate::names::{Named, position_of};
-use crate::place::{Place, Target};
 use crate::schema::{Origin, Schema};
-use crate::shape_type::ShapeRef;
+use smithy_declarations::names::{Named, position_of};
+use smithy_declarations::{Place, ShapeRef, Target};
 use std::marker::Model;
 
 #[derive(Drop)]
@@ -69,10 +68,10 @@ pub struct Shapes {
 
 impl Model for Shapes {
     ghost use Rattle.std.specs.Prelude.{◌≡◌, map, string_bytes};
-    ghost use Rattle.smithy_shapes.specs.Table.{Table, is_document_target};
+    ghost use Rattle.smithy_declarations.specs.Table.{Table, is_document_target};
     ghost use Rattle.smithy_shapes.specs.Targets.{is_timestamp_target, table_has};
     ghost use Rattle.smithy_shapes.specs.Accepted.{IsAccepted};
-    ghost use Rattle.smithy_shapes.specs.Private.Order.{IsOrderOf};
+    ghost use Rattle.smithy_declarations.specs.Private.Order.{IsOrderOf};
     ghost use Rattle.smithy_shapes.specs.Views.{declaration_of};
     ghost use Rattle.smithy_shapes.specs.declared.shapes.Declaration.{Declaration};
 
@@ -89,8 +88,8 @@ impl Model for Shapes {
 impl Shapes {
     ghost use Rattle.std.specs.Prelude.{◌≡◌, ◌≢◌, ◌<◌, ◌≤◌, [], length, map, option_map, slice_get, IfSome};
     ghost use Rattle.std.specs.Option.{option_map_or};
-    ghost use Rattle.smithy_shapes.specs.declared.shape_type.ShapeRef.{ShapeRef};
-    ghost use Rattle.smithy_shapes.specs.Table.{kind_of, shape_place, IsClosed, list_shape_of as list_at_kind, map_shape_of as map_at_kind, members_of, nothing, shape_declared, declared_as, is_document_target};
+    ghost use Rattle.smithy_declarations.specs.declared.shape_type.ShapeRef.{ShapeRef};
+    ghost use Rattle.smithy_declarations.specs.Table.{kind_of, shape_place, IsClosed, list_shape_of as list_at_kind, map_shape_of as map_at_kind, members_of, nothing, shape_declared, declared_as, is_document_target};
     ghost use Rattle.smithy_shapes.specs.Targets.{is_timestamp_target, table_has};
     ghost use Rattle.smithy_shapes.specs.Accepted.{IsAccepted};
     ghost use Rattle.smithy_shapes.specs.Site.{site_of, shape_site};

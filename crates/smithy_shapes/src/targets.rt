@@ -1,15 +1,14 @@
 //! Which targets stand in a table.
 ghost use Rattle.std.specs.Prelude.{◌≡◌, map};
 ghost use Rattle.std.specs.List.{list_any};
-ghost use Rattle.smithy_shapes.specs.Table.{Member};
+ghost use Rattle.smithy_declarations.specs.Table.{Member};
 ghost use Rattle.smithy_shapes.specs.Targets.{shape_has, table_has};
 ghost use Rattle.smithy_shapes.specs.Views.{member_of, shape_of, declaration_of};
 ghost use Rattle.smithy_shapes.specs.Private.Sought.{is_sought};
 
 use crate::members::MemberShape;
-use crate::place::{Place, Target};
-use crate::shape_type::Scalar;
 use crate::shapes::{Declaration, Shape};
+use smithy_declarations::{Place, Scalar, Target};
 
 /// The targets that are looked for.
 #[derive(Clone, Copy)]

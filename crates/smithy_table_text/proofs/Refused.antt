@@ -2,13 +2,13 @@
 use Rattle.std.proofs.Common.{◌≡◌, ◌≢◌, ◌≤◌, ◌∙◌, ℕ, List, length, sym, ap, subst, true≢false}
 use Rattle.std.specs.Prelude.{true, false}
 use Rattle.std.specs.Cmp.Lexicographic.{pointwise}
-use Rattle.smithy_shapes.specs.declared.fault.TableFault.{TableFault}
-use Rattle.smithy_shapes.specs.declared.fault.TableFault.TheVariants as table_faults
-use Rattle.smithy_shapes.specs.Decl.{Decl}
-use Rattle.smithy_shapes.specs.DeclViews.{IsRefusedBy, IsLineFault}
-use Rattle.smithy_shapes.specs.Table.{Table}
-use Rattle.smithy_shapes.specs.TableText.{Lines, declarations_of, declarations}
-use Rattle.smithy_shapes.specs.Acceptance.{accepted, refused, bad_line, build_of}
+use Rattle.smithy_declarations.specs.declared.fault.TableFault.{TableFault}
+use Rattle.smithy_declarations.specs.declared.fault.TableFault.TheVariants as table_faults
+use Rattle.smithy_declarations.specs.Decl.{Decl}
+use Rattle.smithy_declarations.specs.DeclViews.{IsRefusedBy, IsLineFault}
+use Rattle.smithy_declarations.specs.Table.{Table}
+use Rattle.smithy_declarations.specs.TableText.{Lines, declarations_of, declarations}
+use Rattle.smithy_declarations.specs.Acceptance.{accepted, refused, bad_line, build_of}
 use Rattle.smithy_table_text.specs.declared.fault.TextFault.TheVariants as faults
 use Rattle.smithy_table_text.specs.TableLines.{table_text}
 use Rattle.smithy_table_text.specs.Comparing.{same_decl}

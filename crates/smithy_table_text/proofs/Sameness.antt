@@ -5,7 +5,7 @@ use Rattle.std.specs.Bool.{Decides}
 use Rattle.std.specs.Cmp.Lexicographic.{pointwise, pointwise_decides}
 use Rattle.std.proofs.lemmas.Bool.Decides.{Decides-and, Decides-like}
 use Rattle.std.proofs.lemmas.Slice.Eq.{bytes_eq-Decides}
-use Rattle.smithy_shapes.specs.Decl.{MemberDecl, ListDecl, MapDecl, Form, structure, union, list, map as map_form, Decl}
+use Rattle.smithy_declarations.specs.Decl.{MemberDecl, ListDecl, MapDecl, Form, structure, union, list, map as map_form, Decl}
 use Rattle.smithy_table_text.specs.Comparing.{same_option, same_flag, same_member, same_list, same_map, same_members, same_form, same_decl}
 
 some_is : (a b : List ℕ) → Some a ≡ Some b → a ≡ b

@@ -1,7 +1,7 @@
 -- Whether declarations are the same.
 use Rattle.std.specs.Prelude.{ℕ, List, Bool, true, false, not, ◌&&◌, Option, Some, None, if◌then◌else◌, bytes_eq}
 use Rattle.std.specs.Cmp.Lexicographic.{pointwise}
-use Rattle.smithy_shapes.specs.Decl.{MemberDecl, ListDecl, MapDecl, Form, structure, union, list, map, Decl}
+use Rattle.smithy_declarations.specs.Decl.{MemberDecl, ListDecl, MapDecl, Form, structure, union, list, map, Decl}
 
 abbrev pub same_option : Option (List ℕ) → Option (List ℕ) → Bool
 same_option (Some text) (Some other) = bytes_eq text other

@@ -1,7 +1,7 @@
 -- The lines of a table, as declarations are written.
 use Rattle.std.specs.Prelude.{ℕ, List, ◌++◌, [], Bool, Option, flat_map, if◌then◌else◌, codes}
 use Rattle.std.specs.Option.{option_map_or}
-use Rattle.smithy_shapes.specs.Decl.{MemberDecl, ListDecl, MapDecl, Form, structure, union, list, map, Decl}
+use Rattle.smithy_declarations.specs.Decl.{MemberDecl, ListDecl, MapDecl, Form, structure, union, list, map, Decl}
 
 -- an option and its text, where one is given
 abbrev pub option_text : List ℕ → Option (List ℕ) → List ℕ

@@ -1,12 +1,12 @@
 -- Which declarations have a text, and why others have none.
 use Rattle.std.specs.Prelude.{◌≡◌, ◌≢◌, ◌≤◌, ◌<◌, ℕ, List, length}
-use Rattle.smithy_shapes.specs.declared.fault.TableFault.{TableFault}
-use Rattle.smithy_shapes.specs.declared.fault.TableFault.TheVariants as table_faults
-use Rattle.smithy_shapes.specs.Decl.{Decl}
-use Rattle.smithy_shapes.specs.DeclViews.{IsRefusedBy}
-use Rattle.smithy_shapes.specs.Table.{Table}
-use Rattle.smithy_shapes.specs.TableText.{declarations_of, declarations}
-use Rattle.smithy_shapes.specs.Acceptance.{accepted, table_of, build_of}
+use Rattle.smithy_declarations.specs.declared.fault.TableFault.{TableFault}
+use Rattle.smithy_declarations.specs.declared.fault.TableFault.TheVariants as table_faults
+use Rattle.smithy_declarations.specs.Decl.{Decl}
+use Rattle.smithy_declarations.specs.DeclViews.{IsRefusedBy}
+use Rattle.smithy_declarations.specs.Table.{Table}
+use Rattle.smithy_declarations.specs.TableText.{declarations_of, declarations}
+use Rattle.smithy_declarations.specs.Acceptance.{accepted, table_of, build_of}
 use Rattle.smithy_table_text.specs.declared.fault.TextFault.{TextFault}
 use Rattle.smithy_table_text.specs.declared.fault.TextFault.TheVariants as faults
 use Rattle.smithy_table_text.specs.TableLines.{table_text}

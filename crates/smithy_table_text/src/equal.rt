@@ -1,8 +1,8 @@
 //! Whether declarations are equal.
 ghost use Rattle.std.specs.Prelude.{◌≡◌, map as list_map, string_bytes, option_map};
 ghost use Rattle.std.specs.Cmp.Lexicographic.{pointwise};
-ghost use Rattle.smithy_shapes.specs.Decl.{structure, union, list, map};
-ghost use Rattle.smithy_shapes.specs.DeclViews.{decl_of, member_decl_of};
+ghost use Rattle.smithy_declarations.specs.Decl.{structure, union, list, map};
+ghost use Rattle.smithy_declarations.specs.DeclViews.{decl_of, member_decl_of};
 ghost use Rattle.smithy_table_text.specs.Comparing.{same_option, same_flag, same_member, same_members, same_form, same_decl};
 
 use smithy_shapes::{Decl, MemberDecl};

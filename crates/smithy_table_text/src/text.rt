@@ -1,6 +1,6 @@
 //! The text of a table.
 ghost use Rattle.std.specs.Prelude.{◌≡◌, map, IfOk, IfErr};
-ghost use Rattle.smithy_shapes.specs.DeclViews.{decl_of};
+ghost use Rattle.smithy_declarations.specs.DeclViews.{decl_of};
 ghost use Rattle.smithy_table_text.specs.Writable.{fault_of_line, IsTextOf, RefusesDecls};
 
 use crate::equal::are_equal;

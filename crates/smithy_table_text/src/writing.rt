@@ -1,6 +1,6 @@
 //! The lines of declarations.
 ghost use Rattle.std.specs.Prelude.{◌≡◌, ◌++◌, map as list_map, option_map, string_bytes, flat_map, IfOk, OnOk};
-ghost use Rattle.smithy_shapes.specs.DeclViews.{member_decl_of, decl_of};
+ghost use Rattle.smithy_declarations.specs.DeclViews.{member_decl_of, decl_of};
 ghost use Rattle.smithy_table_text.specs.TableLines.{option_text, flag_text, member_options, member_line, list_line, map_line, decl_lines, table_text};
 
 use smithy_shapes::{Decl, MemberDecl};

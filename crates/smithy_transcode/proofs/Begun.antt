@@ -2,12 +2,13 @@
 use Rattle.std.proofs.Common.{◌≡◌, ◌≤◌, ◌<◌, ℕ, List, Bool, true, false, [], ◌∷◌, length, inl, inr, Result, Ok, Err, IsErrOf, refl, sym, ◌∙◌, ap, subst, arith}
 use Rattle.smithy_schema.specs.declared.error.SerdeError.{SerdeError}
 use Rattle.smithy_schema.specs.declared.error.SerdeError.TheVariants.{InvalidInput, TypeMismatch, TooDeep, TooWide, NotCarried, Unsupported, Unwritable, Missing, Failed, NoMemory}
-use Rattle.smithy_shapes.specs.declared.place.Place.{Place}
+use Rattle.smithy_declarations.specs.declared.place.Place.{Place}
 use Rattle.smithy_shapes.specs.declared.schema.Schema.{Schema}
-use Rattle.smithy_shapes.specs.Table.{Table, kind_of, shape_place, IsStructure}
+use Rattle.smithy_declarations.specs.Table.{Table, kind_of, shape_place, IsStructure}
 use Rattle.smithy_shapes.specs.Site.{Site, site_of, shape_site}
-use Rattle.smithy_shapes.specs.Value.{Value, structure, no_member_values}
-use Rattle.smithy_schema.specs.Reading.{Cursor, depth, Relations, Reads, StandsNot, ReachesDepth, EndsTooDeep, ExceedsInside, UncarriedInside, IsCounted, IsRefused}
+use Rattle.smithy_declarations.specs.Value.{Value, structure, no_member_values}
+use Rattle.smithy_schema.specs.Errors.{IsRefused}
+use Rattle.smithy_schema.specs.Reading.{Cursor, depth, Relations, Reads, StandsNot, ReachesDepth, EndsTooDeep, ExceedsInside, UncarriedInside, IsCounted}
 use Rattle.smithy_schema.proofs.CountLemmas.{starts_counted, reaches_openers}
 use Rattle.smithy_wire.specs.Walking.{fresh_cursor}
 use Rattle.smithy_json_values.specs.Settings.{Settings, keep_limits, without_limits}

@@ -4,18 +4,18 @@ use Rattle.std.specs.declared.vec.Vec.{Vec}
 use Rattle.std.specs.declared.alloc.Global.{Global}
 use Rattle.smithy_schema.specs.declared.error.SerdeError.{SerdeError}
 use Rattle.smithy_shapes.specs.declared.schema.Schema.{Schema}
-use Rattle.smithy_shapes.specs.declared.place.Place.{Place}
-use Rattle.smithy_shapes.specs.declared.shape_type.TimestampFormat.TheVariants.{EpochSeconds, DateTime}
+use Rattle.smithy_declarations.specs.declared.place.Place.{Place}
+use Rattle.smithy_declarations.specs.declared.shape_type.TimestampFormat.TheVariants.{EpochSeconds, DateTime}
 use Rattle.smithy_shapes.specs.Accepted.{IsAccepted}
 use Rattle.smithy_shapes.specs.Fits.{Fits}
 use Rattle.smithy_shapes.specs.Lemmas.Kinds.{no_list_and_structure, map_kind, union_kind}
 use Rattle.smithy_shapes.proofs.ScalarLemmas.{scalar_kind}
 use Rattle.smithy_shapes.proofs.TimeFormLemmas.{held_writes, more_pass}
 use Rattle.smithy_shapes.specs.ScalarTest.{scalars_pass}
-use Rattle.smithy_shapes.specs.TimeForms.{form_or}
-use Rattle.smithy_shapes.specs.Table.{Table, IsStructure, kind_of, shape_place}
+use Rattle.smithy_declarations.specs.TimeForms.{form_or}
+use Rattle.smithy_declarations.specs.Table.{Table, IsStructure, kind_of, shape_place}
 use Rattle.smithy_shapes.specs.Site.{Site, View, whole_view, site_of, shape_site}
-use Rattle.smithy_shapes.specs.Value.{Value, scalar_value, list, map, structure, union, null_element, document_value, MemberValues}
+use Rattle.smithy_declarations.specs.Value.{Value, scalar_value, list, map, structure, union, null_element, document_value, MemberValues}
 use Rattle.smithy_schema.specs.Writing.{write, events}
 use Rattle.smithy_wire.specs.Lemmas.Places.{document_kind}
 use Rattle.smithy_json_codec.specs.Canonical.{canonical_json, key_text, json_holds, can_write as json_can_write}

@@ -2,9 +2,9 @@
 use Rattle.std.proofs.Common.{◌≡◌, ℕ, List, Result, Ok, Err, IsErrOf, refl, ◌∙◌, ap}
 use Rattle.smithy_schema.specs.declared.error.SerdeError.{SerdeError}
 use Rattle.smithy_schema.specs.declared.error.SerdeError.TheVariants as serde
-use Rattle.smithy_schema.specs.Reading.{IsFault, IsRefused, IsInvalid, FindsNone}
-use Rattle.smithy_shapes.specs.Table.{Table}
-use Rattle.smithy_shapes.specs.Value.{Value}
+use Rattle.smithy_schema.specs.Errors.{IsFault, IsRefused, IsInvalid, FindsNone}
+use Rattle.smithy_declarations.specs.Table.{Table}
+use Rattle.smithy_declarations.specs.Value.{Value}
 use Rattle.smithy_transcode.specs.declared.wire.TranscodeError.{TranscodeError}
 use Rattle.smithy_transcode.specs.Wires.{Wire}
 use Rattle.smithy_transcode.specs.Spelling.{Spells}

@@ -1,7 +1,7 @@
 -- What a tree of a transcoding stands for, where its entries or members stand in a map.
 use Rattle.std.proofs.Common.{◌≡◌, ℕ, String, Global, sym, ◌∙◌, ap}
 use Rattle.std.specs.BTreeMap.{BTreeMap}
-use Rattle.smithy_shapes.specs.Value.{Value, map, structure}
+use Rattle.smithy_declarations.specs.Value.{Value, map, structure}
 use Rattle.smithy_transcode.specs.declared.compact_value.CompactValue as kept
 use Rattle.smithy_transcode.specs.declared.compact_value.CompactValue.TheOpen.{CompactValue-F}
 use Rattle.smithy_transcode.specs.declared.compact_value.CompactValue.TheFolds.{fold-roll-CompactValue}

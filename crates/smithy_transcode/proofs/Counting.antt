@@ -1,8 +1,8 @@
 -- A value counts, with all values inside it, at most one more than the bytes that spell it.
 use Rattle.std.specs.Prelude.{◌≤◌, ◌+◌, ℕ, length, List, true, refl}
 use Rattle.std.proofs.Common.{arith}
-use Rattle.smithy_shapes.specs.Table.{Table, shape_place}
-use Rattle.smithy_shapes.specs.Value.{Value}
+use Rattle.smithy_declarations.specs.Table.{Table, shape_place}
+use Rattle.smithy_declarations.specs.Value.{Value}
 use Rattle.smithy_json_values.specs.Laws.{rules_fit}
 use Rattle.smithy_json_values.specs.Private.Wire.{json_is_wire, json_bounds_openers}
 use Rattle.smithy_json_codec.specs.WireSettings.{wire_settings}

@@ -1,7 +1,7 @@
 -- Examples of how many values stand in one, by computing.
 use Rattle.std.specs.Prelude.{◌≡◌, ◌+◌, ℕ, pos, [], ◌∷◌, length, map as list_map, true, refl, codes}
 use Rattle.smithy_types.specs.Document.{null, number, array, object, no_documents, item, no_properties, property}
-use Rattle.smithy_shapes.specs.Value.{boolean, whole, Value, scalar_value, list, map, structure, union, null_element, document_value, no_values, value, no_map_entries, map_entry, no_member_values, member_value}
+use Rattle.smithy_declarations.specs.Value.{boolean, whole, Value, scalar_value, list, map, structure, union, null_element, document_value, no_values, value, no_map_entries, map_entry, no_member_values, member_value}
 use Rattle.smithy_transcode.specs.Nodes.{nodes}
 
 abbrev one : Value

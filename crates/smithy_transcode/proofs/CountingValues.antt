@@ -5,12 +5,12 @@ use Rattle.std.proofs.Common.{sym, arith, subst}
 use Rattle.smithy_types.specs.Document.{Document, null, array, object, Documents, no_documents, item, whole_document, properties_by}
 use Rattle.smithy_types.specs.Number.{whole_number}
 use Rattle.smithy_types.specs.declared.number.Number.{Number}
-use Rattle.smithy_shapes.specs.declared.place.Place.{Place}
-use Rattle.smithy_shapes.specs.declared.shape_type.Scalar.{Scalar}
+use Rattle.smithy_declarations.specs.declared.place.Place.{Place}
+use Rattle.smithy_declarations.specs.declared.shape_type.Scalar.{Scalar}
 use Rattle.smithy_shapes.specs.Limits.{kept}
 use Rattle.smithy_schema.specs.Reading.{Mark}
-use Rattle.smithy_shapes.specs.Table.{Table, Kind, scalar, structure_of, kind_of, place_in, IsDocument, IsList, IsMap, IsStructure, IsUnion}
-use Rattle.smithy_shapes.specs.Value.{Value, scalar_value, list, map, structure, union, null_element, document_value, no_member_values}
+use Rattle.smithy_declarations.specs.Table.{Table, Kind, scalar, structure_of, kind_of, place_in, IsDocument, IsList, IsMap, IsStructure, IsUnion}
+use Rattle.smithy_declarations.specs.Value.{Value, scalar_value, list, map, structure, union, null_element, document_value, no_member_values}
 use Rattle.smithy_shapes.specs.Container.{container_of}
 use Rattle.smithy_shapes.specs.Fits.{Fits}
 use Rattle.smithy_shapes.specs.Lemmas.Options.{same_some, step_apart, chosen, made}

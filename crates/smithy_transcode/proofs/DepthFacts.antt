@@ -1,9 +1,9 @@
 -- Examples of how deep a table nests. Of CBOR no body is too deep for one that nests no container, however deep the item nests where a
 -- document is due.
 use Rattle.std.proofs.Common.{◌≡◌, ℕ, zero, suc, List, [], ◌∷◌, Option, Some, None, IsErrOf, false, refl, subst, codes}
-use Rattle.smithy_shapes.specs.declared.place.Place.{Place}
-use Rattle.smithy_shapes.specs.Table as table
-use Rattle.smithy_shapes.specs.Table.{Table, document_place, shape_place, kind_of, place_in, IsInside}
+use Rattle.smithy_declarations.specs.declared.place.Place.{Place}
+use Rattle.smithy_declarations.specs.Table as table
+use Rattle.smithy_declarations.specs.Table.{Table, document_place, shape_place, kind_of, place_in, IsInside}
 use Rattle.smithy_transcode.specs.declared.wire.TranscodeError.TheVariants.{TooDeep}
 use Rattle.smithy_transcode.specs.Wires.{Wire, cbor}
 use Rattle.smithy_transcode.specs.Causes.{NestsTo, MayNest}

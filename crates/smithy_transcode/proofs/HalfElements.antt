@@ -1,12 +1,13 @@
 -- A list or a map that is half read, in both readings.
 use Rattle.std.proofs.Common.{◌≡◌, ℕ, List, [], ◌∷◌, ◌++◌, Option, Some, None, Bool, true, Ok, Err, IsErrOf, refl, sym, ◌∙◌, ap, subst}
-use Rattle.smithy_shapes.specs.declared.place.Place.{Place}
+use Rattle.smithy_declarations.specs.declared.place.Place.{Place}
 use Rattle.smithy_schema.specs.declared.error.SerdeError.{SerdeError}
 use Rattle.smithy_schema.specs.declared.error.SerdeError.TheVariants.{TooDeep}
-use Rattle.smithy_shapes.specs.Table.{Kind, list_of, map_of, IsList, IsMap, IsUnion, IsSparse, is_sparse, place_in}
+use Rattle.smithy_declarations.specs.Table.{Kind, list_of, map_of, IsList, IsMap, IsUnion, IsSparse, is_sparse, place_in}
 use Rattle.smithy_shapes.specs.Site.{Site, kind_at}
-use Rattle.smithy_shapes.specs.Value.{Value, null_element, MapEntries, no_map_entries, put_entry}
-use Rattle.smithy_schema.specs.Reading.{Cursor, ContainerKind, in_list, in_map, Relations, Child, child_value, child_null, named, depth, Conducts, RefusesNoKind, Enters, Steps, Passes, Reads, StandsNot, NullsNot, null_is_due, IsFault, IsInvalid}
+use Rattle.smithy_declarations.specs.Value.{Value, null_element, MapEntries, no_map_entries, put_entry}
+use Rattle.smithy_schema.specs.Errors.{RefusesNoKind, IsFault, IsInvalid}
+use Rattle.smithy_schema.specs.Reading.{Cursor, ContainerKind, in_list, in_map, Relations, Child, child_value, child_null, named, depth, Conducts, Enters, Steps, Passes, Reads, StandsNot, NullsNot, null_is_due}
 use Rattle.smithy_schema.proofs.CountLemmas.{value_counted, null_counted}
 use Rattle.smithy_transcode.specs.ReadValue.{ReadsValue}
 use Rattle.smithy_schema.proofs.ReadContainers.{itself}

@@ -3,12 +3,13 @@ use Rattle.std.proofs.Common.{◌≡◌, ℕ, List, Option, Some, None, true, fa
 use Rattle.smithy_shapes.specs.declared.schema.Schema.{Schema}
 use Rattle.smithy_schema.specs.declared.error.SerdeError.{SerdeError}
 use Rattle.smithy_schema.specs.declared.error.SerdeError.TheVariants.{InvalidInput, TooDeep}
-use Rattle.smithy_schema.specs.declared.read.Step.{Step}
-use Rattle.smithy_schema.specs.declared.read.Step.TheVariants.{Member as ToMember, Unknown, End}
-use Rattle.smithy_shapes.specs.Table.{Kind, structure_of, IsStructure, IsUnion, HasMembers, place_in}
+use Rattle.smithy_schema.specs.declared.step.Step.{Step}
+use Rattle.smithy_schema.specs.declared.step.Step.TheVariants.{Member as ToMember, Unknown, End}
+use Rattle.smithy_declarations.specs.Table.{Kind, structure_of, IsStructure, IsUnion, HasMembers, place_in}
 use Rattle.smithy_shapes.specs.Site.{Site, site_of, kind_at}
-use Rattle.smithy_shapes.specs.Value.{Value, MemberValues, no_member_values, put_member, union}
-use Rattle.smithy_schema.specs.Reading.{Cursor, in_structure, Relations, Child, child_value, child_unknown, depth, Conducts, RefusesNoKind, Enters, Steps, MatchStep, Passes, Reads, SkipsNot, ReachesDepth, IsFault, IsInvalid, failed_at}
+use Rattle.smithy_declarations.specs.Value.{Value, MemberValues, no_member_values, put_member, union}
+use Rattle.smithy_schema.specs.Errors.{RefusesNoKind, IsFault, IsInvalid}
+use Rattle.smithy_schema.specs.Reading.{Cursor, in_structure, Relations, Child, child_value, child_unknown, depth, Conducts, Enters, Steps, MatchStep, Passes, Reads, SkipsNot, ReachesDepth, failed_at}
 use Rattle.smithy_schema.proofs.CountLemmas.{value_counted, skip_counted, member_counted}
 use Rattle.smithy_transcode.specs.ReadValue.{ReadsValue}
 use Rattle.smithy_schema.proofs.ReadContainers.{itself, not_both, structure_has_members}

@@ -1,12 +1,13 @@
 -- A container that is half read, of any kind, in both readings: how it goes on, and what its reading answers.
 use Rattle.std.proofs.Common.{◌≡◌, ℕ, List, [], ◌∷◌, Option, Some, true, false, Result, Ok, Err, IfOk, IfErr, IsErrOf, sym, ◌∙◌, ap}
-use Rattle.smithy_shapes.specs.declared.place.Place.{Place}
+use Rattle.smithy_declarations.specs.declared.place.Place.{Place}
 use Rattle.smithy_schema.specs.declared.error.SerdeError.{SerdeError}
 use Rattle.smithy_schema.specs.declared.error.SerdeError.TheVariants.{TooDeep, NoMemory}
-use Rattle.smithy_shapes.specs.Table.{Table, kind_of, place_in, IsSparse, IsUnion}
+use Rattle.smithy_declarations.specs.Table.{Table, kind_of, place_in, IsSparse, IsUnion}
 use Rattle.smithy_shapes.specs.Site.{Site}
-use Rattle.smithy_shapes.specs.Value.{Value}
-use Rattle.smithy_schema.specs.Reading.{Cursor, ContainerKind, Relations, Child, depth, IsCounted, Conducts, RefusesNoKind, Enters, Steps, Leaves, Passes, CannotGoOn, ReachesDepth, IsFault, IsInvalid, IsChild, named}
+use Rattle.smithy_declarations.specs.Value.{Value}
+use Rattle.smithy_schema.specs.Errors.{RefusesNoKind, IsFault, IsInvalid}
+use Rattle.smithy_schema.specs.Reading.{Cursor, ContainerKind, Relations, Child, depth, IsCounted, Conducts, Enters, Steps, Leaves, Passes, CannotGoOn, ReachesDepth, IsChild, named}
 use Rattle.smithy_schema.proofs.CountLemmas.{entry_counted, step_counted}
 use Rattle.smithy_transcode.specs.ReadValue.{ReadsValue}
 use Rattle.smithy_schema.proofs.ReadContainers.{InContainer, child_read, itself, end, stuck}

@@ -4,10 +4,10 @@ use Rattle.std.specs.Prelude.{unwrap_or}
 use Rattle.std.specs.Option.{option_map_or}
 use Rattle.std.proofs.Math.Nat.{le-max_left, le-max_right}
 use Rattle.smithy_schema.specs.declared.error.SerdeError.{SerdeError}
-use Rattle.smithy_shapes.specs.Table.{IsMap}
+use Rattle.smithy_declarations.specs.Table.{IsMap}
 use Rattle.smithy_shapes.specs.Site.{Site, kind_at, key_site, value_site, key_of, value_of, nameless_site}
 use Rattle.smithy_shapes.specs.Fits.{FitsOr, EntriesFit}
-use Rattle.smithy_shapes.specs.Value.{Value, text, map, MapEntries, no_map_entries, map_entry, nesting, entries_nesting}
+use Rattle.smithy_declarations.specs.Value.{Value, text, map, MapEntries, no_map_entries, map_entry, nesting, entries_nesting}
 use Rattle.smithy_schema.specs.Writing.{Event, Writer, write, run, entry_count, entry_events, begin_map, end_map, scalar_of}
 use Rattle.smithy_shapes.specs.Lemmas.Kinds.{map_kind}
 use Rattle.smithy_shapes.proofs.SiteLemmas.{value_site_at, entry_fit}

@@ -1,6 +1,6 @@
 -- A value that is gone through for a null, part by part.
 use Rattle.std.proofs.Common.{◌≡◌, ◌||◌, ℕ, ℤ, List, [], ◌∷◌, Bool, true, false, refl, ◌∙◌, ap}
-use Rattle.smithy_shapes.specs.Value.{Value, values_of, MapEntries, no_map_entries, map_entry, MemberValues, no_member_values, member_value}
+use Rattle.smithy_declarations.specs.Value.{Value, values_of, MapEntries, no_map_entries, map_entry, MemberValues, no_member_values, member_value}
 use Rattle.smithy_query_codec.specs.Nulls.{holds_null, elements_hold_null, entries_hold_null, members_hold_null}
 use Rattle.smithy_query_codec.specs.Counts.{HasPositions, ElementsHavePositions, EntriesHavePositions, MembersHavePositions}
 use Rattle.smithy_transcode.specs.Private.Tree.{whole_values}

@@ -1,17 +1,18 @@
 -- What a read of a value answers, by each way out of it: one record for each.
 use Rattle.std.proofs.Common.{◌≡◌, ℕ, Some, true, false, Result, Ok, Err, IfOk, IfErr, IsErrOf, refl, sym, ◌∙◌, ap, subst, arith, inl}
-use Rattle.smithy_shapes.specs.declared.place.Place.{Place}
-use Rattle.smithy_shapes.specs.declared.shape_type.Scalar.{Scalar}
-use Rattle.smithy_shapes.specs.declared.shape_type.ShapeType.TheVariants as types
+use Rattle.smithy_declarations.specs.declared.place.Place.{Place}
+use Rattle.smithy_declarations.specs.declared.shape_type.Scalar.{Scalar}
+use Rattle.smithy_declarations.specs.declared.shape_type.ShapeType.TheVariants as types
 use Rattle.smithy_schema.specs.declared.error.SerdeError.{SerdeError}
 use Rattle.smithy_schema.specs.declared.error.SerdeError.TheVariants.{InvalidInput, TypeMismatch, TooDeep, TooWide, NotCarried, Failed, NoMemory}
-use Rattle.smithy_shapes.specs.Table.{scalar_type, type_of, IsContainer}
+use Rattle.smithy_declarations.specs.Table.{scalar_type, type_of, IsContainer}
 use Rattle.smithy_shapes.specs.Site.{Site, kind_at}
-use Rattle.smithy_shapes.specs.Value.{ScalarValue, Value, scalar_value, document_value}
+use Rattle.smithy_declarations.specs.Value.{ScalarValue, Value, scalar_value, document_value}
 use Rattle.smithy_types.specs.Document.{whole_document}
 use Rattle.smithy_types.specs.DocumentView.{document_view}
 use Rattle.smithy_types.specs.declared.document.Document.{Document}
-use Rattle.smithy_schema.specs.Reading.{Cursor, depth, Relations, IsLawful, IsBelow, CountsOpeners, IsCounted, Conducts, RefusesNoScalar, RefusesNoKind, TellsType, Reads, ReadsScalar, ReadsDocument, StandsNot, OpensNot, ReachesDepth, IsFault, IsInvalid, failed_at}
+use Rattle.smithy_schema.specs.Errors.{RefusesNoScalar, RefusesNoKind, TellsType, IsFault, IsInvalid}
+use Rattle.smithy_schema.specs.Reading.{Cursor, depth, Relations, IsLawful, IsBelow, CountsOpeners, IsCounted, Conducts, Reads, ReadsScalar, ReadsDocument, StandsNot, OpensNot, ReachesDepth, failed_at}
 use Rattle.smithy_schema.proofs.CountLemmas.{refusal_counted, value_counted}
 use Rattle.smithy_transcode.specs.ReadValue.{ReadsValue}
 use Rattle.smithy_transcode.proofs.ReadWide.{Lying, StandsInside, error_is, scalar_inside, scalar_read, place_told, kind_of_document, document_told, document_inside, document_read}

@@ -1,7 +1,7 @@
 -- Where a reader fails for its depth: at a container that is due, or by what is skipped or a document, where the wire limits these.
 use Rattle.std.proofs.Common.{◌≡◌, ℕ, refl, ◌∙◌, arith, inl, inr}
-use Rattle.smithy_shapes.specs.declared.place.Place.{Place}
-use Rattle.smithy_shapes.specs.Table.{Table, kind_of, IsContainer}
+use Rattle.smithy_declarations.specs.declared.place.Place.{Place}
+use Rattle.smithy_declarations.specs.Table.{Table, kind_of, IsContainer}
 use Rattle.smithy_schema.specs.Reading.{Cursor, depth, Relations, EndsTooDeep}
 use Rattle.smithy_transcode.proofs.ReadWide.{Lying, StandsInside}
 

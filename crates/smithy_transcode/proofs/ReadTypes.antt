@@ -1,11 +1,12 @@
 -- Where a reader fails for the type of what comes, or for no type: the way that it went to there, from child to child.
 use Rattle.std.proofs.Common.{◌≡◌, ℕ, suc, List, length, Option, Some, Bool, true, false, sym, ◌∙◌, ap, subst}
-use Rattle.smithy_shapes.specs.declared.place.Place.{Place}
+use Rattle.smithy_declarations.specs.declared.place.Place.{Place}
 use Rattle.smithy_schema.specs.declared.error.SerdeError.{SerdeError}
 use Rattle.smithy_schema.specs.declared.error.SerdeError.TheVariants.{InvalidInput, TypeMismatch}
-use Rattle.smithy_shapes.specs.Table.{Table, kind_of, place_in, IsUnion, IsSparse}
-use Rattle.smithy_shapes.specs.Value.{Value}
-use Rattle.smithy_schema.specs.Reading.{Cursor, ContainerKind, depth, Relations, Mark, Child, IsChild, named, Enters, Steps, Passes, TellsType, failed_at}
+use Rattle.smithy_declarations.specs.Table.{Table, kind_of, place_in, IsUnion, IsSparse}
+use Rattle.smithy_declarations.specs.Value.{Value}
+use Rattle.smithy_schema.specs.Errors.{TellsType}
+use Rattle.smithy_schema.specs.Reading.{Cursor, ContainerKind, depth, Relations, Mark, Child, IsChild, named, Enters, Steps, Passes, failed_at}
 use Rattle.smithy_schema.proofs.ReadContainers.{InContainer}
 use Rattle.smithy_transcode.specs.DuePlaces.{Came, none_yet, one_more, GoesOnAt, at_once, through, IsOtherType, IsNoOtherType, as_due, as_document, as_null, as_unknown, as_second, MismatchesInside, AgreesInside}
 

@@ -3,7 +3,7 @@ use Rattle.std.proofs.Common.{◌≡◌, ℕ, List, [], ◌∷◌, ◌++◌, map
 use Rattle.std.specs.BTreeMap.{insert_entry}
 use Rattle.std.specs.Ordering.{nat_cmp, match_ordering}
 use Rattle.std.specs.Cmp.Lexicographic.{slice_cmp}
-use Rattle.smithy_shapes.specs.Value.{Value, put_member, member_value, put_entry, map_entry}
+use Rattle.smithy_declarations.specs.Value.{Value, put_member, member_value, put_entry, map_entry}
 use Rattle.smithy_transcode.specs.Private.Tree.{entry_views, member_views}
 
 member_views-at : {T : Type 0} (view : T → Value) (o : Ordering) (e : ℕ × T) (es : List (ℕ × T)) (n : ℕ) (v : T) → member_views view (insert_entry nat_cmp es n v) ≡ put_member n (view v) (member_views view es)

@@ -1,19 +1,19 @@
 -- A scalar or a document that is due: where a reader fails at one that leaves its limits or isn't carried, and what is read of one.
 use Rattle.std.proofs.Common.{◌≡◌, ℕ, suc, ◌+◌, List, length, Option, Some, None, true, Result, Ok, Err, IsErrOf, refl, sym, ◌∙◌, ap, subst, arith}
 use Rattle.std.specs.Option.{option_map_or}
-use Rattle.smithy_shapes.specs.declared.place.Place.{Place}
+use Rattle.smithy_declarations.specs.declared.place.Place.{Place}
 use Rattle.smithy_shapes.specs.declared.schema.Schema.{Schema}
-use Rattle.smithy_schema.specs.declared.read.Step.TheVariants.{Member as ToMember}
-use Rattle.smithy_shapes.specs.declared.place.Target.{Target}
-use Rattle.smithy_shapes.specs.declared.place.Target.TheVariants.{Simple, Document, Declared}
-use Rattle.smithy_shapes.specs.declared.shape_type.Scalar.{Scalar}
-use Rattle.smithy_shapes.specs.declared.shape_type.Scalar.TheVariants as scalars
-use Rattle.smithy_shapes.specs.declared.shape_type.ShapeType.{ShapeType}
-use Rattle.smithy_shapes.specs.declared.shape_type.ShapeType.TheVariants as types
+use Rattle.smithy_schema.specs.declared.step.Step.TheVariants.{Member as ToMember}
+use Rattle.smithy_declarations.specs.declared.place.Target.{Target}
+use Rattle.smithy_declarations.specs.declared.place.Target.TheVariants.{Simple, Document, Declared}
+use Rattle.smithy_declarations.specs.declared.shape_type.Scalar.{Scalar}
+use Rattle.smithy_declarations.specs.declared.shape_type.Scalar.TheVariants as scalars
+use Rattle.smithy_declarations.specs.declared.shape_type.ShapeType.{ShapeType}
+use Rattle.smithy_declarations.specs.declared.shape_type.ShapeType.TheVariants as types
 use Rattle.smithy_schema.specs.declared.error.SerdeError.{SerdeError}
-use Rattle.smithy_shapes.specs.Table.{Table, Shape, structure, union, list, map, Kind, scalar, document, structure_of, union_of, list_of, map_of, nothing, kind_of, kind_of_shape, kind_of_target, shape_declared, type_of, scalar_type, place_in, scalar_place, document_place, is_document_target, IsDocument, IsInside}
+use Rattle.smithy_declarations.specs.Table.{Table, Shape, structure, union, list, map, Kind, scalar, document, structure_of, union_of, list_of, map_of, nothing, kind_of, kind_of_shape, kind_of_target, shape_declared, type_of, scalar_type, place_in, scalar_place, document_place, is_document_target, IsDocument, IsInside}
 use Rattle.smithy_shapes.specs.Site.{Site, site_of, kind_at}
-use Rattle.smithy_shapes.specs.Value.{ScalarValue, Value, scalar_value}
+use Rattle.smithy_declarations.specs.Value.{ScalarValue, Value, scalar_value}
 use Rattle.smithy_schema.specs.Reading.{Cursor, ContainerKind, depth, Relations, Child, Steps, MatchStep, Reads, Conducts, failed_at}
 use Rattle.smithy_shapes.specs.Lemmas.Kinds.{document_target_is}
 use Rattle.smithy_schema.proofs.ReadContainers.{InContainer}

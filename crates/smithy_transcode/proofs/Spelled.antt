@@ -1,7 +1,7 @@
 -- What a wire's relations let stand at the start of an input, as what the whole input spells.
 use Rattle.std.proofs.Common.{◌≡◌, ℕ, List, [], refl, inr}
-use Rattle.smithy_shapes.specs.Table.{Table, kind_of, shape_place, IsStructure}
-use Rattle.smithy_shapes.specs.Value.{Value, structure, no_member_values}
+use Rattle.smithy_declarations.specs.Table.{Table, kind_of, shape_place, IsStructure}
+use Rattle.smithy_declarations.specs.Value.{Value, structure, no_member_values}
 use Rattle.smithy_schema.specs.Reading.{Relations}
 use Rattle.smithy_json_values.specs.Settings.{without_limits}
 use Rattle.smithy_json_values.specs.Standing.{json_relations}

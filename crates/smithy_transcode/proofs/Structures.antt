@@ -3,10 +3,10 @@ use Rattle.std.proofs.Common.{arith, ◌≡◌, ◌≤◌, suc, max, ℕ, List, 
 use Rattle.std.specs.Prelude.{unwrap_or}
 use Rattle.std.proofs.Math.Nat.{le-max_left, le-max_right}
 use Rattle.smithy_schema.specs.declared.error.SerdeError.{SerdeError}
-use Rattle.smithy_shapes.specs.Table.{IsStructure}
+use Rattle.smithy_declarations.specs.Table.{IsStructure}
 use Rattle.smithy_shapes.specs.Site.{Site, kind_at, member_site, member_of}
 use Rattle.smithy_shapes.specs.Fits.{FitsOr, MembersFit}
-use Rattle.smithy_shapes.specs.Value.{Value, structure, MemberValues, no_member_values, member_value, nesting, members_nesting}
+use Rattle.smithy_declarations.specs.Value.{Value, structure, MemberValues, no_member_values, member_value, nesting, members_nesting}
 use Rattle.smithy_schema.specs.Writing.{Event, Writer, write, run, member_events, begin_structure, end_structure}
 use Rattle.smithy_transcode.specs.Private.Tree.{member_views}
 use Rattle.smithy_schema.proofs.WrittenLists.{fits_or_null}

@@ -7,9 +7,9 @@ use Rattle.smithy_shapes.specs.declared.schema.Schema.{Schema}
 use Rattle.smithy_schema.specs.declared.error.SerdeError.{SerdeError}
 use Rattle.smithy_schema.specs.declared.error.SerdeError.TheVariants as serde
 use Rattle.smithy_shapes.specs.Fits.{Fits, FitsOr}
-use Rattle.smithy_schema.specs.Reading.{IsFault, FindsNone, IsRefused, IsInvalid}
-use Rattle.smithy_shapes.specs.Table.{Table, IsStructure, kind_of, shape_place}
-use Rattle.smithy_shapes.specs.Value.{Value, nesting}
+use Rattle.smithy_schema.specs.Errors.{IsFault, FindsNone, IsRefused, IsInvalid}
+use Rattle.smithy_declarations.specs.Table.{Table, IsStructure, kind_of, shape_place}
+use Rattle.smithy_declarations.specs.Value.{Value, nesting}
 use Rattle.smithy_shapes.specs.Site.{Site, whole_view, site_of, shape_site}
 use Rattle.smithy_json_values.proofs.SpellingLemmas.{one_spelled}
 use Rattle.smithy_json_codec.proofs.WrittenSpelling.{spelled_fits, shallow, canonical_spells}

@@ -2,7 +2,7 @@
 use Rattle.std.proofs.Common.{◌≡◌, ◌&&◌, Bool, true, false, not, Some, None, refl, sym, ◌∙◌, ap}
 use Rattle.smithy_shapes.specs.ScalarTest.{ValueTest, no_documents, scalars_pass}
 use Rattle.smithy_shapes.specs.Site.{Site}
-use Rattle.smithy_shapes.specs.Value.{Value}
+use Rattle.smithy_declarations.specs.Value.{Value}
 use Rattle.smithy_shapes.proofs.TimeFormLemmas.{more_pass}
 use Rattle.smithy_query_codec.specs.Nulls.{holds_null}
 use Rattle.smithy_transcode.specs.declared.wire.Unfit.TheVariants.{Null}

@@ -1,11 +1,11 @@
 -- A union that is written in part.
 use Rattle.std.proofs.Common.{◌≡◌, ℕ, [], ◌∷◌, true, false, Some, Ok, Err, ◌∙◌}
 use Rattle.smithy_schema.specs.declared.error.SerdeError.{SerdeError}
-use Rattle.smithy_shapes.specs.declared.place.Place.{Place}
-use Rattle.smithy_shapes.specs.Table.{IsUnion, place_in}
+use Rattle.smithy_declarations.specs.declared.place.Place.{Place}
+use Rattle.smithy_declarations.specs.Table.{IsUnion, place_in}
 use Rattle.smithy_shapes.specs.Site.{Site, kind_at, member_site, member_of}
 use Rattle.smithy_shapes.specs.Fits.{FitsOr}
-use Rattle.smithy_shapes.specs.Value.{Value, union}
+use Rattle.smithy_declarations.specs.Value.{Value, union}
 use Rattle.smithy_schema.specs.Writing.{Writer, write, run, events, begin_structure, end_structure}
 use Rattle.smithy_shapes.specs.Lemmas.Kinds.{union_kind}
 use Rattle.smithy_shapes.proofs.SiteLemmas.{variant_site_at, variant_fit}

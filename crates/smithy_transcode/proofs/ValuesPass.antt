@@ -1,14 +1,14 @@
 -- A value that is gone through with a test, part by part.
 use Rattle.std.proofs.Common.{◌≡◌, ◌&&◌, ◌||◌, ℕ, ℤ, List, [], ◌∷◌, Bool, true, false, not, Option, refl, sym, ◌∙◌, ap}
 use Rattle.std.proofs.lemmas.Bool.{or_parts}
-use Rattle.smithy_shapes.specs.declared.shape_type.TimestampFormat.{TimestampFormat}
+use Rattle.smithy_declarations.specs.declared.shape_type.TimestampFormat.{TimestampFormat}
 use Rattle.smithy_shapes.specs.Fits.{FitsOr}
 use Rattle.smithy_shapes.specs.Holding.{may_hold}
-use Rattle.smithy_shapes.specs.Table.{is_document_target}
+use Rattle.smithy_declarations.specs.Table.{is_document_target}
 use Rattle.smithy_shapes.specs.Targets.{is_timestamp_target}
 use Rattle.smithy_shapes.specs.ScalarTest.{ValueTest, scalars_pass, elements_pass, entries_pass, members_pass}
 use Rattle.smithy_shapes.specs.Site.{Site, member_of}
-use Rattle.smithy_shapes.specs.Value.{ScalarValue, whole, instant, Value, values_of, MapEntries, no_map_entries, map_entry, MemberValues, no_member_values, member_value}
+use Rattle.smithy_declarations.specs.Value.{ScalarValue, whole, instant, Value, values_of, MapEntries, no_map_entries, map_entry, MemberValues, no_member_values, member_value}
 use Rattle.smithy_shapes.proofs.TargetLemmas as seen
 use Rattle.smithy_shapes.proofs.TargetLemmas.{IsNoInstant}
 use Rattle.smithy_transcode.specs.declared.value_test.InstantTest.{InstantTest}

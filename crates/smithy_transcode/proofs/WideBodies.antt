@@ -1,10 +1,10 @@
 -- What leaves its limits or isn't carried where a reader failed, as what the input says.
 use Rattle.std.proofs.Common.{◌≡◌, ℕ, zero, suc, List, Bool, true, Option, Some, refl, sym, ◌∙◌, ap, subst, inl, inr}
-use Rattle.smithy_shapes.specs.declared.place.Place.{Place}
-use Rattle.smithy_shapes.specs.declared.shape_type.Scalar.{Scalar}
-use Rattle.smithy_shapes.specs.declared.shape_type.Scalar.TheVariants.{Timestamp}
-use Rattle.smithy_shapes.specs.declared.shape_type.TimestampFormat.{TimestampFormat}
-use Rattle.smithy_shapes.specs.Table.{Table, Kind, scalar, document, kind_of, shape_place, IsStructure, IsInside}
+use Rattle.smithy_declarations.specs.declared.place.Place.{Place}
+use Rattle.smithy_declarations.specs.declared.shape_type.Scalar.{Scalar}
+use Rattle.smithy_declarations.specs.declared.shape_type.Scalar.TheVariants.{Timestamp}
+use Rattle.smithy_declarations.specs.declared.shape_type.TimestampFormat.{TimestampFormat}
+use Rattle.smithy_declarations.specs.Table.{Table, Kind, scalar, document, kind_of, shape_place, IsStructure, IsInside}
 use Rattle.smithy_schema.specs.Reading.{Cursor, depth, Exceeds, ExceedsInside, Uncarried, UncarriedInside}
 use Rattle.smithy_json_values.specs.Standing.{json_frames, json_rules}
 use Rattle.smithy_json_values.proofs.WideSlices.{wide_token, uncarried_token, other_token}

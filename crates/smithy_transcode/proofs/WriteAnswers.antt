@@ -2,7 +2,7 @@
 use Rattle.std.proofs.Common.{◌≡◌, ◌↔◌, [], ◌∷◌, Bool, true, false, Result, Ok, Err, IfErr, IsErr, IsErrOf, OnOk, ap, refl, sym, ◌∙◌}
 use Rattle.smithy_schema.specs.declared.error.SerdeError.{SerdeError}
 use Rattle.smithy_schema.specs.declared.error.SerdeError.TheVariants.{InvalidInput, TypeMismatch, TooDeep, TooWide, NotCarried, Unsupported, Unwritable, Missing, Failed, NoMemory}
-use Rattle.smithy_schema.specs.Reading.{IsFault}
+use Rattle.smithy_schema.specs.Errors.{IsFault}
 use Rattle.smithy_schema.specs.Writing.{Event, Writer, run}
 use Rattle.smithy_schema.proofs.WritingLemmas.{call_made, call_refused}
 use Rattle.smithy_transcode.specs.WriteValue.{WritesValue}

@@ -1,9 +1,9 @@
 -- What the bytes of an input say of why it is refused, wire by wire.
 use Rattle.std.specs.Prelude.{◌≡◌, ◌≤◌, ◌⊎◌, ℕ, List, Option, Some}
-use Rattle.smithy_shapes.specs.declared.place.Place.{Place}
-use Rattle.smithy_shapes.specs.declared.shape_type.Scalar.{Scalar}
-use Rattle.smithy_shapes.specs.declared.shape_type.Scalar.TheVariants.{Timestamp}
-use Rattle.smithy_shapes.specs.Table.{Table, Kind, scalar, document, kind_of, shape_place, place_in, IsContainer, IsInside}
+use Rattle.smithy_declarations.specs.declared.place.Place.{Place}
+use Rattle.smithy_declarations.specs.declared.shape_type.Scalar.{Scalar}
+use Rattle.smithy_declarations.specs.declared.shape_type.Scalar.TheVariants.{Timestamp}
+use Rattle.smithy_declarations.specs.Table.{Table, Kind, scalar, document, kind_of, shape_place, place_in, IsContainer, IsInside}
 use Rattle.smithy_json_values.specs.Openers.{json_openers}
 use Rattle.smithy_json_values.specs.Uncarried.{IsUncarriedJson, HasUnheldNumber}
 use Rattle.smithy_json_values.specs.Wide.{IsWideJson}

@@ -1,7 +1,7 @@
 -- Where inside of a value another one is due, by the bytes, and what a read says of the type of what comes there.
 use Rattle.std.specs.Prelude.{◌≡◌, ℕ, suc, List, Bool, true, false, Option, Some, None}
-use Rattle.smithy_shapes.specs.declared.place.Place.{Place}
-use Rattle.smithy_shapes.specs.Table.{Table, kind_of, place_in, HasMembers, IsUnion, IsSparse, IsDocument}
+use Rattle.smithy_declarations.specs.declared.place.Place.{Place}
+use Rattle.smithy_declarations.specs.Table.{Table, kind_of, place_in, HasMembers, IsUnion, IsSparse, IsDocument}
 use Rattle.smithy_schema.specs.Reading.{Cursor, depth, Relations, Mark, Child, IsChild, named}
 
 -- From b on with a mark, in a container of the place that is one of d, children came up to a with another mark: any, or none yet.

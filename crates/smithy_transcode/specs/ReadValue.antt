@@ -3,8 +3,9 @@ use Rattle.std.specs.Prelude.{◌≡◌, ◌↔◌, ℕ, true, Result, IfOk, IfE
 use Rattle.smithy_schema.specs.declared.error.SerdeError.{SerdeError}
 use Rattle.smithy_schema.specs.declared.error.SerdeError.TheVariants.{InvalidInput, TypeMismatch, TooDeep, TooWide, NotCarried, Failed}
 use Rattle.smithy_shapes.specs.Site.{Site}
-use Rattle.smithy_shapes.specs.Value.{Value}
-use Rattle.smithy_schema.specs.Reading.{Cursor, Relations, Reads, StandsNot, IsRefused, IsInvalid, IsOfReader, ReachesDepth, EndsTooDeep, ExceedsInside, UncarriedInside, IsCounted}
+use Rattle.smithy_declarations.specs.Value.{Value}
+use Rattle.smithy_schema.specs.Errors.{IsRefused, IsInvalid, IsOfReader}
+use Rattle.smithy_schema.specs.Reading.{Cursor, Relations, Reads, StandsNot, ReachesDepth, EndsTooDeep, ExceedsInside, UncarriedInside, IsCounted}
 use Rattle.smithy_transcode.specs.DuePlaces.{MismatchesInside, AgreesInside}
 
 -- What a read says where a value was due at the site and the tree that was read stands for `view` of it: by the relations w, and

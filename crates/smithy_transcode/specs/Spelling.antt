@@ -1,8 +1,8 @@
 -- Which bytes spell which value, and the body that is written for a value, wire by wire.
 use Rattle.std.specs.Prelude.{ℕ, List}
-use Rattle.smithy_shapes.specs.Table.{Table, shape_place}
+use Rattle.smithy_declarations.specs.Table.{Table, shape_place}
 use Rattle.smithy_shapes.specs.Site.{shape_site}
-use Rattle.smithy_shapes.specs.Value.{Value}
+use Rattle.smithy_declarations.specs.Value.{Value}
 use Rattle.smithy_json_codec.specs.Canonical.{canonical_json}
 use Rattle.smithy_json_values.specs.Codec.{strict_settings}
 use Rattle.smithy_json_values.specs.Settings.{without_limits}

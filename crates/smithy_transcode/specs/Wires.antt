@@ -2,8 +2,8 @@
 use Rattle.std.specs.Prelude.{ℕ, List, Bool, true, false, ◌&&◌, not, Option, Some, None, string_bytes, if◌then◌else◌}
 use Rattle.smithy_shapes.specs.ScalarTest.{ValueTest, no_documents, scalars_pass}
 use Rattle.smithy_shapes.specs.Site.{Site, shape_site}
-use Rattle.smithy_shapes.specs.Table.{Table}
-use Rattle.smithy_shapes.specs.Value.{Value}
+use Rattle.smithy_declarations.specs.Table.{Table}
+use Rattle.smithy_declarations.specs.Value.{Value}
 use Rattle.smithy_json_codec.specs.Canonical.{json_holds}
 use Rattle.smithy_json_values.specs.Codec.{strict_settings}
 use Rattle.smithy_cbor_body.specs.Canonical.{cbor_holds}

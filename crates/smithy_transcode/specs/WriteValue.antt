@@ -2,7 +2,7 @@
 use Rattle.std.specs.Prelude.{◌≡◌, ◌↔◌, Bool, true, Result, Ok, OnOk, IfErr, IsErr, IsErrOf, Err}
 use Rattle.smithy_schema.specs.declared.error.SerdeError.{SerdeError}
 use Rattle.smithy_schema.specs.declared.error.SerdeError.TheVariants.{Failed}
-use Rattle.smithy_schema.specs.Reading.{IsFault}
+use Rattle.smithy_schema.specs.Errors.{IsFault}
 
 -- By what the value makes of the serializer's state, or why it can't be written there: whether the serializer had failed
 -- before, whether it has now, and its state now.

@@ -4,7 +4,7 @@ ghost use Rattle.smithy_shapes.specs.Fits.{Fits, FitsOr};
 ghost use Rattle.smithy_shapes.specs.Holding.{may_hold};
 ghost use Rattle.smithy_shapes.specs.ScalarTest.{scalars_pass};
 ghost use Rattle.smithy_shapes.specs.Site.{site_of};
-ghost use Rattle.smithy_shapes.specs.Table.{IsStructure, is_document_target, kind_of, shape_place};
+ghost use Rattle.smithy_declarations.specs.Table.{IsStructure, is_document_target, kind_of, shape_place};
 ghost use Rattle.smithy_shapes.specs.Targets.{is_timestamp_target};
 ghost use Rattle.smithy_query_codec.specs.Nulls.{holds_null as null_in};
 ghost use Rattle.smithy_transcode.specs.View.{view};

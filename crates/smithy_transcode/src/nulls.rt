@@ -1,6 +1,6 @@
 //! Whether a null element stands in a value.
 ghost use Rattle.std.specs.Prelude.{◌≡◌, ◌<◌, map as mapped, length, false};
-ghost use Rattle.smithy_shapes.specs.Value.{values_of};
+ghost use Rattle.smithy_declarations.specs.Value.{values_of};
 ghost use Rattle.smithy_query_codec.specs.Nulls.{holds_null as null_in, elements_hold_null as null_in_elements, entries_hold_null as null_in_entries, members_hold_null as null_in_members};
 ghost use Rattle.smithy_query_codec.specs.Counts.{HasPositions, ElementsHavePositions, EntriesHavePositions, MembersHavePositions};
 ghost use Rattle.smithy_schema.specs.Writing.{count_of, entry_count};

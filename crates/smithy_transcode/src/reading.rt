@@ -1,6 +1,6 @@
 //! Reading a value tree from any wire.
 ghost use Rattle.std.specs.Prelude.{◌≡◌, true};
-ghost use Rattle.smithy_shapes.specs.Table.{type_of, IsStructure, IsUnion, IsList, IsMap};
+ghost use Rattle.smithy_declarations.specs.Table.{type_of, IsStructure, IsUnion, IsList, IsMap};
 ghost use Rattle.smithy_shapes.specs.Site.{site_of, kind_at};
 ghost use Rattle.smithy_transcode.specs.ReadValue.{ReadsValue};
 ghost use Rattle.smithy_transcode.specs.View.{view};

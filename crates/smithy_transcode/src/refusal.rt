@@ -1,6 +1,6 @@
 //! Why a body is refused, as a transcoding says it.
 ghost use Rattle.std.specs.Prelude.{◌≢◌};
-ghost use Rattle.smithy_schema.specs.Reading.{IsOfReader};
+ghost use Rattle.smithy_schema.specs.Errors.{IsOfReader};
 ghost use Rattle.smithy_transcode.specs.Refusal.{IsToldAs};
 
 use crate::wire::TranscodeError;

@@ -2,7 +2,7 @@
 ghost use Rattle.std.specs.Prelude.{◌≡◌, ◌≤◌, ◌<◌, ◌^◌, length, None, IfOk, IfErr};
 ghost use Rattle.smithy_shapes.specs.Accepted.{IsAccepted};
 ghost use Rattle.smithy_shapes.specs.Fits.{Fits};
-ghost use Rattle.smithy_shapes.specs.Table.{IsStructure, kind_of, shape_place};
+ghost use Rattle.smithy_declarations.specs.Table.{IsStructure, kind_of, shape_place};
 ghost use Rattle.smithy_transcode.specs.Spelling.{body};
 ghost use Rattle.smithy_transcode.specs.Transcoding.{Transcodes};
 ghost use Rattle.smithy_transcode.specs.Wires.{wire_of, unfit as unfit_for};

@@ -1,7 +1,7 @@
 //! A tree of values, as a reader builds it and a writer goes through it.
 ghost use Rattle.std.specs.Prelude.{◌≡◌, List, [], ◌∷◌, ◌++◌, OnOk, IfOk, IfErr, string_bytes};
 ghost use Rattle.smithy_schema.specs.declared.error.SerdeError.TheVariants.{NoMemory};
-ghost use Rattle.smithy_shapes.specs.Value.{Value, scalar_value, boolean, whole, text, bytes, decimal, instant, list, map, structure, union, null_element, document_value, values_of, MapEntries, no_map_entries, put_entry, MemberValues, no_member_values, put_member};
+ghost use Rattle.smithy_declarations.specs.Value.{Value, scalar_value, boolean, whole, text, bytes, decimal, instant, list, map, structure, union, null_element, document_value, values_of, MapEntries, no_map_entries, put_entry, MemberValues, no_member_values, put_member};
 ghost use Rattle.smithy_types.specs.Document.{whole_document};
 ghost use Rattle.smithy_types.specs.DocumentView.{document_view};
 ghost use Rattle.smithy_transcode.specs.Private.Tree.{part_view, union_value_view};

@@ -1,8 +1,8 @@
 //! The value that a whole body spells.
 ghost use Rattle.std.specs.Prelude.{IfOk, IfErr, IsErrOf};
 ghost use Rattle.smithy_shapes.specs.Accepted.{IsAccepted};
-ghost use Rattle.smithy_schema.specs.Reading.{IsRefused, IsInvalid, IsOfReader};
-ghost use Rattle.smithy_shapes.specs.Table.{IsStructure, kind_of, shape_place};
+ghost use Rattle.smithy_schema.specs.Errors.{IsRefused, IsInvalid, IsOfReader};
+ghost use Rattle.smithy_declarations.specs.Table.{IsStructure, kind_of, shape_place};
 ghost use Rattle.smithy_transcode.specs.Causes.{IsTooDeep, IsWide, IsUncarried};
 ghost use Rattle.smithy_transcode.specs.ReadBody.{ReadsBody};
 ghost use Rattle.smithy_transcode.specs.Spelling.{Spells};

@@ -2,7 +2,7 @@
 ghost use Rattle.std.specs.Prelude.{◌≡◌, map as mapped, true};
 ghost use Rattle.smithy_shapes.specs.Fits.{FitsOr, is_scalar_of};
 ghost use Rattle.smithy_shapes.specs.Site.{site_of, kind_at};
-ghost use Rattle.smithy_shapes.specs.Value.{whole, list, map, structure, union, values_of};
+ghost use Rattle.smithy_declarations.specs.Value.{whole, list, map, structure, union, values_of};
 ghost use Rattle.smithy_schema.specs.Writing.{write, scalar_of};
 ghost use Rattle.smithy_transcode.specs.View.{view};
 ghost use Rattle.smithy_transcode.specs.WriteValue.{WritesValue};

@@ -2,7 +2,7 @@
 use Rattle.std.proofs.Common.{◌≡◌, ◌∙◌, ◌≤◌, ◌<◌, ◌+◌, ◌++◌, ℕ, suc, List, [], ◌∷◌, refl, sym, ap, subst, length, take, drop, slice_set, slice_range, arith, append_assoc, inr}
 use Rattle.std.proofs.lemmas.List.{length-append, length-drop, drop-drop, set_split}
 use Rattle.std.proofs.Math.Seq.{take-append_seam, drop-append-add}
-use Rattle.smithy_shapes.specs.Table.{Table}
+use Rattle.smithy_declarations.specs.Table.{Table}
 use Rattle.smithy_transcode.specs.Wires.{Wire}
 use Rattle.smithy_transcode_c.specs.Calls.{Asked, IsMeant, StandsFirst}
 use Rattle.smithy_transcode_c.specs.Bodies.{AreAnswered, none, more, BodiesAnswer, HasAnswers, Inputs, IsAnswered, Memory, StopsAt, begin_of, end_of}

@@ -1,11 +1,11 @@
 -- What a text that is no table says.
 use Rattle.std.proofs.Common.{◌≡◌, ◌∙◌, ℕ, List, refl}
-use Rattle.smithy_shapes.specs.declared.fault.TableFault.{TableFault}
-use Rattle.smithy_shapes.specs.declared.fault.TableFault.TheVariants.{BadLine, FloatShape, UnknownTarget, UnknownTimeFormat, DuplicateShape, NameClash, QueryName, KeyValueName, SparseDocument, TooMany, NoMemory}
-use Rattle.smithy_shapes.specs.Decl.{Decl}
-use Rattle.smithy_shapes.specs.TableText.{Lines, declarations, declarations_of}
-use Rattle.smithy_shapes.specs.Acceptance.{bad_line, refused, build_of, table_of}
-use Rattle.smithy_shapes.specs.DeclViews.{IsRefusedBy, IsLineFault}
+use Rattle.smithy_declarations.specs.declared.fault.TableFault.{TableFault}
+use Rattle.smithy_declarations.specs.declared.fault.TableFault.TheVariants.{BadLine, FloatShape, UnknownTarget, UnknownTimeFormat, DuplicateShape, NameClash, QueryName, KeyValueName, SparseDocument, TooMany, NoMemory}
+use Rattle.smithy_declarations.specs.Decl.{Decl}
+use Rattle.smithy_declarations.specs.TableText.{Lines, declarations, declarations_of}
+use Rattle.smithy_declarations.specs.Acceptance.{bad_line, refused, build_of, table_of}
+use Rattle.smithy_declarations.specs.DeclViews.{IsRefusedBy, IsLineFault}
 use Rattle.smithy_transcode_c.specs.Refusals.{refusal_of_table_fault}
 use Rattle.smithy_transcode_c.specs.Calls.{RefusesTable}
 

@@ -1,6 +1,6 @@
 -- What a call over many bodies answers. They stand one behind another: each begins where the one before it ends.
 use Rattle.std.specs.Prelude.{◌≡◌, ◌⊎◌, ◌≤◌, ◌<◌, ◌+◌, ◌++◌, ℕ, List, [], ◌∷◌, length, slice_range, slice_index_or, Ok, Err}
-use Rattle.smithy_shapes.specs.Table.{Table}
+use Rattle.smithy_declarations.specs.Table.{Table}
 use Rattle.smithy_transcode.specs.Wires.{Wire}
 use Rattle.smithy_transcode.specs.Transcoding.{Answer, Transcodes}
 use Rattle.smithy_transcode_c.specs.Refusals.{refusal_number, refusal_of_error}

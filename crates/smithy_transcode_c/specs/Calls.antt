@@ -1,8 +1,8 @@
 -- What a call of the library asks for, and what it answers.
 use Rattle.std.specs.Prelude.{◌≡◌, ◌⊎◌, ◌≤◌, ◌<◌, ◌==◌, ◌++◌, ℕ, List, length, drop, true, false, Option, Some, None, option_map, option_and_then, Ok, Err, if◌then◌else◌}
 use Rattle.std.specs.Str.{is_utf8}
-use Rattle.smithy_shapes.specs.Acceptance.{Fault, refused, table_of}
-use Rattle.smithy_shapes.specs.Table.{Table, IsStructure, kind_of, shape_place, declared_as}
+use Rattle.smithy_declarations.specs.Acceptance.{Fault, refused, table_of}
+use Rattle.smithy_declarations.specs.Table.{Table, IsStructure, kind_of, shape_place, declared_as}
 use Rattle.smithy_transcode.specs.Wires.{Wire, json, cbor, query}
 use Rattle.smithy_transcode.specs.Transcoding.{Answer, Transcodes}
 use Rattle.smithy_transcode_c.specs.Refusals.{refusal_number, refusal_of_error}

@@ -1,6 +1,6 @@
 //! What a call asks for.
 ghost use Rattle.std.specs.Prelude.{◌≡◌, Some, option_map, IfOk, IfErr};
-ghost use Rattle.smithy_shapes.specs.Table.{IsStructure, kind_of, shape_place, declared_as};
+ghost use Rattle.smithy_declarations.specs.Table.{IsStructure, kind_of, shape_place, declared_as};
 ghost use Rattle.smithy_transcode.specs.Wires.{wire_of};
 ghost use Rattle.smithy_transcode_c.specs.Calls.{IsMeant, Refuses, RefusesRoot, common_wire, source_wire, form_of, target_wire, text_of};
 ghost use Rattle.smithy_transcode_c.specs.Views.{asked_of};

@@ -1,6 +1,6 @@
 //! Many bodies: what a call over them answers.
 ghost use Rattle.std.specs.Prelude.{◌≡◌, ◌≤◌, ◌<◌, ◌+◌, ◌++◌, ℕ, List, drop, length, take, MatchOption};
-ghost use Rattle.smithy_shapes.specs.Table.{IsStructure, kind_of, shape_place};
+ghost use Rattle.smithy_declarations.specs.Table.{IsStructure, kind_of, shape_place};
 ghost use Rattle.smithy_transcode.specs.Wires.{wire_of};
 ghost use Rattle.smithy_transcode_c.specs.Bodies.{BodiesAnswer, IsAnswered};
 ghost use Rattle.smithy_transcode_c.specs.Views.{asked_of};

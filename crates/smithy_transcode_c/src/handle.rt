@@ -1,6 +1,6 @@
 //! A table that C keeps: its box as a pointer, whose type doesn't tell what it points to.
 ghost use Rattle.std.specs.Prelude.{◌≡◌, Option, Some};
-ghost use Rattle.smithy_shapes.specs.Table.{Table};
+ghost use Rattle.smithy_declarations.specs.Table.{Table};
 ghost use Rattle.smithy_transcode_c.specs.Owned.{handle_owns, place_owns};
 
 mod parts;

@@ -4,8 +4,8 @@
 
 ghost use Rattle.std.specs.Prelude.{◌≡◌, ◌≢◌, Some, IfOk, IfErr};
 ghost use Rattle.smithy_transcode_c.specs.Refusals.{refusal_number};
-ghost use Rattle.smithy_shapes.specs.Acceptance.{accepted, table_of};
-ghost use Rattle.smithy_shapes.specs.Table.{Table};
+ghost use Rattle.smithy_declarations.specs.Acceptance.{accepted, table_of};
+ghost use Rattle.smithy_declarations.specs.Table.{Table};
 ghost use Rattle.smithy_transcode_c.specs.Bodies.{BodiesAnswer};
 ghost use Rattle.smithy_transcode_c.specs.Calls.{CallAnswer, RefusesTable};
 

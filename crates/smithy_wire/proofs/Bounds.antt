@@ -4,11 +4,11 @@ use Rattle.std.proofs.Common.{sym, ◌∙◌, ap, subst}
 use Rattle.std.proofs.lemmas.Bool.{and_parts}
 use Rattle.smithy_texts.specs.Decimal.{DecimalForm}
 use Rattle.smithy_texts.specs.Ranges.{fits_signed, is_exponent}
-use Rattle.smithy_shapes.specs.declared.place.Place.{Place}
-use Rattle.smithy_shapes.specs.declared.shape_type.Scalar.TheVariants as scalars
-use Rattle.smithy_shapes.specs.Table.{Table, scalar, kind_of}
-use Rattle.smithy_shapes.specs.declared.shape_type.Scalar.{Scalar}
-use Rattle.smithy_shapes.specs.Value.{whole, decimal, Value, scalar_value, null_element}
+use Rattle.smithy_declarations.specs.declared.place.Place.{Place}
+use Rattle.smithy_declarations.specs.declared.shape_type.Scalar.TheVariants as scalars
+use Rattle.smithy_declarations.specs.Table.{Table, scalar, kind_of}
+use Rattle.smithy_declarations.specs.declared.shape_type.Scalar.{Scalar}
+use Rattle.smithy_declarations.specs.Value.{whole, decimal, Value, scalar_value, null_element}
 use Rattle.smithy_shapes.specs.Fits.{Fits}
 use Rattle.smithy_shapes.specs.Limits.{Limits, kept}
 use Rattle.smithy_wire.specs.Rules.{Answer, means, no_meaning, wide, uncarried, settled, answer_of, bounded, Rules}

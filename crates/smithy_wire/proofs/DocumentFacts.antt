@@ -4,12 +4,12 @@ use Rattle.std.specs.Prelude.{◌≡◌, ℕ, ℤ, pos, neg_ℤ, int_lt, unsigne
 use Rattle.smithy_types.specs.Document.{Document, null, boolean, number, text, array, object, no_documents, item, no_properties, property}
 use Rattle.smithy_types.specs.declared.number.Number.{Number}
 use Rattle.smithy_types.specs.declared.number.Number.TheVariants.{PosInt, NegInt}
-use Rattle.smithy_shapes.specs.declared.shape_type.Scalar.{Scalar}
-use Rattle.smithy_shapes.specs.declared.shape_type.TimestampFormat.{TimestampFormat}
+use Rattle.smithy_declarations.specs.declared.shape_type.Scalar.{Scalar}
+use Rattle.smithy_declarations.specs.declared.shape_type.TimestampFormat.{TimestampFormat}
 use Rattle.smithy_shapes.specs.Limits.{Limits, kept, lifted}
-use Rattle.smithy_shapes.specs.Table as table
-use Rattle.smithy_shapes.specs.Table.{Table, document_place, shape_place, is_document_place}
-use Rattle.smithy_shapes.specs.Value.{ScalarValue, boolean as truth, whole, text as string, Value, document_value, list, union, structure, null_element, no_values, value, no_member_values, member_value}
+use Rattle.smithy_declarations.specs.Table as table
+use Rattle.smithy_declarations.specs.Table.{Table, document_place, shape_place, is_document_place}
+use Rattle.smithy_declarations.specs.Value.{ScalarValue, boolean as truth, whole, text as string, Value, document_value, list, union, structure, null_element, no_values, value, no_member_values, member_value}
 use Rattle.smithy_wire.specs.Node.{as_array, as_object, Node, null_node, leaf, container, missing, Nodes, no_nodes, node}
 use Rattle.smithy_wire.specs.Rules.{Answer, means, no_meaning, uncarried, Rules}
 use Rattle.smithy_wire.specs.Documents.{held_document}

@@ -1,12 +1,12 @@
 -- Examples of what nodes mean at places of each kind of containers, and of the nodes that are written, by computing.
 use Rattle.std.specs.Prelude.{◌≡◌, ℕ, ℤ, pos, List, [], ◌∷◌, map as list_map, true, false, Option, Some, None, refl, codes}
-use Rattle.smithy_shapes.specs.declared.shape_type.Scalar.{Scalar}
-use Rattle.smithy_shapes.specs.declared.shape_type.Scalar.TheVariants as scalars
-use Rattle.smithy_shapes.specs.declared.shape_type.TimestampFormat.{TimestampFormat}
+use Rattle.smithy_declarations.specs.declared.shape_type.Scalar.{Scalar}
+use Rattle.smithy_declarations.specs.declared.shape_type.Scalar.TheVariants as scalars
+use Rattle.smithy_declarations.specs.declared.shape_type.TimestampFormat.{TimestampFormat}
 use Rattle.smithy_shapes.specs.Limits.{Limits, kept, lifted}
-use Rattle.smithy_shapes.specs.Table as table
-use Rattle.smithy_shapes.specs.Table.{Table, Member, Shape, scalar_place, shape_place, kind_of}
-use Rattle.smithy_shapes.specs.Value.{ScalarValue, whole, text, Value, scalar_value, list, map, structure, union, null_element, no_values, value, no_map_entries, map_entry, no_member_values, member_value}
+use Rattle.smithy_declarations.specs.Table as table
+use Rattle.smithy_declarations.specs.Table.{Table, Member, Shape, scalar_place, shape_place, kind_of}
+use Rattle.smithy_declarations.specs.Value.{ScalarValue, whole, text, Value, scalar_value, list, map, structure, union, null_element, no_values, value, no_map_entries, map_entry, no_member_values, member_value}
 use Rattle.smithy_wire.specs.Node.{as_array, as_object, Node, null_node, leaf, container, missing, Nodes, no_nodes, node}
 use Rattle.smithy_wire.specs.Rules.{Answer, means, no_meaning, wide, uncarried, settled, Rules, is_mark, is_dropped}
 use Rattle.smithy_wire.specs.Meaning.{meaning}

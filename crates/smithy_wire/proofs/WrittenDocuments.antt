@@ -5,11 +5,11 @@ use Rattle.std.proofs.lemmas.Bool.Decides.{nat_tests}
 use Rattle.smithy_types.specs.Document.{Document, null, boolean, number, text, array, object, Documents, no_documents, item, Properties, no_properties, property, map_elements, map_properties, whole_document, properties_by}
 use Rattle.smithy_types.specs.Number.{whole_number}
 use Rattle.smithy_types.specs.declared.number.Number.{Number}
-use Rattle.smithy_shapes.specs.declared.place.Place.{Place}
+use Rattle.smithy_declarations.specs.declared.place.Place.{Place}
 use Rattle.smithy_shapes.specs.Limits.{Limits, kept, lifted, is_within}
-use Rattle.smithy_shapes.specs.Table.{Table, document, kind_of}
-use Rattle.smithy_shapes.specs.Documents.{document_nesting, documents_nesting, properties_nesting, NamesAscend, DocumentFits, DocumentsFit, PropertiesFit}
-use Rattle.smithy_shapes.specs.Value.{document_value}
+use Rattle.smithy_declarations.specs.Table.{Table, document, kind_of}
+use Rattle.smithy_declarations.specs.Documents.{document_nesting, documents_nesting, properties_nesting, NamesAscend, DocumentFits, DocumentsFit, PropertiesFit}
+use Rattle.smithy_declarations.specs.Value.{document_value}
 use Rattle.smithy_shapes.proofs.DocumentLemmas.{pairs_from, properties_back, names_were}
 use Rattle.smithy_wire.specs.Node.{as_array, as_object, missing}
 use Rattle.smithy_wire.specs.Rules.{settled, Rules, at_depth}

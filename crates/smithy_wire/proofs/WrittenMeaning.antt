@@ -4,10 +4,10 @@ use Rattle.std.specs.Prelude.{◌≡◌, ◌≤◌, ◌+◌, ◌&&◌, ℕ, ℤ,
 use Rattle.std.proofs.Common.{sym, ap, ◌∙◌, arith, subst}
 use Rattle.std.proofs.lemmas.Bool.{and_parts}
 use Rattle.smithy_types.specs.Document.{Document}
-use Rattle.smithy_shapes.specs.declared.place.Place.{Place}
-use Rattle.smithy_shapes.specs.Table.{Table, Member, ListShape, MapShape, Kind, structure_of, union_of, list_of, map_of, kind_of, members_of, place_in, where_document, IsSparse, IsDocument}
-use Rattle.smithy_shapes.specs.Value.{ScalarValue, Value, scalar_value, list, map, structure, union, null_element, document_value, Values, no_values, value, MapEntries, no_map_entries, map_entry, MemberValues, no_member_values, member_value, nesting, elements_nesting, entries_nesting, members_nesting}
-use Rattle.smithy_shapes.specs.Documents.{document_nesting}
+use Rattle.smithy_declarations.specs.declared.place.Place.{Place}
+use Rattle.smithy_declarations.specs.Table.{Table, Member, ListShape, MapShape, Kind, structure_of, union_of, list_of, map_of, kind_of, members_of, place_in, where_document, IsSparse, IsDocument}
+use Rattle.smithy_declarations.specs.Value.{ScalarValue, Value, scalar_value, list, map, structure, union, null_element, document_value, Values, no_values, value, MapEntries, no_map_entries, map_entry, MemberValues, no_member_values, member_value, nesting, elements_nesting, entries_nesting, members_nesting}
+use Rattle.smithy_declarations.specs.Documents.{document_nesting}
 use Rattle.smithy_shapes.specs.Site.{View, member_view, element_view, value_view, nameless, member_of}
 use Rattle.smithy_shapes.specs.ScalarTest.{scalars_pass, elements_pass, entries_pass, members_pass}
 use Rattle.smithy_shapes.specs.Container.{Entry, element_of, container_of}

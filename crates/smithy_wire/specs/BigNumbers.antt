@@ -2,7 +2,7 @@
 use Rattle.std.specs.Prelude.{ℤ, Bool, ◌&&◌, Option}
 use Rattle.smithy_texts.specs.Decimal.{DecimalForm}
 use Rattle.smithy_texts.specs.Ranges.{fits_signed, is_exponent}
-use Rattle.smithy_shapes.specs.Value.{whole, decimal, Value, scalar_value}
+use Rattle.smithy_declarations.specs.Value.{whole, decimal, Value, scalar_value}
 use Rattle.smithy_wire.specs.Rules.{Answer, bounded}
 
 -- a big integer has 128 bits

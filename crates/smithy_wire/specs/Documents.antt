@@ -2,7 +2,7 @@
 use Rattle.std.specs.Prelude.{ℕ, suc, List, [], Option, Some, None, option_map, option_and_then}
 use Rattle.smithy_types.specs.Document.{Document, null, array, object, Documents, no_documents, item, whole_document, properties_by, with_pair}
 use Rattle.smithy_types.specs.declared.number.Number.{Number}
-use Rattle.smithy_shapes.specs.Value.{Value, document_value, null_element}
+use Rattle.smithy_declarations.specs.Value.{Value, document_value, null_element}
 use Rattle.smithy_wire.specs.Node.{as_array, as_object, Node, null_node, leaf, container, missing, Nodes, no_nodes, node}
 use Rattle.smithy_wire.specs.Rules.{Answer, settled, where_lifted, Rules, at_depth, key_text}
 

@@ -1,8 +1,8 @@
 -- How a reader goes on in a container: past what is dropped to an entry or the end, as the relations of reading say it.
 use Rattle.std.specs.Prelude.{◌≡◌, ◌&&◌, ◌||◌, not, ℕ, List, Option, Some, None, is_none, Bool, true, false, refl, codes, bytes_eq}
 use Rattle.std.proofs.Common.{sym, ◌∙◌, ap, inl, inr, ◌⊎◌}
-use Rattle.smithy_shapes.specs.declared.place.Place.{Place}
-use Rattle.smithy_shapes.specs.Table.{Table, Kind, structure_of, union_of, list_of, map_of, kind_of, member_place, has_members, IsList, IsMap, HasMembers}
+use Rattle.smithy_declarations.specs.declared.place.Place.{Place}
+use Rattle.smithy_declarations.specs.Table.{Table, Kind, structure_of, union_of, list_of, map_of, kind_of, member_place, has_members, IsList, IsMap, HasMembers}
 use Rattle.smithy_shapes.specs.Container.{is_type_mark}
 use Rattle.smithy_schema.specs.Reading.{Mark}
 use Rattle.smithy_wire.specs.Node.{Form, as_array, as_object, Node, null_node, leaf, container, missing}

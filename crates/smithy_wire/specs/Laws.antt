@@ -2,10 +2,10 @@
 use Rattle.std.specs.Prelude.{◌≡◌, ◌⊎◌, ◌<◌, ◌≤◌, ℕ, zero, suc, nat_lt, length, drop, List, Bool, Option, Some, None, true, false, refl}
 use Rattle.std.proofs.Common.{sym, ◌∙◌, ap, arith, subst, inl, inr}
 use Rattle.std.proofs.lemmas.Bool.Decides.{nat_tests}
-use Rattle.smithy_shapes.specs.declared.place.Place.{Place}
+use Rattle.smithy_declarations.specs.declared.place.Place.{Place}
 use Rattle.smithy_shapes.specs.Limits.{kept}
-use Rattle.smithy_shapes.specs.Table.{Table, Kind, kind_of, IsStructure, IsDocument}
-use Rattle.smithy_shapes.specs.Value.{Value}
+use Rattle.smithy_declarations.specs.Table.{Table, Kind, kind_of, IsStructure, IsDocument}
+use Rattle.smithy_declarations.specs.Value.{Value}
 use Rattle.smithy_schema.specs.Reading.{Mark, Child, child_value, child_null, child_unknown, IsChild, IsLawful, StandsFit, CountsOpeners, IsBelow, IsBehind as IsPassed}
 use Rattle.smithy_shapes.specs.Lemmas.Options.{same_some, chosen}
 use Rattle.smithy_wire.specs.Node.{Form, Node, null_node, leaf, container, missing}

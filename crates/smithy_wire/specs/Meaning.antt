@@ -1,9 +1,9 @@
 -- What a node means at a place of a table, whichever wire it came from.
 use Rattle.std.specs.Prelude.{◌≡◌, ℕ, suc, List, [], ◌∷◌, Bool, true, false, Option, Some, None, option_and_then, if◌then◌else◌}
-use Rattle.smithy_shapes.specs.declared.place.Place.{Place}
-use Rattle.smithy_shapes.specs.declared.shape_type.TimestampFormat.{TimestampFormat}
-use Rattle.smithy_shapes.specs.Table.{Table, Kind, scalar, structure_of, union_of, list_of, map_of, kind_of, place_in, where_document}
-use Rattle.smithy_shapes.specs.Value.{Value, structure, no_member_values, null_element}
+use Rattle.smithy_declarations.specs.declared.place.Place.{Place}
+use Rattle.smithy_declarations.specs.declared.shape_type.TimestampFormat.{TimestampFormat}
+use Rattle.smithy_declarations.specs.Table.{Table, Kind, scalar, structure_of, union_of, list_of, map_of, kind_of, place_in, where_document}
+use Rattle.smithy_declarations.specs.Value.{Value, structure, no_member_values, null_element}
 use Rattle.smithy_shapes.specs.Container.{Entry, container_of}
 use Rattle.smithy_wire.specs.Node.{Form, as_array, as_object, Node, null_node, leaf, container, missing, Nodes, no_nodes, node, is_null}
 use Rattle.smithy_wire.specs.Rules.{settled, wide, uncarried, Rules, at_depth, may_skip, key_text, position_in, is_absent}

@@ -1,14 +1,14 @@
 -- What a reader finds, as the relations of reading, and what it doesn't find: once for all wires.
 use Rattle.std.specs.Prelude.{◌≡◌, ◌<◌, ◌≤◌, ℕ, zero, suc, List, Option, Some, None, option_map, option_and_then, true, false, refl, if◌then◌else◌}
 use Rattle.std.proofs.Common.{sym, ◌∙◌, ap, subst, inl, inr}
-use Rattle.smithy_shapes.specs.declared.place.Place.{Place}
-use Rattle.smithy_shapes.specs.declared.shape_type.Scalar.{Scalar}
-use Rattle.smithy_shapes.specs.declared.shape_type.TimestampFormat.{TimestampFormat}
+use Rattle.smithy_declarations.specs.declared.place.Place.{Place}
+use Rattle.smithy_declarations.specs.declared.shape_type.Scalar.{Scalar}
+use Rattle.smithy_declarations.specs.declared.shape_type.TimestampFormat.{TimestampFormat}
 use Rattle.smithy_shapes.specs.Limits.{Limits, kept}
 use Rattle.smithy_types.specs.Document.{Document, whole_document}
 use Rattle.smithy_types.specs.declared.number.Number.{Number}
-use Rattle.smithy_shapes.specs.Table.{Table, scalar, document, kind_of, where_document, IsStructure}
-use Rattle.smithy_shapes.specs.Value.{Value, document_value, null_element}
+use Rattle.smithy_declarations.specs.Table.{Table, scalar, document, kind_of, where_document, IsStructure}
+use Rattle.smithy_declarations.specs.Value.{Value, document_value, null_element}
 use Rattle.smithy_shapes.specs.Container.{container_of}
 use Rattle.smithy_schema.specs.Reading.{Mark}
 use Rattle.smithy_shapes.specs.Lemmas.Options.{chosen}

@@ -3,12 +3,12 @@ use Rattle.std.specs.Prelude.{ℕ, ◌+◌, List, Bool, true, false, ◌&&◌, �
 use Rattle.std.specs.Option.{option_map_or}
 use Rattle.smithy_types.specs.Document.{Document}
 use Rattle.smithy_types.specs.declared.number.Number.{Number}
-use Rattle.smithy_shapes.specs.declared.place.Place.{Place}
-use Rattle.smithy_shapes.specs.declared.shape_type.Scalar.{Scalar}
-use Rattle.smithy_shapes.specs.declared.shape_type.TimestampFormat.{TimestampFormat}
+use Rattle.smithy_declarations.specs.declared.place.Place.{Place}
+use Rattle.smithy_declarations.specs.declared.shape_type.Scalar.{Scalar}
+use Rattle.smithy_declarations.specs.declared.shape_type.TimestampFormat.{TimestampFormat}
 use Rattle.smithy_shapes.specs.Limits.{Limits, kept, lifted, is_within}
-use Rattle.smithy_shapes.specs.Table.{Member, Kind, structure_of, union_of, members_of, member_place, has_members, position_named}
-use Rattle.smithy_shapes.specs.Value.{Value}
+use Rattle.smithy_declarations.specs.Table.{Member, Kind, structure_of, union_of, members_of, member_place, has_members, position_named}
+use Rattle.smithy_declarations.specs.Value.{Value}
 use Rattle.smithy_shapes.specs.Container.{is_type_mark}
 use Rattle.smithy_wire.specs.Node.{Form, as_array, as_object, Node, nesting, all_pass, is_null}
 

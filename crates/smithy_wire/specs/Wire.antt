@@ -2,12 +2,12 @@
 use Rattle.std.specs.Prelude.{◌≡◌, ◌⊎◌, ◌<◌, ◌≤◌, ℕ, suc, length, drop, List, [], Option, Some, true, false, IsUtf8}
 use Rattle.smithy_types.specs.Document.{Document, whole_document}
 use Rattle.smithy_types.specs.declared.number.Number.{Number}
-use Rattle.smithy_shapes.specs.declared.place.Place.{Place}
-use Rattle.smithy_shapes.specs.declared.shape_type.Scalar.{Scalar}
+use Rattle.smithy_declarations.specs.declared.place.Place.{Place}
+use Rattle.smithy_declarations.specs.declared.shape_type.Scalar.{Scalar}
 use Rattle.smithy_shapes.specs.Limits.{kept}
-use Rattle.smithy_shapes.specs.Table.{Table, scalar, kind_of}
-use Rattle.smithy_shapes.specs.Value.{Value, null_element}
-use Rattle.smithy_shapes.specs.Documents.{document_nesting, DocumentFits}
+use Rattle.smithy_declarations.specs.Table.{Table, scalar, kind_of}
+use Rattle.smithy_declarations.specs.Value.{Value, null_element}
+use Rattle.smithy_declarations.specs.Documents.{document_nesting, DocumentFits}
 use Rattle.smithy_shapes.specs.Fits.{Fits}
 use Rattle.smithy_schema.specs.Reading.{Mark, IsBehind as IsPassed}
 use Rattle.smithy_wire.specs.Node.{Form, as_object}

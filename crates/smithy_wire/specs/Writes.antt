@@ -1,12 +1,12 @@
 -- How a wire writes its nodes: the bytes that a container opens with, the bytes before each entry, and the bytes of its end.
 use Rattle.std.specs.Prelude.{◌≡◌, ◌≤◌, ◌+◌, ℕ, ℤ, zero, suc, length, drop, List, [], ◌++◌, Bool, true, false, Option, Some, None, IsUtf8}
 use Rattle.smithy_types.specs.Document.{is_document_number}
-use Rattle.smithy_shapes.specs.declared.place.Place.{Place}
-use Rattle.smithy_shapes.specs.declared.shape_type.Scalar.{Scalar}
-use Rattle.smithy_shapes.specs.declared.shape_type.Scalar.TheVariants as scalars
-use Rattle.smithy_shapes.specs.declared.shape_type.TimestampFormat.{TimestampFormat}
-use Rattle.smithy_shapes.specs.Table.{Table, Member}
-use Rattle.smithy_shapes.specs.Value.{ScalarValue, boolean, whole, text, Value}
+use Rattle.smithy_declarations.specs.declared.place.Place.{Place}
+use Rattle.smithy_declarations.specs.declared.shape_type.Scalar.{Scalar}
+use Rattle.smithy_declarations.specs.declared.shape_type.Scalar.TheVariants as scalars
+use Rattle.smithy_declarations.specs.declared.shape_type.TimestampFormat.{TimestampFormat}
+use Rattle.smithy_declarations.specs.Table.{Table, Member}
+use Rattle.smithy_declarations.specs.Value.{ScalarValue, boolean, whole, text, Value}
 use Rattle.smithy_shapes.specs.Fits.{is_of}
 use Rattle.smithy_schema.specs.Reading.{Mark}
 use Rattle.smithy_wire.specs.Node.{Form, as_array, as_object, Node, null_node, leaf, container, missing, Nodes, no_nodes, node}

@@ -3,13 +3,13 @@ use Rattle.std.specs.Prelude.{◌≡◌, ℕ, ℤ, List, [], Bool, true, false, 
 use Rattle.std.specs.Option.{option_map_or}
 use Rattle.smithy_types.specs.Document.{Document, Documents, no_documents, item, Properties, no_properties, property, whole_document, is_document_number}
 use Rattle.smithy_types.specs.declared.number.Number.{Number}
-use Rattle.smithy_shapes.specs.declared.place.Place.{Place}
-use Rattle.smithy_shapes.specs.declared.shape_type.Scalar.{Scalar}
-use Rattle.smithy_shapes.specs.declared.shape_type.Scalar.TheVariants as scalars
-use Rattle.smithy_shapes.specs.declared.shape_type.TimestampFormat.{TimestampFormat}
-use Rattle.smithy_shapes.specs.Names.{has_equal_texts}
-use Rattle.smithy_shapes.specs.Table.{Table, Member, Kind, scalar, kind_of, members_of, place_in, is_document_place, IsSparse, IsDocument}
-use Rattle.smithy_shapes.specs.Value.{ScalarValue, boolean, whole, text, Value, scalar_value, document_value, list, map, structure, union, null_element, Values, no_values, value, MapEntries, no_map_entries, map_entry, MemberValues, no_member_values, member_value}
+use Rattle.smithy_declarations.specs.declared.place.Place.{Place}
+use Rattle.smithy_declarations.specs.declared.shape_type.Scalar.{Scalar}
+use Rattle.smithy_declarations.specs.declared.shape_type.Scalar.TheVariants as scalars
+use Rattle.smithy_declarations.specs.declared.shape_type.TimestampFormat.{TimestampFormat}
+use Rattle.smithy_declarations.specs.Names.{has_equal_texts}
+use Rattle.smithy_declarations.specs.Table.{Table, Member, Kind, scalar, kind_of, members_of, place_in, is_document_place, IsSparse, IsDocument}
+use Rattle.smithy_declarations.specs.Value.{ScalarValue, boolean, whole, text, Value, scalar_value, document_value, list, map, structure, union, null_element, Values, no_values, value, MapEntries, no_map_entries, map_entry, MemberValues, no_member_values, member_value}
 use Rattle.smithy_shapes.specs.Fits.{is_of}
 use Rattle.smithy_shapes.specs.ScalarTest.{ValueTest}
 use Rattle.smithy_wire.specs.Node.{as_array, as_object, Node, null_node, leaf, container, missing, Nodes, no_nodes, node}

@@ -1,7 +1,7 @@
 //! The containers of a body that is written, and what may come next in them.
 ghost use Rattle.std.specs.Prelude.{◌≡◌, ◌↔◌, [], ◌∷◌, Ok, true, false, option_map, IfOk, IfErr, IsErrOf, OnOk};
 ghost use Rattle.smithy_schema.specs.declared.error.SerdeError.TheVariants.{Failed, Unwritable};
-ghost use Rattle.smithy_schema.specs.Reading.{IsFault};
+ghost use Rattle.smithy_schema.specs.Errors.{IsFault};
 ghost use Rattle.smithy_schema.specs.Writing.{after_value, after_text};
 ghost use Rattle.smithy_wire.specs.OpenContainers.{open_of, opens_of, marks_of, innermost, with_innermost, after_end};
 

@@ -52,7 +52,8 @@ pub struct Walk<'a> {
 
 impl<'a> Walk<'a> {
     ghost use Rattle.std.specs.Prelude.{◌≡◌, ◌≤◌, ◌<◌, ◌∷◌, length, Ok, Err, IfOk, IfErr, IfSome, IsOk, IsErr, IsSome, IsNone, OnOk, OnErr, IsErrOf, true, false, if◌then◌else◌, vec_len};
-    ghost use Rattle.smithy_schema.specs.Reading.{IsOfReader, RefusesNoScalar, depth, failed_at, passed_to};
+    ghost use Rattle.smithy_schema.specs.Errors.{IsOfReader, RefusesNoScalar};
+    ghost use Rattle.smithy_schema.specs.Reading.{depth, failed_at, passed_to};
     ghost use Rattle.smithy_schema.specs.declared.error.SerdeError.TheVariants.{Failed, InvalidInput, TypeMismatch, NoMemory, TooDeep};
     ghost use Rattle.smithy_wire.specs.Finding.{MatchFound, Takes, TakesWithin};
     ghost use Rattle.smithy_wire.specs.Walking.{cursor_of, fresh_cursor, entered_into, gone_on_to, frame_of};

@@ -3,12 +3,13 @@ use Rattle.std.proofs.Common.{◌≡◌, List, [], ◌∷◌, true, Some, None, 
 use Rattle.std.proofs.lemmas.List.{map-append}
 use Rattle.smithy_schema.specs.declared.error.SerdeError.{SerdeError}
 use Rattle.smithy_schema.specs.declared.error.SerdeError.TheVariants.{NoMemory}
-use Rattle.smithy_shapes.specs.declared.place.Place.{Place}
-use Rattle.smithy_shapes.specs.Table.{place_in}
+use Rattle.smithy_declarations.specs.declared.place.Place.{Place}
+use Rattle.smithy_declarations.specs.Table.{place_in}
 use Rattle.smithy_shapes.specs.Site.{Site, kind_at, inner_site}
-use Rattle.smithy_shapes.specs.Value.{list, values_of}
+use Rattle.smithy_declarations.specs.Value.{list, values_of}
 use Rattle.smithy_shapes.specs.Lemmas.Options.{same_some}
-use Rattle.smithy_schema.specs.Reading.{Cursor, in_list, IsLawful, Reads, StandsNot, IsFault}
+use Rattle.smithy_schema.specs.Errors.{IsFault}
+use Rattle.smithy_schema.specs.Reading.{Cursor, in_list, IsLawful, Reads, StandsNot}
 use Rattle.smithy_schema.specs.Consuming.{Reader, Consumes, by_element}
 use Rattle.smithy_schema.specs.Fields.{structure_with}
 use Rattle.smithy_schema.specs.Typed.{MayAnswer, FailsAsReader}

@@ -2,15 +2,16 @@
 use Rattle.std.specs.Prelude.{◌≡◌, ℕ, ℤ, List, [], ◌∷◌, ◌++◌, map, true, Option, Some, option_map, Result, Ok, Err, String, codes}
 use Rattle.std.specs.declared.alloc.Global.{Global}
 use Rattle.smithy_schema.specs.declared.error.SerdeError.{SerdeError}
-use Rattle.smithy_shapes.specs.declared.place.Target.{Target}
-use Rattle.smithy_shapes.specs.declared.place.Target.TheVariants.{Simple}
-use Rattle.smithy_shapes.specs.declared.shape_type.Scalar.TheVariants as scalars
-use Rattle.smithy_shapes.specs.declared.shape_type.ShapeType.TheVariants as types
-use Rattle.smithy_shapes.specs.Table.{type_of, IsSparse}
+use Rattle.smithy_declarations.specs.declared.place.Target.{Target}
+use Rattle.smithy_declarations.specs.declared.place.Target.TheVariants.{Simple}
+use Rattle.smithy_declarations.specs.declared.shape_type.Scalar.TheVariants as scalars
+use Rattle.smithy_declarations.specs.declared.shape_type.ShapeType.TheVariants as types
+use Rattle.smithy_declarations.specs.Table.{type_of, IsSparse}
 use Rattle.smithy_shapes.specs.Declares.{Declares}
-use Rattle.smithy_shapes.specs.Value.{Value, scalar_value, whole, instant, list, values_of}
+use Rattle.smithy_declarations.specs.Value.{Value, scalar_value, whole, instant, list, values_of}
 use Rattle.smithy_shapes.specs.Site.{Site, kind_at, member_site, inner_site}
-use Rattle.smithy_schema.specs.Reading.{Cursor, Reads, StandsNot, IsFault}
+use Rattle.smithy_schema.specs.Errors.{IsFault}
+use Rattle.smithy_schema.specs.Reading.{Cursor, Reads, StandsNot}
 use Rattle.smithy_schema.specs.Consuming.{Reader}
 use Rattle.smithy_schema.specs.Fields.{structure_with}
 use Rattle.smithy_schema.specs.Typed.{MayAnswer}

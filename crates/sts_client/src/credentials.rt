@@ -2,7 +2,8 @@
 ghost use Rattle.std.specs.Prelude.{◌≡◌, IfOk, OnOk, true};
 ghost use Rattle.smithy_schema.specs.Consuming.{IsTaken};
 ghost use Rattle.smithy_shapes.specs.Site.{site_of};
-ghost use Rattle.smithy_schema.specs.Reading.{Reads, StandsNot, IsRefused};
+ghost use Rattle.smithy_schema.specs.Errors.{IsRefused};
+ghost use Rattle.smithy_schema.specs.Reading.{Reads, StandsNot};
 ghost use Rattle.smithy_schema.specs.Typed.{FailsAsReader};
 ghost use Rattle.smithy_schema.specs.Fields.{structure_with};
 ghost use Rattle.sts_client.specs.Shapes.{IsCredentials, credentials_fields};

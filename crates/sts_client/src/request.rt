@@ -1,7 +1,8 @@
 //! What AssumeRole is given.
 ghost use Rattle.std.specs.Prelude.{◌≡◌, false, true, IfOk};
 ghost use Rattle.smithy_shapes.specs.Site.{site_of};
-ghost use Rattle.smithy_schema.specs.Reading.{Reads, StandsNot, IsRefused};
+ghost use Rattle.smithy_schema.specs.Errors.{IsRefused};
+ghost use Rattle.smithy_schema.specs.Reading.{Reads, StandsNot};
 ghost use Rattle.smithy_schema.specs.Typed.{FailsAsReader};
 ghost use Rattle.smithy_schema.specs.Writing.{events};
 ghost use Rattle.smithy_schema.specs.Written.{Runs, outcome};

@@ -1,9 +1,10 @@
 //! The tags of a session, which AssumeRole is given.
 ghost use Rattle.std.specs.Prelude.{◌≡◌, ◌↔◌, IsTrue, IfOk, OnOk, true};
 ghost use Rattle.smithy_schema.specs.Consuming.{IsTaken};
-ghost use Rattle.smithy_shapes.specs.Value.{list, values_of};
+ghost use Rattle.smithy_declarations.specs.Value.{list, values_of};
 ghost use Rattle.smithy_shapes.specs.Site.{site_of};
-ghost use Rattle.smithy_schema.specs.Reading.{Reads, StandsNot, IsRefused};
+ghost use Rattle.smithy_schema.specs.Errors.{IsRefused};
+ghost use Rattle.smithy_schema.specs.Reading.{Reads, StandsNot};
 ghost use Rattle.smithy_schema.specs.Typed.{FailsAsReader};
 ghost use Rattle.sts_client.specs.Shapes.{IsTag, AreTags, tag_values};
 

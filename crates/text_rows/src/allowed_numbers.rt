@@ -2,8 +2,8 @@
 
 use crate::strings::call_string;
 use crate::words::input_of;
-use smithy_json::number_grammar::{NumberGrammar, is_number_of, scan_number_of};
-use smithy_json::number_run::{integral_number, number_run_end, read_signed};
+use smithy_json_grammar::number_grammar::{NumberGrammar, is_number_of, scan_number_of};
+use smithy_json_grammar::number_run::{integral_number, number_run_end, read_signed};
 use smithy_rows::{Answers, Row};
 use std::alloc::{AllocError, Global};
 

@@ -2,8 +2,8 @@
 
 use crate::stops::call_stop;
 use crate::words::input_of;
-use smithy_json::number_text::{read_long, scan_number};
-use smithy_json::scan::{is_boundary, read_boolean, read_null, skip_blanks};
+use smithy_json_grammar::number_text::{read_long, scan_number};
+use smithy_json_grammar::scan::{is_boundary, read_boolean, read_null, skip_blanks};
 use smithy_rows::{Answers, Row};
 use std::alloc::{AllocError, Global};
 

@@ -2,7 +2,7 @@
 
 use crate::allowed_numbers::call_allowed_number;
 use crate::words::{input_of, split};
-use smithy_json::scan;
+use smithy_json_grammar::scan;
 use smithy_rows::{Answers, Row};
 use std::alloc::{AllocError, Global};
 

@@ -2,8 +2,8 @@
 
 use crate::numbers::call_number;
 use crate::words::{input_of, input_text};
-use smithy_json::string_text::scan_string;
 use smithy_json::{EscapeError, EscapedStr, escape_string, push_escaped};
+use smithy_json_grammar::string_text::scan_string;
 use smithy_rows::{Answers, Row};
 use std::alloc::{AllocError, Global};
 use std::borrow::CowStr;

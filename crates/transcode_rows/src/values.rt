@@ -1,7 +1,7 @@
 //! Values of the root that are read and written, by each wire.
 ghost use Rattle.std.specs.Prelude.{◌≡◌, true, IfOk};
 ghost use Rattle.smithy_shapes.specs.Fits.{Fits};
-ghost use Rattle.smithy_shapes.specs.Table.{IsStructure, kind_of, shape_place};
+ghost use Rattle.smithy_declarations.specs.Table.{IsStructure, kind_of, shape_place};
 ghost use Rattle.smithy_transcode.specs.View.{view};
 
 use smithy_cbor_codec::{CborCodec, CborCodecSettings};

@@ -1,10 +1,10 @@
 -- Where a structure or a union goes on to, as private functions answer it.
 use Rattle.std.specs.Prelude.{◌≡◌, ◌<◌, ℕ, List, Bool, Some, None}
-use Rattle.smithy_schema.specs.declared.read.Step.{Step}
-use Rattle.smithy_schema.specs.declared.read.Step.TheVariants.{Member as ToMember, Unknown, End}
+use Rattle.smithy_schema.specs.declared.step.Step.{Step}
+use Rattle.smithy_schema.specs.declared.step.Step.TheVariants.{Member as ToMember, Unknown, End}
 use Rattle.smithy_schema.specs.Reading.{Cursor, depth}
 use Rattle.smithy_shapes.specs.Site.{Site, site_of, member_site, kind_at}
-use Rattle.smithy_shapes.specs.Table.{Member, members_of, position_named}
+use Rattle.smithy_declarations.specs.Table.{Member, members_of, position_named}
 use Rattle.smithy_cbor_values.specs.Standing.{end_mark, RestIsEmpty}
 
 -- the structure was opened where nothing is left, and ends there

@@ -3,7 +3,7 @@ use Rattle.std.specs.Prelude.{◌≡◌, ◌⊎◌, ◌||◌, ℕ, zero, suc, Li
 use Rattle.std.specs.Cow.{cow_str_bytes}
 use Rattle.smithy_shapes.specs.Container.{is_type_mark}
 use Rattle.smithy_schema.specs.Reading.{Mark}
-use Rattle.smithy_shapes.specs.Table.{Kind, Member, members_of, position_named}
+use Rattle.smithy_declarations.specs.Table.{Kind, Member, members_of, position_named}
 use Rattle.cbor_item.specs.Item.{Item}
 use Rattle.cbor_item.specs.WellFormed.{IsItemAt}
 use Rattle.smithy_cbor_codec.specs.declared.members.Next.{Next}

@@ -6,11 +6,11 @@ use Rattle.std.proofs.Common.{◌∙◌, ap, subst, arith}
 use Rattle.std.proofs.lemmas.Bool.{and_parts}
 use Rattle.std.proofs.lemmas.Bool.Decides.{nat_tests}
 use Rattle.std.proofs.lemmas.Str.{IsUtf8-append, IsUtf8-nil, IsUtf8-from_is_utf8, is_utf8-from_IsUtf8}
-use Rattle.smithy_shapes.specs.declared.place.Place.{Place}
-use Rattle.smithy_shapes.specs.declared.shape_type.Scalar.{Scalar}
-use Rattle.smithy_shapes.specs.declared.shape_type.Scalar.TheVariants as scalars
-use Rattle.smithy_shapes.specs.Table.{Table, scalar, kind_of}
-use Rattle.smithy_shapes.specs.Value.{boolean, whole, text, bytes, instant, Value, scalar_value}
+use Rattle.smithy_declarations.specs.declared.place.Place.{Place}
+use Rattle.smithy_declarations.specs.declared.shape_type.Scalar.{Scalar}
+use Rattle.smithy_declarations.specs.declared.shape_type.Scalar.TheVariants as scalars
+use Rattle.smithy_declarations.specs.Table.{Table, scalar, kind_of}
+use Rattle.smithy_declarations.specs.Value.{boolean, whole, text, bytes, instant, Value, scalar_value}
 use Rattle.smithy_shapes.specs.Fits.{is_of, Fits}
 use Rattle.smithy_shapes.specs.Lemmas.Options.{same_some, step_apart, chosen, made}
 use Rattle.cbor_item.specs.Item.{Item, unsigned, negative, byte_string, text_string, array, map as map_item, tag, simple, float}

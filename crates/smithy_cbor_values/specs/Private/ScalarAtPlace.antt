@@ -2,8 +2,8 @@
 use Rattle.std.specs.Prelude.{◌≡◌, ◌⊎◌, ℕ, suc, ℤ, List, drop, Some, None, true}
 use Rattle.smithy_cbor.specs.declared.error.DecodeKind.{DecodeKind}
 use Rattle.smithy_cbor.specs.declared.error.DecodeKind.TheVariants.{TooWide, NoMemory}
-use Rattle.smithy_shapes.specs.declared.shape_type.Scalar.{Scalar}
-use Rattle.smithy_shapes.specs.Value.{ScalarValue, scalar_value}
+use Rattle.smithy_declarations.specs.declared.shape_type.Scalar.{Scalar}
+use Rattle.smithy_declarations.specs.Value.{ScalarValue, scalar_value}
 use Rattle.smithy_wire.specs.declared.found.Found.{Found}
 use Rattle.smithy_cbor_values.specs.Scalar.{says}
 use Rattle.smithy_wire.specs.Finding.{MatchFound}

@@ -1,7 +1,7 @@
 -- What an input in JSON is in both wires.
 use Rattle.std.specs.Prelude.{◌≡◌, ℕ, List, length, false, None}
-use Rattle.smithy_shapes.specs.Table.{Table}
-use Rattle.smithy_shapes.specs.Value.{Value}
+use Rattle.smithy_declarations.specs.Table.{Table}
+use Rattle.smithy_declarations.specs.Value.{Value}
 use Rattle.smithy_transcode.specs.Spelling.{Spells, body}
 use Rattle.smithy_transcode.specs.Wires.{json, cbor, unfit}
 

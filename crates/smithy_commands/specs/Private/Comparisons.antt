@@ -1,6 +1,6 @@
 -- What the steps of `compare` say.
 use Rattle.std.specs.Prelude.{◌≡◌, ◌⊎◌, ℕ, List, Ok, Err}
-use Rattle.smithy_shapes.specs.Table.{Table}
+use Rattle.smithy_declarations.specs.Table.{Table}
 use Rattle.smithy_compare.specs.declared.comparing.Compared.{Compared}
 use Rattle.smithy_compare.specs.declared.comparing.CompareError.{CompareError}
 use Rattle.smithy_commands.specs.declared.status.Status.{Status}

@@ -1,7 +1,7 @@
 -- What the status of a step of `run` says.
 use Rattle.std.specs.Prelude.{◌≡◌, ℕ, List, Some, None}
-use Rattle.smithy_shapes.specs.Table.{Table, IsStructure, kind_of, shape_place, declared_as}
-use Rattle.smithy_shapes.specs.Acceptance.{table_of}
+use Rattle.smithy_declarations.specs.Table.{Table, IsStructure, kind_of, shape_place, declared_as}
+use Rattle.smithy_declarations.specs.Acceptance.{table_of}
 use Rattle.smithy_commands.specs.declared.status.Status.{Status}
 use Rattle.smithy_commands.specs.declared.status.Status.TheVariants.{ReadFailed, OutOfMemory, TableRefused, NoSuchShape, NotAStructure, TooLong}
 use Rattle.smithy_outside.specs.Outside.{Shown, MetOneFault}

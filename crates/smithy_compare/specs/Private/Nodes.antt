@@ -3,8 +3,8 @@ use Rattle.std.specs.Prelude.{drop}
 use Rattle.smithy_types.specs.Document.{whole_document, map_elements, map_properties}
 use Rattle.smithy_types.specs.DocumentView.{document_view, elements_view, properties_view}
 use Rattle.smithy_types.specs.Number.{whole_number}
-use Rattle.smithy_shapes.specs.Value as values
-use Rattle.smithy_shapes.specs.Value.{values_of}
+use Rattle.smithy_declarations.specs.Value as values
+use Rattle.smithy_declarations.specs.Value.{values_of}
 use Rattle.smithy_transcode.specs.Private.Tree.{compact_view, compact_elements, compact_entries, compact_members, entries_left, whole_values}
 use Rattle.smithy_compare.specs.declared.node.Node.{Node}
 use Rattle.smithy_compare.specs.declared.node.Node.TheVariants as nodes

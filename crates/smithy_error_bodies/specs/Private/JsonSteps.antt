@@ -1,6 +1,6 @@
 -- An error body in JSON, token by token.
 use Rattle.std.specs.Prelude.{◌≡◌, ◌==◌, ◌-◌, ℕ, suc, nat_lt, List, [], ◌∷◌, Bool, true, false, Option, Some, None, option_map, string_bytes, if◌then◌else◌}
-use Rattle.smithy_json.specs.Unescape.{unescaped}
+use Rattle.smithy_json_grammar.specs.Unescape.{unescaped}
 use Rattle.smithy_json_tokens.specs.Tokens.{JsonToken, start_array, end_array, start_object, end_object, value_string, object_key}
 use Rattle.smithy_json_tokens.specs.TokenRules.{Cursor}
 use Rattle.smithy_json_tokens.specs.TokenRuns.{Leads}

@@ -1,6 +1,6 @@
 -- A generated input as a JSON value.
 use Rattle.std.specs.Prelude.{ℕ, zero, suc, ◌/◌, ◌%◌, ◌++◌, codes, decimal}
-use Rattle.smithy_json.specs.Tree.{Json, number, string, array, object, Elements, no_elements, element, no_members, member}
+use Rattle.smithy_json_grammar.specs.Tree.{Json, number, string, array, object, Elements, no_elements, element, no_members, member}
 use Rattle.smithy_generator.specs.Generated.{number_at}
 
 -- the item that a number gives

@@ -1,9 +1,9 @@
 -- Where a structure or a union goes on to, as private functions answer it.
 use Rattle.std.specs.Prelude.{◌≡◌, ◌<◌, ℕ, List, length, Bool, false, not, Some, None, is_none}
-use Rattle.smithy_schema.specs.declared.read.Step.{Step}
-use Rattle.smithy_schema.specs.declared.read.Step.TheVariants.{Member, Unknown, End}
+use Rattle.smithy_schema.specs.declared.step.Step.{Step}
+use Rattle.smithy_schema.specs.declared.step.Step.TheVariants.{Member, Unknown, End}
 use Rattle.smithy_schema.specs.Reading.{Cursor, depth}
-use Rattle.smithy_shapes.specs.Table.{members_of, member_place}
+use Rattle.smithy_declarations.specs.Table.{members_of, member_place}
 use Rattle.smithy_shapes.specs.Site.{Site, site_of, member_site, kind_at}
 use Rattle.smithy_json_values.specs.Settings.{Settings}
 use Rattle.smithy_json_values.specs.Meaning.{rules_of}

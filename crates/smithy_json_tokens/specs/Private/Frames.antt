@@ -1,8 +1,8 @@
 -- The stack of open containers, as its plain frames.
 use Rattle.std.specs.Prelude.{◌≡◌, ◌⊎◌, ℕ, List, map, reverse, Option, Some, None, Result, Ok, Err, MatchResult, String, string_bytes}
 use Rattle.std.specs.declared.alloc.Global.{Global}
-use Rattle.smithy_json.specs.Unescape.{unescape}
-use Rattle.smithy_json.specs.declared.escape_error.EscapeError.{EscapeError}
+use Rattle.smithy_json_grammar.specs.Unescape.{unescape}
+use Rattle.smithy_json_grammar.specs.declared.escape_error.EscapeError.{EscapeError}
 use Rattle.smithy_types.specs.DocumentView.{document_view, elements_view, properties_view}
 use Rattle.smithy_types.specs.declared.document.Document.{Document}
 use Rattle.smithy_json_tokens.specs.Faults.{error_at}

@@ -1,7 +1,7 @@
 -- What the code scans, as a `Scan`.
 use Rattle.std.specs.Prelude.{◌≡◌, ◌<◌, ◌≤◌, ℕ, List, length, drop, Result, Ok, Err, MatchResult, ◌⊎◌}
 use Rattle.std.specs.Char.{IsAsciiDigit}
-use Rattle.smithy_json.specs.Ascii.{minus_sign}
+use Rattle.smithy_json_grammar.specs.Ascii.{minus_sign}
 use Rattle.smithy_json_tokens.specs.Tokens.{JsonToken}
 use Rattle.smithy_json_tokens.specs.TokenRules.{Scan, scanned, failed}
 use Rattle.smithy_json_tokens.specs.TokenView.{token_view, token_offset, left_from, IsPlace}

@@ -3,9 +3,9 @@ use Rattle.std.specs.Prelude.{◌≡◌, ◌⊎◌, ℕ, ℤ, true, List, Option
 use Rattle.std.specs.Cow.{cow_str_bytes}
 use Rattle.std.specs.declared.borrow.CowStr.{CowStr}
 use Rattle.std.specs.declared.alloc.Global.{Global}
-use Rattle.smithy_json.specs.Grammar.{IsNumber}
-use Rattle.smithy_json.specs.Unescape.{unescape, has_escape}
-use Rattle.smithy_json.specs.declared.escape_error.EscapeError.{EscapeError}
+use Rattle.smithy_json_grammar.specs.Grammar.{IsNumber}
+use Rattle.smithy_json_grammar.specs.Unescape.{unescape, has_escape}
+use Rattle.smithy_json_grammar.specs.declared.escape_error.EscapeError.{EscapeError}
 use Rattle.smithy_json_tokens.specs.Faults.{error_at}
 use Rattle.smithy_json_tokens.specs.ExpectingTexts.{instant_of_decimal}
 use Rattle.smithy_json_tokens.specs.declared.error.DeserializeError.{DeserializeError}

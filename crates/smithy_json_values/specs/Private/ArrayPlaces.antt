@@ -1,9 +1,9 @@
 -- The text of an array as a chain of positions, element by element, and back.
 use Rattle.std.specs.Prelude.{◌≡◌, ℕ, suc, ◌≤◌, length, drop, List, [], ◌∷◌, ◌++◌, Bool, true, false, refl}
 use Rattle.std.proofs.Common.{◌∙◌, ap, arith, subst, append_assoc}
-use Rattle.smithy_json.specs.Ascii.{value_separator, begin_array, end_array}
-use Rattle.smithy_json.specs.Tree.{Json, null, boolean, number, string, array, object, Elements, no_elements, element}
-use Rattle.smithy_json.specs.Grammar.{IsWs, IsPadded, IsBoundary, IsValue, AreMoreElements}
+use Rattle.smithy_json_grammar.specs.Ascii.{value_separator, begin_array, end_array}
+use Rattle.smithy_json_grammar.specs.Tree.{Json, null, boolean, number, string, array, object, Elements, no_elements, element}
+use Rattle.smithy_json_grammar.specs.Grammar.{IsWs, IsPadded, IsBoundary, IsValue, AreMoreElements}
 use Rattle.smithy_json_values.specs.Standing.{IsFront, Lies, FollowsContainer, Follows, TreeLies, IsByte, IsSeparated}
 use Rattle.smithy_json_values.specs.Private.Lexical.{ws_boundary, elements_boundary}
 use Rattle.smithy_json_values.specs.Private.TextParts.{element_parts, bracketed_parts, follows_inside}

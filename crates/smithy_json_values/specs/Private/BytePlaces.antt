@@ -4,8 +4,8 @@ use Rattle.std.specs.Prelude.{◌≡◌, ℕ, ◌+◌, ◌<◌, ◌≤◌, lengt
 use Rattle.std.proofs.Common.{sym, ◌∙◌, ap, arith, subst, length-drop, length-append, append_assoc}
 use Rattle.std.proofs.Math.Seq.{drop-append_seam}
 use Rattle.std.proofs.lemmas.List.{drop-drop}
-use Rattle.smithy_json.specs.Ascii.{value_separator, end_array, is_ws}
-use Rattle.smithy_json.specs.Grammar.{IsWs}
+use Rattle.smithy_json_grammar.specs.Ascii.{value_separator, end_array, is_ws}
+use Rattle.smithy_json_grammar.specs.Grammar.{IsWs}
 use Rattle.smithy_json_values.specs.Standing.{IsFront, Lies, IsByte, IsSeparated, without_ws}
 use Rattle.smithy_json_values.specs.Private.Lexical.{past_ws}
 

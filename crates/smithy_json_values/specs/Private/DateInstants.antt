@@ -17,7 +17,7 @@ use Rattle.smithy_instants.specs.DateText.{two_digits, four_digits, clock_second
 use Rattle.smithy_instants.specs.declared.format.Format.{Format}
 use Rattle.smithy_instants.specs.declared.format.Format.TheVariants.{DateTime, DateTimeWithOffset, HttpDate, EpochSeconds}
 use Rattle.smithy_instants.proofs.FractionLemmas.{fraction_fits}
-use Rattle.smithy_shapes.specs.declared.shape_type.TimestampFormat.TheVariants as times
+use Rattle.smithy_declarations.specs.declared.shape_type.TimestampFormat.TheVariants as times
 use Rattle.smithy_shapes.specs.Lemmas.Options.{same_some, chosen, made}
 use Rattle.smithy_shapes.proofs.InstantLemmas as places
 

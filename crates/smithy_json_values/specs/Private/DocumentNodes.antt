@@ -6,19 +6,19 @@ use Rattle.smithy_types.specs.Document as documents
 use Rattle.smithy_types.specs.Number.{whole_number}
 use Rattle.smithy_types.specs.declared.number.Number.{Number}
 use Rattle.smithy_types.specs.declared.number.Number.TheVariants.{PosInt, NegInt}
-use Rattle.smithy_shapes.specs.declared.place.Place.{Place}
-use Rattle.smithy_shapes.specs.Documents.{document_nesting, DocumentFits}
+use Rattle.smithy_declarations.specs.declared.place.Place.{Place}
+use Rattle.smithy_declarations.specs.Documents.{document_nesting, DocumentFits}
 use Rattle.smithy_shapes.specs.Limits.{Limits, kept, lifted, is_within}
-use Rattle.smithy_shapes.specs.Table.{Table, document, kind_of}
-use Rattle.smithy_shapes.specs.Value.{Value, document_value}
+use Rattle.smithy_declarations.specs.Table.{Table, document, kind_of}
+use Rattle.smithy_declarations.specs.Value.{Value, document_value}
 use Rattle.smithy_shapes.specs.Lemmas.Options.{same_some, step_apart, chosen, made}
-use Rattle.smithy_json.specs.Ascii.{minus_sign}
+use Rattle.smithy_json_grammar.specs.Ascii.{minus_sign}
 use Rattle.smithy_json.specs.DocumentMeaning.{at_depth, number_meaning, document_meaning, elements_meaning, members_meaning}
-use Rattle.smithy_json.specs.HeldNumber.{held_as, number_of}
-use Rattle.smithy_json.specs.Number.{natural_number, whole_number as written_number}
-use Rattle.smithy_json.specs.Tree as tree
-use Rattle.smithy_json.specs.Tree.{Json, Elements, no_elements, element, Members, no_members, member}
-use Rattle.smithy_json.specs.Unescape.{unescaped}
+use Rattle.smithy_json_grammar.specs.HeldNumber.{held_as, number_of}
+use Rattle.smithy_json_grammar.specs.Number.{natural_number, whole_number as written_number}
+use Rattle.smithy_json_grammar.specs.Tree as tree
+use Rattle.smithy_json_grammar.specs.Tree.{Json, Elements, no_elements, element, Members, no_members, member}
+use Rattle.smithy_json_grammar.specs.Unescape.{unescaped}
 use Rattle.smithy_json_values.specs.Settings.{Settings}
 use Rattle.smithy_json_values.specs.LexicalGrammar.{LexicalGrammar, frames_of, token_rules, token_relations, NodeLies}
 use Rattle.smithy_json_values.specs.Scalar.{JsonScalar, a_boolean, a_number, a_string, held_says, document_says}

@@ -2,12 +2,12 @@
 use Rattle.std.specs.Prelude.{◌≡◌, ℕ, ℤ, List, Option, Some, None, Bool, true, false, IsUtf8, refl, option_map, option_and_then, if◌then◌else◌}
 use Rattle.std.proofs.Common.{sym, ◌∙◌, subst}
 use Rattle.std.proofs.lemmas.Str.{is_utf8-from_IsUtf8}
-use Rattle.smithy_shapes.specs.declared.place.Place.{Place}
-use Rattle.smithy_shapes.specs.declared.shape_type.Scalar.{Scalar}
-use Rattle.smithy_shapes.specs.declared.shape_type.Scalar.TheVariants as scalars
-use Rattle.smithy_shapes.specs.declared.shape_type.TimestampFormat.{TimestampFormat}
-use Rattle.smithy_shapes.specs.Table.{Table, scalar, kind_of}
-use Rattle.smithy_shapes.specs.Value.{boolean as boolean_value, whole, text, bytes, instant, Value, scalar_value}
+use Rattle.smithy_declarations.specs.declared.place.Place.{Place}
+use Rattle.smithy_declarations.specs.declared.shape_type.Scalar.{Scalar}
+use Rattle.smithy_declarations.specs.declared.shape_type.Scalar.TheVariants as scalars
+use Rattle.smithy_declarations.specs.declared.shape_type.TimestampFormat.{TimestampFormat}
+use Rattle.smithy_declarations.specs.Table.{Table, scalar, kind_of}
+use Rattle.smithy_declarations.specs.Value.{boolean as boolean_value, whole, text, bytes, instant, Value, scalar_value}
 use Rattle.smithy_shapes.specs.Fits.{is_of, Fits}
 use Rattle.smithy_shapes.specs.Lemmas.Options.{same_some, step_apart, chosen, made}
 use Rattle.smithy_texts.specs.Base64Text.{blob_of}

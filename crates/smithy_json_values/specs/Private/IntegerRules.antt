@@ -1,6 +1,6 @@
 -- Which rule for integers settings make.
 use Rattle.std.specs.Prelude.{Bool, not, ◌&&◌, if◌then◌else◌}
-use Rattle.smithy_json.specs.declared.number_grammar.NumberGrammar.{NumberGrammar}
+use Rattle.smithy_json_grammar.specs.declared.number_grammar.NumberGrammar.{NumberGrammar}
 use Rattle.smithy_json_values.specs.declared.integers.IntegerRule.{IntegerRule}
 use Rattle.smithy_json_values.specs.declared.integers.IntegerRule.TheVariants.{Standard, OfGrammar, Signed, Integral}
 

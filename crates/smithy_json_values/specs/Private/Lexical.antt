@@ -4,9 +4,9 @@ use Rattle.std.specs.List.{AllByRecursion}
 use Rattle.std.specs.Char.{IsAsciiDigit}
 use Rattle.std.proofs.Common.{ap, arith, inl, inr}
 use Rattle.std.proofs.lemmas.Bool.Decides.{nat_tests}
-use Rattle.smithy_json.specs.Ascii.{quotation_mark, escape, begin_array, end_array, begin_object, end_object, minus_sign, plus_sign, decimal_point, is_ws, is_e}
-use Rattle.smithy_json.specs.Tree.{Json, null, boolean, number, string, array, object, no_elements, element, Elements, no_members, member, Members}
-use Rattle.smithy_json.specs.Grammar.{IsWs, IsInt, IsFrac, IsSign, IsExp, IsNumber, AreChars, IsBoundary, IsValue, AreMoreElements, AreMoreMembers}
+use Rattle.smithy_json_grammar.specs.Ascii.{quotation_mark, escape, begin_array, end_array, begin_object, end_object, minus_sign, plus_sign, decimal_point, is_ws, is_e}
+use Rattle.smithy_json_grammar.specs.Tree.{Json, null, boolean, number, string, array, object, no_elements, element, Elements, no_members, member, Members}
+use Rattle.smithy_json_grammar.specs.Grammar.{IsWs, IsInt, IsFrac, IsSign, IsExp, IsNumber, AreChars, IsBoundary, IsValue, AreMoreElements, AreMoreMembers}
 use Rattle.smithy_json_values.specs.Standing.{without_ws}
 
 -- ---- classes of bytes, and runs of them

@@ -1,7 +1,7 @@
 -- The name of a member that lies at a place of the input is determined, with its end.
 use Rattle.std.specs.Prelude.{◌≡◌, ℕ, ◌<◌, length, drop, List, [], ◌∷◌, ◌++◌, Bool, true, false, refl}
 use Rattle.std.proofs.Common.{sym, ◌∙◌, ap, arith, subst, append_assoc}
-use Rattle.smithy_json.specs.Ascii.{quotation_mark, value_separator, name_separator, end_object}
+use Rattle.smithy_json_grammar.specs.Ascii.{quotation_mark, value_separator, name_separator, end_object}
 use Rattle.smithy_json_values.specs.Standing.{IsFront, Lies, IsByte, IsName, Names, without_ws}
 use Rattle.smithy_json_values.specs.Private.Lexical.{first, run_text, behind_text, past_ws, text_all}
 use Rattle.smithy_json_values.specs.Private.BytePlaces.{same_end, ends_ahead, past_byte, same_byte, same_separated, separated_ahead}

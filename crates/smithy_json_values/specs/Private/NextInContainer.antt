@@ -1,8 +1,8 @@
 -- What comes next in a container, as private functions answer it.
 use Rattle.std.specs.Prelude.{◌≡◌, ◌<◌, ◌≤◌, ℕ, List, length, drop, slice_index, slice_range, Bool, true, false, Option, Some, None}
-use Rattle.smithy_json.specs.Ascii.{end_array, end_object, is_ws}
-use Rattle.smithy_json.specs.Grammar.{IsWs}
-use Rattle.smithy_json.specs.Unescape.{has_escape}
+use Rattle.smithy_json_grammar.specs.Ascii.{end_array, end_object, is_ws}
+use Rattle.smithy_json_grammar.specs.Grammar.{IsWs}
+use Rattle.smithy_json_grammar.specs.Unescape.{has_escape}
 use Rattle.smithy_json_values.specs.declared.places.InList.{InList}
 use Rattle.smithy_json_values.specs.declared.places.InList.TheVariants.{Element, End as EndOfList}
 use Rattle.smithy_json_values.specs.declared.places.InObject.{InObject}

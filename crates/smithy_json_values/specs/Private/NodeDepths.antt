@@ -1,7 +1,7 @@
 -- A node that lies inside of some containers lies inside of any number of them, by what comes behind it.
 use Rattle.std.specs.Prelude.{ℕ, zero, suc, List, drop, Bool, true, false}
 use Rattle.smithy_schema.specs.Reading.{Mark}
-use Rattle.smithy_json.specs.Grammar.{IsWs}
+use Rattle.smithy_json_grammar.specs.Grammar.{IsWs}
 use Rattle.smithy_json_values.specs.Scalar.{JsonScalar}
 use Rattle.smithy_json_values.specs.Tokens.{BoundaryBy, EndsContainer}
 use Rattle.smithy_json_values.specs.LexicalGrammar.{LexicalGrammar, frames_of}

@@ -5,8 +5,8 @@ use Rattle.std.specs.Option.{option_map_or}
 use Rattle.std.proofs.Common.{sym, ap, arith, subst}
 use Rattle.std.proofs.lemmas.Bool.{and_parts}
 use Rattle.smithy_schema.specs.Reading.{Mark}
-use Rattle.smithy_json.specs.Tree.{Json, null, boolean, number, string, array, object, Elements, no_elements, element, Members, no_members, member, nesting, elements_nesting, members_nesting}
-use Rattle.smithy_json.specs.Grammar.{IsStringText}
+use Rattle.smithy_json_grammar.specs.Tree.{Json, null, boolean, number, string, array, object, Elements, no_elements, element, Members, no_members, member, nesting, elements_nesting, members_nesting}
+use Rattle.smithy_json_grammar.specs.Grammar.{IsStringText}
 use Rattle.smithy_json_values.specs.LexicalGrammar.{rfc_8259, is_skipped_in}
 use Rattle.smithy_json_values.specs.Scalar.{JsonScalar, a_boolean, a_number, a_string, tree_of}
 use Rattle.smithy_json_values.specs.Meaning.{node_of, element_nodes, member_nodes}

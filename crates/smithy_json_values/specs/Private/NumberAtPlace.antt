@@ -1,8 +1,8 @@
 -- The number that stands or lies at a place, as private functions answer it.
 use Rattle.std.specs.Prelude.{◌≡◌, ◌<◌, ℕ, ℤ, List, drop, slice_range, Bool, true, Some}
 use Rattle.smithy_texts.specs.Ranges.{fits_signed}
-use Rattle.smithy_json.specs.Ascii.{is_numeric}
-use Rattle.smithy_json.specs.Standing.{IsRunAt}
+use Rattle.smithy_json_grammar.specs.Ascii.{is_numeric}
+use Rattle.smithy_json_grammar.specs.Standing.{IsRunAt}
 use Rattle.smithy_json_values.specs.Settings.{Settings}
 use Rattle.smithy_json_values.specs.Scalar.{a_number, integer_of}
 use Rattle.smithy_json_values.specs.Tokens.{BoundaryBy, token_frames}

@@ -1,9 +1,9 @@
 -- The sorts of numbers: the test that one passes where nothing is strict, and the kind that is read so.
 use Rattle.std.specs.Prelude.{ℕ, List, Bool, true, false}
-use Rattle.smithy_json.specs.NumberText.{is_number_of}
-use Rattle.smithy_json.specs.declared.number_grammar.NumberGrammar.{NumberGrammar}
-use Rattle.smithy_shapes.specs.declared.shape_type.Scalar.{Scalar}
-use Rattle.smithy_shapes.specs.declared.shape_type.Scalar.TheVariants as scalars
+use Rattle.smithy_json_grammar.specs.NumberText.{is_number_of}
+use Rattle.smithy_json_grammar.specs.declared.number_grammar.NumberGrammar.{NumberGrammar}
+use Rattle.smithy_declarations.specs.declared.shape_type.Scalar.{Scalar}
+use Rattle.smithy_declarations.specs.declared.shape_type.Scalar.TheVariants as scalars
 use Rattle.smithy_json_values.specs.declared.number_runs.NumberSort.{NumberSort}
 use Rattle.smithy_json_values.specs.declared.number_runs.NumberSort.TheVariants as sorts
 use Rattle.smithy_json_values.specs.LexicalGrammar.{is_lenient_big_integer, is_lenient_decimal}

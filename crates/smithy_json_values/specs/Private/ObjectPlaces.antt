@@ -1,9 +1,9 @@
 -- The text of an object as a chain of positions, member by member, and back.
 use Rattle.std.specs.Prelude.{◌≡◌, ℕ, ◌≤◌, length, drop, List, [], ◌∷◌, ◌++◌, Bool, true, false, refl}
 use Rattle.std.proofs.Common.{sym, ◌∙◌, ap, arith, subst}
-use Rattle.smithy_json.specs.Ascii.{quotation_mark, value_separator, name_separator, begin_object, end_object}
-use Rattle.smithy_json.specs.Tree.{Json, object, Members, no_members, member}
-use Rattle.smithy_json.specs.Grammar.{IsWs, IsMember, IsBoundary, IsStringText, IsValue, AreMoreMembers}
+use Rattle.smithy_json_grammar.specs.Ascii.{quotation_mark, value_separator, name_separator, begin_object, end_object}
+use Rattle.smithy_json_grammar.specs.Tree.{Json, object, Members, no_members, member}
+use Rattle.smithy_json_grammar.specs.Grammar.{IsWs, IsMember, IsBoundary, IsStringText, IsValue, AreMoreMembers}
 use Rattle.smithy_json_values.specs.Standing.{IsFront, Lies, FollowsContainer, TreeLies, IsByte, IsName, Names}
 use Rattle.smithy_json_values.specs.Private.Lexical.{ws_boundary, members_boundary}
 use Rattle.smithy_json_values.specs.Private.TextParts.{member_parts, bracketed_parts}

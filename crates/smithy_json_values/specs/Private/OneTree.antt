@@ -2,9 +2,9 @@
 -- and what follows the text.
 use Rattle.std.specs.Prelude.{◌≡◌, ℕ, zero, suc, ◌+◌, ◌≤◌, ◌==◌, List, [], ◌∷◌, ◌++◌, drop, true, false, if◌then◌else◌, refl}
 use Rattle.std.proofs.Common.{sym, ◌∙◌, ap, arith, append_assoc}
-use Rattle.smithy_json.specs.Ascii.{quotation_mark, value_separator, name_separator, begin_array, end_array, begin_object, end_object, is_ws}
-use Rattle.smithy_json.specs.Tree.{Json, null, boolean, number, string, array, object, Elements, no_elements, element, Members, no_members, member}
-use Rattle.smithy_json.specs.Grammar.{IsWs, IsNumber, AreChars, IsBoundary, IsValue, AreMoreElements, AreMoreMembers}
+use Rattle.smithy_json_grammar.specs.Ascii.{quotation_mark, value_separator, name_separator, begin_array, end_array, begin_object, end_object, is_ws}
+use Rattle.smithy_json_grammar.specs.Tree.{Json, null, boolean, number, string, array, object, Elements, no_elements, element, Members, no_members, member}
+use Rattle.smithy_json_grammar.specs.Grammar.{IsWs, IsNumber, AreChars, IsBoundary, IsValue, AreMoreElements, AreMoreMembers}
 use Rattle.smithy_json_values.specs.Standing.{without_ws, Follows}
 use Rattle.smithy_json_values.specs.Private.Lexical.{is_numeric, begins_value, run, behind, run_text, behind_text, first, Stops, run_all, behind_all, past_ws, ws_boundary, text_all, number_pass, boundary_stops, number_fills, Begins, value_begins, begins_stops, begins_first, elements_boundary, members_boundary}
 use Rattle.smithy_json_values.specs.Private.TextParts.{member_parts, element_parts, bracketed_parts, follows_inside}

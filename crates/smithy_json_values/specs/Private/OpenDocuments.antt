@@ -5,8 +5,8 @@ use Rattle.smithy_schema.specs.declared.error.SerdeError.TheVariants as errors
 use Rattle.smithy_types.specs.Document.{Document, array, object, Documents, no_documents, item, Properties, no_properties, put_property}
 use Rattle.smithy_types.specs.DocumentView.{document_view, elements_view, properties_view}
 use Rattle.smithy_types.specs.declared.number.Number.{Number}
-use Rattle.smithy_json.specs.HeldNumber.{number_of}
-use Rattle.smithy_json.specs.Unescape.{unescaped}
+use Rattle.smithy_json_grammar.specs.HeldNumber.{number_of}
+use Rattle.smithy_json_grammar.specs.Unescape.{unescaped}
 use Rattle.smithy_json_values.specs.declared.documents.Open.{Open}
 use Rattle.smithy_json_values.specs.declared.documents.Open.TheVariants.{Array, Object}
 use Rattle.smithy_json_values.specs.declared.documents.Frame.{Frame}
@@ -21,7 +21,7 @@ use Rattle.smithy_json_values.specs.declared.documents.Step.{Step}
 use Rattle.smithy_json_values.specs.declared.documents.Step.TheVariants.{Inside, Opens, Ends}
 use Rattle.smithy_json_values.specs.Openers.{json_openers}
 use Rattle.smithy_json_values.specs.Settings.{Settings, without_limits}
-use Rattle.smithy_shapes.specs.declared.shape_type.Scalar.TheVariants as scalars
+use Rattle.smithy_declarations.specs.declared.shape_type.Scalar.TheVariants as scalars
 use Rattle.smithy_json_values.specs.Scalar.{JsonScalar, a_number}
 use Rattle.smithy_json_values.specs.Spans.{Lies, IsByte}
 use Rattle.smithy_json_values.specs.Tokens.{NameTokens}

@@ -1,9 +1,9 @@
 -- How many brackets are open at most from one place of the input on and from another.
 use Rattle.std.specs.Prelude.{◌≡◌, ◌≤◌, ℕ, suc, ◌-◌, drop, List, ◌∷◌, ◌++◌, Bool, true, false, codes}
 use Rattle.std.proofs.Common.{sym, ◌∙◌, ap, arith, append_assoc}
-use Rattle.smithy_json.specs.Ascii.{value_separator, begin_array, end_array, begin_object, end_object}
-use Rattle.smithy_json.specs.Tree.{Json}
-use Rattle.smithy_json.specs.Grammar.{IsValue}
+use Rattle.smithy_json_grammar.specs.Ascii.{value_separator, begin_array, end_array, begin_object, end_object}
+use Rattle.smithy_json_grammar.specs.Tree.{Json}
+use Rattle.smithy_json_grammar.specs.Grammar.{IsValue}
 use Rattle.smithy_json_values.specs.Standing.{Lies, IsByte, IsSeparated, Names}
 use Rattle.smithy_json_values.specs.Openers.{json_openers}
 use Rattle.smithy_json_values.specs.Scalar.{JsonScalar}

@@ -2,14 +2,14 @@
 use Rattle.std.specs.Prelude.{◌≡◌, ◌≤◌, ℕ, suc, ◌-◌, ◌==◌, ◌||◌, List, [], ◌∷◌, ◌++◌, Bool, true, false, IsTrue, codes, refl}
 use Rattle.std.proofs.Common.{sym, ◌∙◌, ap, arith, subst, append_assoc, inl, inr}
 use Rattle.std.proofs.lemmas.Bool.Decides.{nat_tests}
-use Rattle.smithy_json.specs.Ascii.{quotation_mark, escape, value_separator, name_separator, begin_array, end_array, begin_object, end_object, is_ws}
-use Rattle.smithy_json.specs.Tree.{Json, null, boolean, number, string, array, object, Elements, no_elements, element, Members, no_members, member}
-use Rattle.smithy_json.specs.Grammar.{IsWs, IsPadded, IsMember, IsValue, AreMoreElements, AreMoreMembers}
+use Rattle.smithy_json_grammar.specs.Ascii.{quotation_mark, escape, value_separator, name_separator, begin_array, end_array, begin_object, end_object, is_ws}
+use Rattle.smithy_json_grammar.specs.Tree.{Json, null, boolean, number, string, array, object, Elements, no_elements, element, Members, no_members, member}
+use Rattle.smithy_json_grammar.specs.Grammar.{IsWs, IsPadded, IsMember, IsValue, AreMoreElements, AreMoreMembers}
 use Rattle.smithy_json_values.specs.Openers.{inside, greatest_rise, json_openers}
 use Rattle.smithy_json_values.specs.Scalar.{JsonScalar, a_boolean, a_number, a_string}
 use Rattle.smithy_json_values.specs.Tokens.{IsNumberRun, IsQuoted, IsToken, IsNameToken}
 use Rattle.smithy_json_values.specs.Private.Lexical.{is_numeric, Pass, eq_false}
-use Rattle.smithy_json.proofs.LenientTextLemmas.{chars_are_quoted}
+use Rattle.smithy_json_grammar.proofs.LenientTextLemmas.{chars_are_quoted}
 use Rattle.smithy_json_values.specs.Private.TokenGrammar.{number_is_run}
 
 -- ---- two kinds of texts

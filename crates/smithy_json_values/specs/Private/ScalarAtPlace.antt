@@ -1,11 +1,11 @@
 -- The scalar that lies at a place, in a grammar and under some settings, as private functions answer it.
 use Rattle.std.specs.Prelude.{◌≡◌, ℕ, ℤ, List, Option, Some, true}
 use Rattle.smithy_texts.specs.Ranges.{fits_signed}
-use Rattle.smithy_json.specs.Unescape.{unescaped}
-use Rattle.smithy_shapes.specs.declared.shape_type.Scalar.{Scalar}
-use Rattle.smithy_shapes.specs.declared.shape_type.Scalar.TheVariants as scalars
-use Rattle.smithy_shapes.specs.declared.shape_type.TimestampFormat.{TimestampFormat}
-use Rattle.smithy_shapes.specs.Value.{ScalarValue, instant, scalar_value}
+use Rattle.smithy_json_grammar.specs.Unescape.{unescaped}
+use Rattle.smithy_declarations.specs.declared.shape_type.Scalar.{Scalar}
+use Rattle.smithy_declarations.specs.declared.shape_type.Scalar.TheVariants as scalars
+use Rattle.smithy_declarations.specs.declared.shape_type.TimestampFormat.{TimestampFormat}
+use Rattle.smithy_declarations.specs.Value.{ScalarValue, instant, scalar_value}
 use Rattle.smithy_json_values.specs.Settings.{Settings}
 use Rattle.smithy_json_values.specs.Scalar.{JsonScalar, a_number, a_string, bytes_of, number_text, integer_of, number_says, timestamp_says}
 use Rattle.smithy_json_values.specs.LexicalGrammar.{LexicalGrammar, LiesInGrammar}

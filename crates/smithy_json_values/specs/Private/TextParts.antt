@@ -1,9 +1,9 @@
 -- The parts of a text, with what follows it.
 use Rattle.std.specs.Prelude.{◌≡◌, ℕ, suc, List, [], ◌∷◌, ◌++◌}
 use Rattle.std.proofs.Common.{ap, append_assoc}
-use Rattle.smithy_json.specs.Ascii.{quotation_mark, name_separator}
-use Rattle.smithy_json.specs.Tree.{Json, null, boolean, number, string, array, object}
-use Rattle.smithy_json.specs.Grammar.{IsBoundary}
+use Rattle.smithy_json_grammar.specs.Ascii.{quotation_mark, name_separator}
+use Rattle.smithy_json_grammar.specs.Tree.{Json, null, boolean, number, string, array, object}
+use Rattle.smithy_json_grammar.specs.Grammar.{IsBoundary}
 use Rattle.smithy_json_values.specs.Standing.{Follows}
 
 -- a member with its value, and what comes behind it

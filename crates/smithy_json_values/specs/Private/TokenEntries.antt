@@ -2,7 +2,7 @@
 use Rattle.std.specs.Prelude.{◌≡◌, ℕ, List, Bool, true, false, Option, Some, None, option_and_then, if◌then◌else◌, refl}
 use Rattle.std.proofs.Common.{◌∙◌, ap, subst}
 use Rattle.smithy_schema.specs.Reading.{Mark}
-use Rattle.smithy_json.specs.Unescape.{unescaped}
+use Rattle.smithy_json_grammar.specs.Unescape.{unescaped}
 use Rattle.smithy_json_values.specs.LexicalGrammar.{frames_of}
 use Rattle.smithy_json_values.specs.Scalar.{JsonScalar, a_string}
 use Rattle.smithy_json_values.specs.Settings.{Settings}

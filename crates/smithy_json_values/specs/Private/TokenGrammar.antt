@@ -6,13 +6,13 @@ use Rattle.std.proofs.Common.{sym, ◌∙◌, ap, arith, inl, inr}
 use Rattle.std.proofs.lemmas.Bool.{and_parts}
 use Rattle.std.proofs.lemmas.Bool.Decides.{nat_tests}
 use Rattle.std.proofs.lemmas.Str.{IsUtf8-from_is_utf8, is_utf8-from_IsUtf8}
-use Rattle.smithy_json.specs.Ascii.{quotation_mark, escape, letter_u, space, is_short_escape}
-use Rattle.smithy_json.specs.Grammar.{IsNumber, IsUnescaped, BeginsWithFourHexDigits, IsEscape, AreChars, IsStringText, IsBoundary, IsValue}
-use Rattle.smithy_json.specs.Tree.{null}
-use Rattle.smithy_json.proofs.NumberTextLemmas.{tells_numbers}
-use Rattle.smithy_json.proofs.LenientTextLemmas.{chars_are_quoted}
-use Rattle.smithy_shapes.specs.declared.shape_type.Scalar.{Scalar}
-use Rattle.smithy_shapes.specs.declared.shape_type.Scalar.TheVariants as scalars
+use Rattle.smithy_json_grammar.specs.Ascii.{quotation_mark, escape, letter_u, space, is_short_escape}
+use Rattle.smithy_json_grammar.specs.Grammar.{IsNumber, IsUnescaped, BeginsWithFourHexDigits, IsEscape, AreChars, IsStringText, IsBoundary, IsValue}
+use Rattle.smithy_json_grammar.specs.Tree.{null}
+use Rattle.smithy_json_grammar.proofs.NumberTextLemmas.{tells_numbers}
+use Rattle.smithy_json_grammar.proofs.LenientTextLemmas.{chars_are_quoted}
+use Rattle.smithy_declarations.specs.declared.shape_type.Scalar.{Scalar}
+use Rattle.smithy_declarations.specs.declared.shape_type.Scalar.TheVariants as scalars
 use Rattle.smithy_json_values.specs.LexicalGrammar.{rfc_8259, is_unescaped, begins_with_four_hex_digits, is_escape, are_chars, is_number_as, in_grammar, is_skipped_in, LiesInGrammar}
 use Rattle.smithy_json_values.specs.Scalar.{JsonScalar, a_boolean, a_number, a_string, tree_of}
 use Rattle.smithy_json_values.specs.Standing.{Lies, TreeLies, IsName, Names, begins_with_alphanumeric, json_frames}

@@ -5,16 +5,16 @@ use Rattle.std.proofs.Common.{sym, ◌∙◌, ap, inl, inr}
 use Rattle.std.proofs.lemmas.Bool.{and_parts}
 use Rattle.smithy_types.specs.Document.{Document, Documents, null, item, with_pair}
 use Rattle.smithy_types.specs.declared.number.Number.{Number}
-use Rattle.smithy_shapes.specs.declared.place.Place.{Place}
-use Rattle.smithy_shapes.specs.declared.shape_type.TimestampFormat.{TimestampFormat}
+use Rattle.smithy_declarations.specs.declared.place.Place.{Place}
+use Rattle.smithy_declarations.specs.declared.shape_type.TimestampFormat.{TimestampFormat}
 use Rattle.smithy_shapes.specs.Container.{Entry, folded, set_by, member_step, marks_type, is_variant, is_regular, all_regular, variant_of, element_of, element_step, entry_step, container_of}
 use Rattle.smithy_shapes.specs.Limits.{Limits}
 use Rattle.smithy_shapes.specs.Lemmas.Options.{step_apart, chosen, made}
-use Rattle.smithy_shapes.specs.Table.{Table, Kind, scalar, document, structure_of, union_of, list_of, map_of, kind_of, place_in, where_document}
-use Rattle.smithy_shapes.specs.Value.{Value, MemberValues, MapEntries, null_element}
+use Rattle.smithy_declarations.specs.Table.{Table, Kind, scalar, document, structure_of, union_of, list_of, map_of, kind_of, place_in, where_document}
+use Rattle.smithy_declarations.specs.Value.{Value, MemberValues, MapEntries, null_element}
 use Rattle.smithy_schema.specs.Reading.{Mark}
-use Rattle.smithy_shapes.specs.declared.shape_type.Scalar.{Scalar}
-use Rattle.smithy_shapes.specs.declared.shape_type.Scalar.TheVariants as scalars
+use Rattle.smithy_declarations.specs.declared.shape_type.Scalar.{Scalar}
+use Rattle.smithy_declarations.specs.declared.shape_type.Scalar.TheVariants as scalars
 use Rattle.smithy_json_values.specs.Settings.{Settings}
 use Rattle.smithy_json_values.specs.Scalar.{JsonScalar, text_of, document_says}
 use Rattle.smithy_json_values.specs.Meaning.{rules_of}

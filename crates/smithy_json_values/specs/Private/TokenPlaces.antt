@@ -2,7 +2,7 @@
 use Rattle.std.specs.Prelude.{◌≡◌, ℕ, ◌<◌, ◌==◌, length, drop, List, [], ◌∷◌, ◌++◌, Bool, true, false, if◌then◌else◌, codes, refl}
 use Rattle.std.proofs.Common.{sym, ◌∙◌, ap, arith, subst, append_assoc, inl, inr}
 use Rattle.std.proofs.lemmas.Bool.Decides.{nat_tests}
-use Rattle.smithy_json.specs.Ascii.{quotation_mark, escape, value_separator, name_separator, begin_array, begin_object, end_object, is_ws}
+use Rattle.smithy_json_grammar.specs.Ascii.{quotation_mark, escape, value_separator, name_separator, begin_array, begin_object, end_object, is_ws}
 use Rattle.smithy_json_values.specs.Scalar.{JsonScalar, a_boolean, a_number, a_string}
 use Rattle.smithy_json_values.specs.Standing.{IsFront, Lies, IsByte, without_ws, begins_with_null, begins_with_alphanumeric}
 use Rattle.smithy_json_values.specs.Tokens.{is_numeric, EndsRun, IsQuoted, IsToken, EndsToken, IsNameToken, NameTokens}

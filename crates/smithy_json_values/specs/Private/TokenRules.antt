@@ -5,13 +5,13 @@ use Rattle.std.proofs.Common.{◌∙◌, ap}
 use Rattle.std.proofs.lemmas.Bool.{and_parts}
 use Rattle.smithy_types.specs.Document.{Document, null, array, object, item, properties_by, with_pair, whole_document}
 use Rattle.smithy_types.specs.declared.number.Number.{Number}
-use Rattle.smithy_shapes.specs.declared.place.Place.{Place}
-use Rattle.smithy_shapes.specs.declared.shape_type.TimestampFormat.{TimestampFormat}
+use Rattle.smithy_declarations.specs.declared.place.Place.{Place}
+use Rattle.smithy_declarations.specs.declared.shape_type.TimestampFormat.{TimestampFormat}
 use Rattle.smithy_shapes.specs.Container.{Entry, container_of}
-use Rattle.smithy_shapes.specs.Table.{Table, Kind, scalar, kind_of, place_in, where_document}
-use Rattle.smithy_shapes.specs.Value.{Value, document_value, null_element}
-use Rattle.smithy_shapes.specs.declared.shape_type.Scalar.{Scalar}
-use Rattle.smithy_shapes.specs.declared.shape_type.Scalar.TheVariants as scalars
+use Rattle.smithy_declarations.specs.Table.{Table, Kind, scalar, kind_of, place_in, where_document}
+use Rattle.smithy_declarations.specs.Value.{Value, document_value, null_element}
+use Rattle.smithy_declarations.specs.declared.shape_type.Scalar.{Scalar}
+use Rattle.smithy_declarations.specs.declared.shape_type.Scalar.TheVariants as scalars
 use Rattle.smithy_json_values.specs.Settings.{Settings}
 use Rattle.smithy_json_values.specs.Scalar.{JsonScalar, text_of, document_says}
 use Rattle.smithy_json_values.specs.Meaning.{rules_of}

@@ -1,9 +1,9 @@
 -- The value that lies at a place of the input is determined, with its end.
 use Rattle.std.specs.Prelude.{◌≡◌, ℕ, ◌<◌, length, drop, List, ◌∷◌, ◌++◌, true, refl}
 use Rattle.std.proofs.Common.{sym, ◌∙◌, ap, arith}
-use Rattle.smithy_json.specs.Ascii.{end_array}
-use Rattle.smithy_json.specs.Tree.{Json}
-use Rattle.smithy_json.specs.Grammar.{IsValue}
+use Rattle.smithy_json_grammar.specs.Ascii.{end_array}
+use Rattle.smithy_json_grammar.specs.Tree.{Json}
+use Rattle.smithy_json_grammar.specs.Grammar.{IsValue}
 use Rattle.smithy_json_values.specs.Standing.{IsFront, Lies, TreeLies, IsByte, without_ws}
 use Rattle.smithy_json_values.specs.Private.Lexical.{first, begins_value, Begins, past_ws, value_begins, begins_stops, begins_first}
 use Rattle.smithy_json_values.specs.Private.OneTree.{same_tree}

@@ -1,6 +1,6 @@
 -- What a value can be by how it begins: a null, a scalar or a container.
 use Rattle.std.specs.Prelude.{◌≡◌, ◌==◌, ℕ, drop, List, [], ◌∷◌, Bool, true, false, if◌then◌else◌, cond, refl}
-use Rattle.smithy_json.specs.Ascii.{begin_array, begin_object}
+use Rattle.smithy_json_grammar.specs.Ascii.{begin_array, begin_object}
 use Rattle.smithy_json_values.specs.Standing.{Lies, IsByte, without_ws, begins_with_null, opening}
 use Rattle.smithy_json_values.specs.Private.Lexical.{first}
 use Rattle.smithy_json_values.specs.Private.BytePlaces.{past_byte}

@@ -3,8 +3,8 @@ use Rattle.std.specs.Prelude.{◌≡◌, ◌<◌, ◌≤◌, ◌+◌, ◌-◌, �
 use Rattle.std.proofs.Common.{sym, ◌∙◌, ap, arith, subst, append-nil, inl, inr}
 use Rattle.std.proofs.lemmas.List.{length-drop}
 use Rattle.smithy_schema.specs.Reading.{Mark, IsBehind as IsPassed}
-use Rattle.smithy_json.specs.Ascii.{quotation_mark, name_separator, value_separator, begin_array, end_array, begin_object, end_object}
-use Rattle.smithy_json.specs.Grammar.{IsWs}
+use Rattle.smithy_json_grammar.specs.Ascii.{quotation_mark, name_separator, value_separator, begin_array, end_array, begin_object, end_object}
+use Rattle.smithy_json_grammar.specs.Grammar.{IsWs}
 use Rattle.smithy_json_values.specs.Openers.{json_openers}
 use Rattle.smithy_json_values.specs.Scalar.{JsonScalar, a_string, tree_of}
 use Rattle.smithy_json_values.specs.Standing.{Lies, TreeLies, IsByte, IsSeparated, fresh_mark, end_mark, entry_mark, without_ws, begins_with_null, opening, closing, json_frames}

@@ -1,7 +1,7 @@
 //! How a document's value begins, and its scalars.
 
 ghost use Rattle.std.specs.Prelude.{◌≡◌, ◌⊎◌, ◌≤◌, ℕ, List, length};
-ghost use Rattle.smithy_json.specs.Ascii.{begin_array, begin_object};
+ghost use Rattle.smithy_json_grammar.specs.Ascii.{begin_array, begin_object};
 ghost use Rattle.smithy_wire.specs.Finding.{MatchFound};
 ghost use Rattle.smithy_json_values.specs.declared.documents.scalars.BeginFault.TheVariants.{NoMemory};
 ghost use Rattle.smithy_json_values.specs.Codec.{held_grammar};
@@ -15,8 +15,8 @@ use crate::places::{first_byte, null_end};
 use crate::settings::Settings;
 use crate::texts::text_at;
 use crate::values::boolean_at;
-use smithy_json::number_text::read_long;
-use smithy_json::{number_of_long, number_of_text};
+use smithy_json_grammar::number_text::read_long;
+use smithy_json_grammar::{number_of_long, number_of_text};
 use smithy_types::{Document, Number};
 use smithy_wire::Found;
 use std::alloc::{AllocError, Global};

@@ -5,7 +5,7 @@ use Rattle.std.specs.declared.cmp.Ordering.TheVariants.{Less, Equal, Greater}
 use Rattle.std.specs.Ordering.{MatchOrdering, nat_cmp, match_ordering}
 use Rattle.std.proofs.Common.{arith, subst}
 use Rattle.std.proofs.lemmas.Cmp.{ranked}
-use Rattle.smithy_shapes.specs.Value.{Value, MemberValues, no_member_values, member_value, put_member}
+use Rattle.smithy_declarations.specs.Value.{Value, MemberValues, no_member_values, member_value, put_member}
 use Rattle.smithy_shapes.specs.Container.{Entry, member_step, members_from}
 use Rattle.smithy_shapes.specs.Fits.{AscendFrom}
 use Rattle.smithy_shapes.specs.Lemmas.Entries.{entry_with}

@@ -6,7 +6,7 @@ use Rattle.std.specs.Ordering.{nat_cmp, match_ordering, ordering_reverse}
 use Rattle.std.specs.Cmp.Lexicographic.{slice_cmp}
 use Rattle.std.proofs.Common.{◌∙◌, ap}
 use Rattle.std.proofs.lemmas.Cmp.{nat_list_cmp_total}
-use Rattle.smithy_shapes.specs.Value.{Value, MapEntries, no_map_entries, map_entry, put_entry}
+use Rattle.smithy_declarations.specs.Value.{Value, MapEntries, no_map_entries, map_entry, put_entry}
 use Rattle.smithy_shapes.specs.Fits.{KeysAscendAbove, KeysAscend}
 
 abbrev pub byte_order : List ℕ → List ℕ → Ordering

@@ -1,7 +1,7 @@
 -- What one more entry does to the elements of a list.
 use Rattle.std.specs.Prelude.{◌≡◌, ◌⊎◌, List, [], ◌∷◌, ◌++◌, Option, Some, None, Bool, true, false, refl, option_and_then, option_map}
 use Rattle.std.proofs.Common.{sym, ap, inl, inr}
-use Rattle.smithy_shapes.specs.Value.{Value, null_element}
+use Rattle.smithy_declarations.specs.Value.{Value, null_element}
 use Rattle.smithy_shapes.specs.Container.{Entry, elements_from, element_of}
 use Rattle.smithy_shapes.specs.Lemmas.Options.{same_some}
 

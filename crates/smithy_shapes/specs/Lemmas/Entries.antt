@@ -1,6 +1,6 @@
 -- An entry by its fields.
 use Rattle.std.specs.Prelude.{ℕ, List, Option, Bool}
-use Rattle.smithy_shapes.specs.Value.{Value}
+use Rattle.smithy_declarations.specs.Value.{Value}
 use Rattle.smithy_shapes.specs.Container.{Entry}
 
 abbrev pub entry_with : Option (List ℕ) → Option ℕ → Option Value → Bool → Bool → Bool → Entry

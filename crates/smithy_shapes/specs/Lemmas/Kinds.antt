@@ -1,11 +1,11 @@
 -- What is known of a place by the kind of its container.
 use Rattle.std.specs.Prelude.{◌≡◌, List, Option, Some, None, true, refl}
 use Rattle.std.specs.Option.{option_map_or}
-use Rattle.smithy_shapes.specs.declared.place.Place.{Place}
-use Rattle.smithy_shapes.specs.declared.place.Target.{Target}
-use Rattle.smithy_shapes.specs.declared.place.Target.TheVariants.{Simple, Document, Declared}
-use Rattle.smithy_shapes.specs.Table as table
-use Rattle.smithy_shapes.specs.Table.{Table, Member, ListShape, MapShape, Shape, Kind, structure_of, union_of, list_of, map_of, nothing, kind_of_shape, shape_declared, kind_of_target, kind_of, is_document_target, is_document_place, IsDocument, IsList, IsMap, IsStructure, IsUnion}
+use Rattle.smithy_declarations.specs.declared.place.Place.{Place}
+use Rattle.smithy_declarations.specs.declared.place.Target.{Target}
+use Rattle.smithy_declarations.specs.declared.place.Target.TheVariants.{Simple, Document, Declared}
+use Rattle.smithy_declarations.specs.Table as table
+use Rattle.smithy_declarations.specs.Table.{Table, Member, ListShape, MapShape, Shape, Kind, structure_of, union_of, list_of, map_of, nothing, kind_of_shape, shape_declared, kind_of_target, kind_of, is_document_target, is_document_place, IsDocument, IsList, IsMap, IsStructure, IsUnion}
 
 -- no list is a structure
 pub no_list_and_structure : (k : Kind) → IsList k → IsStructure k → ⊥

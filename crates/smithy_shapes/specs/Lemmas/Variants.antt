@@ -1,6 +1,6 @@
 -- Exactly one variant, entry by entry: what is known of it so far.
 use Rattle.std.specs.Prelude.{◌≡◌, ◌&&◌, ◌||◌, not, ℕ, List, [], ◌∷◌, filter, Option, Some, None, Bool, true, false, refl, option_and_then, option_map, cond, if◌then◌else◌}
-use Rattle.smithy_shapes.specs.Value.{Value, union}
+use Rattle.smithy_declarations.specs.Value.{Value, union}
 use Rattle.smithy_shapes.specs.Container.{Entry, folded, is_type_mark, is_variant, all_regular, variant_of}
 use Rattle.smithy_shapes.specs.Lemmas.Entries.{entry_with}
 

@@ -1,8 +1,8 @@
 -- Declarations with their places beside them.
 use Rattle.std.specs.Prelude.{List, [], ◌∷◌}
-use Rattle.smithy_shapes.specs.declared.place.Place.{Place}
-use Rattle.smithy_shapes.specs.Table.{Member, ListShape, MapShape, Shape, Declaration}
-use Rattle.smithy_shapes.specs.Decl.{MemberDecl, ListDecl, MapDecl, Form, structure, union, list, map, Decl}
+use Rattle.smithy_declarations.specs.declared.place.Place.{Place}
+use Rattle.smithy_declarations.specs.Table.{Member, ListShape, MapShape, Shape, Declaration}
+use Rattle.smithy_declarations.specs.Decl.{MemberDecl, ListDecl, MapDecl, Form, structure, union, list, map, Decl}
 
 abbrev pub member_with : MemberDecl → Place → Member
 member_with m place = record {

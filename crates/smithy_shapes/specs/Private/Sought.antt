@@ -1,9 +1,9 @@
 -- The targets that are looked for in a table.
 use Rattle.std.specs.Prelude.{Bool}
-use Rattle.smithy_shapes.specs.declared.place.Target.{Target}
+use Rattle.smithy_declarations.specs.declared.place.Target.{Target}
 use Rattle.smithy_shapes.specs.declared.targets.Sought.{Sought}
 use Rattle.smithy_shapes.specs.declared.targets.Sought.TheVariants.{Timestamps, Documents}
-use Rattle.smithy_shapes.specs.Table.{is_document_target}
+use Rattle.smithy_declarations.specs.Table.{is_document_target}
 use Rattle.smithy_shapes.specs.Targets.{is_timestamp_target}
 
 -- the target is what is sought: a timestamp, or a document

@@ -1,6 +1,6 @@
 -- The elements of a list that is half read.
 use Rattle.std.specs.Prelude.{List}
-use Rattle.smithy_shapes.specs.Value.{Value}
+use Rattle.smithy_declarations.specs.Value.{Value}
 use Rattle.smithy_transcode.specs.declared.compact_elements.CompactElements.{CompactElements}
 use Rattle.smithy_transcode.specs.declared.compact_elements.CompactElements.TheVariants.{Wholes, Values}
 use Rattle.smithy_transcode.specs.Private.Tree.{compact_elements, whole_values}

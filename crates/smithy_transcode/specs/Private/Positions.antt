@@ -1,5 +1,5 @@
 -- Whether a wire that numbers the parts of lists and maps has a number for each part of a value.
-use Rattle.smithy_shapes.specs.Value.{Value}
+use Rattle.smithy_declarations.specs.Value.{Value}
 use Rattle.smithy_query_codec.specs.Counts.{HasPositions}
 use Rattle.smithy_transcode.specs.Wires.{Wire, query}
 

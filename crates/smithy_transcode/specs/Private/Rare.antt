@@ -1,7 +1,7 @@
 -- The kinds that few tables have.
 use Rattle.std.specs.Prelude.{Option, Some}
-use Rattle.smithy_shapes.specs.declared.shape_type.ShapeType.{ShapeType}
-use Rattle.smithy_shapes.specs.declared.shape_type.ShapeType.TheVariants as types
+use Rattle.smithy_declarations.specs.declared.shape_type.ShapeType.{ShapeType}
+use Rattle.smithy_declarations.specs.declared.shape_type.ShapeType.TheVariants as types
 
 abbrev pub IsRare : Option ShapeType → Type 0
 IsRare (Some types.BigInteger) = Unit {0}

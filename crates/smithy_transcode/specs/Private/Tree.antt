@@ -3,7 +3,7 @@ use Rattle.std.specs.Prelude.{ℕ, ℤ, List, map as mapped, String, string_byte
 use Rattle.std.specs.declared.alloc.Global.{Global}
 use Rattle.smithy_types.specs.Document.{whole_document}
 use Rattle.smithy_types.specs.DocumentView.{document_view}
-use Rattle.smithy_shapes.specs.Value.{Value, scalar_value, boolean, whole, text, bytes, decimal, instant, list, map, structure, union, null_element, document_value, values_of, MapEntries, MemberValues}
+use Rattle.smithy_declarations.specs.Value.{Value, scalar_value, boolean, whole, text, bytes, decimal, instant, list, map, structure, union, null_element, document_value, values_of, MapEntries, MemberValues}
 use Rattle.smithy_transcode.specs.View.{map_entries_of, member_values_of}
 use Rattle.smithy_transcode.specs.declared.compact_value.CompactValue as kept
 use Rattle.smithy_transcode.specs.declared.compact_value.CompactValue.TheOpen.{CompactValue-F}

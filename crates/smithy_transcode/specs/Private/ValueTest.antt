@@ -1,9 +1,9 @@
 -- The tests of a value that the program makes, as plain data.
 use Rattle.std.specs.Prelude.{Bool, true, Option}
-use Rattle.smithy_shapes.specs.declared.shape_type.TimestampFormat.{TimestampFormat}
+use Rattle.smithy_declarations.specs.declared.shape_type.TimestampFormat.{TimestampFormat}
 use Rattle.smithy_shapes.specs.ScalarTest.{ValueTest}
-use Rattle.smithy_shapes.specs.TimeForms.{form_or, form_holds}
-use Rattle.smithy_shapes.specs.Value.{ScalarValue}
+use Rattle.smithy_declarations.specs.TimeForms.{form_or, form_holds}
+use Rattle.smithy_declarations.specs.Value.{ScalarValue}
 use Rattle.smithy_cbor_body.specs.Canonical.{cbor_holds}
 use Rattle.smithy_transcode.specs.declared.value_test.InstantTest.{InstantTest}
 use Rattle.smithy_transcode.specs.declared.value_test.InstantTest.TheVariants.{Any, WholeSeconds, InForm}

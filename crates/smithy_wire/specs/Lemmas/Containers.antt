@@ -3,9 +3,9 @@ use Rattle.std.specs.Prelude.{◌≡◌, ℕ, zero, suc, map, List, [], ◌∷�
 use Rattle.std.proofs.Common.{sym, ◌∙◌, ap, arith, subst, inl, inr}
 use Rattle.smithy_types.specs.Document.{Document}
 use Rattle.smithy_types.specs.declared.number.Number.{Number}
-use Rattle.smithy_shapes.specs.declared.place.Place.{Place}
-use Rattle.smithy_shapes.specs.Table.{Table, Kind, document, structure_of, kind_of, place_in, IsStructure, IsContainer}
-use Rattle.smithy_shapes.specs.Value.{Value, structure, no_member_values}
+use Rattle.smithy_declarations.specs.declared.place.Place.{Place}
+use Rattle.smithy_declarations.specs.Table.{Table, Kind, document, structure_of, kind_of, place_in, IsStructure, IsContainer}
+use Rattle.smithy_declarations.specs.Value.{Value, structure, no_member_values}
 use Rattle.smithy_shapes.specs.Container.{Entry, folded, container_of}
 use Rattle.smithy_schema.specs.Reading.{Mark, Child, child_value, child_null, child_unknown, entry_of, IsChild, Chain, Contains}
 use Rattle.smithy_shapes.specs.Lemmas.Options.{same_some, step_apart, chosen}

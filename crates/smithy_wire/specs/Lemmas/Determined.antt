@@ -2,7 +2,7 @@
 use Rattle.std.specs.Prelude.{◌≡◌, ◌||◌, ◌&&◌, ℕ, zero, suc, List, Option, Bool, true, false, refl}
 use Rattle.std.proofs.Common.{sym, ◌∙◌, ap, subst}
 use Rattle.smithy_schema.specs.Reading.{Mark}
-use Rattle.smithy_shapes.specs.Table.{Kind, structure_of, union_of, list_of, map_of}
+use Rattle.smithy_declarations.specs.Table.{Kind, structure_of, union_of, list_of, map_of}
 use Rattle.smithy_wire.specs.Node.{Form, as_array, as_object, Node, null_node, leaf, container, missing}
 use Rattle.smithy_wire.specs.Rules.{Rules, key_text, position_in, drops_null, is_absent, is_mark, may_skip, is_dropped}
 use Rattle.smithy_wire.specs.Meaning.{is_in}

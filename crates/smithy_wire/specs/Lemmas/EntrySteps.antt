@@ -2,9 +2,9 @@
 use Rattle.std.specs.Prelude.{◌≡◌, ◌⊎◌, ◌||◌, ◌&&◌, ℕ, List, [], ◌∷◌, ◌++◌, Option, Some, None, Bool, true, false, refl, option_and_then, option_map, cond}
 use Rattle.std.specs.Option.{option_map_or}
 use Rattle.std.proofs.Common.{sym, ◌∙◌, ap, inl, inr}
-use Rattle.smithy_shapes.specs.declared.place.Place.{Place}
-use Rattle.smithy_shapes.specs.Table.{Member, ListShape, MapShape, Kind, structure_of, union_of, list_of, map_of, member_place, place_in, is_sparse, IsStructure}
-use Rattle.smithy_shapes.specs.Value.{Value, MemberValues, put_entry}
+use Rattle.smithy_declarations.specs.declared.place.Place.{Place}
+use Rattle.smithy_declarations.specs.Table.{Member, ListShape, MapShape, Kind, structure_of, union_of, list_of, map_of, member_place, place_in, is_sparse, IsStructure}
+use Rattle.smithy_declarations.specs.Value.{Value, MemberValues, put_entry}
 use Rattle.smithy_shapes.specs.Container.{Entry, is_type_mark, member_step, element_of, element_step, entry_step}
 use Rattle.smithy_schema.specs.Reading.{child_value, child_null, child_unknown, entry_of}
 use Rattle.smithy_shapes.specs.Lemmas.Options.{same_some, step_apart, made}

@@ -1,14 +1,14 @@
 -- What a node means at a place is a value of the place, where what its scalars mean is.
 use Rattle.std.specs.Prelude.{◌≡◌, ℕ, suc, List, [], ◌∷◌, ◌++◌, Option, Some, None, Bool, true, false, refl, option_and_then, option_map, cond, if◌then◌else◌, IsUtf8}
 use Rattle.std.proofs.Common.{sym, ◌∙◌, ap, subst}
-use Rattle.smithy_shapes.specs.declared.place.Place.{Place}
+use Rattle.smithy_declarations.specs.declared.place.Place.{Place}
 use Rattle.smithy_types.specs.Document.{Document, null, array, object, Documents, no_documents, item, map_elements, whole_document, properties_by}
 use Rattle.smithy_types.specs.Number.{whole_number}
 use Rattle.smithy_types.specs.declared.number.Number.{Number}
 use Rattle.smithy_shapes.specs.Limits.{Limits, kept, lifted}
-use Rattle.smithy_shapes.specs.Table.{Table, Member, ListShape, MapShape, Kind, scalar, document, structure_of, union_of, list_of, map_of, kind_of, place_in}
-use Rattle.smithy_shapes.specs.Documents.{DocumentFits, DocumentsFit}
-use Rattle.smithy_shapes.specs.Value.{Value, document_value, null_element, list, map, structure, union, values_of, MapEntries, put_entry, MemberValues, no_member_values}
+use Rattle.smithy_declarations.specs.Table.{Table, Member, ListShape, MapShape, Kind, scalar, document, structure_of, union_of, list_of, map_of, kind_of, place_in}
+use Rattle.smithy_declarations.specs.Documents.{DocumentFits, DocumentsFit}
+use Rattle.smithy_declarations.specs.Value.{Value, document_value, null_element, list, map, structure, union, values_of, MapEntries, put_entry, MemberValues, no_member_values}
 use Rattle.smithy_shapes.specs.Container.{folded, is_type_mark, element_of, entry_step, member_step, members_from, container_of}
 use Rattle.smithy_shapes.specs.Fits.{AscendFrom, KeysAscend, ElementsFit, EntriesFit, MembersFit, Fits}
 use Rattle.smithy_schema.specs.Reading.{Mark}

@@ -1,7 +1,7 @@
 -- How the entries of a container of each kind fold.
 use Rattle.std.specs.Prelude.{◌≡◌, ℕ, List, [], ◌∷◌, ◌++◌, Option, Some, None, Bool, true, false, refl, option_and_then, option_map, cond}
-use Rattle.smithy_shapes.specs.Table.{Kind, structure_of, union_of, list_of, map_of, is_sparse}
-use Rattle.smithy_shapes.specs.Value.{Value, list, map, structure, values_of, MemberValues, no_member_values, MapEntries, no_map_entries, put_entry}
+use Rattle.smithy_declarations.specs.Table.{Kind, structure_of, union_of, list_of, map_of, is_sparse}
+use Rattle.smithy_declarations.specs.Value.{Value, list, map, structure, values_of, MemberValues, no_member_values, MapEntries, no_map_entries, put_entry}
 use Rattle.smithy_shapes.specs.Container.{Entry, folded, is_type_mark, element_of, member_step, element_step, entry_step, container_of}
 use Rattle.smithy_wire.specs.Node.{Form, as_array, as_object}
 use Rattle.smithy_wire.specs.Rules.{Rules}

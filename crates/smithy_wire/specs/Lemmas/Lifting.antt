@@ -1,13 +1,13 @@
 -- What holds with the limits kept holds with them lifted.
 use Rattle.std.specs.Prelude.{◌≡◌, ◌+◌, ◌&&◌, ◌||◌, ℕ, zero, suc, List, Option, Some, None, Bool, true, false, refl, option_and_then, option_map, cond, if◌then◌else◌}
 use Rattle.std.proofs.Common.{sym, ◌∙◌, inl, inr}
-use Rattle.smithy_shapes.specs.declared.place.Place.{Place}
-use Rattle.smithy_shapes.specs.declared.shape_type.TimestampFormat.{TimestampFormat}
+use Rattle.smithy_declarations.specs.declared.place.Place.{Place}
+use Rattle.smithy_declarations.specs.declared.shape_type.TimestampFormat.{TimestampFormat}
 use Rattle.smithy_shapes.specs.Limits.{Limits, kept, lifted}
 use Rattle.smithy_types.specs.Document.{Document, null, array, object, item, whole_document, properties_by, with_pair}
 use Rattle.smithy_types.specs.declared.number.Number.{Number}
-use Rattle.smithy_shapes.specs.Table.{Table, Kind, scalar, document, kind_of, place_in, where_document}
-use Rattle.smithy_shapes.specs.Value.{document_value, null_element}
+use Rattle.smithy_declarations.specs.Table.{Table, Kind, scalar, document, kind_of, place_in, where_document}
+use Rattle.smithy_declarations.specs.Value.{document_value, null_element}
 use Rattle.smithy_shapes.specs.Container.{Entry, folded, container_of}
 use Rattle.smithy_schema.specs.Reading.{Mark, IsBelow}
 use Rattle.smithy_shapes.specs.Lemmas.Options.{chosen}

@@ -3,10 +3,10 @@ use Rattle.std.specs.Prelude.{◌≡◌, ℕ, suc, List, Bool, Option, Some, Non
 use Rattle.std.proofs.Common.{sym, ◌∙◌}
 use Rattle.smithy_types.specs.Document.{Document}
 use Rattle.smithy_types.specs.declared.number.Number.{Number}
-use Rattle.smithy_shapes.specs.declared.place.Place.{Place}
-use Rattle.smithy_shapes.specs.declared.shape_type.TimestampFormat.{TimestampFormat}
-use Rattle.smithy_shapes.specs.Table.{Table, Kind, document, structure_of, union_of, list_of, map_of, kind_of, where_document, is_sparse, IsSparse, IsDocument, IsList, IsMap, IsStructure, HasMembers, IsContainer}
-use Rattle.smithy_shapes.specs.Value.{Value}
+use Rattle.smithy_declarations.specs.declared.place.Place.{Place}
+use Rattle.smithy_declarations.specs.declared.shape_type.TimestampFormat.{TimestampFormat}
+use Rattle.smithy_declarations.specs.Table.{Table, Kind, document, structure_of, union_of, list_of, map_of, kind_of, where_document, is_sparse, IsSparse, IsDocument, IsList, IsMap, IsStructure, HasMembers, IsContainer}
+use Rattle.smithy_declarations.specs.Value.{Value}
 use Rattle.smithy_wire.specs.Node.{Form, as_array, as_object, Node, null_node, leaf, container, missing}
 use Rattle.smithy_wire.specs.Rules.{Answer, Rules, is_shallow}
 use Rattle.smithy_wire.specs.Documents.{document_meaning, document_by}

@@ -1,10 +1,10 @@
 use Rattle.std.proofs.Common.{◌≡◌, ◌≢◌, ap, arith, rules, refl, ◌∙◌, [], ◌∷◌, suc, length, Some, string_bytes}
 use Rattle.std.proofs.lemmas.List.{map-append}
 use Rattle.std.proofs.lemmas.Result.{err_from_is_err_and}
-use Rattle.smithy_shapes.specs.declared.shape_type.Scalar.TheVariants as scalars
-use Rattle.smithy_shapes.specs.declared.place.Target.TheVariants.{Simple}
+use Rattle.smithy_declarations.specs.declared.shape_type.Scalar.TheVariants as scalars
+use Rattle.smithy_declarations.specs.declared.place.Target.TheVariants.{Simple}
 use Rattle.smithy_shapes.specs.Site.{site_of, kind_at}
-use Rattle.smithy_shapes.specs.Value.{list, map, values_of, text, bytes, boolean}
+use Rattle.smithy_declarations.specs.Value.{list, map, values_of, text, bytes, boolean}
 use Rattle.smithy_schema.specs.Reading.{Cursor, depth}
 use Rattle.smithy_schema.specs.Consuming.{reader}
 use Rattle.smithy_schema.proofs.ReadContainers.{itself}

@@ -2,7 +2,7 @@ use Rattle.std.proofs.Common.{◌≡◌, ap, subst, arith, rules, refl, ◌∙�
 use Rattle.std.proofs.lemmas.Result.{err_from_is_err_and}
 use Rattle.std.proofs.lemmas.List.{drop_all}
 use Rattle.smithy_shapes.specs.Site.{site_of, member_of, element_of, key_of, value_of}
-use Rattle.smithy_shapes.specs.Value.{nesting, text, bytes, boolean, list, map, values_of, map_entry}
+use Rattle.smithy_declarations.specs.Value.{nesting, text, bytes, boolean, list, map, values_of, map_entry}
 use Rattle.smithy_schema.specs.Writing.{events, scalar_of, end_structure, end_list, end_map}
 use Rattle.smithy_schema.proofs.WrittenFields.{called, not_had}
 use Rattle.smithy_schema.proofs.WrittenLemmas.{not_failed}

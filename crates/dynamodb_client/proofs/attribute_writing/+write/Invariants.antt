@@ -1,7 +1,7 @@
 use Rattle.std.proofs.Common.{◌≡◌, ◌≤◌, ◌+◌, ◌*◌, ◌++◌, [], ◌∷◌, false, drop, length, Result}
 use Rattle.smithy_schema.specs.declared.error.SerdeError.{SerdeError}
 use Rattle.smithy_shapes.specs.Site.{site_of, element_of, key_of, value_of}
-use Rattle.smithy_shapes.specs.Value.{list, map, values_of, nesting, elements_nesting, entries_nesting}
+use Rattle.smithy_declarations.specs.Value.{list, map, values_of, nesting, elements_nesting, entries_nesting}
 use Rattle.smithy_schema.specs.Writing.{events, element_events, entry_events, end_list, end_map}
 use Rattle.smithy_schema.specs.Written.{Runs}
 use Rattle.dynamodb_client.specs.Attributes.{attribute_value, attribute_values, attribute_entries}

@@ -1,7 +1,7 @@
 use Rattle.std.proofs.Common.{◌≡◌, true, false, sym, subst, ◌∙◌}
 use Rattle.smithy_texts.specs.Decimal.{mantissa, net_exponent}
-use Rattle.smithy_shapes.specs.Value.{decimal}
-use Rattle.smithy_shapes.specs.declared.shape_type.Scalar.TheVariants as scalars
+use Rattle.smithy_declarations.specs.Value.{decimal}
+use Rattle.smithy_declarations.specs.declared.shape_type.Scalar.TheVariants as scalars
 use Rattle.smithy_cbor_values.specs.Standing.{Follows}
 use Rattle.smithy_cbor_values.specs.Private.ItemPlaces.{one_item}
 use Rattle.smithy_cbor_values.proofs.BigNumbers.{decimal_read, decimal_fits, decimal_refused, decimal_leaves, unread_is, unread_fits}

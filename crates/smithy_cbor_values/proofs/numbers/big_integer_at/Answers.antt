@@ -1,7 +1,7 @@
 use Rattle.std.proofs.Common.{◌≡◌, true, false, sym, subst, ◌∙◌}
 use Rattle.smithy_texts.specs.Numeral.{number}
-use Rattle.smithy_shapes.specs.Value.{whole}
-use Rattle.smithy_shapes.specs.declared.shape_type.Scalar.TheVariants as scalars
+use Rattle.smithy_declarations.specs.Value.{whole}
+use Rattle.smithy_declarations.specs.declared.shape_type.Scalar.TheVariants as scalars
 use Rattle.smithy_cbor_values.specs.Standing.{Follows}
 use Rattle.smithy_cbor_values.specs.Private.ItemPlaces.{one_item}
 use Rattle.smithy_cbor_values.proofs.BigNumbers.{integer_read, integer_fits, integer_refused, integer_leaves, unread_is, unread_fits}

@@ -1,6 +1,6 @@
 use Rattle.std.proofs.Common.{map, rules}
 use Rattle.std.proofs.lemmas.Result.{err_from_is_err_and}
-use Rattle.smithy_shapes.specs.DeclViews.{decl_of}
+use Rattle.smithy_declarations.specs.DeclViews.{decl_of}
 use Rattle.smithy_commands.specs.Checks.{longest_table, IsLoaded}
 use Rattle.smithy_commands.proofs.Refusals.{line_fails, build_fails}
 use Rattle.smithy_commands.proofs.checks.load_table.Goals as goal

@@ -1,7 +1,7 @@
 use Rattle.std.proofs.Common.{◌∙◌, sym, map}
 use Rattle.std.proofs.lemmas.Result.{err_from_is_err_and}
-use Rattle.smithy_shapes.specs.Acceptance.{build_of}
-use Rattle.smithy_shapes.specs.DeclViews.{decl_of}
+use Rattle.smithy_declarations.specs.Acceptance.{build_of}
+use Rattle.smithy_declarations.specs.DeclViews.{decl_of}
 use Rattle.smithy_generator.specs.Generated.{generated_table}
 use Rattle.smithy_generator.specs.GeneratedShapes.{generated_shapes}
 use Rattle.smithy_generator.proofs.Tables.{table_is}

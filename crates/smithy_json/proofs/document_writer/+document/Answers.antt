@@ -1,6 +1,6 @@
 use Rattle.std.proofs.Common.{◌+◌, ◌++◌, [], ◌∷◌, drop, sym, ap, ◌∙◌, subst, rules, OnErr}
 use Rattle.smithy_types.specs.DocumentView.{document_view, elements_view, properties_view}
-use Rattle.smithy_json.specs.Ascii.{begin_array, end_array, begin_object, end_object}
+use Rattle.smithy_json_grammar.specs.Ascii.{begin_array, end_array, begin_object, end_object}
 use Rattle.smithy_json.specs.Appending.{AddsFront}
 use Rattle.smithy_json.specs.Escape.{quoted}
 use Rattle.smithy_json.specs.DocumentText.{comma, document_text, elements_text, properties_text}

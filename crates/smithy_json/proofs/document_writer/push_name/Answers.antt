@@ -1,5 +1,5 @@
 use Rattle.std.proofs.Common.{[], ◌∷◌}
-use Rattle.smithy_json.specs.Ascii.{name_separator}
+use Rattle.smithy_json_grammar.specs.Ascii.{name_separator}
 use Rattle.smithy_json.specs.Escape.{quoted}
 use Rattle.smithy_json.proofs.AppendingLemmas.{inside_refused, closing_refused}
 use Rattle.smithy_json.proofs.document_writer.push_name.Goals as goal

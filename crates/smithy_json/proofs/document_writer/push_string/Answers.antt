@@ -1,6 +1,6 @@
 use Rattle.std.proofs.Common.{[], ◌∷◌, arith}
 use Rattle.std.proofs.lemmas.Grind.{common_steps}
-use Rattle.smithy_json.specs.Ascii.{quotation_mark}
+use Rattle.smithy_json_grammar.specs.Ascii.{quotation_mark}
 use Rattle.smithy_json.specs.Escape.{escaped}
 use Rattle.smithy_json.proofs.AppendingLemmas.{inside_refused, closing_refused}
 use Rattle.smithy_json.proofs.document_writer.push_string.Goals as goal

@@ -2,7 +2,7 @@ use Rattle.std.proofs.Common.{◌≡◌, ◌≢◌, ◌+◌, ◌++◌, [], lengt
 use Rattle.std.specs.List.{prefix_len}
 use Rattle.std.specs.Prelude.{string_bytes}
 use Rattle.smithy_json.specs.Escape.{escaped}
-use Rattle.smithy_json.specs.Private.Chars.{is_plain}
+use Rattle.smithy_json_grammar.specs.Private.Chars.{is_plain}
 use Rattle.smithy_json.proofs.EscapeLemmas.{escaped_same, escaped_longer, boundary_at_stop}
 use Rattle.smithy_json.proofs.EscapingLemmas.{run_written}
 use Rattle.smithy_json.proofs.escape.escape_string.Goals as goal

@@ -2,9 +2,9 @@ use Rattle.std.proofs.Common.{◌≡◌, ◌+◌, ◌≤◌, ◌++◌, length, d
 use Rattle.std.proofs.lemmas.List.{length-append}
 use Rattle.std.specs.List.{prefix_len}
 use Rattle.smithy_json.specs.Escape.{escaped}
-use Rattle.smithy_json.specs.Private.Chars.{is_plain}
+use Rattle.smithy_json_grammar.specs.Private.Chars.{is_plain}
 use Rattle.smithy_json.proofs.EscapeLemmas.{boundary_at_stop}
-use Rattle.smithy_json.proofs.StringLemmas.{run_is_over}
+use Rattle.smithy_json_grammar.proofs.StringLemmas.{run_is_over}
 use Rattle.smithy_json.proofs.EscapingLemmas.{run_written, all_written, rest_written, rest_refused}
 use Rattle.smithy_json.proofs.escape.push_escaped.Goals as goal
 

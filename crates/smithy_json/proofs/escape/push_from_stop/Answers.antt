@@ -2,8 +2,8 @@ use Rattle.std.proofs.Common.{◌≡◌, ◌+◌, ◌<◌, ◌≤◌, ◌++◌, 
 use Rattle.std.proofs.lemmas.List.{length-append}
 use Rattle.std.specs.List.{prefix_len, slice_index}
 use Rattle.smithy_json.specs.Escape.{escaped, escaped_byte}
-use Rattle.smithy_json.specs.Private.Chars.{is_plain}
-use Rattle.smithy_json.proofs.StringLemmas.{run_is_over}
+use Rattle.smithy_json_grammar.specs.Private.Chars.{is_plain}
+use Rattle.smithy_json_grammar.proofs.StringLemmas.{run_is_over}
 use Rattle.smithy_json.proofs.EscapeLemmas.{stop_is_other, boundary_at_stop, boundary_behind_stop}
 use Rattle.smithy_json.proofs.EscapingLemmas.{run_written, all_written, byte_written, front_written, front_kept}
 use Rattle.smithy_json.proofs.escape.push_from_stop.Goals as goal

@@ -1,6 +1,6 @@
 use Rattle.std.proofs.Common.{◌≡◌, length, string_bytes, arith}
 use Rattle.std.proofs.lemmas.Str.{IsUtf8-string_bytes}
-use Rattle.smithy_json.proofs.SliceLemmas.{can_cut}
+use Rattle.smithy_json_grammar.proofs.SliceLemmas.{can_cut}
 use Rattle.smithy_json.proofs.writer.push_quoted.Goals as goal
 
 pub truncate-requires : goal.truncate-requires

@@ -1,6 +1,6 @@
 use Rattle.std.proofs.Common.{◌≡◌, ◌==◌, ◌+◌, ◌-◌, ◌≤◌, length, drop}
 use Rattle.std.specs.List.{prefix_len}
-use Rattle.smithy_json.specs.Ascii.{digit_zero}
+use Rattle.smithy_json_grammar.specs.Ascii.{digit_zero}
 use Rattle.smithy_json_codec.proofs.big_numbers.zero_count.Given as goal
 
 -- zeros alone stand before the place that was reached

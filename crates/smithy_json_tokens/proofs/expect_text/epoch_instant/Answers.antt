@@ -1,6 +1,6 @@
 use Rattle.std.proofs.Common.{length, ◌∙◌, refl, sym, ap, subst, arith}
 use Rattle.std.proofs.lemmas.Grind.{common_steps}
-use Rattle.smithy_json.specs.Grammar.{IsNumber}
+use Rattle.smithy_json_grammar.specs.Grammar.{IsNumber}
 use Rattle.smithy_json_tokens.proofs.EpochNumbers.{whole_stands, whole_ends}
 use Rattle.smithy_json_tokens.proofs.expect_text.epoch_instant.Goals as goal
 

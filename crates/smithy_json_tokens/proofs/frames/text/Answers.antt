@@ -1,6 +1,6 @@
 use Rattle.std.proofs.Common.{◌≡◌, cond, subst, vec_items}
 use Rattle.std.proofs.lemmas.Result.{err_from_is_err_and}
-use Rattle.smithy_json.specs.EscapedText.{escaped_text}
+use Rattle.smithy_json_grammar.specs.EscapedText.{escaped_text}
 use Rattle.smithy_json_tokens.specs.DocumentSteps.{Step, where_value, wrong}
 use Rattle.smithy_json_tokens.specs.Private.Frames.{frames_view}
 use Rattle.smithy_json_tokens.proofs.FrameLemmas.{text_refused}

@@ -1,6 +1,6 @@
 use Rattle.std.proofs.Common.{◌≡◌, ◌∙◌, ◌+◌, ◌-◌, ◌/◌, ◌^◌, sym, ap, arith, map, drop, true, false}
 use Rattle.std.specs.Simd.Lanes.{mask_l, chunk}
-use Rattle.smithy_json.specs.Private.Chars.{ends_run}
+use Rattle.smithy_json_grammar.specs.Private.Chars.{ends_run}
 use Rattle.smithy_json_tokens.specs.TokenRules.{text_length}
 use Rattle.smithy_json_tokens.proofs.ScanLemmas.{text_length-run, text_length-taken}
 use Rattle.smithy_json_tokens.proofs.ScalarScans.{eq_false}

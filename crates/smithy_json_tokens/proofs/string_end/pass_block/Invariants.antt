@@ -1,6 +1,6 @@
 use Rattle.std.proofs.Common.{◌≡◌, ◌+◌, ◌-◌, ◌≤◌, ◌<◌, drop, map, true, false}
 use Rattle.std.specs.Simd.Lanes.{mask_l, chunk}
-use Rattle.smithy_json.specs.Private.Chars.{ends_run}
+use Rattle.smithy_json_grammar.specs.Private.Chars.{ends_run}
 use Rattle.smithy_json_tokens.specs.TokenRules.{text_length}
 use Rattle.smithy_json_tokens.proofs.string_end.pass_block.Given as goal
 

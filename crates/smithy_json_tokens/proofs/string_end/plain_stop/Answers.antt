@@ -1,6 +1,6 @@
 use Rattle.std.proofs.Common.{◌∙◌, ◌-◌, true, false, sym, ap, arith}
-use Rattle.smithy_json.specs.Private.Chars.{ends_run}
-use Rattle.smithy_json.proofs.LaneLemmas.{run_bound, ends_in}
+use Rattle.smithy_json_grammar.specs.Private.Chars.{ends_run}
+use Rattle.smithy_json_grammar.proofs.LaneLemmas.{run_bound, ends_in}
 use Rattle.smithy_json_tokens.proofs.string_end.plain_stop.Goals as goal
 use lib.Count.{count_trailing_zeros}
 

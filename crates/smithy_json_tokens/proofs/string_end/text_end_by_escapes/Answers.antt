@@ -1,5 +1,5 @@
 use Rattle.std.proofs.Common.{◌∙◌, arith}
-use Rattle.smithy_json.proofs.StringLemmas.{run_stops}
+use Rattle.smithy_json_grammar.proofs.StringLemmas.{run_stops}
 use Rattle.smithy_json_tokens.proofs.ScanLemmas.{text_length-run, text_length-taken}
 use Rattle.smithy_json_tokens.proofs.string_end.text_end_by_escapes.Goals as goal
 

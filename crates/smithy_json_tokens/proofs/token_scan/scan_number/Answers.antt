@@ -1,6 +1,6 @@
 use Rattle.std.proofs.Common.{◌==◌, slice_index, drop, to_z-of_z, ap, sym, ◌∙◌}
-use Rattle.smithy_json.specs.Ascii.{minus_sign}
-use Rattle.smithy_json.proofs.LongLemmas.{long_fits}
+use Rattle.smithy_json_grammar.specs.Ascii.{minus_sign}
+use Rattle.smithy_json_grammar.proofs.LongLemmas.{long_fits}
 use Rattle.smithy_json_tokens.specs.Tokens.{value_number}
 use Rattle.smithy_json_tokens.specs.TokenRules.{scanned}
 use Rattle.smithy_json_tokens.proofs.LongScans.{held, long_some, long_scans}

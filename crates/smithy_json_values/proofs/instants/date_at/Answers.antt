@@ -1,8 +1,8 @@
 use Rattle.std.proofs.Common.{◌≡◌, sym, ◌∙◌, ap, option_map}
 use Rattle.std.specs.Cow.{cow_str_bytes}
 use Rattle.smithy_instants.specs.DateText.{date_of}
-use Rattle.smithy_json.specs.Unescape.{unescaped}
-use Rattle.smithy_shapes.specs.declared.shape_type.Scalar.TheVariants as scalars
+use Rattle.smithy_json_grammar.specs.Unescape.{unescaped}
+use Rattle.smithy_declarations.specs.declared.shape_type.Scalar.TheVariants as scalars
 use Rattle.smithy_shapes.specs.Lemmas.Options.{same_some}
 use Rattle.smithy_json_values.specs.Codec.{held_settings}
 use Rattle.smithy_json_values.specs.LexicalGrammar.{grammar_of}

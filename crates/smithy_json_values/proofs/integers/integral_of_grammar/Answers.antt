@@ -1,6 +1,6 @@
 use Rattle.std.proofs.Common.{subst, sym, w64}
 use Rattle.std.proofs.lemmas.Int.{to_z-of_z}
-use Rattle.smithy_json.proofs.LongLemmas.{long_fits}
+use Rattle.smithy_json_grammar.proofs.LongLemmas.{long_fits}
 use Rattle.smithy_json_values.specs.Codec.{held_settings}
 use Rattle.smithy_json_values.specs.Private.NumberAtPlace.{IntegerStands}
 use Rattle.smithy_json_values.proofs.IntegerReads.{of_integral, integral_of, other_integral}

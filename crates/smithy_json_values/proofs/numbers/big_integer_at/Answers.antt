@@ -1,5 +1,5 @@
 use Rattle.std.proofs.Common.{sym, ◌∙◌, ap}
-use Rattle.smithy_shapes.specs.declared.shape_type.Scalar.TheVariants as scalars
+use Rattle.smithy_declarations.specs.declared.shape_type.Scalar.TheVariants as scalars
 use Rattle.smithy_json_values.specs.Scalar.{number_text, big_number, number_says}
 use Rattle.smithy_json_values.specs.Codec.{held_settings}
 use Rattle.smithy_json_values.specs.LexicalGrammar.{grammar_of}

@@ -1,7 +1,7 @@
 use Rattle.std.proofs.Common.{ap, subst, ◌≡◌}
 use Rattle.smithy_texts.specs.Numeral.{number}
-use Rattle.smithy_shapes.specs.declared.shape_type.Scalar.TheVariants as scalars
-use Rattle.smithy_shapes.specs.Value.{whole, scalar_value}
+use Rattle.smithy_declarations.specs.declared.shape_type.Scalar.TheVariants as scalars
+use Rattle.smithy_declarations.specs.Value.{whole, scalar_value}
 use Rattle.smithy_wire.specs.Rules.{means, wide}
 use Rattle.smithy_wire.specs.BigNumbers.{big_integer}
 use Rattle.smithy_json_values.specs.Scalar.{big_number}

@@ -1,5 +1,5 @@
 use Rattle.std.proofs.Common.{refl, subst, sym}
-use Rattle.smithy_json.specs.Ascii.{end_array, value_separator}
+use Rattle.smithy_json_grammar.specs.Ascii.{end_array, value_separator}
 use Rattle.smithy_json_values.specs.Codec.{held_grammar}
 use Rattle.smithy_json_values.specs.Private.NextInContainer.{IsFirstByte}
 use Rattle.smithy_json_values.proofs.FirstBytePlaces.{not_first, nothing_first}

@@ -1,5 +1,5 @@
 use Rattle.std.proofs.Common.{◌≡◌, ◌+◌, true, false, slice_range, ap, sym, ◌∙◌}
-use Rattle.smithy_json.proofs.LenientTextLemmas.{string_is_quoted, one_closing}
+use Rattle.smithy_json_grammar.proofs.LenientTextLemmas.{string_is_quoted, one_closing}
 use Rattle.smithy_json_values.specs.Codec.{held_grammar}
 use Rattle.smithy_json_values.proofs.StringsOf.{standard_passes, passes_standard}
 use Rattle.smithy_json_values.proofs.skip.skipped_closing.Goals as goal

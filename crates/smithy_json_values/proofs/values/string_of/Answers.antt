@@ -1,5 +1,5 @@
 use Rattle.std.proofs.Common.{ap, ◌∙◌}
-use Rattle.smithy_json.proofs.LenientTextLemmas.{string_is_quoted}
+use Rattle.smithy_json_grammar.proofs.LenientTextLemmas.{string_is_quoted}
 use Rattle.smithy_json_values.specs.Codec.{held_settings, held_grammar}
 use Rattle.smithy_json_values.proofs.StringsOf.{standard_is_read}
 use Rattle.smithy_json_values.proofs.values.string_of.Goals as goal

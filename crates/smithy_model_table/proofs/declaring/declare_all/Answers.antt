@@ -2,7 +2,7 @@ use Rattle.std.proofs.Common.{map, option_map}
 use Rattle.std.specs.Prelude.{option_to_list}
 use Rattle.smithy_model.specs.Views.{model_view}
 use Rattle.smithy_model_table.specs.Views.{names_view, left_view}
-use Rattle.smithy_shapes.specs.DeclViews.{decl_of}
+use Rattle.smithy_declarations.specs.DeclViews.{decl_of}
 use Rattle.smithy_model_table.proofs.OutcomeLemmas.{part_kept}
 use Rattle.smithy_model_table.proofs.declaring.declare_all.Goals as goal
 

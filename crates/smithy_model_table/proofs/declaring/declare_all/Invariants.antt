@@ -2,7 +2,7 @@ use Rattle.std.proofs.Common.{map, take}
 use Rattle.smithy_model.specs.Views.{model_view}
 use Rattle.smithy_model_table.specs.Outcomes.{AreParts}
 use Rattle.smithy_model_table.specs.Views.{names_view, left_view}
-use Rattle.smithy_shapes.specs.DeclViews.{decl_of}
+use Rattle.smithy_declarations.specs.DeclViews.{decl_of}
 use Rattle.smithy_model_table.proofs.declaring.declare_all.Given as goal
 
 -- what became of the shapes so far

@@ -1,6 +1,6 @@
 use Rattle.std.proofs.Common.{◌≡◌, map, drop}
 use Rattle.smithy_model_table.specs.Outcomes.{clashes}
-use Rattle.smithy_shapes.specs.DeclViews.{member_decl_of}
+use Rattle.smithy_declarations.specs.DeclViews.{member_decl_of}
 use Rattle.smithy_model_table.proofs.outcomes.clashes.Given as goal
 
 abbrev pub invariant-loop-earlier : goal.invariant-loop-earlier

@@ -1,7 +1,7 @@
 use Rattle.std.proofs.Common.{map, ap}
 use Rattle.smithy_model.specs.Views.{model_view, member_view}
 use Rattle.smithy_model_table.specs.Views.{bindings_view, names_view, left_view}
-use Rattle.smithy_shapes.specs.DeclViews.{member_decl_of}
+use Rattle.smithy_declarations.specs.DeclViews.{member_decl_of}
 use Rattle.smithy_model_table.proofs.OutcomeLemmas.{outcome_kept}
 use Rattle.smithy_model_table.proofs.outcomes.declare_members.Goals as goal
 

@@ -3,8 +3,8 @@ use Rattle.std.specs.Prelude.{Bool}
 use Rattle.std.proofs.lemmas.List.{length-map}
 use Rattle.std.proofs.lemmas.Result.{err_from_is_err_and}
 use Rattle.smithy_model.specs.Views.{model_view, shape_view}
-use Rattle.smithy_shapes.specs.declared.decl.Decl as kept
-use Rattle.smithy_shapes.specs.DeclViews.{decl_of}
+use Rattle.smithy_declarations.specs.declared.decl.Decl as kept
+use Rattle.smithy_declarations.specs.DeclViews.{decl_of}
 use Rattle.smithy_table_text.specs.Writable.{IsTextOf, RefusesDecls}
 use Rattle.smithy_model_table.specs.declared.fault.WantedFault.TheVariants as faults
 use Rattle.smithy_model_table.specs.Outcomes.{AreParts}

@@ -1,6 +1,6 @@
 use Rattle.std.proofs.Common.{◌≡◌, map, take}
-use Rattle.smithy_shapes.specs.Acceptance.{places_of, place_of}
-use Rattle.smithy_shapes.specs.DeclViews.{decl_of}
+use Rattle.smithy_declarations.specs.Acceptance.{places_of, place_of}
+use Rattle.smithy_declarations.specs.DeclViews.{decl_of}
 use Rattle.smithy_shapes.proofs.build.all_places.Given as goal
 
 abbrev pub invariant-loop-decl : goal.invariant-loop-decl

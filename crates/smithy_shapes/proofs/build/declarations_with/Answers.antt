@@ -2,9 +2,9 @@ use Rattle.std.proofs.Common.{ap, sym, ◌∙◌, ◌+◌, ◌≡◌, length, ma
 use Rattle.std.proofs.lemmas.List.{length_push, length-map, get_or-map}
 use Rattle.std.proofs.lemmas.Iterator.Adapters.{YieldsList-from_vec}
 use Rattle.std.proofs.lemmas.Iterator.Consumers.{YieldsList-turn}
-use Rattle.smithy_shapes.specs.declared.place.Place.{Place}
-use Rattle.smithy_shapes.specs.Acceptance.{places_of}
-use Rattle.smithy_shapes.specs.DeclViews.{decl_of}
+use Rattle.smithy_declarations.specs.declared.place.Place.{Place}
+use Rattle.smithy_declarations.specs.Acceptance.{places_of}
+use Rattle.smithy_declarations.specs.DeclViews.{decl_of}
 use Rattle.smithy_shapes.specs.Views.{declaration_of}
 use Rattle.smithy_shapes.proofs.BuildLemmas.{lengths_at, declaration_pushed}
 use Rattle.smithy_shapes.proofs.build.declarations_with.Goals as goal

@@ -1,5 +1,5 @@
 use Rattle.std.proofs.Common.{◌≡◌, map, length}
-use Rattle.smithy_shapes.specs.DeclViews.{decl_of}
+use Rattle.smithy_declarations.specs.DeclViews.{decl_of}
 use Rattle.smithy_shapes.specs.Views.{declaration_of}
 use Rattle.smithy_shapes.specs.Private.Placed.{table_with}
 use Rattle.smithy_shapes.proofs.build.declarations_with.Given as goal

@@ -2,7 +2,7 @@ use Rattle.std.proofs.Common.{ap, sym, ◌∙◌, ◌+◌, length, arith, refl, 
 use Rattle.std.proofs.lemmas.List.{length_push}
 use Rattle.std.proofs.lemmas.Iterator.Adapters.{YieldsList-from_vec}
 use Rattle.std.proofs.lemmas.Iterator.Consumers.{YieldsList-turn}
-use Rattle.smithy_shapes.specs.DeclViews.{member_decl_of}
+use Rattle.smithy_declarations.specs.DeclViews.{member_decl_of}
 use Rattle.smithy_shapes.specs.Views.{member_of}
 use Rattle.smithy_shapes.proofs.BuildLemmas.{member_pushed, read_at}
 use Rattle.smithy_shapes.proofs.build.members_with.Goals as goal

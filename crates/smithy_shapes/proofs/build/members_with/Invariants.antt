@@ -1,5 +1,5 @@
 use Rattle.std.proofs.Common.{◌≡◌, map, length}
-use Rattle.smithy_shapes.specs.DeclViews.{member_decl_of}
+use Rattle.smithy_declarations.specs.DeclViews.{member_decl_of}
 use Rattle.smithy_shapes.specs.Views.{member_of}
 use Rattle.smithy_shapes.specs.Private.Placed.{members_with}
 use Rattle.smithy_shapes.proofs.build.members_with.Given as goal

@@ -1,7 +1,7 @@
 use Rattle.std.proofs.Common.{sym, ap, Some, None, refl, map, unwrap_or}
-use Rattle.smithy_shapes.specs.Decl.{Decl}
-use Rattle.smithy_shapes.specs.DeclViews.{decl_of}
-use Rattle.smithy_shapes.proofs.Positions.{position-seen}
+use Rattle.smithy_declarations.specs.Decl.{Decl}
+use Rattle.smithy_declarations.specs.DeclViews.{decl_of}
+use Rattle.smithy_declarations.proofs.Positions.{position-seen}
 use Rattle.smithy_shapes.proofs.build.number_of.Goals as goal
 
 pub returns-in-Some : goal.returns-in-Some

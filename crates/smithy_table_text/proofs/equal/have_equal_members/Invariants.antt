@@ -1,5 +1,5 @@
 use Rattle.std.proofs.Common.{◌≡◌, map, drop, length}
-use Rattle.smithy_shapes.specs.DeclViews.{member_decl_of}
+use Rattle.smithy_declarations.specs.DeclViews.{member_decl_of}
 use Rattle.smithy_table_text.specs.Comparing.{same_members}
 use Rattle.smithy_table_text.proofs.equal.have_equal_members.Given as goal
 

@@ -1,9 +1,9 @@
 use Rattle.std.proofs.Common.{◌≡◌, ◌≤◌, ◌∙◌, List, ℕ, length, map, true, false, sym, subst, rules}
 use Rattle.std.specs.Cmp.Lexicographic.{pointwise}
 use Rattle.std.proofs.lemmas.Result.{err_from_is_err_and}
-use Rattle.smithy_shapes.specs.declared.decl.Decl as kept
-use Rattle.smithy_shapes.specs.DeclViews.{decl_of, IsLineFault}
-use Rattle.smithy_shapes.specs.TableText.{declarations_of, declarations}
+use Rattle.smithy_declarations.specs.declared.decl.Decl as kept
+use Rattle.smithy_declarations.specs.DeclViews.{decl_of, IsLineFault}
+use Rattle.smithy_declarations.specs.TableText.{declarations_of, declarations}
 use Rattle.smithy_table_text.specs.Comparing.{same_decl}
 use Rattle.smithy_table_text.specs.Writable.{longest_table}
 use Rattle.smithy_table_text.proofs.Refused.{line_refused, others_refused, table_refused, is_text}

@@ -1,5 +1,5 @@
 use Rattle.std.proofs.Common.{◌≡◌, ◌++◌, map, take, flat_map}
-use Rattle.smithy_shapes.specs.DeclViews.{member_decl_of}
+use Rattle.smithy_declarations.specs.DeclViews.{member_decl_of}
 use Rattle.smithy_table_text.specs.TableLines.{member_line}
 use Rattle.smithy_table_text.proofs.writing.write_members.Given as goal
 

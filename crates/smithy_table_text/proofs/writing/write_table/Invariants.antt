@@ -1,5 +1,5 @@
 use Rattle.std.proofs.Common.{◌≡◌, map, take}
-use Rattle.smithy_shapes.specs.DeclViews.{decl_of}
+use Rattle.smithy_declarations.specs.DeclViews.{decl_of}
 use Rattle.smithy_table_text.specs.TableLines.{table_text}
 use Rattle.smithy_table_text.proofs.writing.write_table.Given as goal
 

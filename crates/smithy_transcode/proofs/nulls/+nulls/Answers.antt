@@ -1,6 +1,6 @@
 use Rattle.std.proofs.Common.{rules, arith, drop, [], map as mapped, ◌≡◌, refl, sym, ◌∙◌, ap}
 use Rattle.std.proofs.lemmas.List.{drop_all}
-use Rattle.smithy_shapes.specs.Value.{values_of, nesting}
+use Rattle.smithy_declarations.specs.Value.{values_of, nesting}
 use Rattle.smithy_query_codec.specs.Nulls.{elements_hold_null}
 use Rattle.smithy_transcode.specs.Private.Tree.{entry_views, member_views, entries, entries_left, part_view}
 use Rattle.smithy_schema.proofs.WrittenLists as lists

@@ -1,5 +1,5 @@
 use Rattle.std.proofs.Common.{◌≡◌, ◌<◌, ◌≤◌, ◌+◌, ◌*◌, drop, map as mapped}
-use Rattle.smithy_shapes.specs.Value.{list, map, structure, values_of, nesting, elements_nesting, entries_nesting, members_nesting}
+use Rattle.smithy_declarations.specs.Value.{list, map, structure, values_of, nesting, elements_nesting, entries_nesting, members_nesting}
 use Rattle.smithy_schema.specs.Writing.{count_of, entry_count}
 use Rattle.smithy_query_codec.specs.Nulls.{elements_hold_null, entries_hold_null, members_hold_null}
 use Rattle.smithy_query_codec.specs.Counts.{ElementsHavePositions, EntriesHavePositions, MembersHavePositions}

@@ -4,7 +4,7 @@ use Rattle.smithy_transcode.proofs.reading.+read.Answers.Lists as lists
 use Rattle.smithy_transcode.proofs.reading.+read.Answers.Maps as maps
 use Rattle.std.proofs.Common.{Some, ap, rules, sym, ◌∙◌}
 use Rattle.std.proofs.lemmas.Result.{err_from_is_err_and}
-use Rattle.smithy_shapes.specs.declared.shape_type.Scalar.TheVariants as scalars
+use Rattle.smithy_declarations.specs.declared.shape_type.Scalar.TheVariants as scalars
 use Rattle.smithy_shapes.specs.Site.{site_of}
 use Rattle.smithy_transcode.proofs.ReadAnswers.{scalar_fails, scalar_made}
 use Rattle.smithy_transcode.proofs.reading.+read.Goals as goal

@@ -1,6 +1,6 @@
 use Rattle.std.proofs.Common.{◌≡◌, ◌+◌, ◌*◌, ◌-◌}
 use Rattle.smithy_schema.specs.Reading.{depth, in_structure, in_list, in_map}
-use Rattle.smithy_shapes.specs.Table.{kind_of, is_sparse}
+use Rattle.smithy_declarations.specs.Table.{kind_of, is_sparse}
 use Rattle.smithy_schema.proofs.ReadStructures.{structure_value}
 use Rattle.smithy_schema.proofs.ReadLists.{list_value}
 use Rattle.smithy_schema.proofs.ReadMaps.{map_value}

@@ -1,6 +1,6 @@
 use Rattle.std.proofs.Common.{Some, ap, rules, sym, ◌∙◌}
 use Rattle.std.proofs.lemmas.Result.{err_from_is_err_and}
-use Rattle.smithy_shapes.specs.declared.shape_type.Scalar.TheVariants as scalars
+use Rattle.smithy_declarations.specs.declared.shape_type.Scalar.TheVariants as scalars
 use Rattle.smithy_shapes.specs.Site.{site_of}
 use Rattle.smithy_transcode.proofs.ReadAnswers.{scalar_fails, scalar_made, document_fails, document_made}
 use Rattle.smithy_transcode.proofs.reading.read_out_of_line.Goals as goal

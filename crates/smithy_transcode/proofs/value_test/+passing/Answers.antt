@@ -1,7 +1,7 @@
 use Rattle.std.proofs.Common.{rules, arith, drop, [], map as mapped, ◌≡◌, refl, sym, ◌∙◌, ap}
 use Rattle.std.proofs.lemmas.List.{drop_all}
 use Rattle.smithy_shapes.specs.Site.{site_of, element_of, value_of}
-use Rattle.smithy_shapes.specs.Value.{nesting}
+use Rattle.smithy_declarations.specs.Value.{nesting}
 use Rattle.smithy_transcode.specs.Private.Tree.{entry_views, member_views, entries, entries_left, part_view, union_value_view}
 use Rattle.smithy_transcode.specs.Private.ValueTest.{test_view}
 use Rattle.smithy_shapes.proofs.Inner.{inner_element, inner_value}

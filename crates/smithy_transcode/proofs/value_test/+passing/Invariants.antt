@@ -2,7 +2,7 @@ use Rattle.std.proofs.Common.{◌≡◌, ◌≤◌, ◌+◌, ◌*◌, drop, map 
 use Rattle.smithy_shapes.specs.Fits.{ElementsFit, EntriesFit, MembersFit}
 use Rattle.smithy_shapes.specs.ScalarTest.{elements_pass, entries_pass, members_pass}
 use Rattle.smithy_shapes.specs.Site.{site_of, kind_at, element_of, value_of}
-use Rattle.smithy_shapes.specs.Value.{list, map, structure, union, values_of, nesting, elements_nesting, entries_nesting, members_nesting}
+use Rattle.smithy_declarations.specs.Value.{list, map, structure, union, values_of, nesting, elements_nesting, entries_nesting, members_nesting}
 use Rattle.smithy_transcode.specs.Private.Tree.{entry_views, member_views, entries, entries_left, part_view, union_value_view}
 use Rattle.smithy_transcode.specs.Private.ValueTest.{test_view}
 use Rattle.smithy_transcode.proofs.Maps.{count as count_entries}

@@ -2,7 +2,7 @@ use Rattle.std.proofs.Common.{rules, arith, map as mapped, ap, refl, ◌∙◌}
 use Rattle.std.proofs.lemmas.Result.{err_from_is_err_and}
 use Rattle.std.proofs.lemmas.List.{drop_all}
 use Rattle.smithy_shapes.specs.Site.{site_of}
-use Rattle.smithy_shapes.specs.Value.{nesting}
+use Rattle.smithy_declarations.specs.Value.{nesting}
 use Rattle.smithy_schema.specs.Writing.{end_structure, end_list}
 use Rattle.smithy_schema.proofs.WritingLemmas.{call_refused}
 use Rattle.smithy_transcode.specs.Private.Tree.{entry_views, member_views, entries, part_view, union_value_view}

@@ -1,7 +1,7 @@
 use Rattle.std.proofs.Common.{◌≡◌, ◌≤◌, ◌+◌, ◌*◌, false, drop, map as mapped}
 use Rattle.smithy_shapes.specs.Fits.{ElementsFit, EntriesFit, MembersFit}
 use Rattle.smithy_shapes.specs.Site.{site_of, kind_at}
-use Rattle.smithy_shapes.specs.Value.{list, map, structure, union, values_of, nesting, elements_nesting, entries_nesting, members_nesting}
+use Rattle.smithy_declarations.specs.Value.{list, map, structure, union, values_of, nesting, elements_nesting, entries_nesting, members_nesting}
 use Rattle.smithy_schema.specs.Writing.{write, run}
 use Rattle.smithy_transcode.specs.Private.Tree.{entry_views, member_views, entries, entries_left, part_view, union_value_view}
 use Rattle.smithy_schema.proofs.WrittenLists.{list_rest}

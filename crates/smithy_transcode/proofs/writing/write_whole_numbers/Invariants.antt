@@ -1,7 +1,7 @@
 use Rattle.std.proofs.Common.{◌≡◌, false, drop}
 use Rattle.smithy_shapes.specs.Fits.{ElementsFit}
 use Rattle.smithy_shapes.specs.Site.{site_of, kind_at}
-use Rattle.smithy_shapes.specs.Value.{list, values_of}
+use Rattle.smithy_declarations.specs.Value.{list, values_of}
 use Rattle.smithy_schema.specs.Writing.{write, run}
 use Rattle.smithy_transcode.specs.Private.Tree.{whole_values}
 use Rattle.smithy_schema.proofs.WrittenLists.{list_rest}

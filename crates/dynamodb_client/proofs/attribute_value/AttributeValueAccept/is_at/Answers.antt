@@ -1,5 +1,5 @@
 use Rattle.std.proofs.Common.{◌≡◌, ◌↔◌, IsTrue, false, Some, rules, sym}
-use Rattle.smithy_shapes.specs.declared.shape_type.ShapeType.TheVariants as types
+use Rattle.smithy_declarations.specs.declared.shape_type.ShapeType.TheVariants as types
 use Rattle.smithy_shapes.specs.Site.{site_of, member_site}
 use Rattle.smithy_shapes.specs.Declares.{Declares, Holds}
 use Rattle.dynamodb_client.specs.Attributes.{variant_members}

@@ -1,7 +1,7 @@
 use Rattle.std.proofs.Common.{[], ◌∷◌, Some, None, option_map, subst}
 use Rattle.std.proofs.lemmas.Result.{err_from_is_err_and}
 use Rattle.smithy_shapes.specs.Site.{site_of, member_of}
-use Rattle.smithy_shapes.specs.Value.{map}
+use Rattle.smithy_declarations.specs.Value.{map}
 use Rattle.smithy_schema.specs.TextMaps.{text_value}
 use Rattle.smithy_schema.specs.Writing.{events}
 use Rattle.smithy_schema.proofs.WrittenFields.{first_field, field_fails, last_field, value_added, nothing_added}

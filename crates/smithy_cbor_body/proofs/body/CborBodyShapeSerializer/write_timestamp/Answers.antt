@@ -3,7 +3,7 @@ use Rattle.std.specs.Prelude.{◌==◌}
 use Rattle.std.proofs.lemmas.Bool.{not-true, not-false}
 use Rattle.std.proofs.lemmas.Result.{err_from_is_err_and}
 use Rattle.smithy_shapes.specs.Site.{site_of}
-use Rattle.smithy_shapes.specs.Value.{instant}
+use Rattle.smithy_declarations.specs.Value.{instant}
 use Rattle.smithy_schema.specs.Writing.{scalar_of, after_value}
 use Rattle.smithy_instants.specs.Instant.{seconds_of, subsecond_of}
 use Rattle.smithy_cbor.specs.Written.{epoch_seconds_bytes}

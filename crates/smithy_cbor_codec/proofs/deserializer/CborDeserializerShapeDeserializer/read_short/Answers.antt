@@ -1,5 +1,5 @@
 use Rattle.std.proofs.Common.{◌≡◌, ◌≤◌, length, refl, sym, ◌∙◌, rules, lit≤}
-use Rattle.smithy_shapes.specs.declared.shape_type.Scalar.TheVariants as scalars
+use Rattle.smithy_declarations.specs.declared.shape_type.Scalar.TheVariants as scalars
 use Rattle.smithy_shapes.specs.Site.{site_of}
 use Rattle.smithy_cbor_codec.specs.Cursor.{cursor_of, reading_settings_of}
 use Rattle.smithy_cbor_values.proofs.ScalarReads.{reads_narrow}

@@ -1,7 +1,7 @@
 use Rattle.std.proofs.Common.{◌≡◌, ◌≤◌, length, Err, false, true, arith, sym, ap, ◌∙◌, refl, rules, inr}
 use Rattle.std.proofs.lemmas.Grind.{common_steps}
 use Rattle.smithy_schema.specs.declared.error.SerdeError.TheVariants.{TooDeep}
-use Rattle.smithy_schema.specs.declared.read.Step.{Step}
+use Rattle.smithy_schema.specs.declared.step.Step.{Step}
 use Rattle.smithy_schema.specs.Reading.{depth}
 use Rattle.smithy_shapes.specs.Site.{site_of, kind_at}
 use Rattle.smithy_json_codec.specs.Cursor.{cursor_of, reading_settings_of}

@@ -2,7 +2,7 @@ use Rattle.std.proofs.Common.{ℕ, arith, refl, sym, ap, subst, ◌∙◌, Err}
 use Rattle.std.proofs.lemmas.Grind.{common_steps}
 use Rattle.std.proofs.lemmas.Result.{IfOk-weaker}
 use Rattle.smithy_schema.specs.declared.error.SerdeError.TheVariants.{TooDeep}
-use Rattle.smithy_schema.specs.declared.read.Step.{Step}
+use Rattle.smithy_schema.specs.declared.step.Step.{Step}
 use Rattle.smithy_shapes.specs.Site.{site_of}
 use Rattle.smithy_schema.specs.Reading.{depth, CannotGoOn, MatchStep, passed_to}
 use Rattle.smithy_json_codec.specs.Cursor.{cursor_of, reading_settings_of}

@@ -4,7 +4,7 @@ use Rattle.smithy_json_codec.specs.Cursor.{cursor_of, reading_settings_of}
 use Rattle.smithy_json_values.specs.Settings.{without_limits}
 use Rattle.smithy_json_values.proofs.TypeLemmas.{members_told}
 use Rattle.smithy_wire.proofs.ScalarReads.{was_ready}
-use Rattle.smithy_schema.specs.Reading.{TellsType}
+use Rattle.smithy_schema.specs.Errors.{TellsType}
 use Rattle.smithy_json_codec.proofs.ReaderLemmas.{opens_members, opens_no_members}
 use Rattle.smithy_json_codec.proofs.DeserializerLemmas.{over_opens, over_enters, not_over}
 use Rattle.smithy_json_values.specs.Standing.{fresh_mark}

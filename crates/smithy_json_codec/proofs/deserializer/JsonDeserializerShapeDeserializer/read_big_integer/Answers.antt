@@ -3,9 +3,9 @@ use Rattle.std.proofs.lemmas.Grind.{common_steps}
 use Rattle.std.specs.Prelude.{FitsSigned}
 use Rattle.std.specs.Int.{w128}
 use Rattle.smithy_schema.specs.declared.error.SerdeError.TheVariants.{TooWide}
-use Rattle.smithy_shapes.specs.declared.shape_type.Scalar.TheVariants as scalars
+use Rattle.smithy_declarations.specs.declared.shape_type.Scalar.TheVariants as scalars
 use Rattle.smithy_shapes.specs.Site.{site_of}
-use Rattle.smithy_shapes.specs.Value.{whole}
+use Rattle.smithy_declarations.specs.Value.{whole}
 use Rattle.smithy_texts.specs.Numeral.{number}
 use Rattle.smithy_json_codec.specs.Cursor.{cursor_of, reading_settings_of}
 use Rattle.smithy_json_values.specs.NumberText.{NumberTextLies}

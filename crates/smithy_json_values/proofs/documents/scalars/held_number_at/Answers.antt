@@ -1,8 +1,8 @@
 use Rattle.std.proofs.Common.{ℤ, ◌==◌, ◌∙◌, cond, unsigned_abs, w64, subst, sym}
 use Rattle.std.proofs.lemmas.Int.{to_z-of_z}
 use Rattle.smithy_types.specs.declared.number.Number.TheVariants.{PosInt, NegInt}
-use Rattle.smithy_json.specs.Ascii.{minus_sign}
-use Rattle.smithy_json.proofs.LongLemmas.{long_fits}
+use Rattle.smithy_json_grammar.specs.Ascii.{minus_sign}
+use Rattle.smithy_json_grammar.proofs.LongLemmas.{long_fits}
 use Rattle.smithy_json_values.specs.Codec.{held_settings, held_grammar}
 use Rattle.smithy_json_values.specs.Private.OpenDocuments.{HeldNumberLies}
 use Rattle.smithy_json_values.proofs.HeldNumbers.{long_is_held}

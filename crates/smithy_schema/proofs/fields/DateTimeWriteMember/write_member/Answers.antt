@@ -1,5 +1,5 @@
 use Rattle.smithy_shapes.specs.Site.{site_of}
-use Rattle.smithy_shapes.specs.Value.{scalar_value, instant}
+use Rattle.smithy_declarations.specs.Value.{scalar_value, instant}
 use Rattle.smithy_schema.proofs.WrittenFields.{value_added, called, not_had}
 use Rattle.smithy_schema.proofs.fields.DateTimeWriteMember.write_member.Goals as goal
 

@@ -1,7 +1,7 @@
 use Rattle.std.proofs.Common.{◌≡◌, rules, to_z, of_z}
 use Rattle.std.specs.Int.{w32}
 use Rattle.smithy_shapes.specs.Site.{site_of}
-use Rattle.smithy_shapes.specs.Value.{scalar_value, whole}
+use Rattle.smithy_declarations.specs.Value.{scalar_value, whole}
 use Rattle.smithy_schema.proofs.WrittenFields.{value_added, called, not_had}
 use Rattle.smithy_schema.proofs.fields.I32WriteMember.write_member.Goals as goal
 

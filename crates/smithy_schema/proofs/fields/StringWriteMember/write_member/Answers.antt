@@ -1,6 +1,6 @@
 use Rattle.std.proofs.Common.{string_bytes}
 use Rattle.smithy_shapes.specs.Site.{site_of}
-use Rattle.smithy_shapes.specs.Value.{scalar_value, text}
+use Rattle.smithy_declarations.specs.Value.{scalar_value, text}
 use Rattle.smithy_schema.proofs.WrittenFields.{value_added, called, not_had}
 use Rattle.smithy_schema.proofs.fields.StringWriteMember.write_member.Goals as goal
 

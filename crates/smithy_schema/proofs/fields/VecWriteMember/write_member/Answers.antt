@@ -1,6 +1,6 @@
 use Rattle.std.proofs.Common.{◌≡◌, rules, length}
 use Rattle.smithy_shapes.specs.Site.{site_of}
-use Rattle.smithy_shapes.specs.Value.{list, values_of}
+use Rattle.smithy_declarations.specs.Value.{list, values_of}
 use Rattle.smithy_schema.specs.Fields.{structure_with, structures_with}
 use Rattle.smithy_schema.proofs.WrittenFields.{value_added, list_runs, not_had}
 use Rattle.smithy_schema.proofs.fields.VecWriteMember.write_member.Goals as goal

@@ -1,7 +1,7 @@
 use Rattle.std.proofs.Common.{◌≡◌, false, drop, Result}
 use Rattle.smithy_schema.specs.declared.error.SerdeError.{SerdeError}
 use Rattle.smithy_shapes.specs.Site.{site_of}
-use Rattle.smithy_shapes.specs.Value.{values_of}
+use Rattle.smithy_declarations.specs.Value.{values_of}
 use Rattle.smithy_schema.specs.Writing.{element_events, open_list}
 use Rattle.smithy_schema.specs.Written.{Runs, IsInside}
 use Rattle.smithy_schema.specs.Fields.{structures_with}

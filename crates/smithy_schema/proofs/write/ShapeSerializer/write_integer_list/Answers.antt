@@ -3,7 +3,7 @@ use Rattle.std.specs.Int.{w32}
 use Rattle.std.proofs.lemmas.Result.{err_from_is_err_and}
 use Rattle.std.proofs.lemmas.List.{drop_all}
 use Rattle.smithy_shapes.specs.Site.{site_of}
-use Rattle.smithy_shapes.specs.Value.{scalar_value, whole}
+use Rattle.smithy_declarations.specs.Value.{scalar_value, whole}
 use Rattle.smithy_schema.specs.Writing.{end_list}
 use Rattle.smithy_schema.proofs.ConsumingLemmas.{was_sound}
 use Rattle.smithy_schema.proofs.WrittenLemmas.{not_failed, failed_neither, ended_ok, ended_refused, list_nests}

@@ -1,6 +1,6 @@
 use Rattle.std.proofs.Common.{◌≡◌, false, drop, map}
 use Rattle.smithy_shapes.specs.Site.{site_of}
-use Rattle.smithy_shapes.specs.Value.{scalar_value, whole}
+use Rattle.smithy_declarations.specs.Value.{scalar_value, whole}
 use Rattle.smithy_schema.specs.Writing.{write, run}
 use Rattle.smithy_schema.specs.Written.{list_of_wholes}
 use Rattle.smithy_schema.proofs.WrittenLists.{list_rest}

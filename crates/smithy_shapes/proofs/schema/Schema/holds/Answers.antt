@@ -1,6 +1,6 @@
 use Rattle.std.proofs.Common.{◌≡◌, ◌↔◌, IsTrue, Some, None, option_map, rules, sym, ◌∙◌, ap}
-use Rattle.smithy_shapes.specs.declared.place.Place.{Place}
-use Rattle.smithy_shapes.specs.Table.{type_of, place_in, IsSparse}
+use Rattle.smithy_declarations.specs.declared.place.Place.{Place}
+use Rattle.smithy_declarations.specs.Table.{type_of, place_in, IsSparse}
 use Rattle.smithy_shapes.specs.Site.{Site, site_of, kind_at}
 use Rattle.smithy_shapes.proofs.Inner.{inner_place}
 use Rattle.smithy_shapes.proofs.schema.Schema.holds.Goals as goal

@@ -1,9 +1,9 @@
 use Rattle.std.proofs.Common.{Some, None, ap}
 use Rattle.std.specs.Option.{option_map}
-use Rattle.smithy_shapes.specs.Table.{members_of, json_name_of}
+use Rattle.smithy_declarations.specs.Table.{members_of, json_name_of}
 use Rattle.smithy_shapes.specs.Site.{site_of, kind_at}
 use Rattle.smithy_shapes.specs.Views.{member_of}
-use Rattle.smithy_shapes.proofs.Positions.{position-seen}
+use Rattle.smithy_declarations.proofs.Positions.{position-seen}
 use Rattle.smithy_shapes.proofs.schema.Schema.member_of_json_name.Goals as goal
 
 pub returns-in_err-position : goal.returns-in_err-position

@@ -2,14 +2,14 @@ use Rattle.std.proofs.Common.{ap, sym, ◌∙◌, ◌≡◌, length, map, arith,
 use Rattle.std.specs.Option.{option_map_or}
 use Rattle.std.proofs.lemmas.List.{length-map}
 use Rattle.std.proofs.lemmas.Simd.{map-map}
-use Rattle.smithy_shapes.specs.declared.place.Place.{Place}
-use Rattle.smithy_shapes.specs.Acceptance.{Fault, refused, accepted, table_from}
+use Rattle.smithy_declarations.specs.declared.place.Place.{Place}
+use Rattle.smithy_declarations.specs.Acceptance.{Fault, refused, accepted, table_from}
 use Rattle.smithy_shapes.specs.Accepted.{HaveTextNames}
-use Rattle.smithy_shapes.specs.DeclViews.{decl_of}
-use Rattle.smithy_shapes.specs.Table.{Table, kind_of, members_of, is_document_target}
+use Rattle.smithy_declarations.specs.DeclViews.{decl_of}
+use Rattle.smithy_declarations.specs.Table.{Table, kind_of, members_of, is_document_target}
 use Rattle.smithy_shapes.specs.Targets.{is_timestamp_target, table_has}
 use Rattle.smithy_shapes.specs.Views.{declaration_of}
-use Rattle.smithy_shapes.specs.Private.Order.{IsOrderOf}
+use Rattle.smithy_declarations.specs.Private.Order.{IsOrderOf}
 use Rattle.smithy_shapes.specs.Private.Placed.{table_with}
 use Rattle.smithy_shapes.proofs.BuildLemmas.{table_placed, lengths_of_places, names_kept}
 use Rattle.smithy_shapes.proofs.AcceptedLemmas.{passes, few_declarations, accepted_table}

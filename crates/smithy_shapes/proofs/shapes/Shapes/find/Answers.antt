@@ -1,8 +1,8 @@
 use Rattle.std.proofs.Common.{Some, None, sym, ◌∙◌, ap, map, option_map}
-use Rattle.smithy_shapes.specs.Table.{Declaration}
+use Rattle.smithy_declarations.specs.Table.{Declaration}
 use Rattle.smithy_shapes.specs.Views.{declaration_of}
-use Rattle.smithy_shapes.specs.declared.shape_type.ShapeRef.{ShapeRef}
-use Rattle.smithy_shapes.proofs.Positions.{position-seen}
+use Rattle.smithy_declarations.specs.declared.shape_type.ShapeRef.{ShapeRef}
+use Rattle.smithy_declarations.proofs.Positions.{position-seen}
 use Rattle.smithy_shapes.proofs.shapes.Shapes.find.Goals as goal
 
 pub returns : goal.returns

@@ -1,5 +1,5 @@
 use Rattle.std.proofs.Common.{refl, map}
-use Rattle.smithy_shapes.specs.Table.{structure, union, shape_place, shape_declared}
+use Rattle.smithy_declarations.specs.Table.{structure, union, shape_place, shape_declared}
 use Rattle.smithy_shapes.specs.Views.{member_of}
 use Rattle.smithy_shapes.proofs.Closed.{few_if_declared, members_known, declared_members}
 use Rattle.smithy_shapes.proofs.shapes.Shapes.members_at.Goals as goal

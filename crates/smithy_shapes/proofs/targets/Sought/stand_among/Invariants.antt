@@ -1,6 +1,6 @@
 use Rattle.std.proofs.Common.{◌≡◌, map, drop}
 use Rattle.std.specs.List.{list_any}
-use Rattle.smithy_shapes.specs.Table.{Member}
+use Rattle.smithy_declarations.specs.Table.{Member}
 use Rattle.smithy_shapes.specs.Views.{member_of}
 use Rattle.smithy_shapes.specs.Private.Sought.{is_sought}
 use Rattle.smithy_shapes.proofs.targets.Sought.stand_among.Given as goal

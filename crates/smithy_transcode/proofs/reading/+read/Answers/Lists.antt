@@ -2,7 +2,7 @@
 use Rattle.std.proofs.Common.{None, false, refl, sym, true, ◌∙◌, ◌≡◌}
 use Rattle.std.proofs.lemmas.Result.{err_from_is_err_and}
 use Rattle.smithy_shapes.specs.Site.{site_of}
-use Rattle.smithy_shapes.specs.Table.{kind_of}
+use Rattle.smithy_declarations.specs.Table.{kind_of}
 use Rattle.smithy_schema.specs.Reading.{child_null}
 use Rattle.smithy_schema.proofs.ReadContainers.{left_falls}
 use Rattle.smithy_schema.proofs.ReadLists.{IsNoNull, element_falls, element_place, list_contains}

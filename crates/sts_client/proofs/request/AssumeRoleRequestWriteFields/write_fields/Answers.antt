@@ -2,7 +2,7 @@ use Rattle.std.proofs.Common.{[], ◌∷◌, option_map}
 use Rattle.std.proofs.lemmas.Result.{err_from_is_err_and}
 use Rattle.smithy_shapes.specs.Site.{site_of}
 use Rattle.smithy_schema.proofs.WrittenFields.{first_field, field_fails, last_field}
-use Rattle.smithy_shapes.specs.Value.{list, values_of}
+use Rattle.smithy_declarations.specs.Value.{list, values_of}
 use Rattle.sts_client.specs.Shapes.{text_field, whole_field, tag_values}
 use Rattle.sts_client.proofs.request.AssumeRoleRequestWriteFields.write_fields.Goals as goal
 

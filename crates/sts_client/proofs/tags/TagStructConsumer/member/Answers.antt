@@ -1,9 +1,9 @@
 use Rattle.std.proofs.Common.{◌≡◌, ◌≢◌, arith, rules, refl, Some, string_bytes}
-use Rattle.smithy_shapes.specs.declared.shape_type.Scalar.TheVariants as scalars
+use Rattle.smithy_declarations.specs.declared.shape_type.Scalar.TheVariants as scalars
 use Rattle.smithy_shapes.specs.Site.{site_of}
-use Rattle.smithy_shapes.specs.Value.{text}
+use Rattle.smithy_declarations.specs.Value.{text}
 use Rattle.smithy_schema.specs.Fields.{passed}
-use Rattle.smithy_shapes.specs.declared.place.Target.TheVariants.{Simple}
+use Rattle.smithy_declarations.specs.declared.place.Target.TheVariants.{Simple}
 use Rattle.smithy_schema.proofs.ReadFields.{filled_field}
 use Rattle.smithy_schema.proofs.DeclaredMembers.{at_index, at_last, count_of, target_there}
 use Rattle.sts_client.specs.Shapes.{IsTag, tag_fields}

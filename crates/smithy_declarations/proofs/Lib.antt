@@ -1,0 +1,4 @@
+pub mod Positions
+pub mod TableTextLemmas
+pub mod OrderLemmas
+pub mod AcceptanceLemmas

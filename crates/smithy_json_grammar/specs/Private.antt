@@ -1,0 +1,5 @@
+pub mod Literal
+pub mod Chars
+pub mod Numeral
+pub mod AllowedNumeral
+pub mod Unescaping

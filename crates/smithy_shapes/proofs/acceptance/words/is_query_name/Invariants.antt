@@ -1,7 +1,0 @@
-use Rattle.std.proofs.Common.{◌≡◌, drop}
-use Rattle.std.specs.List.{list_all}
-use Rattle.smithy_shapes.specs.Names.{is_name_byte}
-use Rattle.smithy_shapes.proofs.acceptance.words.is_query_name.Given as goal
-
-abbrev pub invariant-loop-byte : goal.invariant-loop-byte
-invariant-loop-byte l = list_all is_name_byte (drop l.byte-index l.byte-items) ≡ list_all is_name_byte l.byte-items

@@ -1,8 +1,0 @@
-use Rattle.std.proofs.Common.{◌≡◌, ◌≤◌, ◌+◌, drop, length}
-use Rattle.smithy_shapes.specs.TableText.{given}
-use Rattle.smithy_shapes.specs.Private.Words.{texts}
-use Rattle.smithy_shapes.proofs.table_text.line.count_given.Given as goal
-
-abbrev pub invariant-loop-word : goal.invariant-loop-word
-invariant-loop-word l =
-    (l.count + length (given (texts (drop l.word-index l.words)) l.name) ≡ length (given (texts l.words) l.name)) × (l.count ≤ l.word-index)
