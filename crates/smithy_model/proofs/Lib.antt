@@ -4,6 +4,7 @@ mod Refusals
 mod Zip
 mod Put
 mod Mixing
+mod Taking
 mod Ids
 mod Behind
 mod RootRefusals

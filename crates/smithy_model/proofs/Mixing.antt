@@ -1,12 +1,12 @@
 -- Shapes whose mixins are taken in one after the other.
-use Rattle.std.proofs.Common.{◌≡◌, ◌≢◌, ◌⊎◌, ◌<◌, ◌≤◌, ◌+◌, ◌∙◌, inl, inr, ⊎_elim, ℕ, zero, suc, List, [], ◌∷◌, ◌++◌, length, map, set, get_or, slice_get, bytes_eq, MatchBool, Option, Some, None, option_map, refl, sym, ap, subst, arith, length-set, true≢false}
+use Rattle.std.proofs.Common.{◌≡◌, ◌≢◌, ◌⊎◌, ◌<◌, ◌≤◌, ◌+◌, ◌∙◌, inl, inr, ⊎_elim, ℕ, zero, suc, List, [], ◌∷◌, length, map, set, get_or, slice_get, bytes_eq, MatchBool, Option, Some, None, option_map, refl, sym, ap, subst, arith, length-set, true≢false}
 use Rattle.std.specs.Prelude.{◌==◌, Bool, true, false, not, ◌||◌, ◌&&◌, unwrap_or}
-use Rattle.std.specs.List.{AllZip, fold, list_any}
+use Rattle.std.specs.List.{AllZip, list_any}
 use Rattle.std.proofs.lemmas.Option.{none-some, slice_get-map, slice_get-get_or, slice_get_within}
 use Rattle.std.proofs.lemmas.Slice.Eq.{bytes_eq-Decides}
 use Rattle.std.proofs.lemmas.Bool.Decides.{nat_tests}
 use Rattle.smithy_model.specs.Model.{Shape}
-use Rattle.smithy_model.specs.Mixins.{takes_mixins, gathered, IsWith, IsMixed, is_done, IsDone, ArePartlyMixed, Disagrees, IsShapeOf, LeadsOn, HasNoCircle, AreMixed, IsCircle, IsInCircle, uses_of, MissesMixin}
+use Rattle.smithy_model.specs.Mixins.{takes_mixins, IsWith, IsMixed, is_done, IsDone, ArePartlyMixed, Disagrees, IsShapeOf, LeadsOn, HasNoCircle, AreMixed, IsCircle, IsInCircle, uses_of, MissesMixin}
 use Rattle.smithy_model.specs.declared.fault.ModelFault.{ModelFault}
 use Rattle.smithy_model.specs.declared.fault.ModelFault.TheVariants as faults
 use Rattle.smithy_model.specs.Faults.{RefusesMixins}

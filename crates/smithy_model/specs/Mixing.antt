@@ -1,5 +1,5 @@
 -- Shapes whose mixins are taken in one after the other.
-use Rattle.std.specs.Prelude.{◌≡◌, ◌⊎◌, ℕ, ◌+◌, List, [], ◌∷◌, length, MatchBool, Bool, true, false, Some, unwrap_or, if◌then◌else◌, slice_get}
+use Rattle.std.specs.Prelude.{◌≡◌, ◌⊎◌, ◌≤◌, ℕ, ◌+◌, List, [], ◌∷◌, length, MatchBool, Bool, true, false, Some, if◌then◌else◌, slice_get}
 use Rattle.std.specs.List.{AllZip}
 use Rattle.smithy_model.specs.Model.{Shape}
 use Rattle.smithy_model.specs.declared.fault.ModelFault.{ModelFault}
@@ -43,6 +43,12 @@ TakesIn old new before behind = (own : List Shape) → AreHalfMixed own old befo
 abbrev pub count_of_waiting : List Bool → ℕ
 count_of_waiting [] = 0
 count_of_waiting (d ∷ done) = (if d then 0 else 1) + count_of_waiting done
+
+-- Shapes whose mixins were taken in one after the other, each of which was added to those in the order.
+pub record TakesInMore (old : List Shape) (before : List Bool) (order : List ℕ) (new : List Shape) (behind : List Bool) (new_order : List ℕ) : Type 0 where
+  pub mixed : TakesIn old new before behind
+  pub uses : uses_of new ≡ uses_of old
+  pub fit : count_of_waiting behind + length new_order ≤ count_of_waiting before + length order
 
 -- the mixins of this shape are done, and its members and theirs don't agree
 abbrev pub IsAtOdds : List Shape → List Bool → Shape → List ℕ → Type 0

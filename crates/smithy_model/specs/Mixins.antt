@@ -2,7 +2,7 @@
 use Rattle.std.specs.Prelude.{◌≡◌, ◌==◌, ℕ, List, [], ◌∷◌, ◌++◌, length, MatchBool, ◌||◌, ◌&&◌, not, Bool, true, false, Option, Some, None, if◌then◌else◌, slice_get, unwrap_or, bytes_eq, map as list_map}
 use Rattle.std.specs.List.{AllZip, fold, list_any}
 use Rattle.std.specs.Option.{option_or}
-use Rattle.smithy_model.specs.Model.{Member, Kind, structure, union, list, map, Shape}
+use Rattle.smithy_model.specs.Model.{Member, Kind, structure, union, Shape}
 
 -- the shape takes in mixins
 abbrev pub takes_mixins : Shape → Bool

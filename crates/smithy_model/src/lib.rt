@@ -8,6 +8,7 @@ mod format;
 mod kinds;
 mod links;
 mod members;
+mod mixin_order;
 mod mixins;
 mod model;
 mod numbers;

@@ -167,10 +167,10 @@ pub(crate) fn read_members<'a>(
 ) -> Result<Option<Vec<Member<'a>>>, AllocError>
     ensures { IfOk result (λ members. option_map (λ ms. map member_view ms.items) members ≡ members_in (form_view format) (value_view spec.now)) }
 {
-    let mut members = Vec::new(alloc);
     let Some(entries) = entries(spec, "members") else {
-        return Ok(Some(members));
+        return Ok(Some(Vec::new(alloc)));
     };
+    let mut members = Vec::with_capacity(alloc, entries.len())?;
     for (name, part) in entries {
         match read_member(format, spec, *name, part) {
             Some(member) => members.push(member)?,

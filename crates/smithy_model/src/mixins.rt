@@ -10,6 +10,7 @@ ghost use Rattle.smithy_model.specs.Faults.{RefusesMixins};
 ghost use Rattle.smithy_model.specs.Views.{kind_view, member_view, shape_view, numbers_view, gathered_view};
 
 use crate::fault::ModelFault;
+use crate::mixin_order::take_in_order;
 use crate::model::{Kind, Member, Shape};
 use crate::numbers::Numbers;
 use std::alloc::{AllocError, Global};
@@ -205,8 +206,8 @@ fn give<'a>(shape: &mut Shape<'a>, gathered: Gathered<'a>)
     shape.time_format = gathered.time_format;
 }
 
-// Takes in the mixins of the shape of this number, where they are done and it isn't, and tells whether it did.
-fn take_in<'a>(
+/// Takes in the mixins of the shape of this number, where they are done and it isn't, and tells whether it did.
+pub(crate) fn take_in<'a>(
     alloc: Global,
     shapes: &mut Vec<Shape<'a>>,
     numbers: &Numbers<'a>,
@@ -259,7 +260,8 @@ fn take_in_some<'a>(
     Ok(found)
 }
 
-// Takes in mixins until no shape is left whose mixins are done.
+// Takes in mixins until no shape is left whose mixins are done. Behind `take_in_order` the first turn is the last; that it finds none says
+// that those which are left wait for one another.
 fn take_in_all<'a>(
     alloc: Global,
     shapes: &mut Vec<Shape<'a>>,
@@ -308,7 +310,11 @@ pub(crate) fn take_in_mixins<'a>(
     ensures refused { IfErr result (RefusesMixins (map shape_view shapes.old.items)) }
 {
     let mut done = complete_at_first(alloc, shapes)?;
+    let Some(_) = waiting(shapes, &done) else {
+        return Ok(());
+    };
     let numbers = Numbers::of(alloc, shapes)?;
+    take_in_order(alloc, shapes, &numbers, &mut done)?;
     take_in_all(alloc, shapes, &numbers, &mut done)?;
     match waiting(shapes, &done) {
         Some(id) => Err(ModelFault::BadMixin(id)),

@@ -6,13 +6,23 @@ ghost use Rattle.smithy_model.specs.Views.{shape_view, numbers_view};
 
 use crate::model::Shape;
 use std::alloc::{AllocError, Global};
-use std::collections::BTreeMap;
 
-/// The ids of shapes, and the number of each. Of equal ids the last has its number.
+/// The ids of shapes, and the number of each.
 #[derive(Drop)]
 pub(crate) struct Numbers<'a> {
     pub(crate) ids: Vec<&'a str>,
-    numbers: BTreeMap<&'a str, usize>,
+    // Each id behind its hash, with its number, in order. Ids of one namespace begin alike, so hashes are told apart sooner; and
+    // where all hashes are equal, the order of the ids still finds one in a few steps.
+    places: Vec<((u64, &'a str), usize)>,
+}
+
+// The hash of an id (FNV-1a).
+fn hash_of(id: &str) -> u64 {
+    let mut hash = 0xcbf2_9ce4_8422_2325;
+    for byte in id.as_bytes() {
+        hash = (hash ^ *byte as u64).wrapping_mul(0x0000_0100_0000_01b3);
+    }
+    hash
 }
 
 // The id at a place.
@@ -54,23 +64,33 @@ impl<'a> Numbers<'a> {
         ensures { IfOk result (λ numbers. numbers_view numbers ≡ ids_of (map shape_view shapes.now)) }
     {
         let mut ids = Vec::with_capacity(alloc, shapes.len())?;
-        let mut numbers = BTreeMap::new(alloc);
+        let mut places = Vec::with_capacity(alloc, shapes.len())?;
         for shape in shapes {
-            numbers.insert(shape.id, ids.len())?;
+            places.push(((hash_of(shape.id), shape.id), ids.len()))?;
             ids.push(shape.id)?;
         }
-        Ok(Numbers { ids, numbers })
+        places.sort_unstable();
+        Ok(Numbers { ids, places })
     }
 
-    /// The number of the shape of this id. What the map doesn't have is looked for among all, so that `None` says that no
+    /// The number under this id. That none is there is not proved to mean that no shape has the id.
+    pub(crate) fn place(&self, id: &'a str) -> Option<usize> {
+        let key = (hash_of(id), id);
+        match self.places.binary_search_by_key(&key, |place| place.0) {
+            Ok(at) => Some(self.places[at].1),
+            Err(_) => None,
+        }
+    }
+
+    /// The number of the shape of this id. What isn't found by its hash is looked for among all, so that `None` says that no
     /// shape has this id.
     pub(crate) fn number(&self, id: &'a str) -> Option<usize>
         ensures found { IfSome result (λ number. slice_get (numbers_view self.now) number ≡ Some id.now) }
         ensures unknown { result ≡ None → list_any (λ other. bytes_eq other id.now) (numbers_view self.now) ≡ false }
     {
-        if let Some(number) = self.numbers.get(&id) {
-            if has_at(&self.ids, *number, id) {
-                return Some(*number);
+        if let Some(number) = self.place(id) {
+            if has_at(&self.ids, number, id) {
+                return Some(number);
             }
         }
         find(&self.ids, id)

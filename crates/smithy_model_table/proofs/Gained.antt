@@ -27,6 +27,10 @@ moved false false first = refl
 pub gained_id : (id other : List ℕ) (before behind : Bool) → behind ≡ cond (is_eq (slice_cmp nat_cmp id other)) true before → behind ≡ (bytes_eq id other || before)
 gained_id id other before behind is = is ∙ true_or (is_eq (slice_cmp nat_cmp id other)) before ∙ ap (λ b. b || before) (is_eq-slice_cmp id other)
 
+-- the same of a text
+pub gained_text : (text other : List ℕ) (before behind : Bool) → behind ≡ cond (bytes_eq text other) true before → behind ≡ (bytes_eq text other || before)
+gained_text text other before behind is = is ∙ true_or (bytes_eq text other) before
+
 -- the same of a number
 pub gained_number : (number other : ℕ) (before behind : Bool) → behind ≡ cond (is_eq (nat_cmp number other)) true before → behind ≡ ((number == other) || before)
 gained_number number other before behind is = is ∙ true_or (is_eq (nat_cmp number other)) before ∙ ap (λ b. b || before) (unsigned_tied number other)

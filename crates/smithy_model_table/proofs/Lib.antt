@@ -4,6 +4,7 @@ mod Gained
 mod OutcomeLemmas
 mod Roots
 mod Shared
+mod TakenLemmas
 mod Visited
 mod Reachable
 mod Refused

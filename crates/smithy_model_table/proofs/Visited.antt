@@ -1,10 +1,10 @@
 -- Shapes that are visited one after the other.
-use Rattle.std.proofs.Common.{◌≡◌, ◌≢◌, ◌⊎◌, inl, inr, ◌<◌, ◌≤◌, ◌∙◌, ◌+◌, ℕ, zero, suc, List, [], ◌∷◌, ◌++◌, length, length-append, length-set, map, take, set, get_or, replicate, refl, sym, ap, subst, arith, eqb-true, ne_eqb, append_assoc, append-nil, lt-ltb, le-ltb, eq-eqb}
-use Rattle.std.specs.Prelude.{Bool, true, false, cond, not, ◌||◌, ◌&&◌, ◌==◌, nat_lt, flat_map}
-use Rattle.std.specs.List.{filter, list_any, list_all}
+use Rattle.std.proofs.Common.{◌≡◌, ◌≢◌, ◌<◌, ◌≤◌, ◌∙◌, ℕ, zero, suc, List, [], ◌∷◌, ◌++◌, length, length-append, length-set, set, get_or, replicate, refl, sym, ap, subst, arith, eqb-true, ne_eqb, append_assoc, append-nil, lt-ltb, le-ltb, eq-eqb}
+use Rattle.std.specs.Prelude.{Bool, true, false, cond, not, ◌||◌, ◌&&◌, ◌==◌, nat_lt}
+use Rattle.std.specs.List.{filter, list_all}
 use Rattle.std.proofs.lemmas.List.{length-replicate}
 use Rattle.std.proofs.lemmas.List.Elements.{filter-append}
-use Rattle.std.proofs.lemmas.List.Folds.{list_any-append, list_all-append}
+use Rattle.std.proofs.lemmas.List.Folds.{list_any-append}
 use Rattle.smithy_model_table.specs.Leaving.{is_marked}
 use Rattle.smithy_model_table.specs.Marking.{count_of_unmarked}
 use Rattle.smithy_model_table.specs.Reaching.{first_of_each, within}

@@ -1,5 +1,5 @@
 -- Where HTTP bindings count (Smithy 2.0, "HTTP bindings").
-use Rattle.std.specs.Prelude.{◌==◌, ℕ, List, ◌||◌, ◌&&◌, not, Bool, false}
+use Rattle.std.specs.Prelude.{◌==◌, ℕ, ◌||◌, ◌&&◌, not, Bool, false}
 use Rattle.std.specs.List.{list_any}
 use Rattle.std.specs.Option.{option_map_or}
 use Rattle.smithy_model.specs.Model as model

@@ -15,3 +15,4 @@ pub mod Views
 pub mod Finding
 pub mod Marking
 pub mod Visiting
+pub mod Taken

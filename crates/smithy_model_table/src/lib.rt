@@ -19,6 +19,7 @@ mod places;
 mod reached;
 mod roles;
 mod table;
+mod taken;
 mod wanted;
 
 pub use fault::WantedFault;

@@ -2,9 +2,10 @@
 ghost use Rattle.std.specs.Prelude.{◌≡◌, ◌++◌, List, [], ◌∷◌, map, option_map, IfOk, OnOk};
 ghost use Rattle.smithy_model.specs.Views.{model_view, member_view};
 ghost use Rattle.smithy_model_table.specs.Leaving.{reason_of};
-ghost use Rattle.smithy_model_table.specs.Outcomes.{LeftOut, clashes, IsOutcome, AreOutcomes, declared_of, left_of};
+ghost use Rattle.smithy_model_table.specs.Outcomes.{LeftOut, IsOutcome, AreOutcomes, declared_of, left_of};
+ghost use Rattle.smithy_model_table.specs.Taken.{AreTaken};
 ghost use Rattle.smithy_model_table.specs.Views.{bindings_view, names_view, reason_view, left_view, outcome_view};
-ghost use Rattle.smithy_declarations.specs.Acceptance.{json_name_of, query_name_of};
+ghost use Rattle.smithy_declarations.specs.Decl as declared;
 ghost use Rattle.smithy_declarations.specs.DeclViews.{member_decl_of};
 
 use crate::bindings::Bindings;
@@ -12,6 +13,7 @@ use crate::carried::{is_marked, is_outside};
 use crate::left::{Left, Reason};
 use crate::members::declare_member;
 use crate::names::Names;
+use crate::taken::TakenNames;
 use smithy_model::{Kind, Member, Model};
 use smithy_shapes::MemberDecl;
 use std::alloc::{AllocError, Global};
@@ -54,55 +56,24 @@ fn reason(
     }
 }
 
-// The name of a declared member in JSON.
-fn json_name(decl: &MemberDecl) -> &str
-    ensures { result.now ≡ json_name_of (member_decl_of decl.now) }
-{
-    match &decl.json {
-        Some(name) => name.as_str(),
-        None => decl.name.as_str(),
-    }
-}
-
-// The name of a declared member in a form.
-fn form_name(decl: &MemberDecl) -> &str
-    ensures { result.now ≡ query_name_of (member_decl_of decl.now) }
-{
-    match &decl.xml {
-        Some(name) => name.as_str(),
-        None => decl.name.as_str(),
-    }
-}
-
-// Whether a name of the member in JSON or in a form is that of an earlier one.
-fn clashes(decls: &[MemberDecl], decl: &MemberDecl) -> bool
-    ensures { result ≡ clashes (map member_decl_of decls.now) (member_decl_of decl.now) }
-{
-    for earlier in decls {
-        if json_name(earlier) == json_name(decl) || form_name(earlier) == form_name(decl) {
-            return true;
-        }
-    }
-    false
-}
-
-// What becomes of a member behind those that are declared so.
+// What becomes of a member behind those that have these names.
 fn decide<'a>(
     alloc: Global,
     model: &Model<'a>,
     marks: &[bool],
     names: &Names<'a>,
     counting: Bindings,
-    decls: &[MemberDecl],
+    taken: &TakenNames,
     member: &Member<'a>,
 ) -> Result<Outcome, AllocError>
-    ensures { IfOk result (λ o. IsOutcome (model_view model.now) marks.now (names_view names.now) (bindings_view counting) (map member_decl_of decls.now) (member_view member.now) (outcome_view member.now.name.now o)) }
+    ensures { IfOk result (λ o. (earlier : List declared.MemberDecl) → AreTaken earlier taken.now
+        → IsOutcome (model_view model.now) marks.now (names_view names.now) (bindings_view counting) earlier (member_view member.now) (outcome_view member.now.name.now o)) }
 {
     if let Some(reason) = reason(model, marks, counting, member) {
         return Ok(Outcome::Left(reason));
     }
     let decl = declare_member(alloc, model, names, member)?;
-    if clashes(decls, &decl) {
+    if taken.clash_with(&decl) {
         return Ok(Outcome::Left(Reason::Clash));
     }
     Ok(Outcome::Declared(decl))
@@ -110,17 +81,23 @@ fn decide<'a>(
 
 // Adds what becomes of the member of this name.
 fn add_outcome<'a>(
+    alloc: Global,
     shape: &'a str,
     member: &'a str,
     outcome: Outcome,
+    taken: &mut TakenNames,
     decls: &mut Vec<MemberDecl>,
     left: &mut Vec<Left<'a>>,
 ) -> Result<(), AllocError>
     ensures declared { OnOk result (map member_decl_of decls.new.items ≡ map member_decl_of decls.old.items ++ declared_of (outcome_view member.now outcome ∷ [])) }
     ensures left { OnOk result (map left_view left.new.items ≡ map left_view left.old.items ++ left_of shape.now (outcome_view member.now outcome ∷ [])) }
+    ensures taken { OnOk result ((earlier : List declared.MemberDecl) → AreTaken earlier taken.old → AreTaken (earlier ++ declared_of (outcome_view member.now outcome ∷ [])) taken.new) }
 {
     match outcome {
-        Outcome::Declared(decl) => Ok(decls.push(decl)?),
+        Outcome::Declared(decl) => {
+            taken.add(alloc, &decl)?;
+            Ok(decls.push(decl)?)
+        }
         Outcome::Left(reason) => Ok(left.push(Left {
             shape,
             member,
@@ -142,10 +119,19 @@ pub(crate) fn declare_members<'a>(
     ensures { IfOk result (λ decls. (added : List LeftOut) × (map left_view left.new.items ≡ map left_view left.old.items ++ added)
         × AreOutcomes (model_view model.now) marks.now (names_view names.now) (bindings_view owner.now.counting) owner.now.id.now (map member_view members.now) (map member_decl_of decls.items) added) }
 {
+    let mut taken = TakenNames::none(alloc);
     let mut decls = Vec::new(alloc);
     for member in members {
-        let outcome = decide(alloc, model, marks, names, owner.counting, &decls, member)?;
-        add_outcome(owner.id, member.name, outcome, &mut decls, left)?;
+        let outcome = decide(alloc, model, marks, names, owner.counting, &taken, member)?;
+        add_outcome(
+            alloc,
+            owner.id,
+            member.name,
+            outcome,
+            &mut taken,
+            &mut decls,
+            left,
+        )?;
     }
     Ok(decls)
 }

@@ -1,6 +1,6 @@
-use Rattle.std.proofs.Common.{◌≡◌, ◌<◌, ◌∙◌, List, [], ◌∷◌, ◌++◌, length, map, set, slice_get, Some, true, false, refl, sym, ap, subst, rules}
+use Rattle.std.proofs.Common.{◌≡◌, ◌<◌, ◌∙◌, List, length, map, set, slice_get, Some, true, false, refl, sym, ap, subst, rules}
 use Rattle.std.specs.Prelude.{Bool}
-use Rattle.std.specs.List.{fold, AllZip}
+use Rattle.std.specs.List.{AllZip}
 use Rattle.std.proofs.lemmas.Result.{err_from_is_err_and}
 use Rattle.smithy_model.specs.declared.model.Shape as kept
 use Rattle.smithy_model.specs.Model.{Shape}

@@ -1,4 +1,4 @@
-use Rattle.std.proofs.Common.{◌≡◌, ◌<◌, ◌≤◌, map}
+use Rattle.std.proofs.Common.{◌≡◌, map}
 use Rattle.smithy_model.specs.Mixins.{uses_of}
 use Rattle.smithy_model.specs.Mixing.{TakesIn, count_of_waiting}
 use Rattle.smithy_model.specs.Views.{shape_view}

@@ -1,9 +1,7 @@
-use Rattle.std.proofs.Common.{◌≡◌, ◌≤◌, ◌∙◌, ℕ, List, length, map, true, false, refl, sym, ap, subst, true≢false, arith, rules}
-use Rattle.std.specs.Prelude.{Bool}
+use Rattle.std.proofs.Common.{◌≤◌, ◌∙◌, length, map, refl, sym, subst, true≢false, arith, rules}
 use Rattle.std.proofs.lemmas.Result.{err_from_is_err_and}
 use Rattle.std.proofs.lemmas.List.{length-map}
-use Rattle.smithy_model.specs.Mixins.{uses_of}
-use Rattle.smithy_model.specs.Mixing.{IsSettledAt, count_of_waiting}
+use Rattle.smithy_model.specs.Mixing.{IsSettledAt}
 use Rattle.smithy_model.specs.Views.{shape_view}
 use Rattle.smithy_model.proofs.Mixing.{ids_kept, all_settled, refused_before}
 use Rattle.smithy_model.proofs.mixins.take_in_some.Goals as goal

@@ -1,8 +1,8 @@
-use Rattle.std.specs.Prelude.{false, option_map}
+use Rattle.std.specs.Prelude.{false}
 use Rattle.std.specs.Option.{option_map_or}
 use Rattle.std.proofs.lemmas.Result.{err_from_is_err_and}
 use Rattle.smithy_model.specs.Faults.{refers_to, has_structure}
-use Rattle.smithy_model.specs.Views.{reference_view, operation_view, numbers_view}
+use Rattle.smithy_model.specs.Views.{operation_view, numbers_view}
 use Rattle.smithy_model.proofs.Refusals.{misses_weaker, or_first, or_second}
 use Rattle.smithy_model.proofs.references.link_operation.Goals as goal
 

@@ -1,5 +1,4 @@
 use Rattle.std.proofs.Common.{◌≡◌, ◌∙◌, length, replicate, false, refl, sym, ap, subst, arith, rules}
-use Rattle.std.specs.Prelude.{Bool}
 use Rattle.std.proofs.lemmas.List.{length-map, length-replicate}
 use Rattle.smithy_model.specs.Views.{model_view, shape_view}
 use Rattle.smithy_model_table.specs.Marking.{AreSupported}

@@ -1,10 +1,9 @@
-use Rattle.std.proofs.Common.{◌≡◌, ◌≤◌, ◌<◌, ◌∙◌, ℕ, List, [], ◌++◌, length, replicate, false, true, get_or, append-nil, refl, sym, ap, subst, arith, rules}
-use Rattle.std.specs.Prelude.{Bool}
+use Rattle.std.proofs.Common.{◌≡◌, ◌≤◌, ◌<◌, ◌∙◌, [], ◌++◌, length, replicate, false, true, get_or, append-nil, sym, ap, subst, arith, rules}
 use Rattle.std.specs.List.{list_all}
 use Rattle.std.proofs.lemmas.List.{length-map}
 use Rattle.smithy_model.specs.Views.{model_view, shape_view}
 use Rattle.smithy_model_table.specs.Reaching.{targets_at}
-use Rattle.smithy_model_table.specs.Visiting.{AreVisited, Visits}
+use Rattle.smithy_model_table.specs.Visiting.{AreVisited}
 use Rattle.smithy_model_table.proofs.Visited.{none_visited}
 use Rattle.smithy_model_table.proofs.Reachable.{came_by, came_more, along_more, all_turned}
 use Rattle.smithy_model_table.proofs.reached.reached.Goals as goal

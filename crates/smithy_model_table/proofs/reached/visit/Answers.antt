@@ -1,6 +1,4 @@
-use Rattle.std.proofs.Common.{◌≡◌, ◌≤◌, ◌<◌, ◌∙◌, length, get_or, set, true, false, refl, sym, subst, arith, rules, ℕ, List, ◌∷◌, [], ◌++◌}
-use Rattle.std.specs.Prelude.{Bool}
-use Rattle.smithy_model_table.specs.Leaving.{is_marked}
+use Rattle.std.proofs.Common.{◌≡◌, ◌<◌, ◌∙◌, length, get_or, set, true, false, sym, subst, arith, rules, ◌∷◌, [], ◌++◌}
 use Rattle.smithy_model_table.specs.Visiting.{AreVisited}
 use Rattle.smithy_model_table.proofs.Fewest.{marked_there}
 use Rattle.smithy_model_table.proofs.Visited.{past_all, seen_before, newly_seen, unseen_there}

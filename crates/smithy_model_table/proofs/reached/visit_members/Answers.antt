@@ -2,7 +2,7 @@ use Rattle.std.proofs.Common.{◌∙◌, sym}
 use Rattle.smithy_model.specs.Views.{member_view}
 use Rattle.smithy_model_table.specs.Views.{bindings_view}
 use Rattle.smithy_model_table.proofs.Visited.{nothing_came}
-use Rattle.smithy_model_table.proofs.Reachable.{member_left, member_held}
+use Rattle.smithy_model_table.proofs.Reachable.{member_held}
 use Rattle.smithy_model_table.proofs.reached.visit_members.Goals as goal
 
 pub loop-member-init : goal.loop-member-init

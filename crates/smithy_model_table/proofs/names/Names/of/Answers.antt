@@ -1,7 +1,6 @@
-use Rattle.std.proofs.Common.{◌≡◌, ◌<◌, ◌∙◌, List, ℕ, Bor, [], ◌∷◌, ◌++◌, length, map, take, get_or, refl, sym, ap, ap₂, subst}
+use Rattle.std.proofs.Common.{◌≡◌, ◌<◌, ◌∙◌, List, ℕ, Bor, [], ◌∷◌, ◌++◌, length, map, take, get_or, sym, ap, ap₂, subst}
 use Rattle.std.proofs.lemmas.List.{map-append}
 use Rattle.smithy_model.specs.Views.{model_view, shape_view}
-use Rattle.smithy_model.specs.Model.{Shape}
 use Rattle.smithy_model_table.specs.Naming.{name_of_shape}
 use Rattle.smithy_model_table.proofs.Shared.{next_of, name_is}
 use Rattle.smithy_model_table.proofs.names.Names.of.Goals as goal
