@@ -2,4 +2,3 @@ pub mod WrittenLeaves
 pub mod WrittenPlaces
 pub mod NumberWriting
 pub mod InstantWriting
-pub mod LengthWriting

@@ -88,11 +88,15 @@ impl CborBody {
         ensures refused { IfErr result (λ e. IsFault e → after_value (body_of self.old).frames ≡ Err e) }
     {
         self.containers.begin()?;
+        if let Some(Container::List) = self.containers.innermost() {
+            count_value(&mut self.containers);
+            return Ok(());
+        }
         if let Some(Container::Structure) = self.containers.innermost() {
             write_name(&mut self.encoder, schema)?;
         }
         self.containers.pass_value()?;
-        count_value(&mut self.containers)?;
+        count_value(&mut self.containers);
         Ok(())
     }
 

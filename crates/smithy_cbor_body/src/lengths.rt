@@ -1,7 +1,8 @@
 //! The lengths with which containers are written.
 ghost use Rattle.std.specs.Prelude.{◌≡◌, ◌++◌, OnOk};
-ghost use Rattle.smithy_cbor_body.specs.Lengths.{head_of, begun, counted, counted_first, is_complete, end_of};
-ghost use Rattle.smithy_wire.specs.OpenContainers.{opens_of, marks_of};
+ghost use Rattle.smithy_cbor_body.specs.declared.lengths.Length.TheVariants.{Surplus};
+ghost use Rattle.smithy_cbor_body.specs.Lengths.{head_of, begun, counted_first, is_complete, end_of};
+ghost use Rattle.smithy_wire.specs.OpenContainers.{opens_of, marks_of, with_innermost};
 
 use smithy_cbor::Encoder;
 use smithy_wire::OpenContainers;
@@ -28,22 +29,6 @@ pub(crate) fn begun(length: Option<usize>) -> Length
     }
 }
 
-// What is known once one more element or entry has come.
-fn counted(length: Length) -> Length
-    ensures { result ≡ counted length }
-{
-    match length {
-        Length::Unwritten => Length::Unwritten,
-        Length::Due(due) => {
-            if due == 0 {
-                return Length::Surplus;
-            }
-            Length::Due(due - 1)
-        }
-        Length::Surplus => Length::Surplus,
-    }
-}
-
 // Whether a container may end: as many elements or entries came as were announced.
 pub(crate) fn is_complete(length: Length) -> bool
     ensures { result ≡ is_complete length }
@@ -56,17 +41,28 @@ pub(crate) fn is_complete(length: Length) -> bool
 }
 
 // One more element or entry of the innermost container has come.
-pub(crate) fn count_value(containers: &mut OpenContainers<Length>) -> Result<(), AllocError>
-    ensures lengths { OnOk result (marks_of containers.new ≡ counted_first (marks_of containers.old)) }
-    ensures containers { OnOk result (opens_of containers.new ≡ opens_of containers.old) }
+pub(crate) fn count_value(containers: &mut OpenContainers<Length>)
+    ensures lengths { marks_of containers.new ≡ counted_first (marks_of containers.old) }
+    ensures containers { opens_of containers.new ≡ opens_of containers.old }
     ensures broken { containers.new.failed ≡ containers.old.failed }
 {
-    match containers.mark() {
-        Some(Length::Due(due)) => containers.set_mark(counted(Length::Due(due))),
-        Some(Length::Unwritten) => Ok(()),
-        Some(Length::Surplus) => Ok(()),
-        None => Ok(()),
+    let Some(Length::Due(due)) = containers.mark() else {
+        return;
+    };
+    match due.checked_sub(1) {
+        Some(due) => containers.set_mark(Length::Due(due)),
+        None => pass_length(containers),
     }
+}
+
+// More elements or entries come than were announced.
+#[inline(never)]
+fn pass_length(containers: &mut OpenContainers<Length>)
+    ensures lengths { marks_of containers.new ≡ with_innermost Surplus (marks_of containers.old) }
+    ensures containers { opens_of containers.new ≡ opens_of containers.old }
+    ensures broken { containers.new.failed ≡ containers.old.failed }
+{
+    containers.set_mark(Length::Surplus);
 }
 
 // Writes the head of a list.

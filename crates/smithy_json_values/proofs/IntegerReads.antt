@@ -1,5 +1,5 @@
 -- From the integers that scanners find to those that lie behind ws, by each rule for integers.
-use Rattle.std.proofs.Common.{◌≡◌, ◌⊎◌, ◌-◌, ℕ, ℤ, pos, neg_ℤ, List, [], ◌∷◌, ◌++◌, length, slice_range, Bool, true, false, ◌==◌, ◌&&◌, Option, Some, None, option_map, refl, sym, ap, subst, ◌∙◌, arith, inl, inr}
+use Rattle.std.proofs.Common.{◌≡◌, ◌⊎◌, ℕ, ℤ, pos, neg_ℤ, List, [], ◌∷◌, ◌++◌, length, slice_range, Bool, true, false, ◌==◌, ◌&&◌, Option, Some, None, option_map, refl, sym, ap, subst, ◌∙◌, arith, inl, inr}
 use Rattle.std.proofs.lemmas.Bool.Decides.{nat_tests}
 use Rattle.std.specs.Prelude.{if◌then◌else◌, nat_lt}
 use Rattle.std.specs.Char.{IsAsciiDigit}
@@ -93,7 +93,7 @@ no_plus g b raw n = by n.minus n.int n.parts n.is_minus n.is_int
     by minus int same (inl none) (inr (inr is)) = let clash : [] ≡ minus_sign ∷ [] = sym none ∙ is.1 in cc
 
 -- so as a signed number it is its whole number
-whole_is_signed : (g : NumberGrammar) (raw : List ℕ) → IsNumberOf g raw → signed_number raw ≡ whole_number raw
+pub whole_is_signed : (g : NumberGrammar) (raw : List ℕ) → IsNumberOf g raw → signed_number raw ≡ whole_number raw
 whole_is_signed g [] n = refl
 whole_is_signed g (b ∷ raw) n = rw (no_plus g b raw n) refl
 

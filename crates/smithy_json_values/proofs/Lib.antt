@@ -33,6 +33,7 @@ pub mod HeldNumbers
 pub mod GrammarReads
 pub mod NumberRuns
 pub mod IntegerReads
+pub mod PlainIntegers
 pub mod NumberSorts
 pub mod IntegerRules
 pub mod NumberTexts

@@ -1,5 +1,5 @@
 -- The first byte behind its white space tells which node lies at a place.
-use Rattle.std.proofs.Common.{◌≤◌, ◌≡◌, ◌+◌, ◌∙◌, ℕ, List, [], ◌∷◌, ◌++◌, drop, Bool, true, false, length, refl, sym, ap, arith, subst}
+use Rattle.std.proofs.Common.{◌≤◌, ◌≡◌, ◌∙◌, ℕ, List, [], ◌∷◌, ◌++◌, drop, Bool, true, false, length, refl, sym, ap, arith, subst}
 use Rattle.std.proofs.lemmas.List.{length-drop, length-append}
 use Rattle.smithy_json_grammar.specs.Ascii.{quotation_mark, is_ws}
 use Rattle.smithy_json_grammar.specs.Grammar.{IsWs}

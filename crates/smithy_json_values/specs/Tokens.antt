@@ -2,7 +2,7 @@
 -- reader to say, by kind and settings: here a number is the longest run of its bytes, and a string ends at the first quotation
 -- mark that no backslash takes. So a node is determined by the bytes, whatever the settings. Of these only strictness is a parameter:
 -- it decides what may follow a value, and where the input is over.
-use Rattle.std.specs.Prelude.{◌≡◌, ◌≢◌, ◌⊎◌, ◌≤◌, ℕ, ◌-◌, ◌+◌, ◌==◌, ◌||◌, ◌&&◌, zero, suc, length, drop, List, [], ◌∷◌, ◌++◌, Option, Some, None, Bool, true, false, if◌then◌else◌, nat_le, codes, ⊤}
+use Rattle.std.specs.Prelude.{◌≡◌, ◌≤◌, ℕ, ◌-◌, ◌+◌, zero, suc, length, drop, List, [], ◌∷◌, ◌++◌, Option, Some, None, Bool, true, false, if◌then◌else◌, codes}
 use Rattle.std.specs.List.{AllByRecursion}
 use Rattle.smithy_schema.specs.Reading.{Mark}
 use Rattle.smithy_json_grammar.specs.Ascii.{quotation_mark, name_separator, end_array}

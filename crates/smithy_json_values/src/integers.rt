@@ -95,18 +95,28 @@ fn integer_by_rule(input: &[u8], start: usize, settings: &Settings) -> Option<(i
     }
 }
 
-// The integer of 64 bits at the offset, with its end. Only one of RFC 8259 is read in line.
+// The same, with the call in a function of its own: what it takes of the stack is set to zero where it is needed alone.
+#[inline(always)]
+fn rare_integer(input: &[u8], start: usize, settings: &Settings) -> Option<(i64, usize)>
+    requires { start ≤ length input.now }
+    ensures found { IfSome result (λ r. IntegerStands (held_settings settings.now) input.now start r.1 r.0) }
+    ensures none { IfNone result ((n : ℤ) (e : ℕ) → IntegerStands (held_settings settings.now) input.now start e n → ⊥) }
+{
+    let found = integer_by_rule(input, start, settings)?;
+    Some(found)
+}
+
+// The integer of 64 bits at the offset, with its end. A whole number of RFC 8259 is read in line, as it is one under every rule.
 #[inline(always)]
 fn standing_integer(input: &[u8], start: usize, settings: &Settings) -> Option<(i64, usize)>
     requires { start ≤ length input.now }
     ensures found { IfSome result (λ r. IntegerStands (held_settings settings.now) input.now start r.1 r.0) }
     ensures none { IfNone result ((n : ℤ) (e : ℕ) → IntegerStands (held_settings settings.now) input.now start e n → ⊥) }
 {
-    if let IntegerRule::Standard = settings.integers {
-        return read_long(input, start);
+    if let Some(plain) = read_long(input, start) {
+        return Some(plain);
     }
-    let found = integer_by_rule(input, start, settings)?;
-    Some(found)
+    rare_integer(input, start, settings)
 }
 
 /// The integer of 64 bits that comes first behind blanks, with its end.

@@ -77,20 +77,24 @@ impl<M: Copy> OpenContainers<M> {
     }
 
     /// Keeps this of the innermost container from now on.
-    pub fn set_mark(&mut self, mark: M) -> Result<(), AllocError>
-        ensures containers { OnOk result (opens_of self.new ≡ opens_of self.old) }
-        ensures marks { OnOk result (marks_of self.new ≡ with_innermost mark (marks_of self.old)) }
+    pub fn set_mark(&mut self, mark: M)
+        ensures containers { opens_of self.new ≡ opens_of self.old }
+        ensures marks { marks_of self.new ≡ with_innermost mark (marks_of self.old) }
         ensures broken { self.new.failed ≡ self.old.failed }
     {
-        match self.stack.last() {
-            Some(innermost) => {
-                let mut changed = *innermost;
-                changed.mark = mark;
-                self.stack.pop();
-                self.stack.push(changed)?;
-                Ok(())
-            }
-            None => Ok(()),
+        if let Some(innermost) = self.stack.len().checked_sub(1) {
+            self.stack[innermost].mark = mark;
+        }
+    }
+
+    // Of a map: this is due in the innermost container from now on.
+    fn turn(&mut self, container: Container)
+        ensures containers { opens_of self.new ≡ with_innermost (open_of container) (opens_of self.old) }
+        ensures marks { marks_of self.new ≡ marks_of self.old }
+        ensures broken { self.new.failed ≡ self.old.failed }
+    {
+        if let Some(innermost) = self.stack.len().checked_sub(1) {
+            self.stack[innermost].container = container;
         }
     }
 
@@ -133,10 +137,7 @@ impl<M: Copy> OpenContainers<M> {
             Some(innermost) => match innermost.container {
                 Container::MapAtKey => Err(SerdeError::Unwritable),
                 Container::MapAtValue => {
-                    let mut turned = *innermost;
-                    turned.container = Container::MapAtKey;
-                    self.stack.pop();
-                    self.stack.push(turned)?;
+                    self.turn(Container::MapAtKey);
                     Ok(())
                 }
                 Container::Structure | Container::List => Ok(()),
@@ -153,23 +154,11 @@ impl<M: Copy> OpenContainers<M> {
         ensures sound { IsErrOf result Failed → ⊥ }
         ensures broken { self.new.failed ≡ self.old.failed }
     {
-        match self.stack.last() {
-            Some(
-                OpenContainer {
-                    container: Container::MapAtKey,
-                    mark,
-                },
-            ) => {
-                let turned = OpenContainer {
-                    container: Container::MapAtValue,
-                    mark: *mark,
-                };
-                self.stack.pop();
-                self.stack.push(turned)?;
-                Ok(())
-            }
-            _ => self.pass_value(),
+        if let Some(Container::MapAtKey) = self.innermost() {
+            self.turn(Container::MapAtValue);
+            return Ok(());
         }
+        self.pass_value()
     }
 
     /// A container begins inside of the others.

@@ -2,7 +2,7 @@
 use Rattle.std.specs.Prelude.{◌≡◌, ◌&&◌, ◌||◌, ◌==◌, ◌<◌, ◌+◌, ◌*◌, ◌-◌, ◌^◌, ◌≤◌, ◌≤ℤ◌, ◌*ℤ◌, ◌+ℤ◌, ◌-ℤ◌, ℕ, ℤ, pos, neg_ℤ, List, [], ◌∷◌, length, take, drop, codes, Bool, true, false, Option, Some, None, option_map, if◌then◌else◌, nat_le, nat_lt, refl}
 use Rattle.std.specs.Int.{IsInRange, is_in_range}
 use Rattle.std.specs.Str.{byte, bytes_eq}
-use Rattle.std.proofs.Common.{◌∙◌, ap, subst, arith, cond}
+use Rattle.std.proofs.Common.{◌∙◌, ap, subst, arith}
 use Rattle.std.proofs.lemmas.Bool.Decides.{nat_tests}
 use Rattle.std.proofs.lemmas.Int.{ints}
 use Rattle.jiff_core.specs.Calendar.{days_in_month, days_from_civil, IsCivilDate}

@@ -1,6 +1,6 @@
 -- A tree means as a document what its node means under the rules of JSON, and so do documents at a place.
 use Rattle.std.specs.Prelude.{◌≡◌, ◌↔◌, ◌≤◌, ℕ, ℤ, zero, suc, pos, neg_ℤ, List, [], ◌∷◌, Bool, true, false, ◌==◌, drop, Option, Some, None, cond, option_map, option_and_then, refl, unsigned_abs, if◌then◌else◌}
-use Rattle.std.proofs.Common.{sym, ◌∙◌, ap, subst, arith}
+use Rattle.std.proofs.Common.{◌∙◌, ap, subst, arith}
 use Rattle.smithy_types.specs.Document.{Document, null, text, array, object, item, whole_document, properties_by, with_pair, is_document_number}
 use Rattle.smithy_types.specs.Document as documents
 use Rattle.smithy_types.specs.Number.{whole_number}
@@ -32,7 +32,7 @@ use Rattle.smithy_json_values.specs.Private.Wire.{tokens_are_wire}
 use Rattle.smithy_json_values.specs.Private.NodeDepths.{lies_with, ends_inside}
 use Rattle.smithy_json_values.specs.Private.Fits.{HoldsUtf8, text_is_utf8}
 use Rattle.smithy_wire.specs.Node.{Node}
-use Rattle.smithy_wire.specs.Rules.{Answer, means, no_meaning, settled, answer_of}
+use Rattle.smithy_wire.specs.Rules.{means, no_meaning, settled, answer_of}
 use Rattle.smithy_wire.specs.Documents.{document_of, elements_of, pairs_of}
 use Rattle.smithy_wire.specs.Readers.{settled_answer, document_stands, stands_node, part_uncarried}
 use Rattle.smithy_wire.specs.Wire.{IsWire}

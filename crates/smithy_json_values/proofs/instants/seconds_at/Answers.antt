@@ -2,7 +2,7 @@ use Rattle.std.proofs.Common.{sym, ◌∙◌, ap}
 use Rattle.smithy_instants.specs.Epoch.{epoch_nanos}
 use Rattle.smithy_json_values.specs.Codec.{held_settings}
 use Rattle.smithy_json_values.specs.LexicalGrammar.{grammar_of}
-use Rattle.smithy_json_values.specs.Scalar.{a_number, takes_seconds, seconds_read_as}
+use Rattle.smithy_json_values.specs.Scalar.{a_number, seconds_read_as}
 use Rattle.smithy_json_values.proofs.InstantPlaces.{not_taken, taken}
 use Rattle.smithy_json_values.proofs.NumberRuns.{one_number}
 use Rattle.smithy_json_values.proofs.instants.seconds_at.Goals as goal
