@@ -1,15 +1,13 @@
 -- What a reader finds at a place, as the contract of reading says it.
-use Rattle.std.proofs.Common.{◌≡◌, ◌≤◌, ◌<◌, ◌↔◌, ℕ, suc, length, List, ◌∷◌, Bool, true, false, Option, Some, None, Result, Ok, Err, refl, sym, ap, ◌∙◌, arith}
+use Rattle.std.proofs.Common.{◌≡◌, ◌≤◌, ◌↔◌, ℕ, length, List, ◌∷◌, Bool, true, false, Option, Some, None, Result, Ok, Err, refl, sym, ◌∙◌, arith}
 use Rattle.std.specs.Prelude.{IsTrue}
-use Rattle.std.specs.Result.{OnOk}
-use Rattle.std.proofs.lemmas.Bool.Decides.{nat_tests}
 use Rattle.smithy_schema.specs.declared.error.SerdeError.{SerdeError}
 use Rattle.smithy_schema.specs.declared.error.SerdeError.TheVariants.{Failed}
 use Rattle.smithy_declarations.specs.declared.place.Place.{Place}
 use Rattle.smithy_declarations.specs.Table.{Table, kind_of, IsList, IsMap, IsStructure}
-use Rattle.smithy_schema.specs.Reading.{Cursor, Frame, depth, Mark, Enters, Steps, Leaves, Conducts, OpensNot, SkipsNot, CannotGoOn, in_list, in_map}
+use Rattle.smithy_schema.specs.Reading.{Cursor, depth, Mark, Steps, Leaves, Conducts, SkipsNot, CannotGoOn, in_list, in_map}
 use Rattle.smithy_cbor_codec.specs.Cursor.{inside_of}
-use Rattle.smithy_cbor_values.specs.Settings.{Settings, Limits, kept, lifted, is_within}
+use Rattle.smithy_cbor_values.specs.Settings.{Settings}
 use Rattle.smithy_cbor_values.specs.Standing.{FollowsInside, RestIsEmpty, HasEntry, IsOver, mark_with, end_mark, end_depth, cbor_relations}
 use Rattle.smithy_cbor_codec.specs.Private.PassedEntries.{HasKey, PairMissing}
 use Rattle.smithy_cbor_values.specs.Private.Skipping.{SkipsTo}
@@ -18,7 +16,7 @@ use Rattle.smithy_cbor_values.specs.Private.ItemPlaces.{item_ahead, one_item}
 use Rattle.smithy_cbor_codec.proofs.EntryLemmas.{entry_by_due, over_by_due, key_by_due}
 use Rattle.smithy_cbor_codec.proofs.ReaderLemmas.{opens_empty, steps_in_list, closes_list, list_is_stuck, steps_in_map, closes_map, map_is_stuck}
 use Rattle.smithy_cbor_codec.proofs.SkippedValues.{skips_are}
-use Rattle.smithy_wire.specs.Walking.{entered_into, gone_on_to}
+use Rattle.smithy_wire.specs.Walking.{gone_on_to}
 
 -- ---- containers
 
@@ -27,34 +25,9 @@ pub empty_at : (o : Settings) (c : Cursor) (t : Table) (p : Place) → IsStructu
     → (cbor_relations o).opens c.input t p (depth c) c.at c.at end_mark
 empty_at o c t p kind rest = opens_empty o c.input t p kind (depth c) c.at rest
 
-pub empty_opens : (o : Settings) (c : Cursor) (t : Table) (p : Place) → IsStructure (kind_of t p) → RestIsEmpty o.enforce_strictness c.input c.at → OpensNot (cbor_relations o) c t p → ⊥
-empty_opens o c t p kind rest none = none c.at end_mark (empty_at o c t p kind rest)
-
 -- what a test denies
 pub not_missing : (missing : Bool) (A B : Type 0) → IsTrue missing ↔ A × B → missing ≡ false → A → B → ⊥
 not_missing missing A B is denied a b = let told : missing ≡ true = is.1 (a, b) in cc
-
-shallow_enough : (limits : Limits) (greatest d : ℕ) → limits ≡ kept → d < greatest → is_within limits greatest (suc d) ≡ true
-shallow_enough kept greatest d keeps h = grind (arith, nat_tests)
-shallow_enough lifted greatest d keeps h = cc
-
--- a container that opens was entered, if there is memory
-pub enters : {A : Type 0} (o : Settings) (c new : Cursor) (t : Table) (p : Place) (inside : ℕ) (frame held : Frame) (r : Result A SerdeError) → o.limits ≡ kept → c.failed ≡ false
-    → held ≡ frame → OnOk r (new ≡ entered_into c inside held) → OnOk r (depth c < o.max_depth)
-    → (cbor_relations o).opens c.input t p (depth c) c.at inside frame.mark → OnOk r (Enters (cbor_relations o) o.max_depth c new t p frame.within)
-enters o c new t p inside frame held (Ok x) keeps sound same is shallow opens =
-    let entered : new ≡ entered_into c inside frame = is ∙ ap (λ f. entered_into c inside f) same in
-    rw entered (record {
-      shallow = shallow;
-      allowed = shallow_enough o.limits o.max_depth (depth c) keeps shallow;
-      opens = opens;
-      input = refl;
-      within = refl;
-      outer = refl;
-      due = refl;
-      failed = sound;
-    })
-enters o c new t p inside frame held (Err e) keeps sound same is shallow opens = tt
 
 module _ (o : Settings) (c : Cursor) (t : Table) (p : Place) (kind : IsList (kind_of t p)) where
   -- the list went on to an element

@@ -1,11 +1,10 @@
 -- Where a structure or a union goes on to, as the contract of reading says it.
-use Rattle.std.proofs.Common.{◌≡◌, ℕ, List, ◌∷◌, Bool, Some, Option, Result, Ok, Err, refl, sym, ap, subst, ◌∙◌, false}
+use Rattle.std.proofs.Common.{◌≡◌, ℕ, List, ◌∷◌, Some, Option, Result, Ok, Err, refl, sym, subst, ◌∙◌, false}
 use Rattle.smithy_schema.specs.declared.error.SerdeError.{SerdeError}
 use Rattle.smithy_schema.specs.declared.error.SerdeError.TheVariants.{InvalidInput, TypeMismatch, TooDeep, TooWide, NotCarried, Unsupported, Unwritable, Missing, Failed, NoMemory}
-use Rattle.smithy_declarations.specs.declared.place.Place.{Place}
 use Rattle.smithy_schema.specs.declared.step.Step.{Step}
 use Rattle.smithy_schema.specs.declared.step.Step.TheVariants.{Member as ToMember, Unknown, End}
-use Rattle.smithy_declarations.specs.Table.{Table, IsStructure, HasMembers}
+use Rattle.smithy_declarations.specs.Table.{IsStructure, HasMembers}
 use Rattle.smithy_shapes.specs.Site.{Site, kind_at}
 use Rattle.smithy_schema.specs.Errors.{IsInvalid, IsRefused}
 use Rattle.smithy_schema.specs.Reading.{Cursor, depth, Steps, Leaves, MatchStep, CannotGoOn, passed_to, in_structure}
@@ -16,10 +15,6 @@ use Rattle.smithy_cbor_codec.specs.Private.PassedEntries.{Passes, StepsToMember,
 use Rattle.smithy_cbor_codec.specs.Private.MemberSteps.{EndsEmpty, StepsTo}
 use Rattle.smithy_cbor_codec.proofs.ReaderLemmas.{steps_to_member, closes_members, members_are_stuck, members_are_shut}
 use Rattle.smithy_wire.specs.Walking.{gone_on_to}
-
--- nothing is due, so that the cursor is as it is behind what was due
-undue : (c : Cursor) → c.due ≡ false → passed_to c c.at ≡ c
-undue c h = ap (λ (due : Bool). record c { due = due }) (sym h)
 
 -- ---- steps and ends
 
@@ -86,11 +81,6 @@ module _ (o : Settings) (c new : Cursor) (at : ℕ) (outer : Site) (kind : HasMe
       members_are_shut o c.input outer.table outer.place kind (depth c) at c.inner.mark e
       (subst (λ d. ClosesMembers o.enforce_strictness (kind_at outer) c.input d at (mark_with c.inner.mark.due) e) same h) shut
       (λ is at_end rest some. full is (at_end, rest, some))
-
--- where nothing was due
-pub stays_undue : (o : Settings) (c : Cursor) (t : Table) (p : Place) → c.due ≡ false
-    → CannotGoOn (cbor_relations o) (passed_to c c.at) t p → CannotGoOn (cbor_relations o) c t p
-stays_undue o c t p due h = subst (λ x. CannotGoOn (cbor_relations o) x t p) (undue c due) h
 
 -- what is no such value is refused
 pub invalid_refused : {A : Type 0} (r : Result A SerdeError) → IsInvalid r → IsRefused r

@@ -53,7 +53,8 @@ impl<'a> CborDeserializer<'a> {
 impl ShapeDeserializer for CborDeserializer<'_> {
     ghost use Rattle.std.specs.Prelude.{◌≡◌, ℕ, OnOk, IfOk, IsOk, IsErr, IsErrOf, true, false, refl};
     ghost use Rattle.smithy_schema.specs.Errors.{RefusesNoKind, IsRefused, IsInvalid, IsNoAnswer};
-    ghost use Rattle.smithy_schema.specs.Reading.{depth, in_structure, passed_to, null_is_due, Conducts, Passes, MatchStep, CannotGoOn, ReadsScalar, ReadsDocument, AnswersUncarried, NullsNot, SkipsNot, ReachesDepth};
+    ghost use Rattle.smithy_schema.specs.Containers.{GoesOnInStructure};
+    ghost use Rattle.smithy_schema.specs.Reading.{depth, in_structure, null_is_due, Conducts, Passes, ReadsScalar, ReadsDocument, AnswersUncarried, NullsNot, SkipsNot, ReachesDepth};
     ghost use Rattle.smithy_declarations.specs.Table.{HasMembers};
     ghost use Rattle.smithy_shapes.specs.Site.{site_of, kind_at};
     ghost use Rattle.smithy_schema.specs.declared.error.SerdeError.TheVariants.{NoMemory, NotCarried, TooDeep};
@@ -130,21 +131,7 @@ impl ShapeDeserializer for CborDeserializer<'_> {
         requires within { (cursor_of self.old).inner.within ≡ in_structure }
         requires place { HasMembers (kind_at (site_of schema.now)) }
         ensures same { reading_settings_of self.new ≡ reading_settings_of self.old }
-        ensures conduct { Conducts (cursor_of self.old) (cursor_of self.new) result }
-        ensures narrow { RefusesNoKind result }
-        ensures ok { (cursor_of self.old).due ≡ false → IfOk result (λ step. MatchStep step (cbor_relations (reading_settings_of self.old)) (cursor_of self.old) (cursor_of self.new) (site_of schema.now)) }
-        ensures refused { IsRefused result → (cursor_of self.old).due ≡ false
-            → CannotGoOn (cbor_relations (reading_settings_of self.old)) (cursor_of self.old) schema.now.shapes.now schema.now.place }
-        ensures none_without_limits { (reading_settings_of self.old).enforce_strictness ≡ true → IsInvalid result → (cursor_of self.old).due ≡ false
-            → CannotGoOn (cbor_relations (without_limits (reading_settings_of self.old))) (cursor_of self.old) schema.now.shapes.now schema.now.place }
-        ensures unread { (cursor_of self.old).due ≡ true
-            → IfOk result (λ step. (e : ℕ) × (cbor_relations (reading_settings_of self.old)).skips (cursor_of self.old).input (depth (cursor_of self.old)) (cursor_of self.old).at e × MatchStep step (cbor_relations (reading_settings_of self.old)) (passed_to (cursor_of self.old) e) (cursor_of self.new) (site_of schema.now)) }
-        ensures unread_refused { IsRefused result → (cursor_of self.old).due ≡ true → (e : ℕ) → (cbor_relations (reading_settings_of self.old)).skips (cursor_of self.old).input (depth (cursor_of self.old)) (cursor_of self.old).at e
-            → CannotGoOn (cbor_relations (reading_settings_of self.old)) (passed_to (cursor_of self.old) e) schema.now.shapes.now schema.now.place }
-        ensures unread_would { (reading_settings_of self.old).enforce_strictness ≡ true → IsInvalid result → (cursor_of self.old).due ≡ true → (e : ℕ) → (cbor_relations (without_limits (reading_settings_of self.old))).skips (cursor_of self.old).input (depth (cursor_of self.old)) (cursor_of self.old).at e
-            → CannotGoOn (cbor_relations (without_limits (reading_settings_of self.old))) (passed_to (cursor_of self.old) e) schema.now.shapes.now schema.now.place }
-        ensures deep { IsErrOf result TooDeep → ReachesDepth (cbor_relations (reading_settings_of self.old)) (reading_settings_of self.old).max_depth (cursor_of self.old) }
-        ensures limited { IsErrOf result TooDeep → (cbor_relations (reading_settings_of self.old)).limits_skips ≡ true }
+        ensures goes_on { GoesOnInStructure (cbor_relations (reading_settings_of self.old)) (cbor_relations (without_limits (reading_settings_of self.old))) ((reading_settings_of self.old).enforce_strictness ≡ true) (reading_settings_of self.old).max_depth (cursor_of self.old) (cursor_of self.new) (site_of schema.now) result }
 
         // An unread member may nest to any depth.
         ensures shallow { IsErrOf result TooDeep → ⊥ }

@@ -1,7 +1,7 @@
 -- What a reader finds at a place, as the contract of reading says it.
 use Rattle.std.proofs.Common.{◌≡◌, ◌≢◌, ◌≤◌, ◌+◌, inr, ℕ, length, List, true, false, Option, Some, None, Result, Ok, Err, refl, sym, ap, subst, ◌∙◌, arith}
 use Rattle.std.proofs.lemmas.Bool.Decides.{nat_tests}
-use Rattle.std.specs.Prelude.{◌↔◌, ◌<◌, suc, Bool, nat_le, IfSome, OnOk}
+use Rattle.std.specs.Prelude.{◌↔◌, Bool, nat_le, IfSome}
 use Rattle.std.specs.Result.{IsErrOf, IfOk}
 use Rattle.std.specs.declared.alloc.AllocError.{AllocError}
 use Rattle.smithy_schema.specs.declared.error.SerdeError.{SerdeError}
@@ -10,18 +10,18 @@ use Rattle.smithy_schema.specs.declared.error.SerdeError.TheVariants as errors
 use Rattle.smithy_declarations.specs.declared.place.Place.{Place}
 use Rattle.smithy_declarations.specs.Table.{Table, kind_of, IsList, IsMap, IsStructure}
 use Rattle.smithy_schema.specs.Errors.{IsFault, IsInvalid, IsOfReader, RefusesNoKind}
-use Rattle.smithy_schema.specs.Reading.{Cursor, Frame, depth, in_structure, Enters, Steps, Conducts, OpensNot, SkipsNot, CannotGoOn, failed_at, in_list, in_map}
+use Rattle.smithy_schema.specs.Reading.{Cursor, depth, Steps, Conducts, SkipsNot, CannotGoOn, failed_at, in_list, in_map}
 use Rattle.smithy_json_grammar.specs.Ascii.{end_array, end_object}
 use Rattle.smithy_json_grammar.specs.Unescape.{unescaped}
 use Rattle.smithy_json_codec.specs.declared.members.EntryFault.{EntryFault}
 use Rattle.smithy_json_codec.specs.declared.members.EntryFault.TheVariants as entry_faults
 use Rattle.smithy_json_values.specs.declared.skip.SkipFault.{SkipFault}
 use Rattle.smithy_json_values.specs.declared.skip.SkipFault.TheVariants as skip_faults
-use Rattle.smithy_json_codec.specs.Cursor.{inside_of, missing_frame}
+use Rattle.smithy_json_codec.specs.Cursor.{inside_of}
 use Rattle.smithy_wire.specs.declared.found.Found.{Found}
 use Rattle.smithy_wire.specs.declared.found.Found.TheVariants.{Value, Nothing, Beyond}
 use Rattle.smithy_wire.specs.Finding.{MatchFound, Takes, TakesWithin}
-use Rattle.smithy_wire.specs.Walking.{entered_into, gone_on_to}
+use Rattle.smithy_wire.specs.Walking.{gone_on_to}
 use Rattle.smithy_json_values.specs.Settings.{Settings, without_limits, is_shallow, kept}
 use Rattle.smithy_json_values.specs.LexicalGrammar.{frames_of}
 use Rattle.smithy_json_values.specs.Standing.{json_grammar, json_relations, end_mark}
@@ -53,8 +53,9 @@ takes_so P old new (Err e) result here taken = rw taken.0 tt
 -- ---- containers
 
 -- where the input is over a structure opens
-pub over_opens : (o : Settings) (c : Cursor) (t : Table) (p : Place) (e : ℕ) → IsStructure (kind_of t p) → IsOverBy o.enforce_strictness c.input c.at e → OpensNot (json_relations o) c t p → ⊥
-over_opens o c t p e kind over none = none e end_mark (inr (kind, over, refl))
+pub over_opens : (o : Settings) (c : Cursor) (t : Table) (p : Place) (e : ℕ) → IsStructure (kind_of t p) → IsOverBy o.enforce_strictness c.input c.at e
+    → (json_relations o).opens c.input t p (depth c) c.at e end_mark
+over_opens o c t p e kind over = inr (kind, over, refl)
 
 -- a test that fails says that it is not over
 pub not_over : (strict : Bool) (i : List ℕ) (at e : ℕ) (test : Bool) → (test ≡ true) ↔ IsOverBy strict i at (length i) → test ≡ false → IsOverBy strict i at e → ⊥
@@ -117,24 +118,6 @@ kept_shallow o d limits shallow = let test : nat_le d o.max_depth ≡ true = rw 
 
 pub shallow_kept : (o : Settings) (d : ℕ) → o.limits ≡ kept → d ≤ o.max_depth → is_shallow o d ≡ true
 shallow_kept o d limits shallow = let test : nat_le d o.max_depth ≡ true = grind (arith, nat_tests, shallow) in rw limits test
-
--- where the input is over a structure is entered
-pub over_enters : (o : Settings) (old new : Cursor) (t : Table) (p : Place) (end max : ℕ) (frame : Frame) (result : Result (Unit {0}) SerdeError) → IsStructure (kind_of t p) → o.limits ≡ kept
-    → IsOverBy o.enforce_strictness old.input old.at end → old.failed ≡ false → frame ≡ missing_frame → max ≡ o.max_depth
-    → OnOk result (new ≡ entered_into old end frame) → OnOk result (depth old < max) → OnOk result (Enters (json_relations o) o.max_depth old new t p in_structure)
-over_enters o old new t p end max frame (Err e) kind keeps over sound is limit entered shallow = tt
-over_enters o old new t p end max frame (Ok u) kind keeps over sound is limit entered shallow =
-    let room : depth old < o.max_depth = subst (λ n. depth old < n) limit shallow in
-    rw (entered, is) (record {
-      shallow = room;
-      allowed = shallow_kept o (suc (depth old)) keeps (omega (arith, room));
-      opens = inr (kind, over, refl);
-      input = refl;
-      within = refl;
-      outer = refl;
-      due = refl;
-      failed = sound;
-    })
 
 module _ (o : Settings) (c : Cursor) where
   -- nothing can be skipped, under limits that are kept

@@ -36,10 +36,6 @@ use Rattle.smithy_wire.specs.Rules.{position_in, drops_null, is_mark}
 use Rattle.smithy_json_values.proofs.OpenersLemmas.{node_takes_none}
 use Rattle.smithy_json_values.proofs.SkipSteps.{node_ahead}
 
--- nothing is due, so that the cursor is as it is behind what was due
-pub undue : (c : Cursor) → c.due ≡ false → passed_to c c.at ≡ c
-undue c h = ap (λ (due : Bool). record c { due = due }) (sym h)
-
 -- ---- a member's name and its step
 
 first_within : {X : Type 0} (p : X → Bool) (xs : List X) (test : Bool) → nat_lt (position_or_len p xs) (length xs) ≡ test → (n : ℕ)
@@ -218,8 +214,3 @@ module _ (g : LexicalGrammar) (input : List ℕ) (greatest held at end : ℕ) (s
 
   pub too_deep_behind : (Opens : ℕ → Type 0) → (q : ℕ) × (end ≤ q) × Opens q → (q : ℕ) × (at ≤ q) × Opens q
   too_deep_behind Opens h = (h.0, omega (arith, node_ahead g (is_skipped_in g) input held skips.node at end skips.lies, h.1), h.2)
-
--- where nothing was due
-pub stays_undue : (o : Settings) (c : Cursor) (t : Table) (p : Place) → c.due ≡ false
-    → CannotGoOn (json_relations o) (passed_to c c.at) t p → CannotGoOn (json_relations o) c t p
-stays_undue o c t p due h = subst (λ x. CannotGoOn (json_relations o) x t p) (undue c due) h

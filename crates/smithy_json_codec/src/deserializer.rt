@@ -36,7 +36,8 @@ pub struct JsonDeserializer<'c, 'a> {
 impl ShapeDeserializer for JsonDeserializer<'_, '_> {
     ghost use Rattle.std.specs.Prelude.{◌≡◌, ◌≤◌, ℕ, Some, true, false, refl, IfOk, IsOk, OnOk, IsErr, IsErrOf};
     ghost use Rattle.smithy_schema.specs.Errors.{RefusesNoKind, IsRefused, IsInvalid, IsNoAnswer};
-    ghost use Rattle.smithy_schema.specs.Reading.{depth, in_structure, passed_to, ReadsDocument, Conducts, Passes, MatchStep, CannotGoOn, SkipsNot, NullsNot, ReadsScalar, AnswersWide, ReachesDepth, null_is_due};
+    ghost use Rattle.smithy_schema.specs.Containers.{GoesOnInStructure};
+    ghost use Rattle.smithy_schema.specs.Reading.{depth, in_structure, ReadsDocument, Conducts, Passes, SkipsNot, NullsNot, ReadsScalar, AnswersWide, ReachesDepth, null_is_due};
     ghost use Rattle.smithy_declarations.specs.Table.{IsStructure, HasMembers};
     ghost use Rattle.smithy_shapes.specs.Site.{site_of, kind_at};
     ghost use Rattle.smithy_schema.specs.declared.error.SerdeError.TheVariants.{NoMemory, NotCarried, TooDeep};
@@ -119,21 +120,7 @@ impl ShapeDeserializer for JsonDeserializer<'_, '_> {
         requires within { (cursor_of self.old).inner.within ≡ in_structure }
         requires place { HasMembers (kind_at (site_of schema.now)) }
         ensures same { reader_settings_of self.new ≡ reader_settings_of self.old }
-        ensures conduct { Conducts (cursor_of self.old) (cursor_of self.new) result }
-        ensures narrow { RefusesNoKind result }
-        ensures ok { (cursor_of self.old).due ≡ false → IfOk result (λ step. MatchStep step (json_relations (reading_settings_of self.old)) (cursor_of self.old) (cursor_of self.new) (site_of schema.now)) }
-        ensures refused { IsRefused result → (cursor_of self.old).due ≡ false
-            → CannotGoOn (json_relations (reading_settings_of self.old)) (cursor_of self.old) schema.now.shapes.now schema.now.place }
-        ensures none_without_limits { (reading_settings_of self.old).enforce_strictness ≡ true → IsInvalid result → (cursor_of self.old).due ≡ false
-            → CannotGoOn (json_relations (without_limits (reading_settings_of self.old))) (cursor_of self.old) schema.now.shapes.now schema.now.place }
-        ensures unread { (cursor_of self.old).due ≡ true
-            → IfOk result (λ step. (e : ℕ) × (json_relations (reading_settings_of self.old)).skips (cursor_of self.old).input (depth (cursor_of self.old)) (cursor_of self.old).at e × MatchStep step (json_relations (reading_settings_of self.old)) (passed_to (cursor_of self.old) e) (cursor_of self.new) (site_of schema.now)) }
-        ensures unread_refused { IsRefused result → (cursor_of self.old).due ≡ true → (e : ℕ) → (json_relations (reading_settings_of self.old)).skips (cursor_of self.old).input (depth (cursor_of self.old)) (cursor_of self.old).at e
-            → CannotGoOn (json_relations (reading_settings_of self.old)) (passed_to (cursor_of self.old) e) schema.now.shapes.now schema.now.place }
-        ensures unread_would { (reading_settings_of self.old).enforce_strictness ≡ true → IsInvalid result → (cursor_of self.old).due ≡ true → (e : ℕ) → (json_relations (without_limits (reading_settings_of self.old))).skips (cursor_of self.old).input (depth (cursor_of self.old)) (cursor_of self.old).at e
-            → CannotGoOn (json_relations (without_limits (reading_settings_of self.old))) (passed_to (cursor_of self.old) e) schema.now.shapes.now schema.now.place }
-        ensures deep { IsErrOf result TooDeep → ReachesDepth (json_relations (reading_settings_of self.old)) (reading_settings_of self.old).max_depth (cursor_of self.old) }
-        ensures limited { IsErrOf result TooDeep → (json_relations (reading_settings_of self.old)).limits_skips ≡ true }
+        ensures goes_on { GoesOnInStructure (json_relations (reading_settings_of self.old)) (json_relations (without_limits (reading_settings_of self.old))) ((reading_settings_of self.old).enforce_strictness ≡ true) (reading_settings_of self.old).max_depth (cursor_of self.old) (cursor_of self.new) (site_of schema.now) result }
 
         // `TooDeep` comes only of a container that begins at the greatest depth, in the value that is skipped here or in the
         // value of a mark behind it.

@@ -7,8 +7,9 @@ use Rattle.smithy_declarations.specs.Table.{Table, IsStructure, kind_of}
 use Rattle.smithy_schema.specs.declared.step.Step.{Step}
 use Rattle.smithy_schema.specs.declared.step.Step.TheVariants.{Member as to_member_step, Unknown, End}
 use Rattle.smithy_shapes.specs.Site.{Site}
-use Rattle.smithy_schema.specs.Errors.{RefusesNoScalar, RefusesNoKind, IsNoAnswer, TellsType, IsRefused, IsInvalid, IsOfCursor}
-use Rattle.smithy_schema.specs.Reading.{Cursor, Relations, ContainerKind, Frame, depth, Enters, Steps, Leaves, CannotGoOn, OpensNot, ReachesDepth, Conducts, IsBehind, IsLawful, MatchStep, passed_to}
+use Rattle.smithy_schema.specs.Errors.{RefusesNoScalar, RefusesNoKind, IsNoAnswer, IsRefused, IsInvalid, IsOfCursor}
+use Rattle.smithy_schema.specs.Reading.{Cursor, Relations, ContainerKind, Frame, depth, Enters, Steps, Leaves, CannotGoOn, Conducts, IsBehind, IsLawful, MatchStep, passed_to}
+use Rattle.smithy_schema.specs.Containers.{Opens, GoesOnInStructure}
 use Rattle.smithy_schema.specs.Consuming.{Reader, Call, Rests, IsTaken, Cleared, nothing_due, skipped, Route, Along, went, RefusesOpening, RefusesMember, RefusesEntry, ToMember, ToEnd, IsMemberOf, site_in}
 
 -- ---- refusals
@@ -55,25 +56,18 @@ was_due true h = refl
 was_due false h = absurd (h refl)
 
 -- an opening that was refused
-pub opening_refused : (r : Reader) (site : Site) (old new : Cursor) (e : SerdeError) → Conducts {A = Unit {0}} old new (Err e) → RefusesNoScalar {A = Unit {0}} (Err e)
-    → (old.due ≡ false → IsNoAnswer {A = Unit {0}} (Err e))
-    → (old.due ≡ true → TellsType (r.wire.mismatches old.input site.table site.place old.at) e)
-    → (IsRefused {A = Unit {0}} (Err e) → old.due ≡ true → r.wire.allows (depth old) → OpensNot r.wire old site.table site.place)
-    → (r.tells_without_limits → IsInvalid {A = Unit {0}} (Err e) → old.due ≡ true → OpensNot r.lifted old site.table site.place)
-    → (IsInvalid {A = Unit {0}} (Err e) → old.due ≡ true → OpensNot r.wire old site.table site.place)
-    → (IsErrOf {T = Unit {0}} (Err e) TooDeep → depth old ≡ r.max_depth)
-    → (IsErrOf {T = Unit {0}} (Err e) TooDeep → OpensNot r.wire old site.table site.place → ⊥)
-    → RefusesOpening r site old e
-opening_refused r site old new e conduct narrow undue told refused none_without_limits invalid deepest deep = record {
-  failed = (λ h. conduct.failed.0 (is_error _ e Failed h), λ h. same_error _ e Failed (conduct.failed.1 h));
-  undue = undue;
-  told = told;
-  refused = refused;
-  none_without_limits = none_without_limits;
-  invalid = invalid;
-  deepest = λ h. deepest (is_error _ e TooDeep h);
-  deep = λ h. deep (is_error _ e TooDeep h);
-  narrow = of_cursor _ old new e conduct narrow;
+pub opening_refused : (r : Reader) (site : Site) (within : ContainerKind) (old new : Cursor) (e : SerdeError)
+    → Opens r.wire r.lifted r.tells_without_limits r.max_depth old new site within (Err e) → RefusesOpening r site old e
+opening_refused r site within old new e opens = record {
+  failed = (λ h. opens.conduct.failed.0 (is_error _ e Failed h), λ h. same_error _ e Failed (opens.conduct.failed.1 h));
+  undue = opens.undue;
+  told = opens.told;
+  refused = opens.refused;
+  none_without_limits = opens.none_without_limits;
+  invalid = opens.invalid;
+  deepest = λ h. opens.deepest (is_error _ e TooDeep h);
+  deep = λ h. opens.deep (is_error _ e TooDeep h);
+  narrow = of_cursor _ old new e opens.conduct opens.narrow;
 }
 
 -- a list or a map that doesn't go on
@@ -313,22 +307,16 @@ cannot_from : (w : Relations) (old from : Cursor) (site : Site) → Cleared w ol
 cannot_from w old from site (nothing_due none) here behind = here none
 cannot_from w old from site (skipped e due skips) here behind = behind due e skips
 
-pub member_refused : (A : Type 0) (r : Reader) (site : Site) (old new : Cursor) (e : SerdeError) → Conducts {A = A} old new (Err e) → RefusesNoKind {A = A} (Err e)
-    → (IsRefused {A = A} (Err e) → old.due ≡ false → CannotGoOn r.wire old site.table site.place)
-    → (r.tells_without_limits → IsInvalid {A = A} (Err e) → old.due ≡ false → CannotGoOn r.lifted old site.table site.place)
-    → (IsRefused {A = A} (Err e) → old.due ≡ true → (a : ℕ) → r.wire.skips old.input (depth old) old.at a → CannotGoOn r.wire (passed_to old a) site.table site.place)
-    → (r.tells_without_limits → IsInvalid {A = A} (Err e) → old.due ≡ true → (a : ℕ) → r.lifted.skips old.input (depth old) old.at a → CannotGoOn r.lifted (passed_to old a) site.table site.place)
-    → (IsErrOf {T = A} (Err e) TooDeep → ReachesDepth r.wire r.max_depth old)
-    → (IsErrOf {T = A} (Err e) TooDeep → r.wire.limits_skips ≡ true)
+pub member_refused : (r : Reader) (site : Site) (old new : Cursor) (e : SerdeError) → GoesOnInStructure r.wire r.lifted r.tells_without_limits r.max_depth old new site (Err e)
     → RefusesMember r site old e
-member_refused A r site old new e conduct narrow refused none_without_limits unread_refused unread_would deep limited = record {
-  failed = (λ h. conduct.failed.0 (is_error A e Failed h), λ h. same_error A e Failed (conduct.failed.1 h));
-  refused = λ fault from cleared. cannot_from r.wire old from site cleared (refused fault) (unread_refused fault);
-  none_without_limits = λ strict h from cleared. cannot_from r.lifted old from site cleared (none_without_limits strict h) (unread_would strict h);
-  deep = λ h. deep (is_error A e TooDeep h);
-  limited = λ h. limited (is_error A e TooDeep h);
-  narrow = of_cursor A old new e conduct narrow.0;
-  no_mismatch = λ h. narrow.1 (is_error A e TypeMismatch h);
+member_refused r site old new e goes = record {
+  failed = (λ h. goes.conduct.failed.0 (is_error Step e Failed h), λ h. same_error Step e Failed (goes.conduct.failed.1 h));
+  refused = λ fault from cleared. cannot_from r.wire old from site cleared (goes.refused fault) (goes.unread_refused fault);
+  none_without_limits = λ strict h from cleared. cannot_from r.lifted old from site cleared (goes.none_without_limits strict h) (goes.unread_would strict h);
+  deep = λ h. goes.deep (is_error Step e TooDeep h);
+  limited = λ h. goes.limited (is_error Step e TooDeep h);
+  narrow = of_cursor Step old new e goes.conduct goes.narrow.0;
+  no_mismatch = λ h. goes.narrow.1 (is_error Step e TypeMismatch h);
 }
 
 -- how much is left, where a value that was left unread is skipped

@@ -1,5 +1,6 @@
 pub mod Errors
 pub mod Reading
+pub mod Containers
 pub mod Sizes
 pub mod Consuming
 pub mod Elements

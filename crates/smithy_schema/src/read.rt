@@ -1,5 +1,5 @@
 //! Reading a value as a schema directs.
-ghost use Rattle.std.specs.Prelude.{◌≡◌, ◌≤◌, ℕ, length, Option, Some, None, Bool, true, false, ◌&&◌, IfOk, IfErr, IsOk, OnOk, IsErrOf, IsErr, MatchBool, MatchOption, string_bytes, FitsSigned, OnErr};
+ghost use Rattle.std.specs.Prelude.{◌≡◌, ◌≤◌, ℕ, length, Option, Some, None, Bool, true, false, ◌&&◌, IfOk, IsOk, OnOk, IsErrOf, IsErr, MatchBool, MatchOption, string_bytes, FitsSigned, OnErr};
 ghost use Rattle.std.specs.Int.{w128};
 ghost use Rattle.smithy_texts.specs.Numeral.{number};
 ghost use Rattle.smithy_texts.specs.Decimal.{mantissa, net_exponent};
@@ -8,8 +8,9 @@ ghost use Rattle.smithy_declarations.specs.declared.shape_type.Scalar.TheVariant
 ghost use Rattle.smithy_declarations.specs.Table.{Table, kind_of, IsStructure, HasMembers, IsList, IsMap};
 ghost use Rattle.smithy_declarations.specs.Value.{Value, boolean, whole, text, bytes, decimal, instant};
 ghost use Rattle.smithy_shapes.specs.Site.{site_of, kind_at};
-ghost use Rattle.smithy_schema.specs.Errors.{RefusesNoScalar, RefusesNoKind, IsRefused, IsInvalid, IsNoAnswer, TellsType};
-ghost use Rattle.smithy_schema.specs.Reading.{ReadsScalar, ReadsDocument, AnswersWide, AnswersUncarried, Cursor, depth, Relations, Mark, IsLawful, StandsFit, CountsOpeners, IsBelow, Conducts, Passes, Enters, Steps, Leaves, MatchStep, CannotGoOn, OpensNot, SkipsNot, NullsNot, ReachesDepth, null_is_due, failed_at, passed_to, in_structure, in_list, in_map};
+ghost use Rattle.smithy_schema.specs.Errors.{RefusesNoKind, IsRefused, IsInvalid, IsNoAnswer};
+ghost use Rattle.smithy_schema.specs.Containers.{Opens, GoesOnInStructure};
+ghost use Rattle.smithy_schema.specs.Reading.{ReadsScalar, ReadsDocument, AnswersWide, AnswersUncarried, Cursor, depth, Relations, Mark, IsLawful, StandsFit, CountsOpeners, IsBelow, Conducts, Passes, Steps, Leaves, CannotGoOn, SkipsNot, NullsNot, ReachesDepth, null_is_due, failed_at, in_structure, in_list, in_map};
 ghost use Rattle.smithy_schema.specs.declared.error.SerdeError.TheVariants.{TooDeep, NoMemory};
 ghost use Rattle.smithy_schema.specs.Consuming.{reader, Consumes, IsTaken, by_member, by_element, by_key};
 ghost use Rattle.smithy_schema.specs.Sizes.{Sizes, TellsSize};
@@ -70,19 +71,7 @@ pub trait ShapeDeserializer {
     fn open_struct(&mut self, schema: &Schema<'_>) -> Result<(), SerdeError>
         requires place { HasMembers (kind_at (site_of schema.now)) }
         ensures same { settings self.new ≡ settings self.old }
-        ensures conduct { Conducts (state self.old) (state self.new) result }
-        ensures narrow { RefusesNoScalar result }
-        ensures undue { (state self.old).due ≡ false → IsNoAnswer result }
-        ensures told { (state self.old).due ≡ true → IfErr result (TellsType ((wire (settings self.old)).mismatches (state self.old).input schema.now.shapes.now schema.now.place (state self.old).at)) }
-        ensures ok { OnOk result (Enters (wire (settings self.old)) (max_depth (settings self.old)) (state self.old) (state self.new) schema.now.shapes.now schema.now.place in_structure) }
-        ensures refused { IsRefused result → (state self.old).due ≡ true → (wire (settings self.old)).allows (depth (state self.old))
-            → OpensNot (wire (settings self.old)) (state self.old) schema.now.shapes.now schema.now.place }
-        ensures none_without_limits { tells_without_limits (settings self.old) → IsInvalid result → (state self.old).due ≡ true
-            → OpensNot (lifted (settings self.old)) (state self.old) schema.now.shapes.now schema.now.place }
-        ensures invalid { IsInvalid result → (state self.old).due ≡ true
-            → OpensNot (wire (settings self.old)) (state self.old) schema.now.shapes.now schema.now.place }
-        ensures deepest { IsErrOf result TooDeep → depth (state self.old) ≡ max_depth (settings self.old) }
-        ensures deep { IsErrOf result TooDeep → OpensNot (wire (settings self.old)) (state self.old) schema.now.shapes.now schema.now.place → ⊥ };
+        ensures opens { Opens (wire (settings self.old)) (lifted (settings self.old)) (tells_without_limits (settings self.old)) (max_depth (settings self.old)) (state self.old) (state self.new) (site_of schema.now) in_structure result };
 
     /// Goes on in the structure or the union, which is the one of this schema: to an entry whose value is due then, or
     /// to the end. Entries with a null are passed over, but for documents where the wire has a null document, and each
@@ -91,39 +80,13 @@ pub trait ShapeDeserializer {
         requires within { (state self.old).inner.within ≡ in_structure }
         requires place { HasMembers (kind_at (site_of schema.now)) }
         ensures same { settings self.new ≡ settings self.old }
-        ensures conduct { Conducts (state self.old) (state self.new) result }
-        ensures narrow { RefusesNoKind result }
-        ensures ok { (state self.old).due ≡ false → IfOk result (λ step. MatchStep step (wire (settings self.old)) (state self.old) (state self.new) (site_of schema.now)) }
-        ensures refused { IsRefused result → (state self.old).due ≡ false
-            → CannotGoOn (wire (settings self.old)) (state self.old) schema.now.shapes.now schema.now.place }
-        ensures none_without_limits { tells_without_limits (settings self.old) → IsInvalid result → (state self.old).due ≡ false
-            → CannotGoOn (lifted (settings self.old)) (state self.old) schema.now.shapes.now schema.now.place }
-        ensures unread { (state self.old).due ≡ true
-            → IfOk result (λ step. (e : ℕ) × (wire (settings self.old)).skips (state self.old).input (depth (state self.old)) (state self.old).at e × MatchStep step (wire (settings self.old)) (passed_to (state self.old) e) (state self.new) (site_of schema.now)) }
-        ensures unread_refused { IsRefused result → (state self.old).due ≡ true → (e : ℕ) → (wire (settings self.old)).skips (state self.old).input (depth (state self.old)) (state self.old).at e
-            → CannotGoOn (wire (settings self.old)) (passed_to (state self.old) e) schema.now.shapes.now schema.now.place }
-        ensures unread_would { tells_without_limits (settings self.old) → IsInvalid result → (state self.old).due ≡ true → (e : ℕ) → (lifted (settings self.old)).skips (state self.old).input (depth (state self.old)) (state self.old).at e
-            → CannotGoOn (lifted (settings self.old)) (passed_to (state self.old) e) schema.now.shapes.now schema.now.place }
-        ensures deep { IsErrOf result TooDeep → ReachesDepth (wire (settings self.old)) (max_depth (settings self.old)) (state self.old) }
-        ensures limited { IsErrOf result TooDeep → (wire (settings self.old)).limits_skips ≡ true };
+        ensures goes_on { GoesOnInStructure (wire (settings self.old)) (lifted (settings self.old)) (tells_without_limits (settings self.old)) (max_depth (settings self.old)) (state self.old) (state self.new) (site_of schema.now) result };
 
     /// Enters the list that is due. Where a list begins here, it is `TooDeep` exactly at the greatest depth.
     fn open_list(&mut self, schema: &Schema<'_>) -> Result<(), SerdeError>
         requires place { IsList (kind_at (site_of schema.now)) }
         ensures same { settings self.new ≡ settings self.old }
-        ensures conduct { Conducts (state self.old) (state self.new) result }
-        ensures narrow { RefusesNoScalar result }
-        ensures undue { (state self.old).due ≡ false → IsNoAnswer result }
-        ensures told { (state self.old).due ≡ true → IfErr result (TellsType ((wire (settings self.old)).mismatches (state self.old).input schema.now.shapes.now schema.now.place (state self.old).at)) }
-        ensures ok { OnOk result (Enters (wire (settings self.old)) (max_depth (settings self.old)) (state self.old) (state self.new) schema.now.shapes.now schema.now.place in_list) }
-        ensures refused { IsRefused result → (state self.old).due ≡ true → (wire (settings self.old)).allows (depth (state self.old))
-            → OpensNot (wire (settings self.old)) (state self.old) schema.now.shapes.now schema.now.place }
-        ensures none_without_limits { tells_without_limits (settings self.old) → IsInvalid result → (state self.old).due ≡ true
-            → OpensNot (lifted (settings self.old)) (state self.old) schema.now.shapes.now schema.now.place }
-        ensures invalid { IsInvalid result → (state self.old).due ≡ true
-            → OpensNot (wire (settings self.old)) (state self.old) schema.now.shapes.now schema.now.place }
-        ensures deepest { IsErrOf result TooDeep → depth (state self.old) ≡ max_depth (settings self.old) }
-        ensures deep { IsErrOf result TooDeep → OpensNot (wire (settings self.old)) (state self.old) schema.now.shapes.now schema.now.place → ⊥ };
+        ensures opens { Opens (wire (settings self.old)) (lifted (settings self.old)) (tells_without_limits (settings self.old)) (max_depth (settings self.old)) (state self.old) (state self.new) (site_of schema.now) in_list result };
 
     /// Goes on in the list: whether another element is due, or the list has ended. An element that was
     /// left unread is refused. It takes no memory.
@@ -146,19 +109,7 @@ pub trait ShapeDeserializer {
     fn open_map(&mut self, schema: &Schema<'_>) -> Result<(), SerdeError>
         requires place { IsMap (kind_at (site_of schema.now)) }
         ensures same { settings self.new ≡ settings self.old }
-        ensures conduct { Conducts (state self.old) (state self.new) result }
-        ensures narrow { RefusesNoScalar result }
-        ensures undue { (state self.old).due ≡ false → IsNoAnswer result }
-        ensures told { (state self.old).due ≡ true → IfErr result (TellsType ((wire (settings self.old)).mismatches (state self.old).input schema.now.shapes.now schema.now.place (state self.old).at)) }
-        ensures ok { OnOk result (Enters (wire (settings self.old)) (max_depth (settings self.old)) (state self.old) (state self.new) schema.now.shapes.now schema.now.place in_map) }
-        ensures refused { IsRefused result → (state self.old).due ≡ true → (wire (settings self.old)).allows (depth (state self.old))
-            → OpensNot (wire (settings self.old)) (state self.old) schema.now.shapes.now schema.now.place }
-        ensures none_without_limits { tells_without_limits (settings self.old) → IsInvalid result → (state self.old).due ≡ true
-            → OpensNot (lifted (settings self.old)) (state self.old) schema.now.shapes.now schema.now.place }
-        ensures invalid { IsInvalid result → (state self.old).due ≡ true
-            → OpensNot (wire (settings self.old)) (state self.old) schema.now.shapes.now schema.now.place }
-        ensures deepest { IsErrOf result TooDeep → depth (state self.old) ≡ max_depth (settings self.old) }
-        ensures deep { IsErrOf result TooDeep → OpensNot (wire (settings self.old)) (state self.old) schema.now.shapes.now schema.now.place → ⊥ };
+        ensures opens { Opens (wire (settings self.old)) (lifted (settings self.old)) (tells_without_limits (settings self.old)) (max_depth (settings self.old)) (state self.old) (state self.new) (site_of schema.now) in_map result };
 
     /// Goes on in the map: the key of the next entry, whose value is due then, or none where the map has ended. Keys
     /// come in the order of the input, equal ones each time. A value that was left unread is refused.

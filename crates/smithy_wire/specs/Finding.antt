@@ -1,9 +1,10 @@
--- What a search for a value of one kind answers, and what a walk makes of it.
-use Rattle.std.specs.Prelude.{◌≡◌, ℕ, Bool, true, false, Result, Ok, Err, MatchResult, Option, MatchOption}
+-- What a search for a value of one kind answers, what a walk makes of it, and what a walk answers that enters a container.
+use Rattle.std.specs.Prelude.{◌≡◌, ◌<◌, ◌⊎◌, ℕ, Bool, true, false, Result, Ok, Err, OnOk, OnErr, IfErr, IsErrOf, MatchResult, Option, MatchOption}
 use Rattle.std.specs.declared.alloc.AllocError.{AllocError}
-use Rattle.smithy_schema.specs.Reading.{Cursor, failed_at, passed_to}
+use Rattle.smithy_schema.specs.Reading.{Cursor, Frame, depth, failed_at, passed_to}
 use Rattle.smithy_schema.specs.declared.error.SerdeError.{SerdeError}
-use Rattle.smithy_schema.specs.declared.error.SerdeError.TheVariants.{InvalidInput, TypeMismatch, NoMemory}
+use Rattle.smithy_schema.specs.declared.error.SerdeError.TheVariants.{InvalidInput, TypeMismatch, TooDeep, NoMemory}
+use Rattle.smithy_wire.specs.Walking.{entered_into}
 use Rattle.smithy_wire.specs.declared.found.Found.{Found}
 use Rattle.smithy_wire.specs.declared.found.Found.TheVariants.{Value, Nothing, Beyond}
 
@@ -32,6 +33,15 @@ abbrev pub TakesWithin : {A : Type 0} → Cursor → Cursor → SerdeError → R
 TakesWithin old new beyond found result = MatchResult found
     (λ f. MatchFound f (λ r. Passes old new r result) (Refuses old new InvalidInput result) (Refuses old new beyond result))
     (λ _. Refuses old new NoMemory result)
+
+-- What a walk answers that enters a container, of which as many as max may be open: it refuses where that many are, and where memory
+-- is wanting.
+pub record EntersInto (old new : Cursor) (max inside : ℕ) (frame : Frame) (result : Result (Unit {0}) SerdeError) : Type 0 where
+  pub ok : OnOk result (new ≡ entered_into old inside frame)
+  pub shallow : OnOk result (depth old < max)
+  pub err : OnErr result (new ≡ failed_at old)
+  pub deepest : IsErrOf result TooDeep → depth old ≡ max
+  pub error : IfErr result (λ e. (e ≡ TooDeep) ⊎ (e ≡ NoMemory))
 
 -- a refusal of what is of another type
 abbrev pub typed : SerdeError → SerdeError

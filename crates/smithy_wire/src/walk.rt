@@ -51,12 +51,11 @@ pub struct Walk<'a> {
 }
 
 impl<'a> Walk<'a> {
-    ghost use Rattle.std.specs.Prelude.{◌≡◌, ◌≤◌, ◌<◌, ◌∷◌, length, Ok, Err, IfOk, IfErr, IfSome, IsOk, IsErr, IsSome, IsNone, OnOk, OnErr, IsErrOf, true, false, if◌then◌else◌, vec_len};
-    ghost use Rattle.smithy_schema.specs.Errors.{IsOfReader, RefusesNoScalar};
+    ghost use Rattle.std.specs.Prelude.{◌≡◌, ◌≤◌, ◌<◌, ◌∷◌, length, Ok, Err, IfOk, IfErr, IfSome, IsOk, IsErr, IsSome, IsNone, OnOk, OnErr, true, false, if◌then◌else◌, vec_len};
     ghost use Rattle.smithy_schema.specs.Reading.{depth, failed_at, passed_to};
-    ghost use Rattle.smithy_schema.specs.declared.error.SerdeError.TheVariants.{Failed, InvalidInput, TypeMismatch, NoMemory, TooDeep};
-    ghost use Rattle.smithy_wire.specs.Finding.{MatchFound, Takes, TakesWithin};
-    ghost use Rattle.smithy_wire.specs.Walking.{cursor_of, fresh_cursor, entered_into, gone_on_to, frame_of};
+    ghost use Rattle.smithy_schema.specs.declared.error.SerdeError.TheVariants.{Failed, InvalidInput, NoMemory};
+    ghost use Rattle.smithy_wire.specs.Finding.{MatchFound, Takes, TakesWithin, EntersInto};
+    ghost use Rattle.smithy_wire.specs.Walking.{cursor_of, fresh_cursor, gone_on_to, frame_of};
 
     /// A walk that begins.
     pub fn new(input: &'a [u8], alloc: Global, max_depth: usize) -> Walk<'a>
@@ -198,15 +197,7 @@ impl<'a> Walk<'a> {
     pub fn enter(&mut self, inside: usize, frame: Frame) -> Result<(), SerdeError>
         requires { inside ≤ length self.old.input.now }
         ensures same { self.new.max_depth ≡ self.old.max_depth }
-        ensures ok { OnOk result (cursor_of self.new ≡ entered_into (cursor_of self.old) inside (frame_of frame)) }
-        ensures shallow { OnOk result (depth (cursor_of self.old) < self.old.max_depth) }
-        ensures err { OnErr result (cursor_of self.new ≡ failed_at (cursor_of self.old)) }
-        ensures deepest { IsErrOf result TooDeep → depth (cursor_of self.old) ≡ self.old.max_depth }
-        ensures no_failed { IsErrOf result Failed → ⊥ }
-        ensures no_invalid { IsErrOf result InvalidInput → ⊥ }
-        ensures no_mismatch { IsErrOf result TypeMismatch → ⊥ }
-        ensures reading { IfErr result IsOfReader }
-        ensures narrow { RefusesNoScalar result }
+        ensures enters { EntersInto (cursor_of self.old) (cursor_of self.new) self.old.max_depth inside (frame_of frame) result }
     {
         if self.outer.len() == self.max_depth {
             return Err(self.refuse(SerdeError::TooDeep));

@@ -33,11 +33,11 @@ read_attribute_value-returns-in_err-open_struct-clause-reads g t c =
     let laws = g.met.D.ShapeDeserializer.lawful s0 in
     let outer = site_of c.args.schema.now in
     let p = err_from_is_err_and c.from_residual.result c.from_residual.ensures.1 in
-    rw (p.1, p.2) (not_opened w max laws attribute_value outer (d.state c.args.source.now) (d.state c.open_struct.new.self) c.in_err-open_struct.field-0.0 (union_contains (kind_at outer) (attribute_union outer c.requires.place)) c.requires.due c.in_err-open_struct.ensures.conduct c.in_err-open_struct.ensures.refused)
+    rw (p.1, p.2) (not_opened w max laws attribute_value outer (d.state c.args.source.now) (d.state c.open_struct.new.self) c.in_err-open_struct.field-0.0 (union_contains (kind_at outer) (attribute_union outer c.requires.place)) c.requires.due c.in_err-open_struct.ensures.opens.conduct c.in_err-open_struct.ensures.opens.refused)
 
 pub read_attribute_value-next_member-requires : goal.read_attribute_value-next_member-requires
 read_attribute_value-next_member-requires g t c =
-    record { within = c.in_ok-open_struct.ensures.ok.within; place = union_has_members _ (attribute_union (site_of c.args.schema.now) c.requires.place) }
+    record { within = c.in_ok-open_struct.ensures.opens.ok.within; place = union_has_members _ (attribute_union (site_of c.args.schema.now) c.requires.place) }
 
 pub read_attribute_value-returns-in_err-member-clause-reads : goal.read_attribute_value-returns-in_err-member-clause-reads
 read_attribute_value-returns-in_err-member-clause-reads g t c =
@@ -48,9 +48,9 @@ read_attribute_value-returns-in_err-member-clause-reads g t c =
     let laws = g.met.D.ShapeDeserializer.lawful s0 in
     let outer = site_of c.args.schema.now in
     let kind = attribute_union outer c.requires.place in
-    let half = begin_union w w max laws laws (itself w) _ _ _ _ kind c.in_ok-open_struct.ensures.ok in
+    let half = begin_union w w max laws laws (itself w) _ _ _ _ kind c.in_ok-open_struct.ensures.opens.ok in
     let p = err_from_is_err_and c.from_residual-in_err-member.result c.from_residual-in_err-member.ensures.1 in
-    rw (p.1, p.2) (goes_no_further w max laws attribute_value outer _ _ _ _ _ _ half (was_read _ _ c.in_ok-open_struct.ensures.conduct.failed) c.in_err-member.ensures.conduct (rw c.open_struct.ensures.same at c.in_err-member.ensures.refused))
+    rw (p.1, p.2) (goes_no_further w max laws attribute_value outer _ _ _ _ _ _ half (was_read _ _ c.in_ok-open_struct.ensures.opens.conduct.failed) c.in_err-member.ensures.goes_on.conduct (rw c.open_struct.ensures.same at c.in_err-member.ensures.goes_on.refused))
 
 pub read_attribute_value-returns-in_default : goal.read_attribute_value-returns-in_default
 read_attribute_value-returns-in_default g t c =
@@ -61,11 +61,11 @@ read_attribute_value-returns-in_default g t c =
     let laws = g.met.D.ShapeDeserializer.lawful s0 in
     let outer = site_of c.args.schema.now in
     let kind = attribute_union outer c.requires.place in
-    let half = begin_union w w max laws laws (itself w) _ _ _ _ kind c.in_ok-open_struct.ensures.ok in
-    let step = rw c.open_struct.ensures.same at (c.in_ok-member.ensures.ok half.due) in
+    let half = begin_union w w max laws laws (itself w) _ _ _ _ kind c.in_ok-open_struct.ensures.opens.ok in
+    let step = rw c.open_struct.ensures.same at (c.in_ok-member.ensures.goes_on.ok half.due) in
     record {
       same = c.fail.ensures.same ∙ c.next_member.ensures.same ∙ c.open_struct.ensures.same;
-      reads = fails w attribute_value outer _ _ _ (broke_inside _ (d.state c.args.source.now) _ _ (was_read _ _ c.in_ok-open_struct.ensures.conduct.failed) (was_read _ _ c.in_ok-open_struct.ensures.conduct.failed) (tt, λ is. cc) (ap (λ (x : Cursor). x.failed) c.fail.ensures.fails)) (λ fault. no_first w w max laws (itself w) _ _ _ outer _ c.in_default.not-Member kind half step);
+      reads = fails w attribute_value outer _ _ _ (broke_inside _ (d.state c.args.source.now) _ _ (was_read _ _ c.in_ok-open_struct.ensures.opens.conduct.failed) (was_read _ _ c.in_ok-open_struct.ensures.opens.conduct.failed) (tt, λ is. cc) (ap (λ (x : Cursor). x.failed) c.fail.ensures.fails)) (λ fault. no_first w w max laws (itself w) _ _ _ outer _ c.in_default.not-Member kind half step);
     }
 
 pub read_attribute_value-read_variant-requires : goal.read_attribute_value-read_variant-requires
@@ -77,8 +77,8 @@ read_attribute_value-read_variant-requires g t c κs within =
     let laws = g.met.D.ShapeDeserializer.lawful s0 in
     let outer = site_of c.args.schema.now in
     let kind = attribute_union outer c.requires.place in
-    let half = begin_union w w max laws laws (itself w) _ _ _ _ kind c.in_ok-open_struct.ensures.ok in
-    let step = rw (c.in-Member.is, c.open_struct.ensures.same) at (c.in_ok-member.ensures.ok half.due) in
+    let half = begin_union w w max laws laws (itself w) _ _ _ _ kind c.in_ok-open_struct.ensures.opens.ok in
+    let step = rw (c.in-Member.is, c.open_struct.ensures.same) at (c.in_ok-member.ensures.goes_on.ok half.due) in
     let same = c.next_member.ensures.same ∙ c.open_struct.ensures.same in
     let most : d.max_depth (d.settings c.next_member.new.self) ≡ max = ap d.max_depth same in
     let level : depth (d.state c.next_member.new.self) ≡ suc (depth (d.state c.args.source.now)) = ap length (step.2.outer ∙ half.outer) in
@@ -94,10 +94,10 @@ read_attribute_value-returns-in_err-value-clause-reads g t c =
     let laws = g.met.D.ShapeDeserializer.lawful s0 in
     let outer = site_of c.args.schema.now in
     let kind = attribute_union outer c.requires.place in
-    let half = begin_union w w max laws laws (itself w) _ _ _ _ kind c.in_ok-open_struct.ensures.ok in
-    let step = rw (c.in-Member.is, c.open_struct.ensures.same) at (c.in_ok-member.ensures.ok half.due) in
+    let half = begin_union w w max laws laws (itself w) _ _ _ _ kind c.in_ok-open_struct.ensures.opens.ok in
+    let step = rw (c.in-Member.is, c.open_struct.ensures.same) at (c.in_ok-member.ensures.goes_on.ok half.due) in
     let p = err_from_is_err_and c.from_residual-in_err-value.result c.from_residual-in_err-value.ensures.1 in
-    rw (p.1, p.2) (variant_fails w max laws attribute_value outer c.in-Member.member _ _ _ _ _ _ kind half (was_read _ _ c.in_ok-open_struct.ensures.conduct.failed) step (rw (c.next_member.ensures.same, c.open_struct.ensures.same) at c.in_err-value.ensures.reads))
+    rw (p.1, p.2) (variant_fails w max laws attribute_value outer c.in-Member.member _ _ _ _ _ _ kind half (was_read _ _ c.in_ok-open_struct.ensures.opens.conduct.failed) step (rw (c.next_member.ensures.same, c.open_struct.ensures.same) at c.in_err-value.ensures.reads))
 
 pub read_attribute_value-next_member-requires-2 : goal.read_attribute_value-next_member-requires-2
 read_attribute_value-next_member-requires-2 g t c =
@@ -108,8 +108,8 @@ read_attribute_value-next_member-requires-2 g t c =
     let laws = g.met.D.ShapeDeserializer.lawful s0 in
     let outer = site_of c.args.schema.now in
     let kind = attribute_union outer c.requires.place in
-    let half = begin_union w w max laws laws (itself w) _ _ _ _ kind c.in_ok-open_struct.ensures.ok in
-    let step = rw (c.in-Member.is, c.open_struct.ensures.same) at (c.in_ok-member.ensures.ok half.due) in
+    let half = begin_union w w max laws laws (itself w) _ _ _ _ kind c.in_ok-open_struct.ensures.opens.ok in
+    let step = rw (c.in-Member.is, c.open_struct.ensures.same) at (c.in_ok-member.ensures.goes_on.ok half.due) in
     let reads = rw (c.next_member.ensures.same, c.open_struct.ensures.same) at c.in_ok-value.ensures.reads in
     let behind = behind_variant w max laws attribute_value outer c.in-Member.member _ _ _ _ _ half step reads in
     let same = c.read_variant.ensures.same ∙ c.next_member.ensures.same ∙ c.open_struct.ensures.same in
@@ -124,13 +124,13 @@ read_attribute_value-returns-in_err-next_member-clause-reads g t c =
     let laws = g.met.D.ShapeDeserializer.lawful s0 in
     let outer = site_of c.args.schema.now in
     let kind = attribute_union outer c.requires.place in
-    let half = begin_union w w max laws laws (itself w) _ _ _ _ kind c.in_ok-open_struct.ensures.ok in
-    let step = rw (c.in-Member.is, c.open_struct.ensures.same) at (c.in_ok-member.ensures.ok half.due) in
+    let half = begin_union w w max laws laws (itself w) _ _ _ _ kind c.in_ok-open_struct.ensures.opens.ok in
+    let step = rw (c.in-Member.is, c.open_struct.ensures.same) at (c.in_ok-member.ensures.goes_on.ok half.due) in
     let reads = rw (c.next_member.ensures.same, c.open_struct.ensures.same) at c.in_ok-value.ensures.reads in
     let behind = behind_variant w max laws attribute_value outer c.in-Member.member _ _ _ _ _ half step reads in
     let same = c.read_variant.ensures.same ∙ c.next_member.ensures.same ∙ c.open_struct.ensures.same in
     let p = err_from_is_err_and c.from_residual-in_err-next_member.result c.from_residual-in_err-next_member.ensures.1 in
-    rw (p.1, p.2) (goes_no_further w max laws attribute_value outer _ _ _ _ _ _ behind (was_read _ _ c.in_ok-open_struct.ensures.conduct.failed) c.in_err-next_member.ensures.conduct (rw same at c.in_err-next_member.ensures.refused))
+    rw (p.1, p.2) (goes_no_further w max laws attribute_value outer _ _ _ _ _ _ behind (was_read _ _ c.in_ok-open_struct.ensures.opens.conduct.failed) c.in_err-next_member.ensures.goes_on.conduct (rw same at c.in_err-next_member.ensures.goes_on.refused))
 
 pub read_attribute_value-returns-in_default-2 : goal.read_attribute_value-returns-in_default-2
 read_attribute_value-returns-in_default-2 g t c =
@@ -141,15 +141,15 @@ read_attribute_value-returns-in_default-2 g t c =
     let laws = g.met.D.ShapeDeserializer.lawful s0 in
     let outer = site_of c.args.schema.now in
     let kind = attribute_union outer c.requires.place in
-    let half = begin_union w w max laws laws (itself w) _ _ _ _ kind c.in_ok-open_struct.ensures.ok in
-    let step = rw (c.in-Member.is, c.open_struct.ensures.same) at (c.in_ok-member.ensures.ok half.due) in
+    let half = begin_union w w max laws laws (itself w) _ _ _ _ kind c.in_ok-open_struct.ensures.opens.ok in
+    let step = rw (c.in-Member.is, c.open_struct.ensures.same) at (c.in_ok-member.ensures.goes_on.ok half.due) in
     let reads = rw (c.next_member.ensures.same, c.open_struct.ensures.same) at c.in_ok-value.ensures.reads in
     let behind = behind_variant w max laws attribute_value outer c.in-Member.member _ _ _ _ _ half step reads in
     let same = c.read_variant.ensures.same ∙ c.next_member.ensures.same ∙ c.open_struct.ensures.same in
-    let next = rw same at (c.in_ok-next_member.ensures.ok behind.due) in
+    let next = rw same at (c.in_ok-next_member.ensures.goes_on.ok behind.due) in
     record {
       same = c.fail-in_default-2.ensures.same ∙ c.next_member-2.ensures.same ∙ same;
-      reads = fails w attribute_value outer _ _ _ (broke_inside _ (d.state c.args.source.now) _ _ (was_read _ _ c.in_ok-open_struct.ensures.conduct.failed) (was_read _ _ c.in_ok-open_struct.ensures.conduct.failed) (tt, λ is. cc) (ap (λ (x : Cursor). x.failed) c.fail-in_default-2.ensures.fails)) (λ fault. no_end w w max laws (itself w) _ _ _ outer _ _ c.in_default-2.not-End kind behind next);
+      reads = fails w attribute_value outer _ _ _ (broke_inside _ (d.state c.args.source.now) _ _ (was_read _ _ c.in_ok-open_struct.ensures.opens.conduct.failed) (was_read _ _ c.in_ok-open_struct.ensures.opens.conduct.failed) (tt, λ is. cc) (ap (λ (x : Cursor). x.failed) c.fail-in_default-2.ensures.fails)) (λ fault. no_end w w max laws (itself w) _ _ _ outer _ _ c.in_default-2.not-End kind behind next);
     }
 
 pub read_attribute_value-returns-clause-reads : goal.read_attribute_value-returns-clause-reads
@@ -161,13 +161,13 @@ read_attribute_value-returns-clause-reads g t c =
     let laws = g.met.D.ShapeDeserializer.lawful s0 in
     let outer = site_of c.args.schema.now in
     let kind = attribute_union outer c.requires.place in
-    let half = begin_union w w max laws laws (itself w) _ _ _ _ kind c.in_ok-open_struct.ensures.ok in
-    let step = rw (c.in-Member.is, c.open_struct.ensures.same) at (c.in_ok-member.ensures.ok half.due) in
+    let half = begin_union w w max laws laws (itself w) _ _ _ _ kind c.in_ok-open_struct.ensures.opens.ok in
+    let step = rw (c.in-Member.is, c.open_struct.ensures.same) at (c.in_ok-member.ensures.goes_on.ok half.due) in
     let reads = rw (c.next_member.ensures.same, c.open_struct.ensures.same) at c.in_ok-value.ensures.reads in
     let behind = behind_variant w max laws attribute_value outer c.in-Member.member _ _ _ _ _ half step reads in
     let same = c.read_variant.ensures.same ∙ c.next_member.ensures.same ∙ c.open_struct.ensures.same in
-    let leaves = rw (c.in-End.is, same) at (c.in_ok-next_member.ensures.ok behind.due) in
-    ends w max laws attribute_value outer _ _ _ _ _ _ behind (was_read _ _ c.in_ok-open_struct.ensures.conduct.failed) leaves refl
+    let leaves = rw (c.in-End.is, same) at (c.in_ok-next_member.ensures.goes_on.ok behind.due) in
+    ends w max laws attribute_value outer _ _ _ _ _ _ behind (was_read _ _ c.in_ok-open_struct.ensures.opens.conduct.failed) leaves refl
 
 pub read_variant-returns-in_err-read_string-clause-reads : goal.read_variant-returns-in_err-read_string-clause-reads
 read_variant-returns-in_err-read_string-clause-reads g t c =
@@ -361,7 +361,7 @@ read_attributes-returns-in_err-open_map-clause-reads g t c =
     let laws = g.met.D.ShapeDeserializer.lawful s0 in
     let outer = site_of c.args.schema.now in
     let p = err_from_is_err_and c.from_residual.result c.from_residual.ensures.1 in
-    rw (p.1, p.2) (not_opened w max laws (λ m. map (attribute_entries m.entries)) outer (d.state c.args.source.now) (d.state c.open_map.new.self) c.in_err-open_map.field-0.0 (map_contains (kind_at outer) (entries_map outer c.requires.place)) c.requires.due c.in_err-open_map.ensures.conduct c.in_err-open_map.ensures.refused)
+    rw (p.1, p.2) (not_opened w max laws (λ m. map (attribute_entries m.entries)) outer (d.state c.args.source.now) (d.state c.open_map.new.self) c.in_err-open_map.field-0.0 (map_contains (kind_at outer) (entries_map outer c.requires.place)) c.requires.due c.in_err-open_map.ensures.opens.conduct c.in_err-open_map.ensures.opens.refused)
 
 pub read_attributes-loop-entries-init : goal.read_attributes-loop-entries-init
 read_attributes-loop-entries-init g t c =
@@ -376,7 +376,7 @@ read_attributes-loop-entries-init g t c =
     let fresh : c.new-entries.result.entries ≡ [] = search rules in
     record {
       same = c.open_map.ensures.same;
-      half = rw fresh (begin_map w w max laws laws (itself w) _ _ _ _ kind c.in_ok-open_map.ensures.ok);
+      half = rw fresh (begin_map w w max laws laws (itself w) _ _ _ _ kind c.in_ok-open_map.ensures.opens.ok);
     }
 
 pub read_attributes-returns-in_err-key-clause-reads : goal.read_attributes-returns-in_err-key-clause-reads
@@ -392,7 +392,7 @@ read_attributes-returns-in_err-key-clause-reads g t c =
     let half = c.loop-entries.invariant.half in
     let same = c.loop-entries.invariant.same in
     let p = err_from_is_err_and c.from_residual-in_err-key.result c.from_residual-in_err-key.ensures.1 in
-    rw (p.1, p.2) (goes_no_further w max laws (λ m. map (attribute_entries m.entries)) outer _ _ _ _ _ _ half (was_read _ _ c.in_ok-open_map.ensures.conduct.failed) c.in_err-key.ensures.conduct
+    rw (p.1, p.2) (goes_no_further w max laws (λ m. map (attribute_entries m.entries)) outer _ _ _ _ _ _ half (was_read _ _ c.in_ok-open_map.ensures.opens.conduct.failed) c.in_err-key.ensures.conduct
     (λ fault due. rw same at (c.in_err-key.ensures.refused fault due c.args.schema.now.shapes.now c.args.schema.now.place kind)))
 
 pub read_attributes-read_attribute_value-requires : goal.read_attributes-read_attribute_value-requires
@@ -428,13 +428,13 @@ read_attributes-returns-in_err-value-clause-reads g t c =
     let same = c.loop-entries.invariant.same in
     let step = rw (c.in-Some-2.is, same) at (c.in_ok-key.ensures.ok half.due c.args.schema.now.shapes.now c.args.schema.now.place kind) in
     let p = err_from_is_err_and c.from_residual-in_err-value.result c.from_residual-in_err-value.ensures.1 in
-    rw (p.1, p.2) (entry_fails w max laws attribute_value (λ m. map (attribute_entries m.entries)) outer (site_of c.in-Some.inner) _ _ _ _ _ _ _ kind inside.0 half (was_read _ _ c.in_ok-open_map.ensures.conduct.failed) step (rw (c.next_key.ensures.same, same) at c.in_err-value.ensures.reads))
+    rw (p.1, p.2) (entry_fails w max laws attribute_value (λ m. map (attribute_entries m.entries)) outer (site_of c.in-Some.inner) _ _ _ _ _ _ _ kind inside.0 half (was_read _ _ c.in_ok-open_map.ensures.opens.conduct.failed) step (rw (c.next_key.ensures.same, same) at c.in_err-value.ensures.reads))
 
 pub read_attributes-returns-in-Err-clause-reads : goal.read_attributes-returns-in-Err-clause-reads
 read_attributes-returns-in-Err-clause-reads g t c =
     let d = g.D.ShapeDeserializer in
     let w = d.wire (d.settings c.args.source.now) in
-    let sound = was_read _ _ c.in_ok-open_map.ensures.conduct.failed in
+    let sound = was_read _ _ c.in_ok-open_map.ensures.opens.conduct.failed in
     rw c.in-Err.ensures.err (unkept w (λ m. map (attribute_entries m.entries)) (site_of c.args.schema.now) _ _ sound (ap (λ (x : Cursor). x.failed) c.fail.ensures.fails))
 
 pub read_attributes-loop-entries-preserved : goal.read_attributes-loop-entries-preserved
@@ -469,7 +469,7 @@ read_attributes-returns-clause-reads g t c =
     let half = c.loop-entries.invariant.half in
     let same = c.loop-entries.invariant.same in
     let leaves = rw (c.in_default-2.is, same) at (c.in_ok-key.ensures.ok half.due c.args.schema.now.shapes.now c.args.schema.now.place kind) in
-    ends w max laws (λ m. map (attribute_entries m.entries)) outer _ _ _ _ _ _ half (was_read _ _ c.in_ok-open_map.ensures.conduct.failed) leaves refl
+    ends w max laws (λ m. map (attribute_entries m.entries)) outer _ _ _ _ _ _ half (was_read _ _ c.in_ok-open_map.ensures.opens.conduct.failed) leaves refl
 
 pub read_attributes-loop-entries-smaller : goal.read_attributes-loop-entries-smaller
 read_attributes-loop-entries-smaller g t c =
@@ -505,7 +505,7 @@ read_attribute_list-returns-in_err-open_list-clause-reads g t c =
     let laws = g.met.D.ShapeDeserializer.lawful s0 in
     let outer = site_of c.args.schema.now in
     let p = err_from_is_err_and c.from_residual.result c.from_residual.ensures.1 in
-    rw (p.1, p.2) (not_opened w max laws (λ v. list (values_of (attribute_values v.items))) outer (d.state c.args.source.now) (d.state c.open_list.new.self) c.in_err-open_list.field-0.0 (list_contains (kind_at outer) (elements_list outer c.requires.place)) c.requires.due c.in_err-open_list.ensures.conduct c.in_err-open_list.ensures.refused)
+    rw (p.1, p.2) (not_opened w max laws (λ v. list (values_of (attribute_values v.items))) outer (d.state c.args.source.now) (d.state c.open_list.new.self) c.in_err-open_list.field-0.0 (list_contains (kind_at outer) (elements_list outer c.requires.place)) c.requires.due c.in_err-open_list.ensures.opens.conduct c.in_err-open_list.ensures.opens.refused)
 
 pub read_attribute_list-loop-values-init : goal.read_attribute_list-loop-values-init
 read_attribute_list-loop-values-init g t c =
@@ -520,7 +520,7 @@ read_attribute_list-loop-values-init g t c =
     let fresh : c.new-values.result.items ≡ [] = search rules in
     record {
       same = c.open_list.ensures.same;
-      half = rw fresh (begin_list w w max laws laws (itself w) _ _ _ _ kind c.in_ok-open_list.ensures.ok);
+      half = rw fresh (begin_list w w max laws laws (itself w) _ _ _ _ kind c.in_ok-open_list.ensures.opens.ok);
     }
 
 pub read_attribute_list-returns-in_err-next_element-clause-reads : goal.read_attribute_list-returns-in_err-next_element-clause-reads
@@ -536,7 +536,7 @@ read_attribute_list-returns-in_err-next_element-clause-reads g t c =
     let half = c.loop-values.invariant.half in
     let same = c.loop-values.invariant.same in
     let p = err_from_is_err_and c.from_residual-in_err-next_element.result c.from_residual-in_err-next_element.ensures.1 in
-    rw (p.1, p.2) (goes_no_further w max laws (λ v. list (values_of (attribute_values v.items))) outer _ _ _ _ _ _ half (was_read _ _ c.in_ok-open_list.ensures.conduct.failed) c.in_err-next_element.ensures.conduct
+    rw (p.1, p.2) (goes_no_further w max laws (λ v. list (values_of (attribute_values v.items))) outer _ _ _ _ _ _ half (was_read _ _ c.in_ok-open_list.ensures.opens.conduct.failed) c.in_err-next_element.ensures.conduct
     (λ fault due. rw same at (c.in_err-next_element.ensures.refused fault due c.args.schema.now.shapes.now c.args.schema.now.place kind)))
 
 pub read_attribute_list-read_attribute_value-requires : goal.read_attribute_list-read_attribute_value-requires
@@ -572,13 +572,13 @@ read_attribute_list-returns-in_err-value-clause-reads g t c =
     let same = c.loop-values.invariant.same in
     let step = rw (c.if-branch.true, same) at (c.in_ok-next_element.ensures.ok half.due c.args.schema.now.shapes.now c.args.schema.now.place kind) in
     let p = err_from_is_err_and c.from_residual-in_err-value.result c.from_residual-in_err-value.ensures.1 in
-    rw (p.1, p.2) (element_fails w max laws attribute_value (λ v. list (values_of (attribute_values v.items))) outer (site_of c.in-Some.inner) _ _ _ _ _ _ kind inside.0 half (was_read _ _ c.in_ok-open_list.ensures.conduct.failed) step (rw (c.next_element.ensures.same, same) at c.in_err-value.ensures.reads))
+    rw (p.1, p.2) (element_fails w max laws attribute_value (λ v. list (values_of (attribute_values v.items))) outer (site_of c.in-Some.inner) _ _ _ _ _ _ kind inside.0 half (was_read _ _ c.in_ok-open_list.ensures.opens.conduct.failed) step (rw (c.next_element.ensures.same, same) at c.in_err-value.ensures.reads))
 
 pub read_attribute_list-returns-in-Err-clause-reads : goal.read_attribute_list-returns-in-Err-clause-reads
 read_attribute_list-returns-in-Err-clause-reads g t c =
     let d = g.D.ShapeDeserializer in
     let w = d.wire (d.settings c.args.source.now) in
-    let sound = was_read _ _ c.in_ok-open_list.ensures.conduct.failed in
+    let sound = was_read _ _ c.in_ok-open_list.ensures.opens.conduct.failed in
     rw c.from.ensures (unkept w (λ v. list (values_of (attribute_values v.items))) (site_of c.args.schema.now) _ _ sound (ap (λ (x : Cursor). x.failed) c.fail.ensures.fails))
 
 pub read_attribute_list-loop-values-preserved : goal.read_attribute_list-loop-values-preserved
@@ -613,7 +613,7 @@ read_attribute_list-returns-clause-reads g t c =
     let half = c.loop-values.invariant.half in
     let same = c.loop-values.invariant.same in
     let leaves = rw (c.if-branch.false, same) at (c.in_ok-next_element.ensures.ok half.due c.args.schema.now.shapes.now c.args.schema.now.place kind) in
-    ends w max laws (λ v. list (values_of (attribute_values v.items))) outer _ _ _ _ _ _ half (was_read _ _ c.in_ok-open_list.ensures.conduct.failed) leaves refl
+    ends w max laws (λ v. list (values_of (attribute_values v.items))) outer _ _ _ _ _ _ half (was_read _ _ c.in_ok-open_list.ensures.opens.conduct.failed) leaves refl
 
 pub read_attribute_list-loop-values-smaller : goal.read_attribute_list-loop-values-smaller
 read_attribute_list-loop-values-smaller g t c =

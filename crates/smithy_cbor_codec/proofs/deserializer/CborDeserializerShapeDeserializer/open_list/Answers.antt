@@ -1,53 +1,39 @@
-use Rattle.std.proofs.Common.{◌≡◌, false, refl, rules, arith}
+use Rattle.std.proofs.Common.{◌≡◌, ◌≤◌, length, refl, sym, ◌∙◌, rules, arith}
 use Rattle.std.proofs.lemmas.Grind.{common_steps}
 use Rattle.smithy_schema.specs.Reading.{depth, in_list}
+use Rattle.smithy_schema.specs.declared.error.SerdeError.TheVariants.{InvalidInput}
 use Rattle.smithy_cbor_codec.specs.Cursor.{cursor_of, reading_settings_of, inside_of}
 use Rattle.smithy_cbor_values.specs.Settings.{without_limits}
-use Rattle.smithy_cbor_values.specs.Standing.{mark_with}
-use Rattle.smithy_cbor_codec.proofs.DeserializerLemmas.{enters}
-use Rattle.smithy_wire.specs.Walking.{cursor_of as walk_cursor}
+use Rattle.smithy_cbor_values.specs.Laws.{lawful}
+use Rattle.smithy_wire.proofs.ScalarReads.{was_ready}
+use Rattle.smithy_wire.proofs.ContainerAnswers.{opens_none, opens_one}
 use Rattle.smithy_cbor_codec.proofs.ReaderLemmas.{opens_list, opens_no_list}
 use Rattle.smithy_cbor_codec.proofs.deserializer.CborDeserializerShapeDeserializer.open_list.Goals as goal
 
-pub returns-in-Some-clause-ok : goal.returns-in-Some-clause-ok
-returns-in-Some-clause-ok c =
+pub returns-in-Some-clause-opens : goal.returns-in-Some-clause-opens
+returns-in-Some-clause-opens c =
     let same : c.ready.new.self ≡ c.args.self.now.walk = c.in_ok-ready.ensures.ok in
-    let sound : c.args.self.now.walk.failed ≡ false = search rules in
+    let was = was_ready c.args.self.now.walk.failed c.args.self.now.walk.due (sym c.in_ok-ready.was ∙ c.ready.ensures.answer) in
+    let within : c.args.self.now.walk.position ≤ length c.args.self.now.walk.input.now = search rules in
     let o = reading_settings_of c.args.self.now in
     let old = cursor_of c.args.self.now in
-    enters o old (walk_cursor c.enter.new.self) c.args._schema.now.shapes.now c.args._schema.now.place c.in-Some.opening.inside (inside_of in_list c.in-Some.opening.due) _ c.enter.result refl sound
-    c.frame.ensures (rw same at c.enter.ensures.ok) (rw c.args.self.now.limit at (rw same at c.enter.ensures.shallow))
+    let ends : c.in-Some.opening.inside ≤ length c.args.self.now.walk.input.now = grind (arith, common_steps) in
+    opens_one _ _ _ _ _ _ old was.0 was.1 within c.in-Some.opening.inside (inside_of in_list c.in-Some.opening.due) (λ h. h, λ h. h)
     (opens_list o old.input c.args._schema.now.shapes.now c.args._schema.now.place c.requires.place (depth old) old.at c.in-Some.opening.inside c.in-Some.opening.due (rw same at c.in-Some.ensures.found))
+    _ _ _ _ (lawful o) ends refl c.args.self.now.limit c.frame.ensures (rw same at c.enter.ensures.enters)
 
-pub returns-in-Some-clause-deep : goal.returns-in-Some-clause-deep
-returns-in-Some-clause-deep c =
+pub returns-in-None-clause-opens : goal.returns-in-None-clause-opens
+returns-in-None-clause-opens c =
     let same : c.ready.new.self ≡ c.args.self.now.walk = c.in_ok-ready.ensures.ok in
+    let was = was_ready c.args.self.now.walk.failed c.args.self.now.walk.due (sym c.in_ok-ready.was ∙ c.ready.ensures.answer) in
+    let within : c.args.self.now.walk.position ≤ length c.args.self.now.walk.input.now = search rules in
     let o = reading_settings_of c.args.self.now in
     let old = cursor_of c.args.self.now in
-    λ deep none. none c.in-Some.opening.inside (mark_with c.in-Some.opening.due)
-    (opens_list o old.input c.args._schema.now.shapes.now c.args._schema.now.place c.requires.place (depth old) old.at
-    c.in-Some.opening.inside c.in-Some.opening.due (rw same at c.in-Some.ensures.found))
-
-pub returns-in-None-clause-refused : goal.returns-in-None-clause-refused
-returns-in-None-clause-refused c =
-    let same : c.ready.new.self ≡ c.args.self.now.walk = c.in_ok-ready.ensures.ok in
-    let o = reading_settings_of c.args.self.now in
-    let old = cursor_of c.args.self.now in
-    λ fault due allows. opens_no_list o old.input c.args._schema.now.shapes.now c.args._schema.now.place c.requires.place (depth old) old.at (rw same at c.in-None.ensures.none)
-
-pub returns-in-None-clause-none_without_limits : goal.returns-in-None-clause-none_without_limits
-returns-in-None-clause-none_without_limits c =
-    let same : c.ready.new.self ≡ c.args.self.now.walk = c.in_ok-ready.ensures.ok in
-    let o = without_limits (reading_settings_of c.args.self.now) in
-    let old = cursor_of c.args.self.now in
-    λ strict fault due. opens_no_list o old.input c.args._schema.now.shapes.now c.args._schema.now.place c.requires.place (depth old) old.at (rw same at c.in-None.ensures.none)
-
-pub returns-in-None-clause-invalid : goal.returns-in-None-clause-invalid
-returns-in-None-clause-invalid c =
-    let same : c.ready.new.self ≡ c.args.self.now.walk = c.in_ok-ready.ensures.ok in
-    let o = reading_settings_of c.args.self.now in
-    let old = cursor_of c.args.self.now in
-    λ fault due. opens_no_list o old.input c.args._schema.now.shapes.now c.args._schema.now.place c.requires.place (depth old) old.at (rw same at c.in-None.ensures.none)
+    let none = rw same at c.in-None.ensures.none in
+    rw c.refuse.ensures.error
+    (opens_none _ _ _ _ _ _ old was.0 was.1 within _ InvalidInput (rw same at c.refuse.ensures.stays) tt refl
+    (opens_no_list o old.input c.args._schema.now.shapes.now c.args._schema.now.place c.requires.place (depth old) old.at none)
+    (opens_no_list (without_limits o) old.input c.args._schema.now.shapes.now c.args._schema.now.place c.requires.place (depth old) old.at none))
 
 pub enter-requires : goal.enter-requires
 enter-requires c = grind (arith, common_steps)

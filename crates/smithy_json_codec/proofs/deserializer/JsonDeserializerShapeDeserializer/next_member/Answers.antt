@@ -1,22 +1,20 @@
-use Rattle.std.proofs.Common.{arith}
+use Rattle.std.proofs.Common.{◌≡◌, true, false, refl, arith, rules}
 use Rattle.std.proofs.lemmas.Grind.{common_steps}
-use Rattle.smithy_json_codec.specs.Cursor.{cursor_of, reading_settings_of}
-use Rattle.smithy_json_values.specs.Settings.{without_limits}
-use Rattle.smithy_json_codec.proofs.MemberStepLemmas.{stays_undue}
+use Rattle.smithy_json_codec.specs.Cursor.{cursor_of}
+use Rattle.smithy_wire.proofs.ContainerAnswers.{steps_undue, steps_past}
 use Rattle.smithy_json_codec.proofs.deserializer.JsonDeserializerShapeDeserializer.next_member.Goals as goal
 
-pub returns-clause-refused : goal.returns-clause-refused
-returns-clause-refused c =
-    λ refused due. stays_undue (reading_settings_of c.args.self.now) (cursor_of c.args.self.now) c.args.schema.now.shapes.now c.args.schema.now.place due
-    (c.step_from.ensures.refused refused)
+pub returns-then-self-2-clause-goes_on : goal.returns-then-self-2-clause-goes_on
+returns-then-self-2-clause-goes_on c =
+    let due : c.args.self.now.walk.due ≡ true = search rules in
+    let past = c.step_past_unread.ensures in
+    steps_past _ _ _ _ _ (cursor_of c.args.self.now) _ _ due past.conduct past.narrow past.ok past.refused (λ strict. past.none_without_limits) past.deep (λ deep. refl)
 
-pub returns-clause-none_without_limits : goal.returns-clause-none_without_limits
-returns-clause-none_without_limits c =
-    λ strict invalid due. stays_undue (without_limits (reading_settings_of c.args.self.now)) (cursor_of c.args.self.now) c.args.schema.now.shapes.now c.args.schema.now.place due
-    (c.step_from.ensures.none_without_limits invalid)
-
-pub returns-clause-deep : goal.returns-clause-deep
-returns-clause-deep c = λ deep. c.step_from.ensures.deep deep
+pub returns-clause-goes_on : goal.returns-clause-goes_on
+returns-clause-goes_on c =
+    let undue : c.args.self.now.walk.due ≡ false = search rules in
+    let from = c.step_from.ensures in
+    steps_undue _ _ _ _ _ (cursor_of c.args.self.now) _ _ undue from.conduct from.narrow from.ok from.refused (λ strict. from.none_without_limits) from.deep (λ deep. refl)
 
 pub returns-clause-too_deep : goal.returns-clause-too_deep
 returns-clause-too_deep c = λ deep. c.step_from.ensures.too_deep deep
@@ -35,9 +33,3 @@ step_from-requires-clause-inside c = grind (arith, common_steps)
 
 pub step_from-requires-clause-place : goal.step_from-requires-clause-place
 step_from-requires-clause-place c = grind (arith, common_steps)
-
-pub returns-then-self-2-clause-unread_refused : goal.returns-then-self-2-clause-unread_refused
-returns-then-self-2-clause-unread_refused c = λ refused due. c.step_past_unread.ensures.refused refused
-
-pub returns-then-self-2-clause-unread_would : goal.returns-then-self-2-clause-unread_would
-returns-then-self-2-clause-unread_would c = λ strict invalid due. c.step_past_unread.ensures.none_without_limits invalid

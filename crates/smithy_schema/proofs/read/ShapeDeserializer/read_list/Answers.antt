@@ -9,17 +9,16 @@ use Rattle.smithy_schema.proofs.read.ShapeDeserializer.read_list.Goals as goal
 pub returns-in_err-open_list-clause-consumes : goal.returns-in_err-open_list-clause-consumes
 returns-in_err-open_list-clause-consumes g c =
     let p = err_from_is_err_and c.from_residual.result c.from_residual.ensures.1 in
-    let e = c.in_err-open_list.ensures in
-    rw (p.1, p.2, e.conduct.stays)
-    (unopened (opening_refused _ _ _ _ _ e.conduct e.narrow e.undue e.told e.refused e.none_without_limits e.invalid e.deepest e.deep))
+    let e = c.in_err-open_list.ensures.opens in
+    rw (p.1, p.2, e.conduct.stays) (unopened (opening_refused _ _ _ _ _ _ e))
 
 pub loop-consumer-init : goal.loop-consumer-init
 loop-consumer-init g c =
     let e = c.in_ok-open_list.ensures in
-    began _ _ _ _ _ _ e.same e.ok.failed e.conduct.within
+    began _ _ _ _ _ _ e.same e.opens.ok.failed e.opens.conduct.within
 
 pub next_element-requires : goal.next_element-requires
-next_element-requires g c = record { within = c.loop-consumer.invariant.within ∙ c.in_ok-open_list.ensures.ok.within }
+next_element-requires g c = record { within = c.loop-consumer.invariant.within ∙ c.in_ok-open_list.ensures.opens.ok.within }
 
 pub returns-in_err-next_element-clause-same : goal.returns-in_err-next_element-clause-same
 returns-in_err-next_element-clause-same g c = c.next_element.ensures.same ∙ c.loop-consumer.invariant.same
@@ -31,7 +30,7 @@ returns-in_err-next_element-clause-consumes g c =
     let e = c.in_err-next_element.ensures in
     let place = c.requires.place in
     rw (p.1, p.2, e.conduct.stays)
-    (entered (was_sound _ _ c.in_ok-open_list.ensures.conduct.failed) (was_due _ c.in_ok-open_list.ensures.undue) c.in_ok-open_list.ensures.ok (inside.along _ _ _ (refused
+    (entered (was_sound _ _ c.in_ok-open_list.ensures.opens.conduct.failed) (was_due _ c.in_ok-open_list.ensures.opens.undue) c.in_ok-open_list.ensures.opens.ok (inside.along _ _ _ (refused
     (rw inside.same at (entry_refused _ (reader (g.Self.ShapeDeserializer.wire (g.Self.ShapeDeserializer.settings c.loop-consumer.self)) (g.Self.ShapeDeserializer.lifted (g.Self.ShapeDeserializer.settings c.loop-consumer.self)) (g.Self.ShapeDeserializer.tells_without_limits (g.Self.ShapeDeserializer.settings c.loop-consumer.self)) (g.Self.ShapeDeserializer.max_depth (g.Self.ShapeDeserializer.settings c.loop-consumer.self))) (site_of c.args.schema.now) _ _ _ e.conduct e.narrow e.shallow e.unread (λ h due. e.refused h due _ _ place) (λ strict h due. e.none_without_limits strict h due _ _ place)), λ is. e.memory (is_error _ _ NoMemory is)))))
 
 pub returns-in-Err-clause-same : goal.returns-in-Err-clause-same
@@ -45,7 +44,7 @@ returns-in-Err-clause-consumes g c =
     let due = none_due (g.Self.ShapeDeserializer.state c.loop-consumer.self).due (λ due. next.unread due) in
     let steps = rw (c.if-branch.true, inside.same) at (next.ok due c.args.schema.now.shapes.now c.args.schema.now.place c.requires.place) in
     rw c.fail.ensures.fails
-    (entered (was_sound _ _ c.in_ok-open_list.ensures.conduct.failed) (was_due _ c.in_ok-open_list.ensures.undue) c.in_ok-open_list.ensures.ok (inside.along _ _ _ (stopped tt (record { taken = due; steps = steps; ahead = next.conduct.ahead }) (rw (c.next_element.ensures.same, inside.same) at c.in-Err.ensures.called))))
+    (entered (was_sound _ _ c.in_ok-open_list.ensures.opens.conduct.failed) (was_due _ c.in_ok-open_list.ensures.opens.undue) c.in_ok-open_list.ensures.opens.ok (inside.along _ _ _ (stopped tt (record { taken = due; steps = steps; ahead = next.conduct.ahead }) (rw (c.next_element.ensures.same, inside.same) at c.in-Err.ensures.called))))
 
 pub loop-consumer-smaller : goal.loop-consumer-smaller
 loop-consumer-smaller g c =
@@ -75,7 +74,7 @@ returns-clause-consumes g c =
     let next = c.in_ok-next_element.ensures in
     let due = none_due (g.Self.ShapeDeserializer.state c.loop-consumer.self).due (λ due. next.unread due) in
     let leaves = rw (c.if-branch.false, inside.same) at (next.ok due c.args.schema.now.shapes.now c.args.schema.now.place c.requires.place) in
-    entered (was_sound _ _ c.in_ok-open_list.ensures.conduct.failed) (was_due _ c.in_ok-open_list.ensures.undue) c.in_ok-open_list.ensures.ok (inside.along _ _ _ (ended (record { taken = due; leaves = leaves; ahead = next.conduct.ahead })))
+    entered (was_sound _ _ c.in_ok-open_list.ensures.opens.conduct.failed) (was_due _ c.in_ok-open_list.ensures.opens.undue) c.in_ok-open_list.ensures.opens.ok (inside.along _ _ _ (ended (record { taken = due; leaves = leaves; ahead = next.conduct.ahead })))
 
 pub returns-clause-takes : goal.returns-clause-takes
 returns-clause-takes g c =
@@ -83,4 +82,4 @@ returns-clause-takes g c =
     let next = c.in_ok-next_element.ensures in
     let due = none_due (g.Self.ShapeDeserializer.state c.loop-consumer.self).due (λ due. next.unread due) in
     let leaves = rw (c.if-branch.false, inside.same) at (next.ok due c.args.schema.now.shapes.now c.args.schema.now.place c.requires.place) in
-    taken_whole _ (g.met.Self.ShapeDeserializer.lawful _) _ _ _ _ _ _ _ _ _ _ _ _ _ _ _ c.in_ok-open_list.ensures.ok inside refl refl leaves next.conduct.ahead next.conduct.within
+    taken_whole _ (g.met.Self.ShapeDeserializer.lawful _) _ _ _ _ _ _ _ _ _ _ _ _ _ _ _ c.in_ok-open_list.ensures.opens.ok inside refl refl leaves next.conduct.ahead next.conduct.within

@@ -8,17 +8,16 @@ use Rattle.smithy_schema.proofs.read.ShapeDeserializer.read_map.Goals as goal
 pub returns-in_err-open_map-clause-consumes : goal.returns-in_err-open_map-clause-consumes
 returns-in_err-open_map-clause-consumes g c =
     let p = err_from_is_err_and c.from_residual.result c.from_residual.ensures.1 in
-    let e = c.in_err-open_map.ensures in
-    rw (p.1, p.2, e.conduct.stays)
-    (unopened (opening_refused _ _ _ _ _ e.conduct e.narrow e.undue e.told e.refused e.none_without_limits e.invalid e.deepest e.deep))
+    let e = c.in_err-open_map.ensures.opens in
+    rw (p.1, p.2, e.conduct.stays) (unopened (opening_refused _ _ _ _ _ _ e))
 
 pub loop-key-init : goal.loop-key-init
 loop-key-init g c =
     let e = c.in_ok-open_map.ensures in
-    began _ _ _ _ _ _ e.same e.ok.failed e.conduct.within
+    began _ _ _ _ _ _ e.same e.opens.ok.failed e.opens.conduct.within
 
 pub next_key-requires : goal.next_key-requires
-next_key-requires g c = record { within = c.loop-key.invariant.within ∙ c.in_ok-open_map.ensures.ok.within }
+next_key-requires g c = record { within = c.loop-key.invariant.within ∙ c.in_ok-open_map.ensures.opens.ok.within }
 
 pub returns-in_err-key-clause-same : goal.returns-in_err-key-clause-same
 returns-in_err-key-clause-same g c = c.next_key.ensures.same ∙ c.loop-key.invariant.same
@@ -30,7 +29,7 @@ returns-in_err-key-clause-consumes g c =
     let e = c.in_err-key.ensures in
     let place = c.requires.place in
     rw (p.1, p.2, e.conduct.stays)
-    (entered (was_sound _ _ c.in_ok-open_map.ensures.conduct.failed) (was_due _ c.in_ok-open_map.ensures.undue) c.in_ok-open_map.ensures.ok (inside.along _ _ _ (refused
+    (entered (was_sound _ _ c.in_ok-open_map.ensures.opens.conduct.failed) (was_due _ c.in_ok-open_map.ensures.opens.undue) c.in_ok-open_map.ensures.opens.ok (inside.along _ _ _ (refused
     (rw inside.same at (entry_refused _ (reader (g.Self.ShapeDeserializer.wire (g.Self.ShapeDeserializer.settings c.loop-key.self)) (g.Self.ShapeDeserializer.lifted (g.Self.ShapeDeserializer.settings c.loop-key.self)) (g.Self.ShapeDeserializer.tells_without_limits (g.Self.ShapeDeserializer.settings c.loop-key.self)) (g.Self.ShapeDeserializer.max_depth (g.Self.ShapeDeserializer.settings c.loop-key.self))) (site_of c.args.schema.now) _ _ _ e.conduct e.narrow e.shallow e.unread (λ h due. e.refused h due _ _ place) (λ strict h due. e.none_without_limits strict h due _ _ place))))))
 
 pub returns-in-Err-clause-same : goal.returns-in-Err-clause-same
@@ -44,7 +43,7 @@ returns-in-Err-clause-consumes g c =
     let due = none_due (g.Self.ShapeDeserializer.state c.loop-key.self).due (λ due. next.unread due) in
     let steps = rw (c.in-Some.is, inside.same) at (next.ok due c.args.schema.now.shapes.now c.args.schema.now.place c.requires.place) in
     rw c.fail.ensures.fails
-    (entered (was_sound _ _ c.in_ok-open_map.ensures.conduct.failed) (was_due _ c.in_ok-open_map.ensures.undue) c.in_ok-open_map.ensures.ok (inside.along _ _ _ (stopped _ (record { taken = due; steps = steps; ahead = next.conduct.ahead }) (rw (c.next_key.ensures.same, inside.same) at c.in-Err.ensures.called))))
+    (entered (was_sound _ _ c.in_ok-open_map.ensures.opens.conduct.failed) (was_due _ c.in_ok-open_map.ensures.opens.undue) c.in_ok-open_map.ensures.opens.ok (inside.along _ _ _ (stopped _ (record { taken = due; steps = steps; ahead = next.conduct.ahead }) (rw (c.next_key.ensures.same, inside.same) at c.in-Err.ensures.called))))
 
 pub loop-key-smaller : goal.loop-key-smaller
 loop-key-smaller g c =
@@ -74,7 +73,7 @@ returns-clause-consumes g c =
     let next = c.in_ok-key.ensures in
     let due = none_due (g.Self.ShapeDeserializer.state c.loop-key.self).due (λ due. next.unread due) in
     let leaves = rw (c.in_default.is, inside.same) at (next.ok due c.args.schema.now.shapes.now c.args.schema.now.place c.requires.place) in
-    entered (was_sound _ _ c.in_ok-open_map.ensures.conduct.failed) (was_due _ c.in_ok-open_map.ensures.undue) c.in_ok-open_map.ensures.ok (inside.along _ _ _ (ended (record { taken = due; leaves = leaves; ahead = next.conduct.ahead })))
+    entered (was_sound _ _ c.in_ok-open_map.ensures.opens.conduct.failed) (was_due _ c.in_ok-open_map.ensures.opens.undue) c.in_ok-open_map.ensures.opens.ok (inside.along _ _ _ (ended (record { taken = due; leaves = leaves; ahead = next.conduct.ahead })))
 
 pub returns-clause-takes : goal.returns-clause-takes
 returns-clause-takes g c =
@@ -82,4 +81,4 @@ returns-clause-takes g c =
     let next = c.in_ok-key.ensures in
     let due = none_due (g.Self.ShapeDeserializer.state c.loop-key.self).due (λ due. next.unread due) in
     let leaves = rw (c.in_default.is, inside.same) at (next.ok due c.args.schema.now.shapes.now c.args.schema.now.place c.requires.place) in
-    taken_whole _ (g.met.Self.ShapeDeserializer.lawful _) _ _ _ _ _ _ _ _ _ _ _ _ _ _ _ c.in_ok-open_map.ensures.ok inside refl refl leaves next.conduct.ahead next.conduct.within
+    taken_whole _ (g.met.Self.ShapeDeserializer.lawful _) _ _ _ _ _ _ _ _ _ _ _ _ _ _ _ c.in_ok-open_map.ensures.opens.ok inside refl refl leaves next.conduct.ahead next.conduct.within

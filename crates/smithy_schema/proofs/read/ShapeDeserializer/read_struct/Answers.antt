@@ -8,21 +8,20 @@ use Rattle.smithy_schema.proofs.read.ShapeDeserializer.read_struct.Goals as goal
 pub returns-in_err-open_struct-clause-consumes : goal.returns-in_err-open_struct-clause-consumes
 returns-in_err-open_struct-clause-consumes g c =
     let p = err_from_is_err_and c.from_residual.result c.from_residual.ensures.1 in
-    let e = c.in_err-open_struct.ensures in
-    rw (p.1, p.2, e.conduct.stays)
-    (unopened (opening_refused _ _ _ _ _ e.conduct e.narrow e.undue e.told e.refused e.none_without_limits e.invalid e.deepest e.deep))
+    let e = c.in_err-open_struct.ensures.opens in
+    rw (p.1, p.2, e.conduct.stays) (unopened (opening_refused _ _ _ _ _ _ e))
 
 pub members-init : goal.members-init
 members-init g c =
     let e = c.in_ok-open_struct.ensures in
     record {
-      inside = began _ _ _ _ _ _ e.same e.ok.failed e.conduct.within;
+      inside = began _ _ _ _ _ _ e.same e.opens.ok.failed e.opens.conduct.within;
       allowed = c.requires.allowed;
     }
 
 pub next_member-requires : goal.next_member-requires
 next_member-requires g c = record {
-  within = c.members.invariant.inside.within ∙ c.in_ok-open_struct.ensures.ok.within;
+  within = c.members.invariant.inside.within ∙ c.in_ok-open_struct.ensures.opens.ok.within;
   place = c.requires.place;
 }
 
@@ -32,10 +31,10 @@ returns-in_err-step-clause-consumes g c =
     let inside = c.members.invariant.inside in
     let d = g.Self.ShapeDeserializer in
     let s = d.settings c.members.self in
-    let e = c.in_err-step.ensures in
+    let e = c.in_err-step.ensures.goes_on in
     rw (p.1, p.2, e.conduct.stays)
-    (entered (was_sound _ _ c.in_ok-open_struct.ensures.conduct.failed) (was_due _ c.in_ok-open_struct.ensures.undue) c.in_ok-open_struct.ensures.ok (inside.along _ _ _ (refused
-    (rw inside.same at (member_refused _ (reader (d.wire s) (d.lifted s) (d.tells_without_limits s) (d.max_depth s)) (site_of c.args.schema.now) _ _ _ e.conduct e.narrow e.refused e.none_without_limits e.unread_refused e.unread_would e.deep e.limited)))))
+    (entered (was_sound _ _ c.in_ok-open_struct.ensures.opens.conduct.failed) (was_due _ c.in_ok-open_struct.ensures.opens.undue) c.in_ok-open_struct.ensures.opens.ok (inside.along _ _ _ (refused
+    (rw inside.same at (member_refused (reader (d.wire s) (d.lifted s) (d.tells_without_limits s) (d.max_depth s)) (site_of c.args.schema.now) _ _ _ e)))))
 
 pub returns-in_err-step-clause-same : goal.returns-in_err-step-clause-same
 returns-in_err-step-clause-same g c = c.next_member.ensures.same ∙ c.members.invariant.inside.same
@@ -45,13 +44,13 @@ pub returns-in-Err-clause-consumes : goal.returns-in-Err-clause-consumes
 returns-in-Err-clause-consumes g c =
     let d = g.Self.ShapeDeserializer in
     let inside = c.members.invariant.inside in
-    let next = c.in_ok-step.ensures in
+    let next = c.in_ok-step.ensures.goes_on in
     let x = d.wire (d.settings c.members.self) in
     let outer = site_of c.args.schema.now in
     let found = stepped x (d.state c.members.self) (d.state c.next_member.new.self) outer c.in_ok-step.step next.ok next.unread in
     let goes = rw inside.same at (to_entry x (d.state c.members.self) (d.state c.next_member.new.self) outer c.in_ok-step.step _ c.in_default.not-End c.member.ensures found) in
     rw c.fail.ensures.fails
-    (entered (was_sound _ _ c.in_ok-open_struct.ensures.conduct.failed) (was_due _ c.in_ok-open_struct.ensures.undue) c.in_ok-open_struct.ensures.ok (inside.along _ _ _ (stopped _ goes (rw (c.next_member.ensures.same, inside.same) at c.in-Err.ensures.called))))
+    (entered (was_sound _ _ c.in_ok-open_struct.ensures.opens.conduct.failed) (was_due _ c.in_ok-open_struct.ensures.opens.undue) c.in_ok-open_struct.ensures.opens.ok (inside.along _ _ _ (stopped _ goes (rw (c.next_member.ensures.same, inside.same) at c.in-Err.ensures.called))))
 
 pub returns-in-Err-clause-same : goal.returns-in-Err-clause-same
 returns-in-Err-clause-same g c = c.fail.ensures.same ∙ c.member-in-members.ensures.same ∙ c.next_member.ensures.same ∙ c.members.invariant.inside.same
@@ -60,7 +59,7 @@ pub members-smaller : goal.members-smaller
 members-smaller g c =
     let d = g.Self.ShapeDeserializer in
     let inside = c.members.invariant.inside in
-    let next = c.in_ok-step.ensures in
+    let next = c.in_ok-step.ensures.goes_on in
     let w = d.wire (d.settings c.args.self.now) in
     let x = d.wire (d.settings c.members.self) in
     let outer = site_of c.args.schema.now in
@@ -73,7 +72,7 @@ pub members-preserved : goal.members-preserved
 members-preserved g c =
     let d = g.Self.ShapeDeserializer in
     let inside = c.members.invariant.inside in
-    let next = c.in_ok-step.ensures in
+    let next = c.in_ok-step.ensures.goes_on in
     let w = d.wire (d.settings c.args.self.now) in
     let x = d.wire (d.settings c.members.self) in
     let outer = site_of c.args.schema.now in
@@ -90,20 +89,20 @@ pub returns-in-End-clause-consumes : goal.returns-in-End-clause-consumes
 returns-in-End-clause-consumes g c =
     let d = g.Self.ShapeDeserializer in
     let inside = c.members.invariant.inside in
-    let next = c.in_ok-step.ensures in
+    let next = c.in_ok-step.ensures.goes_on in
     let x = d.wire (d.settings c.members.self) in
     let outer = site_of c.args.schema.now in
     let found = stepped x (d.state c.members.self) (d.state c.next_member.new.self) outer c.in_ok-step.step next.ok next.unread in
-    entered (was_sound _ _ c.in_ok-open_struct.ensures.conduct.failed) (was_due _ c.in_ok-open_struct.ensures.undue) c.in_ok-open_struct.ensures.ok (inside.along _ _ _ (ended (rw inside.same at (to_end x _ _ outer (rw c.in-End.is at found)))))
+    entered (was_sound _ _ c.in_ok-open_struct.ensures.opens.conduct.failed) (was_due _ c.in_ok-open_struct.ensures.opens.undue) c.in_ok-open_struct.ensures.opens.ok (inside.along _ _ _ (ended (rw inside.same at (to_end x _ _ outer (rw c.in-End.is at found)))))
 
 pub returns-in-End-clause-takes : goal.returns-in-End-clause-takes
 returns-in-End-clause-takes g c =
     let d = g.Self.ShapeDeserializer in
     let inside = c.members.invariant.inside in
-    let next = c.in_ok-step.ensures in
+    let next = c.in_ok-step.ensures.goes_on in
     let w = d.wire (d.settings c.args.self.now) in
     let x = d.wire (d.settings c.members.self) in
     let outer = site_of c.args.schema.now in
     let found = stepped x (d.state c.members.self) (d.state c.next_member.new.self) outer c.in_ok-step.step next.ok next.unread in
     let end = rw inside.same at (to_end x _ _ outer (rw c.in-End.is at found)) in
-    taken_whole w (g.met.Self.ShapeDeserializer.lawful _) _ _ _ _ _ _ _ _ _ _ _ _ _ _ _ c.in_ok-open_struct.ensures.ok inside (cleared_input w _ _ end.cleared) (cleared_outer w _ _ end.cleared) end.leaves next.conduct.ahead next.conduct.within
+    taken_whole w (g.met.Self.ShapeDeserializer.lawful _) _ _ _ _ _ _ _ _ _ _ _ _ _ _ _ c.in_ok-open_struct.ensures.opens.ok inside (cleared_input w _ _ end.cleared) (cleared_outer w _ _ end.cleared) end.leaves next.conduct.ahead next.conduct.within

@@ -17,7 +17,7 @@ pub read_list-returns-in_err-open_list-clause-reads : goal.read_list-returns-in_
 read_list-returns-in_err-open_list-clause-reads g t c =
     let d = g.met.D.ShapeDeserializer in
     let s0 = g.D.ShapeDeserializer.settings c.args.source.now in
-    let told = c.in_err-open_list.ensures in
+    let told = c.in_err-open_list.ensures.opens in
     let p = err_from_is_err_and c.from_residual.result c.from_residual.ensures.1 in
     rw (p.1, p.2)
     (open_fails _ _ _ _ g.T.Tree.view (site_of c.args.schema.now) _ _ _ (d.lawful s0) (d.lifted_lawful s0) (list_contains _ c.requires.place) c.requires.due told.conduct told.narrow told.told told.refused told.none_without_limits told.deepest)
@@ -31,7 +31,7 @@ read_list-loop-elements-init g t c =
     let outer = site_of c.args.schema.now in
     record {
       same = c.open_list.ensures.same;
-      half = rw c.no_elements-elements.ensures (list_entered _ _ _ _ laws outer _ _ _ c.requires.place c.in_ok-open_list.ensures.conduct c.in_ok-open_list.ensures.ok);
+      half = rw c.no_elements-elements.ensures (list_entered _ _ _ _ laws outer _ _ _ c.requires.place c.in_ok-open_list.ensures.opens.conduct c.in_ok-open_list.ensures.opens.ok);
     }
 
 -- it can not go on

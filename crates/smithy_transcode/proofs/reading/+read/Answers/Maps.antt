@@ -18,7 +18,7 @@ pub read_map-returns-in_err-open_map-clause-reads : goal.read_map-returns-in_err
 read_map-returns-in_err-open_map-clause-reads g t c =
     let d = g.met.D.ShapeDeserializer in
     let s0 = g.D.ShapeDeserializer.settings c.args.source.now in
-    let told = c.in_err-open_map.ensures in
+    let told = c.in_err-open_map.ensures.opens in
     let p = err_from_is_err_and c.from_residual.result c.from_residual.ensures.1 in
     rw (p.1, p.2)
     (open_fails _ _ _ _ g.T.Tree.view (site_of c.args.schema.now) _ _ _ (d.lawful s0) (d.lifted_lawful s0) (map_contains _ c.requires.place) c.requires.due told.conduct told.narrow told.told told.refused told.none_without_limits told.deepest)
@@ -32,7 +32,7 @@ read_map-loop-entries-init g t c =
     let outer = site_of c.args.schema.now in
     record {
       same = c.open_map.ensures.same;
-      half = rw c.no_entries-entries.ensures (map_entered _ _ _ _ laws outer _ _ _ c.requires.place c.in_ok-open_map.ensures.conduct c.in_ok-open_map.ensures.ok);
+      half = rw c.no_entries-entries.ensures (map_entered _ _ _ _ laws outer _ _ _ c.requires.place c.in_ok-open_map.ensures.opens.conduct c.in_ok-open_map.ensures.opens.ok);
     }
 
 -- it can not go on

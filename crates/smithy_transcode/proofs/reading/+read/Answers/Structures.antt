@@ -15,7 +15,7 @@ pub read_structure-returns-in_err-open_struct-clause-reads : goal.read_structure
 read_structure-returns-in_err-open_struct-clause-reads g t c =
     let d = g.met.D.ShapeDeserializer in
     let s0 = g.D.ShapeDeserializer.settings c.args.source.now in
-    let told = c.in_err-open_struct.ensures in
+    let told = c.in_err-open_struct.ensures.opens in
     let p = err_from_is_err_and c.from_residual.result c.from_residual.ensures.1 in
     rw (p.1, p.2)
     (open_fails _ _ _ _ g.T.Tree.view (site_of c.args.schema.now) _ _ _ (d.lawful s0) (d.lifted_lawful s0) (structure_contains _ c.requires.place) c.requires.due told.conduct told.narrow told.told told.refused told.none_without_limits told.deepest)
@@ -29,7 +29,7 @@ read_structure-loop-members-init g t c =
     let outer = site_of c.args.schema.now in
     record {
       same = c.open_struct.ensures.same;
-      half = rw c.no_members-members.ensures (structure_entered _ _ _ _ laws outer _ _ _ c.requires.place c.in_ok-open_struct.ensures.conduct c.in_ok-open_struct.ensures.ok);
+      half = rw c.no_members-members.ensures (structure_entered _ _ _ _ laws outer _ _ _ c.requires.place c.in_ok-open_struct.ensures.opens.conduct c.in_ok-open_struct.ensures.opens.ok);
     }
 
 -- it can not go on
@@ -41,7 +41,7 @@ read_structure-returns-in_err-member-clause-reads g t c =
     let outer = site_of c.args.schema.now in
     let half = c.loop-members.invariant.half in
     let same = c.loop-members.invariant.same in
-    let told = c.in_err-member.ensures in
+    let told = c.in_err-member.ensures.goes_on in
     let p = err_from_is_err_and c.from_residual-in_err-member.result c.from_residual-in_err-member.ensures.1 in
     rw (p.1, p.2)
     (goes_no_further _ _ _ _ laws g.T.Tree.view outer _ _ _ _ _ _ half told.conduct told.narrow (rw same at told.deep) (rw same at told.limited) (rw same at told.refused) (rw same at told.none_without_limits))
@@ -55,7 +55,7 @@ read_structure-returns-in_err-value-in-Member-clause-reads g t c =
     let outer = site_of c.args.schema.now in
     let half = c.loop-members.invariant.half in
     let same = c.loop-members.invariant.same in
-    let step = rw (c.in-Member.is, same) at (c.in_ok-member.ensures.ok half.kept.due) in
+    let step = rw (c.in-Member.is, same) at (c.in_ok-member.ensures.goes_on.ok half.kept.due) in
     let p = err_from_is_err_and c.from_residual-in_err-value-in-Member.result c.from_residual-in_err-value-in-Member.ensures.1 in
     rw (p.1, p.2)
     (member_fails _ _ _ _ laws g.T.Tree.view g.T.Tree.view outer c.in-Member.member _ _ _ _ _ _ (structure_has_members _ c.requires.place) half (λ variant. absurd (structure_or_union _ c.requires.place variant)) step (rw (c.next_member.ensures.same, same) at c.in_err-value-in-Member.ensures.reads))
@@ -69,7 +69,7 @@ read_structure-returns-in_err-set_member-in-Member-clause-reads g t c =
     let outer = site_of c.args.schema.now in
     let half = c.loop-members.invariant.half in
     let same = c.loop-members.invariant.same in
-    let step = rw (c.in-Member.is, same) at (c.in_ok-member.ensures.ok half.kept.due) in
+    let step = rw (c.in-Member.is, same) at (c.in_ok-member.ensures.goes_on.ok half.kept.due) in
     let reads = rw (c.next_member.ensures.same, same) at c.in_ok-value-in-Member.ensures.reads in
     let p = err_from_is_err_and c.from_residual-in_err-set_member-in-Member.result c.from_residual-in_err-set_member-in-Member.ensures.1 in
     rw (p.1, p.2)
@@ -84,7 +84,7 @@ read_structure-loop-members-preserved-in-Continue-branch-5 g t c =
     let outer = site_of c.args.schema.now in
     let half = c.loop-members.invariant.half in
     let same = c.loop-members.invariant.same in
-    let step = rw (c.in-Member.is, same) at (c.in_ok-member.ensures.ok half.kept.due) in
+    let step = rw (c.in-Member.is, same) at (c.in_ok-member.ensures.goes_on.ok half.kept.due) in
     let reads = rw (c.next_member.ensures.same, same) at c.in_ok-value-in-Member.ensures.reads in
     record {
       same = c.read_tree.ensures.same ∙ c.next_member.ensures.same ∙ same;
@@ -100,7 +100,7 @@ read_structure-returns-in_err-skip_value-in-Unknown-clause-reads g t c =
     let outer = site_of c.args.schema.now in
     let half = c.loop-members.invariant.half in
     let same = c.loop-members.invariant.same in
-    let step = rw (c.in-Unknown.is, same) at (c.in_ok-member.ensures.ok half.kept.due) in
+    let step = rw (c.in-Unknown.is, same) at (c.in_ok-member.ensures.goes_on.ok half.kept.due) in
     let told = c.in_err-skip_value-in-Unknown.ensures in
     let p = err_from_is_err_and c.from_residual-in_err-skip_value-in-Unknown.result c.from_residual-in_err-skip_value-in-Unknown.ensures.1 in
     rw (p.1, p.2)
@@ -115,7 +115,7 @@ read_structure-loop-members-preserved g t c =
     let outer = site_of c.args.schema.now in
     let half = c.loop-members.invariant.half in
     let same = c.loop-members.invariant.same in
-    let step = rw (c.in-Unknown.is, same) at (c.in_ok-member.ensures.ok half.kept.due) in
+    let step = rw (c.in-Unknown.is, same) at (c.in_ok-member.ensures.goes_on.ok half.kept.due) in
     let skips = rw (c.next_member.ensures.same, same) at c.in_ok-skip_value-in-Unknown.ensures.ok in
     record {
       same = c.skip_value.ensures.same ∙ c.next_member.ensures.same ∙ same;
@@ -131,7 +131,7 @@ read_structure-returns-in-End-clause-reads g t c =
     let outer = site_of c.args.schema.now in
     let half = c.loop-members.invariant.half in
     let same = c.loop-members.invariant.same in
-    let leaves = rw (c.in-End.is, same) at (c.in_ok-member.ensures.ok half.kept.due) in
+    let leaves = rw (c.in-End.is, same) at (c.in_ok-member.ensures.goes_on.ok half.kept.due) in
     ends_whole _ _ _ _ laws g.T.Tree.view outer _ _ _ _ _ _ _ half leaves refl c.structure.ensures tt
 
 -- less is left to read
@@ -140,7 +140,7 @@ read_structure-loop-members-smaller-in-Continue-branch-5 g t c =
     let outer = site_of c.args.schema.now in
     let half = c.loop-members.invariant.half in
     let same = c.loop-members.invariant.same in
-    let step = rw (c.in-Member.is, same) at (c.in_ok-member.ensures.ok half.kept.due) in
+    let step = rw (c.in-Member.is, same) at (c.in_ok-member.ensures.goes_on.ok half.kept.due) in
     let reads = rw (c.next_member.ensures.same, same) at c.in_ok-value-in-Member.ensures.reads in
     rw (c.read_tree.ensures.same, c.next_member.ensures.same, same)
     (left_falls _ _ _ (g.met.D.ShapeDeserializer.lawful (g.D.ShapeDeserializer.settings c.args.source.now)) _ _ _ _ _ _ _ _ (Some step.0) (child_value (Some step.0) (Some c.in-Some.index) (g.T.Tree.view c.in_ok-value-in-Member.value)) half.kept step.2
@@ -150,7 +150,7 @@ pub read_structure-loop-members-smaller : goal.read_structure-loop-members-small
 read_structure-loop-members-smaller g t c =
     let half = c.loop-members.invariant.half in
     let same = c.loop-members.invariant.same in
-    let step = rw (c.in-Unknown.is, same) at (c.in_ok-member.ensures.ok half.kept.due) in
+    let step = rw (c.in-Unknown.is, same) at (c.in_ok-member.ensures.goes_on.ok half.kept.due) in
     let skips = rw (c.next_member.ensures.same, same) at c.in_ok-skip_value-in-Unknown.ensures.ok in
     rw (c.skip_value.ensures.same, c.next_member.ensures.same, same)
     (left_falls _ _ _ (g.met.D.ShapeDeserializer.lawful (g.D.ShapeDeserializer.settings c.args.source.now)) _ _ _ _ _ _ _ _ (Some step.0) (child_unknown (Some step.0)) half.kept step.1 (refl, c.requires.place, step.2, skips) c.in_ok-skip_value-in-Unknown.ensures.passes)

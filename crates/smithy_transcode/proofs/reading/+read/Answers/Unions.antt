@@ -13,7 +13,7 @@ pub read_union-returns-in_err-open_struct-clause-reads : goal.read_union-returns
 read_union-returns-in_err-open_struct-clause-reads g t c =
     let d = g.met.D.ShapeDeserializer in
     let s0 = g.D.ShapeDeserializer.settings c.args.source.now in
-    let told = c.in_err-open_struct.ensures in
+    let told = c.in_err-open_struct.ensures.opens in
     let p = err_from_is_err_and c.from_residual.result c.from_residual.ensures.1 in
     rw (p.1, p.2)
     (open_fails _ _ _ _ g.T.Tree.view (site_of c.args.schema.now) _ _ _ (d.lawful s0) (d.lifted_lawful s0) (union_contains _ c.requires.place) c.requires.due told.conduct told.narrow told.told told.refused told.none_without_limits told.deepest)
@@ -25,8 +25,8 @@ read_union-returns-in_err-member-clause-reads g t c =
     let s0 = g.D.ShapeDeserializer.settings c.args.source.now in
     let laws = obeyed _ _ _ (d.lawful s0) (d.lifted_lawful s0) (d.above s0) (d.counts s0) in
     let outer = site_of c.args.schema.now in
-    let half = union_entered _ _ _ _ laws outer _ _ _ c.requires.place c.in_ok-open_struct.ensures.conduct c.in_ok-open_struct.ensures.ok in
-    let told = c.in_err-member.ensures in
+    let half = union_entered _ _ _ _ laws outer _ _ _ c.requires.place c.in_ok-open_struct.ensures.opens.conduct c.in_ok-open_struct.ensures.opens.ok in
+    let told = c.in_err-member.ensures.goes_on in
     let p = err_from_is_err_and c.from_residual-in_err-member.result c.from_residual-in_err-member.ensures.1 in
     rw (p.1, p.2)
     (goes_no_further _ _ _ _ laws g.T.Tree.view outer _ _ _ _ _ _ half told.conduct told.narrow (rw c.open_struct.ensures.same at told.deep) (rw c.open_struct.ensures.same at told.limited) (rw c.open_struct.ensures.same at told.refused) (rw c.open_struct.ensures.same at told.none_without_limits))
@@ -38,8 +38,8 @@ read_union-returns-in_default g t c =
     let s0 = g.D.ShapeDeserializer.settings c.args.source.now in
     let laws = obeyed _ _ _ (d.lawful s0) (d.lifted_lawful s0) (d.above s0) (d.counts s0) in
     let outer = site_of c.args.schema.now in
-    let half = union_entered _ _ _ _ laws outer _ _ _ c.requires.place c.in_ok-open_struct.ensures.conduct c.in_ok-open_struct.ensures.ok in
-    let step = rw c.open_struct.ensures.same at (c.in_ok-member.ensures.ok half.kept.due) in
+    let half = union_entered _ _ _ _ laws outer _ _ _ c.requires.place c.in_ok-open_struct.ensures.opens.conduct c.in_ok-open_struct.ensures.opens.ok in
+    let step = rw c.open_struct.ensures.same at (c.in_ok-member.ensures.goes_on.ok half.kept.due) in
     record {
       same = c.fail.ensures.same ∙ c.next_member.ensures.same ∙ c.open_struct.ensures.same;
       reads = no_variant_fails _ _ _ _ laws g.T.Tree.view outer _ _ _ _ _ c.in_default.not-Member c.requires.place half step c.fail.ensures.fails;
@@ -52,8 +52,8 @@ read_union-returns-in_err-value-clause-reads g t c =
     let s0 = g.D.ShapeDeserializer.settings c.args.source.now in
     let laws = obeyed _ _ _ (d.lawful s0) (d.lifted_lawful s0) (d.above s0) (d.counts s0) in
     let outer = site_of c.args.schema.now in
-    let half = union_entered _ _ _ _ laws outer _ _ _ c.requires.place c.in_ok-open_struct.ensures.conduct c.in_ok-open_struct.ensures.ok in
-    let step = rw (c.in-Member.is, c.open_struct.ensures.same) at (c.in_ok-member.ensures.ok half.kept.due) in
+    let half = union_entered _ _ _ _ laws outer _ _ _ c.requires.place c.in_ok-open_struct.ensures.opens.conduct c.in_ok-open_struct.ensures.opens.ok in
+    let step = rw (c.in-Member.is, c.open_struct.ensures.same) at (c.in_ok-member.ensures.goes_on.ok half.kept.due) in
     let p = err_from_is_err_and c.from_residual-in_err-value.result c.from_residual-in_err-value.ensures.1 in
     rw (p.1, p.2)
     (member_fails _ _ _ _ laws g.T.Tree.view g.T.Tree.view outer c.in-Member.member _ _ _ _ _ _ (union_has_members _ c.requires.place) half (λ variant. refl {a = false}) step (rw (c.next_member.ensures.same, c.open_struct.ensures.same) at c.in_err-value.ensures.reads))
@@ -65,12 +65,12 @@ read_union-returns-in_err-next_member-clause-reads g t c =
     let s0 = g.D.ShapeDeserializer.settings c.args.source.now in
     let laws = obeyed _ _ _ (d.lawful s0) (d.lifted_lawful s0) (d.above s0) (d.counts s0) in
     let outer = site_of c.args.schema.now in
-    let half = union_entered _ _ _ _ laws outer _ _ _ c.requires.place c.in_ok-open_struct.ensures.conduct c.in_ok-open_struct.ensures.ok in
-    let step = rw (c.in-Member.is, c.open_struct.ensures.same) at (c.in_ok-member.ensures.ok half.kept.due) in
+    let half = union_entered _ _ _ _ laws outer _ _ _ c.requires.place c.in_ok-open_struct.ensures.opens.conduct c.in_ok-open_struct.ensures.opens.ok in
+    let step = rw (c.in-Member.is, c.open_struct.ensures.same) at (c.in_ok-member.ensures.goes_on.ok half.kept.due) in
     let reads = rw (c.next_member.ensures.same, c.open_struct.ensures.same) at c.in_ok-value.ensures.reads in
     let behind = variant_passed _ _ _ _ laws outer c.in-Member.member _ _ _ _ c.in-Some.index _ half step (sym c.in-Some.ensures) reads.ok in
     let same = c.read_tree.ensures.same ∙ c.next_member.ensures.same ∙ c.open_struct.ensures.same in
-    let told = c.in_err-next_member.ensures in
+    let told = c.in_err-next_member.ensures.goes_on in
     let p = err_from_is_err_and c.from_residual-in_err-next_member.result c.from_residual-in_err-next_member.ensures.1 in
     rw (p.1, p.2)
     (goes_no_further _ _ _ _ laws g.T.Tree.view outer _ _ _ _ _ _ behind told.conduct told.narrow (rw same at told.deep) (rw same at told.limited) (rw same at told.refused) (rw same at told.none_without_limits))
@@ -82,12 +82,12 @@ read_union-returns-in_default-2 g t c =
     let s0 = g.D.ShapeDeserializer.settings c.args.source.now in
     let laws = obeyed _ _ _ (d.lawful s0) (d.lifted_lawful s0) (d.above s0) (d.counts s0) in
     let outer = site_of c.args.schema.now in
-    let half = union_entered _ _ _ _ laws outer _ _ _ c.requires.place c.in_ok-open_struct.ensures.conduct c.in_ok-open_struct.ensures.ok in
-    let step = rw (c.in-Member.is, c.open_struct.ensures.same) at (c.in_ok-member.ensures.ok half.kept.due) in
+    let half = union_entered _ _ _ _ laws outer _ _ _ c.requires.place c.in_ok-open_struct.ensures.opens.conduct c.in_ok-open_struct.ensures.opens.ok in
+    let step = rw (c.in-Member.is, c.open_struct.ensures.same) at (c.in_ok-member.ensures.goes_on.ok half.kept.due) in
     let reads = rw (c.next_member.ensures.same, c.open_struct.ensures.same) at c.in_ok-value.ensures.reads in
     let behind = variant_passed _ _ _ _ laws outer c.in-Member.member _ _ _ _ c.in-Some.index _ half step (sym c.in-Some.ensures) reads.ok in
     let same = c.read_tree.ensures.same ∙ c.next_member.ensures.same ∙ c.open_struct.ensures.same in
-    let next = rw same at (c.in_ok-next_member.ensures.ok behind.kept.due) in
+    let next = rw same at (c.in_ok-next_member.ensures.goes_on.ok behind.kept.due) in
     record {
       same = c.fail-in_default-2.ensures.same ∙ c.next_member-2.ensures.same ∙ same;
       reads = second_variant_fails _ _ _ _ laws g.T.Tree.view outer _ _ _ _ _ _ c.in_default-2.not-End c.requires.place behind (refl {a = true}) next c.fail-in_default-2.ensures.fails;
@@ -100,10 +100,10 @@ read_union-returns-clause-reads g t c =
     let s0 = g.D.ShapeDeserializer.settings c.args.source.now in
     let laws = obeyed _ _ _ (d.lawful s0) (d.lifted_lawful s0) (d.above s0) (d.counts s0) in
     let outer = site_of c.args.schema.now in
-    let half = union_entered _ _ _ _ laws outer _ _ _ c.requires.place c.in_ok-open_struct.ensures.conduct c.in_ok-open_struct.ensures.ok in
-    let step = rw (c.in-Member.is, c.open_struct.ensures.same) at (c.in_ok-member.ensures.ok half.kept.due) in
+    let half = union_entered _ _ _ _ laws outer _ _ _ c.requires.place c.in_ok-open_struct.ensures.opens.conduct c.in_ok-open_struct.ensures.opens.ok in
+    let step = rw (c.in-Member.is, c.open_struct.ensures.same) at (c.in_ok-member.ensures.goes_on.ok half.kept.due) in
     let reads = rw (c.next_member.ensures.same, c.open_struct.ensures.same) at c.in_ok-value.ensures.reads in
     let behind = variant_passed _ _ _ _ laws outer c.in-Member.member _ _ _ _ c.in-Some.index _ half step (sym c.in-Some.ensures) reads.ok in
     let same = c.read_tree.ensures.same ∙ c.next_member.ensures.same ∙ c.open_struct.ensures.same in
-    let leaves = rw (c.in-End.is, same) at (c.in_ok-next_member.ensures.ok behind.kept.due) in
+    let leaves = rw (c.in-End.is, same) at (c.in_ok-next_member.ensures.goes_on.ok behind.kept.due) in
     ends_whole _ _ _ _ laws g.T.Tree.view outer _ _ _ _ _ _ _ behind leaves refl c.union.ensures.ok c.union.ensures.err
