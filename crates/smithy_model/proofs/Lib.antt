@@ -3,6 +3,7 @@ mod AllSome
 mod Refusals
 mod Zip
 mod Put
+mod Places
 mod Mixing
 mod Taking
 mod Ids

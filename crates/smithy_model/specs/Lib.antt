@@ -13,3 +13,4 @@ pub mod Faults
 pub mod Views
 -- words for private functions
 pub mod Mixing
+pub mod Placing

@@ -3,7 +3,7 @@ use Rattle.std.specs.Prelude.{ℕ, List, [], ◌∷◌, ◌||◌, Bool, false, O
 use Rattle.std.specs.Option.{option_map_or}
 use Rattle.json.specs.Json.{Json}
 use Rattle.json.specs.Find.{get}
-use Rattle.smithy_model.specs.Objects.{Entry, text_in, is_set, entries_in, trait_text, has_trait}
+use Rattle.smithy_model.specs.Objects.{Entry, text_in, is_set, entries_in, is_no_object, trait_text, has_trait}
 use Rattle.smithy_model.specs.Model.{Member}
 use Rattle.smithy_model.specs.Form.{Form, smithy, json_service, xml_service, ec2_service}
 
@@ -112,4 +112,5 @@ all_some (x ∷ xs) = option_and_then (λ a. option_map (λ more. a ∷ more) (a
 -- the members of a structure or a union, in the model's order: none where one isn't a member
 abbrev pub members_in : Form → Json → Option (List Member)
 members_in form spec =
-    all_some (list_map (λ (e : Entry). member_in form spec e.0 e.1) (unwrap_or (entries_in (codes "members") spec) []))
+    if is_no_object (codes "members") spec then None
+    else all_some (list_map (λ (e : Entry). member_in form spec e.0 e.1) (unwrap_or (entries_in (codes "members") spec) []))

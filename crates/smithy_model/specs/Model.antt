@@ -50,9 +50,10 @@ pub record Operation : Type 0 where
   pub output : Option Reference
   pub errors : List Reference
 
--- a model: shapes and operations in its order, and whether its protocol has HTTP bindings, or is ec2Query
+-- a model: shapes and operations in its order, whether its protocol has HTTP bindings, or is ec2Query, and whether it is a service-2.json
 pub record Model : Type 0 where
   pub shapes : List Shape
   pub operations : List Operation
   pub has_http_bindings : Bool
   pub is_ec2 : Bool
+  pub is_service_json : Bool

@@ -1,5 +1,5 @@
 -- Looking into JSON values. Names of equal members don't come: a text that has a name twice in an object is refused.
-use Rattle.std.specs.Prelude.{ℕ, List, [], ◌∷◌, Bool, false, Option, option_map, option_and_then, is_some, unwrap_or, codes}
+use Rattle.std.specs.Prelude.{ℕ, List, [], ◌∷◌, ◌&&◌, Bool, false, Option, option_map, option_and_then, is_some, is_none, unwrap_or, codes}
 use Rattle.json.specs.Json.{Json, Items, no_items, item, Members, no_members, member}
 use Rattle.json.specs.Find.{get, as_str, as_bool, as_array, as_object}
 
@@ -44,6 +44,14 @@ entries_in name spec = option_and_then entries (get name spec)
 -- the items of the member of this name, where it is an array
 abbrev pub items_in : List ℕ → Json → Option (List Json)
 items_in name spec = option_and_then items (get name spec)
+
+-- there is a member of this name, and it is no object
+abbrev pub is_no_object : List ℕ → Json → Bool
+is_no_object name spec = is_there name spec && is_none (entries_in name spec)
+
+-- there is one, and it is no array
+abbrev pub is_no_array : List ℕ → Json → Bool
+is_no_array name spec = is_there name spec && is_none (items_in name spec)
 
 -- the text of a trait, and whether one is given (Smithy 2.0, "JSON AST", "Shapes": the member `traits`)
 abbrev pub trait_text : List ℕ → Json → Option (List ℕ)

@@ -72,6 +72,10 @@ abbrev pub is_ec2_in : Form → Json → List Entry → Bool
 is_ec2_in smithy root es = has_protocol (codes "aws.protocols#ec2Query") es
 is_ec2_in _ root es = bytes_eq (protocol_in root) (codes "ec2")
 
+abbrev pub is_service_json : Form → Bool
+is_service_json smithy = false
+is_service_json _ = true
+
 -- the shapes that a model has without declaring them: those of the prelude in a Smithy model
 abbrev pub undeclared : Form → List Shape
 undeclared smithy = prelude
@@ -137,6 +141,7 @@ pub record IsUnlinked (root : Json) (m : Model) : Type 0 where
   pub operations : option_and_then (operations_among form) (entries_in (operations_name form) root) ≡ Some m.operations
   pub http : m.has_http_bindings ≡ has_http_bindings_in form root entries
   pub ec2 : m.is_ec2 ≡ is_ec2_in form root entries
+  pub service_json : m.is_service_json ≡ is_service_json form
 
 -- the model with the number of each target, and of each structure of an operation
 abbrev pub IsLinked : Model → Model → Type 0

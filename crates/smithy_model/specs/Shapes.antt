@@ -1,17 +1,19 @@
 -- Shapes and operations, as a model's text has them (Smithy 2.0, "JSON AST").
-use Rattle.std.specs.Prelude.{ℕ, List, [], Bool, false, Option, Some, None, option_map, option_and_then, unwrap_or, codes, map as list_map}
+use Rattle.std.specs.Prelude.{ℕ, List, [], Bool, false, Option, Some, None, option_map, option_and_then, unwrap_or, if◌then◌else◌, codes, map as list_map}
 use Rattle.std.specs.Option.{option_map_or}
 use Rattle.json.specs.Json.{Json}
 use Rattle.json.specs.Find.{get}
-use Rattle.smithy_model.specs.Objects.{Entry, text_in, is_set, items_in, trait_text, has_trait}
+use Rattle.smithy_model.specs.Objects.{Entry, text_in, is_set, items_in, is_no_array, trait_text, has_trait}
 use Rattle.smithy_model.specs.Model.{Shape, Reference, Operation}
 use Rattle.smithy_model.specs.Form.{Form, smithy}
 use Rattle.smithy_model.specs.Members.{service_time, all_some}
 use Rattle.smithy_model.specs.Kinds.{kind_in}
 
--- the ids that the items of an array refer to by their member `key`: none where one has no such member
+-- the ids that the items of an array refer to by their member `key`, if there is an array: none where something else stands there, or an item
+-- has no such member
 abbrev pub references_in : List ℕ → List ℕ → Json → Option (List (List ℕ))
-references_in name key spec = all_some (list_map (text_in key) (unwrap_or (items_in name spec) []))
+references_in name key spec =
+    if is_no_array name spec then None else all_some (list_map (text_in key) (unwrap_or (items_in name spec) []))
 
 -- what a value refers to by its member `key`; its number is given later
 abbrev pub reference_in : List ℕ → Json → Option Reference
@@ -23,7 +25,9 @@ reference_if name key spec = option_map_or (λ value. option_map Some (reference
 
 -- what the errors of an operation refer to
 abbrev pub errors_in : List ℕ → Json → Option (List Reference)
-errors_in key spec = all_some (list_map (reference_in key) (unwrap_or (items_in (codes "errors") spec) []))
+errors_in key spec =
+    if is_no_array (codes "errors") spec then None
+    else all_some (list_map (reference_in key) (unwrap_or (items_in (codes "errors") spec) []))
 
 -- the member by which others refer to a shape
 abbrev pub reference_key : Form → List ℕ

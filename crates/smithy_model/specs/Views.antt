@@ -76,6 +76,7 @@ model_view m = record {
   operations = list_map operation_view m.operations.items;
   has_http_bindings = m.has_http_bindings;
   is_ec2 = m.is_ec2;
+  is_service_json = m.is_service_json;
 }
 
 abbrev pub form_view : kept_format.Format → Form

@@ -109,5 +109,6 @@ pub(crate) fn link_model<'a>(alloc: Global, model: Model<'a>) -> Result<Model<'a
         operations,
         has_http_bindings: model.has_http_bindings,
         is_ec2: model.is_ec2,
+        is_service_json: model.is_service_json,
     })
 }

@@ -6,7 +6,7 @@ ghost use Rattle.smithy_model.specs.Views.{member_view, form_view};
 
 use crate::format::Format;
 use crate::model::Member;
-use crate::objects::{entries, has_trait, is_set, text, trait_text};
+use crate::objects::{entries, has_trait, is_no_object, is_set, text, trait_text};
 use json::Value;
 use std::alloc::{AllocError, Global};
 
@@ -159,7 +159,7 @@ pub(crate) fn read_part<'a>(
     read_member(format, spec, name, spec.get(name)?)
 }
 
-/// The members of a structure or a union, in the model's order: none where one of them has no target.
+/// The members of a structure or a union, in the model's order: none where one of them has no target, or where they are no object.
 pub(crate) fn read_members<'a>(
     alloc: Global,
     format: Format,
@@ -167,6 +167,9 @@ pub(crate) fn read_members<'a>(
 ) -> Result<Option<Vec<Member<'a>>>, AllocError>
     ensures { IfOk result (λ members. option_map (λ ms. map member_view ms.items) members ≡ members_in (form_view format) (value_view spec.now)) }
 {
+    if is_no_object(spec, "members") {
+        return Ok(None);
+    }
     let Some(entries) = entries(spec, "members") else {
         return Ok(Some(Vec::new(alloc)));
     };

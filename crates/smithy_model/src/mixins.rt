@@ -5,6 +5,7 @@ ghost use Rattle.std.specs.Option.{option_or};
 ghost use Rattle.smithy_model.specs.Model as specs;
 ghost use Rattle.smithy_model.specs.Mixins.{takes_mixins, members_of, with_members, redefined, with_member, has_other_target, agree, nothing, with_shape, with_gathered, gathered, uses_of, AreMixed, is_done, IsDone};
 ghost use Rattle.smithy_model.specs.Mixing.{TakesIn, IsWaiting, IsHeldUp, IsSettledAt, RefusesOne, RefusesHere, count_of_waiting};
+ghost use Rattle.smithy_model.specs.Placing.{position_of, place_in, ArePlaces};
 ghost use Rattle.smithy_model.specs.Reading.{ids_of};
 ghost use Rattle.smithy_model.specs.Faults.{RefusesMixins};
 ghost use Rattle.smithy_model.specs.Views.{kind_view, member_view, shape_view, numbers_view, gathered_view};
@@ -14,11 +15,14 @@ use crate::mixin_order::take_in_order;
 use crate::model::{Kind, Member, Shape};
 use crate::numbers::Numbers;
 use std::alloc::{AllocError, Global};
+use std::collections::BTreeMap;
 
 /// What was gathered for a shape.
 #[derive(Drop)]
 pub(crate) struct Gathered<'a> {
     pub(crate) members: Vec<Member<'a>>,
+    // The place of the first member of each name.
+    pub(crate) places: BTreeMap<&'a str, usize>,
     // No member was added that has another target than the earlier one of its name.
     pub(crate) agrees: bool,
     pub(crate) is_sparse: bool,
@@ -78,40 +82,72 @@ fn redefined<'a>(earlier: &Member<'a>, given: &Member<'a>) -> Member<'a>
     }
 }
 
+// The place of the first member of this name.
+fn place_of<'a>(places: &BTreeMap<&'a str, usize>, name: &'a str) -> Option<usize>
+    ensures { result ≡ place_in places.now name.now }
+{
+    match places.get(name) {
+        Some(place) => Some(*place),
+        None => None,
+    }
+}
+
+// Defines the member at this place again, and tells whether it had the same target.
+fn put_again<'a>(members: &mut Vec<Member<'a>>, place: usize, member: &Member<'a>) -> bool
+    requires { position_of member.now.name.now (map member_view members.now.items) ≡ Some place }
+    ensures put { map member_view members.new.items ≡ with_member (map member_view members.old.items) (member_view member.now) }
+    ensures agrees { result ≡ not (has_other_target (map member_view members.old.items) (member_view member.now)) }
+{
+    let agrees = members[place].target == member.target;
+    members[place] = redefined(&members[place], member);
+    agrees
+}
+
 // Adds a member, in the place of an earlier one of its name where there is one, and tells whether that one has its target.
-fn put<'a>(members: &mut Vec<Member<'a>>, member: &Member<'a>) -> Result<bool, AllocError>
+fn put<'a>(
+    members: &mut Vec<Member<'a>>,
+    places: &mut BTreeMap<&'a str, usize>,
+    member: &Member<'a>,
+) -> Result<bool, AllocError>
+    requires { ArePlaces (map member_view members.now.items) places.now }
     ensures put { OnOk result (map member_view members.new.items ≡ with_member (map member_view members.old.items) (member_view member.now)) }
     ensures agrees { IfOk result (λ agrees. agrees ≡ not (has_other_target (map member_view members.old.items) (member_view member.now))) }
+    ensures places { OnOk result (ArePlaces (map member_view members.new.items) places.new) }
 {
-    for position in 0..members.len() {
-        if members[position].name == member.name {
-            let agrees = members[position].target == member.target;
-            members[position] = redefined(&members[position], member);
-            return Ok(agrees);
-        }
+    if let Some(place) = place_of(places, member.name) {
+        return Ok(put_again(members, place, member));
     }
+    places.insert(member.name, members.len())?;
     members.push(*member)?;
     Ok(true)
 }
 
 // Adds members, one after the other, and tells whether they agree with the earlier ones of their names.
-fn put_all<'a>(members: &mut Vec<Member<'a>>, more: &[Member<'a>]) -> Result<bool, AllocError>
+fn put_all<'a>(
+    members: &mut Vec<Member<'a>>,
+    places: &mut BTreeMap<&'a str, usize>,
+    more: &[Member<'a>],
+) -> Result<bool, AllocError>
+    requires { ArePlaces (map member_view members.now.items) places.now }
     ensures put { OnOk result (map member_view members.new.items ≡ fold with_member (map member_view members.old.items) (map member_view more.now)) }
     ensures agree { IfOk result (λ agrees. agrees ≡ agree (map member_view members.old.items) (map member_view more.now)) }
+    ensures places { OnOk result (ArePlaces (map member_view members.new.items) places.new) }
 {
     let mut agrees = true;
     for member in more {
-        agrees = both(agrees, put(members, member)?);
+        agrees = both(agrees, put(members, places, member)?);
     }
     Ok(agrees)
 }
 
 // Nothing yet.
 fn nothing<'a>(alloc: Global) -> Gathered<'a>
-    ensures { gathered_view result ≡ nothing }
+    ensures nothing { gathered_view result ≡ nothing }
+    ensures places { ArePlaces (map member_view result.members.items) result.places }
 {
     Gathered {
         members: Vec::new(alloc),
+        places: BTreeMap::new(alloc),
         agrees: true,
         is_sparse: false,
         time_format: None,
@@ -120,9 +156,12 @@ fn nothing<'a>(alloc: Global) -> Gathered<'a>
 
 // Adds what a shape has.
 fn add_shape<'a>(gathered: &mut Gathered<'a>, shape: &Shape<'a>) -> Result<(), AllocError>
-    ensures { OnOk result (gathered_view gathered.new ≡ with_shape (gathered_view gathered.old) (shape_view shape.now)) }
+    requires { ArePlaces (map member_view gathered.now.members.items) gathered.now.places }
+    ensures added { OnOk result (gathered_view gathered.new ≡ with_shape (gathered_view gathered.old) (shape_view shape.now)) }
+    ensures places { OnOk result (ArePlaces (map member_view gathered.new.members.items) gathered.new.places) }
 {
-    let agrees = put_all(&mut gathered.members, members_of(&shape.kind))?;
+    let more = members_of(&shape.kind);
+    let agrees = put_all(&mut gathered.members, &mut gathered.places, more)?;
     gathered.agrees = both(gathered.agrees, agrees);
     gathered.is_sparse = either(shape.is_sparse, gathered.is_sparse);
     gathered.time_format = text_of(shape.time_format, gathered.time_format);

@@ -93,4 +93,6 @@ pub struct Model<'a> {
     pub has_http_bindings: bool,
     /// The protocol is `ec2Query`.
     pub is_ec2: bool,
+    /// It is a `service-2.json`.
+    pub is_service_json: bool,
 }

@@ -1,6 +1,6 @@
 //! Looking into JSON values by the names of their members.
 ghost use Rattle.std.specs.Prelude.{◌≡◌, [], map, option_map, unwrap_or};
-ghost use Rattle.smithy_model.specs.Objects.{text_in, is_there, is_set, entries, entries_in, items, items_in, trait_text, has_trait, inner_text};
+ghost use Rattle.smithy_model.specs.Objects.{text_in, is_there, is_set, entries, entries_in, items, items_in, is_no_object, is_no_array, trait_text, has_trait, inner_text};
 ghost use Rattle.smithy_model.specs.Views.{entry_view};
 ghost use Rattle.json.specs.Value.{value_view};
 
@@ -62,6 +62,20 @@ pub(crate) fn items<'v, 'a>(spec: &'v Value<'a>, name: &str) -> Option<&'v [Valu
     ensures { option_map (λ vs. map value_view vs.now) result ≡ items_in name.now (value_view spec.now) }
 {
     items_of(spec.get(name)?)
+}
+
+/// Whether there is a member of this name, and it is no object.
+pub(crate) fn is_no_object(spec: &Value<'_>, name: &str) -> bool
+    ensures { result ≡ is_no_object name.now (value_view spec.now) }
+{
+    is_there(spec, name) && entries(spec, name).is_none()
+}
+
+/// Whether there is a member of this name, and it is no array.
+pub(crate) fn is_no_array(spec: &Value<'_>, name: &str) -> bool
+    ensures { result ≡ is_no_array name.now (value_view spec.now) }
+{
+    is_there(spec, name) && items(spec, name).is_none()
 }
 
 /// The text of a trait (Smithy 2.0, "JSON AST").

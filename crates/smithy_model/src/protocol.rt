@@ -1,7 +1,7 @@
 //! The form of a model, and what its protocol asks for.
 ghost use Rattle.std.specs.Prelude.{◌≡◌, map, option_map};
 ghost use Rattle.json.specs.Value.{value_view};
-ghost use Rattle.smithy_model.specs.Reading.{protocol_in, form_of_protocol, form_in, has_protocol, has_http_bindings_in, is_ec2_in};
+ghost use Rattle.smithy_model.specs.Reading.{protocol_in, form_of_protocol, form_in, has_protocol, has_http_bindings_in, is_ec2_in, is_service_json};
 ghost use Rattle.smithy_model.specs.Views.{entry_view, form_view};
 
 use crate::format::Format;
@@ -80,5 +80,15 @@ pub(crate) fn is_ec2(format: Format, root: &Value<'_>, entries: &[(&str, Value<'
     match format {
         Format::Smithy => has_protocol(entries, "aws.protocols#ec2Query"),
         _ => protocol(root) == "ec2",
+    }
+}
+
+/// Whether the model is a `service-2.json`.
+pub(crate) fn is_service_json(format: Format) -> bool
+    ensures { result ≡ is_service_json (form_view format) }
+{
+    match format {
+        Format::Smithy => false,
+        _ => true,
     }
 }

@@ -16,7 +16,7 @@ use crate::model::{Model, Shape};
 use crate::objects::entries;
 use crate::parts::{read_operations, read_shapes};
 use crate::prelude::add_prelude;
-use crate::protocol::{format_of, has_http_bindings, is_ec2};
+use crate::protocol::{format_of, has_http_bindings, is_ec2, is_service_json};
 use json::{Scratch, Value};
 use std::alloc::Global;
 use std::str;
@@ -88,6 +88,7 @@ fn read_unlinked<'a>(alloc: Global, root: &Value<'a>) -> Result<Model<'a>, Model
         operations: read_operations(alloc, format, calls)?,
         has_http_bindings: has_http_bindings(format, root, parts),
         is_ec2: is_ec2(format, root, parts),
+        is_service_json: is_service_json(format),
     })
 }
 

@@ -8,11 +8,11 @@ use crate::format::Format;
 use crate::kinds::read_kind;
 use crate::members::service_time;
 use crate::model::{Operation, Reference, Shape};
-use crate::objects::{has_trait, is_set, items, text, trait_text};
+use crate::objects::{has_trait, is_no_array, is_set, items, text, trait_text};
 use json::Value;
 use std::alloc::{AllocError, Global};
 
-// The ids that the items of an array refer to: none where one of them has no such member.
+// The ids that the items of an array refer to, if there is one: none where it is no array, or an item has no such member.
 fn references<'a>(
     alloc: Global,
     spec: &Value<'a>,
@@ -21,6 +21,9 @@ fn references<'a>(
 ) -> Result<Option<Vec<&'a str>>, AllocError>
     ensures { IfOk result (λ read. option_map (λ ids. map (λ t. t.now) ids.items) read ≡ references_in name.now key.now (value_view spec.now)) }
 {
+    if is_no_array(spec, name) {
+        return Ok(None);
+    }
     let mut ids = Vec::new(alloc);
     let Some(items) = items(spec, name) else {
         return Ok(Some(ids));
@@ -72,6 +75,9 @@ fn read_errors<'a>(
 ) -> Result<Option<Vec<Reference<'a>>>, AllocError>
     ensures { IfOk result (λ read. option_map (λ errors. map reference_view errors.items) read ≡ errors_in key.now (value_view spec.now)) }
 {
+    if is_no_array(spec, "errors") {
+        return Ok(None);
+    }
     let mut errors = Vec::new(alloc);
     let Some(items) = items(spec, "errors") else {
         return Ok(Some(errors));

@@ -1,4 +1,4 @@
-use Rattle.std.proofs.Common.{[], ◌∷◌, map, sym}
+use Rattle.std.proofs.Common.{◌∙◌, [], ◌∷◌, map, sym}
 use Rattle.std.proofs.lemmas.List.{map-append}
 use Rattle.json.specs.Value.{value_view}
 use Rattle.smithy_model.specs.Objects.{Entry}
@@ -11,7 +11,7 @@ pub returns-in-None : goal.returns-in-None
 returns-in-None c =
     let f = λ (e : Entry). member_in (form_view c.args.format) (value_view c.args.spec.now) e.0 e.1 in
     let none = read_none entry_view f c.in-Some.entries.now c.loop-name.name-index c.loop-name-item.result c.loop-name-test.true c.loop-name-item.is (sym c.in-None.ensures) in
-    rw (sym c.in-Some.ensures) (sym none)
+    rw (sym c.is_no_object.ensures ∙ c.if-is_no_object.false, sym c.in-Some.ensures) (sym none)
 
 pub loop-name-preserved : goal.loop-name-preserved
 loop-name-preserved c =

@@ -16,14 +16,18 @@ loop-id-preserved c =
     let within : i < length c.args.shape.now.mixins.items = search rules in
     let mixin = shape_view c.in-Some-done_at.mixin.now in
     let there = c.in-Some-done_at.ensures.there in
-    let mixins = c.loop-id.invariant.0 in
+    let mixins = c.loop-id.invariant.so_far.0 in
     let named = subst (λ (ws : List (Bor (List ℕ))). mixin.id ≡ (get_or ws i d).now) c.deref-id-items.ensures.value
-    (id_there shapes (numbers_view c.args.numbers.now) c.in-Some.number mixin _ c.requires c.in-Some.ensures.found there.0) in (
-      mixins ++ mixin ∷ [],
-      zip_next (IsDone shapes c.args.done.now) (λ (t : Bor (List ℕ)). t.now) c.args.shape.now.mixins.items i d mixins mixin within c.loop-id.invariant.1
-          (c.in-Some.number, there.0, there.1, named),
-      c.in_ok-add_shape.ensures ∙ fold_last with_shape nothing (gathered_view c.loop-id.gathered) mixins mixin c.loop-id.invariant.2,
-    )
+    (id_there shapes (numbers_view c.args.numbers.now) c.in-Some.number mixin _ c.requires c.in-Some.ensures.found there.0) in
+    record {
+      places = c.in_ok-add_shape.ensures.places;
+      so_far = (
+        mixins ++ mixin ∷ [],
+        zip_next (IsDone shapes c.args.done.now) (λ (t : Bor (List ℕ)). t.now) c.args.shape.now.mixins.items i d mixins mixin within c.loop-id.invariant.so_far.1
+            (c.in-Some.number, there.0, there.1, named),
+        c.in_ok-add_shape.ensures.added ∙ fold_last with_shape nothing (gathered_view c.loop-id.gathered) mixins mixin c.loop-id.invariant.so_far.2,
+      );
+    }
 
 pub returns-in_default-clause-refused : goal.returns-in_default-clause-refused
 returns-in_default-clause-refused c =
@@ -60,9 +64,9 @@ returns-then-not-gathered-clause-refused c =
     let shapes = map shape_view c.args.shapes.now in
     let own = shape_view c.args.shape.now in
     let ids = c.args.shape.now.mixins.items in
-    let mixins = c.loop-id.invariant.0 in
+    let mixins = c.loop-id.invariant.so_far.0 in
     let all : length ids ≤ c.loop-id.id-index = search rules in
     let zip = subst (λ (ws : List (Bor (List ℕ))). AllZip (IsDone shapes c.args.done.now) (map (λ (t : Bor (List ℕ)). t.now) ws) mixins)
-    (take_all c.loop-id.id-index ids all) c.loop-id.invariant.1 in
-    let made = c.in_ok-add_shape-2.ensures ∙ fold_last with_shape nothing (gathered_view c.loop-id.gathered) mixins own c.loop-id.invariant.2 in
+    (take_all c.loop-id.id-index ids all) c.loop-id.invariant.so_far.1 in
+    let made = c.in_ok-add_shape-2.ensures.added ∙ fold_last with_shape nothing (gathered_view c.loop-id.gathered) mixins own c.loop-id.invariant.so_far.2 in
     λ number at. inr (mixins, zip, sym (ap (λ (g : Gathered). g.agrees) made) ∙ c.if-not-gathered.true, refl)

@@ -1,48 +1,41 @@
-use Rattle.std.proofs.Common.{◌≡◌, ◌<◌, ◌≤◌, ◌∙◌, List, [], ◌∷◌, length, take_all, map, false, sym, ap, subst, rules}
-use Rattle.std.specs.Prelude.{not}
-use Rattle.std.specs.List.{list_any}
-use Rattle.std.proofs.lemmas.List.{map-append}
-use Rattle.smithy_model.specs.declared.model.Member as kept
-use Rattle.smithy_model.specs.Mixins.{with_member, has_other_target}
+use Rattle.std.proofs.Common.{◌≡◌, ◌∙◌, [], ◌∷◌, ◌++◌, length, map, sym, ap, subst, rules}
+use Rattle.std.specs.Vec.{vec_len}
+use Rattle.std.proofs.lemmas.List.{length-map, map-append}
+use Rattle.smithy_model.specs.Placing.{ArePlaces}
 use Rattle.smithy_model.specs.Views.{member_view}
-use Rattle.smithy_model.proofs.Put.{has_name, put_there, put_behind, other_there, none_other}
+use Rattle.smithy_model.proofs.Put.{put_behind, none_other}
+use Rattle.smithy_model.proofs.Places.{none_at, places_again, places_more}
 use Rattle.smithy_model.proofs.mixins.put.Goals as goal
 
-pub returns-then-eq-clause-put : goal.returns-then-eq-clause-put
-returns-then-eq-clause-put c =
-    let ms = c.loop-position.members.items in
-    let given = member_view c.args.member.now in
-    let i = c.loop-position.position in
-    let within : i < length ms = search rules in
-    put_there member_view ms i c.index.result.now c.index-then-eq-2.result.now c.redefined.result given within c.index.ensures c.index-then-eq-2.ensures
-    c.loop-position.invariant.none (sym c.eq.ensures ∙ c.if-eq.true) c.redefined.ensures
-    ∙ ap (λ vec. with_member (map member_view vec.items) given) c.loop-position.invariant.same
+pub put_again-requires : goal.put_again-requires
+put_again-requires c = sym (c.requires c.args.member.now.name.now) ∙ sym c.place_of.ensures ∙ c.in-Some.is
+
+pub returns-in-Some-clause-places : goal.returns-in-Some-clause-places
+returns-in-Some-clause-places c =
+    subst (λ xs. ArePlaces xs c.args.places.now) (sym c.put_again.ensures.put)
+    (places_again (map member_view c.args.members.now.items) (member_view c.args.member.now) c.in-Some.place c.args.places.now c.requires
+    (sym c.place_of.ensures ∙ c.in-Some.is))
 
 pub returns-clause-put : goal.returns-clause-put
 returns-clause-put c =
-    let ms = c.loop-position.members.items in
+    let ms = c.args.members.now.items in
     let given = member_view c.args.member.now in
-    let all : length ms ≤ c.loop-position.position = search rules in
-    let none = subst (λ (ws : List kept.Member). list_any (has_name given.name) (map member_view ws) ≡ false) (take_all c.loop-position.position ms all)
-    c.loop-position.invariant.none in
-    rw (c.in_ok-push.ensures.items, map-append member_view ms (c.args.member.now ∷ []))
-    (sym (put_behind (map member_view ms) given none) ∙ ap (λ vec. with_member (map member_view vec.items) given) c.loop-position.invariant.same)
-
-pub returns-then-eq-clause-agrees : goal.returns-then-eq-clause-agrees
-returns-then-eq-clause-agrees c =
-    let ms = c.loop-position.members.items in
-    let given = member_view c.args.member.now in
-    let i = c.loop-position.position in
-    let within : i < length ms = search rules in
-    other_there member_view ms i c.index.result.now c.index-then-eq.result.now given c.eq-agrees.result within c.index.ensures c.index-then-eq.ensures
-    c.loop-position.invariant.none (sym c.eq.ensures ∙ c.if-eq.true) c.eq-agrees.ensures
-    ∙ ap (λ vec. not (has_other_target (map member_view vec.items) given)) c.loop-position.invariant.same
+    let none = none_at (map member_view ms) given.name (sym (c.requires given.name) ∙ sym c.place_of.ensures ∙ c.in_default.is) in
+    rw (c.in_ok-push.ensures.items, map-append member_view ms (c.args.member.now ∷ [])) (sym (put_behind (map member_view ms) given none))
 
 pub returns-clause-agrees : goal.returns-clause-agrees
 returns-clause-agrees c =
-    let ms = c.loop-position.members.items in
+    let ms = map member_view c.args.members.now.items in
     let given = member_view c.args.member.now in
-    let all : length ms ≤ c.loop-position.position = search rules in
-    let none = subst (λ (ws : List kept.Member). list_any (has_name given.name) (map member_view ws) ≡ false) (take_all c.loop-position.position ms all)
-    c.loop-position.invariant.none in
-    none_other (map member_view ms) given none ∙ ap (λ vec. not (has_other_target (map member_view vec.items) given)) c.loop-position.invariant.same
+    none_other ms given (none_at ms given.name (sym (c.requires given.name) ∙ sym c.place_of.ensures ∙ c.in_default.is))
+
+pub returns-clause-places : goal.returns-clause-places
+returns-clause-places c =
+    let ms = c.args.members.now.items in
+    let given = member_view c.args.member.now in
+    let long : vec_len c.args.members.now ≡ length ms = search rules in
+    let more : map member_view c.push.new.self.items ≡ map member_view ms ++ given ∷ [] =
+    ap (map member_view) c.in_ok-push.ensures.items ∙ map-append member_view ms (c.args.member.now ∷ []) in
+    subst (λ xs. ArePlaces xs c.insert.new.self) (sym more)
+    (places_more (map member_view ms) given c.len.result c.args.places.now c.insert.new.self c.requires (sym c.place_of.ensures ∙ c.in_default.is)
+    (c.len.ensures ∙ long ∙ sym (length-map ms member_view)) c.in_ok-insert.ensures.updates)

@@ -14,4 +14,5 @@ loop-member-preserved c =
           ∙ fold_more with_member member_view first so_far c.args.more.now c.loop-member.member-index _ c.loop-member-test.true held.put;
       agree = agree_next member_view first so_far c.args.more.now c.loop-member.member-index _ c.loop-member.agrees c.both-agrees.result c.in_ok-put.field-0
           c.loop-member-test.true held.put held.agree c.in_ok-put.ensures.agrees c.both-agrees.ensures;
+      places = c.in_ok-put.ensures.places;
     }

@@ -25,6 +25,7 @@ returns-clause-read c =
       operations = rw (named) c.in_ok-read_operations.ensures.read;
       http = c.has_http_bindings.ensures;
       ec2 = c.is_ec2.ensures;
+      service_json = c.is_service_json.ensures;
     }
 
 pub returns-in_err-shapes-clause-refused : goal.returns-in_err-shapes-clause-refused

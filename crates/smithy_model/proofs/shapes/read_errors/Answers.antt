@@ -1,4 +1,4 @@
-use Rattle.std.proofs.Common.{[], ◌∷◌, map, sym}
+use Rattle.std.proofs.Common.{◌∙◌, [], ◌∷◌, map, sym}
 use Rattle.std.proofs.lemmas.List.{map-append}
 use Rattle.json.specs.Value.{value_view}
 use Rattle.smithy_model.specs.Shapes.{reference_in}
@@ -10,7 +10,7 @@ pub returns-in-None : goal.returns-in-None
 returns-in-None c =
     let none = read_none value_view (reference_in c.args.key.now) c.in-Some.items.now c.loop-item.item-index c.item-item.result c.loop-item-test.true
     c.item-item.is (sym c.in-None.ensures) in
-    rw (sym c.in-Some.ensures) (sym none)
+    rw (sym c.is_no_array.ensures ∙ c.if-is_no_array.false, sym c.in-Some.ensures) (sym none)
 
 pub loop-item-preserved : goal.loop-item-preserved
 loop-item-preserved c =
