@@ -107,13 +107,23 @@ fn write_long_head(out: &mut Vec<u8>, major: u8, argument: u64) -> Result<(), Al
             let [a, b] = (argument as u16).to_be_bytes();
             out.extend_from_slice(&[kind + 25, a, b])
         }
-        0x1_0000..=0xffff_ffff => {
-            let [a, b, c, d] = (argument as u32).to_be_bytes();
-            out.extend_from_slice(&[kind + 26, a, b, c, d])
-        }
-        _ => {
-            let [a, b, c, d, e, f, g, h] = argument.to_be_bytes();
-            out.extend_from_slice(&[kind + 27, a, b, c, d, e, f, g, h])
-        }
+        _ => write_wide_head(out, major, argument),
     }
+}
+
+/// Writes the head of an argument of more than two bytes. It takes more registers than the others.
+#[inline(never)]
+fn write_wide_head(out: &mut Vec<u8>, major: u8, argument: u64) -> Result<(), AllocError>
+    requires major { major ≤ 7 }
+    requires wide { 65536 ≤ argument }
+    ensures ok { OnOk result (out.new.items ≡ out.old.items ++ shortest_head major argument) }
+    ensures err { OnErr result (out.new.items ≡ out.old.items) }
+{
+    let kind = 32 * major;
+    if argument <= 0xffff_ffff {
+        let [a, b, c, d] = (argument as u32).to_be_bytes();
+        return out.extend_from_slice(&[kind + 26, a, b, c, d]);
+    }
+    let [a, b, c, d, e, f, g, h] = argument.to_be_bytes();
+    out.extend_from_slice(&[kind + 27, a, b, c, d, e, f, g, h])
 }

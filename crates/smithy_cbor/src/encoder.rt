@@ -138,6 +138,7 @@ impl Encoder {
     }
 
     /// Writes an integer, in as few bytes as it takes.
+    #[inline(always)]
     pub fn long(&mut self, x: i64) -> Result<(), AllocError>
         ensures ok { OnOk result (self.new ≡ self.old ++ integer_bytes x) }
         ensures err { OnErr result (self.new ≡ self.old) }
