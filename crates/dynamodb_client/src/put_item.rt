@@ -1,9 +1,7 @@
 //! What PutItem is given.
-ghost use Rattle.std.specs.Prelude.{◌≡◌, false, true, IfOk};
+ghost use Rattle.std.specs.Prelude.{◌≡◌, false};
 ghost use Rattle.smithy_shapes.specs.Site.{site_of};
-ghost use Rattle.smithy_schema.specs.Errors.{IsRefused};
-ghost use Rattle.smithy_schema.specs.Reading.{Reads, StandsNot};
-ghost use Rattle.smithy_schema.specs.Typed.{FailsAsReader};
+ghost use Rattle.smithy_schema.specs.Typed.{ReadsDueAs};
 ghost use Rattle.smithy_schema.specs.Writing.{events};
 ghost use Rattle.smithy_schema.specs.Written.{Runs, outcome};
 ghost use Rattle.smithy_schema.specs.Fields.{structure_with};
@@ -96,12 +94,8 @@ pub fn read_put_item<D: ShapeDeserializer>(
     requires place { IsPutItem (site_of schema.now) }
     ensures same { D.settings source.new ≡ D.settings source.old }
 
-    // What stood there is the structure of these fields.
-    ensures ok { IfOk result (λ input. Reads (D.wire (D.settings source.old)) (D.state source.old) (D.state source.new) schema.now.shapes.now schema.now.place (structure_with (put_item_fields input))) }
-
-    // A fault comes only where no such structure stands.
-    ensures refused { IsRefused result → (D.state source.old).due ≡ true → StandsNot (D.wire (D.settings source.old)) (D.state source.old) schema.now.shapes.now schema.now.place }
-    ensures fails { FailsAsReader (D.state source.old) (D.state source.new) result }
+    // What stood there is the structure of these fields, and a fault comes only where no such structure stands.
+    ensures reads { ReadsDueAs (D.wire (D.settings source.old)) (D.state source.old) (D.state source.new) (site_of schema.now) (λ input. structure_with (put_item_fields input)) result }
 {
     let mut input = PutItemInput {
         table_name: None,

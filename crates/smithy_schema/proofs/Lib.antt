@@ -22,6 +22,7 @@ pub mod RefusedStructures
 pub mod DeclaredMembers
 pub mod ReadFields
 pub mod AnsweredErrors
+pub mod TypedReads
 -- a type that holds itself
 pub mod HalfRead
 -- what is written of fields

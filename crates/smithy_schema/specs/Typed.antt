@@ -27,7 +27,13 @@ pub record ReadsAs {A : Type 0} (w : Relations) (old new : Cursor) (site : Site)
   pub refused : IsRefused result → StandsNot w old site.table site.place
   pub fails : FailsAsReader old new result
 
--- the same of a union, where its member is read: the value is the union of this member
+-- What stood at the site is what was read; and where a value was due, a fault comes only where no value of the place stands.
+pub record ReadsDueAs {A : Type 0} (w : Relations) (old new : Cursor) (site : Site) (view : A → Value) (result : Result A SerdeError) : Type 0 where
+  pub ok : IfOk result (λ x. Reads w old new site.table site.place (view x))
+  pub refused : IsRefused result → old.due ≡ true → StandsNot w old site.table site.place
+  pub fails : FailsAsReader old new result
+
+-- What a read of a union's member says: the value is the union of this member.
 pub record ReadsVariant {A : Type 0} (w : Relations) (old new : Cursor) (member : Site) (view : A → Value) (result : Result A SerdeError) : Type 0 where
   pub ok : IfOk result (λ x. (n : ℕ) × (v : Value) × (member.view.index ≡ Some n) × (view x ≡ union n v) × Reads w old new member.table member.place v)
   pub refused : IsRefused result → StandsNot w old member.table member.place

@@ -1,10 +1,8 @@
 //! The credentials that AssumeRole answers.
-ghost use Rattle.std.specs.Prelude.{◌≡◌, IfOk, OnOk, true};
+ghost use Rattle.std.specs.Prelude.{◌≡◌, OnOk};
 ghost use Rattle.smithy_schema.specs.Consuming.{IsTaken};
 ghost use Rattle.smithy_shapes.specs.Site.{site_of};
-ghost use Rattle.smithy_schema.specs.Errors.{IsRefused};
-ghost use Rattle.smithy_schema.specs.Reading.{Reads, StandsNot};
-ghost use Rattle.smithy_schema.specs.Typed.{FailsAsReader};
+ghost use Rattle.smithy_schema.specs.Typed.{ReadsDueAs};
 ghost use Rattle.smithy_schema.specs.Fields.{structure_with};
 ghost use Rattle.sts_client.specs.Shapes.{IsCredentials, credentials_fields};
 
@@ -114,13 +112,9 @@ pub fn read_credentials<D: ShapeDeserializer>(
     requires place { IsCredentials (site_of schema.now) }
     ensures same { D.settings source.new ≡ D.settings source.old }
 
-    // What stood there is the structure of these fields.
-    ensures ok { IfOk result (λ keys. Reads (D.wire (D.settings source.old)) (D.state source.old) (D.state source.new) schema.now.shapes.now schema.now.place (structure_with (credentials_fields keys))) }
+    // What stood there is the structure of these fields, and a fault comes only where no such structure stands.
+    ensures reads { ReadsDueAs (D.wire (D.settings source.old)) (D.state source.old) (D.state source.new) (site_of schema.now) (λ keys. structure_with (credentials_fields keys)) result }
     ensures takes { OnOk result (IsTaken (D.state source.old) (D.state source.new)) }
-
-    // A fault comes only where no such structure stands.
-    ensures refused { IsRefused result → (D.state source.old).due ≡ true → StandsNot (D.wire (D.settings source.old)) (D.state source.old) schema.now.shapes.now schema.now.place }
-    ensures fails { FailsAsReader (D.state source.old) (D.state source.new) result }
 {
     let mut keys = Credentials {
         access_key_id: None,

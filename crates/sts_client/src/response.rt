@@ -1,10 +1,8 @@
 //! What AssumeRole answers.
-ghost use Rattle.std.specs.Prelude.{◌≡◌, false, true, IfOk, OnOk};
+ghost use Rattle.std.specs.Prelude.{◌≡◌, false, OnOk};
 ghost use Rattle.smithy_shapes.specs.Site.{site_of};
 ghost use Rattle.smithy_schema.specs.Consuming.{IsTaken};
-ghost use Rattle.smithy_schema.specs.Errors.{IsRefused};
-ghost use Rattle.smithy_schema.specs.Reading.{Reads, StandsNot};
-ghost use Rattle.smithy_schema.specs.Typed.{FailsAsReader};
+ghost use Rattle.smithy_schema.specs.Typed.{ReadsDueAs};
 ghost use Rattle.smithy_schema.specs.Writing.{events};
 ghost use Rattle.smithy_schema.specs.Written.{Runs, outcome};
 ghost use Rattle.smithy_schema.specs.Fields.{structure_with};
@@ -101,10 +99,8 @@ fn read_user<D: ShapeDeserializer>(
 ) -> Result<AssumedRoleUser, SerdeError>
     requires place { IsUser (site_of schema.now) }
     ensures same { D.settings source.new ≡ D.settings source.old }
-    ensures ok { IfOk result (λ user. Reads (D.wire (D.settings source.old)) (D.state source.old) (D.state source.new) schema.now.shapes.now schema.now.place (structure_with (user_fields user))) }
+    ensures reads { ReadsDueAs (D.wire (D.settings source.old)) (D.state source.old) (D.state source.new) (site_of schema.now) (λ user. structure_with (user_fields user)) result }
     ensures takes { OnOk result (IsTaken (D.state source.old) (D.state source.new)) }
-    ensures refused { IsRefused result → (D.state source.old).due ≡ true → StandsNot (D.wire (D.settings source.old)) (D.state source.old) schema.now.shapes.now schema.now.place }
-    ensures fails { FailsAsReader (D.state source.old) (D.state source.new) result }
 {
     let mut user = AssumedRoleUser {
         assumed_role_id: None,
@@ -206,12 +202,8 @@ pub fn read_response<D: ShapeDeserializer>(
     requires place { IsResponse (site_of schema.now) }
     ensures same { D.settings source.new ≡ D.settings source.old }
 
-    // What stood there is the structure of these fields.
-    ensures ok { IfOk result (λ response. Reads (D.wire (D.settings source.old)) (D.state source.old) (D.state source.new) schema.now.shapes.now schema.now.place (structure_with (response_fields response))) }
-
-    // A fault comes only where no such structure stands.
-    ensures refused { IsRefused result → (D.state source.old).due ≡ true → StandsNot (D.wire (D.settings source.old)) (D.state source.old) schema.now.shapes.now schema.now.place }
-    ensures fails { FailsAsReader (D.state source.old) (D.state source.new) result }
+    // What stood there is the structure of these fields, and a fault comes only where no such structure stands.
+    ensures reads { ReadsDueAs (D.wire (D.settings source.old)) (D.state source.old) (D.state source.new) (site_of schema.now) (λ response. structure_with (response_fields response)) result }
 {
     let mut response = AssumeRoleResponse {
         credentials: None,

@@ -1,11 +1,9 @@
 //! The tags of a session, which AssumeRole is given.
-ghost use Rattle.std.specs.Prelude.{◌≡◌, ◌↔◌, IsTrue, IfOk, OnOk, true};
+ghost use Rattle.std.specs.Prelude.{◌≡◌, ◌↔◌, IsTrue, OnOk};
 ghost use Rattle.smithy_schema.specs.Consuming.{IsTaken};
 ghost use Rattle.smithy_declarations.specs.Value.{list, values_of};
 ghost use Rattle.smithy_shapes.specs.Site.{site_of};
-ghost use Rattle.smithy_schema.specs.Errors.{IsRefused};
-ghost use Rattle.smithy_schema.specs.Reading.{Reads, StandsNot};
-ghost use Rattle.smithy_schema.specs.Typed.{FailsAsReader};
+ghost use Rattle.smithy_schema.specs.Typed.{ReadsDueAs};
 ghost use Rattle.sts_client.specs.Shapes.{IsTag, AreTags, tag_values};
 
 use smithy_schema::{
@@ -123,13 +121,9 @@ pub fn read_tags<D: ShapeDeserializer>(
     requires place { AreTags (site_of schema.now) }
     ensures same { D.settings source.new ≡ D.settings source.old }
 
-    // What stood there is the list of these tags.
-    ensures ok { IfOk result (λ tags. Reads (D.wire (D.settings source.old)) (D.state source.old) (D.state source.new) schema.now.shapes.now schema.now.place (list (values_of (tag_values tags.items)))) }
+    // What stood there is the list of these tags, and a fault comes only where no such list stands.
+    ensures reads { ReadsDueAs (D.wire (D.settings source.old)) (D.state source.old) (D.state source.new) (site_of schema.now) (λ tags. list (values_of (tag_values tags.items))) result }
     ensures takes { OnOk result (IsTaken (D.state source.old) (D.state source.new)) }
-
-    // A fault comes only where no such list stands.
-    ensures refused { IsRefused result → (D.state source.old).due ≡ true → StandsNot (D.wire (D.settings source.old)) (D.state source.old) schema.now.shapes.now schema.now.place }
-    ensures fails { FailsAsReader (D.state source.old) (D.state source.new) result }
 {
     let Some(shape) = schema.member() else {
         unreachable!()

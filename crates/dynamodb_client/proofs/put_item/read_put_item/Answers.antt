@@ -3,8 +3,8 @@ use Rattle.std.proofs.lemmas.Result.{err_from_is_err_and}
 use Rattle.smithy_schema.specs.Consuming.{reader}
 use Rattle.smithy_shapes.specs.Site.{site_of, kind_at}
 use Rattle.smithy_schema.proofs.ReadContainers.{structure_has_members}
-use Rattle.smithy_schema.proofs.ReadFields.{has_structure, members_read, members_refused}
-use Rattle.smithy_schema.proofs.AnsweredErrors.{fields_fail, same_success, same_failure}
+use Rattle.smithy_schema.proofs.ReadFields.{has_structure}
+use Rattle.smithy_schema.proofs.TypedReads.{structure_reads, structure_fails}
 use Rattle.dynamodb_client.specs.PutItem.{put_item_fields}
 use Rattle.dynamodb_client.proofs.put_item.read_put_item.Goals as goal
 
@@ -14,23 +14,15 @@ read_struct-requires g c = record {
   allowed = c.requires.place;
 }
 
-pub returns-clause-ok : goal.returns-clause-ok
-returns-clause-ok g c =
-    members_read put_item_fields _ (site_of c.args.schema.now) (g.met.D.ShapeDeserializer.lawful _) (has_structure _ _ c.requires.place.members) _ _ _ _ _ refl c.in_ok-read_struct.ensures.consumes c.in_ok-read_struct.ensures.takes
+pub returns-clause-reads : goal.returns-clause-reads
+returns-clause-reads g c =
+    structure_reads put_item_fields _ (site_of c.args.schema.now) (g.met.D.ShapeDeserializer.lawful _) (has_structure _ _ c.requires.place.members) _ _ _ _ refl c.in_ok-read_struct.ensures.consumes c.in_ok-read_struct.ensures.takes
 
-pub returns-in_err-read_struct-clause-refused : goal.returns-in_err-read_struct-clause-refused
-returns-in_err-read_struct-clause-refused g c =
+pub returns-in_err-read_struct-clause-reads : goal.returns-in_err-read_struct-clause-reads
+returns-in_err-read_struct-clause-reads g c =
     let p = err_from_is_err_and c.from_residual.result c.from_residual.ensures.1 in
     let d = g.D.ShapeDeserializer in
     let s = d.settings c.args.source.now in
     rw (p.1, p.2)
-    (λ fault due. members_refused put_item_fields (reader (d.wire s) (d.lifted s) (d.tells_without_limits s) (d.max_depth s)) (site_of c.args.schema.now) (g.met.D.ShapeDeserializer.lawful s) (has_structure _ _ c.requires.place.members)
-    _ _ _ _ _ c.in_err-read_struct.ensures.consumes c.in_err-read_struct.field-0.0 refl fault due)
-
-pub returns-clause-fails : goal.returns-clause-fails
-returns-clause-fails g c = same_success _ _ _ _ (fields_fail put_item_fields _ (site_of c.args.schema.now) _ _ _ _ _ c.in_ok-read_struct.ensures.consumes tt)
-
-pub returns-in_err-read_struct-clause-fails : goal.returns-in_err-read_struct-clause-fails
-returns-in_err-read_struct-clause-fails g c =
-    let p = err_from_is_err_and c.from_residual.result c.from_residual.ensures.1 in
-    rw (p.1, p.2) (same_failure _ _ _ (fields_fail put_item_fields _ (site_of c.args.schema.now) _ _ _ _ _ c.in_err-read_struct.ensures.consumes c.in_err-read_struct.ensures.fails))
+    (structure_fails put_item_fields (reader (d.wire s) (d.lifted s) (d.tells_without_limits s) (d.max_depth s)) (site_of c.args.schema.now) (g.met.D.ShapeDeserializer.lawful s) (has_structure _ _ c.requires.place.members)
+    _ _ _ _ c.in_err-read_struct.field-0.0 c.in_err-read_struct.ensures.consumes c.in_err-read_struct.ensures.fails)

@@ -11,16 +11,23 @@ use Rattle.sts_client.proofs.tags.read_tags.Goals as goal
 pub invariant_of-tags : goal.invariant_of-tags
 invariant_of-tags g c = record { is_tag = subst IsTag (same_some _ _ (sym c.requires.place.inside ∙ sym c.in-Some.ensures)) c.requires.place.is_tag }
 
-pub returns-clause-ok : goal.returns-clause-ok
-returns-clause-ok g c =
+pub returns-clause-reads : goal.returns-clause-reads
+returns-clause-reads g c =
+    let d = g.D.ShapeDeserializer in
+    let s = d.settings c.args.source.now in
+    let r = reader (d.wire s) (d.lifted s) (d.tells_without_limits s) (d.max_depth s) in
     let outer = site_of c.args.schema.now in
     let inner = site_of c.in-Some.shape in
     let fresh : c.new.result.items ≡ [] = search rules in
-    tags_read _ outer inner c.requires.place (sym c.in-Some.ensures) (g.met.D.ShapeDeserializer.lawful _) c.read_list.new.consumer.tags.items _ _ _
-    (through_tags _ outer inner (λ e. e.tags.items) (λ e. site_of e.shape) _ _ _ _ _ refl fresh c.in_ok-read_list.ensures.consumes)
+    let through = through_tags r outer inner (λ e. e.tags.items) (λ e. site_of e.shape) _ _ _ _ _ refl fresh c.in_ok-read_list.ensures.consumes in
+    record {
+      ok = tags_read r outer inner c.requires.place (sym c.in-Some.ensures) (g.met.D.ShapeDeserializer.lawful s) c.read_list.new.consumer.tags.items _ _ _ through;
+      refused = λ fault. absurd fault;
+      fails = same_success _ _ _ _ (tags_fail r outer inner c.requires.place (sym c.in-Some.ensures) c.read_list.new.consumer.tags.items _ _ _ through tt);
+    }
 
-pub returns-in_err-read_list-clause-refused : goal.returns-in_err-read_list-clause-refused
-returns-in_err-read_list-clause-refused g c =
+pub returns-in_err-read_list-clause-reads : goal.returns-in_err-read_list-clause-reads
+returns-in_err-read_list-clause-reads g c =
     let p = err_from_is_err_and c.from_residual.result c.from_residual.ensures.1 in
     let d = g.D.ShapeDeserializer in
     let s = d.settings c.args.source.now in
@@ -28,24 +35,10 @@ returns-in_err-read_list-clause-refused g c =
     let outer = site_of c.args.schema.now in
     let inner = site_of c.in-Some.shape in
     let fresh : c.new.result.items ≡ [] = search rules in
+    let through = through_tags r outer inner (λ e. e.tags.items) (λ e. site_of e.shape) _ _ _ _ _ refl fresh c.in_err-read_list.ensures.consumes in
     rw (p.1, p.2)
-    (λ fault due. tags_refused r outer inner c.requires.place (sym c.in-Some.ensures) (g.met.D.ShapeDeserializer.lawful s) c.read_list.new.consumer.tags.items _ _ _
-    (through_tags r outer inner (λ e. e.tags.items) (λ e. site_of e.shape) _ _ _ _ _ refl fresh c.in_err-read_list.ensures.consumes) c.in_err-read_list.field-0.0 refl fault due)
-
-pub returns-clause-fails : goal.returns-clause-fails
-returns-clause-fails g c =
-    let outer = site_of c.args.schema.now in
-    let inner = site_of c.in-Some.shape in
-    let fresh : c.new.result.items ≡ [] = search rules in
-    same_success _ _ _ _ (tags_fail _ outer inner c.requires.place (sym c.in-Some.ensures) c.read_list.new.consumer.tags.items _ _ _
-    (through_tags _ outer inner (λ e. e.tags.items) (λ e. site_of e.shape) _ _ _ _ _ refl fresh c.in_ok-read_list.ensures.consumes) tt)
-
-pub returns-in_err-read_list-clause-fails : goal.returns-in_err-read_list-clause-fails
-returns-in_err-read_list-clause-fails g c =
-    let p = err_from_is_err_and c.from_residual.result c.from_residual.ensures.1 in
-    let outer = site_of c.args.schema.now in
-    let inner = site_of c.in-Some.shape in
-    let fresh : c.new.result.items ≡ [] = search rules in
-    rw (p.1, p.2)
-    (same_failure _ _ _ (tags_fail _ outer inner c.requires.place (sym c.in-Some.ensures) c.read_list.new.consumer.tags.items _ _ _
-    (through_tags _ outer inner (λ e. e.tags.items) (λ e. site_of e.shape) _ _ _ _ _ refl fresh c.in_err-read_list.ensures.consumes) c.in_err-read_list.ensures.fails))
+    (record {
+      ok = tt;
+      refused = λ fault due. tags_refused r outer inner c.requires.place (sym c.in-Some.ensures) (g.met.D.ShapeDeserializer.lawful s) c.read_list.new.consumer.tags.items _ _ _ through c.in_err-read_list.field-0.0 refl fault due;
+      fails = same_failure _ _ _ (tags_fail r outer inner c.requires.place (sym c.in-Some.ensures) c.read_list.new.consumer.tags.items _ _ _ through c.in_err-read_list.ensures.fails);
+    })

@@ -62,7 +62,7 @@ read_tags-requires g c =
 pub returns-in_err-tags-clause-called : goal.returns-in_err-tags-clause-called
 returns-in_err-tags-clause-called g c =
     let p = err_from_is_err_and c.from_residual.result c.from_residual.ensures.1 in
-    rw (p.1, p.2, c.in-Some.is) (broke (may_answer _ _ _ c.in_err-tags.ensures.fails) c.in_err-tags.ensures.refused)
+    rw (p.1, p.2, c.in-Some.is) (broke (may_answer _ _ _ c.in_err-tags.ensures.reads.fails) c.in_err-tags.ensures.reads.refused)
 
 pub returns-clause-called : goal.returns-clause-called
 returns-clause-called g c =
@@ -74,4 +74,4 @@ returns-clause-called g c =
     let not_3 : site.view.index ≢ Some 3 = search rules in
     let index = at_last IsRequest site allowed 4 (λ o is. count_of _ _ o is.members) (not_3, (not_2, (not_1, (not_0, tt)))) in
     let there = at_index IsRequest site allowed 4 index in
-    rw c.in-Some.is (field_taken request_fields _ site _ _ _ _ 4 (list (values_of (tag_values c.in_ok-tags.tags.items))) index (omega arith) refl c.in_ok-tags.ensures.ok)
+    rw c.in-Some.is (field_taken request_fields _ site _ _ _ _ 4 (list (values_of (tag_values c.in_ok-tags.tags.items))) index (omega arith) refl c.in_ok-tags.ensures.reads.ok)

@@ -26,7 +26,7 @@ read_credentials-requires g c =
 pub returns-in_err-read_credentials-clause-called : goal.returns-in_err-read_credentials-clause-called
 returns-in_err-read_credentials-clause-called g c =
     let p = err_from_is_err_and c.from_residual.result c.from_residual.ensures.1 in
-    rw (p.1, p.2, c.in-Some.is) (broke (may_answer _ _ _ c.in_err-read_credentials.ensures.fails) c.in_err-read_credentials.ensures.refused)
+    rw (p.1, p.2, c.in-Some.is) (broke (may_answer _ _ _ c.in_err-read_credentials.ensures.reads.fails) c.in_err-read_credentials.ensures.reads.refused)
 
 pub returns-then-eq-clause-called : goal.returns-then-eq-clause-called
 returns-then-eq-clause-called g c =
@@ -34,7 +34,7 @@ returns-then-eq-clause-called g c =
     let allowed = rw c.in-Some.is at c.requires.allowed in
     let index : site.view.index ≡ Some 0 = search rules in
     let there = at_index IsResponse site allowed 0 index in
-    rw c.in-Some.is (field_taken response_fields _ site _ _ _ _ 0 (structure_with (credentials_fields c.in_ok-read_credentials.field-0)) index (omega arith) refl c.in_ok-read_credentials.ensures.ok)
+    rw c.in-Some.is (field_taken response_fields _ site _ _ _ _ 0 (structure_with (credentials_fields c.in_ok-read_credentials.field-0)) index (omega arith) refl c.in_ok-read_credentials.ensures.reads.ok)
 
 pub read_user-requires : goal.read_user-requires
 read_user-requires g c =
@@ -47,7 +47,7 @@ read_user-requires g c =
 pub returns-in_err-read_user-clause-called : goal.returns-in_err-read_user-clause-called
 returns-in_err-read_user-clause-called g c =
     let p = err_from_is_err_and c.from_residual-in_err-read_user.result c.from_residual-in_err-read_user.ensures.1 in
-    rw (p.1, p.2, c.in-Some.is) (broke (may_answer _ _ _ c.in_err-read_user.ensures.fails) c.in_err-read_user.ensures.refused)
+    rw (p.1, p.2, c.in-Some.is) (broke (may_answer _ _ _ c.in_err-read_user.ensures.reads.fails) c.in_err-read_user.ensures.reads.refused)
 
 pub returns-then-eq-2-clause-called : goal.returns-then-eq-2-clause-called
 returns-then-eq-2-clause-called g c =
@@ -55,7 +55,7 @@ returns-then-eq-2-clause-called g c =
     let allowed = rw c.in-Some.is at c.requires.allowed in
     let index : site.view.index ≡ Some 1 = search rules in
     let there = at_index IsResponse site allowed 1 index in
-    rw c.in-Some.is (field_taken response_fields _ site _ _ _ _ 1 (structure_with (user_fields c.in_ok-read_user.field-0)) index (omega arith) refl c.in_ok-read_user.ensures.ok)
+    rw c.in-Some.is (field_taken response_fields _ site _ _ _ _ 1 (structure_with (user_fields c.in_ok-read_user.field-0)) index (omega arith) refl c.in_ok-read_user.ensures.reads.ok)
 
 pub returns-then-eq-3-clause-called : goal.returns-then-eq-3-clause-called
 returns-then-eq-3-clause-called g c =
