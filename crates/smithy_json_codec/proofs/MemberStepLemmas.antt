@@ -26,7 +26,7 @@ use Rattle.smithy_json_values.specs.Tokens.{BoundaryBy, IsOverBy, EndsInside}
 use Rattle.smithy_json_values.specs.Private.Wire.{over_is_end}
 use Rattle.smithy_json_codec.specs.Private.PassedEntries.{type_name, Passing, StepsToMember, ClosesMembers, NoSkip, NoSkipWithin, NothingComes}
 use Rattle.smithy_json_values.specs.Openers.{json_openers}
-use Rattle.smithy_json_codec.specs.Private.MemberSteps.{EndsEmpty, StepsTo, passing, passes_null}
+use Rattle.smithy_json_codec.specs.Private.MemberSteps.{EndsEmpty, StepsTo, passes_null}
 use Rattle.smithy_json_values.specs.Private.Skipping.{SkipsTo}
 use Rattle.smithy_json_codec.proofs.DeserializerLemmas.{kept_shallow, shallow_kept}
 use Rattle.smithy_json_codec.proofs.ReaderLemmas.{steps_to_member, closes_members, members_are_stuck}

@@ -1,6 +1,6 @@
 -- The decimal text of an integer is read as it, whether an integer may have a fraction or an exponent or not.
 use Rattle.std.specs.Prelude.{◌&&◌, if◌then◌else◌, option_and_then, unsigned_abs}
-use Rattle.std.proofs.Common.{◌≡◌, ◌*◌, ◌^◌, ◌<◌, ℕ, ℤ, pos, negsuc, Bool, true, false, Some, None, refl, ap, ◌∙◌, subst, arith, lit≤}
+use Rattle.std.proofs.Common.{◌≡◌, ◌*◌, ◌^◌, ◌<◌, ℕ, ℤ, pos, negsuc, Bool, true, false, Some, None, ap, ◌∙◌, subst, arith, lit≤}
 use Rattle.std.proofs.lemmas.Bool.Decides.{nat_tests}
 use Rattle.std.proofs.lemmas.List.{append-nil}
 use Rattle.std.specs.Fmt.{signed_decimal}

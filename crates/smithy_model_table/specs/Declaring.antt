@@ -53,14 +53,18 @@ is_flat_shape m member s _ = false
 abbrev pub is_flat : Model → Member → Bool
 is_flat m member = option_map_or (λ (s : Shape). is_flat_shape m member s s.kind) (target_of m member) false
 
--- `@xmlName`; a service-2.json names the entries of a list that is flattened wherever it stands at its elements
-abbrev pub xml_name_at : Member → Shape → Kind → Option (List ℕ)
-xml_name_at member s (model.list element) =
-    if s.is_flattened then option_or element.xml_name member.xml_name else member.xml_name
-xml_name_at member s _ = member.xml_name
+-- the elements of this list name the entries of the member: in a service-2.json, where the list or the member is flattened
+abbrev pub has_element_name : Model → Member → Shape → Bool
+has_element_name m member s = s.is_flattened || m.is_service_json && member.is_flattened
+
+-- `@xmlName`, or the name at the elements
+abbrev pub xml_name_at : Model → Member → Shape → Kind → Option (List ℕ)
+xml_name_at m member s (model.list element) =
+    if has_element_name m member s then option_or element.xml_name member.xml_name else member.xml_name
+xml_name_at m member s _ = member.xml_name
 
 abbrev pub xml_name_of : Model → Member → Option (List ℕ)
-xml_name_of m member = option_map_or (λ (s : Shape). xml_name_at member s s.kind) (target_of m member) member.xml_name
+xml_name_of m member = option_map_or (λ (s : Shape). xml_name_at m member s s.kind) (target_of m member) member.xml_name
 
 -- a text with a capital in front, if it begins with a letter of ASCII
 abbrev pub capitalized : List ℕ → List ℕ

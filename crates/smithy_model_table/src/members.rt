@@ -1,13 +1,13 @@
 //! The declarations of members.
 ghost use Rattle.std.specs.Prelude.{◌≡◌, ◌<◌, length, get_or, true, false, option_map, string_bytes, IfOk};
-ghost use Rattle.smithy_model.specs.Views.{model_view, member_view};
-ghost use Rattle.smithy_model_table.specs.Declaring.{is_flat, xml_name_of, unless_usual, capitalized, ec2_name_of, form_name_of, member_decl};
+ghost use Rattle.smithy_model.specs.Views.{model_view, member_view, shape_view};
+ghost use Rattle.smithy_model_table.specs.Declaring.{is_flat, has_element_name, xml_name_of, unless_usual, capitalized, ec2_name_of, form_name_of, member_decl};
 ghost use Rattle.smithy_model_table.specs.Views.{names_view};
 ghost use Rattle.smithy_declarations.specs.DeclViews.{member_decl_of};
 
 use crate::names::Names;
 use crate::places::{owned, owned_if, target_of, target_word, time_of, unless_usual};
-use smithy_model::{Kind, Member, Model};
+use smithy_model::{Kind, Member, Model, Shape};
 use smithy_shapes::MemberDecl;
 use std::alloc::{AllocError, Global};
 
@@ -66,8 +66,14 @@ fn ec2_name(alloc: Global, member: &Member<'_>) -> Result<Option<String>, AllocE
     Ok(Some(given))
 }
 
-// The XML name of a member. A `service-2.json` names the entries of a list that is flattened wherever it stands at its
-// elements.
+// Whether the elements of a list name the entries of a member: in a `service-2.json`, where the list or the member is flattened.
+fn has_element_name(model: &Model<'_>, member: &Member<'_>, shape: &Shape<'_>) -> bool
+    ensures { result ≡ has_element_name (model_view model.now) (member_view member.now) (shape_view shape.now) }
+{
+    shape.is_flattened || model.is_service_json && member.is_flattened
+}
+
+// The XML name of a member, or the name at the elements of its list.
 fn xml_name<'a>(model: &Model<'a>, member: &Member<'a>) -> Option<&'a str>
     ensures { option_map (λ t. t.now) result ≡ xml_name_of (model_view model.now) (member_view member.now) }
 {
@@ -77,7 +83,7 @@ fn xml_name<'a>(model: &Model<'a>, member: &Member<'a>) -> Option<&'a str>
     let Kind::List(element) = &shape.kind else {
         return member.xml_name;
     };
-    if !shape.is_flattened {
+    if !has_element_name(model, member, shape) {
         return member.xml_name;
     }
     match element.xml_name {

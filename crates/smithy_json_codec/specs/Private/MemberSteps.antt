@@ -1,5 +1,5 @@
 -- Where a structure or a union goes on to, as private functions answer it.
-use Rattle.std.specs.Prelude.{◌≡◌, ◌<◌, ℕ, List, length, Bool, false, not, Some, None, is_none}
+use Rattle.std.specs.Prelude.{◌≡◌, ◌<◌, ℕ, List, length, Bool, not, Some, None, is_none}
 use Rattle.smithy_schema.specs.declared.step.Step.{Step}
 use Rattle.smithy_schema.specs.declared.step.Step.TheVariants.{Member, Unknown, End}
 use Rattle.smithy_schema.specs.Reading.{Cursor, depth}
