@@ -21,6 +21,9 @@ use Rattle.smithy_transcode.specs.Wires.{Wire, json, cbor, query, IsReadable}
 use Rattle.smithy_transcode.specs.Causes.{openers, MayNest, IsTooDeep, IsWide, IsUncarried}
 use Rattle.smithy_transcode.specs.Spelling.{Spells}
 use Rattle.smithy_transcode.specs.Transcoding.{SpellNothing, SpellNothingWithoutLimits}
+use Rattle.smithy_transcode.specs.ReadValue.{ReadsValue}
+use Rattle.smithy_transcode.specs.Private.ReadWhole.{ReadsWhole}
+use Rattle.smithy_transcode.proofs.Mapped.{mapped_ok}
 use Rattle.smithy_transcode.proofs.WideBodies.{inside_is_wide, inside_is_uncarried}
 use Rattle.smithy_transcode.proofs.Spelled.{relations_of, lifted_of, StandsFirst, stands_is_spelled, spelled_stands, spelled_stands_without_limits, empty_is_spelled, openers_are}
 
@@ -160,3 +163,32 @@ module _ {w : Wire} {r l : Relations} {max : ℕ} {old : Cursor} {s : Schema} {t
   uncarried_is_told answer new unmoved uncarried is =
       let inside = at_root (λ z x p. UncarriedInside z old new x p) (uncarried is) in
       subst (λ j. IsUncarried w t j) (whole_input new unmoved) (inside_is_uncarried w t root old new begins.read begins.kind inside)
+
+  -- and so what a reader says there of its answer is said of the whole input
+  pub whole_read : {A : Type 0} (tells : Type 0) (view : A → Value) (new : Cursor) (answer : Result A SerdeError) → tells → ReadsValue r l tells max old new (site_of s) view answer
+      → ReadsWhole view w t root i answer
+  whole_read tells view new answer told reads = record {
+    ok = mapped_ok answer _ _ (λ v h. read_is_spelled new (view v) h) reads.ok;
+    refused = λ refused. unread_spells_nothing (reads.refused refused);
+    none_without_limits = λ invalid. unread_spells_nothing_without_limits (reads.none_without_limits told invalid);
+    deep = is_too_deep answer new reads.refused reads.input (reads.counted told) reads.deep reads.nested;
+    wide = exceeds_is_wide answer new reads.input reads.wide;
+    uncarried = uncarried_is_told answer new reads.input reads.uncarried;
+    sound = λ is. had_not_failed (reads.failed.0 is);
+    reading = reads.reading;
+  }
+
+-- a form is not read
+pub form_unread : {A : Type 0} (view : A → Value) (w : Wire) (action version : List ℕ) (t : Table) (root : ℕ) (i : List ℕ) → w ≡ query action version
+    → ReadsWhole view w t root i (Err InvalidInput)
+form_unread view w action version t root i is =
+    rw is (record {
+      ok = tt;
+      refused = λ refused v h. h;
+      none_without_limits = λ invalid v h. h;
+      deep = λ other. absurd (let both : Err InvalidInput ≡ Err TooDeep = other in cc);
+      wide = λ other. absurd (let both : Err InvalidInput ≡ Err TooWide = other in cc);
+      uncarried = λ other. absurd (let both : Err InvalidInput ≡ Err NotCarried = other in cc);
+      sound = λ other. absurd (let both : Err InvalidInput ≡ Err Failed = other in cc);
+      reading = tt;
+    })

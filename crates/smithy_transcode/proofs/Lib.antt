@@ -1,6 +1,7 @@
 pub mod Begun
 pub mod Bodies
 mod BodiesRead
+mod BodiesWritten
 mod CompactVariants
 mod EntryOrder
 mod HalfElements

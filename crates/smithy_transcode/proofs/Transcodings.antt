@@ -103,7 +103,7 @@ unfit_at_root w s t root v found is site told same = ap (λ x. unfit_at w x v) (
 pub not_both : (o : Option Unfit) (u : Unfit) → o ≡ None → o ≡ Some u → ⊥
 not_both o u none some = let e : None ≡ Some u = sym none ∙ some in cc
 
-same_unfit : (o : Option Unfit) (u w : Unfit) → o ≡ Some u → o ≡ Some w → w ≡ u
+pub same_unfit : (o : Option Unfit) (u w : Unfit) → o ≡ Some u → o ≡ Some w → w ≡ u
 same_unfit o u w one other = let e : Some w ≡ Some u = sym other ∙ one in cc
 
 -- want of memory is an answer

@@ -8,10 +8,11 @@ pub mod Transcoding
 pub mod View
 -- what the refusals of a transcoding tell
 pub mod Refusal
--- what a read of a value, and a write of one, say of their answers
+-- what reads and writes of a value, and of a whole body, say of their answers
 pub mod DuePlaces
 pub mod ReadValue
 pub mod ReadBody
 pub mod WriteValue
+pub mod WriteBody
 -- for private clauses
 pub mod Private

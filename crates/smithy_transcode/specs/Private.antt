@@ -5,4 +5,5 @@ pub mod Entries
 pub mod Order
 pub mod Positions
 pub mod Rare
+pub mod ReadWhole
 pub mod ValueTest

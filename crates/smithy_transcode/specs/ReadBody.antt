@@ -1,7 +1,8 @@
 -- What `read_body` promises, for every table, root, wire and input, and `read_body_as` for every kind of tree too.
 use Rattle.std.specs.Prelude.{◌≡◌, ◌≢◌, ℕ, List, Result, Ok, Err, IfOk, IfErr}
-use Rattle.smithy_declarations.specs.Table.{Table}
+use Rattle.smithy_declarations.specs.Table.{Table, shape_place}
 use Rattle.smithy_declarations.specs.Value.{Value}
+use Rattle.smithy_shapes.specs.Fits.{Fits}
 use Rattle.smithy_transcode.specs.declared.wire.TranscodeError.{TranscodeError}
 use Rattle.smithy_transcode.specs.declared.wire.TranscodeError.TheVariants.{InvalidInput, TooDeep, TooWide, NotCarried, Inexpressible, NoMemory}
 use Rattle.smithy_transcode.specs.Wires.{Wire}
@@ -30,6 +31,8 @@ GivesValue view v (Err _) = ⊥
 pub record ReadsBody {T : Type 0} (view : T → Value) (table : Table) (root : ℕ) (from : Wire) (input : List ℕ) (answer : Result T TranscodeError) : Type 0 where
   -- Ok: the whole input spells this value
   pub ok : IfOk answer (λ x. Spells from table root input (view x))
+  -- which is one of the root
+  pub fits : IfOk answer (λ x. Fits table (shape_place root) (view x))
   -- what the whole input spells is the answer, want of memory aside
   pub spelled : (v : Value) → Spells from table root input v → GivesValue view v answer
   -- each other refusal comes by its cause

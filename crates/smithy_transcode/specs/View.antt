@@ -1,5 +1,6 @@
 -- The value that a tree of the program stands for.
 use Rattle.std.specs.Prelude.{ℕ, List, [], ◌∷◌, map as mapped, String, string_bytes, box_value}
+use Rattle.std.specs.Cow.{cow_str_bytes, cow_slice_items}
 use Rattle.std.specs.declared.alloc.Global.{Global}
 use Rattle.smithy_types.specs.Document.{whole_document}
 use Rattle.smithy_types.specs.DocumentView.{document_view}
@@ -21,8 +22,8 @@ member_values_of (m ∷ ms) = member_value m.0 m.1 (member_values_of ms)
 abbrev pub view_step : Value-F Value → Value
 view_step (Value-F.Boolean b) = scalar_value (boolean b)
 view_step (Value-F.Whole n) = scalar_value (whole n)
-view_step (Value-F.Text s) = scalar_value (text (string_bytes s))
-view_step (Value-F.Bytes v) = scalar_value (bytes v.items)
+view_step (Value-F.Text s) = scalar_value (text (cow_str_bytes s))
+view_step (Value-F.Bytes b) = scalar_value (bytes (cow_slice_items b))
 view_step (Value-F.Decimal m e) = scalar_value (decimal m e)
 view_step (Value-F.Instant d) = scalar_value (instant d)
 view_step (Value-F.List v) = list (values_of v.items)

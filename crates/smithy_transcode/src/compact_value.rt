@@ -62,6 +62,10 @@ pub enum CompactValue {
 }
 
 impl Tree for CompactValue {
+    type Text = String;
+
+    type Bytes = Blob;
+
     type Elements = CompactElements;
 
     type Entries = CompactEntries<String, CompactValue>;
@@ -95,8 +99,8 @@ impl Tree for CompactValue {
         CompactValue::Text(content)
     }
 
-    fn bytes(blob: Blob) -> CompactValue {
-        CompactValue::Bytes(blob)
+    fn bytes(content: Blob) -> CompactValue {
+        CompactValue::Bytes(content)
     }
 
     fn decimal(alloc: Global, mantissa: i128, exponent: i64) -> Result<CompactValue, SerdeError> {

@@ -20,12 +20,12 @@ use crate::wire::{Unfit, Wire};
 use smithy_schema::{Schema, ShapeRef, Shapes};
 
 /// Why the wire can't express a value of the root, or nothing where it can. It takes no memory.
-pub fn expressible(shapes: &Shapes, root: ShapeRef, value: &Value, to: &Wire) -> Option<Unfit>
+pub fn expressible(shapes: &Shapes, root: ShapeRef, value: &Value<'_>, to: &Wire) -> Option<Unfit>
     requires root { IsStructure (kind_of shapes.now (shape_place root.0)) }
     requires fits { Fits shapes.now (shape_place root.0) (view value.now) }
     ensures { result ≡ unfit_for (wire_of to.now) shapes.now root.0 (view value.now) }
 {
-    unfit::<Value>(&shapes.schema(root), value, to)
+    unfit::<Value<'_>>(&shapes.schema(root), value, to)
 }
 
 // A value of the schema's place may fail the test: a timestamp, or a document where none passes, may stand in it.

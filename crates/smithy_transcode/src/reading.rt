@@ -6,28 +6,46 @@ ghost use Rattle.smithy_transcode.specs.ReadValue.{ReadsValue};
 ghost use Rattle.smithy_transcode.specs.View.{view};
 ghost use Rattle.smithy_transcode.specs.Private.Rare.{IsRare};
 
+use crate::borrowing::Borrowing;
+use crate::pieces::PieceDeserializer;
 use crate::tree::Tree;
 use crate::value::Value;
-use smithy_schema::{Schema, SerdeError, ShapeDeserializer, ShapeType, Step};
+use smithy_schema::{BorrowDeserializer, Schema, SerdeError, ShapeType, Step};
 use std::alloc::Global;
 
-/// Reads the value of the schema that is due, whatever the wire.
-pub fn read_value<D: ShapeDeserializer>(
+/// Reads the value of the schema that is due, whatever the wire. Its texts and bytes borrow from the input of the reader, which they
+/// may outlive.
+pub fn read_value<'a, D: BorrowDeserializer<'a>>(
     alloc: Global,
     source: &mut D,
     schema: &Schema<'_>,
-) -> Result<Value, SerdeError>
+) -> Result<Value<'a>, SerdeError>
     requires due { (D.state source.old).due ≡ true }
     ensures same { D.settings source.new ≡ D.settings source.old }
     ensures reads { let s = D.settings source.old in ReadsValue (D.wire s) (D.lifted s) (D.tells_without_limits s) (D.max_depth s) (D.state source.old) (D.state source.new) (site_of schema.now) view result }
 {
-    read_tree::<Value, D>(alloc, source, schema)
+    let mut texts = Borrowing::<'_, 'a, D>::new(source);
+    read_through(alloc, &mut texts, schema)
+}
+
+// The same through a reader that names no lifetime in its bound.
+fn read_through<'a, D: BorrowDeserializer<'a>>(
+    alloc: Global,
+    texts: &mut Borrowing<'_, 'a, D>,
+    schema: &Schema<'_>,
+) -> Result<Value<'a>, SerdeError>
+    requires due { (D.state texts.old.source.now).due ≡ true }
+    ensures same_reference { texts.new.source.ghost_name ≡ texts.old.source.ghost_name }
+    ensures same { D.settings texts.new.source.now ≡ D.settings texts.old.source.now }
+    ensures reads { let s = D.settings texts.old.source.now in ReadsValue (D.wire s) (D.lifted s) (D.tells_without_limits s) (D.max_depth s) (D.state texts.old.source.now) (D.state texts.new.source.now) (site_of schema.now) view result }
+{
+    read_tree::<Value<'a>, Borrowing<'_, 'a, D>>(alloc, texts, schema)
 }
 
 // Reads the value of the schema that is due into any tree, whatever the wire.
 #[cycle(read)]
 #[inline(always)]
-pub(crate) fn read_tree<T: Tree, D: ShapeDeserializer>(
+pub(crate) fn read_tree<T: Tree, D: PieceDeserializer<Text = T::Text, Bytes = T::Bytes>>(
     alloc: Global,
     source: &mut D,
     schema: &Schema<'_>,
@@ -42,8 +60,8 @@ pub(crate) fn read_tree<T: Tree, D: ShapeDeserializer>(
         ShapeType::Short => Ok(T::whole(i64::from(source.read_short(schema)?))),
         ShapeType::Integer => Ok(T::whole(i64::from(source.read_integer(schema)?))),
         ShapeType::Long => Ok(T::whole(source.read_long(schema)?)),
-        ShapeType::String => Ok(T::text(source.read_string(schema)?)),
-        ShapeType::Blob => Ok(T::bytes(source.read_blob(schema)?)),
+        ShapeType::String => Ok(T::text(source.take_text(schema)?)),
+        ShapeType::Blob => Ok(T::bytes(source.take_bytes(schema)?)),
         ShapeType::BigInteger
         | ShapeType::BigDecimal
         | ShapeType::Timestamp
@@ -58,7 +76,7 @@ pub(crate) fn read_tree<T: Tree, D: ShapeDeserializer>(
 // Reads the value of the schema that is due, where it is of a kind that few tables have: a big number, an instant or a document.
 // What these reads hold on the stack stands in a call of its own, so that the calls for containers need no room for it.
 #[inline(never)]
-fn read_out_of_line<T: Tree, D: ShapeDeserializer>(
+fn read_out_of_line<T: Tree, D: PieceDeserializer<Text = T::Text, Bytes = T::Bytes>>(
     alloc: Global,
     source: &mut D,
     schema: &Schema<'_>,
@@ -95,7 +113,7 @@ fn read_out_of_line<T: Tree, D: ShapeDeserializer>(
 
 #[cycle(read)]
 #[inline(never)]
-fn read_structure<T: Tree, D: ShapeDeserializer>(
+fn read_structure<T: Tree, D: PieceDeserializer<Text = T::Text, Bytes = T::Bytes>>(
     alloc: Global,
     source: &mut D,
     schema: &Schema<'_>,
@@ -124,7 +142,7 @@ fn read_structure<T: Tree, D: ShapeDeserializer>(
 
 #[cycle(read)]
 #[inline(never)]
-fn read_union<T: Tree, D: ShapeDeserializer>(
+fn read_union<T: Tree, D: PieceDeserializer<Text = T::Text, Bytes = T::Bytes>>(
     alloc: Global,
     source: &mut D,
     schema: &Schema<'_>,
@@ -152,7 +170,7 @@ fn read_union<T: Tree, D: ShapeDeserializer>(
 
 #[cycle(read)]
 #[inline(never)]
-fn read_list<T: Tree, D: ShapeDeserializer>(
+fn read_list<T: Tree, D: PieceDeserializer<Text = T::Text, Bytes = T::Bytes>>(
     alloc: Global,
     source: &mut D,
     schema: &Schema<'_>,
@@ -182,7 +200,7 @@ fn read_list<T: Tree, D: ShapeDeserializer>(
 
 #[cycle(read)]
 #[inline(never)]
-fn read_map<T: Tree, D: ShapeDeserializer>(
+fn read_map<T: Tree, D: PieceDeserializer<Text = T::Text, Bytes = T::Bytes>>(
     alloc: Global,
     source: &mut D,
     schema: &Schema<'_>,

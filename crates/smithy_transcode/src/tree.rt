@@ -7,8 +7,9 @@ ghost use Rattle.smithy_types.specs.DocumentView.{document_view};
 ghost use Rattle.smithy_transcode.specs.Private.Tree.{part_view, union_value_view};
 
 use crate::entries::Entries;
+use crate::pieces::{BytesView, TextView};
 use smithy_schema::SerdeError;
-use smithy_types::{Blob, DateTime, Document};
+use smithy_types::{DateTime, Document};
 use std::alloc::Global;
 
 /// What a tree is at its root.
@@ -78,6 +79,12 @@ impl<'v, T: Tree> UnionValue<'v, T> {
 
 /// A tree that is built from its leaves on, and gone through from its root on.
 pub trait Tree: Drop + Sized {
+    /// A text, as the tree is given it.
+    type Text: TextView;
+
+    /// Any bytes, as the tree is given them.
+    type Bytes: BytesView;
+
     /// The elements of a list that is half built.
     type Elements: Drop;
 
@@ -106,11 +113,11 @@ pub trait Tree: Drop + Sized {
         ensures ok { IfOk result (λ n. view n ≡ scalar_value (whole number)) }
         ensures err { IfErr result (λ e. e ≡ NoMemory) };
 
-    fn text(content: String) -> Self
-        ensures { view result ≡ scalar_value (text (string_bytes content)) };
+    fn text(content: Self::Text) -> Self
+        ensures { view result ≡ scalar_value (text (Self.Text.bytes_of content)) };
 
-    fn bytes(blob: Blob) -> Self
-        ensures { view result ≡ scalar_value (bytes blob) };
+    fn bytes(content: Self::Bytes) -> Self
+        ensures { view result ≡ scalar_value (bytes (Self.Bytes.items_of content)) };
 
     fn decimal(alloc: Global, mantissa: i128, exponent: i64) -> Result<Self, SerdeError>
         ensures ok { IfOk result (λ n. view n ≡ scalar_value (decimal mantissa exponent)) }

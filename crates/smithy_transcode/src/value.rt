@@ -4,45 +4,50 @@ ghost use Rattle.smithy_transcode.specs.View.{view as value_view, view_elements 
 use crate::entries::Entries;
 use crate::tree::{Part, Tree, UnionValue};
 use smithy_schema::SerdeError;
-use smithy_types::{Blob, DateTime, Document};
+use smithy_types::{DateTime, Document};
 use std::alloc::Global;
+use std::borrow::{CowSlice, CowStr};
 use std::collections::BTreeMap;
 
-/// A value.
+/// A value. Its texts and bytes borrow from the input that it was read from, where they stand in it in one piece.
 #[derive(Debug, Drop)]
-pub enum Value {
+pub enum Value<'a> {
     /// False or true.
     Boolean(bool),
     /// A whole number of any integer kind, big integers too, from -2^127 to 2^127-1.
     Whole(i128),
     /// A text.
-    Text(String),
+    Text(CowStr<'a, Global>),
     /// Any bytes.
-    Bytes(Vec<u8>),
+    Bytes(CowSlice<'a, u8, Global>),
     /// A mantissa, times ten to an exponent, as they were given.
     Decimal(i128, i64),
     /// An instant.
     Instant(DateTime),
     /// The elements of a list, in their order.
-    List(Vec<Value>),
+    List(Vec<Value<'a>>),
     /// The values of a map by their keys.
-    Map(BTreeMap<String, Value>),
+    Map(BTreeMap<String, Value<'a>>),
     /// The members that are present, by their positions in the table, from 0.
-    Structure(BTreeMap<u32, Value>),
+    Structure(BTreeMap<u32, Value<'a>>),
     /// The member of a union, by its position in the table, from 0, and its value.
-    Union(u32, Box<Value>),
+    Union(u32, Box<Value<'a>>),
     /// A null among the elements of a sparse list or the values of a sparse map.
     Null,
     /// A document. Of its numbers the whole number alone counts.
     Document(Document),
 }
 
-impl Tree for Value {
-    type Elements = Vec<Value>;
+impl<'a> Tree for Value<'a> {
+    type Text = CowStr<'a, Global>;
 
-    type Entries = BTreeMap<String, Value>;
+    type Bytes = CowSlice<'a, u8, Global>;
 
-    type Members = BTreeMap<u32, Value>;
+    type Elements = Vec<Value<'a>>;
+
+    type Entries = BTreeMap<String, Value<'a>>;
+
+    type Members = BTreeMap<u32, Value<'a>>;
 
     ghost view = { value_view };
 
@@ -52,101 +57,101 @@ impl Tree for Value {
 
     ghost view_members = { λ m. value_members m.entries };
 
-    fn boolean(value: bool) -> Value {
+    fn boolean(value: bool) -> Value<'a> {
         Value::Boolean(value)
     }
 
-    fn whole(number: i64) -> Value {
+    fn whole(number: i64) -> Value<'a> {
         Value::Whole(i128::from(number))
     }
 
-    fn big_integer(_alloc: Global, number: i128) -> Result<Value, SerdeError> {
+    fn big_integer(_alloc: Global, number: i128) -> Result<Value<'a>, SerdeError> {
         Ok(Value::Whole(number))
     }
 
-    fn text(content: String) -> Value {
+    fn text(content: CowStr<'a, Global>) -> Value<'a> {
         Value::Text(content)
     }
 
-    fn bytes(blob: Blob) -> Value {
-        Value::Bytes(blob.into_inner())
+    fn bytes(content: CowSlice<'a, u8, Global>) -> Value<'a> {
+        Value::Bytes(content)
     }
 
-    fn decimal(_alloc: Global, mantissa: i128, exponent: i64) -> Result<Value, SerdeError> {
+    fn decimal(_alloc: Global, mantissa: i128, exponent: i64) -> Result<Value<'a>, SerdeError> {
         Ok(Value::Decimal(mantissa, exponent))
     }
 
-    fn timestamp(value: DateTime) -> Value {
+    fn timestamp(value: DateTime) -> Value<'a> {
         Value::Instant(value)
     }
 
-    fn null() -> Value {
+    fn null() -> Value<'a> {
         Value::Null
     }
 
-    fn document(_alloc: Global, value: Document) -> Result<Value, SerdeError> {
+    fn document(_alloc: Global, value: Document) -> Result<Value<'a>, SerdeError> {
         Ok(Value::Document(value))
     }
 
-    fn no_elements(alloc: Global) -> Vec<Value> {
+    fn no_elements(alloc: Global) -> Vec<Value<'a>> {
         Vec::new(alloc)
     }
 
     fn push_element(
         _alloc: Global,
-        elements: &mut Vec<Value>,
-        value: Value,
+        elements: &mut Vec<Value<'a>>,
+        value: Value<'a>,
     ) -> Result<(), SerdeError> {
         elements.push(value)?;
         Ok(())
     }
 
-    fn list(elements: Vec<Value>) -> Value {
+    fn list(elements: Vec<Value<'a>>) -> Value<'a> {
         Value::List(elements)
     }
 
-    fn no_entries(alloc: Global) -> BTreeMap<String, Value> {
+    fn no_entries(alloc: Global) -> BTreeMap<String, Value<'a>> {
         BTreeMap::new(alloc)
     }
 
     fn set_entry(
         _alloc: Global,
-        entries: &mut BTreeMap<String, Value>,
+        entries: &mut BTreeMap<String, Value<'a>>,
         key: String,
-        value: Value,
+        value: Value<'a>,
     ) -> Result<(), SerdeError> {
         entries.insert(key, value)?;
         Ok(())
     }
 
-    fn map(entries: BTreeMap<String, Value>) -> Value {
+    fn map(entries: BTreeMap<String, Value<'a>>) -> Value<'a> {
         Value::Map(entries)
     }
 
-    fn no_members(alloc: Global) -> BTreeMap<u32, Value> {
+    fn no_members(alloc: Global) -> BTreeMap<u32, Value<'a>> {
         BTreeMap::new(alloc)
     }
 
     fn set_member(
         _alloc: Global,
-        members: &mut BTreeMap<u32, Value>,
+        members: &mut BTreeMap<u32, Value<'a>>,
         index: u32,
-        value: Value,
+        value: Value<'a>,
     ) -> Result<(), SerdeError> {
         members.insert(index, value)?;
         Ok(())
     }
 
-    fn structure(members: BTreeMap<u32, Value>) -> Value {
+    fn structure(members: BTreeMap<u32, Value<'a>>) -> Value<'a> {
         Value::Structure(members)
     }
 
-    fn union(alloc: Global, index: u32, value: Value) -> Result<Value, SerdeError> {
+    fn union(alloc: Global, index: u32, value: Value<'a>) -> Result<Value<'a>, SerdeError> {
         Ok(Value::Union(index, Box::new(alloc, value)?))
     }
 
     #[inline(always)]
-    fn part(&self) -> Part<'_, Value> {
+    fn part(&self) -> Part<'_, Value<'a>> {
         match self {
             Value::Boolean(value) => Part::Boolean(*value),
             Value::Whole(number) => Part::Whole(*number),

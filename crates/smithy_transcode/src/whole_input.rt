@@ -1,16 +1,11 @@
 //! The value that a whole body spells.
-ghost use Rattle.std.specs.Prelude.{IfOk, IfErr, IsErrOf};
-ghost use Rattle.smithy_shapes.specs.Accepted.{IsAccepted};
-ghost use Rattle.smithy_schema.specs.Errors.{IsRefused, IsInvalid, IsOfReader};
 ghost use Rattle.smithy_declarations.specs.Table.{IsStructure, kind_of, shape_place};
-ghost use Rattle.smithy_transcode.specs.Causes.{IsTooDeep, IsWide, IsUncarried};
 ghost use Rattle.smithy_transcode.specs.ReadBody.{ReadsBody};
-ghost use Rattle.smithy_transcode.specs.Spelling.{Spells};
-ghost use Rattle.smithy_transcode.specs.Transcoding.{SpellNothing, SpellNothingWithoutLimits};
 ghost use Rattle.smithy_transcode.specs.View.{view};
 ghost use Rattle.smithy_transcode.specs.Wires.{wire_of};
+ghost use Rattle.smithy_transcode.specs.Private.ReadWhole.{ReadsWhole};
 
-use crate::reading::read_tree;
+use crate::reading::{read_tree, read_value};
 use crate::refusal::refusal;
 use crate::tree::Tree;
 use crate::value::Value;
@@ -18,26 +13,60 @@ use crate::wire::{TranscodeError, Wire};
 use smithy_cbor_codec::CborCodec;
 use smithy_json_codec::JsonCodec;
 use smithy_schema::{SerdeError, ShapeRef, Shapes};
+use smithy_types::Blob;
 use std::alloc::Global;
 
-/// Reads the value that the whole input spells in the wire `from`. The root is a structure of the table.
+/// Reads the value that the whole input spells in the wire `from`. The root is a structure of the table. The texts and bytes of the
+/// value borrow from the input, where they stand in it in one piece.
 ///
 /// Forms are not read: as `from` the wire answers `InvalidInput`. `Inexpressible` is never answered.
-pub fn read_body(
+pub fn read_body<'a>(
     alloc: Global,
     shapes: &Shapes,
     root: ShapeRef,
     from: &Wire,
-    input: &[u8],
-) -> Result<Value, TranscodeError>
+    input: &'a [u8],
+) -> Result<Value<'a>, TranscodeError>
     requires root { IsStructure (kind_of shapes.now (shape_place root.0)) }
     ensures { ReadsBody view shapes.now root.0 (wire_of from.now) input.now result }
 {
-    read_body_as::<Value>(alloc, shapes, root, from, input)
+    match read_whole_value(alloc, shapes, root, from, input) {
+        Ok(value) => Ok(value),
+        Err(error) => Err(refusal(error)),
+    }
 }
 
-/// Reads a whole input as `read_body` does, into a tree of any kind.
-pub fn read_body_as<T: Tree>(
+// The value that the whole input spells.
+fn read_whole_value<'a>(
+    alloc: Global,
+    shapes: &Shapes,
+    root: ShapeRef,
+    from: &Wire,
+    input: &'a [u8],
+) -> Result<Value<'a>, SerdeError>
+    requires root { IsStructure (kind_of shapes.now (shape_place root.0)) }
+    ensures { ReadsWhole view (wire_of from.now) shapes.now root.0 input.now result }
+{
+    let schema = shapes.schema(root);
+    match from {
+        Wire::Json {
+            use_json_name,
+            integral,
+        } => {
+            let json = JsonCodec::strict_with_integral_numbers(*use_json_name, *integral);
+            let mut reader = json.create_deserializer(alloc, input);
+            read_value(alloc, &mut reader, &schema)
+        }
+        Wire::Cbor { .. } => {
+            let mut reader = CborCodec::strict().create_deserializer(alloc, input);
+            read_value(alloc, &mut reader, &schema)
+        }
+        Wire::Query { .. } => Err(SerdeError::InvalidInput),
+    }
+}
+
+/// Reads a whole input as `read_body` does, into a tree of any kind whose texts and bytes are in memory of their own.
+pub fn read_body_as<T: Tree<Text = String, Bytes = Blob>>(
     alloc: Global,
     shapes: &Shapes,
     root: ShapeRef,
@@ -53,8 +82,8 @@ pub fn read_body_as<T: Tree>(
     }
 }
 
-// The value that the whole input spells, in any tree.
-pub(crate) fn read_whole<T: Tree>(
+// The value that the whole input spells, in a tree of any kind whose texts and bytes are in memory of their own.
+pub(crate) fn read_whole<T: Tree<Text = String, Bytes = Blob>>(
     alloc: Global,
     shapes: &Shapes,
     root: ShapeRef,
@@ -62,15 +91,7 @@ pub(crate) fn read_whole<T: Tree>(
     input: &[u8],
 ) -> Result<T, SerdeError>
     requires root { IsStructure (kind_of shapes.now (shape_place root.0)) }
-    ensures accepted { IsAccepted shapes.now }
-    ensures ok { IfOk result (λ v. Spells (wire_of from.now) shapes.now root.0 input.now (T.view v)) }
-    ensures refused { IsRefused result → SpellNothing (wire_of from.now) shapes.now root.0 input.now }
-    ensures none_without_limits { IsInvalid result → SpellNothingWithoutLimits (wire_of from.now) shapes.now root.0 input.now }
-    ensures deep { IsErrOf result SerdeError.TooDeep → IsTooDeep (wire_of from.now) shapes.now root.0 input.now }
-    ensures wide { IsErrOf result SerdeError.TooWide → IsWide (wire_of from.now) shapes.now input.now }
-    ensures uncarried { IsErrOf result SerdeError.NotCarried → IsUncarried (wire_of from.now) shapes.now input.now }
-    ensures sound { IsErrOf result SerdeError.Failed → ⊥ }
-    ensures reading { IfErr result IsOfReader }
+    ensures { ReadsWhole T.view (wire_of from.now) shapes.now root.0 input.now result }
 {
     let schema = shapes.schema(root);
     match from {

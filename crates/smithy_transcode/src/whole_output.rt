@@ -1,30 +1,99 @@
 //! The bytes of one value, in any wire.
-ghost use Rattle.std.specs.Prelude.{◌≡◌, false, [], Ok, IfOk, IfErr};
+ghost use Rattle.std.specs.Prelude.{◌≡◌, ◌<◌, ◌^◌, length, false, [], None, Ok, IfOk, IfErr};
 ghost use Rattle.smithy_schema.specs.declared.error.SerdeError.TheVariants.{NoMemory};
+ghost use Rattle.smithy_declarations.specs.Table.{IsStructure, kind_of, shape_place};
 ghost use Rattle.smithy_shapes.specs.Fits.{Fits};
 ghost use Rattle.smithy_shapes.specs.Site.{site_of};
 ghost use Rattle.smithy_schema.specs.Writing.{write};
-ghost use Rattle.smithy_transcode.specs.Private.Tree.{compact_view as view};
+ghost use Rattle.smithy_transcode.specs.Spelling.{body};
+ghost use Rattle.smithy_transcode.specs.View.{view};
+ghost use Rattle.smithy_transcode.specs.Wires.{wire_of, unfit as unfit_for};
+ghost use Rattle.smithy_transcode.specs.WriteBody.{WritesBody};
+ghost use Rattle.smithy_transcode.specs.Private.Positions.{CanCount};
 
-use crate::compact_value::CompactValue;
+use crate::expressing::unfit;
+use crate::refusal::refusal;
 use crate::tree::Tree;
+use crate::value::Value;
+use crate::wire::{TranscodeError, Wire};
 use crate::writing::write_tree;
-use smithy_schema::{FinishSerializer, Schema, SerdeError};
+use smithy_cbor_codec::{CborCodec, CborCodecSettings};
+use smithy_json_codec::JsonCodec;
+use smithy_query_codec::QueryShapeSerializer;
+use smithy_schema::{FinishSerializer, Schema, SerdeError, ShapeRef, Shapes};
 use std::alloc::Global;
 
+/// Writes a value of the root in its one canonical body in the wire `to`. The root is a structure of the table.
+///
+/// `Inexpressible` and `NoMemory` are the only refusals.
+pub fn write_body(
+    alloc: Global,
+    shapes: &Shapes,
+    root: ShapeRef,
+    to: &Wire,
+    value: &Value<'_>,
+) -> Result<Vec<u8>, TranscodeError>
+    requires root { IsStructure (kind_of shapes.now (shape_place root.0)) }
+    requires fits { Fits shapes.now (shape_place root.0) (view value.now) }
+    ensures { WritesBody shapes.now root.0 (wire_of to.now) (view value.now) result }
+{
+    if let Some(lacking) = unfit::<Value<'_>>(&shapes.schema(root), value, to) {
+        return Err(TranscodeError::Inexpressible(lacking));
+    }
+    match write_whole::<Value<'_>>(alloc, shapes, root, to, value) {
+        Ok(body) => Ok(body),
+        Err(error) => Err(refusal(error)),
+    }
+}
+
+// The canonical body of a value of the root, in any tree.
+pub(crate) fn write_whole<T: Tree>(
+    alloc: Global,
+    shapes: &Shapes,
+    root: ShapeRef,
+    to: &Wire,
+    value: &T,
+) -> Result<Vec<u8>, SerdeError>
+    requires root { IsStructure (kind_of shapes.now (shape_place root.0)) }
+    requires fits { Fits shapes.now (shape_place root.0) (T.view value.now) }
+    requires fit { unfit_for (wire_of to.now) shapes.now root.0 (T.view value.now) ≡ None }
+    requires positions { CanCount (wire_of to.now) (T.view value.now) }
+    ensures ok { IfOk result (λ out. out.items ≡ body (wire_of to.now) shapes.now root.0 (T.view value.now)) }
+    ensures short { IfOk result (λ out. length out.items < 2 ^ 64) }
+    ensures err { IfErr result (λ e. e ≡ NoMemory) }
+{
+    let schema = shapes.schema(root);
+    match to {
+        Wire::Json { use_json_name, .. } => {
+            let codec = JsonCodec::strict(*use_json_name);
+            let sink = codec.create_serializer(alloc);
+            body_of_value(alloc, sink, &schema, value)
+        }
+        Wire::Cbor { definite } => {
+            let settings = CborCodecSettings::strict().use_definite_lengths(*definite);
+            let sink = CborCodec::new(settings).create_serializer(alloc);
+            body_of_value(alloc, sink, &schema, value)
+        }
+        Wire::Query { action, version } => {
+            let sink = QueryShapeSerializer::new(alloc, action.as_str(), version.as_str())?;
+            body_of_value(alloc, sink, &schema, value)
+        }
+    }
+}
+
 // The bytes of a serializer that takes the value, once it is written.
-pub(crate) fn body_of_value<S: FinishSerializer + Drop>(
+fn body_of_value<T: Tree, S: FinishSerializer + Drop>(
     alloc: Global,
     mut sink: S,
     schema: &Schema<'_>,
-    value: &CompactValue,
+    value: &T,
 ) -> Result<Vec<u8>, SerdeError>
-    requires fits { Fits schema.now.shapes.now schema.now.place (view value.now) }
+    requires fits { Fits schema.now.shapes.now schema.now.place (T.view value.now) }
     requires sound { S.failed sink ≡ false }
-    requires taken { (state : S.State) × (write S.after (site_of schema.now) (view value.now) (S.state sink) ≡ Ok state) × (S.open_in state ≡ []) }
-    ensures ok { IfOk result (λ out. (state : S.State) → write S.after (site_of schema.now) (view value.now) (S.state sink) ≡ Ok state → out.items ≡ S.out state) }
+    requires taken { (state : S.State) × (write S.after (site_of schema.now) (T.view value.now) (S.state sink) ≡ Ok state) × (S.open_in state ≡ []) }
+    ensures ok { IfOk result (λ out. (state : S.State) → write S.after (site_of schema.now) (T.view value.now) (S.state sink) ≡ Ok state → out.items ≡ S.out state) }
     ensures err { IfErr result (λ e. e ≡ NoMemory) }
 {
-    write_tree::<CompactValue, S>(alloc, &mut sink, schema, &value.part())?;
+    write_tree::<T, S>(alloc, &mut sink, schema, &value.part())?;
     sink.finish()
 }

@@ -21,12 +21,12 @@ pub fn write_value<S: ShapeSerializer>(
     alloc: Global,
     sink: &mut S,
     schema: &Schema<'_>,
-    value: &Value,
+    value: &Value<'_>,
 ) -> Result<(), SerdeError>
     requires fits { FitsOr schema.now.shapes.now schema.now.place true (view value.now) }
     ensures writes { WritesValue (write S.after (site_of schema.now) (view value.now) (S.state sink.old)) (S.failed sink.old) (S.failed sink.new) (S.state sink.new) result }
 {
-    write_tree::<Value, S>(alloc, sink, schema, &value.part())
+    write_tree::<Value<'_>, S>(alloc, sink, schema, &value.part())
 }
 
 // Writes the value that has this part at its root, in any tree: a value of the schema's place, or a null element.

@@ -1,4 +1,5 @@
-//! Rows of bodies: each goes from wire to wire by `transcode`, and by the calls that read and write a value.
+//! Rows of bodies: each goes from wire to wire by `transcode`, by the calls that read and write a body, and by those that read and write
+//! a value.
 
 use crate::program::one;
 use crate::tables::shapes_of;
@@ -6,7 +7,9 @@ use crate::values;
 use crate::wires::wire_of;
 use smithy_rows::{Field, Row, Rows};
 use smithy_schema::{SerdeError, ShapeType, Shapes};
-use smithy_transcode::{TranscodeError, Unfit, Wire, expressible, transcode};
+use smithy_transcode::{
+    TranscodeError, Unfit, Wire, expressible, read_body, transcode, write_body,
+};
 use std::alloc::{AllocError, Global};
 
 // A body to be transcoded.
@@ -30,6 +33,15 @@ fn inexpressible(alloc: Global, unfit: Unfit) -> Result<Field, AllocError> {
     )
 }
 
+// A body, or why there is none.
+fn told(alloc: Global, answer: Result<Vec<u8>, TranscodeError>) -> Result<Field, AllocError> {
+    match answer {
+        Ok(body) => Field::new(alloc, "body", &body),
+        Err(TranscodeError::Inexpressible(unfit)) => inexpressible(alloc, unfit),
+        Err(error) => refused(alloc, format!(in alloc; "{error}")?.as_str()),
+    }
+}
+
 // What `transcode` answers.
 fn transcoded(alloc: Global, asked: &Body<'_>) -> Result<Field, AllocError> {
     let Some(root) = asked.shapes.find(asked.root) else {
@@ -38,10 +50,24 @@ fn transcoded(alloc: Global, asked: &Body<'_>) -> Result<Field, AllocError> {
     let ShapeType::Structure = asked.shapes.schema(root).shape_type() else {
         return refused(alloc, "no structure");
     };
-    match transcode(alloc, asked.shapes, root, asked.from, asked.input, asked.to) {
-        Ok(body) => Field::new(alloc, "body", &body),
-        Err(TranscodeError::Inexpressible(unfit)) => inexpressible(alloc, unfit),
-        Err(error) => refused(alloc, format!(in alloc; "{error}")?.as_str()),
+    told(
+        alloc,
+        transcode(alloc, asked.shapes, root, asked.from, asked.input, asked.to),
+    )
+}
+
+// What `read_body` and `write_body` answer one after the other.
+fn by_body(alloc: Global, asked: &Body<'_>) -> Result<Field, AllocError> {
+    let shapes = asked.shapes;
+    let Some(root) = shapes.find(asked.root) else {
+        return refused(alloc, "no such root");
+    };
+    let ShapeType::Structure = shapes.schema(root).shape_type() else {
+        return refused(alloc, "no structure");
+    };
+    match read_body(alloc, shapes, root, asked.from, asked.input) {
+        Ok(value) => told(alloc, write_body(alloc, shapes, root, asked.to, &value)),
+        Err(error) => told(alloc, Err(error)),
     }
 }
 
@@ -74,17 +100,25 @@ fn by_value(alloc: Global, asked: &Body<'_>, whether: bool) -> Result<Field, All
     written(alloc, values::write(alloc, shapes, root, &value, asked.to))
 }
 
-// The answer by the calls on values, and before it that of `transcode` where it is another one.
-fn both(alloc: Global, asked: &Body<'_>) -> Result<Vec<Field>, AllocError> {
+// Whether two answers are the same.
+fn agree(one: &Field, other: &Field) -> bool {
+    one.word.as_str() == other.word.as_str() && one.value.as_slice() == other.value.as_slice()
+}
+
+// The answer by the calls on values, and before it those of `transcode` and by the calls on bodies, each where it is another one than
+// the answer behind it.
+fn all_ways(alloc: Global, asked: &Body<'_>) -> Result<Vec<Field>, AllocError> {
     let answer = transcoded(alloc, asked)?;
-    let other = by_value(alloc, asked, true)?;
-    let agree = answer.word.as_str() == other.word.as_str()
-        && answer.value.as_slice() == other.value.as_slice();
+    let second = by_body(alloc, asked)?;
+    let third = by_value(alloc, asked, true)?;
     let mut answers = Vec::new(alloc);
-    if !agree {
+    if !agree(&answer, &second) {
         answers.push(answer)?;
     }
-    answers.push(other)?;
+    if !agree(&second, &third) {
+        answers.push(second)?;
+    }
+    answers.push(third)?;
     Ok(answers)
 }
 
@@ -95,7 +129,7 @@ fn written_alone(alloc: Global, asked: &Body<'_>) -> Result<Vec<Field>, AllocErr
     Ok(answers)
 }
 
-/// What a body is answered with: once, where both ways agree.
+/// What a body is answered with: once, where all ways agree.
 pub fn answers(alloc: Global, rows: &Rows, row: &Row) -> Result<Vec<Field>, AllocError> {
     let Some(shapes) = shapes_of(alloc, rows, row) else {
         return one(alloc, "refused", "no such table");
@@ -113,5 +147,5 @@ pub fn answers(alloc: Global, rows: &Rows, row: &Row) -> Result<Vec<Field>, Allo
     if row.bytes("call").is_some() {
         return written_alone(alloc, &asked);
     }
-    both(alloc, &asked)
+    all_ways(alloc, &asked)
 }

@@ -2,6 +2,7 @@
 #![tactic(auto)]
 
 mod bodies;
+mod borrowing;
 mod comparing;
 mod expressing;
 mod places;

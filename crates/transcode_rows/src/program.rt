@@ -1,6 +1,6 @@
 //! The kinds of rows.
 
-use crate::{bodies, comparing, expressing, places, questions, tables};
+use crate::{bodies, borrowing, comparing, expressing, places, questions, tables};
 use smithy_rows::{Field, Program, Row, Rows};
 use std::alloc::{AllocError, Global};
 
@@ -18,13 +18,23 @@ impl Program for Transcoding {
     fn is_answer(&self, word: &str) -> bool {
         matches!(
             word,
-            "body" | "refused" | "expressible" | "unfit" | "same" | "differs" | "accepted" | "none"
+            "body"
+                | "refused"
+                | "expressible"
+                | "unfit"
+                | "same"
+                | "differs"
+                | "accepted"
+                | "borrowed"
+                | "owned"
+                | "none"
         ) || questions::is_question(word)
     }
 
     fn answer(&self, alloc: Global, rows: &Rows, row: &Row) -> Result<Vec<Field>, AllocError> {
         match row.text("call") {
             None | Some("write_value") => bodies::answers(alloc, rows, row),
+            Some("read_body") => borrowing::answers(alloc, rows, row),
             Some("expressible") => expressing::answers(alloc, rows, row),
             Some("compare") => comparing::answers(alloc, rows, row),
             Some("build") => tables::answers(alloc, row),

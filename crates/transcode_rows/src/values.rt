@@ -7,17 +7,17 @@ ghost use Rattle.smithy_transcode.specs.View.{view};
 use smithy_cbor_codec::{CborCodec, CborCodecSettings};
 use smithy_json_codec::JsonCodec;
 use smithy_query_codec::QueryShapeSerializer;
-use smithy_schema::{FinishSerializer, SerdeError, ShapeDeserializer, ShapeRef, Shapes};
+use smithy_schema::{BorrowDeserializer, FinishSerializer, SerdeError, ShapeRef, Shapes};
 use smithy_transcode::{Value, Wire, read_value, write_value};
 use std::alloc::Global;
 
 // The value that a reader gives.
-fn read_by<D: ShapeDeserializer>(
+fn read_by<'a, D: BorrowDeserializer<'a>>(
     alloc: Global,
     shapes: &Shapes,
     root: ShapeRef,
     source: &mut D,
-) -> Result<Value, SerdeError>
+) -> Result<Value<'a>, SerdeError>
     requires root { IsStructure (kind_of shapes.now (shape_place root.0)) }
     requires due { (D.state source.old).due ≡ true }
     ensures { IfOk result (λ v. Fits shapes.now (shape_place root.0) (view v)) }
@@ -27,13 +27,13 @@ fn read_by<D: ShapeDeserializer>(
 }
 
 /// The value that the input spells. Forms aren't read.
-pub fn read(
+pub fn read<'a>(
     alloc: Global,
     shapes: &Shapes,
     root: ShapeRef,
     from: &Wire,
-    input: &[u8],
-) -> Result<Value, SerdeError>
+    input: &'a [u8],
+) -> Result<Value<'a>, SerdeError>
     requires root { IsStructure (kind_of shapes.now (shape_place root.0)) }
     ensures { IfOk result (λ v. Fits shapes.now (shape_place root.0) (view v)) }
 {
@@ -60,7 +60,7 @@ fn write_by<S: FinishSerializer + Drop>(
     mut sink: S,
     shapes: &Shapes,
     root: ShapeRef,
-    value: &Value,
+    value: &Value<'_>,
 ) -> Result<Vec<u8>, SerdeError>
     requires root { IsStructure (kind_of shapes.now (shape_place root.0)) }
     requires fits { Fits shapes.now (shape_place root.0) (view value.now) }
@@ -75,7 +75,7 @@ pub fn write(
     alloc: Global,
     shapes: &Shapes,
     root: ShapeRef,
-    value: &Value,
+    value: &Value<'_>,
     to: &Wire,
 ) -> Result<Vec<u8>, SerdeError>
     requires root { IsStructure (kind_of shapes.now (shape_place root.0)) }

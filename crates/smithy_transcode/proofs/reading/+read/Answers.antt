@@ -64,25 +64,25 @@ read_tree-returns-in_ok-read_long-in-Long-clause-reads g t c =
     let counts = g.met.D.ShapeDeserializer.counts (g.D.ShapeDeserializer.settings c.args.source.now) in
     scalar_made _ _ _ _ scalars.Long _ g.T.Tree.view (site_of c.args.schema.now) _ _ _ _ _ counts (ap Some (sym c.in-Long.is) ∙ c.shape_type.ensures) c.in_ok-read_long-in-Long.ensures.read (search rules) c.whole-in-Long.ensures tt
 
-pub read_tree-returns-in_err-read_string-in-String-clause-reads : goal.read_tree-returns-in_err-read_string-in-String-clause-reads
-read_tree-returns-in_err-read_string-in-String-clause-reads g t c =
-    let p = err_from_is_err_and c.from_residual-in_err-read_string-in-String.result c.from_residual-in_err-read_string-in-String.ensures.1 in
-    rw (p.1, p.2) (scalar_fails _ _ _ _ scalars.String _ g.T.Tree.view (site_of c.args.schema.now) _ _ _ (ap Some (sym c.in-String.is) ∙ c.shape_type.ensures) c.requires.due c.in_err-read_string-in-String.ensures.read)
+pub read_tree-returns-in_err-take_text-in-String-clause-reads : goal.read_tree-returns-in_err-take_text-in-String-clause-reads
+read_tree-returns-in_err-take_text-in-String-clause-reads g t c =
+    let p = err_from_is_err_and c.from_residual-in_err-take_text-in-String.result c.from_residual-in_err-take_text-in-String.ensures.1 in
+    rw (p.1, p.2) (scalar_fails _ _ _ _ scalars.String _ g.T.Tree.view (site_of c.args.schema.now) _ _ _ (ap Some (sym c.in-String.is) ∙ c.shape_type.ensures) c.requires.due c.in_err-take_text-in-String.ensures.read)
 
-pub read_tree-returns-in_ok-read_string-in-String-clause-reads : goal.read_tree-returns-in_ok-read_string-in-String-clause-reads
-read_tree-returns-in_ok-read_string-in-String-clause-reads g t c =
+pub read_tree-returns-in_ok-take_text-in-String-clause-reads : goal.read_tree-returns-in_ok-take_text-in-String-clause-reads
+read_tree-returns-in_ok-take_text-in-String-clause-reads g t c =
     let counts = g.met.D.ShapeDeserializer.counts (g.D.ShapeDeserializer.settings c.args.source.now) in
-    scalar_made _ _ _ _ scalars.String _ g.T.Tree.view (site_of c.args.schema.now) _ _ _ _ _ counts (ap Some (sym c.in-String.is) ∙ c.shape_type.ensures) c.in_ok-read_string-in-String.ensures.read (search rules) c.text.ensures tt
+    scalar_made _ _ _ _ scalars.String _ g.T.Tree.view (site_of c.args.schema.now) _ _ _ _ _ counts (ap Some (sym c.in-String.is) ∙ c.shape_type.ensures) c.in_ok-take_text-in-String.ensures.read (search rules) c.text.ensures tt
 
-pub read_tree-returns-in_err-read_blob-in-Blob-clause-reads : goal.read_tree-returns-in_err-read_blob-in-Blob-clause-reads
-read_tree-returns-in_err-read_blob-in-Blob-clause-reads g t c =
-    let p = err_from_is_err_and c.from_residual-in_err-read_blob-in-Blob.result c.from_residual-in_err-read_blob-in-Blob.ensures.1 in
-    rw (p.1, p.2) (scalar_fails _ _ _ _ scalars.Blob _ g.T.Tree.view (site_of c.args.schema.now) _ _ _ (ap Some (sym c.in-Blob.is) ∙ c.shape_type.ensures) c.requires.due c.in_err-read_blob-in-Blob.ensures.read)
+pub read_tree-returns-in_err-take_bytes-in-Blob-clause-reads : goal.read_tree-returns-in_err-take_bytes-in-Blob-clause-reads
+read_tree-returns-in_err-take_bytes-in-Blob-clause-reads g t c =
+    let p = err_from_is_err_and c.from_residual-in_err-take_bytes-in-Blob.result c.from_residual-in_err-take_bytes-in-Blob.ensures.1 in
+    rw (p.1, p.2) (scalar_fails _ _ _ _ scalars.Blob _ g.T.Tree.view (site_of c.args.schema.now) _ _ _ (ap Some (sym c.in-Blob.is) ∙ c.shape_type.ensures) c.requires.due c.in_err-take_bytes-in-Blob.ensures.read)
 
-pub read_tree-returns-in_ok-read_blob-in-Blob-clause-reads : goal.read_tree-returns-in_ok-read_blob-in-Blob-clause-reads
-read_tree-returns-in_ok-read_blob-in-Blob-clause-reads g t c =
+pub read_tree-returns-in_ok-take_bytes-in-Blob-clause-reads : goal.read_tree-returns-in_ok-take_bytes-in-Blob-clause-reads
+read_tree-returns-in_ok-take_bytes-in-Blob-clause-reads g t c =
     let counts = g.met.D.ShapeDeserializer.counts (g.D.ShapeDeserializer.settings c.args.source.now) in
-    scalar_made _ _ _ _ scalars.Blob _ g.T.Tree.view (site_of c.args.schema.now) _ _ _ _ _ counts (ap Some (sym c.in-Blob.is) ∙ c.shape_type.ensures) c.in_ok-read_blob-in-Blob.ensures.read (search rules) c.bytes.ensures tt
+    scalar_made _ _ _ _ scalars.Blob _ g.T.Tree.view (site_of c.args.schema.now) _ _ _ _ _ counts (ap Some (sym c.in-Blob.is) ∙ c.shape_type.ensures) c.in_ok-take_bytes-in-Blob.ensures.read (search rules) c.bytes.ensures tt
 
 -- structures
 pub read_structure-returns-in_err-open_struct-clause-reads : goal.read_structure-returns-in_err-open_struct-clause-reads

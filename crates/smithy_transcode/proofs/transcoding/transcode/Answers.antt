@@ -18,28 +18,25 @@ unfit-requires c =
     let small = spelled_is_small (wire_of c.args.from.now) c.args.shapes.now c.args.root.0 c.args.input.now (view c.in-Ok.value) c.in-Ok.ensures.ok in
     record { fits = fits_at_root c.schema.result c.args.shapes.now c.args.root.0 (view c.in-Ok.value) c.schema.ensures.site small.0 }
 
-pub write_body-requires-clause-fits : goal.write_body-requires-clause-fits
-write_body-requires-clause-fits c =
+pub write_whole-requires-clause-fits : goal.write_whole-requires-clause-fits
+write_whole-requires-clause-fits c =
     (spelled_is_small (wire_of c.args.from.now) c.args.shapes.now c.args.root.0 c.args.input.now (view c.in-Ok.value) c.in-Ok.ensures.ok).0
 
-pub write_body-requires-clause-fit : goal.write_body-requires-clause-fit
-write_body-requires-clause-fit c =
+pub write_whole-requires-clause-fit : goal.write_whole-requires-clause-fit
+write_whole-requires-clause-fit c =
     unfit_at_root (wire_of c.args.to.now) c.schema.result c.args.shapes.now c.args.root.0 (view c.in-Ok.value) c.unfit.result _ c.schema.ensures.site c.unfit.ensures.unfit c.in_default.is
 
-pub write_body-requires-clause-positions : goal.write_body-requires-clause-positions
-write_body-requires-clause-positions c = c.unfit.ensures.positions c.in_default.is
+pub write_whole-requires-clause-positions : goal.write_whole-requires-clause-positions
+write_whole-requires-clause-positions c = c.unfit.ensures.positions c.in_default.is
 
-pub write_body-requires-clause-accepted : goal.write_body-requires-clause-accepted
-write_body-requires-clause-accepted c = c.in-Ok.ensures.accepted
-
-pub returns-in-Ok-write_body : goal.returns-in-Ok-write_body
-returns-in-Ok-write_body c =
-    written c.args.shapes.now c.args.root.0 (wire_of c.args.from.now) c.args.input.now (wire_of c.args.to.now) (view c.in-Ok.value) c.in-Ok-write_body.body
-    c.in-Ok.ensures.accepted c.requires.root c.in-Ok.ensures.ok
+pub returns-in-Ok-write_whole : goal.returns-in-Ok-write_whole
+returns-in-Ok-write_whole c =
+    written c.args.shapes.now c.args.root.0 (wire_of c.args.from.now) c.args.input.now (wire_of c.args.to.now) (view c.in-Ok.value) c.in-Ok-write_whole.body
+    c.schema.ensures.accepted c.requires.root c.in-Ok.ensures.ok
     (unfit_at_root (wire_of c.args.to.now) c.schema.result c.args.shapes.now c.args.root.0 (view c.in-Ok.value) c.unfit.result _ c.schema.ensures.site c.unfit.ensures.unfit c.in_default.is) (c.unfit.ensures.positions c.in_default.is)
-    (has_byte_texts c.args.to.now) c.in-Ok-write_body.ensures.ok c.in-Ok-write_body.ensures.short
+    (has_byte_texts c.args.to.now) c.in-Ok-write_whole.ensures.ok c.in-Ok-write_whole.ensures.short
 
 pub returns : goal.returns
 returns c =
-    unwritten c.args.shapes.now c.args.root.0 (wire_of c.args.from.now) c.args.input.now (wire_of c.args.to.now) c.in-Err-write_body.error c.refusal-in-Err-write_body.result
-    c.in-Err-write_body.ensures.err c.refusal-in-Err-write_body.ensures
+    unwritten c.args.shapes.now c.args.root.0 (wire_of c.args.from.now) c.args.input.now (wire_of c.args.to.now) c.in-Err-write_whole.error c.refusal-in-Err-write_whole.result
+    c.in-Err-write_whole.ensures.err c.refusal-in-Err-write_whole.ensures

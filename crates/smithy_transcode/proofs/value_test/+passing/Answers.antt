@@ -26,7 +26,7 @@ elements_pass-part_passes-requires g t c κs within =
     let next = lists.next_element g.T.Tree.view c.args.elements.now c.loop-element.element-index c.element-item.result _ c.loop-element-test.true c.element-item.is c.part.ensures in
     let smaller = (lists.element_nests (mapped g.T.Tree.view c.args.elements.now) _ _ _ next c.loop-element.invariant.nests).0 in
     let fits = lists.element_fits (site_of c.args.schema.now) (site_of c.in-Some.member) (site_of c.nameless-element_schema.result) _ _ _ (inner_element (site_of c.args.schema.now) _ c.requires.fits.0 c.in-Some.ensures) c.nameless-element_schema.ensures next c.loop-element.invariant.fits in
-    (omega (arith, smaller, c.decreases), (search rules, (search rules, (search rules, (search rules, fits)))))
+    (omega (arith, smaller, c.decreases), (search rules, (search rules, (search rules, (search rules, (search rules, (search rules, fits)))))))
 
 pub elements_pass-returns-then-not-part_passes :
     goal.elements_pass-returns-then-not-part_passes
@@ -73,7 +73,7 @@ entries_pass-part_passes-requires g t c κs within =
     let inner = inner_value (site_of c.args.schema.now) (site_of c.in-Some.member) c.requires.fits.0 c.in-Some.ensures in
     let smaller = (maps.entry_nests (entry_views g.T.Tree.view (entries c.args.entries.now)) _ _ _ _ next c.loop-value.invariant.nests).0 in
     let fits = maps.value_fits (site_of c.args.schema.now) (site_of c.in-Some.member) (site_of c.nameless-value_schema.result) _ (part_view g.T.Tree.view c.part.result) _ _ c.requires.fits.0 inner c.nameless-value_schema.ensures next c.loop-value.invariant.fits in
-    (omega (arith, smaller, c.decreases), (search rules, (search rules, (search rules, (search rules, fits)))))
+    (omega (arith, smaller, c.decreases), (search rules, (search rules, (search rules, (search rules, (search rules, (search rules, fits)))))))
 
 pub entries_pass-returns-then-not-part_passes :
     goal.entries_pass-returns-then-not-part_passes
@@ -125,7 +125,7 @@ members_pass-part_passes-requires g t c κs within =
     let next = structures.next_member g.T.Tree.view _ _ _ _ _ c.in-Some.ensures c.part.ensures in
     let smaller = (structures.member_nests (member_views g.T.Tree.view (entries c.args.members.now)) _ _ _ _ next c.loop-position.invariant.nests).0 in
     let fits = structures.member_fits (site_of c.args.schema.now) (site_of c.in-Some-member_at.member_schema) c.in-Some.position.now (part_view g.T.Tree.view c.part.result) _ _ c.requires.fits.0 c.in-Some-member_at.ensures next c.loop-position.invariant.fits in
-    (omega (arith, smaller, c.decreases), (search rules, (search rules, (search rules, (search rules, fits)))))
+    (omega (arith, smaller, c.decreases), (search rules, (search rules, (search rules, (search rules, (search rules, (search rules, fits)))))))
 
 pub members_pass-returns-then-not-part_passes :
     goal.members_pass-returns-then-not-part_passes
@@ -167,7 +167,7 @@ pub union_passes-part_passes-requires : goal.union_passes-part_passes-requires
 union_passes-part_passes-requires g t c κs within =
     let is = ap nesting c.part.ensures in
     let fits = unions.variant_fits (site_of c.args.schema.now) (site_of c.in-Some.member) c.args.index (union_value_view g.T.Tree.view c.args.value.now) c.requires.fits.0 c.in-Some.ensures c.requires.fits.1 in
-    (omega (arith, is, c.decreases), (search rules, (search rules, (search rules, (search rules, rw c.part.ensures fits)))))
+    (omega (arith, is, c.decreases), (search rules, (search rules, (search rules, (search rules, (search rules, (search rules, rw c.part.ensures fits)))))))
 
 -- ---- whole numbers
 

@@ -33,7 +33,7 @@ pub write_list-write_tree-requires : goal.write_list-write_tree-requires
 write_list-write_tree-requires g t c κs within =
     let next = lists.next_element g.T.Tree.view c.args.elements.now c.loop-element.element-index c.element-item.result _ c.loop-element-test.true c.element-item.is c.part.ensures in
     let smaller = (lists.element_nests (mapped g.T.Tree.view c.args.elements.now) _ _ _ next c.loop-element.invariant.nests).0 in
-    (omega (arith, smaller, c.decreases), (search rules, (search rules, (search rules, (search rules, (search rules, lists.element_fits (site_of c.args.schema.now) (site_of c.in-Some.member) (site_of c.nameless-element_schema.result) _ _ _ (inner_element (site_of c.args.schema.now) _ c.requires.fits.0 c.in-Some.ensures) c.nameless-element_schema.ensures next c.loop-element.invariant.fits))))))
+    (omega (arith, smaller, c.decreases), (search rules, (search rules, (search rules, (search rules, (search rules, (search rules, (search rules, lists.element_fits (site_of c.args.schema.now) (site_of c.in-Some.member) (site_of c.nameless-element_schema.result) _ _ _ (inner_element (site_of c.args.schema.now) _ c.requires.fits.0 c.in-Some.ensures) c.nameless-element_schema.ensures next c.loop-element.invariant.fits))))))))
 
 pub write_list-returns-in_err-write_tree :
     goal.write_list-returns-in_err-write_tree
@@ -80,7 +80,7 @@ write_structure-write_tree-requires g t c κs within =
     let next = structures.next_member g.T.Tree.view _ _ _ _ _ c.in-Some.ensures c.part.ensures in
     let smaller = (structures.member_nests (member_views g.T.Tree.view (entries c.args.members.now)) _ _ _ _ next c.loop-position.invariant.nests).0 in
     let fits = structures.member_fits (site_of c.args.schema.now) (site_of c.in-Some-member_at.member_schema) c.in-Some.position.now (part_view g.T.Tree.view c.part.result) _ _ c.requires.fits.0 c.in-Some-member_at.ensures next c.loop-position.invariant.fits in
-    (omega (arith, smaller, c.decreases), (search rules, (search rules, (search rules, (search rules, (search rules, fits))))))
+    (omega (arith, smaller, c.decreases), (search rules, (search rules, (search rules, (search rules, (search rules, (search rules, (search rules, fits))))))))
 
 pub write_structure-loop-position-preserved : goal.write_structure-loop-position-preserved
 write_structure-loop-position-preserved g t c =
@@ -115,7 +115,7 @@ pub write_union-write_tree-requires : goal.write_union-write_tree-requires
 write_union-write_tree-requires g t c κs within =
     let fits = unions.variant_fits (site_of c.args.schema.now) (site_of c.in-Some.member) c.args.index (union_value_view g.T.Tree.view c.args.value.now) c.requires.fits.0 c.in-Some.ensures c.requires.fits.1 in
     let is = ap nesting c.part.ensures in
-    (omega (arith, is, c.decreases), (search rules, (search rules, (search rules, (search rules, (search rules, rw c.part.ensures fits))))))
+    (omega (arith, is, c.decreases), (search rules, (search rules, (search rules, (search rules, (search rules, (search rules, (search rules, rw c.part.ensures fits))))))))
 
 pub write_union-returns-in_err-write_tree :
     goal.write_union-returns-in_err-write_tree
@@ -159,7 +159,7 @@ write_map-write_tree-requires g t c κs within =
     let inner = inner_value (site_of c.args.schema.now) (site_of c.in-Some-member.member) c.requires.fits.0 c.in-Some-member.ensures in
     let smaller = (maps.entry_nests (entry_views g.T.Tree.view (entries c.args.entries.now)) _ _ _ _ next c.loop-key.invariant.nests).0 in
     let fits = maps.value_fits (site_of c.args.schema.now) (site_of c.in-Some-member.member) (site_of c.nameless-value_schema.result) _ (part_view g.T.Tree.view c.part.result) _ _ c.requires.fits.0 inner c.nameless-value_schema.ensures next c.loop-key.invariant.fits in
-    (omega (arith, smaller, c.decreases), (search rules, (search rules, (search rules, (search rules, (search rules, fits))))))
+    (omega (arith, smaller, c.decreases), (search rules, (search rules, (search rules, (search rules, (search rules, (search rules, (search rules, fits))))))))
 
 pub write_map-loop-key-preserved : goal.write_map-loop-key-preserved
 write_map-loop-key-preserved g t c =
