@@ -2,7 +2,7 @@
 
 ghost use Rattle.std.specs.Prelude.{◌≡◌, ◌≤◌, ◌≢◌, ◌++◌, ◌∷◌, [], IfOk, IfErr, IsUtf8, IsTrue, ◌↔◌, MatchResult, drop, length, string_bytes};
 ghost use Rattle.cbor_item.specs.Fault.{IsStringFault};
-ghost use Rattle.cbor_item.specs.Strings.{IsTextAt, AreBytesAt, IsTextFault};
+ghost use Rattle.cbor_item.specs.Strings.{IsTextAt, AreBytesAt, IsTextFault, BeginsIndefinite};
 ghost use Rattle.cbor_item.specs.Private.Start.{IsStringType, IsStartAnswer, IsWholeAnswer};
 ghost use Rattle.cbor_item.specs.Private.Joined.{AreJoined, AreJoinedTexts, IsJoinFault, IsTextJoinFault};
 
@@ -17,7 +17,7 @@ const BYTE_STRING: u8 = 2;
 const TEXT_STRING: u8 = 3;
 
 /// The text of the text string that begins at the offset, and where the item ends. Each chunk has to be
-/// UTF-8 by itself; that is tested last, over the whole item.
+/// UTF-8 by itself; that is tested last, over the whole item. A definite text takes no memory.
 pub fn text_chunks<'a>(
     alloc: Global,
     input: &'a [u8],
@@ -26,6 +26,7 @@ pub fn text_chunks<'a>(
     requires { at ≤ length input.now }
     ensures found { IfOk result (λ r. IsTextAt input.now at r.0 r.1) }
     ensures fault { IfErr result (IsTextFault input.now at) }
+    ensures memory { IfErr result (λ e. e ≡ ItemError.NoMemory → BeginsIndefinite 3 (drop at input.now)) }
 {
     match string_start(input, at, TEXT_STRING)? {
         Start::Whole(chunk) => {
@@ -39,7 +40,7 @@ pub fn text_chunks<'a>(
     }
 }
 
-/// The bytes of the byte string that begins at the offset, and where the item ends.
+/// The bytes of the byte string that begins at the offset, and where the item ends. A definite string takes no memory.
 pub fn byte_chunks<'a>(
     alloc: Global,
     input: &'a [u8],
@@ -48,6 +49,7 @@ pub fn byte_chunks<'a>(
     requires { at ≤ length input.now }
     ensures found { IfOk result (λ r. AreBytesAt input.now at r.0 r.1) }
     ensures fault { IfErr result (IsStringFault 2 input.now at) }
+    ensures memory { IfErr result (λ e. e ≡ ItemError.NoMemory → BeginsIndefinite 2 (drop at input.now)) }
 {
     match string_start(input, at, BYTE_STRING)? {
         Start::Whole(chunk) => Ok((

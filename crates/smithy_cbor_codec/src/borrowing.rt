@@ -6,8 +6,9 @@ use std::alloc::Global;
 use std::borrow::{CowSlice, CowStr};
 
 impl<'a> BorrowDeserializer<'a> for CborDeserializer<'a> {
-    ghost use Rattle.std.specs.Prelude.{◌≡◌, IfOk, true};
+    ghost use Rattle.std.specs.Prelude.{◌≡◌, IfOk, IsErrOf, true, drop};
     ghost use Rattle.std.specs.Cow.{cow_str_bytes, cow_slice_items};
+    ghost use Rattle.cbor_item.specs.Strings.{BeginsIndefinite};
     ghost use Rattle.smithy_declarations.specs.declared.shape_type.Scalar.TheVariants as scalars;
     ghost use Rattle.smithy_declarations.specs.Value.{text, bytes};
     ghost use Rattle.smithy_shapes.specs.Site.{site_of};
@@ -23,6 +24,9 @@ impl<'a> BorrowDeserializer<'a> for CborDeserializer<'a> {
 
         // Borrowed exactly where the text is definite.
         ensures borrowed { IfOk result (λ t. BorrowsText (cursor_of self.old).input (cursor_of self.old).at t (cursor_of self.new).at) }
+
+        // Only an indefinite text takes memory.
+        ensures memory { IsErrOf result SerdeError.NoMemory → BeginsIndefinite 3 (drop (cursor_of self.old).at (cursor_of self.old).input) }
     {
         self.walk.ready()?;
         let found = text_piece_at(
@@ -40,6 +44,9 @@ impl<'a> BorrowDeserializer<'a> for CborDeserializer<'a> {
 
         // Borrowed exactly where the byte string is definite.
         ensures borrowed { IfOk result (λ b. BorrowsBytes (cursor_of self.old).input (cursor_of self.old).at b (cursor_of self.new).at) }
+
+        // Only an indefinite byte string takes memory.
+        ensures memory { IsErrOf result SerdeError.NoMemory → BeginsIndefinite 2 (drop (cursor_of self.old).at (cursor_of self.old).input) }
     {
         self.walk.ready()?;
         let found = bytes_piece_at(

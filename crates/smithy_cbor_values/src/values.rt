@@ -1,7 +1,8 @@
 //! What stands at a place of an input: integers, texts, bytes, and what is skipped.
 
-ghost use Rattle.std.specs.Prelude.{◌≡◌, ◌≤◌, ℕ, ℤ, Bool, true, List, length, IfSome, IfNone, IfOk, MatchOption, MatchBool, string_bytes};
+ghost use Rattle.std.specs.Prelude.{◌≡◌, ◌≤◌, ℕ, ℤ, Bool, true, List, length, drop, IfSome, IfNone, IfOk, IfErr, MatchOption, MatchBool, string_bytes};
 ghost use Rattle.std.specs.Cow.{cow_str_bytes, cow_slice_items};
+ghost use Rattle.cbor_item.specs.Strings.{BeginsIndefinite};
 ghost use Rattle.smithy_texts.specs.Base64Text.{are_bytes};
 ghost use Rattle.smithy_cbor.specs.Scalar.{boolean_item};
 ghost use Rattle.smithy_cbor_values.specs.Standing.{Follows};
@@ -56,6 +57,7 @@ pub fn text_at<'a>(
     requires { at ≤ length input.now }
     ensures found { IfOk result (λ o. MatchOption o ((text : List ℕ) (e : ℕ) → HasTextAt text input.now at e → ⊥) (λ r. HasTextAt (cow_str_bytes r.0) input.now at r.1)) }
     ensures borrowed { IfOk result (λ o. IfSome o (λ r. BorrowsText input.now at r.0 r.1)) }
+    ensures memory { IfErr result (λ e. BeginsIndefinite 3 (drop at input.now)) }
 {
     match text_chunks(alloc, input, at) {
         Ok((text, end)) => Ok(Some((text, end))),
@@ -77,6 +79,7 @@ pub fn text_piece_at<'a>(
     ensures found { IfOk result (λ o. MatchOption o ((text : List ℕ) (e : ℕ) → HasTextAt text input.now at e → Follows depth input.now e → ⊥)
         (λ r. HasTextAt (cow_str_bytes r.0) input.now at r.1 × Follows depth input.now r.1)) }
     ensures borrowed { IfOk result (λ o. IfSome o (λ r. BorrowsText input.now at r.0 r.1)) }
+    ensures memory { IfErr result (λ e. BeginsIndefinite 3 (drop at input.now)) }
 {
     let Some((text, end)) = text_at(alloc, input, at)? else {
         return Ok(None);
@@ -137,6 +140,7 @@ pub fn bytes_piece_at<'a>(
     requires { at ≤ length input.now }
     ensures found { IfOk result (λ o. MatchOption o ((blob : List ℕ) (e : ℕ) → IsBlobAt blob input.now at depth e → ⊥) (λ r. IsBlobAt (cow_slice_items r.0) input.now at depth r.1)) }
     ensures borrowed { IfOk result (λ o. IfSome o (λ r. BorrowsBytes input.now at r.0 r.1)) }
+    ensures memory { IfErr result (λ e. BeginsIndefinite 2 (drop at input.now)) }
 {
     match byte_chunks(alloc, input, at) {
         Ok((bytes, end)) => {

@@ -7,13 +7,13 @@ use std::alloc::Global;
 use std::borrow::{CowSlice, CowStr};
 
 impl<'a> BorrowDeserializer<'a> for JsonDeserializer<'_, 'a> {
-    ghost use Rattle.std.specs.Prelude.{◌≡◌, true, IfOk};
+    ghost use Rattle.std.specs.Prelude.{◌≡◌, true, IfOk, IsErrOf};
     ghost use Rattle.std.specs.Cow.{cow_str_bytes, cow_slice_items, IsOwnedSlice};
     ghost use Rattle.smithy_declarations.specs.declared.shape_type.Scalar.TheVariants as scalars;
     ghost use Rattle.smithy_declarations.specs.Value.{text, bytes};
     ghost use Rattle.smithy_shapes.specs.Site.{site_of};
     ghost use Rattle.smithy_schema.specs.Reading.{ReadsScalar};
-    ghost use Rattle.smithy_json_values.specs.Borrowed.{BorrowsText};
+    ghost use Rattle.smithy_json_values.specs.Borrowed.{BorrowsText, LiesEscaped};
     ghost use Rattle.smithy_json_codec.specs.Cursor.{cursor_of, reading_settings_of, reader_settings_of};
     ghost use Rattle.smithy_json_values.specs.Settings.{keep_limits, without_limits};
     ghost use Rattle.smithy_json_values.specs.Standing.{json_grammar, json_relations};
@@ -25,6 +25,9 @@ impl<'a> BorrowDeserializer<'a> for JsonDeserializer<'_, 'a> {
 
         // Borrowed exactly where no backslash stands in the string.
         ensures borrowed { IfOk result (λ t. BorrowsText (json_grammar (reading_settings_of self.old)) (cursor_of self.old).input (cursor_of self.old).at t (cursor_of self.new).at) }
+
+        // Only a string with a backslash takes memory.
+        ensures memory { IsErrOf result SerdeError.NoMemory → LiesEscaped (json_grammar (reading_settings_of self.old)) (cursor_of self.old).input (cursor_of self.old).at }
     {
         self.walk.ready()?;
         let input = self.walk.input;

@@ -1,5 +1,5 @@
 -- Which texts borrow from the input.
-use Rattle.std.specs.Prelude.{◌≡◌, ◌↔◌, ℕ, List, false}
+use Rattle.std.specs.Prelude.{◌≡◌, ◌↔◌, ℕ, List, true, false}
 use Rattle.std.specs.Cow.{IsBorrowedStr}
 use Rattle.std.specs.declared.borrow.CowStr.{CowStr}
 use Rattle.smithy_declarations.specs.declared.shape_type.Scalar.TheVariants as scalars
@@ -12,3 +12,8 @@ pub record BorrowsText {A : Type 0} (g : LexicalGrammar) (input : List ℕ) (at 
   pub raw : List ℕ
   pub lies : LiesInGrammar g scalars.String (a_string raw) input at e
   pub borrowed : IsBorrowedStr text ↔ (has_escape raw ≡ false)
+
+-- a string lies there in which a backslash stands
+abbrev pub LiesEscaped : LexicalGrammar → List ℕ → ℕ → Type 0
+LiesEscaped g input at =
+    (raw : List ℕ) × (e : ℕ) × LiesInGrammar g scalars.String (a_string raw) input at e × (has_escape raw ≡ true)

@@ -1,9 +1,9 @@
 //! The texts that strings stand for, and the bytes that texts encode.
-ghost use Rattle.std.specs.Prelude.{◌≡◌, ◌↔◌, false, ◌≤◌, ℕ, List, length, IfOk, IfSome, MatchOption, option_map, option_and_then, string_bytes};
+ghost use Rattle.std.specs.Prelude.{◌≡◌, ◌↔◌, true, false, ◌≤◌, ℕ, List, length, IfOk, IfErr, IfSome, MatchOption, option_map, option_and_then, string_bytes};
 ghost use Rattle.std.specs.Cow.{cow_str_bytes, cow_slice_items, IsBorrowedStr, IsOwnedSlice};
 ghost use Rattle.smithy_texts.specs.Base64Text.{blob_of as base64_of};
 ghost use Rattle.smithy_json_grammar.specs.Unescape.{unescaped, has_escape};
-ghost use Rattle.smithy_json_values.specs.Borrowed.{BorrowsText};
+ghost use Rattle.smithy_json_values.specs.Borrowed.{BorrowsText, LiesEscaped};
 ghost use Rattle.smithy_json_values.specs.Codec.{held_grammar};
 ghost use Rattle.smithy_json_values.specs.Private.ScalarAtPlace.{TextLies, BlobLies};
 
@@ -25,6 +25,7 @@ pub fn text_of<'a>(
     requires { is_escaped ≡ has_escape raw.now }
     ensures text { IfOk result (λ text. unescaped raw.now ≡ option_map cow_str_bytes text) }
     ensures borrowed { IfOk result (λ text. IfSome text (λ text. IsBorrowedStr text ↔ (has_escape raw.now ≡ false))) }
+    ensures memory { IfErr result (λ e. has_escape raw.now ≡ true) }
 {
     if !is_escaped {
         return Ok(Some(CowStr::Borrowed(raw)));
@@ -58,26 +59,6 @@ pub fn owned_text(alloc: Global, raw: &str, is_escaped: bool) -> Result<Option<S
     Ok(Some(text.into_owned(alloc)?))
 }
 
-// The text of the string that comes first behind blanks, with its end.
-#[inline(always)]
-pub fn text_at(
-    alloc: Global,
-    input: &[u8],
-    at: usize,
-    settings: &Settings,
-) -> Result<Option<(String, usize)>, AllocError>
-    requires { at ≤ length input.now }
-    ensures { IfOk result (λ o. MatchOption o ((text : List ℕ) (e : ℕ) → TextLies (held_grammar settings.now) input.now at text e → ⊥) (λ r. TextLies (held_grammar settings.now) input.now at (string_bytes r.0) r.1)) }
-{
-    let Some(string) = string_at(input, at, settings) else {
-        return Ok(None);
-    };
-    let Some(text) = owned_text(alloc, string.text, string.has_escape)? else {
-        return Ok(None);
-    };
-    Ok(Some((text, string.closing + 1)))
-}
-
 // The text of the string that comes first behind blanks, with its end. It is borrowed where the
 // string has no escapes.
 #[inline(always)]
@@ -90,6 +71,7 @@ pub fn text_piece_at<'a>(
     requires { at ≤ length input.now }
     ensures found { IfOk result (λ o. MatchOption o ((text : List ℕ) (e : ℕ) → TextLies (held_grammar settings.now) input.now at text e → ⊥) (λ r. TextLies (held_grammar settings.now) input.now at (cow_str_bytes r.0) r.1)) }
     ensures borrowed { IfOk result (λ o. IfSome o (λ r. BorrowsText (held_grammar settings.now) input.now at r.0 r.1)) }
+    ensures memory { IfErr result (λ e. LiesEscaped (held_grammar settings.now) input.now at) }
 {
     let Some(string) = string_at(input, at, settings) else {
         return Ok(None);
@@ -98,6 +80,23 @@ pub fn text_piece_at<'a>(
         return Ok(None);
     };
     Ok(Some((text, string.closing + 1)))
+}
+
+// The text of the string that comes first behind blanks, with its end, in memory of its own.
+#[inline(always)]
+pub fn text_at(
+    alloc: Global,
+    input: &[u8],
+    at: usize,
+    settings: &Settings,
+) -> Result<Option<(String, usize)>, AllocError>
+    requires { at ≤ length input.now }
+    ensures { IfOk result (λ o. MatchOption o ((text : List ℕ) (e : ℕ) → TextLies (held_grammar settings.now) input.now at text e → ⊥) (λ r. TextLies (held_grammar settings.now) input.now at (string_bytes r.0) r.1)) }
+{
+    let Some((text, end)) = text_piece_at(alloc, input, at, settings)? else {
+        return Ok(None);
+    };
+    Ok(Some((text.into_owned(alloc)?, end)))
 }
 
 // The bytes whose base64 is the text, if it is that of some.

@@ -71,6 +71,20 @@ no_memory_told {A} true (Ok x) invalid h = cc
 no_memory_told {A} false (Err e) invalid h = let no : ◌≡◌ {A = Result A SerdeError} (Err InvalidInput) (Err NoMemory) = rw invalid at h in cc
 no_memory_told {A} true (Err e) invalid h = let no : ◌≡◌ {A = Result A SerdeError} (Err TypeMismatch) (Err NoMemory) = rw invalid at h in cc
 
+-- what is told as want of memory is one
+pub memory_told : {A : Type 0} (other : Bool) (result : Result A SerdeError) → IsErrOf (told other result) NoMemory → IsErrOf result NoMemory
+memory_told false result h = h
+memory_told true (Ok x) h = h
+memory_told true (Err InvalidInput) h = absurd (let both : Err TypeMismatch ≡ Err NoMemory = h in cc)
+memory_told true (Err _) h = h
+
+-- a read wants memory where the search for its value did
+pub memory_wanted : {A : Type 0} (old new : Cursor) (result : Result A SerdeError) (P : Type 0) (found : Result (Option (A × ℕ)) AllocError) → IfErr found (λ e. P) → Takes old new found result
+    → IsErrOf result NoMemory → P
+memory_wanted old new result P (Ok (Some r)) here taken is = absurd (let both : Ok r.0 ≡ Err NoMemory = sym taken.0 ∙ is in cc)
+memory_wanted old new result P (Ok None) here taken is = absurd (let both : Err InvalidInput ≡ Err NoMemory = sym taken.0 ∙ is in cc)
+memory_wanted old new result P (Err e) here taken is = here
+
 -- case by case
 pub told_value : {A : Type 0} (other : Bool) (x : A) → told other (Ok x) ≡ Ok x
 told_value false x = refl

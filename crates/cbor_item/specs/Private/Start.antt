@@ -1,7 +1,7 @@
 -- How a string begins: whole, or with the head before its chunks.
 use Rattle.std.specs.Prelude.{◌≡◌, ◌≤◌, ◌<◌, ◌+◌, ◌-◌, ◌⊎◌, ℕ, List, length, drop, None, Result, Ok, Err}
 use Rattle.cbor_item.specs.declared.error.ItemError.{ItemError}
-use Rattle.cbor_item.specs.declared.error.ItemError.TheVariants.{Truncated, InvalidUtf8}
+use Rattle.cbor_item.specs.declared.error.ItemError.TheVariants.{Truncated, InvalidUtf8, NoMemory}
 use Rattle.cbor_item.specs.declared.strings.Start.{Start}
 use Rattle.cbor_item.specs.declared.strings.Start.TheVariants.{Whole, Chunks}
 use Rattle.cbor_item.specs.Head.{BeginsWithHead}
@@ -19,6 +19,7 @@ IsStartAnswer major input at (Ok (Chunks body)) =
     (at < body) × (body ≤ length input)
     × BeginsWithHead (drop at input) (record { major = major; argument = None; length = body - at })
 IsStartAnswer major input at (Err InvalidUtf8) = ⊥
+IsStartAnswer major input at (Err NoMemory) = ⊥
 IsStartAnswer major input at (Err e) = IsStringFault major input at e
 
 -- so many bytes stand at the place as were announced, or the input ends before them

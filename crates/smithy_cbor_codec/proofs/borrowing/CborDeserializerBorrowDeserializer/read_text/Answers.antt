@@ -1,10 +1,11 @@
-use Rattle.std.proofs.Common.{◌≡◌, ◌≤◌, length, sym, ◌∙◌, rules}
+use Rattle.std.proofs.Common.{◌≡◌, ◌≤◌, length, drop, sym, ◌∙◌, rules}
 use Rattle.std.specs.Cow.{cow_str_bytes}
+use Rattle.cbor_item.specs.Strings.{BeginsIndefinite}
 use Rattle.smithy_shapes.specs.Site.{site_of}
 use Rattle.smithy_cbor_values.specs.Borrowed.{BorrowsText}
 use Rattle.smithy_cbor_codec.specs.Cursor.{cursor_of, reading_settings_of}
 use Rattle.smithy_cbor_values.proofs.ScalarReads.{reads_text, found_is}
-use Rattle.smithy_wire.proofs.ScalarReads.{was_ready}
+use Rattle.smithy_wire.proofs.ScalarReads.{was_ready, memory_wanted}
 use Rattle.smithy_cbor_codec.proofs.borrowing.CborDeserializerBorrowDeserializer.read_text.Goals as goal
 
 pub returns-clause-read : goal.returns-clause-read
@@ -23,3 +24,10 @@ returns-clause-borrowed c =
     let found = rw (c.end_depth.ensures, same) at c.text_piece_at-found.ensures in
     let take = rw same at c.take_found.ensures in
     found_is (cursor_of c.args.self.now) _ c.take_found.result (BorrowsText (cursor_of c.args.self.now).input (cursor_of c.args.self.now).at) c.text_piece_at-found.result found.borrowed take.taken
+
+pub returns-clause-memory : goal.returns-clause-memory
+returns-clause-memory c =
+    let same : c.ready.new.self ≡ c.args.self.now.walk = c.in_ok-ready.ensures.ok in
+    let found = rw (c.end_depth.ensures, same) at c.text_piece_at-found.ensures in
+    let take = rw same at c.take_found.ensures in
+    memory_wanted (cursor_of c.args.self.now) _ c.take_found.result (BeginsIndefinite 3 (drop (cursor_of c.args.self.now).at (cursor_of c.args.self.now).input)) c.text_piece_at-found.result found.memory take.taken
