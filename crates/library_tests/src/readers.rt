@@ -1,9 +1,10 @@
-//! What a reader that has failed answers.
+//! What a reader that has failed answers, and what is left of one that is gone.
 
 use smithy_cbor_codec::CborCodec;
 use smithy_json_codec::JsonCodec;
-use smithy_schema::{SerdeError, ShapeDeserializer, Shapes, TableText};
+use smithy_schema::{BorrowDeserializer, SerdeError, ShapeDeserializer, Shapes, TableText};
 use smithy_transcode::read_value;
+use std::borrow::CowStr;
 use std::test::Fail;
 
 const TABLE: &[u8] = b"structure S\nmember a long\n";
@@ -25,5 +26,21 @@ fn a_reader_that_has_failed_answers_so(rt: HostRuntime) -> Result<(), Fail> {
     cbor.fail();
     let answer = read_value(rt.alloc(), &mut cbor, &schema);
     assert!(rt; matches!(answer, Err(SerdeError::Failed)), "CBOR");
+    Ok(())
+}
+
+#[test]
+fn a_text_outlives_its_codec(rt: HostRuntime) -> Result<(), Fail> {
+    let table = TableText::read(rt.alloc(), b"list L string\n")?;
+    let shapes = Shapes::build(rt.alloc(), table)?;
+    let list = shapes.find("L").ok_or("no such shape")?;
+    let schema = shapes.schema(list).member().ok_or("no element")?;
+    let text = {
+        let codec = JsonCodec::strict(false);
+        let mut reader = codec.create_deserializer(rt.alloc(), b"\"hi\"");
+        reader.read_text(&schema)?
+    };
+    assert!(rt; matches!(text, CowStr::Borrowed(_)), "borrowed");
+    assert!(rt; text.as_str() == "hi", "the text");
     Ok(())
 }

@@ -44,7 +44,7 @@ abbrev pub count_of_waiting : List Bool → ℕ
 count_of_waiting [] = 0
 count_of_waiting (d ∷ done) = (if d then 0 else 1) + count_of_waiting done
 
--- Shapes whose mixins were taken in one after the other, each of which was added to those in the order.
+-- Shapes whose mixins were taken in one after the other; the order grew by no more than there were of these.
 pub record TakesInMore (old : List Shape) (before : List Bool) (order : List ℕ) (new : List Shape) (behind : List Bool) (new_order : List ℕ) : Type 0 where
   pub mixed : TakesIn old new before behind
   pub uses : uses_of new ≡ uses_of old

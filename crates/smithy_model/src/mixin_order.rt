@@ -113,7 +113,8 @@ fn take_in_users<'a>(
     Ok(())
 }
 
-/// Takes in the mixins of shapes, of each behind those of its mixins. Where none is in a circle, that is of all shapes.
+/// Takes in the mixins of shapes, of each behind those of its mixins. Where none is in a circle and each mixin is there, these are meant
+/// to be all shapes; `take_in_all` shows it.
 pub(crate) fn take_in_order<'a>(
     alloc: Global,
     shapes: &mut Vec<Shape<'a>>,

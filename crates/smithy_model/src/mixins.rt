@@ -299,8 +299,8 @@ fn take_in_some<'a>(
     Ok(found)
 }
 
-// Takes in mixins until no shape is left whose mixins are done. Behind `take_in_order` the first turn is the last; that it finds none says
-// that those which are left wait for one another.
+// Takes in mixins until no shape is left whose mixins are done. Behind `take_in_order` the first turn is meant to be the last; that it finds
+// none says that those which are left wait for one another.
 fn take_in_all<'a>(
     alloc: Global,
     shapes: &mut Vec<Shape<'a>>,

@@ -53,7 +53,8 @@ is_flat_shape m member s _ = false
 abbrev pub is_flat : Model → Member → Bool
 is_flat m member = option_map_or (λ (s : Shape). is_flat_shape m member s s.kind) (target_of m member) false
 
--- the elements of this list name the entries of the member: in a service-2.json, where the list or the member is flattened
+-- the elements of this list name the entries of the member: in a service-2.json, where the list or the member is flattened (a shape of a
+-- Smithy model is never flattened itself)
 abbrev pub has_element_name : Model → Member → Shape → Bool
 has_element_name m member s = s.is_flattened || m.is_service_json && member.is_flattened
 

@@ -1,4 +1,5 @@
--- What `read_body` promises, for every table, root, wire and input, and `read_body_as` for every kind of tree too.
+-- What `read_body` promises, for every table, root, wire and input, and `read_body_as` for every kind of tree
+-- whose texts and bytes are in memory of their own.
 use Rattle.std.specs.Prelude.{◌≡◌, ◌≢◌, ℕ, List, Result, Ok, Err, IfOk, IfErr}
 use Rattle.smithy_declarations.specs.Table.{Table, shape_place}
 use Rattle.smithy_declarations.specs.Value.{Value}
