@@ -15,6 +15,8 @@ pub mod PassedEntryLemmas
 pub mod ReaderLemmas
 pub mod SkippedValues
 pub mod DeserializerLemmas
+pub mod MapAnswers
+pub mod SpanLemmas
 pub mod MemberStepLemmas
 pub mod PrefixLemmas
 pub mod DocumentReads

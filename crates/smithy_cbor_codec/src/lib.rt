@@ -9,6 +9,7 @@ mod frames;
 mod member_steps;
 mod members;
 mod serializer;
+mod spans;
 
 pub use codec::CborCodec;
 pub use deserializer::CborDeserializer;

@@ -1,9 +1,10 @@
 //! Which entry of a map comes next: in a structure or a union behind those that are passed over.
 
-ghost use Rattle.std.specs.Prelude.{◌≡◌, ◌≤◌, length, IfOk, MatchOption};
+ghost use Rattle.std.specs.Prelude.{◌≡◌, ◌≤◌, length, IfOk, IfSome, MatchOption};
 ghost use Rattle.smithy_shapes.specs.Site.{site_of, kind_at};
 ghost use Rattle.smithy_cbor_codec.specs.Private.MemberSteps.{StepsTo};
 ghost use Rattle.smithy_cbor_codec.specs.Private.PassedEntries.{is_mark, passes_null, IsPairOrEnd, PairMissing, IsEntry, IsNext, EntryMissing, NothingComes};
+ghost use Rattle.smithy_cbor_codec.specs.Private.Spans.{BorrowsKey};
 
 use smithy_cbor_values::places::{EntryOrEnd, entry_or_end, null_end};
 use smithy_cbor_values::values::{skipped_end, text_at};
@@ -58,7 +59,8 @@ pub(crate) fn next_in_map<'a>(
     due: Option<u64>,
 ) -> Result<Option<Next<'a>>, AllocError>
     requires { at ≤ length input.now }
-    ensures { IfOk result (λ o. MatchOption o (PairMissing input.now at due) (IsPairOrEnd input.now at due)) }
+    ensures found { IfOk result (λ o. MatchOption o (PairMissing input.now at due) (IsPairOrEnd input.now at due)) }
+    ensures borrowed { IfOk result (λ o. IfSome o (BorrowsKey input.now at)) }
 {
     match entry_or_end(input, at, due) {
         Some(EntryOrEnd::Entry(after)) => {

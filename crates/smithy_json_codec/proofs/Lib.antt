@@ -10,6 +10,7 @@ pub mod ReaderLemmas
 pub mod SkippedValues
 pub mod MapEnds
 pub mod DeserializerLemmas
+pub mod KeyLemmas
 pub mod MemberStepLemmas
 pub mod PassedEntryLemmas
 pub mod WritingLemmas

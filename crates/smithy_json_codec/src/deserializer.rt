@@ -8,12 +8,10 @@ use smithy_json_values::instants::instant_at;
 use smithy_json_values::integers::integer_at;
 use smithy_json_values::mismatch::{no_object, told};
 use smithy_json_values::numbers::{big_decimal_at, big_integer_at};
-use smithy_json_values::places::{
-    InList, InObject, byte_end, is_over, next_in_list, next_in_object, null_end,
-};
+use smithy_json_values::places::{InList, byte_end, is_over, next_in_list, null_end};
 use smithy_json_values::settings::Settings;
 use smithy_json_values::skip::skipped_end;
-use smithy_json_values::texts::{blob_at, owned_text, text_at};
+use smithy_json_values::texts::{blob_at, text_at};
 use smithy_json_values::values::{begins_null, boolean_at};
 use smithy_schema::{Scalar, Schema, SerdeError, ShapeDeserializer, Step};
 use smithy_types::{BigDecimal, BigInteger, Blob, DateTime, Document};
@@ -180,38 +178,9 @@ impl ShapeDeserializer for JsonDeserializer<'_, '_> {
         }
     }
 
+    #[inline(always)]
     fn next_key(&mut self) -> Result<Option<String>, SerdeError> {
-        if self.walk.failed {
-            return Err(self.walk.refuse(SerdeError::Failed));
-        }
-        if self.walk.due {
-            return Err(self.walk.refuse(SerdeError::InvalidInput));
-        }
-        match next_in_object(
-            self.walk.input,
-            self.walk.position,
-            self.walk.inner.mark.entered,
-            self.walk.depth(),
-            &self.settings,
-        ) {
-            Some(InObject::Member(name)) => match owned_text(
-                self.alloc,
-                name.raw,
-                name.has_escape,
-            ) {
-                Ok(Some(key)) => {
-                    self.walk.go_on(name.end, frame(ContainerKind::Map, true));
-                    Ok(Some(key))
-                }
-                Ok(None) => Err(self.walk.refuse(SerdeError::InvalidInput)),
-                Err(_) => Err(self.walk.refuse(SerdeError::NoMemory)),
-            },
-            Some(InObject::End(end)) => {
-                self.walk.leave(end);
-                Ok(None)
-            }
-            None => Err(self.walk.refuse(SerdeError::InvalidInput)),
-        }
+        self.next_key_as()
     }
 
     fn is_null(&self) -> bool {

@@ -7,12 +7,14 @@ mod codec;
 mod deserializer;
 mod frames;
 mod input;
+mod keys;
 mod member_steps;
 mod members;
 mod named_documents;
 mod named_reads;
 mod output;
 mod serializer;
+mod spans;
 
 pub use codec::JsonCodec;
 pub use deserializer::JsonDeserializer;

@@ -11,6 +11,7 @@ pub mod LiteralPlaces
 pub mod StringsOf
 pub mod OptionLemmas
 pub mod TextLemmas
+pub mod PlacedTextLemmas
 pub mod NextInContainerLemmas
 pub mod ValueFirstByte
 pub mod NodeFirstBytes

@@ -23,6 +23,7 @@ pub mod NodeDepths
 pub mod DocumentNodes
 pub mod TokenLaws
 -- for the clauses of private functions
+pub mod PlacedTexts
 pub mod NextInContainer
 pub mod ScalarAtPlace
 pub mod IntegerRules

@@ -11,6 +11,7 @@ ghost use Rattle.smithy_json_values.specs.Spans.{Lies, IsByte, without_ws};
 ghost use Rattle.smithy_json_values.specs.Tokens.{BoundaryBy, IsOverBy, EndsInside, IsNameToken};
 ghost use Rattle.smithy_json_values.specs.TypeMismatch.{begins_by};
 ghost use Rattle.smithy_json_values.specs.Private.NextInContainer.{IsFirstByte, IsNotFirst, GoesOnInList, GoesOnToName, GoesOnInObject};
+ghost use Rattle.smithy_json_values.specs.Private.PlacedTexts.{StandsFrom};
 
 use crate::settings::Settings;
 use crate::values::{begins_with_null, may_follow, string_of};
@@ -21,6 +22,8 @@ use smithy_json_grammar::scan::skip_blanks;
 pub struct Name<'a> {
     /// What stands between the quotation marks.
     pub raw: &'a str,
+    /// The offset at which that begins.
+    pub at: usize,
     /// Whether the name holds a backslash.
     pub has_escape: bool,
     /// The offset behind the colon.
@@ -177,13 +180,16 @@ fn name_at<'a>(input: &'a [u8], at: usize, settings: &Settings) -> Option<Name<'
     requires { at ≤ length input.now }
     ensures found { IfSome result (λ name. Lies (IsNameToken name.raw.now) input.now at name.end) }
     ensures valid { IfSome result (λ name. (held_grammar settings.now).is_text name.raw.now ≡ true) }
+    ensures stands { IfSome result (λ name. StandsFrom input.now name.at name.raw.now) }
     ensures has_escape { IfSome result (λ name. name.has_escape ≡ has_escape name.raw.now) }
     ensures none { IfNone result ((raw : List ℕ) (e : ℕ) → Lies (IsNameToken raw) input.now at e → (held_grammar settings.now).is_text raw ≡ true → ⊥) }
 {
-    let name = string_of(input, skip_blanks(input, at), settings)?;
+    let start = skip_blanks(input, at);
+    let name = string_of(input, start, settings)?;
     let end = byte_end(input, name.closing + 1, b':')?;
     Some(Name {
         raw: name.text,
+        at: start + 1,
         has_escape: name.has_escape,
         end,
     })

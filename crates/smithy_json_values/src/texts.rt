@@ -1,15 +1,18 @@
 //! The texts that strings stand for, and the bytes that texts encode.
 ghost use Rattle.std.specs.Prelude.{◌≡◌, ◌↔◌, true, false, ◌≤◌, ℕ, List, length, IfOk, IfErr, IfSome, MatchOption, option_map, option_and_then, string_bytes};
 ghost use Rattle.std.specs.Cow.{cow_str_bytes, cow_slice_items, IsBorrowedStr, IsOwnedSlice};
+ghost use Rattle.smithy_schema.specs.Spans.{text_bytes, span_bytes, IsTextPlaced, IsPlaced};
 ghost use Rattle.smithy_texts.specs.Base64Text.{blob_of as base64_of};
 ghost use Rattle.smithy_json_grammar.specs.Unescape.{unescaped, has_escape};
 ghost use Rattle.smithy_json_values.specs.Borrowed.{BorrowsText, LiesEscaped};
 ghost use Rattle.smithy_json_values.specs.Codec.{held_grammar};
+ghost use Rattle.smithy_json_values.specs.Private.PlacedTexts.{IsMeantFrom};
 ghost use Rattle.smithy_json_values.specs.Private.ScalarAtPlace.{TextLies, BlobLies};
 
 use crate::settings::Settings;
 use crate::values::string_at;
 use smithy_json_grammar::{EscapeError, EscapedStr};
+use smithy_schema::{BytesSpan, TextSpan};
 use smithy_types::Blob;
 use smithy_types::base64::{DecodeError, decode};
 use std::alloc::{AllocError, Global};
@@ -99,6 +102,49 @@ pub fn text_at(
     Ok(Some((text.into_owned(alloc)?, end)))
 }
 
+// The text of a raw string that begins at the place, if its escapes are sound. Where it has none, it is named by the place.
+#[inline(always)]
+pub fn span_of(
+    alloc: Global,
+    raw: &str,
+    at: usize,
+    is_escaped: bool,
+) -> Result<Option<TextSpan>, AllocError>
+    requires { is_escaped ≡ has_escape raw.now }
+    ensures { IfOk result (IsMeantFrom text_bytes IsTextPlaced at raw.now) }
+{
+    if !is_escaped {
+        return Ok(Some(TextSpan::Placed(at, raw.len())));
+    }
+    let Some(text) = owned_text(alloc, raw, true)? else {
+        return Ok(None);
+    };
+    Ok(Some(TextSpan::Owned(text)))
+}
+
+// The text of the string that comes first behind blanks, with its end. It is named by its place where
+// the string has no escapes.
+#[inline(always)]
+pub fn text_span_at(
+    alloc: Global,
+    input: &[u8],
+    at: usize,
+    settings: &Settings,
+) -> Result<Option<(TextSpan, usize)>, AllocError>
+    requires { at ≤ length input.now }
+    ensures found { IfOk result (λ o. MatchOption o ((text : List ℕ) (e : ℕ) → TextLies (held_grammar settings.now) input.now at text e → ⊥) (λ r. TextLies (held_grammar settings.now) input.now at (text_bytes input.now r.0) r.1)) }
+    ensures placed { IfOk result (λ o. IfSome o (λ r. IsTextPlaced input.now r.0)) }
+{
+    let Some(string) = string_at(input, at, settings) else {
+        return Ok(None);
+    };
+    let begin = string.closing - string.text.len();
+    let Some(text) = span_of(alloc, string.text, begin, string.has_escape)? else {
+        return Ok(None);
+    };
+    Ok(Some((text, string.closing + 1)))
+}
+
 // The bytes whose base64 is the text, if it is that of some.
 fn decoded(alloc: Global, text: &str) -> Result<Option<Blob>, AllocError>
     ensures { IfOk result (λ blob. base64_of text.now ≡ blob) }
@@ -156,4 +202,22 @@ pub fn bytes_piece_at<'a>(
         return Ok(None);
     };
     Ok(Some((CowSlice::Owned(blob.into_inner()), end)))
+}
+
+// The bytes that the string encodes which comes first behind blanks, with its end. They stand
+// nowhere in the input, as the string holds them as base64.
+pub fn bytes_span_at(
+    alloc: Global,
+    input: &[u8],
+    at: usize,
+    settings: &Settings,
+) -> Result<Option<(BytesSpan, usize)>, AllocError>
+    requires { at ≤ length input.now }
+    ensures found { IfOk result (λ o. MatchOption o ((blob : List ℕ) (e : ℕ) → BlobLies (held_grammar settings.now) input.now at blob e → ⊥) (λ r. BlobLies (held_grammar settings.now) input.now at (span_bytes input.now r.0) r.1)) }
+    ensures placed { IfOk result (λ o. IfSome o (λ r. IsPlaced input.now r.0)) }
+{
+    let Some((blob, end)) = blob_at(alloc, input, at, settings)? else {
+        return Ok(None);
+    };
+    Ok(Some((BytesSpan::Owned(blob), end)))
 }

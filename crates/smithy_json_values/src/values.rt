@@ -1,6 +1,6 @@
 //! Where strings, nulls and booleans lie in an input, and where a value may end.
 
-ghost use Rattle.std.specs.Prelude.{◌≡◌, ◌≤◌, ◌+◌, ◌↔◌, ℕ, List, Bool, true, length, drop, slice_range, IsTrue, IfSome, IfNone};
+ghost use Rattle.std.specs.Prelude.{◌≡◌, ◌≤◌, ◌+◌, ◌-◌, ◌↔◌, ℕ, List, Bool, true, length, drop, slice_range, IsTrue, IfSome, IfNone};
 ghost use Rattle.smithy_declarations.specs.declared.shape_type.Scalar.TheVariants as scalars;
 ghost use Rattle.smithy_json_grammar.specs.Standing.{IsStringAt, IsQuotedAt};
 ghost use Rattle.smithy_json_grammar.specs.Unescape.{has_escape};
@@ -9,6 +9,7 @@ ghost use Rattle.smithy_json_values.specs.LexicalGrammar.{LiesInGrammar, frames_
 ghost use Rattle.smithy_json_values.specs.Scalar.{a_boolean, a_string};
 ghost use Rattle.smithy_json_values.specs.Spans.{begins_with_null, begins_with_alphanumeric, without_ws};
 ghost use Rattle.smithy_json_values.specs.Tokens.{BoundaryBy};
+ghost use Rattle.smithy_json_values.specs.Private.PlacedTexts.{StandsFrom};
 
 use crate::mismatch::{begins_with_false, begins_with_true};
 use crate::settings::Settings;
@@ -76,6 +77,8 @@ pub fn string_of<'a>(
 pub fn string_at<'a>(input: &'a [u8], at: usize, settings: &Settings) -> Option<ScannedString<'a>>
     requires { at ≤ length input.now }
     ensures found { IfSome result (λ s. LiesInGrammar (held_grammar settings.now) scalars.String (a_string s.text.now) input.now at (s.closing + 1)) }
+    ensures begins { IfSome result (λ s. length s.text.now ≤ s.closing) }
+    ensures stands { IfSome result (λ s. StandsFrom input.now (s.closing - length s.text.now) s.text.now) }
     ensures has_escape { IfSome result (λ s. s.has_escape ≡ has_escape s.text.now) }
     ensures none { IfNone result ((raw : List ℕ) (e : ℕ) → LiesInGrammar (held_grammar settings.now) scalars.String (a_string raw) input.now at e → ⊥) }
 {

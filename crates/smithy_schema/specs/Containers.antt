@@ -1,11 +1,13 @@
--- What a call of a reader answers that opens a container, or goes on in a structure.
-use Rattle.std.specs.Prelude.{◌≡◌, ℕ, Result, IfOk, IfErr, OnOk, IsErrOf, true, false}
+-- What a call of a reader answers that opens a container, or goes on in a structure or in a map.
+use Rattle.std.specs.Prelude.{◌≡◌, ℕ, List, Option, Some, MatchOption, Result, IfOk, IfErr, OnOk, IsErrOf, true, false}
+use Rattle.smithy_declarations.specs.declared.place.Place.{Place}
+use Rattle.smithy_declarations.specs.Table.{Table, kind_of, IsMap}
 use Rattle.smithy_shapes.specs.Site.{Site}
 use Rattle.smithy_schema.specs.declared.error.SerdeError.{SerdeError}
 use Rattle.smithy_schema.specs.declared.error.SerdeError.TheVariants.{TooDeep}
 use Rattle.smithy_schema.specs.declared.step.Step.{Step}
 use Rattle.smithy_schema.specs.Errors.{RefusesNoScalar, RefusesNoKind, IsRefused, IsInvalid, IsNoAnswer, TellsType}
-use Rattle.smithy_schema.specs.Reading.{Cursor, depth, Relations, ContainerKind, Conducts, Enters, OpensNot, MatchStep, CannotGoOn, ReachesDepth, passed_to}
+use Rattle.smithy_schema.specs.Reading.{Cursor, depth, Relations, ContainerKind, Conducts, Enters, OpensNot, MatchStep, Steps, Leaves, CannotGoOn, ReachesDepth, passed_to}
 
 -- What a call says of its answer that enters the container that is due: by the relations w, and by u, those with the limits lifted.
 pub record Opens (w u : Relations) (tells_without_limits : Type 0) (max : ℕ) (old new : Cursor) (site : Site) (within : ContainerKind) (result : Result (Unit {0}) SerdeError) : Type 0 where
@@ -34,3 +36,15 @@ pub record GoesOnInStructure (w u : Relations) (tells_without_limits : Type 0) (
   pub unread_would : tells_without_limits → IsInvalid result → old.due ≡ true → (e : ℕ) → u.skips old.input (depth old) old.at e → CannotGoOn u (passed_to old e) site.table site.place
   pub deep : IsErrOf result TooDeep → ReachesDepth w max old
   pub limited : IsErrOf result TooDeep → w.limits_skips ≡ true
+
+-- What a call says of its answer that goes on in a map, whose next key has these bytes: by the relations w, and by u, those with the
+-- limits lifted.
+pub record GoesOnInMap {K : Type 0} (w u : Relations) (tells_without_limits : Type 0) (bytes : K → List ℕ) (old new : Cursor) (result : Result (Option K) SerdeError) : Type 0 where
+  pub conduct : Conducts old new result
+  pub narrow : RefusesNoKind result
+  pub shallow : IsErrOf result TooDeep → ⊥
+  pub unread : old.due ≡ true → IsNoAnswer result
+  pub ok : old.due ≡ false → (t : Table) (p : Place) → IsMap (kind_of t p)
+      → IfOk result (λ next. MatchOption next (Leaves w old new t p) (λ key. Steps w old new t p (Some (bytes key))))
+  pub refused : IsRefused result → old.due ≡ false → (t : Table) (p : Place) → IsMap (kind_of t p) → CannotGoOn w old t p
+  pub none_without_limits : tells_without_limits → IsInvalid result → old.due ≡ false → (t : Table) (p : Place) → IsMap (kind_of t p) → CannotGoOn u old t p

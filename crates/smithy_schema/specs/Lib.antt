@@ -9,3 +9,4 @@ pub mod Fields
 pub mod Writing
 pub mod Written
 pub mod Typed
+pub mod Spans

@@ -9,6 +9,7 @@ mod error;
 mod fields;
 mod read;
 mod sizes;
+mod spans;
 mod step;
 mod text_maps;
 mod write;
@@ -29,6 +30,7 @@ pub use smithy_shapes::{
     Decl, MemberDecl, Members, Place, Scalar, Schema, ShapeId, ShapeRef, ShapeType, Shapes,
     TableFault, TableText, Target, TimestampFormat,
 };
+pub use spans::{BytesSpan, SpanDeserializer, TextSpan};
 pub use step::Step;
 pub use text_maps::TextEntries;
 pub use write::{FinishSerializer, ShapeSerializer};

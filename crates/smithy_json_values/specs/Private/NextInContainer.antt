@@ -11,6 +11,7 @@ use Rattle.smithy_json_values.specs.declared.places.Name.{Name}
 use Rattle.smithy_json_values.specs.Spans.{Lies, IsByte, IsSeparated}
 use Rattle.smithy_json_values.specs.Tokens.{BoundaryBy, EndsInside, NameTokens}
 use Rattle.smithy_json_values.specs.LexicalGrammar.{LexicalGrammar}
+use Rattle.smithy_json_values.specs.Private.PlacedTexts.{StandsFrom}
 
 -- at `start` stands the first byte from `at` on that is no white space
 pub record IsFirstByte (input : List ℕ) (at byte start : ℕ) : Type 0 where
@@ -54,9 +55,10 @@ GoesOnToName g input at entered depth None =
 abbrev pub NamesIn : LexicalGrammar → Bool → List ℕ → ℕ → List ℕ → ℕ → Type 0
 NamesIn g entered input at raw c = NameTokens entered input at raw c × (g.is_text raw ≡ true)
 
--- a member's name stands there, whether it holds an escape or not
+-- a member's name stands there, from its own place on, whether it holds an escape or not
 pub record NameStands (g : LexicalGrammar) (input : List ℕ) (at : ℕ) (entered : Bool) (name : Name) : Type 0 where
   pub names : NamesIn g entered input at name.raw.now name.end
+  pub stands : StandsFrom input name.at name.raw.now
   pub has_escape : name.has_escape ≡ has_escape name.raw.now
 
 -- how an object goes on, exactly

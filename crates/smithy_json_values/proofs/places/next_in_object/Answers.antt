@@ -19,5 +19,6 @@ returns-in_ok-name-in-Element c =
     let due = rw c.in-Element.is at c.in_ok-place.ensures in
     record {
       names = ((c.in-Element.place, due.0, c.in_ok-name-in-Element.ensures.found), c.in_ok-name-in-Element.ensures.valid);
+      stands = c.in_ok-name-in-Element.ensures.stands;
       has_escape = c.in_ok-name-in-Element.ensures.has_escape;
     }

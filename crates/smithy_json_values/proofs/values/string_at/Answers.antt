@@ -4,6 +4,7 @@ use Rattle.smithy_json_values.specs.LexicalGrammar.{frames_of}
 use Rattle.smithy_json_values.specs.Scalar.{a_string}
 use Rattle.smithy_json_values.proofs.OptionLemmas.{some_where, none_where}
 use Rattle.smithy_json_values.proofs.ScannedStrings.{string_lies, token_stands, boundary_there}
+use Rattle.smithy_json_values.proofs.PlacedTextLemmas.{begins_within, stands_before_mark}
 use Rattle.smithy_json_values.proofs.values.string_at.Goals as goal
 
 pub returns-in_err-string-clause-none : goal.returns-in_err-string-clause-none
@@ -22,6 +23,18 @@ returns-clause-found c =
           (string_lies i c.args.at c.skip_blanks.result c.skip_blanks.ensures closing c.in_ok-string.ensures.found strict (c.may_follow.ensures.0 holds)),
       c.in_ok-string.ensures.valid,
     )))
+
+pub returns-clause-begins : goal.returns-clause-begins
+returns-clause-begins c =
+    let string = c.in_ok-string.string in
+    rw c.then_some.ensures (some_where c.may_follow.result string _ (λ holds.
+    begins_within c.args.input.now string.text.now c.skip_blanks.result string.closing c.in_ok-string.ensures.found c.in_ok-string.ensures.text))
+
+pub returns-clause-stands : goal.returns-clause-stands
+returns-clause-stands c =
+    let string = c.in_ok-string.string in
+    rw c.then_some.ensures (some_where c.may_follow.result string _ (λ holds.
+    stands_before_mark c.args.input.now string.text.now c.skip_blanks.result string.closing c.in_ok-string.ensures.found c.in_ok-string.ensures.text))
 
 pub returns-clause-none : goal.returns-clause-none
 returns-clause-none c =

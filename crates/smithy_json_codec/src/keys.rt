@@ -1,0 +1,114 @@
+//! The keys of maps, in the forms in which calls hand them out.
+ghost use Rattle.std.specs.Prelude.{◌≡◌, ℕ, List, true, IfOk, MatchOption};
+ghost use Rattle.smithy_schema.specs.Containers.{GoesOnInMap};
+ghost use Rattle.smithy_schema.specs.Reading.{in_map};
+ghost use Rattle.smithy_json_grammar.specs.Unescape.{has_escape};
+ghost use Rattle.smithy_json_values.specs.Private.PlacedTexts.{IsMeantFrom};
+
+use crate::deserializer::JsonDeserializer;
+use crate::frames::frame;
+use smithy_json_values::places::{InObject, next_in_object};
+use smithy_json_values::texts::{owned_text, span_of};
+use smithy_schema::{SerdeError, TextSpan};
+use smithy_wire::ContainerKind;
+use std::alloc::{AllocError, Global};
+
+// What a call hands out for a key.
+pub(crate) trait Key: Drop + Sized {
+    // The bytes of the key, which may stand in the input.
+    ghost bytes_in: { List ℕ → Self → List ℕ };
+
+    // Where it names a place of the input, a text stands there.
+    ghost is_placed: { List ℕ → Self → Type 0 };
+
+    // The key of a raw name that begins at the place, if its escapes are sound.
+    fn of_name(
+        alloc: Global,
+        raw: &str,
+        at: usize,
+        is_escaped: bool,
+    ) -> Result<Option<Self>, AllocError>
+        requires { is_escaped ≡ has_escape raw.now }
+        ensures { IfOk result (IsMeantFrom Self.bytes_in Self.is_placed at raw.now) };
+}
+
+impl Key for String {
+    ghost use Rattle.std.specs.Prelude.{string_bytes};
+
+    ghost bytes_in = { λ input s. string_bytes s };
+
+    ghost is_placed = { λ input s. Unit {0} };
+
+    #[inline(always)]
+    fn of_name(
+        alloc: Global,
+        raw: &str,
+        _at: usize,
+        is_escaped: bool,
+    ) -> Result<Option<String>, AllocError> {
+        owned_text(alloc, raw, is_escaped)
+    }
+}
+
+impl Key for TextSpan {
+    ghost use Rattle.smithy_schema.specs.Spans.{text_bytes, IsTextPlaced};
+
+    ghost bytes_in = { text_bytes };
+
+    ghost is_placed = { IsTextPlaced };
+
+    #[inline(always)]
+    fn of_name(
+        alloc: Global,
+        raw: &str,
+        at: usize,
+        is_escaped: bool,
+    ) -> Result<Option<TextSpan>, AllocError> {
+        span_of(alloc, raw, at, is_escaped)
+    }
+}
+
+impl JsonDeserializer<'_, '_> {
+    ghost use Rattle.smithy_json_codec.specs.Cursor.{cursor_of, reading_settings_of, reader_settings_of};
+    ghost use Rattle.smithy_json_values.specs.Settings.{without_limits};
+    ghost use Rattle.smithy_json_values.specs.Standing.{json_relations};
+
+    // Goes on in the map, to its next key or behind its end.
+    #[inline(always)]
+    pub(crate) fn next_key_as<K: Key>(&mut self) -> Result<Option<K>, SerdeError>
+        requires within { (cursor_of self.old).inner.within ≡ in_map }
+        ensures same { reader_settings_of self.new ≡ reader_settings_of self.old }
+        ensures goes_on { GoesOnInMap (json_relations (reading_settings_of self.old)) (json_relations (without_limits (reading_settings_of self.old))) ((reading_settings_of self.old).enforce_strictness ≡ true) (K.bytes_in (cursor_of self.old).input) (cursor_of self.old) (cursor_of self.new) result }
+        ensures placed { IfOk result (λ next. MatchOption next (Unit {0}) (K.is_placed (cursor_of self.old).input)) }
+    {
+        if self.walk.failed {
+            return Err(self.walk.refuse(SerdeError::Failed));
+        }
+        if self.walk.due {
+            return Err(self.walk.refuse(SerdeError::InvalidInput));
+        }
+        match next_in_object(
+            self.walk.input,
+            self.walk.position,
+            self.walk.inner.mark.entered,
+            self.walk.depth(),
+            &self.settings,
+        ) {
+            Some(InObject::Member(name)) => {
+                match K::of_name(self.alloc, name.raw, name.at, name.has_escape) {
+                    Ok(Some(key)) => {
+                        self.walk.go_on(name.end, frame(ContainerKind::Map, true));
+                        Ok(Some(key))
+                    }
+                    Ok(None) => Err(self.walk.refuse(SerdeError::InvalidInput)),
+                    Err(_) => Err(self.walk.refuse(SerdeError::NoMemory)),
+                }
+            }
+            Some(InObject::End(end)) => {
+                self.walk.leave(end);
+                Ok(None)
+            }
+            None => Err(self.walk.refuse(SerdeError::InvalidInput)),
+        }
+    }
+}
