@@ -9,6 +9,7 @@ pub mod Unescape
 pub mod StringText
 pub mod Stops
 pub mod Standing
+pub mod FoundString
 -- what contracts see of a type
 pub mod EscapedText
 pub mod NumberText

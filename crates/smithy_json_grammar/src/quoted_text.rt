@@ -1,9 +1,10 @@
 //! Strings of which less is asked than of those of RFC 8259, section 7.
 
-ghost use Rattle.std.specs.Prelude.{◌≡◌, ◌<◌, ◌≤◌, ◌+◌, ℕ, length, slice_range, IfSome, IfNone, nat_le, true, false};
+ghost use Rattle.std.specs.Prelude.{◌≡◌, ◌<◌, ◌≤◌, ◌+◌, ℕ, length, slice_range, IfSome, IfNone, nat_le};
 ghost use Rattle.std.specs.List.{list_all};
 ghost use Rattle.smithy_json_grammar.specs.Ascii.{space};
 ghost use Rattle.smithy_json_grammar.specs.Standing.{IsQuotedAt};
+ghost use Rattle.smithy_json_grammar.specs.FoundString.{FindsString};
 ghost use Rattle.smithy_json_grammar.specs.StringText.{is_escape, escapes_are_valid, is_plain_text, is_lenient_text};
 ghost use Rattle.smithy_json_grammar.specs.Unescape.{has_escape};
 ghost use Rattle.smithy_json_grammar.specs.Private.Chars.{quoted_from};
@@ -108,11 +109,7 @@ fn has_escape(bytes: &[u8]) -> bool
 #[inline(never)]
 fn scan_with_controls<'a>(input: &'a [u8], at: usize) -> Option<ScannedString<'a>>
     requires { at ≤ length input.now }
-    ensures found { IfSome result (λ s. IsQuotedAt input.now at s.closing) }
-    ensures text { IfSome result (λ s. s.text.now ≡ slice_range input.now (at + 1) s.closing) }
-    ensures valid { IfSome result (λ s. is_lenient_text s.text.now ≡ true) }
-    ensures has_escape { IfSome result (λ s. s.has_escape ≡ has_escape s.text.now) }
-    ensures none { IfNone result ((closing : ℕ) → IsQuotedAt input.now at closing → is_lenient_text (slice_range input.now (at + 1) closing) ≡ false) }
+    ensures { FindsString is_lenient_text input.now at result }
 {
     let quoted = scan_quoted(input, at)?;
     let Ok(text) = str::from_utf8(quoted.bytes) else {
@@ -132,11 +129,7 @@ fn scan_with_controls<'a>(input: &'a [u8], at: usize) -> Option<ScannedString<'a
 #[inline(always)]
 pub fn scan_lenient_string<'a>(input: &'a [u8], at: usize) -> Option<ScannedString<'a>>
     requires { at ≤ length input.now }
-    ensures found { IfSome result (λ s. IsQuotedAt input.now at s.closing) }
-    ensures text { IfSome result (λ s. s.text.now ≡ slice_range input.now (at + 1) s.closing) }
-    ensures valid { IfSome result (λ s. is_lenient_text s.text.now ≡ true) }
-    ensures has_escape { IfSome result (λ s. s.has_escape ≡ has_escape s.text.now) }
-    ensures none { IfNone result ((closing : ℕ) → IsQuotedAt input.now at closing → is_lenient_text (slice_range input.now (at + 1) closing) ≡ false) }
+    ensures { FindsString is_lenient_text input.now at result }
 {
     match scan_string(input, at) {
         Some(string) => Some(string),

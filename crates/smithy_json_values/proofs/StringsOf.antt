@@ -1,8 +1,9 @@
 -- The strings that scanners find, and those of the grammars of settings.
-use Rattle.std.proofs.Common.{◌≡◌, ◌+◌, ℕ, List, slice_range, Bool, true, false, Option, Some, None, refl, sym, ◌∙◌}
-use Rattle.std.specs.Prelude.{◌&&◌, IfSome, IfNone}
+use Rattle.std.proofs.Common.{◌≡◌, ◌+◌, ℕ, List, slice_range, Bool, true, false, Option, refl}
+use Rattle.std.specs.Prelude.{◌&&◌}
 use Rattle.smithy_json_grammar.specs.StringText.{is_string_text, escapes_are_valid, is_plain_text, is_lenient_text}
 use Rattle.smithy_json_grammar.specs.Standing.{IsStringAt, IsQuotedAt}
+use Rattle.smithy_json_grammar.specs.FoundString.{FindsString}
 use Rattle.smithy_json_grammar.specs.declared.string_text.ScannedString.{ScannedString}
 use Rattle.smithy_json_grammar.proofs.LenientTextLemmas.{string_is_lenient}
 use Rattle.smithy_json_values.specs.Scalar.{a_string}
@@ -36,16 +37,10 @@ module _ (i : List ℕ) (start c : ℕ) where
   read_is_standard true is here reads = passes_standard here reads
   read_is_standard false is here reads = cc
 
--- where nothing is strict, all that the other scanner finds are read
-pub lenient_is_read : (strict : Bool) → strict ≡ false → (o : Option ScannedString) → IfSome o (λ s. is_lenient_text s.text.now ≡ true) → IfSome o (λ s. reads_text strict s.text.now ≡ true)
-lenient_is_read true is o valid = cc
-lenient_is_read false is o valid = valid
-
-pub none_is_lenient : (strict : Bool) → strict ≡ false → (i : List ℕ) (start : ℕ) (o : Option ScannedString) → IfNone o ((c : ℕ) → IsQuotedAt i start c → is_lenient_text (slice_range i (start + 1) c) ≡ false)
-    → IfNone o ((c : ℕ) → IsQuotedAt i start c → reads_text strict (slice_range i (start + 1) c) ≡ true → ⊥)
-none_is_lenient true is i start o none = cc
-none_is_lenient false is i start (Some s) none = tt
-none_is_lenient false is i start None none = λ c here reads. let clash : true ≡ false = sym reads ∙ none c here in cc
+-- where nothing is strict, what the other scanner finds is what is read
+pub lenient_is_read : (strict : Bool) → strict ≡ false → (i : List ℕ) (start : ℕ) (o : Option ScannedString) → FindsString is_lenient_text i start o → FindsString (reads_text strict) i start o
+lenient_is_read true is i start o finds = cc
+lenient_is_read false is i start o finds = finds
 
 -- ---- what is skipped, by which tests there are
 

@@ -31,4 +31,5 @@ pub mod NumberSorts
 pub mod NumberAtPlace
 pub mod InstantAtPlace
 pub mod Skipping
+pub mod SkippedEnd
 pub mod OpenDocuments

@@ -1,18 +1,16 @@
 //! Where a value ends that is skipped.
 
-ghost use Rattle.std.specs.Prelude.{◌≡◌, ◌<◌, ◌≤◌, ◌+◌, ◌-◌, ◌&&◌, ℕ, List, length, get_or, drop, slice_range, true, false, IfOk, OnErr, IsErrOf, IfSome, IfNone};
+ghost use Rattle.std.specs.Prelude.{◌≡◌, ◌<◌, ◌≤◌, ◌+◌, ◌-◌, ◌&&◌, ℕ, List, length, get_or, slice_range, true, false, IfSome, IfNone};
 ghost use Rattle.smithy_json_grammar.specs.Ascii.{begin_array, begin_object};
 ghost use Rattle.smithy_json_grammar.specs.Standing.{IsQuotedAt};
 ghost use Rattle.smithy_json_values.specs.Codec.{held_grammar};
-ghost use Rattle.smithy_json_values.specs.Deepest.{OpensTooDeep};
 ghost use Rattle.smithy_json_values.specs.LexicalGrammar.{is_skipped_in, NodeLies};
-ghost use Rattle.smithy_json_values.specs.Openers.{json_openers};
 ghost use Rattle.smithy_json_values.specs.Scalar.{a_string};
 ghost use Rattle.smithy_json_values.specs.Spans.{Lies};
 ghost use Rattle.smithy_json_values.specs.Tokens.{IsNameToken};
 ghost use Rattle.smithy_json_values.specs.Private.NextInContainer.{IsFirstByte};
-ghost use Rattle.smithy_json_values.specs.declared.skip.SkipFault.TheVariants.{NoValue, TooDeep};
-ghost use Rattle.smithy_json_values.specs.Private.Skipping.{skip_refusal, SkipsTo, ScalarLies, NoValueLies, BeginsAs, GoesOnInside, IsNextStep};
+ghost use Rattle.smithy_json_values.specs.Private.SkippedEnd.{FindsEnd};
+ghost use Rattle.smithy_json_values.specs.Private.Skipping.{skip_refusal, ScalarLies, NoValueLies, BeginsAs, GoesOnInside, IsNextStep};
 ghost use Rattle.smithy_wire.specs.Node.{leaf};
 
 use crate::input::Input;
@@ -220,12 +218,7 @@ fn next_step(
 pub fn skipped_end(input: Input<'_>, at: usize, depth: usize) -> Result<usize, SkipFault>
     requires within { at ≤ length input.bytes.now }
     requires shallow { depth ≤ input.settings.max_depth }
-    ensures ok { IfOk result (λ e. SkipsTo (held_grammar input.entry.settings) input.entry.settings.max_depth depth input.entry.bytes.now at e) }
-    ensures ahead { IfOk result (λ e. (at < e) × (e ≤ length input.entry.bytes.now)) }
-    ensures refused { OnErr result ((e : ℕ) → SkipsTo (held_grammar input.entry.settings) input.entry.settings.max_depth depth input.entry.bytes.now at e → ⊥) }
-    ensures none_without_limits { IsErrOf result NoValue → (greatest e : ℕ) → SkipsTo (held_grammar input.entry.settings) greatest depth input.entry.bytes.now at e → ⊥ }
-    ensures deep { IsErrOf result TooDeep → input.entry.settings.max_depth ≤ depth + json_openers (drop at input.entry.bytes.now) }
-    ensures too_deep { IsErrOf result TooDeep → OpensTooDeep (held_grammar input.entry.settings) input.entry.settings.max_depth depth input.entry.bytes.now at }
+    ensures { FindsEnd (held_grammar input.entry.settings) input.entry.settings.max_depth depth input.entry.bytes.now at result }
 {
     match beginning_of(input.bytes, at, &input.settings) {
         Some(Beginning::Scalar(end)) => Ok(end),
@@ -237,11 +230,7 @@ pub fn skipped_end(input: Input<'_>, at: usize, depth: usize) -> Result<usize, S
 fn container_end(input: Input<'_>, at: usize, depth: usize) -> Result<usize, SkipFault>
     requires within { at ≤ length input.bytes.now }
     requires shallow { depth ≤ input.settings.max_depth }
-    ensures ok { IfOk result (λ e. SkipsTo (held_grammar input.entry.settings) input.entry.settings.max_depth depth input.entry.bytes.now at e) }
-    ensures refused { OnErr result ((e : ℕ) → SkipsTo (held_grammar input.entry.settings) input.entry.settings.max_depth depth input.entry.bytes.now at e → ⊥) }
-    ensures none_without_limits { IsErrOf result NoValue → (greatest e : ℕ) → SkipsTo (held_grammar input.entry.settings) greatest depth input.entry.bytes.now at e → ⊥ }
-    ensures deep { IsErrOf result TooDeep → input.entry.settings.max_depth ≤ depth + json_openers (drop at input.entry.bytes.now) }
-    ensures too_deep { IsErrOf result TooDeep → OpensTooDeep (held_grammar input.entry.settings) input.entry.settings.max_depth depth input.entry.bytes.now at }
+    ensures { FindsEnd (held_grammar input.entry.settings) input.entry.settings.max_depth depth input.entry.bytes.now at result }
 {
     let mut at = at;
     let mut due = true;

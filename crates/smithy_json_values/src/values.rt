@@ -1,8 +1,9 @@
 //! Where strings, nulls and booleans lie in an input, and where a value may end.
 
-ghost use Rattle.std.specs.Prelude.{◌≡◌, ◌≤◌, ◌+◌, ◌-◌, ◌↔◌, ℕ, List, Bool, true, length, drop, slice_range, IsTrue, IfSome, IfNone};
+ghost use Rattle.std.specs.Prelude.{◌≡◌, ◌≤◌, ◌+◌, ◌-◌, ◌↔◌, ℕ, List, Bool, length, drop, IsTrue, IfSome, IfNone};
 ghost use Rattle.smithy_declarations.specs.declared.shape_type.Scalar.TheVariants as scalars;
-ghost use Rattle.smithy_json_grammar.specs.Standing.{IsStringAt, IsQuotedAt};
+ghost use Rattle.smithy_json_grammar.specs.Standing.{IsStringAt};
+ghost use Rattle.smithy_json_grammar.specs.FoundString.{FindsString};
 ghost use Rattle.smithy_json_grammar.specs.Unescape.{has_escape};
 ghost use Rattle.smithy_json_values.specs.Codec.{held_settings, held_grammar};
 ghost use Rattle.smithy_json_values.specs.LexicalGrammar.{LiesInGrammar, frames_of};
@@ -36,11 +37,7 @@ pub fn may_follow(input: &[u8], at: usize, settings: &Settings) -> bool
 fn other_string<'a>(input: &'a [u8], start: usize, settings: &Settings) -> Option<ScannedString<'a>>
     requires within { start ≤ length input.now }
     requires other { (closing : ℕ) → IsStringAt input.now start closing → ⊥ }
-    ensures found { IfSome result (λ s. IsQuotedAt input.now start s.closing) }
-    ensures text { IfSome result (λ s. s.text.now ≡ slice_range input.now (start + 1) s.closing) }
-    ensures valid { IfSome result (λ s. (held_grammar settings.now).is_text s.text.now ≡ true) }
-    ensures has_escape { IfSome result (λ s. s.has_escape ≡ has_escape s.text.now) }
-    ensures none { IfNone result ((closing : ℕ) → IsQuotedAt input.now start closing → (held_grammar settings.now).is_text (slice_range input.now (start + 1) closing) ≡ true → ⊥) }
+    ensures { FindsString (held_grammar settings.now).is_text input.now start result }
 {
     if settings.enforce_strictness {
         None
@@ -57,11 +54,7 @@ pub fn string_of<'a>(
     settings: &Settings,
 ) -> Option<ScannedString<'a>>
     requires { start ≤ length input.now }
-    ensures found { IfSome result (λ s. IsQuotedAt input.now start s.closing) }
-    ensures text { IfSome result (λ s. s.text.now ≡ slice_range input.now (start + 1) s.closing) }
-    ensures valid { IfSome result (λ s. (held_grammar settings.now).is_text s.text.now ≡ true) }
-    ensures has_escape { IfSome result (λ s. s.has_escape ≡ has_escape s.text.now) }
-    ensures none { IfNone result ((closing : ℕ) → IsQuotedAt input.now start closing → (held_grammar settings.now).is_text (slice_range input.now (start + 1) closing) ≡ true → ⊥) }
+    ensures { FindsString (held_grammar settings.now).is_text input.now start result }
 {
     match scan_string(input, start) {
         Some(string) => Some(string),

@@ -1,9 +1,10 @@
 -- What is written, call by call, and what a value adds.
-use Rattle.std.specs.Prelude.{◌≡◌, ℕ, ℤ, suc, List, [], ◌∷◌, ◌++◌, Option, Some, Result, Ok, Err}
+use Rattle.std.specs.Prelude.{◌≡◌, ◌↔◌, ℕ, ℤ, suc, List, [], ◌∷◌, ◌++◌, Bool, true, Option, Some, Result, Ok, Err, OnOk, IfErr, IsErr, IsErrOf}
 use Rattle.std.specs.Option.{option_map_or}
 use Rattle.smithy_types.specs.Document.{Document}
 use Rattle.smithy_schema.specs.declared.error.SerdeError.{SerdeError}
-use Rattle.smithy_schema.specs.declared.error.SerdeError.TheVariants.{Unwritable}
+use Rattle.smithy_schema.specs.declared.error.SerdeError.TheVariants.{Unwritable, Failed}
+use Rattle.smithy_schema.specs.Errors.{IsFault}
 use Rattle.smithy_shapes.specs.Site.{Site, element_of, key_of, value_of, member_of}
 use Rattle.smithy_declarations.specs.Value.{ScalarValue, text, text_in, Value, scalar_value, list, map, structure, union, null_element, document_value, Values, no_values, value, MapEntries, no_map_entries, map_entry, MemberValues, no_member_values, member_value}
 
@@ -146,3 +147,12 @@ open_after (document_of site d) os = after_value os
 pub record IsNested {S : Type 0} (after : Writer S) (open_in : S → List Open) : Type 0 where
   pub goes : (e : Event) (s t : S) → after e s ≡ Ok t → open_after e (open_in s) ≡ Ok (open_in t)
   pub stops : (e : Event) (s : S) → open_after e (open_in s) ≡ Err Unwritable → after e s ≡ Err Unwritable
+
+-- What a call of a serializer says of its answer: it makes this event of the state, and a fault is that of this event.
+pub record WritesEvent {S : Type 0} (after : Writer S) (event : Event) (old : S) (had_failed : Bool) (new : S) (has_failed : Bool) (result : Result (Unit {0}) SerdeError) : Type 0 where
+  -- `Failed` comes exactly after a failure
+  pub failed : IsErrOf result Failed ↔ (had_failed ≡ true)
+  -- after an error, and only then, the serializer has failed
+  pub broken : IsErr result ↔ (has_failed ≡ true)
+  pub ok : OnOk result (after event old ≡ Ok new)
+  pub refused : IfErr result (λ e. IsFault e → after event old ≡ Err e)

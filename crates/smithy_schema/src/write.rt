@@ -8,7 +8,7 @@ ghost use Rattle.smithy_declarations.specs.Table.{IsList};
 ghost use Rattle.smithy_shapes.specs.Site.{site_of, kind_at};
 ghost use Rattle.smithy_declarations.specs.Value.{boolean, whole, text, bytes, decimal, instant};
 ghost use Rattle.smithy_schema.specs.Errors.{IsFault};
-ghost use Rattle.smithy_schema.specs.Writing.{Event, Writer, Open, IsNested, begin_structure, end_structure, begin_list as list_begins, end_list as list_ends, begin_map as map_begins, end_map as map_ends, null_of, scalar_of, big_integer_of, big_decimal_of, document_of};
+ghost use Rattle.smithy_schema.specs.Writing.{Event, Writer, Open, IsNested, WritesEvent, begin_structure, end_structure, begin_list as list_begins, end_list as list_ends, begin_map as map_begins, end_map as map_ends, null_of, scalar_of, big_integer_of, big_decimal_of, document_of};
 ghost use Rattle.smithy_schema.specs.Writing.{write, after_value, open_list, open_map_at_key};
 ghost use Rattle.smithy_schema.specs.Written.{Wraps, outcome, list_of_wholes};
 
@@ -44,119 +44,71 @@ pub trait ShapeSerializer {
 
     /// Begins a structure or a union.
     fn begin_struct(&mut self, schema: &Schema<'_>) -> Result<(), SerdeError>
-        ensures failed { IsErrOf result Failed ↔ (failed self.old ≡ true) }
-        ensures broken { IsErr result ↔ (failed self.new ≡ true) }
-        ensures ok { OnOk result (after (begin_structure (site_of schema.now)) (state self.old) ≡ Ok (state self.new)) }
-        ensures refused { IfErr result (λ e. IsFault e → after (begin_structure (site_of schema.now)) (state self.old) ≡ Err e) };
+        ensures { WritesEvent after (begin_structure (site_of schema.now)) (state self.old) (failed self.old) (state self.new) (failed self.new) result };
 
     /// Ends the structure or the union that is open.
     fn end_struct(&mut self) -> Result<(), SerdeError>
-        ensures failed { IsErrOf result Failed ↔ (failed self.old ≡ true) }
-        ensures broken { IsErr result ↔ (failed self.new ≡ true) }
-        ensures ok { OnOk result (after end_structure (state self.old) ≡ Ok (state self.new)) }
-        ensures refused { IfErr result (λ e. IsFault e → after end_structure (state self.old) ≡ Err e) };
+        ensures { WritesEvent after end_structure (state self.old) (failed self.old) (state self.new) (failed self.new) result };
 
     /// Begins a list, of a number of elements where that is told.
     fn begin_list(&mut self, schema: &Schema<'_>, length: Option<usize>) -> Result<(), SerdeError>
-        ensures failed { IsErrOf result Failed ↔ (failed self.old ≡ true) }
-        ensures broken { IsErr result ↔ (failed self.new ≡ true) }
-        ensures ok { OnOk result (after (list_begins (site_of schema.now) length) (state self.old) ≡ Ok (state self.new)) }
-        ensures refused { IfErr result (λ e. IsFault e → after (list_begins (site_of schema.now) length) (state self.old) ≡ Err e) };
+        ensures { WritesEvent after (list_begins (site_of schema.now) length) (state self.old) (failed self.old) (state self.new) (failed self.new) result };
 
     /// Ends the list that is open.
     fn end_list(&mut self) -> Result<(), SerdeError>
-        ensures failed { IsErrOf result Failed ↔ (failed self.old ≡ true) }
-        ensures broken { IsErr result ↔ (failed self.new ≡ true) }
-        ensures ok { OnOk result (after list_ends (state self.old) ≡ Ok (state self.new)) }
-        ensures refused { IfErr result (λ e. IsFault e → after list_ends (state self.old) ≡ Err e) };
+        ensures { WritesEvent after list_ends (state self.old) (failed self.old) (state self.new) (failed self.new) result };
 
     /// Begins a map, of a number of entries where that is told.
     fn begin_map(&mut self, schema: &Schema<'_>, length: Option<usize>) -> Result<(), SerdeError>
-        ensures failed { IsErrOf result Failed ↔ (failed self.old ≡ true) }
-        ensures broken { IsErr result ↔ (failed self.new ≡ true) }
-        ensures ok { OnOk result (after (map_begins (site_of schema.now) length) (state self.old) ≡ Ok (state self.new)) }
-        ensures refused { IfErr result (λ e. IsFault e → after (map_begins (site_of schema.now) length) (state self.old) ≡ Err e) };
+        ensures { WritesEvent after (map_begins (site_of schema.now) length) (state self.old) (failed self.old) (state self.new) (failed self.new) result };
 
     /// Ends the map that is open. Where the value of a key hasn't come it is `Unwritable`.
     fn end_map(&mut self) -> Result<(), SerdeError>
-        ensures failed { IsErrOf result Failed ↔ (failed self.old ≡ true) }
-        ensures broken { IsErr result ↔ (failed self.new ≡ true) }
-        ensures ok { OnOk result (after map_ends (state self.old) ≡ Ok (state self.new)) }
-        ensures refused { IfErr result (λ e. IsFault e → after map_ends (state self.old) ≡ Err e) };
+        ensures { WritesEvent after map_ends (state self.old) (failed self.old) (state self.new) (failed self.new) result };
 
     /// Writes a null element, or a null value of a map.
     fn write_null(&mut self, schema: &Schema<'_>) -> Result<(), SerdeError>
-        ensures failed { IsErrOf result Failed ↔ (failed self.old ≡ true) }
-        ensures broken { IsErr result ↔ (failed self.new ≡ true) }
-        ensures ok { OnOk result (after (null_of (site_of schema.now)) (state self.old) ≡ Ok (state self.new)) }
-        ensures refused { IfErr result (λ e. IsFault e → after (null_of (site_of schema.now)) (state self.old) ≡ Err e) };
+        ensures { WritesEvent after (null_of (site_of schema.now)) (state self.old) (failed self.old) (state self.new) (failed self.new) result };
 
     /// Writes false or true.
     fn write_boolean(&mut self, schema: &Schema<'_>, value: bool) -> Result<(), SerdeError>
-        ensures failed { IsErrOf result Failed ↔ (failed self.old ≡ true) }
-        ensures broken { IsErr result ↔ (failed self.new ≡ true) }
-        ensures ok { OnOk result (after (scalar_of (site_of schema.now) (boolean value)) (state self.old) ≡ Ok (state self.new)) }
-        ensures refused { IfErr result (λ e. IsFault e → after (scalar_of (site_of schema.now) (boolean value)) (state self.old) ≡ Err e) };
+        ensures { WritesEvent after (scalar_of (site_of schema.now) (boolean value)) (state self.old) (failed self.old) (state self.new) (failed self.new) result };
 
     /// Writes a whole number.
     fn write_byte(&mut self, schema: &Schema<'_>, value: i8) -> Result<(), SerdeError>
-        ensures failed { IsErrOf result Failed ↔ (failed self.old ≡ true) }
-        ensures broken { IsErr result ↔ (failed self.new ≡ true) }
-        ensures ok { OnOk result (after (scalar_of (site_of schema.now) (whole value)) (state self.old) ≡ Ok (state self.new)) }
-        ensures refused { IfErr result (λ e. IsFault e → after (scalar_of (site_of schema.now) (whole value)) (state self.old) ≡ Err e) };
+        ensures { WritesEvent after (scalar_of (site_of schema.now) (whole value)) (state self.old) (failed self.old) (state self.new) (failed self.new) result };
 
     /// Writes a whole number.
     fn write_short(&mut self, schema: &Schema<'_>, value: i16) -> Result<(), SerdeError>
-        ensures failed { IsErrOf result Failed ↔ (failed self.old ≡ true) }
-        ensures broken { IsErr result ↔ (failed self.new ≡ true) }
-        ensures ok { OnOk result (after (scalar_of (site_of schema.now) (whole value)) (state self.old) ≡ Ok (state self.new)) }
-        ensures refused { IfErr result (λ e. IsFault e → after (scalar_of (site_of schema.now) (whole value)) (state self.old) ≡ Err e) };
+        ensures { WritesEvent after (scalar_of (site_of schema.now) (whole value)) (state self.old) (failed self.old) (state self.new) (failed self.new) result };
 
     /// Writes a whole number.
     fn write_integer(&mut self, schema: &Schema<'_>, value: i32) -> Result<(), SerdeError>
-        ensures failed { IsErrOf result Failed ↔ (failed self.old ≡ true) }
-        ensures broken { IsErr result ↔ (failed self.new ≡ true) }
-        ensures ok { OnOk result (after (scalar_of (site_of schema.now) (whole value)) (state self.old) ≡ Ok (state self.new)) }
-        ensures refused { IfErr result (λ e. IsFault e → after (scalar_of (site_of schema.now) (whole value)) (state self.old) ≡ Err e) };
+        ensures { WritesEvent after (scalar_of (site_of schema.now) (whole value)) (state self.old) (failed self.old) (state self.new) (failed self.new) result };
 
     /// Writes a whole number.
     fn write_long(&mut self, schema: &Schema<'_>, value: i64) -> Result<(), SerdeError>
-        ensures failed { IsErrOf result Failed ↔ (failed self.old ≡ true) }
-        ensures broken { IsErr result ↔ (failed self.new ≡ true) }
-        ensures ok { OnOk result (after (scalar_of (site_of schema.now) (whole value)) (state self.old) ≡ Ok (state self.new)) }
-        ensures refused { IfErr result (λ e. IsFault e → after (scalar_of (site_of schema.now) (whole value)) (state self.old) ≡ Err e) };
+        ensures { WritesEvent after (scalar_of (site_of schema.now) (whole value)) (state self.old) (failed self.old) (state self.new) (failed self.new) result };
 
     /// Writes a text: in a map a key, and where its values are strings in turn a key and a value. In a key's place
     /// nothing else can be written.
     fn write_string(&mut self, schema: &Schema<'_>, value: &str) -> Result<(), SerdeError>
-        ensures failed { IsErrOf result Failed ↔ (failed self.old ≡ true) }
-        ensures broken { IsErr result ↔ (failed self.new ≡ true) }
-        ensures ok { OnOk result (after (scalar_of (site_of schema.now) (text value.now)) (state self.old) ≡ Ok (state self.new)) }
-        ensures refused { IfErr result (λ e. IsFault e → after (scalar_of (site_of schema.now) (text value.now)) (state self.old) ≡ Err e) };
+        ensures { WritesEvent after (scalar_of (site_of schema.now) (text value.now)) (state self.old) (failed self.old) (state self.new) (failed self.new) result };
 
     /// Writes bytes, which need not stand in a blob.
     fn write_bytes(&mut self, schema: &Schema<'_>, value: &[u8]) -> Result<(), SerdeError>
-        ensures failed { IsErrOf result Failed ↔ (failed self.old ≡ true) }
-        ensures broken { IsErr result ↔ (failed self.new ≡ true) }
-        ensures ok { OnOk result (after (scalar_of (site_of schema.now) (bytes value.now)) (state self.old) ≡ Ok (state self.new)) }
-        ensures refused { IfErr result (λ e. IsFault e → after (scalar_of (site_of schema.now) (bytes value.now)) (state self.old) ≡ Err e) };
+        ensures { WritesEvent after (scalar_of (site_of schema.now) (bytes value.now)) (state self.old) (failed self.old) (state self.new) (failed self.new) result };
 
     /// Writes the bytes of a blob.
     fn write_blob(&mut self, schema: &Schema<'_>, value: &Blob) -> Result<(), SerdeError>
-        ensures failed { IsErrOf result Failed ↔ (failed self.old ≡ true) }
-        ensures broken { IsErr result ↔ (failed self.new ≡ true) }
-        ensures ok { OnOk result (after (scalar_of (site_of schema.now) (bytes value.now)) (state self.old) ≡ Ok (state self.new)) }
-        ensures refused { IfErr result (λ e. IsFault e → after (scalar_of (site_of schema.now) (bytes value.now)) (state self.old) ≡ Err e) }
+        ensures { WritesEvent after (scalar_of (site_of schema.now) (bytes value.now)) (state self.old) (failed self.old) (state self.new) (failed self.new) result }
     {
         self.write_bytes(schema, value.as_ref())
     }
 
     /// Writes a whole number of 128 bits, which need not stand in a text.
     fn write_i128(&mut self, schema: &Schema<'_>, value: i128) -> Result<(), SerdeError>
-        ensures failed { IsErrOf result Failed ↔ (failed self.old ≡ true) }
-        ensures broken { IsErr result ↔ (failed self.new ≡ true) }
-        ensures ok { OnOk result (after (scalar_of (site_of schema.now) (whole value)) (state self.old) ≡ Ok (state self.new)) }
-        ensures refused { IfErr result (λ e. IsFault e → after (scalar_of (site_of schema.now) (whole value)) (state self.old) ≡ Err e) };
+        ensures { WritesEvent after (scalar_of (site_of schema.now) (whole value)) (state self.old) (failed self.old) (state self.new) (failed self.new) result };
 
     /// Writes the decimal number of a mantissa and a power of ten, which need not stand in a text.
     fn write_decimal(
@@ -165,10 +117,7 @@ pub trait ShapeSerializer {
         mantissa: i128,
         exponent: i64,
     ) -> Result<(), SerdeError>
-        ensures failed { IsErrOf result Failed ↔ (failed self.old ≡ true) }
-        ensures broken { IsErr result ↔ (failed self.new ≡ true) }
-        ensures ok { OnOk result (after (scalar_of (site_of schema.now) (decimal mantissa exponent)) (state self.old) ≡ Ok (state self.new)) }
-        ensures refused { IfErr result (λ e. IsFault e → after (scalar_of (site_of schema.now) (decimal mantissa exponent)) (state self.old) ≡ Err e) };
+        ensures { WritesEvent after (scalar_of (site_of schema.now) (decimal mantissa exponent)) (state self.old) (failed self.old) (state self.new) (failed self.new) result };
 
     /// Writes a whole number of any size, by the text that it keeps: `Unwritable` where the wire can't carry this text, and
     /// `TooWide` where the number leaves what the wire can write.
@@ -177,10 +126,7 @@ pub trait ShapeSerializer {
         schema: &Schema<'_>,
         value: &BigInteger,
     ) -> Result<(), SerdeError>
-        ensures failed { IsErrOf result Failed ↔ (failed self.old ≡ true) }
-        ensures broken { IsErr result ↔ (failed self.new ≡ true) }
-        ensures ok { OnOk result (after (big_integer_of (site_of schema.now) value.now) (state self.old) ≡ Ok (state self.new)) }
-        ensures refused { IfErr result (λ e. IsFault e → after (big_integer_of (site_of schema.now) value.now) (state self.old) ≡ Err e) };
+        ensures { WritesEvent after (big_integer_of (site_of schema.now) value.now) (state self.old) (failed self.old) (state self.new) (failed self.new) result };
 
     /// Writes a decimal number of any size, by the text that it keeps: `Unwritable` where the wire can't carry this text, and
     /// `TooWide` where the number leaves what the wire can write.
@@ -189,24 +135,15 @@ pub trait ShapeSerializer {
         schema: &Schema<'_>,
         value: &BigDecimal,
     ) -> Result<(), SerdeError>
-        ensures failed { IsErrOf result Failed ↔ (failed self.old ≡ true) }
-        ensures broken { IsErr result ↔ (failed self.new ≡ true) }
-        ensures ok { OnOk result (after (big_decimal_of (site_of schema.now) value.now) (state self.old) ≡ Ok (state self.new)) }
-        ensures refused { IfErr result (λ e. IsFault e → after (big_decimal_of (site_of schema.now) value.now) (state self.old) ≡ Err e) };
+        ensures { WritesEvent after (big_decimal_of (site_of schema.now) value.now) (state self.old) (failed self.old) (state self.new) (failed self.new) result };
 
     /// Writes an instant, in the form of its place where the wire has forms: `Unwritable` where the wire can't write it there.
     fn write_timestamp(&mut self, schema: &Schema<'_>, value: &DateTime) -> Result<(), SerdeError>
-        ensures failed { IsErrOf result Failed ↔ (failed self.old ≡ true) }
-        ensures broken { IsErr result ↔ (failed self.new ≡ true) }
-        ensures ok { OnOk result (after (scalar_of (site_of schema.now) (instant value.now)) (state self.old) ≡ Ok (state self.new)) }
-        ensures refused { IfErr result (λ e. IsFault e → after (scalar_of (site_of schema.now) (instant value.now)) (state self.old) ≡ Err e) };
+        ensures { WritesEvent after (scalar_of (site_of schema.now) (instant value.now)) (state self.old) (failed self.old) (state self.new) (failed self.new) result };
 
     /// Writes a document: `Unsupported` where the wire writes none.
     fn write_document(&mut self, schema: &Schema<'_>, value: &Document) -> Result<(), SerdeError>
-        ensures failed { IsErrOf result Failed ↔ (failed self.old ≡ true) }
-        ensures broken { IsErr result ↔ (failed self.new ≡ true) }
-        ensures ok { OnOk result (after (document_of (site_of schema.now) (whole_document (document_view value.now))) (state self.old) ≡ Ok (state self.new)) }
-        ensures refused { IfErr result (λ e. IsFault e → after (document_of (site_of schema.now) (whole_document (document_view value.now))) (state self.old) ≡ Err e) };
+        ensures { WritesEvent after (document_of (site_of schema.now) (whole_document (document_view value.now))) (state self.old) (failed self.old) (state self.new) (failed self.new) result };
 
     /// Writes a structure or a union: it begins, its members are written by one call, and it ends.
     final fn write_struct<V: SerializableStruct>(

@@ -10,7 +10,9 @@ pub returns-in_err-name-clause-none : goal.returns-in_err-name-clause-none
 returns-in_err-name-clause-none c =
     rw c.from_residual.ensures (λ raw e h good.
     let stands = name_stands c.args.input.now c.args.at c.skip_blanks-start.result c.skip_blanks-start.ensures raw e h in
-    c.in_err-name.ensures.none (c.skip_blanks-start.result + 1 + length raw) stands.0 (ap (held_grammar c.args.settings.now).is_text stands.1 ∙ good))
+    let fails = c.in_err-name.ensures.none (c.skip_blanks-start.result + 1 + length raw) stands.0 in
+    let passes = ap (held_grammar c.args.settings.now).is_text stands.1 ∙ good in
+    cc)
 
 pub returns-in_err-end-clause-none : goal.returns-in_err-end-clause-none
 returns-in_err-end-clause-none c =

@@ -1,10 +1,10 @@
-use Rattle.std.proofs.Common.{◌≡◌, ◌<◌, Bool, true, false, length, arith, ◌∙◌}
+use Rattle.std.proofs.Common.{◌≡◌, ◌<◌, Bool, true, false, length, arith, rules, ◌∙◌}
 use Rattle.std.proofs.lemmas.List.{length-set}
 use Rattle.smithy_json_values.specs.LexicalGrammar.{is_skipped_in}
 use Rattle.smithy_json_values.specs.Codec.{held_grammar}
 use Rattle.smithy_json_values.specs.Private.BytePlaces.{byte_ahead}
 use Rattle.smithy_json_values.specs.Private.Skipping.{opening, closing}
-use Rattle.smithy_json_values.proofs.SkipSteps.{scalar_passed, container_opened, opens_too_deep, value_begun, container_closed, no_next_step, scalar_ahead, value_place, falls_ahead, falls_on}
+use Rattle.smithy_json_values.proofs.SkipSteps.{scalar_passed, container_opened, opens_too_deep, value_begun, container_closed, no_next_step, walked, scalar_ahead, skips_ahead, value_place, falls_ahead, falls_on}
 use Rattle.smithy_json_values.proofs.OpenersLemmas.{reaches_depth}
 use Rattle.smithy_json_values.proofs.DeepestLemmas.{comes_past_scalar, comes_into_container, comes_too_deep, comes_to_value, comes_out_of_container}
 use Rattle.smithy_json_values.proofs.SkipStepOpeners.{opens_past_scalar, opens_into_container, opens_to_value, opens_out_of_container}
@@ -14,23 +14,21 @@ use Rattle.smithy_json_values.proofs.skip.container_end.Goals.{then-due, else-du
 at_odds : {b : Bool} → b ≡ true → b ≡ false → ⊥
 at_odds p q = cc
 
-pub returns-then-depth-open-clause-refused : goal.returns-then-depth-open-clause-refused
-returns-then-depth-open-clause-refused c =
+pub returns-then-depth-open : goal.returns-then-depth-open
+returns-then-depth-open c =
     let step = rw c.in-IntoContainer.is at c.in-Some.ensures in
     let bracket = step.1 in
-    opens_too_deep (held_grammar c.args.input.settings) c.args.input.settings.max_depth c.args.depth c.loop-due.is_object c.loop-due.open c.loop-due.due c.loop-due.entered c.args.input.bytes.now c.args.at c.loop-due.at
-    c.loop-due.invariant.way c.loop-due.invariant.within c.loop-due.invariant.shallow step.0 c.in-IntoContainer.kind c.in-IntoContainer.inside bracket c.if-depth-open.true
-
-pub returns-then-depth-open-clause-deep : goal.returns-then-depth-open-clause-deep
-returns-then-depth-open-clause-deep c = λ deep.
-    reaches_depth c.args.input.bytes.now c.args.at c.args.input.settings.max_depth c.args.depth c.loop-due.open c.loop-due.at c.loop-due.invariant.opens c.if-depth-open.true
-
-pub returns-then-depth-open-clause-too_deep : goal.returns-then-depth-open-clause-too_deep
-returns-then-depth-open-clause-too_deep c = λ deep.
-    let step = rw c.in-IntoContainer.is at c.in-Some.ensures in
-    let bracket = step.1 in
-    comes_too_deep (held_grammar c.args.input.settings) c.args.depth c.loop-due.is_object c.loop-due.open c.loop-due.due c.loop-due.entered c.args.input.bytes.now c.args.at c.loop-due.at
-    c.loop-due.invariant.come step.0 c.in-IntoContainer.kind c.in-IntoContainer.inside c.args.input.settings.max_depth bracket c.loop-due.invariant.shallow c.if-depth-open.true
+    record {
+      ok = search rules;
+      ahead = search rules;
+      refused = opens_too_deep (held_grammar c.args.input.settings) c.args.input.settings.max_depth c.args.depth c.loop-due.is_object c.loop-due.open c.loop-due.due c.loop-due.entered c.args.input.bytes.now c.args.at c.loop-due.at
+          c.loop-due.invariant.way c.loop-due.invariant.within c.loop-due.invariant.shallow step.0 c.in-IntoContainer.kind c.in-IntoContainer.inside bracket c.if-depth-open.true;
+      none_without_limits = search rules;
+      deep = λ deep. reaches_depth c.args.input.bytes.now c.args.at c.args.input.settings.max_depth c.args.depth c.loop-due.open c.loop-due.at c.loop-due.invariant.opens c.if-depth-open.true;
+      too_deep = λ deep.
+          comes_too_deep (held_grammar c.args.input.settings) c.args.depth c.loop-due.is_object c.loop-due.open c.loop-due.due c.loop-due.entered c.args.input.bytes.now c.args.at c.loop-due.at
+          c.loop-due.invariant.come step.0 c.in-IntoContainer.kind c.in-IntoContainer.inside c.args.input.settings.max_depth bracket c.loop-due.invariant.shallow c.if-depth-open.true;
+    }
 
 pub loop-due-smaller-in-PastScalar : goal.loop-due-smaller-in-PastScalar
 loop-due-smaller-in-PastScalar c =
@@ -120,20 +118,33 @@ loop-due-preserved c =
           c.loop-due.invariant.come step.0 some c.in-OutOfContainer.end step.1;
     }
 
-pub returns-in_default-clause-refused : goal.returns-in_default-clause-refused
-returns-in_default-clause-refused c =
+pub returns-in_default : goal.returns-in_default
+returns-in_default c =
     let some : c.loop-due.due ≡ false → 0 < c.loop-due.open = λ is. elim c.if-due.branch [
       | then-due w ↦ absurd (at_odds w.if-due.true is)
       | else-due+then-open-gt0 w ↦ w.if-open-gt0.true
     ] in
-    no_next_step (held_grammar c.args.input.settings) c.args.input.settings.max_depth c.args.depth c.loop-due.is_object c.loop-due.open c.loop-due.due c.loop-due.entered c.args.input.bytes.now c.args.at c.loop-due.at
-    c.loop-due.invariant.way c.loop-due.invariant.within c.loop-due.invariant.shallow some (rw c.in_default.is at c.next_step.ensures) c.args.input.settings.max_depth
+    let none = no_next_step (held_grammar c.args.input.settings) c.args.input.settings.max_depth c.args.depth c.loop-due.is_object c.loop-due.open c.loop-due.due c.loop-due.entered c.args.input.bytes.now c.args.at c.loop-due.at
+    c.loop-due.invariant.way c.loop-due.invariant.within c.loop-due.invariant.shallow some (rw c.in_default.is at c.next_step.ensures) in
+    record {
+      ok = search rules;
+      ahead = search rules;
+      refused = none c.args.input.settings.max_depth;
+      none_without_limits = λ invalid. none;
+      deep = search rules;
+      too_deep = search rules;
+    }
 
-pub returns-in_default-clause-none_without_limits : goal.returns-in_default-clause-none_without_limits
-returns-in_default-clause-none_without_limits c = λ invalid.
-    let some : c.loop-due.due ≡ false → 0 < c.loop-due.open = λ is. elim c.if-due.branch [
-      | then-due w ↦ absurd (at_odds w.if-due.true is)
-      | else-due+then-open-gt0 w ↦ w.if-open-gt0.true
-    ] in
-    no_next_step (held_grammar c.args.input.settings) c.args.input.settings.max_depth c.args.depth c.loop-due.is_object c.loop-due.open c.loop-due.due c.loop-due.entered c.args.input.bytes.now c.args.at c.loop-due.at
-    c.loop-due.invariant.way c.loop-due.invariant.within c.loop-due.invariant.shallow some (rw c.in_default.is at c.next_step.ensures)
+-- where nothing is open any more, the value ends
+pub returns : goal.returns
+returns c =
+    let ends = walked (held_grammar c.args.input.settings) c.args.input.settings.max_depth c.args.depth c.loop-due.is_object c.loop-due.open c.loop-due.due c.loop-due.entered c.args.input.bytes.now c.args.at c.loop-due.at
+    c.loop-due.invariant.way c.loop-due.invariant.within c.loop-due.invariant.shallow c.if-due.false (omega (arith, c.if-open-gt0.false)) in
+    record {
+      ok = ends;
+      ahead = skips_ahead (held_grammar c.args.input.settings) c.args.input.settings.max_depth c.args.depth c.args.input.bytes.now c.args.at c.loop-due.at ends;
+      refused = search rules;
+      none_without_limits = search rules;
+      deep = search rules;
+      too_deep = search rules;
+    }

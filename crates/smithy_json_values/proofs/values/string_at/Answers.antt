@@ -11,7 +11,9 @@ pub returns-in_err-string-clause-none : goal.returns-in_err-string-clause-none
 returns-in_err-string-clause-none c =
     rw c.from_residual.ensures (λ raw e h.
     let stands = token_stands c.args.input.now c.args.at c.skip_blanks.result c.skip_blanks.ensures raw e h.0.0 in
-    c.in_err-string.ensures.none (c.skip_blanks.result + 1 + length raw) stands.0 (ap (held_grammar c.args.settings.now).is_text stands.1 ∙ h.1))
+    let fails = c.in_err-string.ensures.none (c.skip_blanks.result + 1 + length raw) stands.0 in
+    let passes = ap (held_grammar c.args.settings.now).is_text stands.1 ∙ h.1 in
+    cc)
 
 pub returns-clause-found : goal.returns-clause-found
 returns-clause-found c =
