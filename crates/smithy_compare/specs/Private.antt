@@ -2,3 +2,4 @@
 pub mod Nodes
 pub mod Pairs
 pub mod Refusals
+pub mod Standing

@@ -1,17 +1,19 @@
 //! Whether two bodies spell one value, and else where their values first differ.
 ghost use Rattle.std.specs.Prelude.{◌≡◌};
 ghost use Rattle.smithy_declarations.specs.Table.{IsStructure, kind_of, shape_place};
-ghost use Rattle.smithy_transcode.specs.Private.Tree.{compact_view as view};
 ghost use Rattle.smithy_transcode.specs.Wires.{wire_of};
 ghost use Rattle.smithy_compare.specs.Compares.{Compares, GivesPath};
-ghost use Rattle.smithy_compare.specs.FirstPath.{first_path};
+ghost use Rattle.smithy_compare.specs.FirstPath.{first_in};
+ghost use Rattle.smithy_compare.specs.Private.Nodes.{node_tree};
 ghost use Rattle.smithy_compare.specs.Private.Refusals.{told_of};
+ghost use Rattle.smithy_compare.specs.Private.Standing.{NodeStands};
 
 use crate::node::Node;
 use crate::path::PathPart;
 use crate::walk::first_difference;
 use smithy_schema::{ShapeRef, Shapes};
-use smithy_transcode::{CompactValue, TranscodeError, Wire, read_body_as};
+use smithy_transcode::{TranscodeError, Wire, read_body_into};
+use smithy_tree::Pool;
 use std::alloc::Global;
 use thiserror::Error;
 
@@ -82,26 +84,32 @@ pub fn compare(
     requires root { IsStructure (kind_of shapes.now (shape_place root.0)) }
     ensures { Compares shapes.now root.0 (wire_of wire1.now) body1.now (wire_of wire2.now) body2.now result }
 {
-    let first = match read_body_as::<CompactValue>(alloc, shapes, root, wire1, body1) {
-        Ok(value) => value,
+    let mut pool1 = Pool::new(alloc, body1);
+    let first = match read_body_into(alloc, shapes, root, wire1, body1, &mut pool1) {
+        Ok(slot) => slot,
         Err(error) => return Err(of_first(error)),
     };
-    let second = match read_body_as::<CompactValue>(alloc, shapes, root, wire2, body2) {
-        Ok(value) => value,
+    let mut pool2 = Pool::new(alloc, body2);
+    let second = match read_body_into(alloc, shapes, root, wire2, body2, &mut pool2) {
+        Ok(slot) => slot,
         Err(error) => return Err(of_second(error)),
     };
-    values_compared(alloc, &first, &second)
+    let left = Node::Value(&pool1, &first);
+    let right = Node::Value(&pool2, &second);
+    values_compared(alloc, &left, &right)
 }
 
 // Whether two values are one, and else where they first differ.
 fn values_compared(
     alloc: Global,
-    first: &CompactValue,
-    second: &CompactValue,
+    left: &Node<'_>,
+    right: &Node<'_>,
 ) -> Result<Compared, CompareError>
-    ensures { GivesPath (first_path (view first.now) (view second.now)) result }
+    requires left { NodeStands left.now }
+    requires right { NodeStands right.now }
+    ensures { GivesPath (first_in (node_tree left.now) (node_tree right.now)) result }
 {
-    match first_difference(alloc, &Node::Value(first), &Node::Value(second)) {
+    match first_difference(alloc, left, right) {
         Ok(None) => Ok(Compared::Same),
         Ok(Some(path)) => Ok(Compared::Differs(path)),
         Err(_) => Err(CompareError::NoMemory),

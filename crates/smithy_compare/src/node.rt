@@ -4,31 +4,21 @@ ghost use Rattle.smithy_compare.specs.FirstPath.{same_top};
 ghost use Rattle.smithy_types.specs.Document.{whole_document};
 ghost use Rattle.smithy_types.specs.DocumentView.{document_view};
 ghost use Rattle.smithy_types.specs.Number.{whole_number};
-ghost use Rattle.smithy_transcode.specs.Private.Tree.{compact_view};
-ghost use Rattle.smithy_compare.specs.Tree.{member, union, tree, no_parts, part, tree_of, document_tree};
+ghost use Rattle.smithy_tree.specs.Nodes.{rare_value};
+ghost use Rattle.smithy_tree.specs.Seen.{IsSound, HoldsSlot, view};
+ghost use Rattle.smithy_compare.specs.Tree.{tree, tree_of, document_tree};
 ghost use Rattle.smithy_compare.specs.Private.Nodes.{node_tree, top_of, parts_of};
+ghost use Rattle.smithy_compare.specs.Private.Standing.{NodeStands, PartsStand};
 
 use crate::parts::Parts;
-use smithy_transcode::{CompactValue, EntryIter};
+use smithy_tree::{Node as TreeNode, Pool, Rare, Slot};
 use smithy_types::{DateTime, Document, Number};
 
-/// A value or a document, by how it is kept.
+/// A value, or a document that stands in one.
 #[derive(Clone, Copy)]
 pub enum Node<'v> {
-    /// A value.
-    Value(&'v CompactValue),
-    /// A whole number among such numbers.
-    Whole(i64),
-    /// A text that a union keeps beside its position.
-    Text(&'v str),
-    /// The elements of a list that a union keeps so.
-    List(&'v [CompactValue]),
-    /// The elements of a list of whole numbers that a union keeps so.
-    Wholes(&'v [i64]),
-    /// The entries of a map that a union keeps so.
-    Map(&'v [(String, CompactValue)]),
-    /// The members of a structure that a union keeps so.
-    Structure(&'v [(u32, CompactValue)]),
+    /// A value of a pool.
+    Value(&'v Pool<'v>, &'v Slot),
     /// A document.
     Document(&'v Document),
 }
@@ -74,72 +64,72 @@ pub enum Top<'v> {
 
 impl<'v> Node<'v> {
     // What stands at its top, and its parts.
+    #[inline(always)]
     pub(crate) fn split(&self) -> (Top<'v>, Parts<'v>)
-        ensures { tree (top_of result.0) (parts_of result.1) ≡ node_tree self.now }
+        requires stands { NodeStands self.now }
+        ensures shows { tree (top_of result.0) (parts_of result.1) ≡ node_tree self.now }
+        ensures stands { PartsStand result.1 }
     {
         match self {
-            Node::Value(value) => split_value(*value),
-            Node::Whole(number) => (Top::Whole(i128::from(*number)), Parts::Nothing),
-            Node::Text(content) => (Top::Text(*content), Parts::Nothing),
-            Node::List(elements) => (Top::List, Parts::Elements(0, *elements)),
-            Node::Wholes(numbers) => (Top::List, Parts::Wholes(0, *numbers)),
-            Node::Map(entries) => (Top::Map, Parts::Entries(EntryIter::Slice(*entries))),
-            Node::Structure(members) => {
-                (Top::Structure, Parts::Members(EntryIter::Slice(*members)))
-            }
+            Node::Value(pool, slot) => split_value(*pool, *slot),
             Node::Document(document) => split_document(*document),
         }
     }
 }
 
-// The top of a union, and its one part.
-fn only(index: u32, value: Node<'_>) -> (Top<'_>, Parts<'_>)
-    ensures { tree (top_of result.0) (parts_of result.1) ≡ tree (union index) (part (member index) (node_tree value.entry) no_parts) }
+// The top of a value, and its parts.
+#[inline(always)]
+fn split_value<'v>(pool: &'v Pool<'v>, slot: &'v Slot) -> (Top<'v>, Parts<'v>)
+    requires sound { IsSound pool.now }
+    requires holds { HoldsSlot pool.now slot.now }
+    ensures shows { tree (top_of result.0) (parts_of result.1) ≡ tree_of (view pool.now slot.now.node) }
+    ensures stands { PartsStand result.1 }
 {
-    (Top::Union(index), Parts::Only((index, value)))
+    match slot.node {
+        TreeNode::Boolean(value) => (Top::Boolean(value), Parts::Nothing),
+        TreeNode::Whole(number) => (Top::Whole(i128::from(number)), Parts::Nothing),
+        TreeNode::Timestamp(nanos, secs) => {
+            let instant = DateTime::from_secs_and_nanos(secs, nanos);
+            (Top::Instant(instant), Parts::Nothing)
+        }
+        TreeNode::Text(at, size) => (Top::Text(pool.text(at, size)), Parts::Nothing),
+        TreeNode::Bytes(at, size) => (Top::Bytes(pool.bytes(at, size)), Parts::Nothing),
+        TreeNode::List(at, count) => {
+            let elements = pool.children(at, count);
+            (Top::List, Parts::Elements(pool, 0, elements))
+        }
+        TreeNode::Map(at, count) => (Top::Map, Parts::Entries(pool, pool.children(at, count))),
+        TreeNode::Structure(at, count) => {
+            let members = pool.children(at, count);
+            (Top::Structure, Parts::Members(pool, members))
+        }
+        TreeNode::Union(at) => {
+            let child = pool.child(at);
+            (Top::Union(child.first), Parts::Only(pool, child))
+        }
+        TreeNode::Null => (Top::Null, Parts::Nothing),
+        TreeNode::Rare(place) => split_rare(pool.rare(place)),
+    }
 }
 
-// The top of a value, and its parts.
-fn split_value(value: &CompactValue) -> (Top<'_>, Parts<'_>)
-    ensures { tree (top_of result.0) (parts_of result.1) ≡ tree_of (compact_view value.now) }
+// The top of a value that takes more room than a node has, and its parts.
+fn split_rare(rare: &Rare) -> (Top<'_>, Parts<'_>)
+    ensures shows { tree (top_of result.0) (parts_of result.1) ≡ tree_of (rare_value rare.now) }
+    ensures stands { PartsStand result.1 }
 {
-    match value {
-        CompactValue::Boolean(value) => (Top::Boolean(*value), Parts::Nothing),
-        CompactValue::Whole(number) => (Top::Whole(i128::from(*number)), Parts::Nothing),
-        CompactValue::Large(number) => (Top::Whole(**number), Parts::Nothing),
-        CompactValue::Text(content) => (Top::Text(content.as_str()), Parts::Nothing),
-        CompactValue::Bytes(blob) => (Top::Bytes(blob.as_ref()), Parts::Nothing),
-        CompactValue::Decimal(parts) => (Top::Decimal(parts.0, parts.1), Parts::Nothing),
-        CompactValue::Timestamp(value) => (Top::Instant(*value), Parts::Nothing),
-        CompactValue::List(elements) => (Top::List, Parts::Elements(0, elements.as_slice())),
-        CompactValue::Wholes(numbers) => (Top::List, Parts::Wholes(0, numbers.as_slice())),
-        CompactValue::Map(map) => (Top::Map, Parts::Entries(EntryIter::Slice(map.as_slice()))),
-        CompactValue::TreeMap(map) => (Top::Map, Parts::Entries(EntryIter::Map(map.iter()))),
-        CompactValue::Structure(members) => (
-            Top::Structure,
-            Parts::Members(EntryIter::Slice(members.as_slice())),
-        ),
-        CompactValue::StructureMap(members) => (
-            Top::Structure,
-            Parts::Members(EntryIter::Map(members.iter())),
-        ),
-        CompactValue::UnionText(index, content) => only(*index, Node::Text(content.as_str())),
-        CompactValue::UnionList(index, elements) => only(*index, Node::List(elements.as_slice())),
-        CompactValue::UnionWholes(index, numbers) => only(*index, Node::Wholes(numbers.as_slice())),
-        CompactValue::UnionMap(index, entries) => only(*index, Node::Map(entries.as_slice())),
-        CompactValue::UnionStructure(index, members) => only(
-            *index,
-            Node::Structure(members.as_slice()),
-        ),
-        CompactValue::Union(index, value) => only(*index, Node::Value(&**value)),
-        CompactValue::Null => (Top::Null, Parts::Nothing),
-        CompactValue::Document(document) => split_document(&**document),
+    match rare {
+        Rare::Large(number) => (Top::Whole(*number), Parts::Nothing),
+        Rare::Decimal(mantissa, exponent) => {
+            (Top::Decimal(*mantissa, *exponent), Parts::Nothing)
+        }
+        Rare::Document(document) => split_document(document),
     }
 }
 
 // The top of a document, and its parts.
 pub(crate) fn split_document(document: &Document) -> (Top<'_>, Parts<'_>)
-    ensures { tree (top_of result.0) (parts_of result.1) ≡ document_tree (whole_document (document_view document.now)) }
+    ensures shows { tree (top_of result.0) (parts_of result.1) ≡ document_tree (whole_document (document_view document.now)) }
+    ensures stands { PartsStand result.1 }
 {
     match document {
         Document::Null => (Top::DocumentNull, Parts::Nothing),

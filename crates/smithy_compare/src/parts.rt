@@ -1,11 +1,12 @@
 //! The parts of a value or a document, one after another.
-ghost use Rattle.std.specs.Prelude.{◌≡◌, ◌<◌, ◌^◌, suc, MatchOption};
+ghost use Rattle.std.specs.Prelude.{◌≡◌, ◌<◌, ◌^◌, suc, MatchOption, IfSome};
 ghost use Rattle.smithy_compare.specs.FirstPath.{step_cmp};
 ghost use Rattle.smithy_compare.specs.Tree.{no_parts, part};
 ghost use Rattle.smithy_compare.specs.Private.Nodes.{node_tree, step_at, parts_of};
+ghost use Rattle.smithy_compare.specs.Private.Standing.{NodeStands, PartsStand};
 
 use crate::node::Node;
-use smithy_transcode::{CompactValue, EntryIter};
+use smithy_tree::{Pool, Slot};
 use smithy_types::Document;
 use std::cmp::Ordering;
 use std::collections::btree_map::Iter;
@@ -50,15 +51,13 @@ pub enum Parts<'v> {
     /// None.
     Nothing,
     /// The elements of a list from an index on.
-    Elements(usize, &'v [CompactValue]),
-    /// The elements of a list of whole numbers from an index on.
-    Wholes(usize, &'v [i64]),
+    Elements(&'v Pool<'v>, usize, &'v [Slot]),
     /// The entries that are left of a map.
-    Entries(EntryIter<'v, String, CompactValue>),
+    Entries(&'v Pool<'v>, &'v [Slot]),
     /// The members that are left of a structure.
-    Members(EntryIter<'v, u32, CompactValue>),
-    /// The position and the value of the member of a union, until it was given.
-    Only((u32, Node<'v>)),
+    Members(&'v Pool<'v>, &'v [Slot]),
+    /// The member of a union, until it was given.
+    Only(&'v Pool<'v>, &'v Slot),
     /// The elements of an array from an index on.
     Items(usize, &'v [Document]),
     /// The properties that are left of an object.
@@ -78,29 +77,31 @@ fn step_past<'v>(index: &mut usize) -> Label<'v>
 
 impl<'v> Parts<'v> {
     // The next part, behind the step to it.
+    #[inline(always)]
     pub(crate) fn next_part(&mut self) -> Option<(Label<'v>, Node<'v>)>
-        ensures { MatchOption result (parts_of self.old ≡ no_parts) (λ e. parts_of self.old ≡ part (step_at e.0) (node_tree e.1) (parts_of self.new)) }
+        requires stands { PartsStand self.old }
+        ensures shows { MatchOption result (parts_of self.old ≡ no_parts) (λ e. parts_of self.old ≡ part (step_at e.0) (node_tree e.1) (parts_of self.new)) }
+        ensures stands { IfSome result (λ e. NodeStands e.1 × PartsStand self.new) }
     {
         match self {
             Parts::Nothing => None,
-            Parts::Elements(index, elements) => {
+            Parts::Elements(pool, index, elements) => {
                 let element = elements.get(*index)?;
-                Some((step_past(index), Node::Value(element)))
+                Some((step_past(index), Node::Value(*pool, element)))
             }
-            Parts::Wholes(index, numbers) => {
-                let number = numbers.get(*index)?;
-                Some((step_past(index), Node::Whole(*number)))
+            Parts::Entries(pool, entries) => {
+                let (entry, more) = entries.split_first()?;
+                *entries = more;
+                let key = pool.key(entry.first, entry.second);
+                Some((Label::Key(key), Node::Value(*pool, entry)))
             }
-            Parts::Entries(entries) => {
-                let (key, value) = entries.next_entry()?;
-                Some((Label::Key(key.as_str()), Node::Value(value)))
+            Parts::Members(pool, members) => {
+                let (member, more) = members.split_first()?;
+                *members = more;
+                Some((Label::Member(member.first), Node::Value(*pool, member)))
             }
-            Parts::Members(members) => {
-                let (position, value) = members.next_entry()?;
-                Some((Label::Member(*position), Node::Value(value)))
-            }
-            Parts::Only(member) => {
-                let only = (Label::Member(member.0), member.1);
+            Parts::Only(pool, value) => {
+                let only = (Label::Member(value.first), Node::Value(*pool, *value));
                 *self = Parts::Nothing;
                 Some(only)
             }

@@ -4,6 +4,7 @@ ghost use Rattle.smithy_compare.specs.FirstPath.{first_in};
 ghost use Rattle.smithy_compare.specs.View.{step_of, path_of, found_path};
 ghost use Rattle.smithy_compare.specs.Private.Nodes.{node_tree, step_at, parts_of};
 ghost use Rattle.smithy_compare.specs.Private.Pairs.{IsNextPair};
+ghost use Rattle.smithy_compare.specs.Private.Standing.{NodeStands, PartsStand, PairStands};
 
 use crate::node::Node;
 use crate::parts::{Label, Parts};
@@ -24,7 +25,10 @@ pub enum Pair<'v> {
 
 // What comes next in two containers of which all that was given before is in both.
 fn next_pair<'v>(left: &mut Parts<'v>, right: &mut Parts<'v>) -> Pair<'v>
-    ensures { IsNextPair (parts_of left.old) (parts_of right.old) result (parts_of left.new) (parts_of right.new) }
+    requires left { PartsStand left.old }
+    requires right { PartsStand right.old }
+    ensures next { IsNextPair (parts_of left.old) (parts_of right.old) result (parts_of left.new) (parts_of right.new) }
+    ensures stands { PairStands result left.new right.new }
 {
     let Some((label, node)) = left.next_part() else {
         return match right.next_part() {
@@ -73,6 +77,8 @@ pub(crate) fn first_difference(
     left: &Node<'_>,
     right: &Node<'_>,
 ) -> Result<Option<Vec<PathPart>>, AllocError>
+    requires left { NodeStands left.now }
+    requires right { NodeStands right.now }
     ensures { IfOk result (λ found. found_path found ≡ first_in (node_tree left.now) (node_tree right.now)) }
 {
     let (top, mut parts) = left.split();

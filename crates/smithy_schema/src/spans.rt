@@ -1,4 +1,4 @@
-//! Reading texts and bytes by the places of the input at which they stand.
+//! Reading texts and bytes by places of the input.
 ghost use Rattle.std.specs.Prelude.{◌≡◌, IfOk, MatchOption};
 ghost use Rattle.smithy_declarations.specs.declared.shape_type.Scalar.TheVariants as scalars;
 ghost use Rattle.smithy_declarations.specs.Value.{text, bytes};
@@ -12,12 +12,12 @@ use crate::read::ShapeDeserializer;
 use smithy_shapes::Schema;
 use smithy_types::Blob;
 
-/// A text, by where it stands in an input.
+/// A text, by where its bytes stand in an input.
 #[derive(Drop)]
 pub enum TextSpan {
-    /// It begins at this place, and is so many bytes long.
+    /// They begin at this place, and are so many.
     Placed(usize, usize),
-    /// It stands nowhere there as it is meant.
+    /// It is in memory of its own.
     Owned(String),
 }
 
@@ -26,11 +26,11 @@ pub enum TextSpan {
 pub enum BytesSpan {
     /// They begin at this place, and are so many.
     Placed(usize, usize),
-    /// They stand nowhere there as they are meant.
+    /// They are in memory of their own.
     Owned(Blob),
 }
 
-/// A reader that tells at which places of its input texts and bytes stand.
+/// A reader that names texts and bytes by places of its input, where the bytes that are meant stand.
 pub trait SpanDeserializer: ShapeDeserializer {
     /// Reads a text.
     fn read_text_span(&mut self, schema: &Schema<'_>) -> Result<TextSpan, SerdeError>

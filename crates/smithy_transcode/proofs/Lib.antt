@@ -2,17 +2,19 @@ pub mod Begun
 pub mod Bodies
 mod BodiesRead
 mod BodiesWritten
-mod CompactVariants
-mod EntryOrder
 mod HalfElements
 mod HalfMembers
 mod HalfRead
+mod KeyAnswers
 mod Unfits
 mod ValuesPass
+mod Made
 pub mod Mapped
 mod Maps
 mod NullsHeld
 mod ReadAnswers
+mod PoolBodies
+mod PoolTrees
 mod ReadViews
 mod ReadTypes
 mod ReadWide
@@ -20,6 +22,7 @@ mod ReadDeep
 mod DepthFacts
 mod WideBodies
 pub mod Spelled
+mod Standing
 mod Structures
 pub mod Transcodings
 mod Unions

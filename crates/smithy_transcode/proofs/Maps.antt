@@ -1,5 +1,5 @@
 -- A map that is written in part.
-use Rattle.std.proofs.Common.{arith, ◌≡◌, ◌≤◌, suc, max, ℕ, List, [], ◌∷◌, ◌++◌, String, Global, string_bytes, length, true, Some, Ok, Err, refl, ◌∙◌, ap, append_assoc}
+use Rattle.std.proofs.Common.{arith, ◌≡◌, ◌≤◌, suc, max, ℕ, List, [], ◌∷◌, ◌++◌, String, Global, length, true, Some, Ok, Err, refl, ◌∙◌, ap, append_assoc}
 use Rattle.std.specs.Prelude.{unwrap_or}
 use Rattle.std.specs.Option.{option_map_or}
 use Rattle.std.proofs.Math.Nat.{le-max_left, le-max_right}
@@ -12,17 +12,22 @@ use Rattle.smithy_schema.specs.Writing.{Event, Writer, write, run, entry_count, 
 use Rattle.smithy_shapes.specs.Lemmas.Kinds.{map_kind}
 use Rattle.smithy_shapes.proofs.SiteLemmas.{value_site_at, entry_fit}
 use Rattle.smithy_schema.proofs.WritingLemmas.{call_made, call_refused, child_written, child_refused}
-use Rattle.smithy_transcode.specs.Private.Tree.{entry_views}
+use Rattle.smithy_transcode.specs.Private.Tree.{entry_views, keyed_views}
 use Rattle.smithy_schema.proofs.WrittenLists.{fits_or_null}
 
 -- the calls for what is left of a map
 abbrev pub map_rest : Site → MapEntries → List Event
 map_rest site es = entry_events (key_of site) (value_of site) es ++ end_map ∷ []
 
--- a tree's map is told as long as it is
+-- a map has as many entries as are told, where a map of the library keeps them
 pub told : {T : Type 0} (view : T → Value) (es : List (String Global × T)) → length es ≡ entry_count (entry_views view es)
 told view [] = refl
 told view (e ∷ es) = ap suc (told view es)
+
+-- and where trees are kept with their keys
+pub told_keyed : {T : Type 0} (view : T → Value) (key : T → List ℕ) (xs : List T) → length xs ≡ entry_count (keyed_views view key xs)
+told_keyed view key [] = refl
+told_keyed view key (x ∷ xs) = ap suc (told_keyed view key xs)
 
 pub map_begun : {S : Type 0} (after : Writer S) (site : Site) (es : MapEntries) (n : ℕ) (s t : S)
     → n ≡ entry_count es → after (begin_map site (Some n)) s ≡ Ok t → write after site (map es) s ≡ run after (map_rest site es) t
@@ -70,9 +75,8 @@ value_fits site value child key v es rest is found nameless next fits =
     rw (value_site_is site value child found nameless, value_site_at site.table site.place site.view k.0 k.1) (fits_or_null _ _ _ _ fit)
 
 -- the next entry, by what its value is at its root
-pub next_entry : {T : Type 0} (view : T → Value) (es rest : List (String Global × T)) (key : String Global) (w : T) (v : Value) → es ≡ (key, w) ∷ rest → view w ≡ v
-    → entry_views view es ≡ map_entry (string_bytes key) v (entry_views view rest)
-next_entry view es rest key w v is seen = ap (entry_views view) is ∙ ap (λ u. map_entry (string_bytes key) u (entry_views view rest)) seen
+pub next_entry : (es rest : MapEntries) (key : List ℕ) (v w : Value) → es ≡ map_entry key v rest → v ≡ w → es ≡ map_entry key w rest
+next_entry es rest key v w is seen = is ∙ ap (λ u. map_entry key u rest) seen
 
 -- how many entries are left
 abbrev pub count : MapEntries → ℕ

@@ -1,9 +1,8 @@
 -- A value that is gone through for a null, part by part.
-use Rattle.std.proofs.Common.{◌≡◌, ◌||◌, ℕ, ℤ, List, [], ◌∷◌, Bool, true, false, refl, ◌∙◌, ap}
+use Rattle.std.proofs.Common.{◌≡◌, ◌||◌, ℕ, List, ◌∷◌, Bool, true, false, refl, ◌∙◌, ap}
 use Rattle.smithy_declarations.specs.Value.{Value, values_of, MapEntries, no_map_entries, map_entry, MemberValues, no_member_values, member_value}
 use Rattle.smithy_query_codec.specs.Nulls.{holds_null, elements_hold_null, entries_hold_null, members_hold_null}
 use Rattle.smithy_query_codec.specs.Counts.{HasPositions, ElementsHavePositions, EntriesHavePositions, MembersHavePositions}
-use Rattle.smithy_transcode.specs.Private.Tree.{whole_values}
 
 or_false : (a b : Bool) → a ≡ false → (a || b) ≡ b
 or_false true b h = absurd (let e : true ≡ false = h in cc)
@@ -29,15 +28,6 @@ pub element_counted : (all vs : List Value) (v : Value) (ws : List Value) → vs
     → (ElementsHavePositions (values_of vs) → ElementsHavePositions (values_of all)) → HasPositions v
     → ElementsHavePositions (values_of ws) → ElementsHavePositions (values_of all)
 element_counted all vs v ws next goes one rest = goes (rw next (one, rest))
-
--- whole numbers hold no null
-pub wholes_clear : (ns : List ℤ) → elements_hold_null (values_of (whole_values ns)) ≡ false
-wholes_clear [] = refl
-wholes_clear (n ∷ ns) = wholes_clear ns
-
-pub wholes_counted : (ns : List ℤ) → ElementsHavePositions (values_of (whole_values ns))
-wholes_counted [] = tt
-wholes_counted (n ∷ ns) = (tt, wholes_counted ns)
 
 -- ---- entries
 

@@ -8,7 +8,6 @@ use Rattle.smithy_shapes.specs.Site.{Site, kind_at, member_site, member_of}
 use Rattle.smithy_shapes.specs.Fits.{FitsOr, MembersFit}
 use Rattle.smithy_declarations.specs.Value.{Value, structure, MemberValues, no_member_values, member_value, nesting, members_nesting}
 use Rattle.smithy_schema.specs.Writing.{Event, Writer, write, run, member_events, begin_structure, end_structure}
-use Rattle.smithy_transcode.specs.Private.Tree.{member_views}
 use Rattle.smithy_schema.proofs.WrittenLists.{fits_or_null}
 use Rattle.smithy_shapes.specs.Lemmas.Kinds.{structure_kind}
 use Rattle.smithy_shapes.proofs.SiteLemmas.{member_site_at, member_fit}
@@ -40,9 +39,8 @@ pub rest_fits : (site : Site) (n : ℕ) (v : Value) (ms rest : MemberValues) →
 rest_fits site n v ms rest is fits = (rw is at fits).1
 
 -- the next member, by what its value is at its root
-pub next_member : {T : Type 0} (view : T → Value) (ms rest : List (ℕ × T)) (n : ℕ) (m : T) (v : Value) → ms ≡ (n, m) ∷ rest → view m ≡ v
-    → member_views view ms ≡ member_value n v (member_views view rest)
-next_member view ms rest n m v is seen = ap (member_views view) is ∙ ap (λ u. member_value n u (member_views view rest)) seen
+pub next_member : (ms rest : MemberValues) (n : ℕ) (v w : Value) → ms ≡ member_value n v rest → v ≡ w → ms ≡ member_value n w rest
+next_member ms rest n v w is seen = is ∙ ap (λ u. member_value n u rest) seen
 
 -- how many members are left
 abbrev pub count : MemberValues → ℕ

@@ -1,8 +1,9 @@
 -- Words that private clauses cite.
 pub mod Tree
-pub mod Elements
-pub mod Entries
-pub mod Order
+pub mod Building
+pub mod Pooled
+pub mod PoolLaws
+pub mod Placed
 pub mod Positions
 pub mod Rare
 pub mod ReadWhole

@@ -1,5 +1,4 @@
--- What `read_body` promises, for every table, root, wire and input, and `read_body_as` for every kind of tree
--- whose texts and bytes are in memory of their own.
+-- What a read of a whole body promises, for every table, root, wire and input, and every kind of tree.
 use Rattle.std.specs.Prelude.{◌≡◌, ◌≢◌, ℕ, List, Result, Ok, Err, IfOk, IfErr}
 use Rattle.smithy_declarations.specs.Table.{Table, shape_place}
 use Rattle.smithy_declarations.specs.Value.{Value}

@@ -193,4 +193,12 @@ impl<'a, D: BorrowDeserializer<'a>> PieceDeserializer for Borrowing<'_, 'a, D> {
     fn take_bytes(&mut self, schema: &Schema<'_>) -> Result<CowSlice<'a, u8, Global>, SerdeError> {
         self.source.read_bytes(schema)
     }
+
+    #[inline(always)]
+    fn take_key(&mut self) -> Result<Option<CowStr<'a, Global>>, SerdeError> {
+        match self.source.next_key()? {
+            Some(key) => Ok(Some(CowStr::Owned(key))),
+            None => Ok(None),
+        }
+    }
 }

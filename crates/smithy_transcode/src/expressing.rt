@@ -1,5 +1,5 @@
 //! What a wire can't express.
-ghost use Rattle.std.specs.Prelude.{◌≡◌, ◌&&◌, ◌||◌, not, None, true, false};
+ghost use Rattle.std.specs.Prelude.{◌≡◌, ℕ, List, ◌&&◌, ◌||◌, not, None, true, false};
 ghost use Rattle.smithy_shapes.specs.Fits.{Fits, FitsOr};
 ghost use Rattle.smithy_shapes.specs.Holding.{may_hold};
 ghost use Rattle.smithy_shapes.specs.ScalarTest.{scalars_pass};
@@ -13,9 +13,10 @@ ghost use Rattle.smithy_transcode.specs.Private.Positions.{CanCount};
 ghost use Rattle.smithy_transcode.specs.Private.ValueTest.{test_view};
 
 use crate::nulls::holds_null;
-use crate::tree::Tree;
+use crate::tree::Trees;
 use crate::value::Value;
 use crate::value_test::{InstantTest, ValueTest, test_of, value_passes};
+use crate::value_trees::ValueTrees;
 use crate::wire::{Unfit, Wire};
 use smithy_schema::{Schema, ShapeRef, Shapes};
 
@@ -25,7 +26,7 @@ pub fn expressible(shapes: &Shapes, root: ShapeRef, value: &Value<'_>, to: &Wire
     requires fits { Fits shapes.now (shape_place root.0) (view value.now) }
     ensures { result ≡ unfit_for (wire_of to.now) shapes.now root.0 (view value.now) }
 {
-    unfit::<Value<'_>>(&shapes.schema(root), value, to)
+    unfit::<ValueTrees<'_>>(&ValueTrees::new(), &shapes.schema(root), value, to)
 }
 
 // A value of the schema's place may fail the test: a timestamp, or a document where none passes, may stand in it.
@@ -36,57 +37,75 @@ fn can_fail(schema: &Schema<'_>, test: ValueTest) -> bool
 }
 
 // The value passes the test. It is gone through only where it can fail.
-fn passes<T: Tree>(schema: &Schema<'_>, value: &T, test: ValueTest) -> bool
-    requires fits { FitsOr schema.now.shapes.now schema.now.place true (T.view value.now) }
-    ensures { result ≡ scalars_pass (test_view test) (site_of schema.now) (T.view value.now) }
+fn passes<P: Trees>(trees: &P, schema: &Schema<'_>, value: &P::Tree, test: ValueTest) -> bool
+    requires sound { (i : List ℕ) × P.sound trees.now i }
+    requires stands { P.stands trees.now value.now }
+    requires fits { FitsOr schema.now.shapes.now schema.now.place true (P.view trees.now value.now) }
+    ensures { result ≡ scalars_pass (test_view test) (site_of schema.now) (P.view trees.now value.now) }
 {
     if can_fail(schema, test) {
-        return value_passes::<T>(schema, value, test);
+        return value_passes::<P>(trees, schema, value, test);
     }
     true
 }
 
 // A document stands in the value, and none passes the test of the wire.
-fn lacks_document<T: Tree>(schema: &Schema<'_>, value: &T, test: ValueTest) -> bool
-    requires fits { FitsOr schema.now.shapes.now schema.now.place true (T.view value.now) }
-    ensures { result ≡ (not test.documents && holds_document (site_of schema.now) (T.view value.now)) }
+fn lacks_document<P: Trees>(
+    trees: &P,
+    schema: &Schema<'_>,
+    value: &P::Tree,
+    test: ValueTest,
+) -> bool
+    requires sound { (i : List ℕ) × P.sound trees.now i }
+    requires stands { P.stands trees.now value.now }
+    requires fits { FitsOr schema.now.shapes.now schema.now.place true (P.view trees.now value.now) }
+    ensures { result ≡ (not test.documents && holds_document (site_of schema.now) (P.view trees.now value.now)) }
 {
     let without_documents = ValueTest {
         instants: InstantTest::Any,
         documents: false,
     };
-    !test.documents && !value_passes::<T>(schema, value, without_documents)
+    !test.documents && !value_passes::<P>(trees, schema, value, without_documents)
 }
 
 // A null stands in the value, and the wire has none. Only where a form is wanted, the value is gone through for nulls.
-fn lacks_null<T: Tree>(value: &T, to: &Wire) -> bool
-    ensures null { result ≡ (not (has_nulls (wire_of to.now)) && null_in (T.view value.now)) }
-    ensures positions { result ≡ false → CanCount (wire_of to.now) (T.view value.now) }
+fn lacks_null<P: Trees>(trees: &P, value: &P::Tree, to: &Wire) -> bool
+    requires sound { (i : List ℕ) × P.sound trees.now i }
+    requires stands { P.stands trees.now value.now }
+    ensures null { result ≡ (not (has_nulls (wire_of to.now)) && null_in (P.view trees.now value.now)) }
+    ensures positions { result ≡ false → CanCount (wire_of to.now) (P.view trees.now value.now) }
 {
     match to {
         Wire::Json { .. } | Wire::Cbor { .. } => false,
-        Wire::Query { .. } => holds_null::<T>(value),
+        Wire::Query { .. } => holds_null::<P>(trees, value),
     }
 }
 
 // Why the wire can't express a value of any tree. Where it can, and no form is wanted, the value is gone through once at most.
-pub(crate) fn unfit<T: Tree>(schema: &Schema<'_>, value: &T, to: &Wire) -> Option<Unfit>
-    requires fits { FitsOr schema.now.shapes.now schema.now.place true (T.view value.now) }
-    ensures unfit { result ≡ unfit_at (wire_of to.now) (site_of schema.now) (T.view value.now) }
-    ensures positions { result ≡ None → CanCount (wire_of to.now) (T.view value.now) }
+pub(crate) fn unfit<P: Trees>(
+    trees: &P,
+    schema: &Schema<'_>,
+    value: &P::Tree,
+    to: &Wire,
+) -> Option<Unfit>
+    requires sound { (i : List ℕ) × P.sound trees.now i }
+    requires stands { P.stands trees.now value.now }
+    requires fits { FitsOr schema.now.shapes.now schema.now.place true (P.view trees.now value.now) }
+    ensures unfit { result ≡ unfit_at (wire_of to.now) (site_of schema.now) (P.view trees.now value.now) }
+    ensures positions { result ≡ None → CanCount (wire_of to.now) (P.view trees.now value.now) }
 {
     let test = test_of(to);
-    if passes::<T>(schema, value, test) {
-        return if lacks_null::<T>(value, to) {
+    if passes::<P>(trees, schema, value, test) {
+        return if lacks_null::<P>(trees, value, to) {
             Some(Unfit::Null)
         } else {
             None
         };
     }
-    if lacks_document::<T>(schema, value, test) {
+    if lacks_document::<P>(trees, schema, value, test) {
         return Some(Unfit::Document);
     }
-    if lacks_null::<T>(value, to) {
+    if lacks_null::<P>(trees, value, to) {
         Some(Unfit::Null)
     } else {
         Some(Unfit::Instant)

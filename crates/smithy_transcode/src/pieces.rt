@@ -1,47 +1,63 @@
 //! Readers that hand out texts and bytes in types of their own.
-ghost use Rattle.std.specs.Prelude.{◌≡◌, ℕ, List};
+ghost use Rattle.std.specs.Prelude.{◌≡◌, ℕ, List, IfOk, MatchOption};
 ghost use Rattle.smithy_declarations.specs.declared.shape_type.Scalar.TheVariants as scalars;
 ghost use Rattle.smithy_declarations.specs.Value.{text, bytes};
 ghost use Rattle.smithy_shapes.specs.Site.{site_of};
-ghost use Rattle.smithy_schema.specs.Reading.{ReadsScalar};
+ghost use Rattle.smithy_schema.specs.Containers.{GoesOnInMap};
+ghost use Rattle.smithy_schema.specs.Reading.{ReadsScalar, in_map};
 
-use smithy_cbor_codec::CborDeserializer;
-use smithy_json_codec::JsonDeserializer;
-use smithy_schema::{Schema, SerdeError, ShapeDeserializer};
-use smithy_types::Blob;
+use smithy_schema::{BytesSpan, Schema, SerdeError, ShapeDeserializer, TextSpan};
 use std::alloc::Global;
 use std::borrow::{CowSlice, CowStr};
 
-/// A text, wherever it is kept.
+/// A text that was read from an input, wherever it is kept.
 pub trait TextView: Drop {
-    ghost bytes_of: { Self → List ℕ };
+    // The bytes of the text.
+    ghost bytes_of: { List ℕ → Self → List ℕ };
+
+    // The text stands in the input, where it names a place of it.
+    ghost stands: { List ℕ → Self → Type 0 };
 }
 
-impl TextView for String {
-    ghost use Rattle.std.specs.Prelude.{string_bytes};
+impl TextView for TextSpan {
+    ghost use Rattle.smithy_schema.specs.Spans.{text_bytes, IsTextPlaced};
 
-    ghost bytes_of = { string_bytes };
+    ghost bytes_of = { text_bytes };
+
+    ghost stands = { IsTextPlaced };
 }
 
 impl TextView for CowStr<'_, Global> {
     ghost use Rattle.std.specs.Cow.{cow_str_bytes};
 
-    ghost bytes_of = { cow_str_bytes };
+    ghost bytes_of = { λ input s. cow_str_bytes s };
+
+    ghost stands = { λ input s. Unit {0} };
 }
 
-/// Any bytes, wherever they are kept.
+/// Any bytes that were read from an input, wherever they are kept.
 pub trait BytesView: Drop {
-    ghost items_of: { Self → List ℕ };
+    // The bytes themselves.
+    ghost items_of: { List ℕ → Self → List ℕ };
+
+    // The bytes stand in the input, where they name a place of it.
+    ghost stands: { List ℕ → Self → Type 0 };
 }
 
-impl BytesView for Blob {
-    ghost items_of = { λ blob. blob };
+impl BytesView for BytesSpan {
+    ghost use Rattle.smithy_schema.specs.Spans.{span_bytes, IsPlaced};
+
+    ghost items_of = { span_bytes };
+
+    ghost stands = { IsPlaced };
 }
 
 impl BytesView for CowSlice<'_, u8, Global> {
     ghost use Rattle.std.specs.Cow.{cow_slice_items};
 
-    ghost items_of = { cow_slice_items };
+    ghost items_of = { λ input b. cow_slice_items b };
+
+    ghost stands = { λ input b. Unit {0} };
 }
 
 /// A reader that hands out texts and bytes in types of its own. It names no lifetime, since no function that calls itself may have
@@ -56,42 +72,19 @@ pub(crate) trait PieceDeserializer: ShapeDeserializer {
     /// Reads a text.
     fn take_text(&mut self, schema: &Schema<'_>) -> Result<Self::Text, SerdeError>
         ensures same { Self.settings self.new ≡ Self.settings self.old }
-        ensures read { ReadsScalar (Self.wire (Self.settings self.old)) (Self.lifted (Self.settings self.old)) (Self.tells_without_limits (Self.settings self.old)) (Self.state self.old) (Self.state self.new) (site_of schema.now) scalars.String (λ s. text (Self.Text.bytes_of s)) result };
+        ensures read { ReadsScalar (Self.wire (Self.settings self.old)) (Self.lifted (Self.settings self.old)) (Self.tells_without_limits (Self.settings self.old)) (Self.state self.old) (Self.state self.new) (site_of schema.now) scalars.String (λ s. text (Self.Text.bytes_of (Self.state self.old).input s)) result }
+        ensures stands { IfOk result (Self.Text.stands (Self.state self.old).input) };
 
     /// Reads bytes.
     fn take_bytes(&mut self, schema: &Schema<'_>) -> Result<Self::Bytes, SerdeError>
         ensures same { Self.settings self.new ≡ Self.settings self.old }
-        ensures read { ReadsScalar (Self.wire (Self.settings self.old)) (Self.lifted (Self.settings self.old)) (Self.tells_without_limits (Self.settings self.old)) (Self.state self.old) (Self.state self.new) (site_of schema.now) scalars.Blob (λ b. bytes (Self.Bytes.items_of b)) result };
-}
+        ensures read { ReadsScalar (Self.wire (Self.settings self.old)) (Self.lifted (Self.settings self.old)) (Self.tells_without_limits (Self.settings self.old)) (Self.state self.old) (Self.state self.new) (site_of schema.now) scalars.Blob (λ b. bytes (Self.Bytes.items_of (Self.state self.old).input b)) result }
+        ensures stands { IfOk result (Self.Bytes.stands (Self.state self.old).input) };
 
-impl PieceDeserializer for JsonDeserializer<'_, '_> {
-    type Text = String;
-
-    type Bytes = Blob;
-
-    #[inline(always)]
-    fn take_text(&mut self, schema: &Schema<'_>) -> Result<String, SerdeError> {
-        self.read_string(schema)
-    }
-
-    #[inline(always)]
-    fn take_bytes(&mut self, schema: &Schema<'_>) -> Result<Blob, SerdeError> {
-        self.read_blob(schema)
-    }
-}
-
-impl PieceDeserializer for CborDeserializer<'_> {
-    type Text = String;
-
-    type Bytes = Blob;
-
-    #[inline(always)]
-    fn take_text(&mut self, schema: &Schema<'_>) -> Result<String, SerdeError> {
-        self.read_string(schema)
-    }
-
-    #[inline(always)]
-    fn take_bytes(&mut self, schema: &Schema<'_>) -> Result<Blob, SerdeError> {
-        self.read_blob(schema)
-    }
+    /// Goes on in the map, as `next_key` does.
+    fn take_key(&mut self) -> Result<Option<Self::Text>, SerdeError>
+        requires within { (Self.state self.old).inner.within ≡ in_map }
+        ensures same { Self.settings self.new ≡ Self.settings self.old }
+        ensures goes_on { GoesOnInMap (Self.wire (Self.settings self.old)) (Self.lifted (Self.settings self.old)) (Self.tells_without_limits (Self.settings self.old)) (Self.Text.bytes_of (Self.state self.old).input) (Self.state self.old) (Self.state self.new) result }
+        ensures stands { IfOk result (λ next. MatchOption next (Unit {0}) (Self.Text.stands (Self.state self.old).input)) };
 }

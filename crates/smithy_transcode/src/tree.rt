@@ -1,12 +1,13 @@
 //! A tree of values, as a reader builds it and a writer goes through it.
-ghost use Rattle.std.specs.Prelude.{◌≡◌, List, [], ◌∷◌, ◌++◌, OnOk, IfOk, IfErr, string_bytes};
+ghost use Rattle.std.specs.Prelude.{◌≡◌, ℕ, List, [], ◌∷◌, ◌++◌, OnOk, IfOk, IfErr};
 ghost use Rattle.smithy_schema.specs.declared.error.SerdeError.TheVariants.{NoMemory};
 ghost use Rattle.smithy_declarations.specs.Value.{Value, scalar_value, boolean, whole, text, bytes, decimal, instant, list, map, structure, union, null_element, document_value, values_of, MapEntries, no_map_entries, put_entry, MemberValues, no_member_values, put_member};
 ghost use Rattle.smithy_types.specs.Document.{whole_document};
 ghost use Rattle.smithy_types.specs.DocumentView.{document_view};
-ghost use Rattle.smithy_transcode.specs.Private.Tree.{part_view, union_value_view};
+ghost use Rattle.smithy_transcode.specs.Private.Building.{IsMade, KeepsLawfully, GrowsLawfully};
+ghost use Rattle.smithy_transcode.specs.Private.Tree.{part_view, PartStands};
 
-use crate::entries::Entries;
+use crate::entries::{Entries, Members};
 use crate::pieces::{BytesView, TextView};
 use smithy_schema::SerdeError;
 use smithy_types::{DateTime, Document};
@@ -29,56 +30,24 @@ pub enum Part<'v, T> {
     Timestamp(DateTime),
     /// The elements of a list, in their order.
     List(&'v [T]),
-    /// The elements of a list of whole numbers, in their order.
-    Wholes(&'v [i64]),
     /// The entries of a map, in the order of their keys.
-    Map(Entries<'v, String, T>),
+    Map(Entries<'v, T>),
     /// The members of a structure, in the order of their positions.
-    Structure(Entries<'v, u32, T>),
+    Structure(Members<'v, T>),
     /// The member of a union by its position, and its value.
-    Union(u32, UnionValue<'v, T>),
+    Union(u32, &'v T),
     /// A null among the elements of a sparse list or the values of a sparse map.
     Null,
     /// A document.
     Document(&'v Document),
 }
 
-/// The value of a union: one that its tree keeps beside the position, or a tree of its own.
-#[derive(Drop)]
-pub enum UnionValue<'v, T> {
-    /// A text.
-    Text(&'v str),
-    /// The elements of a list, in their order.
-    List(&'v [T]),
-    /// The elements of a list of whole numbers, in their order.
-    Wholes(&'v [i64]),
-    /// The entries of a map, in the order of their keys.
-    Map(&'v [(String, T)]),
-    /// The members of a structure, in the order of their positions.
-    Structure(&'v [(u32, T)]),
-    /// A tree.
-    Tree(&'v T),
-}
+/// Trees that are built from their leaves on, and gone through from their root on. What a tree doesn't keep itself stands in this
+/// store, which only grows.
+pub trait Trees: Sized {
+    /// One tree.
+    type Tree: Drop;
 
-impl<'v, T: Tree> UnionValue<'v, T> {
-    /// What the value is at its root.
-    #[inline(always)]
-    pub fn part(&self) -> Part<'v, T>
-        ensures { part_view T.view result ≡ union_value_view T.view self.now }
-    {
-        match self {
-            UnionValue::Text(content) => Part::Text(*content),
-            UnionValue::List(elements) => Part::List(*elements),
-            UnionValue::Wholes(numbers) => Part::Wholes(*numbers),
-            UnionValue::Map(entries) => Part::Map(Entries::Slice(*entries)),
-            UnionValue::Structure(members) => Part::Structure(Entries::Slice(*members)),
-            UnionValue::Tree(value) => value.part(),
-        }
-    }
-}
-
-/// A tree that is built from its leaves on, and gone through from its root on.
-pub trait Tree: Drop + Sized {
     /// A text, as the tree is given it.
     type Text: TextView;
 
@@ -94,96 +63,185 @@ pub trait Tree: Drop + Sized {
     /// The members of a structure that is half built.
     type Members: Drop;
 
-    // What the tree, its elements, its entries and its members stand for.
-    ghost view: { Self → Value };
+    // Trees that are read from this input may stand in the store.
+    ghost sound: { Self → List ℕ → Type 0 };
 
-    ghost view_elements: { Self.Elements → List Value };
+    // The second store has grown from the first, and what is half built is as it was.
+    ghost keeps: { Self → Self → Type 0 };
 
-    ghost view_entries: { Self.Entries → MapEntries };
+    ghost keeps_lawfully: { KeepsLawfully sound keeps };
 
-    ghost view_members: { Self.Members → MemberValues };
+    // The tree stands in the store.
+    ghost stands: { Self → Self.Tree → Type 0 };
 
-    fn boolean(value: bool) -> Self
-        ensures { view result ≡ scalar_value (boolean value) };
+    // What it stands for there.
+    ghost view: { Self → Self.Tree → Value };
 
-    fn whole(number: i64) -> Self
-        ensures { view result ≡ scalar_value (whole number) };
+    // The key of a tree that is kept as an entry of a map, and the position of one that is kept as a member.
+    ghost key_of: { Self → Self.Tree → List ℕ };
 
-    fn big_integer(alloc: Global, number: i128) -> Result<Self, SerdeError>
-        ensures ok { IfOk result (λ n. view n ≡ scalar_value (whole number)) }
+    ghost position_of: { Self.Tree → ℕ };
+
+    // The second store has grown from the first by these elements, entries or members alone; and what they stand for.
+    ghost begun_elements: { Self → Self → Self.Elements → Type 0 };
+
+    ghost view_elements: { Self → Self.Elements → List Value };
+
+    ghost elements_grow_lawfully: { GrowsLawfully sound keeps begun_elements view_elements };
+
+    ghost begun_entries: { Self → Self → Self.Entries → Type 0 };
+
+    ghost view_entries: { Self → Self.Entries → MapEntries };
+
+    ghost entries_grow_lawfully: { GrowsLawfully sound keeps begun_entries view_entries };
+
+    ghost begun_members: { Self → Self → Self.Members → Type 0 };
+
+    ghost view_members: { Self → Self.Members → MemberValues };
+
+    ghost members_grow_lawfully: { GrowsLawfully sound keeps begun_members view_members };
+
+    fn boolean(value: bool) -> Self::Tree
+        ensures stands { (p : Self) → stands p result }
+        ensures shows { (p : Self) → view p result ≡ scalar_value (boolean value) };
+
+    fn whole(number: i64) -> Self::Tree
+        ensures stands { (p : Self) → stands p result }
+        ensures shows { (p : Self) → view p result ≡ scalar_value (whole number) };
+
+    fn timestamp(value: DateTime) -> Self::Tree
+        ensures stands { (p : Self) → stands p result }
+        ensures shows { (p : Self) → view p result ≡ scalar_value (instant value) };
+
+    fn null() -> Self::Tree
+        ensures stands { (p : Self) → stands p result }
+        ensures shows { (p : Self) → view p result ≡ null_element };
+
+    fn text(&mut self, content: Self::Text) -> Result<Self::Tree, SerdeError>
+        requires stands { (i : List ℕ) × sound self.old i × Self.Text.stands i content }
+        ensures ok { (i : List ℕ) → sound self.old i → IfOk result (IsMade keeps stands view self.old self.new (scalar_value (text (Self.Text.bytes_of i content)))) }
         ensures err { IfErr result (λ e. e ≡ NoMemory) };
 
-    fn text(content: Self::Text) -> Self
-        ensures { view result ≡ scalar_value (text (Self.Text.bytes_of content)) };
-
-    fn bytes(content: Self::Bytes) -> Self
-        ensures { view result ≡ scalar_value (bytes (Self.Bytes.items_of content)) };
-
-    fn decimal(alloc: Global, mantissa: i128, exponent: i64) -> Result<Self, SerdeError>
-        ensures ok { IfOk result (λ n. view n ≡ scalar_value (decimal mantissa exponent)) }
+    fn bytes(&mut self, content: Self::Bytes) -> Result<Self::Tree, SerdeError>
+        requires stands { (i : List ℕ) × sound self.old i × Self.Bytes.stands i content }
+        ensures ok { (i : List ℕ) → sound self.old i → IfOk result (IsMade keeps stands view self.old self.new (scalar_value (bytes (Self.Bytes.items_of i content)))) }
         ensures err { IfErr result (λ e. e ≡ NoMemory) };
 
-    fn timestamp(value: DateTime) -> Self
-        ensures { view result ≡ scalar_value (instant value) };
-
-    fn null() -> Self
-        ensures { view result ≡ null_element };
-
-    fn document(alloc: Global, value: Document) -> Result<Self, SerdeError>
-        ensures ok { IfOk result (λ d. view d ≡ document_value (whole_document (document_view value))) }
+    fn big_integer(&mut self, number: i128) -> Result<Self::Tree, SerdeError>
+        requires sound { (i : List ℕ) × sound self.old i }
+        ensures ok { IfOk result (IsMade keeps stands view self.old self.new (scalar_value (whole number))) }
         ensures err { IfErr result (λ e. e ≡ NoMemory) };
 
-    fn no_elements(alloc: Global) -> Self::Elements
-        ensures { view_elements result ≡ [] };
+    fn decimal(&mut self, mantissa: i128, exponent: i64) -> Result<Self::Tree, SerdeError>
+        requires sound { (i : List ℕ) × sound self.old i }
+        ensures ok { IfOk result (IsMade keeps stands view self.old self.new (scalar_value (decimal mantissa exponent))) }
+        ensures err { IfErr result (λ e. e ≡ NoMemory) };
+
+    fn document(&mut self, value: Document) -> Result<Self::Tree, SerdeError>
+        requires sound { (i : List ℕ) × sound self.old i }
+        ensures ok { IfOk result (IsMade keeps stands view self.old self.new (document_value (whole_document (document_view value)))) }
+        ensures err { IfErr result (λ e. e ≡ NoMemory) };
+
+    fn no_elements(&self, alloc: Global) -> Self::Elements
+        requires sound { (i : List ℕ) × sound self.now i }
+        ensures begun { begun_elements self.now self.now result }
+        ensures none { view_elements self.now result ≡ [] };
 
     /// Puts an element behind all others.
     fn push_element(
-        alloc: Global,
+        &mut self,
         elements: &mut Self::Elements,
-        value: Self,
+        value: Self::Tree,
     ) -> Result<(), SerdeError>
-        ensures ok { OnOk result (view_elements elements.new ≡ view_elements elements.old ++ view value ∷ []) }
+        requires sound { (i : List ℕ) × sound self.old i }
+        requires begun { (p : Self) × begun_elements p self.old elements.old }
+        requires stands { stands self.old value }
+        ensures begun { OnOk result ((p : Self) → begun_elements p self.old elements.old → begun_elements p self.new elements.new) }
+        ensures ok { OnOk result (view_elements self.new elements.new ≡ view_elements self.old elements.old ++ view self.old value ∷ []) }
         ensures err { IfErr result (λ e. e ≡ NoMemory) };
 
-    fn list(elements: Self::Elements) -> Self
-        ensures { view result ≡ list (values_of (view_elements elements)) };
+    fn list(&mut self, elements: Self::Elements) -> Result<Self::Tree, SerdeError>
+        requires sound { (i : List ℕ) × sound self.old i }
+        requires begun { (p : Self) × begun_elements p self.old elements }
+        ensures ok { (p : Self) → begun_elements p self.old elements → IfOk result (IsMade keeps stands view p self.new (list (values_of (view_elements self.old elements)))) }
+        ensures err { IfErr result (λ e. e ≡ NoMemory) };
 
-    fn no_entries(alloc: Global) -> Self::Entries
-        ensures { view_entries result ≡ no_map_entries };
+    fn no_entries(&self, alloc: Global) -> Self::Entries
+        requires sound { (i : List ℕ) × sound self.now i }
+        ensures begun { begun_entries self.now self.now result }
+        ensures none { view_entries self.now result ≡ no_map_entries };
 
     /// Puts an entry at its key. The last value of a key counts.
     fn set_entry(
+        &mut self,
         alloc: Global,
         entries: &mut Self::Entries,
-        key: String,
-        value: Self,
+        key: Self::Text,
+        value: Self::Tree,
     ) -> Result<(), SerdeError>
-        ensures ok { OnOk result (view_entries entries.new ≡ put_entry (string_bytes key) (view value) (view_entries entries.old)) }
+        requires key { (i : List ℕ) × sound self.old i × Self.Text.stands i key }
+        requires begun { (p : Self) × begun_entries p self.old entries.old }
+        requires stands { stands self.old value }
+        ensures begun { OnOk result ((p : Self) → begun_entries p self.old entries.old → begun_entries p self.new entries.new) }
+        ensures ok { (i : List ℕ) → sound self.old i → OnOk result (view_entries self.new entries.new ≡ put_entry (Self.Text.bytes_of i key) (view self.old value) (view_entries self.old entries.old)) }
         ensures err { IfErr result (λ e. e ≡ NoMemory) };
 
-    fn map(entries: Self::Entries) -> Self
-        ensures { view result ≡ map (view_entries entries) };
+    fn map(&mut self, alloc: Global, entries: Self::Entries) -> Result<Self::Tree, SerdeError>
+        requires sound { (i : List ℕ) × sound self.old i }
+        requires begun { (p : Self) × begun_entries p self.old entries }
+        ensures ok { (p : Self) → begun_entries p self.old entries → IfOk result (IsMade keeps stands view p self.new (map (view_entries self.old entries))) }
+        ensures err { IfErr result (λ e. e ≡ NoMemory) };
 
-    fn no_members(alloc: Global) -> Self::Members
-        ensures { view_members result ≡ no_member_values };
+    fn no_members(&self, alloc: Global) -> Self::Members
+        requires sound { (i : List ℕ) × sound self.now i }
+        ensures begun { begun_members self.now self.now result }
+        ensures none { view_members self.now result ≡ no_member_values };
 
     /// Puts a member at its position, from 0. The last value of a member counts.
     fn set_member(
-        alloc: Global,
+        &mut self,
         members: &mut Self::Members,
         index: u32,
-        value: Self,
+        value: Self::Tree,
     ) -> Result<(), SerdeError>
-        ensures ok { OnOk result (view_members members.new ≡ put_member index (view value) (view_members members.old)) }
+        requires sound { (i : List ℕ) × sound self.old i }
+        requires begun { (p : Self) × begun_members p self.old members.old }
+        requires stands { stands self.old value }
+        ensures begun { OnOk result ((p : Self) → begun_members p self.old members.old → begun_members p self.new members.new) }
+        ensures ok { OnOk result (view_members self.new members.new ≡ put_member index (view self.old value) (view_members self.old members.old)) }
         ensures err { IfErr result (λ e. e ≡ NoMemory) };
 
-    fn structure(members: Self::Members) -> Self
-        ensures { view result ≡ structure (view_members members) };
-
-    fn union(alloc: Global, index: u32, value: Self) -> Result<Self, SerdeError>
-        ensures ok { IfOk result (λ u. view u ≡ union index (view value)) }
+    fn structure(&mut self, alloc: Global, members: Self::Members) -> Result<Self::Tree, SerdeError>
+        requires sound { (i : List ℕ) × sound self.old i }
+        requires begun { (p : Self) × begun_members p self.old members }
+        ensures ok { (p : Self) → begun_members p self.old members → IfOk result (IsMade keeps stands view p self.new (structure (view_members self.old members))) }
         ensures err { IfErr result (λ e. e ≡ NoMemory) };
 
-    fn part(&self) -> Part<'_, Self>
-        ensures { view self.now ≡ part_view view result };
+    fn union(
+        &mut self,
+        alloc: Global,
+        index: u32,
+        value: Self::Tree,
+    ) -> Result<Self::Tree, SerdeError>
+        requires sound { (i : List ℕ) × sound self.old i }
+        requires stands { stands self.old value }
+        ensures ok { IfOk result (IsMade keeps stands view self.old self.new (union index (view self.old value))) }
+        ensures err { IfErr result (λ e. e ≡ NoMemory) };
+
+    /// What the tree is at its root.
+    fn part<'v>(&'v self, tree: &'v Self::Tree) -> Part<'v, Self::Tree>
+        requires sound { (i : List ℕ) × sound self.now i }
+        requires stands { stands self.now tree.now }
+        ensures shows { view self.now tree.now ≡ part_view (view self.now) (key_of self.now) position_of result }
+        ensures parts { PartStands (stands self.now) result };
+
+    /// The key of a tree that is kept as an entry of a map.
+    fn key<'v>(&'v self, tree: &'v Self::Tree) -> &'v str
+        requires sound { (i : List ℕ) × sound self.now i }
+        requires stands { stands self.now tree.now }
+        ensures { result.now ≡ key_of self.now tree.now };
+
+    /// The position of a tree that is kept as a member of a structure.
+    fn position(tree: &Self::Tree) -> u32
+        ensures { result ≡ position_of tree.now };
 }

@@ -1,16 +1,16 @@
 //! Tests of a value: which of its instants pass by the time form of their place, and whether documents do.
-ghost use Rattle.std.specs.Prelude.{◌≡◌, map as mapped, true};
+ghost use Rattle.std.specs.Prelude.{◌≡◌, ℕ, List, map as mapped, true};
 ghost use Rattle.smithy_shapes.specs.Fits.{FitsOr};
 ghost use Rattle.smithy_shapes.specs.ScalarTest.{scalars_pass};
 ghost use Rattle.smithy_shapes.specs.Site.{site_of};
 ghost use Rattle.smithy_declarations.specs.TimeForms.{format_of, form_or};
 ghost use Rattle.smithy_declarations.specs.Value.{instant, list, map, structure, union, values_of};
-ghost use Rattle.smithy_transcode.specs.Private.Tree.{entries as entries_of, entry_views, member_views, part_view, union_value_view};
+ghost use Rattle.smithy_transcode.specs.Private.Tree.{entries_view, members_view, part_view, Each, EntriesStand, MembersStand, PartStands};
 ghost use Rattle.smithy_transcode.specs.Private.ValueTest.{instant_passes as passes_as, test_view};
 ghost use Rattle.smithy_transcode.specs.Wires.{wire_of, holds};
 
-use crate::entries::Entries;
-use crate::tree::{Part, Tree, UnionValue};
+use crate::entries::{Entries, Members};
+use crate::tree::{Part, Trees};
 use crate::wire::Wire;
 use smithy_schema::{Schema, TimestampFormat};
 use smithy_types::{DateTime, Format};
@@ -72,19 +72,33 @@ fn instant_passes(schema: &Schema<'_>, value: DateTime, test: InstantTest) -> bo
 }
 
 // Whether a value of the schema's place, or a null element, passes the test.
-pub(crate) fn value_passes<T: Tree>(schema: &Schema<'_>, value: &T, test: ValueTest) -> bool
-    requires fits { FitsOr schema.now.shapes.now schema.now.place true (T.view value.now) }
-    ensures { result ≡ scalars_pass (test_view test) (site_of schema.now) (T.view value.now) }
+pub(crate) fn value_passes<P: Trees>(
+    trees: &P,
+    schema: &Schema<'_>,
+    value: &P::Tree,
+    test: ValueTest,
+) -> bool
+    requires sound { (i : List ℕ) × P.sound trees.now i }
+    requires stands { P.stands trees.now value.now }
+    requires fits { FitsOr schema.now.shapes.now schema.now.place true (P.view trees.now value.now) }
+    ensures { result ≡ scalars_pass (test_view test) (site_of schema.now) (P.view trees.now value.now) }
 {
-    part_passes::<T>(schema, &value.part(), test)
+    part_passes::<P>(trees, schema, &trees.part(value), test)
 }
 
 // Whether the value that has this part at its root passes the test: a value of the schema's place, or a null element.
 #[cycle(passing)]
 #[inline(always)]
-fn part_passes<T: Tree>(schema: &Schema<'_>, part: &Part<'_, T>, test: ValueTest) -> bool
-    requires fits { FitsOr schema.now.shapes.now schema.now.place true (part_view T.view part.now) }
-    ensures { result ≡ scalars_pass (test_view test) (site_of schema.now) (part_view T.view part.now) }
+fn part_passes<P: Trees>(
+    trees: &P,
+    schema: &Schema<'_>,
+    part: &Part<'_, P::Tree>,
+    test: ValueTest,
+) -> bool
+    requires sound { (i : List ℕ) × P.sound trees.now i }
+    requires stands { PartStands (P.stands trees.now) part.now }
+    requires fits { FitsOr schema.now.shapes.now schema.now.place true (part_view (P.view trees.now) (P.key_of trees.now) P.position_of part.now) }
+    ensures { result ≡ scalars_pass (test_view test) (site_of schema.now) (part_view (P.view trees.now) (P.key_of trees.now) P.position_of part.now) }
 {
     match part {
         Part::Timestamp(value) => instant_passes(schema, *value, test.instants),
@@ -94,44 +108,53 @@ fn part_passes<T: Tree>(schema: &Schema<'_>, part: &Part<'_, T>, test: ValueTest
         | Part::Text(_)
         | Part::Bytes(_)
         | Part::Decimal(_, _)
-        | Part::Wholes(_)
         | Part::Null => true,
-        Part::List(elements) => elements_pass::<T>(schema, *elements, test),
-        Part::Map(entries) => entries_pass::<T>(schema, entries, test),
-        Part::Structure(members) => members_pass::<T>(schema, members, test),
-        Part::Union(index, value) => union_passes::<T>(schema, *index, value, test),
+        Part::List(elements) => elements_pass::<P>(trees, schema, *elements, test),
+        Part::Map(entries) => entries_pass::<P>(trees, schema, entries, test),
+        Part::Structure(members) => members_pass::<P>(trees, schema, members, test),
+        Part::Union(index, value) => union_passes::<P>(trees, schema, *index, *value, test),
     }
 }
 
 #[cycle(passing)]
 #[inline(never)]
-fn union_passes<T: Tree>(
+fn union_passes<P: Trees>(
+    trees: &P,
     schema: &Schema<'_>,
     index: u32,
-    value: &UnionValue<'_, T>,
+    value: &P::Tree,
     test: ValueTest,
 ) -> bool
-    requires fits { FitsOr schema.now.shapes.now schema.now.place true (union index (union_value_view T.view value.now)) }
-    ensures { result ≡ scalars_pass (test_view test) (site_of schema.now) (union index (union_value_view T.view value.now)) }
+    requires sound { (i : List ℕ) × P.sound trees.now i }
+    requires stands { P.stands trees.now value.now }
+    requires fits { FitsOr schema.now.shapes.now schema.now.place true (union index (P.view trees.now value.now)) }
+    ensures { result ≡ scalars_pass (test_view test) (site_of schema.now) (union index (P.view trees.now value.now)) }
 {
     let Some(member) = schema.member_at(index) else {
         unreachable!()
     };
-    part_passes::<T>(&member, &value.part(), test)
+    part_passes::<P>(trees, &member, &trees.part(value), test)
 }
 
 #[cycle(passing)]
 #[inline(never)]
-fn elements_pass<T: Tree>(schema: &Schema<'_>, elements: &[T], test: ValueTest) -> bool
-    requires fits { FitsOr schema.now.shapes.now schema.now.place true (list (values_of (mapped T.view elements.now))) }
-    ensures { result ≡ scalars_pass (test_view test) (site_of schema.now) (list (values_of (mapped T.view elements.now))) }
+fn elements_pass<P: Trees>(
+    trees: &P,
+    schema: &Schema<'_>,
+    elements: &[P::Tree],
+    test: ValueTest,
+) -> bool
+    requires sound { (i : List ℕ) × P.sound trees.now i }
+    requires stands { Each (P.stands trees.now) elements.now }
+    requires fits { FitsOr schema.now.shapes.now schema.now.place true (list (values_of (mapped (P.view trees.now) elements.now))) }
+    ensures { result ≡ scalars_pass (test_view test) (site_of schema.now) (list (values_of (mapped (P.view trees.now) elements.now))) }
 {
     let Some(member) = schema.member() else {
         unreachable!()
     };
     let element_schema = member.nameless();
     for element in elements {
-        if !part_passes::<T>(&element_schema, &element.part(), test) {
+        if !part_passes::<P>(trees, &element_schema, &trees.part(element), test) {
             return false;
         }
     }
@@ -140,21 +163,24 @@ fn elements_pass<T: Tree>(schema: &Schema<'_>, elements: &[T], test: ValueTest) 
 
 #[cycle(passing)]
 #[inline(never)]
-fn entries_pass<T: Tree>(
+fn entries_pass<P: Trees>(
+    trees: &P,
     schema: &Schema<'_>,
-    entries: &Entries<'_, String, T>,
+    entries: &Entries<'_, P::Tree>,
     test: ValueTest,
 ) -> bool
-    requires fits { FitsOr schema.now.shapes.now schema.now.place true (map (entry_views T.view (entries_of entries.now))) }
-    ensures { result ≡ scalars_pass (test_view test) (site_of schema.now) (map (entry_views T.view (entries_of entries.now))) }
+    requires sound { (i : List ℕ) × P.sound trees.now i }
+    requires stands { EntriesStand (P.stands trees.now) entries.now }
+    requires fits { FitsOr schema.now.shapes.now schema.now.place true (map (entries_view (P.view trees.now) (P.key_of trees.now) entries.now)) }
+    ensures { result ≡ scalars_pass (test_view test) (site_of schema.now) (map (entries_view (P.view trees.now) (P.key_of trees.now) entries.now)) }
 {
     let Some(member) = schema.member() else {
         unreachable!()
     };
     let value_schema = member.nameless();
     let mut left = entries.iter();
-    while let Some((_, value)) = left.next_entry() {
-        if !part_passes::<T>(&value_schema, &value.part(), test) {
+    while let Some((_, value)) = left.next_entry(trees) {
+        if !part_passes::<P>(trees, &value_schema, &trees.part(value), test) {
             return false;
         }
     }
@@ -163,20 +189,23 @@ fn entries_pass<T: Tree>(
 
 #[cycle(passing)]
 #[inline(never)]
-fn members_pass<T: Tree>(
+fn members_pass<P: Trees>(
+    trees: &P,
     schema: &Schema<'_>,
-    members: &Entries<'_, u32, T>,
+    members: &Members<'_, P::Tree>,
     test: ValueTest,
 ) -> bool
-    requires fits { FitsOr schema.now.shapes.now schema.now.place true (structure (member_views T.view (entries_of members.now))) }
-    ensures { result ≡ scalars_pass (test_view test) (site_of schema.now) (structure (member_views T.view (entries_of members.now))) }
+    requires sound { (i : List ℕ) × P.sound trees.now i }
+    requires stands { MembersStand (P.stands trees.now) members.now }
+    requires fits { FitsOr schema.now.shapes.now schema.now.place true (structure (members_view (P.view trees.now) P.position_of members.now)) }
+    ensures { result ≡ scalars_pass (test_view test) (site_of schema.now) (structure (members_view (P.view trees.now) P.position_of members.now)) }
 {
     let mut left = members.iter();
-    while let Some((position, member)) = left.next_entry() {
-        let Some(member_schema) = schema.member_at(*position) else {
+    while let Some((position, member)) = left.next_member::<P>() {
+        let Some(member_schema) = schema.member_at(position) else {
             unreachable!()
         };
-        if !part_passes::<T>(&member_schema, &member.part(), test) {
+        if !part_passes::<P>(trees, &member_schema, &trees.part(member), test) {
             return false;
         }
     }

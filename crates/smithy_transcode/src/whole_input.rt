@@ -5,15 +5,13 @@ ghost use Rattle.smithy_transcode.specs.View.{view};
 ghost use Rattle.smithy_transcode.specs.Wires.{wire_of};
 ghost use Rattle.smithy_transcode.specs.Private.ReadWhole.{ReadsWhole};
 
-use crate::reading::{read_tree, read_value};
+use crate::reading::read_value;
 use crate::refusal::refusal;
-use crate::tree::Tree;
 use crate::value::Value;
 use crate::wire::{TranscodeError, Wire};
 use smithy_cbor_codec::CborCodec;
 use smithy_json_codec::JsonCodec;
 use smithy_schema::{SerdeError, ShapeRef, Shapes};
-use smithy_types::Blob;
 use std::alloc::Global;
 
 /// Reads the value that the whole input spells in the wire `from`. The root is a structure of the table. The texts and bytes of the
@@ -60,52 +58,6 @@ fn read_whole_value<'a>(
         Wire::Cbor { .. } => {
             let mut reader = CborCodec::strict().create_deserializer(alloc, input);
             read_value(alloc, &mut reader, &schema)
-        }
-        Wire::Query { .. } => Err(SerdeError::InvalidInput),
-    }
-}
-
-/// Reads a whole input as `read_body` does, into a tree of any kind whose texts and bytes are in memory of their own.
-pub fn read_body_as<T: Tree<Text = String, Bytes = Blob>>(
-    alloc: Global,
-    shapes: &Shapes,
-    root: ShapeRef,
-    from: &Wire,
-    input: &[u8],
-) -> Result<T, TranscodeError>
-    requires root { IsStructure (kind_of shapes.now (shape_place root.0)) }
-    ensures { ReadsBody T.view shapes.now root.0 (wire_of from.now) input.now result }
-{
-    match read_whole::<T>(alloc, shapes, root, from, input) {
-        Ok(value) => Ok(value),
-        Err(error) => Err(refusal(error)),
-    }
-}
-
-// The value that the whole input spells, in a tree of any kind whose texts and bytes are in memory of their own.
-pub(crate) fn read_whole<T: Tree<Text = String, Bytes = Blob>>(
-    alloc: Global,
-    shapes: &Shapes,
-    root: ShapeRef,
-    from: &Wire,
-    input: &[u8],
-) -> Result<T, SerdeError>
-    requires root { IsStructure (kind_of shapes.now (shape_place root.0)) }
-    ensures { ReadsWhole T.view (wire_of from.now) shapes.now root.0 input.now result }
-{
-    let schema = shapes.schema(root);
-    match from {
-        Wire::Json {
-            use_json_name,
-            integral,
-        } => {
-            let codec = JsonCodec::strict_with_integral_numbers(*use_json_name, *integral);
-            let mut source = codec.create_deserializer(alloc, input);
-            read_tree(alloc, &mut source, &schema)
-        }
-        Wire::Cbor { .. } => {
-            let mut source = CborCodec::strict().create_deserializer(alloc, input);
-            read_tree(alloc, &mut source, &schema)
         }
         Wire::Query { .. } => Err(SerdeError::InvalidInput),
     }

@@ -59,7 +59,7 @@ pub enum TranscodeError {
     /// The input spells a value of the root that the wanted wire can't express.
     #[error("Inexpressible")]
     Inexpressible(Unfit),
-    /// An allocation was refused.
+    /// An allocation was refused, or a place in the tree of a transcoding leaves 32 bits.
     #[error("NoMemory")]
     NoMemory,
 }

@@ -1,16 +1,17 @@
 //! Writing a value to any wire.
-ghost use Rattle.std.specs.Prelude.{◌≡◌, map as mapped, true};
+ghost use Rattle.std.specs.Prelude.{◌≡◌, ℕ, List, map as mapped, true};
 ghost use Rattle.smithy_shapes.specs.Fits.{FitsOr, is_scalar_of};
 ghost use Rattle.smithy_shapes.specs.Site.{site_of, kind_at};
 ghost use Rattle.smithy_declarations.specs.Value.{whole, list, map, structure, union, values_of};
 ghost use Rattle.smithy_schema.specs.Writing.{write, scalar_of};
 ghost use Rattle.smithy_transcode.specs.View.{view};
 ghost use Rattle.smithy_transcode.specs.WriteValue.{WritesValue};
-ghost use Rattle.smithy_transcode.specs.Private.Tree.{entries as entries_of, entry_views, member_views, whole_values, part_view, union_value_view};
+ghost use Rattle.smithy_transcode.specs.Private.Tree.{entries_view, members_view, part_view, Each, EntriesStand, MembersStand, PartStands};
 
-use crate::entries::Entries;
-use crate::tree::{Part, Tree, UnionValue};
+use crate::entries::{Entries, Members};
+use crate::tree::{Part, Trees};
 use crate::value::Value;
+use crate::value_trees::ValueTrees;
 use smithy_schema::{Schema, SerdeError, ShapeSerializer, ShapeType};
 use std::alloc::Global;
 
@@ -18,7 +19,7 @@ use std::alloc::Global;
 ///
 /// Elements are written without a name, and members in the order of their positions.
 pub fn write_value<S: ShapeSerializer>(
-    alloc: Global,
+    _alloc: Global,
     sink: &mut S,
     schema: &Schema<'_>,
     value: &Value<'_>,
@@ -26,20 +27,23 @@ pub fn write_value<S: ShapeSerializer>(
     requires fits { FitsOr schema.now.shapes.now schema.now.place true (view value.now) }
     ensures writes { WritesValue (write S.after (site_of schema.now) (view value.now) (S.state sink.old)) (S.failed sink.old) (S.failed sink.new) (S.state sink.new) result }
 {
-    write_tree::<Value<'_>, S>(alloc, sink, schema, &value.part())
+    let trees = ValueTrees::new();
+    write_tree::<ValueTrees<'_>, S>(sink, &trees, schema, &trees.part(value))
 }
 
 // Writes the value that has this part at its root, in any tree: a value of the schema's place, or a null element.
 #[cycle(write)]
 #[inline(always)]
-pub(crate) fn write_tree<T: Tree, S: ShapeSerializer>(
-    alloc: Global,
+pub(crate) fn write_tree<P: Trees, S: ShapeSerializer>(
     sink: &mut S,
+    trees: &P,
     schema: &Schema<'_>,
-    part: &Part<'_, T>,
+    part: &Part<'_, P::Tree>,
 ) -> Result<(), SerdeError>
-    requires fits { FitsOr schema.now.shapes.now schema.now.place true (part_view T.view part.now) }
-    ensures writes { WritesValue (write S.after (site_of schema.now) (part_view T.view part.now) (S.state sink.old)) (S.failed sink.old) (S.failed sink.new) (S.state sink.new) result }
+    requires sound { (i : List ℕ) × P.sound trees.now i }
+    requires stands { PartStands (P.stands trees.now) part.now }
+    requires fits { FitsOr schema.now.shapes.now schema.now.place true (part_view (P.view trees.now) (P.key_of trees.now) P.position_of part.now) }
+    ensures writes { WritesValue (write S.after (site_of schema.now) (part_view (P.view trees.now) (P.key_of trees.now) P.position_of part.now) (S.state sink.old)) (S.failed sink.old) (S.failed sink.new) (S.state sink.new) result }
 {
     match part {
         Part::Boolean(value) => sink.write_boolean(schema, *value),
@@ -48,11 +52,10 @@ pub(crate) fn write_tree<T: Tree, S: ShapeSerializer>(
         Part::Bytes(content) => sink.write_bytes(schema, *content),
         Part::Decimal(mantissa, exponent) => sink.write_decimal(schema, *mantissa, *exponent),
         Part::Timestamp(value) => sink.write_timestamp(schema, value),
-        Part::List(elements) => write_list::<T, S>(alloc, sink, schema, *elements),
-        Part::Wholes(numbers) => write_whole_numbers(sink, schema, *numbers),
-        Part::Map(entries) => write_map::<T, S>(alloc, sink, schema, entries),
-        Part::Structure(members) => write_structure::<T, S>(alloc, sink, schema, members),
-        Part::Union(index, value) => write_union::<T, S>(alloc, sink, schema, *index, value),
+        Part::List(elements) => write_list::<P, S>(sink, trees, schema, *elements),
+        Part::Map(entries) => write_map::<P, S>(sink, trees, schema, entries),
+        Part::Structure(members) => write_structure::<P, S>(sink, trees, schema, members),
+        Part::Union(index, value) => write_union::<P, S>(sink, trees, schema, *index, *value),
         Part::Null => sink.write_null(schema),
         Part::Document(value) => sink.write_document(schema, *value),
     }
@@ -88,14 +91,16 @@ fn write_whole_number<S: ShapeSerializer>(
 
 #[cycle(write)]
 #[inline(never)]
-fn write_list<T: Tree, S: ShapeSerializer>(
-    alloc: Global,
+fn write_list<P: Trees, S: ShapeSerializer>(
     sink: &mut S,
+    trees: &P,
     schema: &Schema<'_>,
-    elements: &[T],
+    elements: &[P::Tree],
 ) -> Result<(), SerdeError>
-    requires fits { FitsOr schema.now.shapes.now schema.now.place true (list (values_of (mapped T.view elements.now))) }
-    ensures writes { WritesValue (write S.after (site_of schema.now) (list (values_of (mapped T.view elements.now))) (S.state sink.old)) (S.failed sink.old) (S.failed sink.new) (S.state sink.new) result }
+    requires sound { (i : List ℕ) × P.sound trees.now i }
+    requires stands { Each (P.stands trees.now) elements.now }
+    requires fits { FitsOr schema.now.shapes.now schema.now.place true (list (values_of (mapped (P.view trees.now) elements.now))) }
+    ensures writes { WritesValue (write S.after (site_of schema.now) (list (values_of (mapped (P.view trees.now) elements.now))) (S.state sink.old)) (S.failed sink.old) (S.failed sink.new) (S.state sink.new) result }
 {
     let Some(member) = schema.member() else {
         unreachable!()
@@ -103,84 +108,69 @@ fn write_list<T: Tree, S: ShapeSerializer>(
     let element_schema = member.nameless();
     sink.begin_list(schema, Some(elements.len()))?;
     for element in elements {
-        write_tree::<T, S>(alloc, sink, &element_schema, &element.part())?;
-    }
-    sink.end_list()
-}
-
-// Writes a list whose elements are all whole numbers of 64 bits.
-#[inline(never)]
-fn write_whole_numbers<S: ShapeSerializer>(
-    sink: &mut S,
-    schema: &Schema<'_>,
-    numbers: &[i64],
-) -> Result<(), SerdeError>
-    requires fits { FitsOr schema.now.shapes.now schema.now.place true (list (values_of (whole_values numbers.now))) }
-    ensures writes { WritesValue (write S.after (site_of schema.now) (list (values_of (whole_values numbers.now))) (S.state sink.old)) (S.failed sink.old) (S.failed sink.new) (S.state sink.new) result }
-{
-    let Some(member) = schema.member() else {
-        unreachable!()
-    };
-    let element_schema = member.nameless();
-    sink.begin_list(schema, Some(numbers.len()))?;
-    for number in numbers {
-        write_whole_number(sink, &element_schema, i128::from(*number))?;
+        write_tree::<P, S>(sink, trees, &element_schema, &trees.part(element))?;
     }
     sink.end_list()
 }
 
 #[cycle(write)]
 #[inline(never)]
-fn write_structure<T: Tree, S: ShapeSerializer>(
-    alloc: Global,
+fn write_structure<P: Trees, S: ShapeSerializer>(
     sink: &mut S,
+    trees: &P,
     schema: &Schema<'_>,
-    members: &Entries<'_, u32, T>,
+    members: &Members<'_, P::Tree>,
 ) -> Result<(), SerdeError>
-    requires fits { FitsOr schema.now.shapes.now schema.now.place true (structure (member_views T.view (entries_of members.now))) }
-    ensures writes { WritesValue (write S.after (site_of schema.now) (structure (member_views T.view (entries_of members.now))) (S.state sink.old)) (S.failed sink.old) (S.failed sink.new) (S.state sink.new) result }
+    requires sound { (i : List ℕ) × P.sound trees.now i }
+    requires stands { MembersStand (P.stands trees.now) members.now }
+    requires fits { FitsOr schema.now.shapes.now schema.now.place true (structure (members_view (P.view trees.now) P.position_of members.now)) }
+    ensures writes { WritesValue (write S.after (site_of schema.now) (structure (members_view (P.view trees.now) P.position_of members.now)) (S.state sink.old)) (S.failed sink.old) (S.failed sink.new) (S.state sink.new) result }
 {
     sink.begin_struct(schema)?;
     let mut left = members.iter();
-    while let Some((position, member)) = left.next_entry() {
-        let Some(member_schema) = schema.member_at(*position) else {
+    while let Some((position, member)) = left.next_member::<P>() {
+        let Some(member_schema) = schema.member_at(position) else {
             unreachable!()
         };
-        write_tree::<T, S>(alloc, sink, &member_schema, &member.part())?;
+        write_tree::<P, S>(sink, trees, &member_schema, &trees.part(member))?;
     }
     sink.end_struct()
 }
 
 #[cycle(write)]
 #[inline(never)]
-fn write_union<T: Tree, S: ShapeSerializer>(
-    alloc: Global,
+fn write_union<P: Trees, S: ShapeSerializer>(
     sink: &mut S,
+    trees: &P,
     schema: &Schema<'_>,
     index: u32,
-    value: &UnionValue<'_, T>,
+    value: &P::Tree,
 ) -> Result<(), SerdeError>
-    requires fits { FitsOr schema.now.shapes.now schema.now.place true (union index (union_value_view T.view value.now)) }
-    ensures writes { WritesValue (write S.after (site_of schema.now) (union index (union_value_view T.view value.now)) (S.state sink.old)) (S.failed sink.old) (S.failed sink.new) (S.state sink.new) result }
+    requires sound { (i : List ℕ) × P.sound trees.now i }
+    requires stands { P.stands trees.now value.now }
+    requires fits { FitsOr schema.now.shapes.now schema.now.place true (union index (P.view trees.now value.now)) }
+    ensures writes { WritesValue (write S.after (site_of schema.now) (union index (P.view trees.now value.now)) (S.state sink.old)) (S.failed sink.old) (S.failed sink.new) (S.state sink.new) result }
 {
     let Some(member) = schema.member_at(index) else {
         unreachable!()
     };
     sink.begin_struct(schema)?;
-    write_tree::<T, S>(alloc, sink, &member, &value.part())?;
+    write_tree::<P, S>(sink, trees, &member, &trees.part(value))?;
     sink.end_struct()
 }
 
 #[cycle(write)]
 #[inline(never)]
-fn write_map<T: Tree, S: ShapeSerializer>(
-    alloc: Global,
+fn write_map<P: Trees, S: ShapeSerializer>(
     sink: &mut S,
+    trees: &P,
     schema: &Schema<'_>,
-    entries: &Entries<'_, String, T>,
+    entries: &Entries<'_, P::Tree>,
 ) -> Result<(), SerdeError>
-    requires fits { FitsOr schema.now.shapes.now schema.now.place true (map (entry_views T.view (entries_of entries.now))) }
-    ensures writes { WritesValue (write S.after (site_of schema.now) (map (entry_views T.view (entries_of entries.now))) (S.state sink.old)) (S.failed sink.old) (S.failed sink.new) (S.state sink.new) result }
+    requires sound { (i : List ℕ) × P.sound trees.now i }
+    requires stands { EntriesStand (P.stands trees.now) entries.now }
+    requires fits { FitsOr schema.now.shapes.now schema.now.place true (map (entries_view (P.view trees.now) (P.key_of trees.now) entries.now)) }
+    ensures writes { WritesValue (write S.after (site_of schema.now) (map (entries_view (P.view trees.now) (P.key_of trees.now) entries.now)) (S.state sink.old)) (S.failed sink.old) (S.failed sink.new) (S.state sink.new) result }
 {
     let Some(key_schema) = schema.key() else {
         unreachable!()
@@ -191,9 +181,9 @@ fn write_map<T: Tree, S: ShapeSerializer>(
     let value_schema = member.nameless();
     sink.begin_map(schema, Some(entries.len()))?;
     let mut left = entries.iter();
-    while let Some((key, value)) = left.next_entry() {
-        sink.write_string(&key_schema, key.as_str())?;
-        write_tree::<T, S>(alloc, sink, &value_schema, &value.part())?;
+    while let Some((key, value)) = left.next_entry(trees) {
+        sink.write_string(&key_schema, key)?;
+        write_tree::<P, S>(sink, trees, &value_schema, &trees.part(value))?;
     }
     sink.end_map()
 }

@@ -8,6 +8,10 @@ use Rattle.smithy_tree.specs.declared.node.Node.{Node}
 use Rattle.smithy_tree.specs.declared.node.Slot.{Slot}
 use Rattle.smithy_tree.specs.declared.node.Node.TheVariants as nodes
 
+pub no_elements : {A : Type 0} (xs : List A) → length xs ≡ 0 → xs ≡ []
+no_elements [] h = refl
+no_elements (x ∷ xs) h = absurd (omega (arith, h))
+
 pub length_values_over : (s : Store) (vs : List Item) (xs : List Slot) → length (values_over s vs xs) ≡ length xs
 length_values_over s vs [] = refl
 length_values_over s vs (x ∷ xs) = ap (λ (k : ℕ). suc k) (length_values_over s vs xs)
@@ -157,6 +161,37 @@ child_value s vs k (suc at) (x ∷ xs) d e same h are =
     let j : at < length xs = omega arith in
     child_value s (vs ++ item s vs x ∷ []) k at xs d e m j (rw l are.1)
 child_value s vs k at [] d e same h are = absurd (omega arith)
+
+-- nodes that stand each behind those before it all stand over all of them
+pub all_stand : (s : Store) (k m : ℕ) (xs : List Slot) → k + length xs ≤ m → AreBehind s k xs → AreNodes s m xs
+all_stand s k m [] h are = tt
+all_stand s k m (x ∷ xs) h are =
+    let j : k ≤ m = omega arith in
+    let l : k + 1 + length xs ≤ m = omega arith in
+    (slot_stays s k m x j are.0, all_stand s (k + 1) m xs l are.1)
+
+-- what the nodes of the pool stand for are its values
+all_values : (s : Store) (vs : List Item) (xs : List Slot) → AreBehind s (length vs) xs → vs ++ values_over s (values_after s vs xs) xs ≡ values_after s vs xs
+all_values s vs [] are = append-nil vs
+all_values s vs (x ∷ xs) are =
+    let v = item s vs x in
+    let r = values_extend s (vs ++ v ∷ []) xs in
+    let all = values_after s vs (x ∷ xs) in
+    let l : length (vs ++ v ∷ []) ≡ length vs + 1 = length-append vs (v ∷ []) in
+    let again : item s all x ≡ v = rw (r.1, append_assoc vs (v ∷ []) r.0) (item_stays s vs (v ∷ r.0) x are.0) in
+    ap (λ (w : Item). vs ++ w ∷ values_over s all xs) again
+    ∙ (sym (append_assoc vs (v ∷ []) (values_over s all xs)) ∙ all_values s (vs ++ v ∷ []) xs (rw l are.1))
+
+pub children_stand : (s : Store) (at count : ℕ) (xs : List Slot) → AreBehind s 0 xs → AreNodes s (length xs) (take count (drop at xs))
+children_stand s at count xs are =
+    let all = all_stand s 0 (length xs) xs (omega arith) are in
+    nodes-take s (length xs) count (drop at xs) (nodes-drop s (length xs) at xs all)
+
+pub children_show : (s : Store) (at count : ℕ) (xs : List Slot) → AreBehind s 0 xs → values_over s (values_after s [] xs) (take count (drop at xs)) ≡ take count (drop at (values_after s [] xs))
+children_show s at count xs are =
+    let vs = values_after s [] xs in
+    values_over-take s vs count (drop at xs)
+    ∙ ap (λ (ws : List Item). take count ws) (values_over-drop s vs at xs ∙ ap (λ (ws : List Item). drop at ws) (all_values s [] xs are))
 
 -- the children that move behind the others
 pub values_added : (s : Store) (xs ms : List Slot) → AreNodes s (length xs) ms → values_after s [] (xs ++ ms) ≡ values_after s [] xs ++ values_over s (values_after s [] xs) ms

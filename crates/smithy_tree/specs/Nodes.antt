@@ -57,7 +57,7 @@ abbrev pub values_after : Store → List Item → List Slot → List Item
 values_after s vs [] = vs
 values_after s vs (x ∷ xs) = values_after s (vs ++ item s vs x ∷ []) xs
 
--- so many bytes stand there, all in the input or all beside it
+-- so many bytes stand there, all in the input or all beside it: where they end behind the input, they begin behind it
 pub record IsPart (input side : List ℕ) (at size : ℕ) : Type 0 where
   pub within : at + size ≤ length input + length side
   pub apart : length input < at + size → length input ≤ at
@@ -88,7 +88,7 @@ pub record IsLabel (input side : List ℕ) (at size : ℕ) : Type 0 where
 abbrev pub IsSlot : Store → ℕ → Slot → Type 0
 IsSlot s k x = IsNode s k x.node × IsLabel s.input s.side x.first x.second
 
--- each stands over the same
+-- each is a child that may stand behind k nodes
 abbrev pub AreNodes : Store → ℕ → List Slot → Type 0
 AreNodes s k [] = Unit {0}
 AreNodes s k (x ∷ xs) = IsSlot s k x × AreNodes s k xs
@@ -97,11 +97,3 @@ AreNodes s k (x ∷ xs) = IsSlot s k x × AreNodes s k xs
 abbrev pub AreBehind : Store → ℕ → List Slot → Type 0
 AreBehind s k [] = Unit {0}
 AreBehind s k (x ∷ xs) = IsSlot s k x × AreBehind s (k + 1) xs
-
--- where the children of a node end, which all stand before it
-abbrev pub reach : Node → ℕ
-reach (nodes.List at count) = at + count
-reach (nodes.Map at count) = at + count
-reach (nodes.Structure at count) = at + count
-reach (nodes.Union at) = at + 1
-reach _ = 0

@@ -74,14 +74,14 @@ pub record Closes (p q : Pool) (begin at count : ℕ) : Type 0 where
   pub shows : take count (drop at (values q)) ≡ drop begin (waiting p)
   pub waiting : waiting q ≡ take begin (waiting p)
 
--- the same of members, of which the last of a position counts
+-- those that wait from a place on have become members, of which the last of a position counts
 pub record ClosesMembers (p q : Pool) (begin at count : ℕ) : Type 0 where
   pub grows : Grows p q
   pub holds : at + count ≤ length q.nodes.items
   pub shows : members_of (take count (drop at (values q))) ≡ put_members no_member_values (drop begin (waiting p))
   pub waiting : waiting q ≡ take begin (waiting p)
 
--- the same of entries, of which the last of a key counts
+-- those that wait from a place on have become entries, of which the last of a key counts
 pub record ClosesEntries (p q : Pool) (begin at count : ℕ) : Type 0 where
   pub grows : Grows p q
   pub holds : at + count ≤ length q.nodes.items

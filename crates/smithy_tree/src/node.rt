@@ -16,9 +16,9 @@ pub enum Node {
     Bytes(u32, u32),
     /// The elements of a list, in their order.
     List(u32, u32),
-    /// The entries of a map, in the order of their keys.
+    /// The entries of a map, in the order of their keys, as `close_entries` leaves them.
     Map(u32, u32),
-    /// The members of a structure, in the order of their positions.
+    /// The members of a structure, in the order of their positions, as `close_members` leaves them.
     Structure(u32, u32),
     /// The member of a union: the one child that begins here.
     Union(u32),
@@ -45,4 +45,22 @@ pub struct Slot {
     pub first: u32,
     pub second: u32,
     pub node: Node,
+}
+
+impl Slot {
+    ghost use Rattle.std.specs.Prelude.{◌≡◌};
+
+    /// A node without a label.
+    #[inline(always)]
+    pub fn of(node: Node) -> Slot
+        ensures node { result.node ≡ node }
+        ensures first { result.first ≡ 0 }
+        ensures second { result.second ≡ 0 }
+    {
+        Slot {
+            first: 0,
+            second: 0,
+            node,
+        }
+    }
 }

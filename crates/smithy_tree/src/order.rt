@@ -9,8 +9,8 @@ use crate::node::Slot;
 use std::alloc::{AllocError, Global};
 use std::cmp::Ordering;
 
-// How many children are put in order by moving those behind a new one: so this takes no time that grows with the square of
-// their number.
+// At most so many children are put in order by moving those behind a new one, so that no number of them takes time that grows with its
+// square.
 const MOVED_AT_MOST: usize = 32;
 
 /// What children are ordered by.
@@ -23,6 +23,7 @@ pub(crate) enum Order {
 }
 
 // How the label of a child stands to that of another.
+#[inline(always)]
 fn compare(order: Order, input: &[u8], side: &[u8], one: Slot, other: Slot) -> Ordering
     requires one { IsLabel input.now side.now one.first one.second }
     requires other { IsLabel input.now side.now other.first other.second }
@@ -38,6 +39,7 @@ fn compare(order: Order, input: &[u8], side: &[u8], one: Slot, other: Slot) -> O
 }
 
 // Whether each child stands before the next already.
+#[inline(always)]
 pub(crate) fn is_ordered(order: Order, input: &[u8], side: &[u8], slots: &[Slot]) -> bool
     requires labels { AreLabelled input.now side.now slots.now }
     ensures { IsTrue result → put_slots (label_cmp order (input.now ++ side.now)) [] slots.now ≡ slots.now }

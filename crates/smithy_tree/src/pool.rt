@@ -3,11 +3,13 @@ use crate::bytes::{bytes_at, key_at, text_at};
 use crate::node::{Node, Rare, Slot};
 use crate::order::{Order, in_order, is_ordered};
 use std::alloc::{AllocError, Global};
+use std::mem;
 
 /// The nodes of a tree over its input. The children of a container stand one behind another, before the container; those of a
 /// container that is half built wait.
 ///
-/// Places are 32 bits wide: what would leave them is refused as memory that isn't there.
+/// Places are 32 bits wide: what would leave them is refused as memory that isn't there. Of a pool nothing is known after a call that was
+/// refused.
 #[derive(Drop)]
 pub struct Pool<'a> {
     pub(crate) input: &'a [u8],
@@ -19,13 +21,12 @@ pub struct Pool<'a> {
 }
 
 impl<'a> Pool<'a> {
-    ghost use Rattle.std.specs.Prelude.{◌≡◌, ◌≤◌, ◌<◌, ◌+◌, [], ◌∷◌, ◌++◌, length, take, drop, get_or, OnOk, IfOk};
+    ghost use Rattle.std.specs.Prelude.{◌≡◌, ◌≤◌, ◌<◌, ◌+◌, [], length, take, drop, get_or, OnOk, IfOk};
     ghost use Rattle.smithy_declarations.specs.Value.{null_element};
     ghost use Rattle.smithy_tree.specs.Items.{nothing};
-    ghost use Rattle.smithy_tree.specs.Nodes.{IsPart, IsSpan, IsSlot, IsLabel, rare_value};
-    ghost use Rattle.smithy_tree.specs.Seen.{store, bytes_of, values, item_in, view, waiting, Holds, HoldsSlot, IsSound, Waits, Copies, Closes, ClosesMembers, ClosesEntries, Adds};
+    ghost use Rattle.smithy_tree.specs.Nodes.{IsPart, IsSpan, IsLabel, AreNodes, values_over, rare_value};
+    ghost use Rattle.smithy_tree.specs.Seen.{store, bytes_of, values, item_in, view, waiting, HoldsSlot, IsSound, Waits, Copies, Closes, ClosesMembers, ClosesEntries, Adds};
     ghost use Rattle.smithy_tree.specs.Order.{Arranges, label_cmp};
-    ghost use Rattle.smithy_tree.specs.declared.node.Node.TheVariants as nodes;
 
     /// A pool with nothing in it.
     pub fn new(alloc: Global, input: &'a [u8]) -> Pool<'a>
@@ -43,6 +44,7 @@ impl<'a> Pool<'a> {
     }
 
     /// How many wait.
+    #[inline(always)]
     pub fn count_waiting(&self) -> usize
         ensures count { result ≡ length (waiting self.now) }
     {
@@ -50,6 +52,7 @@ impl<'a> Pool<'a> {
     }
 
     /// Lets a child wait for its container, behind the others that do.
+    #[inline(always)]
     pub fn wait(&mut self, slot: Slot) -> Result<(), AllocError>
         requires sound { IsSound self.old }
         requires holds { HoldsSlot self.old slot }
@@ -60,6 +63,7 @@ impl<'a> Pool<'a> {
     }
 
     /// Makes children of those that wait from a place on, in their order: where the first of them stands, and how many they are.
+    #[inline(always)]
     #[tactic(auto, using(crate::proofs::Growing::length_values_over))]
     pub fn close(&mut self, begin: usize) -> Result<(u32, u32), AllocError>
         requires sound { IsSound self.old }
@@ -71,12 +75,18 @@ impl<'a> Pool<'a> {
         if start > u32::MAX as usize || count > u32::MAX as usize {
             return Err(AllocError);
         }
+        // Where nothing stands before them, they need not move.
+        if start == 0 && begin == 0 {
+            mem::swap(&mut self.nodes, &mut self.waiting);
+            return Ok((0, count as u32));
+        }
         self.nodes.extend_from_slice(&self.waiting[begin..])?;
         self.waiting.truncate(begin);
         Ok((start as u32, count as u32))
     }
 
     // Puts those that wait from a place on in order, of which the last of equal labels counts.
+    #[inline(always)]
     #[tactic(auto, using(crate::proofs::Growing::length_values_over))]
     fn arrange(&mut self, alloc: Global, order: Order, begin: usize) -> Result<(), AllocError>
         requires sound { IsSound self.old }
@@ -115,14 +125,27 @@ impl<'a> Pool<'a> {
         Ok((at, count))
     }
 
+    /// The children that stand from a place on.
+    #[inline(always)]
+    pub fn children(&self, at: u32, count: u32) -> &[Slot]
+        requires sound { IsSound self.now }
+        requires within { at + count ≤ length self.now.nodes.items }
+        ensures stand { AreNodes (store self.now) (length self.now.nodes.items) result.now }
+        ensures show { values_over (store self.now) (values self.now) result.now ≡ take count (drop at (values self.now)) }
+    {
+        let begin = at as usize;
+        &self.nodes[begin..begin + count as usize]
+    }
+
     /// The child at a place.
-    pub fn child(&self, at: usize) -> Slot
+    #[inline(always)]
+    pub fn child(&self, at: u32) -> &Slot
         requires sound { IsSound self.now }
         requires within { at < length self.now.nodes.items }
-        ensures node { IsSlot (store self.now) at result }
-        ensures value { item_in self.now result ≡ get_or (values self.now) at nothing }
+        ensures stands { HoldsSlot self.now result.now }
+        ensures shows { item_in self.now result.now ≡ get_or (values self.now) at nothing }
     {
-        self.nodes[at]
+        &self.nodes[at as usize]
     }
 
     /// Copies bytes that don't stand in the input as they are meant: where the copy begins, and how many they are.
@@ -161,6 +184,7 @@ impl<'a> Pool<'a> {
     }
 
     /// The bytes of a node.
+    #[inline(always)]
     pub fn bytes(&self, at: u32, size: u32) -> &[u8]
         requires part { IsPart self.now.input.now self.now.side.items at size }
         ensures bytes { result.now ≡ take size (drop at (bytes_of self.now)) }
@@ -169,6 +193,7 @@ impl<'a> Pool<'a> {
     }
 
     /// The text of a node.
+    #[inline(always)]
     pub fn text(&self, at: u32, size: u32) -> &str
         requires span { IsSpan self.now.input.now self.now.side.items at size }
         ensures text { result.now ≡ take size (drop at (bytes_of self.now)) }
@@ -177,6 +202,7 @@ impl<'a> Pool<'a> {
     }
 
     /// The key of a label.
+    #[inline(always)]
     pub fn key(&self, at: u32, size: u32) -> &str
         requires label { IsLabel self.now.input.now self.now.side.items at size }
         ensures text { result.now ≡ take size (drop at (bytes_of self.now)) }

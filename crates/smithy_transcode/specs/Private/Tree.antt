@@ -1,105 +1,115 @@
--- What a tree is at its root, and the tree of a transcoding, seen as the values that they stand for.
-use Rattle.std.specs.Prelude.{ℕ, ℤ, List, map as mapped, String, string_bytes, box_value}
+-- What a tree is at its root, seen as the value that it stands for.
+use Rattle.std.specs.Prelude.{ℕ, List, [], ◌∷◌, map as mapped, String}
 use Rattle.std.specs.declared.alloc.Global.{Global}
 use Rattle.smithy_types.specs.Document.{whole_document}
 use Rattle.smithy_types.specs.DocumentView.{document_view}
-use Rattle.smithy_declarations.specs.Value.{Value, scalar_value, boolean, whole, text, bytes, decimal, instant, list, map, structure, union, null_element, document_value, values_of, MapEntries, MemberValues}
+use Rattle.smithy_declarations.specs.Value.{Value, scalar_value, boolean, whole, text, bytes, decimal, instant, list, map, structure, union, null_element, document_value, values_of, MapEntries, no_map_entries, map_entry, MemberValues, no_member_values, member_value}
 use Rattle.smithy_transcode.specs.View.{map_entries_of, member_values_of}
-use Rattle.smithy_transcode.specs.declared.compact_value.CompactValue as kept
-use Rattle.smithy_transcode.specs.declared.compact_value.CompactValue.TheOpen.{CompactValue-F}
 use Rattle.smithy_transcode.specs.declared.tree.Part.{Part}
 use Rattle.smithy_transcode.specs.declared.tree.Part.TheVariants as parts
-use Rattle.smithy_transcode.specs.declared.tree.UnionValue.{UnionValue}
-use Rattle.smithy_transcode.specs.declared.tree.UnionValue.TheVariants as union_values
 use Rattle.smithy_transcode.specs.declared.entries.Entries.{Entries}
 use Rattle.smithy_transcode.specs.declared.entries.Entries.TheVariants as all_entries
+use Rattle.smithy_transcode.specs.declared.entries.Members.{Members}
+use Rattle.smithy_transcode.specs.declared.entries.Members.TheVariants as all_members
 use Rattle.smithy_transcode.specs.declared.entry_iter.EntryIter.{EntryIter}
-use Rattle.smithy_transcode.specs.declared.entry_iter.EntryIter.TheVariants as left
+use Rattle.smithy_transcode.specs.declared.entry_iter.EntryIter.TheVariants as entries_to_come
+use Rattle.smithy_transcode.specs.declared.entry_iter.MemberIter.{MemberIter}
+use Rattle.smithy_transcode.specs.declared.entry_iter.MemberIter.TheVariants as members_to_come
 
--- entries in their order
-abbrev pub entries : {K T : Type 0} → Entries K T → List (K × T)
-entries (all_entries.Map m) = m.now.entries
-entries (all_entries.Slice es) = es.now
-
--- the entries that are left, in their order
-abbrev pub entries_left : {K T : Type 0} → EntryIter K T → List (K × T)
-entries_left (left.Map rest) = rest
-entries_left (left.Slice rest) = rest.now
-
--- entries of a map as the values that they stand for
+-- entries of a map of the library as the values that they stand for
 abbrev pub entry_views : {T : Type 0} → (T → Value) → List (String Global × T) → MapEntries
 entry_views {T} view es = map_entries_of (mapped (λ (e : String Global × T). (e.0, view e.1)) es)
 
--- members as the values that they stand for
+-- trees that are kept with their keys as entries
+abbrev pub keyed_views : {T : Type 0} → (T → Value) → (T → List ℕ) → List T → MapEntries
+keyed_views view key [] = no_map_entries
+keyed_views view key (x ∷ xs) = map_entry (key x) (view x) (keyed_views view key xs)
+
+-- members of a map of the library as the values that they stand for
 abbrev pub member_views : {T : Type 0} → (T → Value) → List (ℕ × T) → MemberValues
 member_views {T} view ms = member_values_of (mapped (λ (m : ℕ × T). (m.0, view m.1)) ms)
 
--- whole numbers as the values that they stand for
-abbrev pub whole_value : ℤ → Value
-whole_value n = scalar_value (whole n)
+-- trees that are kept with their positions as members
+abbrev pub placed_views : {T : Type 0} → (T → Value) → (T → ℕ) → List T → MemberValues
+placed_views view position [] = no_member_values
+placed_views view position (x ∷ xs) = member_value (position x) (view x) (placed_views view position xs)
 
-abbrev pub whole_values : List ℤ → List Value
-whole_values ns = mapped whole_value ns
+-- the entries of a map, in the order of their keys
+abbrev pub entries_view : {T : Type 0} → (T → Value) → (T → List ℕ) → Entries T → MapEntries
+entries_view view key (all_entries.Map m) = entry_views view m.now.entries
+entries_view view key (all_entries.Slice xs) = keyed_views view key xs.now
 
--- the value of a union, by how its tree keeps it
-abbrev pub union_value_view : {T : Type 0} → (T → Value) → UnionValue T → Value
-union_value_view view (union_values.Text s) = scalar_value (text s.now)
-union_value_view view (union_values.List vs) = list (values_of (mapped view vs.now))
-union_value_view view (union_values.Wholes ns) = list (values_of (whole_values ns.now))
-union_value_view view (union_values.Map es) = map (entry_views view es.now)
-union_value_view view (union_values.Structure ms) = structure (member_views view ms.now)
-union_value_view view (union_values.Tree v) = view v.now
+-- the entries that are left
+abbrev pub entries_left : {T : Type 0} → (T → Value) → (T → List ℕ) → EntryIter T → MapEntries
+entries_left view key (entries_to_come.Map rest) = entry_views view rest
+entries_left view key (entries_to_come.Slice xs) = keyed_views view key xs.now
+
+-- the members of a structure, in the order of their positions
+abbrev pub members_view : {T : Type 0} → (T → Value) → (T → ℕ) → Members T → MemberValues
+members_view view position (all_members.Map m) = member_views view m.now.entries
+members_view view position (all_members.Slice xs) = placed_views view position xs.now
+
+-- the members that are left
+abbrev pub members_left : {T : Type 0} → (T → Value) → (T → ℕ) → MemberIter T → MemberValues
+members_left view position (members_to_come.Map rest) = member_views view rest
+members_left view position (members_to_come.Slice xs) = placed_views view position xs.now
 
 -- the value of a tree, by its root
-abbrev pub part_view : {T : Type 0} → (T → Value) → Part T → Value
-part_view view (parts.Boolean b) = scalar_value (boolean b)
-part_view view (parts.Whole n) = scalar_value (whole n)
-part_view view (parts.Text s) = scalar_value (text s.now)
-part_view view (parts.Bytes b) = scalar_value (bytes b.now)
-part_view view (parts.Decimal m e) = scalar_value (decimal m e)
-part_view view (parts.Timestamp d) = scalar_value (instant d)
-part_view view (parts.List vs) = list (values_of (mapped view vs.now))
-part_view view (parts.Wholes ns) = list (values_of (whole_values ns.now))
-part_view view (parts.Map es) = map (entry_views view (entries es))
-part_view view (parts.Structure members) = structure (member_views view (entries members))
-part_view view (parts.Union n v) = union n (union_value_view view v)
-part_view view parts.Null = null_element
-part_view view (parts.Document d) = document_value (whole_document (document_view d.now))
+abbrev pub part_view : {T : Type 0} → (T → Value) → (T → List ℕ) → (T → ℕ) → Part T → Value
+part_view view key position (parts.Boolean b) = scalar_value (boolean b)
+part_view view key position (parts.Whole n) = scalar_value (whole n)
+part_view view key position (parts.Text s) = scalar_value (text s.now)
+part_view view key position (parts.Bytes b) = scalar_value (bytes b.now)
+part_view view key position (parts.Decimal m e) = scalar_value (decimal m e)
+part_view view key position (parts.Timestamp d) = scalar_value (instant d)
+part_view view key position (parts.List vs) = list (values_of (mapped view vs.now))
+part_view view key position (parts.Map es) = map (entries_view view key es)
+part_view view key position (parts.Structure ms) = structure (members_view view position ms)
+part_view view key position (parts.Union n v) = union n (view v.now)
+part_view view key position parts.Null = null_element
+part_view view key position (parts.Document d) = document_value (whole_document (document_view d.now))
 
--- ---- the tree of a transcoding
+-- ---- the trees inside of a part stand where they should
 
--- one level, with each value inside already seen as what it stands for
-abbrev pub compact_step : CompactValue-F Value → Value
-compact_step (CompactValue-F.Boolean b) = scalar_value (boolean b)
-compact_step (CompactValue-F.Whole n) = scalar_value (whole n)
-compact_step (CompactValue-F.Large n) = scalar_value (whole (box_value n))
-compact_step (CompactValue-F.Text s) = scalar_value (text (string_bytes s))
-compact_step (CompactValue-F.Bytes b) = scalar_value (bytes b)
-compact_step (CompactValue-F.Decimal p) = scalar_value (decimal (box_value p).0 (box_value p).1)
-compact_step (CompactValue-F.Timestamp d) = scalar_value (instant d)
-compact_step (CompactValue-F.List v) = list (values_of v.items)
-compact_step (CompactValue-F.Wholes v) = list (values_of (whole_values v.items))
-compact_step (CompactValue-F.Map m) = map (map_entries_of m.items)
-compact_step (CompactValue-F.TreeMap m) = map (map_entries_of m.entries)
-compact_step (CompactValue-F.Structure m) = structure (member_values_of m.items)
-compact_step (CompactValue-F.StructureMap m) = structure (member_values_of m.entries)
-compact_step (CompactValue-F.UnionText n s) = union n (scalar_value (text (string_bytes s)))
-compact_step (CompactValue-F.UnionList n v) = union n (list (values_of v.items))
-compact_step (CompactValue-F.UnionWholes n v) = union n (list (values_of (whole_values v.items)))
-compact_step (CompactValue-F.UnionMap n m) = union n (map (map_entries_of m.items))
-compact_step (CompactValue-F.UnionStructure n m) = union n (structure (member_values_of m.items))
-compact_step (CompactValue-F.Union n v) = union n (box_value v)
-compact_step CompactValue-F.Null = null_element
-compact_step (CompactValue-F.Document d) = document_value (whole_document (document_view (box_value d)))
+abbrev pub Each : {T : Type 0} → (T → Type 0) → List T → Type 0
+Each stands [] = Unit {0}
+Each stands (x ∷ xs) = stands x × Each stands xs
 
-abbrev pub compact_view : kept.CompactValue → Value
-compact_view = kept.fold-CompactValue Value compact_step
+-- the trees of a map, in the order of its keys
+abbrev pub trees_in : {T : Type 0} → Entries T → List T
+trees_in {T} (all_entries.Map m) = mapped (λ (e : String Global × T). e.1) m.now.entries
+trees_in (all_entries.Slice xs) = xs.now
 
-abbrev pub compact_entries : List (String Global × kept.CompactValue) → MapEntries
-compact_entries es = entry_views compact_view es
+-- those that are left of a map
+abbrev pub trees_left : {T : Type 0} → EntryIter T → List T
+trees_left {T} (entries_to_come.Map rest) = mapped (λ (e : String Global × T). e.1) rest
+trees_left (entries_to_come.Slice xs) = xs.now
 
-abbrev pub compact_members : List (ℕ × kept.CompactValue) → MemberValues
-compact_members ms = member_views compact_view ms
+-- the trees of a structure, in the order of its positions
+abbrev pub member_trees : {T : Type 0} → Members T → List T
+member_trees {T} (all_members.Map m) = mapped (λ (m : ℕ × T). m.1) m.now.entries
+member_trees (all_members.Slice xs) = xs.now
 
-abbrev pub compact_elements : List kept.CompactValue → List Value
-compact_elements vs = mapped compact_view vs
+-- those that are left of a structure
+abbrev pub member_trees_left : {T : Type 0} → MemberIter T → List T
+member_trees_left {T} (members_to_come.Map rest) = mapped (λ (m : ℕ × T). m.1) rest
+member_trees_left (members_to_come.Slice xs) = xs.now
+
+abbrev pub EntriesStand : {T : Type 0} → (T → Type 0) → Entries T → Type 0
+EntriesStand stands es = Each stands (trees_in es)
+
+abbrev pub EntriesLeftStand : {T : Type 0} → (T → Type 0) → EntryIter T → Type 0
+EntriesLeftStand stands left = Each stands (trees_left left)
+
+abbrev pub MembersStand : {T : Type 0} → (T → Type 0) → Members T → Type 0
+MembersStand stands ms = Each stands (member_trees ms)
+
+abbrev pub MembersLeftStand : {T : Type 0} → (T → Type 0) → MemberIter T → Type 0
+MembersLeftStand stands left = Each stands (member_trees_left left)
+
+abbrev pub PartStands : {T : Type 0} → (T → Type 0) → Part T → Type 0
+PartStands stands (parts.List vs) = Each stands vs.now
+PartStands stands (parts.Map es) = EntriesStand stands es
+PartStands stands (parts.Structure ms) = MembersStand stands ms
+PartStands stands (parts.Union n v) = stands v.now
+PartStands stands _ = Unit {0}

@@ -25,7 +25,8 @@ invariant-read_structure-loop-members g l =
     let c = d.settings l.fn.source in
     record {
       same : d.settings l.source ≡ d.settings l.fn.source;
-      half : HalfRead (d.wire c) (d.lifted c) (d.tells_without_limits c) (d.max_depth c) (d.state l.fn.source) (d.state l.source) l.schema.shapes.now l.schema.place in_structure (structure_value (g.T.Tree.view_members l.members));
+      begun : g.P.Trees.begun_members l.fn.trees l.trees l.members;
+      half : HalfRead (d.wire c) (d.lifted c) (d.tells_without_limits c) (d.max_depth c) (d.state l.fn.source) (d.state l.source) l.schema.shapes.now l.schema.place in_structure (structure_value (g.P.Trees.view_members l.trees l.members));
     }
 
 abbrev pub decreases-read_structure-loop-members : goal.decreases-read_structure-loop-members
@@ -46,7 +47,8 @@ invariant-read_list-loop-elements g l =
     let c = d.settings l.fn.source in
     record {
       same : d.settings l.source ≡ d.settings l.fn.source;
-      half : HalfRead (d.wire c) (d.lifted c) (d.tells_without_limits c) (d.max_depth c) (d.state l.fn.source) (d.state l.source) l.schema.shapes.now l.schema.place in_list (list_value (is_sparse (kind_of l.schema.shapes.now l.schema.place)) (g.T.Tree.view_elements l.elements));
+      begun : g.P.Trees.begun_elements l.fn.trees l.trees l.elements;
+      half : HalfRead (d.wire c) (d.lifted c) (d.tells_without_limits c) (d.max_depth c) (d.state l.fn.source) (d.state l.source) l.schema.shapes.now l.schema.place in_list (list_value (is_sparse (kind_of l.schema.shapes.now l.schema.place)) (g.P.Trees.view_elements l.trees l.elements));
     }
 
 abbrev pub decreases-read_list-loop-elements : goal.decreases-read_list-loop-elements
@@ -72,7 +74,8 @@ invariant-read_map-loop-entries g l =
     let c = d.settings l.fn.source in
     record {
       same : d.settings l.source ≡ d.settings l.fn.source;
-      half : HalfRead (d.wire c) (d.lifted c) (d.tells_without_limits c) (d.max_depth c) (d.state l.fn.source) (d.state l.source) l.schema.shapes.now l.schema.place in_map (map_value (is_sparse (kind_of l.schema.shapes.now l.schema.place)) (g.T.Tree.view_entries l.entries));
+      begun : g.P.Trees.begun_entries l.fn.trees l.trees l.entries;
+      half : HalfRead (d.wire c) (d.lifted c) (d.tells_without_limits c) (d.max_depth c) (d.state l.fn.source) (d.state l.source) l.schema.shapes.now l.schema.place in_map (map_value (is_sparse (kind_of l.schema.shapes.now l.schema.place)) (g.P.Trees.view_entries l.trees l.entries));
     }
 
 abbrev pub decreases-read_map-loop-entries : goal.decreases-read_map-loop-entries

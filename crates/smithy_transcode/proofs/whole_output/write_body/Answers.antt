@@ -1,11 +1,18 @@
+use Rattle.std.proofs.Common.{[]}
 use Rattle.smithy_transcode.specs.View.{view}
 use Rattle.smithy_transcode.specs.Wires.{wire_of}
 use Rattle.smithy_transcode.proofs.BodiesWritten.{body_lacking, body_written, body_unwritten}
 use Rattle.smithy_transcode.proofs.Transcodings.{fits_at_root, unfit_at_root}
 use Rattle.smithy_transcode.proofs.whole_output.write_body.Goals as goal
 
-pub unfit-requires : goal.unfit-requires
-unfit-requires c = record { fits = fits_at_root c.schema.result c.args.shapes.now c.args.root.0 (view c.args.value.now) c.schema.ensures.site c.requires.fits }
+pub unfit-requires-clause-sound : goal.unfit-requires-clause-sound
+unfit-requires-clause-sound c = ([], tt)
+
+pub unfit-requires-clause-fits : goal.unfit-requires-clause-fits
+unfit-requires-clause-fits c = fits_at_root c.schema.result c.args.shapes.now c.args.root.0 (view c.args.value.now) c.schema.ensures.site c.requires.fits
+
+pub write_whole-requires-clause-stored : goal.write_whole-requires-clause-stored
+write_whole-requires-clause-stored c = ([], tt)
 
 pub returns-in-Some : goal.returns-in-Some
 returns-in-Some c =

@@ -17,18 +17,18 @@ body_of_value-requires-clause-taken g c =
     let site = site_of c.schema-schema.result in
     let fresh = c.create_serializer-sink.ensures.state ∙ ap (λ (s : CodecSettings). fresh_state s.json) c.strict-codec.ensures in
     let nameless = ap (λ (s : Site). s.view.name) c.schema-schema.ensures.site in
-    let held = root_held (wire_of c.args.to.now) (json c.in-Json.use_json_name c.in-Json.integral) c.schema-schema.result c.args.shapes.now c.args.root.0 (g.T.Tree.view c.args.value.now) (ap wire_of c.in-Json.is) c.schema-schema.ensures.site c.requires.fit in
-    (json_body c.in-Json.use_json_name site (g.T.Tree.view c.args.value.now), json_adds c.in-Json.use_json_name site (g.T.Tree.view c.args.value.now) (state_of c.create_serializer-sink.result) fresh nameless held, refl)
+    let held = root_held (wire_of c.args.to.now) (json c.in-Json.use_json_name c.in-Json.integral) c.schema-schema.result c.args.shapes.now c.args.root.0 (g.P.Trees.view c.args.trees.now c.args.value.now) (ap wire_of c.in-Json.is) c.schema-schema.ensures.site c.requires.fit in
+    (json_body c.in-Json.use_json_name site (g.P.Trees.view c.args.trees.now c.args.value.now), json_adds c.in-Json.use_json_name site (g.P.Trees.view c.args.trees.now c.args.value.now) (state_of c.create_serializer-sink.result) fresh nameless held, refl)
 
 pub returns-in-Json-clause-ok : goal.returns-in-Json-clause-ok
 returns-in-Json-clause-ok g c =
     let site = site_of c.schema-schema.result in
     let fresh = c.create_serializer-sink.ensures.state ∙ ap (λ (s : CodecSettings). fresh_state s.json) c.strict-codec.ensures in
     let nameless = ap (λ (s : Site). s.view.name) c.schema-schema.ensures.site in
-    let held = root_held (wire_of c.args.to.now) (json c.in-Json.use_json_name c.in-Json.integral) c.schema-schema.result c.args.shapes.now c.args.root.0 (g.T.Tree.view c.args.value.now) (ap wire_of c.in-Json.is) c.schema-schema.ensures.site c.requires.fit in
-    let adds = json_adds c.in-Json.use_json_name site (g.T.Tree.view c.args.value.now) (state_of c.create_serializer-sink.result) fresh nameless held in
-    let is = json_is_body (wire_of c.args.to.now) c.in-Json.use_json_name c.in-Json.integral c.schema-schema.result c.args.shapes.now c.args.root.0 (g.T.Tree.view c.args.value.now) (ap wire_of c.in-Json.is) c.schema-schema.ensures.site in
-    reached c.body_of_value.result _ _ c.body_of_value.ensures.ok (json_body c.in-Json.use_json_name site (g.T.Tree.view c.args.value.now)) _ adds is
+    let held = root_held (wire_of c.args.to.now) (json c.in-Json.use_json_name c.in-Json.integral) c.schema-schema.result c.args.shapes.now c.args.root.0 (g.P.Trees.view c.args.trees.now c.args.value.now) (ap wire_of c.in-Json.is) c.schema-schema.ensures.site c.requires.fit in
+    let adds = json_adds c.in-Json.use_json_name site (g.P.Trees.view c.args.trees.now c.args.value.now) (state_of c.create_serializer-sink.result) fresh nameless held in
+    let is = json_is_body (wire_of c.args.to.now) c.in-Json.use_json_name c.in-Json.integral c.schema-schema.result c.args.shapes.now c.args.root.0 (g.P.Trees.view c.args.trees.now c.args.value.now) (ap wire_of c.in-Json.is) c.schema-schema.ensures.site in
+    reached c.body_of_value.result _ _ c.body_of_value.ensures.ok (json_body c.in-Json.use_json_name site (g.P.Trees.view c.args.trees.now c.args.value.now)) _ adds is
 
 pub body_of_value-requires-in-Cbor-clause-taken : goal.body_of_value-requires-in-Cbor-clause-taken
 body_of_value-requires-in-Cbor-clause-taken g c =
@@ -36,8 +36,8 @@ body_of_value-requires-in-Cbor-clause-taken g c =
     let told = c.in-Cbor.definite in
     let fresh = c.create_serializer-sink-in-Cbor.ensures.state
     ∙ ap fresh_cbor_state (c.new.ensures ∙ c.use_definite_lengths-settings.ensures ∙ ap (λ (o : CborSettings). record o { use_definite_lengths = told }) c.strict.ensures) in
-    let held = root_held (wire_of c.args.to.now) (cbor told) c.schema-schema.result c.args.shapes.now c.args.root.0 (g.T.Tree.view c.args.value.now) (ap wire_of c.in-Cbor.is) c.schema-schema.ensures.site c.requires.fit in
-    (cbor_body told site (g.T.Tree.view c.args.value.now), cbor_adds told site (g.T.Tree.view c.args.value.now) (cbor_state_of c.create_serializer-sink-in-Cbor.result) fresh held, refl)
+    let held = root_held (wire_of c.args.to.now) (cbor told) c.schema-schema.result c.args.shapes.now c.args.root.0 (g.P.Trees.view c.args.trees.now c.args.value.now) (ap wire_of c.in-Cbor.is) c.schema-schema.ensures.site c.requires.fit in
+    (cbor_body told site (g.P.Trees.view c.args.trees.now c.args.value.now), cbor_adds told site (g.P.Trees.view c.args.trees.now c.args.value.now) (cbor_state_of c.create_serializer-sink-in-Cbor.result) fresh held, refl)
 
 pub returns-in-Cbor-clause-ok : goal.returns-in-Cbor-clause-ok
 returns-in-Cbor-clause-ok g c =
@@ -45,14 +45,14 @@ returns-in-Cbor-clause-ok g c =
     let told = c.in-Cbor.definite in
     let fresh = c.create_serializer-sink-in-Cbor.ensures.state
     ∙ ap fresh_cbor_state (c.new.ensures ∙ c.use_definite_lengths-settings.ensures ∙ ap (λ (o : CborSettings). record o { use_definite_lengths = told }) c.strict.ensures) in
-    let held = root_held (wire_of c.args.to.now) (cbor told) c.schema-schema.result c.args.shapes.now c.args.root.0 (g.T.Tree.view c.args.value.now) (ap wire_of c.in-Cbor.is) c.schema-schema.ensures.site c.requires.fit in
-    let adds = cbor_adds told site (g.T.Tree.view c.args.value.now) (cbor_state_of c.create_serializer-sink-in-Cbor.result) fresh held in
-    let is = cbor_is_body (wire_of c.args.to.now) told c.schema-schema.result c.args.shapes.now c.args.root.0 (g.T.Tree.view c.args.value.now) (ap wire_of c.in-Cbor.is) c.schema-schema.ensures.site in
-    reached c.body_of_value-in-Cbor.result _ _ c.body_of_value-in-Cbor.ensures.ok (cbor_body told site (g.T.Tree.view c.args.value.now)) _ adds is
+    let held = root_held (wire_of c.args.to.now) (cbor told) c.schema-schema.result c.args.shapes.now c.args.root.0 (g.P.Trees.view c.args.trees.now c.args.value.now) (ap wire_of c.in-Cbor.is) c.schema-schema.ensures.site c.requires.fit in
+    let adds = cbor_adds told site (g.P.Trees.view c.args.trees.now c.args.value.now) (cbor_state_of c.create_serializer-sink-in-Cbor.result) fresh held in
+    let is = cbor_is_body (wire_of c.args.to.now) told c.schema-schema.result c.args.shapes.now c.args.root.0 (g.P.Trees.view c.args.trees.now c.args.value.now) (ap wire_of c.in-Cbor.is) c.schema-schema.ensures.site in
+    reached c.body_of_value-in-Cbor.result _ _ c.body_of_value-in-Cbor.ensures.ok (cbor_body told site (g.P.Trees.view c.args.trees.now c.args.value.now)) _ adds is
 
 pub body_of_value-requires-in-Query-clause-taken : goal.body_of_value-requires-in-Query-clause-taken
 body_of_value-requires-in-Query-clause-taken g c =
-    let v = g.T.Tree.view c.args.value.now in
+    let v = g.P.Trees.view c.args.trees.now c.args.value.now in
     let action = string_bytes c.in-Query.action in
     let version = string_bytes c.in-Query.version in
     let counts = subst (λ w. CanCount w v) (ap wire_of c.in-Query.is) c.requires.positions in
@@ -66,7 +66,7 @@ body_of_value-requires-in-Query-clause-taken g c =
 
 pub returns-in_ok-sink-in-Query-clause-ok : goal.returns-in_ok-sink-in-Query-clause-ok
 returns-in_ok-sink-in-Query-clause-ok g c =
-    let v = g.T.Tree.view c.args.value.now in
+    let v = g.P.Trees.view c.args.trees.now c.args.value.now in
     let action = string_bytes c.in-Query.action in
     let version = string_bytes c.in-Query.version in
     let counts = subst (λ w. CanCount w v) (ap wire_of c.in-Query.is) c.requires.positions in
