@@ -1,4 +1,4 @@
-//! A caller of the libraries, as README shows it.
+//! A caller of the libraries, as README.md and docs/LIBRARIES.md show it.
 use smithy_cbor_codec::CborCodec;
 use smithy_json_codec::JsonCodec;
 use smithy_schema::{Accept, FinishSerializer, Shapes, TableText};

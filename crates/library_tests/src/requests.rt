@@ -1,4 +1,4 @@
-//! A request of a client, and the error that a service answers, as README shows them.
+//! A request of a client, and the error that a service answers, as docs/LIBRARIES.md shows them.
 ghost use Rattle.smithy_shapes.specs.Site.{site_of};
 
 use smithy_error_metadata::ErrorMetadata;
