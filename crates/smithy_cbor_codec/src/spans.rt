@@ -11,7 +11,7 @@ use crate::deserializer::CborDeserializer;
 use crate::frames::frame;
 use crate::members::{Next, next_in_map};
 use smithy_cbor_values::values::{bytes_piece_at, text_piece_at};
-use smithy_schema::{BytesSpan, Schema, SerdeError, SpanDeserializer, TextSpan};
+use smithy_schema::{BytesSpan, PieceDeserializer, Schema, SerdeError, TextSpan};
 use smithy_types::Blob;
 use smithy_wire::ContainerKind;
 use std::alloc::{AllocError, Global};
@@ -72,8 +72,12 @@ fn bytes_span_at(
     }
 }
 
-impl SpanDeserializer for CborDeserializer<'_> {
-    fn read_text_span(&mut self, _schema: &Schema<'_>) -> Result<TextSpan, SerdeError> {
+impl PieceDeserializer for CborDeserializer<'_> {
+    type Text = TextSpan;
+
+    type Bytes = BytesSpan;
+
+    fn take_text(&mut self, _schema: &Schema<'_>) -> Result<TextSpan, SerdeError> {
         self.walk.ready()?;
         let found = text_span_at(
             self.alloc,
@@ -84,7 +88,7 @@ impl SpanDeserializer for CborDeserializer<'_> {
         self.walk.take_found(found)
     }
 
-    fn read_bytes_span(&mut self, _schema: &Schema<'_>) -> Result<BytesSpan, SerdeError> {
+    fn take_bytes(&mut self, _schema: &Schema<'_>) -> Result<BytesSpan, SerdeError> {
         self.walk.ready()?;
         let found = bytes_span_at(
             self.alloc,
@@ -95,7 +99,7 @@ impl SpanDeserializer for CborDeserializer<'_> {
         self.walk.take_found(found)
     }
 
-    fn next_key_span(&mut self) -> Result<Option<TextSpan>, SerdeError> {
+    fn take_key(&mut self) -> Result<Option<TextSpan>, SerdeError> {
         if self.walk.failed {
             return Err(self.walk.refuse(SerdeError::Failed));
         }

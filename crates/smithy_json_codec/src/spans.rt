@@ -2,11 +2,15 @@
 use crate::deserializer::JsonDeserializer;
 use smithy_json_values::mismatch::told;
 use smithy_json_values::texts::{bytes_span_at, text_span_at};
-use smithy_schema::{BytesSpan, Scalar, Schema, SerdeError, SpanDeserializer, TextSpan};
+use smithy_schema::{BytesSpan, PieceDeserializer, Scalar, Schema, SerdeError, TextSpan};
 
-impl SpanDeserializer for JsonDeserializer<'_, '_> {
+impl PieceDeserializer for JsonDeserializer<'_, '_> {
+    type Text = TextSpan;
+
+    type Bytes = BytesSpan;
+
     #[inline(always)]
-    fn read_text_span(&mut self, _schema: &Schema<'_>) -> Result<TextSpan, SerdeError> {
+    fn take_text(&mut self, _schema: &Schema<'_>) -> Result<TextSpan, SerdeError> {
         self.walk.ready()?;
         let input = self.walk.input;
         let at = self.walk.position;
@@ -15,7 +19,7 @@ impl SpanDeserializer for JsonDeserializer<'_, '_> {
         told(answer, input, at, Scalar::String, None, &self.settings)
     }
 
-    fn read_bytes_span(&mut self, _schema: &Schema<'_>) -> Result<BytesSpan, SerdeError> {
+    fn take_bytes(&mut self, _schema: &Schema<'_>) -> Result<BytesSpan, SerdeError> {
         self.walk.ready()?;
         let input = self.walk.input;
         let at = self.walk.position;
@@ -25,7 +29,7 @@ impl SpanDeserializer for JsonDeserializer<'_, '_> {
     }
 
     #[inline(always)]
-    fn next_key_span(&mut self) -> Result<Option<TextSpan>, SerdeError> {
+    fn take_key(&mut self) -> Result<Option<TextSpan>, SerdeError> {
         self.next_key_as()
     }
 }

@@ -7,6 +7,7 @@ mod consume;
 mod elements;
 mod error;
 mod fields;
+mod pieces;
 mod read;
 mod sizes;
 mod spans;
@@ -24,13 +25,14 @@ pub use error::SerdeError;
 pub use fields::{
     WriteFields, WriteMember, Written, WrittenList, read_field, write_field, write_structure,
 };
+pub use pieces::{BytesView, PieceDeserializer, TextView};
 pub use read::ShapeDeserializer;
 pub use sizes::capped_container_size;
 pub use smithy_shapes::{
     Decl, MemberDecl, Members, Place, Scalar, Schema, ShapeId, ShapeRef, ShapeType, Shapes,
     TableFault, TableText, Target, TimestampFormat,
 };
-pub use spans::{BytesSpan, SpanDeserializer, TextSpan};
+pub use spans::{BytesSpan, TextSpan};
 pub use step::Step;
 pub use text_maps::TextEntries;
 pub use write::{FinishSerializer, ShapeSerializer};

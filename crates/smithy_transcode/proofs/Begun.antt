@@ -21,7 +21,7 @@ use Rattle.smithy_transcode.specs.Wires.{Wire, json, cbor, query, IsReadable}
 use Rattle.smithy_transcode.specs.Causes.{openers, MayNest, IsTooDeep, IsWide, IsUncarried}
 use Rattle.smithy_transcode.specs.Spelling.{Spells}
 use Rattle.smithy_transcode.specs.Transcoding.{SpellNothing, SpellNothingWithoutLimits}
-use Rattle.smithy_transcode.specs.ReadValue.{ReadsValue}
+use Rattle.smithy_value.specs.ReadValue.{ReadsValue}
 use Rattle.smithy_transcode.specs.Private.ReadWhole.{ReadsWhole}
 use Rattle.smithy_transcode.proofs.Mapped.{mapped_ok}
 use Rattle.smithy_transcode.proofs.WideBodies.{inside_is_wide, inside_is_uncarried}

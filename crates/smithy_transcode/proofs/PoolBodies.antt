@@ -6,7 +6,7 @@ use Rattle.smithy_wire.specs.Walking.{fresh_cursor}
 use Rattle.smithy_tree.specs.Seen.{IsSound, HoldsSlot}
 use Rattle.smithy_tree.specs.declared.node.Slot.{Slot}
 use Rattle.smithy_tree.specs.declared.pool.Pool.{Pool}
-use Rattle.smithy_transcode.specs.Private.Pooled.{IsPoolOf, Keeps}
+use Rattle.smithy_value.specs.Pooled.{IsPoolOf, Keeps}
 
 -- the pool is one of the input of a reader at its start
 pub pool_of_input : (p : Pool) (i : List ℕ) (c : Cursor) → IsSound p → p.input.now ≡ i → c ≡ fresh_cursor i → IsPoolOf p c.input

@@ -19,7 +19,7 @@ use Rattle.smithy_wire.specs.Meaning.{IsTooWide}
 use Rattle.smithy_transcode.specs.Wires.{Wire, json, cbor, query, IsReadable}
 use Rattle.smithy_transcode.specs.Causes.{HasWide, HasOtherSeconds, HasUncarriedPart, IsChildPlace, HasTarget, IsWide, IsUncarried}
 use Rattle.smithy_transcode.proofs.Spelled.{relations_of}
-use Rattle.smithy_transcode.proofs.ReadWide.{Lying, StandsAs, StandsInside}
+use Rattle.smithy_value.proofs.ReadWide.{Lying, StandsAs, StandsInside}
 
 -- only a scalar leaves limits
 too_wide_scalar : {L : Type 0} (r : Rules L) (k : Kind) (time : Option TimestampFormat) (x : L) → IsTooWide r k time x → (s : Scalar) × (k ≡ scalar s) × (r.says s time x ≡ wide)

@@ -4,15 +4,10 @@ pub mod Spelling
 pub mod Causes
 pub mod Nodes
 pub mod Transcoding
--- what the types of the program stand for
-pub mod View
 -- what the refusals of a transcoding tell
 pub mod Refusal
--- what reads and writes of a value, and of a whole body, say of their answers
-pub mod DuePlaces
-pub mod ReadValue
+-- what reads and writes of a whole body say of their answers
 pub mod ReadBody
-pub mod WriteValue
 pub mod WriteBody
 -- for private clauses
 pub mod Private

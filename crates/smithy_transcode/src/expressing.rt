@@ -7,18 +7,16 @@ ghost use Rattle.smithy_shapes.specs.Site.{site_of};
 ghost use Rattle.smithy_declarations.specs.Table.{IsStructure, is_document_target, kind_of, shape_place};
 ghost use Rattle.smithy_shapes.specs.Targets.{is_timestamp_target};
 ghost use Rattle.smithy_query_codec.specs.Nulls.{holds_null as null_in};
-ghost use Rattle.smithy_transcode.specs.View.{view};
+ghost use Rattle.smithy_value.specs.View.{view};
 ghost use Rattle.smithy_transcode.specs.Wires.{wire_of, has_nulls, holds_document, unfit as unfit_for, unfit_at};
 ghost use Rattle.smithy_transcode.specs.Private.Positions.{CanCount};
 ghost use Rattle.smithy_transcode.specs.Private.ValueTest.{test_view};
 
 use crate::nulls::holds_null;
-use crate::tree::Trees;
-use crate::value::Value;
 use crate::value_test::{InstantTest, ValueTest, test_of, value_passes};
-use crate::value_trees::ValueTrees;
 use crate::wire::{Unfit, Wire};
 use smithy_schema::{Schema, ShapeRef, Shapes};
+use smithy_value::{Trees, Value, ValueTrees};
 
 /// Why the wire can't express a value of the root, or nothing where it can. It takes no memory.
 pub fn expressible(shapes: &Shapes, root: ShapeRef, value: &Value<'_>, to: &Wire) -> Option<Unfit>

@@ -4,10 +4,9 @@ ghost use Rattle.smithy_declarations.specs.Value.{values_of};
 ghost use Rattle.smithy_query_codec.specs.Nulls.{holds_null as null_in, elements_hold_null as null_in_elements, entries_hold_null as null_in_entries, members_hold_null as null_in_members};
 ghost use Rattle.smithy_query_codec.specs.Counts.{HasPositions, ElementsHavePositions, EntriesHavePositions, MembersHavePositions};
 ghost use Rattle.smithy_schema.specs.Writing.{count_of, entry_count};
-ghost use Rattle.smithy_transcode.specs.Private.Tree.{entries_view, members_view, part_view, Each, EntriesStand, MembersStand, PartStands};
+ghost use Rattle.smithy_value.specs.Tree.{entries_view, members_view, part_view, Each, EntriesStand, MembersStand, PartStands};
 
-use crate::entries::{Entries, Members};
-use crate::tree::{Part, Trees};
+use smithy_value::{Entries, Members, Part, Trees};
 
 // A null element stands in the value. Where none does, the whole value was gone through, and each of its lists and maps has
 // fewer than 2^64 parts, as they are in memory.

@@ -4,16 +4,16 @@ ghost use Rattle.smithy_declarations.specs.Table.{IsStructure, kind_of, shape_pl
 ghost use Rattle.smithy_tree.specs.Seen.{IsSound, HoldsSlot, view};
 ghost use Rattle.smithy_transcode.specs.ReadBody.{ReadsBody};
 ghost use Rattle.smithy_transcode.specs.Wires.{wire_of};
-ghost use Rattle.smithy_transcode.specs.Private.Pooled.{slot_view};
+ghost use Rattle.smithy_value.specs.Pooled.{slot_view};
 ghost use Rattle.smithy_transcode.specs.Private.ReadWhole.{ReadsWhole};
 
-use crate::reading::read_tree;
 use crate::refusal::refusal;
 use crate::wire::{TranscodeError, Wire};
 use smithy_cbor_codec::CborCodec;
 use smithy_json_codec::JsonCodec;
 use smithy_schema::{SerdeError, ShapeRef, Shapes};
 use smithy_tree::{Pool, Slot};
+use smithy_value::read_tree;
 use std::alloc::Global;
 
 /// Reads a whole input as `read_body` does, as a tree in a pool of this input.

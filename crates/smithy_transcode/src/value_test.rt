@@ -5,15 +5,14 @@ ghost use Rattle.smithy_shapes.specs.ScalarTest.{scalars_pass};
 ghost use Rattle.smithy_shapes.specs.Site.{site_of};
 ghost use Rattle.smithy_declarations.specs.TimeForms.{format_of, form_or};
 ghost use Rattle.smithy_declarations.specs.Value.{instant, list, map, structure, union, values_of};
-ghost use Rattle.smithy_transcode.specs.Private.Tree.{entries_view, members_view, part_view, Each, EntriesStand, MembersStand, PartStands};
+ghost use Rattle.smithy_value.specs.Tree.{entries_view, members_view, part_view, Each, EntriesStand, MembersStand, PartStands};
 ghost use Rattle.smithy_transcode.specs.Private.ValueTest.{instant_passes as passes_as, test_view};
 ghost use Rattle.smithy_transcode.specs.Wires.{wire_of, holds};
 
-use crate::entries::{Entries, Members};
-use crate::tree::{Part, Trees};
 use crate::wire::Wire;
 use smithy_schema::{Schema, TimestampFormat};
 use smithy_types::{DateTime, Format};
+use smithy_value::{Entries, Members, Part, Trees};
 
 /// Which instants pass a test of values.
 #[derive(Clone, Copy)]

@@ -1,17 +1,16 @@
 //! The value that a whole body spells.
 ghost use Rattle.smithy_declarations.specs.Table.{IsStructure, kind_of, shape_place};
 ghost use Rattle.smithy_transcode.specs.ReadBody.{ReadsBody};
-ghost use Rattle.smithy_transcode.specs.View.{view};
+ghost use Rattle.smithy_value.specs.View.{view};
 ghost use Rattle.smithy_transcode.specs.Wires.{wire_of};
 ghost use Rattle.smithy_transcode.specs.Private.ReadWhole.{ReadsWhole};
 
-use crate::reading::read_value;
 use crate::refusal::refusal;
-use crate::value::Value;
 use crate::wire::{TranscodeError, Wire};
 use smithy_cbor_codec::CborCodec;
 use smithy_json_codec::JsonCodec;
 use smithy_schema::{SerdeError, ShapeRef, Shapes};
+use smithy_value::{Value, read_value};
 use std::alloc::Global;
 
 /// Reads the value that the whole input spells in the wire `from`. The root is a structure of the table. The texts and bytes of the

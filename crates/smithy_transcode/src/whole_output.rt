@@ -6,22 +6,19 @@ ghost use Rattle.smithy_shapes.specs.Fits.{Fits};
 ghost use Rattle.smithy_shapes.specs.Site.{site_of};
 ghost use Rattle.smithy_schema.specs.Writing.{write};
 ghost use Rattle.smithy_transcode.specs.Spelling.{body};
-ghost use Rattle.smithy_transcode.specs.View.{view};
+ghost use Rattle.smithy_value.specs.View.{view};
 ghost use Rattle.smithy_transcode.specs.Wires.{wire_of, unfit as unfit_for};
 ghost use Rattle.smithy_transcode.specs.WriteBody.{WritesBody};
 ghost use Rattle.smithy_transcode.specs.Private.Positions.{CanCount};
 
 use crate::expressing::unfit;
 use crate::refusal::refusal;
-use crate::tree::Trees;
-use crate::value::Value;
-use crate::value_trees::ValueTrees;
 use crate::wire::{TranscodeError, Wire};
-use crate::writing::write_tree;
 use smithy_cbor_codec::{CborCodec, CborCodecSettings};
 use smithy_json_codec::JsonCodec;
 use smithy_query_codec::QueryShapeSerializer;
 use smithy_schema::{FinishSerializer, Schema, SerdeError, ShapeRef, Shapes};
+use smithy_value::{Trees, Value, ValueTrees, write_tree};
 use std::alloc::Global;
 
 /// Writes a value of the root in its one canonical body in the wire `to`. The root is a structure of the table.

@@ -2,7 +2,7 @@
 ghost use Rattle.std.specs.Prelude.{◌≡◌, true, IfOk};
 ghost use Rattle.smithy_shapes.specs.Fits.{Fits};
 ghost use Rattle.smithy_declarations.specs.Table.{IsStructure, kind_of, shape_place};
-ghost use Rattle.smithy_transcode.specs.View.{view};
+ghost use Rattle.smithy_value.specs.View.{view};
 
 use smithy_cbor_codec::{CborCodec, CborCodecSettings};
 use smithy_json_codec::JsonCodec;

@@ -3,9 +3,9 @@ use Rattle.smithy_declarations.specs.Value.{list, map, structure, values_of, nes
 use Rattle.smithy_schema.specs.Writing.{count_of, entry_count}
 use Rattle.smithy_query_codec.specs.Nulls.{elements_hold_null, entries_hold_null, members_hold_null}
 use Rattle.smithy_query_codec.specs.Counts.{ElementsHavePositions, EntriesHavePositions, MembersHavePositions}
-use Rattle.smithy_transcode.specs.Private.Tree.{entries_view, entries_left, members_view, members_left, part_view, Each, EntriesLeftStand, MembersLeftStand}
-use Rattle.smithy_transcode.proofs.Maps.{count as count_entries}
-use Rattle.smithy_transcode.proofs.Structures.{count}
+use Rattle.smithy_value.specs.Tree.{entries_view, entries_left, members_view, members_left, part_view, Each, EntriesLeftStand, MembersLeftStand}
+use Rattle.smithy_value.proofs.Maps.{count as count_entries}
+use Rattle.smithy_value.proofs.Structures.{count}
 use Rattle.smithy_transcode.proofs.nulls.+nulls.Given as goal
 
 -- twice the containers that stand in one another

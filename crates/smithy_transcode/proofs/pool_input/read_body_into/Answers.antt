@@ -1,4 +1,4 @@
-use Rattle.smithy_transcode.specs.Private.Pooled.{slot_view}
+use Rattle.smithy_value.specs.Pooled.{slot_view}
 use Rattle.smithy_transcode.specs.Wires.{wire_of}
 use Rattle.smithy_transcode.proofs.BodiesRead.{body_read, body_refused}
 use Rattle.smithy_transcode.proofs.pool_input.read_body_into.Goals as goal

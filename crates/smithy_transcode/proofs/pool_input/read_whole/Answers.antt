@@ -4,7 +4,7 @@ use Rattle.smithy_cbor_codec.specs.Cursor.{cursor_of as cbor_cursor_of, reading_
 use Rattle.smithy_json_settings.specs.Settings.{CodecSettings}
 use Rattle.smithy_cbor_values.specs.Settings.{Settings as CborSettings}
 use Rattle.smithy_transcode.specs.Wires.{wire_of}
-use Rattle.smithy_transcode.specs.Private.Pooled.{slot_view}
+use Rattle.smithy_value.specs.Pooled.{slot_view}
 use Rattle.smithy_transcode.proofs.Begun.{json_begins, cbor_begins, whole_read, form_unread}
 use Rattle.smithy_transcode.proofs.PoolBodies.{pool_of_input, read_stands}
 use Rattle.smithy_transcode.proofs.pool_input.read_whole.Goals as goal

@@ -1,4 +1,4 @@
-use Rattle.smithy_transcode.specs.Private.Pooled.{slot_view as seen_in}
+use Rattle.smithy_value.specs.Pooled.{slot_view as seen_in}
 use Rattle.smithy_transcode.specs.Wires.{wire_of}
 use Rattle.smithy_transcode.proofs.PoolBodies.{pool_of_itself}
 use Rattle.smithy_transcode.proofs.Transcodings.{spelled_is_small, fits_at_root, unfit_at_root, has_byte_texts, unwritten, written, lacking, refused}

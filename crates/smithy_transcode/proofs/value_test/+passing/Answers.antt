@@ -2,15 +2,15 @@ use Rattle.std.proofs.Common.{rules, arith, drop, [], map as mapped, ◌≡◌, 
 use Rattle.std.proofs.lemmas.List.{drop_all}
 use Rattle.smithy_shapes.specs.Site.{site_of, element_of, value_of}
 use Rattle.smithy_declarations.specs.Value.{nesting, no_map_entries, no_member_values}
-use Rattle.smithy_transcode.specs.Private.Tree.{entries_view, entries_left, members_view, members_left, part_view}
+use Rattle.smithy_value.specs.Tree.{entries_view, entries_left, members_view, members_left, part_view}
 use Rattle.smithy_transcode.specs.Private.ValueTest.{test_view}
 use Rattle.smithy_shapes.proofs.Inner.{inner_element, inner_value}
 use Rattle.smithy_transcode.proofs.ValuesPass as passing
 use Rattle.smithy_schema.proofs.WrittenLists as lists
-use Rattle.smithy_transcode.proofs.Maps as maps
-use Rattle.smithy_transcode.proofs.Standing.{same_stand, first_stands, next_stands}
-use Rattle.smithy_transcode.proofs.Structures as structures
-use Rattle.smithy_transcode.proofs.Unions as unions
+use Rattle.smithy_value.proofs.Maps as maps
+use Rattle.smithy_value.proofs.Standing.{same_stand, first_stands, next_stands}
+use Rattle.smithy_value.proofs.Structures as structures
+use Rattle.smithy_value.proofs.Unions as unions
 use Rattle.smithy_transcode.proofs.value_test.+passing.Goals as goal
 
 -- ---- elements

@@ -3,10 +3,10 @@ use Rattle.smithy_shapes.specs.Fits.{ElementsFit, EntriesFit, MembersFit}
 use Rattle.smithy_shapes.specs.ScalarTest.{elements_pass, entries_pass, members_pass}
 use Rattle.smithy_shapes.specs.Site.{site_of, kind_at, element_of, value_of}
 use Rattle.smithy_declarations.specs.Value.{list, map, structure, union, values_of, nesting, elements_nesting, entries_nesting, members_nesting}
-use Rattle.smithy_transcode.specs.Private.Tree.{entries_view, entries_left, members_view, members_left, part_view, Each, EntriesLeftStand, MembersLeftStand}
+use Rattle.smithy_value.specs.Tree.{entries_view, entries_left, members_view, members_left, part_view, Each, EntriesLeftStand, MembersLeftStand}
 use Rattle.smithy_transcode.specs.Private.ValueTest.{test_view}
-use Rattle.smithy_transcode.proofs.Maps.{count as count_entries}
-use Rattle.smithy_transcode.proofs.Structures.{count}
+use Rattle.smithy_value.proofs.Maps.{count as count_entries}
+use Rattle.smithy_value.proofs.Structures.{count}
 use Rattle.smithy_transcode.proofs.value_test.+passing.Given as goal
 
 -- twice the containers that stand in one another

@@ -1,4 +1,4 @@
-use Rattle.smithy_transcode.specs.View.{view}
+use Rattle.smithy_value.specs.View.{view}
 use Rattle.smithy_transcode.specs.Wires.{wire_of}
 use Rattle.smithy_transcode.proofs.BodiesRead.{body_read, body_refused}
 use Rattle.smithy_transcode.proofs.whole_input.read_body.Goals as goal

@@ -3,7 +3,7 @@ use Rattle.smithy_json_codec.specs.Cursor.{cursor_of, reading_settings_of}
 use Rattle.smithy_cbor_codec.specs.Cursor.{cursor_of as cbor_cursor_of, reading_settings_of as cbor_settings_of}
 use Rattle.smithy_json_settings.specs.Settings.{CodecSettings}
 use Rattle.smithy_cbor_values.specs.Settings.{Settings as CborSettings}
-use Rattle.smithy_transcode.specs.View.{view}
+use Rattle.smithy_value.specs.View.{view}
 use Rattle.smithy_transcode.specs.Wires.{wire_of}
 use Rattle.smithy_transcode.proofs.Begun.{json_begins, cbor_begins, whole_read, form_unread}
 use Rattle.smithy_transcode.proofs.whole_input.read_whole_value.Goals as goal

@@ -1,6 +1,6 @@
 use Rattle.std.proofs.Common.{ap, ◌∙◌}
 use Rattle.std.proofs.lemmas.Result.{err_from_is_err_and, IfOk-weaker}
-use Rattle.smithy_transcode.proofs.WriteAnswers.{has_not_failed, memory_alone, ends_well, same_state}
+use Rattle.smithy_value.proofs.WriteAnswers.{has_not_failed, memory_alone, ends_well, same_state}
 use Rattle.smithy_transcode.proofs.whole_output.body_of_value.Goals as goal
 
 -- a value that can be written is refused for want of memory alone

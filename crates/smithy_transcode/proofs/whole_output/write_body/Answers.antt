@@ -1,5 +1,5 @@
 use Rattle.std.proofs.Common.{[]}
-use Rattle.smithy_transcode.specs.View.{view}
+use Rattle.smithy_value.specs.View.{view}
 use Rattle.smithy_transcode.specs.Wires.{wire_of}
 use Rattle.smithy_transcode.proofs.BodiesWritten.{body_lacking, body_written, body_unwritten}
 use Rattle.smithy_transcode.proofs.Transcodings.{fits_at_root, unfit_at_root}

@@ -1,7 +1,7 @@
 use Rattle.std.proofs.Common.{subst}
 use Rattle.smithy_shapes.specs.Fits.{Fits}
 use Rattle.smithy_shapes.specs.Site.{Site}
-use Rattle.smithy_transcode.specs.View.{view}
+use Rattle.smithy_value.specs.View.{view}
 use Rattle.smithy_transcode.proofs.Mapped.{mapped_ok}
 use Rattle.transcode_rows.proofs.values.read_by.Goals as goal
 

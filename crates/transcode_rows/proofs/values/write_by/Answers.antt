@@ -1,4 +1,4 @@
-use Rattle.smithy_transcode.specs.View.{view}
+use Rattle.smithy_value.specs.View.{view}
 use Rattle.smithy_transcode.proofs.Transcodings.{fits_at_root}
 use Rattle.transcode_rows.proofs.values.write_by.Goals as goal
 

@@ -1,0 +1,26 @@
+use Rattle.std.proofs.Common.{◌≡◌, ◌≤◌, length, sym, ◌∙◌, rules}
+use Rattle.smithy_shapes.specs.Site.{site_of}
+use Rattle.smithy_schema.specs.Spans.{span_bytes, IsPlaced}
+use Rattle.smithy_cbor_codec.specs.Cursor.{cursor_of, reading_settings_of}
+use Rattle.smithy_cbor_values.proofs.ScalarReads.{reads_bytes, found_is}
+use Rattle.smithy_wire.proofs.ScalarReads.{was_ready}
+use Rattle.smithy_cbor_codec.proofs.spans.CborDeserializerPieceDeserializer.take_bytes.Goals as goal
+
+pub returns-clause-read : goal.returns-clause-read
+returns-clause-read c =
+    let same : c.ready.new.self ≡ c.args.self.now.walk = c.in_ok-ready.ensures.ok in
+    let was = was_ready c.args.self.now.walk.failed c.args.self.now.walk.due (sym c.in_ok-ready.was ∙ c.ready.ensures.answer) in
+    let within : c.args.self.now.walk.position ≤ length c.args.self.now.walk.input.now = search rules in
+    let found = rw (c.end_depth.ensures, same) at c.bytes_span_at-found.ensures in
+    let take = rw same at c.take_found.ensures in
+    let old = cursor_of c.args.self.now in
+    reads_bytes (reading_settings_of c.args.self.now) old (site_of c.args._schema.now) was.0 was.1 within (span_bytes old.input) _ c.bytes_span_at-found.result c.take_found.result
+    found.found take.taken
+
+pub returns-clause-stands : goal.returns-clause-stands
+returns-clause-stands c =
+    let same : c.ready.new.self ≡ c.args.self.now.walk = c.in_ok-ready.ensures.ok in
+    let found = rw (c.end_depth.ensures, same) at c.bytes_span_at-found.ensures in
+    let take = rw same at c.take_found.ensures in
+    let old = cursor_of c.args.self.now in
+    found_is old _ c.take_found.result (λ b end. IsPlaced old.input b) c.bytes_span_at-found.result found.placed take.taken

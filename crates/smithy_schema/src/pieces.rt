@@ -1,0 +1,93 @@
+//! Readers that hand out texts and bytes in types of their own.
+ghost use Rattle.std.specs.Prelude.{◌≡◌, ℕ, List, IfOk, MatchOption};
+ghost use Rattle.smithy_declarations.specs.declared.shape_type.Scalar.TheVariants as scalars;
+ghost use Rattle.smithy_declarations.specs.Value.{text, bytes};
+ghost use Rattle.smithy_shapes.specs.Site.{site_of};
+ghost use Rattle.smithy_schema.specs.Containers.{GoesOnInMap};
+ghost use Rattle.smithy_schema.specs.Reading.{ReadsScalar, in_map};
+
+use crate::error::SerdeError;
+use crate::read::ShapeDeserializer;
+use crate::spans::{BytesSpan, TextSpan};
+use smithy_shapes::Schema;
+use std::alloc::Global;
+use std::borrow::{CowSlice, CowStr};
+
+/// A text that was read from an input, wherever it is kept.
+pub trait TextView: Drop {
+    // The bytes of the text.
+    ghost bytes_of: { List ℕ → Self → List ℕ };
+
+    // The text stands in the input, where it names a place of it.
+    ghost stands: { List ℕ → Self → Type 0 };
+}
+
+impl TextView for TextSpan {
+    ghost use Rattle.smithy_schema.specs.Spans.{text_bytes, IsTextPlaced};
+
+    ghost bytes_of = { text_bytes };
+
+    ghost stands = { IsTextPlaced };
+}
+
+impl TextView for CowStr<'_, Global> {
+    ghost use Rattle.std.specs.Cow.{cow_str_bytes};
+
+    ghost bytes_of = { λ input s. cow_str_bytes s };
+
+    ghost stands = { λ input s. Unit {0} };
+}
+
+/// Any bytes that were read from an input, wherever they are kept.
+pub trait BytesView: Drop {
+    // The bytes themselves.
+    ghost items_of: { List ℕ → Self → List ℕ };
+
+    // The bytes stand in the input, where they name a place of it.
+    ghost stands: { List ℕ → Self → Type 0 };
+}
+
+impl BytesView for BytesSpan {
+    ghost use Rattle.smithy_schema.specs.Spans.{span_bytes, IsPlaced};
+
+    ghost items_of = { span_bytes };
+
+    ghost stands = { IsPlaced };
+}
+
+impl BytesView for CowSlice<'_, u8, Global> {
+    ghost use Rattle.std.specs.Cow.{cow_slice_items};
+
+    ghost items_of = { λ input b. cow_slice_items b };
+
+    ghost stands = { λ input b. Unit {0} };
+}
+
+/// A reader that hands out texts and bytes in types of its own. It names no lifetime, since no function that calls itself may have
+/// a bound that does.
+pub trait PieceDeserializer: ShapeDeserializer {
+    /// What the reader hands out for a text.
+    type Text: TextView;
+
+    /// What the reader hands out for bytes.
+    type Bytes: BytesView;
+
+    /// Reads a text.
+    fn take_text(&mut self, schema: &Schema<'_>) -> Result<Self::Text, SerdeError>
+        ensures same { Self.settings self.new ≡ Self.settings self.old }
+        ensures read { ReadsScalar (Self.wire (Self.settings self.old)) (Self.lifted (Self.settings self.old)) (Self.tells_without_limits (Self.settings self.old)) (Self.state self.old) (Self.state self.new) (site_of schema.now) scalars.String (λ s. text (Self.Text.bytes_of (Self.state self.old).input s)) result }
+        ensures stands { IfOk result (Self.Text.stands (Self.state self.old).input) };
+
+    /// Reads bytes.
+    fn take_bytes(&mut self, schema: &Schema<'_>) -> Result<Self::Bytes, SerdeError>
+        ensures same { Self.settings self.new ≡ Self.settings self.old }
+        ensures read { ReadsScalar (Self.wire (Self.settings self.old)) (Self.lifted (Self.settings self.old)) (Self.tells_without_limits (Self.settings self.old)) (Self.state self.old) (Self.state self.new) (site_of schema.now) scalars.Blob (λ b. bytes (Self.Bytes.items_of (Self.state self.old).input b)) result }
+        ensures stands { IfOk result (Self.Bytes.stands (Self.state self.old).input) };
+
+    /// Goes on in the map, as `next_key` does.
+    fn take_key(&mut self) -> Result<Option<Self::Text>, SerdeError>
+        requires within { (Self.state self.old).inner.within ≡ in_map }
+        ensures same { Self.settings self.new ≡ Self.settings self.old }
+        ensures goes_on { GoesOnInMap (Self.wire (Self.settings self.old)) (Self.lifted (Self.settings self.old)) (Self.tells_without_limits (Self.settings self.old)) (Self.Text.bytes_of (Self.state self.old).input) (Self.state self.old) (Self.state self.new) result }
+        ensures stands { IfOk result (λ next. MatchOption next (Unit {0}) (Self.Text.stands (Self.state self.old).input)) };
+}

@@ -1,5 +1,0 @@
-use Rattle.smithy_transcode.proofs.PoolTrees.{begun_none}
-use Rattle.smithy_transcode.proofs.pool_trees.PoolTrees.no_entries.Goals as goal
-
-pub returns-clause-begun : goal.returns-clause-begun
-returns-clause-begun c = begun_none c.args.self.now c.count_waiting.result c.requires.sound.1.sound c.count_waiting.ensures.count

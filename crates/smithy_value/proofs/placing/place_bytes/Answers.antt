@@ -1,0 +1,20 @@
+use Rattle.std.proofs.Common.{◌≤◌, ◌+◌, length, refl, arith}
+use Rattle.smithy_tree.proofs.Growing.{part_stays}
+use Rattle.smithy_tree.proofs.Seeing.{grows_self}
+use Rattle.smithy_value.proofs.placing.place_bytes.Goals as goal
+
+pub returns-else-size-clause-ok : goal.returns-else-size-clause-ok
+returns-else-size-clause-ok c =
+    let p = c.args.pool.now in
+    let at = c.in-Placed.at in
+    let size = c.in-Placed.size in
+    let placed : at + size ≤ length p.input.now = rw c.in-Placed.is at c.requires.placed in
+    rw c.in-Placed.is (record {
+      grows = grows_self p c.requires.sound;
+      waiting = refl;
+      part = record {
+        within = omega (arith, placed);
+        apart = λ past. omega (arith, placed, past);
+      };
+      bytes = part_stays at size p.input.now p.side.items placed;
+    })

@@ -1,0 +1,64 @@
+//! Texts and bytes of a reader in a pool.
+ghost use Rattle.std.specs.Prelude.{◌≡◌, IfOk, IfErr};
+ghost use Rattle.smithy_schema.specs.Spans.{text_bytes, span_bytes, IsTextPlaced, IsPlaced};
+ghost use Rattle.smithy_schema.specs.declared.error.SerdeError.TheVariants.{NoMemory};
+ghost use Rattle.smithy_tree.specs.Seen.{IsSound};
+ghost use Rattle.smithy_value.specs.Private.Placed.{HasText, HasBytes};
+
+use smithy_schema::{BytesSpan, SerdeError, TextSpan};
+use smithy_tree::Pool;
+
+// Where a copy of the text stands in the pool.
+#[inline(never)]
+fn copy_text(pool: &mut Pool<'_>, text: &str) -> Result<(u32, u32), SerdeError>
+    requires sound { IsSound pool.old }
+    ensures ok { IfOk result (λ r. HasText pool.old pool.new r.0 r.1 text.now) }
+    ensures err { IfErr result (λ e. e ≡ NoMemory) }
+{
+    let (at, size) = pool.copy(text.as_bytes())?;
+    Ok((at, size))
+}
+
+// Where the text stands in the pool.
+#[inline(always)]
+pub(crate) fn place_text(pool: &mut Pool<'_>, text: TextSpan) -> Result<(u32, u32), SerdeError>
+    requires sound { IsSound pool.old }
+    requires placed { IsTextPlaced pool.old.input.now text }
+    ensures ok { IfOk result (λ r. HasText pool.old pool.new r.0 r.1 (text_bytes pool.old.input.now text)) }
+    ensures err { IfErr result (λ e. e ≡ NoMemory) }
+{
+    match text {
+        TextSpan::Placed(at, size) => {
+            if at > u32::MAX as usize || size > u32::MAX as usize {
+                return Err(SerdeError::NoMemory);
+            }
+            Ok((at as u32, size as u32))
+        }
+        TextSpan::Owned(text) => {
+            let (at, size) = copy_text(pool, text.as_str())?;
+            Ok((at, size))
+        }
+    }
+}
+
+// Where the bytes stand in the pool.
+#[inline(always)]
+pub(crate) fn place_bytes(pool: &mut Pool<'_>, bytes: BytesSpan) -> Result<(u32, u32), SerdeError>
+    requires sound { IsSound pool.old }
+    requires placed { IsPlaced pool.old.input.now bytes }
+    ensures ok { IfOk result (λ r. HasBytes pool.old pool.new r.0 r.1 (span_bytes pool.old.input.now bytes)) }
+    ensures err { IfErr result (λ e. e ≡ NoMemory) }
+{
+    match bytes {
+        BytesSpan::Placed(at, size) => {
+            if at > u32::MAX as usize || size > u32::MAX as usize {
+                return Err(SerdeError::NoMemory);
+            }
+            Ok((at as u32, size as u32))
+        }
+        BytesSpan::Owned(blob) => {
+            let (at, size) = pool.copy(blob.as_ref())?;
+            Ok((at, size))
+        }
+    }
+}

@@ -1,0 +1,247 @@
+//! Reading a value tree from any wire.
+ghost use Rattle.std.specs.Prelude.{◌≡◌, true, IfOk};
+ghost use Rattle.smithy_declarations.specs.Table.{type_of, IsStructure, IsUnion, IsList, IsMap};
+ghost use Rattle.smithy_shapes.specs.Site.{site_of, kind_at};
+ghost use Rattle.smithy_value.specs.ReadValue.{ReadsValue};
+ghost use Rattle.smithy_value.specs.View.{view};
+ghost use Rattle.smithy_value.specs.Private.Rare.{IsRare};
+
+use crate::borrowing::Borrowing;
+use crate::tree::Trees;
+use crate::value::Value;
+use crate::value_trees::ValueTrees;
+use smithy_schema::{BorrowDeserializer, PieceDeserializer, Schema, SerdeError, ShapeType, Step};
+use std::alloc::Global;
+
+/// Reads the value of the schema that is due, whatever the wire. Its texts and bytes borrow from the input of the reader, which they
+/// may outlive.
+pub fn read_value<'a, D: BorrowDeserializer<'a>>(
+    alloc: Global,
+    source: &mut D,
+    schema: &Schema<'_>,
+) -> Result<Value<'a>, SerdeError>
+    requires due { (D.state source.old).due ≡ true }
+    ensures same { D.settings source.new ≡ D.settings source.old }
+    ensures reads { let s = D.settings source.old in ReadsValue (D.wire s) (D.lifted s) (D.tells_without_limits s) (D.max_depth s) (D.state source.old) (D.state source.new) (site_of schema.now) view result }
+{
+    let mut texts = Borrowing::<'_, 'a, D>::new(source);
+    read_through(alloc, &mut texts, schema)
+}
+
+// The same through a reader that names no lifetime in its bound.
+fn read_through<'a, D: BorrowDeserializer<'a>>(
+    alloc: Global,
+    texts: &mut Borrowing<'_, 'a, D>,
+    schema: &Schema<'_>,
+) -> Result<Value<'a>, SerdeError>
+    requires due { (D.state texts.old.source.now).due ≡ true }
+    ensures same_reference { texts.new.source.ghost_name ≡ texts.old.source.ghost_name }
+    ensures same { D.settings texts.new.source.now ≡ D.settings texts.old.source.now }
+    ensures reads { let s = D.settings texts.old.source.now in ReadsValue (D.wire s) (D.lifted s) (D.tells_without_limits s) (D.max_depth s) (D.state texts.old.source.now) (D.state texts.new.source.now) (site_of schema.now) view result }
+{
+    let mut trees = ValueTrees::new();
+    read_tree::<ValueTrees<'a>, Borrowing<'_, 'a, D>>(alloc, texts, &mut trees, schema)
+}
+
+/// Reads the value of the schema that is due as a tree of any store, whatever the wire. The store is one of the reader's input.
+#[cycle(read)]
+#[inline(always)]
+pub fn read_tree<P: Trees, D: PieceDeserializer<Text = P::Text, Bytes = P::Bytes>>(
+    alloc: Global,
+    source: &mut D,
+    trees: &mut P,
+    schema: &Schema<'_>,
+) -> Result<P::Tree, SerdeError>
+    requires due { (D.state source.old).due ≡ true }
+    requires sound { P.sound trees.old (D.state source.old).input }
+    ensures same { D.settings source.new ≡ D.settings source.old }
+    ensures reads { let s = D.settings source.old in ReadsValue (D.wire s) (D.lifted s) (D.tells_without_limits s) (D.max_depth s) (D.state source.old) (D.state source.new) (site_of schema.now) (P.view trees.new) result }
+    ensures adds { IfOk result (λ x. P.keeps trees.old trees.new × P.stands trees.new x) }
+{
+    match schema.shape_type() {
+        ShapeType::Boolean => Ok(P::boolean(source.read_boolean(schema)?)),
+        ShapeType::Byte => Ok(P::whole(i64::from(source.read_byte(schema)?))),
+        ShapeType::Short => Ok(P::whole(i64::from(source.read_short(schema)?))),
+        ShapeType::Integer => Ok(P::whole(i64::from(source.read_integer(schema)?))),
+        ShapeType::Long => Ok(P::whole(source.read_long(schema)?)),
+        ShapeType::String => trees.text(source.take_text(schema)?),
+        ShapeType::Blob => trees.bytes(source.take_bytes(schema)?),
+        ShapeType::BigInteger
+        | ShapeType::BigDecimal
+        | ShapeType::Timestamp
+        | ShapeType::Document => read_out_of_line::<P, D>(source, trees, schema),
+        ShapeType::Structure => read_structure::<P, D>(alloc, source, trees, schema),
+        ShapeType::Union => read_union::<P, D>(alloc, source, trees, schema),
+        ShapeType::List => read_list::<P, D>(alloc, source, trees, schema),
+        ShapeType::Map => read_map::<P, D>(alloc, source, trees, schema),
+    }
+}
+
+// Reads the value of the schema that is due, where it is of a kind that few tables have: a big number, an instant or a document.
+// What these reads hold on the stack stands in a call of its own, so that the calls for containers need no room for it.
+#[inline(never)]
+fn read_out_of_line<P: Trees, D: PieceDeserializer<Text = P::Text, Bytes = P::Bytes>>(
+    source: &mut D,
+    trees: &mut P,
+    schema: &Schema<'_>,
+) -> Result<P::Tree, SerdeError>
+    requires due { (D.state source.old).due ≡ true }
+    requires sound { P.sound trees.old (D.state source.old).input }
+    requires rare { IsRare (type_of (kind_at (site_of schema.now))) }
+    ensures same { D.settings source.new ≡ D.settings source.old }
+    ensures reads { let s = D.settings source.old in ReadsValue (D.wire s) (D.lifted s) (D.tells_without_limits s) (D.max_depth s) (D.state source.old) (D.state source.new) (site_of schema.now) (P.view trees.new) result }
+    ensures adds { IfOk result (λ x. P.keeps trees.old trees.new × P.stands trees.new x) }
+{
+    match schema.shape_type() {
+        ShapeType::BigInteger => match source.read_big_integer(schema)?.to_i128() {
+            Ok(number) => trees.big_integer(number),
+            Err(_) => unreachable!(),
+        },
+        ShapeType::BigDecimal => match source.read_big_decimal(schema)?.to_parts() {
+            Ok((mantissa, exponent)) => trees.decimal(mantissa, exponent),
+            Err(_) => unreachable!(),
+        },
+        ShapeType::Timestamp => Ok(P::timestamp(source.read_timestamp(schema)?)),
+        ShapeType::Document => trees.document(source.read_document(schema)?),
+        ShapeType::Boolean
+        | ShapeType::Byte
+        | ShapeType::Short
+        | ShapeType::Integer
+        | ShapeType::Long
+        | ShapeType::String
+        | ShapeType::Blob
+        | ShapeType::List
+        | ShapeType::Map
+        | ShapeType::Structure
+        | ShapeType::Union => unreachable!(),
+    }
+}
+
+#[cycle(read)]
+#[inline(never)]
+fn read_structure<P: Trees, D: PieceDeserializer<Text = P::Text, Bytes = P::Bytes>>(
+    alloc: Global,
+    source: &mut D,
+    trees: &mut P,
+    schema: &Schema<'_>,
+) -> Result<P::Tree, SerdeError>
+    requires due { (D.state source.old).due ≡ true }
+    requires sound { P.sound trees.old (D.state source.old).input }
+    requires place { IsStructure (kind_at (site_of schema.now)) }
+    ensures same { D.settings source.new ≡ D.settings source.old }
+    ensures reads { let s = D.settings source.old in ReadsValue (D.wire s) (D.lifted s) (D.tells_without_limits s) (D.max_depth s) (D.state source.old) (D.state source.new) (site_of schema.now) (P.view trees.new) result }
+    ensures adds { IfOk result (λ x. P.keeps trees.old trees.new × P.stands trees.new x) }
+{
+    source.open_struct(schema)?;
+    let mut members = trees.no_members(alloc);
+    loop {
+        match source.next_member(schema)? {
+            Step::Member(member) => {
+                let Some(index) = member.member_index() else {
+                    unreachable!()
+                };
+                let value = read_tree::<P, D>(alloc, source, trees, &member)?;
+                trees.set_member(&mut members, index, value)?;
+            }
+            Step::Unknown => source.skip_value()?,
+            Step::End => return trees.structure(alloc, members),
+        }
+    }
+}
+
+#[cycle(read)]
+#[inline(never)]
+fn read_union<P: Trees, D: PieceDeserializer<Text = P::Text, Bytes = P::Bytes>>(
+    alloc: Global,
+    source: &mut D,
+    trees: &mut P,
+    schema: &Schema<'_>,
+) -> Result<P::Tree, SerdeError>
+    requires due { (D.state source.old).due ≡ true }
+    requires sound { P.sound trees.old (D.state source.old).input }
+    requires place { IsUnion (kind_at (site_of schema.now)) }
+    ensures same { D.settings source.new ≡ D.settings source.old }
+    ensures reads { let s = D.settings source.old in ReadsValue (D.wire s) (D.lifted s) (D.tells_without_limits s) (D.max_depth s) (D.state source.old) (D.state source.new) (site_of schema.now) (P.view trees.new) result }
+    ensures adds { IfOk result (λ x. P.keeps trees.old trees.new × P.stands trees.new x) }
+{
+    source.open_struct(schema)?;
+    let Step::Member(member) = source.next_member(schema)? else {
+        source.fail();
+        return Err(SerdeError::InvalidInput);
+    };
+    let Some(index) = member.member_index() else {
+        unreachable!()
+    };
+    let value = read_tree::<P, D>(alloc, source, trees, &member)?;
+    let Step::End = source.next_member(schema)? else {
+        source.fail();
+        return Err(SerdeError::InvalidInput);
+    };
+    trees.union(alloc, index, value)
+}
+
+#[cycle(read)]
+#[inline(never)]
+fn read_list<P: Trees, D: PieceDeserializer<Text = P::Text, Bytes = P::Bytes>>(
+    alloc: Global,
+    source: &mut D,
+    trees: &mut P,
+    schema: &Schema<'_>,
+) -> Result<P::Tree, SerdeError>
+    requires due { (D.state source.old).due ≡ true }
+    requires sound { P.sound trees.old (D.state source.old).input }
+    requires place { IsList (kind_at (site_of schema.now)) }
+    ensures same { D.settings source.new ≡ D.settings source.old }
+    ensures reads { let s = D.settings source.old in ReadsValue (D.wire s) (D.lifted s) (D.tells_without_limits s) (D.max_depth s) (D.state source.old) (D.state source.new) (site_of schema.now) (P.view trees.new) result }
+    ensures adds { IfOk result (λ x. P.keeps trees.old trees.new × P.stands trees.new x) }
+{
+    source.open_list(schema)?;
+    let sparse = schema.is_sparse();
+    let Some(element) = schema.member() else {
+        unreachable!()
+    };
+    let mut elements = trees.no_elements(alloc);
+    while source.next_element()? {
+        if sparse && source.is_null() {
+            source.read_null()?;
+            trees.push_element(&mut elements, P::null())?;
+        } else {
+            let item = read_tree::<P, D>(alloc, source, trees, &element)?;
+            trees.push_element(&mut elements, item)?;
+        }
+    }
+    trees.list(elements)
+}
+
+#[cycle(read)]
+#[inline(never)]
+fn read_map<P: Trees, D: PieceDeserializer<Text = P::Text, Bytes = P::Bytes>>(
+    alloc: Global,
+    source: &mut D,
+    trees: &mut P,
+    schema: &Schema<'_>,
+) -> Result<P::Tree, SerdeError>
+    requires due { (D.state source.old).due ≡ true }
+    requires sound { P.sound trees.old (D.state source.old).input }
+    requires place { IsMap (kind_at (site_of schema.now)) }
+    ensures same { D.settings source.new ≡ D.settings source.old }
+    ensures reads { let s = D.settings source.old in ReadsValue (D.wire s) (D.lifted s) (D.tells_without_limits s) (D.max_depth s) (D.state source.old) (D.state source.new) (site_of schema.now) (P.view trees.new) result }
+    ensures adds { IfOk result (λ x. P.keeps trees.old trees.new × P.stands trees.new x) }
+{
+    source.open_map(schema)?;
+    let sparse = schema.is_sparse();
+    let Some(inner) = schema.member() else {
+        unreachable!()
+    };
+    let mut entries = trees.no_entries(alloc);
+    while let Some(key) = source.take_key()? {
+        if sparse && source.is_null() {
+            source.read_null()?;
+            trees.set_entry(alloc, &mut entries, key, P::null())?;
+        } else {
+            let value = read_tree::<P, D>(alloc, source, trees, &inner)?;
+            trees.set_entry(alloc, &mut entries, key, value)?;
+        }
+    }
+    trees.map(alloc, entries)
+}
