@@ -1,8 +1,6 @@
--- One more shape behind others, and one with the numbers of its targets.
-use Rattle.std.proofs.Common.{◌≡◌, ◌<◌, ◌+◌, ◌∙◌, ℕ, List, [], ◌∷◌, ◌++◌, length, map, take, get_or, refl, append_assoc}
+-- One more shape behind others.
+use Rattle.std.proofs.Common.{◌≡◌, ◌<◌, ◌+◌, ℕ, List, [], ◌∷◌, ◌++◌, length, map, take, get_or, append_assoc}
 use Rattle.std.proofs.lemmas.List.{take_more, map-append}
-use Rattle.smithy_model.specs.Model.{Kind, Shape}
-use Rattle.smithy_model.specs.Reading.{IsKindNumbered, IsShapeNumbered}
 
 -- one more of a list that is gone through, behind what stood before
 pub one_behind : {W Y X : Type 0} (f : Y → X) (v : W → Y) (ws : List W) (i : ℕ) (d : W) (before so_far : List X) (x : X) → i < length ws
@@ -10,10 +8,3 @@ pub one_behind : {W Y X : Type 0} (f : Y → X) (v : W → Y) (ws : List W) (i :
 one_behind f v ws i d before so_far x within is one =
     rw (take_more ws i d within, map-append v (take i ws) (get_or ws i d ∷ []), map-append f (map v (take i ws)) (v (get_or ws i d) ∷ []), is, one)
     (append_assoc before (map f (map v (take i ws))) (f (v (get_or ws i d)) ∷ []))
-
-pub three_behind : {X : Type 0} (before a b c : List X) → ((before ++ a) ++ b) ++ c ≡ before ++ (a ++ (b ++ c))
-three_behind before a b c = append_assoc (before ++ a) b c ∙ append_assoc before a (b ++ c)
-
-pub shape_numbered : (ids : List (List ℕ)) (given s : Shape) (k : Kind) → s ≡ record given { kind = k; mixins = [] } → IsKindNumbered ids given.kind k
-    → IsShapeNumbered ids given s
-shape_numbered ids given s k is numbered = rw (is) (refl, numbered)

@@ -48,11 +48,8 @@ has_target id (map key value) = is_target id key || is_target id value
 has_target id _ = false
 
 -- an id is missing among these, though it is the target of something, as the test says
-abbrev pub MissesTarget : List (List ℕ) → (List ℕ → Bool) → ModelFault → Type 0
-MissesTarget ids is_a_target (faults.UnknownTarget id) =
-    (is_a_target id.now ≡ true) × (list_any (λ other. bytes_eq other id.now) ids ≡ false)
-MissesTarget ids is_a_target faults.NoMemory = Unit {0}
-MissesTarget ids is_a_target _ = ⊥
+abbrev pub IsMissing : List (List ℕ) → (List ℕ → Bool) → List ℕ → Type 0
+IsMissing ids is_a_target id = (is_a_target id ≡ true) × (list_any (λ other. bytes_eq other id) ids ≡ false)
 
 -- the reference is to this id
 abbrev pub refers_to : List ℕ → Reference → Bool
@@ -63,10 +60,15 @@ abbrev pub has_structure : List ℕ → Operation → Bool
 has_structure id o =
     option_map_or (refers_to id) o.input false || (option_map_or (refers_to id) o.output false || list_any (refers_to id) o.errors)
 
--- a member, or an operation, has a target that no shape is
+-- a member, or an operation, has this target
+abbrev pub is_target_in : List ℕ → Model → Bool
+is_target_in id m = list_any (λ (s : Shape). has_target id s.kind) m.shapes || list_any (has_structure id) m.operations
+
+-- a target is no shape of the model
 abbrev pub RefusesLinks : Model → ModelFault → Type 0
-RefusesLinks m =
-    MissesTarget (ids_of m.shapes) (λ id. list_any (λ (s : Shape). has_target id s.kind) m.shapes || list_any (has_structure id) m.operations)
+RefusesLinks m (faults.UnknownTarget id) = IsMissing (ids_of m.shapes) (λ other. is_target_in other m) id.now
+RefusesLinks m faults.NoMemory = Unit {0}
+RefusesLinks m _ = ⊥
 
 -- a shape takes in a mixin that isn't there, or itself, or one that does so, or a member that it has with another target
 abbrev pub RefusesMixins : List Shape → ModelFault → Type 0

@@ -6,24 +6,29 @@ use Rattle.smithy_model.specs.Model.{Kind, simple, float, event_stream, structur
 use Rattle.smithy_model.specs.Form.{Form, smithy}
 use Rattle.smithy_model.specs.Members.{members_in, part_in}
 
--- The name in a table of a type of scalars but floats, or of documents. An `enum` is a string, an `intEnum` an integer.
-abbrev pub simple_name : List ℕ → Option (List ℕ)
-simple_name type =
-    if bytes_eq type (codes "boolean") then Some (codes "boolean")
-    else if bytes_eq type (codes "byte") then Some (codes "byte")
+-- the name in a table of a type of numbers but floats; an `intEnum` is an integer
+abbrev pub number_name : List ℕ → Option (List ℕ)
+number_name type =
+    if bytes_eq type (codes "byte") then Some (codes "byte")
     else if bytes_eq type (codes "short") then Some (codes "short")
     else if bytes_eq type (codes "integer") then Some (codes "integer")
     else if bytes_eq type (codes "intEnum") then Some (codes "integer")
     else if bytes_eq type (codes "long") then Some (codes "long")
+    else if bytes_eq type (codes "bigInteger") then Some (codes "bigInteger")
+    else if bytes_eq type (codes "bigDecimal") then Some (codes "bigDecimal")
+    else None
+
+-- the name in a table of a type of scalars but floats, or of documents; an `enum` is a string
+abbrev pub simple_name : List ℕ → Option (List ℕ)
+simple_name type =
+    if bytes_eq type (codes "boolean") then Some (codes "boolean")
     else if bytes_eq type (codes "string") then Some (codes "string")
     else if bytes_eq type (codes "enum") then Some (codes "string")
     else if bytes_eq type (codes "character") then Some (codes "string")
     else if bytes_eq type (codes "blob") then Some (codes "blob")
-    else if bytes_eq type (codes "bigInteger") then Some (codes "bigInteger")
-    else if bytes_eq type (codes "bigDecimal") then Some (codes "bigDecimal")
     else if bytes_eq type (codes "timestamp") then Some (codes "timestamp")
     else if bytes_eq type (codes "document") then Some (codes "document")
-    else None
+    else number_name type
 
 -- a stream of events: a union that is streamed (Smithy 2.0, "Event streams"), in a service-2.json marked as one
 abbrev pub is_event_stream : Form → List ℕ → Json → Bool

@@ -100,15 +100,11 @@ IsKindNumbered ids (map key value) k = (a b : Member) × (k ≡ map a b) × IsNu
 IsKindNumbered ids given k = k ≡ given
 
 abbrev pub IsShapeNumbered : List (List ℕ) → Shape → Shape → Type 0
-IsShapeNumbered ids given s = (s ≡ record given { kind = s.kind; mixins = [] }) × IsKindNumbered ids given.kind s.kind
+IsShapeNumbered ids given s = (s ≡ record given { kind = s.kind }) × IsKindNumbered ids given.kind s.kind
 
 -- the ids of shapes
 abbrev pub ids_of : List Shape → List (List ℕ)
 ids_of shapes = list_map (λ (s : Shape). s.id) shapes
-
--- the shapes with the number of each target: the place of the shape of this id
-abbrev pub AreNumbered : List Shape → List Shape → Type 0
-AreNumbered given shapes = AllZip (IsShapeNumbered (ids_of given)) given shapes
 
 -- the reference with the number of the shape of its id
 abbrev pub IsReferenceNumbered : List (List ℕ) → Reference → Reference → Type 0
@@ -143,11 +139,15 @@ pub record IsUnlinked (root : Json) (m : Model) : Type 0 where
   pub ec2 : m.is_ec2 ≡ is_ec2_in form root entries
   pub service_json : m.is_service_json ≡ is_service_json form
 
--- the model with the number of each target, and of each structure of an operation
+-- the model with the number of each target, and of each structure of an operation, among these ids
+pub record AreTargetsNumbered (ids : List (List ℕ)) (given m : Model) : Type 0 where
+  pub as_given : m ≡ record given { shapes = m.shapes; operations = m.operations }
+  pub shapes : AllZip (IsShapeNumbered ids) given.shapes m.shapes
+  pub operations : AllZip (IsOperationNumbered ids) given.operations m.operations
+
+-- The number of a target is the place of the shape of its id.
 abbrev pub IsLinked : Model → Model → Type 0
-IsLinked given m =
-    (m ≡ record given { shapes = m.shapes; operations = m.operations }) × AreNumbered given.shapes m.shapes
-    × AllZip (IsOperationNumbered (ids_of given.shapes)) given.operations m.operations
+IsLinked given m = AreTargetsNumbered (ids_of given.shapes) given m
 
 -- The model that a JSON value is.
 abbrev pub IsModelOf : Json → Model → Type 0

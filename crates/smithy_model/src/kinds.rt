@@ -3,7 +3,7 @@ ghost use Rattle.std.specs.Prelude.{◌≡◌, option_map, IfOk, codes};
 ghost use Rattle.smithy_model.specs.Model.{list};
 ghost use Rattle.smithy_model.specs.Members.{part_in};
 ghost use Rattle.json.specs.Value.{value_view};
-ghost use Rattle.smithy_model.specs.Kinds.{simple_name, is_event_stream, is_union, is_document, structure_in, map_in, aggregate_in, kind_of_type, kind_in};
+ghost use Rattle.smithy_model.specs.Kinds.{number_name, simple_name, is_event_stream, is_union, is_document, structure_in, map_in, aggregate_in, kind_of_type, kind_in};
 ghost use Rattle.smithy_model.specs.Views.{kind_view, form_view};
 
 use crate::format::Format;
@@ -13,26 +13,32 @@ use crate::objects::{has_trait, is_set, text};
 use json::Value;
 use std::alloc::{AllocError, Global};
 
+// The name in a table of a type of numbers but floats.
+fn number_name(kind: &str) -> Option<&'static str>
+    ensures { option_map (λ t. t.now) result ≡ number_name kind.now }
+{
+    match kind {
+        "byte" => Some("byte"),
+        "short" => Some("short"),
+        "integer" | "intEnum" => Some("integer"),
+        "long" => Some("long"),
+        "bigInteger" => Some("bigInteger"),
+        "bigDecimal" => Some("bigDecimal"),
+        _ => None,
+    }
+}
+
 // The name in a table of a type of scalars but floats, or of documents.
 fn simple_name(kind: &str) -> Option<&'static str>
     ensures { option_map (λ t. t.now) result ≡ simple_name kind.now }
 {
     match kind {
         "boolean" => Some("boolean"),
-        "byte" => Some("byte"),
-        "short" => Some("short"),
-        "integer" => Some("integer"),
-        "intEnum" => Some("integer"),
-        "long" => Some("long"),
-        "string" => Some("string"),
-        "enum" => Some("string"),
-        "character" => Some("string"),
+        "string" | "enum" | "character" => Some("string"),
         "blob" => Some("blob"),
-        "bigInteger" => Some("bigInteger"),
-        "bigDecimal" => Some("bigDecimal"),
         "timestamp" => Some("timestamp"),
         "document" => Some("document"),
-        _ => None,
+        _ => number_name(kind),
     }
 }
 
@@ -116,12 +122,9 @@ fn read_aggregate<'a>(
     ensures { IfOk result (λ read. option_map kind_view read ≡ aggregate_in (form_view format) kind.now (value_view spec.now)) }
 {
     match kind {
-        "float" => Ok(Some(Kind::Float)),
-        "double" => Ok(Some(Kind::Float)),
-        "structure" => read_structure(alloc, format, kind, spec),
-        "union" => read_structure(alloc, format, kind, spec),
-        "list" => Ok(read_list(format, spec)),
-        "set" => Ok(read_list(format, spec)),
+        "float" | "double" => Ok(Some(Kind::Float)),
+        "structure" | "union" => read_structure(alloc, format, kind, spec),
+        "list" | "set" => Ok(read_list(format, spec)),
         "map" => Ok(read_map(format, spec)),
         _ => Ok(None),
     }

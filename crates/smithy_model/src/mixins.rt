@@ -221,18 +221,18 @@ fn gather<'a>(
     Ok(Some(gathered))
 }
 
-// A structure or a union with other members. Shapes of other kinds take none over.
-fn with_members<'a>(kind: &Kind<'a>, members: Vec<Member<'a>>) -> Kind<'a>
-    ensures { kind_view result ≡ with_members (kind_view kind.now) (map member_view members.entry.items) }
+// Gives a structure or a union other members. Shapes of other kinds take none over.
+fn replace_members<'a>(kind: &mut Kind<'a>, members: Vec<Member<'a>>)
+    ensures { kind_view kind.new ≡ with_members (kind_view kind.old) (map member_view members.entry.items) }
 {
     match kind {
-        Kind::Structure(_) => Kind::Structure(members),
-        Kind::Union(_) => Kind::Union(members),
-        Kind::Simple(name) => Kind::Simple(*name),
-        Kind::Float => Kind::Float,
-        Kind::EventStream => Kind::EventStream,
-        Kind::List(element) => Kind::List(*element),
-        Kind::Map(entry) => Kind::Map(*entry),
+        Kind::Structure(own) => *own = members,
+        Kind::Union(own) => *own = members,
+        Kind::Simple(_) => {}
+        Kind::Float => {}
+        Kind::EventStream => {}
+        Kind::List(_) => {}
+        Kind::Map(_) => {}
     }
 }
 
@@ -240,7 +240,7 @@ fn with_members<'a>(kind: &Kind<'a>, members: Vec<Member<'a>>) -> Kind<'a>
 fn give<'a>(shape: &mut Shape<'a>, gathered: Gathered<'a>)
     ensures { shape_view shape.new ≡ with_gathered (shape_view shape.old) (gathered_view gathered.entry) }
 {
-    shape.kind = with_members(&shape.kind, gathered.members);
+    replace_members(&mut shape.kind, gathered.members);
     shape.is_sparse = gathered.is_sparse;
     shape.time_format = gathered.time_format;
 }

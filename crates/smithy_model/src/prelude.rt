@@ -1,14 +1,14 @@
 //! The shapes that each Smithy model may name without declaring them (Smithy 2.0, "Prelude").
 ghost use Rattle.std.specs.Prelude.{◌≡◌, ◌++◌, [], codes, map, OnOk};
 ghost use Rattle.smithy_model.specs.Model.{structure};
-ghost use Rattle.smithy_model.specs.Prelude.{scalar_names, float_names, plain, scalar_shape, float_shape, prelude};
+ghost use Rattle.smithy_model.specs.Prelude.{scalar_names, plain, kind_named, scalar_shape, prelude};
 ghost use Rattle.smithy_model.specs.Views.{kind_view, shape_view};
 
 use crate::model::{Kind, Shape};
 use std::alloc::{AllocError, Global};
 
-// The scalars but floats, and documents, by their names in a table.
-const SCALARS: [(&str, &str); 16] = [
+// The scalars and documents, by their names in a table; floats, which it has none of, by `float`.
+const SCALARS: [(&str, &str); 20] = [
     ("smithy.api#String", "string"),
     ("smithy.api#Blob", "blob"),
     ("smithy.api#Boolean", "boolean"),
@@ -25,13 +25,10 @@ const SCALARS: [(&str, &str); 16] = [
     ("smithy.api#BigDecimal", "bigDecimal"),
     ("smithy.api#Timestamp", "timestamp"),
     ("smithy.api#Document", "document"),
-];
-
-const FLOATS: [&str; 4] = [
-    "smithy.api#Float",
-    "smithy.api#PrimitiveFloat",
-    "smithy.api#Double",
-    "smithy.api#PrimitiveDouble",
+    ("smithy.api#Float", "float"),
+    ("smithy.api#PrimitiveFloat", "float"),
+    ("smithy.api#Double", "float"),
+    ("smithy.api#PrimitiveDouble", "float"),
 ];
 
 // A shape without traits.
@@ -48,11 +45,21 @@ fn plain<'a>(alloc: Global, id: &'a str, kind: Kind<'a>) -> Shape<'a>
     }
 }
 
+// What is named so.
+fn kind_named<'a>(name: &'static str) -> Kind<'a>
+    ensures { kind_view result ≡ kind_named name.now }
+{
+    match name {
+        "float" => Kind::Float,
+        _ => Kind::Simple(name),
+    }
+}
+
 // A scalar or a document of this id and name.
 fn scalar<'a>(alloc: Global, named: &(&'static str, &'static str)) -> Shape<'a>
     ensures { shape_view result ≡ scalar_shape (named.now.0.now, named.now.1.now) }
 {
-    plain(alloc, named.0, Kind::Simple(named.1))
+    plain(alloc, named.0, kind_named(named.1))
 }
 
 // Adds the scalars and documents.
@@ -72,21 +79,10 @@ fn unit<'a>(alloc: Global) -> Shape<'a>
     plain(alloc, "smithy.api#Unit", Kind::Structure(Vec::new(alloc)))
 }
 
-// Adds the floats.
-fn add_floats<'a>(alloc: Global, shapes: &mut Vec<Shape<'a>>) -> Result<(), AllocError>
-    ensures { OnOk result (map shape_view shapes.new.items ≡ map shape_view shapes.old.items ++ map float_shape float_names) }
-{
-    for id in &FLOATS {
-        shapes.push(plain(alloc, *id, Kind::Float))?;
-    }
-    Ok(())
-}
-
 /// Adds the shapes of the prelude.
 pub(crate) fn add_prelude<'a>(alloc: Global, shapes: &mut Vec<Shape<'a>>) -> Result<(), AllocError>
     ensures { OnOk result (map shape_view shapes.new.items ≡ map shape_view shapes.old.items ++ prelude) }
 {
     add_scalars(alloc, shapes)?;
-    add_floats(alloc, shapes)?;
     Ok(shapes.push(unit(alloc))?)
 }

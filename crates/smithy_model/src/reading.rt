@@ -115,6 +115,7 @@ pub fn read_model<'a>(
     ensures read { IfOk result (λ model. IsModelText text.now (model_view model)) }
     ensures refused { IfErr result (RefusesText text.now) }
 {
-    let model = read_parts(alloc, text, scratch)?;
-    link_model(alloc, model)
+    let mut model = read_parts(alloc, text, scratch)?;
+    link_model(alloc, &mut model)?;
+    Ok(model)
 }

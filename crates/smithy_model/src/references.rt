@@ -1,95 +1,72 @@
 //! The number of each structure of an operation.
-ghost use Rattle.std.specs.Prelude.{false, map, option_map, IfOk, IfErr};
+ghost use Rattle.std.specs.Prelude.{false, map, option_map, OnOk, IfErr};
 ghost use Rattle.std.specs.List.{list_any, AllZip};
 ghost use Rattle.std.specs.Option.{option_map_or};
 ghost use Rattle.smithy_model.specs.Reading.{IsReferenceNumbered, IsNumberedIf, IsOperationNumbered};
-ghost use Rattle.smithy_model.specs.Faults.{MissesTarget, refers_to, has_structure};
+ghost use Rattle.smithy_model.specs.Faults.{IsMissing, refers_to, has_structure};
 ghost use Rattle.smithy_model.specs.Views.{reference_view, operation_view, numbers_view};
 
-use crate::fault::ModelFault;
 use crate::model::{Operation, Reference};
 use crate::numbers::Numbers;
-use std::alloc::Global;
 
-// The reference with the number of its shape.
-fn link_reference<'a>(
-    numbers: &Numbers<'a>,
-    given: &Reference<'a>,
-) -> Result<Reference<'a>, ModelFault<'a>>
-    ensures linked { IfOk result (λ r. IsReferenceNumbered (numbers_view numbers.now) (reference_view given.now) (reference_view r)) }
-    ensures refused { IfErr result (MissesTarget (numbers_view numbers.now) (λ id. refers_to id (reference_view given.now))) }
+// Gives a reference the number of its shape, or answers the id, which no shape has.
+fn link_reference<'a>(numbers: &Numbers<'a>, given: &mut Reference<'a>) -> Result<(), &'a str>
+    ensures linked { OnOk result (IsReferenceNumbered (numbers_view numbers.now) (reference_view given.old) (reference_view given.new)) }
+    ensures refused { IfErr result (λ id. IsMissing (numbers_view numbers.now) (λ id. refers_to id (reference_view given.old)) id.now) }
 {
-    match numbers.number(given.target) {
-        Some(number) => Ok(Reference {
-            target: given.target,
-            number,
-        }),
-        None => Err(ModelFault::UnknownTarget(given.target)),
-    }
+    let Some(number) = numbers.number(given.target) else {
+        return Err(given.target);
+    };
+    given.number = number;
+    Ok(())
 }
 
 // The same of one that may be missing.
-fn link_if<'a>(
-    numbers: &Numbers<'a>,
-    given: &Option<Reference<'a>>,
-) -> Result<Option<Reference<'a>>, ModelFault<'a>>
-    ensures linked { IfOk result (λ r. IsNumberedIf (numbers_view numbers.now) (option_map reference_view given.now) (option_map reference_view r)) }
-    ensures refused { IfErr result (MissesTarget (numbers_view numbers.now) (λ id. option_map_or (refers_to id) (option_map reference_view given.now) false)) }
+fn link_if<'a>(numbers: &Numbers<'a>, given: &mut Option<Reference<'a>>) -> Result<(), &'a str>
+    ensures linked { OnOk result (IsNumberedIf (numbers_view numbers.now) (option_map reference_view given.old) (option_map reference_view given.new)) }
+    ensures refused { IfErr result (λ id. IsMissing (numbers_view numbers.now) (λ id. option_map_or (refers_to id) (option_map reference_view given.old) false) id.now) }
 {
     match given {
-        Some(reference) => Ok(Some(link_reference(numbers, reference)?)),
-        None => Ok(None),
+        Some(reference) => {
+            link_reference(numbers, reference)?;
+            Ok(())
+        }
+        None => Ok(()),
     }
 }
 
-// The errors with the numbers of their shapes.
-fn link_errors<'a>(
-    alloc: Global,
-    numbers: &Numbers<'a>,
-    errors: &[Reference<'a>],
-) -> Result<Vec<Reference<'a>>, ModelFault<'a>>
-    ensures linked { IfOk result (λ linked. AllZip (IsReferenceNumbered (numbers_view numbers.now)) (map reference_view errors.now) (map reference_view linked.items)) }
-    ensures refused { IfErr result (MissesTarget (numbers_view numbers.now) (λ id. list_any (refers_to id) (map reference_view errors.now))) }
+// Gives errors the numbers of their shapes.
+fn link_errors<'a>(numbers: &Numbers<'a>, errors: &mut Vec<Reference<'a>>) -> Result<(), &'a str>
+    ensures linked { OnOk result (AllZip (IsReferenceNumbered (numbers_view numbers.now)) (map reference_view errors.old.items) (map reference_view errors.new.items)) }
+    ensures refused { IfErr result (λ id. IsMissing (numbers_view numbers.now) (λ id. list_any (refers_to id) (map reference_view errors.old.items)) id.now) }
 {
-    let mut linked = Vec::with_capacity(alloc, errors.len())?;
-    for error in errors {
-        linked.push(link_reference(numbers, error)?)?;
+    for place in 0..errors.len() {
+        link_reference(numbers, &mut errors[place])?;
     }
-    Ok(linked)
+    Ok(())
 }
 
-// The operation with the numbers of its structures.
-fn link_operation<'a>(
-    alloc: Global,
-    numbers: &Numbers<'a>,
-    operation: &Operation<'a>,
-) -> Result<Operation<'a>, ModelFault<'a>>
-    ensures linked { IfOk result (λ o. IsOperationNumbered (numbers_view numbers.now) (operation_view operation.now) (operation_view o)) }
-    ensures refused { IfErr result (MissesTarget (numbers_view numbers.now) (λ id. has_structure id (operation_view operation.now))) }
+// Gives an operation the numbers of its structures.
+fn link_operation<'a>(numbers: &Numbers<'a>, operation: &mut Operation<'a>) -> Result<(), &'a str>
+    ensures linked { OnOk result (IsOperationNumbered (numbers_view numbers.now) (operation_view operation.old) (operation_view operation.new)) }
+    ensures refused { IfErr result (λ id. IsMissing (numbers_view numbers.now) (λ id. has_structure id (operation_view operation.old)) id.now) }
 {
-    let input = link_if(numbers, &operation.input)?;
-    let output = link_if(numbers, &operation.output)?;
-    let errors = link_errors(alloc, numbers, &operation.errors)?;
-    Ok(Operation {
-        id: operation.id,
-        input,
-        output,
-        errors,
-    })
+    link_if(numbers, &mut operation.input)?;
+    link_if(numbers, &mut operation.output)?;
+    link_errors(numbers, &mut operation.errors)?;
+    Ok(())
 }
 
-/// The operations with the numbers of their structures.
+/// Gives operations the numbers of their structures, or answers an id that no shape has.
 pub(crate) fn link_operations<'a>(
-    alloc: Global,
     numbers: &Numbers<'a>,
-    operations: &[Operation<'a>],
-) -> Result<Vec<Operation<'a>>, ModelFault<'a>>
-    ensures linked { IfOk result (λ linked. AllZip (IsOperationNumbered (numbers_view numbers.now)) (map operation_view operations.now) (map operation_view linked.items)) }
-    ensures refused { IfErr result (MissesTarget (numbers_view numbers.now) (λ id. list_any (has_structure id) (map operation_view operations.now))) }
+    operations: &mut Vec<Operation<'a>>,
+) -> Result<(), &'a str>
+    ensures linked { OnOk result (AllZip (IsOperationNumbered (numbers_view numbers.now)) (map operation_view operations.old.items) (map operation_view operations.new.items)) }
+    ensures refused { IfErr result (λ id. IsMissing (numbers_view numbers.now) (λ id. list_any (has_structure id) (map operation_view operations.old.items)) id.now) }
 {
-    let mut linked = Vec::with_capacity(alloc, operations.len())?;
-    for operation in operations {
-        linked.push(link_operation(alloc, numbers, operation)?)?;
+    for place in 0..operations.len() {
+        link_operation(numbers, &mut operations[place])?;
     }
-    Ok(linked)
+    Ok(())
 }

@@ -1,23 +1,30 @@
-use Rattle.std.proofs.Common.{[], ◌∷◌, map}
-use Rattle.std.proofs.lemmas.List.{map-append}
+use Rattle.std.proofs.Common.{◌<◌, ◌≤◌, length, refl, rules}
 use Rattle.std.proofs.lemmas.Result.{err_from_is_err_and}
 use Rattle.smithy_model.specs.Reading.{IsNumbered}
 use Rattle.smithy_model.specs.Faults.{is_target}
 use Rattle.smithy_model.specs.Views.{member_view, numbers_view}
-use Rattle.smithy_model.proofs.Refusals.{misses_more}
-use Rattle.smithy_model.proofs.Zip.{zip_next}
+use Rattle.smithy_model.proofs.Zip.{one_changed, all_changed, missing_there}
 use Rattle.smithy_model.proofs.links.link_all.Goals as goal
+
+pub loop-place-init : goal.loop-place-init
+loop-place-init c = refl
 
 pub returns-in_err-link-clause-refused : goal.returns-in_err-link-clause-refused
 returns-in_err-link-clause-refused c =
-    let p = err_from_is_err_and c.from_residual-in_err-link.result c.from_residual-in_err-link.ensures.1 in
+    let p = err_from_is_err_and c.from_residual.result c.from_residual.ensures.1 in
+    let ids = numbers_view c.args.numbers.now in
+    let within : c.loop-place.place < length c.loop-place.members.items = search rules in
     rw (p.1, p.2)
-    (misses_more (numbers_view c.args.numbers.now) is_target member_view c.args.members.now c.loop-member.member-index _ c.loop-member-test.true
-    c.in_err-link.field-0.0 c.in_err-link.ensures.refused)
+    (missing_there ids is_target (IsNumbered ids) member_view c.loop-place.place c.args.members.now.items c.loop-place.members.items c.index_mut.result.now
+    c.in_err-link.field-0.0.now c.loop-place.invariant within c.index_mut.ensures.value c.in_err-link.ensures.refused)
 
-pub loop-member-preserved : goal.loop-member-preserved
-loop-member-preserved c =
-    rw (c.in_ok-push.ensures.items, map-append member_view c.loop-member.linked.items (c.in_ok-link.field-0 ∷ []))
-    (zip_next (IsNumbered (numbers_view c.args.numbers.now)) member_view c.args.members.now c.loop-member.member-index _
-    (map member_view c.loop-member.linked.items) (member_view c.in_ok-link.field-0) c.loop-member-test.true c.loop-member.invariant
-    c.in_ok-link.ensures.linked)
+pub loop-place-preserved : goal.loop-place-preserved
+loop-place-preserved c =
+    let within : c.loop-place.place < length c.loop-place.members.items = search rules in
+    one_changed (IsNumbered (numbers_view c.args.numbers.now)) member_view c.loop-place.place c.args.members.now.items c.loop-place.members.items c.index_mut.result.now c.link.new.member
+    c.loop-place.invariant within c.index_mut.ensures.value c.in_ok-link.ensures.linked
+
+pub returns-clause-linked : goal.returns-clause-linked
+returns-clause-linked c =
+    let enough : length c.args.members.now.items ≤ c.loop-place.place = search rules in
+    all_changed (IsNumbered (numbers_view c.args.numbers.now)) member_view c.loop-place.place c.args.members.now.items c.loop-place.members.items c.loop-place.invariant enough
