@@ -19,6 +19,8 @@ use smithy_types::{DateTime, Document, Number};
 pub enum Node<'v> {
     /// A value of a pool.
     Value(&'v Pool<'v>, &'v Slot),
+    /// A whole number of a list of such.
+    Number(i64),
     /// A document.
     Document(&'v Document),
 }
@@ -72,6 +74,7 @@ impl<'v> Node<'v> {
     {
         match self {
             Node::Value(pool, slot) => split_value(*pool, *slot),
+            Node::Number(number) => (Top::Whole(i128::from(*number)), Parts::Nothing),
             Node::Document(document) => split_document(*document),
         }
     }
@@ -98,6 +101,7 @@ fn split_value<'v>(pool: &'v Pool<'v>, slot: &'v Slot) -> (Top<'v>, Parts<'v>)
             let elements = pool.children(at, count);
             (Top::List, Parts::Elements(pool, 0, elements))
         }
+        TreeNode::Numbers(at, count) => (Top::List, Parts::Numbers(0, pool.numbers(at, count))),
         TreeNode::Map(at, count) => (Top::Map, Parts::Entries(pool, pool.children(at, count))),
         TreeNode::Structure(at, count) => {
             let members = pool.children(at, count);

@@ -52,6 +52,8 @@ pub enum Parts<'v> {
     Nothing,
     /// The elements of a list from an index on.
     Elements(&'v Pool<'v>, usize, &'v [Slot]),
+    /// The whole numbers of a list from an index on.
+    Numbers(usize, &'v [i64]),
     /// The entries that are left of a map.
     Entries(&'v Pool<'v>, &'v [Slot]),
     /// The members that are left of a structure.
@@ -88,6 +90,10 @@ impl<'v> Parts<'v> {
             Parts::Elements(pool, index, elements) => {
                 let element = elements.get(*index)?;
                 Some((step_past(index), Node::Value(*pool, element)))
+            }
+            Parts::Numbers(index, numbers) => {
+                let number = numbers.get(*index)?;
+                Some((step_past(index), Node::Number(*number)))
             }
             Parts::Entries(pool, entries) => {
                 let (entry, more) = entries.split_first()?;

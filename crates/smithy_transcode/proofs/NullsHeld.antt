@@ -1,6 +1,7 @@
 -- A value that is gone through for a null, part by part.
-use Rattle.std.proofs.Common.{◌≡◌, ◌||◌, ℕ, List, ◌∷◌, Bool, true, false, refl, ◌∙◌, ap}
+use Rattle.std.proofs.Common.{◌≡◌, ◌||◌, ℕ, ℤ, List, [], ◌∷◌, Bool, true, false, refl, ◌∙◌, ap}
 use Rattle.smithy_declarations.specs.Value.{Value, values_of, MapEntries, no_map_entries, map_entry, MemberValues, no_member_values, member_value}
+use Rattle.smithy_tree.specs.Items.{whole_values}
 use Rattle.smithy_query_codec.specs.Nulls.{holds_null, elements_hold_null, entries_hold_null, members_hold_null}
 use Rattle.smithy_query_codec.specs.Counts.{HasPositions, ElementsHavePositions, EntriesHavePositions, MembersHavePositions}
 
@@ -28,6 +29,15 @@ pub element_counted : (all vs : List Value) (v : Value) (ws : List Value) → vs
     → (ElementsHavePositions (values_of vs) → ElementsHavePositions (values_of all)) → HasPositions v
     → ElementsHavePositions (values_of ws) → ElementsHavePositions (values_of all)
 element_counted all vs v ws next goes one rest = goes (rw next (one, rest))
+
+-- whole numbers hold no null
+pub numbers_clear : (ns : List ℤ) → elements_hold_null (values_of (whole_values ns)) ≡ false
+numbers_clear [] = refl
+numbers_clear (n ∷ ns) = numbers_clear ns
+
+pub numbers_counted : (ns : List ℤ) → ElementsHavePositions (values_of (whole_values ns))
+numbers_counted [] = tt
+numbers_counted (n ∷ ns) = (tt, numbers_counted ns)
 
 -- ---- entries
 

@@ -1,5 +1,5 @@
 -- A value that is gone through with a test, part by part.
-use Rattle.std.proofs.Common.{◌≡◌, ◌&&◌, ◌||◌, ℕ, List, [], ◌∷◌, Bool, true, false, not, Option, refl, sym, ◌∙◌, ap}
+use Rattle.std.proofs.Common.{◌≡◌, ◌&&◌, ◌||◌, ℕ, ℤ, List, [], ◌∷◌, Bool, true, false, not, Option, refl, sym, ◌∙◌, ap}
 use Rattle.std.proofs.lemmas.Bool.{or_parts}
 use Rattle.smithy_declarations.specs.declared.shape_type.TimestampFormat.{TimestampFormat}
 use Rattle.smithy_shapes.specs.Fits.{FitsOr}
@@ -8,12 +8,13 @@ use Rattle.smithy_declarations.specs.Table.{is_document_target}
 use Rattle.smithy_shapes.specs.Targets.{is_timestamp_target}
 use Rattle.smithy_shapes.specs.ScalarTest.{ValueTest, scalars_pass, elements_pass, entries_pass, members_pass}
 use Rattle.smithy_shapes.specs.Site.{Site, member_of}
-use Rattle.smithy_declarations.specs.Value.{ScalarValue, instant, Value, values_of, MapEntries, no_map_entries, map_entry, MemberValues, no_member_values, member_value}
+use Rattle.smithy_declarations.specs.Value.{ScalarValue, whole, instant, Value, values_of, MapEntries, no_map_entries, map_entry, MemberValues, no_member_values, member_value}
 use Rattle.smithy_shapes.proofs.TargetLemmas as seen
 use Rattle.smithy_shapes.proofs.TargetLemmas.{IsNoInstant}
 use Rattle.smithy_transcode.specs.declared.value_test.InstantTest.{InstantTest}
 use Rattle.smithy_transcode.specs.declared.value_test.InstantTest.TheVariants.{Any, WholeSeconds, InForm}
 use Rattle.smithy_transcode.specs.declared.value_test.ValueTest as kept
+use Rattle.smithy_tree.specs.Items.{whole_values}
 use Rattle.smithy_transcode.specs.Private.ValueTest.{instant_passes, test_view}
 
 -- ---- scalars
@@ -51,6 +52,14 @@ and_true false b h = absurd (let e : false ≡ true = h in cc)
 and_false : (a b : Bool) → a ≡ false → (a && b) ≡ false
 and_false true b h = absurd (let e : true ≡ false = h in cc)
 and_false false b h = refl
+
+-- ---- whole numbers
+
+pub numbers_pass : (t : kept.ValueTest) (site : Site) (ns : List ℤ) → elements_pass (test_view t) site (values_of (whole_values ns)) ≡ true
+numbers_pass t site [] = refl
+numbers_pass t site (n ∷ ns) =
+    and_true ((test_view t).scalar site.place.time (whole n)) (elements_pass (test_view t) site (values_of (whole_values ns))) (other_passes t site.place.time (whole n) tt)
+    ∙ numbers_pass t site ns
 
 module _ (test : ValueTest) (site : Site) where
   pub element_passed : (all vs : List Value) (v : Value) (ws : List Value) → vs ≡ v ∷ ws

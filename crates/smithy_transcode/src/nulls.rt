@@ -4,6 +4,7 @@ ghost use Rattle.smithy_declarations.specs.Value.{values_of};
 ghost use Rattle.smithy_query_codec.specs.Nulls.{holds_null as null_in, elements_hold_null as null_in_elements, entries_hold_null as null_in_entries, members_hold_null as null_in_members};
 ghost use Rattle.smithy_query_codec.specs.Counts.{HasPositions, ElementsHavePositions, EntriesHavePositions, MembersHavePositions};
 ghost use Rattle.smithy_schema.specs.Writing.{count_of, entry_count};
+ghost use Rattle.smithy_tree.specs.Items.{whole_values};
 ghost use Rattle.smithy_value.specs.Tree.{entries_view, members_view, part_view, Each, EntriesStand, MembersStand, PartStands};
 
 use smithy_value::{Entries, Members, Part, Trees};
@@ -37,6 +38,7 @@ fn part_holds_null<P: Trees>(trees: &P, part: &Part<'_, P::Tree>) -> bool
         | Part::Timestamp(_)
         | Part::Document(_) => false,
         Part::List(elements) => elements_hold_null::<P>(trees, *elements),
+        Part::Numbers(numbers) => numbers_hold_null(*numbers),
         Part::Map(entries) => entries_hold_null::<P>(trees, entries),
         Part::Structure(members) => members_hold_null::<P>(trees, members),
         Part::Union(_, value) => part_holds_null::<P>(trees, &trees.part(*value)),
@@ -49,6 +51,16 @@ fn count<T>(elements: &[T]) -> usize
     ensures { result ≡ length elements.now }
 {
     elements.len()
+}
+
+// No null stands in a list of whole numbers, and it has fewer than 2^64 elements.
+fn numbers_hold_null(numbers: &[i64]) -> bool
+    ensures null { result ≡ null_in_elements (values_of (whole_values numbers.now)) }
+    ensures count { count_of (values_of (whole_values numbers.now)) < 18446744073709551616 }
+    ensures positions { ElementsHavePositions (values_of (whole_values numbers.now)) }
+{
+    let _count = count(numbers);
+    false
 }
 
 #[cycle(nulls)]

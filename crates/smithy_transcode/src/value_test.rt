@@ -107,6 +107,7 @@ fn part_passes<P: Trees>(
         | Part::Text(_)
         | Part::Bytes(_)
         | Part::Decimal(_, _)
+        | Part::Numbers(_)
         | Part::Null => true,
         Part::List(elements) => elements_pass::<P>(trees, schema, *elements, test),
         Part::Map(entries) => entries_pass::<P>(trees, schema, entries, test),

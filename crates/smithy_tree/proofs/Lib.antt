@@ -5,3 +5,4 @@ pub mod Ordering
 pub mod Mapping
 pub mod Arranging
 pub mod Closing
+pub mod HalfLists

@@ -1,6 +1,6 @@
 -- Values with their labels, one behind another, and the containers that they make.
-use Rattle.std.specs.Prelude.{ℕ, List, [], ◌∷◌}
-use Rattle.smithy_declarations.specs.Value.{Value, null_element, Values, no_values, value, MapEntries, no_map_entries, map_entry, put_entry, MemberValues, no_member_values, member_value, put_member}
+use Rattle.std.specs.Prelude.{ℕ, ℤ, List, [], ◌∷◌, map as mapped}
+use Rattle.smithy_declarations.specs.Value.{Value, scalar_value, whole, null_element, Values, no_values, value, MapEntries, no_map_entries, map_entry, put_entry, MemberValues, no_member_values, member_value, put_member}
 
 -- a value with its label, which is a position or a key
 pub record Item : Type 0 where
@@ -16,6 +16,18 @@ nothing = record { position = 0; key = []; shown = null_element }
 abbrev pub elements_of : List Item → Values
 elements_of [] = no_values
 elements_of (x ∷ xs) = value x.shown (elements_of xs)
+
+-- their values alone, in order
+abbrev pub shown_of : List Item → List Value
+shown_of [] = []
+shown_of (x ∷ xs) = x.shown ∷ shown_of xs
+
+-- whole numbers as values
+abbrev pub whole_value : ℤ → Value
+whole_value n = scalar_value (whole n)
+
+abbrev pub whole_values : List ℤ → List Value
+whole_values ns = mapped whole_value ns
 
 -- the members that they are, as they stand
 abbrev pub members_of : List Item → MemberValues

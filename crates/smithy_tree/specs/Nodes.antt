@@ -1,21 +1,22 @@
 -- The values of nodes, each from those of the nodes before it.
-use Rattle.std.specs.Prelude.{ℕ, ◌+◌, ◌≤◌, ◌<◌, ◌+ℤ◌, ◌*ℤ◌, pos, List, [], ◌∷◌, ◌++◌, take, drop, length, get_or, IsUtf8}
+use Rattle.std.specs.Prelude.{ℕ, ℤ, ◌+◌, ◌≤◌, ◌<◌, ◌+ℤ◌, ◌*ℤ◌, pos, List, [], ◌∷◌, ◌++◌, take, drop, length, get_or, IsUtf8}
 use Rattle.smithy_instants.specs.Instant.{nanos_per_second}
 use Rattle.smithy_types.specs.Document.{whole_document}
 use Rattle.smithy_types.specs.DocumentView.{document_view}
-use Rattle.smithy_declarations.specs.Value.{Value, scalar_value, boolean, whole, text, bytes, decimal, instant, list, map, structure, union, null_element, document_value}
-use Rattle.smithy_tree.specs.Items.{Item, nothing, elements_of, members_of, entries_of}
+use Rattle.smithy_declarations.specs.Value.{Value, scalar_value, boolean, whole, text, bytes, decimal, instant, list, map, structure, union, null_element, document_value, values_of}
+use Rattle.smithy_tree.specs.Items.{Item, nothing, whole_values, elements_of, members_of, entries_of}
 use Rattle.smithy_tree.specs.declared.node.Node.{Node}
 use Rattle.smithy_tree.specs.declared.node.Rare.{Rare}
 use Rattle.smithy_tree.specs.declared.node.Slot.{Slot}
 use Rattle.smithy_tree.specs.declared.node.Node.TheVariants as nodes
 use Rattle.smithy_tree.specs.declared.node.Rare.TheVariants as rares
 
--- what nodes name by numbers: the bytes of the input, those beside it, and the rare values
+-- what nodes name by numbers: the bytes of the input, those beside it, the rare values, and the whole numbers of lists
 pub record Store : Type 0 where
   pub input : List ℕ
   pub side : List ℕ
   pub rare : List Value
+  pub numbers : List ℤ
 
 -- so many bytes from a place on
 abbrev pub part : Store → ℕ → ℕ → List ℕ
@@ -38,6 +39,7 @@ node_value s vs (nodes.Timestamp nanos secs) = scalar_value (instant (secs *ℤ 
 node_value s vs (nodes.Text at size) = scalar_value (text (part s at size))
 node_value s vs (nodes.Bytes at size) = scalar_value (bytes (part s at size))
 node_value s vs (nodes.List at count) = list (elements_of (take count (drop at vs)))
+node_value s vs (nodes.Numbers at count) = list (values_of (whole_values (take count (drop at s.numbers))))
 node_value s vs (nodes.Map at count) = map (entries_of (take count (drop at vs)))
 node_value s vs (nodes.Structure at count) = structure (members_of (take count (drop at vs)))
 node_value s vs (nodes.Union at) = union_of (get_or vs at nothing)
@@ -57,6 +59,10 @@ abbrev pub values_after : Store → List Item → List Slot → List Item
 values_after s vs [] = vs
 values_after s vs (x ∷ xs) = values_after s (vs ++ item s vs x ∷ []) xs
 
+-- the child that a whole number is, without a label
+abbrev pub number_slot : ℤ → Slot
+number_slot n = record { first = 0; second = 0; node = nodes.Whole n }
+
 -- so many bytes stand there, all in the input or all beside it: where they end behind the input, they begin behind it
 pub record IsPart (input side : List ℕ) (at size : ℕ) : Type 0 where
   pub within : at + size ≤ length input + length side
@@ -75,6 +81,7 @@ IsNode s k (nodes.Timestamp nanos secs) = nanos < nanos_per_second
 IsNode s k (nodes.Text at size) = IsSpan s.input s.side at size
 IsNode s k (nodes.Bytes at size) = IsPart s.input s.side at size
 IsNode s k (nodes.List at count) = at + count ≤ k
+IsNode s k (nodes.Numbers at count) = at + count ≤ length s.numbers
 IsNode s k (nodes.Map at count) = at + count ≤ k
 IsNode s k (nodes.Structure at count) = at + count ≤ k
 IsNode s k (nodes.Union at) = at < k

@@ -1,14 +1,15 @@
 -- What a pool stands for.
-use Rattle.std.specs.Prelude.{◌≡◌, ◌+◌, ◌≤◌, ℕ, List, [], ◌∷◌, ◌++◌, map as mapped, length, take, drop}
-use Rattle.smithy_declarations.specs.Value.{Value, no_member_values, no_map_entries}
-use Rattle.smithy_tree.specs.Items.{Item, members_of, put_members, entries_of, put_entries}
+use Rattle.std.specs.Prelude.{◌≡◌, ◌+◌, ◌-◌, ◌≤◌, ℕ, ℤ, List, [], ◌∷◌, ◌++◌, map as mapped, length, take, drop}
+use Rattle.smithy_declarations.specs.Value.{Value, list, values_of, no_member_values, no_map_entries}
+use Rattle.smithy_tree.specs.Items.{Item, shown_of, whole_values, members_of, put_members, entries_of, put_entries}
 use Rattle.smithy_tree.specs.Nodes.{Store, rare_value, node_value, values_over, values_after, item, IsNode, IsSlot, IsPart, AreNodes, AreBehind}
+use Rattle.smithy_tree.specs.declared.elements.Elements.{Elements}
 use Rattle.smithy_tree.specs.declared.node.Node.{Node}
 use Rattle.smithy_tree.specs.declared.node.Slot.{Slot}
 use Rattle.smithy_tree.specs.declared.pool.Pool.{Pool}
 
 abbrev pub store : Pool → Store
-store p = record { input = p.input.now; side = p.side.items; rare = mapped rare_value p.rare.items }
+store p = record { input = p.input.now; side = p.side.items; rare = mapped rare_value p.rare.items; numbers = p.numbers.items }
 
 -- the bytes of the input and those beside it
 abbrev pub bytes_of : Pool → List ℕ
@@ -46,6 +47,8 @@ pub record Grows (p q : Pool) : Type 0 where
   pub side : q.side.items ≡ p.side.items ++ copied
   pub kept : List Value
   pub rare : mapped rare_value q.rare.items ≡ mapped rare_value p.rare.items ++ kept
+  pub counted : List ℤ
+  pub numbers : q.numbers.items ≡ p.numbers.items ++ counted
   pub more : List Item
   pub values : values q ≡ values p ++ more
 
@@ -70,6 +73,7 @@ pub record Waits (p q : Pool) (v : Item) : Type 0 where
 -- those that wait from a place on have become children, so many from a place on
 pub record Closes (p q : Pool) (begin at count : ℕ) : Type 0 where
   pub grows : Grows p q
+  pub behind : at ≡ length p.nodes.items
   pub holds : at + count ≤ length q.nodes.items
   pub shows : take count (drop at (values q)) ≡ drop begin (waiting p)
   pub waiting : waiting q ≡ take begin (waiting p)
@@ -87,3 +91,33 @@ pub record ClosesEntries (p q : Pool) (begin at count : ℕ) : Type 0 where
   pub holds : at + count ≤ length q.nodes.items
   pub shows : entries_of (take count (drop at (values q))) ≡ put_entries no_map_entries (drop begin (waiting p))
   pub waiting : waiting q ≡ take begin (waiting p)
+
+-- the numbers with which a list begins that is half built
+abbrev pub numbers_in : Pool → Elements → List ℤ
+numbers_in p e = take (e.numbers_to - e.numbers_from) (drop e.numbers_from p.numbers.items)
+
+-- the elements of a list that is half built: its numbers, and behind them those that wait
+abbrev pub elements_in : Pool → Elements → List Value
+elements_in p e = whole_values (numbers_in p e) ++ shown_of (drop e.waiting_from (waiting p))
+
+-- these elements stand in the pool
+pub record IsHalf (p : Pool) (e : Elements) : Type 0 where
+  pub ordered : e.numbers_from ≤ e.numbers_to
+  pub numbers : e.numbers_to ≤ length p.numbers.items
+  pub waiting : e.waiting_from ≤ length (waiting p)
+
+-- an element stands behind the others
+pub record PutsElement (p q : Pool) (e f : Elements) (v : Value) : Type 0 where
+  pub grows : Grows p q
+  pub half : IsHalf q f
+  pub begins : f.waiting_from ≡ e.waiting_from
+  pub added : List Item
+  pub waiting : waiting q ≡ waiting p ++ added
+  pub elements : elements_in q f ≡ elements_in p e ++ v ∷ []
+
+-- the elements have become those of a list
+pub record ClosesElements (p q : Pool) (e : Elements) (n : Node) : Type 0 where
+  pub grows : Grows p q
+  pub holds : Holds q n
+  pub shows : view q n ≡ list (values_of (elements_in p e))
+  pub waiting : waiting q ≡ take e.waiting_from (waiting p)

@@ -2,10 +2,12 @@
 #![tactic(auto)]
 
 mod bytes;
+mod elements;
 mod in_maps;
 mod node;
 mod order;
 mod pool;
 
+pub use elements::Elements;
 pub use node::{Node, Rare, Slot};
 pub use pool::Pool;

@@ -16,6 +16,8 @@ pub enum Node {
     Bytes(u32, u32),
     /// The elements of a list, in their order.
     List(u32, u32),
+    /// The whole numbers of a list: where they begin among the numbers, and how many.
+    Numbers(u32, u32),
     /// The entries of a map, in the order of their keys, as `close_entries` leaves them.
     Map(u32, u32),
     /// The members of a structure, in the order of their positions, as `close_members` leaves them.

@@ -3,7 +3,6 @@ use crate::bytes::{bytes_at, key_at, text_at};
 use crate::node::{Node, Rare, Slot};
 use crate::order::{Order, in_order, is_ordered};
 use std::alloc::{AllocError, Global};
-use std::mem;
 
 /// The nodes of a tree over its input. The children of a container stand one behind another, before the container; those of a
 /// container that is half built wait.
@@ -16,6 +15,8 @@ pub struct Pool<'a> {
     // What doesn't stand in the input as it is meant. Its places go on from the input's end.
     pub(crate) side: Vec<u8>,
     pub(crate) rare: Vec<Rare>,
+    // The whole numbers of lists that begin with such.
+    pub(crate) numbers: Vec<i64>,
     pub(crate) nodes: Vec<Slot>,
     pub(crate) waiting: Vec<Slot>,
 }
@@ -38,6 +39,7 @@ impl<'a> Pool<'a> {
             input,
             side: Vec::new(alloc),
             rare: Vec::new(alloc),
+            numbers: Vec::new(alloc),
             nodes: Vec::new(alloc),
             waiting: Vec::new(alloc),
         }
@@ -74,11 +76,6 @@ impl<'a> Pool<'a> {
         let count = self.waiting.len() - begin;
         if start > u32::MAX as usize || count > u32::MAX as usize {
             return Err(AllocError);
-        }
-        // Where nothing stands before them, they need not move.
-        if start == 0 && begin == 0 {
-            mem::swap(&mut self.nodes, &mut self.waiting);
-            return Ok((0, count as u32));
         }
         self.nodes.extend_from_slice(&self.waiting[begin..])?;
         self.waiting.truncate(begin);

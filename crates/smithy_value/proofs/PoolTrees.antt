@@ -1,10 +1,11 @@
 -- Trees of a pool, as they are made and seen.
-use Rattle.std.proofs.Common.{◌≡◌, ◌∙◌, ◌<◌, ◌≤◌, ◌+◌, ℕ, zero, suc, List, [], ◌∷◌, ◌++◌, map as mapped, refl, ap, sym, length, take, drop, get_or, length-append, arith}
+use Rattle.std.proofs.Common.{◌≡◌, ◌∙◌, ◌<◌, ◌≤◌, ◌+◌, ℕ, zero, suc, List, [], ◌∷◌, ◌++◌, map as mapped, refl, ap, sym, length, take, drop, get_or, append_assoc, length-append, arith}
 use Rattle.std.proofs.lemmas.List.{append-nil, drop_at, take_at, drop-append-le}
 use Rattle.smithy_declarations.specs.Value.{Value, Values, value, values_of, MemberValues, no_member_values, member_value, put_member, MapEntries, no_map_entries, map_entry, put_entry, list, union}
 use Rattle.smithy_tree.specs.Items.{Item, nothing, elements_of, entries_of, members_of, put_members, put_entries}
 use Rattle.smithy_tree.specs.Nodes.{IsLabel, union_of, values_over}
-use Rattle.smithy_tree.specs.Seen.{IsSound, Grows, Holds, HoldsSlot, Waits, Closes, store, values, view, waiting, item_in}
+use Rattle.smithy_tree.specs.Seen.{IsSound, IsHalf, Grows, Holds, HoldsSlot, Waits, Closes, PutsElement, ClosesElements, store, values, view, waiting, item_in, elements_in}
+use Rattle.smithy_tree.specs.declared.elements.Elements.{Elements}
 use Rattle.smithy_tree.specs.declared.node.Node.{Node}
 use Rattle.smithy_tree.specs.declared.node.Node.TheVariants as nodes
 use Rattle.smithy_tree.specs.declared.node.Slot.{Slot}
@@ -13,7 +14,7 @@ use Rattle.smithy_tree.proofs.Growing.{length_values_after, slot_stays}
 use Rattle.smithy_tree.proofs.Storing.{slot_kept}
 use Rattle.smithy_tree.proofs.Seeing.{grows_self, grows_twice}
 use Rattle.smithy_value.specs.Building.{IsMade}
-use Rattle.smithy_value.specs.Pooled.{Keeps, Begun, slot_view, key_in, shown_of, waiting_elements, waiting_members, waiting_entries}
+use Rattle.smithy_value.specs.Pooled.{Keeps, Begun, BegunElements, slot_view, key_in, waiting_members, waiting_entries}
 use Rattle.smithy_value.specs.Tree.{keyed_views, placed_views}
 
 -- ---- single trees
@@ -32,7 +33,7 @@ stands_still p q x g h =
     let b = length_values_after (store q) [] q.nodes.items in
     let more : length (values q) ≡ length (values p) + length g.more = rw g.values (length-append (values p) g.more) in
     let longer : length p.nodes.items ≤ length q.nodes.items = omega (arith, a, b, more) in
-    rw (g.input, g.side, g.rare) (slot_kept (store p) g.copied g.kept (length q.nodes.items) x (slot_stays (store p) (length p.nodes.items) (length q.nodes.items) x longer h))
+    rw (g.input, g.side, g.rare, g.numbers) (slot_kept (store p) g.copied g.kept g.counted (length q.nodes.items) x (slot_stays (store p) (length p.nodes.items) (length q.nodes.items) x longer h))
 
 pub made_here : (p : Pool) (x : Slot) (v : Value) → IsSound p → HoldsSlot p x → slot_view p x ≡ v → IsMade Keeps HoldsSlot slot_view p p v x
 made_here p x v sound holds shows = record {
@@ -51,6 +52,25 @@ begun_none p begin sound begins = record {
   begins = begins;
 }
 
+pub begun_no_elements : (p : Pool) (e : Elements) → IsSound p → IsHalf p e → e.waiting_from ≡ length (waiting p) → BegunElements p p e
+begun_no_elements p e sound half begins = record {
+  grows = grows_self p sound;
+  half = half;
+  items = [];
+  waits = sym (append-nil (waiting p));
+  begins = begins;
+}
+
+-- one more element of a list
+pub begun_more_elements : (p q r : Pool) (e f : Elements) (v : Value) → BegunElements p q e → PutsElement q r e f v → BegunElements p r f
+begun_more_elements p q r e f v b put = record {
+  grows = grows_twice p q r b.grows put.grows;
+  half = put.half;
+  items = b.items ++ put.added;
+  waits = put.waiting ∙ (ap (λ (ws : List Item). ws ++ put.added) b.waits ∙ append_assoc (waiting p) b.items put.added);
+  begins = put.begins ∙ b.begins;
+}
+
 begins_within : (p q : Pool) (begin : ℕ) → Begun p q begin → begin ≤ length (waiting q)
 begins_within p q begin b = rw b.waits (omega (arith, b.begins, length-append (waiting p) b.items))
 
@@ -59,10 +79,6 @@ waiting_more : (p q r : Pool) (begin : ℕ) (x : Item) → Begun p q begin → w
 waiting_more p q r begin x b w =
     ap (λ (ys : List Item). drop begin ys) w ∙ drop-append-le begin (waiting q) (x ∷ []) (begins_within p q begin b)
 
-shown_more : (xs : List Item) (x : Item) → shown_of (xs ++ x ∷ []) ≡ shown_of xs ++ x.shown ∷ []
-shown_more [] x = refl
-shown_more (y ∷ ys) x = ap (λ (vs : List Value). y.shown ∷ vs) (shown_more ys x)
-
 member_more : (ms : MemberValues) (xs : List Item) (x : Item) → put_members ms (xs ++ x ∷ []) ≡ put_member x.position x.shown (put_members ms xs)
 member_more ms [] x = refl
 member_more ms (y ∷ ys) x = member_more (put_member y.position y.shown ms) ys x
@@ -70,9 +86,6 @@ member_more ms (y ∷ ys) x = member_more (put_member y.position y.shown ms) ys 
 entry_more : (es : MapEntries) (xs : List Item) (x : Item) → put_entries es (xs ++ x ∷ []) ≡ put_entry x.key x.shown (put_entries es xs)
 entry_more es [] x = refl
 entry_more es (y ∷ ys) x = entry_more (put_entry y.key y.shown es) ys x
-
-pub elements_more : (p q r : Pool) (begin : ℕ) (x : Item) → Begun p q begin → waiting r ≡ waiting q ++ x ∷ [] → waiting_elements r begin ≡ waiting_elements q begin ++ x.shown ∷ []
-elements_more p q r begin x b w = ap shown_of (waiting_more p q r begin x b w) ∙ shown_more (drop begin (waiting q)) x
 
 pub members_more : (p q r : Pool) (begin : ℕ) (x : Item) → Begun p q begin → waiting r ≡ waiting q ++ x ∷ [] → waiting_members r begin ≡ put_member x.position x.shown (waiting_members q begin)
 members_more p q r begin x b w =
@@ -83,10 +96,6 @@ entries_more p q r begin x b w =
     ap (λ (xs : List Item). put_entries no_map_entries xs) (waiting_more p q r begin x b w) ∙ entry_more no_map_entries (drop begin (waiting q)) x
 
 -- ---- containers that were made
-
-shown_elements : (xs : List Item) → elements_of xs ≡ values_of (shown_of xs)
-shown_elements [] = refl
-shown_elements (x ∷ xs) = ap (λ (vs : Values). value x.shown vs) (shown_elements xs)
 
 -- the children that waited since p are gone
 pub built : (p q r : Pool) (begin : ℕ) (x : Slot) (v : Value) → Begun p q begin → Grows q r → waiting r ≡ take begin (waiting q) → HoldsSlot r x → slot_view r x ≡ v → IsMade Keeps HoldsSlot slot_view p r v x
@@ -99,10 +108,10 @@ built p q r begin x v b g w holds shows = record {
   shown = shows;
 }
 
-pub list_made : (p q r : Pool) (begin at count : ℕ) (x : Slot) → x.node ≡ nodes.List at count → x.second ≡ 0 → Closes q r begin at count → Begun p q begin → IsMade Keeps HoldsSlot slot_view p r (list (values_of (waiting_elements q begin))) x
-list_made p q r begin at count x is bare c b =
-    built p q r begin x (list (values_of (waiting_elements q begin))) b c.grows c.waiting (holds_bare r x (nodes.List at count) is bare c.holds)
-    (ap (view r) is ∙ ap list (ap elements_of c.shows ∙ shown_elements (drop begin (waiting q))))
+pub list_made : (p q r : Pool) (e : Elements) (n : Node) (x : Slot) → x.node ≡ n → x.second ≡ 0 → ClosesElements q r e n → BegunElements p q e → IsMade Keeps HoldsSlot slot_view p r (list (values_of (elements_in q e))) x
+list_made p q r e n x is bare c b =
+    let begun : Begun p q e.waiting_from = record { grows = b.grows; items = b.items; waits = b.waits; begins = b.begins } in
+    built p q r e.waiting_from x (list (values_of (elements_in q e))) begun c.grows c.waiting (holds_bare r x n is bare c.holds) (ap (view r) is ∙ c.shows)
 
 -- the one child of a union
 only_child : (vs : List Item) (at count : ℕ) (v d : Item) → take count (drop at vs) ≡ v ∷ [] → (at < length vs) × (get_or vs at d ≡ v)

@@ -2,11 +2,12 @@
 use Rattle.std.proofs.Common.{◌∙◌, ℕ, List, refl, ap, drop}
 use Rattle.smithy_declarations.specs.Value.{no_map_entries, no_member_values}
 use Rattle.smithy_tree.specs.Items.{Item, put_entries, put_members}
-use Rattle.smithy_tree.specs.Seen.{waiting}
+use Rattle.smithy_tree.specs.Seen.{waiting, elements_in}
 use Rattle.smithy_tree.specs.declared.pool.Pool.{Pool}
 use Rattle.smithy_tree.proofs.Seeing.{grows_self, grows_twice}
+use Rattle.smithy_tree.proofs.HalfLists.{half_still, elements_still}
 use Rattle.smithy_value.specs.Building.{KeepsLawfully, GrowsLawfully}
-use Rattle.smithy_value.specs.Pooled.{IsPoolOf, Keeps, Begun, shown_of, waiting_elements, waiting_entries, waiting_members}
+use Rattle.smithy_value.specs.Pooled.{IsPoolOf, Keeps, Begun, BegunElements, waiting_entries, waiting_members}
 
 pub kept_lawfully : KeepsLawfully IsPoolOf Keeps
 kept_lawfully = record {
@@ -29,8 +30,18 @@ module _ {Shown : Type 0} (seen : List Item → Shown) where
     shown_still = λ p q r h b k. ap (λ (xs : List Item). seen (drop h xs)) k.waits;
   }
 
-pub begun_elements_lawfully : GrowsLawfully IsPoolOf Keeps Begun waiting_elements
-begun_elements_lawfully = begun_lawfully shown_of
+pub begun_elements_lawfully : GrowsLawfully IsPoolOf Keeps BegunElements elements_in
+begun_elements_lawfully = record {
+  sound_still = λ p q i e s b. record { sound = b.grows.sound; input = b.grows.input ∙ s.input };
+  begun_still = λ p q r e b k. record {
+    grows = grows_twice p q r b.grows k.grows;
+    half = half_still q r e k.grows k.waits b.half;
+    items = b.items;
+    waits = k.waits ∙ b.waits;
+    begins = b.begins;
+  };
+  shown_still = λ p q r e b k. elements_still q r e k.grows k.waits b.half;
+}
 
 pub begun_entries_lawfully : GrowsLawfully IsPoolOf Keeps Begun waiting_entries
 begun_entries_lawfully = begun_lawfully (λ (xs : List Item). put_entries no_map_entries xs)

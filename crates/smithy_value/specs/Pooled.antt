@@ -3,7 +3,8 @@ use Rattle.std.specs.Prelude.{◌≡◌, ℕ, List, [], ◌∷◌, ◌++◌, len
 use Rattle.smithy_declarations.specs.Value.{Value, MapEntries, no_map_entries, MemberValues, no_member_values}
 use Rattle.smithy_tree.specs.Items.{Item, put_members, put_entries}
 use Rattle.smithy_tree.specs.Order.{slot_key}
-use Rattle.smithy_tree.specs.Seen.{IsSound, Grows, bytes_of, view, waiting}
+use Rattle.smithy_tree.specs.Seen.{IsSound, IsHalf, Grows, bytes_of, view, waiting}
+use Rattle.smithy_tree.specs.declared.elements.Elements.{Elements}
 use Rattle.smithy_tree.specs.declared.node.Slot.{Slot}
 use Rattle.smithy_tree.specs.declared.pool.Pool.{Pool}
 
@@ -15,11 +16,6 @@ slot_view p s = view p s.node
 abbrev pub key_in : Pool → Slot → List ℕ
 key_in p s = slot_key (bytes_of p) s
 
--- the values of some items
-abbrev pub shown_of : List Item → List Value
-shown_of [] = []
-shown_of (x ∷ xs) = x.shown ∷ shown_of xs
-
 -- the pool is sound, and one of this input
 pub record IsPoolOf (p : Pool) (bytes : List ℕ) : Type 0 where
   pub sound : IsSound p
@@ -30,6 +26,14 @@ pub record Keeps (p q : Pool) : Type 0 where
   pub grows : Grows p q
   pub waits : waiting q ≡ waiting p
 
+-- the pool q has grown from p, and behind the children that waited in p others wait, which are of this list
+pub record BegunElements (p q : Pool) (e : Elements) : Type 0 where
+  pub grows : Grows p q
+  pub half : IsHalf q e
+  pub items : List Item
+  pub waits : waiting q ≡ waiting p ++ items
+  pub begins : e.waiting_from ≡ length (waiting p)
+
 -- the pool q has grown from p, and behind the children that waited in p others wait from `begin` on
 pub record Begun (p q : Pool) (begin : ℕ) : Type 0 where
   pub grows : Grows p q
@@ -38,9 +42,6 @@ pub record Begun (p q : Pool) (begin : ℕ) : Type 0 where
   pub begins : begin ≡ length (waiting p)
 
 -- the children that wait from `begin` on
-abbrev pub waiting_elements : Pool → ℕ → List Value
-waiting_elements p begin = shown_of (drop begin (waiting p))
-
 abbrev pub waiting_entries : Pool → ℕ → MapEntries
 waiting_entries p begin = put_entries no_map_entries (drop begin (waiting p))
 

@@ -4,6 +4,7 @@ use Rattle.std.specs.declared.alloc.Global.{Global}
 use Rattle.smithy_types.specs.Document.{whole_document}
 use Rattle.smithy_types.specs.DocumentView.{document_view}
 use Rattle.smithy_declarations.specs.Value.{Value, scalar_value, boolean, whole, text, bytes, decimal, instant, list, map, structure, union, null_element, document_value, values_of, MapEntries, no_map_entries, map_entry, MemberValues, no_member_values, member_value}
+use Rattle.smithy_tree.specs.Items.{whole_values}
 use Rattle.smithy_value.specs.View.{map_entries_of, member_values_of}
 use Rattle.smithy_value.specs.declared.tree.Part.{Part}
 use Rattle.smithy_value.specs.declared.tree.Part.TheVariants as parts
@@ -63,6 +64,7 @@ part_view view key position (parts.Bytes b) = scalar_value (bytes b.now)
 part_view view key position (parts.Decimal m e) = scalar_value (decimal m e)
 part_view view key position (parts.Timestamp d) = scalar_value (instant d)
 part_view view key position (parts.List vs) = list (values_of (mapped view vs.now))
+part_view view key position (parts.Numbers ns) = list (values_of (whole_values ns.now))
 part_view view key position (parts.Map es) = map (entries_view view key es)
 part_view view key position (parts.Structure ms) = structure (members_view view position ms)
 part_view view key position (parts.Union n v) = union n (view v.now)

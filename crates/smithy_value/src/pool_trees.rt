@@ -1,10 +1,10 @@
 //! Trees in a pool, which keep neither their texts nor their children themselves.
-ghost use Rattle.smithy_value.specs.Pooled.{IsPoolOf, Keeps, Begun, slot_view, key_in, waiting_elements, waiting_entries, waiting_members};
+ghost use Rattle.smithy_value.specs.Pooled.{IsPoolOf, Keeps, Begun, BegunElements, slot_view, key_in, waiting_entries, waiting_members};
 ghost use Rattle.smithy_value.specs.PoolLaws.{kept_lawfully, begun_elements_lawfully, begun_entries_lawfully, begun_members_lawfully};
 ghost use Rattle.std.specs.Prelude.{◌≡◌, ℕ, List};
 ghost use Rattle.smithy_declarations.specs.Value.{Value, scalar_value, boolean, whole, instant, null_element};
 ghost use Rattle.smithy_tree.specs.Nodes.{rare_value};
-ghost use Rattle.smithy_tree.specs.Seen.{HoldsSlot};
+ghost use Rattle.smithy_tree.specs.Seen.{HoldsSlot, elements_in};
 ghost use Rattle.smithy_tree.specs.declared.pool.Pool.{Pool};
 ghost use Rattle.smithy_tree.specs.declared.node.Slot.{Slot};
 ghost use Rattle.smithy_value.specs.Tree.{part_view, PartStands};
@@ -13,7 +13,7 @@ use crate::entries::{Entries, Members};
 use crate::placing::{place_bytes, place_text};
 use crate::tree::{Part, Trees};
 use smithy_schema::{BytesSpan, SerdeError, TextSpan};
-use smithy_tree::{Node, Pool, Rare, Slot};
+use smithy_tree::{Elements, Node, Pool, Rare, Slot};
 use smithy_types::{DateTime, Document};
 use std::alloc::Global;
 
@@ -24,9 +24,9 @@ impl<'a> Trees for Pool<'a> {
 
     type Bytes = BytesSpan;
 
-    // Where the first of them waits.
-    type Elements = usize;
+    type Elements = Elements;
 
+    // Where the first of them waits.
     type Entries = usize;
 
     type Members = usize;
@@ -45,9 +45,9 @@ impl<'a> Trees for Pool<'a> {
 
     ghost position_of = { λ s. s.first };
 
-    ghost begun_elements = { Begun };
+    ghost begun_elements = { BegunElements };
 
-    ghost view_elements = { waiting_elements };
+    ghost view_elements = { elements_in };
 
     ghost elements_grow_lawfully = { begun_elements_lawfully };
 
@@ -123,20 +123,19 @@ impl<'a> Trees for Pool<'a> {
     }
 
     #[inline(always)]
-    fn no_elements(&self, _alloc: Global) -> usize {
-        self.count_waiting()
+    fn no_elements(&self, _alloc: Global) -> Elements {
+        Pool::no_elements(self)
     }
 
     #[inline(always)]
-    fn push_element(&mut self, _elements: &mut usize, value: Slot) -> Result<(), SerdeError> {
-        self.wait(value)?;
+    fn push_element(&mut self, elements: &mut Elements, value: Slot) -> Result<(), SerdeError> {
+        Pool::push_element(self, elements, value)?;
         Ok(())
     }
 
     #[inline(always)]
-    fn list(&mut self, elements: usize) -> Result<Slot, SerdeError> {
-        let (at, count) = self.close(elements)?;
-        Ok(Slot::of(Node::List(at, count)))
+    fn list(&mut self, elements: Elements) -> Result<Slot, SerdeError> {
+        Ok(Slot::of(self.close_elements(elements)?))
     }
 
     #[inline(always)]
@@ -216,6 +215,7 @@ impl<'a> Trees for Pool<'a> {
             Node::Text(at, size) => Part::Text(self.text(at, size)),
             Node::Bytes(at, size) => Part::Bytes(self.bytes(at, size)),
             Node::List(at, count) => Part::List(self.children(at, count)),
+            Node::Numbers(at, count) => Part::Numbers(self.numbers(at, count)),
             Node::Map(at, count) => Part::Map(Entries::Slice(self.children(at, count))),
             Node::Structure(at, count) => Part::Structure(Members::Slice(self.children(at, count))),
             Node::Union(at) => {

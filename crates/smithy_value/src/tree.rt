@@ -29,6 +29,8 @@ pub enum Part<'v, T> {
     Timestamp(DateTime),
     /// The elements of a list, in their order.
     List(&'v [T]),
+    /// The elements of a list that are all whole numbers of 64 bits.
+    Numbers(&'v [i64]),
     /// The entries of a map, in the order of their keys.
     Map(Entries<'v, T>),
     /// The members of a structure, in the order of their positions.

@@ -4,6 +4,7 @@ ghost use Rattle.smithy_shapes.specs.Fits.{FitsOr, is_scalar_of};
 ghost use Rattle.smithy_shapes.specs.Site.{site_of, kind_at};
 ghost use Rattle.smithy_declarations.specs.Value.{whole, list, map, structure, union, values_of};
 ghost use Rattle.smithy_schema.specs.Writing.{write, scalar_of};
+ghost use Rattle.smithy_tree.specs.Items.{whole_values};
 ghost use Rattle.smithy_value.specs.View.{view};
 ghost use Rattle.smithy_value.specs.WriteValue.{WritesValue};
 ghost use Rattle.smithy_value.specs.Tree.{entries_view, members_view, part_view, Each, EntriesStand, MembersStand, PartStands};
@@ -55,6 +56,7 @@ pub fn write_tree<P: Trees, S: ShapeSerializer>(
         Part::Decimal(mantissa, exponent) => sink.write_decimal(schema, *mantissa, *exponent),
         Part::Timestamp(value) => sink.write_timestamp(schema, value),
         Part::List(elements) => write_list::<P, S>(sink, trees, schema, *elements),
+        Part::Numbers(numbers) => write_numbers(sink, schema, *numbers),
         Part::Map(entries) => write_map::<P, S>(sink, trees, schema, entries),
         Part::Structure(members) => write_structure::<P, S>(sink, trees, schema, members),
         Part::Union(index, value) => write_union::<P, S>(sink, trees, schema, *index, *value),
@@ -111,6 +113,27 @@ fn write_list<P: Trees, S: ShapeSerializer>(
     sink.begin_list(schema, Some(elements.len()))?;
     for element in elements {
         write_tree::<P, S>(sink, trees, &element_schema, &trees.part(element))?;
+    }
+    sink.end_list()
+}
+
+// Writes a list whose elements are all whole numbers of 64 bits.
+#[inline(never)]
+fn write_numbers<S: ShapeSerializer>(
+    sink: &mut S,
+    schema: &Schema<'_>,
+    numbers: &[i64],
+) -> Result<(), SerdeError>
+    requires fits { FitsOr schema.now.shapes.now schema.now.place true (list (values_of (whole_values numbers.now))) }
+    ensures writes { WritesValue (write S.after (site_of schema.now) (list (values_of (whole_values numbers.now))) (S.state sink.old)) (S.failed sink.old) (S.failed sink.new) (S.state sink.new) result }
+{
+    let Some(member) = schema.member() else {
+        unreachable!()
+    };
+    let element_schema = member.nameless();
+    sink.begin_list(schema, Some(numbers.len()))?;
+    for number in numbers {
+        write_whole_number(sink, &element_schema, i128::from(*number))?;
     }
     sink.end_list()
 }

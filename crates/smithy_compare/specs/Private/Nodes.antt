@@ -4,7 +4,7 @@ use Rattle.smithy_types.specs.Document.{whole_document, map_elements, map_proper
 use Rattle.smithy_types.specs.DocumentView.{document_view, elements_view, properties_view}
 use Rattle.smithy_types.specs.Number.{whole_number}
 use Rattle.smithy_declarations.specs.Value as values
-use Rattle.smithy_tree.specs.Items.{Item, elements_of, entries_of, members_of}
+use Rattle.smithy_tree.specs.Items.{Item, whole_value, whole_values, elements_of, entries_of, members_of}
 use Rattle.smithy_tree.specs.Nodes.{values_over}
 use Rattle.smithy_tree.specs.Seen.{store, values as values_in, view}
 use Rattle.smithy_tree.specs.declared.node.Slot.{Slot}
@@ -21,6 +21,7 @@ use Rattle.smithy_compare.specs.Tree.{Step, member, element, key, Top, scalar, n
 
 abbrev pub node_tree : Node → Tree
 node_tree (nodes.Value p x) = tree_of (view p.now x.now.node)
+node_tree (nodes.Number n) = tree_of (whole_value n)
 node_tree (nodes.Document d) = document_tree (whole_document (document_view d.now))
 
 abbrev pub top_of : kept.Top → Top
@@ -54,6 +55,7 @@ items_in p xs = values_over (store p) (values_in p) xs
 abbrev pub parts_of : left.Parts → Parts
 parts_of all_parts.Nothing = no_parts
 parts_of (all_parts.Elements p i xs) = element_parts i (elements_of (items_in p.now (drop i xs.now)))
+parts_of (all_parts.Numbers i ns) = element_parts i (values.values_of (whole_values (drop i ns.now)))
 parts_of (all_parts.Entries p xs) = entry_parts (entries_of (items_in p.now xs.now))
 parts_of (all_parts.Members p xs) = member_parts (members_of (items_in p.now xs.now))
 parts_of (all_parts.Only p x) = part (member x.now.first) (tree_of (view p.now x.now.node)) no_parts

@@ -13,7 +13,7 @@ use Rattle.smithy_compare.specs.declared.walk.Pair.TheVariants.{End, Alone, Both
 
 abbrev pub NodeStands : Node → Type 0
 NodeStands (nodes.Value p x) = IsSound p.now × HoldsSlot p.now x.now
-NodeStands (nodes.Document d) = Unit {0}
+NodeStands _ = Unit {0}
 
 -- these children stand in the pool
 abbrev pub ChildrenStand : Pool → List Slot → Type 0

@@ -277,3 +277,8 @@ part_passes-union_passes-requires g t c κs within =
     let position = g.P.Trees.position_of in
     let is = ap (λ p. nesting (part_view view key position p)) c.in-Union.is in
     (omega (arith, is, c.decreases), (search rules, (search rules, (search rules, (search rules, (search rules, (search rules, (search rules, (c.requires.sound, (rw c.in-Union.is at c.requires.stands, rw c.in-Union.is at c.requires.fits))))))))))
+
+-- ---- whole numbers
+
+pub part_passes-returns-in-Boolean-6 : goal.part_passes-returns-in-Boolean-6
+part_passes-returns-in-Boolean-6 g t c = search (rules, passing.numbers_pass)

@@ -388,3 +388,7 @@ pub write_tree-returns-in-Document : goal.write_tree-returns-in-Document
 write_tree-returns-in-Document g t c =
     let told = c.write_document.ensures in
     record { writes = rw c.in-Document.is (all_called g.S.ShapeSerializer.after _ _ _ _ _ c.write_document.result (called _ _ _ _ _ told.failed told.broken told.ok told.refused)) }
+
+pub write_tree-returns-in-Numbers : goal.write_tree-returns-in-Numbers
+write_tree-returns-in-Numbers g t c =
+    record { writes = rw c.in-Numbers.is c.write_numbers.ensures.writes }

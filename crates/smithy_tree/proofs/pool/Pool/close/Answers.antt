@@ -3,7 +3,7 @@ use Rattle.std.specs.Prelude.{map as mapped}
 use Rattle.std.proofs.lemmas.List.{take_rest, append-nil}
 use Rattle.smithy_tree.specs.Nodes.{rare_value, values_over}
 use Rattle.smithy_tree.specs.Seen.{store, values}
-use Rattle.smithy_tree.proofs.Growing.{no_elements, nodes_stay, nodes-take, nodes-drop, behind-append, values_added, waiting_left, moved_shows}
+use Rattle.smithy_tree.proofs.Growing.{nodes_stay, nodes-take, nodes-drop, behind-append, values_added, waiting_left, moved_shows}
 use Rattle.smithy_tree.proofs.pool.Pool.close.Goals as goal
 
 pub returns : goal.returns
@@ -32,49 +32,14 @@ returns c =
           side = sym (append-nil p.side.items);
           kept = [];
           rare = sym (append-nil (mapped rare_value p.rare.items));
+          counted = [];
+          numbers = sym (append-nil p.numbers.items);
           more = values_over s (values p) ms;
           values = rw h (values_added s xs ms stay);
         };
+        behind = start;
         holds = rw h (omega (arith, start, count, length-append xs ms, length-drop b ws));
         shows = rw h (moved_shows s xs ws b c.len-start.result (c.len.result - b) start count c.requires.sound.waiting);
-        waiting = rw (h, k) (waiting_left s xs ms ws b stay c.requires.sound.waiting);
-      };
-    }
-
--- where nothing stands before them, they stay where they are
-pub returns-then-begin-eq0 : goal.returns-then-begin-eq0
-returns-then-begin-eq0 c =
-    let p = c.args.self.now in
-    let s = store p in
-    let xs = p.nodes.items in
-    let ws = p.waiting.items in
-    let b = c.args.begin in
-    let ms = drop b ws in
-    let begins : b ≡ 0 = search rules in
-    let none : length xs ≡ 0 = search rules in
-    let empty : xs ≡ [] = no_elements xs none in
-    let h : c.swap.new.x.items ≡ xs ++ ms = rw (c.swap.ensures.x_after, empty, begins) refl in
-    let k : c.swap.new.y.items ≡ take b ws = rw (c.swap.ensures.y_after, begins) empty in
-    let stay = nodes-drop s (length xs) b ws c.requires.sound.waiting in
-    let longer : length xs ≤ length (xs ++ ms) = omega (arith, length-append xs ms) in
-    let count : c.len.result - b ≡ length ws - b = search rules in
-    record {
-      ok = record {
-        grows = record {
-          sound = record {
-            nodes = rw h (behind-append s 0 (length xs) xs ms (omega arith) c.requires.sound.nodes stay);
-            waiting = rw (h, k) (nodes_stay s (length xs) (length (xs ++ ms)) (take b ws) longer (nodes-take s (length xs) b ws c.requires.sound.waiting));
-          };
-          input = refl;
-          copied = [];
-          side = sym (append-nil p.side.items);
-          kept = [];
-          rare = sym (append-nil (mapped rare_value p.rare.items));
-          more = values_over s (values p) ms;
-          values = rw h (values_added s xs ms stay);
-        };
-        holds = rw h (omega (arith, none, count, length-append xs ms, length-drop b ws));
-        shows = rw h (moved_shows s xs ws b 0 (c.len.result - b) (sym none) count c.requires.sound.waiting);
         waiting = rw (h, k) (waiting_left s xs ms ws b stay c.requires.sound.waiting);
       };
     }

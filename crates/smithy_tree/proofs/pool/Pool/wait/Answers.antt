@@ -22,6 +22,8 @@ returns c =
           side = sym (append-nil p.side.items);
           kept = [];
           rare = sym (append-nil (mapped rare_value p.rare.items));
+          counted = [];
+          numbers = sym (append-nil p.numbers.items);
           more = [];
           values = sym (append-nil (values p));
         };

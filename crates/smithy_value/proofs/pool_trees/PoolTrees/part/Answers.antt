@@ -1,6 +1,6 @@
-use Rattle.std.proofs.Common.{◌∙◌, ap, sym}
-use Rattle.smithy_declarations.specs.Value.{list, map, structure}
-use Rattle.smithy_tree.specs.Items.{elements_of, entries_of, members_of}
+use Rattle.std.proofs.Common.{◌∙◌, ap, sym, ℤ, List}
+use Rattle.smithy_declarations.specs.Value.{list, map, structure, values_of}
+use Rattle.smithy_tree.specs.Items.{whole_values, elements_of, entries_of, members_of}
 use Rattle.smithy_tree.specs.Seen.{view}
 use Rattle.smithy_value.proofs.PoolTrees.{elements_seen, entries_seen, members_seen}
 use Rattle.smithy_value.proofs.pool_trees.PoolTrees.part.Goals as goal
@@ -9,6 +9,11 @@ pub returns-in-List-clause-shows : goal.returns-in-List-clause-shows
 returns-in-List-clause-shows c =
     let p = c.args.self.now in
     ap (view p) c.in-List.is ∙ ap list (ap elements_of (sym c.children.ensures.show) ∙ elements_seen p c.children.result.now)
+
+pub returns-in-Numbers-clause-shows : goal.returns-in-Numbers-clause-shows
+returns-in-Numbers-clause-shows c =
+    let p = c.args.self.now in
+    ap (view p) c.in-Numbers.is ∙ ap (λ (ns : List ℤ). list (values_of (whole_values ns))) (sym c.numbers.ensures.numbers)
 
 pub returns-in-Map-clause-shows : goal.returns-in-Map-clause-shows
 returns-in-Map-clause-shows c =

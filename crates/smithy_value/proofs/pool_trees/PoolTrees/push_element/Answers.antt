@@ -1,9 +1,12 @@
-use Rattle.smithy_tree.specs.Seen.{item_in}
-use Rattle.smithy_value.proofs.PoolTrees.{elements_more}
+use Rattle.smithy_tree.specs.Seen.{view}
+use Rattle.smithy_value.proofs.PoolTrees.{begun_more_elements}
 use Rattle.smithy_value.proofs.pool_trees.PoolTrees.push_element.Goals as goal
 
+pub returns-clause-begun : goal.returns-clause-begun
+returns-clause-begun c =
+    λ p b.
+    let q = c.args.self.now in
+    begun_more_elements p q c.push_element.new.self c.args.elements.now c.push_element.new.elements (view q c.args.value.node) b c.in_ok-push_element.ensures.ok
+
 pub returns-clause-ok : goal.returns-clause-ok
-returns-clause-ok c =
-    let p = c.args.self.now in
-    let begun = c.requires.begun in
-    elements_more begun.0 p c.wait.new.self c.args._elements.now (item_in p c.args.value) begun.1 c.in_ok-wait.ensures.ok.waiting
+returns-clause-ok c = c.in_ok-push_element.ensures.ok.elements
