@@ -1,11 +1,7 @@
 //! The maker of readers and serializers.
-ghost use Rattle.std.specs.Prelude.{◌≡◌};
-ghost use Rattle.smithy_json_values.specs.Codec.{held_settings};
-
 use crate::deserializer::JsonDeserializer;
 use crate::serializer::JsonSerializer;
 use smithy_json_settings::JsonCodecSettings;
-use smithy_json_values::settings::Settings;
 use smithy_wire::Walk;
 use std::alloc::Global;
 use std::marker::Model;
@@ -14,9 +10,6 @@ use std::marker::Model;
 #[derive(Debug, Drop)]
 pub struct JsonCodec {
     settings: JsonCodecSettings,
-    // Those by which bodies are read and written, as readers and serializers hold them.
-    held: Settings,
-    ghost alike: { held_settings held ≡ settings.json },
 }
 
 impl Model for JsonCodec {
@@ -52,8 +45,7 @@ impl JsonCodec {
     pub fn new(settings: JsonCodecSettings) -> JsonCodec
         ensures { result ≡ settings }
     {
-        let held = Settings::of(settings.chosen());
-        JsonCodec { settings, held }
+        JsonCodec { settings }
     }
 
     /// A codec that reads RFC 8259 to the letter, to a depth of 128 containers. Members go by their JSON
@@ -70,11 +62,8 @@ impl JsonCodec {
     pub fn strict_with_integral_numbers(use_json_name: bool, integral: bool) -> JsonCodec
         ensures { result ≡ record (strict_codec_settings use_json_name) { json = wire_settings use_json_name integral } }
     {
-        let settings = JsonCodecSettings::builder()
-            .use_json_name(use_json_name)
-            .enforce_strictness(true)
-            .validate_skipped_string_encoding(true)
-            .strict_timestamp_formats(true)
+        let settings = JsonCodecSettings::strict(use_json_name)
+            .into_builder()
             .allow_integral_float_numbers(integral)
             .build();
         JsonCodec::new(settings)
@@ -92,7 +81,7 @@ impl JsonCodec {
         ensures state { state_of result ≡ fresh_state self.now.json }
         ensures sound { has_failed result ≡ false }
     {
-        JsonSerializer::new(self.held, alloc)
+        JsonSerializer::new(self.settings.chosen(), alloc)
     }
 
     /// A reader of one input, of which nothing is read yet. It takes no memory. What it reads borrows from the input alone, and so may
@@ -118,10 +107,11 @@ impl JsonCodec {
         ensures settings { reader_settings_of result ≡ with_namespace (option_map (λ n. n.now) namespace.entry) self.now }
         ensures fresh { cursor_of result ≡ fresh_cursor input.now }
     {
+        let settings = self.settings.chosen();
         JsonDeserializer {
-            walk: Walk::new(input, alloc, self.held.max_depth),
+            walk: Walk::new(input, alloc, settings.max_depth),
             alloc,
-            settings: self.held,
+            settings,
             protocol_id: self.settings.protocol_id(),
             namespace: self.settings.default_namespace().or(namespace),
         }

@@ -2,6 +2,7 @@
 ghost use Rattle.std.specs.Prelude.{◌≡◌};
 
 use crate::frames::{frame, is_structure, missing};
+use smithy_json_settings::Settings;
 use smithy_json_tokens::container_size;
 use smithy_json_values::documents::standing_document_at;
 use smithy_json_values::instants::instant_at;
@@ -9,7 +10,6 @@ use smithy_json_values::integers::integer_at;
 use smithy_json_values::mismatch::{no_object, told};
 use smithy_json_values::numbers::{big_decimal_at, big_integer_at};
 use smithy_json_values::places::{InList, byte_end, is_over, next_in_list, null_end};
-use smithy_json_values::settings::Settings;
 use smithy_json_values::skip::skipped_end;
 use smithy_json_values::texts::{blob_at, text_at};
 use smithy_json_values::values::{begins_null, boolean_at};

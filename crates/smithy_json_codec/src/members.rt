@@ -11,9 +11,9 @@ ghost use Rattle.smithy_json_codec.specs.declared.members.EntryFault.TheVariants
 ghost use Rattle.smithy_json_codec.specs.Private.MemberSteps.{StepsTo, passing, passes_marks, passes_null};
 ghost use Rattle.smithy_json_codec.specs.Private.PassedEntries.{entry_fault, entry_refusal, type_name, IsEntry, IsNext, EntryMissing, NothingComes, NoSkip, NoSkipWithin};
 
+use smithy_json_settings::Settings;
 use smithy_json_values::input::Input;
 use smithy_json_values::places::{InObject, next_in_object, null_end};
-use smithy_json_values::settings::Settings;
 use smithy_json_values::skip::{SkipFault, skipped_end};
 use smithy_json_values::texts::text_of;
 use smithy_schema::{Schema, SerdeError, ShapeType, Step};

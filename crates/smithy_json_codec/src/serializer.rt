@@ -23,7 +23,7 @@ use crate::output::{
 };
 use itoa::Buffer;
 use smithy_json_grammar::number_text::is_number;
-use smithy_json_values::settings::Settings;
+use smithy_json_settings::Settings;
 use smithy_schema::{
     FinishSerializer, Schema, SerdeError, ShapeSerializer, TimestampFormat, instant_text,
 };

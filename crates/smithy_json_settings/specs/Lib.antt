@@ -1,3 +1,2 @@
 -- to be believed, in this order
 pub mod Settings
-pub mod Chosen

@@ -1,9 +1,11 @@
--- What reading and writing JSON depend on beside table and place, and what a codec is asked for.
+-- What reading and writing JSON depend on beside table and place, and what a codec is asked for. A setting has a field of the
+-- record, what it is where none is set, what it is where RFC 8259 is read to the letter, and what contracts see of it.
 use Rattle.std.specs.Prelude.{ℕ, List, Bool, true, false, Option, None, codes}
 use Rattle.smithy_instants.specs.declared.format.Format.{Format}
 use Rattle.smithy_instants.specs.declared.format.Format.TheVariants.{EpochSeconds}
 use Rattle.smithy_json_grammar.specs.NumberGrammar.{standard_numbers}
 use Rattle.smithy_json_grammar.specs.declared.number_grammar.NumberGrammar.{NumberGrammar}
+use Rattle.smithy_json_settings.specs.declared.settings.Settings.{Settings as HeldSettings}
 use Rattle.smithy_shapes.specs.Limits.{Limits, kept}
 
 pub record Settings : Type 0 where
@@ -49,6 +51,33 @@ default_settings = record {
   normalize_arbitrary_precision = false;
 }
 
+-- those under which RFC 8259 is read to the letter
+abbrev pub strict_settings : Bool → Settings
+strict_settings use_json_name = record default_settings {
+  use_json_name = use_json_name;
+  enforce_strictness = true;
+  validate_skipped_string_encoding = true;
+  strict_timestamp_formats = true;
+}
+
+-- what contracts see of the settings that a codec, a reader and a serializer hold: they keep the limits
+abbrev pub held_settings : HeldSettings → Settings
+held_settings s = record {
+  use_json_name = s.use_json_name;
+  max_depth = s.max_depth;
+  default_timestamp_format = s.default_timestamp_format;
+  limits = kept;
+  enforce_strictness = s.enforce_strictness;
+  allow_integral_float_numbers = s.allow_integral_float_numbers;
+  numbers = s.numbers;
+  validate_skipped_values = s.validate_skipped_values;
+  validate_skipped_string_encoding = s.validate_skipped_string_encoding;
+  strict_timestamp_formats = s.strict_timestamp_formats;
+  dispatch_null_members = s.dispatch_null_members;
+  use_string_for_arbitrary_precision = s.use_string_for_arbitrary_precision;
+  normalize_arbitrary_precision = s.normalize_arbitrary_precision;
+}
+
 -- all that a codec is asked for
 pub record CodecSettings : Type 0 where
   pub json : Settings
@@ -63,3 +92,7 @@ default_codec_settings = record {
   protocol_id = codes "aws.smithy.json#JsonCodec";
   default_namespace = None;
 }
+
+-- those of a codec that is asked for nothing but RFC 8259 to the letter
+abbrev pub strict_codec_settings : Bool → CodecSettings
+strict_codec_settings use_json_name = record default_codec_settings { json = strict_settings use_json_name }

@@ -2,8 +2,8 @@
 ghost use Rattle.std.specs.Prelude.{◌≡◌, ◌≤◌, IfOk};
 ghost use Rattle.smithy_json_settings.specs.Settings.{default_codec_settings};
 
-use crate::chosen::ChosenSettings;
 use crate::codec_settings::JsonCodecSettings;
+use crate::settings::Settings;
 use smithy_shapes::ShapeId;
 use smithy_types::Format;
 use std::alloc::{AllocError, Global};
@@ -13,20 +13,19 @@ use std::marker::Model;
 /// built.
 #[derive(Debug, Drop)]
 pub struct JsonCodecSettingsBuilder {
-    json: ChosenSettings,
+    json: Settings,
     protocol_id: ShapeId,
     default_namespace: Option<String>,
 }
 
 impl Model for JsonCodecSettingsBuilder {
     ghost use Rattle.std.specs.Prelude.{option_map, string_bytes};
-    ghost use Rattle.smithy_json_settings.specs.Chosen.{chosen_settings};
-    ghost use Rattle.smithy_json_settings.specs.Settings.{CodecSettings};
+    ghost use Rattle.smithy_json_settings.specs.Settings.{CodecSettings, held_settings};
 
     ghost Value = { CodecSettings };
 
     ghost view = { λ b. record {
-      json = chosen_settings b.json;
+      json = held_settings b.json;
       protocol_id = b.protocol_id;
       default_namespace = option_map string_bytes b.default_namespace;
     } };
@@ -41,7 +40,8 @@ impl Default for JsonCodecSettingsBuilder {
 }
 
 impl JsonCodecSettings {
-    fn into_builder(self) -> JsonCodecSettingsBuilder
+    /// A builder with these settings.
+    pub fn into_builder(self) -> JsonCodecSettingsBuilder
         ensures { result ≡ self }
     {
         JsonCodecSettingsBuilder {
@@ -184,7 +184,7 @@ impl JsonCodecSettingsBuilder {
         requires { value ≤ 512 }
         ensures { result ≡ record self { json = record self.json { max_depth = value } } }
     {
-        self.json.max_depth = value;
+        self.json.max_depth = value as usize;
         self
     }
 

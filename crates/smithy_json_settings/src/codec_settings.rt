@@ -1,8 +1,8 @@
-//! The settings of a codec.
+//! All that a codec is asked for.
 ghost use Rattle.std.specs.Prelude.{◌≡◌, IfOk, option_map};
-ghost use Rattle.smithy_json_settings.specs.Chosen.{chosen_settings};
+ghost use Rattle.smithy_json_settings.specs.Settings.{held_settings};
 
-use crate::chosen::ChosenSettings;
+use crate::settings::Settings;
 use smithy_shapes::ShapeId;
 use smithy_types::Format;
 use std::alloc::{AllocError, Global};
@@ -12,20 +12,19 @@ use std::marker::Model;
 /// The settings of a codec. Contracts see them as one record (`CodecSettings`).
 #[derive(Debug, Drop)]
 pub struct JsonCodecSettings {
-    pub(crate) json: ChosenSettings,
+    pub(crate) json: Settings,
     pub(crate) protocol_id: ShapeId,
     pub(crate) default_namespace: Option<String>,
 }
 
 impl Model for JsonCodecSettings {
     ghost use Rattle.std.specs.Prelude.{option_map, string_bytes};
-    ghost use Rattle.smithy_json_settings.specs.Chosen.{chosen_settings};
-    ghost use Rattle.smithy_json_settings.specs.Settings.{CodecSettings};
+    ghost use Rattle.smithy_json_settings.specs.Settings.{CodecSettings, held_settings};
 
     ghost Value = { CodecSettings };
 
     ghost view = { λ s. record {
-      json = chosen_settings s.json;
+      json = held_settings s.json;
       protocol_id = s.protocol_id;
       default_namespace = option_map string_bytes s.default_namespace;
     } };
@@ -39,7 +38,7 @@ impl Default for JsonCodecSettings {
     /// Those of a client where none is set. They take no memory.
     fn default() -> JsonCodecSettings {
         JsonCodecSettings {
-            json: ChosenSettings::default(),
+            json: Settings::default(),
             protocol_id: ShapeId::new(CowStr::Borrowed("aws.smithy.json#JsonCodec")),
             default_namespace: None,
         }
@@ -47,6 +46,17 @@ impl Default for JsonCodecSettings {
 }
 
 impl JsonCodecSettings {
+    ghost use Rattle.smithy_json_settings.specs.Settings.{strict_codec_settings};
+
+    /// Those of a codec that reads RFC 8259 to the letter. They take no memory.
+    pub fn strict(use_json_name: bool) -> JsonCodecSettings
+        ensures { result ≡ strict_codec_settings use_json_name }
+    {
+        let mut settings = JsonCodecSettings::default();
+        settings.json = Settings::strict(use_json_name);
+        settings
+    }
+
     /// Equal settings, in memory of their own.
     pub fn clone_in(&self, alloc: Global) -> Result<JsonCodecSettings, AllocError>
         ensures { IfOk result (λ s. s ≡ self.now) }
@@ -64,8 +74,8 @@ impl JsonCodecSettings {
     }
 
     /// All that decides how bodies are read and written.
-    pub fn chosen(&self) -> ChosenSettings
-        ensures { chosen_settings result ≡ self.now.json }
+    pub fn chosen(&self) -> Settings
+        ensures { held_settings result ≡ self.now.json }
     {
         self.json
     }
@@ -109,7 +119,7 @@ impl JsonCodecSettings {
     pub fn max_depth(&self) -> u32
         ensures { result ≡ self.now.json.max_depth }
     {
-        self.json.max_depth
+        self.json.max_depth as u32
     }
 
     /// The namespace of a relative name under `__type`.

@@ -2,9 +2,9 @@
 #![tactic(auto)]
 
 mod builder;
-mod chosen;
 mod codec_settings;
+mod settings;
 
 pub use builder::JsonCodecSettingsBuilder;
-pub use chosen::ChosenSettings;
 pub use codec_settings::JsonCodecSettings;
+pub use settings::Settings;

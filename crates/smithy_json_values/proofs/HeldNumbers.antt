@@ -1,5 +1,5 @@
--- The number of 64 bits that stands at a place, as a document holds it, where numbers are those of RFC 8259.
-use Rattle.std.proofs.Common.{◌≡◌, ◌+◌, ◌-◌, ◌<◌, ℕ, suc, ℤ, unsigned_abs, List, ◌∷◌, drop, take, slice_range, true, false, ◌==◌, Some, None, option_and_then, ap, ◌∙◌, cond, arith}
+-- The number of 64 bits that stands at a place, as a document holds it under all settings.
+use Rattle.std.proofs.Common.{◌≡◌, ◌+◌, ◌-◌, ◌<◌, ℕ, suc, ℤ, unsigned_abs, List, ◌∷◌, drop, take, slice_range, true, ◌==◌, Some, None, option_and_then, ap, ◌∙◌, cond, arith}
 use Rattle.std.proofs.lemmas.List.{drop_more}
 use Rattle.smithy_texts.specs.Ranges.{fits_signed}
 use Rattle.smithy_types.specs.declared.number.Number.TheVariants.{PosInt, NegInt}
@@ -7,15 +7,14 @@ use Rattle.smithy_types.specs.Document.{is_document_number}
 use Rattle.smithy_json_grammar.specs.Ascii.{minus_sign, is_ws}
 use Rattle.smithy_json_grammar.specs.HeldNumber.{held_as, number_of}
 use Rattle.smithy_json_grammar.specs.Number.{whole_number}
-use Rattle.smithy_json_grammar.specs.NumberGrammar.{standard_numbers}
 use Rattle.smithy_json_grammar.specs.Standing.{IsRunAt, IsLongAt}
 use Rattle.smithy_json_grammar.proofs.HeldNumberLemmas.{long_held}
 use Rattle.smithy_json_values.specs.Settings.{Settings}
-use Rattle.smithy_json_values.specs.LexicalGrammar.{grammar_of, number_test, is_lenient_integer, is_lenient_decimal}
+use Rattle.smithy_json_values.specs.LexicalGrammar.{grammar_of, number_test, is_lenient_decimal}
 use Rattle.smithy_json_values.specs.Private.NextInContainer.{IsFirstByte}
 use Rattle.smithy_json_values.specs.Private.OpenDocuments.{HeldNumberLies}
-use Rattle.smithy_json_values.proofs.IntegerReads.{of_long}
-use Rattle.smithy_json_values.proofs.NumberRuns.{number_lies, of_strict, strict_of}
+use Rattle.smithy_json_values.proofs.NumberRuns.{number_lies}
+use Rattle.smithy_json_values.proofs.PlainIntegers.{plain_is_held}
 
 held_is : (b : ℕ) (raw more : List ℕ) (n : ℤ) → raw ≡ b ∷ more → whole_number raw ≡ Some n → fits_signed 64 n ≡ true
     → number_of raw ≡ Some (cond (b == minus_sign) (NegInt n) (PosInt (unsigned_abs n)))
@@ -41,11 +40,9 @@ module _ (i : List ℕ) (at b : ℕ) (here : IsFirstByte i at b at) where
       let byte : drop at i ≡ b ∷ drop (at + 1) i = drop_more i at 0 here.within ∙ ap (λ x. x ∷ drop (at + 1) i) here.is in
       ap (λ k. take k (drop at i)) n ∙ ap (take (suc (e - at - 1))) byte
 
-  pub long_is_held : (c : Settings) → c.enforce_strictness ≡ true → c.allow_integral_float_numbers ≡ false → c.numbers ≡ standard_numbers → (n : ℤ) (e : ℕ) → IsLongAt i at e n
-      → HeldNumberLies (grammar_of c) i at (cond (b == minus_sign) (NegInt n) (PosInt (unsigned_abs n))) e
-  long_is_held c strict plain standard n e long =
-      let whole = of_long c i at e n strict plain standard long in
-      let run = of_strict c is_lenient_decimal i at e strict (strict_of c (is_lenient_integer c) i at e strict whole.run) in
+  pub long_is_held : (c : Settings) (n : ℤ) (e : ℕ) → IsLongAt i at e n → HeldNumberLies (grammar_of c) i at (cond (b == minus_sign) (NegInt n) (PosInt (unsigned_abs n))) e
+  long_is_held c n e long =
+      let run = plain_is_held c i at e n long in
       let some = run.some in
       record {
         raw = slice_range i at e;

@@ -1,4 +1,4 @@
--- From the integers that scanners find to those that lie behind ws, by each rule for integers.
+-- From the integers that scanners find to those that lie behind ws, by the settings.
 use Rattle.std.proofs.Common.{◌≡◌, ◌⊎◌, ℕ, ℤ, pos, neg_ℤ, List, [], ◌∷◌, ◌++◌, length, slice_range, Bool, true, false, ◌==◌, ◌&&◌, Option, Some, None, option_map, refl, sym, ap, subst, ◌∙◌, arith, inl, inr}
 use Rattle.std.proofs.lemmas.Bool.Decides.{nat_tests}
 use Rattle.std.specs.Prelude.{if◌then◌else◌, nat_lt}
@@ -13,12 +13,10 @@ use Rattle.smithy_shapes.specs.Lemmas.Options.{same_some, step_apart, chosen, ma
 use Rattle.smithy_json_grammar.specs.Ascii.{is_ws, is_numeric, minus_sign, plus_sign}
 use Rattle.smithy_json_grammar.specs.Grammar.{IsInt, AreDigits}
 use Rattle.smithy_json_grammar.specs.Number.{natural_number, whole_number, signed_number, long_number, integral_number}
-use Rattle.smithy_json_grammar.specs.NumberGrammar.{standard_numbers, IsIntOf, IsNumberOf}
+use Rattle.smithy_json_grammar.specs.NumberGrammar.{IsIntOf, IsNumberOf}
 use Rattle.smithy_json_grammar.specs.NumberText.{is_number_of}
-use Rattle.smithy_json_grammar.specs.Standing.{IsRunAt, StandsAt, IsLongAt, IsSignedAt}
+use Rattle.smithy_json_grammar.specs.Standing.{IsRunAt, StandsAt, IsSignedAt}
 use Rattle.smithy_json_grammar.specs.declared.number_grammar.NumberGrammar.{NumberGrammar}
-use Rattle.smithy_json_grammar.proofs.AllowedNumberLemmas.{tells_numbers_of}
-use Rattle.smithy_json_grammar.proofs.NumberTextLemmas.{tells_numbers}
 use Rattle.smithy_json_grammar.proofs.SliceLemmas.{length-slice}
 use Rattle.smithy_json_grammar.proofs.WholeLemmas.{int_digits}
 use Rattle.smithy_json_values.specs.Settings.{Settings}
@@ -106,7 +104,7 @@ integral_fits text n h =
     let long = chosen (fits_signed 64 z) (Some z) n scale.2 in
     subst (λ x. fits_signed 64 x ≡ true) (same_some z n long.1) long.0
 
--- ---- by the rules
+-- ---- by the settings
 
 module _ (c : Settings) (i : List ℕ) (start e : ℕ) (n : ℤ) where
   abbrev raw : List ℕ
@@ -155,23 +153,6 @@ module _ (c : Settings) (i : List ℕ) (start e : ℕ) (n : ℤ) where
     both_of h =
         let there = whole_of h in
         (there.0, record { run = h.run.run; value = whole_is_signed c.numbers raw there.0.text ∙ there.1; fits = h.fits })
-
-    -- of the standard
-    module _ (standard : c.numbers ≡ standard_numbers) where
-      pub of_long : IsLongAt i start e n → IntegerStands c i start e n
-      of_long h =
-          let passes : is_number_of c.numbers raw ≡ true = rw standard ((tells_numbers raw).1 h.number.text) in
-          of_whole (record { ordered = h.number.ordered; within = h.number.within; text = (tells_numbers_of c.numbers raw).0 passes; boundary = h.number.boundary }) h.value h.fits
-
-      pub long_of : IntegerStands c i start e n → IsLongAt i start e n
-      long_of h =
-          let there = whole_of h in
-          let passes : is_number_of c.numbers raw ≡ true = (tells_numbers_of c.numbers raw).1 there.0.text in
-          record {
-            number = record { ordered = there.0.ordered; within = there.0.within; text = (tells_numbers raw).0 (rw standard at passes); boundary = there.0.boundary };
-            value = there.1;
-            fits = h.fits;
-          }
 
   -- as numbers that are equal to one
   module _ (integral : c.allow_integral_float_numbers ≡ true) where

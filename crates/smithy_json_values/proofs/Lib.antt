@@ -36,7 +36,6 @@ pub mod NumberRuns
 pub mod IntegerReads
 pub mod PlainIntegers
 pub mod NumberSorts
-pub mod IntegerRules
 pub mod NumberTexts
 pub mod InstantPlaces
 pub mod WideSlices

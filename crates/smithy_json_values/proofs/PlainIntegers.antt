@@ -1,10 +1,11 @@
 -- A whole number of RFC 8259 that has 64 bits stands for itself under all settings.
-use Rattle.std.specs.Prelude.{◌&&◌, ◌++◌, if◌then◌else◌, option_and_then, nat_lt}
+use Rattle.std.specs.Prelude.{◌&&◌, ◌||◌, ◌++◌, if◌then◌else◌, option_and_then, nat_lt}
 use Rattle.std.proofs.Common.{◌≡◌, ◌==◌, ◌+◌, ◌*◌, ◌^◌, ◌≤◌, ℕ, ℤ, pos, neg_ℤ, ◌-ℤ◌, List, [], ◌∷◌, length, take, drop, slice_range, Bool, true, false, Some, None, option_map, refl, sym, ap, ◌∙◌, arith, inl}
 use Rattle.std.proofs.lemmas.Bool.Decides.{nat_tests}
 use Rattle.std.proofs.Math.Seq.{take-length}
 use Rattle.std.proofs.Math.ListN.{drop_of_length-le}
 use Rattle.std.specs.List.{position_or_len, before_first, after_first}
+use Rattle.std.specs.Char.{is_ascii_digit}
 use Rattle.std.specs.Str.{byte, all_ascii_digits}
 use Rattle.std.specs.Str.Parse.{digits_value}
 use Rattle.smithy_texts.specs.Decimal.{is_point, is_exponent_mark, is_exponent_part, coefficient, is_decimal, written_exponent, net_exponent}
@@ -20,8 +21,10 @@ use Rattle.smithy_json_grammar.specs.NumberGrammar.{IsNumberOf}
 use Rattle.smithy_json_grammar.specs.NumberText.{is_number_of}
 use Rattle.smithy_json_grammar.specs.Standing.{IsLongAt}
 use Rattle.smithy_json_grammar.specs.declared.number_grammar.NumberGrammar.{NumberGrammar}
+use Rattle.smithy_json_values.specs.LexicalGrammar.{number_test, is_lenient_decimal}
 use Rattle.smithy_json_values.specs.Settings.{Settings}
 use Rattle.smithy_json_values.specs.Tokens.{BoundaryBy}
+use Rattle.smithy_json_values.specs.TypeMismatch.{begins_as_number}
 use Rattle.smithy_json_values.specs.Private.NumberAtPlace.{NumberStands, IntegerStands}
 use Rattle.smithy_json_values.proofs.IntegerReads.{whole_is_signed}
 use Rattle.smithy_json_values.proofs.NumberRuns.{grammar_stands}
@@ -82,27 +85,56 @@ whole_writes (b ∷ raw) n h = by (b == minus_sign) refl h
         let digits = natural_writes (b ∷ raw) v.0 v.1 in
         rw (sym (ap pos digits.2 ∙ v.2)) (digits_write (b ∷ raw) digits.0 digits.1)
 
--- and as a decimal it is equal to it
-whole_is_integral : (raw : List ℕ) (n : ℤ) → IsWrittenNumber raw n → fits_signed 64 n ≡ true → integral_number raw ≡ Some n
-whole_is_integral raw n w fits =
-    let all : coefficient raw ≡ raw = ap (λ k. take k raw) w.no_mark ∙ take-length raw in
-    let at_end : length raw ≤ position_or_len is_exponent_mark raw = omega (arith, w.no_mark) in
-    let past : length raw ≤ position_or_len is_exponent_mark raw + 1 = omega (arith, w.no_mark) in
-    let no_part : drop (position_or_len is_exponent_mark raw) raw ≡ [] = drop_of_length-le raw at_end in
-    let no_exponent : after_first is_exponent_mark raw ≡ [] = drop_of_length-le raw past in
-    let written : written_exponent raw ≡ pos 0 = ap number no_exponent in
-    let net : net_exponent raw ≡ pos 0 = ap (λ z. z -ℤ pos (length (after_first is_point (coefficient raw)))) written ∙ ap (λ t. pos 0 -ℤ pos (length (after_first is_point t))) all ∙ ap (λ t. pos 0 -ℤ pos (length t)) (no_fraction raw n w) in
-    let decimal : is_decimal raw ≡ true = ap (λ t. are_digits (before_first is_point (without_sign t) ++ after_first is_point (without_sign t)) && is_exponent_part (drop (position_or_len is_exponent_mark raw) raw)) all ∙ ap (λ t. t && is_exponent_part (drop (position_or_len is_exponent_mark raw) raw)) (coefficient_digits raw n w) ∙ ap is_exponent_part no_part in
-    let form : (is_decimal raw && fits_signed 64 (written_exponent raw)) ≡ true = ap (λ b. b && fits_signed 64 (written_exponent raw)) decimal ∙ ap (fits_signed 64) written in
-    let is_negative = begins_with (byte "-") (coefficient raw) in
-    let m = magnitude (coefficient raw) in
-    let long = λ (k : ℕ). long_number (signed is_negative k) in
-    ap (λ b. if b then option_and_then long (scaled m (net_exponent raw)) else None) form
-    ∙ ap (λ e. option_and_then long (scaled m e)) net
-    ∙ ap long (let same : m * 10 ^ 0 ≡ m = omega arith in same)
-    ∙ ap (λ t. long_number (number t)) all
-    ∙ ap long_number w.value
-    ∙ ap (λ b. if b then Some n else None) fits
+-- it is a decimal without a fraction and an exponent
+module _ (raw : List ℕ) (n : ℤ) (w : IsWrittenNumber raw n) where
+  all : coefficient raw ≡ raw
+  all = ap (λ k. take k raw) w.no_mark ∙ take-length raw
+
+  no_part : drop (position_or_len is_exponent_mark raw) raw ≡ []
+  no_part = let at_end : length raw ≤ position_or_len is_exponent_mark raw = omega (arith, w.no_mark) in drop_of_length-le raw at_end
+
+  whole_is_decimal : is_decimal raw ≡ true
+  whole_is_decimal =
+      ap (λ t. are_digits (before_first is_point (without_sign t) ++ after_first is_point (without_sign t)) && is_exponent_part (drop (position_or_len is_exponent_mark raw) raw)) all ∙ ap (λ t. t && is_exponent_part (drop (position_or_len is_exponent_mark raw) raw)) (coefficient_digits raw n w) ∙ ap is_exponent_part no_part
+
+  -- which is equal to it
+  whole_is_integral : fits_signed 64 n ≡ true → integral_number raw ≡ Some n
+  whole_is_integral fits =
+      let past : length raw ≤ position_or_len is_exponent_mark raw + 1 = omega (arith, w.no_mark) in
+      let no_exponent : after_first is_exponent_mark raw ≡ [] = drop_of_length-le raw past in
+      let written : written_exponent raw ≡ pos 0 = ap number no_exponent in
+      let net : net_exponent raw ≡ pos 0 = ap (λ z. z -ℤ pos (length (after_first is_point (coefficient raw)))) written ∙ ap (λ t. pos 0 -ℤ pos (length (after_first is_point t))) all ∙ ap (λ t. pos 0 -ℤ pos (length t)) (no_fraction raw n w) in
+      let form : (is_decimal raw && fits_signed 64 (written_exponent raw)) ≡ true = ap (λ b. b && fits_signed 64 (written_exponent raw)) whole_is_decimal ∙ ap (fits_signed 64) written in
+      let is_negative = begins_with (byte "-") (coefficient raw) in
+      let m = magnitude (coefficient raw) in
+      let long = λ (k : ℕ). long_number (signed is_negative k) in
+      ap (λ b. if b then option_and_then long (scaled m (net_exponent raw)) else None) form
+      ∙ ap (λ e. option_and_then long (scaled m e)) net
+      ∙ ap long (let same : m * 10 ^ 0 ≡ m = omega arith in same)
+      ∙ ap (λ t. long_number (number t)) all
+      ∙ ap long_number w.value
+      ∙ ap (λ b. if b then Some n else None) fits
+
+-- its first byte is a sign or a digit
+whole_begins : (raw : List ℕ) (n : ℤ) → whole_number raw ≡ Some n → begins_as_number raw ≡ true
+whole_begins [] n h = cc
+whole_begins (b ∷ raw) n h = by (b == minus_sign) refl h
+  where
+    first_digit : (s : List ℕ) → all_ascii_digits (b ∷ s) ≡ true → is_ascii_digit b ≡ true
+    first_digit s digits = both (is_ascii_digit b) (all_ascii_digits s) digits
+      where
+        both : (p q : Bool) → (p && q) ≡ true → p ≡ true
+        both true q h = refl
+        both false q h = cc
+
+    by : (minus : Bool) → (b == minus_sign) ≡ minus
+        → (if minus then option_map (λ m. neg_ℤ (pos m)) (natural_number raw) else option_map pos (natural_number (b ∷ raw))) ≡ Some n
+        → ((b == minus_sign) || is_ascii_digit b) ≡ true
+    by true minus h = ap (λ t. t || is_ascii_digit b) minus
+    by false minus h =
+        let v = made pos (natural_number (b ∷ raw)) n h in
+        let digits = natural_writes (b ∷ raw) v.0 v.1 in
+        ap (λ t. t || is_ascii_digit b) minus ∙ first_digit raw digits.1
 
 -- ---- where it stands
 
@@ -153,3 +185,11 @@ module _ (c : Settings) (i : List ℕ) (start e : ℕ) (n : ℤ) (h : IsLongAt i
     value = value c.enforce_strictness c.allow_integral_float_numbers;
     fits = h.fits;
   }
+
+  -- and in a document
+  held : (strict : Bool) → (if strict then is_number_of c.numbers raw else is_lenient_decimal raw) ≡ true
+  held true = stands.passes
+  held false = ap (λ t. t && is_decimal raw) (whole_begins raw n h.value) ∙ whole_is_decimal raw n written
+
+  pub plain_is_held : NumberStands c.enforce_strictness (number_test c is_lenient_decimal) i start e
+  plain_is_held = record { run = stands.run; some = stands.some; passes = held c.enforce_strictness; boundary = boundary c.enforce_strictness }

@@ -26,7 +26,6 @@ pub mod TokenLaws
 pub mod PlacedTexts
 pub mod NextInContainer
 pub mod ScalarAtPlace
-pub mod IntegerRules
 pub mod NumberSorts
 pub mod NumberAtPlace
 pub mod InstantAtPlace

@@ -1,5 +1,5 @@
 //! An input, with the settings under which it is read.
-use crate::settings::Settings;
+use smithy_json_settings::Settings;
 
 /// The bytes of an input, and the settings under which they are read.
 #[derive(Clone, Copy)]

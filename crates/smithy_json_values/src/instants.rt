@@ -12,9 +12,9 @@ ghost use Rattle.smithy_wire.specs.Rules.{means, no_meaning, uncarried};
 ghost use Rattle.smithy_wire.specs.Finding.{MatchFound};
 
 use crate::number_runs::{NumberSort, number_of};
-use crate::settings::Settings;
 use crate::texts::text_of;
 use crate::values::string_at;
+use smithy_json_settings::Settings;
 use smithy_schema::TimestampFormat;
 use smithy_types::{DateTime, EpochError, Format, read_epoch};
 use smithy_wire::Found;

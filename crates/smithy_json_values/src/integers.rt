@@ -3,56 +3,15 @@
 ghost use Rattle.std.specs.Prelude.{◌≡◌, ◌≤◌, ℕ, ℤ, length, IfSome, IfNone, true, false};
 ghost use Rattle.smithy_json_values.specs.Codec.{held_settings};
 ghost use Rattle.smithy_json_values.specs.LexicalGrammar.{grammar_of};
-ghost use Rattle.smithy_json_values.specs.Private.IntegerRules.{is_standard, integer_rule};
 ghost use Rattle.smithy_json_values.specs.Private.NumberAtPlace.{IntegerStands};
 ghost use Rattle.smithy_json_values.specs.Private.ScalarAtPlace.{IntegerLies};
 
 use crate::number_runs::{NumberSort, number_end_of};
-use crate::settings::Settings;
-use smithy_json_grammar::number_grammar::{NumberGrammar, scan_number_of};
+use smithy_json_grammar::number_grammar::scan_number_of;
 use smithy_json_grammar::number_run::{integral_number, read_signed};
 use smithy_json_grammar::number_text::read_long;
 use smithy_json_grammar::scan::skip_blanks;
-
-/// How integers are read.
-#[derive(Clone, Copy, Debug)]
-pub enum IntegerRule {
-    /// As whole numbers of RFC 8259.
-    Standard,
-    /// As whole numbers of a grammar that allows more.
-    OfGrammar,
-    /// As a sign and digits, whatever comes behind them but a byte of numbers.
-    Signed,
-    /// As numbers of the grammar that are equal to a whole number.
-    Integral,
-}
-
-fn is_standard(numbers: NumberGrammar) -> bool
-    ensures { result ≡ is_standard numbers }
-{
-    !numbers.allow_leading_zeros
-        && !numbers.allow_trailing_decimal_point
-        && !numbers.allow_empty_integer_part
-}
-
-impl IntegerRule {
-    /// The rule that settings make: by their strictness, whether decimals may be integers, and the grammar of numbers.
-    pub fn of(is_strict: bool, is_integral: bool, numbers: NumberGrammar) -> IntegerRule
-        ensures { result ≡ integer_rule is_strict is_integral numbers }
-    {
-        if is_integral {
-            return IntegerRule::Integral;
-        }
-        if !is_strict {
-            return IntegerRule::Signed;
-        }
-        if is_standard(numbers) {
-            IntegerRule::Standard
-        } else {
-            IntegerRule::OfGrammar
-        }
-    }
-}
+use smithy_json_settings::Settings;
 
 // The whole number of 64 bits that the number of the grammar at the offset writes, with its end.
 #[inline(never)]
@@ -80,19 +39,21 @@ fn integral_of_grammar(input: &[u8], start: usize, settings: &Settings) -> Optio
     Some((number, end))
 }
 
-// The integer of 64 bits at the offset under any rule, with its end.
+// The integer of 64 bits at the offset, with its end: a number of the grammar that is equal to a whole one, or that is one, or where
+// nothing is strict a sign and digits, whatever comes behind them but a byte of numbers.
 #[inline(never)]
-fn integer_by_rule(input: &[u8], start: usize, settings: &Settings) -> Option<(i64, usize)>
+fn any_integer(input: &[u8], start: usize, settings: &Settings) -> Option<(i64, usize)>
     requires { start ≤ length input.now }
     ensures found { IfSome result (λ r. IntegerStands (held_settings settings.now) input.now start r.1 r.0) }
     ensures none { IfNone result ((n : ℤ) (e : ℕ) → IntegerStands (held_settings settings.now) input.now start e n → ⊥) }
 {
-    match settings.integers {
-        IntegerRule::Standard => read_long(input, start),
-        IntegerRule::Signed => read_signed(input, start),
-        IntegerRule::OfGrammar => whole_of_grammar(input, start, settings),
-        IntegerRule::Integral => integral_of_grammar(input, start, settings),
+    if settings.allow_integral_float_numbers {
+        return integral_of_grammar(input, start, settings);
     }
+    if !settings.enforce_strictness {
+        return read_signed(input, start);
+    }
+    whole_of_grammar(input, start, settings)
 }
 
 // The same, with the call in a function of its own: what it takes of the stack is set to zero where it is needed alone.
@@ -102,11 +63,11 @@ fn rare_integer(input: &[u8], start: usize, settings: &Settings) -> Option<(i64,
     ensures found { IfSome result (λ r. IntegerStands (held_settings settings.now) input.now start r.1 r.0) }
     ensures none { IfNone result ((n : ℤ) (e : ℕ) → IntegerStands (held_settings settings.now) input.now start e n → ⊥) }
 {
-    let found = integer_by_rule(input, start, settings)?;
+    let found = any_integer(input, start, settings)?;
     Some(found)
 }
 
-// The integer of 64 bits at the offset, with its end. A whole number of RFC 8259 is read in line, as it is one under every rule.
+// The integer of 64 bits at the offset, with its end. A whole number of RFC 8259 is read in line, as it is one under all settings.
 #[inline(always)]
 fn standing_integer(input: &[u8], start: usize, settings: &Settings) -> Option<(i64, usize)>
     requires { start ≤ length input.now }

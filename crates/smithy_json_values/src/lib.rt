@@ -9,7 +9,6 @@ pub mod mismatch;
 pub mod number_runs;
 pub mod numbers;
 pub mod places;
-pub mod settings;
 pub mod skip;
 pub mod texts;
 pub mod values;

@@ -10,8 +10,8 @@ ghost use Rattle.smithy_schema.specs.Errors.{FindsNone, TellsType};
 ghost use Rattle.smithy_wire.specs.Finding.{told, told_as};
 
 use crate::instants::{string_form, takes_seconds};
-use crate::settings::Settings;
 use smithy_json_grammar::scan::skip_blanks;
+use smithy_json_settings::Settings;
 use smithy_schema::{Scalar, SerdeError, TimestampFormat};
 
 pub fn begins_with_true(bytes: &[u8]) -> bool

@@ -7,10 +7,10 @@ ghost use Rattle.smithy_json_values.specs.Private.NumberSorts.{lenient_test};
 ghost use Rattle.smithy_json_values.specs.Private.NumberAtPlace.{NumberStands, NumberLies};
 
 use crate::mismatch::begins_as_number;
-use crate::settings::Settings;
 use smithy_json_grammar::number_grammar::{NumberGrammar, is_number_of, scan_number_of};
 use smithy_json_grammar::number_run::number_run_end;
 use smithy_json_grammar::scan::skip_blanks;
+use smithy_json_settings::Settings;
 use smithy_texts::decimal_text::is_decimal;
 use smithy_texts::numeral::{are_digits, without_minus};
 use std::str;

@@ -1,6 +1,6 @@
 //! Big numbers: the text of a number or a string, and what it is as one.
 
-ghost use Rattle.std.specs.Prelude.{◌≡◌, ◌≤◌, true, ℕ, List, length, IfOk, MatchOption, FitsSigned};
+ghost use Rattle.std.specs.Prelude.{◌≡◌, ◌≤◌, true, length, IfOk, FitsSigned};
 ghost use Rattle.std.specs.Cow.{cow_str_bytes};
 ghost use Rattle.std.specs.Int.{w128};
 ghost use Rattle.smithy_declarations.specs.declared.shape_type.Scalar.TheVariants as scalars;
@@ -12,14 +12,14 @@ ghost use Rattle.smithy_json_values.specs.LexicalGrammar.{grammar_of};
 ghost use Rattle.smithy_json_values.specs.Scalar.{big_number};
 ghost use Rattle.smithy_json_values.specs.NumberText.{NumberTextLies};
 ghost use Rattle.smithy_json_values.specs.Private.NumberSorts.{is_big_sort, kind_of_sort};
-ghost use Rattle.smithy_json_values.specs.Private.ScalarAtPlace.{MeansAt, ExceedsAt, NothingAt};
+ghost use Rattle.smithy_json_values.specs.Private.ScalarAtPlace.{Finds, MeansAt, ExceedsAt, NothingAt};
 ghost use Rattle.smithy_wire.specs.Rules.{means, no_meaning, wide};
 ghost use Rattle.smithy_wire.specs.Finding.{MatchFound};
 
 use crate::number_runs::{NumberSort, number_of};
-use crate::settings::Settings;
 use crate::texts::text_of;
 use crate::values::string_at;
+use smithy_json_settings::Settings;
 use smithy_types::{BigDecimal, BigInteger, BigNumberError};
 use smithy_wire::Found;
 use std::alloc::{AllocError, Global};
@@ -35,7 +35,7 @@ fn number_text_at<'a>(
 ) -> Result<Option<(CowStr<'a, Global>, usize)>, AllocError>
     requires within { at ≤ length input.now }
     requires big { is_big_sort sort ≡ true }
-    ensures { IfOk result (λ o. MatchOption o ((text : List ℕ) (e : ℕ) → NumberTextLies (grammar_of (held_settings settings.now)) (kind_of_sort sort) input.now at text e → ⊥) (λ r. NumberTextLies (grammar_of (held_settings settings.now)) (kind_of_sort sort) input.now at (cow_str_bytes r.0) r.1)) }
+    ensures { IfOk result (Finds (NumberTextLies (grammar_of (held_settings settings.now)) (kind_of_sort sort) input.now at) cow_str_bytes) }
 {
     if let Some((text, end)) = number_of(sort, input, at, settings) {
         return Ok(Some((CowStr::Borrowed(text), end)));

@@ -13,9 +13,9 @@ ghost use Rattle.smithy_json_values.specs.TypeMismatch.{begins_by};
 ghost use Rattle.smithy_json_values.specs.Private.NextInContainer.{IsFirstByte, IsNotFirst, GoesOnInList, GoesOnToName, GoesOnInObject};
 ghost use Rattle.smithy_json_values.specs.Private.PlacedTexts.{StandsFrom};
 
-use crate::settings::Settings;
 use crate::values::{begins_with_null, may_follow, string_of};
 use smithy_json_grammar::scan::skip_blanks;
+use smithy_json_settings::Settings;
 
 /// A member's name, as it is written.
 #[derive(Clone, Copy)]

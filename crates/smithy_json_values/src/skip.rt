@@ -16,11 +16,11 @@ ghost use Rattle.smithy_wire.specs.Node.{leaf};
 use crate::input::Input;
 use crate::number_runs::{NumberSort, number_of};
 use crate::places::{InList, byte_end, first_byte, next_in_list, next_name_place, null_end};
-use crate::settings::Settings;
 use crate::values::{boolean_at, may_follow};
 use smithy_json_grammar::quoted_text::{escapes_are_valid, is_plain_text, scan_quoted};
 use smithy_json_grammar::scan::skip_blanks;
 use smithy_json_grammar::string_text::scan_string;
+use smithy_json_settings::Settings;
 use smithy_schema::SerdeError;
 
 // The greatest depth that settings may allow.

@@ -1,5 +1,5 @@
 //! The texts that strings stand for, and the bytes that texts encode.
-ghost use Rattle.std.specs.Prelude.{◌≡◌, ◌↔◌, true, false, ◌≤◌, ℕ, List, length, IfOk, IfErr, IfSome, MatchOption, option_map, option_and_then, string_bytes};
+ghost use Rattle.std.specs.Prelude.{◌≡◌, ◌↔◌, true, false, ◌≤◌, ℕ, List, length, IfOk, IfErr, IfSome, option_map, option_and_then, string_bytes};
 ghost use Rattle.std.specs.Cow.{cow_str_bytes, cow_slice_items, IsBorrowedStr, IsOwnedSlice};
 ghost use Rattle.smithy_schema.specs.Spans.{text_bytes, span_bytes, IsTextPlaced, IsPlaced};
 ghost use Rattle.smithy_texts.specs.Base64Text.{blob_of as base64_of};
@@ -7,11 +7,11 @@ ghost use Rattle.smithy_json_grammar.specs.Unescape.{unescaped, has_escape};
 ghost use Rattle.smithy_json_values.specs.Borrowed.{BorrowsText, LiesEscaped};
 ghost use Rattle.smithy_json_values.specs.Codec.{held_grammar};
 ghost use Rattle.smithy_json_values.specs.Private.PlacedTexts.{IsMeantFrom};
-ghost use Rattle.smithy_json_values.specs.Private.ScalarAtPlace.{TextLies, BlobLies};
+ghost use Rattle.smithy_json_values.specs.Private.ScalarAtPlace.{Finds, TextLies, BlobLies};
 
-use crate::settings::Settings;
 use crate::values::string_at;
 use smithy_json_grammar::{EscapeError, EscapedStr};
+use smithy_json_settings::Settings;
 use smithy_schema::{BytesSpan, TextSpan};
 use smithy_types::Blob;
 use smithy_types::base64::{DecodeError, decode};
@@ -72,7 +72,7 @@ pub fn text_piece_at<'a>(
     settings: &Settings,
 ) -> Result<Option<(CowStr<'a, Global>, usize)>, AllocError>
     requires { at ≤ length input.now }
-    ensures found { IfOk result (λ o. MatchOption o ((text : List ℕ) (e : ℕ) → TextLies (held_grammar settings.now) input.now at text e → ⊥) (λ r. TextLies (held_grammar settings.now) input.now at (cow_str_bytes r.0) r.1)) }
+    ensures found { IfOk result (Finds (TextLies (held_grammar settings.now) input.now at) cow_str_bytes) }
     ensures borrowed { IfOk result (λ o. IfSome o (λ r. BorrowsText (held_grammar settings.now) input.now at r.0 r.1)) }
     ensures memory { IfErr result (λ e. LiesEscaped (held_grammar settings.now) input.now at) }
 {
@@ -94,7 +94,7 @@ pub fn text_at(
     settings: &Settings,
 ) -> Result<Option<(String, usize)>, AllocError>
     requires { at ≤ length input.now }
-    ensures { IfOk result (λ o. MatchOption o ((text : List ℕ) (e : ℕ) → TextLies (held_grammar settings.now) input.now at text e → ⊥) (λ r. TextLies (held_grammar settings.now) input.now at (string_bytes r.0) r.1)) }
+    ensures { IfOk result (Finds (TextLies (held_grammar settings.now) input.now at) string_bytes) }
 {
     let Some((text, end)) = text_piece_at(alloc, input, at, settings)? else {
         return Ok(None);
@@ -132,7 +132,7 @@ pub fn text_span_at(
     settings: &Settings,
 ) -> Result<Option<(TextSpan, usize)>, AllocError>
     requires { at ≤ length input.now }
-    ensures found { IfOk result (λ o. MatchOption o ((text : List ℕ) (e : ℕ) → TextLies (held_grammar settings.now) input.now at text e → ⊥) (λ r. TextLies (held_grammar settings.now) input.now at (text_bytes input.now r.0) r.1)) }
+    ensures found { IfOk result (Finds (TextLies (held_grammar settings.now) input.now at) (text_bytes input.now)) }
     ensures placed { IfOk result (λ o. IfSome o (λ r. IsTextPlaced input.now r.0)) }
 {
     let Some(string) = string_at(input, at, settings) else {
@@ -175,7 +175,7 @@ pub fn blob_at(
     settings: &Settings,
 ) -> Result<Option<(Blob, usize)>, AllocError>
     requires { at ≤ length input.now }
-    ensures { IfOk result (λ o. MatchOption o ((blob : List ℕ) (e : ℕ) → BlobLies (held_grammar settings.now) input.now at blob e → ⊥) (λ r. BlobLies (held_grammar settings.now) input.now at r.0 r.1)) }
+    ensures { IfOk result (Finds (BlobLies (held_grammar settings.now) input.now at) (λ blob. blob)) }
 {
     let Some(string) = string_at(input, at, settings) else {
         return Ok(None);
@@ -195,7 +195,7 @@ pub fn bytes_piece_at<'a>(
     settings: &Settings,
 ) -> Result<Option<(CowSlice<'a, u8, Global>, usize)>, AllocError>
     requires { at ≤ length input.now }
-    ensures found { IfOk result (λ o. MatchOption o ((blob : List ℕ) (e : ℕ) → BlobLies (held_grammar settings.now) input.now at blob e → ⊥) (λ r. BlobLies (held_grammar settings.now) input.now at (cow_slice_items r.0) r.1)) }
+    ensures found { IfOk result (Finds (BlobLies (held_grammar settings.now) input.now at) cow_slice_items) }
     ensures owned { IfOk result (λ o. IfSome o (λ r. IsOwnedSlice r.0)) }
 {
     let Some((blob, end)) = blob_at(alloc, input, at, settings)? else {
@@ -213,7 +213,7 @@ pub fn bytes_span_at(
     settings: &Settings,
 ) -> Result<Option<(BytesSpan, usize)>, AllocError>
     requires { at ≤ length input.now }
-    ensures found { IfOk result (λ o. MatchOption o ((blob : List ℕ) (e : ℕ) → BlobLies (held_grammar settings.now) input.now at blob e → ⊥) (λ r. BlobLies (held_grammar settings.now) input.now at (span_bytes input.now r.0) r.1)) }
+    ensures found { IfOk result (Finds (BlobLies (held_grammar settings.now) input.now at) (span_bytes input.now)) }
     ensures placed { IfOk result (λ o. IfSome o (λ r. IsPlaced input.now r.0)) }
 {
     let Some((blob, end)) = blob_at(alloc, input, at, settings)? else {

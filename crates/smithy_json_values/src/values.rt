@@ -13,10 +13,10 @@ ghost use Rattle.smithy_json_values.specs.Tokens.{BoundaryBy};
 ghost use Rattle.smithy_json_values.specs.Private.PlacedTexts.{StandsFrom};
 
 use crate::mismatch::{begins_with_false, begins_with_true};
-use crate::settings::Settings;
 use smithy_json_grammar::quoted_text::scan_lenient_string;
 use smithy_json_grammar::scan::{is_boundary, skip_blanks};
 use smithy_json_grammar::string_text::{ScannedString, scan_string};
+use smithy_json_settings::Settings;
 
 /// Whether a value may end at the offset.
 #[inline(always)]

@@ -1,5 +1,5 @@
 -- The scalar that lies at a place, in a grammar and under some settings, as private functions answer it.
-use Rattle.std.specs.Prelude.{◌≡◌, ℕ, ℤ, List, Option, Some, true}
+use Rattle.std.specs.Prelude.{◌≡◌, ℕ, ℤ, List, Option, Some, MatchOption, true}
 use Rattle.smithy_texts.specs.Ranges.{fits_signed}
 use Rattle.smithy_json_grammar.specs.Unescape.{unescaped}
 use Rattle.smithy_declarations.specs.declared.shape_type.Scalar.{Scalar}
@@ -10,6 +10,10 @@ use Rattle.smithy_json_values.specs.Settings.{Settings}
 use Rattle.smithy_json_values.specs.Scalar.{JsonScalar, a_number, a_string, bytes_of, number_text, integer_of, number_says, timestamp_says}
 use Rattle.smithy_json_values.specs.LexicalGrammar.{LexicalGrammar, LiesInGrammar}
 use Rattle.smithy_wire.specs.Rules.{means, no_meaning, wide, uncarried}
+
+-- a search found what lies there, as this shows it, with its end, and found nothing where nothing lies
+abbrev pub Finds : {A : Type 0} {V : Type 0} → (V → ℕ → Type 0) → (A → V) → Option (A × ℕ) → Type 0
+Finds Lies shown found = MatchOption found ((x : _) (e : ℕ) → Lies x e → ⊥) (λ r. Lies (shown r.0) r.1)
 
 -- a string that has this text lies there
 pub record TextLies (g : LexicalGrammar) (input : List ℕ) (at : ℕ) (text : List ℕ) (e : ℕ) : Type 0 where

@@ -9,14 +9,13 @@ ghost use Rattle.smithy_json_values.specs.Documents.{OtherNumberLies};
 ghost use Rattle.smithy_json_values.specs.Private.NextInContainer.{IsFirstByte};
 ghost use Rattle.smithy_json_values.specs.Private.OpenDocuments.{HeldNumberLies, NoNumberLies, BeginsDocument};
 
-use crate::integers::IntegerRule;
 use crate::number_runs::{NumberSort, number_of};
 use crate::places::{first_byte, null_end};
-use crate::settings::Settings;
 use crate::texts::text_at;
 use crate::values::boolean_at;
 use smithy_json_grammar::number_text::read_long;
 use smithy_json_grammar::{number_of_long, number_of_text};
+use smithy_json_settings::Settings;
 use smithy_types::{Document, Number};
 use smithy_wire::Found;
 use std::alloc::{AllocError, Global};
@@ -63,16 +62,15 @@ fn any_number_at(input: &[u8], at: usize, settings: &Settings) -> Found<(Number,
     }
 }
 
-// The number at the offset, which begins with this byte, with its end.
+// The number at the offset, which begins with this byte, with its end. A whole number of RFC 8259 is read in line, as documents
+// hold it under all settings.
 #[inline(always)]
 fn held_number_at(input: &[u8], at: usize, first: u8, settings: &Settings) -> Found<(Number, usize)>
     requires first { IsFirstByte input.now at first at }
     ensures { MatchFound result (λ r. HeldNumberLies (held_grammar settings.now) input.now at r.0 r.1) (NoNumberLies (held_grammar settings.now) input.now at) (OtherNumberLies (held_grammar settings.now) input.now at) }
 {
-    if let IntegerRule::Standard = settings.integers {
-        if let Some((value, end)) = read_long(input, at) {
-            return Found::Value((number_of_long(first == b'-', value), end));
-        }
+    if let Some((value, end)) = read_long(input, at) {
+        return Found::Value((number_of_long(first == b'-', value), end));
     }
     any_number_at(input, at, settings)
 }

@@ -4,13 +4,13 @@ ghost use Rattle.std.specs.Prelude.{◌≤◌};
 use smithy_json_grammar::number_grammar::NumberGrammar;
 use smithy_types::Format;
 
-/// All that decides how bodies are read and written. A codec hands it out to its readers and serializers.
+/// All that decides how bodies are read and written. A codec, its readers and its serializers hold it whole.
 #[derive(Clone, Copy, Debug)]
-pub struct ChosenSettings {
+pub struct Settings {
     /// Members go by their JSON names, where they have one.
     pub use_json_name: bool,
     /// How many containers may be open at once.
-    pub max_depth: u32,
+    pub max_depth: usize,
     /// The form of instants at a place without one.
     pub default_timestamp_format: Format,
     /// Whether numbers are of the grammar, values end at a boundary, and strings that are read hold no bytes below 0x20.
@@ -34,16 +34,15 @@ pub struct ChosenSettings {
     ghost greatest: { max_depth ≤ 512 },
 }
 
-impl Default for ChosenSettings {
+impl Default for Settings {
     ghost use Rattle.std.specs.Prelude.{◌≡◌};
-    ghost use Rattle.smithy_json_settings.specs.Chosen.{chosen_settings};
-    ghost use Rattle.smithy_json_settings.specs.Settings.{default_settings};
+    ghost use Rattle.smithy_json_settings.specs.Settings.{held_settings, default_settings};
 
-    ghost is_default = { λ s. chosen_settings s ≡ default_settings };
+    ghost is_default = { λ s. held_settings s ≡ default_settings };
 
     /// Those of a client where none is set.
-    fn default() -> ChosenSettings {
-        ChosenSettings {
+    fn default() -> Settings {
+        Settings {
             use_json_name: true,
             max_depth: 128,
             default_timestamp_format: Format::EpochSeconds,
@@ -57,5 +56,22 @@ impl Default for ChosenSettings {
             use_string_for_arbitrary_precision: false,
             normalize_arbitrary_precision: false,
         }
+    }
+}
+
+impl Settings {
+    ghost use Rattle.std.specs.Prelude.{◌≡◌};
+    ghost use Rattle.smithy_json_settings.specs.Settings.{held_settings, strict_settings};
+
+    /// Those under which RFC 8259 is read to the letter.
+    pub fn strict(use_json_name: bool) -> Settings
+        ensures { held_settings result ≡ strict_settings use_json_name }
+    {
+        let mut settings = Settings::default();
+        settings.use_json_name = use_json_name;
+        settings.enforce_strictness = true;
+        settings.validate_skipped_string_encoding = true;
+        settings.strict_timestamp_formats = true;
+        settings
     }
 }
