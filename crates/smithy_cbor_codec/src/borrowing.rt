@@ -7,7 +7,7 @@ use std::borrow::{CowSlice, CowStr};
 
 impl<'a> BorrowDeserializer<'a> for CborDeserializer<'a> {
     ghost use Rattle.std.specs.Prelude.{◌≡◌, IfOk, IsErrOf, true, drop};
-    ghost use Rattle.std.specs.Cow.{cow_str_bytes, cow_slice_items};
+    ghost use Rattle.std.specs.Cow.{cow_str_bytes, cow_slice_items, IsBorrowedStr, IsBorrowedSlice};
     ghost use Rattle.cbor_item.specs.Strings.{BeginsIndefinite};
     ghost use Rattle.smithy_declarations.specs.declared.shape_type.Scalar.TheVariants as scalars;
     ghost use Rattle.smithy_declarations.specs.Value.{text, bytes};
@@ -23,7 +23,7 @@ impl<'a> BorrowDeserializer<'a> for CborDeserializer<'a> {
         ensures read { ReadsScalar (cbor_relations (keep_limits (reading_settings_of self.old))) (cbor_relations (without_limits (reading_settings_of self.old))) ((reading_settings_of self.old).enforce_strictness ≡ true) (cursor_of self.old) (cursor_of self.new) (site_of _schema.now) scalars.String (λ s. text (cow_str_bytes s)) result }
 
         // Borrowed exactly where the text is definite.
-        ensures borrowed { IfOk result (λ t. BorrowsText (cursor_of self.old).input (cursor_of self.old).at t (cursor_of self.new).at) }
+        ensures borrowed { IfOk result (λ t. BorrowsText (cursor_of self.old).input (cursor_of self.old).at (IsBorrowedStr t) (cursor_of self.new).at) }
 
         // Only an indefinite text takes memory.
         ensures memory { IsErrOf result SerdeError.NoMemory → BeginsIndefinite 3 (drop (cursor_of self.old).at (cursor_of self.old).input) }
@@ -43,7 +43,7 @@ impl<'a> BorrowDeserializer<'a> for CborDeserializer<'a> {
         ensures read { ReadsScalar (cbor_relations (keep_limits (reading_settings_of self.old))) (cbor_relations (without_limits (reading_settings_of self.old))) ((reading_settings_of self.old).enforce_strictness ≡ true) (cursor_of self.old) (cursor_of self.new) (site_of _schema.now) scalars.Blob (λ b. bytes (cow_slice_items b)) result }
 
         // Borrowed exactly where the byte string is definite.
-        ensures borrowed { IfOk result (λ b. BorrowsBytes (cursor_of self.old).input (cursor_of self.old).at b (cursor_of self.new).at) }
+        ensures borrowed { IfOk result (λ b. BorrowsBytes (cursor_of self.old).input (cursor_of self.old).at (IsBorrowedSlice b) (cursor_of self.new).at) }
 
         // Only an indefinite byte string takes memory.
         ensures memory { IsErrOf result SerdeError.NoMemory → BeginsIndefinite 2 (drop (cursor_of self.old).at (cursor_of self.old).input) }

@@ -2,7 +2,6 @@
 ghost use Rattle.std.specs.Prelude.{◌≡◌};
 
 use crate::frames::{frame, is_missing, missing};
-use crate::members::{Next, next_in_map};
 use smithy_cbor_body::CborCodecSettings;
 use smithy_cbor_values::container_size::container_size_at;
 use smithy_cbor_values::instants::instant_at;
@@ -204,35 +203,7 @@ impl ShapeDeserializer for CborDeserializer<'_> {
     }
 
     fn next_key(&mut self) -> Result<Option<String>, SerdeError> {
-        if self.walk.failed {
-            return Err(self.walk.refuse(SerdeError::Failed));
-        }
-        if self.walk.due {
-            return Err(self.walk.refuse(SerdeError::InvalidInput));
-        }
-        match next_in_map(
-            self.alloc,
-            self.walk.input,
-            self.walk.position,
-            self.walk.inner.mark.due,
-        ) {
-            Ok(Some(Next::Pair(text, value, due))) => match text.into_owned(self.alloc) {
-                Ok(key) => {
-                    self.walk.go_on(value, frame(ContainerKind::Map, due));
-                    Ok(Some(key))
-                }
-                Err(_) => Err(self.walk.refuse(SerdeError::NoMemory)),
-            },
-            Ok(Some(Next::End(end))) => {
-                if self.may_leave_at(end) {
-                    self.walk.leave(end);
-                    return Ok(None);
-                }
-                Err(self.walk.refuse(SerdeError::InvalidInput))
-            }
-            Ok(None) => Err(self.walk.refuse(SerdeError::InvalidInput)),
-            Err(_) => Err(self.walk.refuse(SerdeError::NoMemory)),
-        }
+        self.next_key_as()
     }
 
     fn is_null(&self) -> bool {

@@ -6,6 +6,7 @@ mod codec;
 mod deserializer;
 mod ending;
 mod frames;
+mod keys;
 mod member_steps;
 mod members;
 mod serializer;

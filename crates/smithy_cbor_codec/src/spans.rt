@@ -1,27 +1,26 @@
 //! Reading texts and bytes by the places of the input at which they stand.
-ghost use Rattle.std.specs.Prelude.{◌≤◌, ℕ, List, length, IfOk, IfSome, MatchOption};
+ghost use Rattle.std.specs.Prelude.{◌≡◌, ◌≤◌, ◌↔◌, ℕ, List, length, drop, true, IfOk, IfErr, IfSome, MatchOption};
 ghost use Rattle.std.specs.Cow.{cow_str_bytes, IsBorrowedStr};
-ghost use Rattle.smithy_schema.specs.Spans.{text_bytes, span_bytes, IsTextPlaced, IsPlaced};
+ghost use Rattle.cbor_item.specs.Strings.{BeginsIndefinite};
+ghost use Rattle.smithy_schema.specs.Spans.{text_bytes, span_bytes, IsTextPlaced, IsPlaced, IsTextBetween, IsBetween, NamesText, NamesBytes};
 ghost use Rattle.smithy_cbor_values.specs.Standing.{Follows};
-ghost use Rattle.smithy_cbor_values.specs.Borrowed.{BorrowsText};
+ghost use Rattle.smithy_cbor_values.specs.Borrowed.{BorrowsText, BorrowsBytes};
 ghost use Rattle.smithy_cbor_values.specs.Private.ScalarAtPlace.{HasTextAt, IsBlobAt};
-ghost use Rattle.smithy_cbor_codec.specs.Private.Spans.{IsSpanOf};
+ghost use Rattle.smithy_cbor_codec.specs.Private.Spans.{IsMeantUpTo};
 
 use crate::deserializer::CborDeserializer;
-use crate::frames::frame;
-use crate::members::{Next, next_in_map};
 use smithy_cbor_values::values::{bytes_piece_at, text_piece_at};
 use smithy_schema::{BytesSpan, PieceDeserializer, Schema, SerdeError, TextSpan};
 use smithy_types::Blob;
-use smithy_wire::ContainerKind;
 use std::alloc::{AllocError, Global};
 use std::borrow::{CowSlice, CowStr};
 
 // The text whose item ends at the offset, by its place where it is borrowed: it ends where its item does.
 #[inline(always)]
-fn span_of(text: CowStr<'_, Global>, end: usize) -> TextSpan
+pub(crate) fn span_of(text: CowStr<'_, Global>, end: usize) -> TextSpan
     requires { IsBorrowedStr text → length (cow_str_bytes text) ≤ end }
-    ensures { (input : List ℕ) (at : ℕ) → BorrowsText input at text.entry end → HasTextAt (cow_str_bytes text.entry) input at end → IsSpanOf input (cow_str_bytes text.entry) result }
+    ensures text { IsMeantUpTo text_bytes IsTextPlaced IsTextBetween text.entry end result }
+    ensures borrowed { NamesText result ↔ IsBorrowedStr text.entry }
 {
     match text {
         CowStr::Borrowed(borrowed) => TextSpan::Placed(end - borrowed.len(), borrowed.len()),
@@ -41,6 +40,9 @@ fn text_span_at(
     ensures found { IfOk result (λ o. MatchOption o ((text : List ℕ) (e : ℕ) → HasTextAt text input.now at e → Follows depth input.now e → ⊥)
         (λ r. HasTextAt (text_bytes input.now r.0) input.now at r.1 × Follows depth input.now r.1)) }
     ensures placed { IfOk result (λ o. IfSome o (λ r. IsTextPlaced input.now r.0)) }
+    ensures between { IfOk result (λ o. IfSome o (λ r. IsTextBetween at r.1 r.0)) }
+    ensures borrowed { IfOk result (λ o. IfSome o (λ r. BorrowsText input.now at (NamesText r.0) r.1)) }
+    ensures memory { IfErr result (λ e. BeginsIndefinite 3 (drop at input.now)) }
 {
     let Some((text, end)) = text_piece_at(alloc, input, at, depth)? else {
         return Ok(None);
@@ -59,6 +61,9 @@ fn bytes_span_at(
     requires { at ≤ length input.now }
     ensures found { IfOk result (λ o. MatchOption o ((blob : List ℕ) (e : ℕ) → IsBlobAt blob input.now at depth e → ⊥) (λ r. IsBlobAt (span_bytes input.now r.0) input.now at depth r.1)) }
     ensures placed { IfOk result (λ o. IfSome o (λ r. IsPlaced input.now r.0)) }
+    ensures between { IfOk result (λ o. IfSome o (λ r. IsBetween at r.1 r.0)) }
+    ensures borrowed { IfOk result (λ o. IfSome o (λ r. BorrowsBytes input.now at (NamesBytes r.0) r.1)) }
+    ensures memory { IfErr result (λ e. BeginsIndefinite 2 (drop at input.now)) }
 {
     let Some((bytes, end)) = bytes_piece_at(alloc, input, at, depth)? else {
         return Ok(None);
@@ -73,11 +78,31 @@ fn bytes_span_at(
 }
 
 impl PieceDeserializer for CborDeserializer<'_> {
+    ghost use Rattle.std.specs.Prelude.{IsErrOf};
+    ghost use Rattle.smithy_declarations.specs.declared.shape_type.Scalar.TheVariants as scalars;
+    ghost use Rattle.smithy_declarations.specs.Value.{text, bytes};
+    ghost use Rattle.smithy_shapes.specs.Site.{site_of};
+    ghost use Rattle.smithy_schema.specs.Reading.{ReadsScalar};
+    ghost use Rattle.smithy_cbor_codec.specs.Cursor.{cursor_of, reading_settings_of};
+    ghost use Rattle.smithy_cbor_values.specs.Settings.{keep_limits, without_limits};
+    ghost use Rattle.smithy_cbor_values.specs.Standing.{cbor_relations};
+
     type Text = TextSpan;
 
     type Bytes = BytesSpan;
 
-    fn take_text(&mut self, _schema: &Schema<'_>) -> Result<TextSpan, SerdeError> {
+    fn take_text(&mut self, _schema: &Schema<'_>) -> Result<TextSpan, SerdeError>
+        ensures same { reading_settings_of self.new ≡ reading_settings_of self.old }
+        ensures read { ReadsScalar (cbor_relations (keep_limits (reading_settings_of self.old))) (cbor_relations (without_limits (reading_settings_of self.old))) ((reading_settings_of self.old).enforce_strictness ≡ true) (cursor_of self.old) (cursor_of self.new) (site_of _schema.now) scalars.String (λ t. text (text_bytes (cursor_of self.old).input t)) result }
+        ensures stands { IfOk result (IsTextPlaced (cursor_of self.old).input) }
+        ensures lies { IfOk result (IsTextBetween (cursor_of self.old).at (cursor_of self.new).at) }
+
+        // A place is named exactly where the text is definite.
+        ensures borrowed { IfOk result (λ t. BorrowsText (cursor_of self.old).input (cursor_of self.old).at (NamesText t) (cursor_of self.new).at) }
+
+        // Only an indefinite text takes memory.
+        ensures memory { IsErrOf result SerdeError.NoMemory → BeginsIndefinite 3 (drop (cursor_of self.old).at (cursor_of self.old).input) }
+    {
         self.walk.ready()?;
         let found = text_span_at(
             self.alloc,
@@ -88,7 +113,18 @@ impl PieceDeserializer for CborDeserializer<'_> {
         self.walk.take_found(found)
     }
 
-    fn take_bytes(&mut self, _schema: &Schema<'_>) -> Result<BytesSpan, SerdeError> {
+    fn take_bytes(&mut self, _schema: &Schema<'_>) -> Result<BytesSpan, SerdeError>
+        ensures same { reading_settings_of self.new ≡ reading_settings_of self.old }
+        ensures read { ReadsScalar (cbor_relations (keep_limits (reading_settings_of self.old))) (cbor_relations (without_limits (reading_settings_of self.old))) ((reading_settings_of self.old).enforce_strictness ≡ true) (cursor_of self.old) (cursor_of self.new) (site_of _schema.now) scalars.Blob (λ b. bytes (span_bytes (cursor_of self.old).input b)) result }
+        ensures stands { IfOk result (IsPlaced (cursor_of self.old).input) }
+        ensures lies { IfOk result (IsBetween (cursor_of self.old).at (cursor_of self.new).at) }
+
+        // A place is named exactly where the byte string is definite.
+        ensures borrowed { IfOk result (λ b. BorrowsBytes (cursor_of self.old).input (cursor_of self.old).at (NamesBytes b) (cursor_of self.new).at) }
+
+        // Only an indefinite byte string takes memory.
+        ensures memory { IsErrOf result SerdeError.NoMemory → BeginsIndefinite 2 (drop (cursor_of self.old).at (cursor_of self.old).input) }
+    {
         self.walk.ready()?;
         let found = bytes_span_at(
             self.alloc,
@@ -100,31 +136,6 @@ impl PieceDeserializer for CborDeserializer<'_> {
     }
 
     fn take_key(&mut self) -> Result<Option<TextSpan>, SerdeError> {
-        if self.walk.failed {
-            return Err(self.walk.refuse(SerdeError::Failed));
-        }
-        if self.walk.due {
-            return Err(self.walk.refuse(SerdeError::InvalidInput));
-        }
-        match next_in_map(
-            self.alloc,
-            self.walk.input,
-            self.walk.position,
-            self.walk.inner.mark.due,
-        ) {
-            Ok(Some(Next::Pair(text, value, due))) => {
-                self.walk.go_on(value, frame(ContainerKind::Map, due));
-                Ok(Some(span_of(text, value)))
-            }
-            Ok(Some(Next::End(end))) => {
-                if self.may_leave_at(end) {
-                    self.walk.leave(end);
-                    return Ok(None);
-                }
-                Err(self.walk.refuse(SerdeError::InvalidInput))
-            }
-            Ok(None) => Err(self.walk.refuse(SerdeError::InvalidInput)),
-            Err(_) => Err(self.walk.refuse(SerdeError::NoMemory)),
-        }
+        self.next_key_as()
     }
 }

@@ -1,7 +1,7 @@
 //! What stands at a place of an input: integers, texts, bytes, and what is skipped.
 
 ghost use Rattle.std.specs.Prelude.{◌≡◌, ◌≤◌, ℕ, ℤ, Bool, true, List, length, drop, IfSome, IfNone, IfOk, IfErr, MatchOption, MatchBool, string_bytes};
-ghost use Rattle.std.specs.Cow.{cow_str_bytes, cow_slice_items};
+ghost use Rattle.std.specs.Cow.{cow_str_bytes, cow_slice_items, IsBorrowedStr, IsBorrowedSlice};
 ghost use Rattle.cbor_item.specs.Strings.{BeginsIndefinite};
 ghost use Rattle.smithy_texts.specs.Base64Text.{are_bytes};
 ghost use Rattle.smithy_cbor.specs.Scalar.{boolean_item};
@@ -56,7 +56,7 @@ pub fn text_at<'a>(
 ) -> Result<Option<(CowStr<'a, Global>, usize)>, AllocError>
     requires { at ≤ length input.now }
     ensures found { IfOk result (λ o. MatchOption o ((text : List ℕ) (e : ℕ) → HasTextAt text input.now at e → ⊥) (λ r. HasTextAt (cow_str_bytes r.0) input.now at r.1)) }
-    ensures borrowed { IfOk result (λ o. IfSome o (λ r. BorrowsText input.now at r.0 r.1)) }
+    ensures borrowed { IfOk result (λ o. IfSome o (λ r. BorrowsText input.now at (IsBorrowedStr r.0) r.1)) }
     ensures memory { IfErr result (λ e. BeginsIndefinite 3 (drop at input.now)) }
 {
     match text_chunks(alloc, input, at) {
@@ -78,7 +78,7 @@ pub fn text_piece_at<'a>(
     requires { at ≤ length input.now }
     ensures found { IfOk result (λ o. MatchOption o ((text : List ℕ) (e : ℕ) → HasTextAt text input.now at e → Follows depth input.now e → ⊥)
         (λ r. HasTextAt (cow_str_bytes r.0) input.now at r.1 × Follows depth input.now r.1)) }
-    ensures borrowed { IfOk result (λ o. IfSome o (λ r. BorrowsText input.now at r.0 r.1)) }
+    ensures borrowed { IfOk result (λ o. IfSome o (λ r. BorrowsText input.now at (IsBorrowedStr r.0) r.1)) }
     ensures memory { IfErr result (λ e. BeginsIndefinite 3 (drop at input.now)) }
 {
     let Some((text, end)) = text_at(alloc, input, at)? else {
@@ -139,7 +139,7 @@ pub fn bytes_piece_at<'a>(
 ) -> Result<Option<(CowSlice<'a, u8, Global>, usize)>, AllocError>
     requires { at ≤ length input.now }
     ensures found { IfOk result (λ o. MatchOption o ((blob : List ℕ) (e : ℕ) → IsBlobAt blob input.now at depth e → ⊥) (λ r. IsBlobAt (cow_slice_items r.0) input.now at depth r.1)) }
-    ensures borrowed { IfOk result (λ o. IfSome o (λ r. BorrowsBytes input.now at r.0 r.1)) }
+    ensures borrowed { IfOk result (λ o. IfSome o (λ r. BorrowsBytes input.now at (IsBorrowedSlice r.0) r.1)) }
     ensures memory { IfErr result (λ e. BeginsIndefinite 2 (drop at input.now)) }
 {
     match byte_chunks(alloc, input, at) {

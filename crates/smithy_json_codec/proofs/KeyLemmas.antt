@@ -82,7 +82,7 @@ module _ {K : Type 0} (o : Settings) (bytes : K → List ℕ) (old new : Cursor)
 
 -- a text in memory of its own is meant wherever the raw name stands
 pub owned_means : {A : Type 0} (at : ℕ) (raw : List ℕ) (found : Result (Option (String A)) AllocError) → IfOk found (λ text. unescaped raw ≡ option_map string_bytes text)
-    → IfOk found (IsMeantFrom (λ input. string_bytes) (λ input s. Unit {0}) at raw)
-owned_means {A} at raw (Ok (Some s)) same = λ input stands. (same, tt)
-owned_means {A} at raw (Ok None) same = λ input stands. (same, tt)
+    → IfOk found (IsMeantFrom (λ input s. string_bytes s) (λ input s. Unit {0}) (λ a e s. Unit {0}) at raw)
+owned_means {A} at raw (Ok (Some s)) same = λ input a e stands. (same, tt, tt)
+owned_means {A} at raw (Ok None) same = λ input a e stands. (same, tt, tt)
 owned_means {A} at raw (Err e) same = tt

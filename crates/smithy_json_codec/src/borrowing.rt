@@ -8,7 +8,7 @@ use std::borrow::{CowSlice, CowStr};
 
 impl<'a> BorrowDeserializer<'a> for JsonDeserializer<'_, 'a> {
     ghost use Rattle.std.specs.Prelude.{◌≡◌, true, IfOk, IsErrOf};
-    ghost use Rattle.std.specs.Cow.{cow_str_bytes, cow_slice_items, IsOwnedSlice};
+    ghost use Rattle.std.specs.Cow.{cow_str_bytes, cow_slice_items, IsBorrowedStr, IsOwnedSlice};
     ghost use Rattle.smithy_declarations.specs.declared.shape_type.Scalar.TheVariants as scalars;
     ghost use Rattle.smithy_declarations.specs.Value.{text, bytes};
     ghost use Rattle.smithy_shapes.specs.Site.{site_of};
@@ -24,7 +24,7 @@ impl<'a> BorrowDeserializer<'a> for JsonDeserializer<'_, 'a> {
         ensures read { ReadsScalar (json_relations (keep_limits (reading_settings_of self.old))) (json_relations (without_limits (reading_settings_of self.old))) ((reading_settings_of self.old).enforce_strictness ≡ true) (cursor_of self.old) (cursor_of self.new) (site_of _schema.now) scalars.String (λ s. text (cow_str_bytes s)) result }
 
         // Borrowed exactly where no backslash stands in the string.
-        ensures borrowed { IfOk result (λ t. BorrowsText (json_grammar (reading_settings_of self.old)) (cursor_of self.old).input (cursor_of self.old).at t (cursor_of self.new).at) }
+        ensures borrowed { IfOk result (λ t. BorrowsText (json_grammar (reading_settings_of self.old)) (cursor_of self.old).input (cursor_of self.old).at (IsBorrowedStr t) (cursor_of self.new).at) }
 
         // Only a string with a backslash takes memory.
         ensures memory { IsErrOf result SerdeError.NoMemory → LiesEscaped (json_grammar (reading_settings_of self.old)) (cursor_of self.old).input (cursor_of self.old).at }

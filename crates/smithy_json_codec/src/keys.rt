@@ -1,5 +1,5 @@
 //! The keys of maps, in the forms in which calls hand them out.
-ghost use Rattle.std.specs.Prelude.{◌≡◌, ℕ, List, true, IfOk, MatchOption};
+ghost use Rattle.std.specs.Prelude.{◌≡◌, true, IfOk, MatchOption};
 ghost use Rattle.smithy_schema.specs.Containers.{GoesOnInMap};
 ghost use Rattle.smithy_schema.specs.Reading.{in_map};
 ghost use Rattle.smithy_json_grammar.specs.Unescape.{has_escape};
@@ -9,18 +9,12 @@ use crate::deserializer::JsonDeserializer;
 use crate::frames::frame;
 use smithy_json_values::places::{InObject, next_in_object};
 use smithy_json_values::texts::{owned_text, span_of};
-use smithy_schema::{SerdeError, TextSpan};
+use smithy_schema::{SerdeError, TextSpan, TextView};
 use smithy_wire::ContainerKind;
 use std::alloc::{AllocError, Global};
 
 // What a call hands out for a key.
-pub(crate) trait Key: Drop + Sized {
-    // The bytes of the key, which may stand in the input.
-    ghost bytes_in: { List ℕ → Self → List ℕ };
-
-    // Where it names a place of the input, a text stands there.
-    ghost is_placed: { List ℕ → Self → Type 0 };
-
+pub(crate) trait Key: TextView + Sized {
     // The key of a raw name that begins at the place, if its escapes are sound.
     fn of_name(
         alloc: Global,
@@ -29,16 +23,10 @@ pub(crate) trait Key: Drop + Sized {
         is_escaped: bool,
     ) -> Result<Option<Self>, AllocError>
         requires { is_escaped ≡ has_escape raw.now }
-        ensures { IfOk result (IsMeantFrom Self.bytes_in Self.is_placed at raw.now) };
+        ensures { IfOk result (IsMeantFrom Self.bytes_of Self.stands Self.lies at raw.now) };
 }
 
 impl Key for String {
-    ghost use Rattle.std.specs.Prelude.{string_bytes};
-
-    ghost bytes_in = { λ input s. string_bytes s };
-
-    ghost is_placed = { λ input s. Unit {0} };
-
     #[inline(always)]
     fn of_name(
         alloc: Global,
@@ -51,12 +39,6 @@ impl Key for String {
 }
 
 impl Key for TextSpan {
-    ghost use Rattle.smithy_schema.specs.Spans.{text_bytes, IsTextPlaced};
-
-    ghost bytes_in = { text_bytes };
-
-    ghost is_placed = { IsTextPlaced };
-
     #[inline(always)]
     fn of_name(
         alloc: Global,
@@ -78,8 +60,9 @@ impl JsonDeserializer<'_, '_> {
     pub(crate) fn next_key_as<K: Key>(&mut self) -> Result<Option<K>, SerdeError>
         requires within { (cursor_of self.old).inner.within ≡ in_map }
         ensures same { reader_settings_of self.new ≡ reader_settings_of self.old }
-        ensures goes_on { GoesOnInMap (json_relations (reading_settings_of self.old)) (json_relations (without_limits (reading_settings_of self.old))) ((reading_settings_of self.old).enforce_strictness ≡ true) (K.bytes_in (cursor_of self.old).input) (cursor_of self.old) (cursor_of self.new) result }
-        ensures placed { IfOk result (λ next. MatchOption next (Unit {0}) (K.is_placed (cursor_of self.old).input)) }
+        ensures goes_on { GoesOnInMap (json_relations (reading_settings_of self.old)) (json_relations (without_limits (reading_settings_of self.old))) ((reading_settings_of self.old).enforce_strictness ≡ true) (K.bytes_of (cursor_of self.old).input) (cursor_of self.old) (cursor_of self.new) result }
+        ensures stands { IfOk result (λ next. MatchOption next (Unit {0}) (K.stands (cursor_of self.old).input)) }
+        ensures lies { IfOk result (λ next. MatchOption next (Unit {0}) (K.lies (cursor_of self.old).at (cursor_of self.new).at)) }
     {
         if self.walk.failed {
             return Err(self.walk.refuse(SerdeError::Failed));

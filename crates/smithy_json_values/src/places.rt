@@ -180,7 +180,7 @@ fn name_at<'a>(input: &'a [u8], at: usize, settings: &Settings) -> Option<Name<'
     requires { at ≤ length input.now }
     ensures found { IfSome result (λ name. Lies (IsNameToken name.raw.now) input.now at name.end) }
     ensures valid { IfSome result (λ name. (held_grammar settings.now).is_text name.raw.now ≡ true) }
-    ensures stands { IfSome result (λ name. StandsFrom input.now name.at name.raw.now) }
+    ensures stands { IfSome result (λ name. StandsFrom input.now at name.end name.at name.raw.now) }
     ensures has_escape { IfSome result (λ name. name.has_escape ≡ has_escape name.raw.now) }
     ensures none { IfNone result ((raw : List ℕ) (e : ℕ) → Lies (IsNameToken raw) input.now at e → (held_grammar settings.now).is_text raw ≡ true → ⊥) }
 {

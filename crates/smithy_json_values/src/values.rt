@@ -71,7 +71,7 @@ pub fn string_at<'a>(input: &'a [u8], at: usize, settings: &Settings) -> Option<
     requires { at ≤ length input.now }
     ensures found { IfSome result (λ s. LiesInGrammar (held_grammar settings.now) scalars.String (a_string s.text.now) input.now at (s.closing + 1)) }
     ensures begins { IfSome result (λ s. length s.text.now ≤ s.closing) }
-    ensures stands { IfSome result (λ s. StandsFrom input.now (s.closing - length s.text.now) s.text.now) }
+    ensures stands { IfSome result (λ s. StandsFrom input.now at (s.closing + 1) (s.closing - length s.text.now) s.text.now) }
     ensures has_escape { IfSome result (λ s. s.has_escape ≡ has_escape s.text.now) }
     ensures none { IfNone result ((raw : List ℕ) (e : ℕ) → LiesInGrammar (held_grammar settings.now) scalars.String (a_string raw) input.now at e → ⊥) }
 {

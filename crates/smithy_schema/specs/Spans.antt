@@ -20,6 +20,16 @@ abbrev pub IsTextPlaced : List ℕ → TextSpan → Type 0
 IsTextPlaced input (texts.Placed at size) = IsTextIn input at size
 IsTextPlaced input (texts.Owned s) = Unit {0}
 
+-- where a place is named, it lies between these two
+abbrev pub IsTextBetween : ℕ → ℕ → TextSpan → Type 0
+IsTextBetween from to (texts.Placed at size) = (from ≤ at) × (at + size ≤ to)
+IsTextBetween from to (texts.Owned s) = Unit {0}
+
+-- a place is named
+abbrev pub NamesText : TextSpan → Type 0
+NamesText (texts.Placed at size) = Unit {0}
+NamesText (texts.Owned s) = ⊥
+
 -- the bytes that are meant
 abbrev pub span_bytes : List ℕ → BytesSpan → List ℕ
 span_bytes input (bytes.Placed at size) = take size (drop at input)
@@ -29,3 +39,13 @@ span_bytes input (bytes.Owned b) = b
 abbrev pub IsPlaced : List ℕ → BytesSpan → Type 0
 IsPlaced input (bytes.Placed at size) = at + size ≤ length input
 IsPlaced input (bytes.Owned b) = Unit {0}
+
+-- where a place is named, it lies between these two
+abbrev pub IsBetween : ℕ → ℕ → BytesSpan → Type 0
+IsBetween from to (bytes.Placed at size) = (from ≤ at) × (at + size ≤ to)
+IsBetween from to (bytes.Owned b) = Unit {0}
+
+-- a place is named
+abbrev pub NamesBytes : BytesSpan → Type 0
+NamesBytes (bytes.Placed at size) = Unit {0}
+NamesBytes (bytes.Owned b) = ⊥

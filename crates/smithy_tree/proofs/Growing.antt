@@ -3,7 +3,7 @@ use Rattle.std.proofs.Common.{◌≡◌, ◌∙◌, refl, ap, sym, ℕ, ◌+◌,
 use Rattle.std.proofs.lemmas.List.{take-append-le, drop-append-le, append-nil, get_or_at, drop_at, take_all}
 use Rattle.smithy_declarations.specs.Value.{Value, list, map, structure}
 use Rattle.smithy_tree.specs.Items.{Item, nothing, elements_of, entries_of, members_of}
-use Rattle.smithy_tree.specs.Nodes.{Store, part, node_value, union_of, values_over, values_after, item, IsNode, IsSlot, AreNodes, AreBehind}
+use Rattle.smithy_tree.specs.Nodes.{Store, bytes_in, slot_key, node_value, union_of, values_over, values_after, item, IsNode, IsSlot, AreNodes, AreBehind}
 use Rattle.smithy_tree.specs.declared.node.Node.{Node}
 use Rattle.smithy_tree.specs.declared.node.Slot.{Slot}
 use Rattle.smithy_tree.specs.declared.node.Node.TheVariants as nodes
@@ -51,7 +51,7 @@ value_stays s vs ws nodes.Null h = refl
 value_stays s vs ws (nodes.Rare k) h = refl
 
 pub item_stays : (s : Store) (vs ws : List Item) (x : Slot) → IsSlot s (length vs) x → item s (vs ++ ws) x ≡ item s vs x
-item_stays s vs ws x h = ap (λ (v : Value). record { position = x.first; key = part s x.first x.second; shown = v }) (value_stays s vs ws x.node h.0)
+item_stays s vs ws x h = ap (λ (v : Value). record { position = x.first; key = slot_key (bytes_in s) x; shown = v }) (value_stays s vs ws x.node h.0)
 
 pub values_over_stay : (s : Store) (vs ws : List Item) (xs : List Slot) → AreNodes s (length vs) xs → values_over s (vs ++ ws) xs ≡ values_over s vs xs
 values_over_stay s vs ws [] h = refl

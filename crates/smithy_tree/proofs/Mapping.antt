@@ -5,7 +5,8 @@ use Rattle.std.specs.BTreeMap.{insert_entry}
 use Rattle.std.specs.Cmp.{ranks}
 use Rattle.std.specs.Cmp.Lexicographic.{slice_cmp}
 use Rattle.std.specs.Ordering.{nat_cmp, match_ordering, ordering_then, MatchOrdering}
-use Rattle.smithy_tree.specs.Order.{slot_key, position_cmp, key_cmp, put_slot, second}
+use Rattle.smithy_tree.specs.Nodes.{slot_key}
+use Rattle.smithy_tree.specs.Order.{position_cmp, key_cmp, put_slot, second}
 use Rattle.smithy_tree.specs.declared.node.Slot.{Slot}
 
 same_number_at : (o : Ordering) (x y : ℕ) → MatchOrdering o (x < y) (x ≡ y) (y < x) → o ≡ Equal → x ≡ y

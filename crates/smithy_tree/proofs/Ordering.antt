@@ -4,8 +4,8 @@ use Rattle.std.proofs.lemmas.List.{take_more, drop_more, set_split}
 use Rattle.std.proofs.lemmas.Cmp.{on_total, nat_cmp_total, nat_list_cmp_total}
 use Rattle.std.specs.Cmp.{IsTotalOrder}
 use Rattle.std.specs.Ordering.{match_ordering, ordering_reverse, is_lt}
-use Rattle.smithy_tree.specs.Nodes.{IsLabel}
-use Rattle.smithy_tree.specs.Order.{slot_key, label_cmp, put_slot, put_slots, AreLabelled}
+use Rattle.smithy_tree.specs.Nodes.{IsLabel, slot_key}
+use Rattle.smithy_tree.specs.Order.{label_cmp, put_slot, put_slots, AreLabelled}
 use Rattle.smithy_tree.specs.declared.node.Slot.{Slot}
 use Rattle.smithy_tree.specs.declared.node.Node.TheVariants as nodes
 use Rattle.smithy_tree.specs.declared.order.Order.{Order}

@@ -18,9 +18,17 @@ pub record Store : Type 0 where
   pub rare : List Value
   pub numbers : List ℤ
 
+-- the bytes of the input and those beside it
+abbrev pub bytes_in : Store → List ℕ
+bytes_in s = s.input ++ s.side
+
 -- so many bytes from a place on
-abbrev pub part : Store → ℕ → ℕ → List ℕ
-part s at size = take size (drop at (s.input ++ s.side))
+abbrev pub slice_of : List ℕ → ℕ → ℕ → List ℕ
+slice_of all at size = take size (drop at all)
+
+-- the key of a child, among these bytes
+abbrev pub slot_key : List ℕ → Slot → List ℕ
+slot_key all x = slice_of all x.first x.second
 
 abbrev pub rare_value : Rare → Value
 rare_value (rares.Large n) = scalar_value (whole n)
@@ -36,8 +44,8 @@ abbrev pub node_value : Store → List Item → Node → Value
 node_value s vs (nodes.Boolean b) = scalar_value (boolean b)
 node_value s vs (nodes.Whole n) = scalar_value (whole n)
 node_value s vs (nodes.Timestamp nanos secs) = scalar_value (instant (secs *ℤ pos nanos_per_second +ℤ pos nanos))
-node_value s vs (nodes.Text at size) = scalar_value (text (part s at size))
-node_value s vs (nodes.Bytes at size) = scalar_value (bytes (part s at size))
+node_value s vs (nodes.Text at size) = scalar_value (text (slice_of (bytes_in s) at size))
+node_value s vs (nodes.Bytes at size) = scalar_value (bytes (slice_of (bytes_in s) at size))
 node_value s vs (nodes.List at count) = list (elements_of (take count (drop at vs)))
 node_value s vs (nodes.Numbers at count) = list (values_of (whole_values (take count (drop at s.numbers))))
 node_value s vs (nodes.Map at count) = map (entries_of (take count (drop at vs)))
@@ -47,7 +55,7 @@ node_value s vs nodes.Null = null_element
 node_value s vs (nodes.Rare k) = get_or s.rare k null_element
 
 abbrev pub item : Store → List Item → Slot → Item
-item s vs x = record { position = x.first; key = part s x.first x.second; shown = node_value s vs x.node }
+item s vs x = record { position = x.first; key = slot_key (bytes_in s) x; shown = node_value s vs x.node }
 
 -- the values of some nodes that all stand over the same values
 abbrev pub values_over : Store → List Item → List Slot → List Item
@@ -71,7 +79,7 @@ pub record IsPart (input side : List ℕ) (at size : ℕ) : Type 0 where
 -- a text stands there
 pub record IsSpan (input side : List ℕ) (at size : ℕ) : Type 0 where
   pub part : IsPart input side at size
-  pub text : IsUtf8 (take size (drop at (input ++ side)))
+  pub text : IsUtf8 (slice_of (input ++ side) at size)
 
 -- a node that may stand behind so many others
 abbrev pub IsNode : Store → ℕ → Node → Type 0

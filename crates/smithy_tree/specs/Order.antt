@@ -3,16 +3,12 @@ use Rattle.std.specs.Prelude.{◌≡◌, ℕ, List, [], ◌∷◌, ◌++◌, tak
 use Rattle.std.specs.declared.cmp.Ordering.{Ordering}
 use Rattle.std.specs.Ordering.{nat_cmp, match_ordering}
 use Rattle.std.specs.Cmp.Lexicographic.{slice_cmp}
-use Rattle.smithy_tree.specs.Nodes.{IsLabel}
+use Rattle.smithy_tree.specs.Nodes.{IsLabel, slot_key}
 use Rattle.smithy_tree.specs.Seen.{Grows, store}
 use Rattle.smithy_tree.specs.declared.node.Slot.{Slot}
 use Rattle.smithy_tree.specs.declared.order.Order.{Order}
 use Rattle.smithy_tree.specs.declared.order.Order.TheVariants as orders
 use Rattle.smithy_tree.specs.declared.pool.Pool.{Pool}
-
--- the key of a child, among these bytes
-abbrev pub slot_key : List ℕ → Slot → List ℕ
-slot_key bytes x = take x.second (drop x.first bytes)
 
 abbrev pub position_cmp : Slot → Slot → Ordering
 position_cmp x y = nat_cmp x.first y.first

@@ -2,7 +2,7 @@
 use Rattle.std.specs.Prelude.{◌≡◌, ◌+◌, ◌-◌, ◌≤◌, ℕ, ℤ, List, [], ◌∷◌, ◌++◌, map as mapped, length, take, drop}
 use Rattle.smithy_declarations.specs.Value.{Value, list, values_of, no_member_values, no_map_entries}
 use Rattle.smithy_tree.specs.Items.{Item, shown_of, whole_values, members_of, put_members, entries_of, put_entries}
-use Rattle.smithy_tree.specs.Nodes.{Store, rare_value, node_value, values_over, values_after, item, IsNode, IsSlot, IsPart, AreNodes, AreBehind}
+use Rattle.smithy_tree.specs.Nodes.{Store, bytes_in, slice_of, rare_value, node_value, values_over, values_after, item, IsNode, IsSlot, IsPart, AreNodes, AreBehind}
 use Rattle.smithy_tree.specs.declared.elements.Elements.{Elements}
 use Rattle.smithy_tree.specs.declared.node.Node.{Node}
 use Rattle.smithy_tree.specs.declared.node.Slot.{Slot}
@@ -13,7 +13,7 @@ store p = record { input = p.input.now; side = p.side.items; rare = mapped rare_
 
 -- the bytes of the input and those beside it
 abbrev pub bytes_of : Pool → List ℕ
-bytes_of p = p.input.now ++ p.side.items
+bytes_of p = bytes_in (store p)
 
 abbrev pub values : Pool → List Item
 values p = values_after (store p) [] p.nodes.items
@@ -58,12 +58,12 @@ pub record Adds (p q : Pool) (n : Node) : Type 0 where
   pub holds : Holds q n
   pub waiting : waiting q ≡ waiting p
 
--- bytes that had to be copied
-pub record Copies (p q : Pool) (at size : ℕ) (t : List ℕ) : Type 0 where
+-- the bytes stand there, and nothing waits that didn't
+pub record HasBytes (p q : Pool) (at size : ℕ) (t : List ℕ) : Type 0 where
   pub grows : Grows p q
   pub waiting : waiting q ≡ waiting p
   pub part : IsPart q.input.now q.side.items at size
-  pub bytes : take size (drop at (bytes_of q)) ≡ t
+  pub bytes : slice_of (bytes_of q) at size ≡ t
 
 -- one more that waits
 pub record Waits (p q : Pool) (v : Item) : Type 0 where

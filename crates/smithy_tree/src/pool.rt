@@ -25,8 +25,8 @@ impl<'a> Pool<'a> {
     ghost use Rattle.std.specs.Prelude.{◌≡◌, ◌≤◌, ◌<◌, ◌+◌, [], length, take, drop, get_or, OnOk, IfOk};
     ghost use Rattle.smithy_declarations.specs.Value.{null_element};
     ghost use Rattle.smithy_tree.specs.Items.{nothing};
-    ghost use Rattle.smithy_tree.specs.Nodes.{IsPart, IsSpan, IsLabel, AreNodes, values_over, rare_value};
-    ghost use Rattle.smithy_tree.specs.Seen.{store, bytes_of, values, item_in, view, waiting, HoldsSlot, IsSound, Waits, Copies, Closes, ClosesMembers, ClosesEntries, Adds};
+    ghost use Rattle.smithy_tree.specs.Nodes.{slice_of, IsPart, IsSpan, IsLabel, AreNodes, values_over, rare_value};
+    ghost use Rattle.smithy_tree.specs.Seen.{store, bytes_of, values, item_in, view, waiting, HoldsSlot, IsSound, Waits, HasBytes, Closes, ClosesMembers, ClosesEntries, Adds};
     ghost use Rattle.smithy_tree.specs.Order.{Arranges, label_cmp};
 
     /// A pool with nothing in it.
@@ -148,7 +148,7 @@ impl<'a> Pool<'a> {
     /// Copies bytes that don't stand in the input as they are meant: where the copy begins, and how many they are.
     pub fn copy(&mut self, bytes: &[u8]) -> Result<(u32, u32), AllocError>
         requires sound { IsSound self.old }
-        ensures ok { IfOk result (λ r. Copies self.old self.new r.0 r.1 bytes.now) }
+        ensures ok { IfOk result (λ r. HasBytes self.old self.new r.0 r.1 bytes.now) }
     {
         let begin = self.input.len().saturating_add(self.side.len());
         let size = bytes.len();
@@ -184,7 +184,7 @@ impl<'a> Pool<'a> {
     #[inline(always)]
     pub fn bytes(&self, at: u32, size: u32) -> &[u8]
         requires part { IsPart self.now.input.now self.now.side.items at size }
-        ensures bytes { result.now ≡ take size (drop at (bytes_of self.now)) }
+        ensures bytes { result.now ≡ slice_of (bytes_of self.now) at size }
     {
         bytes_at(self.input, self.side.as_slice(), at, size)
     }
@@ -193,7 +193,7 @@ impl<'a> Pool<'a> {
     #[inline(always)]
     pub fn text(&self, at: u32, size: u32) -> &str
         requires span { IsSpan self.now.input.now self.now.side.items at size }
-        ensures text { result.now ≡ take size (drop at (bytes_of self.now)) }
+        ensures text { result.now ≡ slice_of (bytes_of self.now) at size }
     {
         text_at(self.input, self.side.as_slice(), at, size)
     }
@@ -202,7 +202,7 @@ impl<'a> Pool<'a> {
     #[inline(always)]
     pub fn key(&self, at: u32, size: u32) -> &str
         requires label { IsLabel self.now.input.now self.now.side.items at size }
-        ensures text { result.now ≡ take size (drop at (bytes_of self.now)) }
+        ensures text { result.now ≡ slice_of (bytes_of self.now) at size }
     {
         key_at(self.input, self.side.as_slice(), at, size)
     }

@@ -1,8 +1,8 @@
 -- Trees in a pool, as a reader builds them and a writer goes through them.
-use Rattle.std.specs.Prelude.{◌≡◌, ℕ, List, [], ◌∷◌, ◌++◌, length, drop}
+use Rattle.std.specs.Prelude.{◌≡◌, ℕ, List, ◌++◌, length, drop}
 use Rattle.smithy_declarations.specs.Value.{Value, MapEntries, no_map_entries, MemberValues, no_member_values}
 use Rattle.smithy_tree.specs.Items.{Item, put_members, put_entries}
-use Rattle.smithy_tree.specs.Order.{slot_key}
+use Rattle.smithy_tree.specs.Nodes.{slot_key}
 use Rattle.smithy_tree.specs.Seen.{IsSound, IsHalf, Grows, bytes_of, view, waiting}
 use Rattle.smithy_tree.specs.declared.elements.Elements.{Elements}
 use Rattle.smithy_tree.specs.declared.node.Slot.{Slot}

@@ -2,8 +2,8 @@
 ghost use Rattle.std.specs.Prelude.{◌≡◌, IfOk, IfErr};
 ghost use Rattle.smithy_schema.specs.Spans.{text_bytes, span_bytes, IsTextPlaced, IsPlaced};
 ghost use Rattle.smithy_schema.specs.declared.error.SerdeError.TheVariants.{NoMemory};
-ghost use Rattle.smithy_tree.specs.Seen.{IsSound};
-ghost use Rattle.smithy_value.specs.Private.Placed.{HasText, HasBytes};
+ghost use Rattle.smithy_tree.specs.Seen.{IsSound, HasBytes};
+ghost use Rattle.smithy_value.specs.Private.Placed.{HasText};
 
 use smithy_schema::{BytesSpan, SerdeError, TextSpan};
 use smithy_tree::Pool;

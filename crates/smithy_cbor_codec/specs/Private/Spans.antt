@@ -1,17 +1,19 @@
--- Texts by their places, as private functions answer them.
+-- What is handed out for texts, as private functions answer it.
 use Rattle.std.specs.Prelude.{◌≡◌, ℕ, List}
-use Rattle.smithy_schema.specs.declared.spans.TextSpan.{TextSpan}
-use Rattle.smithy_schema.specs.Spans.{text_bytes, IsTextPlaced}
+use Rattle.std.specs.Cow.{cow_str_bytes, IsBorrowedStr}
+use Rattle.std.specs.declared.borrow.CowStr.{CowStr}
 use Rattle.smithy_cbor_codec.specs.declared.members.Next.{Next}
 use Rattle.smithy_cbor_codec.specs.declared.members.Next.TheVariants.{Pair, End}
 use Rattle.smithy_cbor_values.specs.Borrowed.{BorrowsText}
+use Rattle.smithy_cbor_values.specs.Private.ScalarAtPlace.{HasTextAt}
 
--- the span is of a text with these bytes, and where it names a place, a text stands there
-pub record IsSpanOf (input text : List ℕ) (span : TextSpan) : Type 0 where
-  pub bytes : text_bytes input span ≡ text
-  pub placed : IsTextPlaced input span
+-- what is handed out for a text is the text, in whatever input its item stands that ends there
+abbrev pub IsMeantUpTo : {A T : Type 0} → (List ℕ → T → List ℕ) → (List ℕ → T → Type 0) → (ℕ → ℕ → T → Type 0) → CowStr A → ℕ → T → Type 0
+IsMeantUpTo bytes stands lies text e handed =
+    (input : List ℕ) (at : ℕ) → BorrowsText input at (IsBorrowedStr text) e → HasTextAt (cow_str_bytes text) input at e
+    → (bytes input handed ≡ cow_str_bytes text) × stands input handed × lies at e handed
 
 -- a key that comes is a text string of the input, borrowed exactly where it is definite
 abbrev pub BorrowsKey : List ℕ → ℕ → Next → Type 0
-BorrowsKey input at (Pair key c after) = BorrowsText input at key c
+BorrowsKey input at (Pair key c after) = BorrowsText input at (IsBorrowedStr key) c
 BorrowsKey input at (End e) = Unit {0}

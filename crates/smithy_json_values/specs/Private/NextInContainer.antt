@@ -58,7 +58,7 @@ NamesIn g entered input at raw c = NameTokens entered input at raw c × (g.is_te
 -- a member's name stands there, from its own place on, whether it holds an escape or not
 pub record NameStands (g : LexicalGrammar) (input : List ℕ) (at : ℕ) (entered : Bool) (name : Name) : Type 0 where
   pub names : NamesIn g entered input at name.raw.now name.end
-  pub stands : StandsFrom input name.at name.raw.now
+  pub stands : StandsFrom input at name.end name.at name.raw.now
   pub has_escape : name.has_escape ≡ has_escape name.raw.now
 
 -- how an object goes on, exactly

@@ -1,11 +1,15 @@
 use Rattle.std.proofs.Common.{refl}
-use Rattle.std.specs.declared.borrow.CowStr.TheVariants.{Borrowed}
 use Rattle.smithy_cbor_codec.proofs.SpanLemmas.{placed_text}
 use Rattle.smithy_cbor_codec.proofs.spans.span_of.Goals as goal
 
-pub returns-in-Borrowed : goal.returns-in-Borrowed
-returns-in-Borrowed c = λ input at borrows text.
-    rw c.in-Borrowed.is (placed_text input at c.args.end (Borrowed c.in-Borrowed.borrowed) (rw c.in-Borrowed.is at borrows) (rw c.in-Borrowed.is at text) tt)
+pub returns-in-Borrowed-clause-text : goal.returns-in-Borrowed-clause-text
+returns-in-Borrowed-clause-text c = rw c.in-Borrowed.is (λ input at borrows text. placed_text input _ at c.args.end _ borrows text tt)
 
-pub returns-in-Owned : goal.returns-in-Owned
-returns-in-Owned c = λ input at borrows text. rw c.in-Owned.is (record { bytes = refl; placed = tt })
+pub returns-in-Owned-clause-text : goal.returns-in-Owned-clause-text
+returns-in-Owned-clause-text c = λ input at borrows text. rw c.in-Owned.is (refl, tt, tt)
+
+pub returns-in-Borrowed-clause-borrowed : goal.returns-in-Borrowed-clause-borrowed
+returns-in-Borrowed-clause-borrowed c = rw c.in-Borrowed.is (λ named. tt, λ borrowed. tt)
+
+pub returns-in-Owned-clause-borrowed : goal.returns-in-Owned-clause-borrowed
+returns-in-Owned-clause-borrowed c = rw c.in-Owned.is (λ none. none, λ none. none)

@@ -1,4 +1,4 @@
-use Rattle.std.proofs.Common.{◌+◌, ◌∙◌, ap, length, subst, sym}
+use Rattle.std.proofs.Common.{◌+◌, ◌∙◌, ap, arith, length, subst, sym}
 use Rattle.smithy_json_values.specs.Codec.{held_grammar}
 use Rattle.smithy_json_values.specs.Spans.{Lies}
 use Rattle.smithy_json_values.specs.Tokens.{IsNameToken}
@@ -28,4 +28,5 @@ returns-clause-found c =
 
 pub returns-clause-stands : goal.returns-clause-stands
 returns-clause-stands c =
-    stands_behind_mark c.args.input.now c.in_ok-name.name.text.now c.skip_blanks-start.result c.in_ok-name.name.closing c.in_ok-name.ensures.found c.in_ok-name.ensures.text
+    stands_behind_mark c.args.input.now c.in_ok-name.name.text.now c.args.at c.skip_blanks-start.result c.in_ok-name.name.closing c.skip_blanks-start.ensures.ordered c.in_ok-name.ensures.found c.in_ok-name.ensures.text
+    c.in_ok-end.end (omega (arith, c.in_ok-end.ensures.found.0))

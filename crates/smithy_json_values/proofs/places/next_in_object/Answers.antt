@@ -1,4 +1,6 @@
+use Rattle.smithy_json_values.specs.Private.BytePlaces.{separated_ahead}
 use Rattle.smithy_json_values.proofs.NextInContainerLemmas.{name_there}
+use Rattle.smithy_json_values.proofs.PlacedTextLemmas.{stands_sooner}
 use Rattle.smithy_json_values.proofs.places.next_in_object.Goals as goal
 
 pub returns-in_err-place : goal.returns-in_err-place
@@ -17,8 +19,10 @@ returns-in_err-name-in-Element c =
 pub returns-in_ok-name-in-Element : goal.returns-in_ok-name-in-Element
 returns-in_ok-name-in-Element c =
     let due = rw c.in-Element.is at c.in_ok-place.ensures in
+    let name = c.in_ok-name-in-Element.name in
+    let up = separated_ahead c.args.input.now c.args.entered c.args.at c.in-Element.place due.0 in
     record {
       names = ((c.in-Element.place, due.0, c.in_ok-name-in-Element.ensures.found), c.in_ok-name-in-Element.ensures.valid);
-      stands = c.in_ok-name-in-Element.ensures.stands;
+      stands = stands_sooner c.args.input.now c.args.at c.in-Element.place name.end name.at name.raw.now up c.in_ok-name-in-Element.ensures.stands;
       has_escape = c.in_ok-name-in-Element.ensures.has_escape;
     }

@@ -30,13 +30,13 @@ pub returns-clause-begins : goal.returns-clause-begins
 returns-clause-begins c =
     let string = c.in_ok-string.string in
     rw c.then_some.ensures (some_where c.may_follow.result string _ (λ holds.
-    begins_within c.args.input.now string.text.now c.skip_blanks.result string.closing c.in_ok-string.ensures.found c.in_ok-string.ensures.text))
+    begins_within c.args.input.now string.text.now c.args.at c.skip_blanks.result string.closing c.skip_blanks.ensures.ordered c.in_ok-string.ensures.found c.in_ok-string.ensures.text))
 
 pub returns-clause-stands : goal.returns-clause-stands
 returns-clause-stands c =
     let string = c.in_ok-string.string in
     rw c.then_some.ensures (some_where c.may_follow.result string _ (λ holds.
-    stands_before_mark c.args.input.now string.text.now c.skip_blanks.result string.closing c.in_ok-string.ensures.found c.in_ok-string.ensures.text))
+    stands_before_mark c.args.input.now string.text.now c.args.at c.skip_blanks.result string.closing c.skip_blanks.ensures.ordered c.in_ok-string.ensures.found c.in_ok-string.ensures.text))
 
 pub returns-clause-none : goal.returns-clause-none
 returns-clause-none c =

@@ -1,5 +1,5 @@
 use Rattle.std.proofs.Common.{◌≡◌, ◌≤◌, length, drop, sym, ◌∙◌, rules}
-use Rattle.std.specs.Cow.{cow_str_bytes}
+use Rattle.std.specs.Cow.{cow_str_bytes, IsBorrowedStr}
 use Rattle.cbor_item.specs.Strings.{BeginsIndefinite}
 use Rattle.smithy_shapes.specs.Site.{site_of}
 use Rattle.smithy_cbor_values.specs.Borrowed.{BorrowsText}
@@ -23,7 +23,7 @@ returns-clause-borrowed c =
     let same : c.ready.new.self ≡ c.args.self.now.walk = c.in_ok-ready.ensures.ok in
     let found = rw (c.end_depth.ensures, same) at c.text_piece_at-found.ensures in
     let take = rw same at c.take_found.ensures in
-    found_is (cursor_of c.args.self.now) _ c.take_found.result (BorrowsText (cursor_of c.args.self.now).input (cursor_of c.args.self.now).at) c.text_piece_at-found.result found.borrowed take.taken
+    found_is (cursor_of c.args.self.now) _ c.take_found.result (λ x. BorrowsText (cursor_of c.args.self.now).input (cursor_of c.args.self.now).at (IsBorrowedStr x)) c.text_piece_at-found.result found.borrowed take.taken
 
 pub returns-clause-memory : goal.returns-clause-memory
 returns-clause-memory c =

@@ -1,9 +1,11 @@
-use Rattle.std.proofs.Common.{◌≡◌, ◌≤◌, length, sym, ◌∙◌, rules}
+use Rattle.std.proofs.Common.{◌≡◌, ◌≤◌, length, drop, sym, ◌∙◌, rules}
+use Rattle.cbor_item.specs.Strings.{BeginsIndefinite}
 use Rattle.smithy_shapes.specs.Site.{site_of}
-use Rattle.smithy_schema.specs.Spans.{text_bytes, IsTextPlaced}
+use Rattle.smithy_schema.specs.Spans.{text_bytes, IsTextPlaced, IsTextBetween, NamesText}
+use Rattle.smithy_cbor_values.specs.Borrowed.{BorrowsText}
 use Rattle.smithy_cbor_codec.specs.Cursor.{cursor_of, reading_settings_of}
 use Rattle.smithy_cbor_values.proofs.ScalarReads.{reads_text, found_is}
-use Rattle.smithy_wire.proofs.ScalarReads.{was_ready}
+use Rattle.smithy_wire.proofs.ScalarReads.{was_ready, memory_wanted}
 use Rattle.smithy_cbor_codec.proofs.spans.CborDeserializerPieceDeserializer.take_text.Goals as goal
 
 pub returns-clause-read : goal.returns-clause-read
@@ -24,3 +26,27 @@ returns-clause-stands c =
     let take = rw same at c.take_found.ensures in
     let old = cursor_of c.args.self.now in
     found_is old _ c.take_found.result (λ t end. IsTextPlaced old.input t) c.text_span_at-found.result found.placed take.taken
+
+pub returns-clause-lies : goal.returns-clause-lies
+returns-clause-lies c =
+    let same : c.ready.new.self ≡ c.args.self.now.walk = c.in_ok-ready.ensures.ok in
+    let found = rw (c.end_depth.ensures, same) at c.text_span_at-found.ensures in
+    let take = rw same at c.take_found.ensures in
+    let old = cursor_of c.args.self.now in
+    found_is old _ c.take_found.result (λ x end. IsTextBetween old.at end x) c.text_span_at-found.result found.between take.taken
+
+pub returns-clause-borrowed : goal.returns-clause-borrowed
+returns-clause-borrowed c =
+    let same : c.ready.new.self ≡ c.args.self.now.walk = c.in_ok-ready.ensures.ok in
+    let found = rw (c.end_depth.ensures, same) at c.text_span_at-found.ensures in
+    let take = rw same at c.take_found.ensures in
+    let old = cursor_of c.args.self.now in
+    found_is old _ c.take_found.result (λ x. BorrowsText old.input old.at (NamesText x)) c.text_span_at-found.result found.borrowed take.taken
+
+pub returns-clause-memory : goal.returns-clause-memory
+returns-clause-memory c =
+    let same : c.ready.new.self ≡ c.args.self.now.walk = c.in_ok-ready.ensures.ok in
+    let found = rw (c.end_depth.ensures, same) at c.text_span_at-found.ensures in
+    let take = rw same at c.take_found.ensures in
+    let old = cursor_of c.args.self.now in
+    memory_wanted old _ c.take_found.result (BeginsIndefinite 3 (drop old.at old.input)) c.text_span_at-found.result found.memory take.taken

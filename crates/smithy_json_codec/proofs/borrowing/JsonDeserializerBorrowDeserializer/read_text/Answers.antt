@@ -1,5 +1,5 @@
 use Rattle.std.proofs.Common.{◌≡◌, ◌≤◌, length, sym, ◌∙◌, rules}
-use Rattle.std.specs.Cow.{cow_str_bytes}
+use Rattle.std.specs.Cow.{cow_str_bytes, IsBorrowedStr}
 use Rattle.smithy_shapes.specs.Site.{site_of}
 use Rattle.smithy_json_codec.specs.Cursor.{cursor_of, reading_settings_of}
 use Rattle.smithy_json_values.specs.Borrowed.{BorrowsText, LiesEscaped}
@@ -27,7 +27,7 @@ returns-clause-borrowed c =
     let taken = rw same at c.take_found-answer.ensures.taken in
     let old = cursor_of c.args.self.now in
     rw c.told.ensures
-    (if_told _ c.take_found-answer.result _ (takes_so (BorrowsText (json_grammar (reading_settings_of c.args.self.now)) old.input old.at) old _ c.text_piece_at-found.result c.take_found-answer.result found.borrowed taken))
+    (if_told _ c.take_found-answer.result _ (takes_so (λ t. BorrowsText (json_grammar (reading_settings_of c.args.self.now)) old.input old.at (IsBorrowedStr t)) old _ c.text_piece_at-found.result c.take_found-answer.result found.borrowed taken))
 
 pub returns-clause-memory : goal.returns-clause-memory
 returns-clause-memory c = λ is.

@@ -1,6 +1,6 @@
 use Rattle.std.proofs.Common.{◌≡◌, ◌≤◌, length, sym, ◌∙◌, rules}
 use Rattle.smithy_shapes.specs.Site.{site_of}
-use Rattle.smithy_schema.specs.Spans.{span_bytes, IsPlaced}
+use Rattle.smithy_schema.specs.Spans.{span_bytes, IsPlaced, IsBetween, NamesBytes}
 use Rattle.smithy_json_codec.specs.Cursor.{cursor_of, reading_settings_of}
 use Rattle.smithy_json_codec.proofs.DeserializerLemmas.{takes_so}
 use Rattle.smithy_json_codec.proofs.ScalarReads.{reads_bytes}
@@ -27,3 +27,21 @@ returns-clause-stands c =
     let old = cursor_of c.args.self.now in
     rw c.told.ensures
     (if_told _ c.take_found-answer.result _ (takes_so (λ x e. IsPlaced old.input x) old _ c.bytes_span_at-found.result c.take_found-answer.result found.placed taken))
+
+pub returns-clause-lies : goal.returns-clause-lies
+returns-clause-lies c =
+    let same : c.ready.new.self ≡ c.args.self.now.walk = c.in_ok-ready.ensures.ok in
+    let found = rw same at c.bytes_span_at-found.ensures in
+    let taken = rw same at c.take_found-answer.ensures.taken in
+    let old = cursor_of c.args.self.now in
+    rw c.told.ensures
+    (if_told _ c.take_found-answer.result _ (takes_so (λ x e. IsBetween old.at e x) old _ c.bytes_span_at-found.result c.take_found-answer.result found.between taken))
+
+pub returns-clause-owned : goal.returns-clause-owned
+returns-clause-owned c =
+    let same : c.ready.new.self ≡ c.args.self.now.walk = c.in_ok-ready.ensures.ok in
+    let found = rw same at c.bytes_span_at-found.ensures in
+    let taken = rw same at c.take_found-answer.ensures.taken in
+    let old = cursor_of c.args.self.now in
+    rw c.told.ensures
+    (if_told _ c.take_found-answer.result _ (takes_so (λ x e. NamesBytes x → ⊥) old _ c.bytes_span_at-found.result c.take_found-answer.result found.owned taken))

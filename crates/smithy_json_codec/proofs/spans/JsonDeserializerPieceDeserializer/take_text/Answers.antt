@@ -1,10 +1,12 @@
 use Rattle.std.proofs.Common.{◌≡◌, ◌≤◌, length, sym, ◌∙◌, rules}
 use Rattle.smithy_shapes.specs.Site.{site_of}
-use Rattle.smithy_schema.specs.Spans.{text_bytes, IsTextPlaced}
+use Rattle.smithy_schema.specs.Spans.{text_bytes, IsTextPlaced, IsTextBetween, NamesText}
 use Rattle.smithy_json_codec.specs.Cursor.{cursor_of, reading_settings_of}
+use Rattle.smithy_json_values.specs.Borrowed.{BorrowsText, LiesEscaped}
+use Rattle.smithy_json_values.specs.Standing.{json_grammar}
 use Rattle.smithy_json_codec.proofs.DeserializerLemmas.{takes_so}
 use Rattle.smithy_json_codec.proofs.ScalarReads.{reads_text}
-use Rattle.smithy_wire.proofs.ScalarReads.{was_ready, if_told}
+use Rattle.smithy_wire.proofs.ScalarReads.{was_ready, if_told, memory_told, memory_wanted}
 use Rattle.smithy_json_codec.proofs.spans.JsonDeserializerPieceDeserializer.take_text.Goals as goal
 
 pub returns-clause-read : goal.returns-clause-read
@@ -27,3 +29,30 @@ returns-clause-stands c =
     let old = cursor_of c.args.self.now in
     rw c.told.ensures
     (if_told _ c.take_found-answer.result _ (takes_so (λ x e. IsTextPlaced old.input x) old _ c.text_span_at-found.result c.take_found-answer.result found.placed taken))
+
+pub returns-clause-lies : goal.returns-clause-lies
+returns-clause-lies c =
+    let same : c.ready.new.self ≡ c.args.self.now.walk = c.in_ok-ready.ensures.ok in
+    let found = rw same at c.text_span_at-found.ensures in
+    let taken = rw same at c.take_found-answer.ensures.taken in
+    let old = cursor_of c.args.self.now in
+    rw c.told.ensures
+    (if_told _ c.take_found-answer.result _ (takes_so (λ x e. IsTextBetween old.at e x) old _ c.text_span_at-found.result c.take_found-answer.result found.between taken))
+
+pub returns-clause-borrowed : goal.returns-clause-borrowed
+returns-clause-borrowed c =
+    let same : c.ready.new.self ≡ c.args.self.now.walk = c.in_ok-ready.ensures.ok in
+    let found = rw same at c.text_span_at-found.ensures in
+    let taken = rw same at c.take_found-answer.ensures.taken in
+    let old = cursor_of c.args.self.now in
+    rw c.told.ensures
+    (if_told _ c.take_found-answer.result _ (takes_so (λ x. BorrowsText (json_grammar (reading_settings_of c.args.self.now)) old.input old.at (NamesText x)) old _ c.text_span_at-found.result c.take_found-answer.result found.borrowed taken))
+
+pub returns-clause-memory : goal.returns-clause-memory
+returns-clause-memory c = λ is.
+    let same : c.ready.new.self ≡ c.args.self.now.walk = c.in_ok-ready.ensures.ok in
+    let found = rw same at c.text_span_at-found.ensures in
+    let taken = rw same at c.take_found-answer.ensures.taken in
+    let old = cursor_of c.args.self.now in
+    memory_wanted old _ c.take_found-answer.result (LiesEscaped (json_grammar (reading_settings_of c.args.self.now)) old.input old.at) c.text_span_at-found.result found.memory taken
+    (memory_told _ c.take_found-answer.result (sym c.told.ensures ∙ is))
