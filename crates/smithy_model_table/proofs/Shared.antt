@@ -6,7 +6,8 @@ use Rattle.std.proofs.lemmas.List.{take_more, map-append}
 use Rattle.std.proofs.lemmas.List.Folds.{list_any-append}
 use Rattle.std.proofs.lemmas.Slice.Eq.{bytes_eq-Decides}
 use Rattle.smithy_model.specs.Model.{Shape, Model}
-use Rattle.smithy_model_table.specs.Naming.{name_in, is_declared, is_declared_as, is_shared, is_table_word, name_of_shape}
+use Rattle.smithy_declarations.specs.Names.{is_reserved}
+use Rattle.smithy_model_table.specs.Naming.{name_in, is_declared, is_declared_as, is_shared, name_of_shape}
 use Rattle.smithy_model_table.specs.Roles.{has_id, Gains, AreShared}
 
 turned : (a b c d : Bool) → ((a && (c || (b || false))) || ((b && c) || d)) ≡ ((b && (a || c)) || ((a && c) || d))
@@ -121,6 +122,6 @@ next_of v ws i w within is = ap (λ x. map v (take i ws) ++ v x ∷ []) is ∙ f
 
 -- the name of a shape
 pub name_is : (m : Model) (s : Shape) (shared : BTreeSet (Bor (List ℕ))) (name : List ℕ) → ((n : List ℕ) → has_id shared n ≡ is_shared m.shapes n)
-    → name ≡ (if is_table_word (name_in s.id) || has_id shared (name_in s.id) then s.id else name_in s.id) → name ≡ name_of_shape m s
+    → name ≡ (if is_reserved (name_in s.id) || has_id shared (name_in s.id) then s.id else name_in s.id) → name ≡ name_of_shape m s
 name_is m s shared name known is =
-    is ∙ ap (λ b. if is_table_word (name_in s.id) || b then s.id else name_in s.id) (known (name_in s.id))
+    is ∙ ap (λ b. if is_reserved (name_in s.id) || b then s.id else name_in s.id) (known (name_in s.id))

@@ -1,9 +1,9 @@
 -- The names of a model's shapes in a table.
-use Rattle.std.specs.Prelude.{◌==◌, ◌&&◌, ◌||◌, ℕ, List, [], ◌∷◌, ◌++◌, Bool, true, false, if◌then◌else◌, bytes_eq, map}
+use Rattle.std.specs.Prelude.{◌==◌, ◌&&◌, ◌||◌, ℕ, List, [], ◌∷◌, Bool, true, false, if◌then◌else◌, bytes_eq, map}
 use Rattle.std.specs.List.{list_any, after_first}
 use Rattle.smithy_model.specs.Model as model
 use Rattle.smithy_model.specs.Model.{Member, Kind, Shape, Model}
-use Rattle.smithy_declarations.specs.Names.{simple_targets, float_names}
+use Rattle.smithy_declarations.specs.Names.{is_reserved}
 
 -- `#`
 abbrev pub is_number_sign : ℕ → Bool
@@ -30,16 +30,9 @@ abbrev pub is_shared : List Shape → List ℕ → Bool
 is_shared [] name = false
 is_shared (s ∷ shapes) name = is_declared_as name s && list_any (is_declared_as name) shapes || is_shared shapes name
 
--- the words of tables for scalars, documents and floats
-abbrev pub table_words : List (List ℕ)
-table_words = map (λ p. p.0) simple_targets ++ float_names
-
-abbrev pub is_table_word : List ℕ → Bool
-is_table_word name = list_any (λ word. bytes_eq name word) table_words
-
--- the name of a shape: the one in its id, but the whole id where that one is a word of tables or two shapes share it
+-- the name of a shape: the one in its id, but the whole id where no declaration may have that one or two shapes share it
 abbrev pub name_of_shape : Model → Shape → List ℕ
-name_of_shape m s = if is_table_word (name_in s.id) || is_shared m.shapes (name_in s.id) then s.id else name_in s.id
+name_of_shape m s = if is_reserved (name_in s.id) || is_shared m.shapes (name_in s.id) then s.id else name_in s.id
 
 -- the names of the shapes of a model, one by one
 abbrev pub names_of : Model → List (List ℕ)

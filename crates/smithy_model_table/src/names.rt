@@ -3,13 +3,15 @@ ghost use Rattle.std.specs.Prelude.{◌≡◌, ◌||◌, ◌++◌, ℕ, List, []
 ghost use Rattle.smithy_model.specs.Model as model;
 ghost use Rattle.smithy_model.specs.Views.{model_view, shape_view};
 ghost use Rattle.smithy_model_table.specs.Declaring.{name_of};
-ghost use Rattle.smithy_model_table.specs.Naming.{name_in, is_shared, is_table_word, names_of};
+ghost use Rattle.smithy_model_table.specs.Naming.{name_in, is_shared, names_of};
+ghost use Rattle.smithy_declarations.specs.Names.{is_reserved};
 ghost use Rattle.smithy_model_table.specs.Roles.{has_id, AreShared};
 ghost use Rattle.smithy_model_table.specs.Views.{names_view};
 
 use crate::finding::name_in;
 use crate::roles::add_id;
 use crate::wanted::is_declared;
+use smithy_declarations::acceptance::words::is_reserved;
 use smithy_model::{Model, Shape};
 use std::alloc::{AllocError, Global};
 use std::collections::BTreeSet;
@@ -18,28 +20,6 @@ use std::collections::BTreeSet;
 #[derive(Drop)]
 pub(crate) struct Names<'a> {
     pub(crate) names: Vec<&'a str>,
-}
-
-// Whether a name is a word of tables, which no declaration has as its name.
-fn is_table_word(name: &str) -> bool
-    ensures { result ≡ is_table_word name.now }
-{
-    match name {
-        "boolean" => true,
-        "byte" => true,
-        "short" => true,
-        "integer" => true,
-        "long" => true,
-        "string" => true,
-        "blob" => true,
-        "timestamp" => true,
-        "bigInteger" => true,
-        "bigDecimal" => true,
-        "document" => true,
-        "float" => true,
-        "double" => true,
-        _ => false,
-    }
 }
 
 // Adds the name in a shape's id to those that are there, or to those that are there twice, where it has a declaration.
@@ -72,12 +52,12 @@ fn shared_names<'a>(alloc: Global, model: &Model<'a>) -> Result<BTreeSet<&'a str
     Ok(shared)
 }
 
-// The name of a shape: the one in its id, but the whole id where that is a word of tables or is shared.
+// The name of a shape: the one in its id, but the whole id where no declaration may have that, or it is shared.
 fn name_for<'a>(shared: &BTreeSet<&'a str>, id: &'a str) -> &'a str
-    ensures { result.now ≡ (if is_table_word (name_in id.now) || has_id shared.now (name_in id.now) then id.now else name_in id.now) }
+    ensures { result.now ≡ (if is_reserved (name_in id.now) || has_id shared.now (name_in id.now) then id.now else name_in id.now) }
 {
     let name = name_in(id);
-    if is_table_word(name) {
+    if is_reserved(name) {
         return id;
     }
     if shared.contains(name) {

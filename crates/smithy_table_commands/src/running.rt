@@ -45,7 +45,7 @@ fn table_from<'a>(
     ensures refused { IfErr result (Refuses text.now (wanted_view wanted.entry)) }
 {
     let model = read_model(alloc, text, scratch)?;
-    let table = table_of(alloc, &model, wanted)?;
+    let table = table_of(alloc, model, wanted)?;
     Ok(table)
 }
 
